@@ -6,10 +6,17 @@
 //! stand for the world outside and tell nothing of their bytes.
 #![tactic(auto)]
 
+mod calls;
 mod error;
+mod mem_sink;
+mod mem_source;
 mod sink;
 mod source;
+mod standard;
 
 pub use crate::error::{Failed, OutOfMemory};
+pub use crate::mem_sink::MemSink;
+pub use crate::mem_source::MemSource;
 pub use crate::sink::Sink;
 pub use crate::source::Source;
+pub use crate::standard::{StdSink, StdSource};
