@@ -1,0 +1,22 @@
+//! The edge of a program: where its bytes come from and where they go.
+//!
+//! A program reads from a [`Source`] and writes to a [`Sink`]. Each tells, in its contract, the bytes that it
+//! still has or that it took, and how often it has failed, so that a caller can say where a failure came from.
+//! [`MemSource`] and [`MemSink`] work in memory and fail where they are told to; [`StdSource`] and [`StdSink`]
+//! stand for the world outside and tell nothing of their bytes.
+#![tactic(auto)]
+
+mod calls;
+mod error;
+mod mem_sink;
+mod mem_source;
+mod sink;
+mod source;
+mod standard;
+
+pub use crate::error::{Failed, OutOfMemory};
+pub use crate::mem_sink::MemSink;
+pub use crate::mem_source::MemSource;
+pub use crate::sink::Sink;
+pub use crate::source::Source;
+pub use crate::standard::{StdSink, StdSource};
