@@ -66,7 +66,7 @@ impl Source for MemSource {
         requires { 0 < length buf.old }
         ensures within { IfOk result (λ n. n ≤ length buf.old) }
         ensures taken { IfOk result (λ n. Takes (Some self.old.left) (Some self.new.left) (take n buf.new)) }
-        ensures end { result ≡ Ok 0 → IsAtEnd (Some self.old.left) }
+        ensures end { result ≡ Ok 0 → IsAtEnd (Some self.new.left) }
         ensures nothing { OnErr result (Some self.new.left ≡ Some self.old.left) }
         ensures cause { OnErr result (Rose self.old.faults self.new.faults) }
         ensures faults { self.old.faults ≤ self.new.faults }

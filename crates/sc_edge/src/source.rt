@@ -20,7 +20,7 @@ pub trait Source {
         requires { 0 < length buf.old }
         ensures within { IfOk result (λ n. n ≤ length buf.old) }
         ensures taken { IfOk result (λ n. Takes (left self.old) (left self.new) (take n buf.new)) }
-        ensures end { result ≡ Ok 0 → IsAtEnd (left self.old) }
+        ensures end { result ≡ Ok 0 → IsAtEnd (left self.new) }
         ensures nothing { OnErr result (left self.new ≡ left self.old) }
         ensures cause { OnErr result (Rose (faults self.old) (faults self.new)) }
         ensures faults { faults self.old ≤ faults self.new };

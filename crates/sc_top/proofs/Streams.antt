@@ -1,0 +1,89 @@
+-- What was read and written so far, in pieces.
+use Rattle.std.proofs.Common.{◌≡◌, ℕ, ◌+◌, ◌-◌, ◌<◌, ◌≤◌, ◌⊎◌, inl, inr, List, [], ◌∷◌, ◌++◌, length, take, drop, Option, None, Some, refl, sym, ap, ◌∙◌, subst, arith, append_assoc, length-append, length-drop, ⊎_elim}
+use Rattle.std.proofs.lemmas.List.{append-nil, take-append-drop, take_all}
+use Rattle.std.proofs.Math.Seq.{take-add}
+use Rattle.sc_edge.specs.Edge.{Rose, Takes, Adds, IsAtEnd}
+use Rattle.sc_top.specs.Answer.{Reads, IsFront, Tells}
+
+-- a count that rose later has risen
+pub rose_since : (before then_ after : ℕ) → before ≤ then_ → Rose then_ after → Rose before after
+rose_since before then_ after h rose = ⊎_elim (λ higher. inl (omega arith)) (λ at_end. inr at_end) rose
+
+pub Takes-none : (left : Option (List ℕ)) → Takes left left []
+Takes-none None = tt
+Takes-none (Some left) = refl
+
+pub Takes-more : (a b c : Option (List ℕ)) (x y : List ℕ) → Takes a b x → Takes b c y → Takes a c (x ++ y)
+Takes-more None b c x y p q = tt
+Takes-more (Some a) (Some b) (Some c) x y p q = p ∙ ap (λ t. x ++ t) q ∙ sym (append_assoc x y c)
+Takes-more (Some a) (Some b) None x y p q = q
+Takes-more (Some a) None c x y p q = absurd p
+
+pub Adds-none : (written : Option (List ℕ)) → Adds written written []
+Adds-none None = tt
+Adds-none (Some written) = sym (append-nil written)
+
+pub Adds-more : (a b c : Option (List ℕ)) (x y : List ℕ) → Adds a b x → Adds b c y → Adds a c (x ++ y)
+Adds-more None b c x y p q = tt
+Adds-more (Some a) (Some b) (Some c) x y p q = q ∙ ap (λ t. t ++ y) p ∙ append_assoc a x y
+Adds-more (Some a) (Some b) None x y p q = q
+Adds-more (Some a) None c x y p q = absurd p
+
+-- these bytes were read, at most so many
+pub record HasTaken (most : ℕ) (left left' : Option (List ℕ)) (faults faults' : ℕ) (text : List ℕ) : Type 0 where
+  pub taken : Takes left left' text
+  pub within : length text ≤ most
+  pub counted : faults ≤ faults'
+
+pub nothing_taken : (most : ℕ) (left : Option (List ℕ)) (faults : ℕ) → HasTaken most left left faults faults []
+nothing_taken most left faults = record { taken = Takes-none left; within = omega arith; counted = omega arith }
+
+pub more_taken : (most : ℕ) (a b c : Option (List ℕ)) (f g h : ℕ) (text more : List ℕ) → HasTaken most a b f g text → Takes b c more → length text + length more ≤ most → g ≤ h → HasTaken most a c f h (text ++ more)
+more_taken most a b c f g h text more so_far taken within counted =
+    let before = so_far.counted in
+    record { taken = Takes-more a b c text more so_far.taken taken; within = rw length-append within; counted = omega arith }
+
+-- at the end of the input all was read
+pub all_taken : (limit : ℕ) (a b c : Option (List ℕ)) (f g : ℕ) (text : List ℕ) → HasTaken (limit + 1) a b f g text → Takes b c [] → IsAtEnd c → Reads limit a c text
+all_taken limit a b c f g text so_far taken ended =
+    record { taken = subst (Takes a c) (append-nil text) (Takes-more a b c text [] so_far.taken taken); ended = λ _. ended }
+
+-- past the limit nothing is said of the rest
+pub enough_taken : (limit : ℕ) (a b : Option (List ℕ)) (f g : ℕ) (text : List ℕ) → HasTaken (limit + 1) a b f g text → limit + 1 ≤ length text → Reads limit a b text
+enough_taken limit a b f g text so_far long = record { taken = so_far.taken; ended = λ short. absurd (omega arith) }
+
+-- so many of the bytes were written
+pub record HasAdded (bytes : List ℕ) (written written' : Option (List ℕ)) (faults faults' count : ℕ) : Type 0 where
+  pub within : count ≤ length bytes
+  pub added : Adds written written' (take count bytes)
+  pub counted : faults ≤ faults'
+
+pub nothing_added : (bytes : List ℕ) (written : Option (List ℕ)) (faults : ℕ) → HasAdded bytes written written faults faults 0
+nothing_added bytes written faults = record { within = omega arith; added = Adds-none written; counted = omega arith }
+
+pub more_added : (bytes : List ℕ) (a b c : Option (List ℕ)) (f g h count more : ℕ) → HasAdded bytes a b f g count → Adds b c (take more (drop count bytes)) → more ≤ length (drop count bytes) → g ≤ h → HasAdded bytes a c f h (count + more)
+more_added bytes a b c f g h count more so_far added within counted =
+    let before = so_far.counted in
+    let room = so_far.within in
+    record {
+      within = omega (arith, length-drop count bytes);
+      added = subst (Adds a c) (sym (take-add count more bytes)) (Adds-more a b c _ _ so_far.added added);
+      counted = omega arith;
+    }
+
+pub all_added : (bytes : List ℕ) (a b : Option (List ℕ)) (f g count : ℕ) → HasAdded bytes a b f g count → length bytes ≤ count → Adds a b bytes
+all_added bytes a b f g count so_far whole = subst (Adds a b) (take_all count bytes whole) so_far.added
+
+-- where a write fails, what came before it is a front of the bytes
+pub cut_short : (bytes : List ℕ) (a b c : Option (List ℕ)) (f g h count : ℕ) → HasAdded bytes a b f g count → c ≡ b → Rose g h → Tells bytes a c f h
+cut_short bytes a b c f g h count so_far same rose =
+    record {
+      front = take count bytes;
+      begins = record { rest = drop count bytes; joined = sym (take-append-drop count bytes) };
+      part = subst (λ w. Adds a w (take count bytes)) (sym same) so_far.added;
+      whole = inr (rose_since f g h so_far.counted rose);
+    }
+
+pub ruleset reading = (nothing_taken, more_taken, all_taken, enough_taken, rose_since)
+
+pub ruleset writing = (nothing_added, more_added, all_added, cut_short, rose_since)
