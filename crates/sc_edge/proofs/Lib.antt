@@ -1,2 +1,2 @@
 mod Examples
-mod Front
+pub mod Front

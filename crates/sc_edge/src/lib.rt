@@ -24,7 +24,29 @@ pub use crate::standard::{StdSink, StdSource};
 #[cfg(test)]
 mod tests {
     use super::*;
+    use std::io;
+    use std::io::{ErrorKind, Read, Write};
     use std::test::Fail;
+
+    // Reads fail, and so does the flush of what was written.
+    #[derive(Drop)]
+    struct Broken;
+
+    impl Read for Broken {
+        fn read(&mut self, _: &mut [u8]) -> io::Result<usize> {
+            Err(io::Error::from(ErrorKind::BrokenPipe))
+        }
+    }
+
+    impl Write for Broken {
+        fn write(&mut self, piece: &[u8]) -> io::Result<usize> {
+            Ok(piece.len())
+        }
+
+        fn flush(&mut self) -> io::Result<()> {
+            Err(io::Error::from(ErrorKind::BrokenPipe))
+        }
+    }
 
     // What one read of at most two bytes gives.
     fn two<'a, S: Source>(source: &mut S, buf: &'a mut [u8; 2]) -> Option<&'a [u8]> {
@@ -66,6 +88,7 @@ mod tests {
         for want in [b"ab".as_slice(), b"c", b""] {
             assert!(rt; two(&mut source, &mut [0; 2]) == Some(want));
         }
+        assert!(rt; two(&mut StdSource::new(Broken), &mut [0; 2]) == None);
     }
 
     // A slice as a writer takes nothing once it is full.
@@ -77,6 +100,7 @@ mod tests {
             assert!(rt; put(&mut sink, b"xyz") == want);
         }
         assert!(rt; room == *b"xyzx");
+        assert_eq!(rt; put(&mut StdSink::new(Broken), b"xyz"), None);
     }
 
     #[test]
