@@ -16,7 +16,7 @@ pub struct Failed;
 pub struct OutOfMemory;
 
 impl From<AllocError> for OutOfMemory {
-    ghost from_gives = { λ _ e. Unit {0} };
+    ghost from_gives = { λ _ e. e ≡ record {} };
 
     fn from(_: AllocError) -> Self {
         OutOfMemory

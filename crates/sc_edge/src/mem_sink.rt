@@ -29,7 +29,8 @@ impl Model for MemSink {
 }
 
 impl MemSink {
-    /// An empty sink that takes `room` bytes in all. `fails` has the numbers, from 0, of the writes that are to fail.
+    /// An empty sink that takes `room` bytes in all, and memory for them now. `fails` has the numbers, from 0, of the
+    /// writes that are to fail; a write past number 4,294,967,295 never is, but for want of room.
     pub fn new(alloc: Global, room: u32, fails: &[u32]) -> Result<MemSink, OutOfMemory>
         ensures { IfOk result (λ s. s ≡ record { written = []; room = room; fails = fails.now; calls = 0; faults = 0 }) }
     {

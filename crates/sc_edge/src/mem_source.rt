@@ -29,7 +29,8 @@ impl Model for MemSource {
 }
 
 impl MemSource {
-    /// A source with these bytes. `fails` has the numbers, from 0, of the reads that are to fail.
+    /// A source with these bytes. `fails` has the numbers, from 0, of the reads that are to fail; a read past number
+    /// 4,294,967,295 never is.
     pub fn new(alloc: Global, bytes: &[u8], fails: &[u32]) -> Result<MemSource, OutOfMemory>
         ensures { IfOk result (λ s. s ≡ record { left = bytes.now; fails = fails.now; calls = 0; faults = 0 }) }
     {
@@ -62,6 +63,7 @@ impl Source for MemSource {
 
     ghost faults = { λ s. s.faults };
 
+    #[tactic(auto, using(crate::proofs::Front::front_taken))]
     fn read(&mut self, buf: &mut [u8]) -> Result<usize, Failed>
         requires { 0 < length buf.old }
         ensures within { IfOk result (λ n. n ≤ length buf.old) }
