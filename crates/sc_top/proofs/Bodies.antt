@@ -1,12 +1,11 @@
 -- Statements one after another.
-use Rattle.std.proofs.Common.{◌≡◌, ℕ, ◌+◌, ◌<◌, ◌≤◌, List, [], ◌∷◌, ◌++◌, length, slice_index, flat_map, codes, decimal, All, refl, sym, ap, ◌∙◌, subst, arith, append_assoc, length-append}
-use Rattle.std.proofs.lemmas.Grind.{common_steps}
+use Rattle.std.proofs.Common.{◌≡◌, ℕ, ◌≤◌, List, [], ◌∷◌, ◌++◌, slice_index, flat_map, codes, decimal, refl, sym, ap, ◌∙◌, arith, append_assoc}
 use Rattle.std.proofs.lemmas.List.{append_cancel_left}
 use Rattle.std.specs.List.{AllByRecursion}
 use Rattle.std.proofs.lemmas.List.Elements.{All-from_recursion, recursion_from_All}
 use Rattle.sc_core.specs.declared.thin.ThinProgram.{ThinProgram}
-use Rattle.sc_top.specs.Statement.{IsStatement, EndsNumber}
-use Rattle.sc_top.specs.Thin.{IsBody, IsThin, output_line, return_line, head}
+use Rattle.sc_top.specs.Statement.{IsStatement}
+use Rattle.sc_top.specs.Thin.{IsBody, output_line, return_line}
 use Rattle.sc_top.proofs.Numbers.{same_number}
 use Rattle.sc_top.proofs.Statements.{same_statement}
 

@@ -1,11 +1,11 @@
 -- Numbers at the front of a text.
-use Rattle.std.proofs.Common.{◌≡◌, ℕ, zero, suc, ◌+◌, ◌<◌, ◌≤◌, ◌^◌, Bool, true, false, ◌&&◌, nat_eq, List, [], ◌∷◌, ◌++◌, length, get_or, take, drop, Option, Some, None, Result, Ok, Err, MatchOption, IfSome, IsNone, Bor, decimal, add-one, refl, sym, ap, ◌∙◌, subst, arith, rules}
+use Rattle.std.proofs.Common.{◌≡◌, ℕ, zero, suc, ◌+◌, ◌<◌, ◌≤◌, ◌^◌, Bool, true, false, ◌&&◌, nat_eq, List, [], ◌∷◌, ◌++◌, length, get_or, take, drop, Option, Some, None, Result, Ok, MatchOption, IfSome, IsNone, Bor, decimal, add-one, refl, sym, ap, ◌∙◌, subst, arith}
 use Rattle.std.specs.Char.{is_ascii_digit}
 use Rattle.std.specs.Cmp.Derive.{both_true}
 use Rattle.std.specs.Cmp.Lexicographic.{pointwise}
 use Rattle.std.specs.Str.{all_ascii_digits, IsUtf8}
 use Rattle.std.specs.Str.Parse.{ParsesUnsigned, digits_value}
-use Rattle.std.proofs.lemmas.Bool.Decides.{Decides-eqb, nat_tests}
+use Rattle.std.proofs.lemmas.Bool.Decides.{Decides-eqb}
 use Rattle.std.proofs.lemmas.Fmt.{IsAscii-decimal, decimal_digit, digits_decimal, decimal_injective, decimal-digits_value, parse-decimal, first_decimal}
 use Rattle.std.proofs.lemmas.Slice.Eq.{strip_prefix_is, bytes_eq-Decides}
 use Rattle.std.proofs.lemmas.Str.{IsUtf8-from_ascii}
@@ -64,7 +64,7 @@ digit_more [] i within before here = absurd (omega arith)
 digit_more (c ∷ text) zero within before here = both_true here refl
 digit_more (c ∷ text) (suc i) within before here =
     let tail : all_ascii_digits (take (suc i) text) ≡ true =
-        subst (λ n. all_ascii_digits (take n text) ≡ true) (add-one i) (digit_more text i (omega arith) (others_are _ _ before) here) in
+    subst (λ n. all_ascii_digits (take n text) ≡ true) (add-one i) (digit_more text i (omega arith) (others_are _ _ before) here) in
     subst (λ n. all_ascii_digits (take n (c ∷ text)) ≡ true) (sym (add-one (suc i))) (both_true (first_is _ _ before) tail)
 
 pub ruleset digits = (digit_more)
@@ -99,7 +99,7 @@ prints_back {E} digits read word parses is all no_zero =
 abbrev Strips : List ℕ → List ℕ → Option (Bor (List ℕ)) → Type 0
 Strips front text found =
     MatchOption found (pointwise nat_eq (take (length front) text) front ≡ false)
-        (λ rest. (pointwise nat_eq (take (length front) text) front ≡ true) × (rest.now ≡ drop (length front) text) × (length rest.now + length front ≡ length text))
+    (λ rest. (pointwise nat_eq (take (length front) text) front ≡ true) × (rest.now ≡ drop (length front) text) × (length rest.now + length front ≡ length text))
 
 pub IfSome-stripped : (front text : List ℕ) (found : Option (Bor (List ℕ))) → Strips front text found → IfSome found (λ rest. text ≡ front ++ rest.now)
 IfSome-stripped front text None strips = tt

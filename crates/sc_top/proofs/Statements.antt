@@ -1,5 +1,5 @@
 -- Statements with a number at the front of a text.
-use Rattle.std.proofs.Common.{◌≡◌, ℕ, ◌<◌, ◌≤◌, List, [], ◌∷◌, ◌++◌, length, decimal, refl, sym, ap, ◌∙◌, subst, arith}
+use Rattle.std.proofs.Common.{◌≡◌, ℕ, ◌<◌, List, [], ◌∷◌, ◌++◌, length, decimal, sym, ap, ◌∙◌, arith}
 use Rattle.std.proofs.lemmas.List.{append_cancel_left}
 use Rattle.sc_top.specs.Statement.{IsStatement, IsNumber, EndsNumber}
 use Rattle.sc_top.proofs.Numbers.{same_number}

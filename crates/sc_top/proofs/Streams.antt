@@ -1,9 +1,9 @@
 -- What was read and written so far, in pieces.
-use Rattle.std.proofs.Common.{◌≡◌, ℕ, ◌+◌, ◌-◌, ◌<◌, ◌≤◌, ◌⊎◌, inl, inr, List, [], ◌∷◌, ◌++◌, length, take, drop, Option, None, Some, refl, sym, ap, ◌∙◌, subst, arith, append_assoc, length-append, length-drop, ⊎_elim}
-use Rattle.std.proofs.lemmas.List.{append-nil, take-append-drop, take_all}
+use Rattle.std.proofs.Common.{◌≡◌, ℕ, ◌+◌, ◌-◌, ◌≤◌, inl, inr, List, [], ◌++◌, length, take, drop, Option, None, Some, Result, Ok, Err, OnErr, refl, sym, ap, ◌∙◌, subst, arith, append_assoc, length-append, length-drop, ⊎_elim}
+use Rattle.std.proofs.lemmas.List.{append-nil, take-append-drop, take_all, take_rest}
 use Rattle.std.proofs.Math.Seq.{take-add}
 use Rattle.sc_edge.specs.Edge.{Rose, Takes, Adds, IsAtEnd}
-use Rattle.sc_top.specs.Answer.{Reads, IsFront, Tells}
+use Rattle.sc_top.specs.Answer.{Reads, Tells}
 
 -- a count that rose later has risen
 pub rose_since : (before then_ after : ℕ) → before ≤ then_ → Rose then_ after → Rose before after
@@ -61,13 +61,16 @@ pub record HasAdded (bytes : List ℕ) (written written' : Option (List ℕ)) (f
 pub nothing_added : (bytes : List ℕ) (written : Option (List ℕ)) (faults : ℕ) → HasAdded bytes written written faults faults 0
 nothing_added bytes written faults = record { within = omega arith; added = Adds-none written; counted = omega arith }
 
-pub more_added : (bytes : List ℕ) (a b c : Option (List ℕ)) (f g h count more : ℕ) → HasAdded bytes a b f g count → Adds b c (take more (drop count bytes)) → more ≤ length (drop count bytes) → g ≤ h → HasAdded bytes a c f h (count + more)
+pub more_added : (bytes : List ℕ) (a b c : Option (List ℕ)) (f g h count more : ℕ) → HasAdded bytes a b f g count → Adds b c (take more (take (length bytes - count) (drop count bytes))) → more ≤ length (take (length bytes - count) (drop count bytes)) → g ≤ h → HasAdded bytes a c f h (count + more)
 more_added bytes a b c f g h count more so_far added within counted =
     let before = so_far.counted in
     let room = so_far.within in
+    let rest = take_rest bytes count in
+    let fits : more ≤ length (drop count bytes) = subst (λ piece. more ≤ length piece) rest within in
+    let piece : Adds b c (take more (drop count bytes)) = subst (λ piece. Adds b c (take more piece)) rest added in
     record {
       within = omega (arith, length-drop count bytes);
-      added = subst (Adds a c) (sym (take-add count more bytes)) (Adds-more a b c _ _ so_far.added added);
+      added = subst (Adds a c) (sym (take-add count more bytes)) (Adds-more a b c _ _ so_far.added piece);
       counted = omega arith;
     }
 
@@ -83,6 +86,11 @@ cut_short bytes a b c f g h count so_far same rose =
       part = subst (λ w. Adds a w (take count bytes)) (sym same) so_far.added;
       whole = inr (rose_since f g h so_far.counted rose);
     }
+
+-- a fact holds where there is an error
+pub on_err : {T E : Type 0} (r : Result T E) (P : Type 0) → P → OnErr r P
+on_err (Ok value) P holds = tt
+on_err (Err error) P holds = holds
 
 pub ruleset reading = (nothing_taken, more_taken, all_taken, enough_taken, rose_since)
 

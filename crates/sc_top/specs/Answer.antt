@@ -1,5 +1,5 @@
 -- What an answer says of the bytes that were read and written.
-use Rattle.std.specs.Prelude.{◌≡◌, ◌<◌, ◌≤◌, ◌⊎◌, ℕ, List, ◌++◌, length, Option}
+use Rattle.std.specs.Prelude.{◌≡◌, ◌≤◌, ◌⊎◌, ℕ, List, ◌++◌, length, Option}
 use Rattle.sc_core.specs.declared.thin.ThinProgram.{ThinProgram}
 use Rattle.sc_edge.specs.Edge.{Rose, Takes, Adds, IsAtEnd}
 use Rattle.sc_top.specs.declared.command.Command.{Command}

@@ -1,5 +1,5 @@
 -- A number at the front of a text, alone and in a statement.
-use Rattle.std.specs.Prelude.{◌≡◌, ◌≤◌, ℕ, List, ◌++◌, Bool, false, slice_index, decimal}
+use Rattle.std.specs.Prelude.{◌≡◌, ◌≤◌, ℕ, List, ◌++◌, false, slice_index, decimal}
 use Rattle.std.specs.Char.{is_ascii_digit}
 
 -- no digit stands at the front, so a number in front of it ends there

@@ -47,7 +47,7 @@ pub fn secomp<S: Source, O: Sink, E: Sink>(
 
     // Good input of a command is answered unless memory runs out or the outside fails.
     ensures complete { IsSomeAnd (command (map string_bytes words.now)) (λ c. IsSomeAnd (S.left source.old)
-            (λ bytes. (text : List ℕ) × IsOutput c bytes text))
+        (λ bytes. (text : List ℕ) × IsOutput c bytes text))
         → (Rose (S.faults source.old) (S.faults source.new) → ⊥) → (Rose (O.faults out.old) (O.faults out.new) → ⊥)
         → (result ≡ Status.Done) ⊎ (result ≡ Status.OutOfMemory) }
 
@@ -94,7 +94,9 @@ fn output(alloc: Global, command: Command, bytes: &[u8]) -> Result<Text, Status>
 {
     match command {
         Command::Meaning => {
-            let program = read_thin(alloc, bytes)?.ok_or(Status::NotBuilt)?;
+            let Some(program) = read_thin(alloc, bytes)? else {
+                return Err(Status::NotBuilt);
+            };
             let run = run_thin(alloc, &program, DEFAULT_EVENTS)?;
             Ok(run_text(alloc, &run)?)
         }

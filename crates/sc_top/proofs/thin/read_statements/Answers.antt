@@ -14,4 +14,4 @@ returns-then-eq-clause-found c =
 pub returns-else-eq-clause-none : goal.returns-else-eq-clause-none
 returns-else-eq-clause-none c =
     λ _. other_end _ _ _ _ _ c.loop-word.invariant (c.in_default.ensures.none refl) c.in-Some-statement.ensures.found
-        (λ e. other_bytes _ _ _ c.eq.ensures c.if-eq.false (e ∙ sym c.as_slice.ensures))
+    (λ e. other_bytes _ _ _ c.eq.ensures c.if-eq.false (e ∙ sym c.as_slice.ensures))
