@@ -2,7 +2,9 @@
 #![tactic(auto)]
 
 mod run;
+mod stop;
 mod thin;
 
 pub use run::{RunEnd, SourceRun};
+pub use stop::{Stop, TrapReason};
 pub use thin::{ThinProgram, Words, run_thin};
