@@ -11,4 +11,4 @@ mod top;
 
 pub use command::Command;
 pub use status::Status;
-pub use top::secomp;
+pub use top::{secomp, tell};

@@ -57,9 +57,15 @@ pub fn secomp<S: Source, O: Sink, E: Sink>(
         Ok(()) => Status::Done,
         Err(status) => status,
     };
-    // The status stands, whether or not it can be told.
-    let _ = write_text(err, status.text());
+    tell(err, status);
     status
+}
+
+/// Writes the text of a status. The status stands, whether or not it can be told.
+pub fn tell<E: Sink>(err: &mut E, status: Status)
+    ensures { Tells (status_text status) (E.written err.old) (E.written err.new) (E.faults err.old) (E.faults err.new) }
+{
+    let _ = write_text(err, status.text());
 }
 
 fn answer<S: Source, O: Sink>(

@@ -1,0 +1,7 @@
+//! Runs of the whole program in memory. This crate has tests alone.
+#![tactic(auto)]
+
+#[cfg(test)]
+mod meaning;
+#[cfg(test)]
+mod program;

@@ -1,0 +1,168 @@
+// The command `meaning`.
+use crate::program::Run;
+use std::alloc::{AllocError, Global};
+use std::test::Fail;
+
+const HEAD: &[u8] =
+    b"#pragma compartment Main\n#pragma import Env output\nvoid output(int v);\nint main(void) {\n";
+
+const SEVEN: &[u8] =
+    b"#pragma compartment Main\n#pragma import Env output\nvoid output(int v);\nint main(void) {\n  output(7);\n  return 0;\n}\n";
+
+const TOLD: &[u8] = b"out Main 7\nend Main 0\nstop ended\n";
+
+// The program with these statements.
+fn text(alloc: Global, statements: &[&[u8]]) -> Result<Vec<u8>, AllocError> {
+    let mut text = HEAD.to_vec(alloc)?;
+    for statement in statements {
+        text.extend_from_slice(statement)?;
+    }
+    Ok(text)
+}
+
+// So many times the same.
+fn repeated(alloc: Global, times: usize, part: &[u8]) -> Result<Vec<u8>, AllocError> {
+    let mut all = Vec::new(alloc);
+    for _ in 0..times {
+        all.extend_from_slice(part)?;
+    }
+    Ok(all)
+}
+
+#[test]
+fn a_program_is_told_by_its_events(rt: HostRuntime) -> Result<(), Fail> {
+    let ran = Run::new(&["meaning"], SEVEN).run(rt.alloc())?;
+    assert_eq!(rt; ran.status, 0);
+    assert!(rt; ran.out.as_slice() == TOLD);
+    assert_eq!(rt; ran.err.len(), 0);
+    assert_eq!(rt; ran.unread, 0);
+    Ok(())
+}
+
+#[test]
+fn other_words_are_no_command(rt: HostRuntime) -> Result<(), Fail> {
+    let cases: [&[&str]; 4] = [&[], &["meaning", "x"], &["meanings"], &["--help"]];
+    for words in cases {
+        let ran = Run::new(words, SEVEN).run(rt.alloc())?;
+        assert_eq!(rt; ran.status, 2);
+        assert_eq!(rt; ran.out.len(), 0);
+        assert!(rt; ran.err.starts_with(b"secomp: usage"));
+        assert_eq!(rt; ran.unread, SEVEN.len());
+    }
+    Ok(())
+}
+
+#[test]
+fn texts_beyond_the_thin_ones_are_not_built(rt: HostRuntime) -> Result<(), Fail> {
+    let cases: [&[&[u8]]; 7] = [
+        &[],
+        &[b"  output(07);\n", b"  return 0;\n}\n"],
+        &[b"  output(2147483648);\n", b"  return 0;\n}\n"],
+        &[b"  output(-1);\n", b"  return 0;\n}\n"],
+        &[b"  output( 1);\n", b"  return 0;\n}\n"],
+        &[b"  return 0;\n}"],
+        &[b"  return 0;\n}\n\n"],
+    ];
+    for statements in cases {
+        let text = text(rt.alloc(), statements)?;
+        let ran = Run::new(&["meaning"], &text).run(rt.alloc())?;
+        assert_eq!(rt; ran.status, 10);
+        assert_eq!(rt; ran.out.len(), 0);
+        assert!(rt; ran.err.as_slice() == b"secomp: not built\n".as_slice());
+    }
+    let ran = Run::new(&["meaning"], b"").run(rt.alloc())?;
+    assert_eq!(rt; ran.status, 10);
+    Ok(())
+}
+
+#[test]
+fn numbers_are_told_up_to_the_greatest(rt: HostRuntime) -> Result<(), Fail> {
+    let statements: [&[u8]; 2] = [
+        b"  output(0);\n  output(2147483647);\n",
+        b"  return 10;\n}\n",
+    ];
+    let text = text(rt.alloc(), &statements)?;
+    let ran = Run::new(&["meaning"], &text).run(rt.alloc())?;
+    assert_eq!(rt; ran.status, 0);
+    assert!(rt;
+        ran.out.as_slice()
+            == b"out Main 0\nout Main 2147483647\nend Main 10\nstop ended\n".as_slice()
+    );
+    Ok(())
+}
+
+#[test]
+fn a_run_stops_after_1024_events(rt: HostRuntime) -> Result<(), Fail> {
+    let ends: [(usize, &[u8]); 2] = [
+        (1024, b"stop events\n"),
+        (1023, b"end Main 0\nstop ended\n"),
+    ];
+    for (outputs, end) in ends {
+        let lines = repeated(rt.alloc(), outputs, b"  output(1);\n")?;
+        let text = text(rt.alloc(), &[&lines, b"  return 0;\n}\n"])?;
+        let mut want = repeated(rt.alloc(), outputs, b"out Main 1\n")?;
+        want.extend_from_slice(end)?;
+        let ran = Run::new(&["meaning"], &text).run(rt.alloc())?;
+        assert_eq!(rt; ran.status, 0);
+        assert!(rt; ran.out.as_slice() == want.as_slice());
+    }
+    Ok(())
+}
+
+#[test]
+fn a_text_over_16384_bytes_is_not_read_on(rt: HostRuntime) -> Result<(), Fail> {
+    let text = repeated(rt.alloc(), 20_000, b" ")?;
+    let ran = Run::new(&["meaning"], &text).run(rt.alloc())?;
+    assert_eq!(rt; ran.status, 10);
+    assert_eq!(rt; ran.unread, 20_000 - 16_385);
+    Ok(())
+}
+
+#[test]
+fn a_failing_source_or_sink_is_told(rt: HostRuntime) -> Result<(), Fail> {
+    let lines = repeated(rt.alloc(), 1000, b"  output(1);\n")?;
+    let long = text(rt.alloc(), &[&lines, b"  return 0;\n}\n"])?;
+    let seven = Run::new(&["meaning"], SEVEN);
+    let cases: [(Run, u8, &[u8]); 5] = [
+        (
+            Run {
+                failing_reads: &[0],
+                ..seven
+            },
+            7,
+            b"",
+        ),
+        (
+            Run {
+                failing_reads: &[1],
+                ..seven
+            },
+            7,
+            b"",
+        ),
+        (
+            Run {
+                failing_reads: &[2],
+                input: &long,
+                ..seven
+            },
+            7,
+            b"",
+        ),
+        (
+            Run {
+                failing_writes: &[0],
+                ..seven
+            },
+            8,
+            b"",
+        ),
+        (Run { room: 9, ..seven }, 8, b"out Main "),
+    ];
+    for (run, status, out) in cases {
+        let ran = run.run(rt.alloc())?;
+        assert_eq!(rt; ran.status, status);
+        assert!(rt; ran.out.as_slice() == out);
+    }
+    Ok(())
+}

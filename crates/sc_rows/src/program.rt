@@ -1,0 +1,59 @@
+// The program over sources and sinks in memory.
+use sc_edge::{MemSink, MemSource};
+use sc_top::secomp;
+use std::alloc::Global;
+use std::test::Fail;
+
+/// More room than any output of these tests takes.
+const ROOM: u32 = 1 << 20;
+
+/// A run, and where it fails.
+#[derive(Clone, Copy)]
+pub struct Run<'a> {
+    pub words: &'a [&'a str],
+    pub input: &'a [u8],
+    /// The reads and the writes that fail, by their numbers.
+    pub failing_reads: &'a [u32],
+    pub failing_writes: &'a [u32],
+    /// How many bytes the output takes in all.
+    pub room: u32,
+}
+
+impl<'a> Run<'a> {
+    /// A run in which nothing fails.
+    pub fn new(words: &'a [&'a str], input: &'a [u8]) -> Run<'a> {
+        Run {
+            words,
+            input,
+            failing_reads: &[],
+            failing_writes: &[],
+            room: ROOM,
+        }
+    }
+
+    pub fn run(self, alloc: Global) -> Result<Ran, Fail> {
+        let mut words = Vec::new(alloc);
+        for word in self.words {
+            words.push(word.to_string(alloc)?)?;
+        }
+        let mut source = MemSource::new(alloc, self.input, self.failing_reads)?;
+        let mut out = MemSink::new(alloc, self.room, self.failing_writes)?;
+        let mut err = MemSink::new(alloc, ROOM, &[])?;
+        let status = secomp(alloc, &words, &mut source, &mut out, &mut err);
+        Ok(Ran {
+            status: status.number(),
+            out: out.written().to_vec(alloc)?,
+            err: err.written().to_vec(alloc)?,
+            unread: source.left().len(),
+        })
+    }
+}
+
+/// What a run answered, what it wrote, and how many bytes of the input it left.
+#[derive(Drop)]
+pub struct Ran {
+    pub status: u8,
+    pub out: Vec<u8>,
+    pub err: Vec<u8>,
+    pub unread: usize,
+}
