@@ -3,8 +3,15 @@
 //! Extension", and its listing of instruction encodings.
 #![tactic(auto)]
 
+mod decoding;
+mod encoding;
 mod field;
 mod instr;
+mod laws;
+mod table;
 
+pub use decoding::decode;
+pub use encoding::encode;
 pub use field::{BranchOffset, Immediate, JumpOffset, Reg, ShiftAmount, UpperImmediate};
 pub use instr::{BranchOp, Instr, LoadOp, OpImmOp, OpOp, ShiftOp, StoreOp, UpperOp};
+pub use laws::one_word_each;
