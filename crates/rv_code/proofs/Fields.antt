@@ -4,7 +4,7 @@ use Rattle.std.specs.Prelude.{ℤ}
 use Rattle.rv_code.specs.Ranges.{residue, IsReg, IsUpper, IsImmediate, IsBranchOffset, IsJumpOffset}
 use Rattle.rv_code.specs.Words.{r_word, i_word, s_word, b_word, u_word, j_word}
 use Rattle.rv_code.specs.Decoding.{opcode_of, rd_of, funct3_of, rs1_of, rs2_of, funct7_of, i_imm_of, s_imm_of, b_imm_of, u_imm_of, j_imm_of}
-use Rattle.rv_code.proofs.Numbers.{residue-signed-12, residue-signed-13, residue-signed-21, signed-residue-12, signed-residue-13, signed-residue-21, residue-even-13, residue-even-21, residue-below-12, residue-below-13, residue-below-21}
+use Rattle.rv_code.proofs.Numbers.{residue-signed-12, residue-signed-13, residue-signed-21, signed-residue-12, signed-residue-13, signed-residue-21, residue-even-13, residue-even-21, residue-below-13, residue-below-21}
 
 pub record RFields (w opcode rd funct3 rs1 rs2 funct7 : ℕ) : Type 0 where
   pub opcode_is : opcode_of w ≡ opcode

@@ -1,16 +1,10 @@
 -- What a word is decoded to has that word.
-use Rattle.std.proofs.Common.{◌≡◌, ℕ, ◌+◌, ◌*◌, ◌/◌, ◌%◌, ◌^◌, ◌<◌, Bool, true, false, cond, Option, Some, None, refl, sym, ◌∙◌, ap, subst, arith}
-use Rattle.std.specs.Prelude.{nat_eq, IfSome}
+use Rattle.std.proofs.Common.{◌≡◌, ℕ, ◌+◌, ◌*◌, ◌/◌, ◌%◌, ◌^◌, ◌<◌, Bool, true, false, cond, Option, Some, None, refl, subst, arith}
+use Rattle.std.specs.Prelude.{nat_eq}
 use Rattle.std.specs.Option.{option_map, option_or}
 use Rattle.std.proofs.lemmas.Bool.{eqb-true}
 use Rattle.rv_code.specs.declared.instr.UpperOp.{UpperOp}
 use Rattle.rv_code.specs.declared.instr.UpperOp.TheVariants.{Lui, Auipc}
-use Rattle.rv_code.specs.declared.instr.BranchOp.{BranchOp}
-use Rattle.rv_code.specs.declared.instr.LoadOp.{LoadOp}
-use Rattle.rv_code.specs.declared.instr.StoreOp.{StoreOp}
-use Rattle.rv_code.specs.declared.instr.OpImmOp.{OpImmOp}
-use Rattle.rv_code.specs.declared.instr.ShiftOp.{ShiftOp}
-use Rattle.rv_code.specs.declared.instr.OpOp.{OpOp}
 use Rattle.rv_code.specs.declared.instr.Instr.{Instr}
 use Rattle.rv_code.specs.declared.instr.Instr.TheVariants.{Upper, Jal, Jalr, Branch, Load, Store, OpImm, Shift, Op, Fence, Ecall, Ebreak}
 use Rattle.rv_code.specs.Ranges.{IsImmediate, IsBranchOffset, IsJumpOffset}
@@ -141,8 +135,8 @@ unfolding word_of system_in
 system_has w = if_has w (nat_eq w ecall_word) _ _
     (λ t. some_has w Ecall (record { instr = tt; word = eqb-true w ecall_word t }))
     (if_has w (nat_eq w ebreak_word) _ _
-        (λ t. some_has w Ebreak (record { instr = tt; word = eqb-true w ebreak_word t }))
-        (none_has w))
+    (λ t. some_has w Ebreak (record { instr = tt; word = eqb-true w ebreak_word t }))
+    (none_has w))
 
 -- what a word is decoded to has that word
 pub decoded_has : (w : ℕ) → w < 2 ^ 32 → AllHave w (decoded w)

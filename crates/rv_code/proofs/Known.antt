@@ -1,16 +1,15 @@
 -- Words that an assembler gives, read and written by the definitions.
-use Rattle.std.proofs.Common.{◌≡◌, ℕ, Option, Some, None, refl}
-use Rattle.std.specs.Prelude.{ℤ, pos, negsuc}
+use Rattle.std.proofs.Common.{◌≡◌, Some, None, refl}
+use Rattle.std.specs.Prelude.{pos, negsuc}
 use Rattle.rv_code.specs.declared.instr.UpperOp.TheVariants.{Lui}
 use Rattle.rv_code.specs.declared.instr.BranchOp.TheVariants.{Beq, Bgeu}
 use Rattle.rv_code.specs.declared.instr.LoadOp.TheVariants.{Lbu}
 use Rattle.rv_code.specs.declared.instr.StoreOp.TheVariants.{Sw}
 use Rattle.rv_code.specs.declared.instr.ShiftOp.TheVariants.{Srai}
 use Rattle.rv_code.specs.declared.instr.OpOp.TheVariants.{Mulhsu}
-use Rattle.rv_code.specs.declared.instr.Instr.{Instr}
-use Rattle.rv_code.specs.declared.instr.Instr.TheVariants.{Upper, Jal, Jalr, Branch, Load, Store, Shift, Op, Ecall}
+use Rattle.rv_code.specs.declared.instr.Instr.TheVariants.{Upper, Jal, Branch, Load, Store, Shift, Op, Ecall}
 use Rattle.rv_code.specs.Words.{word_of}
-use Rattle.rv_code.specs.Decoding.{branch_op_of, load_op_of, store_op_of, op_imm_op_of, shift_op_of, op_op_of, jalr_in, branch_in, load_in, store_in, shift_in, op_imm_in, op_in, fence_in, system_in, decoded}
+use Rattle.rv_code.specs.Decoding.{branch_op_of, load_op_of, op_imm_op_of, shift_op_of, op_op_of, branch_in, load_in, shift_in, op_imm_in, op_in, system_in, decoded}
 
 -- lui a0, 0x12345
 lui : word_of (Upper Lui 10 0x12345000) ≡ 0x12345537

@@ -1,9 +1,9 @@
 -- Residues and the signed numbers that they stand for, and words cut into fields.
-use Rattle.std.proofs.Common.{◌≡◌, ℕ, suc, ◌+◌, ◌-◌, ◌*◌, ◌/◌, ◌%◌, ◌^◌, ◌<◌, ◌≤◌, refl, sym, ◌∙◌, ap, arith, ⊎_elim, cond, true, false}
-use Rattle.std.specs.Prelude.{ℤ, pos, negsuc, ◌≤ℤ◌, nat_lt}
+use Rattle.std.proofs.Common.{◌≡◌, ℕ, suc, ◌-◌, ◌*◌, ◌%◌, ◌^◌, ◌<◌, ◌≤◌, refl, ◌∙◌, ap, arith, ⊎_elim}
+use Rattle.std.specs.Prelude.{ℤ, pos, negsuc}
 use Rattle.std.proofs.lemmas.Int.{ints}
 use Rattle.std.proofs.lemmas.Bool.{cases_lt, lt-ltb, le-ltb}
-use Rattle.rv_code.specs.Ranges.{residue, signed, IsUpper, IsImmediate, IsBranchOffset, IsJumpOffset}
+use Rattle.rv_code.specs.Ranges.{residue, signed, IsImmediate, IsBranchOffset, IsJumpOffset}
 
 -- what `signed` gives in the lower half and in the upper one
 pub signed-low : (half n : ℕ) → n < half → signed half n ≡ pos n

@@ -1,5 +1,5 @@
 -- An operation is found by its own function codes, and what is found has those that were asked for.
-use Rattle.std.proofs.Common.{◌≡◌, ℕ, ◌^◌, ◌<◌, Bool, true, false, cond, List, [], ◌∷◌, Option, Some, None, refl, sym, ◌∙◌, ap, subst, lit<}
+use Rattle.std.proofs.Common.{◌≡◌, ℕ, ◌^◌, ◌<◌, Bool, true, false, cond, List, [], ◌∷◌, Option, Some, None, refl, sym, ◌∙◌, ap, lit<}
 use Rattle.std.specs.Prelude.{◌&&◌, nat_eq, find}
 use Rattle.std.proofs.lemmas.Bool.{eqb-true}
 use Rattle.rv_code.specs.declared.instr.BranchOp.{BranchOp}
@@ -22,9 +22,10 @@ find-passes : {A : Type 0} (p : A → Bool) (xs : List A) (x : A) → find p xs 
 find-passes {A} p [] x e = let q : ◌≡◌ {A = Option A} None (Some x) = e in cc q
 find-passes {A} p (y ∷ ys) x e =
     let at : (b : Bool) → p y ≡ b → cond b (Some y) (find p ys) ≡ Some x → p x ≡ true =
-        λ b. elim b as (λ v. p y ≡ v → cond v (Some y) (find p ys) ≡ Some x → p x ≡ true)
-            [ true ↦ (λ t f. let q : ◌≡◌ {A = Option A} (Some y) (Some x) = f in let s : y ≡ x = cc in ap p (sym s) ∙ t)
-            | false ↦ (λ t f. find-passes p ys x f) ]
+    λ b. elim b as (λ v. p y ≡ v → cond v (Some y) (find p ys) ≡ Some x → p x ≡ true) [
+      | true ↦ (λ t f. let q : ◌≡◌ {A = Option A} (Some y) (Some x) = f in let s : y ≡ x = cc in ap p (sym s) ∙ t)
+      | false ↦ (λ t f. find-passes p ys x f)
+    ]
     in at (p y) refl e
 
 both : (a b : Bool) → (a && b) ≡ true → (a ≡ true) × (b ≡ true)

@@ -1,5 +1,5 @@
 -- The word of an instruction is decoded to that instruction.
-use Rattle.std.proofs.Common.{◌≡◌, ℕ, ◌^◌, ◌<◌, Option, Some, None, refl, sym, ◌∙◌, ap, lit<, arith}
+use Rattle.std.proofs.Common.{◌≡◌, ℕ, Some, refl, ◌∙◌, lit<}
 use Rattle.std.specs.Prelude.{ℤ}
 use Rattle.rv_code.specs.declared.instr.UpperOp.TheVariants.{Lui, Auipc}
 use Rattle.rv_code.specs.declared.instr.BranchOp.{BranchOp}
@@ -11,8 +11,8 @@ use Rattle.rv_code.specs.declared.instr.OpOp.{OpOp}
 use Rattle.rv_code.specs.declared.instr.Instr.{Instr}
 use Rattle.rv_code.specs.declared.instr.Instr.TheVariants.{Upper, Jal, Jalr, Branch, Load, Store, OpImm, Shift, Op, Fence, Ecall, Ebreak}
 use Rattle.rv_code.specs.Table.{upper_opcode, jal_opcode, jalr_opcode, branch_opcode, load_opcode, store_opcode, op_imm_opcode, op_opcode, fence_opcode, jalr_funct3, fence_funct3, branch_funct3, load_funct3, store_funct3, op_imm_funct3, shift_funct3, shift_funct7, op_funct3, op_funct7}
-use Rattle.rv_code.specs.Words.{word_of, IsInstr, HasWord}
-use Rattle.rv_code.specs.Decoding.{opcode_of, rd_of, funct3_of, rs1_of, rs2_of, funct7_of, i_imm_of, s_imm_of, b_imm_of, u_imm_of, j_imm_of, jalr_in, branch_in, load_in, store_in, shift_in, op_imm_in, op_in, fence_in, system_in, decoded}
+use Rattle.rv_code.specs.Words.{word_of, HasWord}
+use Rattle.rv_code.specs.Decoding.{opcode_of, rd_of, u_imm_of, j_imm_of, jalr_in, branch_in, load_in, store_in, shift_in, op_imm_in, op_in, fence_in, system_in, decoded}
 use Rattle.rv_code.proofs.Ops.{branch_op_of-own, load_op_of-own, store_op_of-own, op_imm_op_of-own, op_imm_op_of-shift, shift_op_of-own, op_op_of-own, branch_funct3-below, load_funct3-below, store_funct3-below, op_imm_funct3-below, shift_funct3-below, op_funct3-below}
 use Rattle.rv_code.proofs.Fields.{RFields, IFields, SFields, BFields, UFields, JFields, r_fields, i_fields, s_fields, b_fields, u_fields, j_fields}
 

@@ -1,5 +1,5 @@
 -- The ranges of an instruction's fields, and integers in two's complement.
-use Rattle.std.specs.Prelude.{◌≡◌, ℕ, suc, ◌+◌, ◌-◌, ◌*◌, ◌%◌, ◌^◌, ◌<◌, ℤ, pos, negsuc, ◌≤ℤ◌, nat_lt, if◌then◌else◌}
+use Rattle.std.specs.Prelude.{◌≡◌, ℕ, suc, ◌-◌, ◌*◌, ◌%◌, ◌^◌, ◌<◌, ℤ, pos, negsuc, ◌≤ℤ◌, nat_lt, if◌then◌else◌}
 
 -- what is left of an integer modulo m, from 0 to m - 1: its low k bits in two's complement, where m is 2 ^ k
 abbrev pub residue : ℕ → ℤ → ℕ

@@ -2,17 +2,16 @@
 
 ghost use Rattle.std.specs.Prelude.{◌≡◌, ◌*◌, ◌^◌, ◌<◌, Some};
 ghost use Rattle.rv_code.specs.Ranges.{residue, IsReg, IsAmount, IsUpper, IsImmediate, IsBranchOffset, IsJumpOffset};
-ghost use Rattle.rv_code.specs.Words.{r_word, i_word, s_word, b_word, u_word, j_word, word_of, IsInstr};
+ghost use Rattle.rv_code.specs.Words.{r_word, i_word, s_word, b_word, u_word, j_word, word_of, IsInstr, HasWord};
 ghost use Rattle.rv_code.specs.Decoding.{decoded};
 
 use crate::field::{BranchOffset, Immediate, JumpOffset, Reg, UpperImmediate};
 use crate::instr::Instr;
-use crate::table::{
-    BRANCH, EBREAK_WORD, ECALL_WORD, FENCE, JAL, JALR, LOAD, OP, OP_IMM, STORE,
-};
+use crate::table::{BRANCH, EBREAK_WORD, ECALL_WORD, FENCE, JAL, JALR, LOAD, OP, OP_IMM, STORE};
 
 /// The word of an instruction.
 pub fn encode(instr: Instr) -> u32
+    ensures has_word { HasWord instr result }
     ensures word { result ≡ word_of instr }
     // What is written is read again.
     ensures read_back { decoded result ≡ Some instr }
@@ -33,9 +32,12 @@ fn word_by_form(instr: Instr) -> u32
         Instr::Load { op, rd, rs1, imm } => i_form(LOAD, rd, op.funct3(), rs1, imm),
         Instr::Store { op, rs1, rs2, imm } => s_form(STORE, op.funct3(), rs1, rs2, imm),
         Instr::OpImm { op, rd, rs1, imm } => i_form(OP_IMM, rd, op.funct3(), rs1, imm),
-        Instr::Shift { op, rd, rs1, amount } => {
-            r_form(OP_IMM, rd, op.funct3(), rs1, amount.bits(), op.funct7())
-        }
+        Instr::Shift {
+            op,
+            rd,
+            rs1,
+            amount,
+        } => { r_form(OP_IMM, rd, op.funct3(), rs1, amount.bits(), op.funct7()) }
         Instr::Op { op, rd, rs1, rs2 } => {
             r_form(OP, rd, op.funct3(), rs1, rs2.number(), op.funct7())
         }

@@ -13,5 +13,4 @@ pub fn one_word_each()
     ensures one_instr { (w : ℕ) (i j : Instr) → HasWord i w → HasWord j w → i ≡ j }
     ensures one_word { (i : Instr) (v w : ℕ) → HasWord i v → HasWord i w → v ≡ w }
     ensures below { (i : Instr) (w : ℕ) → HasWord i w → w < 2 ^ 32 }
-{
-}
+{}

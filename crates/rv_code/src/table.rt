@@ -7,14 +7,23 @@ ghost use Rattle.rv_code.specs.Decoding.{branch_op_of, load_op_of, store_op_of, 
 use crate::instr::{BranchOp, LoadOp, OpImmOp, OpOp, ShiftOp, StoreOp, UpperOp};
 
 pub(crate) const LUI: u32 = 0b0110111;
+
 pub(crate) const AUIPC: u32 = 0b0010111;
+
 pub(crate) const JAL: u32 = 0b1101111;
+
 pub(crate) const JALR: u32 = 0b1100111;
+
 pub(crate) const BRANCH: u32 = 0b1100011;
+
 pub(crate) const LOAD: u32 = 0b0000011;
+
 pub(crate) const STORE: u32 = 0b0100011;
+
 pub(crate) const OP_IMM: u32 = 0b0010011;
+
 pub(crate) const OP: u32 = 0b0110011;
+
 pub(crate) const FENCE: u32 = 0b0001111;
 
 /// ECALL is this word alone.
