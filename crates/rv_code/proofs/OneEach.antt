@@ -27,6 +27,13 @@ one_instr w i j h k =
 pub one_word : (i : Instr) (v w : ℕ) → HasWord i v → HasWord i w → v ≡ w
 one_word i v w h k = h.word ∙ sym k.word
 
+-- the word of an instruction, by itself
+pub HasWord-own : (i : Instr) → IsInstr i → HasWord i (word_of i)
+HasWord-own i h = record { instr = h; word = refl }
+
+pub decoded-word_of : (i : Instr) → IsInstr i → decoded (word_of i) ≡ Some i
+decoded-word_of i h = decoded-word i (word_of i) (HasWord-own i h)
+
 -- the same for an answer that is what the word is decoded to
 pub found : (w : ℕ) (o : Option Instr) → w < 2 ^ 32 → o ≡ decoded w → IfSome o (λ i. HasWord i w)
 found w None h e = tt
