@@ -4,5 +4,4 @@ ghost use Rattle.sc_word.specs.Agreement.{MachineComputesC};
 /// compiled operator by operator. It does nothing: the clause is the theorem.
 pub fn the_machine_computes_what_c_computes()
     ensures { MachineComputesC }
-{
-}
+{}

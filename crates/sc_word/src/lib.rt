@@ -20,3 +20,6 @@ pub use fault::WordFault;
 pub use machine::{
     add, div, divu, mul, mulh, mulhsu, mulhu, rem, remu, sll, slt, sltu, sra, srl, sub,
 };
+
+#[cfg(test)]
+mod tests;

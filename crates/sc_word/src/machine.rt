@@ -2,6 +2,8 @@
 //! the destination (RISC-V Unprivileged ISA, chapters RV32I and M).
 
 ghost use Rattle.std.specs.Prelude.{◌≡◌};
+ghost use Rattle.std.specs.Int.{int_shr};
+ghost use Rattle.sc_word.specs.Word.{word_of};
 ghost use Rattle.sc_word.specs.Machine.{add_word, sub_word, sll_word, srl_word, sra_word, slt_word, sltu_word, mul_word, mulh_word, mulhsu_word, mulhu_word, div_word, divu_word, rem_word, remu_word};
 
 /// ADD: the sum, which wraps.
@@ -60,20 +62,25 @@ pub fn mul(a: u32, b: u32) -> u32
     a.wrapping_mul(b)
 }
 
+// The high 32 bits of a signed product.
+fn high_word(product: i64) -> u32
+    ensures { result ≡ word_of (int_shr product 32) }
+{
+    ((product >> 32) as i32).cast_unsigned()
+}
+
 /// MULH: the high 32 bits of the product of signed `a` and signed `b`.
 pub fn mulh(a: u32, b: u32) -> u32
     ensures { result ≡ mulh_word a b }
 {
-    let product = a.cast_signed() as i64 * b.cast_signed() as i64;
-    ((product >> 32) as i32).cast_unsigned()
+    high_word(a.cast_signed() as i64 * b.cast_signed() as i64)
 }
 
 /// MULHSU: the high 32 bits of the product of signed `a` and unsigned `b`.
 pub fn mulhsu(a: u32, b: u32) -> u32
     ensures { result ≡ mulhsu_word a b }
 {
-    let product = a.cast_signed() as i64 * b as i64;
-    ((product >> 32) as i32).cast_unsigned()
+    high_word(a.cast_signed() as i64 * b as i64)
 }
 
 /// MULHU: the high 32 bits of the product of unsigned `a` and unsigned `b`.
@@ -90,7 +97,9 @@ pub fn div(a: u32, b: u32) -> u32
     if b == 0 {
         return u32::MAX;
     }
-    a.cast_signed().wrapping_div(b.cast_signed()).cast_unsigned()
+    a.cast_signed()
+        .wrapping_div(b.cast_signed())
+        .cast_unsigned()
 }
 
 /// DIVU: the unsigned quotient. By 0 it is 0xFFFFFFFF.
@@ -107,7 +116,9 @@ pub fn rem(a: u32, b: u32) -> u32
     if b == 0 {
         return a;
     }
-    a.cast_signed().wrapping_rem(b.cast_signed()).cast_unsigned()
+    a.cast_signed()
+        .wrapping_rem(b.cast_signed())
+        .cast_unsigned()
 }
 
 /// REMU: the unsigned remainder. By 0 it is `a`.
