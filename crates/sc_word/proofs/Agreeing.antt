@@ -1,10 +1,10 @@
 -- Each instruction computes what its operator of C computes.
-use Rattle.std.proofs.Common.{◌≡◌, ℕ, zero, suc, ◌+◌, ◌-◌, ◌*◌, ◌<◌, ◌≤◌, ◌%◌, ◌^◌, refl, sym, ap, ◌∙◌, arith, ℤ, pos, negsuc, ◌+ℤ◌, ◌-ℤ◌, ◌*ℤ◌, neg_ℤ, Bool, true, false, Ok, Err, rules}
+use Rattle.std.proofs.Common.{◌≡◌, ℕ, ◌<◌, ◌^◌, ap, ◌∙◌, arith, ℤ, pos, ◌+ℤ◌, ◌-ℤ◌, ◌*ℤ◌, neg_ℤ, Ok}
 use Rattle.std.proofs.lemmas.Int.{ints}
-use Rattle.sc_word.specs.Word.{signed_of, word_of, fits_signed}
+use Rattle.sc_word.specs.Word.{signed_of, word_of}
 use Rattle.sc_word.specs.CArithmetic.{checked, add_signed, sub_signed, mul_signed, neg_signed, div_signed, rem_signed, shl_signed, shr_signed, div_unsigned, rem_unsigned, shl_unsigned, shr_unsigned}
 use Rattle.sc_word.specs.Machine.{add_word, sub_word, sll_word, srl_word, sra_word, mul_word, div_word, divu_word, rem_word, remu_word}
-use Rattle.sc_word.specs.Agreement.{Agrees, MachineComputesC}
+use Rattle.sc_word.specs.Agreement.{Agrees}
 use Rattle.sc_word.proofs.Words.{word_of-add, word_of-sub, word_of-mul}
 
 pub word_of-checked : (z : ℤ) (v : ℕ) → checked z ≡ Ok v → word_of z ≡ v

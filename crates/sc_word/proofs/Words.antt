@@ -1,17 +1,12 @@
 -- Words and the numbers that they stand for.
-use Rattle.std.proofs.Common.{◌≡◌, ℕ, zero, suc, ◌+◌, ◌-◌, ◌*◌, ◌<◌, ◌≤◌, ◌%◌, ◌^◌, refl, sym, ap, ◌∙◌, arith, ℤ, pos, negsuc, ◌+ℤ◌, ◌-ℤ◌, ◌*ℤ◌, neg_ℤ, FitsSigned, rules}
-use Rattle.std.specs.Int.{w32, cast_signed, cast_unsigned, int_wrap}
-use Rattle.std.proofs.lemmas.Int.{ints, of_z-to_z, wrapping_add-bits, wrapping_sub-bits, wrapping_mul-bits}
+use Rattle.std.proofs.Common.{◌≡◌, ℕ, ◌+◌, ◌-◌, ◌*◌, ◌<◌, ◌%◌, ◌^◌, refl, sym, ap, ◌∙◌, arith, ℤ, pos, negsuc, ◌+ℤ◌, ◌-ℤ◌, ◌*ℤ◌}
+use Rattle.std.specs.Int.{w32, cast_unsigned, int_wrap}
+use Rattle.std.proofs.lemmas.Int.{of_z-to_z, wrapping_add-bits, wrapping_sub-bits, wrapping_mul-bits}
 use Rattle.sc_word.specs.Word.{signed_of, word_of}
 
 pub word_of-lt : (z : ℤ) → word_of z < 2 ^ 32
 word_of-lt (pos n) = omega arith
 word_of-lt (negsuc n) = omega arith
-
--- a number that fits isn't changed modulo 2 ^ 32
-pub word_of-fits : (z : ℤ) → FitsSigned w32 z → word_of z ≡ cast_unsigned w32 z
-word_of-fits (pos n) h = let k : n < 2 ^ 31 = h.sfits in omega arith
-word_of-fits (negsuc n) h = let k : n < 2 ^ 31 = h.sfits in omega arith
 
 pub signed_of-word_of : (z : ℤ) → signed_of (word_of z) ≡ int_wrap w32 z
 unfolding int_wrap

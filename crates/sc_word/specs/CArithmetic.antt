@@ -1,6 +1,6 @@
 -- What C's operators compute on `int` and `unsigned int` of 32 bits, and the fault where they compute nothing (C11 6.5.5 to 6.5.8, 6.5.3.3).
 -- Signed arithmetic is that of the whole numbers, as far as the result fits. Unsigned arithmetic is modulo 2 ^ 32.
-use Rattle.std.specs.Prelude.{ℕ, ℤ, pos, ◌+ℤ◌, ◌-ℤ◌, ◌*ℤ◌, neg_ℤ, ◌*◌, ◌/◌, ◌%◌, ◌^◌, Bool, Result, Ok, Err, if◌then◌else◌, ◌==◌, nat_le, int_lt, int_div, int_rem}
+use Rattle.std.specs.Prelude.{ℕ, ℤ, pos, ◌+ℤ◌, ◌-ℤ◌, ◌*ℤ◌, neg_ℤ, ◌*◌, ◌/◌, ◌%◌, ◌^◌, Result, Ok, Err, if◌then◌else◌, ◌==◌, nat_le, int_lt, int_div, int_rem}
 use Rattle.std.specs.Int.{int_shr}
 use Rattle.sc_word.specs.declared.fault.WordFault.{WordFault}
 use Rattle.sc_word.specs.declared.fault.WordFault.TheVariants.{Overflow, ZeroDivisor, BadShift}
@@ -41,7 +41,7 @@ shl_signed a b =
 abbrev pub shr_signed : ℕ → ℕ → Result ℕ WordFault
 shr_signed a b = if nat_le 32 b then Err BadShift else Ok (word_of (int_shr (signed_of a) b))
 
--- the same four on unsigned words (C11 6.2.5p9, 6.5.5p5, 6.5.7)
+-- a / b, a % b, a << b and a >> b on unsigned words, where a shift left is modulo 2 ^ 32 (C11 6.2.5p9, 6.5.5p5, 6.5.7)
 abbrev pub div_unsigned : ℕ → ℕ → Result ℕ WordFault
 div_unsigned a b = if b == 0 then Err ZeroDivisor else Ok (a / b)
 

@@ -6,10 +6,10 @@
 //! instruction computes what its operator computes, wherever that computes anything.
 #![tactic(auto)]
 
-pub mod agreement;
-pub mod c_arithmetic;
-pub mod fault;
-pub mod machine;
+mod agreement;
+mod c_arithmetic;
+mod fault;
+mod machine;
 
 pub use agreement::the_machine_computes_what_c_computes;
 pub use c_arithmetic::{
