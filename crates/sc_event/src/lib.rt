@@ -12,3 +12,6 @@ pub use event::{Event, Trace};
 pub use name::{Name, is_name};
 pub use out_of_memory::OutOfMemory;
 pub use text::Text;
+
+#[cfg(test)]
+mod tests;
