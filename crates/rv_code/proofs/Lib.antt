@@ -1,0 +1,7 @@
+mod Known
+pub mod Numbers
+pub mod Fields
+pub mod Ops
+pub mod Read
+pub mod Found
+pub mod OneEach
