@@ -1,0 +1,4 @@
+pub mod Word
+pub mod CArithmetic
+pub mod Machine
+pub mod Agreement
