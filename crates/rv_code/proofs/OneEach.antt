@@ -1,12 +1,12 @@
 -- Words and instructions stand for one another.
-use Rattle.std.proofs.Common.{◌≡◌, ℕ, ◌+◌, ◌*◌, ◌/◌, ◌%◌, ◌^◌, ◌<◌, Option, Some, None, true, false, sym, ◌∙◌, arith, lit<}
+use Rattle.std.proofs.Common.{◌≡◌, ℕ, ◌+◌, ◌*◌, ◌/◌, ◌%◌, ◌^◌, ◌<◌, Option, Some, None, true, false, refl, sym, ◌∙◌, arith, lit<}
 use Rattle.std.specs.Prelude.{IfSome, IsNone}
 use Rattle.rv_code.specs.declared.instr.UpperOp.TheVariants.{Lui, Auipc}
 use Rattle.rv_code.specs.declared.instr.Instr.{Instr}
 use Rattle.rv_code.specs.declared.instr.Instr.TheVariants.{Upper, Jal, Jalr, Branch, Load, Store, OpImm, Shift, Op, Fence, Ecall, Ebreak}
 use Rattle.rv_code.specs.Ranges.{residue}
 use Rattle.rv_code.specs.Table.{jalr_opcode, fence_opcode, jalr_funct3, fence_funct3, branch_funct3, load_funct3, store_funct3, op_imm_funct3, shift_funct3, shift_funct7, op_funct3, op_funct7}
-use Rattle.rv_code.specs.Words.{word_of, HasWord}
+use Rattle.rv_code.specs.Words.{word_of, IsInstr, HasWord}
 use Rattle.rv_code.specs.Decoding.{decoded}
 use Rattle.rv_code.proofs.Numbers.{residue-below-12, residue-below-13, residue-below-21}
 use Rattle.rv_code.proofs.Ops.{branch_funct3-below, load_funct3-below, store_funct3-below, op_imm_funct3-below, shift_funct3-below, op_funct3-below, shift_funct7-below, op_funct7-below}
