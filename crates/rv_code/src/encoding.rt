@@ -37,7 +37,7 @@ fn word_by_form(instr: Instr) -> u32
             rd,
             rs1,
             amount,
-        } => { r_form(OP_IMM, rd, op.funct3(), rs1, amount.bits(), op.funct7()) }
+        } => r_form(OP_IMM, rd, op.funct3(), rs1, amount.bits(), op.funct7()),
         Instr::Op { op, rd, rs1, rs2 } => {
             r_form(OP, rd, op.funct3(), rs1, rs2.number(), op.funct7())
         }
