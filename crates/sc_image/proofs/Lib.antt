@@ -1,0 +1,2 @@
+mod Seven
+pub mod Running

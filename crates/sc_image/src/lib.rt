@@ -1,0 +1,8 @@
+//! Images of compiled programs, and what the machine does that runs them.
+#![tactic(auto)]
+
+mod parts;
+
+pub use parts::{
+    CompPart, CompParts, ExportPart, ExportParts, ImageParts, ImportPart, ImportParts,
+};
