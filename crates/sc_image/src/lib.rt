@@ -1,8 +1,10 @@
 //! Images of compiled programs, and what the machine does that runs them.
 #![tactic(auto)]
 
+mod image;
 mod parts;
 
+pub use image::Image;
 pub use parts::{
     CompPart, CompParts, ExportPart, ExportParts, ImageParts, ImportPart, ImportParts,
 };
