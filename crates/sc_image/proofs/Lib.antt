@@ -1,2 +1,3 @@
 mod Seven
 pub mod Running
+pub mod Fits
