@@ -1,3 +1,4 @@
 mod Seven
 pub mod Running
+pub mod Stepping
 pub mod Fits
