@@ -2,3 +2,4 @@ mod Seven
 pub mod Running
 pub mod Stepping
 pub mod Fits
+pub mod OneComp
