@@ -1,0 +1,62 @@
+-- A run may be cut into pieces: it goes on from the state that it stopped in.
+use Rattle.std.proofs.Common.{◌≡◌, ℕ, zero, suc, ◌+◌, ℤ, Bool, List, length, nat_le, Option, Some, None, true, false, if◌then◌else◌, refl, sym, ◌∙◌, ap, subst, zero-add}
+use Rattle.std.proofs.Math.Nat.{suc-add}
+use Rattle.sc_event.specs.declared.event.Event.{Event}
+use Rattle.sc_core.specs.declared.stop.Stop.{Stop}
+use Rattle.sc_core.specs.declared.stop.Stop.TheVariants.{Ended, EventsOut, StepsOut}
+use Rattle.sc_image.specs.declared.parts.ImageParts.{ImageParts}
+use Rattle.sc_image.specs.State.{State}
+use Rattle.sc_image.specs.Step.{Outcome, Goes, Traps, step}
+use Rattle.sc_image.specs.Machine.{Run, is_ended, stopped, stops_or, after, run, unless_stopped, continued}
+
+-- a run that stops before another step doesn't stop for want of steps
+stays_by : (ended full : Bool) (stop : Stop) (earlier later : Run) →
+    (if ended then Some Ended else if full then Some EventsOut else None) ≡ Some stop → unless_stopped stop earlier later ≡ earlier
+stays_by true full stop earlier later h = let same : Ended ≡ stop = cc h in subst (λ s. unless_stopped s earlier later ≡ earlier) same refl
+stays_by false true stop earlier later h = let same : EventsOut ≡ stop = cc h in subst (λ s. unless_stopped s earlier later ≡ earlier) same refl
+stays_by false false stop earlier later h = cc h
+
+stays : (events : ℕ) (trace : List Event) (stop : Stop) (earlier later : Run) →
+    stopped events trace ≡ Some stop → unless_stopped stop earlier later ≡ earlier
+unfolding stopped
+stays events trace stop earlier later h = stays_by (is_ended trace) (nat_le events (length trace)) stop earlier later h
+
+-- it stops with any number of steps
+pub run_stopped : (image : ImageParts) (inputs : List ℤ) (events n : ℕ) (state : State) (stop : Stop) →
+    stopped events state.trace ≡ Some stop → run image inputs events n state ≡ record { state = state; stop = stop }
+unfolding run
+run_stopped image inputs events zero state stop h = rw h refl
+run_stopped image inputs events (suc n) state stop h = rw h refl
+
+module _ (image : ImageParts) (inputs : List ℤ) (events n : ℕ) where
+  -- with no steps at first
+  none_first : (state : State) (early : Option Stop) → stopped events state.trace ≡ early →
+      run image inputs events n state ≡ continued (run image inputs events n) (stops_or early state (record { state = state; stop = StepsOut }))
+  none_first state None h = refl
+  none_first state (Some stop) h =
+      run_stopped image inputs events n state stop h ∙ sym (stays events state.trace stop (record { state = state; stop = stop }) (run image inputs events n state) h)
+
+  -- with one step more, of which the outcome is given
+  one_more : (m : ℕ) (state : State) (outcome : Outcome) →
+      ((next : State) → run image inputs events (m + n) next ≡ continued (run image inputs events n) (run image inputs events m next)) →
+      after state outcome (run image inputs events (m + n)) ≡ continued (run image inputs events n) (after state outcome (run image inputs events m))
+  one_more m state (Goes next) later = later next
+  one_more m state (Traps reason) later = refl
+
+  -- and the stop before it
+  one_first : (m : ℕ) (state : State) (early : Option Stop) → stopped events state.trace ≡ early →
+      ((next : State) → run image inputs events (m + n) next ≡ continued (run image inputs events n) (run image inputs events m next)) →
+      stops_or early state (after state (step image inputs state) (run image inputs events (m + n))) ≡
+      continued (run image inputs events n) (stops_or early state (after state (step image inputs state) (run image inputs events m)))
+  one_first m state None h later = one_more m state (step image inputs state) later
+  one_first m state (Some stop) h later =
+      sym (stays events state.trace stop (record { state = state; stop = stop }) (run image inputs events n state) h)
+
+  -- m + n steps are m steps and then n
+  pub run_more : (m : ℕ) (state : State) →
+      run image inputs events (m + n) state ≡ continued (run image inputs events n) (run image inputs events m state)
+  unfolding run
+  run_more zero state =
+      ap (λ k. run image inputs events k state) (zero-add n) ∙ none_first state (stopped events state.trace) refl
+  run_more (suc m) state =
+      ap (λ k. run image inputs events k state) (suc-add m n) ∙ one_first m state (stopped events state.trace) refl (run_more m)

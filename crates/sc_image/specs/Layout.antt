@@ -1,0 +1,48 @@
+-- Where things lie in memory. A compartment has a stretch of addresses for its code and one for its data, both found by its number.
+use Rattle.std.specs.Prelude.{ℕ, ◌+◌, ◌-◌, ◌*◌, ◌/◌, ◌%◌, Bool, ◌&&◌, nat_le, nat_eq, List, [], length, slice_get, Option, None, if◌then◌else◌}
+use Rattle.std.specs.Option.{option_map_or}
+use Rattle.sc_image.specs.declared.parts.ImageParts.{ImageParts}
+
+-- from one compartment's stretch to the next, and so the most bytes of code
+abbrev pub stretch : ℕ
+stretch = 0x100000
+
+-- where the code of compartment c begins
+abbrev pub code_start : ℕ → ℕ
+code_start c = 0x01000000 + c * stretch
+
+-- where its data begin: the stack, which grows down from its top, and then the globals
+abbrev pub data_start : ℕ → ℕ
+data_start c = 0x10000000 + c * stretch
+
+abbrev pub stack_size : ℕ
+stack_size = 65536
+
+-- the top of the stack, where the globals begin
+abbrev pub stack_top : ℕ → ℕ
+stack_top c = data_start c + stack_size
+
+-- the most bytes of globals, so that unowned bytes are left below the next compartment's data
+abbrev pub most_globals : ℕ
+most_globals = 458752
+
+-- the address that a function returns to where it was called from outside
+abbrev pub gate : ℕ
+gate = 0x00000100
+
+-- the code and the globals of compartment c: none where the image has no such compartment
+abbrev pub code_of : ImageParts → ℕ → List ℕ
+code_of image c = option_map_or (λ comp. comp.code) (slice_get image.comps c) []
+
+abbrev pub globals_of : ImageParts → ℕ → List ℕ
+globals_of image c = option_map_or (λ comp. comp.globals) (slice_get image.comps c) []
+
+-- the word of c's code at an address, if the address is that of a whole word of it
+unfoldable pub word_at : ImageParts → (c address : ℕ) → Option ℕ
+word_at image c address =
+    if nat_eq (address % 4) 0 && nat_le (code_start c) address then slice_get (code_of image c) ((address - code_start c) / 4) else None
+
+-- so many bytes from an address on all lie in c's stack and globals
+unfoldable pub are_data : ImageParts → (c address size : ℕ) → Bool
+are_data image c address size =
+    nat_le (data_start c) address && nat_le (address + size) (stack_top c + length (globals_of image c))

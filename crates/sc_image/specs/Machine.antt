@@ -1,0 +1,55 @@
+-- A run: steps until something stops it.
+use Rattle.std.specs.Prelude.{ℕ, zero, suc, ℤ, Bool, true, false, nat_le, ◌-◌, List, length, slice_get, Option, Some, None, if◌then◌else◌}
+use Rattle.std.specs.Option.{option_map_or}
+use Rattle.sc_event.specs.declared.event.Event.{Event}
+use Rattle.sc_event.specs.declared.event.Event.TheVariants.{End}
+use Rattle.sc_core.specs.declared.stop.Stop.{Stop}
+use Rattle.sc_core.specs.declared.stop.Stop.TheVariants.{Ended, EventsOut, StepsOut, Trap}
+use Rattle.sc_image.specs.declared.parts.ImageParts.{ImageParts}
+use Rattle.sc_image.specs.State.{State, start}
+use Rattle.sc_image.specs.Step.{Outcome, Goes, Traps, step}
+
+-- the state that a run stops in, and why it stops
+pub record Run : Type 0 where
+  pub state : State
+  pub stop : Stop
+
+abbrev pub is_end : Event → Bool
+is_end (End _ _) = true
+is_end _ = false
+
+-- the last event is `End`
+abbrev pub is_ended : List Event → Bool
+is_ended trace = option_map_or is_end (slice_get trace (length trace - 1)) false
+
+-- why a run with room for so many events stops before another step, if it does
+unfoldable pub stopped : ℕ → List Event → Option Stop
+stopped events trace = if is_ended trace then Some Ended else if nat_le events (length trace) then Some EventsOut else None
+
+-- a run from a state: it stops there, or goes on
+abbrev pub stops_or : Option Stop → State → Run → Run
+stops_or (Some stop) state run = record { state = state; stop = stop }
+stops_or None state run = run
+
+-- a run from a state after one step from it, which goes on or is a trap
+abbrev pub after : State → Outcome → (State → Run) → Run
+after state (Goes next) run = run next
+after state (Traps reason) run = record { state = state; stop = Trap reason state.pc }
+
+-- at most so many steps from a state on, with room for so many events in the whole trace
+unfoldable pub run : ImageParts → List ℤ → (events steps : ℕ) → State → Run
+run image inputs events zero state = stops_or (stopped events state.trace) state (record { state = state; stop = StepsOut })
+run image inputs events (suc steps) state =
+    stops_or (stopped events state.trace) state (after state (step image inputs state) (run image inputs events steps))
+
+-- at most so many steps from the start
+abbrev pub machine : ImageParts → List ℤ → (steps events : ℕ) → Run
+machine image inputs steps events = run image inputs events steps (start image)
+
+-- a run with more steps: it goes on where it stopped for want of steps alone
+abbrev pub unless_stopped : Stop → (earlier later : Run) → Run
+unless_stopped StepsOut earlier later = later
+unless_stopped _ earlier later = earlier
+
+abbrev pub continued : (State → Run) → Run → Run
+continued go earlier = unless_stopped earlier.stop earlier (go earlier.state)

@@ -1,0 +1,99 @@
+-- The machine's state, and the state that a run starts in.
+use Rattle.std.specs.Prelude.{ℕ, suc, ◌-◌, ◌/◌, ◌%◌, nat_eq, nat_lt, List, [], ◌∷◌, ◌++◌, replicate, slice_get, slice_index, slice_set, Option, Some, None, if◌then◌else◌}
+use Rattle.std.specs.Option.{option_and_then}
+use Rattle.sc_event.specs.declared.event.Event.{Event}
+use Rattle.sc_image.specs.declared.parts.ImageParts.{ImageParts}
+use Rattle.sc_image.specs.declared.parts.CompPart.{CompPart}
+use Rattle.sc_image.specs.Layout.{stretch, data_start, stack_size, stack_top, gate}
+
+-- a function that is called from outside its compartment: `main` by the environment, or an export by its index
+pub data Entry : Type 0 where
+  Main : Entry
+  Export : (index : ℕ) → Entry
+
+-- a call of another compartment that hasn't returned
+pub record Crossing : Type 0 where
+  -- who called, where it goes on, and its sp
+  pub caller : ℕ
+  pub pc : ℕ
+  pub sp : ℕ
+  -- what was called, and that compartment's saved sp before the call
+  pub callee : ℕ
+  pub entry : Entry
+  pub saved : ℕ
+
+pub record State : Type 0 where
+  -- x0 to x31
+  pub regs : List ℕ
+  pub pc : ℕ
+  -- the compartment whose code runs
+  pub active : ℕ
+  -- of each compartment, the sp that it gets at its next call
+  pub saved : List ℕ
+  -- the bytes at the addresses that have an owner
+  pub memory : ℕ → Option ℕ
+  -- the latest call first
+  pub cross : List Crossing
+  -- how many inputs were read
+  pub input : ℕ
+  -- the oldest event first
+  pub trace : List Event
+
+-- Registers by their numbers.
+
+abbrev pub ra : ℕ
+ra = 1
+
+abbrev pub sp : ℕ
+sp = 2
+
+abbrev pub a0 : ℕ
+a0 = 10
+
+abbrev pub a7 : ℕ
+a7 = 17
+
+abbrev pub reg : State → ℕ → ℕ
+reg state r = slice_index state.regs r
+
+-- the registers with a word in one of them; x0 stays 0
+abbrev pub written : List ℕ → (r word : ℕ) → List ℕ
+written regs r word = if nat_eq r 0 then regs else slice_set regs r word
+
+abbrev pub with_reg : State → (r word : ℕ) → State
+with_reg state r word = record state { regs = written state.regs r word }
+
+abbrev pub with_pc : State → ℕ → State
+with_pc state pc = record state { pc = pc }
+
+abbrev pub with_event : State → Event → State
+with_event state event = record state { trace = state.trace ++ event ∷ [] }
+
+-- The start.
+
+-- the byte of a compartment's data at an offset: a stack of zeros, and then the globals
+abbrev pub data_byte : ℕ → CompPart → Option ℕ
+data_byte offset comp = if nat_lt offset stack_size then Some 0 else slice_get comp.globals (offset - stack_size)
+
+-- the bytes at the start
+unfoldable pub start_memory : ImageParts → ℕ → Option ℕ
+start_memory image address =
+    if nat_lt address (data_start 0) then None
+    else option_and_then (data_byte ((address - data_start 0) % stretch)) (slice_get image.comps ((address - data_start 0) / stretch))
+
+-- the stack tops of the compartments from number c on
+abbrev pub stack_tops : ℕ → List CompPart → List ℕ
+stack_tops c [] = []
+stack_tops c (comp ∷ comps) = stack_top c ∷ stack_tops (suc c) comps
+
+-- the run starts at the main entry, with an empty stack and with ra at the gate
+abbrev pub start : ImageParts → State
+start image = record {
+    regs = 0 ∷ gate ∷ stack_top image.main ∷ replicate 29 0;
+    pc = image.entry;
+    active = image.main;
+    saved = stack_tops 0 image.comps;
+    memory = start_memory image;
+    cross = [];
+    input = 0;
+    trace = [] }

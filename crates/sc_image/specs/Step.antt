@@ -1,0 +1,206 @@
+-- What one instruction does (RISC-V Unprivileged ISA, RV32I and M), and when it traps.
+-- These are all the cases for an image of one compartment that imports no `input`. The calls into other compartments, the returns from them
+-- and the reading of inputs come with the events that show them; `elsewhere`, `returned` and `environment_call` are the places for them.
+use Rattle.std.specs.Prelude.{ℕ, zero, suc, ℤ, ◌+◌, ◌*◌, ◌/◌, ◌%◌, ◌^◌, Bool, false, ◌&&◌, ◌==◌, not, nat_eq, nat_lt, nat_le, int_lt, int_le, List, slice_get, Option, Some, None, if◌then◌else◌, unwrap_or, bit_and, bit_or, bit_xor, is_some}
+use Rattle.std.specs.Option.{option_map_or}
+use Rattle.sc_event.specs.declared.event.Event.TheVariants.{Out, End}
+use Rattle.sc_core.specs.declared.stop.TrapReason.{TrapReason}
+use Rattle.sc_core.specs.declared.stop.TrapReason.TheVariants.{Owner, Misaligned, Illegal, BadJump, NoImport, BadCall, Breakpoint}
+use Rattle.sc_word.specs.Word.{signed_of, word_of}
+use Rattle.sc_word.specs.Machine.{add_word, sub_word, sll_word, srl_word, sra_word, slt_word, sltu_word, mul_word, mulh_word, mulhsu_word, mulhu_word, div_word, divu_word, rem_word, remu_word}
+use Rattle.rv_code.specs.declared.instr.Instr.{Instr}
+use Rattle.rv_code.specs.declared.instr.Instr.TheVariants.{Upper, Jal, Jalr, Branch, Load, Store, OpImm, Shift, Op, Fence, Ecall, Ebreak}
+use Rattle.rv_code.specs.declared.instr.UpperOp.TheVariants.{Lui, Auipc}
+use Rattle.rv_code.specs.declared.instr.BranchOp.{BranchOp}
+use Rattle.rv_code.specs.declared.instr.BranchOp.TheVariants.{Beq, Bne, Blt, Bge, Bltu, Bgeu}
+use Rattle.rv_code.specs.declared.instr.LoadOp.{LoadOp}
+use Rattle.rv_code.specs.declared.instr.LoadOp.TheVariants.{Lb, Lh, Lw, Lbu, Lhu}
+use Rattle.rv_code.specs.declared.instr.StoreOp.{StoreOp}
+use Rattle.rv_code.specs.declared.instr.StoreOp.TheVariants.{Sb, Sh, Sw}
+use Rattle.rv_code.specs.declared.instr.OpImmOp.{OpImmOp}
+use Rattle.rv_code.specs.declared.instr.OpImmOp.TheVariants.{Addi, Slti, Sltiu, Xori, Ori, Andi}
+use Rattle.rv_code.specs.declared.instr.ShiftOp.{ShiftOp}
+use Rattle.rv_code.specs.declared.instr.ShiftOp.TheVariants.{Slli, Srli, Srai}
+use Rattle.rv_code.specs.declared.instr.OpOp.{OpOp}
+use Rattle.rv_code.specs.declared.instr.OpOp.TheVariants.{Add, Sub, Sll, Slt, Sltu, Xor, Srl, Sra, Or, And, Mul, Mulh, Mulhsu, Mulhu, Div, Divu, Rem, Remu}
+use Rattle.rv_code.specs.Ranges.{signed}
+use Rattle.rv_code.specs.Decoding.{decoded}
+use Rattle.sc_image.specs.declared.parts.ImageParts.{ImageParts}
+use Rattle.sc_image.specs.Layout.{gate, word_at, are_data}
+use Rattle.sc_image.specs.State.{State, a0, a7, reg, with_reg, with_pc, with_event}
+
+-- the state after a step, or the reason why there is no step
+pub data Outcome : Type 0 where
+  Goes : (state : State) → Outcome
+  Traps : (reason : TrapReason) → Outcome
+
+-- on to the next instruction: code lies below 2 ^ 26, so this doesn't wrap
+abbrev pub next : State → Outcome
+next state = Goes (with_pc state (state.pc + 4))
+
+-- on to the next instruction, with a word in rd
+abbrev pub gives : State → (rd word : ℕ) → Outcome
+gives state rd word = next (with_reg state rd word)
+
+-- Arithmetic.
+
+-- what an operation computes from two registers
+abbrev pub computed : OpOp → ℕ → ℕ → ℕ
+computed Add = add_word
+computed Sub = sub_word
+computed Sll = sll_word
+computed Slt = slt_word
+computed Sltu = sltu_word
+computed Xor = bit_xor
+computed Srl = srl_word
+computed Sra = sra_word
+computed Or = bit_or
+computed And = bit_and
+computed Mul = mul_word
+computed Mulh = mulh_word
+computed Mulhsu = mulhsu_word
+computed Mulhu = mulhu_word
+computed Div = div_word
+computed Divu = divu_word
+computed Rem = rem_word
+computed Remu = remu_word
+
+-- an operation on an immediate computes what this one computes from the immediate's word
+abbrev pub on_registers : OpImmOp → OpOp
+on_registers Addi = Add
+on_registers Slti = Slt
+on_registers Sltiu = Sltu
+on_registers Xori = Xor
+on_registers Ori = Or
+on_registers Andi = And
+
+abbrev pub shift_on_registers : ShiftOp → OpOp
+shift_on_registers Slli = Sll
+shift_on_registers Srli = Srl
+shift_on_registers Srai = Sra
+
+-- whether two registers compare so
+abbrev pub compares : BranchOp → ℕ → ℕ → Bool
+compares Beq a b = a == b
+compares Bne a b = not (a == b)
+compares Blt a b = int_lt (signed_of a) (signed_of b)
+compares Bge a b = int_le (signed_of b) (signed_of a)
+compares Bltu a b = nat_lt a b
+compares Bgeu a b = nat_le b a
+
+-- Memory.
+
+abbrev pub byte_at : (ℕ → Option ℕ) → ℕ → ℕ
+byte_at memory address = unwrap_or (memory address) 0
+
+-- the number in so many bytes from an address on, the lowest first
+abbrev pub number_at : (ℕ → Option ℕ) → (size address : ℕ) → ℕ
+number_at memory zero address = 0
+number_at memory (suc size) address = byte_at memory address + 2 ^ 8 * number_at memory size (address + 1)
+
+abbrev pub with_byte : (ℕ → Option ℕ) → ℕ → ℕ → ℕ → Option ℕ
+with_byte memory address byte place = if nat_eq place address then Some byte else memory place
+
+-- the lowest bytes of a word, so many of them, stand from an address on
+abbrev pub with_number : (ℕ → Option ℕ) → (size address word : ℕ) → ℕ → Option ℕ
+with_number memory zero address word = memory
+with_number memory (suc size) address word = with_number (with_byte memory address (word % 2 ^ 8)) size (address + 1) (word / 2 ^ 8)
+
+abbrev pub load_size : LoadOp → ℕ
+load_size Lb = 1
+load_size Lh = 2
+load_size Lw = 4
+load_size Lbu = 1
+load_size Lhu = 2
+
+-- the register's word for a number that was loaded: LB and LH keep its sign
+abbrev pub extended : LoadOp → ℕ → ℕ
+extended Lb number = word_of (signed (2 ^ 7) number)
+extended Lh number = word_of (signed (2 ^ 15) number)
+extended _ number = number
+
+abbrev pub store_size : StoreOp → ℕ
+store_size Sb = 1
+store_size Sh = 2
+store_size Sw = 4
+
+-- an access of so many bytes, which is to be at a multiple of their number and in the active compartment's data
+abbrev pub access : ImageParts → State → (size address : ℕ) → Outcome → Outcome
+access image state size address outcome =
+    if not (address % size == 0) then Traps Misaligned
+    else if not (are_data image state.active address size) then Traps Owner
+    else outcome
+
+abbrev pub load : ImageParts → State → LoadOp → (rd address : ℕ) → Outcome
+load image state op rd address =
+    access image state (load_size op) address (gives state rd (extended op (number_at state.memory (load_size op) address)))
+
+abbrev pub store : ImageParts → State → StoreOp → (address word : ℕ) → Outcome
+store image state op address word =
+    access image state (store_size op) address (next (record state { memory = with_number state.memory (store_size op) address word }))
+
+-- Jumps.
+
+-- to a place in the own code, with the address of the next instruction in rd; what comes of any other target is given
+abbrev pub jump : ImageParts → State → (rd target : ℕ) → (elsewhere : Outcome) → Outcome
+jump image state rd target elsewhere =
+    if not (target % 4 == 0) then Traps Misaligned
+    else if is_some (word_at image state.active target) then Goes (with_pc (with_reg state rd (state.pc + 4)) target)
+    else elsewhere
+
+-- through the gate, where no other compartment waits: the run ends, and the state but for the trace stays
+abbrev pub returned : State → Outcome
+returned state = Goes (with_event state (End state.active (reg state a0)))
+
+-- JALR with rd = x0 to the gate returns
+abbrev pub elsewhere : State → (rd target : ℕ) → Outcome
+elsewhere state rd target = if nat_eq rd 0 && nat_eq target gate then returned state else Traps BadJump
+
+-- the target of JALR: bit 0 of the sum is cleared
+abbrev pub jalr_target : (base : ℕ) → ℤ → ℕ
+jalr_target base imm = add_word base (word_of imm) / 2 * 2
+
+-- The environment.
+
+abbrev pub may_output : ImageParts → ℕ → Bool
+may_output image c = option_map_or (λ comp. comp.output) (slice_get image.comps c) false
+
+-- a7 says what is called: 1 is `input`, 2 is `output`
+abbrev pub environment_call : ImageParts → List ℤ → State → Outcome
+environment_call image inputs state =
+    if nat_eq (reg state a7) 1 then Traps NoImport
+    else if nat_eq (reg state a7) 2 then (if may_output image state.active then next (with_event state (Out state.active (reg state a0))) else Traps NoImport)
+    else Traps BadCall
+
+-- The step.
+
+unfoldable pub execute : ImageParts → List ℤ → State → Instr → Outcome
+execute image inputs state (Upper Lui rd imm) = gives state rd imm
+execute image inputs state (Upper Auipc rd imm) = gives state rd (add_word state.pc imm)
+execute image inputs state (Jal rd imm) = jump image state rd (add_word state.pc (word_of imm)) (Traps BadJump)
+execute image inputs state (Jalr rd rs1 imm) =
+    let target = jalr_target (reg state rs1) imm in jump image state rd target (elsewhere state rd target)
+execute image inputs state (Branch op rs1 rs2 imm) =
+    if compares op (reg state rs1) (reg state rs2) then jump image state 0 (add_word state.pc (word_of imm)) (Traps BadJump) else next state
+execute image inputs state (Load op rd rs1 imm) = load image state op rd (add_word (reg state rs1) (word_of imm))
+execute image inputs state (Store op rs1 rs2 imm) = store image state op (add_word (reg state rs1) (word_of imm)) (reg state rs2)
+execute image inputs state (OpImm op rd rs1 imm) = gives state rd (computed (on_registers op) (reg state rs1) (word_of imm))
+execute image inputs state (Shift op rd rs1 amount) = gives state rd (computed (shift_on_registers op) (reg state rs1) amount)
+execute image inputs state (Op op rd rs1 rs2) = gives state rd (computed op (reg state rs1) (reg state rs2))
+execute image inputs state (Fence _ _ _) = next state
+execute image inputs state Ecall = environment_call image inputs state
+execute image inputs state Ebreak = Traps Breakpoint
+
+-- the word of an instruction, if it is one
+abbrev pub if_decoded : ImageParts → List ℤ → State → Option Instr → Outcome
+if_decoded image inputs state None = Traps Illegal
+if_decoded image inputs state (Some instr) = execute image inputs state instr
+
+-- a word of the own code, if pc is at one
+abbrev pub if_fetched : ImageParts → List ℤ → State → Option ℕ → Outcome
+if_fetched image inputs state None = Traps BadJump
+if_fetched image inputs state (Some word) = if_decoded image inputs state (decoded word)
+
+-- the instruction at pc
+unfoldable pub step : ImageParts → List ℤ → State → Outcome
+step image inputs state = if_fetched image inputs state (word_at image state.active state.pc)

@@ -1,0 +1,42 @@
+ghost use Rattle.std.specs.Prelude.{◌≡◌};
+ghost use Rattle.sc_image.specs.WellFormed.{IsWellFormed, IsSimple};
+
+use crate::ImageParts;
+use std::marker::Model;
+
+/// A program that the machine can run. Contracts see its parts, which are well formed.
+#[derive(Drop)]
+pub struct Image {
+    parts: ImageParts,
+}
+
+impl Model for Image {
+    ghost use Rattle.sc_image.specs.declared.parts.ImageParts.{ImageParts};
+    ghost use Rattle.sc_image.specs.WellFormed.{IsWellFormed, IsSimple};
+
+    ghost Value = { ImageParts };
+
+    ghost view = { λ image. image.parts };
+
+    ghost invariant = { λ image. IsWellFormed image.parts × IsSimple image.parts };
+}
+
+impl Image {
+    /// The image of these parts.
+    pub fn new(parts: ImageParts) -> Image
+        requires well_formed { IsWellFormed parts }
+        requires simple { IsSimple parts }
+        ensures { result ≡ parts }
+    {
+        Image { parts }
+    }
+
+    /// What the image is made of.
+    pub fn parts(&self) -> &ImageParts
+        ensures parts { result.now ≡ self.now }
+        ensures well_formed { IsWellFormed self.now }
+        ensures simple { IsSimple self.now }
+    {
+        &self.parts
+    }
+}

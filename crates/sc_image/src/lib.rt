@@ -1,0 +1,15 @@
+//! Images of compiled programs, and what the machine does that runs them.
+#![tactic(auto)]
+
+mod image;
+mod parts;
+mod writing;
+
+pub use image::Image;
+pub use parts::{
+    CompPart, CompParts, ExportPart, ExportParts, ImageParts, ImportPart, ImportParts,
+};
+pub use writing::write_image;
+
+#[cfg(test)]
+mod tests;
