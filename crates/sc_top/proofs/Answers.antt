@@ -3,7 +3,6 @@ use Rattle.std.proofs.Common.{◌≡◌, ℕ, ◌≤◌, ◌⊎◌, inl, inr, Li
 use Rattle.std.proofs.lemmas.List.{append-nil}
 use Rattle.sc_core.specs.declared.thin.ThinProgram.{ThinProgram}
 use Rattle.sc_top.specs.declared.command.Command.{Command}
-use Rattle.sc_top.specs.declared.command.Command.TheVariants.{Meaning}
 use Rattle.sc_top.specs.declared.status.Status.{Status}
 use Rattle.sc_top.specs.declared.status.Status.TheVariants as status
 use Rattle.sc_top.specs.Answer.{Reads, IsBeyond}
@@ -29,8 +28,8 @@ not_thin text (Some rest) beyond program thin =
 
 -- good input is beyond nothing
 not_beyond : (command : Command) (left left' : Option (List ℕ)) → IsSomeAnd left (λ bytes. (text : List ℕ) × IsOutput command bytes text) → IsBeyond left left' → ⊥
-not_beyond Meaning (Some bytes) left' good beyond = not_thin bytes left' beyond good.1.0 good.1.1
-not_beyond Meaning None left' good beyond = good
+not_beyond command (Some bytes) left' good beyond = not_thin bytes left' beyond good.1.0 good.1.1
+not_beyond command None left' good beyond = good
 
 -- so it is answered, unless memory runs out or the outside fails
 pub answered : (asked : Option Command) (left left' : Option (List ℕ)) (read_failed write_failed : Type 0) (s : Status)

@@ -1,11 +1,11 @@
 -- Statements one after another.
-use Rattle.std.proofs.Common.{◌≡◌, ℕ, ◌≤◌, List, [], ◌∷◌, ◌++◌, slice_index, flat_map, codes, decimal, refl, sym, ap, ◌∙◌, arith, append_assoc}
+use Rattle.std.proofs.Common.{◌≡◌, ℕ, ◌≤◌, List, [], ◌∷◌, ◌++◌, slice_index, flat_map, codes, decimal, refl, sym, ap, ◌∙◌, arith, append_assoc, length, length-append, ◌+◌}
 use Rattle.std.proofs.lemmas.List.{append_cancel_left}
 use Rattle.std.specs.List.{AllByRecursion}
 use Rattle.std.proofs.lemmas.List.Elements.{All-from_recursion, recursion_from_All}
 use Rattle.sc_core.specs.declared.thin.ThinProgram.{ThinProgram}
 use Rattle.sc_top.specs.Statement.{IsStatement}
-use Rattle.sc_top.specs.Thin.{IsBody, output_line, return_line}
+use Rattle.sc_top.specs.Thin.{IsThin, head, IsBody, output_line, return_line}
 use Rattle.sc_top.proofs.Numbers.{same_number}
 use Rattle.sc_top.proofs.Statements.{same_statement}
 
@@ -78,3 +78,16 @@ a_body text outputs rest result end read is_return ends =
       outputs = All-from_recursion _ _ read.small;
       result = is_return.small;
     }
+
+-- each output has a line, so there are no more outputs than bytes
+outputs_in_text : (outputs : List ℕ) → length outputs ≤ length (flat_map output_line outputs)
+outputs_in_text [] = omega arith
+outputs_in_text (word ∷ outputs) =
+    let rest = outputs_in_text outputs in rw length-append (omega arith)
+
+pub few_outputs : (text : List ℕ) (program : ThinProgram) → IsThin text program → length program.outputs ≤ 16384
+few_outputs text program thin =
+    let lines = outputs_in_text program.outputs in
+    let all : length text ≡ length head + length thin.statements = ap length thin.whole ∙ length-append head thin.statements in
+    let body = ap length thin.body.spelled ∙ length-append (flat_map output_line program.outputs) _ in
+    let short = thin.short in omega arith

@@ -19,7 +19,7 @@ status_of faults.Source = ReadFault
 status_of faults.Memory = OutOfMemory
 
 unfoldable pub usage : List ℕ
-usage = codes "secomp: usage: secomp meaning\nReads a program from standard input, and writes the events of its source meaning and how it ends.\n"
+usage = codes "secomp: usage: secomp COMMAND < TEXT\n\n  meaning  writes the source meaning of the text: its events and how it ends\n  compile  writes the image of the compiled text\n  run      writes what the machine shows on that image: its events and why it stops\n  explain  writes the same, and accounts for it by source programs\n"
 
 -- what is written of a status to standard error
 abbrev pub status_text : Status → List ℕ

@@ -3,6 +3,7 @@
 
 mod command;
 mod input;
+mod machine;
 mod output;
 mod report;
 mod status;

@@ -43,7 +43,7 @@ impl Status {
         match self {
             Status::Done => b"",
             Status::Usage => {
-                b"secomp: usage: secomp meaning\nReads a program from standard input, and writes the events of its source meaning and how it ends.\n"
+                b"secomp: usage: secomp COMMAND < TEXT\n\n  meaning  writes the source meaning of the text: its events and how it ends\n  compile  writes the image of the compiled text\n  run      writes what the machine shows on that image: its events and why it stops\n  explain  writes the same, and accounts for it by source programs\n"
             }
             Status::ReadFault => b"secomp: read fault\n",
             Status::WriteFault => b"secomp: write fault\n",

@@ -1,4 +1,4 @@
-ghost use Rattle.std.specs.Prelude.{◌≡◌, ◌≢◌, ◌≤◌, ◌⊎◌, ◌↔◌, ℕ, List, None, map, OnOk, IfOk, IfErr, IsErrOf, IsSomeAnd};
+ghost use Rattle.std.specs.Prelude.{◌≡◌, ◌≢◌, ◌≤◌, ◌⊎◌, ◌↔◌, ℕ, List, None, length, map, OnOk, IfOk, IfErr, IsErrOf, IsSomeAnd};
 ghost use Rattle.sc_core.specs.declared.thin.ThinProgram.{ThinProgram};
 ghost use Rattle.sc_top.specs.Thin.{IsThin};
 ghost use Rattle.sc_top.specs.declared.status.Status.{Status};
@@ -6,22 +6,25 @@ ghost use Rattle.std.specs.String.{string_bytes};
 ghost use Rattle.sc_edge.specs.Edge.{Rose};
 ghost use Rattle.sc_top.specs.Answer.{IsDone, IsCutShort, IsBeyond, Tells};
 ghost use Rattle.sc_top.specs.Command.{command};
-ghost use Rattle.sc_top.specs.Output.{IsOutput};
+ghost use Rattle.sc_top.specs.Output.{IsOutput, IsOutputOf};
 ghost use Rattle.sc_top.specs.Status.{status_text};
 
 use crate::Status;
 use crate::command::{Command, read_command};
 use crate::input::read_text;
+use crate::machine::{explanation, machine_text};
 use crate::output::write_text;
 use crate::report::run_text;
 use crate::thin::{LIMIT, read_thin};
-use sc_core::run_thin;
+use sc_compile::compile;
+use sc_core::{ThinProgram, run_thin};
 use sc_edge::{Sink, Source};
-use sc_event::Text;
+use sc_event::{OutOfMemory, Text};
+use sc_image::write_image;
 use std::alloc::Global;
 
 // At most so many events, where the words don't say.
-const DEFAULT_EVENTS: u32 = 1_024;
+pub(crate) const DEFAULT_EVENTS: u32 = 1_024;
 
 /// Runs the program on its words, without its own name in front. A status other than `Done` is told on `err`.
 pub fn secomp<S: Source, O: Sink, E: Sink>(
@@ -93,18 +96,31 @@ fn answer<S: Source, O: Sink>(
 }
 
 // The command's output for these bytes.
+#[tactic(auto, using(crate::proofs::Bodies::few_outputs))]
 fn output(alloc: Global, command: Command, bytes: &[u8]) -> Result<Text, Status>
-    ensures ok { IfOk result (λ text. IsOutput command bytes.now text) }
+    ensures ok { IfOk result (IsOutput command bytes.now) }
     ensures thick { IsErrOf result Status.NotBuilt → (program : ThinProgram) → IsThin bytes.now program → ⊥ }
     ensures causes { IfErr result (λ status. (status ≡ Status.NotBuilt) ⊎ (status ≡ Status.OutOfMemory)) }
 {
+    let Some(program) = read_thin(alloc, bytes)? else {
+        return Err(Status::NotBuilt);
+    };
+    Ok(output_of(alloc, command, &program)?)
+}
+
+// The command's output for this program.
+fn output_of(
+    alloc: Global,
+    command: Command,
+    program: &ThinProgram,
+) -> Result<Text, OutOfMemory>
+    requires { length program.now.outputs ≤ 16384 }
+    ensures { IfOk result (IsOutputOf command program.now) }
+{
     match command {
-        Command::Meaning => {
-            let Some(program) = read_thin(alloc, bytes)? else {
-                return Err(Status::NotBuilt);
-            };
-            let run = run_thin(alloc, &program, DEFAULT_EVENTS)?;
-            Ok(run_text(alloc, &run)?)
-        }
+        Command::Meaning => run_text(alloc, &run_thin(alloc, program, DEFAULT_EVENTS)?),
+        Command::Compile => write_image(alloc, &compile(alloc, program)?),
+        Command::Run => machine_text(alloc, program),
+        Command::Explain => explanation(alloc, program),
     }
 }

@@ -1,6 +1,6 @@
 use Rattle.std.proofs.Common.{◌≡◌, flat_map, take}
 use Rattle.sc_top.specs.Report.{event_line}
-use Rattle.sc_top.proofs.report.run_text.Given as goal
+use Rattle.sc_top.proofs.report.events_text.Given as goal
 
 abbrev pub invariant-loop-event : goal.invariant-loop-event
-invariant-loop-event l = l.text ≡ flat_map event_line (take l.event-index l.event-items)
+invariant-loop-event l = l.text ≡ flat_map event_line (take l.event-index l.events)
