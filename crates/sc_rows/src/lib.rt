@@ -2,6 +2,8 @@
 #![tactic(auto)]
 
 #[cfg(test)]
+mod machine;
+#[cfg(test)]
 mod meaning;
 #[cfg(test)]
 mod program;

@@ -1,0 +1,67 @@
+// The commands that compile and run.
+use crate::program::Run;
+use std::test::Fail;
+
+const SEVEN: &[u8] =
+    b"#pragma compartment Main\n#pragma import Env output\nvoid output(int v);\nint main(void) {\n  output(7);\n  return 0;\n}\n";
+
+const GREATEST: &[u8] =
+    b"#pragma compartment Main\n#pragma import Env output\nvoid output(int v);\nint main(void) {\n  output(2147483647);\n  return 0;\n}\n";
+
+#[test]
+fn a_compiled_program_is_run_and_explained(rt: HostRuntime) -> Result<(), Fail> {
+    let cases: [(&str, &[u8], &[u8]); 3] = [
+        ("run", SEVEN, b"out Main 7\nend Main 0\nstop ended\n"),
+        (
+            "run",
+            GREATEST,
+            b"out Main 2147483647\nend Main 0\nstop ended\n",
+        ),
+        (
+            "explain",
+            SEVEN,
+            b"out Main 7\nend Main 0\nstop ended\nchain 0\n",
+        ),
+    ];
+    for (word, text, want) in cases {
+        let ran = Run::new(&[word], text).run(rt.alloc())?;
+        assert_eq!(rt; ran.status, 0);
+        assert!(rt; ran.out.as_slice() == want);
+        assert_eq!(rt; ran.err.len(), 0);
+        assert_eq!(rt; ran.unread, 0);
+    }
+    for word in ["compile", "run", "explain"] {
+        let ran = Run::new(&[word], b"int main(void) { return 0; }").run(rt.alloc())?;
+        assert_eq!(rt; ran.status, 10);
+        assert_eq!(rt; ran.out.len(), 0);
+    }
+    Ok(())
+}
+
+#[test]
+fn an_image_is_written_field_by_field(rt: HostRuntime) -> Result<(), Fail> {
+    let fields: [&[u8]; 14] = [
+        b"SCIM", // the mark
+        &[1, 0], // the version
+        &[1], // one compartment
+        &[0], // which is the main one
+        &[0, 0, 0, 1], // its entry, 0x01000000
+        &[4], // the length of its name
+        b"Main", // its name
+        &[2], // it imports `output`
+        &[0, 0], // no exports
+        &[0, 0], // no imports
+        &[20, 0, 0, 0], // the length of its code
+        &[0x13, 0x05, 0x70, 0, 0x93, 0x08, 0x20, 0, 0x73, 0, 0, 0], // addi a0,x0,7; addi a7,x0,2; ecall
+        &[0x13, 0x05, 0, 0, 0x67, 0x80, 0, 0], // addi a0,x0,0; jalr x0,0(ra)
+        &[0, 0, 0, 0], // no globals
+    ];
+    let mut want = Vec::new(rt.alloc());
+    for field in fields {
+        want.extend_from_slice(field)?;
+    }
+    let ran = Run::new(&["compile"], SEVEN).run(rt.alloc())?;
+    assert_eq!(rt; ran.status, 0);
+    assert!(rt; ran.out.as_slice() == want.as_slice());
+    Ok(())
+}
