@@ -1,0 +1,62 @@
+-- Runs, step by step and call by call.
+use Rattle.std.proofs.Common.{◌≡◌, ℕ, suc, ◌+◌, ◌<◌, ℤ, Bool, true, false, nat_le, if◌then◌else◌, List, [], ◌∷◌, length, sum, Option, Some, None, refl, sym, ◌∙◌, ap, add_assoc, add-zero}
+use Rattle.std.specs.Prelude.{fold, unwrap_or}
+use Rattle.std.proofs.lemmas.Bool.{leb-false}
+use Rattle.sc_event.specs.declared.event.Event.{Event}
+use Rattle.sc_core.specs.declared.stop.Stop.{Stop}
+use Rattle.std.proofs.lemmas.List.Sums.{sum_by-cons}
+use Rattle.sc_core.specs.declared.stop.Stop.TheVariants.{Ended, EventsOut, StepsOut, Trap}
+use Rattle.sc_core.specs.declared.stop.TrapReason.{TrapReason}
+use Rattle.sc_image.specs.declared.parts.ImageParts.{ImageParts}
+use Rattle.sc_image.specs.State.{State, start}
+use Rattle.sc_image.specs.Step.{Goes, Traps, step}
+use Rattle.sc_image.specs.Machine.{Run, is_ended, stopped, stops_or, run, continued, machine}
+use Rattle.sc_image.proofs.Running.{run_more}
+use Rattle.sc_machine.specs.Calls.{calls}
+
+-- a run that isn't stopped has room for another event
+room_by : (events : ℕ) (trace : List Event) (ended full : Bool) → nat_le events (length trace) ≡ full →
+    (if ended then Some Ended else if full then Some EventsOut else None) ≡ None → length trace < events
+room_by events trace true full is early = cc early
+room_by events trace false true is early = cc early
+room_by events trace false false is early = leb-false events (length trace) is
+
+pub room_left : (events : ℕ) (trace : List Event) → stopped events trace ≡ None → length trace < events
+unfolding stopped
+room_left events trace early = room_by events trace (is_ended trace) (nat_le events (length trace)) refl early
+
+-- the last steps of a run
+module _ (image : ImageParts) (inputs : List ℤ) (events : ℕ) (state : State) where
+  no_more : (early : Option Stop) →
+      ◌≡◌ {A = Run} (stops_or early state (record { state = state; stop = StepsOut })) (record { state = state; stop = unwrap_or early StepsOut })
+  no_more None = refl
+  no_more (Some stop) = refl
+
+  pub no_steps : (left : ℕ) → left ≡ 0 →
+      run image inputs events left state ≡ record { state = state; stop = unwrap_or (stopped events state.trace) StepsOut }
+  unfolding run
+  no_steps left none = rw none (no_more (stopped events state.trace))
+
+  pub trapped : (left n : ℕ) (reason : TrapReason) → left ≡ suc n → stopped events state.trace ≡ None → Traps reason ≡ step image inputs state →
+      run image inputs events left state ≡ record { state = state; stop = Trap reason state.pc }
+  unfolding run
+  trapped left n reason more early is = rw (more, early, sym is) refl
+
+  pub gone : (left n : ℕ) (next : State) → left ≡ suc n → stopped events state.trace ≡ None → Goes next ≡ step image inputs state →
+      run image inputs events left state ≡ run image inputs events n next
+  unfolding run
+  gone left n next more early is = rw (more, early, sym is) refl
+
+-- Calls.
+
+module _ (image : ImageParts) (inputs : List ℤ) (events : ℕ) (state : State) where
+  later_calls : (n : ℕ) (more : List ℕ) →
+      fold (λ earlier m. continued (run image inputs events m) earlier) (run image inputs events n state) more ≡ run image inputs events (n + sum more) state
+  later_calls n [] = ap (λ k. run image inputs events k state) (sym (add-zero n))
+  later_calls n (m ∷ more) =
+      ap (λ r. fold (λ earlier m. continued (run image inputs events m) earlier) r more) (sym (run_more image inputs events m n state)) ∙
+      later_calls (n + m) more ∙ ap (λ k. run image inputs events k state) (add_assoc n m (sum more) ∙ ap (λ k. n + k) (sym (sum_by-cons (λ x. x) m more)))
+
+pub any_calls : (image : ImageParts) (inputs : List ℤ) (events first : ℕ) (more : List ℕ) →
+    calls image inputs events (first ∷ more) ≡ machine image inputs (first + sum more) events
+any_calls image inputs events first more = later_calls image inputs events (start image) first more

@@ -1,0 +1,18 @@
+use Rattle.std.proofs.Common.{arith, sym, ◌∙◌, ◌≡◌, ◌-◌, ◌/◌, ◌≤◌, slice_get}
+use Rattle.sc_image.specs.Layout.{code_start, code_of, word_at}
+use Rattle.sc_machine.proofs.Words.{misaligned, below_code, in_code}
+use Rattle.sc_machine.proofs.code.word_at.Goals as goal
+use Rattle.sc_machine.proofs.code.word_at.Goals.{then-address-ne0-via-then-address-ne0, then-address-ne0-via-else-address-ne0+then-address-start}
+
+pub returns-then-address-ne0-clause-word : goal.returns-then-address-ne0-clause-word
+returns-then-address-ne0-clause-word c =
+    elim c.then-address-ne0.branch [
+      | then-address-ne0-via-then-address-ne0 w ↦ sym (misaligned _ _ _ w.if-address-ne0.true)
+      | then-address-ne0-via-else-address-ne0+then-address-start w ↦ sym (below_code _ _ _ w.if-address-ne0.false (omega arith))
+    ]
+
+pub returns-clause-word : goal.returns-clause-word
+returns-clause-word c =
+    let found : word_at c.args.image.now c.args.comp c.args.address ≡ slice_get (code_of c.args.image.now c.args.comp) ((c.args.address - code_start c.args.comp) / 4) =
+    in_code _ _ _ c.if-address-ne0.false (omega arith) in
+    cc

@@ -1,0 +1,4 @@
+pub mod SimpleWord
+pub mod Hart
+pub mod Progress
+pub mod Calls

@@ -1,0 +1,69 @@
+// What an image says of a compartment's code and of what the compartment may call.
+
+ghost use Rattle.std.specs.Prelude.{◌≡◌, ◌+◌, ◌*◌, ◌^◌, ◌<◌, ◌≤◌, length, All, OnSome, IfSome};
+ghost use Rattle.sc_image.specs.Layout.{stretch, code_start, stack_top, code_of, word_at};
+ghost use Rattle.sc_image.specs.Step.{may_output};
+ghost use Rattle.sc_machine.specs.SimpleWord.{IsSimpleWord};
+
+use sc_event::CompId;
+use sc_image::Image;
+use sqlite_items::at;
+
+/// From one compartment's addresses to the next.
+const STRETCH: u32 = 0x10_0000;
+
+const CODE: u32 = 0x0100_0000;
+
+const DATA: u32 = 0x1000_0000;
+
+const STACK_SIZE: u32 = 0x1_0000;
+
+/// The address where the compartment's code begins.
+fn code_start(comp: CompId) -> u32
+    ensures { result ≡ code_start comp }
+{
+    CODE + comp.number() as u32 * STRETCH
+}
+
+/// The address of the top of the compartment's stack.
+pub(crate) fn stack_top(comp: CompId) -> u32
+    ensures { result ≡ stack_top comp }
+{
+    DATA + comp.number() as u32 * STRETCH + STACK_SIZE
+}
+
+/// The compartment's instructions, one word each.
+fn code(image: &Image, comp: CompId) -> &[u32]
+    ensures code { result.now ≡ code_of image.now comp }
+    ensures short { 4 * length result.now ≤ stretch }
+    ensures simple { All IsSimpleWord result.now }
+{
+    match image.parts().comps.get(comp.number() as usize) {
+        Some(part) => part.code.as_slice(),
+        None => &[],
+    }
+}
+
+/// The word of the compartment's code at an address, if the address is that of a whole word of it.
+pub(crate) fn word_at(image: &Image, comp: CompId, address: u32) -> Option<u32>
+    ensures word { result ≡ word_at image.now comp address }
+    ensures within { OnSome result (address + 4 < 2 ^ 32) }
+    ensures simple { IfSome result IsSimpleWord }
+{
+    let start = code_start(comp);
+    if address % 4 != 0 || address < start {
+        return None;
+    }
+    let index = (address - start) / 4;
+    at(code(image, comp), index as usize).copied()
+}
+
+/// Whether the compartment may output.
+pub(crate) fn may_output(image: &Image, comp: CompId) -> bool
+    ensures { result ≡ may_output image.now comp }
+{
+    match image.parts().comps.get(comp.number() as usize) {
+        Some(part) => part.output,
+        None => false,
+    }
+}
