@@ -1,0 +1,2 @@
+//! The compiler of thin programs: from a program to the image that the machine runs.
+#![tactic(auto)]
