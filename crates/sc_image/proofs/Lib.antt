@@ -1,2 +1,5 @@
 mod Seven
 pub mod Running
+pub mod Stepping
+pub mod Fits
+pub mod OneComp

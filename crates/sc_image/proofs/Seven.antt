@@ -1,5 +1,6 @@
 -- The image of a program that outputs 7 and returns 0: its bytes, and what the machine does on it.
-use Rattle.std.proofs.Common.{◌≡◌, ℕ, List, [], ◌∷◌, Bool, true, false, refl}
+use Rattle.std.proofs.Common.{◌≡◌, ℕ, List, [], ◌∷◌, Bool, true, false, All, refl, lit≤, lit<}
+use Rattle.sc_event.specs.Identifier.{is_name}
 use Rattle.std.specs.Prelude.{codes}
 use Rattle.sc_event.specs.declared.event.Event.TheVariants.{Out, End}
 use Rattle.sc_core.specs.declared.stop.Stop.TheVariants.{Ended, EventsOut, StepsOut, Trap}
@@ -8,6 +9,9 @@ use Rattle.sc_image.specs.declared.parts.ImageParts.{ImageParts}
 use Rattle.sc_image.specs.declared.parts.CompPart.{CompPart}
 use Rattle.sc_image.specs.Bytes.{image_bytes}
 use Rattle.sc_image.specs.Layout.{word_at}
+use Rattle.sc_image.specs.WellFormed.{IsWord, IsWellFormed, IsSimpleWord, IsSimpleComp, IsSimple}
+use Rattle.sc_image.proofs.OneComp.{one_well_formed, one_simple}
+use Rattle.std.proofs.lemmas.List.Elements.{All-cons, All-nil}
 use Rattle.sc_image.specs.Step.{execute, step}
 use Rattle.sc_image.specs.Machine.{stopped, run, machine}
 use Rattle.rv_code.specs.Decoding.{decoded, jalr_in, op_imm_in, system_in, op_imm_op_of}
@@ -52,3 +56,27 @@ traps : ((machine (parts (codes "Main") false) [] 3 10).stop ≡ Trap NoImport 0
     ((machine (parts (codes "Main") false) [] 2 10).stop ≡ StepsOut)
 unfolding run step stopped execute word_at decoded jalr_in op_imm_in op_imm_op_of system_in
 traps = (refl, refl, refl, refl)
+
+all_five : (P : ℕ → Type 0) (a b c d e : ℕ) → P a → P b → P c → P d → P e → All P (a ∷ b ∷ c ∷ d ∷ e ∷ [])
+all_five P a b c d e pa pb pc pd pe =
+    All-cons P a (b ∷ c ∷ d ∷ e ∷ []) pa (All-cons P b (c ∷ d ∷ e ∷ []) pb (All-cons P c (d ∷ e ∷ []) pc (All-cons P d (e ∷ []) pd (All-cons P e [] pe (All-nil P)))))
+
+-- it is well formed and simple, so that there is such an image
+only_is_simple : IsSimpleComp (only_comp (codes "M") true)
+unfolding decoded jalr_in op_imm_in op_imm_op_of system_in
+only_is_simple = record {
+    input = refl;
+    exports = refl;
+    imports = refl;
+    code = all_five IsSimpleWord 0x00700513 0x00200893 0x00000073 0x00000513 0x00008067 refl refl refl refl refl;
+    globals = refl }
+
+pub seven_is_well_formed : IsWellFormed (parts (codes "M") true)
+unfolding word_at is_name
+seven_is_well_formed =
+    one_well_formed 0x01000000 (only_comp (codes "M") true) only_is_simple refl (λ same. cc same) (lit≤ tt)
+        (all_five IsWord 0x00700513 0x00200893 0x00000073 0x00000513 0x00008067 (lit< tt) (lit< tt) (lit< tt) (lit< tt) (lit< tt))
+        refl
+
+pub seven_is_simple : IsSimple (parts (codes "M") true)
+seven_is_simple = one_simple 0x01000000 (only_comp (codes "M") true) only_is_simple

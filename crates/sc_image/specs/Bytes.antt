@@ -1,5 +1,5 @@
 -- The bytes of an image, in version 1 of its format. Numbers are little-endian.
-use Rattle.std.specs.Prelude.{ℕ, ◌+◌, ◌*◌, Bool, List, ◌∷◌, ◌++◌, length, flat_map, codes, if◌then◌else◌}
+use Rattle.std.specs.Prelude.{ℕ, ◌+◌, ◌*◌, ◌^◌, ◌<◌, Bool, List, ◌∷◌, ◌++◌, length, flat_map, codes, if◌then◌else◌}
 use Rattle.byteorder.specs.Endian.{little_bytes}
 use Rattle.sc_image.specs.declared.parts.ImageParts.{ImageParts}
 use Rattle.sc_image.specs.declared.parts.CompPart.{CompPart}
@@ -44,3 +44,10 @@ comp_bytes comp =
 abbrev pub image_bytes : ImageParts → List ℕ
 image_bytes image =
     codes "SCIM" ++ little_bytes 2 1 ++ length image.comps ∷ image.main ∷ little_bytes 4 image.entry ++ flat_map comp_bytes image.comps
+
+-- the lengths that are written fit their fields
+pub record FitsItsFields (comp : CompPart) : Type 0 where
+  pub exports : length comp.exports < 2 ^ 16
+  pub imports : length comp.imports < 2 ^ 16
+  pub code : 4 * length comp.code < 2 ^ 32
+  pub globals : length comp.globals < 2 ^ 32

@@ -56,9 +56,12 @@ a7 = 17
 abbrev pub reg : State → ℕ → ℕ
 reg state r = slice_index state.regs r
 
--- x0 stays 0
-abbrev pub with_reg : State → ℕ → ℕ → State
-with_reg state r word = if nat_eq r 0 then state else record state { regs = slice_set state.regs r word }
+-- the registers with a word in one of them; x0 stays 0
+abbrev pub written : List ℕ → (r word : ℕ) → List ℕ
+written regs r word = if nat_eq r 0 then regs else slice_set regs r word
+
+abbrev pub with_reg : State → (r word : ℕ) → State
+with_reg state r word = record state { regs = written state.regs r word }
 
 abbrev pub with_pc : State → ℕ → State
 with_pc state pc = record state { pc = pc }

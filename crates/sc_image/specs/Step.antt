@@ -191,13 +191,16 @@ execute image inputs state (Fence _ _ _) = next state
 execute image inputs state Ecall = environment_call image inputs state
 execute image inputs state Ebreak = Traps Breakpoint
 
--- the word at pc is to be in the own code, and to be an instruction
+-- the word of an instruction, if it is one
+abbrev pub if_decoded : ImageParts → List ℤ → State → Option Instr → Outcome
+if_decoded image inputs state None = Traps Illegal
+if_decoded image inputs state (Some instr) = execute image inputs state instr
+
+-- a word of the own code, if pc is at one
+abbrev pub if_fetched : ImageParts → List ℤ → State → Option ℕ → Outcome
+if_fetched image inputs state None = Traps BadJump
+if_fetched image inputs state (Some word) = if_decoded image inputs state (decoded word)
+
+-- the instruction at pc
 unfoldable pub step : ImageParts → List ℤ → State → Outcome
-step image inputs state = fetched (word_at image state.active state.pc)
-  where
-    found : Option Instr → Outcome
-    found None = Traps Illegal
-    found (Some instr) = execute image inputs state instr
-    fetched : Option ℕ → Outcome
-    fetched None = Traps BadJump
-    fetched (Some word) = found (decoded word)
+step image inputs state = if_fetched image inputs state (word_at image state.active state.pc)

@@ -1,5 +1,5 @@
 -- Which parts make an image.
-use Rattle.std.specs.Prelude.{◌≡◌, ◌≢◌, ℕ, ◌*◌, ◌^◌, ◌<◌, ◌≤◌, Bool, true, false, IsTrue, [], length, map, All, AllPairs, codes, slice_get, Some, IsSome}
+use Rattle.std.specs.Prelude.{List, ◌≡◌, ◌≢◌, ℕ, ◌*◌, ◌^◌, ◌<◌, ◌≤◌, Bool, true, false, IsTrue, [], length, map, All, AllPairs, codes, slice_get, Some, IsSome}
 use Rattle.std.specs.Option.{IsSomeAnd}
 use Rattle.sc_event.specs.Identifier.{is_name}
 use Rattle.rv_code.specs.declared.instr.Instr.{Instr}
@@ -12,6 +12,10 @@ use Rattle.sc_image.specs.declared.parts.CompPart.{CompPart}
 use Rattle.sc_image.specs.declared.parts.ExportPart.{ExportPart}
 use Rattle.sc_image.specs.declared.parts.ImportPart.{ImportPart}
 use Rattle.sc_image.specs.Layout.{stretch, most_globals, word_at}
+
+-- no two of these are the same
+abbrev pub IsDistinct : {A : Type 0} → List A → Type 0
+IsDistinct xs = AllPairs (λ a b. a ≢ b) xs
 
 -- an entry of compartment c: the address of a whole word of its code
 abbrev pub IsEntry : ImageParts → ℕ → ℕ → Type 0
@@ -28,6 +32,12 @@ pub record IsImport (image : ImageParts) (c : ℕ) (import : ImportPart) : Type 
   pub other : import.comp ≢ c
   pub offered : IsSomeAnd (slice_get image.comps import.comp) (λ comp. import.index < length comp.exports)
 
+abbrev pub IsWord : ℕ → Type 0
+IsWord word = word < 2 ^ 32
+
+abbrev pub IsByte : ℕ → Type 0
+IsByte byte = byte < 2 ^ 8
+
 -- the compartment of number c
 pub record IsComp (image : ImageParts) (c : ℕ) (comp : CompPart) : Type 0 where
   pub name : IsTrue (is_name comp.name)
@@ -35,15 +45,15 @@ pub record IsComp (image : ImageParts) (c : ℕ) (comp : CompPart) : Type 0 wher
   pub no_environment : comp.name ≢ codes "Env"
   pub few_exports : length comp.exports ≤ 4096
   pub exports : All (IsExport image c) comp.exports
-  pub export_names : AllPairs (λ a b. a ≢ b) (map (λ export. export.name) comp.exports)
-  pub export_entries : AllPairs (λ a b. a ≢ b) (map (λ export. export.entry) comp.exports)
+  pub export_names : IsDistinct (map (λ export. export.name) comp.exports)
+  pub export_entries : IsDistinct (map (λ export. export.entry) comp.exports)
   pub few_imports : length comp.imports ≤ 4096
   pub imports : All (IsImport image c) comp.imports
-  pub distinct_imports : AllPairs (λ a b. a ≢ b) comp.imports
+  pub distinct_imports : IsDistinct comp.imports
   pub short_code : 4 * length comp.code ≤ stretch
-  pub words : All (λ word. word < 2 ^ 32) comp.code
+  pub words : All IsWord comp.code
   pub short_globals : length comp.globals ≤ most_globals
-  pub bytes : All (λ byte. byte < 2 ^ 8) comp.globals
+  pub bytes : All IsByte comp.globals
 
 pub record IsWellFormed (image : ImageParts) : Type 0 where
   pub few_comps : length image.comps ≤ 32
@@ -51,7 +61,7 @@ pub record IsWellFormed (image : ImageParts) : Type 0 where
   pub main : image.main < length image.comps
   pub entry : IsEntry image image.main image.entry
   pub comps : (c : ℕ) (comp : CompPart) → slice_get image.comps c ≡ Some comp → IsComp image c comp
-  pub names : AllPairs (λ a b. a ≢ b) (map (λ comp. comp.name) image.comps)
+  pub names : IsDistinct (map (λ comp. comp.name) image.comps)
 
 -- What the machine runs today: one compartment that takes nothing from the others and has no globals, in four kinds of instructions.
 
@@ -63,11 +73,15 @@ is_simple (Jalr _ _ _) = true
 is_simple Ecall = true
 is_simple _ = false
 
+-- the word of such an instruction
+abbrev pub IsSimpleWord : ℕ → Type 0
+IsSimpleWord word = IsSomeAnd (decoded word) (λ instr. IsTrue (is_simple instr))
+
 pub record IsSimpleComp (comp : CompPart) : Type 0 where
   pub input : comp.input ≡ false
   pub exports : comp.exports ≡ []
   pub imports : comp.imports ≡ []
-  pub code : All (λ word. IsSomeAnd (decoded word) (λ instr. IsTrue (is_simple instr))) comp.code
+  pub code : All IsSimpleWord comp.code
   pub globals : comp.globals ≡ []
 
 pub record IsSimple (image : ImageParts) : Type 0 where

@@ -3,8 +3,10 @@
 
 mod image;
 mod parts;
+mod writing;
 
 pub use image::Image;
 pub use parts::{
     CompPart, CompParts, ExportPart, ExportParts, ImageParts, ImportPart, ImportParts,
 };
+pub use writing::write_image;

@@ -1,0 +1,6 @@
+use Rattle.std.proofs.Common.{◌≡◌, ◌++◌, flat_map, take}
+use Rattle.sc_image.specs.Bytes.{export_bytes}
+use Rattle.sc_image.proofs.writing.append_exports.Given as goal
+
+abbrev pub invariant-loop-export : goal.invariant-loop-export
+invariant-loop-export l = l.text ≡ l.initial.text ++ flat_map export_bytes (take l.export-index l.exports)

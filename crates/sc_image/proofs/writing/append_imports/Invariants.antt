@@ -1,0 +1,6 @@
+use Rattle.std.proofs.Common.{◌≡◌, ◌++◌, flat_map, take}
+use Rattle.sc_image.specs.Bytes.{import_bytes}
+use Rattle.sc_image.proofs.writing.append_imports.Given as goal
+
+abbrev pub invariant-loop-import : goal.invariant-loop-import
+invariant-loop-import l = l.text ≡ l.initial.text ++ flat_map import_bytes (take l.import-index l.imports)
