@@ -1,2 +1,4 @@
 pub mod Loading
 pub mod Runs
+pub mod Execution
+pub mod Correct
