@@ -2,3 +2,4 @@ pub mod Loading
 pub mod Runs
 pub mod Execution
 pub mod Correct
+pub mod Formed
