@@ -1,5 +1,5 @@
 -- What the machine shows on a thin program's image is the program's meaning.
-use Rattle.std.proofs.Common.{◌≡◌, ℕ, zero, suc, ◌+◌, ◌*◌, ◌<◌, ◌≤◌, ℤ, Bool, true, false, List, [], ◌∷◌, ◌++◌, length, map, flat_map, take, All, refl, sym, ◌∙◌, ap, subst, arith, ⊎_elim}
+use Rattle.std.proofs.Common.{◌≡◌, ℕ, zero, suc, ◌+◌, ◌*◌, ◌<◌, ◌≤◌, ℤ, Bool, true, false, List, [], ◌∷◌, ◌++◌, length, map, flat_map, take, refl, sym, ◌∙◌, ap, subst, arith, ⊎_elim}
 use Rattle.std.specs.Prelude.{nat_lt, ◌↔◌, if◌then◌else◌}
 use Rattle.std.proofs.lemmas.Bool.{lt-ltb, le-ltb, cases_lt}
 use Rattle.std.proofs.lemmas.List.{take_all, length-append, length_push, length-map}
@@ -12,19 +12,13 @@ use Rattle.sc_core.specs.declared.stop.Stop.TheVariants.{Ended, EventsOut, Steps
 use Rattle.sc_core.specs.declared.thin.ThinProgram.{ThinProgram}
 use Rattle.sc_core.specs.Thin.{whole_run, thin_meaning}
 use Rattle.rv_code.specs.declared.instr.Instr.{Instr}
-use Rattle.sc_image.specs.WellFormed.{IsWord}
 use Rattle.sc_image.specs.State.{start}
 use Rattle.sc_image.specs.Machine.{Run, machine}
-use Rattle.sc_compile.specs.Code.{is_short, loading, outputting, returning, thin_code}
+use Rattle.sc_compile.specs.Code.{is_short, loading, outputting, returning, thin_code, HasWords}
 use Rattle.sc_compile.specs.Image.{thin_image}
 use Rattle.sc_compile.specs.Correct.{stop_of, enough_steps, IsForward, IsNoTrap, IsBackward}
 use Rattle.sc_compile.proofs.Runs.{Because, Shows}
 use Rattle.sc_compile.proofs.Execution.{thin_runs}
-
--- the words of a thin program
-pub record HasWords (program : ThinProgram) : Type 0 where
-  pub outputs : All IsWord program.outputs
-  pub result : IsWord program.result
 
 -- The length of the code.
 

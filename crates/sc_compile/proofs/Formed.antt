@@ -70,7 +70,7 @@ used_simple instr h = rw (decoded-word_of instr h.fields) h.kind
 code_words : (program : ThinProgram) → All IsWord (map word_of (thin_code program))
 code_words program = All-map IsWord word_of (thin_code program) (All-weaker IsUsed (λ i. IsWord (word_of i)) used_word (thin_code program) (code_used program))
 
-simple_comp : (program : ThinProgram) → IsSimpleComp (main_comp program)
+simple_comp : (program : ThinProgram) → IsSimpleComp (main_comp (map word_of (thin_code program)))
 simple_comp program = record {
     input = refl;
     exports = refl;
@@ -100,7 +100,7 @@ main_other same = let lengths : ◌≡◌ {A = ℕ} 4 3 = ap length same in absu
 pub well_formed : (program : ThinProgram) → length program.outputs ≤ 16384 → IsWellFormed (thin_image program)
 well_formed program few =
     let short : 4 * length (map word_of (thin_code program)) ≤ stretch = simp length-map (omega (arith, code_length program)) in
-    one_well_formed (code_start 0) (main_comp program) (simple_comp program) main_name main_other short (code_words program) (first_word program)
+    one_well_formed (code_start 0) (main_comp (map word_of (thin_code program))) (simple_comp program) main_name main_other short (code_words program) (first_word program)
 
 pub simple : (program : ThinProgram) → IsSimple (thin_image program)
-simple program = one_simple (code_start 0) (main_comp program) (simple_comp program)
+simple program = one_simple (code_start 0) (main_comp (map word_of (thin_code program))) (simple_comp program)

@@ -1,5 +1,5 @@
 -- The code of a thin program.
-use Rattle.std.specs.Prelude.{ℕ, ℤ, pos, negsuc, ◌+◌, ◌*◌, ◌/◌, ◌%◌, ◌^◌, Bool, ◌&&◌, int_le, List, [], ◌∷◌, ◌++◌, flat_map, if◌then◌else◌}
+use Rattle.std.specs.Prelude.{ℕ, ℤ, pos, negsuc, ◌+◌, ◌*◌, ◌/◌, ◌%◌, ◌^◌, Bool, ◌&&◌, int_le, All, List, [], ◌∷◌, ◌++◌, flat_map, if◌then◌else◌}
 use Rattle.sc_word.specs.Word.{signed_of}
 use Rattle.rv_code.specs.declared.instr.Instr.{Instr}
 use Rattle.rv_code.specs.declared.instr.Instr.TheVariants.{Upper, Jalr, OpImm, Ecall}
@@ -8,6 +8,7 @@ use Rattle.rv_code.specs.declared.instr.OpImmOp.TheVariants.{Addi}
 use Rattle.rv_code.specs.Ranges.{signed}
 use Rattle.sc_core.specs.declared.thin.ThinProgram.{ThinProgram}
 use Rattle.sc_image.specs.State.{ra, a0, a7}
+use Rattle.sc_image.specs.WellFormed.{IsWord}
 
 -- a word that ADDI can load by itself: its signed value is from -2048 to 2047
 abbrev pub is_short : ℕ → Bool
@@ -41,3 +42,8 @@ returning word = loading a0 word ++ Jalr 0 ra (pos 0) ∷ []
 -- the outputs in order, and then the end
 abbrev pub thin_code : ThinProgram → List Instr
 thin_code program = flat_map outputting program.outputs ++ returning program.result
+
+-- the words that a program is made of have 32 bits each
+pub record HasWords (program : ThinProgram) : Type 0 where
+  pub outputs : All IsWord program.outputs
+  pub result : IsWord program.result

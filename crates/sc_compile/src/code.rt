@@ -5,7 +5,7 @@ ghost use Rattle.rv_code.specs.declared.instr.Instr.TheVariants.{OpImm};
 ghost use Rattle.rv_code.specs.declared.instr.OpImmOp.TheVariants.{Addi};
 ghost use Rattle.rv_code.specs.Ranges.{IsReg, IsImmediate};
 ghost use Rattle.rv_code.specs.Words.{word_of};
-ghost use Rattle.sc_compile.specs.Code.{upper_part, lower_part, loading, outputting, returning, thin_code};
+ghost use Rattle.sc_compile.specs.Code.{upper_part, lower_part, loading, outputting, returning, thin_code, HasWords};
 
 use rv_code::{Immediate, Instr, OpImmOp, Reg, UpperImmediate, UpperOp, encode};
 use sc_core::{ThinProgram, Words};
@@ -24,10 +24,13 @@ const OUTPUT: i32 = 2;
 
 /// The words of the program's code, from its first instruction on.
 pub fn thin_code(alloc: Global, program: &ThinProgram) -> Result<Words, OutOfMemory>
-    ensures { IfOk result (λ code. code ≡ map word_of (thin_code program.now)) }
+    ensures code { IfOk result (λ code. code ≡ map word_of (thin_code program.now)) }
+    // What was compiled is `u32`s.
+    ensures words { IfOk result (λ _. HasWords program.now) }
 {
+    let outputs = program.outputs.as_slice();
     let mut code = Words::new(alloc);
-    for word in program.outputs.as_slice() {
+    for word in outputs {
         output_word(&mut code, *word)?;
     }
     return_word(&mut code, program.result)?;

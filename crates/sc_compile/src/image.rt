@@ -1,9 +1,9 @@
 ghost use Rattle.std.specs.Prelude.{◌≡◌, ◌≤◌, length, codes, IfOk};
-ghost use Rattle.sc_compile.specs.Image.{main_comp, thin_image};
+ghost use Rattle.sc_compile.specs.Image.{main_comp, image_of, thin_image};
 ghost use Rattle.sc_compile.specs.Correct.{IsForward, IsBackward};
 
 use crate::code::thin_code;
-use sc_core::ThinProgram;
+use sc_core::{ThinProgram, Words};
 use sc_event::{CompId, Name, OutOfMemory, Text};
 use sc_image::{CompPart, CompParts, ExportParts, Image, ImageParts, ImportParts};
 use std::alloc::Global;
@@ -21,27 +21,34 @@ pub fn compile(alloc: Global, program: &ThinProgram) -> Result<Image, OutOfMemor
     // And it shows nothing else.
     ensures backward { IfOk result (λ image. IsBackward program.now image) }
 {
+    let code = thin_code(alloc, program)?;
+    Ok(Image::new(image_of(alloc, code)?))
+}
+
+fn image_of(alloc: Global, code: Words) -> Result<ImageParts, OutOfMemory>
+    ensures { IfOk result (λ parts. parts ≡ image_of code) }
+{
     let mut comps = CompParts::new(alloc);
-    comps.push(main_comp(alloc, program)?)?;
-    Ok(Image::new(ImageParts {
+    comps.push(main_comp(alloc, code))?;
+    Ok(ImageParts {
         main: CompId::first(),
         entry: CODE_START,
         comps,
-    }))
+    })
 }
 
-fn main_comp(alloc: Global, program: &ThinProgram) -> Result<CompPart, OutOfMemory>
-    ensures { IfOk result (λ comp. comp ≡ main_comp program.now) }
+fn main_comp(alloc: Global, code: Words) -> CompPart
+    ensures { result ≡ main_comp code }
 {
-    Ok(CompPart {
+    CompPart {
         name: main_name(),
         input: false,
         output: true,
         exports: ExportParts::new(alloc),
         imports: ImportParts::new(alloc),
-        code: thin_code(alloc, program)?,
+        code,
         globals: Text::new(alloc),
-    })
+    }
 }
 
 #[tactic(auto, unfolding(sc_event::specs::Identifier::is_name))]
