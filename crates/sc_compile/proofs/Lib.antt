@@ -1,0 +1,5 @@
+pub mod Loading
+pub mod Runs
+pub mod Execution
+pub mod Correct
+pub mod Formed

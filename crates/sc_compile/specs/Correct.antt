@@ -1,0 +1,43 @@
+-- What the machine shows on a compiled image is what the program means.
+use Rattle.std.specs.Prelude.{◌≡◌, ℕ, ◌+◌, ◌*◌, ◌≤◌, ◌↔◌, ℤ, List, length}
+use Rattle.sc_event.specs.declared.event.Event.{Event}
+use Rattle.sc_core.specs.declared.run.RunEnd.{RunEnd}
+use Rattle.sc_core.specs.declared.run.RunEnd.TheVariants.{Ended as MeaningEnded, EventsOut as MeaningEventsOut}
+use Rattle.sc_core.specs.declared.stop.Stop.{Stop}
+use Rattle.sc_core.specs.declared.stop.Stop.TheVariants.{Ended, EventsOut, StepsOut, Trap}
+use Rattle.sc_core.specs.declared.thin.ThinProgram.{ThinProgram}
+use Rattle.sc_core.specs.Thin.{thin_meaning}
+use Rattle.sc_image.specs.declared.parts.ImageParts.{ImageParts}
+use Rattle.sc_image.specs.Machine.{machine}
+use Rattle.sc_compile.specs.Code.{thin_code}
+
+-- how a machine run stops that goes as the meaning does
+abbrev pub stop_of : RunEnd → Stop
+stop_of MeaningEnded = Ended
+stop_of MeaningEventsOut = EventsOut
+
+-- so many steps are enough for a whole run: at most four instructions for each output, and three for the end
+abbrev pub enough_steps : ThinProgram → ℕ
+enough_steps program = 4 * length program.outputs + 3
+
+-- The program's meaning is what the machine shows, if the steps are enough.
+pub record IsForward (program : ThinProgram) (image : ImageParts) : Type 0 where
+  pub trace : (inputs : List ℤ) (steps events : ℕ) → enough_steps program ≤ steps →
+      (machine image inputs steps events).state.trace ≡ (thin_meaning events program).trace
+  pub stop : (inputs : List ℤ) (steps events : ℕ) → enough_steps program ≤ steps →
+      (machine image inputs steps events).stop ≡ stop_of (thin_meaning events program).end
+
+-- a stop that is no trap
+abbrev pub IsNoTrap : Stop → Type 0
+IsNoTrap (Trap _ _) = ⊥
+IsNoTrap _ = Unit {0}
+
+-- What the machine shows is the program's meaning, as far as it goes, however few the steps are.
+pub record IsBackward (program : ThinProgram) (image : ImageParts) : Type 0 where
+  pub trace : (inputs : List ℤ) (steps events : ℕ) →
+      let shown = (machine image inputs steps events).state.trace in (thin_meaning (length shown) program).trace ≡ shown
+  pub no_trap : (inputs : List ℤ) (steps events : ℕ) → IsNoTrap (machine image inputs steps events).stop
+  -- it ends exactly where the meaning does and each instruction had its step
+  pub ended : (inputs : List ℤ) (steps events : ℕ) →
+      ((machine image inputs steps events).stop ≡ Ended) ↔
+      (((thin_meaning events program).end ≡ MeaningEnded) × (length (thin_code program) ≤ steps))
