@@ -1,5 +1,5 @@
 -- The instructions that load a word.
-use Rattle.std.proofs.Common.{◌≡◌, ℕ, zero, suc, ◌+◌, ◌-◌, ◌*◌, ◌/◌, ◌%◌, ◌^◌, ◌<◌, ◌≤◌, ℤ, pos, negsuc, ◌≤ℤ◌, Bool, true, false, ◌&&◌, List, [], ◌∷◌, ◌++◌, length, refl, sym, ◌∙◌, ap, arith, rules, lit<}
+use Rattle.std.proofs.Common.{◌≡◌, ℕ, zero, suc, ◌+◌, ◌-◌, ◌*◌, ◌/◌, ◌%◌, ◌^◌, ◌<◌, ◌≤◌, ℤ, pos, negsuc, ◌≤ℤ◌, FitsSigned, Bool, true, false, ◌&&◌, List, [], ◌∷◌, ◌++◌, length, refl, sym, ◌∙◌, ap, arith, rules, lit<}
 use Rattle.std.specs.Prelude.{int_le, nat_lt, All, if◌then◌else◌}
 use Rattle.std.specs.Int.{w32, cast_signed, cast_unsigned, int_wrap}
 use Rattle.std.proofs.Math.Facts.{sfits_to_z}
@@ -7,11 +7,15 @@ use Rattle.std.proofs.lemmas.Int.{ints, of_z-to_z}
 use Rattle.std.proofs.lemmas.Bool.{leb-true, ltb-true, ltb-false}
 use Rattle.sc_word.specs.Word.{signed_of, word_of}
 use Rattle.sc_word.specs.Machine.{add_word}
-use Rattle.sc_word.proofs.Words.{word_of-fits}
 use Rattle.rv_code.specs.Ranges.{IsUpper, IsImmediate}
 use Rattle.sc_compile.specs.Code.{is_short, upper_part, lower_part}
 
 -- a word is the word of its signed value
+-- a number that fits isn't changed modulo 2 ^ 32
+word_of-fits : (z : ℤ) → FitsSigned w32 z → word_of z ≡ cast_unsigned w32 z
+word_of-fits (pos n) h = let k : n < 2 ^ 31 = h.sfits in omega arith
+word_of-fits (negsuc n) h = let k : n < 2 ^ 31 = h.sfits in omega arith
+
 pub word_of-signed_of : (w : ℕ) → w < 2 ^ 32 → word_of (signed_of w) ≡ w
 word_of-signed_of w h = word_of-fits (signed_of w) (sfits_to_z {w = w32} {n = w} (record { fits = h })) ∙ of_z-to_z w32 w h
 
