@@ -25,7 +25,7 @@ const OUTPUT: i32 = 2;
 /// The words of the program's code, from its first instruction on.
 pub fn thin_code(alloc: Global, program: &ThinProgram) -> Result<Words, OutOfMemory>
     ensures code { IfOk result (λ code. code ≡ map word_of (thin_code program.now)) }
-    // What was compiled is `u32`s.
+    // The program is made of `u32`s.
     ensures words { IfOk result (λ _. HasWords program.now) }
 {
     let outputs = program.outputs.as_slice();

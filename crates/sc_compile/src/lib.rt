@@ -6,3 +6,6 @@ mod image;
 
 pub use image::compile;
 
+
+#[cfg(test)]
+mod tests;
