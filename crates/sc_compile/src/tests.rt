@@ -21,7 +21,13 @@ fn outputs_seven(rt: HostRuntime) -> Result<(), Fail> {
     assert!(rt; comp.output && !comp.input);
     assert_eq!(rt; comp.exports.len() + comp.imports.len(), 0);
     assert_eq!(rt; comp.globals.as_bytes().len(), 0);
-    let written = [0x0070_0513, 0x0020_0893, 0x0000_0073, 0x0000_0513, 0x0000_8067];
+    let written = [
+        0x0070_0513,
+        0x0020_0893,
+        0x0000_0073,
+        0x0000_0513,
+        0x0000_8067,
+    ];
     assert_eq!(rt; comp.code.as_slice(), written.as_slice());
     Ok(())
 }
