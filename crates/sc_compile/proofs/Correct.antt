@@ -1,20 +1,16 @@
 -- What the machine shows on a thin program's image is the program's meaning.
-use Rattle.std.proofs.Common.{◌≡◌, ℕ, zero, suc, ◌+◌, ◌*◌, ◌<◌, ◌≤◌, ℤ, Bool, true, false, List, [], ◌∷◌, ◌++◌, length, map, flat_map, take, refl, sym, ◌∙◌, ap, subst, arith, ⊎_elim}
-use Rattle.std.specs.Prelude.{nat_lt, ◌↔◌, if◌then◌else◌}
+use Rattle.std.proofs.Common.{◌≡◌, ℕ, ◌*◌, ◌<◌, ◌≤◌, ℤ, Bool, true, false, List, [], ◌∷◌, length, flat_map, take, refl, sym, ◌∙◌, ap, arith, ⊎_elim}
+use Rattle.std.specs.Prelude.{nat_lt, ◌↔◌}
 use Rattle.std.proofs.lemmas.Bool.{lt-ltb, le-ltb, cases_lt}
-use Rattle.std.proofs.lemmas.List.{take_all, length-append, length_push, length-map}
+use Rattle.std.proofs.lemmas.List.{take_all, length-append}
 use Rattle.sc_event.specs.declared.event.Event.{Event}
-use Rattle.sc_core.specs.declared.run.RunEnd.{RunEnd}
 use Rattle.sc_core.specs.declared.run.RunEnd.TheVariants.{Ended as MeaningEnded, EventsOut as MeaningEventsOut}
-use Rattle.sc_core.specs.declared.run.SourceRun.{SourceRun}
 use Rattle.sc_core.specs.declared.stop.Stop.{Stop}
 use Rattle.sc_core.specs.declared.stop.Stop.TheVariants.{Ended, EventsOut, StepsOut, Trap}
 use Rattle.sc_core.specs.declared.thin.ThinProgram.{ThinProgram}
 use Rattle.sc_core.specs.Thin.{whole_run, thin_meaning}
-use Rattle.rv_code.specs.declared.instr.Instr.{Instr}
-use Rattle.sc_image.specs.State.{start}
 use Rattle.sc_image.specs.Machine.{Run, machine}
-use Rattle.sc_compile.specs.Code.{is_short, loading, outputting, returning, thin_code, HasWords}
+use Rattle.sc_compile.specs.Code.{is_short, loading, outputting, thin_code, HasWords}
 use Rattle.sc_compile.specs.Image.{thin_image}
 use Rattle.sc_compile.specs.Correct.{stop_of, enough_steps, IsForward, IsNoTrap, IsBackward}
 use Rattle.sc_compile.proofs.Runs.{Because, Shows}
@@ -56,8 +52,8 @@ module _ (program : ThinProgram) (events : ℕ) where
   meaning_trace : (thin_meaning events program).trace ≡ take events whole
   meaning_trace =
       ⊎_elim (λ few. ap (λ m. m.trace) (meaning_cut few))
-        (λ enough. ap (λ m. m.trace) (meaning_whole enough) ∙ sym (take_all events whole enough))
-        (cases_lt events (length whole))
+      (λ enough. ap (λ m. m.trace) (meaning_whole enough) ∙ sym (take_all events whole enough))
+      (cases_lt events (length whole))
 
   -- What a run shows, by why it stops.
   module _ (cost steps : ℕ) (trace : List Event) where
@@ -100,26 +96,28 @@ module _ (program : ThinProgram) (words : HasWords program) where
 
   pub forward : IsForward program (thin_image program)
   forward = record {
-      trace = (λ inputs steps events enough.
-          let done : Run = machine (thin_image program) inputs steps events in
-          let shows : Shows (whole_run program).trace events (length (thin_code program)) steps done = ran inputs steps events in
-          forward_trace program events (length (thin_code program)) steps done.state.trace done.stop (enough_for_code steps enough) shows.front shows.because);
-      stop = (λ inputs steps events enough.
-          let done : Run = machine (thin_image program) inputs steps events in
-          let shows : Shows (whole_run program).trace events (length (thin_code program)) steps done = ran inputs steps events in
-          forward_stop program events (length (thin_code program)) steps done.state.trace done.stop (enough_for_code steps enough) shows.because) }
+    trace = (λ inputs steps events enough.
+        let done : Run = machine (thin_image program) inputs steps events in
+        let shows : Shows (whole_run program).trace events (length (thin_code program)) steps done = ran inputs steps events in
+        forward_trace program events (length (thin_code program)) steps done.state.trace done.stop (enough_for_code steps enough) shows.front shows.because);
+    stop = (λ inputs steps events enough.
+        let done : Run = machine (thin_image program) inputs steps events in
+        let shows : Shows (whole_run program).trace events (length (thin_code program)) steps done = ran inputs steps events in
+        forward_stop program events (length (thin_code program)) steps done.state.trace done.stop (enough_for_code steps enough) shows.because);
+  }
 
   pub backward : IsBackward program (thin_image program)
   backward = record {
-      trace = (λ inputs steps events.
-          let done : Run = machine (thin_image program) inputs steps events in
-          let shows : Shows (whole_run program).trace events (length (thin_code program)) steps done = ran inputs steps events in
-          meaning_trace program (length done.state.trace) ∙ sym shows.front);
-      no_trap = (λ inputs steps events.
-          let done : Run = machine (thin_image program) inputs steps events in
-          let shows : Shows (whole_run program).trace events (length (thin_code program)) steps done = ran inputs steps events in
-          no_trap program events (length (thin_code program)) steps done.state.trace done.stop shows.because);
-      ended = (λ inputs steps events.
-          let done : Run = machine (thin_image program) inputs steps events in
-          let shows : Shows (whole_run program).trace events (length (thin_code program)) steps done = ran inputs steps events in
-          ended_where program events (length (thin_code program)) steps done.state.trace done.stop shows.because) }
+    trace = (λ inputs steps events.
+        let done : Run = machine (thin_image program) inputs steps events in
+        let shows : Shows (whole_run program).trace events (length (thin_code program)) steps done = ran inputs steps events in
+        meaning_trace program (length done.state.trace) ∙ sym shows.front);
+    no_trap = (λ inputs steps events.
+        let done : Run = machine (thin_image program) inputs steps events in
+        let shows : Shows (whole_run program).trace events (length (thin_code program)) steps done = ran inputs steps events in
+        no_trap program events (length (thin_code program)) steps done.state.trace done.stop shows.because);
+    ended = (λ inputs steps events.
+        let done : Run = machine (thin_image program) inputs steps events in
+        let shows : Shows (whole_run program).trace events (length (thin_code program)) steps done = ran inputs steps events in
+        ended_where program events (length (thin_code program)) steps done.state.trace done.stop shows.because);
+  }

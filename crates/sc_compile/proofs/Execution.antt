@@ -1,13 +1,13 @@
 -- The machine on the code of a thin program.
-use Rattle.std.proofs.Common.{◌≡◌, ◌≢◌, ℕ, zero, suc, ◌+◌, ◌-◌, ◌*◌, ◌/◌, ◌%◌, ◌^◌, ◌<◌, ◌≤◌, ℤ, pos, Bool, true, false, ◌&&◌, List, [], ◌∷◌, ◌++◌, length, map, flat_map, take, set, get_or, All, Option, Some, None, refl, sym, ◌∙◌, ap, ap₂, subst, arith, rules, lit<, append-nil, append_assoc, length-append, zero-add, add-zero, mul-zero}
-use Rattle.std.specs.Prelude.{nat_eq, nat_le, if◌then◌else◌}
+use Rattle.std.proofs.Common.{◌≡◌, ℕ, suc, ◌+◌, ◌-◌, ◌*◌, ◌/◌, ◌%◌, ◌<◌, ◌≤◌, ℤ, pos, Bool, true, false, List, [], ◌∷◌, ◌++◌, length, map, flat_map, take, set, All, Option, Some, None, refl, sym, ◌∙◌, ap, ap₂, subst, arith, rules, lit<, append-nil, append_assoc, length-append}
+use Rattle.std.specs.Prelude.{nat_eq, nat_le}
 use Rattle.std.specs.List.{slice_get}
 use Rattle.std.specs.Option.{option_map, option_map_or}
 use Rattle.std.proofs.lemmas.Bool.{ne_eqb}
 use Rattle.std.proofs.lemmas.Bool.Decides.{nat_tests}
 use Rattle.std.proofs.Math.Seq.{take-append_seam}
-use Rattle.std.proofs.lemmas.Option.{slice_get-map, slice_get-get_or}
-use Rattle.std.proofs.lemmas.List.{map-append, map_push, length-map, length-set, length_push, get_or_at, get_or-set_same, get_or-set_other}
+use Rattle.std.proofs.lemmas.Option.{slice_get-map}
+use Rattle.std.proofs.lemmas.List.{map-append, map_push, length-map, length-set, length_push, get_or-set_same, get_or-set_other}
 use Rattle.std.proofs.lemmas.List.Elements.{All-head, All-tail}
 use Rattle.sc_event.specs.declared.event.Event.{Event}
 use Rattle.sc_event.specs.declared.event.Event.TheVariants.{Out, End}
@@ -20,11 +20,10 @@ use Rattle.rv_code.specs.declared.instr.Instr.TheVariants.{Upper, Jalr, OpImm, E
 use Rattle.rv_code.specs.declared.instr.UpperOp.TheVariants.{Lui}
 use Rattle.rv_code.specs.declared.instr.OpImmOp.TheVariants.{Addi}
 use Rattle.rv_code.specs.Words.{word_of, IsInstr}
-use Rattle.rv_code.specs.Decoding.{decoded}
 use Rattle.rv_code.proofs.OneEach.{decoded-word_of}
 use Rattle.sc_image.specs.WellFormed.{IsWord}
 use Rattle.sc_image.specs.Layout.{code_start, gate, word_at}
-use Rattle.sc_image.specs.State.{State, start, reg, ra, a0, a7, with_reg, with_pc, with_event}
+use Rattle.sc_image.specs.State.{State, start, reg, ra, a0, a7, with_pc, with_event}
 use Rattle.sc_image.specs.Step.{Goes, gives, execute, step}
 use Rattle.sc_image.specs.Machine.{is_end, is_ended}
 use Rattle.sc_image.proofs.Stepping.{step_executes}
@@ -106,10 +105,11 @@ module _ (program : ThinProgram) (inputs : List ℤ) (events : ℕ) where
 
   is_open : (code : List Instr) (done left : List ℕ) (state : State) → Stands program events code done left state → IsOpen whole events state.trace
   is_open code done left state h = record {
-      ended = rw h.trace (shown_open done);
-      front = rw (h.trace, h.outputs) (sym (front_is done left (End 0 program.result)));
-      short = rw (h.trace, h.outputs) (fewer done left (End 0 program.result));
-      room = rw h.trace (let few : length done ≤ events = h.room in omega (arith, length-map {A = ℕ} {B = Event} done (λ word. Out 0 word))) }
+    ended = rw h.trace (shown_open done);
+    front = rw (h.trace, h.outputs) (sym (front_is done left (End 0 program.result)));
+    short = rw (h.trace, h.outputs) (fewer done left (End 0 program.result));
+    room = rw h.trace (let few : length done ≤ events = h.room in omega (arith, length-map {A = ℕ} {B = Event} done (λ word. Out 0 word)));
+  }
 
   -- One instruction.
 
@@ -137,16 +137,17 @@ module _ (program : ThinProgram) (inputs : List ℤ) (events : ℕ) where
   stands_written : (instr : Instr) (code : List Instr) (done left : List ℕ) (state : State) (rd word : ℕ) → 1 < rd →
       Stands program events (instr ∷ code) done left state → Stands program events code done left (written_state state rd word)
   stands_written instr code done left state rd word below h = record {
-      passed = h.passed ++ instr ∷ [];
-      whole = whole_past instr code h.passed h.whole;
-      pc = pc_past instr h.passed state.pc h.pc;
-      active = h.active;
-      registers = length-set state.regs rd word ∙ h.registers;
-      zero_is = get_or-set_other state.regs rd 0 word 0 (omega arith) ∙ h.zero_is;
-      ra_is = get_or-set_other state.regs rd 1 word 0 (omega arith) ∙ h.ra_is;
-      trace = h.trace;
-      outputs = h.outputs;
-      room = h.room }
+    passed = h.passed ++ instr ∷ [];
+    whole = whole_past instr code h.passed h.whole;
+    pc = pc_past instr h.passed state.pc h.pc;
+    active = h.active;
+    registers = length-set state.regs rd word ∙ h.registers;
+    zero_is = get_or-set_other state.regs rd 0 word 0 (omega arith) ∙ h.zero_is;
+    ra_is = get_or-set_other state.regs rd 1 word 0 (omega arith) ∙ h.ra_is;
+    trace = h.trace;
+    outputs = h.outputs;
+    room = h.room;
+  }
 
   -- such an instruction, and then the rest
   write_runs : (instr : Instr) (code : List Instr) (done left : List ℕ) (state : State) (rd word : ℕ) → 1 < rd → IsInstr instr →
@@ -155,9 +156,9 @@ module _ (program : ThinProgram) (inputs : List ℤ) (events : ℕ) where
       RunsFrom (suc (length code)) state
   write_runs instr code done left state rd word below is executes h later =
       Runs-step (thin_image program) inputs whole events (length code) state (written_state state rd word)
-        (is_open (instr ∷ code) done left state h)
-        (steps_by instr code done left state h is ∙ executes ∙ writes state rd word below)
-        (λ room. later (stands_written instr code done left state rd word below h))
+      (is_open (instr ∷ code) done left state h)
+      (steps_by instr code done left state h is ∙ executes ∙ writes state rd word below)
+      (λ room. later (stands_written instr code done left state rd word below h))
 
   addi_executes : (state : State) (rd rs : ℕ) (imm : ℤ) → execute (thin_image program) inputs state (OpImm Addi rd rs imm) ≡ gives state rd (add_word (reg state rs) (word_of_ℤ imm))
   unfolding execute
@@ -181,19 +182,19 @@ module _ (program : ThinProgram) (inputs : List ℤ) (events : ℕ) where
       Loads rd word (OpImm Addi rd 0 (signed_of word) ∷ []) rest done left state
   short_runs rd word rest done left state low high below short h later =
       write_runs (OpImm Addi rd 0 (signed_of word)) rest done left state rd word low (high, lit< tt, IsImmediate-signed_of word short)
-        (addi_executes state rd 0 (signed_of word) ∙ ap (gives state rd) (ap (λ x. add_word x (word_of_ℤ (signed_of word))) h.zero_is ∙ short_loaded word below))
-        h (λ next. later (written_state state rd word) next (held state rd word high h.registers))
+      (addi_executes state rd 0 (signed_of word) ∙ ap (gives state rd) (ap (λ x. add_word x (word_of_ℤ (signed_of word))) h.zero_is ∙ short_loaded word below))
+      h (λ next. later (written_state state rd word) next (held state rd word high h.registers))
 
   long_runs : (rd word : ℕ) (rest : List Instr) (done left : List ℕ) (state : State) → 1 < rd → rd < 32 → IsWord word →
       Loads rd word (Upper Lui rd (upper_part word) ∷ OpImm Addi rd rd (lower_part word) ∷ []) rest done left state
   long_runs rd word rest done left state low high below h later =
       let middle : State = written_state state rd (upper_part word) in
       write_runs (Upper Lui rd (upper_part word)) (OpImm Addi rd rd (lower_part word) ∷ rest) done left state rd (upper_part word) low
-        (high, IsUpper-upper_part word) (lui_executes state rd (upper_part word)) h
-        (λ next. write_runs (OpImm Addi rd rd (lower_part word)) rest done left middle rd word low (high, high, IsImmediate-lower_part word)
-          (addi_executes middle rd rd (lower_part word) ∙
-            ap (gives middle rd) (ap (λ x. add_word x (word_of_ℤ (lower_part word))) (held state rd (upper_part word) high h.registers) ∙ long_loaded word below))
-          next (λ last. later (written_state middle rd word) last (held middle rd word high next.registers)))
+      (high, IsUpper-upper_part word) (lui_executes state rd (upper_part word)) h
+      (λ next. write_runs (OpImm Addi rd rd (lower_part word)) rest done left middle rd word low (high, high, IsImmediate-lower_part word)
+      (addi_executes middle rd rd (lower_part word) ∙
+      ap (gives middle rd) (ap (λ x. add_word x (word_of_ℤ (lower_part word))) (held state rd (upper_part word) high h.registers) ∙ long_loaded word below))
+      next (λ last. later (written_state middle rd word) last (held middle rd word high next.registers)))
 
   load_by : (b : Bool) (rd word : ℕ) (rest : List Instr) (done left : List ℕ) (state : State) → is_short word ≡ b → 1 < rd → rd < 32 → IsWord word →
       Loads rd word (loading rd word) rest done left state
@@ -219,26 +220,27 @@ module _ (program : ThinProgram) (inputs : List ℤ) (events : ℕ) where
   stands_shown : (word : ℕ) (code : List Instr) (done left : List ℕ) (state : State) → reg state a0 ≡ word → length state.trace < events →
       Stands program events (Ecall ∷ code) done (word ∷ left) state → Stands program events code (done ++ word ∷ []) left (output_state state)
   stands_shown word code done left state says room h = record {
-      passed = h.passed ++ Ecall ∷ [];
-      whole = whole_past Ecall code h.passed h.whole;
-      pc = pc_past Ecall h.passed state.pc h.pc;
-      active = h.active;
-      registers = h.registers;
-      zero_is = h.zero_is;
-      ra_is = h.ra_is;
-      trace = ap₂ (λ t e. t ++ e ∷ []) h.trace (ap₂ Out h.active says) ∙ sym (map_push (λ w. Out 0 w) done word);
-      outputs = h.outputs ∙ sym (append_assoc done (word ∷ []) left);
-      room = (let shown_so_far : length state.trace ≡ length (shown done) = ap length h.trace in
-          omega (arith, length_push done word, length-map {A = ℕ} {B = Event} done (λ w. Out 0 w))) }
+    passed = h.passed ++ Ecall ∷ [];
+    whole = whole_past Ecall code h.passed h.whole;
+    pc = pc_past Ecall h.passed state.pc h.pc;
+    active = h.active;
+    registers = h.registers;
+    zero_is = h.zero_is;
+    ra_is = h.ra_is;
+    trace = ap₂ (λ t e. t ++ e ∷ []) h.trace (ap₂ Out h.active says) ∙ sym (map_push (λ w. Out 0 w) done word);
+    outputs = h.outputs ∙ sym (append_assoc done (word ∷ []) left);
+    room = (let shown_so_far : length state.trace ≡ length (shown done) = ap length h.trace in
+        omega (arith, length_push done word, length-map {A = ℕ} {B = Event} done (λ w. Out 0 w)));
+  }
 
   ecall_runs : (word : ℕ) (code : List Instr) (done left : List ℕ) (state : State) → reg state a7 ≡ 2 → reg state a0 ≡ word →
       Stands program events (Ecall ∷ code) done (word ∷ left) state →
       ((next : State) → Stands program events code (done ++ word ∷ []) left next → RunsFrom (length code) next) → RunsFrom (suc (length code)) state
   ecall_runs word code done left state call says h later =
       Runs-step (thin_image program) inputs whole events (length code) state (output_state state)
-        (is_open (Ecall ∷ code) done (word ∷ left) state h)
-        (steps_by Ecall code done (word ∷ left) state h tt ∙ output_executes state h.active call)
-        (λ room. later (output_state state) (stands_shown word code done left state says room h))
+      (is_open (Ecall ∷ code) done (word ∷ left) state h)
+      (steps_by Ecall code done (word ∷ left) state h tt ∙ output_executes state h.active call)
+      (λ room. later (output_state state) (stands_shown word code done left state says room h))
 
   -- the call's number, the call, and then the rest
   call_runs : (word : ℕ) (code : List Instr) (done left : List ℕ) (state : State) → reg state a0 ≡ word →
@@ -246,10 +248,10 @@ module _ (program : ThinProgram) (inputs : List ℤ) (events : ℕ) where
       ((next : State) → Stands program events code (done ++ word ∷ []) left next → RunsFrom (length code) next) → RunsFrom (suc (suc (length code))) state
   call_runs word code done left state says h later =
       write_runs (OpImm Addi a7 0 output_call) (Ecall ∷ code) done (word ∷ left) state a7 2 (lit< tt)
-        (lit< tt, lit< tt, record { least = search rules; greatest = search rules })
-        (addi_executes state a7 0 output_call ∙ ap (λ x. gives state a7 (add_word x 2)) h.zero_is) h
-        (λ next. ecall_runs word code done left (written_state state a7 2) (held state a7 2 (lit< tt) h.registers)
-          (get_or-set_other state.regs a7 a0 2 0 (omega arith) ∙ says) next later)
+      (lit< tt, lit< tt, record { least = search rules; greatest = search rules })
+      (addi_executes state a7 0 output_call ∙ ap (λ x. gives state a7 (add_word x 2)) h.zero_is) h
+      (λ next. ecall_runs word code done left (written_state state a7 2) (held state a7 2 (lit< tt) h.registers)
+      (get_or-set_other state.regs a7 a0 2 0 (omega arith) ∙ says) next later)
 
   -- the return, which ends the run
   abbrev end_state : State → State
@@ -267,13 +269,13 @@ module _ (program : ThinProgram) (inputs : List ℤ) (events : ℕ) where
   return_runs done state says h =
       let all : program.outputs ≡ done = h.outputs ∙ append-nil done in
       Runs-step (thin_image program) inputs whole events 0 state (end_state state)
-        (is_open (Jalr 0 ra (pos 0) ∷ []) done [] state h)
-        (steps_by (Jalr 0 ra (pos 0)) [] done [] state h (lit< tt, lit< tt, record { least = search rules; greatest = search rules }) ∙ return_executes state h.active h.ra_is)
-        (λ room. Runs-end (thin_image program) inputs whole events (end_state state)
-          (ap₂ (λ t e. t ++ e ∷ []) (h.trace ∙ ap shown (sym all)) (ap₂ End h.active says))
-          (last_end (shown program.outputs) (End 0 program.result) refl)
-          (let before : length state.trace ≡ length (shown program.outputs) = ap length (h.trace ∙ ap shown (sym all)) in
-            omega (arith, length_push (shown program.outputs) (End 0 program.result))))
+      (is_open (Jalr 0 ra (pos 0) ∷ []) done [] state h)
+      (steps_by (Jalr 0 ra (pos 0)) [] done [] state h (lit< tt, lit< tt, record { least = search rules; greatest = search rules }) ∙ return_executes state h.active h.ra_is)
+      (λ room. Runs-end (thin_image program) inputs whole events (end_state state)
+      (ap₂ (λ t e. t ++ e ∷ []) (h.trace ∙ ap shown (sym all)) (ap₂ End h.active says))
+      (last_end (shown program.outputs) (End 0 program.result) refl)
+      (let before : length state.trace ≡ length (shown program.outputs) = ap length (h.trace ∙ ap shown (sym all)) in
+      omega (arith, length_push (shown program.outputs) (End 0 program.result))))
 
   -- The whole code.
 
@@ -291,25 +293,26 @@ module _ (program : ThinProgram) (inputs : List ℤ) (events : ℕ) where
   pub rest_runs : IsWord program.result → (left done : List ℕ) (state : State) → All IsWord left → Goal (code_of_rest left) done left state
   rest_runs below [] done state words = λ h.
       load_runs a0 program.result (Jalr 0 ra (pos 0) ∷ []) done [] state (lit< tt) (lit< tt) below h
-        (λ next there says. return_runs done next says there)
+      (λ next there says. return_runs done next says there)
   rest_runs below (word ∷ left) done state words =
       subst (λ code. Goal code done (word ∷ left) state) (sym (regrouped word left))
-        (λ h. load_runs a0 word (OpImm Addi a7 0 output_call ∷ Ecall ∷ code_of_rest left) done (word ∷ left) state (lit< tt) (lit< tt) (All-head IsWord word left words) h
-          (λ next there says. call_runs word (code_of_rest left) done left next says there
-            (λ last. rest_runs below left (done ++ word ∷ []) last (All-tail IsWord word left words))))
+      (λ h. load_runs a0 word (OpImm Addi a7 0 output_call ∷ Ecall ∷ code_of_rest left) done (word ∷ left) state (lit< tt) (lit< tt) (All-head IsWord word left words) h
+      (λ next there says. call_runs word (code_of_rest left) done left next says there
+      (λ last. rest_runs below left (done ++ word ∷ []) last (All-tail IsWord word left words))))
 
   stands_first : Stands program events (thin_code program) [] program.outputs (start (thin_image program))
   stands_first = record {
-      passed = [];
-      whole = refl;
-      pc = refl;
-      active = refl;
-      registers = refl;
-      zero_is = refl;
-      ra_is = refl;
-      trace = refl;
-      outputs = refl;
-      room = omega arith }
+    passed = [];
+    whole = refl;
+    pc = refl;
+    active = refl;
+    registers = refl;
+    zero_is = refl;
+    ra_is = refl;
+    trace = refl;
+    outputs = refl;
+    room = omega arith;
+  }
 
   -- The whole run.
   pub thin_runs : IsWord program.result → All IsWord program.outputs → RunsFrom (length (thin_code program)) (start (thin_image program))

@@ -1,9 +1,9 @@
 -- A thin program's image is well formed.
-use Rattle.std.proofs.Common.{◌≡◌, ◌≢◌, ℕ, ◌+◌, ◌*◌, ◌^◌, ◌<◌, ◌≤◌, ℤ, pos, Bool, true, false, IsTrue, List, [], ◌∷◌, ◌++◌, length, map, flat_map, All, Some, refl, sym, ◌∙◌, ap, subst, arith, rules, lit<}
+use Rattle.std.proofs.Common.{◌≡◌, ◌≢◌, ℕ, ◌*◌, ◌<◌, ◌≤◌, pos, Bool, true, false, IsTrue, List, [], ◌∷◌, length, map, flat_map, All, refl, ap, arith, rules, lit<}
 use Rattle.std.specs.Prelude.{codes, IsSome}
 use Rattle.std.specs.List.{slice_get}
 use Rattle.std.proofs.lemmas.List.{length-map, length-append}
-use Rattle.std.proofs.lemmas.List.Elements.{All-nil, All-cons, All-append, All-map, All-weaker, All-head, All-tail}
+use Rattle.std.proofs.lemmas.List.Elements.{All-nil, All-cons, All-append, All-map, All-weaker}
 use Rattle.sc_event.specs.Identifier.{is_name}
 use Rattle.sc_core.specs.declared.thin.ThinProgram.{ThinProgram}
 use Rattle.rv_code.specs.declared.instr.Instr.{Instr}
@@ -11,7 +11,6 @@ use Rattle.rv_code.specs.declared.instr.Instr.TheVariants.{Upper, Jalr, OpImm, E
 use Rattle.rv_code.specs.declared.instr.UpperOp.TheVariants.{Lui}
 use Rattle.rv_code.specs.declared.instr.OpImmOp.TheVariants.{Addi}
 use Rattle.rv_code.specs.Words.{word_of, IsInstr}
-use Rattle.rv_code.specs.Decoding.{decoded}
 use Rattle.rv_code.proofs.OneEach.{HasWord-own, decoded-word_of, word-below}
 use Rattle.sc_word.specs.Word.{signed_of}
 use Rattle.sc_image.specs.Layout.{code_start, stretch, word_at}
@@ -33,8 +32,8 @@ load_used true rd word h below =
     rw h (All-cons IsUsed (OpImm Addi rd 0 (signed_of word)) [] (record { fields = (below, lit< tt, IsImmediate-signed_of word h); kind = refl }) (All-nil IsUsed))
 load_used false rd word h below =
     rw h (All-cons IsUsed (Upper Lui rd (upper_part word)) (OpImm Addi rd rd (lower_part word) ∷ [])
-      (record { fields = (below, IsUpper-upper_part word); kind = refl })
-      (All-cons IsUsed (OpImm Addi rd rd (lower_part word)) [] (record { fields = (below, below, IsImmediate-lower_part word); kind = refl }) (All-nil IsUsed)))
+    (record { fields = (below, IsUpper-upper_part word); kind = refl })
+    (All-cons IsUsed (OpImm Addi rd rd (lower_part word)) [] (record { fields = (below, below, IsImmediate-lower_part word); kind = refl }) (All-nil IsUsed)))
 
 loading_used : (rd word : ℕ) → rd < 32 → All IsUsed (loading rd word)
 loading_used rd word below = load_used (is_short word) rd word refl below
@@ -42,20 +41,20 @@ loading_used rd word below = load_used (is_short word) rd word refl below
 call_used : All IsUsed (OpImm Addi 17 0 output_call ∷ Ecall ∷ [])
 call_used =
     All-cons IsUsed (OpImm Addi 17 0 output_call) (Ecall ∷ [])
-      (record { fields = (lit< tt, lit< tt, record { least = search rules; greatest = search rules }); kind = refl })
-      (All-cons IsUsed Ecall [] (record { fields = tt; kind = refl }) (All-nil IsUsed))
+    (record { fields = (lit< tt, lit< tt, record { least = search rules; greatest = search rules }); kind = refl })
+    (All-cons IsUsed Ecall [] (record { fields = tt; kind = refl }) (All-nil IsUsed))
 
 outputs_used : (words : List ℕ) → All IsUsed (flat_map outputting words)
 outputs_used [] = All-nil IsUsed
 outputs_used (word ∷ words) =
     All-append IsUsed (outputting word) (flat_map outputting words)
-      (All-append IsUsed (loading 10 word) (OpImm Addi 17 0 output_call ∷ Ecall ∷ []) (loading_used 10 word (lit< tt)) call_used)
-      (outputs_used words)
+    (All-append IsUsed (loading 10 word) (OpImm Addi 17 0 output_call ∷ Ecall ∷ []) (loading_used 10 word (lit< tt)) call_used)
+    (outputs_used words)
 
 return_used : (word : ℕ) → All IsUsed (returning word)
 return_used word =
     All-append IsUsed (loading 10 word) (Jalr 0 1 (pos 0) ∷ []) (loading_used 10 word (lit< tt))
-      (All-cons IsUsed (Jalr 0 1 (pos 0)) [] (record { fields = (lit< tt, lit< tt, record { least = search rules; greatest = search rules }); kind = refl }) (All-nil IsUsed))
+    (All-cons IsUsed (Jalr 0 1 (pos 0)) [] (record { fields = (lit< tt, lit< tt, record { least = search rules; greatest = search rules }); kind = refl }) (All-nil IsUsed))
 
 code_used : (program : ThinProgram) → All IsUsed (thin_code program)
 code_used program =
@@ -72,11 +71,12 @@ code_words program = All-map IsWord word_of (thin_code program) (All-weaker IsUs
 
 simple_comp : (program : ThinProgram) → IsSimpleComp (main_comp (map word_of (thin_code program)))
 simple_comp program = record {
-    input = refl;
-    exports = refl;
-    imports = refl;
-    code = All-map IsSimpleWord word_of (thin_code program) (All-weaker IsUsed (λ i. IsSimpleWord (word_of i)) used_simple (thin_code program) (code_used program));
-    globals = refl }
+  input = refl;
+  exports = refl;
+  imports = refl;
+  code = All-map IsSimpleWord word_of (thin_code program) (All-weaker IsUsed (λ i. IsSimpleWord (word_of i)) used_simple (thin_code program) (code_used program));
+  globals = refl;
+}
 
 -- there is a first word
 some_first : (code : List ℕ) → 0 < length code → IsSome (slice_get code 0)

@@ -1,3 +1,4 @@
+mod Known
 pub mod Loading
 pub mod Runs
 pub mod Execution

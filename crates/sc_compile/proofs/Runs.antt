@@ -1,6 +1,6 @@
 -- Runs of the machine whose events are the first ones of a given trace.
-use Rattle.std.proofs.Common.{◌≡◌, ℕ, zero, suc, ◌+◌, ◌<◌, ◌≤◌, ℤ, Bool, true, false, List, length, take, Option, Some, None, refl, sym, ◌∙◌, ap, subst, arith}
-use Rattle.std.specs.Prelude.{nat_le, if◌then◌else◌}
+use Rattle.std.proofs.Common.{◌≡◌, ℕ, zero, suc, ◌<◌, ◌≤◌, ℤ, Bool, true, false, List, length, take, Some, None, refl, sym, ◌∙◌, ap, subst, arith}
+use Rattle.std.specs.Prelude.{nat_le}
 use Rattle.std.proofs.lemmas.Bool.{leb-true, leb-false}
 use Rattle.std.proofs.lemmas.List.{take_all}
 use Rattle.sc_event.specs.declared.event.Event.{Event}
@@ -75,10 +75,10 @@ module _ (image : ImageParts) (inputs : List ℤ) (whole : List Event) (events :
       step image inputs state ≡ Goes next → Runs cost next → (steps : ℕ) → Shows whole events (suc cost) steps (run image inputs events steps state)
   on cost state next h k goes later zero =
       subst (Shows whole events (suc cost) zero) (sym (run_none state (open_still state.trace h.ended k)))
-        (record { front = h.front; because = omega arith })
+      (record { front = h.front; because = omega arith })
   on cost state next h k goes later (suc steps) =
       subst (Shows whole events (suc cost) (suc steps)) (sym (run_step state next steps (open_still state.trace h.ended k) goes))
-        (more_shown whole events cost steps (run image inputs events steps next) (later.each steps))
+      (more_shown whole events cost steps (run image inputs events steps next) (later.each steps))
 
   -- there is no room for another event
   off : (cost : ℕ) (state : State) → IsOpen whole events state.trace → nat_le events (length state.trace) ≡ true →
@@ -88,7 +88,7 @@ module _ (image : ImageParts) (inputs : List ℤ) (whole : List Event) (events :
       let room : length state.trace ≤ events = h.room in
       let short : length state.trace < length whole = h.short in
       subst (Shows whole events cost steps) (sym (run_stopped image inputs events steps state EventsOut (full state.trace h.ended k)))
-        (record { front = h.front; because = (omega arith, omega arith) })
+      (record { front = h.front; because = (omega arith, omega arith) })
 
   step_first : (b : Bool) (cost : ℕ) (state next : State) → nat_le events (length state.trace) ≡ b → IsOpen whole events state.trace →
       step image inputs state ≡ Goes next → (length state.trace < events → Runs cost next) → Runs (suc cost) state
@@ -103,6 +103,8 @@ module _ (image : ImageParts) (inputs : List ℤ) (whole : List Event) (events :
 
   -- the end
   pub Runs-end : (state : State) → state.trace ≡ whole → is_ended whole ≡ true → length whole ≤ events → Runs zero state
-  Runs-end state h end room = record { each = λ steps.
-      subst (Shows whole events zero steps) (sym (run_stopped image inputs events steps state Ended (closed state.trace (ap is_ended h ∙ end))))
-        (record { front = h ∙ sym (take_all (length state.trace) whole (let same : length state.trace ≡ length whole = ap length h in omega arith)); because = (h, omega arith, room) }) }
+  Runs-end state h end room = record {
+    each = λ steps.
+        subst (Shows whole events zero steps) (sym (run_stopped image inputs events steps state Ended (closed state.trace (ap is_ended h ∙ end))))
+        (record { front = h ∙ sym (take_all (length state.trace) whole (let same : length state.trace ≡ length whole = ap length h in omega arith)); because = (h, omega arith, room) });
+  }

@@ -1,10 +1,9 @@
 -- What the machine shows on a compiled image is what the program means.
 use Rattle.std.specs.Prelude.{◌≡◌, ℕ, ◌+◌, ◌*◌, ◌≤◌, ◌↔◌, ℤ, List, length}
-use Rattle.sc_event.specs.declared.event.Event.{Event}
 use Rattle.sc_core.specs.declared.run.RunEnd.{RunEnd}
 use Rattle.sc_core.specs.declared.run.RunEnd.TheVariants.{Ended as MeaningEnded, EventsOut as MeaningEventsOut}
 use Rattle.sc_core.specs.declared.stop.Stop.{Stop}
-use Rattle.sc_core.specs.declared.stop.Stop.TheVariants.{Ended, EventsOut, StepsOut, Trap}
+use Rattle.sc_core.specs.declared.stop.Stop.TheVariants.{Ended, EventsOut, Trap}
 use Rattle.sc_core.specs.declared.thin.ThinProgram.{ThinProgram}
 use Rattle.sc_core.specs.Thin.{thin_meaning}
 use Rattle.sc_image.specs.declared.parts.ImageParts.{ImageParts}

@@ -10,13 +10,14 @@ use Rattle.sc_compile.specs.Code.{thin_code}
 -- the compartment of this code, which may output
 abbrev pub main_comp : (code : List ℕ) → CompPart
 main_comp code = record {
-    name = codes "Main";
-    input = false;
-    output = true;
-    exports = [];
-    imports = [];
-    code = code;
-    globals = [] }
+  name = codes "Main";
+  input = false;
+  output = true;
+  exports = [];
+  imports = [];
+  code = code;
+  globals = [];
+}
 
 -- the run starts where that compartment's code begins
 abbrev pub image_of : (code : List ℕ) → ImageParts

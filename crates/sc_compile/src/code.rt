@@ -15,8 +15,11 @@ use std::alloc::Global;
 // Registers by their numbers: x0, the return address, the first argument, and the environment
 // call's number.
 const ZERO: u8 = 0;
+
 const RA: u8 = 1;
+
 const A0: u8 = 10;
+
 const A7: u8 = 17;
 
 // The environment's number of `output`.
@@ -25,7 +28,7 @@ const OUTPUT: i32 = 2;
 /// The words of the program's code, from its first instruction on.
 pub fn thin_code(alloc: Global, program: &ThinProgram) -> Result<Words, OutOfMemory>
     ensures code { IfOk result (λ code. code ≡ map word_of (thin_code program.now)) }
-    // What was compiled is `u32`s.
+    // The program is made of `u32`s.
     ensures words { IfOk result (λ _. HasWords program.now) }
 {
     let outputs = program.outputs.as_slice();
@@ -49,11 +52,14 @@ fn return_word(code: &mut Words, word: u32) -> Result<(), OutOfMemory>
     ensures { OnOk result (code.new ≡ code.old ++ map word_of (returning word)) }
 {
     load_word(code, register(A0), word)?;
-    push(code, Instr::Jalr {
-        rd: register(ZERO),
-        rs1: register(RA),
-        imm: immediate(0),
-    })
+    push(
+        code,
+        Instr::Jalr {
+            rd: register(ZERO),
+            rs1: register(RA),
+            imm: immediate(0),
+        },
+    )
 }
 
 #[tactic(auto, unfolding(crate::specs::Code::loading))]
@@ -63,11 +69,14 @@ fn load_word(code: &mut Words, rd: Reg, word: u32) -> Result<(), OutOfMemory>
     if let Some(imm) = Immediate::new(word.cast_signed()) {
         return push_addi(code, rd, register(ZERO), imm);
     }
-    push(code, Instr::Upper {
-        op: UpperOp::Lui,
-        rd,
-        imm: upper_part(word),
-    })?;
+    push(
+        code,
+        Instr::Upper {
+            op: UpperOp::Lui,
+            rd,
+            imm: upper_part(word),
+        },
+    )?;
     push_addi(code, rd, rd, lower_part(word))
 }
 
@@ -88,12 +97,15 @@ fn lower_part(word: u32) -> Immediate
 fn push_addi(code: &mut Words, rd: Reg, rs1: Reg, imm: Immediate) -> Result<(), OutOfMemory>
     ensures { OnOk result (code.new ≡ code.old ++ word_of (OpImm Addi rd rs1 imm) ∷ []) }
 {
-    push(code, Instr::OpImm {
-        op: OpImmOp::Addi,
-        rd,
-        rs1,
-        imm,
-    })
+    push(
+        code,
+        Instr::OpImm {
+            op: OpImmOp::Addi,
+            rd,
+            rs1,
+            imm,
+        },
+    )
 }
 
 fn push(code: &mut Words, instr: Instr) -> Result<(), OutOfMemory>

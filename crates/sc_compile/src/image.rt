@@ -11,8 +11,8 @@ use std::alloc::Global;
 // Where the first compartment's code begins in memory.
 const CODE_START: u32 = 0x0100_0000;
 
-/// Compiles a thin program to the image of one compartment, `Main`. It takes at most 16,384
-/// outputs, so that the code stays within 1,048,576 bytes.
+/// Compiles a thin program to the image of one compartment, `Main`. At most 16,384 outputs are
+/// allowed, so that the code stays within 1,048,576 bytes. Want of memory is the only error.
 pub fn compile(alloc: Global, program: &ThinProgram) -> Result<Image, OutOfMemory>
     requires { length program.now.outputs ≤ 16384 }
     ensures image { IfOk result (λ image. image ≡ thin_image program.now) }

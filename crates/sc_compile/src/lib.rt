@@ -6,3 +6,5 @@ mod image;
 
 pub use image::compile;
 
+#[cfg(test)]
+mod tests;

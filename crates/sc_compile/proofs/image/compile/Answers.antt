@@ -17,9 +17,9 @@ new-requires-clause-simple c =
 pub returns-clause-forward : goal.returns-clause-forward
 returns-clause-forward c =
     subst (IsForward c.args.program.now) (sym (c.new.ensures ∙ c.in_ok-image_of.ensures ∙ ap image_of c.in_ok-code.ensures.code))
-      (forward c.args.program.now c.in_ok-code.ensures.words)
+    (forward c.args.program.now c.in_ok-code.ensures.words)
 
 pub returns-clause-backward : goal.returns-clause-backward
 returns-clause-backward c =
     subst (IsBackward c.args.program.now) (sym (c.new.ensures ∙ c.in_ok-image_of.ensures ∙ ap image_of c.in_ok-code.ensures.code))
-      (backward c.args.program.now c.in_ok-code.ensures.words)
+    (backward c.args.program.now c.in_ok-code.ensures.words)

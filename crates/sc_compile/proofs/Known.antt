@@ -1,0 +1,39 @@
+-- Known values: how words are loaded, the program that outputs 7 and returns 0, and what the machine does on its image.
+use Rattle.std.proofs.Common.{◌≡◌, pos, negsuc, [], ◌∷◌, map, refl}
+use Rattle.sc_event.specs.declared.event.Event.TheVariants.{Out, End}
+use Rattle.sc_core.specs.declared.stop.Stop.TheVariants.{Ended, EventsOut, StepsOut}
+use Rattle.sc_core.specs.declared.thin.ThinProgram.{ThinProgram}
+use Rattle.rv_code.specs.declared.instr.Instr.TheVariants.{Upper, OpImm}
+use Rattle.rv_code.specs.declared.instr.UpperOp.TheVariants.{Lui}
+use Rattle.rv_code.specs.declared.instr.OpImmOp.TheVariants.{Addi}
+use Rattle.rv_code.specs.Words.{word_of}
+use Rattle.rv_code.specs.Decoding.{decoded, jalr_in, op_imm_in, system_in, op_imm_op_of}
+use Rattle.sc_image.specs.Layout.{word_at}
+use Rattle.sc_image.specs.Step.{execute, step}
+use Rattle.sc_image.specs.Machine.{stopped, run, machine}
+use Rattle.sc_compile.specs.Code.{loading, thin_code}
+use Rattle.sc_compile.specs.Image.{thin_image}
+
+abbrev seven : ThinProgram
+seven = record { outputs = 7 ∷ []; result = 0 }
+
+seven_words : map word_of (thin_code seven) ≡ 0x00700513 ∷ 0x00200893 ∷ 0x00000073 ∷ 0x00000513 ∷ 0x00008067 ∷ []
+unfolding loading word_of
+seven_words = refl
+
+short : (loading 10 2047 ≡ OpImm Addi 10 0 (pos 2047) ∷ []) × (loading 10 0xfffff800 ≡ OpImm Addi 10 0 (negsuc 2047) ∷ [])
+unfolding loading
+short = (refl, refl)
+
+long : (loading 10 2048 ≡ Upper Lui 10 0x1000 ∷ OpImm Addi 10 10 (negsuc 2047) ∷ []) ×
+    (loading 10 0x7fffffff ≡ Upper Lui 10 0x80000000 ∷ OpImm Addi 10 10 (negsuc 0) ∷ []) ×
+    (loading 10 0xfffff7ff ≡ Upper Lui 10 0xfffff000 ∷ OpImm Addi 10 10 (pos 2047) ∷ [])
+unfolding loading
+long = (refl, refl, refl)
+
+runs : ((machine (thin_image seven) [] 5 10).state.trace ≡ Out 0 7 ∷ End 0 0 ∷ []) ×
+    ((machine (thin_image seven) [] 5 10).stop ≡ Ended) ×
+    ((machine (thin_image seven) [] 4 10).stop ≡ StepsOut) ×
+    ((machine (thin_image seven) [] 5 1).stop ≡ EventsOut)
+unfolding loading word_of run step stopped execute word_at decoded jalr_in op_imm_in op_imm_op_of system_in
+runs = (refl, refl, refl, refl)
