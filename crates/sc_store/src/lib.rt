@@ -1,0 +1,13 @@
+//! Owned memory: bytes at addresses of 32 bits, in regions.
+//!
+//! A [`Store`] is seen as a map from addresses to bytes. Its regions say which addresses have a byte; every other
+//! address has none. Words of one, two and four bytes are read and written with the least significant byte first.
+#![tactic(auto)]
+
+mod error;
+mod region;
+mod store;
+
+pub use crate::error::OutOfMemory;
+pub use crate::region::Region;
+pub use crate::store::Store;
