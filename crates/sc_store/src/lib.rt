@@ -5,9 +5,11 @@
 #![tactic(auto)]
 
 mod error;
+mod laws;
 mod region;
 mod store;
 
 pub use crate::error::OutOfMemory;
+pub use crate::laws::{gives_stored, keeps_addresses, keeps_apart};
 pub use crate::region::Region;
 pub use crate::store::Store;
