@@ -1,1 +1,4 @@
 pub mod Words
+pub mod Parts
+pub mod Access
+pub mod Pieces
