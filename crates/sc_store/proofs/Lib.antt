@@ -2,3 +2,4 @@ pub mod Words
 pub mod Parts
 pub mod Access
 pub mod Pieces
+mod Examples

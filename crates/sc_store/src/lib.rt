@@ -17,3 +17,6 @@ pub use crate::flat::FlatStore;
 pub use crate::laws::{gives_stored, keeps_addresses, keeps_apart};
 pub use crate::region::Region;
 pub use crate::store::Store;
+
+#[cfg(test)]
+mod tests;
