@@ -1,11 +1,10 @@
 -- Accesses byte by byte, and the numbers that their bytes make.
-use Rattle.std.proofs.Common.{◌≡◌, ◌≢◌, ℕ, zero, suc, ◌+◌, ◌-◌, ◌*◌, ◌/◌, ◌%◌, ◌^◌, ◌<◌, ◌≤◌, List, [], ◌∷◌, ◌++◌, length, take, get_or, Option, None, Some, IsSome, unwrap_or, refl, sym, ◌∙◌, ap, subst, arith, inl, inr, ⊎_elim, add-zero, mul-one}
-use Rattle.std.specs.Int.{w16, w32, to_le_bytes, from_le_bytes, sum_through, byte_worth}
+use Rattle.std.proofs.Common.{◌≡◌, ℕ, zero, suc, ◌+◌, ◌-◌, ◌*◌, ◌^◌, ◌<◌, ◌≤◌, List, [], ◌∷◌, length, take, get_or, Some, IsSome, unwrap_or, refl, sym, ◌∙◌, ap, subst, arith, ⊎_elim}
+use Rattle.std.specs.Int.{w32, to_le_bytes, sum_through, byte_worth}
 use Rattle.std.proofs.lemmas.Bool.{cases_lt, cases_eq}
-use Rattle.std.proofs.lemmas.List.{length-take-le, get_or-take, take_more}
-use Rattle.std.proofs.Math.Seq.{take-length}
-use Rattle.sc_store.specs.Memory.{Memory, HoldsBytes, HasBytes, load_of, byte_of, stored}
-use Rattle.sc_store.specs.Flat.{Reads, written}
+use Rattle.std.proofs.lemmas.List.{length-take-le, get_or-take}
+use Rattle.sc_store.specs.Memory.{Memory, HasBytes, load_of, byte_of, stored}
+use Rattle.sc_store.specs.Flat.{written}
 use Rattle.sc_store.proofs.Words.{stored-in, stored-apart}
 use Rattle.sc_store.proofs.Parts.{written-in, written-apart}
 

@@ -1,7 +1,7 @@
 -- Where the bytes of the parts stand, and what a write to one part leaves of all.
-use Rattle.std.proofs.Common.{◌≡◌, ◌≢◌, ℕ, zero, suc, ◌+◌, ◌-◌, ◌^◌, ◌<◌, ◌≤◌, Bool, true, false, ◌&&◌, cond, nat_le, nat_lt, ◌⊎◌, ◌↔◌, List, [], ◌∷◌, ◌++◌, length, map, set, get_or, Option, None, Some, IsSome, is_some, IsTrue, refl, sym, ◌∙◌, ap, subst, arith, inl, inr, ⊎_elim}
+use Rattle.std.proofs.Common.{◌≡◌, ℕ, zero, suc, ◌+◌, ◌-◌, ◌<◌, ◌≤◌, Bool, true, false, ◌&&◌, cond, nat_le, nat_lt, ◌↔◌, List, [], ◌∷◌, length, set, get_or, Option, None, Some, IsSome, is_some, refl, sym, ◌∙◌, ap, subst, arith, ⊎_elim}
 use Rattle.std.specs.Option.{option_or}
-use Rattle.std.specs.List.{position, position_or_len, AllPairs, All}
+use Rattle.std.specs.List.{position, position_or_len, All}
 use Rattle.std.proofs.lemmas.Bool.{cases_lt, lt-ltb}
 use Rattle.std.proofs.lemmas.Bool.Decides.{nat_tests}
 use Rattle.std.proofs.lemmas.List.{get_or-map, get_or-set_same, length-map, length-set}
@@ -11,26 +11,10 @@ use Rattle.std.proofs.lemmas.List.Quantifiers.{position-Some}
 use Rattle.std.proofs.Math.Seq.{map-set_same}
 use Rattle.sc_store.specs.declared.region.Region.{Region}
 use Rattle.sc_store.specs.declared.part.Part.{Part}
-use Rattle.sc_store.specs.Region.{IsIn, is_in, AreApart, AreBelow}
+use Rattle.sc_store.specs.Region.{IsIn, AreApart}
 use Rattle.sc_store.specs.Memory.{Memory, HoldsBytes, HasBytes, zeros}
-use Rattle.sc_store.specs.Flat.{region_of, regions_of, piece_of, bytes_of, spans, IsZero, Reads, written}
-
--- ---- an address in a region
-in_true : (r : Region) (a : ℕ) → IsIn r a → is_in r a ≡ true
-in_true r a h = grind (arith, nat_tests)
-
-in_false : (r : Region) (a : ℕ) → (IsIn r a → ⊥) → is_in r a ≡ false
-in_false r a h = grind (arith, nat_tests)
-
-in_fact : (r : Region) (a : ℕ) → is_in r a ≡ true → IsIn r a
-in_fact r a h = grind (arith, nat_tests)
-
--- the address is in the region or not
-in_cases : (r : Region) (a : ℕ) → IsIn r a ⊎ (IsIn r a → ⊥)
-in_cases r a = ⊎_elim
-    (λ low. inr (λ i. omega arith))
-    (λ from. ⊎_elim (λ below. inl (from, below)) (λ above. inr (λ i. omega arith)) (cases_lt a (r.start + r.bytes)))
-    (cases_lt a r.start)
+use Rattle.sc_store.proofs.Regions.{in_true, in_false, in_cases}
+use Rattle.sc_store.specs.Flat.{region_of, regions_of, piece_of, bytes_of, spans, IsZero, written}
 
 -- ---- a part that has the addresses of an access
 spans_in : (a n b : ℕ) (p : Part) → spans a n p ≡ true → a ≤ b → b < a + n → IsIn (region_of p) b
@@ -165,15 +149,6 @@ zeros_at (p ∷ ps) all b = ⊎_elim
 
 pub zeros_of : (ps : List Part) (rs : List Region) → All IsZero ps → regions_of ps ≡ rs → bytes_of ps ≡ zeros rs
 zeros_of ps rs all e = subst (λ r. bytes_of ps ≡ zeros r) e (λ k b. zeros_at ps all b k)
-
-pub zeros_hold : (rs : List Region) → AreBelow rs → HoldsBytes (zeros rs)
-zeros_hold [] below b x e = absurd (cc)
-zeros_hold (r ∷ rs) below b x e = ⊎_elim
-    (λ inside.
-    let zero_there : 0 ≡ x = same_Some _ _ (sym (ap (λ t. cond t (Some 0) (zeros rs b)) (in_true r b inside)) ∙ e) in
-    (omega (arith, below 0 r (omega arith)), omega arith))
-    (λ out. zeros_hold rs (λ k d h. below (suc k) d (omega arith)) b x (sym (ap (λ t. cond t (Some 0) (zeros rs b)) (in_false r b out)) ∙ e))
-    (in_cases r b)
 
 -- ---- the part that a search found
 -- the part at the place that passes is the one that was read there

@@ -1,5 +1,5 @@
 -- What a store changes, and what a load gives after it.
-use Rattle.std.proofs.Common.{◌≡◌, ◌≢◌, ℕ, zero, suc, ◌+◌, ◌-◌, ◌*◌, ◌/◌, ◌%◌, ◌^◌, ◌<◌, ◌≤◌, Bool, true, false, ◌&&◌, nat_le, nat_lt, ◌⊎◌, ◌↔◌, Option, None, Some, IsSome, unwrap_or, refl, sym, ◌∙◌, ap, subst, is_some, arith, inl, inr, ⊎_elim}
+use Rattle.std.proofs.Common.{◌≡◌, ℕ, zero, suc, ◌+◌, ◌-◌, ◌*◌, ◌%◌, ◌^◌, ◌<◌, ◌≤◌, true, false, ◌&&◌, nat_le, nat_lt, ◌⊎◌, ◌↔◌, Some, IsSome, unwrap_or, refl, sym, ◌∙◌, ap, subst, is_some, arith, ⊎_elim}
 use Rattle.std.proofs.lemmas.Bool.{cases_lt}
 use Rattle.std.proofs.lemmas.Bool.Decides.{nat_tests}
 use Rattle.std.proofs.Math.Arith.{mod-mul}
