@@ -1,0 +1,6 @@
+pub mod Regions
+pub mod Words
+pub mod Parts
+pub mod Access
+pub mod Pieces
+mod Examples

@@ -1,0 +1,7 @@
+use Rattle.std.proofs.Common.{◌≡◌, take}
+use Rattle.sc_store.specs.Flat.{bytes_of, written}
+use Rattle.sc_store.proofs.flat.FlatStore.write_each.Given as goal
+
+-- the bytes so far
+abbrev pub invariant-loop-k : goal.invariant-loop-k
+invariant-loop-k l = bytes_of l.self.parts.items ≡ written (bytes_of l.initial.self.parts.items) l.at (take l.k l.bytes)

@@ -1,0 +1,10 @@
+use Rattle.std.proofs.Common.{◌∙◌, ap, arith}
+use Rattle.sc_store.specs.Flat.{bytes_of, written}
+use Rattle.sc_store.proofs.Access.{first_stored}
+use Rattle.sc_store.proofs.flat.FlatStoreStore.store32.Goals as goal
+
+pub returns : goal.returns
+returns c =
+    c.write.ensures
+    ∙ ap (λ bs. written (bytes_of c.args.self.now.parts.items) c.args.at bs) c.to_le_bytes.ensures
+    ∙ first_stored (bytes_of c.args.self.now.parts.items) c.args.at c.args.value 4 (omega arith)

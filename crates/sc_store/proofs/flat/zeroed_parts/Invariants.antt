@@ -1,0 +1,10 @@
+use Rattle.std.proofs.Common.{◌≡◌, take}
+use Rattle.std.specs.List.{All}
+use Rattle.sc_store.specs.Flat.{regions_of, IsZero}
+use Rattle.sc_store.proofs.flat.zeroed_parts.Given as goal
+
+abbrev pub invariant-loop-region : goal.invariant-loop-region
+invariant-loop-region l = record {
+  regions : regions_of l.parts.items ≡ take l.region-index l.regions;
+  zero : All IsZero l.parts.items;
+}

@@ -1,0 +1,4 @@
+pub mod Region
+pub mod Memory
+pub mod Laws
+pub mod Flat

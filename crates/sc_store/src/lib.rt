@@ -1,0 +1,22 @@
+//! Owned memory: bytes at addresses of 32 bits, in regions.
+//!
+//! A [`Store`] is seen as a map from addresses to bytes. Its regions say which addresses have a byte; every other
+//! address has none. Words of one, two and four bytes are read and written with the least significant byte first.
+//! [`FlatStore`] keeps one vector per region.
+#![tactic(auto)]
+
+mod error;
+mod flat;
+mod laws;
+mod part;
+mod region;
+mod store;
+
+pub use crate::error::OutOfMemory;
+pub use crate::flat::FlatStore;
+pub use crate::laws::{gives_stored, keeps_addresses, keeps_apart};
+pub use crate::region::Region;
+pub use crate::store::Store;
+
+#[cfg(test)]
+mod tests;
