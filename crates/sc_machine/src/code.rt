@@ -3,7 +3,7 @@
 ghost use Rattle.std.specs.Prelude.{◌≡◌, ◌+◌, ◌*◌, ◌^◌, ◌<◌, ◌≤◌, length, All, OnSome, IfSome};
 ghost use Rattle.sc_image.specs.Layout.{stretch, code_start, stack_top, code_of, word_at};
 ghost use Rattle.sc_image.specs.Step.{may_output};
-ghost use Rattle.sc_machine.specs.SimpleWord.{IsSimpleWord};
+ghost use Rattle.sc_image.specs.WellFormed.{IsSimpleWord};
 
 use sc_event::CompId;
 use sc_image::Image;

@@ -10,3 +10,6 @@ mod run;
 
 pub use laws::any_calls;
 pub use machine::{LoadFault, Machine};
+
+#[cfg(test)]
+mod tests;
