@@ -1,3 +1,3 @@
-pub mod Hart
 pub mod Progress
+pub mod Hart
 pub mod Calls
