@@ -1,3 +1,4 @@
 pub mod Words
-pub mod Steps
+pub mod Jumps
 pub mod Runs
+pub mod Seven

@@ -5,8 +5,7 @@ use Rattle.std.proofs.lemmas.Option.{slice_get_within, get_or_from_slice_get}
 use Rattle.sc_image.specs.declared.parts.ImageParts.{ImageParts}
 use Rattle.sc_image.specs.declared.parts.CompPart.{CompPart}
 use Rattle.sc_image.specs.Layout.{stretch, code_start, code_of, word_at}
-use Rattle.sc_image.specs.WellFormed.{IsWellFormed, IsSimple, IsSimpleComp}
-use Rattle.sc_machine.specs.SimpleWord.{IsSimpleWord}
+use Rattle.sc_image.specs.WellFormed.{IsWellFormed, IsSimpleWord, IsSimpleComp, IsSimple}
 
 -- where an address has no whole word, and where it may have one
 pub misaligned : (image : ImageParts) (c address : ℕ) → address % 4 ≢ 0 → word_at image c address ≡ None

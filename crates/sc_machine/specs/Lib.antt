@@ -1,4 +1,3 @@
-pub mod SimpleWord
-pub mod Hart
 pub mod Progress
+pub mod Hart
 pub mod Calls

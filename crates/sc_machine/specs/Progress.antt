@@ -19,18 +19,23 @@ pub record Progress : Type 0 where
   -- why it stopped at last, and `StepsOut` before the first step
   pub stop : Stop
 
--- its state: no store has changed its memory, no call of another compartment waits, and no input was read
-abbrev pub state_of : Progress → State
-state_of machine = record {
-  regs = machine.registers;
-  pc = machine.pc;
-  active = machine.active;
-  saved = stack_tops 0 machine.image.comps;
-  memory = start_memory machine.image;
+-- the state of a machine on an image, with these registers, pc, active compartment and trace:
+-- no store has changed its memory, no call of another compartment waits, and no input was read
+abbrev pub state_with : ImageParts → (registers : List ℕ) → (pc active : ℕ) → List Event → State
+state_with image registers pc active trace = record {
+  regs = registers;
+  pc = pc;
+  active = active;
+  saved = stack_tops 0 image.comps;
+  memory = start_memory image;
   cross = [];
   input = 0;
-  trace = machine.trace;
+  trace = trace;
 }
+
+-- its state
+abbrev pub state_of : Progress → State
+state_of machine = state_with machine.image machine.registers machine.pc machine.active machine.trace
 
 -- its run so far
 abbrev pub run_of : Progress → Run

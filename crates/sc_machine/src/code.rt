@@ -1,21 +1,24 @@
-// What an image says of a compartment's code and of what the compartment may call.
+//! What an image says of a compartment's code and of what the compartment may call.
 
 ghost use Rattle.std.specs.Prelude.{◌≡◌, ◌+◌, ◌*◌, ◌^◌, ◌<◌, ◌≤◌, length, All, OnSome, IfSome};
 ghost use Rattle.sc_image.specs.Layout.{stretch, code_start, stack_top, code_of, word_at};
 ghost use Rattle.sc_image.specs.Step.{may_output};
-ghost use Rattle.sc_machine.specs.SimpleWord.{IsSimpleWord};
+ghost use Rattle.sc_image.specs.WellFormed.{IsSimpleWord};
 
 use sc_event::CompId;
 use sc_image::Image;
 use sqlite_items::at;
 
-/// From one compartment's addresses to the next.
-const STRETCH: u32 = 0x10_0000;
-
+/// Where the code of the first compartment begins.
 const CODE: u32 = 0x0100_0000;
 
+/// Where the data of the first compartment begin, which are the stack and then the globals.
 const DATA: u32 = 0x1000_0000;
 
+/// From one compartment's addresses to the next's.
+const STRETCH: u32 = 0x10_0000;
+
+/// How many bytes a stack has.
 const STACK_SIZE: u32 = 0x1_0000;
 
 /// The address where the compartment's code begins.

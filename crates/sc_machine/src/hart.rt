@@ -1,3 +1,5 @@
+//! The state that instructions change, apart from memory.
+
 ghost use Rattle.std.specs.Prelude.{◌≡◌, ◌+◌, ◌^◌, ◌<◌, ◌≤◌, length, vec_capacity, IfOk};
 ghost use Rattle.sc_event.specs.declared.event.Event.TheVariants.{Out, End};
 ghost use Rattle.sc_image.specs.declared.parts.ImageParts.{ImageParts};

@@ -1,3 +1,5 @@
+//! Machines, and their runs in pieces.
+
 ghost use Rattle.std.specs.Prelude.{◌≡◌, ◌<◌, IfOk, IfErr};
 ghost use Rattle.sc_image.specs.State.{reg};
 ghost use Rattle.sc_image.specs.Machine.{run, continued};

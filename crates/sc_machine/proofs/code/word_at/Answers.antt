@@ -13,6 +13,5 @@ returns-then-address-ne0-clause-word c =
 
 pub returns-clause-word : goal.returns-clause-word
 returns-clause-word c =
-    let found : word_at c.args.image.now c.args.comp c.args.address ≡ slice_get (code_of c.args.image.now c.args.comp) ((c.args.address - code_start c.args.comp) / 4) =
-    in_code _ _ _ c.if-address-ne0.false (omega arith) in
-    cc
+    let found = in_code c.args.image.now c.args.comp c.args.address c.if-address-ne0.false (rw c.code_start-start.ensures at c.if-address-start.false) in
+    c.copied.ensures ∙ c.at.ensures ∙ rw (c.code.ensures.code, c.code_start-start.ensures) (sym found)

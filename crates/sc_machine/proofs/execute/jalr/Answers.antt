@@ -4,7 +4,7 @@ use Rattle.sc_image.specs.Layout.{word_at}
 use Rattle.sc_image.specs.Step.{Goes}
 use Rattle.sc_image.specs.State.{with_pc}
 use Rattle.sc_machine.specs.Hart.{state_in}
-use Rattle.sc_machine.proofs.Steps.{jalr_jumps, jump_misaligned, jump_within, jump_elsewhere}
+use Rattle.sc_machine.proofs.Jumps.{jalr_jumps, jump_misaligned, jump_within, jump_elsewhere}
 use Rattle.sc_machine.proofs.execute.jalr.Goals as goal
 
 pub returns-then-target-ne0-clause-outcome : goal.returns-then-target-ne0-clause-outcome

@@ -1,32 +1,15 @@
--- What a step does, from what it finds.
-use Rattle.std.proofs.Common.{◌≡◌, ◌≢◌, ℕ, ◌+◌, ◌*◌, ◌/◌, ◌%◌, ℤ, List, true, false, Option, Some, None, refl, sym}
+-- Jumps, by the case of their target.
+use Rattle.std.proofs.Common.{◌≡◌, ◌≢◌, ℕ, ◌+◌, ◌*◌, ◌/◌, ◌%◌, ℤ, List, true, false, refl}
 use Rattle.std.specs.Prelude.{is_some}
 use Rattle.std.proofs.lemmas.Bool.{eq-eqb, ne_eqb}
-use Rattle.rv_code.specs.declared.instr.Instr.{Instr}
 use Rattle.rv_code.specs.declared.instr.Instr.TheVariants.{Jalr}
-use Rattle.rv_code.specs.Decoding.{decoded}
-use Rattle.sc_core.specs.declared.stop.TrapReason.TheVariants.{BadJump, Illegal, Misaligned}
+use Rattle.sc_core.specs.declared.stop.TrapReason.TheVariants.{Misaligned}
 use Rattle.sc_word.specs.Word.{word_of}
 use Rattle.sc_word.specs.Machine.{add_word}
 use Rattle.sc_image.specs.declared.parts.ImageParts.{ImageParts}
 use Rattle.sc_image.specs.Layout.{word_at}
 use Rattle.sc_image.specs.State.{State, reg, with_reg, with_pc}
-use Rattle.sc_image.specs.Step.{Outcome, Goes, Traps, jump, elsewhere, execute, step}
-
-pub no_word : (image : ImageParts) (inputs : List ℤ) (state : State) →
-    word_at image state.active state.pc ≡ None → step image inputs state ≡ Traps BadJump
-unfolding step
-no_word image inputs state none = rw none refl
-
-pub no_instr : (image : ImageParts) (inputs : List ℤ) (state : State) (word : ℕ) →
-    word_at image state.active state.pc ≡ Some word → decoded word ≡ None → step image inputs state ≡ Traps Illegal
-unfolding step
-no_instr image inputs state word found none = rw (found, none) refl
-
-pub an_instr : (image : ImageParts) (inputs : List ℤ) (state : State) (word : ℕ) (instr : Instr) →
-    word_at image state.active state.pc ≡ Some word → decoded word ≡ Some instr → step image inputs state ≡ execute image inputs state instr
-unfolding step
-an_instr image inputs state word instr found is = rw (found, is) refl
+use Rattle.sc_image.specs.Step.{Outcome, Goes, Traps, jump, elsewhere, execute}
 
 -- JALR, by the sum of its register and its immediate
 pub jalr_jumps : (image : ImageParts) (inputs : List ℤ) (state : State) (rd rs1 : ℕ) (imm : ℤ) (sum : ℕ) →
