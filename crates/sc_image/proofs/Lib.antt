@@ -1,4 +1,5 @@
-mod Seven
+mod Examples
+pub mod Seven
 pub mod Running
 pub mod Stepping
 pub mod Fits

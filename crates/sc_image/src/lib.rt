@@ -10,3 +10,6 @@ pub use parts::{
     CompPart, CompParts, ExportPart, ExportParts, ImageParts, ImportPart, ImportParts,
 };
 pub use writing::write_image;
+
+#[cfg(test)]
+mod tests;
