@@ -10,7 +10,7 @@ use Rattle.sc_image.specs.declared.parts.ImageParts.{ImageParts}
 use Rattle.sc_image.specs.State.{State}
 use Rattle.sc_image.specs.Step.{Goes, step}
 use Rattle.sc_image.specs.Machine.{Run, is_ended, stopped, run}
-use Rattle.sc_image.proofs.Running.{run_stopped}
+use Rattle.sc_image.proofs.Running.{run_stopped, run_out, run_goes}
 
 -- Why a run stops that shows the events of `whole` one after another, the last in its step number `cost`:
 -- all of them are shown, or there is no room for all, or the steps are too few.
@@ -61,23 +61,14 @@ module _ (image : ImageParts) (inputs : List ℤ) (whole : List Event) (events :
   unfolding stopped
   closed trace h = rw h refl
 
-  run_none : (state : State) → stopped events state.trace ≡ None → run image inputs events zero state ≡ record { state = state; stop = StepsOut }
-  unfolding run
-  run_none state h = rw h refl
-
-  run_step : (state next : State) (steps : ℕ) → stopped events state.trace ≡ None → step image inputs state ≡ Goes next →
-      run image inputs events (suc steps) state ≡ run image inputs events steps next
-  unfolding run
-  run_step state next steps h k = rw (h, k) refl
-
   -- the run goes on
   on : (cost : ℕ) (state next : State) → IsOpen whole events state.trace → nat_le events (length state.trace) ≡ false →
       step image inputs state ≡ Goes next → Runs cost next → (steps : ℕ) → Shows whole events (suc cost) steps (run image inputs events steps state)
   on cost state next h k goes later zero =
-      subst (Shows whole events (suc cost) zero) (sym (run_none state (open_still state.trace h.ended k)))
+      subst (Shows whole events (suc cost) zero) (sym (run_out image inputs events state (open_still state.trace h.ended k)))
       (record { front = h.front; because = omega arith })
   on cost state next h k goes later (suc steps) =
-      subst (Shows whole events (suc cost) (suc steps)) (sym (run_step state next steps (open_still state.trace h.ended k) goes))
+      subst (Shows whole events (suc cost) (suc steps)) (sym (run_goes image inputs events steps state next (open_still state.trace h.ended k) goes))
       (more_shown whole events cost steps (run image inputs events steps next) (later.each steps))
 
   -- there is no room for another event
