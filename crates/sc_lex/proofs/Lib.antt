@@ -1,2 +1,9 @@
+pub mod Cuts
+pub mod Directives
+pub mod Fronts
+pub mod Gaps
+pub mod Numbers
+pub mod Runs
 pub mod Splits
+pub mod Texts
 pub mod Wording

@@ -1,13 +1,13 @@
 -- The first word of a line, and the words behind it.
 use Rattle.std.proofs.Common.{◌≡◌, ℕ, zero, suc, ◌+◌, ◌<◌, ◌≤◌, Bool, true, false, not, cond, eqb, List, [], ◌∷◌, length, get_or, take, drop, None, refl, sym, ap, ◌∙◌, ⊎_elim, one-add, arith}
 use Rattle.std.proofs.lemmas.Bool.{cases_lt, not-false, not-true, ne_eqb}
-use Rattle.std.proofs.lemmas.List.{take_rest, take_all, drop_all, drop_more, length-take-le, length-take, get_or-drop}
+use Rattle.std.proofs.lemmas.List.{take_rest, take_all, drop_all, drop_more, length-take-le, length-take, get_or-drop, get_or-take}
 use Rattle.std.proofs.lemmas.List.Sums.{prefix_len-le-length, prefix_len_stops, prefix_len_passes}
 use Rattle.std.proofs.lemmas.List.Splits.{slice_split-cons_yes, slice_split_first, slice_split_none}
-use Rattle.std.specs.List.{filter, prefix_len, position_or_len, slice_split}
+use Rattle.std.specs.List.{filter, starts_with, prefix_len, position_or_len, slice_split}
 use Rattle.std.proofs.lemmas.Slice.Eq.{slice_eq-Decides}
 use Rattle.std.proofs.lemmas.Bool.Decides.{Decides-eqb}
-use Rattle.std.specs.Prelude.{codes}
+use Rattle.std.specs.Prelude.{codes, nat_eq}
 use Rattle.sc_event.specs.Identifier.{name_of, is_name}
 use Rattle.sc_lex.specs.Lines.{is_blank}
 use Rattle.sc_lex.specs.Words.{words, is_empty, only_name}
@@ -117,7 +117,28 @@ only_word line word other p q =
 
 pub ruleset only_words = (only_word)
 
+-- what a text begins with, and that it is long enough
+pub record Begins (text front : List ℕ) : Type 0 where
+  pub is : take (length front) text ≡ front
+  pub fits : length front ≤ length text
+
+pub begins_with : (text front : List ℕ) → starts_with nat_eq text front ≡ true → Begins text front
+begins_with text front h =
+    let same : front ≡ take (length front) text = (slice_eq-Decides Decides-eqb front (take (length front) text) (starts_with nat_eq text front) refl).0 h in
+    record { is = sym same; fits = omega (arith, length-take (length front) text, ap length same) }
+
+pub front_byte : (text front : List ℕ) (i : ℕ) → starts_with nat_eq text front ≡ true → i < length front → get_or text i 0 ≡ get_or front i 0
+front_byte text front i h k = sym (get_or-take (length front) text i 0 k) ∙ ap (λ t. get_or t i 0) (begins_with text front h).is
+
 pub heading_fits : (text : List ℕ) → begins_heading text ≡ true → 20 ≤ length text
-heading_fits text h =
-    let same = (slice_eq-Decides Decides-eqb (codes "#pragma compartment ") (take 20 text) (begins_heading text) refl).0 h in
-    omega (arith, length-take 20 text, ap length same)
+heading_fits text h = (begins_with text (codes "#pragma compartment ") h).fits
+
+-- the words behind the first one
+pub word-next : (line rest word : List ℕ) (k : ℕ) → words rest ≡ drop 1 (words line) → word ≡ get_or (words rest) k [] → word ≡ get_or (words line) (k + 1) []
+word-next line rest word k h q = let e : k + 1 ≡ 1 + k = omega arith in q ∙ ap (λ ws. get_or ws k []) h ∙ rw e (get_or-drop 1 (words line) k [])
+
+pub ruleset later_words = (word-next)
+
+pub words_full : (line : List ℕ) (k : ℕ) → k < length (words line) → 0 < length (get_or (words line) k [])
+unfolding words
+words_full line k h = kept_full (slice_split is_blank line) k h

@@ -2,9 +2,17 @@
 #![tactic(auto)]
 
 mod bytes;
+mod cut;
+mod gap;
 mod heading;
+mod integer;
+mod kind;
 mod refusal;
 mod section;
+mod tables;
+mod token;
 
+pub use cut::{LexFault, Tokens, one_cut, one_refusal, tokens};
 pub use refusal::{Phase, Refusal};
 pub use section::{Section, Sections, Split, SplitFault, sections};
+pub use token::{Token, TokenKind};
