@@ -116,11 +116,6 @@ module _ (bytes : List ℕ) where
       let lines : refusal.line ≡ other.line = r.line ∙ ap (λ at. line_after line (newlines (take at bytes))) same ∙ sym q.line in
       ap₂ (λ p l. record { phase = p; line = l }) phases lines
 
-  pub refused_uncut : (line : ℕ) (refusal : Refusal) → RefusesBytes bytes line refusal → (tokens : List Token) → IsCut bytes tokens → ⊥
-  refused_uncut line refusal r tokens c =
-      let same = (one_way r.front (stuck_stops r.at r.stuck) c end_stops).0 in
-      absurd (omega (arith, r.stuck.more))
-
   -- what the loop keeps: the bytes are cut up to a place
   pub record Progress (at line : ℕ) (found : List Token) : Type 0 where
     pub within : at ≤ length bytes
@@ -155,3 +150,8 @@ module _ (bytes : List ℕ) where
     phase = ap (λ r. r.phase) is;
     line = ap (λ r. r.line) is;
   }
+
+  pub progress_uncut : (at line : ℕ) (found : List Token) → Progress at line found → at < length bytes → Stops at → (tokens : List Token) → IsCut bytes tokens → ⊥
+  progress_uncut at line found h more stop tokens c =
+      let same = (one_way h.front stop c end_stops).0 in
+      absurd (omega arith)

@@ -58,22 +58,16 @@ pub fn tokens(alloc: Global, bytes: &[u8], line: u32) -> Result<Tokens, LexFault
     while at < bytes.len() {
         let rest = &bytes[at..];
         let Some((piece, len)) = piece_at(rest, allows_directive(bytes, at)) else {
-            return Err(refused(line_after(line, &bytes[..at])));
+            return Err(LexFault::Refused(Refusal {
+                phase: Phase::Lex,
+                line: line_after(line, &bytes[..at]),
+            }));
         };
         push_piece(&mut found, piece, at, len, token_line)?;
         token_line = line_after(token_line, &rest[..len]);
         at += len;
     }
     Ok(found)
-}
-
-fn refused(line: u32) -> LexFault
-    ensures { result ≡ LexFault.Refused (record { phase = Lex; line = line }) }
-{
-    LexFault::Refused(Refusal {
-        phase: Phase::Lex,
-        line,
-    })
 }
 
 fn allows_directive(bytes: &[u8], at: usize) -> bool
@@ -129,3 +123,6 @@ pub fn one_cut()
 pub fn one_refusal()
     ensures { (bytes : List ℕ) (line : ℕ) (refusal other : Refusal) → RefusesBytes bytes line refusal → RefusesBytes bytes line other → refusal ≡ other }
 {}
+
+#[cfg(test)]
+mod tests;

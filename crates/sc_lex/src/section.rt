@@ -1,4 +1,4 @@
-ghost use Rattle.std.specs.Prelude.{◌≡◌, ℕ, ◌+◌, ◌<◌, ◌≤◌, ◌++◌, length, IsTrue, IfOk, IfSome, IfNone, IsErrOf};
+ghost use Rattle.std.specs.Prelude.{◌≡◌, ℕ, ◌+◌, ◌<◌, ◌≤◌, ◌++◌, length, IsTrue, IfOk, OnOk, IfSome, IfNone, IsErrOf};
 ghost use Rattle.std.specs.List.{flat_map};
 ghost use Rattle.sc_lex.specs.Lines.{line_at};
 ghost use Rattle.sc_lex.specs.Headings.{is_heading, name_at};
@@ -63,7 +63,7 @@ pub fn sections(alloc: Global, text: &[u8]) -> Result<Split<'_>, SplitFault>
     ensures joined { IfOk result (λ split. split.preamble.now ++ flat_map (λ section. section.bytes.now) split.sections ≡ text.now) }
 
     // A text is refused exactly where a compartment line is bad, at the first such line.
-    ensures good { IfOk result (λ _. (at : ℕ) → IsBadHeading text.now at → ⊥) }
+    ensures good { OnOk result ((at : ℕ) → IsBadHeading text.now at → ⊥) }
     ensures refused { (refusal : Refusal) → IsErrOf result (SplitFault.Refused refusal) → RefusesHeading text.now refusal }
 {
     let first = next_heading(text, 0);
@@ -73,7 +73,10 @@ pub fn sections(alloc: Global, text: &[u8]) -> Result<Split<'_>, SplitFault>
     while at < text.len() {
         let end = next_heading(text, at + 1);
         let Some(section) = section_at(text, at, end, line) else {
-            return Err(refused(line));
+            return Err(SplitFault::Refused(Refusal {
+                phase: Phase::Lex,
+                line,
+            }));
         };
         sections.push(section)?;
         line = line_after(line, &text[at..end]);
@@ -82,15 +85,6 @@ pub fn sections(alloc: Global, text: &[u8]) -> Result<Split<'_>, SplitFault>
     Ok(Split {
         preamble: &text[..first],
         sections,
-    })
-}
-
-fn refused(line: u32) -> SplitFault
-    ensures { result ≡ SplitFault.Refused (record { phase = Lex; line = line }) }
-{
-    SplitFault::Refused(Refusal {
-        phase: Phase::Lex,
-        line,
     })
 }
 
@@ -137,73 +131,4 @@ fn is_heading(text: &[u8], at: usize) -> bool
 }
 
 #[cfg(test)]
-mod tests {
-    use super::*;
-    use std::process::Abort;
-    use std::test::Fail;
-
-    // The line of the refusal, or 0 where the text has these sections: first byte of the name, start and line.
-    fn refused_line(
-        rt: &impl Abort,
-        alloc: Global,
-        text: &[u8],
-        wanted: &[(u8, usize, u32)],
-    ) -> Result<u32, Fail> {
-        let split = match sections(alloc, text) {
-            Ok(split) => split,
-            Err(SplitFault::Refused(refusal)) => return Ok(refusal.line),
-            Err(SplitFault::OutOfMemory) => return Err("out of memory".into()),
-        };
-        let mut found = Vec::new(alloc);
-        for section in split.sections.as_slice() {
-            let first = section.name.as_bytes().first().copied().unwrap_or(0);
-            found.push((first, section.start, section.line))?;
-        }
-        assert_eq!(rt; found.as_slice(), wanted);
-        Ok(0)
-    }
-
-    #[test]
-    fn splits_texts(rt: HostRuntime) -> Result<(), Fail> {
-        let accepted: [(&[u8], &[(u8, usize, u32)]); 7] = [
-            (b"", &[]),
-            (b"int x;\n #pragma compartment A\n#pragma compartment", &[]),
-            (b"#pragma compartment Main\nint x;\n", &[(b'M', 0, 1)]),
-            (b"/*\n#pragma compartment Main\n*/\n", &[(b'M', 3, 2)]),
-            (
-                b"#pragma compartment int \t\r\n\n#pragma compartment B",
-                &[(b'i', 0, 1), (b'B', 28, 3)],
-            ),
-            (
-                b"#pragma compartment a234567890123456789012345678901234567890123456789012345678901_3",
-                &[(b'a', 0, 1)],
-            ),
-            (b"x\r\n\n\n#pragma compartment _\n", &[(b'_', 5, 4)]),
-        ];
-        for (text, wanted) in accepted {
-            assert_eq!(rt;
-                refused_line(&rt, rt.alloc(), text, wanted)?,
-                0,
-                "{wanted:?}"
-            );
-        }
-        let refused: [(&[u8], u32); 6] = [
-            (b"#pragma compartment  X", 1),
-            (b"#pragma compartment \n", 1),
-            (
-                b"@\n#pragma compartment A\n#pragma compartment 1x\n#pragma compartment \n",
-                3,
-            ),
-            (b"\n#pragma compartment X Y\n", 2),
-            (b"#pragma compartment X//\n", 1),
-            (
-                b"#pragma compartment a234567890123456789012345678901234567890123456789012345678901_34",
-                1,
-            ),
-        ];
-        for (text, line) in refused {
-            assert_eq!(rt; refused_line(&rt, rt.alloc(), text, &[])?, line, "{line}");
-        }
-        Ok(())
-    }
-}
+mod tests;

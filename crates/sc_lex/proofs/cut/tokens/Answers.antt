@@ -1,30 +1,26 @@
 use Rattle.std.proofs.Common.{◌≡◌, drop}
 use Rattle.std.proofs.lemmas.List.{take_rest}
-use Rattle.sc_lex.specs.Cutting.{allows_directive, RefusesBytes}
+use Rattle.sc_lex.specs.Cutting.{allows_directive}
 use Rattle.sc_lex.specs.Pieces.{IsPiece, NoPiece}
-use Rattle.sc_lex.specs.declared.refusal.Refusal.{Refusal}
 use Rattle.sc_lex.specs.declared.refusal.Phase.TheVariants.{Lex}
-use Rattle.sc_lex.specs.declared.cut.LexFault.TheVariants.{Refused}
-use Rattle.sc_lex.proofs.Cuts.{progress_start, progress_on, progress_refused, refused_uncut}
+use Rattle.sc_lex.proofs.Cuts.{progress_start, progress_on, progress_refused, progress_uncut}
 use Rattle.sc_lex.proofs.cut.tokens.Goals as goal
 
 pub loop-at-init : goal.loop-at-init
 loop-at-init c = rw c.new-found.ensures (progress_start c.args.bytes.now)
 
-refuses : (c : goal.After-drop-found-inside) (refusal : Refusal) → c.refused.result ≡ Refused refusal → RefusesBytes c.args.bytes.now c.args.line refusal
-refuses c refusal e =
+pub returns-in_default-clause-refused : goal.returns-in_default-clause-refused
+returns-in_default-clause-refused c =
+    λ refusal e.
     let stop : NoPiece (allows_directive c.args.bytes.now c.loop-at.at) (drop c.loop-at.at c.args.bytes.now) = rw (take_rest, c.allows_directive.ensures) at c.in_default.ensures.none in
     let is : refusal ≡ record { phase = Lex; line = c.line_after.result } = cc in
     progress_refused c.args.bytes.now c.loop-at.at c.loop-at.token_line c.args.line c.loop-at.found refusal c.loop-at.invariant c.loop-at-test.true stop (rw c.line_after.ensures at is)
 
-pub returns-in_default-clause-refused : goal.returns-in_default-clause-refused
-returns-in_default-clause-refused c = λ refusal e. let same : c.refused.result ≡ Refused refusal = cc in refuses c refusal same
-
 pub returns-in_default-clause-uncut : goal.returns-in_default-clause-uncut
 returns-in_default-clause-uncut c =
     λ refusal e tokens cut.
-    let same : c.refused.result ≡ Refused refusal = cc in
-    refused_uncut c.args.bytes.now c.args.line refusal (refuses c refusal same) tokens cut
+    let stop : NoPiece (allows_directive c.args.bytes.now c.loop-at.at) (drop c.loop-at.at c.args.bytes.now) = rw (take_rest, c.allows_directive.ensures) at c.in_default.ensures.none in
+    progress_uncut c.args.bytes.now c.loop-at.at c.loop-at.token_line c.loop-at.found c.loop-at.invariant c.loop-at-test.true stop tokens cut
 
 pub loop-at-preserved : goal.loop-at-preserved
 loop-at-preserved c =
