@@ -4,6 +4,7 @@ pub mod Fronts
 pub mod Gaps
 pub mod Numbers
 pub mod Runs
+pub mod Spans
 pub mod Splits
 pub mod Texts
 pub mod Wording

@@ -1,5 +1,5 @@
 -- The kind of token that a text is.
-use Rattle.std.specs.Prelude.{ℕ, Bool, true, not, ◌&&◌, ◌==◌, bytes_eq, codes, List, [], ◌∷◌, slice_index, Option, Some, None, is_some, if◌then◌else◌}
+use Rattle.std.specs.Prelude.{ℕ, Bool, true, false, not, ◌&&◌, ◌==◌, bytes_eq, codes, List, [], ◌∷◌, slice_index, Option, Some, None, is_some, if◌then◌else◌}
 use Rattle.std.specs.List.{list_all}
 use Rattle.std.specs.Option.{option_or}
 use Rattle.sc_event.specs.Identifier.{is_name, is_name_byte}
@@ -14,12 +14,12 @@ use Rattle.sc_lex.specs.declared.token.TokenKind.TheVariants.{Ident, Reserved, I
 -- the words `#pragma export` and a name
 abbrev pub is_export : List (List ℕ) → Bool
 is_export (pragma ∷ verb ∷ name ∷ []) = bytes_eq pragma (codes "#pragma") && bytes_eq verb (codes "export") && is_name name
-is_export _ = Bool.false
+is_export _ = false
 
 -- the words `#pragma import` and two names
 abbrev pub is_import : List (List ℕ) → Bool
 is_import (pragma ∷ verb ∷ comp ∷ name ∷ []) = bytes_eq pragma (codes "#pragma") && bytes_eq verb (codes "import") && is_name comp && is_name name
-is_import _ = Bool.false
+is_import _ = false
 
 -- the kind of directive that a line is
 unfoldable pub line_kind : List ℕ → Option TokenKind
@@ -65,4 +65,4 @@ abbrev pub is_directive : TokenKind → Bool
 is_directive Compartment = true
 is_directive Export = true
 is_directive Import = true
-is_directive _ = Bool.false
+is_directive _ = false

@@ -7,3 +7,4 @@ pub mod Integers
 pub mod Kinds
 pub mod Cutting
 pub mod Pieces
+pub mod Spans

@@ -1,5 +1,6 @@
 ghost use Rattle.std.specs.Prelude.{◌≡◌, ℕ, ◌+◌, ◌^◌, ◌<◌, ◌≤◌, List, ◌++◌, length, IfOk, OnOk, IsErrOf, IfSome, IfNone};
 ghost use Rattle.sc_lex.specs.Cutting.{allows_directive, IsCut, RefusesBytes};
+ghost use Rattle.sc_lex.specs.Spans.{AreSpans};
 ghost use Rattle.sc_lex.specs.Pieces.{IsPiece, NoPiece, placed};
 ghost use Rattle.sc_lex.specs.declared.refusal.Phase.TheVariants.{Lex};
 ghost use Rattle.sc_lex.specs.declared.refusal.Refusal.{Refusal};
@@ -113,6 +114,11 @@ fn push_piece(
     }
     Ok(())
 }
+
+/// Tokens that cut bytes are slices of them, one behind another.
+pub fn slices_in_order()
+    ensures { (bytes : List ℕ) (tokens : List Token) → IsCut bytes tokens → AreSpans bytes tokens }
+{}
 
 /// Bytes are cut into one list of tokens at most.
 pub fn one_cut()

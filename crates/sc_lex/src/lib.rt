@@ -12,7 +12,7 @@ mod section;
 mod tables;
 mod token;
 
-pub use cut::{LexFault, Tokens, one_cut, one_refusal, tokens};
+pub use cut::{LexFault, Tokens, one_cut, one_refusal, slices_in_order, tokens};
 pub use refusal::{Phase, Refusal};
 pub use section::{Section, Sections, Split, SplitFault, sections};
 pub use token::{Token, TokenKind};
