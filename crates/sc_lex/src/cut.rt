@@ -43,9 +43,10 @@ enum Piece {
     Token(TokenKind),
 }
 
-/// The tokens of bytes that begin in this line of a text, longest first: white space and comments separate them.
-/// Where the bytes begin with a compartment line, as a section does, a line that begins with `#` is a directive.
-/// The line of a refusal is counted from `line`, that of a token from 1.
+/// The tokens of bytes that begin in this line of a text, each the longest at its place (C11 6.4p4), with white space
+/// and comments (C11 6.4.9) between them. Where the bytes begin with a compartment line, as a section does, a line
+/// that begins with `#` outside a comment is a directive. The line of a refusal is counted from `line`, that of a
+/// token from 1.
 pub fn tokens(alloc: Global, bytes: &[u8], line: u32) -> Result<Tokens, LexFault>
     ensures cut { IfOk result (IsCut bytes.now) }
 

@@ -57,7 +57,7 @@ impl From<AllocError> for SplitFault {
 }
 
 /// The preamble and the sections of a text. Each line that begins with `#pragma compartment `, also inside a comment,
-/// begins a section, and nothing else does.
+/// begins a section, and nothing else does. A name and any blanks follow on that line.
 pub fn sections(alloc: Global, text: &[u8]) -> Result<Split<'_>, SplitFault>
     ensures split { IfOk result (λ split. IsSplit text.now split.preamble.now split.sections) }
     ensures joined { IfOk result (λ split. split.preamble.now ++ flat_map (λ section. section.bytes.now) split.sections ≡ text.now) }

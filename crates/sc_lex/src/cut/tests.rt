@@ -60,7 +60,7 @@ const ACCEPTED: [(&[u8], &[u8], &[u8]); 18] = [
 ];
 
 // Some bytes, the line that they begin in, and the line in which they are refused.
-const REFUSED: [(&[u8], u32, u32); 34] = [
+const REFUSED: [(&[u8], u32, u32); 35] = [
     (b"08", 1, 1),
     (b"1x", 1, 1),
     (b"0x", 1, 1),
@@ -96,6 +96,7 @@ const REFUSED: [(&[u8], u32, u32); 34] = [
         1,
         2,
     ),
+    (b"#pragma compartment A\n#pragma compartment", 1, 2),
     (b"#pragma compartment A\n #pragma export F", 1, 2),
     (b"#pragma compartment A\n#pragma compartment  B", 1, 2),
     (b"#pragma compartment A\n#pragma import F", 3, 4),
