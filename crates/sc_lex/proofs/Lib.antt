@@ -1,0 +1,10 @@
+pub mod Cuts
+pub mod Directives
+pub mod Fronts
+pub mod Gaps
+pub mod Numbers
+pub mod Runs
+pub mod Spans
+pub mod Splits
+pub mod Texts
+pub mod Wording

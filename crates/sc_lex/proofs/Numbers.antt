@@ -1,0 +1,66 @@
+-- The number that digits stand for.
+use Rattle.std.proofs.Common.{◌≡◌, ℕ, ◌+◌, ◌*◌, ◌≤◌, ◌<◌, Bool, true, false, not, ◌&&◌, leb, List, [], ◌∷◌, length, get_or, take, drop, refl, sym, ap, ◌∙◌, fold, arith, take-append-drop}
+use Rattle.std.proofs.Math.Nat.{mul-le-mul_left}
+use Rattle.std.proofs.lemmas.Bool.{lt-leb, le-leb, and_left, and_right, le-ltb, lt-ltb}
+use Rattle.std.proofs.lemmas.List.{take_all, take_more}
+use Rattle.std.proofs.lemmas.List.Folds.{list_all_at, list_all-append}
+use Rattle.std.proofs.lemmas.List.Sums.{fold_more, fold-append}
+use Rattle.std.specs.List.{list_all}
+use Rattle.sc_lex.specs.Words.{is_empty}
+use Rattle.sc_lex.specs.Integers.{digit_value, is_digit, number, is_number}
+
+pub product_fits : (value base : ℕ) → value ≤ 4294967295 → base ≤ 16 → value * base ≤ 68719476720
+product_fits value base h k = omega (arith, mul-le-mul_left value k)
+
+both_true : (b : Bool) → (b && true && true) ≡ b
+both_true true = refl
+both_true false = refl
+
+module _ (base : ℕ) where
+  number_grows : 1 ≤ base → (ds : List ℕ) (v : ℕ) → v ≤ fold (λ value digit. value * base + digit_value digit) v ds
+  number_grows some [] v = omega arith
+  number_grows some (d ∷ ds) v = omega (arith, number_grows some ds (v * base + digit_value d), mul-le-mul_left v some)
+
+  -- the digits so far
+  pub record IsRead (digits : List ℕ) (i value greatest : ℕ) : Type 0 where
+    pub low : value ≤ greatest
+    pub value_is : value ≡ number base (take i digits)
+    pub all : list_all (λ digit. is_digit base digit) (take i digits) ≡ true
+
+  pub read_none : (digits : List ℕ) (greatest : ℕ) → IsRead digits 0 0 greatest
+  read_none digits greatest = record { low = omega arith; value_is = refl; all = refl }
+
+  pub read_more : (digits : List ℕ) (i value greatest d : ℕ) → IsRead digits i value greatest → i < length digits → d ≡ digit_value (get_or digits i 0) → d < base → value * base + d ≤ greatest → IsRead digits (i + 1) (value * base + d) greatest
+  read_more digits i value greatest d h less is digit low =
+      let step = fold_more (λ value digit. value * base + digit_value digit) 0 digits i 0 less in
+      let passes : is_digit base (get_or digits i 0) ≡ true = lt-ltb (digit_value (get_or digits i 0)) base (rw is at digit) in
+      record {
+        low = low;
+        value_is = rw (is, h.value_is) (sym step);
+        all = ap (λ ds. list_all (λ digit. is_digit base digit) ds) (take_more digits i 0 less) ∙ list_all-append (λ digit. is_digit base digit) (take i digits) (get_or digits i 0 ∷ []) ∙ rw (h.all, passes);
+      }
+
+  pub no_digit : (digits : List ℕ) (i greatest d : ℕ) → i < length digits → d ≡ digit_value (get_or digits i 0) → base ≤ d → is_number base greatest digits ≡ false
+  unfolding is_number
+  no_digit digits i greatest d less is high =
+      let fails : is_digit base (get_or digits i 0) ≡ false = le-ltb (digit_value (get_or digits i 0)) base (rw is at high) in
+      and_left _ _ (and_right _ _ (list_all_at (λ digit. is_digit base digit) digits i 0 less fails))
+
+  pub too_great : (digits : List ℕ) (i value greatest d : ℕ) → 1 ≤ base → IsRead digits i value greatest → i < length digits → d ≡ digit_value (get_or digits i 0) → greatest < value * base + d → is_number base greatest digits ≡ false
+  unfolding is_number
+  too_great digits i value greatest d some h less is high =
+      let step = fold_more (λ value digit. value * base + digit_value digit) 0 digits i 0 less in
+      let front : number base (take (i + 1) digits) ≡ value * base + d = step ∙ rw (is, h.value_is) in
+      let whole : number base digits ≡ fold (λ value digit. value * base + digit_value digit) (number base (take (i + 1) digits)) (drop (i + 1) digits) = ap (number base) (sym (take-append-drop (i + 1) digits)) ∙ fold-append (λ value digit. value * base + digit_value digit) 0 (take (i + 1) digits) (drop (i + 1) digits) in
+      and_right _ _ (lt-leb (number base digits) greatest (omega (arith, number_grows some (drop (i + 1) digits) (number base (take (i + 1) digits)))))
+
+  pub all_read : (digits : List ℕ) (i value greatest : ℕ) → IsRead digits i value greatest → length digits ≤ i → is_number base greatest digits ≡ not (is_empty digits)
+  unfolding is_number
+  all_read digits i value greatest h past =
+      let whole : take i digits ≡ digits = take_all i digits past in
+      let all : list_all (λ digit. is_digit base digit) digits ≡ true = rw whole at h.all in
+      let same : value ≡ number base digits = rw whole at h.value_is in
+      let low : leb (number base digits) greatest ≡ true = le-leb (number base digits) greatest (rw same at h.low) in
+      rw (all, low) (both_true (not (is_empty digits)))
+
+pub ruleset numbers = (product_fits)

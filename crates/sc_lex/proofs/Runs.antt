@@ -1,0 +1,65 @@
+-- Tokens that end where the bytes of a class end.
+use Rattle.std.proofs.Common.{◌≡◌, ℕ, zero, suc, ◌+◌, ◌≤◌, ◌<◌, Bool, true, false, cond, List, [], ◌∷◌, length, get_or, take, Some, None, refl, sym, ap, ◌∙◌, ⊎_elim, one-add, arith}
+use Rattle.std.proofs.lemmas.Option.{none-some}
+use Rattle.std.proofs.lemmas.Bool.{false≢true, cases_lt, not_from_false, not_from_true}
+use Rattle.std.proofs.lemmas.List.{get_or-take, length-take-le}
+use Rattle.std.proofs.lemmas.List.Sums.{prefix_len_passes, prefix_len_stops, prefix_len-le-length}
+use Rattle.std.proofs.lemmas.List.Folds.{list_all_at}
+use Rattle.std.specs.Prelude.{IsTrue}
+use Rattle.std.specs.List.{list_all, prefix_len}
+use Rattle.sc_lex.specs.Kinds.{kind_of, is_directive}
+use Rattle.sc_lex.specs.Cutting.{begins_block_comment, begins_line_comment, IsToken}
+use Rattle.sc_lex.specs.declared.token.TokenKind.{TokenKind}
+use Rattle.sc_lex.proofs.Texts.{IsRun, kind_of-nil, none_from}
+
+-- a token has a byte
+pub token_positive : {directives : Bool} {text : List ℕ} {kind : TokenKind} (len : ℕ) → IsToken directives text kind len → 0 < len
+token_positive {kind = kind} zero t = absurd (none-some kind (sym kind_of-nil ∙ t.spelled))
+token_positive (suc n) t = omega arith
+
+module _ (p : ℕ → Bool) where
+  pub run_all : (bs : List ℕ) → list_all p (take (prefix_len p bs) bs) ≡ true
+  run_all [] = refl
+  run_all (b ∷ bs) = go (run_all bs) (p b) refl
+    where
+      go : list_all p (take (prefix_len p bs) bs) ≡ true → (t : Bool) → p b ≡ t → list_all p (take (cond t (1 + prefix_len p bs) 0) (b ∷ bs)) ≡ true
+      go h true q = rw (one-add, q) h
+      go h false q = refl
+
+  pub run_positive : (bs : List ℕ) → 0 < length bs → p (get_or bs 0 0) ≡ true → 0 < prefix_len p bs
+  run_positive [] h q = absurd (omega arith)
+  run_positive (b ∷ bs) h q = rw q (omega arith)
+
+module _ (p : ℕ → Bool) (text : List ℕ) (runs : (m : ℕ) (kind : TokenKind) → 0 < m → kind_of (take m text) ≡ Some kind → IsRun p (take m text) kind) where
+  run_longer : (m : ℕ) → prefix_len p text < m → m ≤ length text → list_all p (take m text) ≡ false
+  run_longer m h within =
+      let i : prefix_len p text < length (take m text) = omega (arith, length-take-le m text within) in
+      list_all_at p (take m text) (prefix_len p text) 0 i (ap p (get_or-take m text (prefix_len p text) 0 h) ∙ prefix_len_stops p text 0 (omega arith))
+
+  pub run_token : (n : ℕ) (kind : TokenKind) (directives : Bool) → n ≡ prefix_len p text → 0 < n → kind_of (take n text) ≡ Some kind → (IsTrue (is_directive kind) → IsTrue directives) → (IsTrue (begins_block_comment text) → ⊥) → (IsTrue (begins_line_comment text) → ⊥) → IsToken directives text kind n
+  run_token n kind directives is positive spelled allowed block line = record {
+    within = omega (arith, prefix_len-le-length p text);
+    spelled = spelled;
+    longest = λ m more inside. none_from (kind_of (take m text)) (λ k e. false≢true (sym (run_longer m (rw is at more) inside) ∙ (runs m k (omega arith) e).all));
+    apart = λ inside. (runs n kind positive spelled).follow (get_or text n 0) ∙ not_from_false (p (get_or text n 0)) (rw is (prefix_len_stops p text 0 (rw is at inside)));
+    allowed = allowed;
+    no_block_comment = block;
+    no_line_comment = line;
+  }
+
+  pub run_only : (directives : Bool) (kind : TokenKind) (m : ℕ) → IsToken directives text kind m → m ≡ prefix_len p text
+  run_only directives kind m t =
+      let positive = token_positive m t in
+      let run = runs m kind positive t.spelled in
+      let inside = prefix_len-le-length p text in
+      ⊎_elim (λ longer. absurd (false≢true (sym (run_longer m longer t.within) ∙ run.all)))
+      (λ low. ⊎_elim
+      (λ less. absurd (false≢true (sym (run.follow (get_or text m 0) ∙ not_from_true (p (get_or text m 0)) (prefix_len_passes p text m 0 less)) ∙ t.apart (omega arith))))
+      (λ le. omega arith) (cases_lt m (prefix_len p text)))
+      (cases_lt (prefix_len p text) m)
+
+  -- nothing of this class is a token, where its longest run is none
+  pub run_none : kind_of (take (prefix_len p text) text) ≡ None → (directives : Bool) (kind : TokenKind) (m : ℕ) → IsToken directives text kind m → ⊥
+  run_none none directives kind m t =
+      let len = run_only directives kind m t in
+      none-some kind (sym none ∙ (rw len at t.spelled))

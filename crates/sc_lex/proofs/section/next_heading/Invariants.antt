@@ -1,0 +1,5 @@
+use Rattle.sc_lex.specs.Splitting.{NoHeading}
+use Rattle.sc_lex.proofs.section.next_heading.Given as goal
+
+abbrev pub invariant-loop-at : goal.invariant-loop-at
+invariant-loop-at l = NoHeading l.text l.from l.at

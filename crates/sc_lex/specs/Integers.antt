@@ -1,0 +1,50 @@
+-- Integer constants (C11 6.4.4.1) of at most 32 bits.
+use Rattle.std.specs.Prelude.{ℕ, ◌+◌, ◌-◌, ◌*◌, Bool, not, ◌&&◌, ◌||◌, ◌==◌, nat_lt, nat_le, List, length, take, drop, fold, slice_index, if◌then◌else◌}
+use Rattle.std.specs.List.{list_all}
+use Rattle.sc_event.specs.Identifier.{is_between}
+use Rattle.sc_lex.specs.Words.{is_empty}
+
+-- a `u` or `U` stands at the end
+abbrev pub has_suffix : List ℕ → Bool
+has_suffix text = slice_index text (length text - 1) == 117 || slice_index text (length text - 1) == 85
+
+abbrev pub without_suffix : List ℕ → List ℕ
+without_suffix text = if has_suffix text then take (length text - 1) text else text
+
+-- `0x` or `0X` stands in front
+abbrev pub is_hexadecimal : List ℕ → Bool
+is_hexadecimal body = slice_index body 0 == 48 && (slice_index body 1 == 120 || slice_index body 1 == 88)
+
+abbrev pub digits_of : List ℕ → List ℕ
+digits_of body = if is_hexadecimal body then drop 2 body else body
+
+-- a leading 0 makes an octal constant
+abbrev pub base_of : List ℕ → ℕ
+base_of body = if is_hexadecimal body then 16 else (if slice_index body 0 == 48 then 8 else 10)
+
+-- the value of a digit, and 16 for any other byte
+abbrev pub digit_value : ℕ → ℕ
+digit_value byte =
+    if is_between 48 57 byte then byte - 48
+    else (if is_between 97 102 byte then byte - 87 else (if is_between 65 70 byte then byte - 55 else 16))
+
+abbrev pub is_digit : ℕ → ℕ → Bool
+is_digit base byte = nat_lt (digit_value byte) base
+
+-- the number that digits stand for
+abbrev pub number : ℕ → List ℕ → ℕ
+number base digits = fold (λ value digit. value * base + digit_value digit) 0 digits
+
+-- at least one digit, all digits of the base, and a number that isn't too great
+unfoldable pub is_number : ℕ → ℕ → List ℕ → Bool
+is_number base greatest digits =
+    not (is_empty digits) && list_all (λ digit. is_digit base digit) digits && nat_le (number base digits) greatest
+
+-- the greatest number with this base: without a suffix a decimal constant has the type `int`
+abbrev pub greatest_of : Bool → ℕ → ℕ
+greatest_of suffix base = if suffix || not (base == 10) then 4294967295 else 2147483647
+
+unfoldable pub is_integer : List ℕ → Bool
+is_integer text =
+    let body = without_suffix text in
+    is_number (base_of body) (greatest_of (has_suffix text) (base_of body)) (digits_of body)

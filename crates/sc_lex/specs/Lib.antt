@@ -1,0 +1,10 @@
+pub mod Lines
+pub mod Words
+pub mod Headings
+pub mod Splitting
+pub mod Tables
+pub mod Integers
+pub mod Kinds
+pub mod Cutting
+pub mod Pieces
+pub mod Spans

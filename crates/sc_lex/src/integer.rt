@@ -1,0 +1,103 @@
+//! Integer constants.
+
+ghost use Rattle.std.specs.Prelude.{◌≡◌, ◌≤◌, IsTrue, length};
+ghost use Rattle.sc_lex.specs.Integers.{has_suffix, without_suffix, is_hexadecimal, digits_of, base_of, digit_value, is_number, greatest_of, is_integer};
+
+/// Whether the text is an integer constant of at most 32 bits, of type `int` or `unsigned int`.
+#[tactic(auto, unfolding(crate::specs::Integers::is_integer))]
+pub fn is_integer(text: &[u8]) -> bool
+    ensures { result ≡ is_integer text.now }
+{
+    let body = without_suffix(text);
+    let base = base_of(body);
+    is_number(base, greatest_of(has_suffix(text), base), digits_of(body))
+}
+
+fn has_suffix(text: &[u8]) -> bool
+    ensures { result ≡ has_suffix text.now }
+{
+    !text.is_empty() && matches!(text[text.len() - 1], b'u' | b'U')
+}
+
+fn without_suffix(text: &[u8]) -> &[u8]
+    ensures { result.now ≡ without_suffix text.now }
+{
+    if has_suffix(text) {
+        &text[..text.len() - 1]
+    } else {
+        text
+    }
+}
+
+fn is_hexadecimal(body: &[u8]) -> bool
+    ensures value { result ≡ is_hexadecimal body.now }
+    ensures long { IsTrue result → 2 ≤ length body.now }
+{
+    body.len() >= 2 && body[0] == b'0' && matches!(body[1], b'x' | b'X')
+}
+
+fn digits_of(body: &[u8]) -> &[u8]
+    ensures { result.now ≡ digits_of body.now }
+{
+    if is_hexadecimal(body) {
+        &body[2..]
+    } else {
+        body
+    }
+}
+
+fn base_of(body: &[u8]) -> u64
+    ensures value { result ≡ base_of body.now }
+    ensures within { (1 ≤ result) × (result ≤ 16) }
+{
+    if is_hexadecimal(body) {
+        16
+    } else if !body.is_empty() && body[0] == b'0' {
+        8
+    } else {
+        10
+    }
+}
+
+fn greatest_of(suffix: bool, base: u64) -> u64
+    ensures value { result ≡ greatest_of suffix base }
+    ensures within { result ≤ 4294967295 }
+{
+    if suffix || base != 10 {
+        4_294_967_295
+    } else {
+        2_147_483_647
+    }
+}
+
+fn digit_value(byte: u8) -> u64
+    ensures value { result ≡ digit_value byte }
+    ensures within { result ≤ 16 }
+{
+    match byte {
+        b'0'..=b'9' => u64::from(byte - b'0'),
+        b'a'..=b'f' => u64::from(byte - b'a') + 10,
+        b'A'..=b'F' => u64::from(byte - b'A') + 10,
+        _ => 16,
+    }
+}
+
+#[tactic(auto, using(crate::proofs::Numbers::numbers))]
+fn is_number(base: u64, greatest: u64, digits: &[u8]) -> bool
+    requires base { (1 ≤ base) × (base ≤ 16) }
+    requires greatest { greatest ≤ 4294967295 }
+    ensures { result ≡ is_number base greatest digits.now }
+{
+    let mut value = 0;
+    for digit in digits {
+        let digit = digit_value(*digit);
+        if digit >= base {
+            return false;
+        }
+        value = value * base + digit;
+        if value > greatest {
+            return false;
+        }
+    }
+    !digits.is_empty()
+}

@@ -1,0 +1,18 @@
+//! The lowest layer of reading: a text is split into its sections, and their bytes are cut into tokens.
+#![tactic(auto)]
+
+mod bytes;
+mod cut;
+mod gap;
+mod heading;
+mod integer;
+mod kind;
+mod refusal;
+mod section;
+mod tables;
+mod token;
+
+pub use cut::{LexFault, Tokens, one_cut, one_refusal, slices_in_order, tokens};
+pub use refusal::{Phase, Refusal};
+pub use section::{Section, Sections, Split, SplitFault, sections};
+pub use token::{Token, TokenKind};
