@@ -1,7 +1,7 @@
 -- The instructions that load a word.
-use Rattle.std.proofs.Common.{◌≡◌, ℕ, zero, suc, ◌+◌, ◌-◌, ◌*◌, ◌/◌, ◌%◌, ◌^◌, ◌<◌, ◌≤◌, ℤ, pos, negsuc, ◌≤ℤ◌, FitsSigned, Bool, true, false, ◌&&◌, List, [], ◌∷◌, ◌++◌, length, refl, sym, ◌∙◌, ap, arith, rules, lit<}
-use Rattle.std.specs.Prelude.{int_le, nat_lt, All, if◌then◌else◌}
-use Rattle.std.specs.Int.{w32, cast_signed, cast_unsigned, int_wrap}
+use Rattle.std.proofs.Common.{◌≡◌, ℕ, suc, ◌+◌, ◌-◌, ◌*◌, ◌/◌, ◌%◌, ◌^◌, ◌<◌, ◌≤◌, ℤ, pos, negsuc, ◌≤ℤ◌, FitsSigned, Bool, true, false, ◌&&◌, refl, ◌∙◌, arith, rules}
+use Rattle.std.specs.Prelude.{int_le, nat_lt, if◌then◌else◌}
+use Rattle.std.specs.Int.{w32, cast_unsigned}
 use Rattle.std.proofs.Math.Facts.{sfits_to_z}
 use Rattle.std.proofs.lemmas.Int.{ints, of_z-to_z}
 use Rattle.std.proofs.lemmas.Bool.{leb-true, ltb-true, ltb-false}

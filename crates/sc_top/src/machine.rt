@@ -20,8 +20,9 @@ pub(crate) fn machine_text(alloc: Global, program: &ThinProgram) -> Result<Text,
     ensures meant { OnOk result (IsMeant program.now) }
 {
     let image = compile(alloc, program)?;
-    let mut machine = Machine::load(alloc, image, &[], DEFAULT_EVENTS)
-        .map_err(|LoadFault::OutOfMemory(_)| OutOfMemory)?;
+    let mut machine = Machine::load(alloc, image, &[], DEFAULT_EVENTS).map_err(
+        |LoadFault::OutOfMemory(_)| OutOfMemory,
+    )?;
     let stop = machine.run(DEFAULT_STEPS);
     let mut text = events_text(alloc, machine.trace())?;
     append_stop(&mut text, stop)?;

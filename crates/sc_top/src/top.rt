@@ -109,11 +109,7 @@ fn output(alloc: Global, command: Command, bytes: &[u8]) -> Result<Text, Status>
 }
 
 // The command's output for this program.
-fn output_of(
-    alloc: Global,
-    command: Command,
-    program: &ThinProgram,
-) -> Result<Text, OutOfMemory>
+fn output_of(alloc: Global, command: Command, program: &ThinProgram) -> Result<Text, OutOfMemory>
     requires { length program.now.outputs ≤ 16384 }
     ensures { IfOk result (IsOutputOf command program.now) }
 {
