@@ -5,7 +5,6 @@ use Rattle.sc_core.specs.declared.stop.Stop.TheVariants.{Trap}
 use Rattle.sc_core.specs.declared.stop.TrapReason.TheVariants.{Owner, Misaligned, BadJump}
 use Rattle.rv_code.specs.Decoding.{decoded, jalr_in, branch_in, load_in, store_in, op_imm_in, op_in, branch_op_of, load_op_of, store_op_of, op_imm_op_of, op_op_of}
 use Rattle.sc_image.specs.declared.parts.ImageParts.{ImageParts}
-use Rattle.sc_image.specs.declared.parts.CompPart.{CompPart}
 use Rattle.sc_image.specs.Bytes.{comp_bytes}
 use Rattle.sc_image.specs.Layout.{word_at, are_data}
 use Rattle.sc_image.specs.State.{a0, reg, start_memory}
@@ -14,10 +13,11 @@ use Rattle.sc_image.specs.Machine.{stopped, run, machine}
 
 abbrev with_code : (code globals : List ℕ) → ImageParts
 with_code code globals = record {
-    main = 0;
-    entry = 0x01000000;
-    comps =
-        record { name = codes "A"; input = false; output = false; exports = []; imports = []; code = code; globals = globals } ∷ [] }
+  main = 0;
+  entry = 0x01000000;
+  comps =
+      record { name = codes "A"; input = false; output = false; exports = []; imports = []; code = code; globals = globals } ∷ [];
+}
 
 -- addi a0,x0,-128; sw a0,-4(sp); lb a1,-4(sp); lbu a2,-4(sp); bltu a2,a1,8; ebreak; mul a0,a1,a2; lw a3,2(sp):
 -- the branch leads past the ebreak, and the last address is no multiple of 4
@@ -44,13 +44,14 @@ runs_into_nothing = refl
 
 -- all the tables
 tables : comp_bytes (record {
-        name = codes "Net";
-        input = true;
-        output = true;
-        exports = record { name = codes "put"; params = 2; result = true; entry = 0x01100004 } ∷ [];
-        imports = record { comp = 2; index = 0x0103 } ∷ record { comp = 0; index = 0 } ∷ [];
-        code = 0x00008067 ∷ 0x00008067 ∷ [];
-        globals = 7 ∷ 8 ∷ 9 ∷ [] }) ≡
+  name = codes "Net";
+  input = true;
+  output = true;
+  exports = record { name = codes "put"; params = 2; result = true; entry = 0x01100004 } ∷ [];
+  imports = record { comp = 2; index = 0x0103 } ∷ record { comp = 0; index = 0 } ∷ [];
+  code = 0x00008067 ∷ 0x00008067 ∷ [];
+  globals = 7 ∷ 8 ∷ 9 ∷ [];
+}) ≡
     3 ∷ 0x4e ∷ 0x65 ∷ 0x74 ∷ 3 ∷
     1 ∷ 0 ∷ 3 ∷ 0x70 ∷ 0x75 ∷ 0x74 ∷ 2 ∷ 1 ∷ 4 ∷ 0 ∷ 0x10 ∷ 1 ∷
     2 ∷ 0 ∷ 2 ∷ 3 ∷ 1 ∷ 0 ∷ 0 ∷ 0 ∷

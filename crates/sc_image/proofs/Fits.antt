@@ -1,5 +1,5 @@
 -- The lengths in a well-formed image fit the fields that they are written in.
-use Rattle.std.proofs.Common.{◌≡◌, ℕ, ◌*◌, ◌^◌, ◌<◌, ◌≤◌, true, IsTrue, ◌&&◌, nat_le, List, [], ◌∷◌, length, zero, suc, All, Some, refl, arith, get_or}
+use Rattle.std.proofs.Common.{◌≡◌, ℕ, ◌≤◌, IsTrue, List, length, All, Some, arith, get_or}
 use Rattle.std.specs.List.{slice_get}
 use Rattle.std.proofs.lemmas.Option.{slice_get-get_or}
 use Rattle.sc_event.specs.Identifier.{is_name}
@@ -10,10 +10,11 @@ use Rattle.sc_image.specs.Bytes.{FitsItsFields}
 
 fits : (image : ImageParts) (c : ℕ) (comp : CompPart) → IsComp image c comp → FitsItsFields comp
 fits image c comp h = record {
-    exports = omega (arith, h.few_exports);
-    imports = omega (arith, h.few_imports);
-    code = omega (arith, h.short_code);
-    globals = omega (arith, h.short_globals) }
+  exports = omega (arith, h.few_exports);
+  imports = omega (arith, h.few_imports);
+  code = omega (arith, h.short_code);
+  globals = omega (arith, h.short_globals);
+}
 
 -- what holds of the element at each place holds of all
 all_of : {A : Type 0} (P : A → Type 0) (xs : List A) → ((i : ℕ) (x : A) → slice_get xs i ≡ Some x → P x) → All P xs

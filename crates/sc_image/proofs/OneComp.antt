@@ -1,5 +1,5 @@
 -- What makes an image of one compartment that takes nothing from others.
-use Rattle.std.proofs.Common.{◌≡◌, ◌≢◌, ℕ, zero, suc, ◌*◌, ◌^◌, ◌<◌, ◌≤◌, IsTrue, List, [], ◌∷◌, length, map, All, AllPairs, Option, Some, None, refl, subst, arith, lit≤, lit<}
+use Rattle.std.proofs.Common.{◌≡◌, ◌≢◌, ℕ, zero, suc, ◌*◌, ◌≤◌, IsTrue, List, [], ◌∷◌, length, map, All, Option, Some, None, refl, subst, arith, lit≤, lit<}
 use Rattle.std.specs.Prelude.{codes, IsSome}
 use Rattle.std.specs.List.{slice_get}
 use Rattle.std.proofs.lemmas.List.Elements.{All-cons, All-nil}
@@ -28,19 +28,20 @@ is_comp : (entry : ℕ) (comp : CompPart) → IsSimpleComp comp →
     IsTrue (is_name comp.name) → comp.name ≢ codes "Env" → 4 * length comp.code ≤ stretch → All IsWord comp.code →
     IsComp (only entry comp) 0 comp
 is_comp entry comp simple name no_environment short words = record {
-    name = name;
-    no_environment = no_environment;
-    few_exports = rw simple.exports (lit≤ tt);
-    exports = all_of_none (IsExport (only entry comp) 0) comp.exports simple.exports;
-    export_names = distinct_none (λ export. export.name) comp.exports simple.exports;
-    export_entries = distinct_none (λ export. export.entry) comp.exports simple.exports;
-    few_imports = rw simple.imports (lit≤ tt);
-    imports = all_of_none (IsImport (only entry comp) 0) comp.imports simple.imports;
-    distinct_imports = rw simple.imports distinct_empty;
-    short_code = short;
-    words = words;
-    short_globals = rw simple.globals (lit≤ tt);
-    bytes = all_of_none IsByte comp.globals simple.globals }
+  name = name;
+  no_environment = no_environment;
+  few_exports = rw simple.exports (lit≤ tt);
+  exports = all_of_none (IsExport (only entry comp) 0) comp.exports simple.exports;
+  export_names = distinct_none (λ export. export.name) comp.exports simple.exports;
+  export_entries = distinct_none (λ export. export.entry) comp.exports simple.exports;
+  few_imports = rw simple.imports (lit≤ tt);
+  imports = all_of_none (IsImport (only entry comp) 0) comp.imports simple.imports;
+  distinct_imports = rw simple.imports distinct_empty;
+  short_code = short;
+  words = words;
+  short_globals = rw simple.globals (lit≤ tt);
+  bytes = all_of_none IsByte comp.globals simple.globals;
+}
 
 only_there : (entry : ℕ) (comp : CompPart) → IsComp (only entry comp) 0 comp →
     (c : ℕ) (found : CompPart) → slice_get (comp ∷ []) c ≡ Some found → IsComp (only entry comp) c found
@@ -51,11 +52,12 @@ pub one_well_formed : (entry : ℕ) (comp : CompPart) → IsSimpleComp comp →
     IsTrue (is_name comp.name) → comp.name ≢ codes "Env" → 4 * length comp.code ≤ stretch → All IsWord comp.code →
     IsSome (word_at (only entry comp) 0 entry) → IsWellFormed (only entry comp)
 one_well_formed entry comp simple name no_environment short words at = record {
-    few_comps = lit≤ tt;
-    main = lit< tt;
-    entry = at;
-    comps = only_there entry comp (is_comp entry comp simple name no_environment short words);
-    names = distinct_one comp.name }
+  few_comps = lit≤ tt;
+  main = lit< tt;
+  entry = at;
+  comps = only_there entry comp (is_comp entry comp simple name no_environment short words);
+  names = distinct_one comp.name;
+}
 
 pub one_simple : (entry : ℕ) (comp : CompPart) → IsSimpleComp comp → IsSimple (only entry comp)
 one_simple entry comp simple = record { one = refl; comps = All-cons IsSimpleComp comp [] simple (All-nil IsSimpleComp) }

@@ -3,7 +3,8 @@ use Rattle.std.proofs.Common.{◌≡◌, ℕ, zero, suc, ◌+◌, ℤ, Bool, Lis
 use Rattle.std.proofs.Math.Nat.{suc-add}
 use Rattle.sc_event.specs.declared.event.Event.{Event}
 use Rattle.sc_core.specs.declared.stop.Stop.{Stop}
-use Rattle.sc_core.specs.declared.stop.Stop.TheVariants.{Ended, EventsOut, StepsOut}
+use Rattle.sc_core.specs.declared.stop.TrapReason.{TrapReason}
+use Rattle.sc_core.specs.declared.stop.Stop.TheVariants.{Ended, EventsOut, StepsOut, Trap}
 use Rattle.sc_image.specs.declared.parts.ImageParts.{ImageParts}
 use Rattle.sc_image.specs.State.{State}
 use Rattle.sc_image.specs.Step.{Outcome, Goes, Traps, step}
@@ -27,6 +28,23 @@ pub run_stopped : (image : ImageParts) (inputs : List ℤ) (events n : ℕ) (sta
 unfolding run
 run_stopped image inputs events zero state stop h = rw h refl
 run_stopped image inputs events (suc n) state stop h = rw h refl
+
+-- it stops for want of steps, goes on by one step, or traps
+pub run_out : (image : ImageParts) (inputs : List ℤ) (events : ℕ) (state : State) →
+    stopped events state.trace ≡ None → run image inputs events 0 state ≡ record { state = state; stop = StepsOut }
+unfolding run
+run_out image inputs events state early = rw early refl
+
+pub run_goes : (image : ImageParts) (inputs : List ℤ) (events n : ℕ) (state next : State) →
+    stopped events state.trace ≡ None → step image inputs state ≡ Goes next → run image inputs events (suc n) state ≡ run image inputs events n next
+unfolding run
+run_goes image inputs events n state next early goes = rw (early, goes) refl
+
+pub run_traps : (image : ImageParts) (inputs : List ℤ) (events n : ℕ) (state : State) (reason : TrapReason) →
+    stopped events state.trace ≡ None → step image inputs state ≡ Traps reason →
+    run image inputs events (suc n) state ≡ record { state = state; stop = Trap reason state.pc }
+unfolding run
+run_traps image inputs events n state reason early traps = rw (early, traps) refl
 
 module _ (image : ImageParts) (inputs : List ℤ) (events n : ℕ) where
   -- with no steps at first

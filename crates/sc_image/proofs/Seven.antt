@@ -18,13 +18,14 @@ use Rattle.rv_code.specs.Decoding.{decoded, jalr_in, op_imm_in, system_in, op_im
 
 abbrev only_comp : List ℕ → Bool → CompPart
 only_comp name output = record {
-    name = name;
-    input = false;
-    output = output;
-    exports = [];
-    imports = [];
-    code = 0x00700513 ∷ 0x00200893 ∷ 0x00000073 ∷ 0x00000513 ∷ 0x00008067 ∷ [];
-    globals = [] }
+  name = name;
+  input = false;
+  output = output;
+  exports = [];
+  imports = [];
+  code = 0x00700513 ∷ 0x00200893 ∷ 0x00000073 ∷ 0x00000513 ∷ 0x00008067 ∷ [];
+  globals = [];
+}
 
 abbrev parts : List ℕ → Bool → ImageParts
 parts name output = record { main = 0; entry = 0x01000000; comps = only_comp name output ∷ [] }
@@ -65,18 +66,19 @@ all_five P a b c d e pa pb pc pd pe =
 only_is_simple : IsSimpleComp (only_comp (codes "M") true)
 unfolding decoded jalr_in op_imm_in op_imm_op_of system_in
 only_is_simple = record {
-    input = refl;
-    exports = refl;
-    imports = refl;
-    code = all_five IsSimpleWord 0x00700513 0x00200893 0x00000073 0x00000513 0x00008067 refl refl refl refl refl;
-    globals = refl }
+  input = refl;
+  exports = refl;
+  imports = refl;
+  code = all_five IsSimpleWord 0x00700513 0x00200893 0x00000073 0x00000513 0x00008067 refl refl refl refl refl;
+  globals = refl;
+}
 
 pub seven_is_well_formed : IsWellFormed (parts (codes "M") true)
 unfolding word_at is_name
 seven_is_well_formed =
     one_well_formed 0x01000000 (only_comp (codes "M") true) only_is_simple refl (λ same. cc same) (lit≤ tt)
-        (all_five IsWord 0x00700513 0x00200893 0x00000073 0x00000513 0x00008067 (lit< tt) (lit< tt) (lit< tt) (lit< tt) (lit< tt))
-        refl
+    (all_five IsWord 0x00700513 0x00200893 0x00000073 0x00000513 0x00008067 (lit< tt) (lit< tt) (lit< tt) (lit< tt) (lit< tt))
+    refl
 
 pub seven_is_simple : IsSimple (parts (codes "M") true)
 seven_is_simple = one_simple 0x01000000 (only_comp (codes "M") true) only_is_simple

@@ -1,12 +1,12 @@
 -- What a step is, by what lies at pc.
-use Rattle.std.proofs.Common.{◌≡◌, ℕ, ℤ, List, Option, Some, None, refl}
+use Rattle.std.proofs.Common.{◌≡◌, ℕ, ℤ, List, Some, None, refl}
 use Rattle.sc_core.specs.declared.stop.TrapReason.TheVariants.{BadJump, Illegal}
 use Rattle.rv_code.specs.declared.instr.Instr.{Instr}
 use Rattle.rv_code.specs.Decoding.{decoded}
 use Rattle.sc_image.specs.declared.parts.ImageParts.{ImageParts}
 use Rattle.sc_image.specs.Layout.{word_at}
 use Rattle.sc_image.specs.State.{State}
-use Rattle.sc_image.specs.Step.{Outcome, Traps, execute, step, if_fetched, if_decoded}
+use Rattle.sc_image.specs.Step.{Traps, execute, step}
 
 -- an instruction
 pub step_executes : (image : ImageParts) (inputs : List ℤ) (state : State) (word : ℕ) (instr : Instr) →

@@ -89,11 +89,12 @@ stack_tops c (comp ∷ comps) = stack_top c ∷ stack_tops (suc c) comps
 -- the run starts at the main entry, with an empty stack and with ra at the gate
 abbrev pub start : ImageParts → State
 start image = record {
-    regs = 0 ∷ gate ∷ stack_top image.main ∷ replicate 29 0;
-    pc = image.entry;
-    active = image.main;
-    saved = stack_tops 0 image.comps;
-    memory = start_memory image;
-    cross = [];
-    input = 0;
-    trace = [] }
+  regs = 0 ∷ gate ∷ stack_top image.main ∷ replicate 29 0;
+  pc = image.entry;
+  active = image.main;
+  saved = stack_tops 0 image.comps;
+  memory = start_memory image;
+  cross = [];
+  input = 0;
+  trace = [];
+}

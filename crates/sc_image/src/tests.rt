@@ -6,7 +6,13 @@ use std::alloc::Global;
 // A compartment `M` that outputs 7 and returns 0.
 #[tactic(auto, unfolding(sc_event::specs::Identifier::is_name))]
 fn seven(alloc: Global) -> Result<Image, OutOfMemory> {
-    let code = [0x0070_0513, 0x0020_0893, 0x0000_0073, 0x0000_0513, 0x0000_8067];
+    let code = [
+        0x0070_0513,
+        0x0020_0893,
+        0x0000_0073,
+        0x0000_0513,
+        0x0000_8067,
+    ];
     let comp = CompPart {
         name: Name::new(b"M").unwrap(),
         input: false,
