@@ -11,7 +11,7 @@ use Rattle.sc_image.specs.declared.parts.ImageParts.{ImageParts}
 use Rattle.sc_image.specs.State.{State, start}
 use Rattle.sc_image.specs.Step.{Goes, Traps, step}
 use Rattle.sc_image.specs.Machine.{Run, is_ended, stopped, stops_or, run, continued, machine}
-use Rattle.sc_image.proofs.Running.{run_more}
+use Rattle.sc_image.proofs.Running.{run_traps, run_goes, run_more}
 use Rattle.sc_machine.specs.Calls.{calls}
 
 -- a run that isn't stopped has room for another event
@@ -37,15 +37,14 @@ module _ (image : ImageParts) (inputs : List ℤ) (events : ℕ) (state : State)
   unfolding run
   no_steps left none = rw none (no_more (stopped events state.trace))
 
+  -- one of the steps that are left
   pub trapped : (left n : ℕ) (reason : TrapReason) → left ≡ suc n → stopped events state.trace ≡ None → Traps reason ≡ step image inputs state →
       run image inputs events left state ≡ record { state = state; stop = Trap reason state.pc }
-  unfolding run
-  trapped left n reason more early is = rw (more, early, sym is) refl
+  trapped left n reason more early is = rw more (run_traps image inputs events n state reason early (sym is))
 
   pub gone : (left n : ℕ) (next : State) → left ≡ suc n → stopped events state.trace ≡ None → Goes next ≡ step image inputs state →
       run image inputs events left state ≡ run image inputs events n next
-  unfolding run
-  gone left n next more early is = rw (more, early, sym is) refl
+  gone left n next more early is = rw more (run_goes image inputs events n state next early (sym is))
 
 -- Calls.
 

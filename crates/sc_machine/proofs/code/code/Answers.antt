@@ -1,4 +1,4 @@
-use Rattle.std.proofs.Common.{◌≡◌, Some, sym, slice_get}
+use Rattle.std.proofs.Common.{sym}
 use Rattle.sc_machine.proofs.Words.{short_code, simple_code}
 use Rattle.sc_machine.proofs.code.code.Goals as goal
 

@@ -1,5 +1,4 @@
-use Rattle.std.proofs.Common.{arith, sym, ◌∙◌, ◌≡◌, ◌-◌, ◌/◌, ◌≤◌, slice_get}
-use Rattle.sc_image.specs.Layout.{code_start, code_of, word_at}
+use Rattle.std.proofs.Common.{arith, sym, ◌∙◌}
 use Rattle.sc_machine.proofs.Words.{misaligned, below_code, in_code}
 use Rattle.sc_machine.proofs.code.word_at.Goals as goal
 use Rattle.sc_machine.proofs.code.word_at.Goals.{then-address-ne0-via-then-address-ne0, then-address-ne0-via-else-address-ne0+then-address-start}

@@ -1,5 +1,4 @@
-use Rattle.std.proofs.Common.{◌≡◌, ◌∙◌, sym, ap, suc, ◌+◌, ◌-◌, ◌<◌, arith, length, Some, None}
-use Rattle.sc_image.specs.Machine.{stopped, run}
+use Rattle.std.proofs.Common.{◌≡◌, ◌∙◌, sym, suc, ◌+◌, ◌-◌, ◌<◌, arith, length}
 use Rattle.sc_image.proofs.Running.{run_stopped}
 use Rattle.sc_machine.specs.Hart.{state_in}
 use Rattle.sc_machine.proofs.Runs.{room_left, no_steps, trapped, gone}
