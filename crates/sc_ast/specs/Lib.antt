@@ -1,0 +1,5 @@
+pub mod Identifiers
+pub mod Lists
+pub mod Numbers
+pub mod Places
+pub mod Simple
