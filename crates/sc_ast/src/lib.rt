@@ -10,6 +10,7 @@
 #![tactic(auto)]
 
 mod expr;
+mod height;
 mod ident;
 mod non_empty;
 mod number;
@@ -20,6 +21,7 @@ mod stmt;
 mod types;
 
 pub use expr::{BinaryOp, CallTree, ExprTree, Exprs, UnaryOp};
+pub use height::{expr_height, section_height, stmt_height, stmts_height};
 pub use ident::Ident;
 pub use non_empty::NonEmpty;
 pub use number::{ArrayLength, Literal};
