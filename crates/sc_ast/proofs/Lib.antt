@@ -1,0 +1,3 @@
+pub mod Induction
+pub mod Layers
+pub mod LinesAside

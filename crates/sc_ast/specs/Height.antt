@@ -12,7 +12,7 @@ use Rattle.sc_ast.specs.declared.stmt.StmtKind.TheOpen as layer
 use Rattle.sc_ast.specs.declared.section.LocalTree.{LocalTree}
 use Rattle.sc_ast.specs.declared.section.FunctionTree.{FunctionTree}
 use Rattle.sc_ast.specs.declared.section.Decl.{Decl}
-use Rattle.sc_ast.specs.declared.section.Decl.TheVariants.{Struct, Global, Proto, Function}
+use Rattle.sc_ast.specs.declared.section.Decl.TheVariants.{Function}
 use Rattle.sc_ast.specs.declared.section.SectionTree.{SectionTree}
 
 -- the greatest of the heights, 0 where there is none

@@ -1,5 +1,5 @@
 -- Numbers as a program writes them.
-use Rattle.std.specs.Prelude.{ℕ, Bool, ◌||◌, ◌&&◌, nat_le, IsTrue, Option, Some, None, if◌then◌else◌}
+use Rattle.std.specs.Prelude.{ℕ, Bool, ◌||◌, ◌&&◌, nat_le, Option, Some, None, if◌then◌else◌}
 
 -- an integer of 32 bits, and whether its type is `unsigned int` (C11 6.4.4.1)
 pub record Number : Type 0 where
