@@ -1,3 +1,4 @@
+pub mod Heads
 pub mod Height
 pub mod Identifiers
 pub mod Lineless

@@ -10,6 +10,7 @@
 #![tactic(auto)]
 
 mod expr;
+mod head;
 mod height;
 mod ident;
 mod lines_aside;
@@ -20,6 +21,8 @@ mod reserved;
 mod same;
 mod section;
 mod stmt;
+#[cfg(test)]
+mod tests;
 mod types;
 
 pub use expr::{BinaryOp, CallTree, ExprTree, Exprs, UnaryOp};
