@@ -6,7 +6,8 @@ use Rattle.sc_event.specs.Identifier.{is_name, is_name_byte}
 use Rattle.sc_lex.specs.Lines.{is_inside_line}
 use Rattle.sc_lex.specs.Words.{words}
 use Rattle.sc_lex.specs.Headings.{heading_name}
-use Rattle.sc_lex.specs.Tables.{is_reserved, is_mark}
+use Rattle.sc_reserved.specs.Reserved.{is_reserved}
+use Rattle.sc_lex.specs.Tables.{is_mark}
 use Rattle.sc_lex.specs.Integers.{is_integer}
 use Rattle.sc_lex.specs.declared.token.TokenKind.{TokenKind}
 use Rattle.sc_lex.specs.declared.token.TokenKind.TheVariants.{Ident, Reserved, Integer, Mark, Compartment, Export, Import}

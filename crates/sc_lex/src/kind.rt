@@ -15,8 +15,9 @@ use crate::bytes::line_len;
 use crate::gap::begins_comment;
 use crate::heading::{heading_name, next_word};
 use crate::integer::is_integer;
-use crate::tables::{is_mark, is_reserved};
+use crate::tables::is_mark;
 use sc_event::is_name;
+use sc_reserved::is_reserved;
 
 fn is_name_byte(byte: u8) -> bool
     ensures { result ≡ is_name_byte byte }

@@ -1,0 +1,47 @@
+-- Known values of the definitions.
+use Rattle.std.proofs.Common.{◌≡◌, Bool, true, false, codes, List, [], ◌∷◌, Some, None, refl, arith, rules}
+use Rattle.sc_event.specs.Identifier.{is_name}
+use Rattle.sc_reserved.specs.Reserved.{is_reserved}
+use Rattle.sc_ast.specs.Identifiers.{is_ident}
+use Rattle.sc_ast.specs.Numbers.{number_of, array_length}
+use Rattle.sc_ast.specs.Places.{is_place}
+use Rattle.sc_ast.specs.Height.{expr_height}
+use Rattle.sc_ast.specs.declared.expr.UnaryOp.TheVariants as unary
+use Rattle.sc_ast.specs.declared.expr.BinaryOp.TheVariants as binary
+use Rattle.sc_ast.specs.declared.expr.ExprTree.{the_lemmas}
+use Rattle.sc_ast.specs.declared.expr.ExprTree.TheVariants as expr
+
+pub if_is_reserved : is_ident (codes "if") ≡ false
+unfolding is_name is_reserved
+if_is_reserved = refl
+
+pub free_is_reserved : is_ident (codes "free") ≡ false
+unfolding is_name is_reserved
+free_is_reserved = refl
+
+pub frees_is_free : is_ident (codes "frees") ≡ true
+unfolding is_name is_reserved
+frees_is_free = refl
+
+pub greatest_int : number_of 2147483647 false ≡ Some (record { value = 2147483647; unsigned = false })
+greatest_int = refl
+
+pub no_int : number_of 2147483648 false ≡ None
+no_int = refl
+
+pub an_unsigned_int : number_of 2147483648 true ≡ Some (record { value = 2147483648; unsigned = true })
+an_unsigned_int = refl
+
+pub no_empty_array : array_length 0 ≡ None
+no_empty_array = refl
+
+-- `a + -b`
+pub sum_is_3_high : expr_height (expr.Binary binary.Add (expr.Variable (codes "a")) (expr.Unary unary.Minus (expr.Variable (codes "b")))) ≡ 3
+sum_is_3_high = search (arith, rules, the_lemmas)
+
+-- `*p` is a place and `&p` is none
+pub pointed_is_a_place : is_place (expr.Deref (expr.Variable (codes "p"))) ≡ true
+pointed_is_a_place = search (rules, the_lemmas)
+
+pub address_is_no_place : is_place (expr.Address (expr.Variable (codes "p"))) ≡ false
+address_is_no_place = search (rules, the_lemmas)

@@ -1,0 +1,4 @@
+pub mod Examples
+pub mod Induction
+pub mod Layers
+pub mod LinesAside

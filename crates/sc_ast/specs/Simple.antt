@@ -1,0 +1,15 @@
+-- The statements in the head of a `for` as statements.
+use Rattle.sc_ast.specs.declared.stmt.SimpleKind.{SimpleKind}
+use Rattle.sc_ast.specs.declared.stmt.SimpleKind.TheVariants.{Assign, AssignCall, Call}
+use Rattle.sc_ast.specs.declared.stmt.SimpleTree.{SimpleTree}
+use Rattle.sc_ast.specs.declared.stmt.StmtKind.{StmtKind}
+use Rattle.sc_ast.specs.declared.stmt.StmtTree.{StmtTree}
+use Rattle.sc_ast.specs.declared.stmt.StmtKind.TheVariants as kind
+
+abbrev pub kind_of : SimpleKind → StmtKind
+kind_of (Assign place value) = kind.Assign place value
+kind_of (AssignCall place call) = kind.AssignCall place call
+kind_of (Call call) = kind.Call call
+
+abbrev pub stmt_of : SimpleTree → StmtTree
+stmt_of simple = record { line = simple.line; kind = kind_of simple.kind }

@@ -1,0 +1,98 @@
+ghost use Rattle.std.specs.Prelude.{◌≡◌};
+ghost use Rattle.sc_ast.specs.Simple.{stmt_of};
+
+use crate::expr::{CallTree, ExprTree};
+use crate::place::PlaceTree;
+use sqlite_items::Items;
+
+/// A statement (C11 6.8) and the line, counted in its section, at which it begins.
+#[cycle(stmt)]
+#[derive(Drop)]
+pub struct StmtTree {
+    pub line: u32,
+    pub kind: StmtKind,
+}
+
+/// What a statement does. `x += e`, `x++` and the like stand here unfolded, as `x = x + e`.
+#[cycle(stmt)]
+#[derive(Drop)]
+pub enum StmtKind {
+    /// `;`
+    Empty,
+    /// `x = e;`
+    Assign {
+        place: PlaceTree,
+        value: ExprTree,
+    },
+    /// `x = f(e);`
+    AssignCall {
+        place: PlaceTree,
+        call: CallTree,
+    },
+    /// `f(e);`
+    Call(CallTree),
+    /// `if (e) { .. } else { .. }`; without `else` the last part is empty, and `else if` is a list of one `If`.
+    If {
+        cond: ExprTree,
+        then_part: Stmts,
+        else_part: Stmts,
+    },
+    /// `while (e) { .. }`
+    While {
+        cond: ExprTree,
+        body: Stmts,
+    },
+    /// `for (x = e; e; x = e) { .. }`; an absent condition is the literal 1.
+    For {
+        first: Option<SimpleTree>,
+        cond: ExprTree,
+        next: Option<SimpleTree>,
+        body: Stmts,
+    },
+    /// `break;`
+    Break,
+    /// `continue;`
+    Continue,
+    /// `return;`
+    Return,
+    /// `return e;`
+    ReturnValue(ExprTree),
+    /// `return f(e);`
+    ReturnCall(CallTree),
+}
+
+/// Statements in order, as the body of a loop.
+pub type Stmts = Items<StmtTree>;
+
+/// A statement that may stand in the head of a `for`, and its line.
+#[derive(Drop)]
+pub struct SimpleTree {
+    pub line: u32,
+    pub kind: SimpleKind,
+}
+
+/// The statements that may stand in the head of a `for`; each is a kind of statement of the same name.
+#[derive(Drop)]
+pub enum SimpleKind {
+    /// `x = e`
+    Assign { place: PlaceTree, value: ExprTree },
+    /// `x = f(e)`
+    AssignCall { place: PlaceTree, call: CallTree },
+    /// `f(e)`
+    Call(CallTree),
+}
+
+impl SimpleTree {
+    /// The same statement, to stand anywhere.
+    pub fn into_stmt(self) -> StmtTree
+        ensures { result ≡ stmt_of self }
+    {
+        let SimpleTree { line, kind } = self;
+        let kind = match kind {
+            SimpleKind::Assign { place, value } => StmtKind::Assign { place, value },
+            SimpleKind::AssignCall { place, call } => StmtKind::AssignCall { place, call },
+            SimpleKind::Call(call) => StmtKind::Call(call),
+        };
+        StmtTree { line, kind }
+    }
+}

@@ -1,0 +1,196 @@
+use crate::{
+    ArrayLength, BaseTree, CallTree, Decl, ExprTree, FunctionHead, FunctionTree, Ident, Literal,
+    LocalTree, PlaceTree, SectionTree, SimpleKind, SimpleTree, StmtKind, StmtTree, Stmts, TypeTree,
+    same_section, section_height,
+};
+use sc_event::Name;
+use sqlite_items::{Boxed, Items};
+use std::alloc::Global;
+use std::test::Fail;
+
+// The height of each section that `section` builds.
+const HEIGHTS: [u32; 10] = [1, 1, 1, 3, 3, 3, 3, 3, 4, 2];
+
+fn ident(text: &[u8]) -> Result<Ident, Fail> {
+    let name = Name::new(text).ok_or("no name")?;
+    Ok(Ident::new(name).ok_or("a reserved word")?)
+}
+
+fn is_ident(text: &[u8]) -> bool {
+    match Name::new(text) {
+        Some(name) => Ident::new(name).is_some(),
+        None => false,
+    }
+}
+
+fn one() -> Result<ExprTree, Fail> {
+    Ok(ExprTree::Literal(Literal::new(1, false).ok_or("no literal")?))
+}
+
+// `*x`
+fn pointed(alloc: Global) -> Result<ExprTree, Fail> {
+    let variable = ExprTree::Variable(ident(b"x")?);
+    Ok(ExprTree::Deref(Boxed::new(alloc, variable)?))
+}
+
+// `x = 1`
+fn assign(line: u32) -> Result<SimpleTree, Fail> {
+    let value = one()?;
+    let Ok(place) = PlaceTree::new(ExprTree::Variable(ident(b"x")?)) else {
+        return Err("no place")?;
+    };
+    let kind = SimpleKind::Assign { place, value };
+    Ok(SimpleTree { line, kind })
+}
+
+// `f();` or `f(*x);`
+fn call(alloc: Global, args: bool) -> Result<StmtKind, Fail> {
+    let name = ident(b"f")?;
+    let mut list = Items::new(alloc);
+    if args {
+        list.push(pointed(alloc)?)?;
+    }
+    Ok(StmtKind::Call(CallTree { name, args: list }))
+}
+
+fn list(alloc: Global, stmt: StmtTree) -> Result<Stmts, Fail> {
+    let mut stmts = Items::new(alloc);
+    stmts.push(stmt)?;
+    Ok(stmts)
+}
+
+// `while (1) { x = 1; }`
+fn repeat(alloc: Global, line: u32) -> Result<StmtTree, Fail> {
+    let cond = one()?;
+    let body = list(alloc, assign(line)?.into_stmt())?;
+    let kind = StmtKind::While { cond, body };
+    Ok(StmtTree { line, kind })
+}
+
+fn kind(alloc: Global, number: usize, line: u32) -> Result<StmtKind, Fail> {
+    match number {
+        0 => Ok(StmtKind::Empty),
+        1 => Ok(StmtKind::Break),
+        2 => call(alloc, false),
+        3 => call(alloc, true),
+        4 => Ok(StmtKind::If {
+            cond: one()?,
+            then_part: Items::new(alloc),
+            else_part: list(alloc, assign(line)?.into_stmt())?,
+        }),
+        5 => Ok(StmtKind::If {
+            cond: one()?,
+            then_part: list(alloc, assign(line)?.into_stmt())?,
+            else_part: Items::new(alloc),
+        }),
+        6 => Ok(StmtKind::For {
+            first: Some(assign(line)?),
+            cond: one()?,
+            next: None,
+            body: Items::new(alloc),
+        }),
+        7 => Ok(StmtKind::For {
+            first: None,
+            cond: one()?,
+            next: Some(assign(line)?),
+            body: Items::new(alloc),
+        }),
+        8 => Ok(StmtKind::While {
+            cond: one()?,
+            body: list(alloc, repeat(alloc, line)?)?,
+        }),
+        _ => Ok(StmtKind::Return),
+    }
+}
+
+// `int x[2]`, or `int *x = *x` at number 9
+fn local(alloc: Global, number: usize, line: u32) -> Result<LocalTree, Fail> {
+    let base = BaseTree::Int;
+    let name = ident(b"x")?;
+    if number == 9 {
+        let init = Some(pointed(alloc)?);
+        let ty = TypeTree {
+            base,
+            stars: 1,
+            length: None,
+        };
+        Ok(LocalTree {
+            ty,
+            name,
+            init,
+            line,
+        })
+    } else {
+        let ty = TypeTree {
+            base,
+            stars: 0,
+            length: ArrayLength::new(2),
+        };
+        Ok(LocalTree {
+            ty,
+            name,
+            init: None,
+            line,
+        })
+    }
+}
+
+// `void g(void) { .. }` with one local and one statement
+fn function(alloc: Global, number: usize, line: u32) -> Result<FunctionTree, Fail> {
+    let head = FunctionHead {
+        result: None,
+        name: ident(b"g")?,
+        params: Items::new(alloc),
+        line,
+    };
+    let mut locals = Items::new(alloc);
+    locals.push(local(alloc, number, line)?)?;
+    let kind = kind(alloc, number, line)?;
+    let body = list(alloc, StmtTree { line, kind })?;
+    Ok(FunctionTree {
+        head,
+        locals,
+        body,
+        close_line: line,
+    })
+}
+
+fn section(alloc: Global, number: usize, line: u32) -> Result<SectionTree, Fail> {
+    let name = Name::new(b"if").ok_or("no name")?;
+    let mut decls = Items::new(alloc);
+    decls.push(Decl::Function(function(alloc, number, line)?))?;
+    Ok(SectionTree {
+        name,
+        line,
+        exports: Items::new(alloc),
+        imports: Items::new(alloc),
+        decls,
+    })
+}
+
+#[test]
+fn compares_sections(rt: HostRuntime) -> Result<(), Fail> {
+    for i in 0..10 {
+        let a = section(rt.alloc(), i, 1)?;
+        assert_eq!(rt; section_height(&a), HEIGHTS[i]);
+        for j in 0..10 {
+            let b = section(rt.alloc(), j, 7)?;
+            assert_eq!(rt; same_section(&a, &b), i == j);
+        }
+    }
+    Ok(())
+}
+
+#[test]
+fn keeps_leaves(rt: HostRuntime) {
+    for word in [b"_Bool".as_slice(), b"free", b"if", b"malloc", b"while"] {
+        assert!(rt; !is_ident(word));
+    }
+    for word in [b"Int".as_slice(), b"frees", b"main", b"_"] {
+        assert!(rt; is_ident(word));
+    }
+    assert!(rt; Literal::new(2_147_483_647, false).is_some());
+    assert!(rt; Literal::new(2_147_483_648, false).is_none());
+    assert!(rt; Literal::new(4_294_967_295, true).is_some());
+    assert!(rt; ArrayLength::new(0).is_none());
+}
