@@ -1,5 +1,5 @@
 -- Known values of the definitions.
-use Rattle.std.proofs.Common.{◌≡◌, Bool, true, false, codes, List, [], ◌∷◌, Some, None, refl, arith, rules}
+use Rattle.std.proofs.Common.{◌≡◌, true, false, codes, Some, None, refl, arith, rules}
 use Rattle.sc_event.specs.Identifier.{is_name}
 use Rattle.sc_reserved.specs.Reserved.{is_reserved}
 use Rattle.sc_ast.specs.Identifiers.{is_ident}

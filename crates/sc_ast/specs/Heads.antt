@@ -1,5 +1,5 @@
 -- The heads of functions and of prototypes.
-use Rattle.std.specs.Prelude.{ℕ, Bool, true, false, List, map, Option, Some, None, is_none}
+use Rattle.std.specs.Prelude.{Bool, List, map, Some, is_none}
 use Rattle.std.specs.List.{list_any}
 use Rattle.sc_ast.specs.declared.section.ParamTree.{ParamTree}
 use Rattle.sc_ast.specs.declared.section.HeadTree.{HeadTree}

@@ -1,7 +1,7 @@
 use crate::{
-    ArrayLength, BaseTree, CallTree, Decl, ExprTree, FunctionHead, FunctionTree, Ident, Literal,
-    LocalTree, PlaceTree, SectionTree, SimpleKind, SimpleTree, StmtKind, StmtTree, Stmts, TypeTree,
-    same_section, section_height,
+    ArrayLength, BaseTree, CallTree, Decl, Decls, ExprTree, FunctionHead, FunctionTree, Ident,
+    Literal, LocalTree, LocalTrees, PlaceTree, SectionTree, SimpleKind, SimpleTree, StmtKind,
+    StmtTree, Stmts, TypeTree, same_section, section_height,
 };
 use sc_event::Name;
 use sqlite_items::{Boxed, Items};
@@ -67,38 +67,65 @@ fn repeat(alloc: Global, line: u32) -> Result<StmtTree, Fail> {
     Ok(StmtTree { line, kind })
 }
 
+// `if (1) { }` with `x = 1;` in its first or its second part
+fn choice(alloc: Global, in_first: bool, line: u32) -> Result<StmtKind, Fail> {
+    let cond = one()?;
+    let part = list(alloc, assign(line)?.into_stmt())?;
+    Ok(if in_first {
+        StmtKind::If {
+            cond,
+            then_part: part,
+            else_part: Items::new(alloc),
+        }
+    } else {
+        StmtKind::If {
+            cond,
+            then_part: Items::new(alloc),
+            else_part: part,
+        }
+    })
+}
+
+// `for (x = 1; 1; ) { }` or `for (; 1; x = 1) { }`
+fn counted(alloc: Global, at_first: bool, line: u32) -> Result<StmtKind, Fail> {
+    let cond = one()?;
+    let part = assign(line)?;
+    let body = Items::new(alloc);
+    Ok(if at_first {
+        StmtKind::For {
+            first: Some(part),
+            cond,
+            next: None,
+            body,
+        }
+    } else {
+        StmtKind::For {
+            first: None,
+            cond,
+            next: Some(part),
+            body,
+        }
+    })
+}
+
+// `while (1) { while (1) { x = 1; } }`
+fn nested(alloc: Global, line: u32) -> Result<StmtKind, Fail> {
+    let cond = one()?;
+    let body = list(alloc, repeat(alloc, line)?)?;
+    Ok(StmtKind::While { cond, body })
+}
+
 fn kind(alloc: Global, number: usize, line: u32) -> Result<StmtKind, Fail> {
     match number {
         0 => Ok(StmtKind::Empty),
         1 => Ok(StmtKind::Break),
         2 => call(alloc, false),
         3 => call(alloc, true),
-        4 => Ok(StmtKind::If {
-            cond: one()?,
-            then_part: Items::new(alloc),
-            else_part: list(alloc, assign(line)?.into_stmt())?,
-        }),
-        5 => Ok(StmtKind::If {
-            cond: one()?,
-            then_part: list(alloc, assign(line)?.into_stmt())?,
-            else_part: Items::new(alloc),
-        }),
-        6 => Ok(StmtKind::For {
-            first: Some(assign(line)?),
-            cond: one()?,
-            next: None,
-            body: Items::new(alloc),
-        }),
-        7 => Ok(StmtKind::For {
-            first: None,
-            cond: one()?,
-            next: Some(assign(line)?),
-            body: Items::new(alloc),
-        }),
-        8 => Ok(StmtKind::While {
-            cond: one()?,
-            body: list(alloc, repeat(alloc, line)?)?,
-        }),
+        4 => choice(alloc, false, line),
+        5 => choice(alloc, true, line),
+        6 => counted(alloc, true, line),
+        7 => counted(alloc, false, line),
+        8 => nested(alloc, line),
         _ => Ok(StmtKind::Return),
     }
 }
@@ -135,18 +162,29 @@ fn local(alloc: Global, number: usize, line: u32) -> Result<LocalTree, Fail> {
     }
 }
 
-// `void g(void) { .. }` with one local and one statement
-fn function(alloc: Global, number: usize, line: u32) -> Result<FunctionTree, Fail> {
-    let head = FunctionHead {
-        result: None,
-        name: ident(b"g")?,
-        params: Items::new(alloc),
-        line,
-    };
+fn locals(alloc: Global, number: usize, line: u32) -> Result<LocalTrees, Fail> {
     let mut locals = Items::new(alloc);
     locals.push(local(alloc, number, line)?)?;
+    Ok(locals)
+}
+
+fn body(alloc: Global, number: usize, line: u32) -> Result<Stmts, Fail> {
     let kind = kind(alloc, number, line)?;
-    let body = list(alloc, StmtTree { line, kind })?;
+    list(alloc, StmtTree { line, kind })
+}
+
+// `void g(void) { .. }` with one local and one statement
+fn function(alloc: Global, number: usize, line: u32) -> Result<FunctionTree, Fail> {
+    let name = ident(b"g")?;
+    let locals = locals(alloc, number, line)?;
+    let body = body(alloc, number, line)?;
+    let params = Items::new(alloc);
+    let head = FunctionHead {
+        result: None,
+        name,
+        params,
+        line,
+    };
     Ok(FunctionTree {
         head,
         locals,
@@ -155,10 +193,15 @@ fn function(alloc: Global, number: usize, line: u32) -> Result<FunctionTree, Fai
     })
 }
 
-fn section(alloc: Global, number: usize, line: u32) -> Result<SectionTree, Fail> {
-    let name = Name::new(b"if").ok_or("no name")?;
+fn decls(alloc: Global, number: usize, line: u32) -> Result<Decls, Fail> {
     let mut decls = Items::new(alloc);
     decls.push(Decl::Function(function(alloc, number, line)?))?;
+    Ok(decls)
+}
+
+fn section(alloc: Global, number: usize, line: u32) -> Result<SectionTree, Fail> {
+    let name = Name::new(b"if").ok_or("no name")?;
+    let decls = decls(alloc, number, line)?;
     Ok(SectionTree {
         name,
         line,
