@@ -1,7 +1,7 @@
 use crate::{
-    ArrayLength, BaseTree, CallTree, Decl, Decls, ExprTree, FunctionHead, FunctionTree, Ident,
-    Literal, LocalTree, LocalTrees, PlaceTree, SectionTree, SimpleKind, SimpleTree, StmtKind,
-    StmtTree, Stmts, TypeTree, same_section, section_height,
+    ArrayLength, BaseTree, CallTree, Decl, Decls, ExprTree, FunctionHead, FunctionTree, HeadTree,
+    Ident, Literal, LocalTree, LocalTrees, ParamTree, PlaceTree, SectionTree, SimpleKind,
+    SimpleTree, StmtKind, StmtTree, Stmts, TypeName, TypeTree, same_section, section_height,
 };
 use sc_event::Name;
 use sqlite_items::{Boxed, Items};
@@ -209,6 +209,29 @@ fn section(alloc: Global, number: usize, line: u32) -> Result<SectionTree, Fail>
         imports: Items::new(alloc),
         decls,
     })
+}
+
+// `void g(int x)` or `void g(int)`
+fn head(alloc: Global, name: Option<Ident>) -> Result<HeadTree, Fail> {
+    let base = BaseTree::Int;
+    let ty = TypeName { base, stars: 0 };
+    let mut params = Items::new(alloc);
+    params.push(ParamTree { ty, name })?;
+    Ok(HeadTree {
+        result: None,
+        name: ident(b"g")?,
+        params,
+        line: 1,
+    })
+}
+
+#[test]
+fn names_parameters(rt: HostRuntime) -> Result<(), Fail> {
+    let named = head(rt.alloc(), Some(ident(b"x")?))?;
+    assert!(rt; named.named(rt.alloc())?.is_some());
+    let nameless = head(rt.alloc(), None)?;
+    assert!(rt; nameless.named(rt.alloc())?.is_none());
+    Ok(())
 }
 
 #[test]
