@@ -1,4 +1,3 @@
 pub mod Examples
 pub mod Induction
 pub mod Layers
-pub mod LinesAside

@@ -1,7 +1,6 @@
 pub mod Heads
 pub mod Height
 pub mod Identifiers
-pub mod Lineless
 pub mod Lists
 pub mod Numbers
 pub mod Places
