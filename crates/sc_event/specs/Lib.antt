@@ -1,2 +1,9 @@
+pub mod Filled
 pub mod Identifier
+pub mod Legal
+pub mod Line
+pub mod Lookup
+pub mod OpenCall
+pub mod Part
+pub mod Standing
 pub mod Word

@@ -1,16 +1,28 @@
 //! Names, events and traces: what a run of a split program shows to the outside, and the texts that it is told in.
 #![tactic(auto)]
 
+mod args;
 mod comp_id;
 mod event;
+mod interface;
+mod legality;
+mod line;
 mod name;
 mod out_of_memory;
+mod params;
+mod row;
 mod text;
 
+pub use args::Args;
 pub use comp_id::CompId;
 pub use event::{Event, Trace};
+pub use interface::{Import, Imports, Interface, InterfaceList, Interfaces, Proto, Protos, Scalar};
+pub use legality::legal;
+pub use line::{append_event, event_text};
 pub use name::{Name, is_name};
 pub use out_of_memory::OutOfMemory;
+pub use params::Params;
+pub use row::{Action, Entry, Row, Script};
 pub use text::Text;
 
 #[cfg(test)]

@@ -3,22 +3,23 @@ ghost use Rattle.std.specs.Cmp.Lexicographic.{pointwise};
 ghost use Rattle.std.specs.Cmp.Rules.{comparing};
 ghost use Rattle.std.specs.List.{list_all};
 ghost use Rattle.std.proofs.Common.{rules};
-ghost use Rattle.sc_event.specs.Identifier.{is_name, name_of, is_first_byte, is_name_byte, padded};
+ghost use Rattle.sc_event.specs.Filled.{filled};
+ghost use Rattle.sc_event.specs.Identifier.{is_name, name_of, is_digit, is_nondigit, is_name_byte};
 
 use std::marker::Model;
 
 /// An identifier (C11 6.4.2.1) of 1 to 63 bytes, kept without memory of its own. Contracts see its bytes.
 #[derive(Clone, Copy)]
 pub struct Name {
-    // Zero from `len` on.
-    bytes: [u8; 63],
     len: u8,
+    // The identifier, and zeros behind it.
+    bytes: [u8; 63],
 }
 
 impl Model for Name {
     ghost use Rattle.std.specs.Prelude.{List, ℕ, take, length};
     ghost use Rattle.std.specs.Coded.{coded_list, coded_ℕ};
-    ghost use Rattle.sc_event.specs.Identifier.{IsPadded, padded, padded_back};
+    ghost use Rattle.sc_event.specs.Filled.{filled, IsFilled, refilled, front_length};
 
     ghost Value = { List ℕ };
 
@@ -26,27 +27,32 @@ impl Model for Name {
 
     ghost view = { λ name. take name.len name.bytes };
 
-    ghost invariant = { λ name. IsPadded name.len name.bytes };
+    ghost invariant = { λ name. IsFilled name.len name.bytes };
 
-    ghost inverse = { λ text. record { bytes = padded text; len = length text } };
+    ghost inverse = { λ text. record { len = length text; bytes = filled text } };
 
-    ghost inverse_ok = { λ name h. padded_back name.len name.bytes (λ bytes len. record { bytes = bytes; len = len }) h };
+    ghost inverse_ok = { λ name is i. record {
+      len = front_length name.len name.bytes is i;
+      bytes = refilled name.len name.bytes is i;
+    } };
 }
 
 impl Name {
+    /// How many bytes a name has at most.
+    pub const LIMIT: usize = 63;
+
     /// The text as a name, `None` where it is no identifier of 1 to 63 bytes.
-    #[tactic(auto, using(crate::proofs::Padding::identifiers))]
+    #[tactic(auto, using(crate::proofs::Filled::names))]
     pub fn new(text: &[u8]) -> Option<Name>
         ensures { result ≡ name_of text.now }
     {
-        if is_name(text) {
-            Some(Name {
-                bytes: pad(text),
-                len: text.len() as u8,
-            })
-        } else {
-            None
+        if !is_name(text) {
+            return None;
         }
+        Some(Name {
+            len: text.len() as u8,
+            bytes: filled(text),
+        })
     }
 
     /// The bytes, 1 to 63 of them.
@@ -54,7 +60,7 @@ impl Name {
         ensures value { result.now ≡ self.now }
         ensures named { IsTrue (is_name self.now) }
     {
-        &self.bytes[..self.len as usize]
+        &self.bytes[..usize::from(self.len)]
     }
 }
 
@@ -77,44 +83,52 @@ impl Eq for Name {
 pub fn is_name(text: &[u8]) -> bool
     ensures { result ≡ is_name text.now }
 {
-    let Some(first) = text.first() else {
-        return false;
-    };
-    text.len() <= 63 && is_first_byte(*first) && are_name_bytes(text)
+    match text.split_first() {
+        None => false,
+        Some((first, rest)) => {
+            is_nondigit(*first) && are_name_bytes(rest) && rest.len() < Name::LIMIT
+        }
+    }
 }
 
-// The text, and then zeros.
-#[tactic(auto, using(crate::proofs::Padding::paddings))]
-fn pad(text: &[u8]) -> [u8; 63]
+// The array that starts with the text.
+#[tactic(auto, using(crate::proofs::Filled::arrays))]
+fn filled(text: &[u8]) -> [u8; 63]
     requires { length text.now ≤ 63 }
-    ensures { result ≡ padded text.now }
+    ensures { result ≡ filled text.now }
 {
-    let mut bytes = zeros();
-    bytes[..text.len()].copy_from_slice(text);
-    bytes
+    let mut array = blank();
+    array[..text.len()].copy_from_slice(text);
+    array
 }
 
-// A function of its own, so that no goal shows 63 zeros.
-fn zeros() -> [u8; 63]
+// Apart, since a goal that shows each zero is long.
+fn blank() -> [u8; 63]
     ensures { result ≡ replicate 63 0 }
 {
     [0; 63]
 }
 
-fn are_name_bytes(text: &[u8]) -> bool
-    ensures { result ≡ list_all is_name_byte text.now }
+fn are_name_bytes(rest: &[u8]) -> bool
+    ensures { result ≡ list_all is_name_byte rest.now }
 {
-    text.iter().all(|byte| is_name_byte(*byte))
-}
-
-fn is_first_byte(byte: u8) -> bool
-    ensures { result ≡ is_first_byte byte }
-{
-    byte.is_ascii_alphabetic() || byte == b'_'
+    rest.iter().all(|byte| is_name_byte(*byte))
 }
 
 fn is_name_byte(byte: u8) -> bool
     ensures { result ≡ is_name_byte byte }
 {
-    is_first_byte(byte) || byte.is_ascii_digit()
+    is_nondigit(byte) || is_digit(byte)
+}
+
+fn is_nondigit(byte: u8) -> bool
+    ensures { result ≡ is_nondigit byte }
+{
+    byte == b'_' || byte.is_ascii_uppercase() || byte.is_ascii_lowercase()
+}
+
+fn is_digit(byte: u8) -> bool
+    ensures { result ≡ is_digit byte }
+{
+    byte.is_ascii_digit()
 }

@@ -1,0 +1,98 @@
+-- What is known at each event of the walk through a trace.
+use Rattle.std.proofs.Common.{◌≡◌, ℕ, suc, ◌+◌, ◌-◌, ◌<◌, Bool, true, false, ◌&&◌, List, [], ◌∷◌, length, get_or, drop, Option, Some, None, IfSome, refl, sym, ap, ◌∙◌, arith}
+use Rattle.std.proofs.lemmas.Bool.{false≢true, and_parts, eq-eqb, ne_eqb}
+use Rattle.std.proofs.lemmas.List.{drop_more, length-drop}
+use Rattle.std.proofs.lemmas.Option.{slice_get-get_or}
+use Rattle.std.specs.Prelude.{◌==◌, slice_get}
+use Rattle.std.specs.Option.{option_and_then}
+use Rattle.sc_event.specs.declared.event.Event.{Event}
+use Rattle.sc_event.specs.declared.event.Event.TheVariants.{Call, Ret, Out, In, End}
+use Rattle.sc_event.specs.declared.interface.Interfaces.{Interfaces}
+use Rattle.sc_event.specs.Legal.{awaits, may_return, may_perform, is_allowed, is_end, is_legal_from, legal}
+use Rattle.sc_event.specs.OpenCall.{open_after, StandsBy}
+use Rattle.sc_event.specs.Standing.{Activation, Standing, resumed, stands_after, performer}
+use Rattle.sc_event.proofs.OpenCalls.{standing, standing_next, after_by}
+
+-- all events before a place were allowed, and the run goes on there
+pub record IsOpenAt (interfaces : Interfaces) (trace : List Event) (pending : Option ℕ) (place : ℕ) : Type 0 where
+  pub at : Standing
+  pub come : standing interfaces.main trace place ≡ Some at
+  pub by : StandsBy interfaces.main trace pending at
+  pub left : legal interfaces trace ≡ is_legal_from interfaces (Some at) (drop place trace)
+
+pub begins : (interfaces : Interfaces) (trace : List Event) → IsOpenAt interfaces trace None 0
+begins interfaces trace = record { at = _; come = refl; by = refl; left = refl }
+
+-- a function that awaits nothing else but this compartment is there
+resumes : (waiting : List Activation) (to : ℕ) → awaits waiting to ≡ true → (next : Standing) × (resumed waiting ≡ Some next)
+resumes [] to is = absurd (false≢true is)
+resumes (latest ∷ earlier) to is = (_, refl)
+
+-- the run goes on after each allowed event but its end
+goes_further : (interfaces : Interfaces) (at : Standing) (event : Event) → may_perform interfaces at event ≡ true → is_end event ≡ false →
+    (next : Standing) × (stands_after at event ≡ Some next)
+goes_further interfaces at (Call from to index args) may open_end = (_, refl)
+goes_further interfaces at (Ret from to value) may open_end =
+    resumes at.waiting to (and_parts (awaits at.waiting to) (may_return interfaces from at.active.entry value) may).0
+goes_further interfaces at (Out comp value) may open_end = (at, refl)
+goes_further interfaces at (In comp value) may open_end = (at, refl)
+goes_further interfaces at (End comp value) may open_end = absurd (false≢true (sym open_end))
+
+module _ (interfaces : Interfaces) (trace : List Event) (pending : Option ℕ) (place : ℕ) (event : Event)
+    (is : IsOpenAt interfaces trace pending place) (within : place < length trace) (here : event ≡ get_or trace place event) where
+  -- the verdict is that of this event and of the later ones
+  splits : legal interfaces trace ≡ (is_allowed interfaces is.at event && is_legal_from interfaces (stands_after is.at event) (drop (place + 1) trace))
+  splits =
+      is.left ∙ ap (is_legal_from interfaces (Some is.at)) (drop_more trace place event within) ∙
+      ap (λ e. is_legal_from interfaces (Some is.at) (e ∷ drop (place + 1) trace)) (sym here)
+
+  module _ (allowed : Bool) (says : (at : Standing) → StandsBy interfaces.main trace pending at → allowed ≡ is_allowed interfaces at event) where
+    pub refused : allowed ≡ false → false ≡ legal interfaces trace
+    refused denied = sym (splits ∙ ap (λ b. b && is_legal_from interfaces (stands_after is.at event) (drop (place + 1) trace)) (sym (says is.at is.by) ∙ denied))
+
+    passed : allowed ≡ true → legal interfaces trace ≡ is_legal_from interfaces (stands_after is.at event) (drop (place + 1) trace)
+    passed granted = splits ∙ ap (λ b. b && is_legal_from interfaces (stands_after is.at event) (drop (place + 1) trace)) (sym (says is.at is.by) ∙ granted)
+
+    -- nothing may follow the end
+    nothing_follows : (later : List Event) → drop (place + 1) trace ≡ later → (place + 1 == length trace) ≡ is_legal_from interfaces None later
+    nothing_follows [] e =
+        let count = length-drop (place + 1) trace in
+        eq-eqb (place + 1) (length trace) (omega (arith, within, count, ap length e))
+    nothing_follows (next ∷ later) e =
+        let count = length-drop (place + 1) trace in
+        ne_eqb (place + 1) (length trace) (λ same. omega (arith, within, count, ap length e, same))
+
+    after_end : (e : Event) → is_end e ≡ true → stands_after is.at e ≡ None
+    after_end (Call from to index args) end = absurd (false≢true end)
+    after_end (Ret from to value) end = absurd (false≢true end)
+    after_end (Out comp value) end = absurd (false≢true end)
+    after_end (In comp value) end = absurd (false≢true end)
+    after_end (End comp value) end = refl
+
+    pub ended : allowed ≡ true → is_end event ≡ true → (place + 1 == length trace) ≡ legal interfaces trace
+    ended granted end =
+        nothing_follows (drop (place + 1) trace) refl ∙
+        sym (passed granted ∙ ap (λ s. is_legal_from interfaces s (drop (place + 1) trace)) (after_end event end))
+
+    pub goes_on : IfSome pending (λ call. call < length trace) → allowed ≡ true → is_end event ≡ false →
+        IsOpenAt interfaces trace (open_after trace pending place event) (place + 1)
+    goes_on earlier granted open_end =
+        let may = (and_parts (performer event == is.at.active.comp) (may_perform interfaces is.at event) (sym (says is.at is.by) ∙ granted)).1 in
+        let next = goes_further interfaces is.at event may open_end in
+        let there : slice_get trace place ≡ Some event = slice_get-get_or trace place event within ∙ ap (λ e. Some e) (sym here) in
+        let count : place + 1 ≡ suc place = omega arith in
+        record {
+          at = next.0;
+          come = ap (standing interfaces.main trace) count ∙ standing_next interfaces.main trace place event there ∙
+              ap (option_and_then (λ s. stands_after s event)) is.come ∙ next.1;
+          by = after_by interfaces.main trace pending place event is.at next.0 earlier there is.come is.by next.1;
+          left = passed granted ∙ ap (λ s. is_legal_from interfaces s (drop (place + 1) trace)) next.1;
+        }
+
+-- no event is left
+pub all_allowed : (interfaces : Interfaces) (trace : List Event) (pending : Option ℕ) → IsOpenAt interfaces trace pending (length trace) → true ≡ legal interfaces trace
+all_allowed interfaces trace pending is = sym (is.left ∙ nothing (drop (length trace) trace) (length-drop (length trace) trace))
+  where
+    nothing : (later : List Event) → length later ≡ length trace - length trace → is_legal_from interfaces (Some is.at) later ≡ true
+    nothing [] e = refl
+    nothing (event ∷ later) e = absurd (omega (arith, e))

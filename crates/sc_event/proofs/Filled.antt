@@ -1,0 +1,27 @@
+-- An array that was filled with a name holds that name and nothing else.
+use Rattle.std.proofs.Common.{◌≡◌, ℕ, ◌≤◌, List, [], ◌∷◌, ◌++◌, length, drop, replicate, true, IsTrue, sym, ap, subst, ◌∙◌, arith, length-append}
+use Rattle.std.proofs.Math.Seq.{take-append_seam, drop-append_seam}
+use Rattle.std.proofs.lemmas.Bool.Decides.{nat_tests}
+use Rattle.std.proofs.lemmas.List.{drop-replicate}
+use Rattle.sc_event.specs.Identifier.{is_name}
+use Rattle.sc_event.specs.Filled.{zeros_behind, filled, IsFilled}
+
+pub name_is_short : (text : List ℕ) → is_name text ≡ true → length text ≤ 63
+unfolding is_name
+name_is_short [] named = omega arith
+name_is_short (first ∷ rest) named = grind (arith, nat_tests)
+
+pub filled_is : (text : List ℕ) → is_name text ≡ true → IsFilled (length text) (filled text)
+filled_is text named = record {
+  front = subst (λ front. IsTrue (is_name front)) (sym (take-append_seam text (zeros_behind (length text)))) (search named);
+  behind = drop-append_seam text (zeros_behind (length text));
+  within = omega (arith, length-append text (zeros_behind (length text)));
+}
+
+-- a text copied over the front of zeros
+pub copied_over : (text blank : List ℕ) → blank ≡ replicate 63 0 → text ++ drop (length text) blank ≡ filled text
+copied_over text blank is = ap (λ all. text ++ drop (length text) all) is ∙ ap (λ rest. text ++ rest) (drop-replicate {X = ℕ} (length text) 63 0)
+
+pub ruleset names = (name_is_short, filled_is)
+
+pub ruleset arrays = (copied_over)
