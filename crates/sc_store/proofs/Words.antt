@@ -53,7 +53,7 @@ pub load_of-apart : (m : Memory) (a n v b j : ℕ) → (b + j ≤ a) ⊎ (a + n 
 load_of-apart m a n v b j h =
     load_of-same (stored m a n v) m b j (λ k l. stored-apart m a n v (b + k) (λ p q. omega (arith, h)))
 
-address_kept : (m : Memory) (a n v b : ℕ) → HasBytes m a n → is_some (stored m a n v b) ≡ is_some (m b)
+pub address_kept : (m : Memory) (a n v b : ℕ) → HasBytes m a n → is_some (stored m a n v b) ≡ is_some (m b)
 address_kept m a n v b has = ⊎_elim
     (λ low. ap is_some (stored-apart m a n v b (λ p q. omega arith)))
     (λ from. ⊎_elim
