@@ -1,5 +1,5 @@
 -- The number that digits stand for.
-use Rattle.std.proofs.Common.{◌≡◌, ℕ, ◌+◌, ◌*◌, ◌≤◌, ◌<◌, Bool, true, false, not, ◌&&◌, leb, List, [], ◌∷◌, length, get_or, take, drop, refl, sym, ap, ◌∙◌, fold, arith, take-append-drop}
+use Rattle.std.proofs.Common.{◌≡◌, ℕ, ◌+◌, ◌*◌, ◌≤◌, ◌<◌, Bool, true, false, not, ◌&&◌, cond, leb, Option, Some, None, List, [], ◌∷◌, length, get_or, take, drop, refl, sym, ap, ◌∙◌, fold, arith, take-append-drop}
 use Rattle.std.proofs.Math.Nat.{mul-le-mul_left}
 use Rattle.std.proofs.lemmas.Bool.{lt-leb, le-leb, and_left, and_right, le-ltb, lt-ltb}
 use Rattle.std.proofs.lemmas.List.{take_all, take_more}
@@ -62,5 +62,21 @@ module _ (base : ℕ) where
       let same : value ≡ number base digits = rw whole at h.value_is in
       let low : leb (number base digits) greatest ≡ true = le-leb (number base digits) greatest (rw same at h.low) in
       rw (all, low) (both_true (not (is_empty digits)))
+
+  -- the number, where it is one
+  abbrev answer : List ℕ → ℕ → Option ℕ
+  answer digits greatest = cond (is_number base greatest digits) (Some (number base digits)) None
+
+  pub none_stands : (digits : List ℕ) (greatest : ℕ) → is_number base greatest digits ≡ false → None ≡ answer digits greatest
+  none_stands digits greatest h = ap (λ b. cond b (Some (number base digits)) None) (sym h)
+
+  pub empty_stands : (digits : List ℕ) (i value greatest : ℕ) → IsRead digits i value greatest → length digits ≤ i → is_empty digits ≡ true → None ≡ answer digits greatest
+  empty_stands digits i value greatest h past empty = none_stands digits greatest (all_read digits i value greatest h past ∙ ap (λ b. not b) empty)
+
+  pub some_stands : (digits : List ℕ) (i value greatest : ℕ) → IsRead digits i value greatest → length digits ≤ i → is_empty digits ≡ false → Some value ≡ answer digits greatest
+  some_stands digits i value greatest h past some =
+      let whole : take i digits ≡ digits = take_all i digits past in
+      let same : value ≡ number base digits = rw whole at h.value_is in
+      ap (λ k. Some k) same ∙ ap (λ b. cond b (Some (number base digits)) None) (sym (all_read digits i value greatest h past ∙ ap (λ b. not b) some))
 
 pub ruleset numbers = (product_fits)

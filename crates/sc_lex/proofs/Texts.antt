@@ -8,7 +8,7 @@ use Rattle.std.proofs.lemmas.List.Folds.{list_all-append}
 use Rattle.std.specs.Prelude.{is_some, bytes_eq, slice_index, nat_le, nat_lt, ◌==◌}
 use Rattle.std.specs.List.{list_all, list_any}
 use Rattle.std.specs.Option.{option_or}
-use Rattle.sc_event.specs.Identifier.{is_between, is_name, is_first_byte, is_name_byte}
+use Rattle.sc_event.specs.Identifier.{is_between, is_name, is_nondigit, is_name_byte}
 use Rattle.sc_lex.specs.Lines.{is_white_space, is_inside_line}
 use Rattle.sc_lex.specs.Words.{words, is_empty}
 use Rattle.sc_lex.specs.Headings.{heading_name}
@@ -51,10 +51,13 @@ digit_is_name_byte base b low h = go (is_between 48 57 b) (is_between 97 102 b) 
         let high = leb-true b top parts.1 in
         and_from (nat_le bottom b) (nat_le b far) parts.0 (le-leb b far (omega arith))
 
+    letter : (is_between 65 90 b || is_between 97 122 b) ≡ true → is_name_byte b ≡ true
+    letter is = or_left (is_nondigit b) (is_between 48 57 b) (or_right (b == 95) (is_between 65 90 b || is_between 97 122 b) is)
+
     go : (x y z : Bool) → is_between 48 57 b ≡ x → is_between 97 102 b ≡ y → is_between 65 70 b ≡ z → nat_lt (cond x (b - 48) (cond y (b - 87) (cond z (b - 55) 16))) base ≡ true → is_name_byte b ≡ true
-    go true y z p q r k = or_right (is_first_byte b) (is_between 48 57 b) p
-    go false true z p q r k = or_left (is_first_byte b) (is_between 48 57 b) (or_left _ (b == 95) (or_left (is_between 97 122 b) (is_between 65 90 b) (wider 97 102 122 (omega arith) q)))
-    go false false true p q r k = or_left (is_first_byte b) (is_between 48 57 b) (or_left _ (b == 95) (or_right (is_between 97 122 b) (is_between 65 90 b) (wider 65 70 90 (omega arith) r)))
+    go true y z p q r k = or_right (is_nondigit b) (is_between 48 57 b) p
+    go false true z p q r k = letter (or_right (is_between 65 90 b) (is_between 97 122 b) (wider 97 102 122 (omega arith) q))
+    go false false true p q r k = letter (or_left (is_between 65 90 b) (is_between 97 122 b) (wider 65 70 90 (omega arith) r))
     go false false false p q r k = let above = ltb-true 16 base k in absurd (omega arith)
 
 hexadecimal_bytes : (body : List ℕ) → is_hexadecimal body ≡ true → list_all is_name_byte (drop 2 body) ≡ true → list_all is_name_byte body ≡ true
@@ -104,7 +107,11 @@ integer_bytes text h =
 
 name_bytes : (text : List ℕ) → is_name text ≡ true → list_all is_name_byte text ≡ true
 unfolding is_name
-name_bytes text h = (and_parts (nat_le (length text) 63 && is_first_byte (slice_index text 0)) (list_all is_name_byte text) h).1
+name_bytes [] h = refl
+name_bytes (first ∷ rest) h =
+    let parts = and_parts (is_nondigit first) (list_all is_name_byte rest && nat_lt (length rest) 63) h in
+    let behind = (and_parts (list_all is_name_byte rest) (nat_lt (length rest) 63) parts.1).0 in
+    and_from (is_name_byte first) (list_all is_name_byte rest) (or_left (is_nondigit first) (is_between 48 57 first) parts.0) behind
 
 -- all bytes of a text pass, and a token of this kind may be followed by those that don't
 pub record IsRun (p : ℕ → Bool) (text : List ℕ) (kind : TokenKind) : Type 0 where

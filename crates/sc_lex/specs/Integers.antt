@@ -1,8 +1,9 @@
 -- Integer constants (C11 6.4.4.1) of at most 32 bits.
-use Rattle.std.specs.Prelude.{ℕ, ◌+◌, ◌-◌, ◌*◌, Bool, not, ◌&&◌, ◌||◌, ◌==◌, nat_lt, nat_le, List, length, take, drop, fold, slice_index, if◌then◌else◌}
+use Rattle.std.specs.Prelude.{ℕ, ◌+◌, ◌-◌, ◌*◌, Bool, not, ◌&&◌, ◌||◌, ◌==◌, nat_lt, nat_le, List, length, take, drop, fold, slice_index, Option, Some, None, if◌then◌else◌}
 use Rattle.std.specs.List.{list_all}
 use Rattle.sc_event.specs.Identifier.{is_between}
 use Rattle.sc_lex.specs.Words.{is_empty}
+use Rattle.sc_lex.specs.declared.integer.IntegerConstant.{IntegerConstant}
 
 -- a `u` or `U` stands at the end
 abbrev pub has_suffix : List ℕ → Bool
@@ -48,3 +49,15 @@ unfoldable pub is_integer : List ℕ → Bool
 is_integer text =
     let body = without_suffix text in
     is_number (base_of body) (greatest_of (has_suffix text) (base_of body)) (digits_of body)
+
+-- the number that the digits of a constant stand for
+abbrev pub value_of : List ℕ → ℕ
+value_of text = let body = without_suffix text in number (base_of body) (digits_of body)
+
+-- a constant with a suffix is `unsigned int`, and so is one whose value no `int` has
+abbrev pub is_unsigned : List ℕ → Bool
+is_unsigned text = has_suffix text || nat_lt 2147483647 (value_of text)
+
+-- what a constant says
+unfoldable pub integer_of : List ℕ → Option IntegerConstant
+integer_of text = if is_integer text then Some (record { value = value_of text; unsigned = is_unsigned text }) else None

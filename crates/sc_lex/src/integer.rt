@@ -1,7 +1,17 @@
 //! Integer constants.
 
-ghost use Rattle.std.specs.Prelude.{◌≡◌, ◌≤◌, IsTrue, length};
-ghost use Rattle.sc_lex.specs.Integers.{has_suffix, without_suffix, is_hexadecimal, digits_of, base_of, digit_value, is_number, greatest_of, is_integer};
+ghost use Rattle.std.specs.Prelude.{◌≡◌, ◌≤◌, IsTrue, IfSome, Some, None, length, if◌then◌else◌};
+ghost use Rattle.sc_lex.specs.Integers.{has_suffix, without_suffix, is_hexadecimal, digits_of, base_of, digit_value, number, is_number, greatest_of, is_integer, integer_of};
+
+// The greatest value of type `int`.
+const GREATEST_INT: u64 = 0x7fff_ffff;
+
+/// What an integer constant says: its value, and whether its type is `unsigned int`.
+#[derive(Clone, Copy, Debug, PartialEq, Eq)]
+pub struct IntegerConstant {
+    pub value: u32,
+    pub unsigned: bool,
+}
 
 /// Whether the text is an integer constant of at most 32 bits, of type `int` or `unsigned int`.
 #[tactic(auto, unfolding(crate::specs::Integers::is_integer))]
@@ -10,7 +20,22 @@ pub fn is_integer(text: &[u8]) -> bool
 {
     let body = without_suffix(text);
     let base = base_of(body);
-    is_number(base, greatest_of(has_suffix(text), base), digits_of(body))
+    number_within(base, greatest_of(has_suffix(text), base), digits_of(body)).is_some()
+}
+
+/// What the text says as an integer constant, `None` where it is none of at most 32 bits.
+#[tactic(auto, unfolding(crate::specs::Integers::is_integer, crate::specs::Integers::integer_of))]
+pub fn integer_of(text: &[u8]) -> Option<IntegerConstant>
+    ensures { result ≡ integer_of text.now }
+{
+    let suffix = has_suffix(text);
+    let body = without_suffix(text);
+    let base = base_of(body);
+    let value = number_within(base, greatest_of(suffix, base), digits_of(body))?;
+    Some(IntegerConstant {
+        value: value as u32,
+        unsigned: suffix || value > GREATEST_INT,
+    })
 }
 
 fn has_suffix(text: &[u8]) -> bool
@@ -82,22 +107,24 @@ fn digit_value(byte: u8) -> u64
     }
 }
 
+// The number that digits stand for, `None` where they stand for none or for one that is too great.
 #[tactic(auto, using(crate::proofs::Numbers::numbers))]
-fn is_number(base: u64, greatest: u64, digits: &[u8]) -> bool
+fn number_within(base: u64, greatest: u64, digits: &[u8]) -> Option<u64>
     requires base { (1 ≤ base) × (base ≤ 16) }
     requires greatest { greatest ≤ 4294967295 }
-    ensures { result ≡ is_number base greatest digits.now }
+    ensures value { result ≡ (if is_number base greatest digits.now then Some (number base digits.now) else None) }
+    ensures within { IfSome result (λ value. value ≤ 4294967295) }
 {
     let mut value = 0;
     for digit in digits {
         let digit = digit_value(*digit);
         if digit >= base {
-            return false;
+            return None;
         }
         value = value * base + digit;
         if value > greatest {
-            return false;
+            return None;
         }
     }
-    !digits.is_empty()
+    if digits.is_empty() { None } else { Some(value) }
 }

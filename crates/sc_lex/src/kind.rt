@@ -34,18 +34,19 @@ fn name_len(text: &[u8]) -> usize
     text.iter().take_while(|byte| is_name_byte(**byte)).count()
 }
 
-// The first words of a line, which are empty from where the line has no more.
+/// The first words of a line, which are empty from where the line has no more.
 #[derive(Clone, Copy)]
-struct FirstWords<'a> {
-    pragma: &'a [u8],
-    verb: &'a [u8],
-    first: &'a [u8],
-    second: &'a [u8],
-    third: &'a [u8],
+pub struct FirstWords<'a> {
+    pub pragma: &'a [u8],
+    pub verb: &'a [u8],
+    pub first: &'a [u8],
+    pub second: &'a [u8],
+    pub third: &'a [u8],
 }
 
+/// The words of a line up to the fifth, as those of a directive.
 #[tactic(auto, using(crate::proofs::Wording::later_words))]
-fn first_words(line: &[u8]) -> FirstWords<'_>
+pub fn first_words(line: &[u8]) -> FirstWords<'_>
     ensures pragma { result.pragma.now ≡ get_or (words line.now) 0 [] }
     ensures verb { result.verb.now ≡ get_or (words line.now) 1 [] }
     ensures first { result.first.now ≡ get_or (words line.now) 2 [] }

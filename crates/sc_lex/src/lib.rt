@@ -13,6 +13,9 @@ mod tables;
 mod token;
 
 pub use cut::{LexFault, Tokens, one_cut, one_refusal, slices_in_order, tokens};
+pub use heading::heading_name;
+pub use integer::{IntegerConstant, integer_of};
+pub use kind::{FirstWords, first_words};
 pub use refusal::{Phase, Refusal};
 pub use section::{Section, Sections, Split, SplitFault, sections};
 pub use token::{Token, TokenKind};
