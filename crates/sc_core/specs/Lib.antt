@@ -1,2 +1,17 @@
+pub mod Calls
+pub mod Growth
+pub mod Height
+pub mod Meaning
+pub mod Laws
+pub mod Memory
+pub mod Places
 pub mod Run
+pub mod Scripts
+pub mod Sizes
 pub mod Thin
+pub mod Tree
+pub mod Types
+pub mod Typing
+pub mod Value
+pub mod WellTyped
+pub mod Words

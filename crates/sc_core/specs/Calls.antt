@@ -1,0 +1,171 @@
+-- Calls: the variables and the frame of a function begin, its body runs, and they end (C11 6.2.4, 6.5.2.2). The same for trees and for code.
+use Rattle.std.specs.Prelude.{ℕ, zero, suc, ◌++◌, Bool, true, ◌&&◌, if◌then◌else◌, List, [], ◌∷◌, codes, bytes_eq, length, map, replicate, drop, Option, None, Some, slice_get, slice_index_or}
+use Rattle.std.specs.List.{position}
+use Rattle.sc_event.specs.declared.event.Event.TheVariants.{Call, Ret, Out, In}
+use Rattle.sc_event.specs.Lookup.{export_at}
+use Rattle.sc_event.specs.Legal.{is_input, is_output, is_function, imports, takes}
+use Rattle.sc_event.specs.declared.interface.Scalar.{Scalar}
+use Rattle.sc_event.specs.declared.interface.Interfaces.{Interfaces}
+use Rattle.sc_event.specs.declared.interface.Proto.{Proto}
+use Rattle.sc_event.specs.declared.row.Entry.{Entry}
+use Rattle.sc_event.specs.declared.row.Entry.TheVariants.{Main, Export}
+use Rattle.sc_core.specs.declared.expr.CallTarget.{CallTarget}
+use Rattle.sc_core.specs.declared.expr.CallTarget.TheVariants.{Own, Cross, Input, Output}
+use Rattle.sc_core.specs.declared.run.RunEnd.TheVariants.{TurnsOut}
+use Rattle.sc_core.specs.declared.value.Cell.TheVariants.{Undef}
+use Rattle.sc_core.specs.declared.value.Value.{Value}
+use Rattle.sc_core.specs.declared.value.Value.TheVariants.{Word, Null, Ptr}
+use Rattle.sc_core.specs.Memory.{Blocks, with_blocks, cell_of, ended_from}
+use Rattle.sc_core.specs.Words.{Opened, Closed, State, Here, Piece, Reached, Stopped, and_then, turn, tell, Calls}
+
+-- a function as a call sees it, whatever it is written in: its name, the cells of its variables, parameters first, the bytes of its frame at most, and what it does by what its calls do
+pub record Function : Type 0 where
+  pub name : List ℕ
+  pub cells : List ℕ
+  pub room : ℕ
+  pub does : Calls → Here → State → Piece (Option Value)
+
+-- a program as calls see it: the functions of each compartment
+pub record Library : Type 0 where
+  pub interfaces : Interfaces
+  pub functions : List (List Function)
+
+-- what a function does, by its number, once its variables are there
+abbrev pub Body : Type 0
+Body = ℕ → Here → State → Piece (Option Value)
+
+abbrev pub main_name : List ℕ
+main_name = codes "main"
+
+-- the place of the first function of this name
+abbrev pub place_named : List ℕ → List Function → Option ℕ
+place_named name functions = position {X = Function} (λ f. bytes_eq f.name name) functions
+
+abbrev pub place_of_export : Option Proto → List Function → Option ℕ
+place_of_export None functions = None
+place_of_export (Some proto) functions = place_named proto.name functions
+
+module _ (library : Library) where
+  abbrev pub functions_of : ℕ → List Function
+  functions_of comp = slice_index_or library.functions comp []
+
+  abbrev pub function : ℕ → ℕ → Option Function
+  function comp number = slice_get (functions_of comp) number
+
+  -- the function that an entry leads to: an export is the function of its name, and `main` the one that is called so
+  abbrev pub entered : ℕ → Entry → Option ℕ
+  entered comp Main = place_named main_name (functions_of comp)
+  entered comp (Export index) = place_of_export (export_at library.interfaces comp index) (functions_of comp)
+
+-- blocks of so many cells each: the first ones hold the arguments, the others nothing yet (C11 6.5.2.2p4, 6.7.9p10)
+abbrev pub blocks_for : List ℕ → List Value → Blocks
+blocks_for [] args = []
+blocks_for (n ∷ cells) [] = record { live = true; cells = replicate n Undef } ∷ blocks_for cells []
+blocks_for (n ∷ cells) (v ∷ args) = record { live = true; cells = cell_of v ∷ [] } ∷ blocks_for cells args
+
+-- the state once the variables and the frame of a function are there
+abbrev pub begun : ℕ → Function → List Value → State → State
+begun comp f args s =
+    record s { memory = with_blocks comp (s.memory comp ++ blocks_for f.cells args) s.memory; frames = s.frames ++ Opened (length s.trace) comp f.room ∷ [] }
+
+-- the state once the blocks of a compartment from a number on have ended, and the frame with them
+abbrev pub done : ℕ → Function → ℕ → State → State
+done comp f first s =
+    record s { memory = with_blocks comp (ended_from first (s.memory comp)) s.memory; frames = s.frames ++ Closed (length s.trace) comp f.room ∷ [] }
+
+-- what is looked up in a program; a typed program has it
+abbrev pub found : {V : Type 0} → Option V → State → Piece V
+found None s = Stopped TurnsOut s
+found (Some v) s = Reached v s
+
+-- only words cross between compartments
+abbrev pub word_in : Value → ℕ
+word_in (Word w) = w
+word_in Null = 0
+word_in (Ptr p) = 0
+
+-- what crosses at a return: a word exactly where the prototype has a result
+abbrev pub word_back : Option Scalar → Option Value → Option ℕ
+word_back None v = None
+word_back (Some scalar) None = Some 0
+word_back (Some scalar) (Some v) = Some (word_in v)
+
+abbrev pub crossing : Option Proto → Option Value → Option ℕ
+crossing None v = None
+crossing (Some proto) v = word_back proto.result v
+
+abbrev pub option_value : Option ℕ → Option Value
+option_value None = None
+option_value (Some w) = Some (Word w)
+
+-- the values that the called function gets
+abbrev pub crossed : List Value → List Value
+crossed args = map (λ v. Word (word_in v)) args
+
+abbrev pub first_word : List Value → ℕ
+first_word [] = 0
+first_word (v ∷ vs) = word_in v
+
+-- the next input, 0 after the last
+abbrev pub next_input : List ℕ → ℕ
+next_input [] = 0
+next_input (w ∷ rest) = w
+
+abbrev pub read_input : ℕ → State → State
+read_input comp s = tell (In comp (next_input s.inputs)) (record s { inputs = drop 1 s.inputs })
+
+-- a compartment calls its own functions and what it imports, with as many values as are taken; a typed program has no other call
+abbrev pub may_call : Interfaces → ℕ → CallTarget → ℕ → Bool
+may_call interfaces from (Own number) count = true
+may_call interfaces from (Cross to index) count = imports interfaces from (is_function to index) && takes interfaces to index count
+may_call interfaces from Input count = imports interfaces from is_input
+may_call interfaces from Output count = imports interfaces from is_output
+
+-- a return inside a compartment
+abbrev pub back_own : Option Value → State → Piece (Option Value)
+back_own v s = Reached v s
+
+-- a return to another compartment is told, and gives what crossed
+abbrev pub back_cross : Interfaces → ℕ → ℕ → ℕ → Option Value → State → Piece (Option Value)
+back_cross interfaces from to index v s =
+    Reached (option_value (crossing (export_at interfaces to index) v)) (tell (Ret to from (crossing (export_at interfaces to index) v)) s)
+
+module _ (library : Library) (body : Body) where
+  -- a function of this number runs from here; what is told at its entry and at its return differs
+  abbrev pub run_in : ℕ → ℕ → List Value → (State → State) → (Option Value → State → Piece (Option Value)) → State → Piece (Option Value)
+  run_in comp number args entry back s =
+      and_then (found (function library comp number) s) (λ f s. and_then (body number (record { comp = comp; first = length (s.memory comp) }) (entry (begun comp f args s))) (λ v t. back v (done comp f (length (s.memory comp)) t)))
+
+  -- a call inside a compartment is no event
+  abbrev pub call_own : ℕ → ℕ → List Value → State → Piece (Option Value)
+  call_own comp number args s = run_in comp number args (λ s. s) back_own s
+
+  -- the frame begins before the call is told, and ends before the return is told
+  abbrev pub call_cross : ℕ → ℕ → ℕ → List Value → State → Piece (Option Value)
+  call_cross from to index args s =
+      and_then (found (entered library to (Export index)) s) (λ number s. run_in to number (crossed args) (tell (Call from to index (map word_in args))) (back_cross library.interfaces from to index) s)
+
+  -- a call takes its turn once its arguments are there and before its event; the environment takes none
+  abbrev pub called : Calls
+  called from (Own number) args s = and_then (turn s) (λ _ s. call_own from number args s)
+  called from (Cross to index) args s = and_then (turn s) (λ _ s. call_cross from to index args s)
+  called from Input args s = Reached (Some (Word (next_input s.inputs))) (read_input from s)
+  called from Output args s = Reached None (tell (Out from (first_word args)) s)
+
+  abbrev pub calls : Calls
+  calls from target args s =
+      if may_call library.interfaces from target (length args) then called from target args s else Stopped TurnsOut s
+
+-- functions, from what functions do that have one call less to make
+abbrev pub Step : Type 0
+Step = Body → Body
+
+-- functions that do what they say
+abbrev pub run_step : Library → Step
+run_step library body number here s =
+    and_then (found (function library here.comp number) s) (λ f s. f.does (calls library body) here s)
+
+-- what a function does where at most so many calls are open in it
+abbrev pub within : Step → ℕ → Body
+within step zero number here s = Stopped TurnsOut s
+within step (suc n) number here s = step (within step n) number here s

@@ -1,0 +1,80 @@
+use crate::expr::{TypedCall, TypedExpr};
+use crate::place::TypedPlace;
+use sqlite_items::Items;
+
+/// A statement (C11 6.8) and the line, counted in its section, at which it begins.
+#[cycle(stmt)]
+#[derive(Drop)]
+pub struct TypedStmt {
+    pub line: u32,
+    pub kind: TypedStmtKind,
+}
+
+/// What a statement does. `x += e`, `x++` and the like stand here unfolded, as `x = x + e`.
+#[cycle(stmt)]
+#[derive(Drop)]
+pub enum TypedStmtKind {
+    /// `;`
+    Empty,
+    /// `x = e;`
+    Assign {
+        place: TypedPlace,
+        value: TypedExpr,
+    },
+    /// `x = f(e);`
+    AssignCall {
+        place: TypedPlace,
+        call: TypedCall,
+    },
+    /// `f(e);`
+    Call(TypedCall),
+    /// `if (e) { .. } else { .. }`; without `else` the last part is empty.
+    If {
+        cond: TypedExpr,
+        then_part: TypedStmts,
+        else_part: TypedStmts,
+    },
+    /// `while (e) { .. }`
+    While {
+        cond: TypedExpr,
+        body: TypedStmts,
+    },
+    /// `for (x = e; e; x = e) { .. }`; an absent condition is the literal 1.
+    For {
+        first: Option<TypedSimple>,
+        cond: TypedExpr,
+        next: Option<TypedSimple>,
+        body: TypedStmts,
+    },
+    /// `break;`
+    Break,
+    /// `continue;`
+    Continue,
+    /// `return;`
+    Return,
+    /// `return e;`
+    ReturnValue(TypedExpr),
+    /// `return f(e);`
+    ReturnCall(TypedCall),
+}
+
+/// Statements in order, as the body of a loop.
+pub type TypedStmts = Items<TypedStmt>;
+
+/// A statement in the head of a `for`, and its line.
+#[derive(Drop)]
+pub struct TypedSimple {
+    pub line: u32,
+    pub kind: TypedSimpleKind,
+}
+
+/// The statements that may stand in the head of a `for`.
+#[derive(Drop)]
+pub enum TypedSimpleKind {
+    /// `x = e`
+    Assign { place: TypedPlace, value: TypedExpr },
+    /// `x = f(e)`
+    AssignCall { place: TypedPlace, call: TypedCall },
+    /// `f(e)`
+    Call(TypedCall),
+}
