@@ -2,6 +2,7 @@
 use Rattle.std.proofs.Common.{◌≡◌, ℕ, ◌≤◌, IsTrue, List, length, All, Some, arith, get_or}
 use Rattle.std.specs.List.{slice_get}
 use Rattle.std.proofs.lemmas.Option.{slice_get-get_or}
+use Rattle.sc_event.proofs.Filled.{name_is_short}
 use Rattle.sc_event.specs.Identifier.{is_name}
 use Rattle.sc_image.specs.declared.parts.ImageParts.{ImageParts}
 use Rattle.sc_image.specs.declared.parts.CompPart.{CompPart}
@@ -24,5 +25,4 @@ pub comps_fit : (image : ImageParts) → IsWellFormed image → All FitsItsField
 comps_fit image h = all_of FitsItsFields image.comps (λ c comp e. fits image c comp (h.comps c comp e))
 
 pub short_name : (name : List ℕ) → IsTrue (is_name name) → length name ≤ 63
-unfolding is_name
-short_name name h = grind arith
+short_name name h = name_is_short name h

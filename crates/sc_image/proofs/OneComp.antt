@@ -1,13 +1,13 @@
 -- What makes an image of one compartment that takes nothing from others.
-use Rattle.std.proofs.Common.{◌≡◌, ◌≢◌, ℕ, zero, suc, ◌*◌, ◌≤◌, IsTrue, List, [], ◌∷◌, length, map, All, Option, Some, None, refl, subst, arith, lit≤, lit<}
+use Rattle.std.proofs.Common.{◌≡◌, ◌≢◌, ℕ, zero, suc, ◌*◌, ◌≤◌, IsTrue, List, [], ◌∷◌, length, map, All, Option, Some, None, subst, arith, lit≤, lit<}
 use Rattle.std.specs.Prelude.{codes, IsSome}
 use Rattle.std.specs.List.{slice_get}
-use Rattle.std.proofs.lemmas.List.Elements.{All-cons, All-nil}
+use Rattle.std.proofs.lemmas.List.Elements.{All-nil}
 use Rattle.sc_event.specs.Identifier.{is_name}
 use Rattle.sc_image.specs.declared.parts.ImageParts.{ImageParts}
 use Rattle.sc_image.specs.declared.parts.CompPart.{CompPart}
-use Rattle.sc_image.specs.Layout.{stretch, word_at}
-use Rattle.sc_image.specs.WellFormed.{IsDistinct, IsWord, IsByte, IsComp, IsExport, IsImport, IsWellFormed, IsSimpleComp, IsSimple}
+use Rattle.sc_image.specs.Layout.{stretch, most_globals, word_at}
+use Rattle.sc_image.specs.WellFormed.{IsDistinct, IsWord, IsByte, IsComp, IsExport, IsImport, IsWellFormed}
 
 abbrev pub only : (entry : ℕ) → CompPart → ImageParts
 only entry comp = record { main = 0; entry = entry; comps = comp ∷ [] }
@@ -24,23 +24,32 @@ distinct_none f xs none = rw none distinct_empty
 all_of_none : {A : Type 0} (P : A → Type 0) (xs : List A) → xs ≡ [] → All P xs
 all_of_none P xs none = rw none (All-nil P)
 
-is_comp : (entry : ℕ) (comp : CompPart) → IsSimpleComp comp →
-    IsTrue (is_name comp.name) → comp.name ≢ codes "Env" → 4 * length comp.code ≤ stretch → All IsWord comp.code →
-    IsComp (only entry comp) 0 comp
-is_comp entry comp simple name no_environment short words = record {
-  name = name;
-  no_environment = no_environment;
-  few_exports = rw simple.exports (lit≤ tt);
-  exports = all_of_none (IsExport (only entry comp) 0) comp.exports simple.exports;
-  export_names = distinct_none (λ export. export.name) comp.exports simple.exports;
-  export_entries = distinct_none (λ export. export.entry) comp.exports simple.exports;
-  few_imports = rw simple.imports (lit≤ tt);
-  imports = all_of_none (IsImport (only entry comp) 0) comp.imports simple.imports;
-  distinct_imports = rw simple.imports distinct_empty;
-  short_code = short;
-  words = words;
-  short_globals = rw simple.globals (lit≤ tt);
-  bytes = all_of_none IsByte comp.globals simple.globals;
+-- a compartment that offers nothing and takes nothing from others
+pub record IsLone (comp : CompPart) : Type 0 where
+  pub name : IsTrue (is_name comp.name)
+  pub no_environment : comp.name ≢ codes "Env"
+  pub exports : comp.exports ≡ []
+  pub imports : comp.imports ≡ []
+  pub short_code : 4 * length comp.code ≤ stretch
+  pub words : All IsWord comp.code
+  pub short_globals : length comp.globals ≤ most_globals
+  pub bytes : All IsByte comp.globals
+
+is_comp : (entry : ℕ) (comp : CompPart) → IsLone comp → IsComp (only entry comp) 0 comp
+is_comp entry comp lone = record {
+  name = lone.name;
+  no_environment = lone.no_environment;
+  few_exports = rw lone.exports (lit≤ tt);
+  exports = all_of_none (IsExport (only entry comp) 0) comp.exports lone.exports;
+  export_names = distinct_none (λ export. export.name) comp.exports lone.exports;
+  export_entries = distinct_none (λ export. export.entry) comp.exports lone.exports;
+  few_imports = rw lone.imports (lit≤ tt);
+  imports = all_of_none (IsImport (only entry comp) 0) comp.imports lone.imports;
+  distinct_imports = rw lone.imports distinct_empty;
+  short_code = lone.short_code;
+  words = lone.words;
+  short_globals = lone.short_globals;
+  bytes = lone.bytes;
 }
 
 only_there : (entry : ℕ) (comp : CompPart) → IsComp (only entry comp) 0 comp →
@@ -48,16 +57,11 @@ only_there : (entry : ℕ) (comp : CompPart) → IsComp (only entry comp) 0 comp
 only_there entry comp h zero found at = let same : comp ≡ found = cc at in subst (IsComp (only entry comp) 0) same h
 only_there entry comp h (suc c) found at = let none : ◌≡◌ {A = Option CompPart} None (Some found) = at in cc none
 
-pub one_well_formed : (entry : ℕ) (comp : CompPart) → IsSimpleComp comp →
-    IsTrue (is_name comp.name) → comp.name ≢ codes "Env" → 4 * length comp.code ≤ stretch → All IsWord comp.code →
-    IsSome (word_at (only entry comp) 0 entry) → IsWellFormed (only entry comp)
-one_well_formed entry comp simple name no_environment short words at = record {
+pub one_well_formed : (entry : ℕ) (comp : CompPart) → IsLone comp → IsSome (word_at (only entry comp) 0 entry) → IsWellFormed (only entry comp)
+one_well_formed entry comp lone at = record {
   few_comps = lit≤ tt;
   main = lit< tt;
   entry = at;
-  comps = only_there entry comp (is_comp entry comp simple name no_environment short words);
+  comps = only_there entry comp (is_comp entry comp lone);
   names = distinct_one comp.name;
 }
-
-pub one_simple : (entry : ℕ) (comp : CompPart) → IsSimpleComp comp → IsSimple (only entry comp)
-one_simple entry comp simple = record { one = refl; comps = All-cons IsSimpleComp comp [] simple (All-nil IsSimpleComp) }

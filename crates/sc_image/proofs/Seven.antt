@@ -9,8 +9,8 @@ use Rattle.sc_image.specs.declared.parts.ImageParts.{ImageParts}
 use Rattle.sc_image.specs.declared.parts.CompPart.{CompPart}
 use Rattle.sc_image.specs.Bytes.{image_bytes}
 use Rattle.sc_image.specs.Layout.{word_at}
-use Rattle.sc_image.specs.WellFormed.{IsWord, IsWellFormed, IsSimpleWord, IsSimpleComp, IsSimple}
-use Rattle.sc_image.proofs.OneComp.{one_well_formed, one_simple}
+use Rattle.sc_image.specs.WellFormed.{IsWord, IsByte, IsWellFormed, IsSingle}
+use Rattle.sc_image.proofs.OneComp.{IsLone, one_well_formed}
 use Rattle.std.proofs.lemmas.List.Elements.{All-cons, All-nil}
 use Rattle.sc_image.specs.Step.{execute, step}
 use Rattle.sc_image.specs.Machine.{stopped, run, machine}
@@ -62,23 +62,23 @@ all_five : (P : ℕ → Type 0) (a b c d e : ℕ) → P a → P b → P c → P 
 all_five P a b c d e pa pb pc pd pe =
     All-cons P a (b ∷ c ∷ d ∷ e ∷ []) pa (All-cons P b (c ∷ d ∷ e ∷ []) pb (All-cons P c (d ∷ e ∷ []) pc (All-cons P d (e ∷ []) pd (All-cons P e [] pe (All-nil P)))))
 
--- it is well formed and simple, so that there is such an image
-only_is_simple : IsSimpleComp (only_comp (codes "M") true)
-unfolding decoded jalr_in op_imm_in op_imm_op_of system_in
-only_is_simple = record {
-  input = refl;
+-- it is well formed, so that there is such an image
+only_is_lone : IsLone (only_comp (codes "M") true)
+unfolding is_name
+only_is_lone = record {
+  name = refl;
+  no_environment = λ same. cc same;
   exports = refl;
   imports = refl;
-  code = all_five IsSimpleWord 0x00700513 0x00200893 0x00000073 0x00000513 0x00008067 refl refl refl refl refl;
-  globals = refl;
+  short_code = lit≤ tt;
+  words = all_five IsWord 0x00700513 0x00200893 0x00000073 0x00000513 0x00008067 (lit< tt) (lit< tt) (lit< tt) (lit< tt) (lit< tt);
+  short_globals = lit≤ tt;
+  bytes = All-nil IsByte;
 }
 
 pub seven_is_well_formed : IsWellFormed (parts (codes "M") true)
-unfolding word_at is_name
-seven_is_well_formed =
-    one_well_formed 0x01000000 (only_comp (codes "M") true) only_is_simple refl (λ same. cc same) (lit≤ tt)
-    (all_five IsWord 0x00700513 0x00200893 0x00000073 0x00000513 0x00008067 (lit< tt) (lit< tt) (lit< tt) (lit< tt) (lit< tt))
-    refl
+unfolding word_at
+seven_is_well_formed = one_well_formed 0x01000000 (only_comp (codes "M") true) only_is_lone refl
 
-pub seven_is_simple : IsSimple (parts (codes "M") true)
-seven_is_simple = one_simple 0x01000000 (only_comp (codes "M") true) only_is_simple
+pub seven_is_single : IsSingle (parts (codes "M") true)
+seven_is_single = refl

@@ -26,9 +26,16 @@ stack_top c = data_start c + stack_size
 abbrev pub most_globals : ℕ
 most_globals = 458752
 
--- the address that a function returns to where it was called from outside
+-- the address that a function returns to where it was called from outside: nobody's
 abbrev pub gate : ℕ
 gate = 0x00000100
+
+-- the number of the compartment in whose stretch of code an address lies, and of that in whose stretch of data it lies
+abbrev pub comp_of_code : ℕ → ℕ
+comp_of_code address = (address - code_start 0) / stretch
+
+abbrev pub comp_of_data : ℕ → ℕ
+comp_of_data address = (address - data_start 0) / stretch
 
 -- the code and the globals of compartment c: none where the image has no such compartment
 abbrev pub code_of : ImageParts → ℕ → List ℕ

@@ -1,6 +1,10 @@
 pub mod Layout
 pub mod WellFormed
 pub mod Bytes
+pub mod Calls
 pub mod State
+pub mod Cross
 pub mod Step
 pub mod Machine
+pub mod Own
+pub mod Isolation

@@ -1,15 +1,12 @@
 -- The machine's state, and the state that a run starts in.
-use Rattle.std.specs.Prelude.{ℕ, suc, ◌-◌, ◌/◌, ◌%◌, nat_eq, nat_lt, List, [], ◌∷◌, ◌++◌, replicate, slice_get, slice_index, slice_set, Option, Some, None, if◌then◌else◌}
+use Rattle.std.specs.Prelude.{ℕ, suc, ◌-◌, ◌%◌, nat_eq, nat_lt, List, [], ◌∷◌, ◌++◌, replicate, slice_get, slice_index, slice_set, Option, Some, None, if◌then◌else◌}
 use Rattle.std.specs.Option.{option_and_then}
 use Rattle.sc_event.specs.declared.event.Event.{Event}
+use Rattle.sc_event.specs.declared.row.Entry.{Entry}
+use Rattle.sc_store.specs.Memory.{Memory}
 use Rattle.sc_image.specs.declared.parts.ImageParts.{ImageParts}
 use Rattle.sc_image.specs.declared.parts.CompPart.{CompPart}
-use Rattle.sc_image.specs.Layout.{stretch, data_start, stack_size, stack_top, gate}
-
--- a function that is called from outside its compartment: `main` by the environment, or an export by its index
-pub data Entry : Type 0 where
-  Main : Entry
-  Export : (index : ℕ) → Entry
+use Rattle.sc_image.specs.Layout.{stretch, data_start, comp_of_data, stack_size, stack_top, gate}
 
 -- a call of another compartment that hasn't returned
 pub record Crossing : Type 0 where
@@ -23,7 +20,7 @@ pub record Crossing : Type 0 where
   pub saved : ℕ
 
 pub record State : Type 0 where
-  -- x0 to x31
+  -- x0 to x31, in this order
   pub regs : List ℕ
   pub pc : ℕ
   -- the compartment whose code runs
@@ -31,7 +28,7 @@ pub record State : Type 0 where
   -- of each compartment, the sp that it gets at its next call
   pub saved : List ℕ
   -- the bytes at the addresses that have an owner
-  pub memory : ℕ → Option ℕ
+  pub memory : Memory
   -- the latest call first
   pub cross : List Crossing
   -- how many inputs were read
@@ -56,6 +53,10 @@ a7 = 17
 abbrev pub reg : State → ℕ → ℕ
 reg state r = slice_index state.regs r
 
+-- the sp that a compartment gets at its next call
+abbrev pub saved_sp : State → ℕ → ℕ
+saved_sp state c = slice_index state.saved c
+
 -- the registers with a word in one of them; x0 stays 0
 abbrev pub written : List ℕ → (r word : ℕ) → List ℕ
 written regs r word = if nat_eq r 0 then regs else slice_set regs r word
@@ -76,10 +77,10 @@ abbrev pub data_byte : ℕ → CompPart → Option ℕ
 data_byte offset comp = if nat_lt offset stack_size then Some 0 else slice_get comp.globals (offset - stack_size)
 
 -- the bytes at the start
-unfoldable pub start_memory : ImageParts → ℕ → Option ℕ
+unfoldable pub start_memory : ImageParts → Memory
 start_memory image address =
     if nat_lt address (data_start 0) then None
-    else option_and_then (data_byte ((address - data_start 0) % stretch)) (slice_get image.comps ((address - data_start 0) / stretch))
+    else option_and_then (data_byte ((address - data_start 0) % stretch)) (slice_get image.comps (comp_of_data address))
 
 -- the stack tops of the compartments from number c on
 abbrev pub stack_tops : ℕ → List CompPart → List ℕ

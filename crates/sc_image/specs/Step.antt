@@ -1,9 +1,5 @@
 -- What one instruction does (RISC-V Unprivileged ISA, RV32I and M), and when it traps.
--- These are all the cases for an image of one compartment that imports no `input`. The calls into other compartments, the returns from them
--- and the reading of inputs come with the events that show them; `elsewhere`, `returned` and `environment_call` are the places for them.
-use Rattle.std.specs.Prelude.{ℕ, zero, suc, ℤ, ◌+◌, ◌*◌, ◌/◌, ◌%◌, ◌^◌, Bool, false, ◌&&◌, ◌==◌, not, nat_eq, nat_lt, nat_le, int_lt, int_le, List, slice_get, Option, Some, None, if◌then◌else◌, unwrap_or, bit_and, bit_or, bit_xor, is_some}
-use Rattle.std.specs.Option.{option_map_or}
-use Rattle.sc_event.specs.declared.event.Event.TheVariants.{Out, End}
+use Rattle.std.specs.Prelude.{ℕ, ℤ, ◌+◌, ◌*◌, ◌/◌, ◌%◌, ◌^◌, Bool, ◌&&◌, ◌==◌, not, nat_eq, nat_lt, nat_le, int_lt, int_le, List, Option, Some, None, if◌then◌else◌, bit_and, bit_or, bit_xor, is_some}
 use Rattle.sc_core.specs.declared.stop.TrapReason.{TrapReason}
 use Rattle.sc_core.specs.declared.stop.TrapReason.TheVariants.{Owner, Misaligned, Illegal, BadJump, NoImport, BadCall, Breakpoint}
 use Rattle.sc_word.specs.Word.{signed_of, word_of}
@@ -25,9 +21,12 @@ use Rattle.rv_code.specs.declared.instr.OpOp.{OpOp}
 use Rattle.rv_code.specs.declared.instr.OpOp.TheVariants.{Add, Sub, Sll, Slt, Sltu, Xor, Srl, Sra, Or, And, Mul, Mulh, Mulhsu, Mulhu, Div, Divu, Rem, Remu}
 use Rattle.rv_code.specs.Ranges.{signed}
 use Rattle.rv_code.specs.Decoding.{decoded}
+use Rattle.sc_store.specs.Memory.{load_of, stored}
 use Rattle.sc_image.specs.declared.parts.ImageParts.{ImageParts}
-use Rattle.sc_image.specs.Layout.{gate, word_at, are_data}
-use Rattle.sc_image.specs.State.{State, a0, a7, reg, with_reg, with_pc, with_event}
+use Rattle.sc_image.specs.Layout.{gate, comp_of_code, word_at, are_data}
+use Rattle.sc_image.specs.Calls.{may_input, may_output, may_call, export_at, params_of}
+use Rattle.sc_image.specs.State.{State, ra, a7, reg, with_reg, with_pc}
+use Rattle.sc_image.specs.Cross.{called, returned, output, input}
 
 -- the state after a step, or the reason why there is no step
 pub data Outcome : Type 0 where
@@ -90,22 +89,7 @@ compares Bgeu a b = nat_le b a
 
 -- Memory.
 
-abbrev pub byte_at : (ℕ → Option ℕ) → ℕ → ℕ
-byte_at memory address = unwrap_or (memory address) 0
-
--- the number in so many bytes from an address on, the lowest first
-abbrev pub number_at : (ℕ → Option ℕ) → (size address : ℕ) → ℕ
-number_at memory zero address = 0
-number_at memory (suc size) address = byte_at memory address + 2 ^ 8 * number_at memory size (address + 1)
-
-abbrev pub with_byte : (ℕ → Option ℕ) → ℕ → ℕ → ℕ → Option ℕ
-with_byte memory address byte place = if nat_eq place address then Some byte else memory place
-
--- the lowest bytes of a word, so many of them, stand from an address on
-abbrev pub with_number : (ℕ → Option ℕ) → (size address word : ℕ) → ℕ → Option ℕ
-with_number memory zero address word = memory
-with_number memory (suc size) address word = with_number (with_byte memory address (word % 2 ^ 8)) size (address + 1) (word / 2 ^ 8)
-
+-- how many bytes a load or a store is of
 abbrev pub load_size : LoadOp → ℕ
 load_size Lb = 1
 load_size Lh = 2
@@ -124,20 +108,30 @@ store_size Sb = 1
 store_size Sh = 2
 store_size Sw = 4
 
--- an access of so many bytes, which is to be at a multiple of their number and in the active compartment's data
-abbrev pub access : ImageParts → State → (size address : ℕ) → Outcome → Outcome
-access image state size address outcome =
-    if not (address % size == 0) then Traps Misaligned
-    else if not (are_data image state.active address size) then Traps Owner
-    else outcome
+-- why compartment c may not access so many bytes from an address on: it isn't a multiple of their number, or one of them isn't c's
+abbrev pub refused : ImageParts → (c size address : ℕ) → Option TrapReason
+refused image c size address =
+    if not (address % size == 0) then Some Misaligned
+    else if not (are_data image c address size) then Some Owner
+    else None
+
+abbrev pub unless : Option TrapReason → Outcome → Outcome
+unless None outcome = outcome
+unless (Some reason) outcome = Traps reason
+
+-- the word that is loaded from an address
+abbrev pub loaded : State → LoadOp → (address : ℕ) → ℕ
+loaded state op address = extended op (load_of state.memory address (load_size op))
 
 abbrev pub load : ImageParts → State → LoadOp → (rd address : ℕ) → Outcome
-load image state op rd address =
-    access image state (load_size op) address (gives state rd (extended op (number_at state.memory (load_size op) address)))
+load image state op rd address = unless (refused image state.active (load_size op) address) (gives state rd (loaded state op address))
+
+-- the state with the lowest bytes of a word at an address
+abbrev pub with_stored : State → StoreOp → (address word : ℕ) → State
+with_stored state op address word = record state { memory = stored state.memory address (store_size op) word }
 
 abbrev pub store : ImageParts → State → StoreOp → (address word : ℕ) → Outcome
-store image state op address word =
-    access image state (store_size op) address (next (record state { memory = with_number state.memory (store_size op) address word }))
+store image state op address word = unless (refused image state.active (store_size op) address) (next (with_stored state op address word))
 
 -- Jumps.
 
@@ -148,13 +142,22 @@ jump image state rd target elsewhere =
     else if is_some (word_at image state.active target) then Goes (with_pc (with_reg state rd (state.pc + 4)) target)
     else elsewhere
 
--- through the gate, where no other compartment waits: the run ends, and the state but for the trace stays
-abbrev pub returned : State → Outcome
-returned state = Goes (with_event state (End state.active (reg state a0)))
+-- to where an export of another compartment begins, which is a call of it: the export's index is given, or that there is none
+abbrev pub export_called : ImageParts → State → (to target : ℕ) → Option ℕ → Outcome
+export_called image state to target None = Traps BadJump
+export_called image state to target (Some index) =
+    if may_call image state.active to index then Goes (called state to index (params_of image to index) target) else Traps NoImport
 
--- JALR with rd = x0 to the gate returns
-abbrev pub elsewhere : State → (rd target : ℕ) → Outcome
-elsewhere state rd target = if nat_eq rd 0 && nat_eq target gate then returned state else Traps BadJump
+-- a jump out of the own code calls where rd is ra
+abbrev pub calls : ImageParts → State → (rd target : ℕ) → Outcome
+calls image state rd target =
+    if nat_eq rd ra then export_called image state (comp_of_code target) target (export_at image (comp_of_code target) target)
+    else Traps BadJump
+
+-- JALR returns, too, where rd is x0 and the target is the gate
+abbrev pub leaves : ImageParts → State → (rd target : ℕ) → Outcome
+leaves image state rd target =
+    if nat_eq rd 0 && nat_eq target gate then Goes (returned image state state.cross) else calls image state rd target
 
 -- the target of JALR: bit 0 of the sum is cleared
 abbrev pub jalr_target : (base : ℕ) → ℤ → ℕ
@@ -162,14 +165,11 @@ jalr_target base imm = add_word base (word_of imm) / 2 * 2
 
 -- The environment.
 
-abbrev pub may_output : ImageParts → ℕ → Bool
-may_output image c = option_map_or (λ comp. comp.output) (slice_get image.comps c) false
-
 -- a7 says what is called: 1 is `input`, 2 is `output`
 abbrev pub environment_call : ImageParts → List ℤ → State → Outcome
 environment_call image inputs state =
-    if nat_eq (reg state a7) 1 then Traps NoImport
-    else if nat_eq (reg state a7) 2 then (if may_output image state.active then next (with_event state (Out state.active (reg state a0))) else Traps NoImport)
+    if nat_eq (reg state a7) 1 then (if may_input image state.active then next (input inputs state) else Traps NoImport)
+    else if nat_eq (reg state a7) 2 then (if may_output image state.active then next (output state) else Traps NoImport)
     else Traps BadCall
 
 -- The step.
@@ -177,9 +177,10 @@ environment_call image inputs state =
 unfoldable pub execute : ImageParts → List ℤ → State → Instr → Outcome
 execute image inputs state (Upper Lui rd imm) = gives state rd imm
 execute image inputs state (Upper Auipc rd imm) = gives state rd (add_word state.pc imm)
-execute image inputs state (Jal rd imm) = jump image state rd (add_word state.pc (word_of imm)) (Traps BadJump)
+execute image inputs state (Jal rd imm) =
+    let target = add_word state.pc (word_of imm) in jump image state rd target (calls image state rd target)
 execute image inputs state (Jalr rd rs1 imm) =
-    let target = jalr_target (reg state rs1) imm in jump image state rd target (elsewhere state rd target)
+    let target = jalr_target (reg state rs1) imm in jump image state rd target (leaves image state rd target)
 execute image inputs state (Branch op rs1 rs2 imm) =
     if compares op (reg state rs1) (reg state rs2) then jump image state 0 (add_word state.pc (word_of imm)) (Traps BadJump) else next state
 execute image inputs state (Load op rd rs1 imm) = load image state op rd (add_word (reg state rs1) (word_of imm))

@@ -1,12 +1,7 @@
 -- Which parts make an image.
-use Rattle.std.specs.Prelude.{List, ◌≡◌, ◌≢◌, ℕ, ◌*◌, ◌^◌, ◌<◌, ◌≤◌, Bool, true, false, IsTrue, [], length, map, All, AllPairs, codes, slice_get, Some, IsSome}
+use Rattle.std.specs.Prelude.{List, ◌≡◌, ◌≢◌, ℕ, ◌*◌, ◌^◌, ◌<◌, ◌≤◌, IsTrue, length, map, All, AllPairs, codes, slice_get, Some, IsSome}
 use Rattle.std.specs.Option.{IsSomeAnd}
 use Rattle.sc_event.specs.Identifier.{is_name}
-use Rattle.rv_code.specs.declared.instr.Instr.{Instr}
-use Rattle.rv_code.specs.declared.instr.Instr.TheVariants.{Upper, Jalr, OpImm, Ecall}
-use Rattle.rv_code.specs.declared.instr.UpperOp.TheVariants.{Lui}
-use Rattle.rv_code.specs.declared.instr.OpImmOp.TheVariants.{Addi}
-use Rattle.rv_code.specs.Decoding.{decoded}
 use Rattle.sc_image.specs.declared.parts.ImageParts.{ImageParts}
 use Rattle.sc_image.specs.declared.parts.CompPart.{CompPart}
 use Rattle.sc_image.specs.declared.parts.ExportPart.{ExportPart}
@@ -63,27 +58,6 @@ pub record IsWellFormed (image : ImageParts) : Type 0 where
   pub comps : (c : ℕ) (comp : CompPart) → slice_get image.comps c ≡ Some comp → IsComp image c comp
   pub names : IsDistinct (map (λ comp. comp.name) image.comps)
 
--- What the machine runs today: one compartment that takes nothing from the others and has no globals, in four kinds of instructions.
-
--- LUI, ADDI, JALR and ECALL
-abbrev pub is_simple : Instr → Bool
-is_simple (Upper Lui _ _) = true
-is_simple (OpImm Addi _ _ _) = true
-is_simple (Jalr _ _ _) = true
-is_simple Ecall = true
-is_simple _ = false
-
--- the word of such an instruction
-abbrev pub IsSimpleWord : ℕ → Type 0
-IsSimpleWord word = IsSomeAnd (decoded word) (λ instr. IsTrue (is_simple instr))
-
-pub record IsSimpleComp (comp : CompPart) : Type 0 where
-  pub input : comp.input ≡ false
-  pub exports : comp.exports ≡ []
-  pub imports : comp.imports ≡ []
-  pub code : All IsSimpleWord comp.code
-  pub globals : comp.globals ≡ []
-
-pub record IsSimple (image : ImageParts) : Type 0 where
-  pub one : length image.comps ≡ 1
-  pub comps : All IsSimpleComp image.comps
+-- What the machine runs today: images of one compartment.
+abbrev pub IsSingle : ImageParts → Type 0
+IsSingle image = length image.comps ≡ 1

@@ -1,7 +1,7 @@
-use Rattle.std.proofs.Common.{◌≡◌, ℕ, List, Option, Some, sym, ◌∙◌}
+use Rattle.std.proofs.Common.{◌≡◌, ℕ, List, Option, Some, refl, sym, ◌∙◌}
 use Rattle.std.specs.Prelude.{codes}
 use Rattle.sc_event.specs.Identifier.{is_name, name_of}
-use Rattle.sc_image.proofs.Seven.{seven_is_well_formed, seven_is_simple}
+use Rattle.sc_image.proofs.Seven.{seven_is_well_formed}
 use Rattle.sc_image.proofs.tests.seven.Goals as goal
 
 name_is_m : (name : List ℕ) (found : Option (List ℕ)) → found ≡ Some name → found ≡ name_of (codes "M") → name ≡ codes "M"
@@ -12,6 +12,5 @@ pub new-requires-5-clause-well_formed : goal.new-requires-5-clause-well_formed
 new-requires-5-clause-well_formed c =
     rw (c.first.ensures, c.in_ok-push.ensures.ok, c.new-comps.ensures, name_is_m c.unwrap.result c.new.result c.unwrap.ensures c.new.ensures, c.new-2.ensures, c.new-3.ensures, c.in_ok-from_slice.ensures, c.new-4.ensures) seven_is_well_formed
 
-pub new-requires-5-clause-simple : goal.new-requires-5-clause-simple
-new-requires-5-clause-simple c =
-    rw (c.first.ensures, c.in_ok-push.ensures.ok, c.new-comps.ensures, name_is_m c.unwrap.result c.new.result c.unwrap.ensures c.new.ensures, c.new-2.ensures, c.new-3.ensures, c.in_ok-from_slice.ensures, c.new-4.ensures) seven_is_simple
+pub new-requires-5-clause-single : goal.new-requires-5-clause-single
+new-requires-5-clause-single c = rw (c.in_ok-push.ensures.ok, c.new-comps.ensures) refl

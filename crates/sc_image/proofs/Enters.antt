@@ -1,0 +1,227 @@
+-- What belongs to a compartment that a call or a return makes active.
+use Rattle.std.proofs.Common.{◌≡◌, ◌≢◌, ℕ, zero, suc, ◌+◌, ◌-◌, ◌<◌, ◌≤◌, ℤ, Bool, true, false, nat_eq, nat_le, nat_lt, ◌&&◌, if◌then◌else◌, List, [], ◌∷◌, ◌++◌, length, get_or, drop, flat_map, replicate, Option, Some, None, refl, sym, ◌∙◌, ap, subst, arith, length-append, length-take-le, length-drop}
+use Rattle.std.specs.Prelude.{is_some, unwrap_or, ◌==◌}
+use Rattle.std.specs.List.{slice_get}
+use Rattle.std.specs.Option.{option_map_or}
+use Rattle.std.proofs.lemmas.Bool.{eq-eqb, ne_eqb, eqb-true}
+use Rattle.std.proofs.lemmas.Bool.Decides.{nat_tests}
+use Rattle.std.proofs.lemmas.List.{get_or-set_other, get_or-take, get_or-drop, get_or_append_left, get_or-append_right}
+use Rattle.std.proofs.lemmas.List.Quantifiers.{position-Some}
+use Rattle.std.proofs.lemmas.Option.{slice_get-get_or, slice_get_within, get_or_from_slice_get}
+use Rattle.sc_event.specs.declared.event.Event.{Event}
+use Rattle.sc_event.specs.declared.event.Event.TheVariants.{Call, Ret}
+use Rattle.sc_event.specs.declared.row.Entry.TheVariants.{Export}
+use Rattle.sc_image.specs.declared.parts.ImageParts.{ImageParts}
+use Rattle.sc_image.specs.declared.parts.CompPart.{CompPart}
+use Rattle.sc_image.specs.declared.parts.ExportPart.{ExportPart}
+use Rattle.sc_image.specs.WellFormed.{IsExport, IsWellFormed}
+use Rattle.sc_image.specs.Layout.{gate}
+use Rattle.sc_image.specs.Calls.{exports_of, export_at, params_of, has_result}
+use Rattle.sc_image.specs.State.{State, Crossing, ra, sp, reg, saved_sp, written}
+use Rattle.sc_image.specs.Cross.{kept_from, kept, is_argument, is_result, arguments, given_back, called, returned, returned_to}
+use Rattle.sc_image.specs.Step.{Outcome, Goes, step}
+use Rattle.sc_image.specs.Own.{Own, Kept, Waits, Entered, kept_by, data_of, own}
+use Rattle.sc_image.specs.Isolation.{EntersByEvent, after_outcome}
+use Rattle.sc_image.proofs.Cases.{step_of}
+use Rattle.sc_image.proofs.Reached.{IsChain, IsSteady, reached_steady}
+
+-- Registers that hold these words from a0 on, of which so many count.
+abbrev from_a0 : (count : ℕ) → List ℕ → List ℕ
+from_a0 count words = replicate 10 0 ++ words ++ replicate (22 - count) 0
+
+if_same : (b : Bool) (x y : ℕ) → (b ≡ true → x ≡ y) → (if b then x else 0) ≡ (if b then y else 0)
+if_same true x y h = h refl
+if_same false x y h = refl
+
+-- only the registers that are kept matter
+kept_same : (keeps : ℕ → Bool) (r : ℕ) (xs ys : List ℕ) → length xs ≡ length ys → ((i : ℕ) → keeps (r + i) ≡ true → get_or xs i 0 ≡ get_or ys i 0) →
+    kept_from keeps r xs ≡ kept_from keeps r ys
+kept_same keeps r [] [] same h = refl
+kept_same keeps r [] (y ∷ ys) same h = absurd (omega arith)
+kept_same keeps r (x ∷ xs) [] same h = absurd (omega arith)
+kept_same keeps r (x ∷ xs) (y ∷ ys) same h =
+    let here : r + 0 ≡ r = omega arith in
+    let first : (if keeps r then x else 0) ≡ (if keeps r then y else 0) = if_same (keeps r) x y (λ e. h 0 (ap keeps here ∙ e)) in
+    let later = kept_same keeps (suc r) xs ys (omega arith) (λ i e. h (suc i) (let next : r + suc i ≡ suc r + i = omega arith in ap keeps next ∙ e)) in
+    λ i. first i ∷ later i
+
+length-zeros : (n : ℕ) → length {A = ℕ} (replicate n 0) ≡ n
+length-zeros zero = refl
+length-zeros (suc n) = ap suc (length-zeros n)
+
+length-from_a0 : (count : ℕ) (words : List ℕ) → count ≤ 8 → length words ≡ count → length (from_a0 count words) ≡ 32
+length-from_a0 count words few same =
+    omega (arith, length-append (replicate 10 0) (words ++ replicate (22 - count) 0), length-append words (replicate (22 - count) 0), length-zeros (22 - count))
+
+get-from_a0 : (count i : ℕ) (words : List ℕ) → length words ≡ count → 10 ≤ i → i < 10 + count → get_or (from_a0 count words) i 0 ≡ get_or words (i - 10) 0
+get-from_a0 count i words same low high =
+    get_or-append_right (replicate 10 0) (words ++ replicate (22 - count) 0) 10 i 0 refl low ∙
+    get_or_append_left words (replicate (22 - count) 0) 0 (i - 10) (omega arith)
+
+both_facts : (x y z w : ℕ) → (nat_le x y && nat_lt z w) ≡ true → (x ≤ y) × (z < w)
+both_facts x y z w h = (grind (arith, nat_tests), grind (arith, nat_tests))
+
+-- The registers in a function that was called.
+
+length-arguments : (params : ℕ) (regs : List ℕ) → params ≤ 8 → length regs ≡ 32 → length (arguments params regs) ≡ params
+length-arguments params regs few same = length-take-le params (drop 10 regs) (omega (arith, length-drop 10 regs))
+
+argument_same : (params i : ℕ) (regs : List ℕ) → params ≤ 8 → length regs ≡ 32 → is_argument params i ≡ true →
+    get_or regs i 0 ≡ get_or (from_a0 params (arguments params regs)) i 0
+argument_same params i regs few same is =
+    let place = both_facts 10 i i (10 + params) is in
+    let at : 10 + (i - 10) ≡ i = omega (arith, place.0) in
+    sym (get-from_a0 params i (arguments params regs) (length-arguments params regs few same) place.0 place.1 ∙
+    get_or-take params (drop 10 regs) (i - 10) 0 (omega (arith, place.0, place.1)) ∙ get_or-drop 10 regs (i - 10) 0 ∙ ap (λ k. get_or regs k 0) at)
+
+arguments_same : (params : ℕ) (regs : List ℕ) → params ≤ 8 → length regs ≡ 32 → kept (is_argument params) regs ≡ kept (is_argument params) (from_a0 params (arguments params regs))
+arguments_same params regs few same =
+    kept_same (is_argument params) 0 regs (from_a0 params (arguments params regs))
+    (same ∙ sym (length-from_a0 params (arguments params regs) few (length-arguments params regs few same)))
+    (λ i e. argument_same params i regs few same (let here : 0 + i ≡ i = omega arith in sym (ap (is_argument params) here) ∙ e))
+
+-- The registers after a return.
+
+abbrev result_of : Option ℕ → List ℕ
+result_of value = kept (is_result (is_some value)) (from_a0 1 (unwrap_or value 0 ∷ []))
+
+both_true : (b : Bool) (x y : ℕ) → (b && nat_eq x y) ≡ true → (b ≡ true) × (x ≡ y)
+both_true true x y h = (refl, eqb-true x y h)
+both_true false x y h = cc h
+
+result_same : (result : Bool) (regs : List ℕ) → length regs ≡ 32 → kept (is_result result) regs ≡ result_of (if result then Some (get_or regs 10 0) else None)
+result_same true regs same =
+    kept_same (is_result true) 0 regs (from_a0 1 (get_or regs 10 0 ∷ [])) same
+    (λ i e. let here : 0 + i ≡ i = omega arith in
+    let at : i ≡ 10 = (both_true true i 10 (sym (ap (is_result true) here) ∙ e)).1 in rw at refl)
+result_same false regs same = kept_same (is_result false) 0 regs (from_a0 1 (0 ∷ [])) same (λ i e. cc e)
+
+-- The exports of a compartment.
+
+some_or_none : {A : Type 0} (P : A → Type 0) (f : A → ℕ) (x : Option A) → ((a : A) → x ≡ Some a → f a ≤ 8) → option_map_or f x 0 ≤ 8
+some_or_none P f None h = omega arith
+some_or_none P f (Some a) h = h a refl
+
+few_of : (image : ImageParts) (d index : ℕ) → IsWellFormed image → (comp : Option CompPart) → slice_get image.comps d ≡ comp →
+    option_map_or (λ export. export.params) (slice_get (option_map_or (λ comp. comp.exports) comp []) index) 0 ≤ 8
+few_of image d index formed None is = omega arith
+few_of image d index formed (Some comp) is =
+    some_or_none (λ e. Unit {0}) (λ (export : ExportPart). export.params) (slice_get comp.exports index)
+    (λ export found.
+    let all = (formed.comps d comp is).exports in
+    (subst (IsExport image d) (get_or_from_slice_get comp.exports index export export found) (all index export (slice_get_within comp.exports index export found))).params)
+
+few_params : (image : ImageParts) (d index : ℕ) → IsWellFormed image → params_of image d index ≤ 8
+few_params image d index formed = few_of image d index formed (slice_get image.comps d) refl
+
+abbrev entry_of : ImageParts → (c index : ℕ) → ℕ
+entry_of image c index = option_map_or (λ export. export.entry) (slice_get (exports_of image c) index) 0
+
+abbrev no_export : ExportPart
+no_export = record { name = []; params = 0; result = false; entry = 0 }
+
+entry_is : (image : ImageParts) (c target index : ℕ) → export_at image c target ≡ Some index → entry_of image c index ≡ target
+entry_is image c target index at =
+    let first = position-Some (λ (export : ExportPart). export.entry == target) (exports_of image c) index no_export at in
+    rw (slice_get-get_or (exports_of image c) index no_export first.0) (eqb-true _ _ first.1)
+
+-- What is entered.
+
+abbrev by_return : Own → Option ℕ → List Kept → Own
+by_return before value (Waits pc sp_then ∷ rest) = record {
+  bytes = before.bytes;
+  saved = before.saved;
+  calls = rest;
+  running = Some (record { regs = written (result_of value) sp sp_then; pc = pc });
+}
+by_return before value _ = before
+
+abbrev entered : ImageParts → ℕ → Own → Event → Own
+entered image d before (Call from to index args) = record {
+  bytes = before.bytes;
+  saved = before.saved;
+  calls = Entered before.saved ∷ before.calls;
+  running =
+      Some (record {
+        regs = written (written (kept (is_argument (params_of image d index)) (from_a0 (params_of image d index) args)) ra gate) sp before.saved;
+        pc = entry_of image d index;
+      });
+}
+entered image d before (Ret from to value) = by_return before value before.calls
+entered image d before _ = before
+
+-- the last event
+last_same : (trace : List Event) (one other : Event) → trace ++ one ∷ [] ≡ trace ++ other ∷ [] → one ≡ other
+last_same [] one other h = cc h
+last_same (event ∷ trace) one other h = let rest : trace ++ one ∷ [] ≡ trace ++ other ∷ [] = cc h in last_same trace one other rest
+
+module _ (image : ImageParts) (inputs : List ℤ) (state : State) (d : ℕ) (formed : IsWellFormed image) (h : IsSteady image state) (differ : state.active ≢ d) where
+  abbrev Enters : Outcome → Type 0
+  Enters outcome =
+      (after_outcome state outcome).active ≡ d → (event : Event) → (after_outcome state outcome).trace ≡ state.trace ++ event ∷ [] →
+      own image (after_outcome state outcome) d ≡ entered image d (own image state d) event
+
+  -- a call
+  enters_call : (index target : ℕ) → export_at image d target ≡ Some index →
+      own image (called state d index (params_of image d index) target) d ≡
+      entered image d (own image state d) (Call state.active d index (arguments (params_of image d index) state.regs))
+  enters_call index target at =
+      let params = params_of image d index in
+      let after = called state d index params target in
+      let crossing : Crossing = record { caller = state.active; pc = state.pc + 4; sp = reg state sp; callee = d; entry = Export index; saved = saved_sp state d } in
+      let kept_is : kept_by d crossing ≡ Entered (saved_sp state d) ∷ [] = rw (ne_eqb state.active d differ, eq-eqb d d refl) refl in
+      let calls : kept_by d crossing ++ flat_map (kept_by d) state.cross ≡ Entered (saved_sp state d) ∷ flat_map (kept_by d) state.cross =
+      ap (λ k. k ++ flat_map (kept_by d) state.cross) kept_is in
+      let saved : saved_sp after d ≡ saved_sp state d = get_or-set_other state.saved state.active d (reg state sp) 0 (λ same. differ (sym same)) in
+      let regs = arguments_same params state.regs (few_params image d index formed) h.regs in
+      let runs : (if nat_eq d d then Some (record { regs = after.regs; pc = after.pc }) else None) ≡
+      Some (record { regs = written (written (kept (is_argument params) (from_a0 params (arguments params state.regs))) ra gate) sp (saved_sp state d); pc = entry_of image d index }) =
+      rw (eq-eqb d d refl) (λ i. Some (record { regs = written (written (regs i) ra gate) sp (saved_sp state d); pc = sym (entry_is image d target index at) i })) in
+      λ i. record { bytes = data_of image d state.memory; saved = saved i; calls = calls i; running = runs i }
+
+  -- a return
+  enters_return : (cross : List Crossing) → state.cross ≡ cross → Enters (Goes (returned image state cross))
+  enters_return [] is = λ active event same. absurd (differ active)
+  enters_return (x ∷ xs) is = λ active event same.
+      let chain : IsChain (length image.comps) state.active (x ∷ xs) = subst (IsChain (length image.comps) state.active) is h.chain in
+      let callee : x.callee ≢ d = λ e. differ (sym chain.0 ∙ e) in
+      let result = has_result image x.callee x.entry in
+      let after = returned_to result state x xs in
+      let kept_is : kept_by d x ≡ Waits x.pc x.sp ∷ [] = rw (eq-eqb x.caller d active, ne_eqb x.callee d callee) refl in
+      let calls : flat_map (kept_by d) state.cross ≡ Waits x.pc x.sp ∷ flat_map (kept_by d) xs =
+      ap (flat_map (kept_by d)) is ∙ ap (λ k. k ++ flat_map (kept_by d) xs) kept_is in
+      let saved : saved_sp after d ≡ saved_sp state d = get_or-set_other state.saved state.active d x.saved 0 (λ e. differ (sym e)) in
+      let regs : kept (is_result result) state.regs ≡ result_of (given_back result state) = result_same result state.regs h.regs in
+      let runs : (if nat_eq x.caller d then Some (record { regs = after.regs; pc = after.pc }) else None) ≡
+      Some (record { regs = written (result_of (given_back result state)) sp x.sp; pc = x.pc }) =
+      rw (eq-eqb x.caller d active) (λ i. Some (record { regs = written (regs i) sp x.sp; pc = x.pc })) in
+      let is_event : Ret state.active x.caller (given_back result state) ≡ event = last_same state.trace _ event same in
+      let before : by_return (own image state d) (given_back result state) (Waits x.pc x.sp ∷ flat_map (kept_by d) xs) ≡ by_return (own image state d) (given_back result state) (own image state d).calls =
+      ap (by_return (own image state d) (given_back result state)) (sym calls) in
+      let first : own image after d ≡ by_return (own image state d) (given_back result state) (Waits x.pc x.sp ∷ flat_map (kept_by d) xs) =
+      λ i. record { bytes = data_of image d state.memory; saved = saved i; calls = flat_map (kept_by d) xs; running = runs i } in
+      subst (λ e. own image after d ≡ entered image d (own image state d) e) is_event (first ∙ before)
+
+  pub step_enters : Enters (step image inputs state)
+  step_enters = step_of image inputs state Enters (record {
+    same = λ a owned. refl;
+    traps = λ reason active event same. absurd (differ active);
+    quiet = λ regs pc len active event same. absurd (differ active);
+    stores = λ op a word allowed active event same. absurd (differ active);
+    calls = λ to index target at may active event same.
+        subst (λ k. export_at image k target ≡ Some index →
+        state.trace ++ Call state.active k index (arguments (params_of image k index) state.regs) ∷ [] ≡ state.trace ++ event ∷ [] →
+        own image (called state k index (params_of image k index) target) d ≡ entered image d (own image state d) event) (sym active)
+        (λ at same. subst (λ e. own image (called state d index (params_of image d index) target) d ≡ entered image d (own image state d) e)
+        (last_same state.trace (Call state.active d index (arguments (params_of image d index) state.regs)) event same) (enters_call index target at)) at same;
+    returns = enters_return state.cross refl;
+    outputs = λ active event same. absurd (differ active);
+    reads = λ active event same. absurd (differ active);
+  })
+
+pub enters_by_event : EntersByEvent
+enters_by_event image d formed = (
+  entered image d,
+  λ inputs state event reached differ active same.
+      step_enters image inputs state d formed (reached_steady image inputs state formed reached) (λ e. differ (sym e)) active event same,
+)

@@ -1,0 +1,121 @@
+-- A step leaves what belongs to other compartments.
+use Rattle.std.proofs.Common.{◌≡◌, ◌≢◌, ℕ, ◌+◌, ◌<◌, ◌≤◌, ℤ, Bool, true, false, nat_eq, if◌then◌else◌, List, [], ◌∷◌, ◌++◌, length, flat_map, Some, None, refl, sym, ◌∙◌, ap, subst, arith, ⊎_elim}
+use Rattle.std.proofs.lemmas.Bool.{ne_eqb}
+use Rattle.std.proofs.lemmas.List.{get_or-set_other}
+use Rattle.std.proofs.lemmas.Option.{slice_get_cases}
+use Rattle.sc_store.specs.Memory.{Memory, stored}
+use Rattle.sc_store.proofs.Words.{stored-apart}
+use Rattle.sc_event.specs.declared.row.Entry.TheVariants.{Export}
+use Rattle.sc_image.specs.declared.parts.ImageParts.{ImageParts}
+use Rattle.sc_image.specs.WellFormed.{IsWellFormed}
+use Rattle.sc_image.specs.Layout.{most_globals, data_start, stack_top, globals_of, are_data}
+use Rattle.sc_image.specs.Calls.{params_of, has_result}
+use Rattle.sc_image.specs.State.{State, Crossing, a0, sp, reg, saved_sp, written}
+use Rattle.sc_image.specs.Cross.{called, returned, returned_to, input_at}
+use Rattle.sc_image.specs.Step.{Outcome, Goes, store_size, step}
+use Rattle.sc_image.specs.Own.{Running, kept_by, data_of, own}
+use Rattle.sc_image.specs.Isolation.{LeavesOthers, after_outcome}
+use Rattle.sc_image.proofs.Cases.{allowed_data, both_facts, step_of}
+use Rattle.sc_image.proofs.Reached.{IsChain, IsSteady, reached_steady}
+
+-- The compartments' addresses are apart.
+
+pub few_globals : (image : ImageParts) (c : ℕ) → IsWellFormed image → length (globals_of image c) ≤ most_globals
+few_globals image c formed =
+    ⊎_elim (λ found. rw found.2 (formed.comps c found.0 found.2).short_globals) (λ none. rw none.1 (omega arith)) (slice_get_cases image.comps c).1
+
+pub apart : (image : ImageParts) (c d a size x : ℕ) → IsWellFormed image → c ≢ d → are_data image c a size ≡ true → are_data image d x 1 ≡ true → a ≤ x → x < a + size → ⊥
+unfolding are_data
+apart image c d a size x formed differ mine others from upto =
+    let m = both_facts (data_start c) a (a + size) (stack_top c + length (globals_of image c)) mine in
+    let o = both_facts (data_start d) x (x + 1) (stack_top d + length (globals_of image d)) others in
+    omega (arith, m.0, m.1, o.0, o.1, few_globals image c formed, few_globals image d formed)
+
+byte_kept : (image : ImageParts) (c d a size word x : ℕ) (memory : Memory) → IsWellFormed image → c ≢ d → are_data image c a size ≡ true →
+    (others : Bool) → are_data image d x 1 ≡ others → (if others then stored memory a size word x else None) ≡ (if others then memory x else None)
+byte_kept image c d a size word x memory formed differ mine true is = stored-apart memory a size word x (apart image c d a size x formed differ mine is)
+byte_kept image c d a size word x memory formed differ mine false is = refl
+
+pub data_kept : (image : ImageParts) (c d a size word : ℕ) (memory : Memory) → IsWellFormed image → c ≢ d → are_data image c a size ≡ true →
+    data_of image d (stored memory a size word) ≡ data_of image d memory
+data_kept image c d a size word memory formed differ mine =
+    λ i x. byte_kept image c d a size word x memory formed differ mine (are_data image d x 1) refl i
+
+-- who isn't active has no registers, and who is in no call has no numbers of it
+
+idle : (c d : ℕ) (running : Running) → c ≢ d → (if nat_eq c d then Some running else None) ≡ None
+idle c d running differ = rw (ne_eqb c d differ) refl
+
+pub idle_both : (c e d : ℕ) (one other : Running) → c ≢ d → e ≢ d → (if nat_eq c d then Some one else None) ≡ (if nat_eq e d then Some other else None)
+idle_both c e d one other differ differs = idle c d one differ ∙ sym (idle e d other differs)
+
+not_in : (d : ℕ) (crossing : Crossing) → crossing.caller ≢ d → crossing.callee ≢ d → kept_by d crossing ≡ []
+not_in d crossing caller callee = rw (ne_eqb crossing.caller d caller, ne_eqb crossing.callee d callee) refl
+
+module _ (image : ImageParts) (inputs : List ℤ) (state : State) (d : ℕ) (formed : IsWellFormed image) (h : IsSteady image state) (differ : state.active ≢ d) where
+  abbrev Kept_after : Outcome → Type 0
+  Kept_after outcome = ((after_outcome state outcome).active ≢ d) → own image (after_outcome state outcome) d ≡ own image state d
+
+  return_keeps : (cross : List Crossing) → state.cross ≡ cross → Kept_after (Goes (returned image state cross))
+  return_keeps [] is = λ next i. record { bytes = data_of image d state.memory; saved = saved_sp state d; calls = flat_map (kept_by d) state.cross; running = idle_both state.active state.active d (record { regs = state.regs; pc = state.pc }) (record { regs = state.regs; pc = state.pc }) differ differ i }
+  return_keeps (x ∷ xs) is = λ next.
+      let chain : IsChain (length image.comps) state.active (x ∷ xs) = subst (IsChain (length image.comps) state.active) is h.chain in
+      let callee : x.callee ≢ d = λ same. differ (sym chain.0 ∙ same) in
+      let after = returned_to (has_result image x.callee x.entry) state x xs in
+      let calls : flat_map (kept_by d) xs ≡ flat_map (kept_by d) state.cross = sym (ap (flat_map (kept_by d)) is ∙ ap (λ kept. kept ++ flat_map (kept_by d) xs) (not_in d x next callee)) in
+      let saved : saved_sp after d ≡ saved_sp state d = get_or-set_other state.saved state.active d x.saved 0 (λ same. differ (sym same)) in
+      λ i. record {
+        bytes = data_of image d state.memory;
+        saved = saved i;
+        calls = calls i;
+        running = idle_both x.caller state.active d (record { regs = after.regs; pc = after.pc }) (record { regs = state.regs; pc = state.pc }) next differ i;
+      }
+
+  pub step_keeps : Kept_after (step image inputs state)
+  step_keeps = step_of image inputs state Kept_after (record {
+    same = λ a owned. refl;
+    traps = λ reason next. refl;
+    quiet = λ regs pc same next i. record {
+      bytes = data_of image d state.memory;
+      saved = saved_sp state d;
+      calls = flat_map (kept_by d) state.cross;
+      running = idle_both state.active state.active d (record { regs = regs; pc = pc }) (record { regs = state.regs; pc = state.pc }) differ differ i;
+    };
+    stores = λ op a word allowed next i. record {
+      bytes = data_kept image state.active d a (store_size op) word state.memory formed differ (allowed_data image state.active (store_size op) a allowed) i;
+      saved = saved_sp state d;
+      calls = flat_map (kept_by d) state.cross;
+      running = idle_both state.active state.active d (record { regs = state.regs; pc = state.pc + 4 }) (record { regs = state.regs; pc = state.pc }) differ differ i;
+    };
+    calls = λ to index target at may next.
+        let after = called state to index (params_of image to index) target in
+        let crossing : Crossing = record { caller = state.active; pc = state.pc + 4; sp = reg state sp; callee = to; entry = Export index; saved = saved_sp state to } in
+        let calls : kept_by d crossing ++ flat_map (kept_by d) state.cross ≡ flat_map (kept_by d) state.cross =
+        ap (λ kept. kept ++ flat_map (kept_by d) state.cross) (not_in d crossing differ next) in
+        let saved : saved_sp after d ≡ saved_sp state d = get_or-set_other state.saved state.active d (reg state sp) 0 (λ same. differ (sym same)) in
+        λ i. record {
+          bytes = data_of image d state.memory;
+          saved = saved i;
+          calls = calls i;
+          running = idle_both to state.active d (record { regs = after.regs; pc = after.pc }) (record { regs = state.regs; pc = state.pc }) next differ i;
+        };
+    returns = return_keeps state.cross refl;
+    outputs = λ next i. record {
+      bytes = data_of image d state.memory;
+      saved = saved_sp state d;
+      calls = flat_map (kept_by d) state.cross;
+      running = idle_both state.active state.active d (record { regs = state.regs; pc = state.pc + 4 }) (record { regs = state.regs; pc = state.pc }) differ differ i;
+    };
+    reads = λ next i. record {
+      bytes = data_of image d state.memory;
+      saved = saved_sp state d;
+      calls = flat_map (kept_by d) state.cross;
+      running =
+          idle_both state.active state.active d (record { regs = written state.regs a0 (input_at inputs state.input); pc = state.pc + 4 })
+          (record { regs = state.regs; pc = state.pc }) differ differ i;
+    };
+  })
+
+pub leaves_others : LeavesOthers
+leaves_others image inputs state d formed reached differ next =
+    step_keeps image inputs state d formed (reached_steady image inputs state formed reached) (λ same. differ (sym same)) (λ same. next (sym same))

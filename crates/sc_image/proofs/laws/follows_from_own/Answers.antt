@@ -1,0 +1,5 @@
+use Rattle.sc_image.proofs.Same.{follows_from_own}
+use Rattle.sc_image.proofs.laws.follows_from_own.Goals as goal
+
+pub returns : goal.returns
+returns c = follows_from_own

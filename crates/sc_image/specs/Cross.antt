@@ -1,0 +1,100 @@
+-- What passes between compartments, and between a compartment and the environment: calls, returns, outputs and inputs.
+-- Numbers alone pass: every register that isn't named here is 0 on the other side.
+use Rattle.std.specs.Prelude.{ℕ, suc, ℤ, ◌+◌, Bool, ◌&&◌, nat_eq, nat_le, nat_lt, List, [], ◌∷◌, ◌++◌, take, drop, slice_get, slice_set, Option, Some, None, if◌then◌else◌}
+use Rattle.std.specs.Option.{option_map_or}
+use Rattle.sc_event.specs.declared.event.Event.TheVariants.{Call, Ret, Out, In, End}
+use Rattle.sc_event.specs.declared.row.Entry.TheVariants.{Export}
+use Rattle.sc_word.specs.Word.{word_of}
+use Rattle.sc_image.specs.declared.parts.ImageParts.{ImageParts}
+use Rattle.sc_image.specs.Layout.{gate}
+use Rattle.sc_image.specs.Calls.{has_result}
+use Rattle.sc_image.specs.State.{State, Crossing, ra, sp, a0, reg, saved_sp, written, with_reg, with_event}
+
+-- the registers with 0 in each that isn't kept
+abbrev pub kept_from : (ℕ → Bool) → (r : ℕ) → List ℕ → List ℕ
+kept_from keeps r [] = []
+kept_from keeps r (word ∷ words) = (if keeps r then word else 0) ∷ kept_from keeps (suc r) words
+
+abbrev pub kept : (ℕ → Bool) → List ℕ → List ℕ
+kept keeps regs = kept_from keeps 0 regs
+
+-- a register that holds an argument, of so many: a0 and on
+abbrev pub is_argument : (params r : ℕ) → Bool
+is_argument params r = nat_le a0 r && nat_lt r (a0 + params)
+
+-- a register that holds the result, where there is one: a0
+abbrev pub is_result : (result : Bool) → (r : ℕ) → Bool
+is_result result r = result && nat_eq r a0
+
+abbrev pub cleared_for_call : (params : ℕ) → List ℕ → List ℕ
+cleared_for_call params regs = kept (is_argument params) regs
+
+abbrev pub cleared_for_return : (result : Bool) → List ℕ → List ℕ
+cleared_for_return result regs = kept (is_result result) regs
+
+-- the words of so many arguments
+abbrev pub arguments : (params : ℕ) → List ℕ → List ℕ
+arguments params regs = take params (drop a0 regs)
+
+-- a call of the export of that index of compartment `to`, which takes so many words and begins at `entry`
+abbrev pub called : State → (to index params entry : ℕ) → State
+called state to index params entry = record {
+  regs = written (written (cleared_for_call params state.regs) ra gate) sp (saved_sp state to);
+  pc = entry;
+  active = to;
+  saved = slice_set state.saved state.active (reg state sp);
+  memory = state.memory;
+  cross =
+      record {
+        caller = state.active;
+        pc = state.pc + 4;
+        sp = reg state sp;
+        callee = to;
+        entry = Export index;
+        saved = saved_sp state to;
+      } ∷ state.cross;
+  input = state.input;
+  trace = state.trace ++ Call state.active to index (arguments params state.regs) ∷ [];
+}
+
+-- what a function gives back, where it has a result
+abbrev pub given_back : (result : Bool) → State → Option ℕ
+given_back result state = if result then Some (reg state a0) else None
+
+-- a return to a caller, where these calls still wait: it goes on there, and the compartment that is left has its saved sp of before
+abbrev pub returned_to : (result : Bool) → State → Crossing → List Crossing → State
+returned_to result state crossing waiting = record {
+  regs = written (cleared_for_return result state.regs) sp crossing.sp;
+  pc = crossing.pc;
+  active = crossing.caller;
+  saved = slice_set state.saved state.active crossing.saved;
+  memory = state.memory;
+  cross = waiting;
+  input = state.input;
+  trace = state.trace ++ Ret state.active crossing.caller (given_back result state) ∷ [];
+}
+
+-- the run ends: nothing but the trace changes
+abbrev pub ended : State → State
+ended state = with_event state (End state.active (reg state a0))
+
+-- a return through the gate: to the latest caller that waits, and where none does the run ends
+abbrev pub returned : ImageParts → State → List Crossing → State
+returned image state [] = ended state
+returned image state (crossing ∷ waiting) = returned_to (has_result image crossing.callee crossing.entry) state crossing waiting
+
+-- The environment.
+
+-- a0 is shown
+abbrev pub output : State → State
+output state = with_event state (Out state.active (reg state a0))
+
+-- the input of that number, and 0 after the last
+abbrev pub input_at : List ℤ → ℕ → ℕ
+input_at inputs k = option_map_or word_of (slice_get inputs k) 0
+
+-- the next input comes into a0
+abbrev pub input : List ℤ → State → State
+input inputs state =
+    let word = input_at inputs state.input in
+    let read : State = record (with_reg state a0 word) { input = suc state.input } in with_event read (In state.active word)

@@ -1,0 +1,86 @@
+-- What isolates the compartments of an image: three laws of the machine's steps.
+use Rattle.std.specs.Prelude.{◌≡◌, ◌≢◌, ◌↔◌, ℕ, zero, suc, ℤ, List, [], ◌∷◌, ◌++◌, length, drop}
+use Rattle.sc_event.specs.declared.event.Event.{Event}
+use Rattle.sc_core.specs.declared.stop.TrapReason.{TrapReason}
+use Rattle.sc_image.specs.declared.parts.ImageParts.{ImageParts}
+use Rattle.sc_image.specs.WellFormed.{IsWellFormed}
+use Rattle.sc_image.specs.State.{State}
+use Rattle.sc_image.specs.Step.{Outcome, Goes, Traps, step}
+use Rattle.sc_image.specs.Machine.{machine}
+use Rattle.sc_image.specs.Own.{Own, own}
+
+-- a run with these inputs comes to this state
+abbrev pub IsReached : ImageParts → List ℤ → State → Type 0
+IsReached image inputs state = (steps : ℕ) × ((events : ℕ) × ((machine image inputs steps events).state ≡ state))
+
+-- what a step shows: the events that it adds, or its trap
+pub data Shown : Type 0 where
+  Adds : (events : List Event) → Shown
+  Stops : (reason : TrapReason) → Shown
+
+abbrev pub shown_by : State → Outcome → Shown
+shown_by state (Goes next) = Adds (drop (length state.trace) next.trace)
+shown_by state (Traps reason) = Stops reason
+
+abbrev pub shown : ImageParts → List ℤ → State → Shown
+shown image inputs state = shown_by state (step image inputs state)
+
+-- the state after a step: a trap leaves it
+abbrev pub after_outcome : State → Outcome → State
+after_outcome state (Goes next) = next
+after_outcome state (Traps reason) = state
+
+abbrev pub after_step : ImageParts → List ℤ → State → State
+after_step image inputs state = after_outcome state (step image inputs state)
+
+-- a step is silent where it adds no event and doesn't trap
+abbrev pub IsSilent : ImageParts → List ℤ → State → Type 0
+IsSilent image inputs state = shown image inputs state ≡ Adds []
+
+-- so many steps from a state on are silent
+abbrev pub AreSilent : ImageParts → List ℤ → (steps : ℕ) → State → Type 0
+AreSilent image inputs zero state = Unit {0}
+AreSilent image inputs (suc steps) state = IsSilent image inputs state × AreSilent image inputs steps (after_step image inputs state)
+
+-- the state after so many steps
+abbrev pub after_steps : ImageParts → List ℤ → (steps : ℕ) → State → State
+after_steps image inputs zero state = state
+after_steps image inputs (suc steps) state = after_steps image inputs steps (after_step image inputs state)
+
+-- A step leaves what belongs to every compartment but the active one as it was, unless it makes it active.
+abbrev pub LeavesOthers : Type 0
+LeavesOthers =
+    (image : ImageParts) (inputs : List ℤ) (state : State) (d : ℕ) → IsWellFormed image → IsReached image inputs state →
+    d ≢ state.active → d ≢ (after_step image inputs state).active → own image (after_step image inputs state) d ≡ own image state d
+
+-- two states that a compartment can't tell apart: it is active in both, with the same events before and the same own parts
+pub record LooksSame (image : ImageParts) (inputs : List ℤ) (c : ℕ) (one other : State) : Type 0 where
+  pub one_reached : IsReached image inputs one
+  pub other_reached : IsReached image inputs other
+  pub trace : one.trace ≡ other.trace
+  pub one_active : one.active ≡ c
+  pub other_active : other.active ≡ c
+  pub own_parts : own image one c ≡ own image other c
+
+-- after so many silent steps from both, the compartment's own parts are the same, and so is what comes next
+pub record GoesOnSame (image : ImageParts) (inputs : List ℤ) (c : ℕ) (one other : State) : Type 0 where
+  pub own_parts : own image one c ≡ own image other c
+  pub next : shown image inputs one ≡ shown image inputs other
+  pub later_parts : own image (after_step image inputs one) c ≡ own image (after_step image inputs other) c
+
+-- What a compartment does until the next event, and that event, follow from its own parts and the events before.
+abbrev pub FollowsFromOwn : Type 0
+FollowsFromOwn =
+    (image : ImageParts) (inputs : List ℤ) (c : ℕ) (one other : State) (steps : ℕ) → IsWellFormed image → LooksSame image inputs c one other →
+    (AreSilent image inputs steps one ↔ AreSilent image inputs steps other) ×
+    (AreSilent image inputs steps one →
+    GoesOnSame image inputs c (after_steps image inputs steps one) (after_steps image inputs steps other))
+
+-- What belongs to a compartment that an event makes active follows from what belonged to it before and that event.
+abbrev pub EntersByEvent : Type 0
+EntersByEvent =
+    (image : ImageParts) (d : ℕ) → IsWellFormed image →
+    (entered : Own → Event → Own) ×
+    ((inputs : List ℤ) (state : State) (event : Event) → IsReached image inputs state → d ≢ state.active →
+    (after_step image inputs state).active ≡ d → (after_step image inputs state).trace ≡ state.trace ++ event ∷ [] →
+    own image (after_step image inputs state) d ≡ entered (own image state d) event)
