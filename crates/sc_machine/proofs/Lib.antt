@@ -1,4 +1,6 @@
 pub mod Words
+pub mod Access
+pub mod Start
 pub mod Jumps
 pub mod Runs
-pub mod Seven
+pub mod Alone

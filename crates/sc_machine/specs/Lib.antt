@@ -1,3 +1,4 @@
+pub mod Place
 pub mod Progress
 pub mod Hart
 pub mod Calls

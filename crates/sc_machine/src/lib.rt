@@ -2,11 +2,16 @@
 //! they are taken, and take no memory.
 #![tactic(auto)]
 
+mod arithmetic;
 mod code;
+mod environment;
 mod execute;
 mod hart;
+mod jump;
 mod laws;
+mod loading;
 mod machine;
+mod memory;
 mod run;
 
 pub use laws::any_calls;

@@ -1,39 +1,44 @@
 //! Machines, and their runs in pieces.
 
-ghost use Rattle.std.specs.Prelude.{◌≡◌, ◌<◌, IfOk, IfErr};
-ghost use Rattle.sc_image.specs.State.{reg};
+ghost use Rattle.std.specs.Prelude.{◌≡◌, ◌<◌, ◌↔◌, IfOk, IfErr, IsSome};
+ghost use Rattle.sc_image.specs.State.{reg, start_memory};
 ghost use Rattle.sc_image.specs.Machine.{run, continued};
 ghost use Rattle.sc_machine.specs.Progress.{state_of, run_of};
 ghost use Rattle.sc_machine.specs.Calls.{loaded};
 
 use crate::hart::Hart;
+use crate::loading::start_memory;
 use crate::run::run;
 use sc_core::Stop;
-use sc_event::Event;
+use sc_event::{CompId, Event};
 use sc_image::Image;
+use sc_store::Store;
 use sqlite_items::Items;
 use std::alloc::Global;
 use std::marker::Model;
 
-/// An image with a run of it, which may be taken in pieces.
+/// An image with a run of it, which may be taken in pieces, over a store that keeps its data.
 #[derive(Drop)]
-pub struct Machine {
+pub struct Machine<S: Store> {
     image: Image,
     inputs: Items<i32>,
     events: u32,
     hart: Hart,
+    memory: S,
     stop: Stop,
 }
 
-impl Model for Machine {
-    ghost use Rattle.std.specs.Prelude.{◌≤◌, vec_capacity};
+impl<S: Store> Model for Machine<S> {
     ghost use Rattle.sc_machine.specs.Progress.{Progress};
 
-    ghost Value = { Progress };
+    ghost Value = { Progress S };
 
-    ghost view = { λ m. record { image = m.image; inputs = m.inputs; events = m.events; registers = m.hart.registers; pc = m.hart.pc; active = m.hart.active; trace = m.hart.trace.items; stop = m.stop } };
+    ghost use Rattle.std.specs.Prelude.{◌≤◌, vec_capacity};
+    ghost use Rattle.sc_machine.specs.Hart.{IsSound, IsBacked};
 
-    ghost invariant = { λ m. m.events ≤ vec_capacity m.hart.trace };
+    ghost view = { λ m. record { image = m.image; inputs = m.inputs; events = m.events; registers = m.hart.core.registers; pc = m.hart.core.pc; active = m.hart.active; input = m.hart.input; trace = m.hart.trace.items; store = m.memory; stop = m.stop } };
+
+    ghost invariant = { λ m. (m.events ≤ vec_capacity m.hart.trace) × IsSound m.image m.hart × IsBacked m.image (S.bytes m.memory) };
 }
 
 /// A machine that can't be made.
@@ -43,22 +48,25 @@ pub enum LoadFault {
     OutOfMemory(Image),
 }
 
-impl Machine {
-    /// A machine at the image's entry, with memory for a trace of `events` events. The inputs are
-    /// what the environment is to give, one after the other.
+impl<S: Store> Machine<S> {
+    /// A machine at the image's entry, with memory for its data and for a trace of `events` events.
+    /// The inputs are what the environment is to give, one after the other.
     pub fn load(
         alloc: Global,
         image: Image,
         inputs: &[i32],
         events: u32,
-    ) -> Result<Machine, LoadFault>
+    ) -> Result<Machine<S>, LoadFault>
         ensures image { IfOk result (λ machine. machine.image ≡ image) }
         ensures inputs { IfOk result (λ machine. machine.inputs ≡ inputs.now) }
         ensures events { IfOk result (λ machine. machine.events ≡ events) }
-        ensures run { IfOk result (λ machine. run_of machine ≡ loaded image) }
+        ensures run { IfOk result (λ machine. run_of S.bytes machine ≡ loaded image) }
         ensures back { IfErr result (λ fault. fault ≡ LoadFault.OutOfMemory image) }
     {
         let Ok(inputs) = Items::from_slice(alloc, inputs) else {
+            return Err(LoadFault::OutOfMemory(image));
+        };
+        let Ok(memory) = start_memory(alloc, &image) else {
             return Err(LoadFault::OutOfMemory(image));
         };
         let Ok(hart) = Hart::new(alloc, image.parts(), events) else {
@@ -69,6 +77,7 @@ impl Machine {
             inputs,
             events,
             hart,
+            memory,
             stop: Stop::StepsOut,
         })
     }
@@ -76,37 +85,63 @@ impl Machine {
     /// Goes on for at most so many steps, and says why it stopped. A run that stopped for another
     /// reason than `StepsOut` stays so: the answer is the same, and nothing changes.
     pub fn run(&mut self, steps: u32) -> Stop
-        ensures run { run_of self.new ≡ continued (run self.old.image self.old.inputs self.old.events steps) (run_of self.old) }
+        ensures run { run_of S.bytes self.new ≡ continued (run self.old.image self.old.inputs self.old.events steps) (run_of S.bytes self.old) }
         ensures answer { result ≡ self.new.stop }
         ensures image { self.new.image ≡ self.old.image }
         ensures inputs { self.new.inputs ≡ self.old.inputs }
         ensures events { self.new.events ≡ self.old.events }
     {
         if let Stop::StepsOut = self.stop {
-            self.stop = run(&self.image, self.events, &mut self.hart, steps);
+            let inputs = self.inputs.as_slice();
+            self.stop = run(
+                &self.image,
+                inputs,
+                self.events,
+                &mut self.hart,
+                &mut self.memory,
+                steps,
+            );
         }
         self.stop
     }
 
     /// The events so far, the oldest first.
     pub fn trace(&self) -> &[Event]
-        ensures { result.now ≡ (state_of self.now).trace }
+        ensures { result.now ≡ (state_of S.bytes self.now).trace }
     {
         &self.hart.trace
     }
 
+    /// The compartment whose code runs.
+    pub fn active(&self) -> CompId
+        ensures { result ≡ (state_of S.bytes self.now).active }
+    {
+        self.hart.active
+    }
+
     /// The address of the next instruction, or after a trap of the one that can't be executed.
     pub fn pc(&self) -> u32
-        ensures { result ≡ (state_of self.now).pc }
+        ensures { result ≡ (state_of S.bytes self.now).pc }
     {
-        self.hart.pc
+        self.hart.core.pc
     }
 
     /// The word in x0 to x31.
     pub fn register(&self, r: u8) -> u32
         requires { r < 32 }
-        ensures { result ≡ reg (state_of self.now) r }
+        ensures { result ≡ reg (state_of S.bytes self.now) r }
     {
-        self.hart.registers[r as usize]
+        self.hart.core.registers[r as usize]
+    }
+
+    /// The byte of a compartment's data at an address, `None` where the address is nobody's.
+    pub fn byte(&self, at: u32) -> Option<u8>
+        ensures byte { result ≡ (state_of S.bytes self.now).memory at }
+        ensures owned { IsSome result ↔ IsSome (start_memory self.now.image at) }
+    {
+        if !self.memory.has(at) {
+            return None;
+        }
+        Some(self.memory.load8(at) as u8)
     }
 }

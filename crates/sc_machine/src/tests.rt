@@ -1,30 +1,41 @@
+ghost use Rattle.std.specs.Prelude.{◌≡◌, ◌*◌, ◌<◌, ◌≤◌, codes, length};
+ghost use Rattle.sc_image.specs.Layout.{stretch, most_globals};
+
 use crate::Machine;
-use sc_core::Stop::{Ended, EventsOut, StepsOut, Trap};
+use sc_core::Stop::{self, Ended, EventsOut, StepsOut, Trap};
 use sc_core::{TrapReason, Words};
 use sc_event::{CompId, Event, Name, OutOfMemory, Text};
 use sc_image::{CompPart, CompParts, ExportParts, Image, ImageParts, ImportParts};
+use sc_store::FlatStore;
 use std::alloc::Global;
 
 const START: u32 = 0x0100_0000;
 
-// addi a0,x0,7; addi a7,x0,2; ecall; addi a0,x0,0; jalr x0,0(x1)
+const STACK_TOP: u32 = 0x1001_0000;
+
 #[tactic(auto, unfolding(sc_event::specs::Identifier::is_name))]
-fn seven(alloc: Global, output: bool) -> Result<Image, OutOfMemory> {
-    let code = [
-        0x0070_0513,
-        0x0020_0893,
-        0x0000_0073,
-        0x0000_0513,
-        0x0000_8067,
-    ];
+fn a_name() -> Name
+    ensures { result ≡ codes "A" }
+{
+    Name::new(b"A").unwrap()
+}
+
+// One compartment with this code and these globals, which may read inputs and may output or not.
+fn alone(alloc: Global, output: bool, code: &[u32], globals: &[u8]) -> Result<Image, OutOfMemory>
+    requires some { 0 < length code.now }
+    requires short { 4 * length code.now ≤ stretch }
+    requires few { length globals.now ≤ most_globals }
+{
+    let mut bytes = Text::new(alloc);
+    bytes.append(globals)?;
     let comp = CompPart {
-        name: Name::new(b"Main").unwrap(),
-        input: false,
+        name: a_name(),
+        input: true,
         output,
         exports: ExportParts::new(alloc),
         imports: ImportParts::new(alloc),
-        code: Words::from_slice(alloc, &code)?,
-        globals: Text::new(alloc),
+        code: Words::from_slice(alloc, code)?,
+        globals: bytes,
     };
     let mut comps = CompParts::new(alloc);
     comps.push(comp)?;
@@ -35,14 +46,29 @@ fn seven(alloc: Global, output: bool) -> Result<Image, OutOfMemory> {
     }))
 }
 
+fn loaded(
+    alloc: Global,
+    image: Image,
+    inputs: &[i32],
+    events: u32,
+) -> Result<Machine<FlatStore>, OutOfMemory> {
+    Machine::load(alloc, image, inputs, events).map_err(|_| OutOfMemory)
+}
+
+// addi a0,x0,7; addi a7,x0,2; ecall; addi a0,x0,0; jalr x0,0(x1)
+const SEVEN: [u32; 5] = [
+    0x0070_0513,
+    0x0020_0893,
+    0x0000_0073,
+    0x0000_0513,
+    0x0000_8067,
+];
+
 #[test]
-fn runs_seven(rt: HostRuntime) -> Result<(), OutOfMemory> {
+fn outputs_and_ends(rt: HostRuntime) -> Result<(), OutOfMemory> {
     let comp = CompId::first();
     let all = [Event::Out { comp, value: 7 }, Event::End { comp, value: 0 }];
-    let no_import = Trap {
-        reason: TrapReason::NoImport,
-        pc: START + 8,
-    };
+    let no_import = trap(TrapReason::NoImport, 8);
     // Whether it may output, the room for events, and how many calls of how many steps; then why it
     // stops, how many events it showed, how far the pc is, and a0.
     for (output, events, calls, steps, stop, shown, at, a0) in [
@@ -58,10 +84,8 @@ fn runs_seven(rt: HostRuntime) -> Result<(), OutOfMemory> {
         (false, 10, 5, 2, no_import, 0, 8, 7),
         (false, 10, 1, 4_294_967_295, no_import, 0, 8, 7),
     ] {
-        let image = seven(rt.alloc(), output)?;
-        let Ok(mut machine) = Machine::load(rt.alloc(), image, &[], events) else {
-            return Err(OutOfMemory);
-        };
+        let image = alone(rt.alloc(), output, &SEVEN, &[])?;
+        let mut machine = loaded(rt.alloc(), image, &[], events)?;
         let mut last = StepsOut;
         for _ in 0..calls {
             last = machine.run(steps);
@@ -72,7 +96,141 @@ fn runs_seven(rt: HostRuntime) -> Result<(), OutOfMemory> {
         assert_eq!(rt; machine.pc().wrapping_sub(START), at);
         assert_eq!(rt; machine.register(10), a0);
         assert_eq!(rt; (machine.register(0), machine.register(1)), (0, 0x100));
-        assert_eq!(rt; machine.register(2), 0x1001_0000);
+        assert_eq!(rt; machine.register(2), STACK_TOP);
+        assert_eq!(rt; machine.active(), comp);
+    }
+    Ok(())
+}
+
+fn trap(reason: TrapReason, offset: u32) -> Stop
+    requires { offset < 4096 }
+{
+    Trap {
+        reason,
+        pc: START + offset,
+    }
+}
+
+// A half word is all that the compartment owns behind its stack, so the load of a word there traps.
+#[test]
+fn owns_a_half_word(rt: HostRuntime) -> Result<(), OutOfMemory> {
+    // lhu a0,0(sp); lw a0,0(sp)
+    let image = alone(rt.alloc(), true, &[0x0001_5503, 0x0001_2503], &[0x34, 0x12])?;
+    let mut machine = loaded(rt.alloc(), image, &[], 9)?;
+    assert_eq!(rt; machine.run(9), trap(TrapReason::Owner, 4));
+    assert_eq!(rt; machine.register(10), 0x1234);
+    for (at, byte) in [
+        (STACK_TOP, Some(0x34)),
+        (STACK_TOP + 1, Some(0x12)),
+        (STACK_TOP + 2, None),
+        (STACK_TOP - 1, Some(0)),
+        (STACK_TOP - 0x1_0000, Some(0)),
+        (STACK_TOP - 0x1_0001, None),
+        (START, None),
+    ] {
+        assert_eq!(rt; machine.byte(at), byte);
+    }
+    Ok(())
+}
+
+// Loads, stores, a branch and a product.
+#[test]
+fn loads_and_stores(rt: HostRuntime) -> Result<(), OutOfMemory> {
+    // addi a0,x0,-128; sw a0,-4(sp); lb a1,-4(sp); lbu a2,-4(sp); bltu a2,a1,8; ebreak;
+    // mul a0,a1,a2; sh a2,-6(sp); lh a3,-6(sp); jal x0,8; ebreak; lw a4,-8(sp); lw a5,2(sp)
+    let code = [
+        0xf800_0513,
+        0xfea1_2e23,
+        0xffc1_0583,
+        0xffc1_4603,
+        0x00b6_6463,
+        0x0010_0073,
+        0x02c5_8533,
+        0xfec1_1d23,
+        0xffa1_1683,
+        0x0080_006f,
+        0x0010_0073,
+        0xff81_2703,
+        0x0021_2783,
+    ];
+    let image = alone(rt.alloc(), true, &code, &[])?;
+    let mut machine = loaded(rt.alloc(), image, &[], 1)?;
+    assert_eq!(rt; machine.run(20), trap(TrapReason::Misaligned, 48));
+    for (register, word) in [
+        (10, 0xffff_c000),
+        (11, 0xffff_ff80),
+        (12, 0x80),
+        (13, 0x80),
+        (14, 0x0080_0000),
+        (15, 0),
+    ] {
+        assert_eq!(rt; machine.register(register), word);
+    }
+    assert_eq!(rt; machine.byte(STACK_TOP - 4), Some(0x80));
+    assert_eq!(rt; machine.byte(STACK_TOP - 5), Some(0));
+    Ok(())
+}
+
+#[test]
+fn reads_inputs(rt: HostRuntime) -> Result<(), OutOfMemory> {
+    let comp = CompId::first();
+    // addi a7,x0,1; ecall; ecall; ecall; ebreak
+    let code = [
+        0x0010_0893,
+        0x0000_0073,
+        0x0000_0073,
+        0x0000_0073,
+        0x0010_0073,
+    ];
+    let image = alone(rt.alloc(), true, &code, &[])?;
+    let mut machine = loaded(rt.alloc(), image, &[-5, 3], 9)?;
+    assert_eq!(rt; machine.run(3), StepsOut);
+    assert_eq!(rt; machine.register(10), 3);
+    assert_eq!(rt; machine.run(9), trap(TrapReason::Breakpoint, 16));
+    let events = [
+        Event::In {
+            comp,
+            value: 0xffff_fffb,
+        },
+        Event::In { comp, value: 3 },
+        Event::In { comp, value: 0 },
+    ];
+    assert!(rt; machine.trace() == events.as_slice());
+    assert_eq!(rt; machine.register(10), 0);
+    Ok(())
+}
+
+// One instruction that can't be executed leaves everything as it was.
+#[test]
+fn traps_change_nothing(rt: HostRuntime) -> Result<(), OutOfMemory> {
+    for (word, reason) in [
+        (0, TrapReason::Illegal),
+        // jalr x1,0(x1), which is no call; jalr x0,2(x1)
+        (0x0000_80e7, TrapReason::BadJump),
+        (0x0020_8067, TrapReason::Misaligned),
+        // jal x1,4, past the code; jal x5,2
+        (0x0040_00ef, TrapReason::BadJump),
+        (0x0020_02ef, TrapReason::Misaligned),
+        // lw sp,1(sp); lw sp,0(sp); sw sp,0(x0); sb sp,-1(x0)
+        (0x0011_2103, TrapReason::Misaligned),
+        (0x0001_2103, TrapReason::Owner),
+        (0x0020_2023, TrapReason::Owner),
+        (0xfe20_0fa3, TrapReason::Owner),
+        // ecall, with a7 at 0; ebreak
+        (0x73, TrapReason::BadCall),
+        (0x0010_0073, TrapReason::Breakpoint),
+    ] {
+        let image = alone(rt.alloc(), true, &[word], &[])?;
+        let mut machine = loaded(rt.alloc(), image, &[], 9)?;
+        assert_eq!(rt; machine.run(9), trap(reason, 0));
+        assert_eq!(rt; machine.pc(), START);
+        assert_eq!(rt;
+            (machine.register(1), machine.register(2)),
+            (0x100, STACK_TOP)
+        );
+        assert_eq!(rt; machine.register(5), 0);
+        assert_eq!(rt; machine.trace().len(), 0);
+        assert_eq!(rt; machine.run(9), trap(reason, 0));
     }
     Ok(())
 }

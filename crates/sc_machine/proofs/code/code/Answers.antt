@@ -1,11 +1,7 @@
 use Rattle.std.proofs.Common.{sym}
-use Rattle.sc_machine.proofs.Words.{short_code, simple_code}
+use Rattle.sc_machine.proofs.Words.{short_code}
 use Rattle.sc_machine.proofs.code.code.Goals as goal
 
 pub returns-in-Some-clause-short : goal.returns-in-Some-clause-short
 returns-in-Some-clause-short c =
     rw c.as_slice.ensures (short_code c.args.image.now c.args.comp c.in-Some.part.now c.parts.ensures.well_formed (rw (c.parts.ensures.parts, c.number.ensures.number) at (sym c.in-Some.ensures.value)))
-
-pub returns-in-Some-clause-simple : goal.returns-in-Some-clause-simple
-returns-in-Some-clause-simple c =
-    rw c.as_slice.ensures (simple_code c.args.image.now c.args.comp c.in-Some.part.now c.parts.ensures.simple (rw (c.parts.ensures.parts, c.number.ensures.number) at (sym c.in-Some.ensures.value)))

@@ -1,13 +1,17 @@
 use Rattle.std.proofs.Common.{◌∙◌, sym}
 use Rattle.sc_machine.specs.Hart.{state_in}
-use Rattle.sc_image.proofs.Stepping.{step_nowhere, step_executes}
+use Rattle.sc_image.proofs.Stepping.{step_nowhere, step_illegal, step_executes}
 use Rattle.sc_machine.proofs.execute.step.Goals as goal
 
 pub returns-in_default-clause-outcome : goal.returns-in_default-clause-outcome
-returns-in_default-clause-outcome c = λ inputs.
-    sym (step_nowhere c.args.image.now inputs (state_in c.args.image.now c.args.hart.now) (sym c.in_default.ensures.word))
+returns-in_default-clause-outcome g c =
+    sym (step_nowhere c.args.image.now c.args.inputs.now (state_in c.args.image.now (g.S.Store.bytes c.args.memory.now) c.args.hart.now) (sym c.in_default.ensures.word))
+
+pub returns-in_default-decode-clause-outcome : goal.returns-in_default-decode-clause-outcome
+returns-in_default-decode-clause-outcome g c =
+    sym (step_illegal _ c.args.inputs.now (state_in c.args.image.now (g.S.Store.bytes c.args.memory.now) c.args.hart.now) c.in-Some.word (sym c.in-Some.ensures.word) (sym c.in_default-decode.ensures.same))
 
 pub returns-clause-outcome : goal.returns-clause-outcome
-returns-clause-outcome c = λ inputs.
-    c.execute.ensures.outcome inputs ∙
-    sym (step_executes _ inputs (state_in c.args.image.now c.args.hart.now) _ _ (sym c.in-Some.ensures.word) (sym c.in-Some-decode.ensures.same))
+returns-clause-outcome g c =
+    c.execute.ensures.outcome ∙
+    sym (step_executes _ c.args.inputs.now (state_in c.args.image.now (g.S.Store.bytes c.args.memory.now) c.args.hart.now) _ _ (sym c.in-Some.ensures.word) (sym c.in-Some-decode.ensures.same))

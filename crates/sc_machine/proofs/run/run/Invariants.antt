@@ -1,10 +1,13 @@
-use Rattle.std.proofs.Common.{◌≡◌, ◌≤◌, ℤ, List, vec_capacity, ◌-◌}
+use Rattle.std.proofs.Common.{◌≡◌, ◌≤◌, vec_capacity, ◌-◌}
 use Rattle.sc_image.specs.Machine.{run}
-use Rattle.sc_machine.specs.Hart.{state_in}
+use Rattle.sc_machine.specs.Hart.{state_in, IsSound, IsBacked}
 use Rattle.sc_machine.proofs.run.run.Given as goal
 
 abbrev pub invariant-loop : goal.invariant-loop
-invariant-loop l = record {
+invariant-loop g l = record {
   room : l.events ≤ vec_capacity l.hart.trace;
-  same : (inputs : List ℤ) → run l.image inputs l.events (l.steps - l.counter) (state_in l.image l.hart) ≡ run l.image inputs l.events l.steps (state_in l.image l.fn.hart);
+  sound : IsSound l.image l.hart;
+  backed : IsBacked l.image (g.S.Store.bytes l.memory);
+  same : run l.image l.inputs l.events (l.steps - l.counter) (state_in l.image (g.S.Store.bytes l.memory) l.hart) ≡
+      run l.image l.inputs l.events l.steps (state_in l.image (g.S.Store.bytes l.fn.memory) l.fn.hart);
 }

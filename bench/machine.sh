@@ -1,0 +1,45 @@
+#!/bin/sh
+# Times the machine on three endless loops of 16,777,216 steps, and qemu-riscv32 on the same loops where it is installed.
+# Usage: bench/machine.sh [FOLDER]. FOLDER (by default a new one) gets a copy of the machine's crates and a program over
+# them, which is proved and built there; that takes minutes the first time.
+# It prints, for each loop, instructions per second of the machine, of qemu-riscv32, and the ratio of the two.
+set -e
+top=$(cd "$(dirname "$0")/.." && pwd)
+work=${1:-$(mktemp -d)}
+crates="sc_event sc_word rv_code sc_store sc_core sc_image sc_machine"
+mkdir -p "$work/crates/bench_machine/src" "$work/crates/bench_machine/proofs/alone" "$work/loops"
+for crate in $crates; do
+    mkdir -p "$work/crates/$crate"
+    for part in src specs proofs; do
+        [ -d "$top/crates/$crate/$part" ] || continue
+        rm -rf "$work/crates/$crate/$part"
+        cp -r "$top/crates/$crate/$part" "$work/crates/$crate/"
+    done
+    grep "^$crate:" "$top/crates.txt"
+done > "$work/crates.txt"
+echo "bench_machine: sc_event sc_core sc_store sc_image sc_machine sqlite_items" >> "$work/crates.txt"
+cp "$top/HANDLES" "$work/"
+cp "$top/bench/machine_main.txt" "$work/crates/bench_machine/src/main.rt"
+cp "$top/bench/machine_answers.txt" "$work/crates/bench_machine/proofs/alone/Answers.antt"
+(cd "$work/crates/bench_machine" && rt run > "$work/log" 2>&1) || { tail "$work/log"; exit 1; }
+
+# The best of three runs of each.
+python3 "$top/bench/riscv_loops.py" "$work/loops"
+for run in 1 2 3; do
+    "$work/crates/bench_machine/out/bench_machine"
+done | sort -k1,1 -k3,3n | awk '!seen[$1]++ { printf "%s %.0f\n", $1, $2 / $3 * 1e9 }' > "$work/machine"
+: > "$work/qemu"
+if command -v qemu-riscv32 > /dev/null; then
+    while read -r loop count; do
+        chmod +x "$work/loops/$loop"
+        for run in 1 2 3; do
+            start=$(date +%s%N)
+            qemu-riscv32 "$work/loops/$loop"
+            end=$(date +%s%N)
+            echo "$loop $count $((end - start))"
+        done
+    done < "$work/loops/counts" | sort -k1,1 -k3,3n | awk '!seen[$1]++ { printf "%s %.0f\n", $1, $2 / $3 * 1e9 }' > "$work/qemu"
+fi
+awk 'NR == FNR { qemu[$1] = $2; next }
+     { ratio = ($1 in qemu) ? sprintf("%.3f", $2 / qemu[$1]) : "-"
+       printf "%-9s machine %d/s  qemu-riscv32 %s/s  ratio %s\n", $1, $2, ($1 in qemu) ? qemu[$1] : "-", ratio }' "$work/qemu" "$work/machine"

@@ -1,0 +1,111 @@
+-- Which accesses are allowed, and that there is memory for them.
+use Rattle.std.proofs.Common.{◌≡◌, ℕ, ◌+◌, ◌-◌, ◌%◌, ◌<◌, ◌≤◌, Bool, true, false, ◌&&◌, nat_le, nat_lt, length, Some, None, refl, sym, ◌∙◌, ap, subst, arith, ⊎_elim}
+use Rattle.std.specs.Prelude.{is_some, if◌then◌else◌}
+use Rattle.std.specs.List.{slice_get}
+use Rattle.std.proofs.lemmas.Bool.{le-leb, lt-leb, le-ltb}
+use Rattle.std.proofs.lemmas.Bool.Decides.{nat_tests}
+use Rattle.std.proofs.lemmas.Option.{slice_get_cases}
+use Rattle.rv_code.specs.declared.instr.LoadOp.{LoadOp}
+use Rattle.rv_code.specs.declared.instr.StoreOp.{StoreOp}
+use Rattle.sc_core.specs.declared.stop.TrapReason.{TrapReason}
+use Rattle.sc_store.specs.Memory.{Memory, HasBytes, load_of, stored}
+use Rattle.sc_store.proofs.Words.{address_kept}
+use Rattle.sc_image.specs.declared.parts.ImageParts.{ImageParts}
+use Rattle.sc_image.specs.declared.parts.CompPart.{CompPart}
+use Rattle.sc_image.specs.Layout.{stretch, most_globals, stack_size, data_start, stack_top, comp_of_data, globals_of, are_data}
+use Rattle.sc_image.specs.State.{State, start_memory}
+use Rattle.sc_image.specs.Step.{Traps, next, gives, load_size, store_size, extended, refused, load, store, with_stored}
+use Rattle.sc_machine.specs.Place.{IsPlace}
+use Rattle.sc_machine.specs.Hart.{IsBacked}
+
+-- The owner's test.
+
+pub below_data : (image : ImageParts) (c a size : ℕ) → a < data_start c → are_data image c a size ≡ false
+unfolding are_data
+below_data image c a size h = rw (lt-leb (data_start c) a h) refl
+
+moved_test : (a low n size : ℕ) → low ≤ a → size ≤ n → nat_le (a - low) (n - size) ≡ nat_le (a + size) (low + n)
+moved_test a low n size h k = grind (arith, nat_tests)
+
+pub from_data : (image : ImageParts) (c a size n : ℕ) → n ≡ length (globals_of image c) → data_start c ≤ a → size ≤ stack_size + n →
+    nat_le (a - data_start c) (stack_size + n - size) ≡ are_data image c a size
+unfolding are_data
+from_data image c a size n is low few =
+    let top : data_start c + (stack_size + n) ≡ stack_top c + length (globals_of image c) = omega arith in
+    rw (le-leb (data_start c) a low) (moved_test a (data_start c) (stack_size + n) size low few ∙ ap (nat_le (a + size)) top)
+
+-- There is a byte at each of a compartment's addresses at the start.
+
+there_by : (offset : ℕ) (comp : CompPart) (in_stack : Bool) → nat_lt offset stack_size ≡ in_stack → offset < stack_size + length comp.globals →
+    is_some (if in_stack then Some 0 else slice_get comp.globals (offset - stack_size)) ≡ true
+there_by offset comp true is h = refl
+there_by offset comp false is h =
+    ⊎_elim (λ found. rw found.2 refl)
+    (λ none. absurd (let from : stack_size ≤ offset = grind (arith, nat_tests) in omega (arith, none.0)))
+    (slice_get_cases comp.globals (offset - stack_size)).1
+
+start_there : (image : ImageParts) (c a : ℕ) (comp : CompPart) → slice_get image.comps c ≡ Some comp → length comp.globals ≤ most_globals →
+    data_start c ≤ a → a < stack_top c + length comp.globals → is_some (start_memory image a) ≡ true
+unfolding start_memory
+start_there image c a comp found few low high =
+    let above : nat_lt a (data_start 0) ≡ false = le-ltb a (data_start 0) (omega arith) in
+    let number : comp_of_data a ≡ c = omega arith in
+    let offset : (a - data_start 0) % stretch ≡ a - data_start c = omega arith in
+    rw (above, number, found, offset) (there_by (a - data_start c) comp (nat_lt (a - data_start c) stack_size) refl (omega arith))
+
+both_tests : (x y z w : ℕ) → (nat_le x y && nat_le z w) ≡ true → (x ≤ y) × (z ≤ w)
+both_tests x y z w h = (grind (arith, nat_tests), grind (arith, nat_tests))
+
+found_there : (image : ImageParts) (c a size : ℕ) (comp : CompPart) → slice_get image.comps c ≡ Some comp → length comp.globals ≤ most_globals →
+    are_data image c a size ≡ true → HasBytes (start_memory image) a size
+unfolding are_data
+found_there image c a size comp found few h =
+    let same : globals_of image c ≡ comp.globals = rw found refl in
+    let tests = both_tests (data_start c) a (a + size) (stack_top c + length comp.globals)
+    (subst (λ globals. (nat_le (data_start c) a && nat_le (a + size) (stack_top c + length globals)) ≡ true) same h) in
+    λ k below. start_there image c (a + k) comp found few (omega (arith, tests.0)) (omega (arith, tests.1))
+
+pub data_there : (image : ImageParts) (c a size : ℕ) → IsPlace image c → are_data image c a size ≡ true → HasBytes (start_memory image) a size
+data_there image c a size place h =
+    ⊎_elim
+    (λ found. found_there image c a size found.0 found.2 (place.formed.comps c found.0 found.2).short_globals h)
+    (λ none. absurd (omega (arith, none.0, place.within)))
+    (slice_get_cases image.comps c).1
+
+-- and later
+
+pub backed_bytes : (image : ImageParts) (memory : Memory) (a size : ℕ) → IsBacked image memory → HasBytes (start_memory image) a size → HasBytes memory a size
+backed_bytes image memory a size backed there = λ k below. backed (a + k) ∙ there k below
+
+pub stored_backed : (image : ImageParts) (memory : Memory) (a size word : ℕ) → IsBacked image memory → HasBytes memory a size → IsBacked image (stored memory a size word)
+stored_backed image memory a size word backed there = λ address. address_kept memory a size word address there ∙ backed address
+
+-- A load and a store, by whether they are allowed.
+
+module _ (image : ImageParts) (state : State) where
+  pub load_refused : (op : LoadOp) (rd a size : ℕ) (reason : TrapReason) → size ≡ load_size op → Some reason ≡ refused image state.active size a →
+      Traps reason ≡ load image state op rd a
+  load_refused op rd a size reason is why = rw (sym is, sym why) refl
+
+  pub load_goes : (op : LoadOp) (rd a size word : ℕ) → size ≡ load_size op → None ≡ refused image state.active size a →
+      word ≡ extended op (load_of state.memory a (load_size op)) → gives state rd word ≡ load image state op rd a
+  load_goes op rd a size word is allows loads =
+      let allowed : refused image state.active (load_size op) a ≡ None = sym (subst (λ n. None ≡ refused image state.active n a) is allows) in
+      rw (allowed, loads) refl
+
+  pub store_refused : (op : StoreOp) (a size word : ℕ) (reason : TrapReason) → size ≡ store_size op → Some reason ≡ refused image state.active size a →
+      Traps reason ≡ store image state op a word
+  store_refused op a size word reason is why = rw (sym is, sym why) refl
+
+  pub store_goes : (op : StoreOp) (a size word : ℕ) → size ≡ store_size op → None ≡ refused image state.active size a →
+      next (with_stored state op a word) ≡ store image state op a word
+  store_goes op a size word is allows =
+      let allowed : refused image state.active (store_size op) a ≡ None = sym (subst (λ n. None ≡ refused image state.active n a) is allows) in
+      rw allowed refl
+
+-- One byte.
+
+pub one_byte : (m : Memory) (a b : ℕ) → m a ≡ Some b → load_of m a 1 ≡ b
+one_byte m a b is =
+    let place : a + 0 ≡ a = omega arith in
+    rw (place, is) (omega arith)

@@ -1,0 +1,6 @@
+use Rattle.std.proofs.Common.{refl, add-one}
+use Rattle.sc_machine.proofs.environment.input.Goals as goal
+
+pub returns-clause-state : goal.returns-clause-state
+returns-clause-state c = λ image memory.
+    rw (c.advance.ensures, c.show.ensures.core, c.show.ensures.active, c.show.ensures.input, c.show.ensures.trace, c.input_at-word.ensures, add-one) refl

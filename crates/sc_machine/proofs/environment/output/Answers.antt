@@ -1,0 +1,6 @@
+use Rattle.std.proofs.Common.{refl}
+use Rattle.sc_machine.proofs.environment.output.Goals as goal
+
+pub returns-clause-state : goal.returns-clause-state
+returns-clause-state c = λ image memory.
+    rw (c.advance.ensures, c.show.ensures.core, c.show.ensures.active, c.show.ensures.input, c.show.ensures.trace) refl

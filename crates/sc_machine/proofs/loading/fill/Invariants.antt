@@ -1,0 +1,6 @@
+use Rattle.std.proofs.Common.{◌≡◌, take}
+use Rattle.sc_store.specs.Flat.{written}
+use Rattle.sc_machine.proofs.loading.fill.Given as goal
+
+abbrev pub invariant-loop-k : goal.invariant-loop-k
+invariant-loop-k g l = g.S.Store.bytes l.memory ≡ written (g.S.Store.bytes l.fn.memory) l.start (take l.k l.bytes)

@@ -1,0 +1,95 @@
+//! Calls of the environment.
+
+ghost use Rattle.std.specs.Prelude.{◌≡◌, ◌+◌, ◌^◌, ◌<◌, ◌≤◌, length, vec_capacity, OnErr};
+ghost use Rattle.sc_store.specs.Memory.{Memory};
+ghost use Rattle.sc_image.specs.declared.parts.ImageParts.{ImageParts};
+ghost use Rattle.sc_image.specs.Cross.{input_at, input, output};
+ghost use Rattle.sc_image.specs.Step.{Goes, next, environment_call};
+ghost use Rattle.sc_machine.specs.Hart.{state_in, outcome_of, IsSound};
+
+use crate::code::{may_input, may_output};
+use crate::hart::Hart;
+use crate::jump::A0;
+use sc_core::TrapReason;
+use sc_event::Event;
+use sc_image::Image;
+
+/// The number of register a7, which says what an environment call calls.
+const A7: usize = 17;
+
+/// The number in a7 of the environment's `input`.
+const INPUT: u32 = 1;
+
+/// The number in a7 of the environment's `output`.
+const OUTPUT: u32 = 2;
+
+pub(crate) fn environment_call(
+    image: &Image,
+    inputs: &[i32],
+    hart: &mut Hart,
+) -> Result<(), TrapReason>
+    requires pc { hart.old.core.pc + 4 < 2 ^ 32 }
+    requires sound { IsSound image.now hart.old }
+    requires room { length hart.old.trace.items < vec_capacity hart.old.trace }
+    ensures outcome { (memory : Memory) → outcome_of result (state_in image.now memory hart.new) ≡ environment_call image.now inputs.now (state_in image.now memory hart.old) }
+    ensures trap { OnErr result (hart.new ≡ hart.old) }
+    ensures sound { IsSound image.now hart.new }
+    ensures room { vec_capacity hart.old.trace ≤ vec_capacity hart.new.trace }
+{
+    match hart.core.registers[A7] {
+        INPUT if may_input(image, hart.active) => {
+            input(inputs, hart);
+            Ok(())
+        }
+        OUTPUT if may_output(image, hart.active) => {
+            output(hart);
+            Ok(())
+        }
+        INPUT | OUTPUT => Err(TrapReason::NoImport),
+        _ => Err(TrapReason::BadCall),
+    }
+}
+
+/// Shows a0.
+fn output(hart: &mut Hart)
+    requires pc { hart.old.core.pc + 4 < 2 ^ 32 }
+    requires room { length hart.old.trace.items < vec_capacity hart.old.trace }
+    ensures state { (image : ImageParts) (memory : Memory) → Goes (state_in image memory hart.new) ≡ next (output (state_in image memory hart.old)) }
+    ensures sound { (image : ImageParts) → IsSound image hart.old → IsSound image hart.new }
+    ensures room { vec_capacity hart.old.trace ≤ vec_capacity hart.new.trace }
+{
+    hart.show(Event::Out {
+        comp: hart.active,
+        value: hart.core.registers[A0],
+    });
+    hart.core.advance();
+}
+
+/// The input of that number as a word, and 0 after the last.
+fn input_at(inputs: &[i32], number: usize) -> u32
+    ensures { result ≡ input_at inputs.now number }
+{
+    match inputs.get(number) {
+        Some(input) => input.cast_unsigned(),
+        None => 0,
+    }
+}
+
+/// Puts the next input into a0, and shows it.
+fn input(inputs: &[i32], hart: &mut Hart)
+    requires pc { hart.old.core.pc + 4 < 2 ^ 32 }
+    requires count { hart.old.input ≤ length hart.old.trace.items }
+    requires room { length hart.old.trace.items < vec_capacity hart.old.trace }
+    ensures state { (image : ImageParts) (memory : Memory) → Goes (state_in image memory hart.new) ≡ next (input inputs.now (state_in image memory hart.old)) }
+    ensures sound { (image : ImageParts) → IsSound image hart.old → IsSound image hart.new }
+    ensures room { vec_capacity hart.old.trace ≤ vec_capacity hart.new.trace }
+{
+    let word = input_at(inputs, hart.input);
+    hart.core.registers[A0] = word;
+    hart.input += 1;
+    hart.show(Event::In {
+        comp: hart.active,
+        value: word,
+    });
+    hart.core.advance();
+}

@@ -1,0 +1,158 @@
+//! Loads and stores, through whatever keeps the bytes.
+
+ghost use Rattle.std.specs.Prelude.{◌≡◌, ◌+◌, ◌^◌, ◌<◌, ◌≤◌, ℕ, length, OnErr, OnSome, IfNone, IfSome};
+ghost use Rattle.sc_store.specs.Memory.{HasBytes, load_of, stored};
+ghost use Rattle.sc_image.specs.State.{State, start_memory};
+ghost use Rattle.sc_image.specs.Step.{load_size, store_size, extended, refused, load, store};
+ghost use Rattle.sc_machine.specs.Place.{IsPlace};
+ghost use Rattle.sc_machine.specs.Hart.{at, active_in, outcome_of, IsBacked};
+
+use crate::code::are_data;
+use crate::hart::Core;
+use rv_code::{LoadOp, Reg, StoreOp};
+use sc_core::TrapReason;
+use sc_event::CompId;
+use sc_image::Image;
+use sc_store::Store;
+
+/// Loads from an address into a register.
+pub(crate) fn load<S: Store>(
+    image: &Image,
+    active: CompId,
+    core: &mut Core,
+    memory: &S,
+    op: LoadOp,
+    rd: Reg,
+    address: u32,
+) -> Result<(), TrapReason>
+    requires pc { core.old.pc + 4 < 2 ^ 32 }
+    requires place { IsPlace image.now active }
+    requires backed { IsBacked image.now (S.bytes memory.now) }
+    ensures outcome { (state : State) → let there = active_in active (S.bytes memory.now) state in outcome_of result (at there core.new) ≡ load image.now (at there core.old) op rd address }
+    ensures trap { OnErr result (core.new ≡ core.old) }
+{
+    if let Some(reason) = refused(image, active, load_size(op), address) {
+        return Err(reason);
+    }
+    core.give(rd, loaded(memory, op, address));
+    Ok(())
+}
+
+/// Stores the lowest bytes of a word at an address.
+pub(crate) fn store<S: Store>(
+    image: &Image,
+    active: CompId,
+    core: &mut Core,
+    memory: &mut S,
+    op: StoreOp,
+    address: u32,
+    word: u32,
+) -> Result<(), TrapReason>
+    requires pc { core.old.pc + 4 < 2 ^ 32 }
+    requires place { IsPlace image.now active }
+    requires backed { IsBacked image.now (S.bytes memory.old) }
+    ensures outcome { (state : State) → outcome_of result (at (active_in active (S.bytes memory.new) state) core.new) ≡ store image.now (at (active_in active (S.bytes memory.old) state) core.old) op address word }
+    ensures trap { OnErr result (core.new ≡ core.old) }
+    ensures memory { OnErr result (S.bytes memory.new ≡ S.bytes memory.old) }
+    ensures backed { IsBacked image.now (S.bytes memory.new) }
+{
+    if let Some(reason) = refused(image, active, store_size(op), address) {
+        return Err(reason);
+    }
+    put(memory, op, address, word);
+    core.advance();
+    Ok(())
+}
+
+/// Why the compartment may not access so many bytes from an address on, if it may not.
+fn refused(image: &Image, comp: CompId, size: u32, address: u32) -> Option<TrapReason>
+    requires some { 0 < size }
+    requires few { size ≤ 4 }
+    requires place { IsPlace image.now comp }
+    ensures reason { result ≡ refused image.now comp size address }
+    ensures there { IfNone result (HasBytes (start_memory image.now) address size) }
+{
+    if address % size != 0 {
+        return Some(TrapReason::Misaligned);
+    }
+    if !are_data(image, comp, address, size) {
+        return Some(TrapReason::Owner);
+    }
+    None
+}
+
+/// How many bytes the load reads.
+fn load_size(op: LoadOp) -> u32
+    ensures size { result ≡ load_size op }
+    ensures some { 0 < result }
+    ensures few { result ≤ 4 }
+{
+    match op {
+        LoadOp::Lb | LoadOp::Lbu => 1,
+        LoadOp::Lh | LoadOp::Lhu => 2,
+        LoadOp::Lw => 4,
+    }
+}
+
+/// How many bytes the store writes.
+fn store_size(op: StoreOp) -> u32
+    ensures size { result ≡ store_size op }
+    ensures some { 0 < result }
+    ensures few { result ≤ 4 }
+{
+    match op {
+        StoreOp::Sb => 1,
+        StoreOp::Sh => 2,
+        StoreOp::Sw => 4,
+    }
+}
+
+/// The word that is loaded from an address.
+fn loaded<S: Store>(memory: &S, op: LoadOp, address: u32) -> u32
+    requires { HasBytes (S.bytes memory.now) address (load_size op) }
+    ensures { result ≡ extended op (load_of (S.bytes memory.now) address (load_size op)) }
+{
+    match op {
+        LoadOp::Lb => signed_byte(memory.load8(address)),
+        LoadOp::Lh => signed_half(memory.load16(address)),
+        LoadOp::Lw => memory.load32(address),
+        LoadOp::Lbu => memory.load8(address),
+        LoadOp::Lhu => memory.load16(address),
+    }
+}
+
+/// A byte with its sign in all higher bits.
+fn signed_byte(byte: u32) -> u32
+    requires { byte < 2 ^ 8 }
+    ensures { result ≡ extended LoadOp.Lb byte }
+{
+    if byte < 0x80 {
+        byte
+    } else {
+        0xffff_ff00 + byte
+    }
+}
+
+/// A half word with its sign in all higher bits.
+fn signed_half(half: u32) -> u32
+    requires { half < 2 ^ 16 }
+    ensures { result ≡ extended LoadOp.Lh half }
+{
+    if half < 0x8000 {
+        half
+    } else {
+        0xffff_0000 + half
+    }
+}
+
+/// Puts the lowest bytes of a word at an address.
+fn put<S: Store>(memory: &mut S, op: StoreOp, address: u32, word: u32)
+    requires { HasBytes (S.bytes memory.old) address (store_size op) }
+    ensures { S.bytes memory.new ≡ stored (S.bytes memory.old) address (store_size op) word }
+{
+    match op {
+        StoreOp::Sb => memory.store8(address, word),
+        StoreOp::Sh => memory.store16(address, word),
+        StoreOp::Sw => memory.store32(address, word),
+    }
+}
