@@ -1,5 +1,5 @@
 -- What the machine shows on a thin program's image is the program's meaning.
-use Rattle.std.proofs.Common.{◌≡◌, ℕ, ◌*◌, ◌<◌, ◌≤◌, ℤ, Bool, true, false, List, [], ◌∷◌, length, flat_map, take, refl, sym, ◌∙◌, ap, arith, ⊎_elim}
+use Rattle.std.proofs.Common.{◌≡◌, ℕ, ◌*◌, ◌<◌, ◌≤◌, ℤ, Bool, true, false, List, [], ◌∷◌, length, flat_map, take, refl, sym, ◌∙◌, ap, arith, ⊎_elim, subst}
 use Rattle.std.specs.Prelude.{nat_lt, ◌↔◌}
 use Rattle.std.proofs.lemmas.Bool.{lt-ltb, le-ltb, cases_lt}
 use Rattle.std.proofs.lemmas.List.{take_all, length-append}
@@ -12,7 +12,7 @@ use Rattle.sc_core.specs.Thin.{whole_run, thin_meaning}
 use Rattle.sc_image.specs.Machine.{Run, machine}
 use Rattle.sc_compile.specs.Code.{is_short, loading, outputting, thin_code, HasWords}
 use Rattle.sc_compile.specs.Image.{thin_image}
-use Rattle.sc_compile.specs.Correct.{stop_of, enough_steps, IsForward, IsNoTrap, IsBackward}
+use Rattle.sc_compile.specs.Correct.{StopsAs, enough_steps, IsForward, IsNoTrap, IsBackward}
 use Rattle.sc_compile.proofs.Runs.{Because, Shows}
 use Rattle.sc_compile.proofs.Execution.{thin_runs}
 
@@ -64,9 +64,9 @@ module _ (program : ThinProgram) (events : ℕ) where
     forward_trace StepsOut enough front h = let few : steps < cost = h in absurd (omega arith)
     forward_trace (Trap _ _) enough front h = absurd h
 
-    forward_stop : (stop : Stop) → cost ≤ steps → Because whole events cost steps trace stop → stop ≡ stop_of (thin_meaning events program).end
-    forward_stop Ended enough h = ap (λ m. stop_of m.end) (sym (meaning_whole h.2))
-    forward_stop EventsOut enough h = ap (λ m. stop_of m.end) (sym (meaning_cut h.1))
+    forward_stop : (stop : Stop) → cost ≤ steps → Because whole events cost steps trace stop → StopsAs (thin_meaning events program).end stop
+    forward_stop Ended enough h = subst (λ m. StopsAs m.end Ended) (sym (meaning_whole h.2)) refl
+    forward_stop EventsOut enough h = subst (λ m. StopsAs m.end EventsOut) (sym (meaning_cut h.1)) refl
     forward_stop StepsOut enough h = let few : steps < cost = h in absurd (omega arith)
     forward_stop (Trap _ _) enough h = absurd h
 

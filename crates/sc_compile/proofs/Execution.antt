@@ -92,6 +92,7 @@ pub record Stands (program : ThinProgram) (events : ℕ) (code : List Instr) (do
   pub registers : length state.regs ≡ 32
   pub zero_is : reg state 0 ≡ 0
   pub ra_is : reg state ra ≡ gate
+  pub cross : state.cross ≡ []
   pub trace : state.trace ≡ shown done
   pub outputs : program.outputs ≡ done ++ left
   pub room : length done ≤ events
@@ -144,6 +145,7 @@ module _ (program : ThinProgram) (inputs : List ℤ) (events : ℕ) where
     registers = length-set state.regs rd word ∙ h.registers;
     zero_is = get_or-set_other state.regs rd 0 word 0 (omega arith) ∙ h.zero_is;
     ra_is = get_or-set_other state.regs rd 1 word 0 (omega arith) ∙ h.ra_is;
+    cross = h.cross;
     trace = h.trace;
     outputs = h.outputs;
     room = h.room;
@@ -227,6 +229,7 @@ module _ (program : ThinProgram) (inputs : List ℤ) (events : ℕ) where
     registers = h.registers;
     zero_is = h.zero_is;
     ra_is = h.ra_is;
+    cross = h.cross;
     trace = ap₂ (λ t e. t ++ e ∷ []) h.trace (ap₂ Out h.active says) ∙ sym (map_push (λ w. Out 0 w) done word);
     outputs = h.outputs ∙ sym (append_assoc done (word ∷ []) left);
     room = (let shown_so_far : length state.trace ≡ length (shown done) = ap length h.trace in
@@ -261,16 +264,16 @@ module _ (program : ThinProgram) (inputs : List ℤ) (events : ℕ) where
   unfolding word_at
   not_code = refl
 
-  return_executes : (state : State) → state.active ≡ 0 → reg state ra ≡ gate → execute (thin_image program) inputs state (Jalr 0 ra (pos 0)) ≡ Goes (end_state state)
+  return_executes : (state : State) → state.active ≡ 0 → state.cross ≡ [] → reg state ra ≡ gate → execute (thin_image program) inputs state (Jalr 0 ra (pos 0)) ≡ Goes (end_state state)
   unfolding execute
-  return_executes state active target = rw (target, active, not_code) refl
+  return_executes state active none target = rw (target, active, not_code, none) refl
 
   return_runs : (done : List ℕ) (state : State) → reg state a0 ≡ program.result → Stands program events (Jalr 0 ra (pos 0) ∷ []) done [] state → RunsFrom 1 state
   return_runs done state says h =
       let all : program.outputs ≡ done = h.outputs ∙ append-nil done in
       Runs-step (thin_image program) inputs whole events 0 state (end_state state)
       (is_open (Jalr 0 ra (pos 0) ∷ []) done [] state h)
-      (steps_by (Jalr 0 ra (pos 0)) [] done [] state h (lit< tt, lit< tt, record { least = search rules; greatest = search rules }) ∙ return_executes state h.active h.ra_is)
+      (steps_by (Jalr 0 ra (pos 0)) [] done [] state h (lit< tt, lit< tt, record { least = search rules; greatest = search rules }) ∙ return_executes state h.active h.cross h.ra_is)
       (λ room. Runs-end (thin_image program) inputs whole events (end_state state)
       (ap₂ (λ t e. t ++ e ∷ []) (h.trace ∙ ap shown (sym all)) (ap₂ End h.active says))
       (last_end (shown program.outputs) (End 0 program.result) refl)
@@ -309,6 +312,7 @@ module _ (program : ThinProgram) (inputs : List ℤ) (events : ℕ) where
     registers = refl;
     zero_is = refl;
     ra_is = refl;
+    cross = refl;
     trace = refl;
     outputs = refl;
     room = omega arith;

@@ -1,7 +1,7 @@
 -- What the machine shows on a compiled image is what the program means.
 use Rattle.std.specs.Prelude.{◌≡◌, ℕ, ◌+◌, ◌*◌, ◌≤◌, ◌↔◌, ℤ, List, length}
 use Rattle.sc_core.specs.declared.run.RunEnd.{RunEnd}
-use Rattle.sc_core.specs.declared.run.RunEnd.TheVariants.{Ended as MeaningEnded, EventsOut as MeaningEventsOut}
+use Rattle.sc_core.specs.declared.run.RunEnd.TheVariants.{Ended as MeaningEnded, Blamed, TurnsOut, EventsOut as MeaningEventsOut}
 use Rattle.sc_core.specs.declared.stop.Stop.{Stop}
 use Rattle.sc_core.specs.declared.stop.Stop.TheVariants.{Ended, EventsOut, Trap}
 use Rattle.sc_core.specs.declared.thin.ThinProgram.{ThinProgram}
@@ -10,10 +10,12 @@ use Rattle.sc_image.specs.declared.parts.ImageParts.{ImageParts}
 use Rattle.sc_image.specs.Machine.{machine}
 use Rattle.sc_compile.specs.Code.{thin_code}
 
--- how a machine run stops that goes as the meaning does
-abbrev pub stop_of : RunEnd → Stop
-stop_of MeaningEnded = Ended
-stop_of MeaningEventsOut = EventsOut
+-- the machine stops so where the meaning ends so; a run that is blamed or has no turn left promises nothing of the machine
+abbrev pub StopsAs : RunEnd → Stop → Type 0
+StopsAs MeaningEnded stop = stop ≡ Ended
+StopsAs MeaningEventsOut stop = stop ≡ EventsOut
+StopsAs (Blamed comp cause line) stop = Unit {0}
+StopsAs TurnsOut stop = Unit {0}
 
 -- so many steps are enough for a whole run: at most four instructions for each output, and three for the end
 abbrev pub enough_steps : ThinProgram → ℕ
@@ -24,7 +26,7 @@ pub record IsForward (program : ThinProgram) (image : ImageParts) : Type 0 where
   pub trace : (inputs : List ℤ) (steps events : ℕ) → enough_steps program ≤ steps →
       (machine image inputs steps events).state.trace ≡ (thin_meaning events program).trace
   pub stop : (inputs : List ℤ) (steps events : ℕ) → enough_steps program ≤ steps →
-      (machine image inputs steps events).stop ≡ stop_of (thin_meaning events program).end
+      StopsAs (thin_meaning events program).end (machine image inputs steps events).stop
 
 -- a stop that is no trap
 abbrev pub IsNoTrap : Stop → Type 0

@@ -8,6 +8,7 @@ use sc_compile::compile;
 use sc_core::ThinProgram;
 use sc_event::{OutOfMemory, Text};
 use sc_machine::{LoadFault, Machine};
+use sc_store::FlatStore;
 use std::alloc::Global;
 
 // At most so many steps, where the words don't say.
@@ -20,7 +21,7 @@ pub(crate) fn machine_text(alloc: Global, program: &ThinProgram) -> Result<Text,
     ensures meant { OnOk result (IsMeant program.now) }
 {
     let image = compile(alloc, program)?;
-    let mut machine = Machine::load(alloc, image, &[], DEFAULT_EVENTS).map_err(
+    let mut machine = Machine::<FlatStore>::load(alloc, image, &[], DEFAULT_EVENTS).map_err(
         |LoadFault::OutOfMemory(_)| OutOfMemory,
     )?;
     let stop = machine.run(DEFAULT_STEPS);
