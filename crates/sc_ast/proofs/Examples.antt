@@ -1,15 +1,21 @@
 -- Known values of the definitions.
-use Rattle.std.proofs.Common.{◌≡◌, true, false, codes, Some, None, refl, arith, rules}
+use Rattle.std.proofs.Common.{◌≡◌, true, false, codes, [], ◌∷◌, Some, None, refl, arith, rules}
 use Rattle.sc_event.specs.Identifier.{is_name}
 use Rattle.sc_reserved.specs.Reserved.{is_reserved}
 use Rattle.sc_ast.specs.Identifiers.{is_ident}
 use Rattle.sc_ast.specs.Numbers.{number_of, array_length}
 use Rattle.sc_ast.specs.Places.{is_place}
 use Rattle.sc_ast.specs.Height.{expr_height}
+use Rattle.sc_ast.specs.Lineless.{lineless_stmt}
+use Rattle.sc_ast.specs.Pieces.{text_of}
+use Rattle.sc_ast.specs.ExprWords.{expr_words}
 use Rattle.sc_ast.specs.declared.expr.UnaryOp.TheVariants as unary
 use Rattle.sc_ast.specs.declared.expr.BinaryOp.TheVariants as binary
 use Rattle.sc_ast.specs.declared.expr.ExprTree.{the_lemmas}
 use Rattle.sc_ast.specs.declared.expr.ExprTree.TheVariants as expr
+use Rattle.sc_ast.specs.declared.stmt.StmtTree as stmts
+use Rattle.sc_ast.specs.declared.stmt.StmtKind as kinds
+use Rattle.sc_ast.specs.declared.stmt.StmtKind.TheVariants as stmt
 
 pub if_is_reserved : is_ident (codes "if") ≡ false
 unfolding is_name is_reserved
@@ -45,3 +51,14 @@ pointed_is_a_place = search (rules, the_lemmas)
 
 pub address_is_no_place : is_place (expr.Address (expr.Variable (codes "p"))) ≡ false
 address_is_no_place = search (rules, the_lemmas)
+
+-- `while (c) { break; }`, whatever its lines
+pub lines_are_left_out : lineless_stmt (record { line = 3; kind = stmt.While (expr.Variable (codes "c")) (record { line = 4; kind = stmt.Break } ∷ []) }) ≡ lineless_stmt (record { line = 7; kind = stmt.While (expr.Variable (codes "c")) (record { line = 9; kind = stmt.Break } ∷ []) })
+lines_are_left_out = search (arith, rules, the_lemmas, kinds.the_lemmas, stmts.the_lemmas)
+
+-- `a - (b - c)` and `- -a`
+pub right_operands_stand_in_parentheses : text_of (expr_words (expr.Binary binary.Sub (expr.Variable (codes "a")) (expr.Binary binary.Sub (expr.Variable (codes "b")) (expr.Variable (codes "c"))))) ≡ codes "a - (b - c)"
+right_operands_stand_in_parentheses = search (arith, rules, the_lemmas)
+
+pub minus_stands_apart_from_minus : text_of (expr_words (expr.Unary unary.Minus (expr.Unary unary.Minus (expr.Variable (codes "a"))))) ≡ codes "- -a"
+minus_stands_apart_from_minus = search (arith, rules, the_lemmas)

@@ -1,3 +1,4 @@
 pub mod Examples
 pub mod Induction
 pub mod Layers
+pub mod Params

@@ -1,7 +1,13 @@
+pub mod ExprWords
 pub mod Heads
 pub mod Height
 pub mod Identifiers
+pub mod Levels
+pub mod Lineless
 pub mod Lists
 pub mod Numbers
+pub mod Pieces
 pub mod Places
+pub mod SectionWords
 pub mod Simple
+pub mod StmtWords

@@ -16,6 +16,7 @@ mod ident;
 mod non_empty;
 mod number;
 mod place;
+mod print;
 mod section;
 mod stmt;
 #[cfg(test)]
@@ -28,6 +29,7 @@ pub use ident::Ident;
 pub use non_empty::NonEmpty;
 pub use number::{ArrayLength, Literal};
 pub use place::PlaceTree;
+pub use print::print_section;
 pub use section::{
     ConstTree, Consts, Decl, Decls, ExportLine, ExportLines, FunctionHead, FunctionParam,
     FunctionParams, FunctionTree, GlobalTree, HeadTree, ImportLine, ImportLines, InitTree,

@@ -1,0 +1,245 @@
+//! Expressions.
+
+ghost use Rattle.std.specs.Prelude.{◌≡◌, ◌<◌, ◌++◌, [], ◌∷◌, OnOk, codes};
+ghost use Rattle.std.specs.List.{join_by};
+ghost use Rattle.sc_ast.specs.Levels.{loosest_level, level_of};
+ghost use Rattle.sc_ast.specs.Pieces.{word, blank, text_of, opened, closed, comma};
+ghost use Rattle.sc_ast.specs.ExprWords.{unary_text, binary_text, is_doubled, apart, prefix_words, words_at, expr_words, place_words, call_words};
+
+use crate::expr::{BinaryOp, CallTree, ExprTree, Exprs, UnaryOp};
+use crate::print::words::{append_closed, append_literal, append_opened};
+use sc_event::{OutOfMemory, Text};
+
+// The level of postfix expressions.
+const POSTFIX: u8 = 0;
+// The level of unary expressions.
+const UNARY: u8 = 1;
+// The level that holds every expression.
+const LOOSEST: u8 = 11;
+
+fn unary_text(op: UnaryOp) -> &'static [u8]
+    ensures { result.now ≡ unary_text op }
+{
+    match op {
+        UnaryOp::Minus => b"-",
+        UnaryOp::Plus => b"+",
+        UnaryOp::Not => b"!",
+        UnaryOp::BitNot => b"~",
+    }
+}
+
+fn binary_text(op: BinaryOp) -> &'static [u8]
+    ensures { result.now ≡ binary_text op }
+{
+    match op {
+        BinaryOp::OrElse => b"||",
+        BinaryOp::AndAlso => b"&&",
+        BinaryOp::BitOr => b"|",
+        BinaryOp::BitXor => b"^",
+        BinaryOp::BitAnd => b"&",
+        BinaryOp::Equal => b"==",
+        BinaryOp::NotEqual => b"!=",
+        BinaryOp::Less => b"<",
+        BinaryOp::Greater => b">",
+        BinaryOp::LessEqual => b"<=",
+        BinaryOp::GreaterEqual => b">=",
+        BinaryOp::ShiftLeft => b"<<",
+        BinaryOp::ShiftRight => b">>",
+        BinaryOp::Add => b"+",
+        BinaryOp::Sub => b"-",
+        BinaryOp::Mul => b"*",
+        BinaryOp::Div => b"/",
+        BinaryOp::Rem => b"%",
+    }
+}
+
+fn level_of(op: BinaryOp) -> u8
+    ensures level { result ≡ level_of op }
+    ensures positive { 0 < result }
+{
+    match op {
+        BinaryOp::Mul => 2,
+        BinaryOp::Div => 2,
+        BinaryOp::Rem => 2,
+        BinaryOp::Add => 3,
+        BinaryOp::Sub => 3,
+        BinaryOp::ShiftLeft => 4,
+        BinaryOp::ShiftRight => 4,
+        BinaryOp::Less => 5,
+        BinaryOp::Greater => 5,
+        BinaryOp::LessEqual => 5,
+        BinaryOp::GreaterEqual => 5,
+        BinaryOp::Equal => 6,
+        BinaryOp::NotEqual => 6,
+        BinaryOp::BitAnd => 7,
+        BinaryOp::BitXor => 8,
+        BinaryOp::BitOr => 9,
+        BinaryOp::AndAlso => 10,
+        BinaryOp::OrElse => 11,
+    }
+}
+
+fn is_doubled(sign: &[u8]) -> bool
+    ensures { result ≡ is_doubled sign.now }
+{
+    matches!(sign, b"-" | b"+" | b"&")
+}
+
+// The blank between two operators that would be one without it.
+fn append_apart(out: &mut Text, before: &[u8], sign: &[u8]) -> Result<(), OutOfMemory>
+    ensures { OnOk result (out.new ≡ out.old ++ text_of (apart before.now sign.now)) }
+{
+    if before == sign && is_doubled(sign) {
+        out.push(b' ')
+    } else {
+        Ok(())
+    }
+}
+
+// An operator in front of an operand, and `(` before it where that is wanted.
+fn append_sign(out: &mut Text, before: &[u8], sign: &[u8], wanted: bool) -> Result<(), OutOfMemory>
+    ensures { OnOk result (out.new ≡ out.old ++ text_of (opened wanted ++ (apart before.now sign.now ++ word sign.now ∷ []))) }
+{
+    append_opened(out, wanted)?;
+    append_apart(out, before, sign)?;
+    out.append(sign)
+}
+
+// An operator between its operands.
+fn append_operator(out: &mut Text, op: BinaryOp) -> Result<(), OutOfMemory>
+    ensures { OnOk result (out.new ≡ out.old ++ text_of (blank ∷ word (binary_text op) ∷ blank ∷ [])) }
+{
+    out.push(b' ')?;
+    out.append(binary_text(op))?;
+    out.push(b' ')
+}
+
+// Adds an expression behind an operator, which is empty where there is none. An expression of this level or a tighter
+// one gets no parentheses.
+#[cycle(expr)]
+fn append_at(out: &mut Text, expr: &ExprTree, before: &[u8], level: u8) -> Result<(), OutOfMemory>
+    ensures { OnOk result (out.new ≡ out.old ++ text_of (words_at expr.now before.now level)) }
+{
+    match expr {
+        ExprTree::Literal(literal) => append_literal(out, literal),
+        ExprTree::Variable(name) => out.append(name.as_bytes()),
+        ExprTree::Unary { op, of } => append_prefixed(
+            out,
+            unary_text(*op),
+            of.get(),
+            before,
+            level,
+        ),
+        ExprTree::Binary { op, left, right } => {
+            let own = level_of(*op);
+            append_left(out, left.get(), own, level < own)?;
+            append_operator(out, *op)?;
+            append_right(out, right.get(), own - 1, level < own)
+        }
+        ExprTree::Index { base, index } => {
+            append_at(out, base.get(), b"", POSTFIX)?;
+            append_index(out, index.get())
+        }
+        ExprTree::Member { base, name } => {
+            append_at(out, base.get(), b"", POSTFIX)?;
+            out.append(b".")?;
+            out.append(name.as_bytes())
+        }
+        ExprTree::Arrow { base, name } => {
+            append_at(out, base.get(), b"", POSTFIX)?;
+            out.append(b"->")?;
+            out.append(name.as_bytes())
+        }
+        ExprTree::Deref(of) => append_prefixed(out, b"*", of.get(), before, level),
+        ExprTree::Address(of) => append_prefixed(out, b"&", of.get(), before, level),
+    }
+}
+
+#[cycle(expr)]
+fn append_prefixed(
+    out: &mut Text,
+    sign: &[u8],
+    of: &ExprTree,
+    before: &[u8],
+    level: u8,
+) -> Result<(), OutOfMemory>
+    ensures { OnOk result (out.new ≡ out.old ++ text_of (prefix_words sign.now (words_at of.now) before.now level)) }
+{
+    append_sign(out, before, sign, level < UNARY)?;
+    append_at(out, of, sign, UNARY)?;
+    append_closed(out, level < UNARY)
+}
+
+#[cycle(expr)]
+fn append_left(out: &mut Text, left: &ExprTree, level: u8, wanted: bool) -> Result<(), OutOfMemory>
+    ensures { OnOk result (out.new ≡ out.old ++ text_of (opened wanted ++ words_at left.now [] level)) }
+{
+    append_opened(out, wanted)?;
+    append_at(out, left, b"", level)
+}
+
+#[cycle(expr)]
+fn append_right(
+    out: &mut Text,
+    right: &ExprTree,
+    level: u8,
+    wanted: bool,
+) -> Result<(), OutOfMemory>
+    ensures { OnOk result (out.new ≡ out.old ++ text_of (words_at right.now [] level ++ closed wanted)) }
+{
+    append_at(out, right, b"", level)?;
+    append_closed(out, wanted)
+}
+
+#[cycle(expr)]
+fn append_index(out: &mut Text, index: &ExprTree) -> Result<(), OutOfMemory>
+    ensures { OnOk result (out.new ≡ out.old ++ text_of (word (codes "[") ∷ (words_at index.now [] loosest_level ++ word (codes "]") ∷ []))) }
+{
+    out.append(b"[")?;
+    append_at(out, index, b"", LOOSEST)?;
+    out.append(b"]")
+}
+
+/// Adds an expression that needs no parentheses.
+pub fn append_expr(out: &mut Text, expr: &ExprTree) -> Result<(), OutOfMemory>
+    ensures { OnOk result (out.new ≡ out.old ++ text_of (expr_words expr.now)) }
+{
+    append_at(out, expr, b"", LOOSEST)
+}
+
+/// Adds a place.
+pub fn append_place(out: &mut Text, place: &ExprTree) -> Result<(), OutOfMemory>
+    ensures { OnOk result (out.new ≡ out.old ++ text_of (place_words place.now)) }
+{
+    append_at(out, place, b"", UNARY)
+}
+
+/// Adds a call.
+pub fn append_call(out: &mut Text, call: &CallTree) -> Result<(), OutOfMemory>
+    ensures { OnOk result (out.new ≡ out.old ++ text_of (call_words call.now)) }
+{
+    out.append(call.name.as_bytes())?;
+    out.append(b"(")?;
+    append_args(out, &call.args)?;
+    out.append(b")")
+}
+
+fn append_args(out: &mut Text, args: &Exprs) -> Result<(), OutOfMemory>
+    ensures { OnOk result (out.new ≡ out.old ++ text_of (join_by expr_words comma args.now)) }
+{
+    let [first, rest @ ..] = args.as_slice() else {
+        return Ok(());
+    };
+    append_expr(out, first)?;
+    for arg in rest {
+        append_next_arg(out, arg)?;
+    }
+    Ok(())
+}
+
+fn append_next_arg(out: &mut Text, arg: &ExprTree) -> Result<(), OutOfMemory>
+    ensures { OnOk result (out.new ≡ out.old ++ text_of (comma ++ expr_words arg.now)) }
+{
+    out.append(b", ")?;
+    append_expr(out, arg)
+}
