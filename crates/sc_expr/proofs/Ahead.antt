@@ -1,0 +1,160 @@
+-- What stands at the front, where reading says so.
+use Rattle.std.proofs.Common.{◌≡◌, ℕ, ◌≤◌, ◌<◌, true, cond, leb, List, [], ◌∷◌, Option, Some, None, refl, sym, ap, ◌∙◌, subst, arith, rules, ⊎_elim}
+use Rattle.std.specs.Option.{option_map}
+use Rattle.std.proofs.lemmas.Option.{none-some, cond_some}
+use Rattle.std.proofs.lemmas.Bool.{leb-true, le-leb, cases_lt}
+use Rattle.sc_ast.specs.declared.expr.BinaryOp.{BinaryOp}
+use Rattle.sc_ast.specs.declared.expr.BinaryOp.TheVariants as binary
+use Rattle.sc_expr.specs.contracts.mark.Mark.{the_type}
+use denote.Enum.Bare.{same_true}
+use Rattle.sc_expr.specs.declared.mark.Mark.{Mark}
+use Rattle.sc_expr.specs.declared.mark.Mark.TheVariants as mark
+use Rattle.sc_expr.specs.declared.operator.Prefix.{Prefix}
+use Rattle.sc_expr.specs.declared.operator.Extension.{Extension}
+use Rattle.sc_expr.specs.declared.operator.Extension.TheVariants as extension
+use Rattle.sc_expr.specs.declared.lexeme.Symbol.{Symbol}
+use Rattle.sc_expr.specs.declared.lexeme.Symbol.TheVariants as symbol
+use Rattle.sc_expr.specs.declared.lexeme.Lexeme.{Lexeme}
+use Rattle.sc_expr.specs.declared.parser.Lead.{Lead}
+use Rattle.sc_expr.specs.declared.parser.Lead.TheVariants as lead
+use Rattle.sc_expr.specs.Marks.{level_of, binary_of, prefix_of, extension_of, extension_level}
+use Rattle.sc_expr.specs.Grammar.{IsMark, IsIdent}
+use Rattle.sc_expr.specs.Fronts.{is_mark, behind, extension_by, extension_at}
+use Rattle.sc_expr.specs.Reading.{within, extension_within, lead_by, lead_of, name_by, name_at}
+use Rattle.sc_expr.proofs.Options.{same_some, bound}
+
+-- every operator between operands is looser than the prefix operators
+pub operator_low : (op : BinaryOp) → 2 ≤ level_of op
+operator_low binary.Mul = omega arith
+operator_low _ = omega arith
+
+-- none of what goes on behind an expression has the level of the prefix operators
+pub no_unary : (ext : Extension) → 1 ≤ extension_level ext → 2 ≤ extension_level ext
+no_unary (extension.Operator op) h = operator_low op
+no_unary extension.Index h = absurd (omega arith)
+no_unary extension.Member h = absurd (omega arith)
+no_unary extension.Arrow h = absurd (omega arith)
+
+abbrev operator_in : Option Extension → Option BinaryOp
+operator_in (Some (extension.Operator op)) = Some op
+operator_in _ = None
+
+pub operator_mark : (m : Mark) (op : BinaryOp) → extension_of m ≡ Some (extension.Operator op) → binary_of m ≡ Some op
+operator_mark mark.OpenSquare op h = absurd (none-some op (ap operator_in h))
+operator_mark mark.Dot op h = absurd (none-some op (ap operator_in h))
+operator_mark mark.Arrow op h = absurd (none-some op (ap operator_in h))
+operator_mark _ op h = ap operator_in h
+
+pub mark_operator : (m : Mark) (op : BinaryOp) → binary_of m ≡ Some op → extension_of m ≡ Some (extension.Operator op)
+mark_operator mark.OpenSquare op h = absurd (none-some op h)
+mark_operator mark.Dot op h = absurd (none-some op h)
+mark_operator mark.Arrow op h = absurd (none-some op h)
+mark_operator _ op h = ap (λ o. option_map (λ x. extension.Operator x) o) h
+
+abbrev index_in : Option Extension → Option ℕ
+index_in (Some extension.Index) = Some 0
+index_in _ = None
+
+pub index_mark : (m : Mark) → extension_of m ≡ Some extension.Index → m ≡ mark.OpenSquare
+index_mark mark.OpenSquare h = refl
+index_mark _ h = absurd (none-some 0 (ap index_in h))
+
+abbrev member_in : Option Extension → Option ℕ
+member_in (Some extension.Member) = Some 0
+member_in _ = None
+
+pub member_mark : (m : Mark) → extension_of m ≡ Some extension.Member → m ≡ mark.Dot
+member_mark mark.Dot h = refl
+member_mark _ h = absurd (none-some 0 (ap member_in h))
+
+abbrev arrow_in : Option Extension → Option ℕ
+arrow_in (Some extension.Arrow) = Some 0
+arrow_in _ = None
+
+pub arrow_mark : (m : Mark) → extension_of m ≡ Some extension.Arrow → m ≡ mark.Arrow
+arrow_mark mark.Arrow h = refl
+arrow_mark _ h = absurd (none-some 0 (ap arrow_in h))
+
+-- A mark stands at the front that goes on with an expression, in a level or a tighter one.
+pub record Ahead (level : ℕ) (ts : List Lexeme) (ext : Extension) (us : List Lexeme) : Type 0 where
+  pub first : Lexeme
+  pub m : Mark
+  pub split : ts ≡ first ∷ us
+  pub is : IsMark m first
+  pub of : extension_of m ≡ Some ext
+  pub low : extension_level ext ≤ level
+
+within_some : (level : ℕ) (us vs : List Lexeme) (ext : Extension) (o : Option Extension) → within level us o ≡ Some (ext, vs) → (o ≡ Some ext) × (us ≡ vs) × (extension_level ext ≤ level)
+within_some level us vs ext None h = absurd (none-some _ h)
+within_some level us vs ext (Some e) h =
+    let c = cond_some (leb (extension_level e) level) (e, us) (ext, vs) h in
+    let same : e ≡ ext = ap (λ x. x.0) c.1 in
+    (ap (λ x. Some x) same, ap (λ x. x.1) c.1, subst (λ x. extension_level x ≤ level) same (leb-true (extension_level e) level c.0))
+
+by_mark : (s : Symbol) (ext : Extension) → extension_by s ≡ Some ext → (m : Mark) × (s ≡ symbol.Mark m) × (extension_of m ≡ Some ext)
+by_mark (symbol.Mark m) ext h = (m, refl, h)
+by_mark _ ext h = absurd (none-some ext h)
+
+pub ahead : (level : ℕ) (ts us : List Lexeme) (ext : Extension) → extension_within level ts ≡ Some (ext, us) → Ahead level ts ext us
+ahead level [] us ext h = absurd (none-some _ h)
+ahead level (t ∷ ts) us ext h =
+    let w = within_some level ts us ext (extension_by t.symbol) h in
+    let b = by_mark t.symbol ext w.0 in
+    record { first = t; m = b.0; split = ap (λ rest. t ∷ rest) w.1; is = b.1; of = b.2; low = w.2 }
+
+within_none : (level : ℕ) (us : List Lexeme) (ext : Extension) → within level us (Some ext) ≡ None → level < extension_level ext
+within_none level us ext h =
+    ⊎_elim (λ more. more) (λ low. absurd (none-some _ (sym h ∙ ap (λ b. cond b (Some (ext, us)) None) (le-leb (extension_level ext) level low)))) (cases_lt level (extension_level ext))
+
+-- where nothing of a level goes on, what does is looser
+pub nothing_within : (level : ℕ) (ts : List Lexeme) → extension_within level ts ≡ None → (ext : Extension) → extension_at ts ≡ Some ext → level < extension_level ext
+nothing_within level [] h ext at = absurd (none-some ext at)
+nothing_within level (t ∷ ts) h ext at = within_none level ts ext (ap (λ o. within level ts o) (sym at) ∙ h)
+
+pub same_mark : (m other : Mark) → is_mark m (symbol.Mark other) ≡ true → other ≡ m
+same_mark m other h = same_true the_type (search rules) other m h
+
+marked : (m : Mark) (s : Symbol) → is_mark m s ≡ true → s ≡ symbol.Mark m
+marked m (symbol.Mark other) h = ap (λ x. symbol.Mark x) (same_mark m other h)
+marked m _ h = absurd (none-some {A = ℕ} 0 (ap (λ b. cond b (Some 0) None) h))
+
+pub behind_mark : (m : Mark) (ts us : List Lexeme) → behind m ts ≡ Some us → (t : Lexeme) × (ts ≡ t ∷ us) × IsMark m t
+behind_mark m [] us h = absurd (none-some us h)
+behind_mark m (t ∷ ts) us h =
+    let c = cond_some (is_mark m t.symbol) ts us h in
+    (t, ap (λ rest. t ∷ rest) c.1, marked m t.symbol c.0)
+
+named : (s : Symbol) (name : List ℕ) → name_by s ≡ Some name → s ≡ symbol.Ident name
+named (symbol.Ident other) name h = ap (λ x. symbol.Ident x) (same_some h)
+named _ name h = absurd (none-some name h)
+
+pub name_ahead : (ts us : List Lexeme) (name : List ℕ) → name_at ts ≡ Some (name, us) → (t : Lexeme) × (ts ≡ t ∷ us) × IsIdent name t
+name_ahead [] us name h = absurd (none-some _ h)
+name_ahead (t ∷ ts) us name h =
+    let b = bound (λ x. Some (x, ts)) (name_by t.symbol) (name, us) h in
+    let same = same_some b.2 in
+    (t, ap (λ x. t ∷ x.1) same, named t.symbol name (b.1 ∙ ap (λ x. Some x.0) same))
+
+abbrev paren_in : Option Lead → Option ℕ
+paren_in (Some lead.Paren) = Some 0
+paren_in _ = None
+
+abbrev prefix_in : Option Lead → Option Prefix
+prefix_in (Some (lead.Prefix p)) = Some p
+prefix_in _ = None
+
+paren_by : (m : Mark) → lead_by m ≡ Some lead.Paren → m ≡ mark.OpenParen
+paren_by mark.OpenParen h = refl
+paren_by _ h = absurd (none-some 0 (ap paren_in h))
+
+prefix_by : (m : Mark) (p : Prefix) → lead_by m ≡ Some (lead.Prefix p) → prefix_of m ≡ Some p
+prefix_by mark.OpenParen p h = absurd (none-some p (ap prefix_in h))
+prefix_by _ p h = ap prefix_in h
+
+pub paren_lead : (s : Symbol) → lead_of s ≡ Some lead.Paren → s ≡ symbol.Mark mark.OpenParen
+paren_lead (symbol.Mark m) h = ap (λ x. symbol.Mark x) (paren_by m h)
+paren_lead _ h = absurd (none-some lead.Paren h)
+
+pub prefix_lead : (s : Symbol) (p : Prefix) → lead_of s ≡ Some (lead.Prefix p) → (m : Mark) × (s ≡ symbol.Mark m) × (prefix_of m ≡ Some p)
+prefix_lead (symbol.Mark m) p h = (m, refl, prefix_by m p h)
+prefix_lead _ p h = absurd (none-some (lead.Prefix p) h)

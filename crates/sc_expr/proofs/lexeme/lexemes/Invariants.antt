@@ -1,0 +1,6 @@
+use Rattle.std.proofs.Common.{◌≡◌, map, take}
+use Rattle.sc_expr.specs.Lexemes.{lexeme_of}
+use Rattle.sc_expr.proofs.lexeme.lexemes.Given as goal
+
+abbrev pub invariant-loop-token : goal.invariant-loop-token
+invariant-loop-token l = l.found ≡ map (λ token. lexeme_of l.bytes token) (take l.token-index l.tokens)

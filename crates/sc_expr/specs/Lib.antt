@@ -1,0 +1,6 @@
+pub mod Marks
+pub mod Brackets
+pub mod Grammar
+pub mod Fronts
+pub mod Reading
+pub mod Lexemes

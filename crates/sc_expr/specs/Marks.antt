@@ -1,0 +1,96 @@
+-- What marks mean between, before and behind expressions.
+use Rattle.std.specs.Prelude.{ℕ, Option, Some, None}
+use Rattle.std.specs.Option.{option_map}
+use Rattle.sc_ast.specs.declared.expr.ExprTree.{ExprTree}
+use Rattle.sc_ast.specs.declared.expr.ExprTree.TheVariants as expr
+use Rattle.sc_ast.specs.declared.expr.UnaryOp.TheVariants as unary
+use Rattle.sc_ast.specs.declared.expr.BinaryOp.{BinaryOp}
+use Rattle.sc_ast.specs.declared.expr.BinaryOp.TheVariants as binary
+use Rattle.sc_expr.specs.declared.mark.Mark.{Mark}
+use Rattle.sc_expr.specs.declared.mark.Mark.TheVariants as mark
+use Rattle.sc_expr.specs.declared.operator.Prefix.{Prefix}
+use Rattle.sc_expr.specs.declared.operator.Prefix.TheVariants as prefix
+use Rattle.sc_expr.specs.declared.operator.Extension.{Extension}
+use Rattle.sc_expr.specs.declared.operator.Extension.TheVariants as extension
+
+-- The levels of expressions, the tightest first: postfix expressions (C11 6.5.2), unary expressions (6.5.3), and
+-- those of the binary operators (6.5.5 to 6.5.14), of which the last holds every expression.
+abbrev pub postfix_level : ℕ
+postfix_level = 0
+
+abbrev pub unary_level : ℕ
+unary_level = 1
+
+abbrev pub loosest_level : ℕ
+loosest_level = 11
+
+-- the level of the expressions that an operator joins
+abbrev pub level_of : BinaryOp → ℕ
+level_of binary.Mul = 2
+level_of binary.Div = 2
+level_of binary.Rem = 2
+level_of binary.Add = 3
+level_of binary.Sub = 3
+level_of binary.ShiftLeft = 4
+level_of binary.ShiftRight = 4
+level_of binary.Less = 5
+level_of binary.Greater = 5
+level_of binary.LessEqual = 5
+level_of binary.GreaterEqual = 5
+level_of binary.Equal = 6
+level_of binary.NotEqual = 6
+level_of binary.BitAnd = 7
+level_of binary.BitXor = 8
+level_of binary.BitOr = 9
+level_of binary.AndAlso = 10
+level_of binary.OrElse = 11
+
+-- the operator that a mark is between two operands
+abbrev pub binary_of : Mark → Option BinaryOp
+binary_of mark.Plus = Some binary.Add
+binary_of mark.Minus = Some binary.Sub
+binary_of mark.Star = Some binary.Mul
+binary_of mark.Slash = Some binary.Div
+binary_of mark.Percent = Some binary.Rem
+binary_of mark.LessLess = Some binary.ShiftLeft
+binary_of mark.GreaterGreater = Some binary.ShiftRight
+binary_of mark.Less = Some binary.Less
+binary_of mark.Greater = Some binary.Greater
+binary_of mark.LessEqual = Some binary.LessEqual
+binary_of mark.GreaterEqual = Some binary.GreaterEqual
+binary_of mark.EqualEqual = Some binary.Equal
+binary_of mark.NotEqual = Some binary.NotEqual
+binary_of mark.And = Some binary.BitAnd
+binary_of mark.Caret = Some binary.BitXor
+binary_of mark.Or = Some binary.BitOr
+binary_of mark.AndAnd = Some binary.AndAlso
+binary_of mark.OrOr = Some binary.OrElse
+binary_of _ = None
+
+-- the operator that a mark is in front of an operand
+abbrev pub prefix_of : Mark → Option Prefix
+prefix_of mark.Minus = Some (prefix.Operator unary.Minus)
+prefix_of mark.Plus = Some (prefix.Operator unary.Plus)
+prefix_of mark.Not = Some (prefix.Operator unary.Not)
+prefix_of mark.Tilde = Some (prefix.Operator unary.BitNot)
+prefix_of mark.Star = Some prefix.Dereference
+prefix_of mark.And = Some prefix.Address
+prefix_of _ = None
+
+-- an operator before its operand
+abbrev pub prefixed : Prefix → ExprTree → ExprTree
+prefixed (prefix.Operator op) of = expr.Unary op of
+prefixed prefix.Dereference of = expr.Deref of
+prefixed prefix.Address of = expr.Address of
+
+-- what a mark behind an expression goes on with
+abbrev pub extension_of : Mark → Option Extension
+extension_of mark.OpenSquare = Some extension.Index
+extension_of mark.Dot = Some extension.Member
+extension_of mark.Arrow = Some extension.Arrow
+extension_of m = option_map (λ op. extension.Operator op) (binary_of m)
+
+-- the level of the expressions that are made so
+abbrev pub extension_level : Extension → ℕ
+extension_level (extension.Operator op) = level_of op
+extension_level _ = postfix_level

@@ -1,0 +1,20 @@
+//! Expressions: tokens with what they say, the grammar of expressions, and their parser.
+//!
+//! A lexeme is a token with what its text says, so that the grammar speaks of no bytes. The grammar is a relation
+//! between lists of lexemes and the trees of `sc_ast`.
+#![tactic(auto)]
+
+mod fault;
+mod lexeme;
+mod mark;
+mod operator;
+mod parser;
+mod reading;
+#[cfg(test)]
+mod tests;
+
+pub use fault::SyntaxFault;
+pub use lexeme::{Lexeme, Lexemes, Symbol, expect, lexemes, refused, refused_before};
+pub use mark::{Keyword, Mark};
+pub use operator::{Extension, Prefix};
+pub use parser::{Built, one_expr, one_front, parse_expr, parse_level, parse_unary};
