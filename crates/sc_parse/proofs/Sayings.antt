@@ -1,0 +1,158 @@
+-- Tokens say something.
+use Rattle.std.proofs.Common.{◌≡◌, ℕ, zero, suc, ◌≤◌, ◌<◌, Bool, true, false, not, ◌||◌, ◌&&◌, cond, leb, bytes_eq, codes, nat_lt, nat_le, List, [], ◌∷◌, map, get_or, slice_range, All, Option, Some, None, is_some, refl, sym, ap, ◌∙◌, subst, arith}
+use Rattle.std.proofs.lemmas.Option.{none-some}
+use Rattle.std.proofs.lemmas.Bool.{leb-false, lt-leb, le-leb}
+use Rattle.std.proofs.lemmas.Slice.Eq.{bytes_eq-Decides}
+use Rattle.std.specs.List.{list_any}
+use Rattle.std.specs.Option.{option_or, option_map, option_and_then}
+use Rattle.sc_event.specs.Identifier.{is_name, name_of}
+use Rattle.sc_reserved.specs.Reserved.{is_reserved}
+use Rattle.sc_ast.specs.Numbers.{number_of}
+use Rattle.sc_ast.specs.Identifiers.{ident_of}
+use Rattle.sc_lex.specs.Words.{words}
+use Rattle.sc_lex.specs.Headings.{heading_name}
+use Rattle.sc_lex.specs.Integers.{is_integer, integer_of, value_of, is_unsigned, has_suffix}
+use Rattle.sc_lex.specs.Tables.{marks, is_mark}
+use Rattle.sc_lex.specs.Kinds.{is_export, is_import, is_pragma, line_kind, word_kind, mark_kind, directive_kind, kind_of}
+use Rattle.sc_lex.specs.Spans.{IsSpan, AreSpans}
+use Rattle.sc_lex.specs.declared.token.Token.{Token}
+use Rattle.sc_lex.specs.declared.token.TokenKind.{TokenKind}
+use Rattle.sc_lex.specs.declared.token.TokenKind.TheVariants as kind
+use Rattle.sc_expr.specs.declared.mark.Mark.{Mark}
+use Rattle.sc_expr.specs.declared.lexeme.Symbol.{Symbol}
+use Rattle.sc_expr.specs.declared.lexeme.Symbol.TheVariants as symbol
+use Rattle.sc_expr.specs.Lexemes.{look_up, mark_texts, mark_of, says, number_in, ident_in, third_word, fourth_word, import_of, or_unused, symbol_of}
+use Rattle.sc_expr.proofs.Options.{same_some}
+use Rattle.sc_parse.proofs.Expressions.{false-true}
+
+-- a text of this kind says something
+abbrev Speaks : TokenKind → List ℕ → Type 0
+Speaks kind text = is_some (says kind text) ≡ true
+
+mapped : {A B : Type 0} (f : A → B) (o : Option A) → is_some o ≡ true → is_some (option_map f o) ≡ true
+mapped f None h = absurd (false-true h)
+mapped f (Some x) h = refl
+
+ident_speaks : (text : List ℕ) → is_reserved text ≡ false → is_name text ≡ true → is_some (ident_in text) ≡ true
+ident_speaks text free named = rw (named, free)
+
+typed : (suffix : Bool) (value : ℕ) → ((suffix || nat_lt 2147483647 value) || nat_le value 2147483647) ≡ true
+typed true value = refl
+typed false value = go (nat_le value 2147483647) refl
+  where
+    go : (b : Bool) → nat_le value 2147483647 ≡ b → (nat_lt 2147483647 value || b) ≡ true
+    go true q = either (nat_lt 2147483647 value)
+      where
+        either : (b : Bool) → (b || true) ≡ true
+        either true = refl
+        either false = refl
+    go false q = ap (λ b. b || false) (le-leb 2147483648 value (omega (arith, leb-false value 2147483647 q)))
+
+integer_speaks : (text : List ℕ) → is_integer text ≡ true → is_some (number_in text) ≡ true
+unfolding integer_of
+integer_speaks text h = rw (h, typed (has_suffix text) (value_of text))
+
+-- texts alike by either test
+alike : (xs ys : List ℕ) → bytes_eq xs ys ≡ true → bytes_eq ys xs ≡ true
+alike xs ys h = (bytes_eq-Decides ys xs).1 (sym ((bytes_eq-Decides xs ys).0 h))
+
+looked : (rows : List (List ℕ × Mark)) (text : List ℕ) → list_any (λ mark. bytes_eq text mark) (map (λ row. row.0) rows) ≡ true → is_some (look_up rows text) ≡ true
+looked [] text h = absurd (false-true h)
+looked (row ∷ rows) text h = go (bytes_eq text row.0) refl (bytes_eq row.0 text) refl (looked rows text) h
+  where
+    go : (b : Bool) → bytes_eq text row.0 ≡ b → (a : Bool) → bytes_eq row.0 text ≡ a → (list_any (λ mark. bytes_eq text mark) (map (λ row. row.0) rows) ≡ true → is_some (look_up rows text) ≡ true) → (b || list_any (λ mark. bytes_eq text mark) (map (λ row. row.0) rows)) ≡ true → is_some (cond {A = Option Mark} a (Some row.1) (look_up rows text)) ≡ true
+    go b p true q more e = refl
+    go true p false q more e = absurd (false-true (sym q ∙ alike text row.0 p))
+    go false p false q more e = more e
+
+mark_speaks : (text : List ℕ) → is_mark text ≡ true → is_some (mark_of text) ≡ true
+unfolding is_mark mark_of
+mark_speaks text h = looked mark_texts text h
+
+named_word : (word : List ℕ) → is_name word ≡ true → is_some (name_of word) ≡ true
+named_word word h = rw h
+
+last_of_two : (a b : Bool) → (a && b) ≡ true → b ≡ true
+last_of_two true b h = h
+last_of_two false b h = absurd (false-true h)
+
+first_of_two : (a b : Bool) → (a && b) ≡ true → a ≡ true
+first_of_two true b h = refl
+first_of_two false b h = absurd (false-true h)
+
+export_speaks : (ws : List (List ℕ)) → is_export ws ≡ true → is_some (name_of (get_or ws 2 [])) ≡ true
+export_speaks [] h = absurd (false-true h)
+export_speaks (a ∷ []) h = absurd (false-true h)
+export_speaks (a ∷ b ∷ []) h = absurd (false-true h)
+export_speaks (a ∷ b ∷ c ∷ []) h = named_word c (last_of_two (bytes_eq a (codes "#pragma") && bytes_eq b (codes "export")) (is_name c) h)
+export_speaks (a ∷ b ∷ c ∷ d ∷ more) h = absurd (false-true h)
+
+import_speaks : (ws : List (List ℕ)) → is_import ws ≡ true → is_some (import_of (name_of (get_or ws 2 [])) (name_of (get_or ws 3 []))) ≡ true
+import_speaks [] h = absurd (false-true h)
+import_speaks (a ∷ []) h = absurd (false-true h)
+import_speaks (a ∷ b ∷ []) h = absurd (false-true h)
+import_speaks (a ∷ b ∷ c ∷ []) h = absurd (false-true h)
+import_speaks (a ∷ b ∷ c ∷ d ∷ []) h =
+    let words = bytes_eq a (codes "#pragma") && bytes_eq b (codes "import") in
+    both (is_name c) refl (is_name d) refl (last_of_two words (is_name c) (first_of_two (words && is_name c) (is_name d) h)) (last_of_two (words && is_name c) (is_name d) h)
+  where
+    both : (x : Bool) → is_name c ≡ x → (y : Bool) → is_name d ≡ y → x ≡ true → y ≡ true → is_some (import_of (name_of c) (name_of d)) ≡ true
+    both true p true q e f = rw (p, q)
+    both true p false q e f = absurd (false-true f)
+    both false p y q e f = absurd (false-true e)
+import_speaks (a ∷ b ∷ c ∷ d ∷ e ∷ more) h = absurd (false-true h)
+
+as_kind : (text : List ℕ) (kind other : TokenKind) → Some other ≡ Some kind → Speaks other text → Speaks kind text
+as_kind text kind other same speaks = subst (λ k. Speaks k text) (same_some same) speaks
+
+word_speaks : (text : List ℕ) (k : TokenKind) → (k ≡ kind.Reserved → ⊥) → word_kind text ≡ Some k → Speaks k text
+unfolding word_kind says
+word_speaks text k free h = go (is_reserved text) refl (is_name text) refl (is_integer text) refl h
+  where
+    go : (r : Bool) → is_reserved text ≡ r → (n : Bool) → is_name text ≡ n → (i : Bool) → is_integer text ≡ i → cond {A = Option TokenKind} r (Some kind.Reserved) (cond n (Some kind.Ident) (cond i (Some kind.Integer) None)) ≡ Some k → Speaks k text
+    go true p n q i t e = absurd (free (sym (same_some e)))
+    go false p true q i t e = as_kind text k kind.Ident e (mapped (λ name. symbol.Ident name) (ident_in text) (ident_speaks text p q))
+    go false p false q true t e = as_kind text k kind.Integer e (mapped (λ number. symbol.Integer number) (number_in text) (integer_speaks text t))
+    go false p false q false t e = absurd (none-some k e)
+
+mark_kind_speaks : (text : List ℕ) (k : TokenKind) → mark_kind text ≡ Some k → Speaks k text
+unfolding says
+mark_kind_speaks text k h = go (is_mark text) refl h
+  where
+    go : (b : Bool) → is_mark text ≡ b → cond {A = Option TokenKind} b (Some kind.Mark) None ≡ Some k → Speaks k text
+    go true p e = as_kind text k kind.Mark e (mapped (λ m. symbol.Mark m) (mark_of text) (mark_speaks text p))
+    go false p e = absurd (none-some k e)
+
+line_speaks : (text : List ℕ) (k : TokenKind) → line_kind text ≡ Some k → Speaks k text
+unfolding line_kind says
+line_speaks text k h = go (is_some (heading_name text)) refl (is_export (words text)) refl (is_import (words text)) refl h
+  where
+    go : (c : Bool) → is_some (heading_name text) ≡ c → (x : Bool) → is_export (words text) ≡ x → (i : Bool) → is_import (words text) ≡ i → cond {A = Option TokenKind} c (Some kind.Compartment) (cond x (Some kind.Export) (cond i (Some kind.Import) None)) ≡ Some k → Speaks k text
+    go true p x q i t e = as_kind text k kind.Compartment e (mapped (λ name. symbol.Compartment name) (heading_name text) p)
+    go false p true q i t e = as_kind text k kind.Export e (mapped (λ name. symbol.Export name) (third_word text) (export_speaks (words text) q))
+    go false p false q true t e = as_kind text k kind.Import e (import_speaks (words text) t)
+    go false p false q false t e = absurd (none-some k e)
+
+directive_speaks : (text : List ℕ) (k : TokenKind) → directive_kind text ≡ Some k → Speaks k text
+directive_speaks text k h = go (is_pragma text) h
+  where
+    go : (b : Bool) → cond {A = Option TokenKind} b (line_kind text) None ≡ Some k → Speaks k text
+    go true e = line_speaks text k e
+    go false e = absurd (none-some k e)
+
+kind_speaks : (text : List ℕ) (k : TokenKind) → (k ≡ kind.Reserved → ⊥) → kind_of text ≡ Some k → Speaks k text
+unfolding kind_of
+kind_speaks text k free h = go (word_kind text) refl (mark_kind text) refl h
+  where
+    go : (w : Option TokenKind) → word_kind text ≡ w → (m : Option TokenKind) → mark_kind text ≡ m → option_or w (option_or m (directive_kind text)) ≡ Some k → Speaks k text
+    go (Some w) p m q e = word_speaks text k free (p ∙ e)
+    go None p (Some m) q e = mark_kind_speaks text k (q ∙ e)
+    go None p None q e = directive_speaks text k e
+
+said : (o : Option Symbol) → is_some o ≡ true → o ≡ Some (or_unused o)
+said None h = absurd (false-true h)
+said (Some s) h = refl
+
+-- a token that is no reserved word is the lexeme that its text says
+pub token_says : (bytes : List ℕ) (token : Token) → IsSpan bytes token → (token.kind ≡ kind.Reserved → ⊥) → says token.kind (slice_range bytes token.start token.end) ≡ Some (symbol_of bytes token)
+token_says bytes token span free = said (says token.kind (slice_range bytes token.start token.end)) (kind_speaks (slice_range bytes token.start token.end) token.kind free span.kind)

@@ -1,0 +1,46 @@
+use Rattle.std.proofs.Common.{◌≡◌, ◌+◌, ◌-◌, ◌*◌, [], length}
+use Rattle.sc_expr.specs.declared.mark.Mark.TheVariants as mark
+use Rattle.sc_parse.specs.Fronts.{begins_with}
+use Rattle.sc_parse.specs.Readers.{adds, grouped}
+use Rattle.sc_parse.specs.StmtReaders.{stmt_at}
+use Rattle.sc_parse.proofs.stmts.+statements.Given as goal
+
+abbrev pub decreases-stmt_at : goal.decreases-stmt_at
+decreases-stmt_at l = 9 * l.room
+
+abbrev pub decreases-with_stmt : goal.decreases-with_stmt
+decreases-with_stmt l = 9 * l.room + 1
+
+abbrev pub decreases-alone : goal.decreases-alone
+decreases-alone l = 9 * l.room + 1
+
+abbrev pub decreases-stmts_at : goal.decreases-stmts_at
+decreases-stmts_at l = 9 * l.room + 2
+
+abbrev pub decreases-block_at : goal.decreases-block_at
+decreases-block_at l = 9 * l.room + 3
+
+abbrev pub decreases-else_behind : goal.decreases-else_behind
+decreases-else_behind l = 9 * l.room + 4
+
+abbrev pub decreases-else_at : goal.decreases-else_at
+decreases-else_at l = 9 * l.room + 5
+
+abbrev pub decreases-if_behind : goal.decreases-if_behind
+decreases-if_behind l = 9 * l.room + 6
+
+abbrev pub decreases-while_behind : goal.decreases-while_behind
+decreases-while_behind l = 9 * l.room + 6
+
+abbrev pub decreases-for_behind : goal.decreases-for_behind
+decreases-for_behind l = 9 * l.room + 6
+
+abbrev pub decreases-kind_by : goal.decreases-kind_by
+decreases-kind_by l = 9 * l.room + 7
+
+-- what is read is what the rest of the loop reads
+abbrev pub invariant-stmts_at-loop : goal.invariant-stmts_at-loop
+invariant-stmts_at-loop l = grouped (begins_with mark.CloseCurly) (adds (stmt_at 1024 l.room)) (length l.initial.rest.now + 1) [] l.initial.rest.now ≡ grouped (begins_with mark.CloseCurly) (adds (stmt_at 1024 l.room)) (length l.initial.rest.now + 1 - l.counter) l.stmts l.rest.now
+
+abbrev pub decreases-stmt_within : goal.decreases-stmt_within
+decreases-stmt_within l = 9 * l.room + 8

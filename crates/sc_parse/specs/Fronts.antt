@@ -1,0 +1,73 @@
+-- What stands at the front of a list of lexemes.
+use Rattle.std.specs.Prelude.{ℕ, Bool, true, false, ◌&&◌, List, [], ◌∷◌, Option, Some, None, is_some, drop, if◌then◌else◌}
+use Rattle.std.specs.List.{prefix_len}
+use Rattle.sc_ast.specs.Numbers.{Number}
+use Rattle.sc_expr.specs.declared.mark.Keyword.{Keyword}
+use Rattle.sc_expr.specs.declared.mark.Keyword.TheVariants as word
+use Rattle.sc_expr.specs.declared.mark.Mark.{Mark}
+use Rattle.sc_expr.specs.declared.mark.Mark.TheVariants as mark
+use Rattle.sc_expr.specs.declared.lexeme.Symbol.{Symbol}
+use Rattle.sc_expr.specs.declared.lexeme.Symbol.TheVariants as symbol
+use Rattle.sc_expr.specs.declared.lexeme.Lexeme.{Lexeme}
+use Rattle.sc_expr.specs.Fronts.{is_mark, behind}
+use Rattle.sc_expr.specs.Reading.{name_by}
+
+-- what is read at the front, and the lexemes behind it
+abbrev pub Reader : Type 0 → Type 0
+Reader A = List Lexeme → Option (A × List Lexeme)
+
+abbrev pub keyword_by : Symbol → Option Keyword
+keyword_by (symbol.Keyword word) = Some word
+keyword_by _ = None
+
+-- the reserved word at the front
+abbrev pub keyword_at : List Lexeme → Option Keyword
+keyword_at [] = None
+keyword_at (t ∷ ts) = keyword_by t.symbol
+
+abbrev pub is_int : Option Keyword → Bool
+is_int (Some word.Int) = true
+is_int _ = false
+
+-- the lexemes without an `int` that may stand in front
+abbrev pub past_int : List Lexeme → List Lexeme
+past_int ts = if is_int (keyword_at ts) then drop 1 ts else ts
+
+abbrev pub is_void : Option Keyword → Bool
+is_void (Some word.Void) = true
+is_void _ = false
+
+abbrev pub is_else : Option Keyword → Bool
+is_else (Some word.Else) = true
+is_else _ = false
+
+-- the words that a declaration of variables begins with
+abbrev pub is_base : Option Keyword → Bool
+is_base (Some word.Int) = true
+is_base (Some word.Signed) = true
+is_base (Some word.Unsigned) = true
+is_base (Some word.Struct) = true
+is_base _ = false
+
+abbrev pub integer_by : Symbol → Option Number
+integer_by (symbol.Integer number) = Some number
+integer_by _ = None
+
+-- this mark stands at the front
+abbrev pub begins_with : Mark → List Lexeme → Bool
+begins_with m [] = false
+begins_with m (t ∷ ts) = is_mark m t.symbol
+
+-- an identifier and `(` stand at the front
+abbrev pub begins_call : List Lexeme → Bool
+begins_call [] = false
+begins_call (t ∷ ts) = is_some (name_by t.symbol) && begins_with mark.OpenParen ts
+
+-- how many `*` stand at the front
+unfoldable pub star_count : List Lexeme → ℕ
+star_count ts = prefix_len (λ t. is_mark mark.Star t.symbol) ts
+
+-- the lexemes behind a comma, where more follows in the braces
+abbrev pub behind_inner_comma : List Lexeme → Option (List Lexeme)
+behind_inner_comma [] = None
+behind_inner_comma (t ∷ ts) = if begins_with mark.CloseCurly ts then None else behind mark.Comma (t ∷ ts)

@@ -1,0 +1,10 @@
+pub mod Lists
+pub mod Types
+pub mod Statements
+pub mod Declarations
+pub mod Sections
+pub mod Fronts
+pub mod Readers
+pub mod StmtReaders
+pub mod SectionReaders
+pub mod Limits

@@ -1,0 +1,31 @@
+-- Lists as they are spelled.
+use Rattle.std.specs.Prelude.{◌≡◌, ℕ, List, [], ◌∷◌, ◌++◌}
+use Rattle.sc_ast.specs.Numbers.{Number}
+use Rattle.sc_expr.specs.declared.mark.Keyword.{Keyword}
+use Rattle.sc_expr.specs.declared.mark.Mark.TheVariants as mark
+use Rattle.sc_expr.specs.declared.lexeme.Symbol.TheVariants as symbol
+use Rattle.sc_expr.specs.declared.lexeme.Lexeme.{Lexeme}
+use Rattle.sc_expr.specs.Grammar.{IsMark}
+
+-- the lexeme is this reserved word
+abbrev pub IsKeyword : Keyword → Lexeme → Type 0
+IsKeyword word t = t.symbol ≡ symbol.Keyword word
+
+-- the lexeme is this integer
+abbrev pub IsInteger : Number → Lexeme → Type 0
+IsInteger number t = t.symbol ≡ symbol.Integer number
+
+-- the line of the first lexeme, 0 where there is none
+abbrev pub first_line : List Lexeme → ℕ
+first_line [] = 0
+first_line (t ∷ ts) = t.line
+
+-- One item or more, with commas between them.
+pub data Separated {A : Type 0} (Item : List Lexeme → A → Type 0) : List Lexeme → List A → Type 0 where
+  one : {ts : List Lexeme} {x : A} → Item ts x → Separated Item ts (x ∷ [])
+  more : {ts us : List Lexeme} {x : A} {xs : List A} (t : Lexeme) → IsMark mark.Comma t → Item ts x → Separated Item us xs → Separated Item (ts ++ t ∷ us) (x ∷ xs)
+
+-- Groups of items, one behind another.
+pub data Grouped {A : Type 0} (Group : List Lexeme → List A → Type 0) : List Lexeme → List A → Type 0 where
+  none : Grouped Group [] []
+  next : {ts us : List Lexeme} {xs ys : List A} → Group ts xs → Grouped Group us ys → Grouped Group (ts ++ us) (xs ++ ys)

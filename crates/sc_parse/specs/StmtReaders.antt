@@ -1,0 +1,219 @@
+-- Reading calls and statements from left to right, where the parts of a statement may be so high and `free` brackets may be open.
+use Rattle.std.specs.Prelude.{ℕ, zero, suc, ◌+◌, ◌-◌, Bool, true, false, not, nat_le, nat_lt, List, [], ◌∷◌, ◌++◌, length, drop, Option, Some, None, if◌then◌else◌}
+use Rattle.std.specs.Option.{option_map_or}
+use Rattle.sc_ast.specs.Places.{is_place}
+use Rattle.sc_ast.specs.Simple.{kind_of}
+use Rattle.sc_ast.specs.declared.expr.ExprTree.{ExprTree}
+use Rattle.sc_ast.specs.declared.expr.BinaryOp.{BinaryOp}
+use Rattle.sc_ast.specs.declared.expr.CallTree.{CallTree}
+use Rattle.sc_ast.specs.declared.stmt.SimpleKind.{SimpleKind}
+use Rattle.sc_ast.specs.declared.stmt.SimpleKind.TheVariants as simple
+use Rattle.sc_ast.specs.declared.stmt.SimpleTree.{SimpleTree}
+use Rattle.sc_ast.specs.declared.stmt.StmtKind.{StmtKind}
+use Rattle.sc_ast.specs.declared.stmt.StmtKind.TheVariants as stmt
+use Rattle.sc_ast.specs.declared.stmt.StmtTree.{StmtTree}
+use Rattle.sc_expr.specs.declared.mark.Keyword.{Keyword}
+use Rattle.sc_expr.specs.declared.mark.Keyword.TheVariants as word
+use Rattle.sc_expr.specs.declared.mark.Mark.{Mark}
+use Rattle.sc_expr.specs.declared.mark.Mark.TheVariants as mark
+use Rattle.sc_expr.specs.declared.lexeme.Symbol.{Symbol}
+use Rattle.sc_expr.specs.declared.lexeme.Symbol.TheVariants as symbol
+use Rattle.sc_expr.specs.declared.lexeme.Lexeme.{Lexeme}
+use Rattle.sc_expr.specs.Fronts.{behind}
+use Rattle.sc_expr.specs.Marks.{loosest_level}
+use Rattle.sc_expr.specs.Reading.{◌>>=◌, name_at, read}
+use Rattle.sc_parse.specs.declared.simple.Change.{Change}
+use Rattle.sc_parse.specs.declared.simple.Change.TheVariants as change
+use Rattle.sc_parse.specs.declared.simple.Placed.{Placed}
+use Rattle.sc_parse.specs.Lists.{first_line}
+use Rattle.sc_parse.specs.Statements.{compound_of, step_of, one, updates}
+use Rattle.sc_parse.specs.Fronts.{Reader, keyword_at, is_else, begins_with, begins_call}
+use Rattle.sc_parse.specs.Readers.{Adder, adds, all_separated, grouped}
+
+-- an expression, at most so high
+unfoldable pub expr_at : (free : ℕ) → ℕ → Reader ExprTree
+expr_at free room ts = read free room loosest_level ts >>= (λ x. Some (x.tree, x.rest))
+
+abbrev pub args_behind : (free : ℕ) → ℕ → Adder ExprTree
+args_behind free room = adds (expr_at free room)
+
+unfoldable pub args_at : (free : ℕ) → ℕ → Reader (List ExprTree)
+args_at free room ts = if begins_with mark.CloseParen ts then Some ([], ts) else all_separated (args_behind free room) [] ts
+
+abbrev pub call_tree : List ℕ → List ExprTree → CallTree
+call_tree name args = record { name = name; args = args }
+
+abbrev pub args_in_parens : (free : ℕ) → ℕ → Reader (List ExprTree)
+args_in_parens free room ts = behind mark.OpenParen ts >>= (λ us. args_at free room us >>= (λ x. behind mark.CloseParen x.1 >>= (λ rest. Some (x.0, rest))))
+
+unfoldable pub call_at : (free : ℕ) → ℕ → Reader CallTree
+call_at free room ts = name_at ts >>= (λ x. args_in_parens free room x.1 >>= (λ y. Some (call_tree x.0 y.0, y.1)))
+
+abbrev pub mark_by : Symbol → Option Mark
+mark_by (symbol.Mark m) = Some m
+mark_by _ = None
+
+-- the mark at the front
+abbrev pub mark_at : List Lexeme → Option Mark
+mark_at [] = None
+mark_at (t ∷ ts) = mark_by t.symbol
+
+-- what a mark behind a place does to it
+abbrev pub change_of : Mark → Option Change
+change_of mark.Equal = Some change.Set
+change_of m = option_map_or (λ op. Some (change.By op)) (compound_of m) (option_map_or (λ op. Some (change.Step op)) (step_of m) None)
+
+abbrev pub change_at : List Lexeme → Option Change
+change_at ts = mark_at ts >>= change_of
+
+-- the `++` or `--` at the front
+abbrev pub step_at : List Lexeme → Option BinaryOp
+step_at ts = mark_at ts >>= step_of
+
+abbrev pub placed : ExprTree → ℕ → Placed
+placed place height = record { place = place; height = height }
+
+-- a place, with its height
+unfoldable pub place_at : (free : ℕ) → ℕ → Reader Placed
+place_at free room ts = read free room loosest_level ts >>= (λ x. if is_place x.tree then Some (placed x.tree x.height, x.rest) else None)
+
+-- what stands behind `=`
+unfoldable pub value_behind : (free : ℕ) → ℕ → ExprTree → Reader SimpleKind
+value_behind free room place ts =
+    if begins_call ts then (call_at free room ts >>= (λ x. Some (simple.AssignCall place x.0, x.1))) else (expr_at free room ts >>= (λ x. Some (simple.Assign place x.0, x.1)))
+
+-- what stands behind the operator of a compound assignment, where the tree that is made has one level more
+unfoldable pub operand_behind : (free : ℕ) → ℕ → BinaryOp → Placed → Reader SimpleKind
+operand_behind free room op x ts = if nat_lt x.height room then (expr_at free (room - 1) ts >>= (λ y. Some (updates op x.place y.0, y.1))) else None
+
+unfoldable pub stepped : ℕ → BinaryOp → Placed → Reader SimpleKind
+stepped room op x ts = if nat_lt x.height room then Some (updates op x.place one, ts) else None
+
+abbrev pub changed : (free : ℕ) → ℕ → Option Change → Placed → Reader SimpleKind
+changed free room None x ts = None
+changed free room (Some change.Set) x ts = value_behind free room x.place ts
+changed free room (Some (change.By op)) x ts = operand_behind free room op x ts
+changed free room (Some (change.Step op)) x ts = stepped room op x ts
+
+unfoldable pub assignment_at : (free : ℕ) → ℕ → Reader SimpleKind
+assignment_at free room ts = place_at free room ts >>= (λ x. changed free room (change_at x.1) x.0 (drop 1 x.1))
+
+unfoldable pub step_before : (free : ℕ) → ℕ → BinaryOp → Reader SimpleKind
+step_before free room op ts = place_at free room ts >>= (λ x. stepped room op x.0 x.1)
+
+abbrev pub call_alone : (free : ℕ) → ℕ → Reader SimpleKind
+call_alone free room ts = call_at free room ts >>= (λ x. Some (simple.Call x.0, x.1))
+
+abbrev pub unstepped : (free : ℕ) → ℕ → Reader SimpleKind
+unstepped free room ts = if begins_call ts then call_alone free room ts else assignment_at free room ts
+
+-- what may stand in the head of a `for`, where its parts may be so high
+unfoldable pub simple_at : (free : ℕ) → ℕ → Reader SimpleKind
+simple_at free room ts = option_map_or (λ op. step_before free room op (drop 1 ts)) (step_at ts) (unstepped free room ts)
+
+abbrev pub simple_tree : ℕ → SimpleKind → SimpleTree
+simple_tree line kind = record { line = line; kind = kind }
+
+-- the first or the last part of a `for`, up to this mark
+unfoldable pub part_at : (free : ℕ) → ℕ → Mark → Reader (Option SimpleTree)
+part_at free room ends ts =
+    if begins_with ends ts then Some (None, ts)
+    else (if nat_le 1 room then (simple_at free (room - 1) ts >>= (λ x. Some (Some (simple_tree (first_line ts) x.0), x.1))) else None)
+
+-- the literal 1
+abbrev pub always : ℕ → Reader ExprTree
+always room ts = if nat_le 1 room then Some (one, ts) else None
+
+-- the condition of a `for`
+unfoldable pub test_at : (free : ℕ) → ℕ → Reader ExprTree
+test_at free room ts = if begins_with mark.Semicolon ts then always room ts else expr_at free room ts
+
+unfoldable pub condition_at : (free : ℕ) → ℕ → Reader ExprTree
+condition_at free room ts = behind mark.OpenParen ts >>= (λ us. expr_at free room us >>= (λ x. behind mark.CloseParen x.1 >>= (λ rest. Some (x.0, rest))))
+
+abbrev pub value_returned : (free : ℕ) → ℕ → Reader StmtKind
+value_returned free room ts =
+    if begins_call ts then (call_at free room ts >>= (λ x. Some (stmt.ReturnCall x.0, x.1))) else (expr_at free room ts >>= (λ x. Some (stmt.ReturnValue x.0, x.1)))
+
+-- what stands behind `return`, without the `;`
+unfoldable pub returned : (free : ℕ) → ℕ → Reader StmtKind
+returned free room ts = if begins_with mark.Semicolon ts then Some (stmt.Return, ts) else value_returned free room ts
+
+abbrev pub simple_or_none : (free : ℕ) → ℕ → Reader StmtKind
+simple_or_none free room ts = if begins_with mark.Semicolon ts then Some (stmt.Empty, ts) else (simple_at free room ts >>= (λ x. Some (kind_of x.0, x.1)))
+
+-- a statement that is no `if` and no loop, without its `;`
+unfoldable pub plain_at : (free : ℕ) → ℕ → Option Keyword → Reader StmtKind
+plain_at free room (Some word.Break) ts = Some (stmt.Break, drop 1 ts)
+plain_at free room (Some word.Continue) ts = Some (stmt.Continue, drop 1 ts)
+plain_at free room (Some word.Return) ts = returned free room (drop 1 ts)
+plain_at free room _ ts = simple_or_none free room ts
+
+unfoldable pub ended_at : (free : ℕ) → ℕ → Reader StmtKind
+ended_at free room ts = plain_at free room (keyword_at ts) ts >>= (λ x. behind mark.Semicolon x.1 >>= (λ rest. Some (x.0, rest)))
+
+abbrev pub before_mark : {A : Type 0} → Mark → Reader A → Reader A
+before_mark m reader ts = reader ts >>= (λ x. behind m x.1 >>= (λ rest. Some (x.0, rest)))
+
+unfoldable pub first_part : (free : ℕ) → ℕ → Reader (Option SimpleTree)
+first_part free room ts = behind mark.OpenParen ts >>= (λ us. before_mark mark.Semicolon (part_at free room mark.Semicolon) us)
+
+unfoldable pub middle_part : (free : ℕ) → ℕ → Reader ExprTree
+middle_part free room ts = before_mark mark.Semicolon (test_at free room) ts
+
+unfoldable pub last_part : (free : ℕ) → ℕ → Reader (Option SimpleTree)
+last_part free room ts = before_mark mark.CloseParen (part_at free room mark.CloseParen) ts
+
+abbrev pub is_if : Option Keyword → Bool
+is_if (Some word.If) = true
+is_if _ = false
+
+-- With a reader of the statements that stand inside, which may be as high as the other parts.
+module _ (inner : Reader StmtTree) where
+  abbrev pub stmts_at : Reader (List StmtTree)
+  stmts_at ts = grouped (begins_with mark.CloseCurly) (adds inner) (length ts + 1) [] ts
+
+  unfoldable pub block_at : Reader (List StmtTree)
+  block_at ts = behind mark.OpenCurly ts >>= (λ us. before_mark mark.CloseCurly stmts_at us)
+
+  abbrev pub alone : Reader (List StmtTree)
+  alone ts = inner ts >>= (λ x. Some (x.0 ∷ [], x.1))
+
+  -- behind `else`
+  unfoldable pub else_behind : Reader (List StmtTree)
+  else_behind ts = if is_if (keyword_at ts) then alone ts else block_at ts
+
+  unfoldable pub else_at : Reader (List StmtTree)
+  else_at ts = if is_else (keyword_at ts) then else_behind (drop 1 ts) else Some ([], ts)
+
+module _ (free : ℕ) (inner : Reader StmtTree) (room : ℕ) where
+  -- behind `if`
+  unfoldable pub if_behind : Reader StmtKind
+  if_behind ts = condition_at free room ts >>= (λ x. block_at inner x.1 >>= (λ y. else_at inner y.1 >>= (λ z. Some (stmt.If x.0 y.0 z.0, z.1))))
+
+  -- behind `while`
+  unfoldable pub while_behind : Reader StmtKind
+  while_behind ts = condition_at free room ts >>= (λ x. block_at inner x.1 >>= (λ y. Some (stmt.While x.0 y.0, y.1)))
+
+  -- behind `for`
+  unfoldable pub for_behind : Reader StmtKind
+  for_behind ts =
+      first_part free room ts >>= (λ w. middle_part free room w.1 >>= (λ x. last_part free room x.1 >>= (λ y. block_at inner y.1 >>= (λ z. Some (stmt.For w.0 x.0 y.0 z.0, z.1)))))
+
+  abbrev pub kind_by : Option Keyword → Reader StmtKind
+  kind_by (Some word.If) ts = if_behind (drop 1 ts)
+  kind_by (Some word.While) ts = while_behind (drop 1 ts)
+  kind_by (Some word.For) ts = for_behind (drop 1 ts)
+  kind_by _ ts = ended_at free room ts
+
+abbrev pub stmt_tree : ℕ → StmtKind → StmtTree
+stmt_tree line kind = record { line = line; kind = kind }
+
+-- a statement, where its parts may be so high
+unfoldable pub stmt_within : (free : ℕ) → Reader StmtTree → ℕ → Reader StmtTree
+stmt_within free inner room ts = kind_by free inner room (keyword_at ts) ts >>= (λ x. Some (stmt_tree (first_line ts) x.0, x.1))
+
+-- a statement, at most so high
+unfoldable pub stmt_at : (free : ℕ) → ℕ → Reader StmtTree
+stmt_at free zero ts = None
+stmt_at free (suc room) ts = stmt_within free (stmt_at free room) room ts

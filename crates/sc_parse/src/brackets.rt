@@ -1,0 +1,44 @@
+//! The limit on open brackets.
+
+ghost use Rattle.std.specs.Prelude.{◌≡◌, ◌<◌, ◌≤◌, IfSome, IfNone, length};
+ghost use Rattle.sc_expr.specs.Brackets.{open_behind, open_after, most_open};
+ghost use Rattle.sc_parse.specs.Limits.{IsExcess};
+
+use crate::calls::MAX_BRACKETS;
+use sc_expr::{Lexeme, Mark, Symbol};
+
+fn open_behind(mark: Mark, count: u32) -> u32
+    requires { count < 4294967295 }
+    ensures { result ≡ open_behind mark count }
+{
+    match mark {
+        Mark::OpenParen | Mark::OpenSquare | Mark::OpenCurly => count + 1,
+        Mark::CloseParen | Mark::CloseSquare | Mark::CloseCurly => count.saturating_sub(1),
+        _ => count,
+    }
+}
+
+fn open_after(symbol: &Symbol, count: u32) -> u32
+    requires { count < 4294967295 }
+    ensures { result ≡ open_after symbol.now count }
+{
+    match symbol {
+        Symbol::Mark(mark) => open_behind(*mark, count),
+        _ => count,
+    }
+}
+
+/// The place of the first lexeme behind which more than 1,024 brackets are open.
+pub fn first_excess(lexemes: &[Lexeme]) -> Option<usize>
+    ensures excess { IfSome result (IsExcess lexemes.now) }
+    ensures none { IfNone result (most_open 0 lexemes.now ≤ 1024) }
+{
+    let mut count = 0;
+    for (at, lexeme) in lexemes.iter().enumerate() {
+        count = open_after(&lexeme.symbol, count);
+        if count > MAX_BRACKETS {
+            return Some(at);
+        }
+    }
+    None
+}

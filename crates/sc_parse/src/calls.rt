@@ -1,0 +1,96 @@
+//! Expressions in statements, and calls.
+
+ghost use Rattle.std.specs.Prelude.{◌≡◌, ◌+◌, [], length};
+ghost use Rattle.sc_expr.specs.Fronts.{Agrees};
+ghost use Rattle.sc_parse.specs.Readers.{all_separated};
+ghost use Rattle.sc_parse.specs.StmtReaders.{expr_at, args_behind, args_at, args_in_parens, call_at, condition_at};
+
+use crate::front::{begins_with, name_at, skip, take};
+use sc_ast::{CallTree, ExprTree, Exprs};
+use sc_expr::{Built, Lexeme, Mark, SyntaxFault, parse_level, refused};
+use sqlite_items::Items;
+use std::alloc::Global;
+
+/// The most brackets that an expression may have open.
+pub const MAX_BRACKETS: u32 = 1024;
+
+/// The level that holds every expression.
+pub const LOOSEST: u8 = 11;
+
+/// An expression, at most `room` high.
+#[tactic(auto, unfolding(crate::specs::StmtReaders::expr_at))]
+pub fn expr_at(alloc: Global, room: u32, rest: &mut &[Lexeme]) -> Result<ExprTree, SyntaxFault>
+    ensures { Agrees (λ x. (x, rest.new.now)) result (expr_at 1024 room rest.old.now) }
+{
+    let (Built { tree, .. }, behind) = parse_level(alloc, MAX_BRACKETS, room, LOOSEST, rest)?;
+    *rest = behind;
+    Ok(tree.into_inner())
+}
+
+#[tactic(auto, unfolding(crate::specs::Readers::adds))]
+fn with_arg(
+    alloc: Global,
+    room: u32,
+    mut args: Exprs,
+    rest: &mut &[Lexeme],
+) -> Result<Exprs, SyntaxFault>
+    ensures { Agrees (λ x. (x, rest.new.now)) result (args_behind 1024 room args rest.old.now) }
+{
+    args.push(expr_at(alloc, room, rest)?)?;
+    Ok(args)
+}
+
+#[tactic(auto, using(crate::proofs::Steps::turns))]
+fn all_args(alloc: Global, room: u32, rest: &mut &[Lexeme]) -> Result<Exprs, SyntaxFault>
+    ensures { Agrees (λ x. (x, rest.new.now)) result (all_separated (args_behind 1024 room) [] rest.old.now) }
+{
+    let mut args = Items::new(alloc);
+    for _ in 0..rest.len() + 1 {
+        args = with_arg(alloc, room, args, rest)?;
+        if !skip(Mark::Comma, rest) {
+            return Ok(args);
+        }
+    }
+    Err(refused(rest))
+}
+
+#[tactic(auto, unfolding(crate::specs::StmtReaders::args_at))]
+fn args_at(alloc: Global, room: u32, rest: &mut &[Lexeme]) -> Result<Exprs, SyntaxFault>
+    ensures { Agrees (λ x. (x, rest.new.now)) result (args_at 1024 room rest.old.now) }
+{
+    if begins_with(Mark::CloseParen, rest) {
+        Ok(Items::new(alloc))
+    } else {
+        all_args(alloc, room, rest)
+    }
+}
+
+fn args_in_parens(alloc: Global, room: u32, rest: &mut &[Lexeme]) -> Result<Exprs, SyntaxFault>
+    ensures { Agrees (λ x. (x, rest.new.now)) result (args_in_parens 1024 room rest.old.now) }
+{
+    take(Mark::OpenParen, rest)?;
+    let args = args_at(alloc, room, rest)?;
+    take(Mark::CloseParen, rest)?;
+    Ok(args)
+}
+
+/// A call, whose arguments are at most `room` high.
+#[tactic(auto, unfolding(crate::specs::StmtReaders::call_at))]
+pub fn call_at(alloc: Global, room: u32, rest: &mut &[Lexeme]) -> Result<CallTree, SyntaxFault>
+    ensures { Agrees (λ x. (x, rest.new.now)) result (call_at 1024 room rest.old.now) }
+{
+    let name = name_at(rest)?;
+    let args = args_in_parens(alloc, room, rest)?;
+    Ok(CallTree { name, args })
+}
+
+/// A condition in its parentheses.
+#[tactic(auto, unfolding(crate::specs::StmtReaders::condition_at))]
+pub fn condition_at(alloc: Global, room: u32, rest: &mut &[Lexeme]) -> Result<ExprTree, SyntaxFault>
+    ensures { Agrees (λ x. (x, rest.new.now)) result (condition_at 1024 room rest.old.now) }
+{
+    take(Mark::OpenParen, rest)?;
+    let cond = expr_at(alloc, room, rest)?;
+    take(Mark::CloseParen, rest)?;
+    Ok(cond)
+}

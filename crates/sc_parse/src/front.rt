@@ -1,0 +1,208 @@
+//! What stands at the front of a list of lexemes.
+//!
+//! A parser takes the lexemes that are left by `&mut`, and leaves those behind what it read.
+
+ghost use Rattle.std.specs.Prelude.{◌≡◌, ◌≤◌, length, drop, IsSome, true, false, Some, None};
+ghost use Rattle.sc_expr.specs.Fronts.{Agrees, is_mark, behind};
+ghost use Rattle.sc_expr.specs.Reading.{name_by, name_at};
+ghost use Rattle.sc_parse.specs.Lists.{first_line};
+ghost use Rattle.sc_parse.specs.Fronts.{past_int, is_void, is_else, is_base, keyword_by, keyword_at, integer_by, begins_with, begins_call, star_count, behind_inner_comma};
+
+use sc_ast::{Ident, Literal};
+use sc_expr::{Keyword, Lexeme, Mark, Symbol, SyntaxFault, expect, refused};
+
+fn is_mark(mark: Mark, symbol: &Symbol) -> bool
+    ensures { result ≡ is_mark mark symbol.now }
+{
+    match symbol {
+        Symbol::Mark(other) => *other == mark,
+        _ => false,
+    }
+}
+
+/// Whether a mark stands at the front.
+pub fn begins_with(mark: Mark, rest: &[Lexeme]) -> bool
+    ensures { result ≡ begins_with mark rest.now }
+{
+    let [first, ..] = rest else {
+        return false;
+    };
+    is_mark(mark, &first.symbol)
+}
+
+/// Whether an identifier and `(` stand at the front.
+pub fn begins_call(rest: &[Lexeme]) -> bool
+    ensures { result ≡ begins_call rest.now }
+{
+    let [first, behind @ ..] = rest else {
+        return false;
+    };
+    name_by(&first.symbol).is_some() && begins_with(Mark::OpenParen, behind)
+}
+
+/// The line of the first lexeme, 0 where there is none.
+pub fn first_line(rest: &[Lexeme]) -> u32
+    ensures { result ≡ first_line rest.now }
+{
+    match rest {
+        [first, ..] => first.line,
+        [] => 0,
+    }
+}
+
+/// Goes past a mark, if it stands at the front.
+pub fn skip(mark: Mark, rest: &mut &[Lexeme]) -> bool
+    ensures found { result ≡ true → behind mark rest.old.now ≡ Some rest.new.now }
+    ensures none { result ≡ false → behind mark rest.old.now ≡ None }
+    ensures same { result ≡ false → rest.new.now ≡ rest.old.now }
+{
+    let [first, behind @ ..] = *rest else {
+        return false;
+    };
+    if is_mark(mark, &first.symbol) {
+        *rest = behind;
+        true
+    } else {
+        false
+    }
+}
+
+/// Goes past a comma, if one stands at the front and no `}` behind it.
+pub fn skip_inner_comma(rest: &mut &[Lexeme]) -> bool
+    ensures found { result ≡ true → behind_inner_comma rest.old.now ≡ Some rest.new.now }
+    ensures none { result ≡ false → behind_inner_comma rest.old.now ≡ None }
+    ensures same { result ≡ false → rest.new.now ≡ rest.old.now }
+{
+    let [_, behind @ ..] = *rest else {
+        return false;
+    };
+    if begins_with(Mark::CloseCurly, behind) {
+        false
+    } else {
+        skip(Mark::Comma, rest)
+    }
+}
+
+/// Goes past a mark, which is refused where another lexeme stands there.
+pub fn take(mark: Mark, rest: &mut &[Lexeme]) -> Result<(), SyntaxFault>
+    ensures { Agrees (λ x. rest.new.now) result (behind mark rest.old.now) }
+{
+    *rest = expect(mark, rest)?;
+    Ok(())
+}
+
+fn keyword_by(symbol: &Symbol) -> Option<Keyword>
+    ensures { result ≡ keyword_by symbol.now }
+{
+    match symbol {
+        Symbol::Keyword(word) => Some(*word),
+        _ => None,
+    }
+}
+
+/// The reserved word at the front.
+pub fn keyword_at(rest: &[Lexeme]) -> Option<Keyword>
+    ensures value { result ≡ keyword_at rest.now }
+    ensures some { IsSome result → 1 ≤ length rest.now }
+{
+    let [first, ..] = rest else {
+        return None;
+    };
+    keyword_by(&first.symbol)
+}
+
+/// The lexemes without an `int` that may stand at the front.
+pub fn past_int(rest: &[Lexeme]) -> &[Lexeme]
+    ensures { result.now ≡ past_int rest.now }
+{
+    match keyword_at(rest) {
+        Some(Keyword::Int) => &rest[1..],
+        _ => rest,
+    }
+}
+
+/// Whether the word is `void`.
+pub fn is_void(word: Option<Keyword>) -> bool
+    ensures value { result ≡ is_void word }
+    ensures some { result ≡ true → IsSome word }
+{
+    matches!(word, Some(Keyword::Void))
+}
+
+/// Whether the word is `else`.
+pub fn is_else(word: Option<Keyword>) -> bool
+    ensures value { result ≡ is_else word }
+    ensures some { result ≡ true → IsSome word }
+{
+    matches!(word, Some(Keyword::Else))
+}
+
+/// Whether a declaration of variables begins with the word.
+pub fn is_base(word: Option<Keyword>) -> bool
+    ensures { result ≡ is_base word }
+{
+    match word {
+        Some(Keyword::Int) => true,
+        Some(Keyword::Signed) => true,
+        Some(Keyword::Unsigned) => true,
+        Some(Keyword::Struct) => true,
+        _ => false,
+    }
+}
+
+/// The integer that a symbol is.
+pub fn integer_by(symbol: &Symbol) -> Option<Literal>
+    ensures { result ≡ integer_by symbol.now }
+{
+    match symbol {
+        Symbol::Integer(literal) => Some(*literal),
+        _ => None,
+    }
+}
+
+/// The identifier that a symbol is.
+pub fn name_by(symbol: &Symbol) -> Option<Ident>
+    ensures { result ≡ name_by symbol.now }
+{
+    match symbol {
+        Symbol::Ident(name) => Some(*name),
+        _ => None,
+    }
+}
+
+/// The identifier at the front.
+pub fn name_at(rest: &mut &[Lexeme]) -> Result<Ident, SyntaxFault>
+    ensures { Agrees (λ x. (x, rest.new.now)) result (name_at rest.old.now) }
+{
+    let [first, behind @ ..] = *rest else {
+        return Err(refused(rest));
+    };
+    match name_by(&first.symbol) {
+        Some(name) => {
+            *rest = behind;
+            Ok(name)
+        }
+        None => Err(refused(rest)),
+    }
+}
+
+/// The lexemes behind the first.
+pub fn past(rest: &[Lexeme]) -> &[Lexeme]
+    ensures { result.now ≡ drop 1 rest.now }
+{
+    let [_, behind @ ..] = rest else {
+        return rest;
+    };
+    behind
+}
+
+/// How many `*` stand at the front.
+#[tactic(auto, using(crate::proofs::Steps::lengths), unfolding(crate::specs::Fronts::star_count))]
+pub fn star_count(rest: &[Lexeme]) -> usize
+    ensures value { result ≡ star_count rest.now }
+    ensures within { result ≤ length rest.now }
+{
+    rest.iter()
+        .take_while(|lexeme| is_mark(Mark::Star, &lexeme.symbol))
+        .count()
+}

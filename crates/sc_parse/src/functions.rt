@@ -1,0 +1,192 @@
+//! Locals and functions.
+
+ghost use Rattle.std.specs.Prelude.{◌≡◌, ◌+◌, [], length};
+ghost use Rattle.sc_expr.specs.Fronts.{Agrees};
+ghost use Rattle.sc_parse.specs.Readers.{all_separated, declaration_at, grouped};
+ghost use Rattle.sc_parse.specs.SectionReaders.{value_at, local_at, locals_behind, locals_at, named_head, body_behind, function_behind, behind_head, headed_at, no_base};
+
+use crate::calls::expr_at;
+use crate::front::{first_line, is_base, keyword_at, skip, take};
+use crate::heads::head_at;
+use crate::stmts::stmts_at;
+use crate::types::{Declarator, base_at, declarator_at};
+use sc_ast::{
+    BaseTree, Decl, ExprTree, FunctionHead, FunctionTree, HeadTree, LocalTree, LocalTrees, TypeTree,
+};
+use sc_expr::{Lexeme, Mark, SyntaxFault, refused};
+use sqlite_items::Items;
+use std::alloc::Global;
+
+/// The greatest height of an expression or a statement.
+pub const MAX_HEIGHT: u32 = 256;
+
+#[tactic(auto, unfolding(crate::specs::SectionReaders::value_at))]
+fn value_at(alloc: Global, rest: &mut &[Lexeme]) -> Result<Option<ExprTree>, SyntaxFault>
+    ensures { Agrees (λ x. (x, rest.new.now)) result (value_at 1024 256 rest.old.now) }
+{
+    if skip(Mark::Equal, rest) {
+        Ok(Some(expr_at(alloc, MAX_HEIGHT, rest)?))
+    } else {
+        Ok(None)
+    }
+}
+
+#[tactic(auto, unfolding(crate::specs::SectionReaders::local_at))]
+fn local_at(
+    alloc: Global,
+    base: &BaseTree,
+    line: u32,
+    rest: &mut &[Lexeme],
+) -> Result<LocalTree, SyntaxFault>
+    ensures { Agrees (λ x. (x, rest.new.now)) result (local_at 1024 256 base.now line rest.old.now) }
+{
+    let Declarator {
+        stars,
+        name,
+        length,
+    } = declarator_at(rest)?;
+    let init = value_at(alloc, rest)?;
+    let ty = TypeTree {
+        base: *base,
+        stars,
+        length,
+    };
+    Ok(LocalTree {
+        ty,
+        name,
+        init,
+        line,
+    })
+}
+
+#[tactic(auto, unfolding(crate::specs::Readers::adds))]
+fn with_local(
+    alloc: Global,
+    base: &BaseTree,
+    line: u32,
+    mut locals: LocalTrees,
+    rest: &mut &[Lexeme],
+) -> Result<LocalTrees, SyntaxFault>
+    ensures { Agrees (λ x. (x, rest.new.now)) result (locals_behind 1024 256 base.now line locals rest.old.now) }
+{
+    locals.push(local_at(alloc, base, line, rest)?)?;
+    Ok(locals)
+}
+
+#[tactic(auto, using(crate::proofs::Steps::turns))]
+fn with_locals(
+    alloc: Global,
+    base: &BaseTree,
+    line: u32,
+    mut locals: LocalTrees,
+    rest: &mut &[Lexeme],
+) -> Result<LocalTrees, SyntaxFault>
+    ensures { Agrees (λ x. (x, rest.new.now)) result (all_separated (locals_behind 1024 256 base.now line) locals rest.old.now) }
+{
+    for _ in 0..rest.len() + 1 {
+        locals = with_local(alloc, base, line, locals, rest)?;
+        if !skip(Mark::Comma, rest) {
+            return Ok(locals);
+        }
+    }
+    Err(refused(rest))
+}
+
+#[tactic(auto, unfolding(crate::specs::Readers::declaration_at))]
+fn local_line(
+    alloc: Global,
+    locals: LocalTrees,
+    rest: &mut &[Lexeme],
+) -> Result<LocalTrees, SyntaxFault>
+    ensures { Agrees (λ x. (x, rest.new.now)) result (declaration_at (locals_behind 1024 256) locals rest.old.now) }
+{
+    let line = first_line(rest);
+    let base = base_at(rest)?;
+    let locals = with_locals(alloc, &base, line, locals, rest)?;
+    take(Mark::Semicolon, rest)?;
+    Ok(locals)
+}
+
+fn no_base(rest: &[Lexeme]) -> bool
+    ensures { result ≡ no_base rest.now }
+{
+    !is_base(keyword_at(rest))
+}
+
+#[tactic(auto, using(crate::proofs::Steps::groups))]
+fn locals_at(alloc: Global, rest: &mut &[Lexeme]) -> Result<LocalTrees, SyntaxFault>
+    ensures { Agrees (λ x. (x, rest.new.now)) result (locals_at 1024 256 rest.old.now) }
+{
+    let mut locals = Items::new(alloc);
+    for _ in 0..rest.len() + 1 {
+        if no_base(rest) {
+            return Ok(locals);
+        }
+        locals = local_line(alloc, locals, rest)?;
+    }
+    Err(refused(rest))
+}
+
+// The head as that of a function, refused before these lexemes where a parameter has no name.
+#[tactic(auto, using(crate::proofs::Naming::names))]
+fn named_head(alloc: Global, head: &HeadTree, rest: &[Lexeme]) -> Result<FunctionHead, SyntaxFault>
+    ensures { Agrees (λ x. x) result (named_head head.now) }
+{
+    match head.named(alloc) {
+        Ok(Some(named)) => Ok(named),
+        Ok(None) => Err(refused(rest)),
+        Err(_) => Err(SyntaxFault::OutOfMemory),
+    }
+}
+
+#[tactic(auto, unfolding(crate::specs::SectionReaders::body_behind))]
+fn body_behind(
+    alloc: Global,
+    head: FunctionHead,
+    rest: &mut &[Lexeme],
+) -> Result<FunctionTree, SyntaxFault>
+    ensures { Agrees (λ x. (x, rest.new.now)) result (body_behind 1024 256 head rest.old.now) }
+{
+    take(Mark::OpenCurly, rest)?;
+    let locals = locals_at(alloc, rest)?;
+    let body = stmts_at(alloc, MAX_HEIGHT, rest)?;
+    let close_line = first_line(rest);
+    take(Mark::CloseCurly, rest)?;
+    Ok(FunctionTree {
+        head,
+        locals,
+        body,
+        close_line,
+    })
+}
+
+#[tactic(auto, unfolding(crate::specs::SectionReaders::function_behind))]
+fn function_behind(
+    alloc: Global,
+    head: &HeadTree,
+    rest: &mut &[Lexeme],
+) -> Result<Decl, SyntaxFault>
+    ensures { Agrees (λ x. (x, rest.new.now)) result (function_behind 1024 256 head.now rest.old.now) }
+{
+    let named = named_head(alloc, head, rest)?;
+    Ok(Decl::Function(body_behind(alloc, named, rest)?))
+}
+
+fn behind_head(alloc: Global, head: HeadTree, rest: &mut &[Lexeme]) -> Result<Decl, SyntaxFault>
+    ensures { Agrees (λ x. (x, rest.new.now)) result (behind_head 1024 256 head rest.old.now) }
+{
+    if skip(Mark::Semicolon, rest) {
+        Ok(Decl::Proto(head))
+    } else {
+        function_behind(alloc, &head, rest)
+    }
+}
+
+/// A prototype or a function.
+#[tactic(auto, unfolding(crate::specs::SectionReaders::headed_at))]
+pub fn headed_at(alloc: Global, rest: &mut &[Lexeme]) -> Result<Decl, SyntaxFault>
+    ensures { Agrees (λ x. (x, rest.new.now)) result (headed_at 1024 256 rest.old.now) }
+{
+    let head = head_at(alloc, rest)?;
+    behind_head(alloc, head, rest)
+}

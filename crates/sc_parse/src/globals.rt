@@ -1,0 +1,186 @@
+//! Globals and what they begin with.
+
+ghost use Rattle.std.specs.Prelude.{◌≡◌, ◌≤◌, ◌+◌, [], length};
+ghost use Rattle.sc_expr.specs.Fronts.{Agrees};
+ghost use Rattle.sc_parse.specs.Fronts.{behind_inner_comma};
+ghost use Rattle.sc_parse.specs.Readers.{literal_at, const_at, adds, separated, all_consts, consts_at, one_at, init_behind, init_at, past_comma, global_at, globals_behind, declaration_at, all_separated};
+
+use crate::front::{first_line, integer_by, skip, skip_inner_comma, take};
+use crate::types::{Declarator, base_at, declarator_at};
+use sc_ast::{BaseTree, ConstTree, Decl, Decls, GlobalTree, InitTree, NonEmpty, TypeTree};
+use sc_expr::{Lexeme, Mark, SyntaxFault, refused};
+use sqlite_items::Items;
+use std::alloc::Global;
+
+fn literal_at(negative: bool, rest: &mut &[Lexeme]) -> Result<ConstTree, SyntaxFault>
+    ensures { Agrees (λ x. (x, rest.new.now)) result (literal_at negative rest.old.now) }
+{
+    let [first, behind @ ..] = *rest else {
+        return Err(refused(rest));
+    };
+    match integer_by(&first.symbol) {
+        Some(literal) => {
+            *rest = behind;
+            Ok(ConstTree { negative, literal })
+        }
+        None => Err(refused(rest)),
+    }
+}
+
+#[tactic(auto, unfolding(crate::specs::Readers::const_at))]
+fn const_at(rest: &mut &[Lexeme]) -> Result<ConstTree, SyntaxFault>
+    ensures { Agrees (λ x. (x, rest.new.now)) result (const_at rest.old.now) }
+{
+    if skip(Mark::Minus, rest) {
+        literal_at(true, rest)
+    } else {
+        literal_at(false, rest)
+    }
+}
+
+#[tactic(auto, unfolding(crate::specs::Readers::adds))]
+fn with_const(
+    mut values: Items<ConstTree>,
+    rest: &mut &[Lexeme],
+) -> Result<Items<ConstTree>, SyntaxFault>
+    ensures { Agrees (λ x. (x, rest.new.now)) result (adds const_at values rest.old.now) }
+{
+    values.push(const_at(rest)?)?;
+    Ok(values)
+}
+
+#[tactic(auto, using(crate::proofs::Steps::turns))]
+fn all_consts(alloc: Global, rest: &mut &[Lexeme]) -> Result<Items<ConstTree>, SyntaxFault>
+    ensures { Agrees (λ x. (x, rest.new.now)) result (all_consts rest.old.now) }
+{
+    let mut values = Items::new(alloc);
+    for _ in 0..rest.len() + 1 {
+        values = with_const(values, rest)?;
+        if !skip_inner_comma(rest) {
+            return Ok(values);
+        }
+    }
+    Err(refused(rest))
+}
+
+fn past_comma(rest: &mut &[Lexeme])
+    ensures { rest.new.now ≡ past_comma rest.old.now }
+{
+    let _found = skip(Mark::Comma, rest);
+}
+
+// The constants behind `{`, and the `}`.
+#[tactic(auto, unfolding(crate::specs::Readers::consts_at))]
+fn consts_at(alloc: Global, rest: &mut &[Lexeme]) -> Result<InitTree, SyntaxFault>
+    ensures { Agrees (λ x. (x, rest.new.now)) result (consts_at rest.old.now) }
+{
+    let values = all_consts(alloc, rest)?;
+    past_comma(rest);
+    take(Mark::CloseCurly, rest)?;
+    match NonEmpty::new(values) {
+        Some(values) => Ok(InitTree::Many(values)),
+        None => Err(refused(rest)),
+    }
+}
+
+fn one_at(rest: &mut &[Lexeme]) -> Result<InitTree, SyntaxFault>
+    ensures { Agrees (λ x. (x, rest.new.now)) result (one_at rest.old.now) }
+{
+    Ok(InitTree::One(const_at(rest)?))
+}
+
+// What stands behind `=`.
+#[tactic(auto, unfolding(crate::specs::Readers::init_behind))]
+fn init_behind(alloc: Global, rest: &mut &[Lexeme]) -> Result<InitTree, SyntaxFault>
+    ensures { Agrees (λ x. (x, rest.new.now)) result (init_behind rest.old.now) }
+{
+    if skip(Mark::OpenCurly, rest) {
+        consts_at(alloc, rest)
+    } else {
+        one_at(rest)
+    }
+}
+
+#[tactic(auto, unfolding(crate::specs::Readers::init_at))]
+fn init_at(alloc: Global, rest: &mut &[Lexeme]) -> Result<InitTree, SyntaxFault>
+    ensures { Agrees (λ x. (x, rest.new.now)) result (init_at rest.old.now) }
+{
+    if skip(Mark::Equal, rest) {
+        init_behind(alloc, rest)
+    } else {
+        Ok(InitTree::Absent)
+    }
+}
+
+#[tactic(auto, unfolding(crate::specs::Readers::global_at))]
+fn global_at(
+    alloc: Global,
+    base: &BaseTree,
+    line: u32,
+    rest: &mut &[Lexeme],
+) -> Result<Decl, SyntaxFault>
+    ensures { Agrees (λ x. (x, rest.new.now)) result (global_at base.now line rest.old.now) }
+{
+    let Declarator {
+        stars,
+        name,
+        length,
+    } = declarator_at(rest)?;
+    let init = init_at(alloc, rest)?;
+    let ty = TypeTree {
+        base: *base,
+        stars,
+        length,
+    };
+    Ok(Decl::Global(GlobalTree {
+        ty,
+        name,
+        init,
+        line,
+    }))
+}
+
+#[tactic(auto, unfolding(crate::specs::Readers::adds))]
+fn with_global(
+    alloc: Global,
+    base: &BaseTree,
+    line: u32,
+    mut decls: Decls,
+    rest: &mut &[Lexeme],
+) -> Result<Decls, SyntaxFault>
+    ensures { Agrees (λ x. (x, rest.new.now)) result (globals_behind base.now line decls rest.old.now) }
+{
+    decls.push(global_at(alloc, base, line, rest)?)?;
+    Ok(decls)
+}
+
+#[tactic(auto, using(crate::proofs::Steps::turns))]
+fn with_globals(
+    alloc: Global,
+    base: &BaseTree,
+    line: u32,
+    mut decls: Decls,
+    rest: &mut &[Lexeme],
+) -> Result<Decls, SyntaxFault>
+    ensures { Agrees (λ x. (x, rest.new.now)) result (all_separated (globals_behind base.now line) decls rest.old.now) }
+{
+    for _ in 0..rest.len() + 1 {
+        decls = with_global(alloc, base, line, decls, rest)?;
+        if !skip(Mark::Comma, rest) {
+            return Ok(decls);
+        }
+    }
+    Err(refused(rest))
+}
+
+/// A declaration of globals, behind the declarations before.
+#[tactic(auto, unfolding(crate::specs::Readers::declaration_at))]
+pub fn globals_at(alloc: Global, decls: Decls, rest: &mut &[Lexeme]) -> Result<Decls, SyntaxFault>
+    ensures { Agrees (λ x. (x, rest.new.now)) result (declaration_at globals_behind decls rest.old.now) }
+{
+    let line = first_line(rest);
+    let base = base_at(rest)?;
+    let decls = with_globals(alloc, &base, line, decls, rest)?;
+    take(Mark::Semicolon, rest)?;
+    Ok(decls)
+}

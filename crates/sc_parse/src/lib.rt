@@ -1,0 +1,28 @@
+//! Parsing a section: its lexemes to its tree.
+//!
+//! The grammar of types, statements, declarations and sections is a relation between lists of lexemes and the trees of
+//! `sc_ast`, over that of expressions in `sc_expr`.
+#![tactic(auto)]
+
+mod brackets;
+mod calls;
+mod copy;
+mod fault;
+mod front;
+mod functions;
+mod globals;
+mod heads;
+mod members;
+mod reading;
+mod says;
+mod section;
+mod simple;
+mod stmts;
+#[cfg(test)]
+mod tests;
+mod types;
+
+pub use fault::ParseFault;
+pub use reading::parse;
+pub use says::tokens_say;
+pub use section::one_section;

@@ -1,0 +1,118 @@
+//! Structs and their members.
+
+ghost use Rattle.std.specs.Prelude.{◌≡◌, ◌≤◌, ◌+◌, length};
+ghost use Rattle.sc_expr.specs.Fronts.{Agrees};
+ghost use Rattle.sc_expr.specs.declared.mark.Mark.TheVariants.{CloseCurly};
+ghost use Rattle.sc_parse.specs.Fronts.{begins_with};
+ghost use Rattle.sc_parse.specs.Readers.{declaration_at, members_behind, member_at, adds, all_separated, grouped, members_at, members_in_braces, struct_at};
+
+use crate::front::{begins_with, first_line, name_at, skip, take};
+use crate::types::{Declarator, base_at, declarator_at};
+use sc_ast::{BaseTree, MemberTree, MemberTrees, NonEmpty, StructTree, TypeTree};
+use sc_expr::{Lexeme, Mark, SyntaxFault, refused};
+use sqlite_items::Items;
+use std::alloc::Global;
+
+type Members = Items<MemberTree>;
+
+#[tactic(auto, unfolding(crate::specs::Readers::adds, crate::specs::Readers::member_at))]
+fn with_member(
+    base: &BaseTree,
+    mut members: Members,
+    rest: &mut &[Lexeme],
+) -> Result<Members, SyntaxFault>
+    ensures { Agrees (λ x. (x, rest.new.now)) result (adds (member_at base.now) members rest.old.now) }
+{
+    let Declarator {
+        stars,
+        name,
+        length,
+    } = declarator_at(rest)?;
+    let ty = TypeTree {
+        base: *base,
+        stars,
+        length,
+    };
+    members.push(MemberTree { ty, name })?;
+    Ok(members)
+}
+
+// The declarators of one declaration of members, behind the members before.
+#[tactic(auto, using(crate::proofs::Steps::turns))]
+fn with_members(
+    base: &BaseTree,
+    mut members: Members,
+    rest: &mut &[Lexeme],
+) -> Result<Members, SyntaxFault>
+    ensures { Agrees (λ x. (x, rest.new.now)) result (all_separated (adds (member_at base.now)) members rest.old.now) }
+{
+    for _ in 0..rest.len() + 1 {
+        members = with_member(base, members, rest)?;
+        if !skip(Mark::Comma, rest) {
+            return Ok(members);
+        }
+    }
+    Err(refused(rest))
+}
+
+// One declaration of members, behind the members before.
+#[tactic(auto, unfolding(crate::specs::Readers::declaration_at))]
+fn member_line(members: Members, rest: &mut &[Lexeme]) -> Result<Members, SyntaxFault>
+    ensures { Agrees (λ x. (x, rest.new.now)) result (declaration_at members_behind members rest.old.now) }
+{
+    let base = base_at(rest)?;
+    let members = with_members(&base, members, rest)?;
+    take(Mark::Semicolon, rest)?;
+    Ok(members)
+}
+
+#[tactic(auto, using(crate::proofs::Steps::groups))]
+fn member_lines(mut members: Members, rest: &mut &[Lexeme]) -> Result<Members, SyntaxFault>
+    ensures { Agrees (λ x. (x, rest.new.now)) result (grouped (begins_with CloseCurly) (declaration_at members_behind) (length rest.old.now + 1) members rest.old.now) }
+{
+    for _ in 0..rest.len() + 1 {
+        if begins_with(Mark::CloseCurly, rest) {
+            return Ok(members);
+        }
+        members = member_line(members, rest)?;
+    }
+    Err(refused(rest))
+}
+
+#[tactic(auto, unfolding(crate::specs::Readers::members_at))]
+fn members_at(alloc: Global, rest: &mut &[Lexeme]) -> Result<MemberTrees, SyntaxFault>
+    ensures { Agrees (λ x. (x, rest.new.now)) result (members_at rest.old.now) }
+{
+    let members = member_lines(Items::new(alloc), rest)?;
+    match NonEmpty::new(members) {
+        Some(members) => Ok(members),
+        None => Err(refused(rest)),
+    }
+}
+
+fn members_in_braces(alloc: Global, rest: &mut &[Lexeme]) -> Result<MemberTrees, SyntaxFault>
+    ensures { Agrees (λ x. (x, rest.new.now)) result (members_in_braces rest.old.now) }
+{
+    take(Mark::OpenCurly, rest)?;
+    let members = members_at(alloc, rest)?;
+    take(Mark::CloseCurly, rest)?;
+    Ok(members)
+}
+
+/// A struct, where its first word stands at the front.
+#[tactic(auto, unfolding(crate::specs::Readers::struct_at))]
+pub fn struct_at(alloc: Global, rest: &mut &[Lexeme]) -> Result<StructTree, SyntaxFault>
+    requires { 1 ≤ length rest.old.now }
+    ensures { Agrees (λ x. (x, rest.new.now)) result (struct_at rest.old.now) }
+{
+    let line = first_line(rest);
+    *rest = &rest[1..];
+    let name = name_at(rest)?;
+    let members = members_in_braces(alloc, rest)?;
+    take(Mark::Semicolon, rest)?;
+    Ok(StructTree {
+        name,
+        members,
+        line,
+    })
+}

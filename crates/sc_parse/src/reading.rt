@@ -1,0 +1,82 @@
+//! Parsing the tokens of a section.
+
+ghost use Rattle.std.specs.Prelude.{◌≡◌, ◌<◌, ◌≤◌, ◌-◌, length, Any, IfOk, IsErrOf};
+ghost use Rattle.sc_lex.specs.Cutting.{IsCut};
+ghost use Rattle.sc_lex.specs.Lines.{line_after};
+ghost use Rattle.sc_lex.specs.declared.refusal.Refusal.{Refusal};
+ghost use Rattle.sc_lex.specs.declared.refusal.Phase.TheVariants.{Syntax};
+ghost use Rattle.sc_ast.specs.declared.section.SectionTree.{SectionTree};
+ghost use Rattle.sc_parse.specs.Limits.{IsParsed, Parses, lexemes_of, whole_line};
+
+use crate::brackets::first_excess;
+use crate::fault::ParseFault;
+use crate::section::section_at;
+use sc_ast::SectionTree;
+use sc_expr::{Lexeme, SyntaxFault, lexemes};
+use sc_lex::{Phase, Refusal, Section, Token, slices_in_order};
+use std::alloc::Global;
+
+// The line in the whole text of a lexeme, the last where fewer stand there, of a section that begins in this line.
+fn line_of(line: u32, lexemes: &[Lexeme], at: usize) -> u32
+    ensures { 0 < length lexemes.now → Any (λ t. result ≡ whole_line line t) lexemes.now }
+{
+    let last = lexemes.len().saturating_sub(1);
+    match lexemes.get(at.min(last)) {
+        Some(lexeme) => line.saturating_add(lexeme.line.saturating_sub(1)),
+        None => line,
+    }
+}
+
+fn refused_at(line: u32, lexemes: &[Lexeme], at: usize) -> Refusal
+    ensures phase { result.phase ≡ Syntax }
+    ensures line { 0 < length lexemes.now → Any (λ t. result.line ≡ whole_line line t) lexemes.now }
+{
+    Refusal {
+        phase: Phase::Syntax,
+        line: line_of(line, lexemes, at),
+    }
+}
+
+#[tactic(auto, using(crate::proofs::Trees::trees))]
+fn parse_lexemes(alloc: Global, line: u32, lexemes: &[Lexeme]) -> Result<SectionTree, ParseFault>
+    ensures parses { Parses line lexemes.now result }
+    ensures phase { (refusal : Refusal) → IsErrOf result (ParseFault.Refused refusal) → refusal.phase ≡ Syntax }
+    ensures line { (refusal : Refusal) → IsErrOf result (ParseFault.Refused refusal) → 0 < length lexemes.now → Any (λ t. refusal.line ≡ whole_line line t) lexemes.now }
+{
+    let excess = first_excess(lexemes);
+    let mut rest = lexemes;
+    let tree = match section_at(alloc, line, &mut rest) {
+        Ok(tree) => tree,
+        Err(SyntaxFault::Refused { left }) => {
+            let stuck = lexemes.len().saturating_sub(left);
+            let first = stuck.min(excess.unwrap_or(stuck));
+            return Err(ParseFault::Refused(refused_at(line, lexemes, first)));
+        }
+        Err(SyntaxFault::OutOfMemory) => return Err(ParseFault::OutOfMemory),
+    };
+    match excess {
+        None => Ok(tree),
+        Some(at) => Err(ParseFault::Refused(refused_at(line, lexemes, at))),
+    }
+}
+
+/// The tree of a section, from the tokens that its bytes are cut into. The line of a refusal is counted in the whole
+/// text: that of the first token that can't go on or opens a bracket too many, or of the last where the section ends
+/// early.
+pub fn parse(
+    alloc: Global,
+    section: &Section<'_>,
+    tokens: &[Token],
+) -> Result<SectionTree, ParseFault>
+    requires { IsCut section.now.bytes.now tokens.now }
+    ensures parsed { IfOk result (λ tree. IsParsed section.now.line (lexemes_of section.now.bytes.now tokens.now) tree) }
+
+    // Tokens are refused exactly where they are no tree within the limits, with the line of one of them.
+    ensures refused { (refusal : Refusal) → IsErrOf result (ParseFault.Refused refusal) → (tree : SectionTree) → IsParsed section.now.line (lexemes_of section.now.bytes.now tokens.now) tree → ⊥ }
+    ensures phase { (refusal : Refusal) → IsErrOf result (ParseFault.Refused refusal) → refusal.phase ≡ Syntax }
+    ensures line { (refusal : Refusal) → IsErrOf result (ParseFault.Refused refusal) → 0 < length tokens.now → Any (λ token. refusal.line ≡ line_after section.now.line (token.line - 1)) tokens.now }
+{
+    slices_in_order();
+    let lexemes = lexemes(alloc, section.bytes, tokens)?;
+    parse_lexemes(alloc, section.line, lexemes.as_slice())
+}

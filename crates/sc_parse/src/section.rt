@@ -1,0 +1,216 @@
+//! Directives, declarations and sections.
+
+ghost use Rattle.std.specs.Prelude.{◌≡◌, ◌≤◌, ◌+◌, ◌-◌, ℕ, List, [], length, drop, true, false, IsSome, IfOk};
+ghost use Rattle.sc_ast.specs.declared.section.SectionTree.{SectionTree};
+ghost use Rattle.sc_expr.specs.declared.lexeme.Lexeme.{Lexeme};
+ghost use Rattle.sc_expr.specs.Fronts.{Agrees};
+ghost use Rattle.sc_parse.specs.Fronts.{keyword_at};
+ghost use Rattle.sc_parse.specs.Readers.{adds, grouped, names_struct, is_struct_word, begins_struct};
+ghost use Rattle.sc_parse.specs.SectionReaders.{struct_decl_at, headed_at, decl_at, is_empty, decls_at, line_by, line_at, directives, with_line, lines_at, directives_at, compartment_by, compartment_at, section_at};
+ghost use Rattle.sc_parse.specs.Sections.{SpellsSection};
+
+use crate::front::{begins_with, keyword_at, name_by, past};
+use crate::functions::headed_at;
+use crate::globals::globals_at;
+use crate::heads::begins_head;
+use crate::members::struct_at;
+use sc_ast::{Decl, Decls, ExportLine, ExportLines, ImportLine, ImportLines, SectionTree};
+use sc_event::Name;
+use sc_expr::{Keyword, Lexeme, Mark, Symbol, SyntaxFault, refused};
+use sqlite_items::Items;
+use std::alloc::{AllocError, Global};
+
+/// A directive.
+#[derive(Clone, Copy)]
+enum Line {
+    Export(ExportLine),
+    Import(ImportLine),
+}
+
+/// The directives of a section.
+#[derive(Drop)]
+struct Directives {
+    exports: ExportLines,
+    imports: ImportLines,
+}
+
+fn names_struct(rest: &[Lexeme]) -> bool
+    ensures { result ≡ names_struct rest.now }
+{
+    let [first, behind @ ..] = rest else {
+        return false;
+    };
+    match name_by(&first.symbol) {
+        Some(_) => begins_with(Mark::OpenCurly, behind),
+        None => false,
+    }
+}
+
+fn is_struct_word(word: Option<Keyword>) -> bool
+    ensures value { result ≡ is_struct_word word }
+    ensures some { result ≡ true → IsSome word }
+{
+    matches!(word, Some(Keyword::Struct))
+}
+
+fn begins_struct(rest: &[Lexeme]) -> bool
+    ensures value { result ≡ begins_struct rest.now }
+    ensures some { result ≡ true → 1 ≤ length rest.now }
+{
+    is_struct_word(keyword_at(rest)) && names_struct(past(rest))
+}
+
+#[tactic(auto, unfolding(crate::specs::Readers::adds, crate::specs::SectionReaders::struct_decl_at))]
+fn with_struct(alloc: Global, mut decls: Decls, rest: &mut &[Lexeme]) -> Result<Decls, SyntaxFault>
+    requires { 1 ≤ length rest.old.now }
+    ensures { Agrees (λ x. (x, rest.new.now)) result (adds struct_decl_at decls rest.old.now) }
+{
+    decls.push(Decl::Struct(struct_at(alloc, rest)?))?;
+    Ok(decls)
+}
+
+#[tactic(auto, unfolding(crate::specs::Readers::adds))]
+fn with_headed(alloc: Global, mut decls: Decls, rest: &mut &[Lexeme]) -> Result<Decls, SyntaxFault>
+    ensures { Agrees (λ x. (x, rest.new.now)) result (adds (headed_at 1024 256) decls rest.old.now) }
+{
+    decls.push(headed_at(alloc, rest)?)?;
+    Ok(decls)
+}
+
+#[tactic(auto, unfolding(crate::specs::SectionReaders::decl_at))]
+fn decl_at(alloc: Global, decls: Decls, rest: &mut &[Lexeme]) -> Result<Decls, SyntaxFault>
+    ensures { Agrees (λ x. (x, rest.new.now)) result (decl_at 1024 256 decls rest.old.now) }
+{
+    if begins_struct(rest) {
+        with_struct(alloc, decls, rest)
+    } else if begins_head(rest) {
+        with_headed(alloc, decls, rest)
+    } else {
+        globals_at(alloc, decls, rest)
+    }
+}
+
+fn is_empty(rest: &[Lexeme]) -> bool
+    ensures { result ≡ is_empty rest.now }
+{
+    match rest {
+        [] => true,
+        [_, ..] => false,
+    }
+}
+
+#[tactic(auto, using(crate::proofs::Steps::groups))]
+fn decls_at(alloc: Global, rest: &mut &[Lexeme]) -> Result<Decls, SyntaxFault>
+    ensures { Agrees (λ x. (x, rest.new.now)) result (decls_at 1024 256 rest.old.now) }
+{
+    let mut decls = Items::new(alloc);
+    for _ in 0..rest.len() + 1 {
+        if is_empty(rest) {
+            return Ok(decls);
+        }
+        decls = decl_at(alloc, decls, rest)?;
+    }
+    Err(refused(rest))
+}
+
+fn line_by(symbol: &Symbol, line: u32) -> Option<Line>
+    ensures { result ≡ line_by symbol.now line }
+{
+    match symbol {
+        Symbol::Export(name) => Some(Line::Export(ExportLine { name: *name, line })),
+        Symbol::Import { comp, name } => Some(Line::Import(ImportLine {
+            comp: *comp,
+            name: *name,
+            line,
+        })),
+        _ => None,
+    }
+}
+
+fn line_at(rest: &[Lexeme]) -> Option<Line>
+    ensures { result ≡ line_at rest.now }
+{
+    let [first, ..] = rest else {
+        return None;
+    };
+    line_by(&first.symbol, first.line)
+}
+
+fn with_line(mut found: Directives, line: Line) -> Result<Directives, AllocError>
+    ensures { IfOk result (λ more. more ≡ with_line found line) }
+{
+    match line {
+        Line::Export(line) => found.exports.push(line)?,
+        Line::Import(line) => found.imports.push(line)?,
+    }
+    Ok(found)
+}
+
+#[tactic(auto, using(crate::proofs::Steps::lines))]
+fn directives_at(alloc: Global, rest: &mut &[Lexeme]) -> Result<Directives, SyntaxFault>
+    ensures { Agrees (λ x. (x, rest.new.now)) result (directives_at rest.old.now) }
+{
+    let mut found = Directives {
+        exports: Items::new(alloc),
+        imports: Items::new(alloc),
+    };
+    for _ in 0..rest.len() + 1 {
+        let Some(line) = line_at(rest) else {
+            return Ok(found);
+        };
+        found = with_line(found, line)?;
+        *rest = past(rest);
+    }
+    Err(refused(rest))
+}
+
+fn compartment_by(symbol: &Symbol) -> Option<Name>
+    ensures { result ≡ compartment_by symbol.now }
+{
+    match symbol {
+        Symbol::Compartment(name) => Some(*name),
+        _ => None,
+    }
+}
+
+fn compartment_at(rest: &mut &[Lexeme]) -> Result<Name, SyntaxFault>
+    ensures { Agrees (λ x. (x, rest.new.now)) result (compartment_at rest.old.now) }
+{
+    let [first, behind @ ..] = *rest else {
+        return Err(refused(rest));
+    };
+    match compartment_by(&first.symbol) {
+        Some(name) => {
+            *rest = behind;
+            Ok(name)
+        }
+        None => Err(refused(rest)),
+    }
+}
+
+/// A section whose compartment line is this one of the whole text.
+#[tactic(auto, unfolding(crate::specs::SectionReaders::section_within))]
+pub fn section_at(
+    alloc: Global,
+    line: u32,
+    rest: &mut &[Lexeme],
+) -> Result<SectionTree, SyntaxFault>
+    ensures { Agrees (λ x. (x, rest.new.now)) result (section_at line rest.old.now) }
+{
+    let name = compartment_at(rest)?;
+    let Directives { exports, imports } = directives_at(alloc, rest)?;
+    let decls = decls_at(alloc, rest)?;
+    Ok(SectionTree {
+        name,
+        line,
+        exports,
+        imports,
+        decls,
+    })
+}
+
+/// Lexemes spell one section at most, whatever their height and their brackets.
+#[tactic(auto, using(crate::proofs::Sections::sections_agree))]
+pub fn one_section()
+    ensures { (line : ℕ) (lexemes : List Lexeme) (s t : SectionTree) → SpellsSection line lexemes s → SpellsSection line lexemes t → s ≡ t }
+{}

@@ -1,0 +1,322 @@
+//! Assignments, `++` and `--`, and calls as statements.
+
+ghost use Rattle.std.specs.Prelude.{◌≡◌, ◌≤◌, ◌+◌, drop, length, IsSome, IfOk, Some};
+ghost use Rattle.sc_expr.specs.Fronts.{Agrees};
+ghost use Rattle.sc_parse.specs.Statements.{compound_of, step_of, updates, one};
+ghost use Rattle.sc_parse.specs.StmtReaders.{mark_by, mark_at, change_of, change_at, step_at, place_at, value_behind, operand_behind, stepped, changed, assignment_at, step_before, call_alone, unstepped, simple_at, always, part_at, test_at};
+
+use crate::calls::{LOOSEST, MAX_BRACKETS, call_at, expr_at};
+use crate::copy::copy_expr;
+use crate::front::{begins_call, begins_with, first_line, past};
+use sc_ast::{BinaryOp, ExprTree, Literal, PlaceTree, SimpleKind, SimpleTree};
+use sc_expr::{Built, Lexeme, Mark, Symbol, SyntaxFault, parse_level, refused};
+use sqlite_items::Boxed;
+use std::alloc::{AllocError, Global};
+
+/// What a mark behind a place does to it.
+#[derive(Clone, Copy)]
+enum Change {
+    /// `=`
+    Set,
+    /// `+=` and the like
+    By(BinaryOp),
+    /// `++` and `--`
+    Step(BinaryOp),
+}
+
+/// A place, and its height.
+#[derive(Drop)]
+struct Placed {
+    place: PlaceTree,
+    height: u32,
+}
+
+fn compound_of(mark: Mark) -> Option<BinaryOp>
+    ensures { result ≡ compound_of mark }
+{
+    match mark {
+        Mark::PlusEqual => Some(BinaryOp::Add),
+        Mark::MinusEqual => Some(BinaryOp::Sub),
+        Mark::StarEqual => Some(BinaryOp::Mul),
+        Mark::SlashEqual => Some(BinaryOp::Div),
+        Mark::PercentEqual => Some(BinaryOp::Rem),
+        Mark::LessLessEqual => Some(BinaryOp::ShiftLeft),
+        Mark::GreaterGreaterEqual => Some(BinaryOp::ShiftRight),
+        Mark::AndEqual => Some(BinaryOp::BitAnd),
+        Mark::CaretEqual => Some(BinaryOp::BitXor),
+        Mark::OrEqual => Some(BinaryOp::BitOr),
+        _ => None,
+    }
+}
+
+fn step_of(mark: Mark) -> Option<BinaryOp>
+    ensures { result ≡ step_of mark }
+{
+    match mark {
+        Mark::PlusPlus => Some(BinaryOp::Add),
+        Mark::MinusMinus => Some(BinaryOp::Sub),
+        _ => None,
+    }
+}
+
+fn change_of(mark: Mark) -> Option<Change>
+    ensures { result ≡ change_of mark }
+{
+    match mark {
+        Mark::Equal => Some(Change::Set),
+        _ => match compound_of(mark) {
+            Some(op) => Some(Change::By(op)),
+            None => match step_of(mark) {
+                Some(op) => Some(Change::Step(op)),
+                None => None,
+            },
+        },
+    }
+}
+
+fn mark_by(symbol: &Symbol) -> Option<Mark>
+    ensures { result ≡ mark_by symbol.now }
+{
+    match symbol {
+        Symbol::Mark(mark) => Some(*mark),
+        _ => None,
+    }
+}
+
+fn mark_at(rest: &[Lexeme]) -> Option<Mark>
+    ensures value { result ≡ mark_at rest.now }
+    ensures some { IsSome result → 1 ≤ length rest.now }
+{
+    let [first, ..] = rest else {
+        return None;
+    };
+    mark_by(&first.symbol)
+}
+
+fn change_at(rest: &[Lexeme]) -> Option<Change>
+    ensures value { result ≡ change_at rest.now }
+    ensures some { IsSome result → 1 ≤ length rest.now }
+{
+    let mark = mark_at(rest)?;
+    change_of(mark)
+}
+
+fn step_at(rest: &[Lexeme]) -> Option<BinaryOp>
+    ensures value { result ≡ step_at rest.now }
+    ensures some { IsSome result → 1 ≤ length rest.now }
+{
+    let mark = mark_at(rest)?;
+    step_of(mark)
+}
+
+#[tactic(auto, unfolding(crate::specs::StmtReaders::place_at))]
+fn place_at(alloc: Global, room: u32, rest: &mut &[Lexeme]) -> Result<Placed, SyntaxFault>
+    ensures { Agrees (λ x. (x, rest.new.now)) result (place_at 1024 room rest.old.now) }
+{
+    let (Built { tree, height }, behind) = parse_level(alloc, MAX_BRACKETS, room, LOOSEST, rest)?;
+    *rest = behind;
+    match PlaceTree::new(tree.into_inner()) {
+        Ok(place) => Ok(Placed { place, height }),
+        Err(_) => Err(refused(rest)),
+    }
+}
+
+#[tactic(auto, unfolding(crate::specs::StmtReaders::value_behind))]
+fn value_behind(
+    alloc: Global,
+    room: u32,
+    place: PlaceTree,
+    rest: &mut &[Lexeme],
+) -> Result<SimpleKind, SyntaxFault>
+    ensures { Agrees (λ x. (x, rest.new.now)) result (value_behind 1024 room place rest.old.now) }
+{
+    if begins_call(rest) {
+        let call = call_at(alloc, room, rest)?;
+        Ok(SimpleKind::AssignCall { place, call })
+    } else {
+        let value = expr_at(alloc, room, rest)?;
+        Ok(SimpleKind::Assign { place, value })
+    }
+}
+
+// The assignment to a place of what an operator makes of it and of an operand.
+fn updates(
+    alloc: Global,
+    op: BinaryOp,
+    place: PlaceTree,
+    operand: ExprTree,
+) -> Result<SimpleKind, AllocError>
+    ensures { IfOk result (λ kind. kind ≡ updates op place operand) }
+{
+    let left = Boxed::new(alloc, copy_expr(alloc, place.get())?)?;
+    let right = Boxed::new(alloc, operand)?;
+    let value = ExprTree::Binary { op, left, right };
+    Ok(SimpleKind::Assign { place, value })
+}
+
+fn one() -> Option<ExprTree>
+    ensures { result ≡ Some one }
+{
+    let literal = Literal::new(1, false)?;
+    Some(ExprTree::Literal(literal))
+}
+
+#[tactic(auto, unfolding(crate::specs::StmtReaders::operand_behind))]
+fn operand_behind(
+    alloc: Global,
+    room: u32,
+    op: BinaryOp,
+    placed: Placed,
+    rest: &mut &[Lexeme],
+) -> Result<SimpleKind, SyntaxFault>
+    ensures { Agrees (λ x. (x, rest.new.now)) result (operand_behind 1024 room op placed rest.old.now) }
+{
+    if placed.height >= room {
+        return Err(refused(rest));
+    }
+    let operand = expr_at(alloc, room - 1, rest)?;
+    Ok(updates(alloc, op, placed.place, operand)?)
+}
+
+#[tactic(auto, unfolding(crate::specs::StmtReaders::stepped))]
+fn stepped(
+    alloc: Global,
+    room: u32,
+    op: BinaryOp,
+    placed: Placed,
+    rest: &[Lexeme],
+) -> Result<SimpleKind, SyntaxFault>
+    ensures { Agrees (λ x. (x, rest.now)) result (stepped room op placed rest.now) }
+{
+    if placed.height >= room {
+        return Err(refused(rest));
+    }
+    match one() {
+        Some(one) => Ok(updates(alloc, op, placed.place, one)?),
+        None => Err(refused(rest)),
+    }
+}
+
+fn changed(
+    alloc: Global,
+    room: u32,
+    change: Option<Change>,
+    placed: Placed,
+    rest: &mut &[Lexeme],
+) -> Result<SimpleKind, SyntaxFault>
+    ensures { Agrees (λ x. (x, rest.new.now)) result (changed 1024 room change placed rest.old.now) }
+{
+    match change {
+        None => Err(refused(rest)),
+        Some(Change::Set) => value_behind(alloc, room, placed.place, rest),
+        Some(Change::By(op)) => operand_behind(alloc, room, op, placed, rest),
+        Some(Change::Step(op)) => stepped(alloc, room, op, placed, rest),
+    }
+}
+
+// The change at the front, past which it goes.
+fn take_change(rest: &mut &[Lexeme]) -> Option<Change>
+    ensures value { result ≡ change_at rest.old.now }
+    ensures moved { rest.new.now ≡ drop 1 rest.old.now }
+{
+    let change = change_at(rest);
+    *rest = past(rest);
+    change
+}
+
+#[tactic(auto, unfolding(crate::specs::StmtReaders::assignment_at))]
+fn assignment_at(alloc: Global, room: u32, rest: &mut &[Lexeme]) -> Result<SimpleKind, SyntaxFault>
+    ensures { Agrees (λ x. (x, rest.new.now)) result (assignment_at 1024 room rest.old.now) }
+{
+    let placed = place_at(alloc, room, rest)?;
+    let change = take_change(rest);
+    changed(alloc, room, change, placed, rest)
+}
+
+#[tactic(auto, unfolding(crate::specs::StmtReaders::step_before))]
+fn step_before(
+    alloc: Global,
+    room: u32,
+    op: BinaryOp,
+    rest: &mut &[Lexeme],
+) -> Result<SimpleKind, SyntaxFault>
+    ensures { Agrees (λ x. (x, rest.new.now)) result (step_before 1024 room op rest.old.now) }
+{
+    let placed = place_at(alloc, room, rest)?;
+    stepped(alloc, room, op, placed, rest)
+}
+
+fn call_alone(alloc: Global, room: u32, rest: &mut &[Lexeme]) -> Result<SimpleKind, SyntaxFault>
+    ensures { Agrees (λ x. (x, rest.new.now)) result (call_alone 1024 room rest.old.now) }
+{
+    Ok(SimpleKind::Call(call_at(alloc, room, rest)?))
+}
+
+/// What may stand in the head of a `for`, where its parts are at most `room` high.
+#[tactic(auto, unfolding(crate::specs::StmtReaders::simple_at))]
+pub fn simple_at(alloc: Global, room: u32, rest: &mut &[Lexeme]) -> Result<SimpleKind, SyntaxFault>
+    ensures { Agrees (λ x. (x, rest.new.now)) result (simple_at 1024 room rest.old.now) }
+{
+    match step_at(rest) {
+        Some(op) => {
+            *rest = past(rest);
+            step_before(alloc, room, op, rest)
+        }
+        None => unstepped(alloc, room, rest),
+    }
+}
+
+fn unstepped(alloc: Global, room: u32, rest: &mut &[Lexeme]) -> Result<SimpleKind, SyntaxFault>
+    ensures { Agrees (λ x. (x, rest.new.now)) result (unstepped 1024 room rest.old.now) }
+{
+    if begins_call(rest) {
+        call_alone(alloc, room, rest)
+    } else {
+        assignment_at(alloc, room, rest)
+    }
+}
+
+/// The first or the last part of a `for`, up to a mark.
+#[tactic(auto, unfolding(crate::specs::StmtReaders::part_at))]
+pub fn part_at(
+    alloc: Global,
+    room: u32,
+    ends: Mark,
+    rest: &mut &[Lexeme],
+) -> Result<Option<SimpleTree>, SyntaxFault>
+    ensures { Agrees (λ x. (x, rest.new.now)) result (part_at 1024 room ends rest.old.now) }
+{
+    if begins_with(ends, rest) {
+        return Ok(None);
+    }
+    if room < 1 {
+        return Err(refused(rest));
+    }
+    let line = first_line(rest);
+    let kind = simple_at(alloc, room - 1, rest)?;
+    Ok(Some(SimpleTree { line, kind }))
+}
+
+fn always(room: u32, rest: &[Lexeme]) -> Result<ExprTree, SyntaxFault>
+    ensures { Agrees (λ x. (x, rest.now)) result (always room rest.now) }
+{
+    if room < 1 {
+        return Err(refused(rest));
+    }
+    match one() {
+        Some(one) => Ok(one),
+        None => Err(refused(rest)),
+    }
+}
+
+/// The condition of a `for`; an absent one is the literal 1.
+#[tactic(auto, unfolding(crate::specs::StmtReaders::test_at))]
+pub fn test_at(alloc: Global, room: u32, rest: &mut &[Lexeme]) -> Result<ExprTree, SyntaxFault>
+    ensures { Agrees (λ x. (x, rest.new.now)) result (test_at 1024 room rest.old.now) }
+{
+    if begins_with(Mark::Semicolon, rest) {
+        always(room, rest)
+    } else {
+        expr_at(alloc, room, rest)
+    }
+}

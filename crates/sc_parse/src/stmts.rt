@@ -1,0 +1,296 @@
+//! Statements and blocks.
+
+ghost use Rattle.std.specs.Prelude.{◌≡◌, ◌≤◌, ◌+◌, [], ◌∷◌, length, drop, true, false, IfOk};
+ghost use Rattle.sc_expr.specs.Fronts.{Agrees};
+ghost use Rattle.sc_ast.specs.Simple.{kind_of};
+ghost use Rattle.sc_parse.specs.Fronts.{is_else, keyword_at};
+ghost use Rattle.sc_parse.specs.Readers.{adds};
+ghost use Rattle.sc_parse.specs.StmtReaders.{value_returned, returned, simple_or_none, plain_at, ended_at, first_part, middle_part, last_part, stmts_at, block_at, alone, else_behind, else_at, if_behind, while_behind, for_behind, kind_by, stmt_within, stmt_at};
+
+use crate::calls::{call_at, condition_at, expr_at};
+use crate::front::{begins_call, begins_with, first_line, is_else, keyword_at, past, take};
+use crate::simple::{part_at, simple_at, test_at};
+use sc_ast::{ExprTree, SimpleKind, SimpleTree, StmtKind, StmtTree, Stmts};
+use sc_expr::{Keyword, Lexeme, Mark, SyntaxFault, refused};
+use sqlite_items::Items;
+use std::alloc::Global;
+
+fn kind_of(kind: SimpleKind) -> StmtKind
+    ensures { result ≡ kind_of kind }
+{
+    match kind {
+        SimpleKind::Assign { place, value } => StmtKind::Assign { place, value },
+        SimpleKind::AssignCall { place, call } => StmtKind::AssignCall { place, call },
+        SimpleKind::Call(call) => StmtKind::Call(call),
+    }
+}
+
+fn value_returned(alloc: Global, room: u32, rest: &mut &[Lexeme]) -> Result<StmtKind, SyntaxFault>
+    ensures { Agrees (λ x. (x, rest.new.now)) result (value_returned 1024 room rest.old.now) }
+{
+    if begins_call(rest) {
+        Ok(StmtKind::ReturnCall(call_at(alloc, room, rest)?))
+    } else {
+        Ok(StmtKind::ReturnValue(expr_at(alloc, room, rest)?))
+    }
+}
+
+// What stands behind `return`, without the `;`.
+#[tactic(auto, unfolding(crate::specs::StmtReaders::returned))]
+fn returned(alloc: Global, room: u32, rest: &mut &[Lexeme]) -> Result<StmtKind, SyntaxFault>
+    ensures { Agrees (λ x. (x, rest.new.now)) result (returned 1024 room rest.old.now) }
+{
+    if begins_with(Mark::Semicolon, rest) {
+        Ok(StmtKind::Return)
+    } else {
+        value_returned(alloc, room, rest)
+    }
+}
+
+fn simple_or_none(alloc: Global, room: u32, rest: &mut &[Lexeme]) -> Result<StmtKind, SyntaxFault>
+    ensures { Agrees (λ x. (x, rest.new.now)) result (simple_or_none 1024 room rest.old.now) }
+{
+    if begins_with(Mark::Semicolon, rest) {
+        Ok(StmtKind::Empty)
+    } else {
+        Ok(kind_of(simple_at(alloc, room, rest)?))
+    }
+}
+
+// A statement that is no `if` and no loop, without its `;`.
+#[tactic(auto, unfolding(crate::specs::StmtReaders::plain_at))]
+fn plain_at(
+    alloc: Global,
+    room: u32,
+    word: Option<Keyword>,
+    rest: &mut &[Lexeme],
+) -> Result<StmtKind, SyntaxFault>
+    ensures { Agrees (λ x. (x, rest.new.now)) result (plain_at 1024 room word rest.old.now) }
+{
+    match word {
+        Some(Keyword::Break) => {
+            *rest = past(rest);
+            Ok(StmtKind::Break)
+        }
+        Some(Keyword::Continue) => {
+            *rest = past(rest);
+            Ok(StmtKind::Continue)
+        }
+        Some(Keyword::Return) => {
+            *rest = past(rest);
+            returned(alloc, room, rest)
+        }
+        _ => simple_or_none(alloc, room, rest),
+    }
+}
+
+#[tactic(auto, unfolding(crate::specs::StmtReaders::ended_at))]
+fn ended_at(alloc: Global, room: u32, rest: &mut &[Lexeme]) -> Result<StmtKind, SyntaxFault>
+    ensures { Agrees (λ x. (x, rest.new.now)) result (ended_at 1024 room rest.old.now) }
+{
+    let kind = plain_at(alloc, room, keyword_at(rest), rest)?;
+    take(Mark::Semicolon, rest)?;
+    Ok(kind)
+}
+
+#[tactic(auto, unfolding(crate::specs::StmtReaders::first_part))]
+fn first_part(
+    alloc: Global,
+    room: u32,
+    rest: &mut &[Lexeme],
+) -> Result<Option<SimpleTree>, SyntaxFault>
+    ensures { Agrees (λ x. (x, rest.new.now)) result (first_part 1024 room rest.old.now) }
+{
+    take(Mark::OpenParen, rest)?;
+    let part = part_at(alloc, room, Mark::Semicolon, rest)?;
+    take(Mark::Semicolon, rest)?;
+    Ok(part)
+}
+
+#[tactic(auto, unfolding(crate::specs::StmtReaders::middle_part))]
+fn middle_part(alloc: Global, room: u32, rest: &mut &[Lexeme]) -> Result<ExprTree, SyntaxFault>
+    ensures { Agrees (λ x. (x, rest.new.now)) result (middle_part 1024 room rest.old.now) }
+{
+    let cond = test_at(alloc, room, rest)?;
+    take(Mark::Semicolon, rest)?;
+    Ok(cond)
+}
+
+#[tactic(auto, unfolding(crate::specs::StmtReaders::last_part))]
+fn last_part(
+    alloc: Global,
+    room: u32,
+    rest: &mut &[Lexeme],
+) -> Result<Option<SimpleTree>, SyntaxFault>
+    ensures { Agrees (λ x. (x, rest.new.now)) result (last_part 1024 room rest.old.now) }
+{
+    let part = part_at(alloc, room, Mark::CloseParen, rest)?;
+    take(Mark::CloseParen, rest)?;
+    Ok(part)
+}
+
+/// Statements up to `}`, each at most `room` high.
+#[cycle(statements)]
+#[tactic(auto, using(crate::proofs::Steps::groups))]
+pub fn stmts_at(alloc: Global, room: u32, rest: &mut &[Lexeme]) -> Result<Stmts, SyntaxFault>
+    ensures { Agrees (λ x. (x, rest.new.now)) result (stmts_at (stmt_at 1024 room) rest.old.now) }
+{
+    let mut stmts = Items::new(alloc);
+    for _ in 0..rest.len() + 1 {
+        if begins_with(Mark::CloseCurly, rest) {
+            return Ok(stmts);
+        }
+        stmts = with_stmt(alloc, room, stmts, rest)?;
+    }
+    Err(refused(rest))
+}
+
+#[cycle(statements)]
+#[tactic(auto, unfolding(crate::specs::Readers::adds))]
+fn with_stmt(
+    alloc: Global,
+    room: u32,
+    mut stmts: Stmts,
+    rest: &mut &[Lexeme],
+) -> Result<Stmts, SyntaxFault>
+    ensures { Agrees (λ x. (x, rest.new.now)) result (adds (stmt_at 1024 room) stmts rest.old.now) }
+{
+    stmts.push(stmt_at(alloc, room, rest)?)?;
+    Ok(stmts)
+}
+
+#[cycle(statements)]
+#[tactic(auto, unfolding(crate::specs::StmtReaders::block_at))]
+fn block_at(alloc: Global, room: u32, rest: &mut &[Lexeme]) -> Result<Stmts, SyntaxFault>
+    ensures { Agrees (λ x. (x, rest.new.now)) result (block_at (stmt_at 1024 room) rest.old.now) }
+{
+    take(Mark::OpenCurly, rest)?;
+    let stmts = stmts_at(alloc, room, rest)?;
+    take(Mark::CloseCurly, rest)?;
+    Ok(stmts)
+}
+
+// The statement behind `else`, alone, where it is an `if`.
+#[cycle(statements)]
+fn alone(alloc: Global, room: u32, rest: &mut &[Lexeme]) -> Result<Stmts, SyntaxFault>
+    ensures { Agrees (λ x. (x, rest.new.now)) result (alone (stmt_at 1024 room) rest.old.now) }
+{
+    let mut stmts = Items::new(alloc);
+    stmts.push(stmt_at(alloc, room, rest)?)?;
+    Ok(stmts)
+}
+
+#[cycle(statements)]
+#[tactic(auto, unfolding(crate::specs::StmtReaders::else_behind))]
+fn else_behind(alloc: Global, room: u32, rest: &mut &[Lexeme]) -> Result<Stmts, SyntaxFault>
+    ensures { Agrees (λ x. (x, rest.new.now)) result (else_behind (stmt_at 1024 room) rest.old.now) }
+{
+    match keyword_at(rest) {
+        Some(Keyword::If) => alone(alloc, room, rest),
+        _ => block_at(alloc, room, rest),
+    }
+}
+
+#[cycle(statements)]
+#[tactic(auto, unfolding(crate::specs::StmtReaders::else_at))]
+fn else_at(alloc: Global, room: u32, rest: &mut &[Lexeme]) -> Result<Stmts, SyntaxFault>
+    ensures { Agrees (λ x. (x, rest.new.now)) result (else_at (stmt_at 1024 room) rest.old.now) }
+{
+    if is_else(keyword_at(rest)) {
+        *rest = past(rest);
+        else_behind(alloc, room, rest)
+    } else {
+        Ok(Items::new(alloc))
+    }
+}
+
+#[cycle(statements)]
+#[tactic(auto, unfolding(crate::specs::StmtReaders::if_behind))]
+fn if_behind(alloc: Global, room: u32, rest: &mut &[Lexeme]) -> Result<StmtKind, SyntaxFault>
+    ensures { Agrees (λ x. (x, rest.new.now)) result (if_behind 1024 (stmt_at 1024 room) room rest.old.now) }
+{
+    let cond = condition_at(alloc, room, rest)?;
+    let then_part = block_at(alloc, room, rest)?;
+    let else_part = else_at(alloc, room, rest)?;
+    Ok(StmtKind::If {
+        cond,
+        then_part,
+        else_part,
+    })
+}
+
+#[cycle(statements)]
+#[tactic(auto, unfolding(crate::specs::StmtReaders::while_behind))]
+fn while_behind(alloc: Global, room: u32, rest: &mut &[Lexeme]) -> Result<StmtKind, SyntaxFault>
+    ensures { Agrees (λ x. (x, rest.new.now)) result (while_behind 1024 (stmt_at 1024 room) room rest.old.now) }
+{
+    let cond = condition_at(alloc, room, rest)?;
+    let body = block_at(alloc, room, rest)?;
+    Ok(StmtKind::While { cond, body })
+}
+
+#[cycle(statements)]
+#[tactic(auto, unfolding(crate::specs::StmtReaders::for_behind))]
+fn for_behind(alloc: Global, room: u32, rest: &mut &[Lexeme]) -> Result<StmtKind, SyntaxFault>
+    ensures { Agrees (λ x. (x, rest.new.now)) result (for_behind 1024 (stmt_at 1024 room) room rest.old.now) }
+{
+    let first = first_part(alloc, room, rest)?;
+    let cond = middle_part(alloc, room, rest)?;
+    let next = last_part(alloc, room, rest)?;
+    let body = block_at(alloc, room, rest)?;
+    Ok(StmtKind::For {
+        first,
+        cond,
+        next,
+        body,
+    })
+}
+
+#[cycle(statements)]
+fn kind_by(
+    alloc: Global,
+    room: u32,
+    word: Option<Keyword>,
+    rest: &mut &[Lexeme],
+) -> Result<StmtKind, SyntaxFault>
+    ensures { Agrees (λ x. (x, rest.new.now)) result (kind_by 1024 (stmt_at 1024 room) room word rest.old.now) }
+{
+    match word {
+        Some(Keyword::If) => {
+            *rest = past(rest);
+            if_behind(alloc, room, rest)
+        }
+        Some(Keyword::While) => {
+            *rest = past(rest);
+            while_behind(alloc, room, rest)
+        }
+        Some(Keyword::For) => {
+            *rest = past(rest);
+            for_behind(alloc, room, rest)
+        }
+        _ => ended_at(alloc, room, rest),
+    }
+}
+
+// A statement whose parts are at most `room` high.
+#[cycle(statements)]
+#[tactic(auto, unfolding(crate::specs::StmtReaders::stmt_within))]
+fn stmt_within(alloc: Global, room: u32, rest: &mut &[Lexeme]) -> Result<StmtTree, SyntaxFault>
+    ensures { Agrees (λ x. (x, rest.new.now)) result (stmt_within 1024 (stmt_at 1024 room) room rest.old.now) }
+{
+    let line = first_line(rest);
+    let kind = kind_by(alloc, room, keyword_at(rest), rest)?;
+    Ok(StmtTree { line, kind })
+}
+
+// A statement, at most `room` high.
+#[cycle(statements)]
+#[tactic(auto, using(crate::proofs::Steps::rooms))]
+fn stmt_at(alloc: Global, room: u32, rest: &mut &[Lexeme]) -> Result<StmtTree, SyntaxFault>
+    ensures { Agrees (λ x. (x, rest.new.now)) result (stmt_at 1024 room rest.old.now) }
+{
+    match room.checked_sub(1) {
+        Some(below) => stmt_within(alloc, below, rest),
+        None => Err(refused(rest)),
+    }
+}
