@@ -1,0 +1,288 @@
+-- Words that stand apart from the text behind them.
+use Rattle.std.proofs.Common.{◌≡◌, ℕ, ◌<◌, Bool, true, false, ◌&&◌, ◌||◌, codes, List, [], ◌∷◌, ◌++◌, length, length-append, take, drop, Some, refl, sym, ap, ◌∙◌, arith}
+use Rattle.std.specs.Prelude.{nat_le, ◌==◌, slice_index}
+use Rattle.std.specs.List.{list_all, prefix_len}
+use Rattle.std.proofs.Math.Seq.{take-append_seam}
+use Rattle.std.proofs.lemmas.Bool.{and_parts, and_from, le-leb, false≢true}
+use Rattle.sc_event.specs.Identifier.{is_name_byte}
+use Rattle.sc_reserved.specs.Reserved.{is_reserved}
+use Rattle.sc_lex.specs.Tables.{marks, is_mark}
+use Rattle.sc_lex.specs.Cutting.{begins_block_comment, begins_line_comment, IsToken}
+use Rattle.sc_lex.specs.Kinds.{word_kind}
+use Rattle.sc_lex.specs.declared.token.TokenKind.{TokenKind}
+use Rattle.sc_lex.specs.declared.token.TokenKind.TheVariants as kind
+use Rattle.sc_lex.proofs.Texts.{word_run}
+use Rattle.sc_lex.proofs.Fronts.{word_found, mark_one, mark_two}
+use Rattle.sc_ast.specs.declared.expr.BinaryOp.{BinaryOp}
+use Rattle.sc_ast.specs.declared.expr.BinaryOp.TheVariants as binary
+use Rattle.sc_ast.specs.ExprWords.{binary_text}
+use Rattle.sc_print.proofs.Literals.{no_table}
+
+-- The text is the token at the front, where this stands behind it.
+pub record IsWord (text rest : List ℕ) : Type 0 where
+  pub kind : TokenKind
+  pub token : (here : Bool) → IsToken here (text ++ rest) kind (length text)
+
+-- no letter, digit or `_` stands at the front
+abbrev pub Calm : List ℕ → Type 0
+Calm text = is_name_byte (slice_index text 0) ≡ false
+
+pub run_is : (p : ℕ → Bool) (text rest : List ℕ) → list_all p text ≡ true → p (slice_index rest 0) ≡ false → prefix_len p (text ++ rest) ≡ length text
+run_is p [] [] all calm = refl
+run_is p [] (b ∷ rest) all calm = rw calm
+run_is p (x ∷ text) rest all calm =
+    let parts = and_parts (p x) (list_all p text) all in
+    rw (parts.0, run_is p text rest parts.1 calm) (omega arith)
+
+pub starts : (text rest : List ℕ) → 0 < length text → list_all is_name_byte text ≡ true → is_name_byte (slice_index (text ++ rest) 0) ≡ true
+starts [] rest some all = absurd (omega (arith, some))
+starts (x ∷ text) rest some all = (and_parts (is_name_byte x) (list_all is_name_byte text) all).0
+
+-- identifiers, integers and reserved words
+pub plain_word : (text rest : List ℕ) (k : TokenKind) → 0 < length text → word_kind text ≡ Some k → Calm rest → IsWord text rest
+plain_word text rest k some is calm =
+    let all = (word_run text k is).run.all in
+    let long = length-append text rest in
+    let run = run_is is_name_byte text rest all calm in
+    let back : take (length text) (text ++ rest) ≡ text = take-append_seam text rest in
+    record {
+      kind = k;
+      token = λ here. word_found (text ++ rest) (starts text rest some all) (length text) k here (omega (arith, long, some)) (sym run) (sym is ∙ ap word_kind (sym back));
+    }
+
+and_false : (a : Bool) → (a && false) ≡ false
+and_false true = refl
+and_false false = refl
+
+one_two : (c : ℕ) (rest : List ℕ) → is_mark (c ∷ slice_index rest 0 ∷ []) ≡ false → (nat_le 2 (length (c ∷ rest)) && is_mark (take 2 (c ∷ rest))) ≡ false
+one_two c [] h = refl
+one_two c (b ∷ rest) h = ap (λ x. nat_le 2 (length (c ∷ b ∷ rest)) && x) h ∙ and_false (nat_le 2 (length (c ∷ b ∷ rest)))
+
+one_three : (c : ℕ) (rest : List ℕ) → ((d : ℕ) → is_mark (c ∷ slice_index rest 0 ∷ d ∷ []) ≡ false) → (nat_le 3 (length (c ∷ rest)) && is_mark (take 3 (c ∷ rest))) ≡ false
+one_three c [] h = refl
+one_three c (b ∷ []) h = refl
+one_three c (b ∷ d ∷ rest) h = ap (λ x. nat_le 3 (length (c ∷ b ∷ d ∷ rest)) && x) (h d) ∙ and_false (nat_le 3 (length (c ∷ b ∷ d ∷ rest)))
+
+two_three : (c e : ℕ) (rest : List ℕ) → is_mark (c ∷ e ∷ slice_index rest 0 ∷ []) ≡ false → (nat_le 3 (length (c ∷ e ∷ rest)) && is_mark (take 3 (c ∷ e ∷ rest))) ≡ false
+two_three c e [] h = refl
+two_three c e (d ∷ rest) h = ap (λ x. nat_le 3 (length (c ∷ e ∷ d ∷ rest)) && x) h ∙ and_false (nat_le 3 (length (c ∷ e ∷ d ∷ rest)))
+
+-- a mark of one byte
+pub one_word : (c : ℕ) (rest : List ℕ) → is_mark (c ∷ []) ≡ true → is_name_byte c ≡ false → (c ≡ 35 → ⊥) → begins_block_comment (c ∷ rest) ≡ false → begins_line_comment (c ∷ rest) ≡ false → is_mark (c ∷ slice_index rest 0 ∷ []) ≡ false → ((d : ℕ) → is_mark (c ∷ slice_index rest 0 ∷ d ∷ []) ≡ false) → IsWord (c ∷ []) rest
+one_word c rest is name line block comment two three =
+    let some : 0 < length (c ∷ rest) = omega arith in
+    record {
+      kind = kind.Mark;
+      token = λ here. mark_one (c ∷ rest) some name line (one_three c rest three) (one_two c rest two) (and_from (nat_le 1 (length (c ∷ rest))) (is_mark (c ∷ [])) (le-leb 1 (length (c ∷ rest)) (omega arith)) is) (λ b. false≢true (sym block ∙ b)) (λ b. false≢true (sym comment ∙ b)) here;
+    }
+
+-- a mark of two bytes
+pub two_word : (c e : ℕ) (rest : List ℕ) → is_mark (c ∷ e ∷ []) ≡ true → is_name_byte c ≡ false → (c ≡ 35 → ⊥) → begins_block_comment (c ∷ e ∷ rest) ≡ false → begins_line_comment (c ∷ e ∷ rest) ≡ false → is_mark (c ∷ e ∷ slice_index rest 0 ∷ []) ≡ false → IsWord (c ∷ e ∷ []) rest
+two_word c e rest is name line block comment three =
+    let some : 0 < length (c ∷ e ∷ rest) = omega arith in
+    record {
+      kind = kind.Mark;
+      token = λ here. mark_two (c ∷ e ∷ rest) some name line (two_three c e rest three) (and_from (nat_le 2 (length (c ∷ e ∷ rest))) (is_mark (c ∷ e ∷ [])) (le-leb 2 (length (c ∷ e ∷ rest)) (omega arith)) is) (λ b. false≢true (sym block ∙ b)) (λ b. false≢true (sym comment ∙ b)) here;
+    }
+
+-- brackets and what else no longer mark begins with
+pub open_paren : (rest : List ℕ) → IsWord (codes "(") rest
+unfolding is_mark
+open_paren rest = one_word 40 rest refl refl (λ e. omega (arith, e)) refl refl refl (λ d. refl)
+
+pub close_paren : (rest : List ℕ) → IsWord (codes ")") rest
+unfolding is_mark
+close_paren rest = one_word 41 rest refl refl (λ e. omega (arith, e)) refl refl refl (λ d. refl)
+
+pub open_square : (rest : List ℕ) → IsWord (codes "[") rest
+unfolding is_mark
+open_square rest = one_word 91 rest refl refl (λ e. omega (arith, e)) refl refl refl (λ d. refl)
+
+pub close_square : (rest : List ℕ) → IsWord (codes "]") rest
+unfolding is_mark
+close_square rest = one_word 93 rest refl refl (λ e. omega (arith, e)) refl refl refl (λ d. refl)
+
+pub dot : (rest : List ℕ) → IsWord (codes ".") rest
+unfolding is_mark
+dot rest = one_word 46 rest refl refl (λ e. omega (arith, e)) refl refl refl (λ d. refl)
+
+pub arrow : (rest : List ℕ) → IsWord (codes "->") rest
+unfolding is_mark
+arrow rest = two_word 45 62 rest refl refl (λ e. omega (arith, e)) refl refl refl
+
+-- an operator before a blank
+pub binary_word : (op : BinaryOp) (rest : List ℕ) → IsWord (binary_text op) (32 ∷ rest)
+unfolding is_mark
+binary_word binary.OrElse rest = two_word 124 124 (32 ∷ rest) refl refl (λ e. omega (arith, e)) refl refl refl
+binary_word binary.AndAlso rest = two_word 38 38 (32 ∷ rest) refl refl (λ e. omega (arith, e)) refl refl refl
+binary_word binary.BitOr rest = one_word 124 (32 ∷ rest) refl refl (λ e. omega (arith, e)) refl refl refl (λ d. refl)
+binary_word binary.BitXor rest = one_word 94 (32 ∷ rest) refl refl (λ e. omega (arith, e)) refl refl refl (λ d. refl)
+binary_word binary.BitAnd rest = one_word 38 (32 ∷ rest) refl refl (λ e. omega (arith, e)) refl refl refl (λ d. refl)
+binary_word binary.Equal rest = two_word 61 61 (32 ∷ rest) refl refl (λ e. omega (arith, e)) refl refl refl
+binary_word binary.NotEqual rest = two_word 33 61 (32 ∷ rest) refl refl (λ e. omega (arith, e)) refl refl refl
+binary_word binary.Less rest = one_word 60 (32 ∷ rest) refl refl (λ e. omega (arith, e)) refl refl refl (λ d. refl)
+binary_word binary.Greater rest = one_word 62 (32 ∷ rest) refl refl (λ e. omega (arith, e)) refl refl refl (λ d. refl)
+binary_word binary.LessEqual rest = two_word 60 61 (32 ∷ rest) refl refl (λ e. omega (arith, e)) refl refl refl
+binary_word binary.GreaterEqual rest = two_word 62 61 (32 ∷ rest) refl refl (λ e. omega (arith, e)) refl refl refl
+binary_word binary.ShiftLeft rest = two_word 60 60 (32 ∷ rest) refl refl (λ e. omega (arith, e)) refl refl refl
+binary_word binary.ShiftRight rest = two_word 62 62 (32 ∷ rest) refl refl (λ e. omega (arith, e)) refl refl refl
+binary_word binary.Add rest = one_word 43 (32 ∷ rest) refl refl (λ e. omega (arith, e)) refl refl refl (λ d. refl)
+binary_word binary.Sub rest = one_word 45 (32 ∷ rest) refl refl (λ e. omega (arith, e)) refl refl refl (λ d. refl)
+binary_word binary.Mul rest = one_word 42 (32 ∷ rest) refl refl (λ e. omega (arith, e)) refl refl refl (λ d. refl)
+binary_word binary.Div rest = one_word 47 (32 ∷ rest) refl refl (λ e. omega (arith, e)) refl refl refl (λ d. refl)
+binary_word binary.Rem rest = one_word 37 (32 ∷ rest) refl refl (λ e. omega (arith, e)) refl refl refl (λ d. refl)
+
+-- the bytes that may stand in a mark behind its first
+abbrev pub is_loud : ℕ → Bool
+is_loud b = b == 43 || b == 45 || b == 38 || b == 124 || b == 60 || b == 61 || b == 62
+
+-- no byte at the front goes on with a mark
+abbrev pub Quiet : List ℕ → Type 0
+Quiet text = is_loud (slice_index text 0) ≡ false
+
+no_mark : (c : ℕ) (b : ℕ) (more : List ℕ) → is_loud b ≡ false → is_mark (c ∷ b ∷ more) ≡ false
+unfolding is_mark
+no_mark c b more h = no_table (λ text. list_all is_loud (drop 1 text)) marks (c ∷ b ∷ more) refl (rw h)
+
+-- `+`, `-` and `&`
+pub data IsSign : ℕ → Type 0 where
+  plus : IsSign 43
+  minus : IsSign 45
+  ampersand : IsSign 38
+
+-- What stands behind an operator doesn't run into it.
+pub data Opens (before text : List ℕ) : Type 0 where
+  quiet : Quiet text → Opens before text
+  sign : IsSign (slice_index text 0) → (before ≡ slice_index text 0 ∷ [] → ⊥) → Opens before text
+
+-- an operator in front of an operand
+abbrev Pairs : ℕ → Type 0
+Pairs c = (b : ℕ) → IsSign b → ((c ∷ []) ≡ b ∷ [] → ⊥) → (is_mark (c ∷ b ∷ []) ≡ false) × ((d : ℕ) → is_mark (c ∷ b ∷ d ∷ []) ≡ false)
+
+sign_word : (c : ℕ) (rest : List ℕ) → is_mark (c ∷ []) ≡ true → is_name_byte c ≡ false → (c ≡ 35 → ⊥) → begins_block_comment (c ∷ rest) ≡ false → begins_line_comment (c ∷ rest) ≡ false → Pairs c → Opens (c ∷ []) rest → IsWord (c ∷ []) rest
+sign_word c rest is name line block comment pairs (quiet q) = one_word c rest is name line block comment (no_mark c (slice_index rest 0) [] q) (λ d. no_mark c (slice_index rest 0) (d ∷ []) q)
+sign_word c rest is name line block comment pairs (sign s other) = let p = pairs (slice_index rest 0) s other in one_word c rest is name line block comment p.0 p.1
+
+pairs_minus : Pairs 45
+unfolding is_mark
+pairs_minus b plus h = (refl, λ d. refl)
+pairs_minus b minus h = absurd (h refl)
+pairs_minus b ampersand h = (refl, λ d. refl)
+
+pub minus_word : (rest : List ℕ) → Opens (45 ∷ []) rest → IsWord (45 ∷ []) rest
+unfolding is_mark
+minus_word rest o = sign_word 45 rest refl refl (λ e. omega (arith, e)) refl refl pairs_minus o
+
+pairs_plus : Pairs 43
+unfolding is_mark
+pairs_plus b plus h = absurd (h refl)
+pairs_plus b minus h = (refl, λ d. refl)
+pairs_plus b ampersand h = (refl, λ d. refl)
+
+pub plus_word : (rest : List ℕ) → Opens (43 ∷ []) rest → IsWord (43 ∷ []) rest
+unfolding is_mark
+plus_word rest o = sign_word 43 rest refl refl (λ e. omega (arith, e)) refl refl pairs_plus o
+
+pairs_not : Pairs 33
+unfolding is_mark
+pairs_not b plus h = (refl, λ d. refl)
+pairs_not b minus h = (refl, λ d. refl)
+pairs_not b ampersand h = (refl, λ d. refl)
+
+pub not_word : (rest : List ℕ) → Opens (33 ∷ []) rest → IsWord (33 ∷ []) rest
+unfolding is_mark
+not_word rest o = sign_word 33 rest refl refl (λ e. omega (arith, e)) refl refl pairs_not o
+
+pairs_tilde : Pairs 126
+unfolding is_mark
+pairs_tilde b plus h = (refl, λ d. refl)
+pairs_tilde b minus h = (refl, λ d. refl)
+pairs_tilde b ampersand h = (refl, λ d. refl)
+
+pub tilde_word : (rest : List ℕ) → Opens (126 ∷ []) rest → IsWord (126 ∷ []) rest
+unfolding is_mark
+tilde_word rest o = sign_word 126 rest refl refl (λ e. omega (arith, e)) refl refl pairs_tilde o
+
+pairs_star : Pairs 42
+unfolding is_mark
+pairs_star b plus h = (refl, λ d. refl)
+pairs_star b minus h = (refl, λ d. refl)
+pairs_star b ampersand h = (refl, λ d. refl)
+
+pub star_word : (rest : List ℕ) → Opens (42 ∷ []) rest → IsWord (42 ∷ []) rest
+unfolding is_mark
+star_word rest o = sign_word 42 rest refl refl (λ e. omega (arith, e)) refl refl pairs_star o
+
+pairs_and : Pairs 38
+unfolding is_mark
+pairs_and b plus h = (refl, λ d. refl)
+pairs_and b minus h = (refl, λ d. refl)
+pairs_and b ampersand h = absurd (h refl)
+
+pub and_word : (rest : List ℕ) → Opens (38 ∷ []) rest → IsWord (38 ∷ []) rest
+unfolding is_mark
+and_word rest o = sign_word 38 rest refl refl (λ e. omega (arith, e)) refl refl pairs_and o
+
+pub semicolon : (rest : List ℕ) → IsWord (codes ";") rest
+unfolding is_mark
+semicolon rest = one_word 59 rest refl refl (λ e. omega (arith, e)) refl refl refl (λ d. refl)
+
+pub comma_word : (rest : List ℕ) → IsWord (codes ",") rest
+unfolding is_mark
+comma_word rest = one_word 44 rest refl refl (λ e. omega (arith, e)) refl refl refl (λ d. refl)
+
+pub open_curly : (rest : List ℕ) → IsWord (codes "{") rest
+unfolding is_mark
+open_curly rest = one_word 123 rest refl refl (λ e. omega (arith, e)) refl refl refl (λ d. refl)
+
+pub close_curly : (rest : List ℕ) → IsWord (codes "}") rest
+unfolding is_mark
+close_curly rest = one_word 125 rest refl refl (λ e. omega (arith, e)) refl refl refl (λ d. refl)
+
+pub equal_word : (rest : List ℕ) → IsWord (codes "=") (32 ∷ rest)
+unfolding is_mark
+equal_word rest = one_word 61 (32 ∷ rest) refl refl (λ e. omega (arith, e)) refl refl refl (λ d. refl)
+
+pub break_word : (rest : List ℕ) → Calm rest → IsWord (codes "break") rest
+unfolding word_kind is_reserved
+break_word rest calm = plain_word (codes "break") rest kind.Reserved (omega arith) refl calm
+
+pub continue_word : (rest : List ℕ) → Calm rest → IsWord (codes "continue") rest
+unfolding word_kind is_reserved
+continue_word rest calm = plain_word (codes "continue") rest kind.Reserved (omega arith) refl calm
+
+pub else_word : (rest : List ℕ) → Calm rest → IsWord (codes "else") rest
+unfolding word_kind is_reserved
+else_word rest calm = plain_word (codes "else") rest kind.Reserved (omega arith) refl calm
+
+pub for_word : (rest : List ℕ) → Calm rest → IsWord (codes "for") rest
+unfolding word_kind is_reserved
+for_word rest calm = plain_word (codes "for") rest kind.Reserved (omega arith) refl calm
+
+pub if_word : (rest : List ℕ) → Calm rest → IsWord (codes "if") rest
+unfolding word_kind is_reserved
+if_word rest calm = plain_word (codes "if") rest kind.Reserved (omega arith) refl calm
+
+pub int_word : (rest : List ℕ) → Calm rest → IsWord (codes "int") rest
+unfolding word_kind is_reserved
+int_word rest calm = plain_word (codes "int") rest kind.Reserved (omega arith) refl calm
+
+pub return_word : (rest : List ℕ) → Calm rest → IsWord (codes "return") rest
+unfolding word_kind is_reserved
+return_word rest calm = plain_word (codes "return") rest kind.Reserved (omega arith) refl calm
+
+pub struct_word : (rest : List ℕ) → Calm rest → IsWord (codes "struct") rest
+unfolding word_kind is_reserved
+struct_word rest calm = plain_word (codes "struct") rest kind.Reserved (omega arith) refl calm
+
+pub unsigned_word : (rest : List ℕ) → Calm rest → IsWord (codes "unsigned") rest
+unfolding word_kind is_reserved
+unsigned_word rest calm = plain_word (codes "unsigned") rest kind.Reserved (omega arith) refl calm
+
+pub void_word : (rest : List ℕ) → Calm rest → IsWord (codes "void") rest
+unfolding word_kind is_reserved
+void_word rest calm = plain_word (codes "void") rest kind.Reserved (omega arith) refl calm
+
+pub while_word : (rest : List ℕ) → Calm rest → IsWord (codes "while") rest
+unfolding word_kind is_reserved
+while_word rest calm = plain_word (codes "while") rest kind.Reserved (omega arith) refl calm

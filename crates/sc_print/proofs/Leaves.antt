@@ -1,0 +1,30 @@
+-- What names say.
+use Rattle.std.proofs.Common.{◌≡◌, ℕ, ◌<◌, List, [], ◌∷◌, length, Some, IsTrue, not, refl, arith}
+use Rattle.std.proofs.lemmas.Bool.{and_parts, not-true, false≢true}
+use Rattle.sc_event.specs.Identifier.{is_name}
+use Rattle.sc_reserved.specs.Reserved.{is_reserved}
+use Rattle.sc_lex.specs.Kinds.{kind_of, word_kind}
+use Rattle.sc_lex.specs.declared.token.TokenKind.TheVariants as kind
+use Rattle.sc_ast.specs.Identifiers.{is_ident}
+use Rattle.sc_expr.specs.Lexemes.{says}
+use Rattle.sc_expr.specs.declared.lexeme.Symbol.TheVariants as symbol
+use Rattle.sc_print.specs.Symbols.{word_symbol}
+
+pub name_says : (name : List ℕ) → IsTrue (is_ident name) → word_symbol name ≡ symbol.Ident name
+unfolding word_symbol kind_of word_kind says
+name_says name h =
+    let parts = and_parts (is_name name) (not (is_reserved name)) h in
+    let free = not-true (is_reserved name) parts.1 in
+    simp (free, parts.0) refl
+
+pub name_kind : (name : List ℕ) → IsTrue (is_ident name) → word_kind name ≡ Some kind.Ident
+unfolding word_kind
+name_kind name h =
+    let parts = and_parts (is_name name) (not (is_reserved name)) h in
+    let free = not-true (is_reserved name) parts.1 in
+    rw (free, parts.0)
+
+pub name_some : (name : List ℕ) → IsTrue (is_ident name) → 0 < length name
+unfolding is_name
+name_some [] h = absurd (false≢true h)
+name_some (b ∷ name) h = omega arith

@@ -1,0 +1,223 @@
+-- What integer constants say.
+use Rattle.std.proofs.Common.{◌≡◌, ℕ, zero, suc, ◌+◌, ◌-◌, ◌*◌, ◌^◌, ◌<◌, ◌≤◌, ◌/◌, ◌%◌, Bool, true, false, not, ◌&&◌, ◌||◌, IsTrue, codes, List, [], ◌∷◌, ◌++◌, length, length-append, Option, Some, if◌then◌else◌, refl, sym, ap, ◌∙◌, ⊎_elim, arith}
+use Rattle.std.specs.Prelude.{nat_lt, nat_le, ◌==◌, slice_index, bytes_eq}
+use Rattle.std.specs.List.{list_all, list_any}
+use Rattle.std.specs.Fmt.{decimal}
+use Rattle.std.proofs.Math.Seq.{get_or-append_seam, take-append_seam}
+use Rattle.std.proofs.lemmas.Bool.{and_parts, or_cases, le-leb, leb-true, le-ltb, lt-ltb, ne_eqb, false≢true, false_from_ne_true}
+use Rattle.std.proofs.lemmas.Fmt.{decimal_by_steps, decimal_digit}
+use Rattle.std.proofs.lemmas.List.{append-nil}
+use Rattle.std.proofs.lemmas.List.Sums.{fold-append}
+use Rattle.std.proofs.lemmas.List.Folds.{list_all-append}
+use Rattle.std.proofs.lemmas.Slice.Eq.{bytes_eq-Decides}
+use Rattle.sc_event.specs.Identifier.{is_between, is_nondigit, is_name_byte, is_name}
+use Rattle.sc_reserved.specs.Reserved.{reserved_words, is_reserved}
+use Rattle.sc_ast.specs.Numbers.{Number, fits, number_of}
+use Rattle.sc_ast.specs.ExprWords.{literal_text}
+use Rattle.sc_lex.specs.Integers.{has_suffix, without_suffix, is_hexadecimal, digits_of, base_of, digit_value, is_digit, number, is_number, greatest_of, is_integer, value_of, is_unsigned, integer_of}
+use Rattle.sc_lex.specs.declared.integer.IntegerConstant.{IntegerConstant}
+use Rattle.sc_lex.specs.Words.{is_empty}
+use Rattle.sc_lex.specs.declared.token.TokenKind.TheVariants as kind
+use Rattle.sc_lex.specs.Kinds.{kind_of, word_kind}
+use Rattle.sc_expr.specs.Lexemes.{says}
+use Rattle.sc_expr.specs.declared.lexeme.Symbol.TheVariants as symbol
+use Rattle.sc_print.specs.Symbols.{word_symbol}
+
+-- the digits of a number, which begin with 0 only where they are one digit
+record Decimal (n : ℕ) (ds : List ℕ) : Type 0 where
+  some : 0 < length ds
+  digits : list_all (λ d. is_digit 10 d) ds ≡ true
+  value : number 10 ds ≡ n
+  no_zero : 0 < n → (slice_index ds 0 ≡ 48 → ⊥)
+  low : slice_index ds 0 ≤ 57
+  high : 48 ≤ slice_index ds 0
+  last : slice_index ds (length ds - 1) ≤ 57
+
+digit_of : (d : ℕ) → d < 10 → (digit_value (48 + d) ≡ d) × (is_digit 10 (48 + d) ≡ true)
+digit_of d h =
+    let low = le-leb 48 (48 + d) (omega arith) in
+    let high = le-leb (48 + d) 57 (omega (arith, h)) in
+    let back : 48 + d - 48 ≡ d = omega arith in
+    let value : digit_value (48 + d) ≡ d = rw (low, high, back) in
+    (value, ap (λ x. nat_lt x 10) value ∙ lt-ltb d 10 h)
+
+pushed : (ds : List ℕ) (d : ℕ) → d < 10 → number 10 (ds ++ (48 + d) ∷ []) ≡ number 10 ds * 10 + d
+pushed ds d h = fold-append (λ value digit. value * 10 + digit_value digit) 0 ds ((48 + d) ∷ []) ∙ ap (λ x. number 10 ds * 10 + x) (digit_of d h).0
+
+first_kept : (ds es : List ℕ) → 0 < length ds → slice_index (ds ++ es) 0 ≡ slice_index ds 0
+first_kept [] es h = absurd (omega (arith, h))
+first_kept (x ∷ ds) es h = refl
+
+decimal_is : (n : ℕ) → n < 2 ^ 64 → Decimal n (decimal n)
+decimal_is = decimal_by_steps Decimal
+    (λ n h. record {
+      some = omega arith;
+      digits = rw (digit_of n h).1;
+      value = let v = (digit_of n h).0 in let plus : 0 * 10 + digit_value (48 + n) ≡ digit_value (48 + n) = omega arith in plus ∙ v;
+      no_zero = λ positive e. omega (arith, positive, e);
+      low = omega (arith, h);
+      high = omega arith;
+      last = omega (arith, h);
+    })
+    (λ n ds h d.
+    let rest : n % 10 < 10 = omega arith in
+    let first = first_kept ds ((48 + n % 10) ∷ []) d.some in
+    let whole : n / 10 * 10 + n % 10 ≡ n = omega arith in
+    let long : length (ds ++ (48 + n % 10) ∷ []) ≡ length ds + 1 = length-append ds ((48 + n % 10) ∷ []) in
+    let before : length ds + 1 - 1 ≡ length ds = omega arith in
+    let end : slice_index (ds ++ (48 + n % 10) ∷ []) (length (ds ++ (48 + n % 10) ∷ []) - 1) ≡ 48 + n % 10 = rw (long, before) (get_or-append_seam ds (48 + n % 10) [] 0) in
+    record {
+      some = omega (arith, long);
+      digits = list_all-append (λ x. is_digit 10 x) ds ((48 + n % 10) ∷ []) ∙ rw (d.digits, (digit_of (n % 10) rest).1);
+      value = pushed ds (n % 10) rest ∙ ap (λ x. x * 10 + n % 10) d.value ∙ whole;
+      no_zero = λ positive e. d.no_zero (omega (arith, h)) (sym first ∙ e);
+      low = rw first d.low;
+      high = rw first d.high;
+      last = rw end (omega (arith, rest));
+    })
+
+-- no word of the table begins with such a byte
+pub no_table : (p : List ℕ → Bool) (table : List (List ℕ)) (text : List ℕ) → list_all p table ≡ true → p text ≡ false → list_any (λ w. bytes_eq text w) table ≡ false
+no_table p [] text h q = refl
+no_table p (w ∷ table) text h q =
+    let parts = and_parts (p w) (list_all p table) h in
+    let other : bytes_eq text w ≡ false = false_from_ne_true (bytes_eq text w) (λ same. let e : text ≡ w = (bytes_eq-Decides text w).0 same in false≢true (sym q ∙ ap p e ∙ parts.0)) in
+    rw (other, no_table p table text parts.1 q)
+
+no_first : (b : ℕ) → b ≤ 57 → is_nondigit b ≡ false
+no_first b h = false_from_ne_true (is_nondigit b) (λ q.
+    ⊎_elim (λ line. let e : b ≡ 95 = grind (arith, line) in omega (arith, h, e))
+    (λ letter. ⊎_elim
+    (λ capital. let e = leb-true 65 b (and_parts (nat_le 65 b) (nat_le b 90) capital).0 in omega (arith, h, e))
+    (λ small. let e = leb-true 97 b (and_parts (nat_le 97 b) (nat_le b 122) small).0 in omega (arith, h, e))
+    (or_cases (is_between 65 90 b) (is_between 97 122 b) letter))
+    (or_cases (b == 95) (is_between 65 90 b || is_between 97 122 b) q))
+
+-- a constant is no reserved word and no name
+no_reserved : (text : List ℕ) → slice_index text 0 ≤ 57 → is_reserved text ≡ false
+unfolding is_reserved
+no_reserved text h = no_table (λ w. is_nondigit (slice_index w 0)) reserved_words text refl (no_first (slice_index text 0) h)
+
+no_name : (text : List ℕ) → slice_index text 0 ≤ 57 → is_name text ≡ false
+unfolding is_name
+no_name [] h = refl
+no_name (b ∷ text) h = ap (λ x. x && (list_all is_name_byte text && nat_lt (length text) 63)) (no_first b h)
+
+abbrev suffix : Bool → List ℕ
+suffix u = if u then codes "u" else []
+
+made : (v w : ℕ) (a b : Bool) → v ≡ w → a ≡ b → ◌≡◌ {A = Option IntegerConstant} (Some (record { value = v; unsigned = a })) (Some (record { value = w; unsigned = b }))
+made v w a b p q = rw (p, q)
+
+module _ (n : ℕ) (ds : List ℕ) (positive : 0 < n) (d : Decimal n ds) where
+  no_48 : (slice_index ds 0 == 48) ≡ false
+  no_48 = ne_eqb (slice_index ds 0) 48 (d.no_zero positive)
+
+  end_is : slice_index (ds ++ 117 ∷ []) (length (ds ++ 117 ∷ []) - 1) ≡ 117
+  end_is =
+      let long = length-append ds (117 ∷ []) in
+      let before : length ds + 1 - 1 ≡ length ds = omega arith in
+      rw (long, before) (get_or-append_seam ds 117 [] 0)
+
+  no_end : (byte : ℕ) → 57 < byte → (slice_index ds (length ds - 1) == byte) ≡ false
+  no_end byte h = let l = d.last in ne_eqb (slice_index ds (length ds - 1)) byte (λ e. omega (arith, h, l, e))
+
+  suffix_is : (u : Bool) → has_suffix (ds ++ suffix u) ≡ u
+  suffix_is true = rw end_is
+  suffix_is false = rw (append-nil ds) (rw (no_end 117 (omega arith), no_end 85 (omega arith)))
+
+  body_is : (u : Bool) → without_suffix (ds ++ suffix u) ≡ ds
+  body_is true =
+      let long = length-append ds (117 ∷ []) in
+      let before : length ds + 1 - 1 ≡ length ds = omega arith in
+      let has = suffix_is true in
+      rw has (rw (long, before) (take-append_seam ds (117 ∷ [])))
+  body_is false = let has = suffix_is false in rw has (append-nil ds)
+
+  no_hex : is_hexadecimal ds ≡ false
+  no_hex = rw no_48
+
+  base_is : base_of ds ≡ 10
+  base_is = let x = no_hex in rw (x, no_48)
+
+  digits_are : digits_of ds ≡ ds
+  digits_are = let x = no_hex in rw x
+
+  in_range : (u : Bool) → IsTrue (fits (record { value = n; unsigned = u })) → nat_le n (greatest_of u 10) ≡ true
+  in_range true h = h
+  in_range false h = (and_parts (nat_le n 2147483647) (nat_le n 4294967295) h).0
+
+  not_unsigned : (u : Bool) → IsTrue (fits (record { value = n; unsigned = u })) → (u || nat_lt 2147483647 n) ≡ u
+  not_unsigned true h = refl
+  not_unsigned false h = let le = leb-true n 2147483647 (in_range false h) in le-ltb 2147483647 n le
+
+  some_digits : not (is_empty ds) ≡ true
+  some_digits = let some = d.some in let e = ne_eqb (length ds) 0 (λ e. omega (arith, some, e)) in rw e
+
+  is_constant : (u : Bool) → IsTrue (fits (record { value = n; unsigned = u })) → is_integer (ds ++ suffix u) ≡ true
+  unfolding is_integer is_number
+  is_constant u h = rw (body_is u, suffix_is u, base_is, digits_are, some_digits, d.digits, d.value) (in_range u h)
+
+  value_is : (u : Bool) → value_of (ds ++ suffix u) ≡ n
+  value_is u = rw (body_is u, base_is, digits_are) d.value
+
+  constant_is : (u : Bool) → IsTrue (fits (record { value = n; unsigned = u })) → integer_of (ds ++ suffix u) ≡ Some (record { value = n; unsigned = u })
+  unfolding integer_of
+  constant_is u h =
+      let e : is_unsigned (ds ++ suffix u) ≡ u = ap (λ x. x || nat_lt 2147483647 (value_of (ds ++ suffix u))) (suffix_is u) ∙ ap (λ x. u || nat_lt 2147483647 x) (value_is u) ∙ not_unsigned u h in
+      rw (is_constant u h) (made _ _ _ _ (value_is u) e)
+
+  number_is : (u : Bool) → IsTrue (fits (record { value = n; unsigned = u })) → number_of n u ≡ Some (record { value = n; unsigned = u })
+  number_is true h = refl
+  number_is false h = let e = in_range false h in rw e
+
+  low_text : (u : Bool) → slice_index (ds ++ suffix u) 0 ≤ 57
+  low_text u = let e = first_kept ds (suffix u) d.some in rw e d.low
+
+  positive_says : (u : Bool) → IsTrue (fits (record { value = n; unsigned = u })) → word_symbol (ds ++ suffix u) ≡ symbol.Integer (record { value = n; unsigned = u })
+  unfolding word_symbol kind_of word_kind says
+  positive_says u h =
+      let free = no_reserved (ds ++ suffix u) (low_text u) in
+      let unnamed = no_name (ds ++ suffix u) (low_text u) in
+      rw (free, unnamed, is_constant u h) (rw (constant_is u h) (rw (number_is u h)))
+
+  positive_kind : (u : Bool) → IsTrue (fits (record { value = n; unsigned = u })) → word_kind (ds ++ suffix u) ≡ Some kind.Integer
+  unfolding word_kind
+  positive_kind u h = rw (no_reserved (ds ++ suffix u) (low_text u), no_name (ds ++ suffix u) (low_text u), is_constant u h)
+
+zero_kind : (u : Bool) → word_kind ((48 ∷ []) ++ suffix u) ≡ Some kind.Integer
+unfolding word_kind is_reserved is_name is_integer is_number
+zero_kind true = refl
+zero_kind false = refl
+
+value_kind : (n : ℕ) (u : Bool) → IsTrue (fits (record { value = n; unsigned = u })) → word_kind (decimal n ++ suffix u) ≡ Some kind.Integer
+value_kind zero u h = rw (decimal_digit 0 (omega arith)) (zero_kind u)
+value_kind (suc n) u h =
+    let le = leb-true (suc n) 4294967295 (and_parts (u || nat_le (suc n) 2147483647) (nat_le (suc n) 4294967295) h).1 in
+    let small : suc n < 2 ^ 64 = omega (arith, le) in
+    positive_kind (suc n) (decimal (suc n)) (omega arith) (decimal_is (suc n) small) u h
+
+pub literal_kind : (number : Number) → IsTrue (fits number) → word_kind (literal_text number) ≡ Some kind.Integer
+literal_kind number h = value_kind number.value number.unsigned h
+
+pub literal_some : (number : Number) → IsTrue (fits number) → 0 < length (literal_text number)
+literal_some number h =
+    let le = leb-true number.value 4294967295 (and_parts (number.unsigned || nat_le number.value 2147483647) (nat_le number.value 4294967295) h).1 in
+    let some = (decimal_is number.value (omega (arith, le))).some in
+    let long = length-append (decimal number.value) (suffix number.unsigned) in
+    omega (arith, some, long)
+
+zero_says : (u : Bool) → word_symbol ((48 ∷ []) ++ suffix u) ≡ symbol.Integer (record { value = 0; unsigned = u })
+unfolding word_symbol kind_of word_kind is_reserved is_name is_integer is_number integer_of says
+zero_says true = refl
+zero_says false = refl
+
+value_says : (n : ℕ) (u : Bool) → IsTrue (fits (record { value = n; unsigned = u })) → word_symbol (decimal n ++ suffix u) ≡ symbol.Integer (record { value = n; unsigned = u })
+value_says zero u h = rw (decimal_digit 0 (omega arith)) (zero_says u)
+value_says (suc n) u h =
+    let le = leb-true (suc n) 4294967295 (and_parts (u || nat_le (suc n) 2147483647) (nat_le (suc n) 4294967295) h).1 in
+    let small : suc n < 2 ^ 64 = omega (arith, le) in
+    positive_says (suc n) (decimal (suc n)) (omega arith) (decimal_is (suc n) small) u h
+
+pub literal_says : (number : Number) → IsTrue (fits number) → word_symbol (literal_text number) ≡ symbol.Integer number
+literal_says number h = value_says number.value number.unsigned h

@@ -1,0 +1,8 @@
+use Rattle.std.proofs.Common.{◌≡◌, drop}
+use Rattle.std.specs.List.{list_all}
+use Rattle.sc_print.specs.Kept.{is_kept}
+use Rattle.sc_print.proofs.kept.keeps_args.Given as goal
+
+-- what is left keeps it exactly where all of them do
+abbrev pub invariant-loop-arg : goal.invariant-loop-arg
+invariant-loop-arg l = list_all is_kept (drop l.arg-index l.arg-items) ≡ list_all is_kept l.args

@@ -1,0 +1,8 @@
+use Rattle.std.proofs.Common.{◌≡◌, drop}
+use Rattle.std.specs.List.{list_all}
+use Rattle.sc_print.specs.KeptDecls.{is_kept_decl}
+use Rattle.sc_print.proofs.kept_decls.keeps_decls.Given as goal
+
+-- what is left keeps it exactly where all of them do
+abbrev pub invariant-loop-decl : goal.invariant-loop-decl
+invariant-loop-decl l = list_all is_kept_decl (drop l.decl-index l.decl-items) ≡ list_all is_kept_decl (l.decls)

@@ -1,0 +1,8 @@
+use Rattle.std.proofs.Common.{◌≡◌, drop}
+use Rattle.std.specs.List.{list_all}
+use Rattle.sc_print.specs.KeptDecls.{kept_member}
+use Rattle.sc_print.proofs.kept_decls.keeps_members.Given as goal
+
+-- what is left keeps it exactly where all of them do
+abbrev pub invariant-loop-member : goal.invariant-loop-member
+invariant-loop-member l = list_all kept_member (drop l.member-index l.members) ≡ list_all kept_member (l.members)

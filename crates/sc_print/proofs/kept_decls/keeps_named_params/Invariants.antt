@@ -1,0 +1,9 @@
+use Rattle.std.proofs.Common.{◌≡◌, drop, map}
+use Rattle.std.specs.List.{list_all}
+use Rattle.sc_ast.specs.Heads.{param_of}
+use Rattle.sc_print.specs.KeptDecls.{kept_param}
+use Rattle.sc_print.proofs.kept_decls.keeps_named_params.Given as goal
+
+-- what is left keeps it exactly where all of them do
+abbrev pub invariant-loop-param : goal.invariant-loop-param
+invariant-loop-param l = list_all kept_param (map param_of (drop l.param-index l.param-items)) ≡ list_all kept_param (map param_of l.params)

@@ -1,0 +1,9 @@
+pub mod DeclsRead
+pub mod Kept
+pub mod KeptDecls
+pub mod KeptSections
+pub mod KeptStmts
+pub mod ReadsBack
+pub mod SectionsRead
+pub mod StmtsRead
+pub mod Symbols

@@ -1,0 +1,25 @@
+-- What it means that printed sections read back.
+use Rattle.std.specs.Prelude.{◌≡◌, ℕ, List, map}
+use Rattle.sc_ast.specs.SectionWords.{section_words}
+use Rattle.sc_ast.specs.Lineless.{SameButLines}
+use Rattle.sc_ast.specs.declared.section.SectionTree.{SectionTree}
+use Rattle.sc_lex.specs.Cutting.{IsCut}
+use Rattle.sc_lex.specs.declared.token.Token.{Token}
+use Rattle.sc_expr.specs.Lexemes.{lexeme_of}
+use Rattle.sc_expr.specs.declared.lexeme.Lexeme.{Lexeme}
+use Rattle.sc_parse.specs.Sections.{SpellsSection}
+use Rattle.sc_print.specs.Symbols.{symbols}
+
+-- lexemes that say what the words of the section say spell a section that is the same, lines aside
+abbrev pub SectionSpells : SectionTree → Type 0
+SectionSpells tree =
+    (lexemes : List Lexeme) → map (λ t. t.symbol) lexemes ≡ symbols (section_words tree) →
+    (other : SectionTree) × SpellsSection tree.line lexemes other × SameButLines other tree
+
+-- The bytes are cut into tokens, and these spell a section that is this one, lines aside.
+pub record SectionReadsAs (bytes : List ℕ) (tree : SectionTree) : Type 0 where
+  pub tokens : List Token
+  pub cut : IsCut bytes tokens
+  pub other : SectionTree
+  pub spelled : SpellsSection tree.line (map (λ token. lexeme_of bytes token) tokens) other
+  pub same : SameButLines other tree

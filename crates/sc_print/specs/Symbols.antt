@@ -1,0 +1,20 @@
+-- What printed words say.
+use Rattle.std.specs.Prelude.{List, [], ◌∷◌, ℕ}
+use Rattle.std.specs.List.{flat_map}
+use Rattle.std.specs.Option.{option_and_then}
+use Rattle.sc_ast.specs.Pieces.{Piece, word}
+use Rattle.sc_lex.specs.Kinds.{kind_of}
+use Rattle.sc_expr.specs.Lexemes.{says, or_unused}
+use Rattle.sc_expr.specs.declared.lexeme.Symbol.{Symbol}
+
+-- what a word says as a token of its kind
+unfoldable pub word_symbol : List ℕ → Symbol
+word_symbol text = or_unused (option_and_then (λ kind. says kind text) (kind_of text))
+
+abbrev pub piece_symbols : Piece → List Symbol
+piece_symbols (word text) = word_symbol text ∷ []
+piece_symbols _ = []
+
+-- what the words among pieces say, in order
+abbrev pub symbols : List Piece → List Symbol
+symbols pieces = flat_map piece_symbols pieces
