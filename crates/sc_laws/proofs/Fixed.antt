@@ -1,0 +1,56 @@
+-- What functions do with as many open calls as they have turns is a fixed point.
+use Rattle.std.proofs.Common.{◌≡◌, ℕ, suc, ◌+◌, ◌<◌, refl, sym, ap, ◌∙◌, arith, inl}
+use Rattle.sc_core.specs.declared.run.RunEnd.{RunEnd}
+use Rattle.sc_core.specs.declared.run.RunEnd.TheVariants.{Ended, Blamed, TurnsOut, EventsOut}
+use Rattle.sc_core.specs.Words.{State, Here, Piece, Reached, Stopped}
+use Rattle.sc_core.specs.Calls.{Step, run_step, within}
+use Rattle.sc_core.specs.Scripts.{scripted_step}
+use Rattle.sc_core.specs.Meaning.{library_of}
+use Rattle.sc_laws.specs.Steady.{now}
+use Rattle.sc_laws.specs.Laws.{IsFixed, FixedPoint}
+use Rattle.sc_laws.proofs.Growing.{BodyGoes, StepGoes, within_goes}
+use Rattle.sc_laws.proofs.Programs.{Never, itself_keeps, run_goes_on, scripted_goes_on}
+use Rattle.sc_laws.proofs.Below.{richer, richer_piece, Passes, Below, along, passed}
+use Rattle.sc_laws.proofs.BelowCalls.{BodiesBelow, StepsBelow, within_below}
+use Rattle.sc_laws.proofs.Runs.{run_steps, scripted_steps}
+
+no_richer : (s : State) → richer 0 s ≡ s
+no_richer s = (let none : s.turns + 0 ≡ s.turns = omega arith in ap (λ n. record s { turns = n }) none)
+
+no_richer_piece : {V : Type 0} (o : Piece V) → richer_piece 0 o ≡ o
+no_richer_piece (Reached v s) = ap (Reached v) (no_richer s)
+no_richer_piece (Stopped end s) = ap (Stopped end) (no_richer s)
+
+-- with as many turns, the same causes and the same ends there is no run but the same
+nothing_passes : (end : RunEnd) → Passes 0 Never ⊥ end → ⊥
+nothing_passes Ended h = h
+nothing_passes (Blamed comp cause line) h = h
+nothing_passes TurnsOut h = h
+nothing_passes EventsOut h = h
+
+pub only_same : {V : Type 0} (o p : Piece V) → Below 0 Never ⊥ V o p → p ≡ o
+only_same o p (along is) = is ∙ no_richer_piece o
+only_same o p (passed end s is passes front) = absurd (nothing_passes end passes)
+
+module _ (step : Step) (goes : StepGoes step) (steps : StepsBelow 0 Never ⊥ (inl refl) step step) where
+  -- more open calls than turns are as good as any number of them
+  pub any_depth : (n m number : ℕ) (here : Here) (s : State) → s.turns < n → s.turns < m → within step m number here s ≡ within step n number here s
+  any_depth n m number here s few few' =
+      ap (within step m number here) (sym (no_richer s)) ∙ only_same (within step n number here s) (within step m number here (richer 0 s)) (within_below 0 Never ⊥ (inl refl) step step goes goes steps n m number here s few (omega (arith, few')))
+
+  pub now_goes : BodyGoes (now step)
+  now_goes number here s = within_goes step goes (suc s.turns) number here s
+
+  pub fixed : IsFixed step
+  fixed number here s =
+      let inner : BodiesBelow 0 Never ⊥ (inl refl) s.turns (s.turns + 0) (within step s.turns) (now step) = λ number here t few few'. within_below 0 Never ⊥ (inl refl) step step goes goes steps s.turns (suc (t.turns + 0)) number here t few (omega arith) in
+      sym (only_same (step (within step s.turns) number here s) (step (now step) number here (richer 0 s)) (steps s.turns (s.turns + 0) (within step s.turns) (now step) (within_goes step goes s.turns) now_goes inner number here s (omega arith) (omega arith))) ∙ ap (step (now step) number here) (no_richer s)
+
+pub fixed_point : FixedPoint
+fixed_point =
+    record {
+      run = λ arithmetic program. fixed (run_step (library_of arithmetic program)) (run_goes_on arithmetic program) (run_steps 0 Never ⊥ (inl refl) arithmetic arithmetic (itself_keeps Never arithmetic) program);
+      scripted = λ arithmetic program roles. fixed (scripted_step (library_of arithmetic program) roles (run_step (library_of arithmetic program))) (scripted_goes_on arithmetic program roles) (scripted_steps 0 Never ⊥ (inl refl) arithmetic arithmetic (itself_keeps Never arithmetic) program roles);
+      run_steady = λ arithmetic program. any_depth (run_step (library_of arithmetic program)) (run_goes_on arithmetic program) (run_steps 0 Never ⊥ (inl refl) arithmetic arithmetic (itself_keeps Never arithmetic) program);
+      scripted_steady = λ arithmetic program roles. any_depth (scripted_step (library_of arithmetic program) roles (run_step (library_of arithmetic program))) (scripted_goes_on arithmetic program roles) (scripted_steps 0 Never ⊥ (inl refl) arithmetic arithmetic (itself_keeps Never arithmetic) program roles);
+    }

@@ -1,0 +1,185 @@
+-- Each word of the meaning only goes on: events are appended, and no turns come back.
+use Rattle.std.proofs.Common.{◌≡◌, ℕ, zero, suc, ◌≤◌, List, [], ◌∷◌, ◌++◌, map, length, Option, Some, None, Result, Ok, Err, refl, sym, ap, ◌∙◌, arith, append_assoc}
+use Rattle.std.specs.Prelude.{Bool, true, false, if◌then◌else◌}
+use Rattle.std.proofs.lemmas.List.{append-nil}
+use Rattle.sc_event.specs.declared.event.Event.{Event}
+use Rattle.sc_event.specs.declared.event.Event.TheVariants.{Call, Ret, In}
+use Rattle.sc_event.specs.declared.event.Event.TheVariants.{Out as Out'}
+use Rattle.sc_event.specs.declared.interface.Interfaces.{Interfaces}
+use Rattle.sc_event.specs.declared.row.Entry.TheVariants.{Export}
+use Rattle.sc_event.specs.Lookup.{export_at}
+use Rattle.sc_event.specs.declared.row.Row.{Row}
+use Rattle.sc_event.specs.declared.row.Action.{Action}
+use Rattle.sc_event.specs.declared.row.Action.TheVariants as act
+use Rattle.sc_core.specs.declared.expr.CallTarget.{CallTarget}
+use Rattle.sc_core.specs.declared.expr.CallTarget.TheVariants.{Own, Cross, Input, Output}
+use Rattle.sc_core.specs.declared.value.Value.TheVariants.{Word}
+use Rattle.sc_core.specs.declared.cause.Cause.{Cause}
+use Rattle.sc_core.specs.declared.run.RunEnd.TheVariants.{TurnsOut}
+use Rattle.sc_core.specs.declared.value.Value.{Value}
+use Rattle.sc_core.specs.Words.{State, Here, Piece, Reached, Stopped, and_then, computed, turn_of, turn, tell, Left, Exit, Route, On, Out, Does, take, follow, in_order, in_loop, rounds, Calls}
+use Rattle.sc_core.specs.Calls.{Function, Library, Body, Step, function, entered, begun, done, found, word_in, crossing, crossed, first_word, option_value, next_input, read_input, may_call, back_own, back_cross, run_in, call_own, call_cross, called, calls, run_step, within}
+use Rattle.sc_core.specs.Scripts.{Roles, rows_left, is_number, acts, performs, scripted_step}
+use Rattle.sc_laws.specs.Growth.{Front, Grown, last, Gone}
+
+pub front_same : {A : Type 0} (xs : List A) → Front xs xs
+front_same xs = record { more = []; is = sym (append-nil xs) }
+
+pub front_more : {A : Type 0} (xs ys zs : List A) → Front xs ys → Front ys zs → Front xs zs
+front_more xs ys zs a b =
+    record { more = a.more ++ b.more; is = b.is ∙ ap (λ x. x ++ b.more) a.is ∙ append_assoc xs a.more b.more }
+
+pub same : (s : State) → Grown s s
+same s = record { events = front_same s.trace; turns = omega arith }
+
+pub more : (s t u : State) → Grown s t → Grown t u → Grown s u
+more s t u a b =
+    record { events = front_more s.trace t.trace u.trace a.events b.events; turns = (let p : t.turns ≤ s.turns = a.turns in let q : u.turns ≤ t.turns = b.turns in omega (arith, p, q)) }
+
+-- what is done from a state only goes on
+abbrev pub Goes : {V : Type 0} → (State → Piece V) → Type 0
+Goes f = (s : State) → Gone s (f s)
+
+pub reached : {V : Type 0} (v : V) (s t : State) → Grown s t → Gone s (Reached v t)
+reached v s t g = record { grown = g; stop = tt }
+
+pub stays : {V : Type 0} (v : V) → Goes (Reached v)
+stays v s = reached v s s (same s)
+
+pub no_turn : {V : Type 0} (s : State) → Gone {V = V} s (Stopped TurnsOut s)
+no_turn s = record { grown = same s; stop = tt }
+
+-- what goes on from a later state goes on from an earlier one
+pub earlier : {V : Type 0} (s t : State) (o : Piece V) → Grown s t → Gone t o → Gone s o
+earlier s t o g h = record { grown = more s t (last o) g h.grown; stop = h.stop }
+
+pub then_from : {V W : Type 0} (o : Piece V) (k : V → State → Piece W) → ((v : V) → Goes (k v)) → Grown (last o) (last (and_then o k))
+then_from (Reached v s) k h = (h v s).grown
+then_from (Stopped end s) k h = same s
+
+pub then_goes : {V W : Type 0} (s : State) (o : Piece V) (k : V → State → Piece W) → Gone s o → ((v : V) → Goes (k v)) → Gone s (and_then o k)
+then_goes s (Reached v t) k g h = earlier s t (k v t) g.grown (h v t)
+then_goes s (Stopped end t) k g h = record { grown = g.grown; stop = g.stop }
+
+pub computed_goes : {V : Type 0} (here : Here) (line : ℕ) (r : Result V Cause) (s : State) → Gone s (computed here line r s)
+computed_goes here line (Ok v) s = stays v s
+computed_goes here line (Err cause) s = record { grown = same s; stop = tt }
+
+pub turn_of_goes : (n : ℕ) (s : State) → n ≡ s.turns → Gone s (turn_of n s)
+turn_of_goes zero s is = no_turn s
+turn_of_goes (suc n) s is =
+    reached tt s (record s { turns = n }) (record { events = front_same s.trace; turns = omega (arith, is) })
+
+pub turn_goes : (s : State) → Gone s (turn s)
+turn_goes s = turn_of_goes s.turns s refl
+
+pub told : (event : Event) (s : State) → Grown s (tell event s)
+told event s = record { events = record { more = event ∷ []; is = refl }; turns = omega arith }
+
+pub take_goes : {A : Type 0} (route : Route) (go : Does A) → ((a : A) → Goes (go a)) → (a : A) → Goes (take route go a)
+take_goes On go h a s = h a s
+take_goes (Out exit) go h a s = stays (record { exit = exit; carried = a }) s
+
+pub follow_goes : {A : Type 0} (route : Exit → Route) (s : State) (o : Piece (Left A)) (go : Does A) → Gone s o → ((a : A) → Goes (go a)) → Gone s (follow route o go)
+follow_goes route s o go g h =
+    then_goes s o (λ left t. take (route left.exit) go left.carried t) g (λ left. take_goes (route left.exit) go h left.carried)
+
+pub rounds_goes : {A : Type 0} (head body next : Does A) → ((a : A) → Goes (head a)) → ((a : A) → Goes (body a)) → ((a : A) → Goes (next a)) → (n : ℕ) (a : A) → Goes (rounds n head body next a)
+rounds_goes head body next h b x zero a s = no_turn s
+rounds_goes head body next h b x (suc n) a s =
+    follow_goes in_loop s (head a s) _ (h a s) (λ a s. then_goes s (turn s) _ (turn_goes s) (λ u t. follow_goes in_loop t (body a t) _ (b a t) (λ a s. follow_goes in_order s (next a s) _ (x a s) (rounds_goes head body next h b x n))))
+
+-- calls, and functions as calls see them
+abbrev pub CallsGo : Calls → Type 0
+CallsGo calls = (from : ℕ) (target : CallTarget) (args : List Value) → Goes (calls from target args)
+
+abbrev pub BodyGoes : Body → Type 0
+BodyGoes body = (number : ℕ) (here : Here) → Goes (body number here)
+
+-- a function that only goes on where its calls do
+abbrev pub FunctionGoes : Function → Type 0
+FunctionGoes f = (calls : Calls) → CallsGo calls → (here : Here) → Goes (f.does calls here)
+
+abbrev pub LibraryGoes : Library → Type 0
+LibraryGoes library = (comp number : ℕ) (f : Function) → function library comp number ≡ Some f → FunctionGoes f
+
+pub found_goes : {V : Type 0} (v : Option V) (s : State) → Gone s (found v s)
+found_goes None s = no_turn s
+found_goes (Some v) s = stays v s
+
+pub begun_goes : (comp : ℕ) (f : Function) (args : List Value) (s : State) → Grown s (begun comp f args s)
+begun_goes comp f args s = record { events = front_same s.trace; turns = omega arith }
+
+pub done_goes : (comp : ℕ) (f : Function) (first : ℕ) (s : State) → Grown s (done comp f first s)
+done_goes comp f first s = record { events = front_same s.trace; turns = omega arith }
+
+pub read_goes : (comp : ℕ) (s : State) → Grown s (read_input comp s)
+read_goes comp s = record { events = record { more = In comp (next_input s.inputs) ∷ []; is = refl }; turns = omega arith }
+
+pub if_goes : {V : Type 0} (s : State) (b : Bool) (o p : Piece V) → Gone s o → Gone s p → Gone s (if b then o else p)
+if_goes s true o p h k = h
+if_goes s false o p h k = k
+
+pub back_goes : (interfaces : Interfaces) (from to index : ℕ) (v : Option Value) → Goes (back_cross interfaces from to index v)
+back_goes interfaces from to index v s =
+    reached (option_value (crossing (export_at interfaces to index) v)) s (tell (Ret to from (crossing (export_at interfaces to index) v)) s) (told (Ret to from (crossing (export_at interfaces to index) v)) s)
+
+module _ (library : Library) (body : Body) (goes : BodyGoes body) where
+  -- what follows once the function is found
+  pub run_goes : (comp number : ℕ) (args : List Value) (entry : State → State) (back : Option Value → State → Piece (Option Value)) → ((s : State) → Grown s (entry s)) → ((v : Option Value) → Goes (back v)) → Goes (run_in library body comp number args entry back)
+  run_goes comp number args entry back h k s =
+      then_goes s (found (function library comp number) s) _ (found_goes (function library comp number) s) (λ f s. let first : ℕ = length (s.memory comp) in let here : Here = record { comp = comp; first = first } in let start : State = begun comp f args s in then_goes s (body number here (entry start)) _ (earlier s (entry start) (body number here (entry start)) (more s start (entry start) (begun_goes comp f args s) (h start)) (goes number here (entry start))) (λ v t. let end : State = done comp f first t in earlier t end (back v end) (done_goes comp f first t) (k v end)))
+
+  pub own_goes : (comp number : ℕ) (args : List Value) → Goes (call_own library body comp number args)
+  own_goes comp number args = run_goes comp number args (λ s. s) back_own same (λ v. stays v)
+
+  pub cross_goes : (from to index : ℕ) (args : List Value) → Goes (call_cross library body from to index args)
+  cross_goes from to index args s =
+      then_goes s (found (entered library to (Export index)) s) _ (found_goes (entered library to (Export index)) s) (λ number. run_goes to number (crossed args) (tell (Call from to index (map word_in args))) (back_cross library.interfaces from to index) (told (Call from to index (map word_in args))) (back_goes library.interfaces from to index))
+
+  pub called_go : CallsGo (called library body)
+  called_go from (Own number) args s = then_goes s (turn s) _ (turn_goes s) (λ u. own_goes from number args)
+  called_go from (Cross to index) args s = then_goes s (turn s) _ (turn_goes s) (λ u. cross_goes from to index args)
+  called_go from Input args s = reached _ s (read_input from s) (read_goes from s)
+  called_go from Output args s = reached _ s (tell (Out' from (first_word args)) s) (told (Out' from (first_word args)) s)
+
+  pub calls_go : CallsGo (calls library body)
+  calls_go from target args s =
+      if_goes s (may_call library.interfaces from target (length args)) (called library body from target args s) (Stopped TurnsOut s) (called_go from target args s) (no_turn s)
+
+  pub run_step_goes : LibraryGoes library → BodyGoes (run_step library body)
+  run_step_goes h number here s =
+      known (function library here.comp number) (h here.comp number) where
+        known : (f : Option Function) → ((g : Function) → f ≡ Some g → FunctionGoes g) → Gone s (and_then (found f s) (λ f s. f.does (calls library body) here s))
+        known None h = no_turn s
+        known (Some f) h = h f refl (calls library body) calls_go here s
+
+  pub acts_go : (action : Action) (next again : State → Piece (Option Value)) → Goes next → Goes again → (comp : ℕ) → Goes (acts library body action next again comp)
+  acts_go (act.Call to index args) next again h k comp s =
+      then_goes s (calls library body comp (Cross to index) (map (λ w. Word w) args) s) _ (calls_go comp (Cross to index) (map (λ w. Word w) args) s) (λ v. k)
+  acts_go (act.Ret v) next again h k comp s = stays (option_value v) s
+  acts_go (act.Out w) next again h k comp s =
+      then_goes s (calls library body comp Output (Word w ∷ []) s) _ (calls_go comp Output (Word w ∷ []) s) (λ v. h)
+  acts_go (act.In w) next again h k comp s =
+      then_goes s (calls library body comp Input [] s) _ (calls_go comp Input [] s) (λ v. h)
+  acts_go (act.End w) next again h k comp s = stays (Some (Word w)) s
+
+  pub performs_go : (rows : List Row) → BodyGoes (performs library body rows)
+  performs_go [] number here s = no_turn s
+  performs_go (row ∷ rest) number here s =
+      if_goes s (is_number number (entered library here.comp row.entry)) _ _ (acts_go row.action (performs library body rest number here) (body number here) (performs_go rest number here) (goes number here) here.comp s) (no_turn s)
+
+-- functions in which calls go on only go on
+abbrev pub StepGoes : Step → Type 0
+StepGoes step = (body : Body) → BodyGoes body → BodyGoes (step body)
+
+pub scripted_goes : (library : Library) (roles : Roles) (step : Step) → StepGoes step → StepGoes (scripted_step library roles step)
+scripted_goes library roles step h body goes number here s =
+    by_role (roles.scripted here.comp) where
+      by_role : (b : Bool) → Gone s (if b then performs library body (rows_left roles here.comp s.trace) number here s else step body number here s)
+      by_role true = performs_go library body goes (rows_left roles here.comp s.trace) number here s
+      by_role false = h body goes number here s
+
+pub within_goes : (step : Step) → StepGoes step → (n : ℕ) → BodyGoes (within step n)
+within_goes step h zero number here s = no_turn s
+within_goes step h (suc n) number here s = h (within step n) (within_goes step h n) number here s

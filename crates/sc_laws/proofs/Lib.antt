@@ -1,0 +1,17 @@
+pub mod Below
+pub mod BelowCalls
+pub mod Examples
+pub mod Expressions
+pub mod Fixed
+pub mod Following
+pub mod FollowingCalls
+pub mod FollowingRuns
+pub mod Growing
+pub mod Induction
+pub mod Libraries
+pub mod More
+pub mod Programs
+pub mod Rows
+pub mod Runs
+pub mod Statements
+pub mod Twins

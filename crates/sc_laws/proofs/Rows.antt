@@ -1,0 +1,118 @@
+-- Where a compartment stands in its rows, and how traces go on along another.
+use Rattle.std.proofs.Common.{◌≡◌, ℕ, zero, suc, List, [], ◌∷◌, ◌++◌, length, drop, Option, Some, None, refl, sym, ap, ◌∙◌, subst, inl, inr, append_assoc}
+use Rattle.std.specs.Prelude.{Bool, true, false, if◌then◌else◌, ◌⊎◌, ◌==◌, filter}
+use Rattle.std.proofs.lemmas.Bool.{eq-eqb}
+use Rattle.sc_event.specs.declared.event.Event.{Event}
+use Rattle.sc_event.specs.declared.row.Row.{Row}
+use Rattle.sc_event.specs.Standing.{Standing, at_start, stands_after, stands_behind, performer}
+use Rattle.sc_event.specs.Part.{action_of, rows_from, part, count_of}
+use Rattle.sc_laws.specs.Growth.{Front}
+use Rattle.sc_laws.proofs.Growing.{front_more}
+
+-- STANDING
+pub stands_last : (at : Option Standing) (u : List Event) (e : Event) (st : Standing) → stands_behind at u ≡ Some st → stands_behind at (u ++ e ∷ []) ≡ stands_after st e
+stands_last None [] e st is = absurd (cc)
+stands_last None (f ∷ u) e st is = absurd (cc)
+stands_last (Some x) [] e st is = (let same : x ≡ st = cc in ap (λ y. stands_after y e) same)
+stands_last (Some x) (f ∷ u) e st is = stands_last (stands_after x f) u e st is
+
+-- ROWS
+counted : (c : ℕ) (f : Event) (u : List Event) (b : Bool) → (performer f == c) ≡ b → count_of c (f ∷ u) ≡ (if b then suc (count_of c u) else count_of c u)
+counted c f u true is = ap (λ b. length (if b then f ∷ filter (λ event. performer event == c) u else filter (λ event. performer event == c) u)) is
+counted c f u false is = ap (λ b. length (if b then f ∷ filter (λ event. performer event == c) u else filter (λ event. performer event == c) u)) is
+
+one_more : (c : ℕ) (f e : Event) (u : List Event) (b : Bool) → (performer f == c) ≡ b → count_of c (u ++ e ∷ []) ≡ suc (count_of c u) → count_of c (f ∷ (u ++ e ∷ [])) ≡ suc (count_of c (f ∷ u))
+one_more c f e u true is more = counted c f (u ++ e ∷ []) true is ∙ ap suc more ∙ ap suc (sym (counted c f u true is))
+one_more c f e u false is more = counted c f (u ++ e ∷ []) false is ∙ more ∙ ap suc (sym (counted c f u false is))
+
+pub counts_its_own : (c : ℕ) (u : List Event) (e : Event) → performer e ≡ c → count_of c (u ++ e ∷ []) ≡ suc (count_of c u)
+counts_its_own c [] e own = counted c e [] true (eq-eqb (performer e) c own)
+counts_its_own c (f ∷ u) e own = one_more c f e u (performer f == c) refl (counts_its_own c u e own)
+
+-- the first of these rows is one of this entry and action
+pub record Next (rows : List Row) (st : Standing) (e : Event) : Type 0 where
+  pub number : ℕ
+  pub rest : List Row
+  pub is : rows ≡ record { entry = st.active.entry; number = number; action = action_of e } ∷ rest
+
+-- the rows from an event on
+abbrev from_here : (c number : ℕ) → Standing → Event → List Event → Bool → List Row
+from_here c number x f later b =
+    if b then record { entry = x.active.entry; number = number; action = action_of f } ∷ rows_from c (suc number) (stands_after x f) later else rows_from c number (stands_after x f) later
+
+next_behind : (c number : ℕ) (x st : Standing) (f e : Event) (u later : List Event) (b : Bool) → (performer f == c) ≡ b → Next (drop (count_of c u) (rows_from c (suc number) (stands_after x f) later)) st e → Next (drop (count_of c u) (rows_from c number (stands_after x f) later)) st e
+    → Next (drop (count_of c (f ∷ u)) (from_here c number x f later (performer f == c))) st e
+next_behind c number x st f e u later true is h k =
+    record { number = h.number; rest = h.rest; is = ap (λ n. drop n (from_here c number x f later (performer f == c))) (counted c f u true is) ∙ ap (λ b. drop (suc (count_of c u)) (from_here c number x f later b)) is ∙ h.is }
+next_behind c number x st f e u later false is h k =
+    record { number = k.number; rest = k.rest; is = ap (λ n. drop n (from_here c number x f later (performer f == c))) (counted c f u false is) ∙ ap (λ b. drop (count_of c u) (from_here c number x f later b)) is ∙ k.is }
+
+next_from : (c number : ℕ) (at : Option Standing) (u : List Event) (e : Event) (more : List Event) (st : Standing) → stands_behind at u ≡ Some st → performer e ≡ c → Next (drop (count_of c u) (rows_from c number at (u ++ e ∷ more))) st e
+next_from c number None [] e more st is own = absurd (cc)
+next_from c number None (f ∷ u) e more st is own = absurd (cc)
+next_from c number (Some x) [] e more st is own =
+    let same : x ≡ st = cc in
+    record { number = number; rest = rows_from c (suc number) (stands_after x e) more; is = ap (from_here c number x e more) (eq-eqb (performer e) c own) ∙ ap (λ y. record { entry = y.active.entry; number = number; action = action_of e } ∷ rows_from c (suc number) (stands_after x e) more) same }
+next_from c number (Some x) (f ∷ u) e more st is own =
+    next_behind c number x st f e u (u ++ e ∷ more) (performer f == c) refl (next_from c (suc number) (stands_after x f) u e more st is own) (next_from c number (stands_after x f) u e more st is own)
+
+-- the next row of a compartment that performs the next event of a trace
+pub row_of_next : (main c : ℕ) (t u : List Event) (e : Event) (more : List Event) (st : Standing) → t ≡ u ++ e ∷ more → stands_behind (at_start main) u ≡ Some st → performer e ≡ c → Next (drop (count_of c u) (part main c t)) st e
+row_of_next main c t u e more st is stands own =
+    subst (λ z. Next (drop (count_of c u) (part main c z)) st e) (sym is) (next_from c 0 (at_start main) u e more st stands own)
+
+-- once it is told, the rows behind it are left
+pub rows_behind : (main c : ℕ) (t u : List Event) (e : Event) (st : Standing) → performer e ≡ c → (next : Next (drop (count_of c u) (part main c t)) st e) → drop (count_of c (u ++ e ∷ [])) (part main c t) ≡ next.rest
+rows_behind main c t u e st own next =
+    ap (λ n. drop n (part main c t)) (counts_its_own c u e own) ∙ one_less (count_of c u) (part main c t) ∙ ap (drop 1) next.is where
+      one_less : {A : Type 0} (n : ℕ) (xs : List A) → drop (suc n) xs ≡ drop 1 (drop n xs)
+      one_less zero [] = refl
+      one_less zero (x ∷ xs) = refl
+      one_less (suc n) [] = refl
+      one_less (suc n) (x ∷ xs) = one_less n xs
+
+-- TRACES
+-- two fronts of one list: one is a front of the other
+pub fronts_meet : {A : Type 0} (xs ys more less : List A) → xs ++ more ≡ ys ++ less → Front xs ys ⊎ Front ys xs
+fronts_meet [] ys more less is = inl (record { more = ys; is = refl })
+fronts_meet (x ∷ xs) [] more less is = inr (record { more = x ∷ xs; is = refl })
+fronts_meet (x ∷ xs) (y ∷ ys) more less is =
+    let first : x ≡ y = cc in
+    let rest : xs ++ more ≡ ys ++ less = cc in
+    both first (fronts_meet xs ys more less rest) where
+      both : x ≡ y → Front xs ys ⊎ Front ys xs → Front (x ∷ xs) (y ∷ ys) ⊎ Front (y ∷ ys) (x ∷ xs)
+      both first (inl front) = inl (record { more = front.more; is = (λ i. sym first i ∷ front.is i) })
+      both first (inr front) = inr (record { more = front.more; is = (λ i. first i ∷ front.is i) })
+
+-- one trace goes on from the other
+abbrev pub InLine : List Event → List Event → Type 0
+InLine t u = Front u t ⊎ Front t u
+
+pub in_line_before : (t u v : List Event) → Front u v → InLine t v → InLine t u
+in_line_before t u v front (inl along) = inl (front_more u v t front along)
+in_line_before t u v front (inr along) = fronts_meet u t front.more along.more (sym front.is ∙ along.is)
+
+-- what a trace is where a run that kept to it tells one event more: it ends there, or has that event next
+pub data NextIs (t u : List Event) (e : Event) : Type 0 where
+  over : t ≡ u → NextIs t u e
+  told : (more : List Event) → t ≡ u ++ e ∷ more → NextIs t u e
+
+pub next_told_is : (t u : List Event) (e : Event) → Front u t → InLine t (u ++ e ∷ []) → NextIs t u e
+next_told_is t u e front (inl along) = told along.more (along.is ∙ append_assoc u (e ∷ []) along.more)
+next_told_is t u e front (inr along) = at_most u t front.more along.more front.is along.is where
+  at_most : (u t more less : List Event) → t ≡ u ++ more → u ++ e ∷ [] ≡ t ++ less → NextIs t u e
+  at_most [] t [] less is is' = over is
+  at_most [] t (f ∷ more) less is is' =
+      let one : e ∷ [] ≡ (f ∷ more) ++ less = is' ∙ ap (λ z. z ++ less) is in
+      let same : e ≡ f = cc in
+      let none : [] ≡ more ++ less = cc in
+      told [] (is ∙ (λ i. sym same i ∷ empty more less none i)) where
+        empty : (more less : List Event) → [] ≡ more ++ less → more ≡ []
+        empty [] less is = refl
+        empty (x ∷ more) less is = absurd (cc)
+  at_most (x ∷ u) [] more less is is' = absurd (cc)
+  at_most (x ∷ u) (y ∷ t) more less is is' =
+      behind (cc) (at_most u t more less (cc) (cc)) where
+        behind : y ≡ x → NextIs t u e → NextIs (y ∷ t) (x ∷ u) e
+        behind first (over is) = over (λ i. first i ∷ is i)
+        behind first (told more is) = told more (λ i. first i ∷ is i)

@@ -1,0 +1,145 @@
+-- Whole runs: steps of a program under two arithmetics, and what they come to when they are stopped at a number of events.
+use Rattle.std.proofs.Common.{◌≡◌, ℕ, zero, suc, ◌+◌, ◌<◌, ◌≤◌, List, [], ◌∷◌, ◌++◌, length, take, Option, Some, None, refl, sym, ap, ◌∙◌, subst, arith, length-append}
+use Rattle.std.specs.Prelude.{Bool, true, false, if◌then◌else◌, ◌⊎◌}
+use Rattle.sc_event.specs.declared.event.Event.{Event}
+use Rattle.sc_event.specs.declared.event.Event.TheVariants.{End}
+use Rattle.sc_event.specs.declared.row.Entry.TheVariants.{Main}
+use Rattle.sc_core.specs.declared.cause.Cause.{Cause}
+use Rattle.sc_core.specs.declared.program.ProgramTree.{ProgramTree}
+use Rattle.sc_core.specs.declared.run.RunEnd.{RunEnd}
+use Rattle.sc_core.specs.declared.run.RunEnd.TheVariants.{Ended, Blamed, TurnsOut, EventsOut}
+use Rattle.sc_core.specs.declared.run.SourceRun.{SourceRun}
+use Rattle.sc_core.specs.declared.value.Value.{Value}
+use Rattle.sc_core.specs.Memory.{Memory}
+use Rattle.sc_core.specs.Value.{Arith}
+use Rattle.sc_core.specs.Run.{reaches, stopped_at}
+use Rattle.sc_core.specs.Words.{State, Piece, Reached, Stopped, and_then}
+use Rattle.sc_core.specs.Calls.{Library, Step, entered, found, call_own, run_step, within}
+use Rattle.sc_core.specs.Scripts.{Roles, scripted_step}
+use Rattle.sc_core.specs.Meaning.{library_of, exit_word, run_to, run_by, first_state}
+use Rattle.sc_laws.specs.Growth.{Front, last, IsStop, StopsSo, Gone}
+use Rattle.sc_laws.proofs.Growing.{front_more, StepGoes, then_goes, found_goes, own_goes, within_goes}
+use Rattle.sc_laws.proofs.Expressions.{ArithKeeps}
+use Rattle.sc_laws.proofs.Libraries.{Anywhere, program_twins, entered_same}
+use Rattle.sc_laws.proofs.Below.{richer, richer_piece, Passes, Below, along, passed, Ahead, below_kept, below_at}
+use Rattle.sc_laws.proofs.BelowCalls.{StepsBelow, LibrariesBelow, run_step_below, scripted_below, own_below, within_below}
+use Rattle.std.proofs.lemmas.Bool.{ltb-false, leb-false, le-ltb, lt-leb}
+
+-- LISTS
+take_front : {A : Type 0} (n m : ℕ) (xs more : List A) → n ≤ m → Front (take n xs) (take m (xs ++ more))
+take_front zero m xs more le = record { more = take m (xs ++ more); is = refl }
+take_front (suc n) zero xs more le = absurd (omega (arith, le))
+take_front (suc n) (suc m) [] more le = record { more = take (suc m) more; is = refl }
+take_front (suc n) (suc m) (x ∷ xs) more le =
+    let rest : Front (take n xs) (take m (xs ++ more)) = take_front n m xs more (omega (arith, le)) in
+    record { more = rest.more; is = ap (λ ys. x ∷ ys) rest.is }
+
+pub take_fronts : {A : Type 0} (n m : ℕ) (xs ys : List A) → n ≤ m → Front xs ys → Front (take n xs) (take m ys)
+take_fronts n m xs ys le front = subst (λ z. Front (take n xs) (take m z)) (sym front.is) (take_front n m xs front.more le)
+
+pub take_all : {A : Type 0} (n : ℕ) (xs : List A) → length xs ≤ n → take n xs ≡ xs
+take_all zero [] le = refl
+take_all (suc n) [] le = refl
+take_all zero (x ∷ xs) le = absurd (omega (arith, le))
+take_all (suc n) (x ∷ xs) le = ap (λ ys. x ∷ ys) (take_all n xs (omega (arith, le)))
+
+pub front_long : {A : Type 0} (xs ys : List A) → Front xs ys → length xs ≤ length ys
+front_long xs ys front =
+    let long : length ys ≡ length xs + length front.more = ap length front.is ∙ length-append xs front.more in
+    omega (arith, long)
+
+-- RUNS THAT ARE STOPPED
+at_most : {n m : ℕ} → n < m → n ≤ m
+at_most less = omega (arith, less)
+
+pub unreached : (events : ℕ) (run : SourceRun) (end : RunEnd) → reaches events run end ≡ false → length run.trace ≤ events
+unreached events run Ended below = ltb-false events (length run.trace) below
+unreached events run (Blamed comp cause line) below = at_most (leb-false events (length run.trace) below)
+unreached events run TurnsOut below = at_most (leb-false events (length run.trace) below)
+unreached events run EventsOut below = at_most (leb-false events (length run.trace) below)
+
+pub trace_is : (events : ℕ) (run : SourceRun) → (stopped_at events run).trace ≡ take events run.trace
+trace_is events run = by_test (reaches events run run.end) refl where
+  by_test : (b : Bool) → reaches events run run.end ≡ b → (if b then record { trace = take events run.trace; end = EventsOut } else run).trace ≡ take events run.trace
+  by_test true is = refl
+  by_test false is = sym (take_all events run.trace (unreached events run run.end is))
+
+-- a run that reaches fewer events reaches more no sooner
+pub still_unreached : (events more_events : ℕ) (run : SourceRun) (end : RunEnd) → events ≤ more_events → reaches events run end ≡ false → reaches more_events run end ≡ false
+still_unreached events more_events run Ended le is =
+    (let few : length run.trace ≤ events = ltb-false events (length run.trace) is in le-ltb more_events (length run.trace) (omega (arith, few, le)))
+still_unreached events more_events run (Blamed comp cause line) le is =
+    (let few : length run.trace < events = leb-false events (length run.trace) is in lt-leb more_events (length run.trace) (omega (arith, few, le)))
+still_unreached events more_events run TurnsOut le is =
+    (let few : length run.trace < events = leb-false events (length run.trace) is in lt-leb more_events (length run.trace) (omega (arith, few, le)))
+still_unreached events more_events run EventsOut le is =
+    (let few : length run.trace < events = leb-false events (length run.trace) is in lt-leb more_events (length run.trace) (omega (arith, few, le)))
+
+-- THE SAME RUN, OR ONE THAT GOES ON
+module _ (d : ℕ) (Soft : Cause → Type 0) (Turns : Type 0) where
+  -- the second run is the first, or goes on where that stopped; where it comes to an end it has more events
+  pub data RunsBelow (x y : SourceRun) : Type 0 where
+    same_run : y ≡ x → RunsBelow x y
+    goes_past : (end : RunEnd) → x.end ≡ end → IsStop end → Passes d Soft Turns end → Front x.trace y.trace → (y.end ≡ Ended → length x.trace < length y.trace) → RunsBelow x y
+
+  run_to_same : (main : ℕ) (o : Piece (Option Value)) → (run_to main (richer_piece d o)).shown ≡ (run_to main o).shown
+  run_to_same main (Reached v s) = refl
+  run_to_same main (Stopped end s) = refl
+
+  past : (main : ℕ) (trace : List Event) (p : Piece (Option Value)) → StopsSo p → Front trace (last p).trace → Front trace (run_to main p).shown.trace × ((run_to main p).shown.end ≡ Ended → length trace < length (run_to main p).shown.trace)
+  past main trace (Reached v s) stop front =
+      let long : length trace ≤ length s.trace = front_long trace s.trace front in
+      let one : length (s.trace ++ End main (exit_word v) ∷ []) ≡ length s.trace + 1 = length-append s.trace (End main (exit_word v) ∷ []) in
+      (front_more trace s.trace (s.trace ++ End main (exit_word v) ∷ []) front (record { more = End main (exit_word v) ∷ []; is = refl }), λ is. omega (arith, long, one))
+  past main trace (Stopped Ended s) stop front = absurd stop
+  past main trace (Stopped (Blamed comp cause line) s) stop front = (front, λ is. absurd (cc))
+  past main trace (Stopped TurnsOut s) stop front = (front, λ is. absurd (cc))
+  past main trace (Stopped EventsOut s) stop front = absurd stop
+
+  pub run_to_below : (main : ℕ) (o p : Piece (Option Value)) → StopsSo o → StopsSo p → Below d Soft Turns (Option Value) o p → RunsBelow (run_to main o).shown (run_to main p).shown
+  run_to_below main o p stop stop' (along is) = same_run (ap (λ x. (run_to main x).shown) is ∙ run_to_same main o)
+  run_to_below main o p stop stop' (passed end s is passes front) =
+      let ends : (run_to main o).shown.trace ≡ s.trace = ap (λ x. (run_to main x).shown.trace) is in
+      let more = past main (run_to main o).shown.trace p stop' (subst (λ x. Front x (last p).trace) (sym ends) front) in
+      goes_past end (ap (λ x. (run_to main x).shown.end) is) (subst StopsSo is stop) passes more.0 more.1
+
+  module _ (spent : (d ≡ 0) ⊎ Turns) (ar br : Arith) (arithmetic : ArithKeeps Soft ar br) (program : ProgramTree) where
+    abbrev L : Library
+    L = library_of ar program
+
+    abbrev M : Library
+    M = library_of br program
+
+    pub libraries : (n n' : ℕ) → LibrariesBelow d Soft Turns spent n n' L M
+    libraries n n' =
+        program_twins (Ahead d Soft Turns n n') (Below d Soft Turns) Anywhere Soft (below_kept d Soft Turns n n' spent) (λ here good. below_at d Soft Turns n n' spent here) ar br arithmetic program
+
+    pub run_steps : StepsBelow d Soft Turns spent (run_step L) (run_step M)
+    run_steps n n' a b goes goes' h = run_step_below d Soft Turns spent n n' a b goes goes' h L M (libraries n n')
+
+    pub scripted_steps : (roles : Roles) → StepsBelow d Soft Turns spent (scripted_step L roles (run_step L)) (scripted_step M roles (run_step M))
+    scripted_steps roles n n' a b goes goes' h =
+        scripted_below d Soft Turns spent n n' a b goes goes' h L M (libraries n n') roles (run_step L) (run_step M) (run_steps n n' a b goes goes' h)
+
+    module _ (step step' : Step) (goes : StepGoes step) (goes' : StepGoes step') (steps : StepsBelow d Soft Turns spent step step') (globals : Memory) (inputs : List ℕ) (turns : ℕ) where
+      abbrev main : ℕ
+      main = program.interfaces.main
+
+      abbrev start : State
+      start = first_state globals inputs turns
+
+      abbrev first_call : Library → Step → ℕ → ℕ → State → Piece (Option Value)
+      first_call library step turns number s = call_own library (within step (suc turns)) main number [] s
+
+      begin_below : (number : Option ℕ) → Below d Soft Turns (Option Value) (and_then (found number start) (first_call L step turns)) (and_then (found number (richer d start)) (first_call M step' (turns + d)))
+      begin_below None = along refl
+      begin_below (Some number) =
+          own_below d Soft Turns spent (suc turns) (suc (turns + d)) (within step (suc turns)) (within step' (suc (turns + d))) (within_goes step goes (suc turns)) (within_goes step' goes' (suc (turns + d))) (within_below d Soft Turns spent step step' goes goes' steps (suc turns) (suc (turns + d))) L M (libraries (suc turns) (suc (turns + d))) main number [] start (omega arith) (omega arith)
+
+      begin_goes : (library : Library) (step : Step) → StepGoes step → (turns : ℕ) (number : Option ℕ) (s : State) → Gone s (and_then (found number s) (first_call library step turns))
+      begin_goes library step goes turns number s =
+          then_goes s (found number s) (first_call library step turns) (found_goes number s) (λ number. own_goes library (within step (suc turns)) (within_goes step goes (suc turns)) main number [])
+
+      pub runs_below : RunsBelow (run_by L step globals inputs turns).shown (run_by M step' globals inputs (turns + d)).shown
+      runs_below =
+          run_to_below main (and_then (found (entered L main Main) start) (first_call L step turns)) (and_then (found (entered M main Main) (richer d start)) (first_call M step' (turns + d))) (begin_goes L step goes turns (entered L main Main) start).stop (begin_goes M step' goes' (turns + d) (entered M main Main) (richer d start)).stop (subst (λ x. Below d Soft Turns (Option Value) (and_then (found (entered L main Main) start) (first_call L step turns)) (and_then (found x (richer d start)) (first_call M step' (turns + d)))) (sym (entered_same (Ahead d Soft Turns (suc turns) (suc (turns + d))) (Below d Soft Turns) Anywhere L M (libraries (suc turns) (suc (turns + d))) main Main)) (begin_below (entered L main Main)))

@@ -1,0 +1,5 @@
+use Rattle.sc_laws.proofs.FollowingRuns.{blame_remains}
+use Rattle.sc_laws.proofs.laws.blame_remains.Goals as goal
+
+pub returns : goal.returns
+returns c = blame_remains

@@ -1,0 +1,5 @@
+use Rattle.sc_laws.proofs.FollowingRuns.{chain_is_least}
+use Rattle.sc_laws.proofs.laws.chain_is_least.Goals as goal
+
+pub returns : goal.returns
+returns c = chain_is_least

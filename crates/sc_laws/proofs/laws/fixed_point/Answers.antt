@@ -1,0 +1,5 @@
+use Rattle.sc_laws.proofs.Fixed.{fixed_point}
+use Rattle.sc_laws.proofs.laws.fixed_point.Goals as goal
+
+pub returns : goal.returns
+returns c = fixed_point

@@ -1,0 +1,5 @@
+use Rattle.sc_laws.proofs.More.{wrapping_agrees}
+use Rattle.sc_laws.proofs.laws.wrapping_agrees.Goals as goal
+
+pub returns : goal.returns
+returns c = wrapping_agrees

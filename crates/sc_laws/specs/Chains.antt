@@ -1,0 +1,50 @@
+-- Runs in which the compartments of a set perform their parts of a trace, and the chain of sets that leads to it.
+use Rattle.std.specs.Prelude.{◌≡◌, ℕ, Bool, true, false, ◌||◌, ◌==◌, List, [], ◌∷◌, ◌++◌, length}
+use Rattle.sc_event.specs.declared.event.Event.{Event}
+use Rattle.sc_core.specs.declared.cause.Cause.{Cause}
+use Rattle.sc_core.specs.declared.program.ProgramTree.{ProgramTree}
+use Rattle.sc_core.specs.declared.run.RunEnd.TheVariants.{Blamed, TurnsOut}
+use Rattle.sc_core.specs.declared.run.SourceRun.{SourceRun}
+use Rattle.sc_core.specs.Value.{Arith}
+use Rattle.sc_core.specs.Meaning.{scripted_by}
+use Rattle.sc_laws.specs.Growth.{Front}
+
+-- the second run tells an event more than the first, or ends right there for want of a turn or of a row
+pub data PassesBlame (run other : SourceRun) : Type 0 where
+  turnless : other ≡ record { trace = run.trace; end = TurnsOut } → PassesBlame run other
+  longer : (event : Event) → Front (run.trace ++ event ∷ []) other.trace → PassesBlame run other
+
+-- sets of compartments
+abbrev pub Set : Type 0
+Set = ℕ → Bool
+
+abbrev pub IsWithin : Set → Set → Type 0
+IsWithin small large = (comp : ℕ) → small comp ≡ true → large comp ≡ true
+
+abbrev pub nobody : Set
+nobody comp = false
+
+abbrev pub with : ℕ → Set → Set
+with more set comp = comp == more || set comp
+
+-- a compartment that was blamed, and why
+pub record Link : Type 0 where
+  pub comp : ℕ
+  pub cause : Cause
+  pub line : ℕ
+
+module _ (arith : Arith) (program : ProgramTree) (inputs : List ℕ) (turns : ℕ) (trace : List Event) where
+  -- the run in which a set performs, stopped where it has as many events as the trace
+  abbrev pub performed : Set → SourceRun
+  performed set = scripted_by arith program set trace inputs turns (length trace)
+
+  -- from this set on, each next run keeps to the trace until it is blamed, and then the blamed compartment performs too; the last run tells the trace
+  abbrev pub IsChain : Set → List Link → Type 0
+  IsChain set [] = (performed set).trace ≡ trace
+  IsChain set (link ∷ links) =
+      ((performed set).end ≡ Blamed link.comp link.cause link.line) × Front (performed set).trace trace × IsChain (with link.comp set) links
+
+-- all blamed compartments are in the set
+abbrev pub Includes : Set → List Link → Type 0
+Includes set [] = Unit {0}
+Includes set (link ∷ links) = (set link.comp ≡ true) × Includes set links

@@ -1,0 +1,37 @@
+-- How a run goes on: events are appended, turns are spent, and it stops for a blame or for want of turns alone.
+use Rattle.std.specs.Prelude.{◌≡◌, ◌≤◌, ◌++◌, List}
+use Rattle.sc_core.specs.declared.run.RunEnd.{RunEnd}
+use Rattle.sc_core.specs.declared.run.RunEnd.TheVariants.{Ended, Blamed, TurnsOut, EventsOut}
+use Rattle.sc_core.specs.Words.{State, Piece, Reached, Stopped}
+
+-- a list that goes on from another
+pub record Front {A : Type 0} (xs ys : List A) : Type 0 where
+  pub more : List A
+  pub is : ys ≡ xs ++ more
+
+-- a state that comes after another: its events go on from the other's, and it has no more turns
+pub record Grown (s t : State) : Type 0 where
+  pub events : Front s.trace t.trace
+  pub turns : t.turns ≤ s.turns
+
+-- the state to which a piece comes
+abbrev pub last : {V : Type 0} → Piece V → State
+last (Reached v s) = s
+last (Stopped end s) = s
+
+-- an end that comes in the middle of a run
+abbrev pub IsStop : RunEnd → Type 0
+IsStop Ended = ⊥
+IsStop (Blamed comp cause line) = Unit {0}
+IsStop TurnsOut = Unit {0}
+IsStop EventsOut = ⊥
+
+-- a piece that ends the run, if it does, with such an end
+abbrev pub StopsSo : {V : Type 0} → Piece V → Type 0
+StopsSo (Reached v s) = Unit {0}
+StopsSo (Stopped end s) = IsStop end
+
+-- a piece that goes on from a state
+pub record Gone {V : Type 0} (s : State) (o : Piece V) : Type 0 where
+  pub grown : Grown s (last o)
+  pub stop : StopsSo o

@@ -1,0 +1,64 @@
+-- Laws of the meaning.
+use Rattle.std.specs.Prelude.{◌≡◌, ℕ, ◌<◌, true, false, List}
+use Rattle.sc_event.specs.declared.event.Event.{Event}
+use Rattle.sc_core.specs.declared.cause.Cause.{Cause}
+use Rattle.sc_core.specs.declared.program.ProgramTree.{ProgramTree}
+use Rattle.sc_core.specs.declared.run.RunEnd.TheVariants.{Blamed}
+use Rattle.sc_core.specs.Value.{Arith}
+use Rattle.sc_core.specs.Words.{State, Here}
+use Rattle.sc_core.specs.Calls.{Step, run_step, within}
+use Rattle.sc_core.specs.Scripts.{Roles, scripted_step}
+use Rattle.sc_core.specs.Meaning.{library_of, scripted_by, scripted_meaning, scripted_wrapped}
+use Rattle.sc_laws.specs.Chains.{Set, IsWithin, nobody, Link, performed, IsChain, Includes, PassesBlame}
+use Rattle.sc_laws.specs.Growth.{Front, Gone}
+use Rattle.sc_laws.specs.Steady.{now, ExtendedByMore, AgreesUntilBlame}
+
+-- whatever a function of a program does, however many calls may be open in it, it goes on from the state in which it begins
+abbrev pub OnlyGoesOn : Type 0
+OnlyGoesOn = (arith : Arith) (program : ProgramTree) (open_calls number : ℕ) (here : Here) (s : State)
+    → Gone s (within (run_step (library_of arith program)) open_calls number here s)
+
+-- what functions do is what they do by what functions do
+abbrev pub IsFixed : Step → Type 0
+IsFixed step = (number : ℕ) (here : Here) (s : State) → now step number here s ≡ step (now step) number here s
+
+-- any bound on open calls above the turns is as good as any other
+abbrev pub IsSteady : Step → Type 0
+IsSteady step = (open_calls more_calls number : ℕ) (here : Here) (s : State) → s.turns < open_calls → s.turns < more_calls → within step more_calls number here s ≡ within step open_calls number here s
+
+-- so it is of the functions of a program, and where some compartments perform scripts
+pub record FixedPoint : Type 0 where
+  pub run : (arith : Arith) (program : ProgramTree) → IsFixed (run_step (library_of arith program))
+  pub scripted : (arith : Arith) (program : ProgramTree) (roles : Roles) → IsFixed (scripted_step (library_of arith program) roles (run_step (library_of arith program)))
+  pub run_steady : (arith : Arith) (program : ProgramTree) → IsSteady (run_step (library_of arith program))
+  pub scripted_steady : (arith : Arith) (program : ProgramTree) (roles : Roles) → IsSteady (scripted_step (library_of arith program) roles (run_step (library_of arith program)))
+
+-- more turns and more events extend a run in which some compartments perform a script
+abbrev pub MoreGoesOn : Type 0
+MoreGoesOn = (arith : Arith) (program : ProgramTree) (set : Set) (trace : List Event) (inputs : List ℕ) → ExtendedByMore (scripted_by arith program set trace inputs)
+
+-- the arithmetic that wraps gives the same run up to the first blame for arithmetic, where some compartments perform a script
+abbrev pub WrappingAgrees : Type 0
+WrappingAgrees = (program : ProgramTree) (set : Set) (trace : List Event) (inputs : List ℕ) (turns events : ℕ) → AgreesUntilBlame (scripted_meaning program set trace inputs turns events) (scripted_wrapped program set trace inputs turns events)
+
+-- where more compartments perform their parts of a trace that the run tells, it tells the trace too
+abbrev pub MoreMayPerform : Type 0
+MoreMayPerform = (arith : Arith) (program : ProgramTree) (inputs : List ℕ) (turns : ℕ) (trace : List Event) (small large : Set) → IsWithin small large
+    → (performed arith program inputs turns trace small).trace ≡ trace → (performed arith program inputs turns trace large).trace ≡ trace
+
+-- a blame that comes while the run keeps to the trace comes in the same run where more compartments perform, unless the blamed one does
+abbrev pub BlameRemains : Type 0
+BlameRemains = (arith : Arith) (program : ProgramTree) (inputs : List ℕ) (turns : ℕ) (trace : List Event) (small large : Set) → IsWithin small large
+    → (comp : ℕ) (cause : Cause) (line : ℕ) → (performed arith program inputs turns trace small).end ≡ Blamed comp cause line → Front (performed arith program inputs turns trace small).trace trace → large comp ≡ false
+    → performed arith program inputs turns trace large ≡ performed arith program inputs turns trace small
+
+-- where the blamed compartment performs too, the run passes that point, unless it wants a turn or a row right there
+abbrev pub BlameIsPassed : Type 0
+BlameIsPassed = (arith : Arith) (program : ProgramTree) (inputs : List ℕ) (turns : ℕ) (trace : List Event) (small large : Set) → IsWithin small large
+    → (comp : ℕ) (cause : Cause) (line : ℕ) → (performed arith program inputs turns trace small).end ≡ Blamed comp cause line → Front (performed arith program inputs turns trace small).trace trace → large comp ≡ true
+    → PassesBlame (performed arith program inputs turns trace small) (performed arith program inputs turns trace large)
+
+-- of all sets those give the trace that have every compartment of the chain: the compartments of the chain are the least
+abbrev pub ChainIsLeast : Type 0
+ChainIsLeast = (arith : Arith) (program : ProgramTree) (inputs : List ℕ) (turns : ℕ) (trace : List Event) (links : List Link) (set : Set) → IsChain arith program inputs turns trace nobody links
+    → ((performed arith program inputs turns trace set).trace ≡ trace → Includes set links) × (Includes set links → (performed arith program inputs turns trace set).trace ≡ trace)

@@ -1,0 +1,26 @@
+-- Runs with as many open calls as they have turns, and runs that say more of one another.
+use Rattle.std.specs.Prelude.{◌≡◌, ℕ, suc, ◌≤◌}
+use Rattle.sc_core.specs.declared.cause.Cause.{Cause}
+use Rattle.sc_core.specs.declared.run.RunEnd.TheVariants.{Blamed}
+use Rattle.sc_core.specs.declared.run.SourceRun.{SourceRun}
+use Rattle.sc_core.specs.Calls.{Body, Step, within}
+use Rattle.sc_core.specs.Laws.{IsFinal, IsArithmetic}
+use Rattle.sc_laws.specs.Growth.{Front}
+
+-- what functions do that may have as many calls open as they have turns: there are never more
+abbrev pub now : Step → Body
+now step number here s = within step (suc s.turns) number here s
+
+-- a run that goes on from another, and is the other one where no limit ended that
+pub record Extends (run longer : SourceRun) : Type 0 where
+  pub trace : Front run.trace longer.trace
+  pub final : IsFinal run.end → longer ≡ run
+
+-- runs, by turns and events, that are extended by those with more turns and more events
+abbrev pub ExtendedByMore : (ℕ → ℕ → SourceRun) → Type 0
+ExtendedByMore run = (turns more_turns events more_events : ℕ) → turns ≤ more_turns → events ≤ more_events → Extends (run turns events) (run more_turns more_events)
+
+-- the second run is the first, or the first was blamed for arithmetic and the second goes on from there
+pub data AgreesUntilBlame (run other : SourceRun) : Type 0 where
+  same : other ≡ run → AgreesUntilBlame run other
+  blamed : (comp : ℕ) (cause : Cause) (line : ℕ) → run.end ≡ Blamed comp cause line → IsArithmetic cause → Front run.trace other.trace → AgreesUntilBlame run other

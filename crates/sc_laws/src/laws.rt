@@ -1,0 +1,47 @@
+// Laws of the meaning, each the contract of a function with nothing to do.
+
+ghost use Rattle.sc_laws.specs.Laws.{BlameIsPassed, BlameRemains, FixedPoint, ChainIsLeast, MoreGoesOn, MoreMayPerform, OnlyGoesOn, WrappingAgrees};
+
+/// Whatever a function does, events are appended to those that were told, no turn comes back, and it stops the run for
+/// a blame or for want of turns alone.
+pub fn only_goes_on()
+    ensures { OnlyGoesOn }
+{}
+
+/// What functions do with as many open calls as they have turns is what they do by just that, and any greater bound on
+/// open calls is as good.
+pub fn fixed_point()
+    ensures { FixedPoint }
+{}
+
+/// More turns and more events extend a run in which some compartments perform a script, and change none that came to its
+/// end or to a blame.
+pub fn more_goes_on()
+    ensures { MoreGoesOn }
+{}
+
+/// Where some compartments perform a script, the arithmetic that wraps gives the same run up to the first blame for
+/// arithmetic.
+pub fn wrapping_agrees()
+    ensures { WrappingAgrees }
+{}
+
+/// Where more compartments perform their parts of a trace that a run tells, it still tells the trace.
+pub fn more_may_perform()
+    ensures { MoreMayPerform }
+{}
+
+/// A blame that comes along the trace stays where more compartments perform, unless the blamed one is of these.
+pub fn blame_remains()
+    ensures { BlameRemains }
+{}
+
+/// A blame is passed where the blamed compartment performs too, unless it wants a turn or a row right there.
+pub fn blame_is_passed()
+    ensures { BlameIsPassed }
+{}
+
+/// A set of compartments gives the trace exactly where it has every compartment of the chain.
+pub fn chain_is_least()
+    ensures { ChainIsLeast }
+{}
