@@ -26,8 +26,8 @@ abbrev pub accounts_interfaces : Interfaces
 accounts_interfaces =
     record { comps = interface (codes "Reader") [] (import.Function 1 0 ∷ import.Function 2 0 ∷ import.Input ∷ []) ∷ interface (codes "Accounts") (proto (codes "apply") (scalar.Int ∷ two_ints) (Some scalar.Int) ∷ []) [] ∷ interface (codes "Log") (proto (codes "note") two_ints None ∷ []) (import.Output ∷ []) ∷ []; main = 0 }
 
-abbrev pub request : ℕ → Shape
-request n = element 4 0 (lit n)
+abbrev pub field : ℕ → Shape
+field n = element 4 0 (lit n)
 
 -- `for (i = 0; i < n; i++) { v = input(); req[i] = v; }`
 abbrev pub read_request : Plan
@@ -36,7 +36,7 @@ read_request =
 
 abbrev pub serve : Lines
 serve =
-    CallLine 25 (Own 0) (local 0 ∷ []) (AssignCallLine 26 (local 1) (Cross 1 0) (request 0 ∷ request 1 ∷ request 2 ∷ []) (CallLine 27 (Cross 2 0) (request 0 ∷ local 1 ∷ []) (AssignLine 28 (global 1) (plus (global 1) (lit 1)) (AssignCallLine 29 (local 0) Input [] NoLine))))
+    CallLine 25 (Own 0) (local 0 ∷ []) (AssignCallLine 26 (local 1) (Cross 1 0) (field 0 ∷ field 1 ∷ field 2 ∷ []) (CallLine 27 (Cross 2 0) (field 0 ∷ local 1 ∷ []) (AssignLine 28 (global 1) (plus (global 1) (lit 1)) (AssignCallLine 29 (local 0) Input [] NoLine))))
 
 abbrev pub reader_main : Plan
 reader_main =

@@ -3,6 +3,7 @@ pub mod Identifier
 pub mod Legal
 pub mod Line
 pub mod Lookup
+pub mod Numbering
 pub mod OpenCall
 pub mod Part
 pub mod Standing

@@ -8,6 +8,7 @@ mod interface;
 mod legality;
 mod line;
 mod name;
+mod name_table;
 mod out_of_memory;
 mod params;
 mod row;
@@ -20,6 +21,7 @@ pub use interface::{Import, Imports, Interface, InterfaceList, Interfaces, Proto
 pub use legality::legal;
 pub use line::{append_event, event_text};
 pub use name::{Name, is_name};
+pub use name_table::NameTable;
 pub use out_of_memory::OutOfMemory;
 pub use params::Params;
 pub use row::{Action, Entry, Row, Script};

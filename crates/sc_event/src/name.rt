@@ -1,11 +1,13 @@
 ghost use Rattle.std.specs.Prelude.{◌≡◌, ◌≤◌, length, replicate, IsTrue, ◌==◌};
 ghost use Rattle.std.specs.Cmp.Lexicographic.{pointwise};
-ghost use Rattle.std.specs.Cmp.Rules.{comparing};
+ghost use Rattle.std.specs.Cmp.Rules.{comparing, hashing};
+ghost use Rattle.std.specs.Hash as fed;
 ghost use Rattle.std.specs.List.{list_all};
 ghost use Rattle.std.proofs.Common.{rules};
 ghost use Rattle.sc_event.specs.Filled.{filled};
 ghost use Rattle.sc_event.specs.Identifier.{is_name, name_of, is_digit, is_nondigit, is_name_byte};
 
+use std::hash::{Hash, Hasher};
 use std::marker::Model;
 
 /// An identifier (C11 6.4.2.1) of 1 to 63 bytes, kept without memory of its own. Contracts see its bytes.
@@ -76,6 +78,16 @@ impl PartialEq for Name {
 
 impl Eq for Name {
     ghost laws = { Prim.search (comparing, rules) };
+}
+
+impl Hash for Name {
+    ghost hash_input = { fed.slice fed.u8 };
+
+    ghost respects_eq = { Prim.search (hashing, rules) };
+
+    fn hash<H: Hasher>(&self, state: &mut H) {
+        self.as_bytes().hash(state);
+    }
 }
 
 /// Whether the text is an identifier of 1 to 63 bytes.

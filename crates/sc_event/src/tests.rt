@@ -5,8 +5,8 @@ ghost use Rattle.sc_event.specs.declared.interface.Interfaces.{Interfaces};
 ghost use Rattle.sc_event.specs.declared.interface.Scalar.TheVariants.{Int};
 
 use crate::{
-    Args, CompId, Event, Import, Imports, Interface, InterfaceList, Interfaces, Name, OutOfMemory,
-    Params, Proto, Protos, Scalar, Text, event_text, legal,
+    Args, CompId, Event, Import, Imports, Interface, InterfaceList, Interfaces, Name, NameTable,
+    OutOfMemory, Params, Proto, Protos, Scalar, Text, event_text, legal,
 };
 use std::alloc::Global;
 use std::test::Fail;
@@ -26,6 +26,19 @@ fn names(rt: HostRuntime) {
         assert_eq!(rt; Name::new(text).is_some(), is_one);
     }
     assert!(rt; Name::new(&[b'x'; 64]).is_none());
+}
+
+#[test]
+fn names_are_numbered(rt: HostRuntime) -> Result<(), Fail> {
+    let first = Name::new(b"first").unwrap();
+    let second = Name::new(b"second").unwrap();
+    let mut table = NameTable::new(rt.alloc());
+    assert!(rt; table.insert(first)? == Some(0));
+    assert!(rt; table.insert(second)? == Some(1));
+    assert!(rt; table.insert(first)?.is_none());
+    assert!(rt; table.number_of(&second) == Some(1));
+    assert!(rt; table.number_of(&Name::new(b"third").unwrap()).is_none());
+    Ok(())
 }
 
 #[test]
