@@ -2,3 +2,4 @@ pub mod Examples
 pub mod Induction
 pub mod Layers
 pub mod Params
+pub mod Texts
