@@ -30,14 +30,15 @@ fn names(rt: HostRuntime) {
 
 #[test]
 fn names_are_numbered(rt: HostRuntime) -> Result<(), Fail> {
-    let first = Name::new(b"first").unwrap();
-    let second = Name::new(b"second").unwrap();
+    let first = Name::new(b"first").ok_or("no name")?;
+    let second = Name::new(b"second").ok_or("no name")?;
+    let third = Name::new(b"third").ok_or("no name")?;
     let mut table = NameTable::new(rt.alloc());
     assert!(rt; table.insert(first)? == Some(0));
     assert!(rt; table.insert(second)? == Some(1));
     assert!(rt; table.insert(first)?.is_none());
     assert!(rt; table.number_of(&second) == Some(1));
-    assert!(rt; table.number_of(&Name::new(b"third").unwrap()).is_none());
+    assert!(rt; table.number_of(&third).is_none());
     Ok(())
 }
 
