@@ -77,7 +77,7 @@ member_tidy : (m : MemberTree) → IsTrue (kept_member m) → Free (member_line 
 member_tidy m k = let parts = and_parts (kept_type m.ty) (is_ident m.name) k in line_tidy 1 _ (ended_tidy _ (declared_tidy m.ty m.name parts.0 parts.1))
 
 -- many in a row
-each_tidy : {A : Type 0} (words : A → List Piece) (kept : A → Bool) → ((x : A) → IsTrue (kept x) → Free (words x)) → (xs : List A) → list_all kept xs ≡ true → Free (flat_map words xs)
+pub each_tidy : {A : Type 0} (words : A → List Piece) (kept : A → Bool) → ((x : A) → IsTrue (kept x) → Free (words x)) → (xs : List A) → list_all kept xs ≡ true → Free (flat_map words xs)
 each_tidy words kept t [] k rest = none
 each_tidy words kept t (x ∷ xs) k rest =
     let parts = and_parts (kept x) (list_all kept xs) k in
@@ -184,7 +184,7 @@ function_tidy f k rest =
     let body = tidy_append (lines_at 1 (layouts f.body)) (word (codes "}") ∷ newline ∷ []) rest (stmts_tidy f.body more.1 1 _) (next (close_curly _) (line_end none)) in
     line_end (tidy_append (head_words (head_of f.head)) _ rest (head_tidy (head_of f.head) parts.0 _) (gap (next (open_curly _) (line_end (tidy_append (flat_map local_line f.locals) _ rest (each_tidy local_line kept_local local_tidy f.locals more.0 _) body)))))
 
-decl_tidy : (d : Decl) → IsTrue (is_kept_decl d) → Free (decl_words d)
+pub decl_tidy : (d : Decl) → IsTrue (is_kept_decl d) → Free (decl_words d)
 decl_tidy (decl.Struct tree) k rest = struct_tidy tree k rest
 decl_tidy (decl.Global tree) k rest = global_tidy tree k rest
 decl_tidy (decl.Proto tree) k rest = tidy_append (ended (head_words tree)) (newline ∷ []) rest (ended_tidy (head_words tree) (λ r calm. head_tidy tree k r) _) (line_end none)

@@ -2,9 +2,11 @@ pub mod Apart
 pub mod Cut
 pub mod DeclSpacing
 pub mod Decls
+pub mod DenseCut
 pub mod DirectiveWords
 pub mod Each
 pub mod Leaves
+pub mod Heights
 pub mod Lined
 pub mod Lists
 pub mod Literals

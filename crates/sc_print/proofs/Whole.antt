@@ -71,13 +71,13 @@ same_section : (tree : SectionTree) (exports : List ExportLine) (imports : List 
 same_section tree exports imports decls p q r = rw (p, q, r)
 
 -- what a section keeps, part by part
-record Keeps (tree : SectionTree) : Type 0 where
-  name : is_name tree.name ≡ true
-  exports : list_all kept_export tree.exports ≡ true
-  imports : list_all kept_import tree.imports ≡ true
-  decls : list_all is_kept_decl tree.decls ≡ true
+pub record Keeps (tree : SectionTree) : Type 0 where
+  pub name : is_name tree.name ≡ true
+  pub exports : list_all kept_export tree.exports ≡ true
+  pub imports : list_all kept_import tree.imports ≡ true
+  pub decls : list_all is_kept_decl tree.decls ≡ true
 
-keeps : (tree : SectionTree) → IsTrue (kept_section tree) → Keeps tree
+pub keeps : (tree : SectionTree) → IsTrue (kept_section tree) → Keeps tree
 keeps tree k =
     let a = and_parts (is_name tree.name) (list_all kept_export tree.exports && (list_all kept_import tree.imports && list_all is_kept_decl tree.decls)) k in
     let b = and_parts (list_all kept_export tree.exports) (list_all kept_import tree.imports && list_all is_kept_decl tree.decls) a.1 in
@@ -99,14 +99,14 @@ section_reads tree k ts h =
     let whole : ts ≡ f.first ∷ (p.front ++ p.back) = f.whole ∙ ap (λ us. f.first ∷ us) p.whole in
     (other, subst (λ us. SpellsSection tree.line us other) (sym whole) (spell.section f.first tree.name (f.is ∙ heading_says tree.name kept.name) d.spelled ds.1), same_section tree d.other_exports d.other_imports ds.0 d.same_exports d.same_imports ds.2)
 
-exports_lined : (exports : List ExportLine) → list_all kept_export exports ≡ true → (more : List Piece) → Lined more → Lined (flat_map export_words exports ++ more)
+pub exports_lined : (exports : List ExportLine) → list_all kept_export exports ≡ true → (more : List Piece) → Lined more → Lined (flat_map export_words exports ++ more)
 unfolding export_words
 exports_lined [] k more l = l
 exports_lined (x ∷ exports) k more l =
     let parts = and_parts (kept_export x) (list_all kept_export exports) k in
     line (export_line_is x.name parts.0) (exports_lined exports parts.1 more l)
 
-imports_lined : (imports : List ImportLine) → list_all kept_import imports ≡ true → (more : List Piece) → Lined more → Lined (flat_map import_words imports ++ more)
+pub imports_lined : (imports : List ImportLine) → list_all kept_import imports ≡ true → (more : List Piece) → Lined more → Lined (flat_map import_words imports ++ more)
 unfolding import_words
 imports_lined [] k more l = l
 imports_lined (x ∷ imports) k more l =
@@ -114,7 +114,7 @@ imports_lined (x ∷ imports) k more l =
     let names = and_parts (is_name x.comp) (is_name x.name) parts.0 in
     line (import_line_is x.comp x.name names.0 names.1) (imports_lined imports parts.1 more l)
 
-heading_front : (name more : List ℕ) → begins_heading (heading_text name ++ more) ≡ true
+pub heading_front : (name more : List ℕ) → begins_heading (heading_text name ++ more) ≡ true
 heading_front name more = heading_begins (name ++ more)
 
 pub section_cut : (tree : SectionTree) → IsTrue (kept_section tree) → Found (printed tree) 0 (symbols (section_words tree))

@@ -1,4 +1,5 @@
 pub mod DeclsRead
+pub mod Dense
 pub mod Kept
 pub mod KeptDecls
 pub mod KeptSections

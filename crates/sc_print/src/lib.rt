@@ -1,11 +1,13 @@
 //! What is printed reads back: the bytes of a printed tree are cut into tokens that spell the tree again.
 #![tactic(auto)]
 
-ghost use Rattle.std.specs.Prelude.{ℕ, IsTrue, List};
+ghost use Rattle.std.specs.Prelude.{◌≡◌, ℕ, IsTrue, List};
 ghost use Rattle.std.specs.List.{list_all};
 ghost use Rattle.sc_ast.specs.declared.expr.ExprTree.{ExprTree};
 ghost use Rattle.sc_ast.specs.declared.stmt.StmtTree.{StmtTree};
-ghost use Rattle.sc_ast.specs.SectionWords.{printed};
+ghost use Rattle.sc_ast.specs.Height.{section_height};
+ghost use Rattle.sc_ast.specs.Lineless.{SameButLines};
+ghost use Rattle.sc_ast.specs.SectionWords.{section_words, printed};
 ghost use Rattle.sc_ast.specs.declared.section.Decl.{Decl};
 ghost use Rattle.sc_ast.specs.declared.section.SectionTree.{SectionTree};
 ghost use Rattle.sc_print.specs.Kept.{is_kept};
@@ -14,6 +16,8 @@ ghost use Rattle.sc_print.specs.KeptDecls.{is_kept_decl};
 ghost use Rattle.sc_print.specs.KeptSections.{kept_section};
 ghost use Rattle.sc_print.specs.ReadsBack.{WordsSpell, expr_text, ReadsAs};
 ghost use Rattle.sc_print.specs.StmtsRead.{StmtsSpell, stmts_text, StmtsReadAs};
+ghost use Rattle.sc_print.specs.Symbols.{symbols};
+ghost use Rattle.sc_print.specs.Dense.{dense_text, SaysAll};
 ghost use Rattle.sc_print.specs.DeclsRead.{DeclsSpell, decls_text, DeclsReadAs};
 ghost use Rattle.sc_print.specs.SectionsRead.{SectionSpells, SectionReadsAs};
 
@@ -93,3 +97,13 @@ pub fn section_reads_back(tree: &SectionTree)
 {
     keeps_section(tree);
 }
+
+/// The text of a section without empty lines is cut into tokens that say the words of the printed section.
+pub fn dense_sections_are_cut()
+    ensures { (tree : SectionTree) → IsTrue (kept_section tree) → SaysAll (dense_text tree) (symbols (section_words tree)) }
+{}
+
+/// Sections that are the same, lines aside, are of one height.
+pub fn lines_add_no_height()
+    ensures { (tree other : SectionTree) → SameButLines tree other → section_height tree ≡ section_height other }
+{}

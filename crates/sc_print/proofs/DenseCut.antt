@@ -1,0 +1,63 @@
+-- Sections without empty lines are cut into the words of the section.
+use Rattle.std.proofs.Common.{◌≡◌, ℕ, true, IsTrue, List, [], ◌∷◌, ◌++◌, refl, sym, ap, ap₂, ◌∙◌, subst}
+use Rattle.std.specs.List.{list_all, flat_map}
+use Rattle.std.proofs.lemmas.Bool.{and_parts}
+use Rattle.sc_ast.specs.Pieces.{Piece, newline, text_of}
+use Rattle.sc_ast.specs.SectionWords.{decl_words, export_words, import_words, section_words, heading_words, function_words}
+use Rattle.sc_ast.specs.declared.section.FunctionTree.{FunctionTree}
+use Rattle.sc_ast.specs.declared.section.Decl.{Decl}
+use Rattle.sc_ast.specs.declared.section.Decl.TheVariants as decl
+use Rattle.sc_ast.specs.declared.section.SectionTree.{SectionTree}
+use Rattle.sc_print.specs.Symbols.{symbols}
+use Rattle.sc_print.specs.KeptDecls.{is_kept_decl}
+use Rattle.sc_print.specs.KeptSections.{kept_section}
+use Rattle.sc_print.specs.Dense.{dense_decl, dense_words, dense_text, SaysAll}
+use Rattle.sc_print.proofs.Spelling.{joined_symbols}
+use Rattle.sc_print.proofs.Spacing.{Tidy, line_end, tidy_append}
+use Rattle.sc_print.proofs.Spacing as spacing
+use Rattle.sc_print.proofs.StmtSpacing.{Free}
+use Rattle.sc_print.proofs.DeclSpacing.{decl_tidy, each_tidy}
+use Rattle.sc_print.proofs.DirectiveWords.{heading_line_is}
+use Rattle.sc_print.proofs.Lined.{Lined, tidy, line, found_lines}
+use Rattle.sc_print.proofs.Whole.{keeps, exports_lined, imports_lined, heading_front}
+
+-- an empty line in front may be left out
+without_line : {pieces : List Piece} {rest : List ℕ} → Tidy (newline ∷ pieces) rest → Tidy pieces rest
+without_line (line_end t) = t
+
+dense_tidy : (d : Decl) → IsTrue (is_kept_decl d) → Free (dense_decl d)
+dense_tidy (decl.Struct tree) k rest = decl_tidy (decl.Struct tree) k rest
+dense_tidy (decl.Global tree) k rest = decl_tidy (decl.Global tree) k rest
+dense_tidy (decl.Proto tree) k rest = decl_tidy (decl.Proto tree) k rest
+dense_tidy (decl.Function tree) k rest = without_line (decl_tidy (decl.Function tree) k rest)
+
+decl_symbols : (d : Decl) → symbols (dense_decl d) ≡ symbols (decl_words d)
+decl_symbols (decl.Struct tree) = refl
+decl_symbols (decl.Global tree) = refl
+decl_symbols (decl.Proto tree) = refl
+decl_symbols (decl.Function tree) = refl
+
+decls_symbols : (ds : List Decl) → symbols (flat_map dense_decl ds) ≡ symbols (flat_map decl_words ds)
+decls_symbols [] = refl
+decls_symbols (d ∷ ds) =
+    joined_symbols (dense_decl d) (flat_map dense_decl ds) ∙ ap₂ (λ a b. a ++ b) (decl_symbols d) (decls_symbols ds) ∙ sym (joined_symbols (decl_words d) (flat_map decl_words ds))
+
+section_symbols : (tree : SectionTree) → symbols (dense_words tree) ≡ symbols (section_words tree)
+section_symbols tree =
+    let exports : List Piece = flat_map export_words tree.exports in
+    let imports : List Piece = flat_map import_words tree.imports in
+    let dense : List Piece = flat_map dense_decl tree.decls in
+    let decls : List Piece = flat_map decl_words tree.decls in
+    let heading : List Piece = heading_words tree.name in
+    let inner : symbols (imports ++ dense) ≡ symbols (imports ++ decls) = joined_symbols imports dense ∙ ap (λ s. symbols imports ++ s) (decls_symbols tree.decls) ∙ sym (joined_symbols imports decls) in
+    let outer : symbols (exports ++ (imports ++ dense)) ≡ symbols (exports ++ (imports ++ decls)) = joined_symbols exports (imports ++ dense) ∙ ap (λ s. symbols exports ++ s) inner ∙ sym (joined_symbols exports (imports ++ decls)) in
+    joined_symbols heading (exports ++ (imports ++ dense)) ∙ ap (λ s. symbols heading ++ s) outer ∙ sym (joined_symbols heading (exports ++ (imports ++ decls)))
+
+pub dense_cut : (tree : SectionTree) → IsTrue (kept_section tree) → SaysAll (dense_text tree) (symbols (section_words tree))
+dense_cut tree k =
+    let kept = keeps tree k in
+    let decls = each_tidy dense_decl is_kept_decl dense_tidy tree.decls kept.decls [] in
+    let lined : Lined (dense_words tree) = line (heading_line_is tree.name kept.name) (exports_lined tree.exports kept.exports _ (imports_lined tree.imports kept.imports _ (tidy decls))) in
+    let behind : List Piece = flat_map export_words tree.exports ++ (flat_map import_words tree.imports ++ flat_map dense_decl tree.decls) in
+    let found = found_lines (dense_text tree) (heading_front tree.name (10 ∷ text_of behind)) lined [] refl refl in
+    record { tokens = found.tokens; cut = found.cuts; says = found.says ∙ section_symbols tree }

@@ -1,0 +1,95 @@
+-- The height of a tree doesn't depend on its lines.
+use Rattle.std.proofs.Common.{◌≡◌, ℕ, zero, suc, ◌+◌, max, List, [], ◌∷◌, map, Option, Some, None, refl, sym, ap, ap₂, ◌∙◌, arith, rules}
+use Rattle.sc_ast.specs.Height.{highest, expr_height, call_height, option_height, stmt_height, stmts_height, kind_height, local_height, locals_height, function_height, decl_height, decls_height, section_height}
+use Rattle.sc_ast.specs.Lineless.{lineless_option, lineless_stmt, lineless_kind, lineless_stmts, lineless_local, lineless_function, lineless_decl, SameButLines}
+use Rattle.sc_ast.specs.declared.expr.ExprTree.{ExprTree}
+use Rattle.sc_ast.specs.declared.expr.CallTree.{CallTree}
+use Rattle.sc_ast.specs.declared.stmt.SimpleTree.{SimpleTree}
+use Rattle.sc_ast.specs.declared.stmt.StmtTree.{StmtTree}
+use Rattle.sc_ast.specs.declared.stmt.StmtTree as trees
+use Rattle.sc_ast.specs.declared.stmt.StmtKind.{StmtKind, StmtKind-F, roll-StmtKind}
+use Rattle.sc_ast.specs.declared.stmt.StmtKind as kinds
+use Rattle.sc_ast.specs.declared.stmt.StmtKind.TheOpen as layer
+use Rattle.sc_ast.specs.declared.stmt.StmtKind.TheVariants as stmt
+use Rattle.sc_ast.specs.declared.section.LocalTree.{LocalTree}
+use Rattle.sc_ast.specs.declared.section.FunctionTree.{FunctionTree}
+use Rattle.sc_ast.specs.declared.section.Decl.{Decl}
+use Rattle.sc_ast.specs.declared.section.Decl.TheVariants as decl
+use Rattle.sc_ast.specs.declared.section.SectionTree.{SectionTree}
+use Rattle.sc_ast.proofs.Induction.{Each, Inside, everywhere, stmt_induction}
+
+-- a statement without lines, and its height, by its kind
+bare_stmt : (line : ℕ) (k : StmtKind) → lineless_stmt (record { line = line; kind = k }) ≡ record { line = 0; kind = lineless_kind k }
+bare_stmt line k = search (rules, kinds.the_lemmas, trees.the_lemmas)
+
+tall_stmt : (line : ℕ) (k : StmtKind) → stmt_height (record { line = line; kind = k }) ≡ kind_height k + 1
+tall_stmt line k = search (rules, kinds.the_lemmas, trees.the_lemmas)
+
+-- kinds with statements inside
+bare_if : (c : ExprTree) (t e : List StmtTree) → lineless_kind (stmt.If c t e) ≡ stmt.If c (lineless_stmts t) (lineless_stmts e)
+bare_if c t e = search (rules, kinds.the_lemmas, trees.the_lemmas)
+
+tall_if : (c : ExprTree) (t e : List StmtTree) → kind_height (stmt.If c t e) ≡ max (expr_height c) (max (stmts_height t) (stmts_height e))
+tall_if c t e = search (rules, kinds.the_lemmas, trees.the_lemmas)
+
+bare_while : (c : ExprTree) (b : List StmtTree) → lineless_kind (stmt.While c b) ≡ stmt.While c (lineless_stmts b)
+bare_while c b = search (rules, kinds.the_lemmas, trees.the_lemmas)
+
+tall_while : (c : ExprTree) (b : List StmtTree) → kind_height (stmt.While c b) ≡ max (expr_height c) (stmts_height b)
+tall_while c b = search (rules, kinds.the_lemmas, trees.the_lemmas)
+
+bare_for : (f : Option SimpleTree) (c : ExprTree) (n : Option SimpleTree) (b : List StmtTree) → lineless_kind (stmt.For f c n b) ≡ stmt.For (lineless_option f) c (lineless_option n) (lineless_stmts b)
+bare_for f c n b = search (rules, kinds.the_lemmas, trees.the_lemmas)
+
+tall_for : (f : Option SimpleTree) (c : ExprTree) (n : Option SimpleTree) (b : List StmtTree) → kind_height (stmt.For f c n b) ≡ max (max (option_height f) (option_height n)) (max (expr_height c) (stmts_height b))
+tall_for f c n b = search (rules, kinds.the_lemmas, trees.the_lemmas)
+
+bare_option : (s : Option SimpleTree) → option_height (lineless_option s) ≡ option_height s
+bare_option None = refl
+bare_option (Some s) = refl
+
+abbrev Same : StmtTree → Type 0
+Same s = stmt_height (lineless_stmt s) ≡ stmt_height s
+
+each_same : (stmts : List StmtTree) → Each Same stmts → stmts_height (lineless_stmts stmts) ≡ stmts_height stmts
+each_same [] h = refl
+each_same (s ∷ stmts) h = ap₂ max h.0 (each_same stmts h.1)
+
+kind_same : (k : StmtKind-F StmtKind StmtTree) → Inside Same k → kind_height (lineless_kind (roll-StmtKind k)) ≡ kind_height (roll-StmtKind k)
+unfolding roll-StmtKind denote.Hole.Carrier.roll
+kind_same layer.Empty h = search (rules, kinds.the_lemmas, trees.the_lemmas)
+kind_same (layer.Assign place value) h = search (rules, kinds.the_lemmas, trees.the_lemmas)
+kind_same (layer.AssignCall place call) h = search (rules, kinds.the_lemmas, trees.the_lemmas)
+kind_same (layer.Call call) h = search (rules, kinds.the_lemmas, trees.the_lemmas)
+kind_same (layer.If c t e) h = ap kind_height (bare_if c t e) ∙ tall_if c (lineless_stmts t) (lineless_stmts e) ∙ ap₂ (λ a b. max (expr_height c) (max a b)) (each_same t h.0) (each_same e h.1) ∙ sym (tall_if c t e)
+kind_same (layer.While c b) h = ap kind_height (bare_while c b) ∙ tall_while c (lineless_stmts b) ∙ ap (λ a. max (expr_height c) a) (each_same b h) ∙ sym (tall_while c b)
+kind_same (layer.For f c n b) h =
+    ap kind_height (bare_for f c n b) ∙ tall_for (lineless_option f) c (lineless_option n) (lineless_stmts b)
+    ∙ ap₂ (λ x y. max (max x y) (max (expr_height c) (stmts_height (lineless_stmts b)))) (bare_option f) (bare_option n)
+    ∙ ap (λ a. max (max (option_height f) (option_height n)) (max (expr_height c) a)) (each_same b h) ∙ sym (tall_for f c n b)
+kind_same layer.Break h = search (rules, kinds.the_lemmas, trees.the_lemmas)
+kind_same layer.Continue h = search (rules, kinds.the_lemmas, trees.the_lemmas)
+kind_same layer.Return h = search (rules, kinds.the_lemmas, trees.the_lemmas)
+kind_same (layer.ReturnValue value) h = search (rules, kinds.the_lemmas, trees.the_lemmas)
+kind_same (layer.ReturnCall call) h = search (rules, kinds.the_lemmas, trees.the_lemmas)
+
+stmt_same : (s : StmtTree) → Same s
+stmt_same = stmt_induction Same (λ line k h. ap stmt_height (bare_stmt line (roll-StmtKind k)) ∙ tall_stmt 0 (lineless_kind (roll-StmtKind k)) ∙ ap (λ n. n + 1) (kind_same k h) ∙ sym (tall_stmt line (roll-StmtKind k)))
+
+locals_same : (locals : List LocalTree) → locals_height (map lineless_local locals) ≡ locals_height locals
+locals_same [] = refl
+locals_same (l ∷ locals) = ap (λ n. max (local_height l) n) (locals_same locals)
+
+decl_same : (d : Decl) → decl_height (lineless_decl d) ≡ decl_height d
+decl_same (decl.Struct tree) = refl
+decl_same (decl.Global tree) = refl
+decl_same (decl.Proto tree) = refl
+decl_same (decl.Function tree) = ap₂ max (locals_same tree.locals) (each_same tree.body (everywhere Same stmt_same tree.body))
+
+decls_same : (ds : List Decl) → decls_height (map lineless_decl ds) ≡ decls_height ds
+decls_same [] = refl
+decls_same (d ∷ ds) = ap₂ max (decl_same d) (decls_same ds)
+
+-- sections that are the same, lines aside, are of one height
+pub sections_same : (tree other : SectionTree) → SameButLines tree other → section_height tree ≡ section_height other
+sections_same tree other h = sym (decls_same tree.decls) ∙ ap (λ s. section_height s) h ∙ decls_same other.decls
