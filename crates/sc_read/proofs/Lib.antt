@@ -1,0 +1,6 @@
+pub mod Existence
+pub mod Pieces
+pub mod Splits
+pub mod Steps
+pub mod Stuck
+pub mod Uniqueness

@@ -1,0 +1,4 @@
+pub mod First
+pub mod Reading
+pub mod Faults
+pub mod Steps
