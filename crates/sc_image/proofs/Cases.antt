@@ -71,13 +71,17 @@ module _ (image : ImageParts) (inputs : List ℤ) (regs : List ℕ) (pc c place 
     pub calls : (to index target : ℕ) → export_at image to target ≡ Some index → may_call image c to index ≡ true →
         P (Goes (called one to index (params_of image to index) target)) (Goes (called other to index (params_of image to index) target))
     pub returns : P (Goes (returned image one cross)) (Goes (returned image other cross'))
-    pub outputs : P (Goes (with_pc (output one) (pc + 4))) (Goes (with_pc (output other) (pc + 4)))
-    pub reads : P (Goes (with_pc (input inputs one) (pc + 4))) (Goes (with_pc (input inputs other) (pc + 4)))
+    pub outputs : may_output image c ≡ true → P (Goes (with_pc (output one) (pc + 4))) (Goes (with_pc (output other) (pc + 4)))
+    pub reads : may_input image c ≡ true → P (Goes (with_pc (input inputs one) (pc + 4))) (Goes (with_pc (input inputs other) (pc + 4)))
 
   module _ (P : Outcome → Outcome → Type 0) (h : Cases P) where
     either : (b : Bool) (x x' y y' : Outcome) → P x x' → P y y' → P (if b then x else y) (if b then x' else y')
     either true x x' y y' p q = p
     either false x x' y y' p q = q
+
+    where_true : (b : Bool) (x x' y y' : Outcome) → (b ≡ true → P x x') → P y y' → P (if b then x else y) (if b then x' else y')
+    where_true true x x' y y' p q = p refl
+    where_true false x x' y y' p q = q
 
     gives_both : (rd word : ℕ) → P (gives one rd word) (gives other rd word)
     gives_both rd word = h.quiet (written regs rd word) (pc + 4) (length-written regs rd word)
@@ -137,8 +141,8 @@ module _ (image : ImageParts) (inputs : List ℤ) (regs : List ℕ) (pc c place 
     execute_both (Op op rd rs1 rs2) = gives_both rd (computed op (reg one rs1) (reg one rs2))
     execute_both (Fence imm rs1 rd) = next_both
     execute_both Ecall =
-        either (nat_eq (reg one a7) 1) _ _ _ _ (either (may_input image c) _ _ _ _ h.reads (h.traps NoImport))
-        (either (nat_eq (reg one a7) 2) _ _ _ _ (either (may_output image c) _ _ _ _ h.outputs (h.traps NoImport)) (h.traps BadCall))
+        either (nat_eq (reg one a7) 1) _ _ _ _ (where_true (may_input image c) _ _ _ _ h.reads (h.traps NoImport))
+        (either (nat_eq (reg one a7) 2) _ _ _ _ (where_true (may_output image c) _ _ _ _ h.outputs (h.traps NoImport)) (h.traps BadCall))
     execute_both Ebreak = h.traps Breakpoint
 
     decoded_both : (instr : Option Instr) → P (if_decoded image inputs one instr) (if_decoded image inputs other instr)

@@ -215,8 +215,8 @@ module _ (image : ImageParts) (inputs : List ℤ) (state : State) (d : ℕ) (for
         (λ at same. subst (λ e. own image (called state d index (params_of image d index) target) d ≡ entered image d (own image state d) e)
         (last_same state.trace (Call state.active d index (arguments (params_of image d index) state.regs)) event same) (enters_call index target at)) at same;
     returns = enters_return state.cross refl;
-    outputs = λ active event same. absurd (differ active);
-    reads = λ active event same. absurd (differ active);
+    outputs = λ may active event same. absurd (differ active);
+    reads = λ may active event same. absurd (differ active);
   })
 
 pub enters_by_event : EntersByEvent

@@ -18,7 +18,7 @@ fits image c comp h = record {
 }
 
 -- what holds of the element at each place holds of all
-all_of : {A : Type 0} (P : A → Type 0) (xs : List A) → ((i : ℕ) (x : A) → slice_get xs i ≡ Some x → P x) → All P xs
+pub all_of : {A : Type 0} (P : A → Type 0) (xs : List A) → ((i : ℕ) (x : A) → slice_get xs i ≡ Some x → P x) → All P xs
 all_of P xs h = λ i d within. h i (get_or xs i d) (slice_get-get_or xs i d within)
 
 pub comps_fit : (image : ImageParts) → IsWellFormed image → All FitsItsFields image.comps

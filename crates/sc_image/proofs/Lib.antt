@@ -1,4 +1,5 @@
 mod Examples
+mod ReadingRows
 mod Calling
 pub mod Seven
 pub mod Running
@@ -10,3 +11,10 @@ pub mod Reached
 pub mod Others
 pub mod Same
 pub mod Enters
+pub mod Fields
+pub mod FileFields
+pub mod Whole
+pub mod Images
+pub mod Traces
+pub mod Loops
+pub mod Keeping

@@ -100,13 +100,13 @@ module _ (image : ImageParts) (inputs : List ℤ) (state : State) (d : ℕ) (for
           running = idle_both to state.active d (record { regs = after.regs; pc = after.pc }) (record { regs = state.regs; pc = state.pc }) next differ i;
         };
     returns = return_keeps state.cross refl;
-    outputs = λ next i. record {
+    outputs = λ may next i. record {
       bytes = data_of image d state.memory;
       saved = saved_sp state d;
       calls = flat_map (kept_by d) state.cross;
       running = idle_both state.active state.active d (record { regs = state.regs; pc = state.pc + 4 }) (record { regs = state.regs; pc = state.pc }) differ differ i;
     };
-    reads = λ next i. record {
+    reads = λ may next i. record {
       bytes = data_of image d state.memory;
       saved = saved_sp state d;
       calls = flat_map (kept_by d) state.cross;

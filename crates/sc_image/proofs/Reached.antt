@@ -173,7 +173,7 @@ module _ (image : ImageParts) (inputs : List ℤ) (formed : IsWellFormed image) 
           input = same_input event refl;
         };
     returns = steady_return state.cross refl;
-    outputs = record {
+    outputs = λ may. record {
       regs = h.regs;
       active = h.active;
       saved = h.saved;
@@ -181,7 +181,7 @@ module _ (image : ImageParts) (inputs : List ℤ) (formed : IsWellFormed image) 
       calls = same_calls (Out state.active (reg state a0)) refl;
       input = same_input (Out state.active (reg state a0)) refl;
     };
-    reads =
+    reads = λ may.
         let word = input_at inputs state.input in
         record {
           regs = length-written state.regs a0 word ∙ h.regs;
@@ -212,7 +212,7 @@ module _ (image : ImageParts) (inputs : List ℤ) (formed : IsWellFormed image) 
       steady_by (stopped events state.trace) state (after state (step image inputs state) (run image inputs events steps)) h
       (steady_after state (step image inputs state) (run image inputs events steps) h (steady_step image inputs formed state h) (steady_run steps))
 
-steady_start : (image : ImageParts) → IsWellFormed image → IsSteady image (start image)
+pub steady_start : (image : ImageParts) → IsWellFormed image → IsSteady image (start image)
 steady_start image formed = record {
   regs = refl;
   active = formed.main;

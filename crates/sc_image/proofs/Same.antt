@@ -174,8 +174,8 @@ module _ (image : ImageParts) (inputs : List ℤ) (formed : IsWellFormed image) 
           (stored_same image c a (store_size op) word memory memory' (λ b owned. same_at image c b memory memory' bytes_same owned));
       calls = λ to index target at may. calls_on to index (params_of image to index) target (called_other image c to index formed may);
       returns = returns_both cross cross' refl refl;
-      outputs = on regs (pc + 4) place (trace ++ Out c (reg left a0) ∷ []) (λ m. m) bytes_same;
-      reads = on (written regs a0 (input_at inputs place)) (pc + 4) (suc place) (trace ++ In c (input_at inputs place) ∷ []) (λ m. m) bytes_same;
+      outputs = λ may. on regs (pc + 4) place (trace ++ Out c (reg left a0) ∷ []) (λ m. m) bytes_same;
+      reads = λ may. on (written regs a0 (input_at inputs place)) (pc + 4) (suc place) (trace ++ In c (input_at inputs place) ∷ []) (λ m. m) bytes_same;
     }
 
     pub follow : Follow (step image inputs left) (step image inputs right)

@@ -9,7 +9,7 @@ use Rattle.sc_image.specs.declared.parts.ImageParts.{ImageParts}
 use Rattle.sc_image.specs.declared.parts.CompPart.{CompPart}
 use Rattle.sc_image.specs.Bytes.{image_bytes}
 use Rattle.sc_image.specs.Layout.{word_at}
-use Rattle.sc_image.specs.WellFormed.{IsWord, IsByte, IsWellFormed, IsSingle}
+use Rattle.sc_image.specs.WellFormed.{IsWord, IsByte, IsWellFormed}
 use Rattle.sc_image.proofs.OneComp.{IsLone, one_well_formed}
 use Rattle.std.proofs.lemmas.List.Elements.{All-cons, All-nil}
 use Rattle.sc_image.specs.Step.{execute, step}
@@ -79,6 +79,3 @@ only_is_lone = record {
 pub seven_is_well_formed : IsWellFormed (parts (codes "M") true)
 unfolding word_at
 seven_is_well_formed = one_well_formed 0x01000000 (only_comp (codes "M") true) only_is_lone refl
-
-pub seven_is_single : IsSingle (parts (codes "M") true)
-seven_is_single = refl

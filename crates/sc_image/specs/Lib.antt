@@ -8,3 +8,7 @@ pub mod Step
 pub mod Machine
 pub mod Own
 pub mod Isolation
+pub mod Rules
+pub mod Reading
+pub mod RoundTrip
+pub mod Interfaces

@@ -57,7 +57,3 @@ pub record IsWellFormed (image : ImageParts) : Type 0 where
   pub entry : IsEntry image image.main image.entry
   pub comps : (c : ℕ) (comp : CompPart) → slice_get image.comps c ≡ Some comp → IsComp image c comp
   pub names : IsDistinct (map (λ comp. comp.name) image.comps)
-
--- What the machine runs today: images of one compartment.
-abbrev pub IsSingle : ImageParts → Type 0
-IsSingle image = length image.comps ≡ 1

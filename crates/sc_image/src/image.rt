@@ -1,5 +1,5 @@
 ghost use Rattle.std.specs.Prelude.{◌≡◌};
-ghost use Rattle.sc_image.specs.WellFormed.{IsWellFormed, IsSingle};
+ghost use Rattle.sc_image.specs.WellFormed.{IsWellFormed};
 
 use crate::ImageParts;
 use std::marker::Model;
@@ -12,20 +12,19 @@ pub struct Image {
 
 impl Model for Image {
     ghost use Rattle.sc_image.specs.declared.parts.ImageParts.{ImageParts};
-    ghost use Rattle.sc_image.specs.WellFormed.{IsWellFormed, IsSingle};
+    ghost use Rattle.sc_image.specs.WellFormed.{IsWellFormed};
 
     ghost Value = { ImageParts };
 
     ghost view = { λ image. image.parts };
 
-    ghost invariant = { λ image. IsWellFormed image.parts × IsSingle image.parts };
+    ghost invariant = { λ image. IsWellFormed image.parts };
 }
 
 impl Image {
     /// The image of these parts.
     pub fn new(parts: ImageParts) -> Image
         requires well_formed { IsWellFormed parts }
-        requires single { IsSingle parts }
         ensures { result ≡ parts }
     {
         Image { parts }
@@ -35,7 +34,6 @@ impl Image {
     pub fn parts(&self) -> &ImageParts
         ensures parts { result.now ≡ self.now }
         ensures well_formed { IsWellFormed self.now }
-        ensures single { IsSingle self.now }
     {
         &self.parts
     }

@@ -1,7 +1,24 @@
-//! What isolates the compartments of an image, as laws of the machine's steps. Each law is the
-//! contract of a function with nothing to do, for the proofs of callers.
+//! Laws of images and of the machine that runs them. Each law is the contract of a function with nothing to do, for the
+//! proofs of callers.
 
+ghost use Rattle.sc_image.specs.Interfaces.{TracesAreLegal};
 ghost use Rattle.sc_image.specs.Isolation.{LeavesOthers, FollowsFromOwn, EntersByEvent};
+ghost use Rattle.sc_image.specs.RoundTrip.{BytesNameOneImage, BadOrImage};
+
+/// Bytes are those of one image at most.
+pub fn one_image()
+    ensures { BytesNameOneImage }
+{}
+
+/// Bytes are bad, for one cause, or they are those of an image.
+pub fn bad_or_image()
+    ensures { BadOrImage }
+{}
+
+/// A run's trace is one that the image's interfaces allow.
+pub fn traces_are_legal()
+    ensures { TracesAreLegal }
+{}
 
 /// A step leaves what belongs to every compartment but the active one, unless it makes it active.
 pub fn leaves_others()

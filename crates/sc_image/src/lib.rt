@@ -1,16 +1,25 @@
 //! Images of compiled programs, and what the machine does that runs them.
 #![tactic(auto)]
 
+mod fault;
 mod image;
+mod interfaces;
 mod laws;
 mod parts;
+mod reading;
+mod rules;
 mod writing;
 
+pub use fault::{BadImage, ImageFault};
 pub use image::Image;
-pub use laws::{enters_by_event, follows_from_own, leaves_others};
+pub use interfaces::image_interfaces;
+pub use laws::{
+    bad_or_image, enters_by_event, follows_from_own, leaves_others, one_image, traces_are_legal,
+};
 pub use parts::{
     CompPart, CompParts, ExportPart, ExportParts, ImageParts, ImportPart, ImportParts,
 };
+pub use reading::read_image;
 pub use writing::write_image;
 
 #[cfg(test)]

@@ -1,4 +1,4 @@
-use Rattle.std.proofs.Common.{◌≡◌, ℕ, List, Option, Some, refl, sym, ◌∙◌}
+use Rattle.std.proofs.Common.{◌≡◌, ℕ, List, Option, Some, sym, ◌∙◌}
 use Rattle.std.specs.Prelude.{codes}
 use Rattle.sc_event.specs.Identifier.{is_name, name_of}
 use Rattle.sc_image.proofs.Seven.{seven_is_well_formed}
@@ -8,9 +8,6 @@ name_is_m : (name : List ℕ) (found : Option (List ℕ)) → found ≡ Some nam
 unfolding is_name
 name_is_m name found is of = let same : Some name ≡ Some (codes "M") = sym is ∙ of in cc same
 
-pub new-requires-5-clause-well_formed : goal.new-requires-5-clause-well_formed
-new-requires-5-clause-well_formed c =
-    rw (c.first.ensures, c.in_ok-push.ensures.ok, c.new-comps.ensures, name_is_m c.unwrap.result c.new.result c.unwrap.ensures c.new.ensures, c.new-2.ensures, c.new-3.ensures, c.in_ok-from_slice.ensures, c.new-4.ensures) seven_is_well_formed
-
-pub new-requires-5-clause-single : goal.new-requires-5-clause-single
-new-requires-5-clause-single c = rw (c.in_ok-push.ensures.ok, c.new-comps.ensures) refl
+pub new-requires-5 : goal.new-requires-5
+new-requires-5 c =
+    rw (c.first.ensures, c.in_ok-push.ensures.ok, c.new-comps.ensures, name_is_m c.unwrap.result c.new.result c.unwrap.ensures c.new.ensures, c.new-2.ensures, c.new-3.ensures, c.in_ok-from_slice.ensures, c.new-4.ensures) (record { well_formed = seven_is_well_formed })

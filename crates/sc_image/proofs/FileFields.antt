@@ -1,0 +1,308 @@
+-- The fields of an image: what is read is what is written.
+use Rattle.std.proofs.Common.{◌≡◌, ℕ, zero, suc, ◌+◌, ◌*◌, ◌/◌, ◌%◌, ◌^◌, ◌<◌, ◌≤◌, Bool, true, false, ◌&&◌, List, [], ◌∷◌, ◌++◌, length, get_or, Ok, refl, sym, ap, ◌∙◌, append_assoc, arith}
+use Rattle.std.specs.Prelude.{nat_le, nat_lt, ◌==◌, not, codes}
+use Rattle.std.specs.List.{AllByRecursion, list_all}
+use Rattle.std.proofs.lemmas.Bool.{leb-true, le-leb, ltb-true, lt-ltb, eqb-true, eq-eqb, and_parts, and_from, not-true, not_from_false}
+use Rattle.std.proofs.lemmas.Bool.Decides.{nat_tests}
+use Rattle.std.specs.Cmp.Lexicographic.{same_text}
+use Rattle.byteorder.specs.Endian.{little_bytes}
+use Rattle.sc_event.specs.Identifier.{is_name, is_between, is_name_byte, is_nondigit}
+use Rattle.sc_image.specs.declared.fault.BadImage.{BadImage}
+use Rattle.sc_image.specs.declared.fault.BadImage.TheVariants.{Mark, Version, Count, Start, Compartment, Exports, Imports, Contents}
+use Rattle.sc_image.specs.declared.parts.ImageParts.{ImageParts}
+use Rattle.sc_image.specs.declared.parts.CompPart.{CompPart}
+use Rattle.sc_image.specs.declared.parts.ExportPart.{ExportPart}
+use Rattle.sc_image.specs.declared.parts.ImportPart.{ImportPart}
+use Rattle.sc_image.specs.Layout.{stretch, most_globals}
+use Rattle.sc_image.specs.Bytes.{bit, flags, name_bytes, export_bytes, import_bytes, exports_bytes, imports_bytes, code_bytes, globals_bytes, comp_bytes, image_bytes}
+use Rattle.sc_image.specs.Rules.{is_same_name}
+use Rattle.sc_image.specs.Reading.{number_at, name_at, comp_name_at, export_at, exports_at, import_at, imports_at, code_at, globals_at, comp_at, parts_at}
+use Rattle.sc_image.proofs.Fits.{short_name}
+use Rattle.sc_image.proofs.Fields.{IsBytes, IsField, restated, made, tested, followed, bytes_field, number_field, byte_field, many_field, two_wide, four_wide}
+
+-- names
+
+name_byte_is_small : (b : ℕ) → is_name_byte b ≡ true → b < 256
+name_byte_is_small b h = grind (arith, nat_tests)
+
+nondigit_is_small : (b : ℕ) → is_nondigit b ≡ true → b < 256
+nondigit_is_small b h = grind (arith, nat_tests)
+
+name_bytes_are_bytes : (xs : List ℕ) → list_all is_name_byte xs ≡ true → IsBytes xs
+name_bytes_are_bytes [] all i = omega arith
+name_bytes_are_bytes (x ∷ xs) all zero = name_byte_is_small x (and_parts (is_name_byte x) (list_all is_name_byte xs) all).0
+name_bytes_are_bytes (x ∷ xs) all (suc i) = name_bytes_are_bytes xs (and_parts (is_name_byte x) (list_all is_name_byte xs) all).1 i
+
+pub name_is_bytes : (name : List ℕ) → is_name name ≡ true → IsBytes name
+unfolding is_name
+name_is_bytes [] named = absurd cc
+name_is_bytes (first ∷ rest) named = by_place
+  where
+    tests : (is_nondigit first ≡ true) × ((list_all is_name_byte rest && nat_lt (length rest) 63) ≡ true)
+    tests = and_parts (is_nondigit first) (list_all is_name_byte rest && nat_lt (length rest) 63) named
+
+    by_place : (i : ℕ) → get_or (first ∷ rest) i 0 < 256
+    by_place zero = nondigit_is_small first tests.0
+    by_place (suc i) = name_bytes_are_bytes rest (and_parts (list_all is_name_byte rest) (nat_lt (length rest) 63) tests.1).0 i
+
+name_field : (cause : BadImage) → IsField (name_at cause) name_bytes (λ name. is_name name ≡ true)
+unfolding name_at
+name_field cause =
+    restated (followed (byte_field cause) (λ (name : List ℕ). length name) (λ size ok. tested (bytes_field cause size) cause is_name) (λ size name a b. b.0.0))
+    (λ name h. refl) (λ name h. h.1.1) (λ name h. (omega (arith, short_name name h), ((refl, name_is_bytes name h), h)))
+
+comp_name_field : IsField comp_name_at name_bytes (λ name. (is_name name ≡ true) × (is_same_name name (codes "Env") ≡ false))
+unfolding comp_name_at
+comp_name_field =
+    restated (tested (name_field Compartment) Compartment (λ name. not (is_same_name name (codes "Env")))) (λ name h. refl)
+    (λ name h. (h.0, not-true _ h.1)) (λ name h. (h.0, not_from_false _ h.1))
+
+-- exports
+
+pub record FitsExport (export : ExportPart) : Type 0 where
+  pub name : is_name export.name ≡ true
+  pub params : export.params ≤ 8
+  pub entry : export.entry < 2 ^ 32
+
+bit_again : (b : Bool) → (bit b == 1) ≡ b
+bit_again true = refl
+bit_again false = refl
+
+bit_of : (n : ℕ) → n ≤ 1 → bit (n == 1) ≡ n
+bit_of zero h = refl
+bit_of (suc zero) h = refl
+bit_of (suc (suc n)) h = let never : ⊥ = omega (arith, h) in absurd never
+
+bit_fits : (b : Bool) → (bit b < 256) × (nat_le (bit b) 1 ≡ true)
+bit_fits true = (omega arith, refl)
+bit_fits false = (omega arith, refl)
+
+abbrev export_with : (name : List ℕ) (params result entry : ℕ) → ExportPart
+export_with name params result entry = record { name = name; params = params; result = result == 1; entry = entry }
+
+export_again : (export : ExportPart) → export ≡ export_with export.name export.params (bit export.result) export.entry
+export_again export = ap (λ (b : Bool). record { name = export.name; params = export.params; result = b; entry = export.entry }) (sym (bit_again export.result))
+
+pub export_field : IsField export_at export_bytes FitsExport
+unfolding export_at
+export_field =
+    restated
+    (followed (name_field Exports) (λ (export : ExportPart). export.name) (λ name ok.
+    followed (tested (byte_field Exports) Exports (λ n. nat_le n 8)) (λ (export : ExportPart). export.params) (λ params ok.
+    followed (tested (byte_field Exports) Exports (λ n. nat_le n 1)) (λ (export : ExportPart). bit export.result) (λ result ok.
+    made (number_field Exports 4 four_wide) (export_with name params result) (λ (export : ExportPart). export.entry) (λ entry. refl))
+    (λ result y a b. ap (λ (e : ExportPart). bit e.result) b.1 ∙ bit_of result (leb-true _ _ a.1)))
+    (λ params y a b. ap (λ (e : ExportPart). e.params) b.1.1))
+    (λ name y a b. ap (λ (e : ExportPart). e.name) b.1.1.1))
+    (λ export h. refl)
+    (λ export h. record { name = h.0; params = leb-true _ _ h.1.0.1; entry = h.1.1.1.0 })
+    (λ export h. (h.name, ((omega (arith, h.params), le-leb _ _ h.params), (bit_fits export.result, (h.entry, export_again export)))))
+
+pub record FitsExports (exports : List ExportPart) : Type 0 where
+  pub few : length exports ≤ 4096
+  pub each : AllByRecursion FitsExport exports
+
+pub exports_field : IsField exports_at exports_bytes FitsExports
+unfolding exports_at
+exports_field =
+    restated
+    (followed (tested (number_field Exports 2 two_wide) Exports (λ n. nat_le n 4096)) (λ (exports : List ExportPart). length exports)
+    (λ count ok. many_field export_at export_bytes FitsExport export_field count) (λ count exports a b. b.0))
+    (λ exports h. refl) (λ exports h. record { few = leb-true _ _ h.0.1; each = h.1.1 })
+    (λ exports h. ((omega (arith, h.few), le-leb _ _ h.few), (refl, h.each)))
+
+-- imports
+
+pub record FitsImport (comps : ℕ) (import : ImportPart) : Type 0 where
+  pub comp : import.comp < comps
+  pub index : import.index < 2 ^ 16
+
+pub record FitsImports (comps : ℕ) (imports : List ImportPart) : Type 0 where
+  pub few : length imports ≤ 4096
+  pub each : AllByRecursion (FitsImport comps) imports
+
+-- code and globals
+
+pub record FitsCode (code : List ℕ) : Type 0 where
+  pub short : 4 * length code ≤ stretch
+  pub each : AllByRecursion (λ word. word < 2 ^ 32) code
+
+code_size : (size k : ℕ) → (size % 4 == 0 && nat_le size stretch) ≡ true → k ≡ size / 4 → 4 * k ≡ size
+code_size size k passes is = let whole : size % 4 ≡ 0 = eqb-true _ _ (and_parts (size % 4 == 0) (nat_le size stretch) passes).0 in omega (arith, whole, is)
+
+code_passes : (k : ℕ) → 4 * k ≤ stretch → (4 * k % 4 == 0 && nat_le (4 * k) stretch) ≡ true
+code_passes k short = and_from (4 * k % 4 == 0) (nat_le (4 * k) stretch) (eq-eqb (4 * k % 4) 0 (omega arith)) (le-leb (4 * k) stretch short)
+
+code_short : (size k : ℕ) → (4 * k % 4 == 0 && nat_le (4 * k) stretch) ≡ true → 4 * k ≤ stretch
+code_short size k passes = leb-true _ _ (and_parts (4 * k % 4 == 0) (nat_le (4 * k) stretch) passes).1
+
+pub code_field : IsField code_at code_bytes FitsCode
+unfolding code_at
+code_field =
+    restated
+    (followed (tested (number_field Contents 4 four_wide) Contents (λ n. n % 4 == 0 && nat_le n stretch)) (λ (code : List ℕ). 4 * length code)
+    (λ size ok. many_field (number_at Contents 4) (little_bytes 4) (λ word. word < 2 ^ 32) (number_field Contents 4 four_wide) (size / 4))
+    (λ size code a b. code_size size (length code) a.1 b.0))
+    (λ code h. refl) (λ code h. record { short = code_short 0 (length code) h.0.1; each = h.1.1 })
+    (λ code h. ((omega (arith, h.short), code_passes (length code) h.short), (omega arith, h.each)))
+
+pub record FitsGlobals (globals : List ℕ) : Type 0 where
+  pub short : length globals ≤ most_globals
+  pub bytes : IsBytes globals
+
+pub globals_field : IsField globals_at globals_bytes FitsGlobals
+unfolding globals_at
+globals_field =
+    restated
+    (followed (tested (number_field Contents 4 four_wide) Contents (λ n. nat_le n most_globals)) (λ (globals : List ℕ). length globals)
+    (λ size ok. bytes_field Contents size) (λ size globals a b. b.0))
+    (λ globals h. refl) (λ globals h. record { short = leb-true _ _ h.0.1; bytes = h.1.1 })
+    (λ globals h. ((omega (arith, h.short), le-leb _ _ h.short), (refl, h.bytes)))
+
+-- compartments
+
+pub record FitsComp (comps : ℕ) (comp : CompPart) : Type 0 where
+  pub name : is_name comp.name ≡ true
+  pub no_environment : is_same_name comp.name (codes "Env") ≡ false
+  pub exports : FitsExports comp.exports
+  pub imports : FitsImports comps comp.imports
+  pub code : FitsCode comp.code
+  pub globals : FitsGlobals comp.globals
+
+flags_of : (f : ℕ) → f ≤ 3 → bit (f % 2 == 1) + 2 * bit (f / 2 == 1) ≡ f
+flags_of zero h = refl
+flags_of (suc zero) h = refl
+flags_of (suc (suc zero)) h = refl
+flags_of (suc (suc (suc zero))) h = refl
+flags_of (suc (suc (suc (suc f)))) h = let never : ⊥ = omega (arith, h) in absurd never
+
+pub record HasFlags (input output : Bool) : Type 0 where
+  pub within : bit input + 2 * bit output ≤ 3
+  pub first : ((bit input + 2 * bit output) % 2 == 1) ≡ input
+  pub second : ((bit input + 2 * bit output) / 2 == 1) ≡ output
+
+has_flags : (input output : Bool) → HasFlags input output
+has_flags true true = record { within = omega arith; first = refl; second = refl }
+has_flags true false = record { within = omega arith; first = refl; second = refl }
+has_flags false true = record { within = omega arith; first = refl; second = refl }
+has_flags false false = record { within = omega arith; first = refl; second = refl }
+
+abbrev comp_with : (name : List ℕ) (flags : ℕ) (exports : List ExportPart) (imports : List ImportPart) (code globals : List ℕ) → CompPart
+comp_with name flags exports imports code globals = record {
+  name = name;
+  input = flags % 2 == 1;
+  output = flags / 2 == 1;
+  exports = exports;
+  imports = imports;
+  code = code;
+  globals = globals;
+}
+
+comp_again : (comp : CompPart) → comp ≡ comp_with comp.name (flags comp) comp.exports comp.imports comp.code comp.globals
+comp_again comp =
+    let h = has_flags comp.input comp.output in
+    ap (λ (b : Bool). record { name = comp.name; input = b; output = comp.output; exports = comp.exports; imports = comp.imports; code = comp.code; globals = comp.globals }) (sym h.first) ∙
+    ap (λ (b : Bool). record { name = comp.name; input = flags comp % 2 == 1; output = b; exports = comp.exports; imports = comp.imports; code = comp.code; globals = comp.globals }) (sym h.second)
+
+grouped : (name exports imports code globals : List ℕ) (f : ℕ) → name ++ (f ∷ (exports ++ (imports ++ (code ++ globals)))) ≡ name ++ f ∷ exports ++ imports ++ code ++ globals
+grouped name exports imports code globals f = simp append_assoc
+
+-- an image of so many compartments
+module _ (comps : ℕ) (few : comps ≤ 32) where
+  import_field : IsField (import_at comps) import_bytes (FitsImport comps)
+  unfolding import_at
+  import_field =
+      restated
+      (followed (tested (byte_field Imports) Imports (λ c. nat_lt c comps)) (λ (import : ImportPart). import.comp) (λ comp ok.
+      made (number_field Imports 2 two_wide) (λ index. record { comp = comp; index = index }) (λ (import : ImportPart). import.index) (λ index. refl))
+      (λ comp y a b. ap (λ (i : ImportPart). i.comp) b.1))
+      (λ import h. refl) (λ import h. record { comp = ltb-true _ _ h.0.1; index = h.1.0 })
+      (λ import h. ((omega (arith, h.comp, few), lt-ltb _ _ h.comp), (h.index, refl)))
+
+  pub imports_field : IsField (imports_at comps) imports_bytes (FitsImports comps)
+  unfolding imports_at
+  imports_field =
+      restated
+      (followed (tested (number_field Imports 2 two_wide) Imports (λ n. nat_le n 4096)) (λ (imports : List ImportPart). length imports)
+      (λ count ok. many_field (import_at comps) import_bytes (FitsImport comps) import_field count) (λ count imports a b. b.0))
+      (λ imports h. refl) (λ imports h. record { few = leb-true _ _ h.0.1; each = h.1.1 })
+      (λ imports h. ((omega (arith, h.few), le-leb _ _ h.few), (refl, h.each)))
+
+  pub comp_field : IsField (comp_at comps) comp_bytes (FitsComp comps)
+  unfolding comp_at
+  comp_field =
+      restated
+      (followed comp_name_field (λ (comp : CompPart). comp.name) (λ name ok.
+      followed (tested (byte_field Compartment) Compartment (λ f. nat_le f 3)) (λ (comp : CompPart). flags comp) (λ f ok.
+      followed exports_field (λ (comp : CompPart). comp.exports) (λ exports ok.
+      followed imports_field (λ (comp : CompPart). comp.imports) (λ imports ok.
+      followed code_field (λ (comp : CompPart). comp.code) (λ code ok.
+      made globals_field (comp_with name f exports imports code) (λ (comp : CompPart). comp.globals) (λ globals. refl))
+      (λ code y a b. ap (λ (c : CompPart). c.code) b.1))
+      (λ imports y a b. ap (λ (c : CompPart). c.imports) b.1.1))
+      (λ exports y a b. ap (λ (c : CompPart). c.exports) b.1.1.1))
+      (λ f y a b. ap (λ (c : CompPart). flags c) b.1.1.1.1 ∙ flags_of f (leb-true _ _ a.1)))
+      (λ name y a b. ap (λ (c : CompPart). c.name) b.1.1.1.1.1))
+      (λ comp h. grouped (name_bytes comp.name) (exports_bytes comp.exports) (imports_bytes comp.imports) (code_bytes comp.code) (globals_bytes comp.globals) (flags comp))
+      (λ comp h. record { name = h.0.0; no_environment = h.0.1; exports = h.1.1.0; imports = h.1.1.1.0; code = h.1.1.1.1.0; globals = h.1.1.1.1.1.0 })
+      (λ comp h.
+      let all_flags = has_flags comp.input comp.output in
+      ((h.name, h.no_environment), ((omega (arith, all_flags.within), le-leb _ _ all_flags.within), (h.exports, (h.imports, (h.code, (h.globals, comp_again comp)))))))
+
+-- the whole image
+
+pub record FitsParts (parts : ImageParts) : Type 0 where
+  pub some : 1 ≤ length parts.comps
+  pub few : length parts.comps ≤ 32
+  pub main : parts.main < length parts.comps
+  pub entry : parts.entry < 2 ^ 32
+  pub comps : AllByRecursion (FitsComp (length parts.comps)) parts.comps
+
+count_within : (n : ℕ) → is_between 1 32 n ≡ true → (1 ≤ n) × (n ≤ 32)
+count_within n h = (grind (arith, nat_tests), grind (arith, nat_tests))
+
+count_passes : (n : ℕ) → 1 ≤ n → n ≤ 32 → is_between 1 32 n ≡ true
+count_passes n low high = grind (arith, nat_tests)
+
+mark_is_bytes : IsBytes (codes "SCIM")
+unfolding is_name
+mark_is_bytes = name_is_bytes (codes "SCIM") refl
+
+parts_field : IsField parts_at image_bytes FitsParts
+unfolding parts_at
+parts_field =
+    restated
+    (followed (tested (bytes_field Mark 4) Mark (λ mark. is_same_name mark (codes "SCIM"))) (λ (parts : ImageParts). codes "SCIM") (λ mark ok.
+    followed (tested (number_field Version 2 two_wide) Version (λ v. v == 1)) (λ (parts : ImageParts). 1) (λ version ok.
+    followed (tested (byte_field Count) Count (is_between 1 32)) (λ (parts : ImageParts). length parts.comps) (λ count ok.
+    followed (tested (byte_field Start) Start (λ c. nat_lt c count)) (λ (parts : ImageParts). parts.main) (λ main ok_main.
+    followed (number_field Start 4 four_wide) (λ (parts : ImageParts). parts.entry) (λ entry ok_entry.
+    made (many_field (comp_at count) comp_bytes (FitsComp count) (comp_field count (count_within count ok.1).1) count)
+    (λ comps. record { main = main; entry = entry; comps = comps }) (λ (parts : ImageParts). parts.comps) (λ comps. refl))
+    (λ entry y a b. ap (λ (p : ImageParts). p.entry) b.1))
+    (λ main y a b. ap (λ (p : ImageParts). p.main) b.1.1))
+    (λ count y a b. b.1.1.0.0))
+    (λ version y a b. sym (eqb-true _ _ a.1)))
+    (λ mark y a b. sym (same_text mark (codes "SCIM") (sym a.1))))
+    (λ parts h. refl)
+    (λ parts h. record {
+      some = (count_within (length parts.comps) h.1.1.0.1).0;
+      few = (count_within (length parts.comps) h.1.1.0.1).1;
+      main = ltb-true _ _ h.1.1.1.0.1;
+      entry = h.1.1.1.1.0;
+      comps = h.1.1.1.1.1.0.1;
+    })
+    (λ parts h. (
+      ((refl, mark_is_bytes), refl),
+      (
+        (omega arith, refl),
+        ((omega (arith, h.few), count_passes (length parts.comps) h.some h.few), ((omega (arith, h.main, h.few), lt-ltb _ _ h.main), (h.entry, ((refl, h.comps), refl)))),
+      ),
+    ))
+
+pub parts_take : (bytes : List ℕ) (parts : ImageParts) (rest : List ℕ) → IsBytes bytes → parts_at bytes ≡ Ok (parts, rest) →
+    (bytes ≡ image_bytes parts ++ rest) × FitsParts parts
+parts_take bytes parts rest fits e = let took = parts_field.takes bytes parts rest fits e in (took.0.parts, took.1)
+
+pub parts_again : (parts : ImageParts) (rest : List ℕ) → FitsParts parts → parts_at (image_bytes parts ++ rest) ≡ Ok (parts, rest)
+parts_again parts rest fits = parts_field.again parts rest fits

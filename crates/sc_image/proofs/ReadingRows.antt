@@ -1,0 +1,115 @@
+-- What is read from the bytes of small images, and why other bytes are none.
+use Rattle.std.proofs.Common.{◌≡◌, ℕ, List, [], ◌∷◌, ◌++◌, take, map, replicate, true, false, Some, None, Ok, Err, refl}
+use Rattle.std.specs.Prelude.{codes, nat_le}
+use Rattle.std.specs.List.{range_with_len}
+use Rattle.sc_event.specs.Identifier.{is_name}
+use Rattle.sc_image.specs.declared.fault.BadImage.TheVariants.{Mark, Version, Count, Start, Compartment, Exports, Imports, Contents, Whole}
+use Rattle.sc_image.specs.declared.parts.ImageParts.{ImageParts}
+use Rattle.sc_image.specs.declared.parts.ImportPart.{ImportPart}
+use Rattle.sc_image.specs.Bytes.{image_bytes}
+use Rattle.sc_image.specs.Layout.{word_at}
+use Rattle.sc_image.specs.Rules.{keeps_rules}
+use Rattle.sc_image.specs.Reading.{number_that, fields_at, name_at, comp_name_at, export_at, exports_at, import_at, imports_at, code_at, globals_at, comp_at, parts_at, image_of, bad}
+
+abbrev from_start : List ℕ
+from_start = 1 ∷ 0x4d ∷ 2 ∷ 0 ∷ 0 ∷ 0 ∷ 0 ∷ 0x14 ∷ 0 ∷ 0 ∷ 0 ∷
+    0x13 ∷ 0x05 ∷ 0x70 ∷ 0 ∷ 0x93 ∷ 0x08 ∷ 0x20 ∷ 0 ∷ 0x73 ∷ 0 ∷ 0 ∷ 0 ∷ 0x13 ∷ 0x05 ∷ 0 ∷ 0 ∷ 0x67 ∷ 0x80 ∷ 0 ∷ 0 ∷ 0 ∷ 0 ∷ 0 ∷ 0 ∷ []
+
+-- the image of a compartment `M` that outputs 7 and returns 0
+abbrev seven : List ℕ
+seven = 0x53 ∷ 0x43 ∷ 0x49 ∷ 0x4d ∷ 1 ∷ 0 ∷ 1 ∷ 0 ∷ 0 ∷ 0 ∷ 0 ∷ 1 ∷ from_start
+
+-- each front of it that is shorter, and one byte more
+fronts : (map (λ k. bad (take k seven)) (range_with_len 0 47) ≡
+    replicate 4 (Some Mark) ++ (replicate 2 (Some Version) ++ (replicate 1 (Some Count) ++ (replicate 5 (Some Start) ++ (replicate 3 (Some Compartment) ++
+    (replicate 2 (Some Exports) ++ (replicate 2 (Some Imports) ++ replicate 28 (Some Contents)))))))) ×
+    (bad seven ≡ None) ×
+    (bad (seven ++ 0 ∷ []) ≡ Some Whole)
+unfolding image_of parts_at comp_at comp_name_at name_at exports_at imports_at code_at globals_at fields_at is_name word_at
+fronts = (refl, refl, refl)
+
+-- fields that are there and bad
+abbrev starting : (version count main entry : ℕ) → List ℕ
+starting version count main entry = 0x53 ∷ 0x43 ∷ 0x49 ∷ 0x4d ∷ version ∷ 0 ∷ count ∷ main ∷ entry ∷ 0 ∷ 0 ∷ 1 ∷ from_start
+
+starts : (bad (0x53 ∷ 0x43 ∷ 0x49 ∷ 0x4e ∷ []) ≡ Some Mark) ×
+    (bad (starting 2 1 0 0) ≡ Some Version) ×
+    (bad (starting 1 0 0 0) ≡ Some Count) ×
+    (bad (starting 1 33 0 0) ≡ Some Count) ×
+    (bad (starting 1 32 31 0) ≡ Some Compartment) ×
+    (bad (starting 1 32 32 0) ≡ Some Start) ×
+    (bad (starting 1 1 1 0) ≡ Some Start) ×
+    (bad (starting 1 1 0 20) ≡ Some Whole) ×
+    (bad (starting 1 1 0 2) ≡ Some Whole) ×
+    (bad (starting 1 1 0 16) ≡ None)
+unfolding image_of parts_at comp_at comp_name_at name_at exports_at imports_at code_at globals_at fields_at is_name word_at
+starts = (refl, refl, refl, refl, refl, refl, refl, refl, refl, refl)
+
+-- names of 1 to 63 bytes
+names : (name_at Exports (0 ∷ 65 ∷ []) ≡ Err Exports) ×
+    (name_at Exports (1 ∷ 65 ∷ []) ≡ Ok (65 ∷ [], [])) ×
+    (name_at Exports (1 ∷ 48 ∷ []) ≡ Err Exports) ×
+    (name_at Exports (63 ∷ replicate 63 65 ++ 7 ∷ []) ≡ Ok (replicate 63 65, 7 ∷ [])) ×
+    (name_at Exports (64 ∷ replicate 64 65) ≡ Err Exports) ×
+    (comp_name_at (3 ∷ codes "Env") ≡ Err Compartment) ×
+    (name_at Exports (3 ∷ codes "Env") ≡ Ok (codes "Env", []))
+unfolding name_at comp_name_at is_name
+names = (refl, refl, refl, refl, refl, refl, refl)
+
+-- the tables of a compartment, in an image of 2
+tables : (number_that (λ n. nat_le n 4096) Exports 2 (0 ∷ 16 ∷ []) ≡ Ok (4096, [])) ×
+    (exports_at (1 ∷ 16 ∷ replicate 100 1) ≡ Err Exports) ×
+    (export_at (1 ∷ 65 ∷ 8 ∷ 1 ∷ 4 ∷ 3 ∷ 2 ∷ 1 ∷ []) ≡ Ok (record { name = 65 ∷ []; params = 8; result = true; entry = 0x01020304 }, [])) ×
+    (export_at (1 ∷ 65 ∷ 9 ∷ 1 ∷ 4 ∷ 3 ∷ 2 ∷ 1 ∷ []) ≡ Err Exports) ×
+    (export_at (1 ∷ 65 ∷ 8 ∷ 2 ∷ 4 ∷ 3 ∷ 2 ∷ 1 ∷ []) ≡ Err Exports) ×
+    (imports_at 2 (1 ∷ 16 ∷ replicate 100 1) ≡ Err Imports) ×
+    (import_at 2 (1 ∷ 3 ∷ 2 ∷ []) ≡ Ok (record { comp = 1; index = 0x0203 }, [])) ×
+    (import_at 2 (2 ∷ 3 ∷ 2 ∷ []) ≡ Err Imports) ×
+    (code_at (3 ∷ 0 ∷ 0 ∷ 0 ∷ 1 ∷ 2 ∷ 3 ∷ []) ≡ Err Contents) ×
+    (code_at (4 ∷ 0 ∷ 16 ∷ 0 ∷ []) ≡ Err Contents) ×
+    (globals_at (1 ∷ 0 ∷ 7 ∷ 0 ∷ []) ≡ Err Contents) ×
+    (globals_at (3 ∷ 0 ∷ 0 ∷ 0 ∷ 7 ∷ 8 ∷ 9 ∷ []) ≡ Ok (7 ∷ 8 ∷ 9 ∷ [], []))
+unfolding exports_at export_at imports_at import_at code_at globals_at fields_at name_at is_name
+tables = (refl, refl, refl, refl, refl, refl, refl, refl, refl, refl, refl, refl)
+
+-- A with these imports, and B with two functions at these places of its code of two words
+abbrev pair : (imports : List ImportPart) → (name : List ℕ) → (first second : ℕ) → ImageParts
+pair imports name first second = record {
+  main = 0;
+  entry = 0x01000000;
+  comps =
+      record { name = codes "A"; input = false; output = false; exports = []; imports = imports; code = 0 ∷ []; globals = [] } ∷
+      record {
+        name = name;
+        input = true;
+        output = false;
+        exports = record { name = codes "f"; params = 0; result = true; entry = first } ∷ record { name = codes "g"; params = 1; result = false; entry = second } ∷ [];
+        imports = [];
+        code = 0 ∷ 0 ∷ [];
+        globals = [];
+      } ∷ [];
+}
+
+abbrev import : (comp index : ℕ) → ImportPart
+import comp index = record { comp = comp; index = index }
+
+rules : (keeps_rules (pair (import 1 0 ∷ import 1 1 ∷ []) (codes "B") 0x01100000 0x01100004) ≡ true) ×
+    -- a compartment's name twice
+    (keeps_rules (pair [] (codes "A") 0x01100000 0x01100004) ≡ false) ×
+    -- the same entry twice, one that is no multiple of 4, one past the code, and one in the code of another
+    (keeps_rules (pair [] (codes "B") 0x01100000 0x01100000) ≡ false) ×
+    (keeps_rules (pair [] (codes "B") 0x01100000 0x01100002) ≡ false) ×
+    (keeps_rules (pair [] (codes "B") 0x01100000 0x01100008) ≡ false) ×
+    (keeps_rules (pair [] (codes "B") 0x01100000 0x01000000) ≡ false) ×
+    -- an import of the compartment's own, one past the exports, and one twice
+    (keeps_rules (pair (import 0 0 ∷ []) (codes "B") 0x01100000 0x01100004) ≡ false) ×
+    (keeps_rules (pair (import 1 2 ∷ []) (codes "B") 0x01100000 0x01100004) ≡ false) ×
+    (keeps_rules (pair (import 1 1 ∷ import 1 1 ∷ []) (codes "B") 0x01100000 0x01100004) ≡ false)
+unfolding word_at
+rules = (refl, refl, refl, refl, refl, refl, refl, refl, refl)
+
+-- an image with every table is read from its bytes
+reads_all : image_of (image_bytes (pair (import 1 0 ∷ import 1 1 ∷ []) (codes "B") 0x01100000 0x01100004)) ≡
+    Ok (pair (import 1 0 ∷ import 1 1 ∷ []) (codes "B") 0x01100000 0x01100004)
+unfolding image_of parts_at comp_at comp_name_at name_at exports_at export_at imports_at import_at code_at globals_at fields_at is_name word_at
+reads_all = refl

@@ -1,0 +1,6 @@
+use Rattle.std.proofs.Common.{◌≡◌, map, take}
+use Rattle.sc_image.specs.Interfaces.{proto_of}
+use Rattle.sc_image.proofs.interfaces.protos_of.Given as goal
+
+abbrev pub invariant-loop-export : goal.invariant-loop-export
+invariant-loop-export l = l.protos ≡ map proto_of (take l.export-index l.exports)

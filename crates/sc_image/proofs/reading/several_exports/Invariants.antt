@@ -1,0 +1,7 @@
+use Rattle.std.proofs.Common.{◌≡◌, ◌-◌}
+use Rattle.sc_image.specs.Reading.{fields_at, export_at}
+use Rattle.sc_image.proofs.Loops.{with_front}
+use Rattle.sc_image.proofs.reading.several_exports.Given as goal
+
+abbrev pub invariant-loop : goal.invariant-loop
+invariant-loop l = with_front l.exports (fields_at export_at (l.count - l.counter) l.bytes.now) ≡ fields_at export_at l.count l.fn.bytes.now

@@ -1,0 +1,37 @@
+-- What an image says to the outside: the interfaces of its compartments, where every word is an `int`, and that its runs keep them.
+use Rattle.std.specs.Prelude.{◌≡◌, ℕ, ℤ, true, List, [], ◌∷◌, ◌++◌, map, replicate, Some, None, if◌then◌else◌}
+use Rattle.sc_event.specs.declared.interface.Import.{Import}
+use Rattle.sc_event.specs.declared.interface.Import.TheVariants.{Input, Output, Function}
+use Rattle.sc_event.specs.declared.interface.Interface.{Interface}
+use Rattle.sc_event.specs.declared.interface.Interfaces.{Interfaces}
+use Rattle.sc_event.specs.declared.interface.Proto.{Proto}
+use Rattle.sc_event.specs.declared.interface.Scalar.TheVariants.{Int}
+use Rattle.sc_event.specs.Legal.{legal}
+use Rattle.sc_image.specs.declared.parts.ImageParts.{ImageParts}
+use Rattle.sc_image.specs.declared.parts.CompPart.{CompPart}
+use Rattle.sc_image.specs.declared.parts.ExportPart.{ExportPart}
+use Rattle.sc_image.specs.declared.parts.ImportPart.{ImportPart}
+use Rattle.sc_image.specs.WellFormed.{IsWellFormed}
+use Rattle.sc_image.specs.Machine.{machine}
+
+abbrev pub proto_of : ExportPart → Proto
+proto_of export = record { name = export.name; params = replicate export.params Int; result = if export.result then Some Int else None }
+
+abbrev pub import_of : ImportPart → Import
+import_of import = Function import.comp import.index
+
+abbrev pub interface_of : CompPart → Interface
+interface_of comp = record {
+  name = comp.name;
+  exports = map proto_of comp.exports;
+  imports = (if comp.input then Input ∷ [] else []) ++ ((if comp.output then Output ∷ [] else []) ++ map import_of comp.imports);
+}
+
+abbrev pub interfaces_of : ImageParts → Interfaces
+interfaces_of image = record { comps = map interface_of image.comps; main = image.main }
+
+-- A run's trace is one that the image's interfaces allow, wherever the run stops.
+abbrev pub TracesAreLegal : Type 0
+TracesAreLegal =
+    (image : ImageParts) (inputs : List ℤ) (steps events : ℕ) → IsWellFormed image →
+    legal (interfaces_of image) (machine image inputs steps events).state.trace ≡ true

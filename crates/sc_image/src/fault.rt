@@ -1,0 +1,73 @@
+//! Why bytes are not read as an image.
+
+ghost use Rattle.std.specs.Prelude.{◌≡◌};
+ghost use Rattle.sc_image.specs.Reading.{cause_number};
+ghost use Rattle.sc_image.specs.declared.fault.ImageFault.TheVariants.{OutOfMemory};
+
+use sc_event::OutOfMemory;
+use std::alloc::AllocError;
+
+/// The first thing that is wrong with the bytes, in the order of the file.
+#[derive(Clone, Copy, Debug, PartialEq, Eq)]
+pub enum BadImage {
+    /// The four bytes `SCIM`.
+    Mark,
+    /// The version of the format.
+    Version,
+    /// How many compartments there are.
+    Count,
+    /// The main compartment and the entry.
+    Start,
+    /// A compartment's name and flags.
+    Compartment,
+    /// A compartment's exports.
+    Exports,
+    /// A compartment's imports.
+    Imports,
+    /// A compartment's code and globals.
+    Contents,
+    /// A rule on the whole image, where every field is good.
+    Whole,
+}
+
+impl BadImage {
+    /// The number that the cause is told by, 1 to 9 in the order of the fields.
+    pub fn number(self) -> u8
+        ensures { result ≡ cause_number self }
+    {
+        match self {
+            BadImage::Mark => 1,
+            BadImage::Version => 2,
+            BadImage::Count => 3,
+            BadImage::Start => 4,
+            BadImage::Compartment => 5,
+            BadImage::Exports => 6,
+            BadImage::Imports => 7,
+            BadImage::Contents => 8,
+            BadImage::Whole => 9,
+        }
+    }
+}
+
+/// Why no image was read.
+#[derive(Clone, Copy, Debug, PartialEq, Eq)]
+pub enum ImageFault {
+    Bad(BadImage),
+    OutOfMemory,
+}
+
+impl From<OutOfMemory> for ImageFault {
+    ghost from_gives = { λ _ e. e ≡ OutOfMemory };
+
+    fn from(_: OutOfMemory) -> ImageFault {
+        ImageFault::OutOfMemory
+    }
+}
+
+impl From<AllocError> for ImageFault {
+    ghost from_gives = { λ _ e. e ≡ OutOfMemory };
+
+    fn from(_: AllocError) -> ImageFault {
+        ImageFault::OutOfMemory
+    }
+}

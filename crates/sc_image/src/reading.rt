@@ -1,0 +1,321 @@
+//! Images read from their bytes. Behind the first two, each function takes a field from the front of the bytes that are left.
+
+ghost use Rattle.std.specs.Prelude.{◌≡◌, ◌≤◌, ◌==◌, nat_le, nat_lt, Some, None, IfOk, OnOk, IsErrOf};
+ghost use Rattle.sc_image.specs.Bytes.{image_bytes};
+ghost use Rattle.sc_image.specs.Reading.{Gives, bytes_at, number_at, number_that, fields_at, name_at, mark_at, comp_name_at, export_at, exports_at, import_at, imports_at, code_at, globals_at, comp_at, parts_at, image_of, bad};
+ghost use Rattle.sc_event.specs.Identifier.{is_between};
+ghost use Rattle.sc_image.specs.declared.fault.BadImage.TheVariants.{Version, Count, Contents};
+ghost use Rattle.sc_image.specs.declared.fault.ImageFault.TheVariants.{Bad};
+
+use crate::rules::keeps_rules;
+use crate::{
+    BadImage, CompPart, CompParts, ExportPart, ExportParts, Image, ImageFault, ImageParts,
+    ImportPart, ImportParts,
+};
+use byteorder::{ByteOrder, LittleEndian};
+use sc_core::Words;
+use sc_event::{CompId, Name, Text};
+use std::alloc::Global;
+
+// The most bytes of a compartment's code, and of its globals.
+const MOST_CODE: u32 = 0x0010_0000;
+
+const MOST_GLOBALS: u32 = 458_752;
+
+/// The image that the bytes are, or why they are none: the cause of the first field, in the order of the file, that is
+/// missing, incomplete or bad. A file that isn't at fault is read unless memory runs out.
+pub fn read_image(alloc: Global, bytes: &[u8]) -> Result<Image, ImageFault>
+    ensures image { IfOk result (λ image. bytes.now ≡ image_bytes image) }
+    ensures good { OnOk result (bad bytes.now ≡ None) }
+    ensures bad { (cause : BadImage) → IsErrOf result (Bad cause) → bad bytes.now ≡ Some cause }
+{
+    let parts = image_of(alloc, bytes)?;
+    Ok(Image::new(parts))
+}
+
+#[tactic(auto, unfolding(crate::specs::Reading::image_of))]
+fn image_of(alloc: Global, bytes: &[u8]) -> Result<ImageParts, ImageFault>
+    ensures { Gives (λ parts. parts) result (image_of bytes.now) }
+{
+    let mut rest = bytes;
+    let parts = parts_at(alloc, &mut rest)?;
+    let is_whole = rest.is_empty() && keeps_rules(alloc, &parts)?;
+    if !is_whole {
+        return Err(ImageFault::Bad(BadImage::Whole));
+    }
+    Ok(parts)
+}
+
+#[tactic(auto, unfolding(crate::specs::Reading::parts_at))]
+fn parts_at(alloc: Global, bytes: &mut &[u8]) -> Result<ImageParts, ImageFault>
+    ensures { Gives (λ x. (x, bytes.new.now)) result (parts_at bytes.old.now) }
+{
+    mark_at(bytes)?;
+    version_at(bytes)?;
+    let count = count_at(bytes)?;
+    let main = comp_id_at(BadImage::Start, count, bytes)?;
+    let entry = u32_at(BadImage::Start, bytes)?;
+    let comps = comps_at(alloc, count, bytes)?;
+    Ok(ImageParts { main, entry, comps })
+}
+
+fn mark_at<'a>(bytes: &mut &'a [u8]) -> Result<&'a [u8], ImageFault>
+    ensures { Gives (λ x. (x.now, bytes.new.now)) result (mark_at bytes.old.now) }
+{
+    let mark = bytes_at(BadImage::Mark, 4, bytes)?;
+    if mark != b"SCIM".as_slice() {
+        return Err(ImageFault::Bad(BadImage::Mark));
+    }
+    Ok(mark)
+}
+
+fn version_at(bytes: &mut &[u8]) -> Result<u16, ImageFault>
+    ensures { Gives (λ x. (x, bytes.new.now)) result (number_that (λ v. v == 1) Version 2 bytes.old.now) }
+{
+    let version = u16_at(BadImage::Version, bytes)?;
+    if version != 1 {
+        return Err(ImageFault::Bad(BadImage::Version));
+    }
+    Ok(version)
+}
+
+fn count_at(bytes: &mut &[u8]) -> Result<u8, ImageFault>
+    ensures count { Gives (λ x. (x, bytes.new.now)) result (number_that (is_between 1 32) Count 1 bytes.old.now) }
+    ensures within { IfOk result (λ count. count ≤ 32) }
+{
+    let count = u8_at(BadImage::Count, bytes)?;
+    if count < 1 || count > CompId::LIMIT {
+        return Err(ImageFault::Bad(BadImage::Count));
+    }
+    Ok(count)
+}
+
+fn comps_at(alloc: Global, count: u8, bytes: &mut &[u8]) -> Result<CompParts, ImageFault>
+    requires { count ≤ 32 }
+    ensures { Gives (λ x. (x, bytes.new.now)) result (fields_at (comp_at count) count bytes.old.now) }
+{
+    let mut comps = CompParts::new(alloc);
+    for _ in 0..count {
+        let comp = comp_at(alloc, count, bytes)?;
+        comps.push(comp)?;
+    }
+    Ok(comps)
+}
+
+#[tactic(auto, unfolding(crate::specs::Reading::comp_at))]
+fn comp_at(alloc: Global, comps: u8, bytes: &mut &[u8]) -> Result<CompPart, ImageFault>
+    requires { comps ≤ 32 }
+    ensures { Gives (λ x. (x, bytes.new.now)) result (comp_at comps bytes.old.now) }
+{
+    let name = comp_name_at(bytes)?;
+    let flags = u8_up_to(BadImage::Compartment, 3, bytes)?;
+    let exports = exports_at(alloc, bytes)?;
+    let imports = imports_at(alloc, comps, bytes)?;
+    let code = code_at(alloc, bytes)?;
+    let globals = globals_at(alloc, bytes)?;
+    Ok(CompPart {
+        name,
+        input: flags % 2 == 1,
+        output: flags / 2 == 1,
+        exports,
+        imports,
+        code,
+        globals,
+    })
+}
+
+#[tactic(auto, unfolding(crate::specs::Reading::comp_name_at))]
+fn comp_name_at(bytes: &mut &[u8]) -> Result<Name, ImageFault>
+    ensures { Gives (λ x. (x, bytes.new.now)) result (comp_name_at bytes.old.now) }
+{
+    let name = name_at(BadImage::Compartment, bytes)?;
+    if name.as_bytes() == b"Env".as_slice() {
+        return Err(ImageFault::Bad(BadImage::Compartment));
+    }
+    Ok(name)
+}
+
+#[tactic(auto, unfolding(crate::specs::Reading::exports_at))]
+fn exports_at(alloc: Global, bytes: &mut &[u8]) -> Result<ExportParts, ImageFault>
+    ensures { Gives (λ x. (x, bytes.new.now)) result (exports_at bytes.old.now) }
+{
+    let count = u16_up_to(BadImage::Exports, 4096, bytes)?;
+    several_exports(alloc, count, bytes)
+}
+
+fn several_exports(alloc: Global, count: u16, bytes: &mut &[u8]) -> Result<ExportParts, ImageFault>
+    ensures { Gives (λ x. (x, bytes.new.now)) result (fields_at export_at count bytes.old.now) }
+{
+    let mut exports = ExportParts::new(alloc);
+    for _ in 0..count {
+        let export = export_at(bytes)?;
+        exports.push(export)?;
+    }
+    Ok(exports)
+}
+
+#[tactic(auto, unfolding(crate::specs::Reading::export_at))]
+fn export_at(bytes: &mut &[u8]) -> Result<ExportPart, ImageFault>
+    ensures { Gives (λ x. (x, bytes.new.now)) result (export_at bytes.old.now) }
+{
+    let name = name_at(BadImage::Exports, bytes)?;
+    let params = u8_up_to(BadImage::Exports, 8, bytes)?;
+    let result = u8_up_to(BadImage::Exports, 1, bytes)?;
+    let entry = u32_at(BadImage::Exports, bytes)?;
+    Ok(ExportPart {
+        name,
+        params,
+        result: result == 1,
+        entry,
+    })
+}
+
+#[tactic(auto, unfolding(crate::specs::Reading::imports_at))]
+fn imports_at(alloc: Global, comps: u8, bytes: &mut &[u8]) -> Result<ImportParts, ImageFault>
+    requires { comps ≤ 32 }
+    ensures { Gives (λ x. (x, bytes.new.now)) result (imports_at comps bytes.old.now) }
+{
+    let count = u16_up_to(BadImage::Imports, 4096, bytes)?;
+    several_imports(alloc, comps, count, bytes)
+}
+
+fn several_imports(
+    alloc: Global,
+    comps: u8,
+    count: u16,
+    bytes: &mut &[u8],
+) -> Result<ImportParts, ImageFault>
+    requires { comps ≤ 32 }
+    ensures { Gives (λ x. (x, bytes.new.now)) result (fields_at (import_at comps) count bytes.old.now) }
+{
+    let mut imports = ImportParts::new(alloc);
+    for _ in 0..count {
+        let import = import_at(comps, bytes)?;
+        imports.push(import)?;
+    }
+    Ok(imports)
+}
+
+#[tactic(auto, unfolding(crate::specs::Reading::import_at))]
+fn import_at(comps: u8, bytes: &mut &[u8]) -> Result<ImportPart, ImageFault>
+    requires { comps ≤ 32 }
+    ensures { Gives (λ x. (x, bytes.new.now)) result (import_at comps bytes.old.now) }
+{
+    let comp = comp_id_at(BadImage::Imports, comps, bytes)?;
+    let index = u16_at(BadImage::Imports, bytes)?;
+    Ok(ImportPart { comp, index })
+}
+
+#[tactic(auto, unfolding(crate::specs::Reading::code_at))]
+fn code_at(alloc: Global, bytes: &mut &[u8]) -> Result<Words, ImageFault>
+    ensures { Gives (λ x. (x, bytes.new.now)) result (code_at bytes.old.now) }
+{
+    let size = u32_at(BadImage::Contents, bytes)?;
+    if size % 4 != 0 || size > MOST_CODE {
+        return Err(ImageFault::Bad(BadImage::Contents));
+    }
+    several_words(alloc, size / 4, bytes)
+}
+
+fn several_words(alloc: Global, count: u32, bytes: &mut &[u8]) -> Result<Words, ImageFault>
+    ensures { Gives (λ x. (x, bytes.new.now)) result (fields_at (number_at Contents 4) count bytes.old.now) }
+{
+    let mut words = Words::new(alloc);
+    for _ in 0..count {
+        let word = u32_at(BadImage::Contents, bytes)?;
+        words.push(word)?;
+    }
+    Ok(words)
+}
+
+#[tactic(auto, unfolding(crate::specs::Reading::globals_at))]
+fn globals_at(alloc: Global, bytes: &mut &[u8]) -> Result<Text, ImageFault>
+    ensures { Gives (λ x. (x, bytes.new.now)) result (globals_at bytes.old.now) }
+{
+    let size = u32_at(BadImage::Contents, bytes)?;
+    if size > MOST_GLOBALS {
+        return Err(ImageFault::Bad(BadImage::Contents));
+    }
+    let front = bytes_at(BadImage::Contents, size as usize, bytes)?;
+    let mut globals = Text::new(alloc);
+    globals.append(front)?;
+    Ok(globals)
+}
+
+#[tactic(auto, unfolding(crate::specs::Reading::name_at))]
+fn name_at(cause: BadImage, bytes: &mut &[u8]) -> Result<Name, ImageFault>
+    ensures { Gives (λ x. (x, bytes.new.now)) result (name_at cause bytes.old.now) }
+{
+    let size = u8_at(cause, bytes)?;
+    let text = bytes_at(cause, usize::from(size), bytes)?;
+    let Some(name) = Name::new(text) else {
+        return Err(ImageFault::Bad(cause));
+    };
+    Ok(name)
+}
+
+// The number of one of so many compartments.
+fn comp_id_at(cause: BadImage, comps: u8, bytes: &mut &[u8]) -> Result<CompId, ImageFault>
+    requires { comps ≤ 32 }
+    ensures { Gives (λ x. (x, bytes.new.now)) result (number_that (λ c. nat_lt c comps) cause 1 bytes.old.now) }
+{
+    let number = u8_at(cause, bytes)?;
+    match CompId::new(number) {
+        Some(comp) if number < comps => Ok(comp),
+        _ => Err(ImageFault::Bad(cause)),
+    }
+}
+
+fn u8_up_to(cause: BadImage, most: u8, bytes: &mut &[u8]) -> Result<u8, ImageFault>
+    ensures { Gives (λ x. (x, bytes.new.now)) result (number_that (λ n. nat_le n most) cause 1 bytes.old.now) }
+{
+    let number = u8_at(cause, bytes)?;
+    if number > most {
+        return Err(ImageFault::Bad(cause));
+    }
+    Ok(number)
+}
+
+fn u16_up_to(cause: BadImage, most: u16, bytes: &mut &[u8]) -> Result<u16, ImageFault>
+    ensures { Gives (λ x. (x, bytes.new.now)) result (number_that (λ n. nat_le n most) cause 2 bytes.old.now) }
+{
+    let number = u16_at(cause, bytes)?;
+    if number > most {
+        return Err(ImageFault::Bad(cause));
+    }
+    Ok(number)
+}
+
+fn u8_at(cause: BadImage, bytes: &mut &[u8]) -> Result<u8, ImageFault>
+    ensures { Gives (λ x. (x, bytes.new.now)) result (number_at cause 1 bytes.old.now) }
+{
+    let front = bytes_at(cause, 1, bytes)?;
+    Ok(front[0])
+}
+
+fn u16_at(cause: BadImage, bytes: &mut &[u8]) -> Result<u16, ImageFault>
+    ensures { Gives (λ x. (x, bytes.new.now)) result (number_at cause 2 bytes.old.now) }
+{
+    let front = bytes_at(cause, 2, bytes)?;
+    Ok(LittleEndian::read_u16(front))
+}
+
+fn u32_at(cause: BadImage, bytes: &mut &[u8]) -> Result<u32, ImageFault>
+    ensures { Gives (λ x. (x, bytes.new.now)) result (number_at cause 4 bytes.old.now) }
+{
+    let front = bytes_at(cause, 4, bytes)?;
+    Ok(LittleEndian::read_u32(front))
+}
+
+// So many bytes from the front.
+fn bytes_at<'a>(cause: BadImage, size: usize, bytes: &mut &'a [u8]) -> Result<&'a [u8], ImageFault>
+    ensures { Gives (λ x. (x.now, bytes.new.now)) result (bytes_at cause size bytes.old.now) }
+{
+    let all = *bytes;
+    if all.len() < size {
+        return Err(ImageFault::Bad(cause));
+    }
+    let (front, rest) = all.split_at(size);
+    *bytes = rest;
+    Ok(front)
+}

@@ -1,0 +1,185 @@
+//! The rules on a whole image.
+
+ghost use Rattle.std.specs.Prelude.{◌≡◌, ◌≤◌, ◌==◌, ◌&&◌, length, map, IfOk};
+ghost use Rattle.sc_image.specs.Rules.{are_distinct, is_same_name, is_same_import, is_entry, is_import, exports_keep, imports_keep, comps_keep, keeps_rules};
+ghost use Rattle.sc_image.specs.Layout.{code_of};
+ghost use Rattle.std.specs.HashSet.{IsFromIterResult};
+ghost use Rattle.std.specs.List.{list_all};
+
+use crate::{CompPart, ExportPart, ImageParts, ImportPart};
+use sc_event::Name;
+use std::alloc::{AllocError, Global};
+use std::collections::HashSet;
+
+// Where the code of the first compartment begins, and the stretch of addresses that each has for its code.
+const CODE_START: u32 = 0x0100_0000;
+
+const STRETCH: u32 = 0x0010_0000;
+
+/// Whether the parts keep the rules that no field shows alone: distinct names, entries and imports, entries at words of
+/// the code, and imports of what another compartment offers.
+pub fn keeps_rules(alloc: Global, parts: &ImageParts) -> Result<bool, AllocError>
+    requires { length parts.now.comps ≤ 32 }
+    ensures { IfOk result (λ keeps. keeps ≡ keeps_rules parts.now) }
+{
+    let comps = parts.comps.as_slice();
+    Ok(
+        have_distinct_names(alloc, comps)?
+            && is_entry(parts, parts.main.number(), parts.entry)
+            && comps_keep(alloc, parts, comps)?,
+    )
+}
+
+fn comps_keep(alloc: Global, parts: &ImageParts, comps: &[CompPart]) -> Result<bool, AllocError>
+    requires { length comps.now ≤ 32 }
+    ensures { IfOk result (λ keep. keep ≡ comps_keep parts.now 0 comps.now) }
+{
+    for (c, comp) in comps.iter().enumerate() {
+        if !comp_keeps(alloc, parts, c as u8, comp)? {
+            return Ok(false);
+        }
+    }
+    Ok(true)
+}
+
+fn comp_keeps(alloc: Global, parts: &ImageParts, c: u8, comp: &CompPart) -> Result<bool, AllocError>
+    ensures { IfOk result (λ keeps. keeps ≡ (exports_keep parts.now c comp.now.exports && imports_keep parts.now c comp.now.imports)) }
+{
+    Ok(
+        exports_keep(alloc, parts, c, comp.exports.as_slice())?
+            && imports_keep(alloc, parts, c, comp.imports.as_slice())?,
+    )
+}
+
+fn exports_keep(
+    alloc: Global,
+    parts: &ImageParts,
+    c: u8,
+    exports: &[ExportPart],
+) -> Result<bool, AllocError>
+    ensures { IfOk result (λ keep. keep ≡ exports_keep parts.now c exports.now) }
+{
+    Ok(
+        are_entries(parts, c, exports)
+            && have_distinct_export_names(alloc, exports)?
+            && have_distinct_entries(alloc, exports)?,
+    )
+}
+
+fn imports_keep(
+    alloc: Global,
+    parts: &ImageParts,
+    c: u8,
+    imports: &[ImportPart],
+) -> Result<bool, AllocError>
+    ensures { IfOk result (λ keep. keep ≡ imports_keep parts.now c imports.now) }
+{
+    Ok(are_imports(parts, c, imports) && are_distinct_imports(alloc, imports)?)
+}
+
+fn are_entries(parts: &ImageParts, c: u8, exports: &[ExportPart]) -> bool
+    ensures { result ≡ list_all (λ export. is_entry parts.now c export.entry) exports.now }
+{
+    exports
+        .iter()
+        .all(|export| is_entry(parts, c, export.entry))
+}
+
+fn are_imports(parts: &ImageParts, c: u8, imports: &[ImportPart]) -> bool
+    ensures { result ≡ list_all (is_import parts.now c) imports.now }
+{
+    imports.iter().all(|import| is_import(parts, c, *import))
+}
+
+// Whether the address is that of a word of the compartment's code.
+#[tactic(auto, unfolding(crate::specs::Layout::word_at))]
+fn is_entry(parts: &ImageParts, c: u8, entry: u32) -> bool
+    ensures { result ≡ is_entry parts.now c entry }
+{
+    let start = CODE_START + u32::from(c) * STRETCH;
+    if entry % 4 != 0 || entry < start {
+        return false;
+    }
+    let place = (entry - start) / 4;
+    (place as usize) < code_len(parts, c)
+}
+
+fn code_len(parts: &ImageParts, c: u8) -> usize
+    ensures { result ≡ length (code_of parts.now c) }
+{
+    match parts.comps.get(usize::from(c)) {
+        None => 0,
+        Some(comp) => comp.code.len(),
+    }
+}
+
+// Whether it is an export of another compartment.
+fn is_import(parts: &ImageParts, c: u8, import: ImportPart) -> bool
+    ensures { result ≡ is_import parts.now c import }
+{
+    let owner = usize::from(import.comp.number());
+    match parts.comps.get(owner) {
+        None => false,
+        Some(comp) => owner != usize::from(c) && usize::from(import.index) < comp.exports.len(),
+    }
+}
+
+#[tactic(auto, using(crate::proofs::Keeping::counted))]
+fn have_distinct_names(alloc: Global, comps: &[CompPart]) -> Result<bool, AllocError>
+    ensures { IfOk result (λ distinct. distinct ≡ are_distinct is_same_name (map (λ comp. comp.name) comps.now)) }
+{
+    let names = names_of(alloc, comps)?;
+    Ok(names.len() == comps.len())
+}
+
+fn names_of(alloc: Global, comps: &[CompPart]) -> Result<HashSet<Name>, AllocError>
+    ensures { IfOk result (IsFromIterResult is_same_name (map (λ comp. comp.name) comps.now)) }
+{
+    comps.iter().map(|comp| comp.name).collect(alloc)
+}
+
+#[tactic(auto, using(crate::proofs::Keeping::counted))]
+fn have_distinct_export_names(alloc: Global, exports: &[ExportPart]) -> Result<bool, AllocError>
+    ensures { IfOk result (λ distinct. distinct ≡ are_distinct is_same_name (map (λ export. export.name) exports.now)) }
+{
+    let names = export_names_of(alloc, exports)?;
+    Ok(names.len() == exports.len())
+}
+
+fn export_names_of(alloc: Global, exports: &[ExportPart]) -> Result<HashSet<Name>, AllocError>
+    ensures { IfOk result (IsFromIterResult is_same_name (map (λ export. export.name) exports.now)) }
+{
+    exports.iter().map(|export| export.name).collect(alloc)
+}
+
+#[tactic(auto, using(crate::proofs::Keeping::counted))]
+fn have_distinct_entries(alloc: Global, exports: &[ExportPart]) -> Result<bool, AllocError>
+    ensures { IfOk result (λ distinct. distinct ≡ are_distinct ◌==◌ (map (λ export. export.entry) exports.now)) }
+{
+    let entries = entries_of(alloc, exports)?;
+    Ok(entries.len() == exports.len())
+}
+
+fn entries_of(alloc: Global, exports: &[ExportPart]) -> Result<HashSet<u32>, AllocError>
+    ensures { IfOk result (IsFromIterResult ◌==◌ (map (λ export. export.entry) exports.now)) }
+{
+    exports.iter().map(|export| export.entry).collect(alloc)
+}
+
+#[tactic(auto, using(crate::proofs::Keeping::counted))]
+fn are_distinct_imports(alloc: Global, imports: &[ImportPart]) -> Result<bool, AllocError>
+    ensures { IfOk result (λ distinct. distinct ≡ are_distinct is_same_import imports.now) }
+{
+    let pairs = pairs_of(alloc, imports)?;
+    Ok(pairs.len() == imports.len())
+}
+
+// Each import as the numbers that it is told apart by.
+fn pairs_of(alloc: Global, imports: &[ImportPart]) -> Result<HashSet<(u8, u16)>, AllocError>
+    ensures { IfOk result (IsFromIterResult (λ a b. a.0 == b.0 && a.1 == b.1) (map (λ import. (import.comp, import.index)) imports.now)) }
+{
+    imports
+        .iter()
+        .map(|import| (import.comp.number(), import.index))
+        .collect(alloc)
+}
