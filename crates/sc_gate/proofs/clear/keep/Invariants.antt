@@ -1,0 +1,7 @@
+use Rattle.std.proofs.Common.{◌≡◌}
+use Rattle.sc_image.specs.Cross.{is_argument}
+use Rattle.sc_gate.proofs.Kept.{cleared_first}
+use Rattle.sc_gate.proofs.clear.keep.Given as goal
+
+abbrev pub invariant-loop-number : goal.invariant-loop-number
+invariant-loop-number l = l.regs ≡ cleared_first (is_argument l.count) l.number l.fn.regs

@@ -1,0 +1,33 @@
+ghost use Rattle.std.specs.Prelude.{◌≡◌, ◌≤◌};
+ghost use Rattle.sc_image.specs.Cross.{kept, is_argument, cleared_for_call, cleared_for_return};
+
+/// The number of register a0, which holds the first argument or the result.
+const A0: usize = 10;
+
+/// Puts 0 into every register that doesn't hold one of so many arguments, at most 8. They lie in a0
+/// to a7.
+pub fn clear_for_call(regs: &mut [u32; 32], params: u8)
+    requires { params ≤ 8 }
+    ensures { regs.new ≡ cleared_for_call params regs.old }
+{
+    keep(regs, params as usize);
+}
+
+/// Puts 0 into every register that doesn't hold the result, which is in a0 where there is one.
+pub fn clear_for_ret(regs: &mut [u32; 32], has_result: bool)
+    ensures { regs.new ≡ cleared_for_return has_result regs.old }
+{
+    keep(regs, usize::from(has_result));
+}
+
+/// Puts 0 into every register but so many from a0 on.
+fn keep(regs: &mut [u32; 32], count: usize)
+    requires { count ≤ 8 }
+    ensures { regs.new ≡ kept (is_argument count) regs.old }
+{
+    for number in 0..32 {
+        if number < A0 || A0 + count <= number {
+            regs[number] = 0;
+        }
+    }
+}
