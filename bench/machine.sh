@@ -1,13 +1,14 @@
 #!/bin/sh
-# Times the machine on three endless loops of 16,777,216 steps, and qemu-riscv32 on the same loops where it is installed.
+# Times the machine on three endless loops of 16,777,216 steps and on one of 1,048,576 calls of another compartment, and
+# qemu-riscv32 on the first three where it is installed.
 # Usage: bench/machine.sh [FOLDER]. FOLDER (by default a new one) gets a copy of the machine's crates and a program over
 # them, which is proved and built there; that takes minutes the first time.
 # It prints, for each loop, instructions per second of the machine, of qemu-riscv32, and the ratio of the two.
 set -e
 top=$(cd "$(dirname "$0")/.." && pwd)
 work=${1:-$(mktemp -d)}
-crates="sc_event sc_word rv_code sc_store sc_core sc_image sc_machine"
-mkdir -p "$work/crates/bench_machine/src" "$work/crates/bench_machine/proofs/alone" "$work/loops"
+crates="sc_event sc_word rv_code sc_store sc_core sc_image sc_gate sc_machine"
+mkdir -p "$work/crates/bench_machine/src" "$work/crates/bench_machine/proofs/alone" "$work/crates/bench_machine/proofs/pair" "$work/loops"
 for crate in $crates; do
     mkdir -p "$work/crates/$crate"
     for part in src specs proofs; do
@@ -21,6 +22,7 @@ echo "bench_machine: sc_event sc_core sc_store sc_image sc_machine sqlite_items"
 cp "$top/HANDLES" "$work/"
 cp "$top/bench/machine_main.txt" "$work/crates/bench_machine/src/main.rt"
 cp "$top/bench/machine_answers.txt" "$work/crates/bench_machine/proofs/alone/Answers.antt"
+cp "$top/bench/machine_pair_answers.txt" "$work/crates/bench_machine/proofs/pair/Answers.antt"
 (cd "$work/crates/bench_machine" && rt run > "$work/log" 2>&1) || { tail "$work/log"; exit 1; }
 
 # The best of three runs of each.
@@ -40,6 +42,6 @@ if command -v qemu-riscv32 > /dev/null; then
         done
     done < "$work/loops/counts" | sort -k1,1 -k3,3n | awk '!seen[$1]++ { printf "%s %.0f\n", $1, $2 / $3 * 1e9 }' > "$work/qemu"
 fi
-awk 'NR == FNR { qemu[$1] = $2; next }
+awk 'FILENAME == ARGV[1] { qemu[$1] = $2; next }
      { ratio = ($1 in qemu) ? sprintf("%.3f", $2 / qemu[$1]) : "-"
        printf "%-9s machine %d/s  qemu-riscv32 %s/s  ratio %s\n", $1, $2, ($1 in qemu) ? qemu[$1] : "-", ratio }' "$work/qemu" "$work/machine"

@@ -14,7 +14,7 @@ use Rattle.rv_code.specs.Words.{word_of, IsInstr}
 use Rattle.rv_code.proofs.OneEach.{HasWord-own, decoded-word_of, word-below}
 use Rattle.sc_word.specs.Word.{signed_of}
 use Rattle.sc_image.specs.Layout.{code_start, stretch, word_at}
-use Rattle.sc_image.specs.WellFormed.{IsWord, IsByte, IsSingle, IsWellFormed}
+use Rattle.sc_image.specs.WellFormed.{IsWord, IsByte, IsWellFormed}
 use Rattle.sc_image.proofs.OneComp.{IsLone, one_well_formed}
 use Rattle.sc_compile.specs.Code.{is_short, upper_part, lower_part, loading, output_call, outputting, returning, thin_code}
 use Rattle.sc_compile.specs.Image.{main_comp, thin_image}
@@ -94,6 +94,3 @@ main_is_lone program few = record {
 
 pub well_formed : (program : ThinProgram) → length program.outputs ≤ 16384 → IsWellFormed (thin_image program)
 well_formed program few = one_well_formed (code_start 0) (main_comp (map word_of (thin_code program))) (main_is_lone program few) (first_word program)
-
-pub single : (program : ThinProgram) → IsSingle (thin_image program)
-single program = refl

@@ -1,5 +1,5 @@
 -- Which accesses are allowed, and that there is memory for them.
-use Rattle.std.proofs.Common.{◌≡◌, ℕ, ◌+◌, ◌-◌, ◌%◌, ◌<◌, ◌≤◌, Bool, true, false, ◌&&◌, nat_le, nat_lt, length, Some, None, refl, sym, ◌∙◌, ap, subst, arith, ⊎_elim}
+use Rattle.std.proofs.Common.{◌≡◌, ℕ, ◌+◌, ◌-◌, ◌%◌, ◌<◌, ◌≤◌, Bool, true, false, ◌&&◌, nat_le, nat_lt, List, length, Some, None, refl, sym, ◌∙◌, ap, subst, arith, ⊎_elim}
 use Rattle.std.specs.Prelude.{is_some, if◌then◌else◌}
 use Rattle.std.specs.List.{slice_get}
 use Rattle.std.proofs.lemmas.Bool.{le-leb, lt-leb, le-ltb}
@@ -15,7 +15,7 @@ use Rattle.sc_image.specs.declared.parts.CompPart.{CompPart}
 use Rattle.sc_image.specs.Layout.{stretch, most_globals, stack_size, data_start, stack_top, comp_of_data, globals_of, are_data}
 use Rattle.sc_image.specs.State.{State, start_memory}
 use Rattle.sc_image.specs.Step.{Traps, next, gives, load_size, store_size, extended, refused, load, store, with_stored}
-use Rattle.sc_machine.specs.Place.{IsPlace}
+use Rattle.sc_machine.specs.Place.{IsPlace, IsLookedUp}
 use Rattle.sc_machine.specs.Hart.{IsBacked}
 
 -- The owner's test.
@@ -71,6 +71,19 @@ data_there image c a size place h =
     (λ found. found_there image c a size found.0 found.2 (place.formed.comps c found.0 found.2).short_globals h)
     (λ none. absurd (omega (arith, none.0, place.within)))
     (slice_get_cases image.comps c).1
+
+-- the same by what was looked up
+module _ {image : ImageParts} {c : ℕ} {words : List ℕ} {code_from data_from bytes : ℕ} (looked : IsLookedUp image c words code_from data_from bytes) where
+  pub looked_below : (a size : ℕ) → a < data_from → are_data image c a size ≡ false
+  looked_below a size low = below_data image c a size (rw looked.data_from_is at low)
+
+  pub looked_data : (a size : ℕ) → data_from ≤ a → size ≤ 4 → nat_le (a - data_from) (bytes - size) ≡ are_data image c a size
+  looked_data a size low few =
+      rw (looked.data_from_is, looked.bytes_are)
+      (from_data image c a size (length (globals_of image c)) refl (rw looked.data_from_is at low) (omega arith))
+
+  pub looked_there : (a size : ℕ) → IsPlace image c → data_from ≤ a → size ≤ 4 → nat_le (a - data_from) (bytes - size) ≡ true → HasBytes (start_memory image) a size
+  looked_there a size place low few test = data_there image c a size place (sym (looked_data a size low few) ∙ test)
 
 -- and later
 

@@ -6,7 +6,7 @@ use Rattle.std.proofs.lemmas.Option.{slice_get-get_or}
 use Rattle.sc_event.specs.Identifier.{is_name}
 use Rattle.sc_image.specs.declared.parts.CompPart.{CompPart}
 use Rattle.sc_image.specs.Layout.{stretch, most_globals, word_at}
-use Rattle.sc_image.specs.WellFormed.{IsWellFormed, IsSingle}
+use Rattle.sc_image.specs.WellFormed.{IsWellFormed}
 use Rattle.sc_image.proofs.OneComp.{only, IsLone, one_well_formed}
 
 abbrev pub alone : (output : Bool) → (code globals : List ℕ) → CompPart
@@ -20,13 +20,13 @@ alone output code globals = record {
   globals = globals;
 }
 
-all_below : (limit : ℕ) (xs : List ℕ) → ((i : ℕ) → get_or xs i 0 < limit) → All (λ x. x < limit) xs
+pub all_below : (limit : ℕ) (xs : List ℕ) → ((i : ℕ) → get_or xs i 0 < limit) → All (λ x. x < limit) xs
 all_below limit xs h = λ i d within.
     let same : Some (get_or xs i 0) ≡ Some (get_or xs i d) = sym (slice_get-get_or xs i 0 within) ∙ slice_get-get_or xs i d within in
     let equal : get_or xs i 0 ≡ get_or xs i d = cc same in
     subst (λ x. x < limit) equal (h i)
 
-some_first : (code : List ℕ) → 0 < length code → IsSome (slice_get code 0)
+pub some_first : (code : List ℕ) → 0 < length code → IsSome (slice_get code 0)
 some_first [] h = absurd (omega arith)
 some_first (word ∷ code) h = refl
 
@@ -52,6 +52,3 @@ module _ (output : Bool) (code globals : List ℕ) where
   pub well_formed : 0 < length code → 4 * length code ≤ stretch → length globals ≤ most_globals →
       ((i : ℕ) → get_or code i 0 < 4294967296) → ((i : ℕ) → get_or globals i 0 < 256) → IsWellFormed (only 0x01000000 (alone output code globals))
   well_formed some short few words bytes = one_well_formed 0x01000000 (alone output code globals) (is_lone short few words bytes) (first_word some)
-
-  pub single : IsSingle (only 0x01000000 (alone output code globals))
-  single = refl

@@ -2,5 +2,8 @@ pub mod Words
 pub mod Access
 pub mod Start
 pub mod Jumps
+pub mod Crossings
+pub mod Callees
 pub mod Runs
 pub mod Alone
+pub mod Pair

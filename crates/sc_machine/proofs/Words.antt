@@ -1,10 +1,13 @@
 -- The code of an image.
-use Rattle.std.proofs.Common.{◌≡◌, ◌≢◌, ℕ, ◌-◌, ◌*◌, ◌/◌, ◌%◌, ◌<◌, ◌≤◌, length, None, Some, slice_get, refl}
+use Rattle.std.proofs.Common.{◌≡◌, ◌≢◌, ℕ, ◌+◌, ◌-◌, ◌*◌, ◌/◌, ◌%◌, ◌<◌, ◌≤◌, List, length, Option, None, Some, slice_get, refl, sym, arith}
+use Rattle.std.specs.Prelude.{OnSome}
+use Rattle.std.proofs.lemmas.Option.{slice_get_within}
 use Rattle.std.proofs.lemmas.Bool.{eq-eqb, ne_eqb, le-leb, lt-leb}
 use Rattle.sc_image.specs.declared.parts.ImageParts.{ImageParts}
 use Rattle.sc_image.specs.declared.parts.CompPart.{CompPart}
 use Rattle.sc_image.specs.Layout.{stretch, most_globals, code_start, code_of, word_at}
 use Rattle.sc_image.specs.WellFormed.{IsWellFormed}
+use Rattle.sc_machine.specs.Place.{IsPlace, IsLookedUp}
 
 -- where an address has no whole word, and where it may have one
 pub misaligned : (image : ImageParts) (c address : ℕ) → address % 4 ≢ 0 → word_at image c address ≡ None
@@ -26,3 +29,19 @@ short_code image c comp well_formed found = (well_formed.comps c comp found).sho
 
 pub short_globals : (image : ImageParts) (c : ℕ) (comp : CompPart) → IsWellFormed image → slice_get image.comps c ≡ Some comp → length comp.globals ≤ most_globals
 short_globals image c comp well_formed found = (well_formed.comps c comp found).short_globals
+
+-- the same by what was looked up
+module _ {image : ImageParts} {c : ℕ} {words : List ℕ} {code_from data_from bytes : ℕ} (looked : IsLookedUp image c words code_from data_from bytes) where
+  pub looked_code_below : (a : ℕ) → a % 4 ≡ 0 → a < code_from → word_at image c a ≡ None
+  looked_code_below a e low = below_code image c a e (rw looked.code_from_is at low)
+
+  pub looked_word : (a : ℕ) → a % 4 ≡ 0 → code_from ≤ a → slice_get words ((a - code_from) / 4) ≡ word_at image c a
+  looked_word a e low =
+      rw (looked.words_are, looked.code_from_is) (sym (in_code image c a e (rw looked.code_from_is at low)))
+
+  -- the next address has 32 bits
+  pub looked_within : (a : ℕ) → IsPlace image c → code_from ≤ a → (found : Option ℕ) → found ≡ slice_get words ((a - code_from) / 4) → OnSome found (a + 4 < 4294967296)
+  looked_within a place low None is = tt
+  looked_within a place low (Some word) is =
+      let within : (a - code_from) / 4 < length words = slice_get_within words ((a - code_from) / 4) word (sym is) in
+      omega (arith, looked.few_words, looked.code_from_is, place.within, place.formed.few_comps)

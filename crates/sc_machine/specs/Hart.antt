@@ -1,5 +1,5 @@
 -- What instructions change, as the state that it stands for.
-use Rattle.std.specs.Prelude.{◌≡◌, ◌+◌, ◌≤◌, ℕ, length, is_some, Result, Ok, Err}
+use Rattle.std.specs.Prelude.{◌≡◌, ◌+◌, ◌<◌, ◌≤◌, ℕ, All, length, is_some, vec_capacity, Result, Ok, Err}
 use Rattle.sc_core.specs.declared.stop.TrapReason.{TrapReason}
 use Rattle.sc_store.specs.Memory.{Memory}
 use Rattle.sc_image.specs.declared.parts.ImageParts.{ImageParts}
@@ -8,7 +8,6 @@ use Rattle.sc_image.specs.Step.{Outcome, Goes, Traps}
 use Rattle.sc_machine.specs.declared.hart.Core.{Core}
 use Rattle.sc_machine.specs.declared.hart.Hart.{Hart}
 use Rattle.sc_machine.specs.Place.{IsPlace}
-use Rattle.sc_machine.specs.Progress.{state_with}
 
 -- a state with these registers and this pc
 abbrev pub at : State → Core → State
@@ -21,9 +20,18 @@ comp_in c state = record state { active = c }
 abbrev pub active_in : ℕ → Memory → State → State
 active_in c memory state = record state { active = c; memory = memory }
 
--- the state of a machine on an image
-abbrev pub state_in : ImageParts → Memory → Hart → State
-state_in image memory hart = state_with image hart.core.registers hart.core.pc hart.active memory hart.input hart.trace.items
+-- the state of a machine with this memory
+abbrev pub state_in : Memory → Hart → State
+state_in memory hart = record {
+  regs = hart.core.registers;
+  pc = hart.core.pc;
+  active = hart.active;
+  saved = hart.saved.items;
+  memory = memory;
+  cross = hart.cross.calls;
+  input = hart.input;
+  trace = hart.trace.items;
+}
 
 -- what an instruction's answer says that it did, where this is the state after it
 abbrev pub outcome_of : {A : Type 0} → Result A TrapReason → State → Outcome
@@ -34,13 +42,29 @@ outcome_of (Err reason) state = Traps reason
 abbrev pub given : Core → (rd word : ℕ) → Core
 given core rd word = record { registers = written core.registers rd word; pc = core.pc + 4 }
 
+-- the address of the next instruction in one of the registers, and the pc elsewhere
+abbrev pub linked : Core → (rd target : ℕ) → Core
+linked core rd target = record { registers = written core.registers rd (core.pc + 4); pc = target }
+
 abbrev pub advanced : Core → Core
 advanced core = record { registers = core.registers; pc = core.pc + 4 }
 
--- the active compartment is the image's, and each input that was read is in the trace
+-- the active compartment and those that wait are the image's, each of its compartments has a saved sp, and each input that was read is in the trace
 pub record IsSound (image : ImageParts) (hart : Hart) : Type 0 where
   pub place : IsPlace image hart.active
+  pub callers : All (λ call. call.caller < length image.comps) hart.cross.calls
+  pub saved : length hart.saved.items ≡ length image.comps
   pub input : hart.input ≤ length hart.trace.items
+
+-- there is room for a trace of so many events, and for as many calls as it may still get
+pub record HasRoom (events : ℕ) (hart : Hart) : Type 0 where
+  pub trace : events ≤ vec_capacity hart.trace
+  pub cross : events ≤ length hart.trace.items + hart.cross.room
+
+-- there is room for one more event, and for a call
+pub record HasRoomForOne (hart : Hart) : Type 0 where
+  pub trace : length hart.trace.items < vec_capacity hart.trace
+  pub cross : 0 < hart.cross.room
 
 -- there is a byte where there was one at the start, and nowhere else
 abbrev pub IsBacked : ImageParts → Memory → Type 0

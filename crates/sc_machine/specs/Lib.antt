@@ -1,4 +1,6 @@
 pub mod Place
 pub mod Progress
 pub mod Hart
+pub mod Passing
+pub mod Regions
 pub mod Calls

@@ -1,10 +1,25 @@
--- The compartments that the machine runs today.
-use Rattle.std.specs.Prelude.{◌<◌, ℕ, length}
+-- A compartment of an image, and what is looked up of it.
+use Rattle.std.specs.Prelude.{◌≡◌, ◌+◌, ◌*◌, ◌<◌, ◌≤◌, ℕ, List, length}
 use Rattle.sc_image.specs.declared.parts.ImageParts.{ImageParts}
-use Rattle.sc_image.specs.WellFormed.{IsWellFormed, IsSingle}
+use Rattle.sc_image.specs.Layout.{stretch, most_globals, stack_size, code_start, data_start, code_of, globals_of}
+use Rattle.sc_image.specs.WellFormed.{IsWellFormed}
 
--- the compartment of that number of an image, which is its only one
+-- the compartment of that number of an image
 pub record IsPlace (image : ImageParts) (c : ℕ) : Type 0 where
   pub formed : IsWellFormed image
-  pub single : IsSingle image
   pub within : c < length image.comps
+
+-- its code, where that begins, where its data begin, and how many bytes they have
+pub record IsLookedUp (image : ImageParts) (c : ℕ) (words : List ℕ) (code_from data_from bytes : ℕ) : Type 0 where
+  pub words_are : words ≡ code_of image c
+  pub code_from_is : code_from ≡ code_start c
+  pub data_from_is : data_from ≡ data_start c
+  pub bytes_are : bytes ≡ stack_size + length (globals_of image c)
+  -- so that addresses of the code and the data have 32 bits
+  pub few_words : 4 * length words ≤ stretch
+  pub few_bytes : bytes ≤ stack_size + most_globals
+
+-- a compartment of an image, by its number
+pub record Site : Type 0 where
+  pub image : ImageParts
+  pub comp : ℕ

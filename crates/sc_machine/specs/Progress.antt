@@ -1,10 +1,10 @@
 -- A loaded machine, as contracts see it.
-use Rattle.std.specs.Prelude.{ℕ, ℤ, List, []}
+use Rattle.std.specs.Prelude.{ℕ, ℤ, List}
 use Rattle.sc_event.specs.declared.event.Event.{Event}
 use Rattle.sc_core.specs.declared.stop.Stop.{Stop}
 use Rattle.sc_store.specs.Memory.{Memory}
 use Rattle.sc_image.specs.declared.parts.ImageParts.{ImageParts}
-use Rattle.sc_image.specs.State.{State, stack_tops}
+use Rattle.sc_image.specs.State.{State, Crossing}
 use Rattle.sc_image.specs.Machine.{Run}
 
 -- what a machine was loaded with, and how far its run is
@@ -16,6 +16,10 @@ pub record Progress (S : Type 0) : Type 0 where
   pub registers : List ℕ
   pub pc : ℕ
   pub active : ℕ
+  -- of each compartment, the sp that it gets at its next call
+  pub saved : List ℕ
+  -- the calls of other compartments that haven't returned, the latest first
+  pub cross : List Crossing
   -- how many inputs were read
   pub input : ℕ
   pub trace : List Event
@@ -24,24 +28,24 @@ pub record Progress (S : Type 0) : Type 0 where
   -- why it stopped at last, and `StepsOut` before the first step
   pub stop : Stop
 
--- the state of a machine on an image, with these parts: no call of another compartment waits
-abbrev pub state_with : ImageParts → (registers : List ℕ) → (pc active : ℕ) → Memory → (input : ℕ) → List Event → State
-state_with image registers pc active memory input trace = record {
-  regs = registers;
-  pc = pc;
-  active = active;
-  saved = stack_tops 0 image.comps;
-  memory = memory;
-  cross = [];
-  input = input;
-  trace = trace;
-}
-
 -- its state, by the bytes of its store
 abbrev pub state_of : {S : Type 0} → (S → Memory) → Progress S → State
-state_of bytes machine =
-    state_with machine.image machine.registers machine.pc machine.active (bytes machine.store) machine.input machine.trace
+state_of bytes machine = record {
+  regs = machine.registers;
+  pc = machine.pc;
+  active = machine.active;
+  saved = machine.saved;
+  memory = bytes machine.store;
+  cross = machine.cross;
+  input = machine.input;
+  trace = machine.trace;
+}
 
 -- its run so far
 abbrev pub run_of : {S : Type 0} → (S → Memory) → Progress S → Run
 run_of bytes machine = record { state = state_of bytes machine; stop = machine.stop }
+
+-- a machine, and one of the compartments of its image
+pub record Part (S : Type 0) : Type 0 where
+  pub machine : Progress S
+  pub comp : ℕ

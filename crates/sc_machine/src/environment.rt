@@ -1,18 +1,17 @@
 //! Calls of the environment.
 
-ghost use Rattle.std.specs.Prelude.{◌≡◌, ◌+◌, ◌^◌, ◌<◌, ◌≤◌, length, vec_capacity, OnErr};
+ghost use Rattle.std.specs.Prelude.{◌≡◌, ◌+◌, ◌^◌, ◌<◌, ◌≤◌, ℕ, length, OnErr};
 ghost use Rattle.sc_store.specs.Memory.{Memory};
 ghost use Rattle.sc_image.specs.declared.parts.ImageParts.{ImageParts};
+ghost use Rattle.sc_image.specs.Calls.{may_input, may_output};
 ghost use Rattle.sc_image.specs.Cross.{input_at, input, output};
 ghost use Rattle.sc_image.specs.Step.{Goes, next, environment_call};
-ghost use Rattle.sc_machine.specs.Hart.{state_in, outcome_of, IsSound};
+ghost use Rattle.sc_machine.specs.Hart.{state_in, outcome_of, IsSound, HasRoom, HasRoomForOne};
 
-use crate::code::{may_input, may_output};
-use crate::hart::Hart;
-use crate::jump::A0;
+use crate::hart::{A0, Hart};
+use crate::here::Here;
 use sc_core::TrapReason;
 use sc_event::Event;
-use sc_image::Image;
 
 /// The number of register a7, which says what an environment call calls.
 const A7: usize = 17;
@@ -24,24 +23,25 @@ const INPUT: u32 = 1;
 const OUTPUT: u32 = 2;
 
 pub(crate) fn environment_call(
-    image: &Image,
+    here: &Here<'_>,
     inputs: &[i32],
     hart: &mut Hart,
 ) -> Result<(), TrapReason>
     requires pc { hart.old.core.pc + 4 < 2 ^ 32 }
-    requires sound { IsSound image.now hart.old }
-    requires room { length hart.old.trace.items < vec_capacity hart.old.trace }
-    ensures outcome { (memory : Memory) → outcome_of result (state_in image.now memory hart.new) ≡ environment_call image.now inputs.now (state_in image.now memory hart.old) }
+    requires here { here.now.comp ≡ hart.old.active }
+    requires sound { IsSound here.now.image hart.old }
+    requires room { HasRoomForOne hart.old }
+    ensures outcome { (memory : Memory) → outcome_of result (state_in memory hart.new) ≡ environment_call here.now.image inputs.now (state_in memory hart.old) }
     ensures trap { OnErr result (hart.new ≡ hart.old) }
-    ensures sound { IsSound image.now hart.new }
-    ensures room { vec_capacity hart.old.trace ≤ vec_capacity hart.new.trace }
+    ensures sound { IsSound here.now.image hart.new }
+    ensures room { (events : ℕ) → HasRoom events hart.old → HasRoom events hart.new }
 {
     match hart.core.registers[A7] {
-        INPUT if may_input(image, hart.active) => {
+        INPUT if may_input(here) => {
             input(inputs, hart);
             Ok(())
         }
-        OUTPUT if may_output(image, hart.active) => {
+        OUTPUT if may_output(here) => {
             output(hart);
             Ok(())
         }
@@ -53,10 +53,10 @@ pub(crate) fn environment_call(
 /// Shows a0.
 fn output(hart: &mut Hart)
     requires pc { hart.old.core.pc + 4 < 2 ^ 32 }
-    requires room { length hart.old.trace.items < vec_capacity hart.old.trace }
-    ensures state { (image : ImageParts) (memory : Memory) → Goes (state_in image memory hart.new) ≡ next (output (state_in image memory hart.old)) }
+    requires room { HasRoomForOne hart.old }
+    ensures state { (memory : Memory) → Goes (state_in memory hart.new) ≡ next (output (state_in memory hart.old)) }
     ensures sound { (image : ImageParts) → IsSound image hart.old → IsSound image hart.new }
-    ensures room { vec_capacity hart.old.trace ≤ vec_capacity hart.new.trace }
+    ensures room { (events : ℕ) → HasRoom events hart.old → HasRoom events hart.new }
 {
     hart.show(Event::Out {
         comp: hart.active,
@@ -79,10 +79,10 @@ fn input_at(inputs: &[i32], number: usize) -> u32
 fn input(inputs: &[i32], hart: &mut Hart)
     requires pc { hart.old.core.pc + 4 < 2 ^ 32 }
     requires count { hart.old.input ≤ length hart.old.trace.items }
-    requires room { length hart.old.trace.items < vec_capacity hart.old.trace }
-    ensures state { (image : ImageParts) (memory : Memory) → Goes (state_in image memory hart.new) ≡ next (input inputs.now (state_in image memory hart.old)) }
+    requires room { HasRoomForOne hart.old }
+    ensures state { (memory : Memory) → Goes (state_in memory hart.new) ≡ next (input inputs.now (state_in memory hart.old)) }
     ensures sound { (image : ImageParts) → IsSound image hart.old → IsSound image hart.new }
-    ensures room { vec_capacity hart.old.trace ≤ vec_capacity hart.new.trace }
+    ensures room { (events : ℕ) → HasRoom events hart.old → HasRoom events hart.new }
 {
     let word = input_at(inputs, hart.input);
     hart.core.registers[A0] = word;
@@ -92,4 +92,34 @@ fn input(inputs: &[i32], hart: &mut Hart)
         value: word,
     });
     hart.core.advance();
+}
+
+/// Whether the compartment may read inputs.
+fn may_input(here: &Here<'_>) -> bool
+    ensures { result ≡ may_input here.now.image here.now.comp }
+{
+    match here
+        .image()
+        .parts()
+        .comps
+        .get(here.comp().number() as usize)
+    {
+        Some(part) => part.input,
+        None => false,
+    }
+}
+
+/// Whether the compartment may output.
+fn may_output(here: &Here<'_>) -> bool
+    ensures { result ≡ may_output here.now.image here.now.comp }
+{
+    match here
+        .image()
+        .parts()
+        .comps
+        .get(here.comp().number() as usize)
+    {
+        Some(part) => part.output,
+        None => false,
+    }
 }

@@ -1,63 +1,64 @@
 //! One step, by the instruction at the pc. A step that can't be made changes nothing.
 
-ghost use Rattle.std.specs.Prelude.{◌≡◌, ◌+◌, ◌^◌, ◌<◌, ◌≤◌, length, vec_capacity, OnErr};
+ghost use Rattle.std.specs.Prelude.{◌≡◌, ◌+◌, ◌^◌, ◌<◌, ℕ, OnErr};
 ghost use Rattle.sc_image.specs.Step.{execute, step};
-ghost use Rattle.sc_machine.specs.Hart.{state_in, outcome_of, IsSound, IsBacked};
+ghost use Rattle.sc_machine.specs.Hart.{state_in, outcome_of, IsSound, HasRoom, HasRoomForOne, IsBacked};
 
 use crate::arithmetic::{op, op_imm, shift, upper};
-use crate::code::word_at;
 use crate::environment::environment_call;
 use crate::hart::Hart;
+use crate::here::Here;
 use crate::jump::{branch, jal, jalr};
 use crate::memory::{load, store};
 use rv_code::{Instr, decode};
 use sc_core::TrapReason;
-use sc_image::Image;
 use sc_store::Store;
 
 /// Executes the instruction at the pc.
 pub(crate) fn step<S: Store>(
-    image: &Image,
+    here: &Here<'_>,
     inputs: &[i32],
     hart: &mut Hart,
     memory: &mut S,
 ) -> Result<(), TrapReason>
-    requires sound { IsSound image.now hart.old }
-    requires backed { IsBacked image.now (S.bytes memory.old) }
-    requires room { length hart.old.trace.items < vec_capacity hart.old.trace }
-    ensures outcome { outcome_of result (state_in image.now (S.bytes memory.new) hart.new) ≡ step image.now inputs.now (state_in image.now (S.bytes memory.old) hart.old) }
+    requires here { here.now.comp ≡ hart.old.active }
+    requires sound { IsSound here.now.image hart.old }
+    requires backed { IsBacked here.now.image (S.bytes memory.old) }
+    requires room { HasRoomForOne hart.old }
+    ensures outcome { outcome_of result (state_in (S.bytes memory.new) hart.new) ≡ step here.now.image inputs.now (state_in (S.bytes memory.old) hart.old) }
     ensures trap { OnErr result (hart.new ≡ hart.old) }
     ensures memory { OnErr result (S.bytes memory.new ≡ S.bytes memory.old) }
-    ensures sound { IsSound image.now hart.new }
-    ensures backed { IsBacked image.now (S.bytes memory.new) }
-    ensures room { vec_capacity hart.old.trace ≤ vec_capacity hart.new.trace }
+    ensures sound { IsSound here.now.image hart.new }
+    ensures backed { IsBacked here.now.image (S.bytes memory.new) }
+    ensures room { (events : ℕ) → HasRoom events hart.old → HasRoom events hart.new }
 {
-    let Some(word) = word_at(image, hart.active, hart.core.pc) else {
+    let Some(word) = here.word_at(hart.core.pc) else {
         return Err(TrapReason::BadJump);
     };
     let Some(instr) = decode(word) else {
         return Err(TrapReason::Illegal);
     };
-    execute(image, inputs, hart, memory, &instr)
+    execute(here, inputs, hart, memory, &instr)
 }
 
 fn execute<S: Store>(
-    image: &Image,
+    here: &Here<'_>,
     inputs: &[i32],
     hart: &mut Hart,
     memory: &mut S,
     instr: &Instr,
 ) -> Result<(), TrapReason>
-    requires sound { IsSound image.now hart.old }
-    requires backed { IsBacked image.now (S.bytes memory.old) }
+    requires here { here.now.comp ≡ hart.old.active }
+    requires sound { IsSound here.now.image hart.old }
+    requires backed { IsBacked here.now.image (S.bytes memory.old) }
     requires pc { hart.old.core.pc + 4 < 2 ^ 32 }
-    requires room { length hart.old.trace.items < vec_capacity hart.old.trace }
-    ensures outcome { outcome_of result (state_in image.now (S.bytes memory.new) hart.new) ≡ execute image.now inputs.now (state_in image.now (S.bytes memory.old) hart.old) instr.now }
+    requires room { HasRoomForOne hart.old }
+    ensures outcome { outcome_of result (state_in (S.bytes memory.new) hart.new) ≡ execute here.now.image inputs.now (state_in (S.bytes memory.old) hart.old) instr.now }
     ensures trap { OnErr result (hart.new ≡ hart.old) }
     ensures memory { OnErr result (S.bytes memory.new ≡ S.bytes memory.old) }
-    ensures sound { IsSound image.now hart.new }
-    ensures backed { IsBacked image.now (S.bytes memory.new) }
-    ensures room { vec_capacity hart.old.trace ≤ vec_capacity hart.new.trace }
+    ensures sound { IsSound here.now.image hart.new }
+    ensures backed { IsBacked here.now.image (S.bytes memory.new) }
+    ensures room { (events : ℕ) → HasRoom events hart.old → HasRoom events hart.new }
 {
     match *instr {
         Instr::Upper { op, rd, imm } => upper(&mut hart.core, op, rd, imm),
@@ -77,27 +78,19 @@ fn execute<S: Store>(
         Instr::Fence { .. } => hart.core.advance(),
         Instr::Load { op, rd, rs1, imm } => {
             let address = hart.core.displaced(rs1, imm);
-            return load(image, hart.active, &mut hart.core, memory, op, rd, address);
+            return load(here, &mut hart.core, memory, op, rd, address);
         }
         Instr::Store { op, rs1, rs2, imm } => {
             let address = hart.core.displaced(rs1, imm);
             let word = hart.core.register(rs2);
-            return store(
-                image,
-                hart.active,
-                &mut hart.core,
-                memory,
-                op,
-                address,
-                word,
-            );
+            return store(here, &mut hart.core, memory, op, address, word);
         }
-        Instr::Jal { rd, imm } => return jal(image, hart.active, &mut hart.core, rd, imm),
+        Instr::Jal { rd, imm } => return jal(here, hart, rd, imm),
         Instr::Branch { op, rs1, rs2, imm } => {
-            return branch(image, hart.active, &mut hart.core, op, rs1, rs2, imm);
+            return branch(here, &mut hart.core, op, rs1, rs2, imm);
         }
-        Instr::Jalr { rd, rs1, imm } => return jalr(image, hart, rd, rs1, imm),
-        Instr::Ecall => return environment_call(image, inputs, hart),
+        Instr::Jalr { rd, rs1, imm } => return jalr(here, hart, rd, rs1, imm),
+        Instr::Ecall => return environment_call(here, inputs, hart),
         Instr::Ebreak => return Err(TrapReason::Breakpoint),
     }
     Ok(())

@@ -1,21 +1,25 @@
 //! The state that instructions change, apart from memory.
 
-ghost use Rattle.std.specs.Prelude.{◌≡◌, ◌+◌, ◌^◌, ◌<◌, ◌≤◌, ◌++◌, ◌∷◌, [], length, slice_index, vec_capacity, IfOk};
+ghost use Rattle.std.specs.Prelude.{◌≡◌, ◌+◌, ◌^◌, ◌<◌, ◌≤◌, ◌++◌, ◌∷◌, [], length, slice_index, vec_capacity};
 ghost use Rattle.rv_code.specs.Ranges.{IsReg};
 ghost use Rattle.sc_word.specs.Word.{word_of};
 ghost use Rattle.sc_word.specs.Machine.{add_word};
-ghost use Rattle.sc_image.specs.State.{start, start_memory, written};
-ghost use Rattle.sc_machine.specs.Hart.{given, advanced, state_in};
+ghost use Rattle.sc_image.specs.State.{written};
+ghost use Rattle.sc_machine.specs.Hart.{given, advanced, linked};
 
-use crate::code::stack_top;
 use rv_code::{Immediate, Reg};
 use sc_event::{CompId, Event};
-use sc_image::ImageParts;
+use sc_gate::CrossStack;
 use sc_word::add;
-use std::alloc::{AllocError, Global};
 
-/// The address that `main` returns to.
-pub(crate) const GATE: u32 = 0x100;
+/// The number of register ra, which holds the address that a function returns to.
+pub(crate) const RA: usize = 1;
+
+/// The number of register sp, the stack pointer.
+pub(crate) const SP: usize = 2;
+
+/// The number of register a0, which holds a result or the first argument.
+pub(crate) const A0: usize = 10;
 
 /// The immediate's word.
 pub(crate) fn word_of(imm: Immediate) -> u32
@@ -58,6 +62,16 @@ impl Core {
         }
     }
 
+    /// Goes to another instruction, with the address of the next one in a register.
+    pub fn link(&mut self, number: u8, target: u32)
+        requires pc { self.old.pc + 4 < 2 ^ 32 }
+        requires register { IsReg number }
+        ensures { self.new ≡ linked self.old number target }
+    {
+        self.set(number, self.pc + 4);
+        self.pc = target;
+    }
+
     /// Goes on to the next instruction.
     pub fn advance(&mut self)
         requires { self.old.pc + 4 < 2 ^ 32 }
@@ -82,32 +96,16 @@ pub(crate) struct Hart {
     pub core: Core,
     /// The compartment whose code runs.
     pub active: CompId,
+    /// Of each compartment, the sp that it gets at its next call.
+    pub saved: Vec<u32>,
+    /// The calls of other compartments that haven't returned.
+    pub cross: CrossStack,
     /// How many inputs were read.
     pub input: usize,
     pub trace: Vec<Event>,
 }
 
 impl Hart {
-    /// At the image's entry, with room for so many events.
-    pub fn new(alloc: Global, image: &ImageParts, events: u32) -> Result<Hart, AllocError>
-        ensures state { IfOk result (λ hart. state_in image.now (start_memory image.now) hart ≡ start image.now) }
-        ensures room { IfOk result (λ hart. events ≤ vec_capacity hart.trace) }
-    {
-        let mut registers = [0; 32];
-        registers[1] = GATE;
-        registers[2] = stack_top(image.main);
-        let core = Core {
-            registers,
-            pc: image.entry,
-        };
-        Ok(Hart {
-            core,
-            active: image.main,
-            input: 0,
-            trace: Vec::with_capacity(alloc, events as usize)?,
-        })
-    }
-
     /// Adds an event, for which there is room.
     pub fn show(&mut self, event: Event)
         requires { length self.old.trace.items < vec_capacity self.old.trace }
@@ -115,6 +113,8 @@ impl Hart {
         ensures room { vec_capacity self.old.trace ≤ vec_capacity self.new.trace }
         ensures core { self.new.core ≡ self.old.core }
         ensures active { self.new.active ≡ self.old.active }
+        ensures saved { self.new.saved ≡ self.old.saved }
+        ensures cross { self.new.cross ≡ self.old.cross }
         ensures input { self.new.input ≡ self.old.input }
     {
         self.trace.push(event).unwrap();

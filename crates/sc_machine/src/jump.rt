@@ -1,27 +1,25 @@
 //! Jumps and branches, and what lies beyond the own code.
 
-ghost use Rattle.std.specs.Prelude.{◌≡◌, ◌+◌, ◌^◌, ◌<◌, ◌≤◌, ℤ, List, length, vec_capacity, OnErr};
+ghost use Rattle.std.specs.Prelude.{◌≡◌, ◌+◌, ◌^◌, ◌<◌, ℕ, ℤ, List, OnErr};
 ghost use Rattle.rv_code.specs.declared.instr.Instr.{Instr};
 ghost use Rattle.rv_code.specs.Ranges.{IsReg};
 ghost use Rattle.sc_store.specs.Memory.{Memory};
 ghost use Rattle.sc_word.specs.Word.{word_of};
 ghost use Rattle.sc_word.specs.Machine.{add_word};
+ghost use Rattle.sc_core.specs.declared.stop.TrapReason.TheVariants.{BadJump};
 ghost use Rattle.sc_image.specs.State.{State};
-ghost use Rattle.sc_image.specs.Step.{jump, calls, execute};
-ghost use Rattle.sc_machine.specs.Place.{IsPlace};
-ghost use Rattle.sc_machine.specs.Hart.{at, comp_in, state_in, outcome_of, IsSound};
+ghost use Rattle.sc_image.specs.Step.{Traps, jump, calls, execute};
+ghost use Rattle.sc_machine.specs.Hart.{at, comp_in, state_in, outcome_of, IsSound, HasRoom, HasRoomForOne};
 
 use crate::arithmetic::compares;
-use crate::code::word_at;
-use crate::hart::{Core, GATE, Hart};
+use crate::calling::call_out;
+use crate::hart::{Core, Hart};
+use crate::here::Here;
+use crate::layout::GATE;
+use crate::returning::leave;
 use rv_code::{BranchOffset, BranchOp, Immediate, JumpOffset, Reg};
 use sc_core::TrapReason;
-use sc_event::{CompId, Event};
-use sc_image::Image;
 use sc_word::add;
-
-/// The number of register a0, which holds a result or the first argument.
-pub(crate) const A0: usize = 10;
 
 /// Where a jump from the pc leads.
 fn jump_target(core: &Core, imm: JumpOffset) -> u32
@@ -37,51 +35,65 @@ fn branch_target(core: &Core, imm: BranchOffset) -> u32
     add(core.pc, imm.value().cast_unsigned())
 }
 
-/// Jumps to a place of the own code, with the address of the next instruction in a register. In an
-/// image of one compartment there is no other place to jump to.
-fn jump(
-    image: &Image,
-    active: CompId,
-    core: &mut Core,
-    rd: u8,
-    target: u32,
-) -> Result<(), TrapReason>
-    requires pc { core.old.pc + 4 < 2 ^ 32 }
-    requires place { IsPlace image.now active }
+/// Jumps to a place of the own code, with the address of the next instruction in a register. A jump
+/// out of it may be a call.
+fn jump(here: &Here<'_>, hart: &mut Hart, rd: u8, target: u32) -> Result<(), TrapReason>
+    requires pc { hart.old.core.pc + 4 < 2 ^ 32 }
+    requires here { here.now.comp ≡ hart.old.active }
+    requires sound { IsSound here.now.image hart.old }
+    requires room { HasRoomForOne hart.old }
     requires register { IsReg rd }
-    ensures outcome { (state : State) → let there = comp_in active state in outcome_of result (at there core.new) ≡ jump image.now (at there core.old) rd target (calls image.now (at there core.old) rd target) }
+    ensures outcome { (memory : Memory) → outcome_of result (state_in memory hart.new) ≡ jump here.now.image (state_in memory hart.old) rd target (calls here.now.image (state_in memory hart.old) rd target) }
+    ensures trap { OnErr result (hart.new ≡ hart.old) }
+    ensures sound { IsSound here.now.image hart.new }
+    ensures room { (events : ℕ) → HasRoom events hart.old → HasRoom events hart.new }
+{
+    if target % 4 != 0 {
+        return Err(TrapReason::Misaligned);
+    }
+    if here.word_at(target).is_none() {
+        return call_out(here, hart, rd, target);
+    }
+    hart.core.link(rd, target);
+    Ok(())
+}
+
+/// Jumps to a place of the own code, as a branch does. There is no other place to branch to.
+fn jump_within(here: &Here<'_>, core: &mut Core, target: u32) -> Result<(), TrapReason>
+    ensures outcome { (state : State) → let there = comp_in here.now.comp state in outcome_of result (at there core.new) ≡ jump here.now.image (at there core.old) 0 target (Traps BadJump) }
     ensures trap { OnErr result (core.new ≡ core.old) }
 {
     if target % 4 != 0 {
         return Err(TrapReason::Misaligned);
     }
-    if word_at(image, active, target).is_none() {
+    if here.word_at(target).is_none() {
         return Err(TrapReason::BadJump);
     }
-    core.set(rd, core.pc + 4);
     core.pc = target;
     Ok(())
 }
 
 pub(crate) fn jal(
-    image: &Image,
-    active: CompId,
-    core: &mut Core,
+    here: &Here<'_>,
+    hart: &mut Hart,
     rd: Reg,
     imm: JumpOffset,
 ) -> Result<(), TrapReason>
-    requires pc { core.old.pc + 4 < 2 ^ 32 }
-    requires place { IsPlace image.now active }
-    ensures outcome { (inputs : List ℤ) (state : State) → let there = comp_in active state in outcome_of result (at there core.new) ≡ execute image.now inputs (at there core.old) (Instr.Jal rd imm) }
-    ensures trap { OnErr result (core.new ≡ core.old) }
+    requires pc { hart.old.core.pc + 4 < 2 ^ 32 }
+    requires here { here.now.comp ≡ hart.old.active }
+    requires sound { IsSound here.now.image hart.old }
+    requires room { HasRoomForOne hart.old }
+    ensures outcome { (inputs : List ℤ) (memory : Memory) → outcome_of result (state_in memory hart.new) ≡ execute here.now.image inputs (state_in memory hart.old) (Instr.Jal rd imm) }
+    ensures trap { OnErr result (hart.new ≡ hart.old) }
+    ensures sound { IsSound here.now.image hart.new }
+    ensures room { (events : ℕ) → HasRoom events hart.old → HasRoom events hart.new }
 {
-    let target = jump_target(core, imm);
-    jump(image, active, core, rd.number(), target)
+    let target = jump_target(&hart.core, imm);
+    jump(here, hart, rd.number(), target)
 }
 
 pub(crate) fn branch(
-    image: &Image,
-    active: CompId,
+    here: &Here<'_>,
     core: &mut Core,
     op: BranchOp,
     rs1: Reg,
@@ -89,8 +101,7 @@ pub(crate) fn branch(
     imm: BranchOffset,
 ) -> Result<(), TrapReason>
     requires pc { core.old.pc + 4 < 2 ^ 32 }
-    requires place { IsPlace image.now active }
-    ensures outcome { (inputs : List ℤ) (state : State) → let there = comp_in active state in outcome_of result (at there core.new) ≡ execute image.now inputs (at there core.old) (Instr.Branch op rs1 rs2 imm) }
+    ensures outcome { (inputs : List ℤ) (state : State) → let there = comp_in here.now.comp state in outcome_of result (at there core.new) ≡ execute here.now.image inputs (at there core.old) (Instr.Branch op rs1 rs2 imm) }
     ensures trap { OnErr result (core.new ≡ core.old) }
 {
     if !compares(op, core.register(rs1), core.register(rs2)) {
@@ -98,33 +109,30 @@ pub(crate) fn branch(
         return Ok(());
     }
     let target = branch_target(core, imm);
-    jump(image, active, core, 0, target)
+    jump_within(here, core, target)
 }
 
-/// A jump to a register plus an immediate. Through the gate it returns: no other compartment waits,
-/// so the run ends.
+/// A jump to a register plus an immediate. Through the gate it returns.
 pub(crate) fn jalr(
-    image: &Image,
+    here: &Here<'_>,
     hart: &mut Hart,
     rd: Reg,
     rs1: Reg,
     imm: Immediate,
 ) -> Result<(), TrapReason>
     requires pc { hart.old.core.pc + 4 < 2 ^ 32 }
-    requires sound { IsSound image.now hart.old }
-    requires room { length hart.old.trace.items < vec_capacity hart.old.trace }
-    ensures outcome { (inputs : List ℤ) (memory : Memory) → outcome_of result (state_in image.now memory hart.new) ≡ execute image.now inputs (state_in image.now memory hart.old) (Instr.Jalr rd rs1 imm) }
+    requires here { here.now.comp ≡ hart.old.active }
+    requires sound { IsSound here.now.image hart.old }
+    requires room { HasRoomForOne hart.old }
+    ensures outcome { (inputs : List ℤ) (memory : Memory) → outcome_of result (state_in memory hart.new) ≡ execute here.now.image inputs (state_in memory hart.old) (Instr.Jalr rd rs1 imm) }
     ensures trap { OnErr result (hart.new ≡ hart.old) }
-    ensures sound { IsSound image.now hart.new }
-    ensures room { vec_capacity hart.old.trace ≤ vec_capacity hart.new.trace }
+    ensures sound { IsSound here.now.image hart.new }
+    ensures room { (events : ℕ) → HasRoom events hart.old → HasRoom events hart.new }
 {
     let target = hart.core.displaced(rs1, imm) / 2 * 2;
     if rd.number() != 0 || target != GATE {
-        return jump(image, hart.active, &mut hart.core, rd.number(), target);
+        return jump(here, hart, rd.number(), target);
     }
-    hart.show(Event::End {
-        comp: hart.active,
-        value: hart.core.registers[A0],
-    });
+    leave(here.image(), hart);
     Ok(())
 }

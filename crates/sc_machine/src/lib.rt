@@ -3,19 +3,25 @@
 #![tactic(auto)]
 
 mod arithmetic;
-mod code;
+mod calling;
 mod environment;
 mod execute;
 mod hart;
+mod here;
 mod jump;
 mod laws;
+mod layout;
 mod loading;
 mod machine;
 mod memory;
+mod own_view;
+mod program;
+mod returning;
 mod run;
 
 pub use laws::any_calls;
 pub use machine::{LoadFault, Machine};
+pub use own_view::OwnView;
 pub use sc_core::{Stop, TrapReason};
 
 #[cfg(test)]

@@ -1,29 +1,94 @@
-//! The memory that a run starts with.
+//! The state that a run starts in.
 
-ghost use Rattle.std.specs.Prelude.{◌≡◌, ◌+◌, ◌<◌, ◌^◌, ◌≤◌, length, IfOk};
-ghost use Rattle.sc_store.specs.Memory.{HasBytes};
+ghost use Rattle.std.specs.Prelude.{◌≡◌, ◌+◌, ◌<◌, ◌^◌, ◌≤◌, length, vec_capacity, All, IfOk};
+ghost use Rattle.sc_store.specs.Memory.{HasBytes, zeros};
 ghost use Rattle.sc_store.specs.Flat.{written};
-ghost use Rattle.sc_image.specs.State.{start_memory};
+ghost use Rattle.sc_image.specs.State.{start, start_memory, stack_tops};
+ghost use Rattle.sc_machine.specs.Hart.{state_in, IsSound, HasRoom};
+ghost use Rattle.sc_machine.specs.Regions.{HasFewGlobals, regions_from, filled_from};
 
-use crate::code::{STACK_SIZE, globals, stack_top};
-use sc_image::Image;
+use crate::hart::{Core, Hart, RA, SP};
+use crate::layout::{GATE, STACK_SIZE, comp_id, data_start, stack_top};
+use sc_gate::CrossStack;
+use sc_image::{CompPart, Image};
 use sc_store::{OutOfMemory, Region, Store};
-use std::alloc::Global;
+use std::alloc::{AllocError, Global};
+
+/// At the image's entry, with room for so many events.
+pub(crate) fn start(alloc: Global, image: &Image, events: u32) -> Result<Hart, OutOfMemory>
+    ensures state { IfOk result (λ hart. state_in (start_memory image.now) hart ≡ start image.now) }
+    ensures sound { IfOk result (IsSound image.now) }
+    ensures room { IfOk result (HasRoom events) }
+{
+    let parts = image.parts();
+    let Ok(cross) = CrossStack::with_room(alloc, events) else {
+        return Err(OutOfMemory);
+    };
+    let mut registers = [0; 32];
+    registers[RA] = GATE;
+    registers[SP] = stack_top(parts.main);
+    Ok(Hart {
+        core: Core {
+            registers,
+            pc: parts.entry,
+        },
+        active: parts.main,
+        saved: stack_tops(alloc, parts.comps.as_slice())?,
+        cross,
+        input: 0,
+        trace: Vec::with_capacity(alloc, events as usize)?,
+    })
+}
+
+/// The tops of all stacks.
+fn stack_tops(alloc: Global, comps: &[CompPart]) -> Result<Vec<u32>, AllocError>
+    requires { length comps.now ≤ 32 }
+    ensures { IfOk result (λ tops. tops.items ≡ stack_tops 0 comps.now) }
+{
+    let mut tops = Vec::new(alloc);
+    for number in 0..comps.len() {
+        tops.push(stack_top(comp_id(number)))?;
+    }
+    Ok(tops)
+}
 
 /// Stacks of zeros, and globals with the image's bytes.
 pub(crate) fn start_memory<S: Store>(alloc: Global, image: &Image) -> Result<S, OutOfMemory>
     ensures { IfOk result (λ memory. S.bytes memory ≡ start_memory image.now) }
 {
-    let comp = image.parts().main;
-    let top = stack_top(comp);
-    let globals = globals(image, comp);
-    let regions = [Region {
-        start: top - STACK_SIZE,
-        bytes: STACK_SIZE + globals.len() as u32,
-    }];
+    let comps = image.parts().comps.as_slice();
+    let regions = regions(alloc, comps)?;
     let mut memory = S::zeroed(alloc, &regions)?;
-    fill(&mut memory, top, globals);
+    fill_all(&mut memory, comps);
     Ok(memory)
+}
+
+/// The addresses of each compartment's data.
+fn regions(alloc: Global, comps: &[CompPart]) -> Result<Vec<Region>, AllocError>
+    requires count { length comps.now ≤ 32 }
+    requires few { All HasFewGlobals comps.now }
+    ensures { IfOk result (λ regions. regions.items ≡ regions_from 0 comps.now) }
+{
+    let mut regions = Vec::new(alloc);
+    for (number, comp) in comps.iter().enumerate() {
+        regions.push(Region {
+            start: data_start(comp_id(number)),
+            bytes: STACK_SIZE + comp.globals.as_bytes().len() as u32,
+        })?;
+    }
+    Ok(regions)
+}
+
+/// Puts each compartment's globals above its stack.
+fn fill_all<S: Store>(memory: &mut S, comps: &[CompPart])
+    requires count { length comps.now ≤ 32 }
+    requires few { All HasFewGlobals comps.now }
+    requires zeros { S.bytes memory.old ≡ zeros (regions_from 0 comps.now) }
+    ensures { S.bytes memory.new ≡ filled_from 0 comps.now (S.bytes memory.old) }
+{
+    for (number, comp) in comps.iter().enumerate() {
+        fill(memory, stack_top(comp_id(number)), comp.globals.as_bytes());
+    }
 }
 
 /// Puts these bytes at the addresses from `start` on.

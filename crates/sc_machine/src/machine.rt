@@ -1,13 +1,18 @@
 //! Machines, and their runs in pieces.
 
-ghost use Rattle.std.specs.Prelude.{◌≡◌, ◌<◌, ◌↔◌, IfOk, IfErr, IsSome};
-ghost use Rattle.sc_image.specs.State.{reg, start_memory};
+ghost use Rattle.std.specs.Prelude.{◌≡◌, ◌<◌, ◌↔◌, length, IfOk, IfErr, IsSome, IsTrue};
+ghost use Rattle.sc_image.specs.Layout.{are_data};
+ghost use Rattle.sc_image.specs.Own.{data_of};
+ghost use Rattle.sc_image.specs.State.{reg, saved_sp, start_memory};
 ghost use Rattle.sc_image.specs.Machine.{run, continued};
 ghost use Rattle.sc_machine.specs.Progress.{state_of, run_of};
 ghost use Rattle.sc_machine.specs.Calls.{loaded};
 
 use crate::hart::Hart;
-use crate::loading::start_memory;
+use crate::here::Here;
+use crate::loading::{start, start_memory};
+use crate::own_view::OwnView;
+use crate::program::Program;
 use crate::run::run;
 use sc_core::Stop;
 use sc_event::{CompId, Event};
@@ -20,7 +25,7 @@ use std::marker::Model;
 /// An image with a run of it, which may be taken in pieces, over a store that keeps its data.
 #[derive(Drop)]
 pub struct Machine<S: Store> {
-    image: Image,
+    program: Program,
     inputs: Items<i32>,
     events: u32,
     hart: Hart,
@@ -33,12 +38,11 @@ impl<S: Store> Model for Machine<S> {
 
     ghost Value = { Progress S };
 
-    ghost use Rattle.std.specs.Prelude.{◌≤◌, vec_capacity};
-    ghost use Rattle.sc_machine.specs.Hart.{IsSound, IsBacked};
+    ghost use Rattle.sc_machine.specs.Hart.{IsSound, HasRoom, IsBacked};
 
-    ghost view = { λ m. record { image = m.image; inputs = m.inputs; events = m.events; registers = m.hart.core.registers; pc = m.hart.core.pc; active = m.hart.active; input = m.hart.input; trace = m.hart.trace.items; store = m.memory; stop = m.stop } };
+    ghost view = { λ m. record { image = m.program; inputs = m.inputs; events = m.events; registers = m.hart.core.registers; pc = m.hart.core.pc; active = m.hart.active; saved = m.hart.saved.items; cross = m.hart.cross.calls; input = m.hart.input; trace = m.hart.trace.items; store = m.memory; stop = m.stop } };
 
-    ghost invariant = { λ m. (m.events ≤ vec_capacity m.hart.trace) × IsSound m.image m.hart × IsBacked m.image (S.bytes m.memory) };
+    ghost invariant = { λ m. HasRoom m.events m.hart × IsSound m.program m.hart × IsBacked m.program (S.bytes m.memory) };
 }
 
 /// A machine that can't be made.
@@ -49,7 +53,8 @@ pub enum LoadFault {
 }
 
 impl<S: Store> Machine<S> {
-    /// A machine at the image's entry, with memory for its data and for a trace of `events` events.
+    /// A machine at the image's entry, with memory for its data, for a trace of
+    /// `events` events and for as many calls.
     /// The inputs are what the environment is to give, one after the other.
     pub fn load(
         alloc: Global,
@@ -69,11 +74,15 @@ impl<S: Store> Machine<S> {
         let Ok(memory) = start_memory(alloc, &image) else {
             return Err(LoadFault::OutOfMemory(image));
         };
-        let Ok(hart) = Hart::new(alloc, image.parts(), events) else {
+        let Ok(hart) = start(alloc, &image, events) else {
             return Err(LoadFault::OutOfMemory(image));
         };
+        let program = match Program::new(alloc, image) {
+            Ok(program) => program,
+            Err(image) => return Err(LoadFault::OutOfMemory(image)),
+        };
         Ok(Machine {
-            image,
+            program,
             inputs,
             events,
             hart,
@@ -94,7 +103,7 @@ impl<S: Store> Machine<S> {
         if let Stop::StepsOut = self.stop {
             let inputs = self.inputs.as_slice();
             self.stop = run(
-                &self.image,
+                &self.program,
                 inputs,
                 self.events,
                 &mut self.hart,
@@ -143,5 +152,34 @@ impl<S: Store> Machine<S> {
             return None;
         }
         Some(self.memory.load8(at) as u8)
+    }
+
+    /// What belongs to a compartment of the image.
+    pub fn own_part(&self, comp: CompId) -> OwnView<'_, S>
+        requires { comp < length self.now.image.comps }
+        ensures machine { result.machine ≡ self.now }
+        ensures comp { result.comp ≡ comp }
+    {
+        OwnView::new(self, comp)
+    }
+
+    /// The byte of that compartment's data at an address.
+    pub(crate) fn byte_of(&self, comp: CompId, at: u32) -> Option<u8>
+        requires { comp < length self.now.image.comps }
+        ensures byte { result ≡ data_of self.now.image comp (state_of S.bytes self.now).memory at }
+        ensures owned { IsSome result ↔ IsTrue (are_data self.now.image comp at 1) }
+    {
+        if !Here::of(&self.program, comp).are_data(at, 1) {
+            return None;
+        }
+        Some(self.memory.load8(at) as u8)
+    }
+
+    /// The stack pointer that a compartment gets at its next call.
+    pub(crate) fn saved_sp(&self, comp: CompId) -> u32
+        requires { comp < length self.now.image.comps }
+        ensures { result ≡ saved_sp (state_of S.bytes self.now) comp }
+    {
+        self.hart.saved[comp.number() as usize]
     }
 }

@@ -4,21 +4,17 @@ ghost use Rattle.std.specs.Prelude.{◌≡◌, ◌+◌, ◌^◌, ◌<◌, ◌≤
 ghost use Rattle.sc_store.specs.Memory.{HasBytes, load_of, stored};
 ghost use Rattle.sc_image.specs.State.{State, start_memory};
 ghost use Rattle.sc_image.specs.Step.{load_size, store_size, extended, refused, load, store};
-ghost use Rattle.sc_machine.specs.Place.{IsPlace};
 ghost use Rattle.sc_machine.specs.Hart.{at, active_in, outcome_of, IsBacked};
 
-use crate::code::are_data;
 use crate::hart::Core;
+use crate::here::Here;
 use rv_code::{LoadOp, Reg, StoreOp};
 use sc_core::TrapReason;
-use sc_event::CompId;
-use sc_image::Image;
 use sc_store::Store;
 
 /// Loads from an address into a register.
 pub(crate) fn load<S: Store>(
-    image: &Image,
-    active: CompId,
+    here: &Here<'_>,
     core: &mut Core,
     memory: &S,
     op: LoadOp,
@@ -26,12 +22,11 @@ pub(crate) fn load<S: Store>(
     address: u32,
 ) -> Result<(), TrapReason>
     requires pc { core.old.pc + 4 < 2 ^ 32 }
-    requires place { IsPlace image.now active }
-    requires backed { IsBacked image.now (S.bytes memory.now) }
-    ensures outcome { (state : State) → let there = active_in active (S.bytes memory.now) state in outcome_of result (at there core.new) ≡ load image.now (at there core.old) op rd address }
+    requires backed { IsBacked here.now.image (S.bytes memory.now) }
+    ensures outcome { (state : State) → let there = active_in here.now.comp (S.bytes memory.now) state in outcome_of result (at there core.new) ≡ load here.now.image (at there core.old) op rd address }
     ensures trap { OnErr result (core.new ≡ core.old) }
 {
-    if let Some(reason) = refused(image, active, load_size(op), address) {
+    if let Some(reason) = refused(here, load_size(op), address) {
         return Err(reason);
     }
     core.give(rd, loaded(memory, op, address));
@@ -40,8 +35,7 @@ pub(crate) fn load<S: Store>(
 
 /// Stores the lowest bytes of a word at an address.
 pub(crate) fn store<S: Store>(
-    image: &Image,
-    active: CompId,
+    here: &Here<'_>,
     core: &mut Core,
     memory: &mut S,
     op: StoreOp,
@@ -49,14 +43,13 @@ pub(crate) fn store<S: Store>(
     word: u32,
 ) -> Result<(), TrapReason>
     requires pc { core.old.pc + 4 < 2 ^ 32 }
-    requires place { IsPlace image.now active }
-    requires backed { IsBacked image.now (S.bytes memory.old) }
-    ensures outcome { (state : State) → outcome_of result (at (active_in active (S.bytes memory.new) state) core.new) ≡ store image.now (at (active_in active (S.bytes memory.old) state) core.old) op address word }
+    requires backed { IsBacked here.now.image (S.bytes memory.old) }
+    ensures outcome { (state : State) → outcome_of result (at (active_in here.now.comp (S.bytes memory.new) state) core.new) ≡ store here.now.image (at (active_in here.now.comp (S.bytes memory.old) state) core.old) op address word }
     ensures trap { OnErr result (core.new ≡ core.old) }
     ensures memory { OnErr result (S.bytes memory.new ≡ S.bytes memory.old) }
-    ensures backed { IsBacked image.now (S.bytes memory.new) }
+    ensures backed { IsBacked here.now.image (S.bytes memory.new) }
 {
-    if let Some(reason) = refused(image, active, store_size(op), address) {
+    if let Some(reason) = refused(here, store_size(op), address) {
         return Err(reason);
     }
     put(memory, op, address, word);
@@ -65,17 +58,16 @@ pub(crate) fn store<S: Store>(
 }
 
 /// Why the compartment may not access so many bytes from an address on, if it may not.
-fn refused(image: &Image, comp: CompId, size: u32, address: u32) -> Option<TrapReason>
+fn refused(here: &Here<'_>, size: u32, address: u32) -> Option<TrapReason>
     requires some { 0 < size }
     requires few { size ≤ 4 }
-    requires place { IsPlace image.now comp }
-    ensures reason { result ≡ refused image.now comp size address }
-    ensures there { IfNone result (HasBytes (start_memory image.now) address size) }
+    ensures reason { result ≡ refused here.now.image here.now.comp size address }
+    ensures there { IfNone result (HasBytes (start_memory here.now.image) address size) }
 {
     if address % size != 0 {
         return Some(TrapReason::Misaligned);
     }
-    if !are_data(image, comp, address, size) {
+    if !here.are_data(address, size) {
         return Some(TrapReason::Owner);
     }
     None

@@ -1,43 +1,46 @@
 //! A run: steps until something stops it.
 
-ghost use Rattle.std.specs.Prelude.{◌≡◌, ◌≤◌, vec_capacity};
+ghost use Rattle.std.specs.Prelude.{◌≡◌};
 ghost use Rattle.sc_image.specs.Machine.{Run, is_ended, stopped, run};
-ghost use Rattle.sc_machine.specs.Hart.{state_in, IsSound, IsBacked};
+ghost use Rattle.sc_machine.specs.Hart.{state_in, IsSound, HasRoom, IsBacked};
 
 use crate::execute::step;
 use crate::hart::Hart;
+use crate::here::Here;
+use crate::program::Program;
 use sc_core::Stop;
 use sc_event::Event;
-use sc_image::Image;
 use sc_store::Store;
 
 /// Takes at most so many steps, with room for so many events in the whole trace.
 pub(crate) fn run<S: Store>(
-    image: &Image,
+    program: &Program,
     inputs: &[i32],
     events: u32,
     hart: &mut Hart,
     memory: &mut S,
     steps: u32,
 ) -> Stop
-    requires room { events ≤ vec_capacity hart.old.trace }
-    requires sound { IsSound image.now hart.old }
-    requires backed { IsBacked image.now (S.bytes memory.old) }
-    ensures run { ◌≡◌ {A = Run} (record { state = state_in image.now (S.bytes memory.new) hart.new; stop = result }) (run image.now inputs.now events steps (state_in image.now (S.bytes memory.old) hart.old)) }
-    ensures room { events ≤ vec_capacity hart.new.trace }
-    ensures sound { IsSound image.now hart.new }
-    ensures backed { IsBacked image.now (S.bytes memory.new) }
+    requires room { HasRoom events hart.old }
+    requires sound { IsSound program.now hart.old }
+    requires backed { IsBacked program.now (S.bytes memory.old) }
+    ensures run { ◌≡◌ {A = Run} (record { state = state_in (S.bytes memory.new) hart.new; stop = result }) (run program.now inputs.now events steps (state_in (S.bytes memory.old) hart.old)) }
+    ensures room { HasRoom events hart.new }
+    ensures sound { IsSound program.now hart.new }
+    ensures backed { IsBacked program.now (S.bytes memory.new) }
 {
+    let mut here = Here::of(program, hart.active);
     for _ in 0..steps {
         if let Some(stop) = stopped(events, &hart.trace) {
             return stop;
         }
-        if let Err(reason) = step(image, inputs, hart, memory) {
+        if let Err(reason) = step(&here, inputs, hart, memory) {
             return Stop::Trap {
                 reason,
                 pc: hart.core.pc,
             };
         }
+        here.follow(hart.active);
     }
     stopped(events, &hart.trace).unwrap_or(Stop::StepsOut)
 }

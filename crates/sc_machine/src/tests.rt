@@ -1,11 +1,13 @@
-ghost use Rattle.std.specs.Prelude.{◌≡◌, ◌*◌, ◌<◌, ◌≤◌, codes, length};
+ghost use Rattle.std.specs.Prelude.{◌≡◌, ◌*◌, ◌<◌, ◌≤◌, false, [], ◌∷◌, codes, if◌then◌else◌, length, IfOk};
 ghost use Rattle.sc_image.specs.Layout.{stretch, most_globals};
 
 use crate::Machine;
 use sc_core::Stop::{self, Ended, EventsOut, StepsOut, Trap};
 use sc_core::{TrapReason, Words};
-use sc_event::{CompId, Event, Name, OutOfMemory, Text};
-use sc_image::{CompPart, CompParts, ExportParts, Image, ImageParts, ImportParts};
+use sc_event::{Args, CompId, Event, Name, OutOfMemory, Text};
+use sc_image::{
+    CompPart, CompParts, ExportPart, ExportParts, Image, ImageParts, ImportPart, ImportParts,
+};
 use sc_store::FlatStore;
 use std::alloc::Global;
 
@@ -51,7 +53,9 @@ fn loaded(
     image: Image,
     inputs: &[i32],
     events: u32,
-) -> Result<Machine<FlatStore>, OutOfMemory> {
+) -> Result<Machine<FlatStore>, OutOfMemory>
+    ensures { IfOk result (λ machine. machine.image ≡ image) }
+{
     Machine::load(alloc, image, inputs, events).map_err(|_| OutOfMemory)
 }
 
@@ -232,5 +236,164 @@ fn traps_change_nothing(rt: HostRuntime) -> Result<(), OutOfMemory> {
         assert_eq!(rt; machine.trace().len(), 0);
         assert_eq!(rt; machine.run(9), trap(reason, 0));
     }
+    Ok(())
+}
+
+// The second compartment.
+fn second() -> CompId
+    ensures { result ≡ 1 }
+{
+    CompId::new(1).unwrap()
+}
+
+// What `A` takes of `B`: its function, or nothing.
+fn taken(alloc: Global, imported: bool) -> Result<ImportParts, OutOfMemory>
+    ensures { IfOk result (λ imports. imports ≡ (if imported then record { comp = 1; index = 0 } ∷ [] else [])) }
+{
+    let mut imports = ImportParts::new(alloc);
+    if !imported {
+        return Ok(imports);
+    }
+    imports.push(ImportPart {
+        comp: second(),
+        index: 0,
+    })?;
+    Ok(imports)
+}
+
+#[tactic(auto, unfolding(sc_event::specs::Identifier::is_name))]
+fn b_name() -> Name
+    ensures { result ≡ codes "B" }
+{
+    Name::new(b"B").unwrap()
+}
+
+#[tactic(auto, unfolding(sc_event::specs::Identifier::is_name))]
+fn f_name() -> Name
+    ensures { result ≡ codes "f" }
+{
+    Name::new(b"f").unwrap()
+}
+
+// `A`, which may call the function of `B` or not.
+fn caller(alloc: Global, imported: bool, code: &[u32]) -> Result<CompPart, OutOfMemory>
+    ensures { IfOk result (λ comp. comp ≡ record { name = codes "A"; input = false; output = false; exports = []; imports = (if imported then record { comp = 1; index = 0 } ∷ [] else []); code = code.now; globals = [] }) }
+{
+    Ok(CompPart {
+        name: a_name(),
+        input: false,
+        output: false,
+        exports: ExportParts::new(alloc),
+        imports: taken(alloc, imported)?,
+        code: Words::from_slice(alloc, code)?,
+        globals: Text::new(alloc),
+    })
+}
+
+// `B`, whose function `f` takes nothing, gives nothing and returns at once.
+fn callee(alloc: Global) -> Result<CompPart, OutOfMemory>
+    ensures { IfOk result (λ comp. comp ≡ record { name = codes "B"; input = false; output = false; exports = record { name = codes "f"; params = 0; result = false; entry = 0x01100000 } ∷ []; imports = []; code = 0x00008067 ∷ 0x00008067 ∷ []; globals = [] }) }
+{
+    let mut exports = ExportParts::new(alloc);
+    exports.push(ExportPart {
+        name: f_name(),
+        params: 0,
+        result: false,
+        entry: 0x0110_0000,
+    })?;
+    Ok(CompPart {
+        name: b_name(),
+        input: false,
+        output: false,
+        exports,
+        imports: ImportParts::new(alloc),
+        code: Words::from_slice(alloc, &[0x0000_8067, 0x0000_8067])?,
+        globals: Text::new(alloc),
+    })
+}
+
+fn pair(alloc: Global, imported: bool, code: &[u32]) -> Result<Image, OutOfMemory>
+    requires some { 0 < length code.now }
+    requires short { 4 * length code.now ≤ stretch }
+    ensures { IfOk result (λ image. length image.comps ≡ 2) }
+{
+    let mut comps = CompParts::new(alloc);
+    comps.push(caller(alloc, imported, code)?)?;
+    comps.push(callee(alloc)?)?;
+    Ok(Image::new(ImageParts {
+        main: CompId::first(),
+        entry: START,
+        comps,
+    }))
+}
+
+// lui x5,0x01100; jalr x1,4(x5): a jump past the entry of `f`
+const PAST_ENTRY: [u32; 2] = [0x0110_02b7, 0x0042_80e7];
+
+// lui x5,0x01100; jalr x1,0(x5); ecall
+const CALL: [u32; 3] = [0x0110_02b7, 0x0002_80e7, 0x0000_0073];
+
+#[test]
+fn refuses_other_jumps(rt: HostRuntime) -> Result<(), OutOfMemory> {
+    for (imported, called, reason) in [
+        (false, false, TrapReason::BadJump),
+        (true, false, TrapReason::BadJump),
+        (false, true, TrapReason::NoImport),
+    ] {
+        let code: &[u32] = if called { &CALL } else { &PAST_ENTRY };
+        let image = pair(rt.alloc(), imported, code)?;
+        let mut machine = loaded(rt.alloc(), image, &[], 9)?;
+        assert_eq!(rt; machine.run(9), trap(reason, 4));
+        assert_eq!(rt; machine.trace().len(), 0);
+        assert_eq!(rt; machine.register(5), 0x0110_0000);
+    }
+    Ok(())
+}
+
+#[test]
+fn calls_and_returns(rt: HostRuntime) -> Result<(), OutOfMemory> {
+    let (a, b) = (CompId::first(), second());
+    let image = pair(rt.alloc(), true, &CALL)?;
+    let mut machine = loaded(rt.alloc(), image, &[], 9)?;
+    assert_eq!(rt; machine.run(2), StepsOut);
+    assert_eq!(rt; machine.active(), b);
+    assert_eq!(rt; machine.pc(), 0x0110_0000);
+    assert_eq!(rt;
+        (machine.register(1), machine.register(2)),
+        (0x100, STACK_TOP + 0x10_0000)
+    );
+    assert_eq!(rt; machine.register(5), 0);
+    assert_eq!(rt; machine.run(9), trap(TrapReason::BadCall, 8));
+    assert_eq!(rt; machine.active(), a);
+    assert_eq!(rt; (machine.register(1), machine.register(2)), (0, STACK_TOP));
+    let events = [
+        Event::Call {
+            from: a,
+            to: b,
+            index: 0,
+            args: Args::new(rt.alloc()),
+        },
+        Event::Ret {
+            from: b,
+            to: a,
+            value: None,
+        },
+    ];
+    assert!(rt; machine.trace() == events.as_slice());
+    Ok(())
+}
+
+// Each compartment owns its own stack alone.
+#[test]
+fn owns_its_part(rt: HostRuntime) -> Result<(), OutOfMemory> {
+    let image = pair(rt.alloc(), true, &CALL)?;
+    let mut machine = loaded(rt.alloc(), image, &[], 9)?;
+    assert_eq!(rt; machine.run(2), StepsOut);
+    let part = machine.own_part(second());
+    let top = STACK_TOP + 0x10_0000;
+    assert_eq!(rt; part.saved_sp(), top);
+    assert_eq!(rt; part.byte(top - 1), Some(0));
+    assert_eq!(rt; part.byte(top), None);
+    assert_eq!(rt; part.byte(STACK_TOP - 1), None);
     Ok(())
 }

@@ -1,18 +1,16 @@
 use Rattle.std.proofs.Common.{◌∙◌, sym, ap, subst}
-use Rattle.sc_image.specs.WellFormed.{IsWellFormed, IsSingle}
+use Rattle.sc_image.specs.WellFormed.{IsWellFormed}
 use Rattle.sc_compile.specs.Image.{image_of}
 use Rattle.sc_compile.specs.Correct.{IsForward, IsBackward}
-use Rattle.sc_compile.proofs.Formed.{well_formed, single}
+use Rattle.sc_compile.proofs.Formed.{well_formed}
 use Rattle.sc_compile.proofs.Correct.{forward, backward}
 use Rattle.sc_compile.proofs.image.compile.Goals as goal
 
-pub new-requires-clause-well_formed : goal.new-requires-clause-well_formed
-new-requires-clause-well_formed c =
-    subst IsWellFormed (sym (c.in_ok-image_of.ensures ∙ ap image_of c.in_ok-code.ensures.code)) (well_formed c.args.program.now c.requires)
-
-pub new-requires-clause-single : goal.new-requires-clause-single
-new-requires-clause-single c =
-    subst IsSingle (sym (c.in_ok-image_of.ensures ∙ ap image_of c.in_ok-code.ensures.code)) (single c.args.program.now)
+pub new-requires : goal.new-requires
+new-requires c = record {
+  well_formed =
+      subst IsWellFormed (sym (c.in_ok-image_of.ensures ∙ ap image_of c.in_ok-code.ensures.code)) (well_formed c.args.program.now c.requires);
+}
 
 pub returns-clause-forward : goal.returns-clause-forward
 returns-clause-forward c =

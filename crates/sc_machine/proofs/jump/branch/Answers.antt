@@ -15,4 +15,4 @@ unfolding execute
 returns-clause-outcome c = λ inputs state.
     let goes : compares c.args.op (slice_index c.args.core.now.registers c.args.rs1) (slice_index c.args.core.now.registers c.args.rs2) ≡ true =
     sym (rw (c.register.ensures, c.register-2.ensures) at c.compares.ensures) ∙ c.if-not-compares.false in
-    rw goes (rw c.branch_target-target.ensures at (c.jump.ensures.outcome state))
+    rw goes (rw c.branch_target-target.ensures at (c.jump_within.ensures.outcome state))

@@ -3,5 +3,5 @@ use Rattle.sc_machine.proofs.jump.jal.Goals as goal
 
 pub returns-clause-outcome : goal.returns-clause-outcome
 unfolding execute
-returns-clause-outcome c = λ inputs state.
-    rw (c.number.ensures.same, c.jump_target-target.ensures) at (c.jump.ensures.outcome state)
+returns-clause-outcome c = λ inputs memory.
+    rw (c.number.ensures.same, c.jump_target-target.ensures) at (c.jump.ensures.outcome memory)

@@ -1,12 +1,25 @@
-use Rattle.std.proofs.Common.{◌≡◌, ◌-◌, ◌∙◌, ap, arith}
-use Rattle.sc_image.specs.Layout.{data_start}
-use Rattle.sc_store.specs.Flat.{written}
-use Rattle.sc_machine.proofs.Start.{starts}
+use Rattle.std.proofs.Common.{◌∙◌}
+use Rattle.sc_machine.proofs.Start.{all_few, starts, regions_apart, regions_below}
 use Rattle.sc_machine.proofs.loading.start_memory.Goals as goal
+
+pub regions-requires-clause-few : goal.regions-requires-clause-few
+regions-requires-clause-few g c = rw (c.as_slice-comps.ensures, c.parts.ensures.parts) (all_few c.args.image.now c.parts.ensures.well_formed)
+
+pub zeroed-requires-clause-apart : goal.zeroed-requires-clause-apart
+zeroed-requires-clause-apart g c =
+    rw (c.deref.ensures.value, c.in_ok-regions.ensures, c.as_slice-comps.ensures, c.parts.ensures.parts)
+    (regions_apart c.args.image.now.comps 0 (all_few c.args.image.now c.parts.ensures.well_formed))
+
+pub zeroed-requires-clause-below : goal.zeroed-requires-clause-below
+zeroed-requires-clause-below g c =
+    rw (c.deref.ensures.value, c.in_ok-regions.ensures, c.as_slice-comps.ensures, c.parts.ensures.parts)
+    (regions_below c.args.image.now.comps c.parts.ensures.well_formed.few_comps (all_few c.args.image.now c.parts.ensures.well_formed))
+
+pub fill_all-requires-clause-few : goal.fill_all-requires-clause-few
+fill_all-requires-clause-few g c = rw (c.as_slice-comps.ensures, c.parts.ensures.parts) (all_few c.args.image.now c.parts.ensures.well_formed)
 
 pub returns : goal.returns
 returns g c =
-    let start : c.stack_top-top.result - 65536 ≡ data_start c.parts.result.now.main = omega arith in
-    starts c.args.image.now c.parts.result.now.main c.globals-globals.result.now (c.stack_top-top.result - 65536) (g.S.Store.bytes c.in_ok-memory.memory) (g.S.Store.bytes c.fill.new.memory)
-    c.parts.ensures.well_formed c.parts.ensures.single (ap (λ parts. parts.main) c.parts.ensures.parts) c.globals-globals.ensures.globals start c.in_ok-memory.ensures
-    (c.fill.ensures ∙ ap (λ top. written (g.S.Store.bytes c.in_ok-memory.memory) top c.globals-globals.result.now) c.stack_top-top.ensures)
+    c.fill_all.ensures ∙
+    rw (c.in_ok-memory.ensures, c.deref.ensures.value, c.in_ok-regions.ensures, c.as_slice-comps.ensures, c.parts.ensures.parts)
+    (starts c.args.image.now c.parts.ensures.well_formed)

@@ -1,13 +1,15 @@
-use Rattle.std.proofs.Common.{◌≡◌, ◌≤◌, vec_capacity, ◌-◌}
+use Rattle.std.proofs.Common.{◌≡◌, ◌-◌}
 use Rattle.sc_image.specs.Machine.{run}
-use Rattle.sc_machine.specs.Hart.{state_in, IsSound, IsBacked}
+use Rattle.sc_machine.specs.Hart.{state_in, IsSound, HasRoom, IsBacked}
 use Rattle.sc_machine.proofs.run.run.Given as goal
 
 abbrev pub invariant-loop : goal.invariant-loop
 invariant-loop g l = record {
-  room : l.events ≤ vec_capacity l.hart.trace;
-  sound : IsSound l.image l.hart;
-  backed : IsBacked l.image (g.S.Store.bytes l.memory);
-  same : run l.image l.inputs l.events (l.steps - l.counter) (state_in l.image (g.S.Store.bytes l.memory) l.hart) ≡
-      run l.image l.inputs l.events l.steps (state_in l.image (g.S.Store.bytes l.fn.memory) l.fn.hart);
+  image : l.here.image ≡ l.program;
+  comp : l.here.comp ≡ l.hart.active;
+  room : HasRoom l.events l.hart;
+  sound : IsSound l.program l.hart;
+  backed : IsBacked l.program (g.S.Store.bytes l.memory);
+  same : run l.program l.inputs l.events (l.steps - l.counter) (state_in (g.S.Store.bytes l.memory) l.hart) ≡
+      run l.program l.inputs l.events l.steps (state_in (g.S.Store.bytes l.fn.memory) l.fn.hart);
 }

@@ -1,0 +1,90 @@
+-- Calls of other compartments and returns, by what was found.
+use Rattle.std.proofs.Common.{◌≡◌, ◌≢◌, ℕ, ◌<◌, ◌≤◌, true, false, List, [], length, get_or, Option, None, Some, refl, sym, ◌∙◌, ap, subst, arith}
+use Rattle.std.specs.Prelude.{◌==◌, position}
+use Rattle.std.specs.List.{slice_get}
+use Rattle.std.specs.Option.{option_map_or}
+use Rattle.std.proofs.lemmas.Bool.{eq-eqb, ne_eqb}
+use Rattle.std.proofs.lemmas.Option.{slice_get_within, slice_get-get_or}
+use Rattle.std.proofs.lemmas.List.Quantifiers.{position-Some}
+use Rattle.sc_core.specs.declared.stop.TrapReason.{TrapReason}
+use Rattle.sc_core.specs.declared.stop.TrapReason.TheVariants.{BadJump, NoImport}
+use Rattle.sc_image.specs.declared.parts.ImageParts.{ImageParts}
+use Rattle.sc_image.specs.declared.parts.CompPart.{CompPart}
+use Rattle.sc_image.specs.declared.parts.ExportPart.{ExportPart}
+use Rattle.sc_image.specs.WellFormed.{IsWellFormed}
+use Rattle.sc_image.specs.Layout.{comp_of_code}
+use Rattle.sc_image.specs.Calls.{exports_of, may_call, export_at, params_of}
+use Rattle.sc_image.specs.State.{State, ra}
+use Rattle.sc_image.specs.Cross.{called}
+use Rattle.sc_image.specs.Step.{Goes, Traps, export_called, calls}
+use Rattle.sc_machine.specs.declared.calling.Callee.{Callee}
+use Rattle.sc_machine.specs.Passing.{IsCallee}
+
+module _ (image : ImageParts) (state : State) (target : ℕ) where
+  pub no_call : (rd : ℕ) → rd ≢ ra → calls image state rd target ≡ Traps BadJump
+  no_call rd h = rw (ne_eqb rd ra h) refl
+
+  linked : (rd : ℕ) → rd ≡ ra → calls image state rd target ≡ export_called image state (comp_of_code target) target (export_at image (comp_of_code target) target)
+  linked rd h = rw (eq-eqb rd ra h) refl
+
+  called_by : (comp index params : ℕ) → comp ≡ comp_of_code target → export_at image comp target ≡ Some index → params ≡ params_of image comp index →
+      may_call image state.active comp index ≡ true →
+      export_called image state (comp_of_code target) target (export_at image (comp_of_code target) target) ≡ Goes (called state comp index params target)
+  called_by comp index params to found takes may = rw (sym to, found, may, takes) refl
+
+  pub call_made : (rd : ℕ) (callee : Callee) → rd ≡ ra → callee.entry ≡ target → IsCallee image state.active callee →
+      calls image state rd target ≡ Goes (called state callee.comp callee.index callee.params callee.entry)
+  call_made rd callee links at h =
+      linked rd links ∙ called_by callee.comp callee.index callee.params (rw at at h.comp) (rw at at h.index) h.params h.may ∙
+      ap (λ entry. Goes (called state callee.comp callee.index callee.params entry)) (sym at)
+
+  pub call_refused : (rd : ℕ) (reason : TrapReason) → rd ≡ ra →
+      Traps reason ≡ export_called image state (comp_of_code target) target (export_at image (comp_of_code target) target) → Traps reason ≡ calls image state rd target
+  call_refused rd reason links is = is ∙ sym (linked rd links)
+
+  pub not_imported : (comp index : ℕ) → comp ≡ comp_of_code target → export_at image comp target ≡ Some index → may_call image state.active comp index ≡ false →
+      export_called image state (comp_of_code target) target (export_at image (comp_of_code target) target) ≡ Traps NoImport
+  not_imported comp index to found may = rw (sym to, found, may) refl
+
+  pub not_exported : (comp : ℕ) → comp ≡ comp_of_code target → export_at image comp target ≡ None →
+      export_called image state (comp_of_code target) target (export_at image (comp_of_code target) target) ≡ Traps BadJump
+  not_exported comp to none = rw (sym to, none) refl
+
+-- An export that is found is one of a compartment of the image.
+
+exporter_by : (image : ImageParts) (c target i : ℕ) (comp : Option CompPart) → slice_get image.comps c ≡ comp →
+    position (λ export. export.entry == target) (option_map_or (λ comp. comp.exports) comp []) ≡ Some i → (found : CompPart) × (slice_get image.comps c ≡ Some found)
+exporter_by image c target i None is at = let never : ◌≡◌ {A = Option ℕ} None (Some i) = at in cc never
+exporter_by image c target i (Some comp) is at = (comp, is)
+
+abbrev no_export : ExportPart
+no_export = record { name = []; params = 0; result = false; entry = 0 }
+
+module _ (image : ImageParts) (formed : IsWellFormed image) (c target i : ℕ) (at : export_at image c target ≡ Some i) where
+  exporter : (found : CompPart) × (slice_get image.comps c ≡ Some found)
+  exporter = exporter_by image c target i (slice_get image.comps c) refl at
+
+  pub exporter_within : c < length image.comps
+  exporter_within = slice_get_within image.comps c exporter.0 exporter.1
+
+  pub exporter_few : c < 32
+  exporter_few = omega (arith, exporter_within, formed.few_comps)
+
+  pub export_within : i < length (exports_of image c)
+  export_within = (position-Some (λ (export : ExportPart). export.entry == target) (exports_of image c) i no_export at).0
+
+  own_within : i < length exporter.0.exports
+  own_within =
+      let same : exports_of image c ≡ exporter.0.exports = rw exporter.1 refl in
+      subst (λ (exports : List ExportPart). i < length exports) same export_within
+
+  pub export_few : i < 4096
+  export_few = omega (arith, own_within, (formed.comps c exporter.0 exporter.1).few_exports)
+
+  pub export_takes : (d : ExportPart) → (get_or (exports_of image c) i d).params ≡ params_of image c i
+  export_takes d = sym (rw (slice_get-get_or (exports_of image c) i d export_within) refl)
+
+  pub takes_few : params_of image c i ≤ 8
+  takes_few =
+      rw (exporter.1, slice_get-get_or exporter.0.exports i no_export own_within)
+      ((formed.comps c exporter.0 exporter.1).exports i no_export own_within).params

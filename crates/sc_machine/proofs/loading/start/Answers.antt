@@ -1,0 +1,16 @@
+use Rattle.std.proofs.Common.{◌<◌, All, arith, sym, subst, length}
+use Rattle.std.proofs.lemmas.List.Elements.{All-nil}
+use Rattle.sc_gate.specs.Waiting.{Waiting}
+use Rattle.sc_image.specs.State.{Crossing}
+use Rattle.sc_machine.proofs.Start.{length_tops}
+use Rattle.sc_machine.proofs.loading.start.Goals as goal
+
+pub returns-clause-sound : goal.returns-clause-sound
+returns-clause-sound c =
+    let waits = λ (call : Crossing). call.caller < length c.args.image.now.comps in
+    record {
+      place = record { formed = c.parts-parts.ensures.well_formed; within = rw c.parts-parts.ensures.parts c.parts-parts.ensures.well_formed.main };
+      callers = subst (λ (w : Waiting). All waits w.calls) (sym c.cross.view_is) (subst (All waits) (sym c.in-Ok.ensures.calls) (All-nil waits));
+      saved = rw (c.in_ok-stack_tops.ensures, c.as_slice.ensures, c.parts-parts.ensures.parts) (length_tops 0 c.args.image.now.comps);
+      input = omega arith;
+    }

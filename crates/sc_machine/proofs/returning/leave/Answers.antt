@@ -1,0 +1,17 @@
+use Rattle.std.proofs.Common.{◌<◌, ◌∙◌, All, arith, subst, length, length-set, length-append}
+use Rattle.std.proofs.lemmas.List.Elements.{All-head, All-tail}
+use Rattle.sc_gate.specs.Waiting.{crossing_of}
+use Rattle.sc_image.specs.State.{Crossing}
+use Rattle.sc_machine.proofs.returning.leave.Goals as goal
+
+pub returns-clause-sound : goal.returns-clause-sound
+returns-clause-sound c =
+    let waits = λ (call : Crossing). call.caller < length c.args.image.now.comps in
+    let latest : Crossing = crossing_of c.in-Some.call in
+    let all = subst (All waits) c.in-Some.ensures.latest c.requires.sound.callers in
+    record {
+      place = record { formed = c.requires.sound.place.formed; within = All-head waits latest c.ret.new.self.calls all };
+      callers = rw c.show-2.ensures.cross (All-tail waits latest c.ret.new.self.calls all);
+      saved = length-set c.show-2.new.self.saved.items c.number.result c.in-Some.call.saved ∙ rw c.show-2.ensures.saved c.requires.sound.saved;
+      input = rw (c.show-2.ensures.input, c.show-2.ensures.trace) (simp length-append (omega (arith, c.requires.sound.input)));
+    }

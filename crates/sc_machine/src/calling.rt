@@ -1,0 +1,174 @@
+//! Calls of other compartments.
+
+ghost use Rattle.std.specs.Prelude.{◌≡◌, ◌==◌, position, ◌+◌, ◌^◌, ◌<◌, ◌≤◌, ℕ, Some, length, IfOk, IfErr, OnErr};
+ghost use Rattle.sc_store.specs.Memory.{Memory};
+ghost use Rattle.sc_image.specs.Calls.{exports_of, may_call, export_at, params_of};
+ghost use Rattle.sc_image.specs.Layout.{comp_of_code};
+ghost use Rattle.sc_image.specs.State.{State};
+ghost use Rattle.sc_image.specs.Cross.{arguments, called};
+ghost use Rattle.sc_image.specs.Step.{Traps, export_called, calls};
+ghost use Rattle.sc_image.specs.WellFormed.{IsWellFormed};
+ghost use Rattle.sc_machine.specs.Hart.{state_in, outcome_of, IsSound, HasRoom, HasRoomForOne};
+ghost use Rattle.sc_machine.specs.Passing.{IsCallee, entered};
+
+use crate::hart::{A0, Core, Hart, RA, SP};
+use crate::here::Here;
+use crate::layout::{GATE, comp_id, comp_of_code};
+use sc_core::TrapReason;
+use sc_event::{Args, CompId, Entry, Event};
+use sc_gate::{CrossEntry, clear_for_call};
+use sc_image::{ExportPart, Image};
+use std::alloc::Global;
+
+/// A function of another compartment that may be called.
+#[derive(Clone, Copy)]
+pub(crate) struct Callee {
+    /// The address where it begins.
+    pub entry: u32,
+    comp: CompId,
+    /// Its place among the exports of its compartment.
+    index: u16,
+    /// How many words it takes.
+    params: u8,
+}
+
+/// A jump out of the own code, to an address that is a multiple of 4. It is a call where the address
+/// of the next instruction is put into ra.
+pub(crate) fn call_out(
+    here: &Here<'_>,
+    hart: &mut Hart,
+    rd: u8,
+    target: u32,
+) -> Result<(), TrapReason>
+    requires pc { hart.old.core.pc + 4 < 2 ^ 32 }
+    requires here { here.now.comp ≡ hart.old.active }
+    requires sound { IsSound here.now.image hart.old }
+    requires room { HasRoomForOne hart.old }
+    ensures outcome { (memory : Memory) → outcome_of result (state_in memory hart.new) ≡ calls here.now.image (state_in memory hart.old) rd target }
+    ensures trap { OnErr result (hart.new ≡ hart.old) }
+    ensures sound { IsSound here.now.image hart.new }
+    ensures room { (events : ℕ) → HasRoom events hart.old → HasRoom events hart.new }
+{
+    if rd as usize != RA {
+        return Err(TrapReason::BadJump);
+    }
+    if let Some(callee) = here.callee(target) {
+        call(here.image(), hart, callee);
+        return Ok(());
+    }
+    match find_callee(here.image(), here.comp(), target) {
+        Ok(callee) => {
+            call(here.image(), hart, &callee);
+            Ok(())
+        }
+        Err(reason) => Err(reason),
+    }
+}
+
+/// The function that begins at an address, if the compartment may call it.
+pub(crate) fn find_callee(image: &Image, caller: CompId, target: u32) -> Result<Callee, TrapReason>
+    requires { IsWellFormed image.now }
+    ensures callee { IfOk result (IsCallee image.now caller) }
+    ensures entry { IfOk result (λ callee. callee.entry ≡ target) }
+    ensures trap { IfErr result (λ reason. (state : State) → state.active ≡ caller → Traps reason ≡ export_called image.now state (comp_of_code target) target (export_at image.now (comp_of_code target) target)) }
+{
+    let comp = comp_of_code(target);
+    let exports = exports(image, comp);
+    let Some(index) = export_at(exports, target) else {
+        return Err(TrapReason::BadJump);
+    };
+    let callee = Callee {
+        entry: target,
+        comp: comp_id(comp),
+        index: index as u16,
+        params: exports[index].params,
+    };
+    if !may_call(image, caller, callee.comp, callee.index) {
+        return Err(TrapReason::NoImport);
+    }
+    Ok(callee)
+}
+
+/// What the compartment of that number offers: nothing where there is none.
+fn exports(image: &Image, comp: usize) -> &[ExportPart]
+    ensures { result.now ≡ exports_of image.now comp }
+{
+    match image.parts().comps.get(comp) {
+        Some(part) => part.exports.as_slice(),
+        None => &[],
+    }
+}
+
+/// The place of the export that begins at an address.
+fn export_at(exports: &[ExportPart], address: u32) -> Option<usize>
+    ensures { result ≡ position (λ export. export.entry == address) exports.now }
+{
+    exports.iter().position(|export| export.entry == address)
+}
+
+/// Whether a compartment may call that export of another.
+fn may_call(image: &Image, caller: CompId, comp: CompId, index: u16) -> bool
+    ensures { result ≡ may_call image.now caller comp index }
+{
+    match image.parts().comps.get(caller.number() as usize) {
+        Some(part) => part
+            .imports
+            .as_slice()
+            .iter()
+            .any(|import| import.comp == comp && import.index == index),
+        None => false,
+    }
+}
+
+/// Calls a function.
+fn call(image: &Image, hart: &mut Hart, callee: &Callee)
+    requires pc { hart.old.core.pc + 4 < 2 ^ 32 }
+    requires sound { IsSound image.now hart.old }
+    requires room { HasRoomForOne hart.old }
+    requires callee { IsCallee image.now hart.old.active callee.now }
+    ensures state { (memory : Memory) → state_in memory hart.new ≡ called (state_in memory hart.old) callee.now.comp callee.now.index callee.now.params callee.now.entry }
+    ensures sound { IsSound image.now hart.new }
+    ensures room { (events : ℕ) → HasRoom events hart.old → HasRoom events hart.new }
+{
+    let caller = hart.active;
+    let sp = hart.core.registers[SP];
+    let saved = hart.saved[callee.comp.number() as usize];
+    let args = arguments(*hart.trace.allocator(), &hart.core, callee.params);
+    hart.show(Event::Call {
+        from: caller,
+        to: callee.comp,
+        index: callee.index,
+        args,
+    });
+    hart.cross.call(CrossEntry {
+        caller,
+        pc: hart.core.pc + 4,
+        sp,
+        callee: callee.comp,
+        entry: Entry::Export(callee.index),
+        saved,
+    });
+    hart.saved[caller.number() as usize] = sp;
+    enter(&mut hart.core, callee.params, saved, callee.entry);
+    hart.active = callee.comp;
+}
+
+/// The words of so many arguments.
+fn arguments(alloc: Global, core: &Core, params: u8) -> Args
+    requires { params ≤ 8 }
+    ensures { result ≡ arguments params core.now.registers }
+{
+    Args::from_slice(alloc, &core.registers[A0..A0 + params as usize]).unwrap()
+}
+
+/// Goes to the beginning of a function, with nothing in the registers but its arguments, its stack
+/// and the gate to return through.
+fn enter(core: &mut Core, params: u8, sp: u32, entry: u32)
+    requires { params ≤ 8 }
+    ensures { core.new ≡ entered core.old params sp entry }
+{
+    clear_for_call(&mut core.registers, params);
+    core.registers[RA] = GATE;
+    core.registers[SP] = sp;
+    core.pc = entry;
+}

@@ -1,0 +1,161 @@
+//! The compartment whose code runs. What instructions need of it is looked up once, until another
+//! compartment's code runs.
+
+ghost use Rattle.std.specs.List.{HoldsAt};
+ghost use Rattle.std.specs.Prelude.{IfSome, ◌≡◌, ◌+◌, ◌*◌, ◌^◌, ◌<◌, ◌≤◌, length, OnSome, IsTrue};
+ghost use Rattle.sc_image.specs.Layout.{stretch, most_globals, code_of, globals_of, word_at, are_data};
+ghost use Rattle.sc_store.specs.Memory.{HasBytes};
+ghost use Rattle.sc_image.specs.State.{start_memory};
+ghost use Rattle.sc_machine.specs.Place.{IsPlace};
+ghost use Rattle.sc_machine.specs.Passing.{IsCallee};
+
+use crate::calling::Callee;
+use crate::layout::{STACK_SIZE, code_start, data_start};
+use crate::program::Program;
+use sc_event::CompId;
+use sc_image::Image;
+use sqlite_items::at;
+use std::marker::Model;
+
+/// A compartment of an image, with its code, the bounds of its data and what it may call. Contracts
+/// see the image and the compartment's number.
+#[derive(Drop)]
+pub(crate) struct Here<'a> {
+    program: &'a Program,
+    comp: CompId,
+    code: &'a [u32],
+    code_from: u32,
+    data_from: u32,
+    data_bytes: u32,
+    callees: &'a [Callee],
+}
+
+impl<'a> Model for Here<'a> {
+    ghost use Rattle.std.specs.Prelude.{All};
+    ghost use Rattle.sc_machine.specs.Place.{Site, IsPlace, IsLookedUp};
+    ghost use Rattle.sc_machine.specs.Passing.{IsCallee};
+
+    ghost Value = { Site };
+
+    ghost view = { λ h. record { image = h.program.now; comp = h.comp } };
+
+    ghost invariant = { λ h. IsPlace h.program.now h.comp × IsLookedUp h.program.now h.comp h.code.now h.code_from h.data_from h.data_bytes × All (IsCallee h.program.now h.comp) h.callees.now };
+}
+
+impl<'a> Here<'a> {
+    /// Looks a compartment up.
+    pub fn of(program: &'a Program, comp: CompId) -> Here<'a>
+        requires { IsPlace program.now comp }
+        ensures image { result.image ≡ program.now }
+        ensures comp { result.comp ≡ comp }
+    {
+        let image = program.image();
+        let code = code(image, comp);
+        let globals = globals(image, comp);
+        Here {
+            program,
+            comp,
+            code,
+            code_from: code_start(comp),
+            data_from: data_start(comp),
+            data_bytes: STACK_SIZE + globals.len() as u32,
+            callees: program.callees(comp),
+        }
+    }
+
+    /// The image that it is of.
+    pub fn image(&self) -> &'a Image
+        ensures { result.now ≡ self.now.image }
+    {
+        self.program.image()
+    }
+
+    /// Its number.
+    pub fn comp(&self) -> CompId
+        ensures { result ≡ self.now.comp }
+    {
+        self.comp
+    }
+
+    /// Goes over to the compartment that runs now. It is looked up where it isn't this one.
+    pub fn follow(&mut self, active: CompId)
+        requires { IsPlace self.old.image active }
+        ensures image { self.new.image ≡ self.old.image }
+        ensures comp { self.new.comp ≡ active }
+    {
+        if self.comp != active {
+            *self = Here::of(self.program, active);
+        }
+    }
+
+    /// The word of the compartment's code at an address, if the address is that of a whole word of
+    /// it.
+    pub fn word_at(&self, address: u32) -> Option<u32>
+        ensures word { result ≡ word_at self.now.image self.now.comp address }
+        ensures within { OnSome result (address + 4 < 2 ^ 32) }
+    {
+        if address % 4 != 0 {
+            return None;
+        }
+        if address < self.code_from {
+            return None;
+        }
+        let index = (address - self.code_from) / 4;
+        at(self.code, index as usize).copied()
+    }
+
+    /// The function that begins at an address, if it was looked up at the load as one that the
+    /// compartment may call. Where it wasn't, the image decides what a jump there is.
+    pub fn callee(&self, entry: u32) -> Option<&Callee>
+        ensures entry { IfSome result (λ callee. callee.now.entry ≡ entry) }
+        ensures callee { IfSome result (λ callee. IsCallee self.now.image self.now.comp callee.now) }
+    {
+        let place = place_of(self.callees, entry)?;
+        Some(&self.callees[place])
+    }
+
+    /// Whether so many bytes from an address on all lie in the compartment's stack and globals.
+    pub fn are_data(&self, address: u32, size: u32) -> bool
+        requires few { size ≤ 4 }
+        ensures data { result ≡ are_data self.now.image self.now.comp address size }
+        ensures there { IsTrue result → HasBytes (start_memory self.now.image) address size }
+    {
+        if address < self.data_from {
+            return false;
+        }
+        address - self.data_from <= self.data_bytes - size
+    }
+}
+
+/// The place of the function that begins at an address, in a list in the order of addresses.
+fn place_of(callees: &[Callee], entry: u32) -> Option<usize>
+    ensures within { IfSome result (λ place. place < length callees.now) }
+    ensures entry { IfSome result (HoldsAt (λ callee. callee.entry ≡ entry) callees.now) }
+{
+    match callees.binary_search_by_key(&entry, |callee| callee.entry) {
+        Ok(place) => Some(place),
+        Err(_) => None,
+    }
+}
+
+/// The compartment's instructions, one word each.
+fn code(image: &Image, comp: CompId) -> &[u32]
+    ensures code { result.now ≡ code_of image.now comp }
+    ensures short { 4 * length result.now ≤ stretch }
+{
+    match image.parts().comps.get(comp.number() as usize) {
+        Some(part) => part.code.as_slice(),
+        None => &[],
+    }
+}
+
+/// What the compartment's globals hold at the start.
+fn globals(image: &Image, comp: CompId) -> &[u8]
+    ensures globals { result.now ≡ globals_of image.now comp }
+    ensures short { length result.now ≤ most_globals }
+{
+    match image.parts().comps.get(comp.number() as usize) {
+        Some(part) => part.globals.as_bytes(),
+        None => &[],
+    }
+}

@@ -1,0 +1,74 @@
+//! Returns through the gate.
+
+ghost use Rattle.std.specs.Prelude.{◌≡◌, ℕ, Some, None, if◌then◌else◌, slice_index};
+ghost use Rattle.sc_store.specs.Memory.{Memory};
+ghost use Rattle.sc_image.specs.Calls.{has_result};
+ghost use Rattle.sc_image.specs.State.{a0};
+ghost use Rattle.sc_image.specs.Cross.{returned};
+ghost use Rattle.sc_machine.specs.Hart.{state_in, IsSound, HasRoom, HasRoomForOne};
+ghost use Rattle.sc_machine.specs.Passing.{resumed};
+
+use crate::hart::{A0, Core, Hart, SP};
+use sc_event::{CompId, Entry, Event};
+use sc_gate::clear_for_ret;
+use sc_image::Image;
+
+/// Returns to the latest caller that waits. Where none does, the run ends.
+pub(crate) fn leave(image: &Image, hart: &mut Hart)
+    requires sound { IsSound image.now hart.old }
+    requires room { HasRoomForOne hart.old }
+    ensures state { (memory : Memory) → state_in memory hart.new ≡ returned image.now (state_in memory hart.old) hart.old.cross.calls }
+    ensures sound { IsSound image.now hart.new }
+    ensures room { (events : ℕ) → HasRoom events hart.old → HasRoom events hart.new }
+{
+    let leaving = hart.active;
+    let Some(call) = hart.cross.ret() else {
+        hart.show(Event::End {
+            comp: leaving,
+            value: hart.core.registers[A0],
+        });
+        return;
+    };
+    let has_result = has_result(image, call.callee, call.entry);
+    let value = given_back(&hart.core, has_result);
+    hart.show(Event::Ret {
+        from: leaving,
+        to: call.caller,
+        value,
+    });
+    hart.saved[leaving.number() as usize] = call.saved;
+    go_on(&mut hart.core, has_result, call.sp, call.pc);
+    hart.active = call.caller;
+}
+
+/// Whether a function of a compartment gives a word back.
+fn has_result(image: &Image, comp: CompId, entry: Entry) -> bool
+    ensures { result ≡ has_result image.now comp entry }
+{
+    let Entry::Export(index) = entry else {
+        return true;
+    };
+    match image.parts().comps.get(comp.number() as usize) {
+        Some(part) => match part.exports.get(index as usize) {
+            Some(export) => export.result,
+            None => false,
+        },
+        None => false,
+    }
+}
+
+/// What a function gives back, where it has a result.
+fn given_back(core: &Core, has_result: bool) -> Option<u32>
+    ensures { result ≡ (if has_result then Some (slice_index core.now.registers a0) else None) }
+{
+    has_result.then_some(core.registers[A0])
+}
+
+/// Goes on behind a call, with nothing in the registers but the result and the own stack.
+fn go_on(core: &mut Core, has_result: bool, sp: u32, pc: u32)
+    ensures { core.new ≡ resumed core.old has_result sp pc }
+{
+    clear_for_ret(&mut core.registers, has_result);
+    core.registers[SP] = sp;
+    core.pc = pc;
+}
