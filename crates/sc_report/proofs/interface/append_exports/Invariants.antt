@@ -1,0 +1,6 @@
+use Rattle.std.proofs.Common.{◌≡◌, ◌++◌, flat_map, take}
+use Rattle.sc_report.specs.Check.{export_line}
+use Rattle.sc_report.proofs.interface.append_exports.Given as goal
+
+abbrev pub invariant-loop-export : goal.invariant-loop-export
+invariant-loop-export l = l.text ≡ l.initial.text ++ flat_map export_line (take l.export-index l.exports)

@@ -1,0 +1,6 @@
+use Rattle.std.proofs.Common.{◌≡◌, ◌++◌, flat_map, take}
+use Rattle.sc_report.specs.Check.{import_line}
+use Rattle.sc_report.proofs.interface.append_imports.Given as goal
+
+abbrev pub invariant-loop-import : goal.invariant-loop-import
+invariant-loop-import l = l.text ≡ l.initial.text ++ flat_map (import_line l.interfaces) (take l.import-index l.imports)

@@ -1,0 +1,7 @@
+use Rattle.std.proofs.Common.{◌≡◌, ◌++◌, map, take}
+use Rattle.sc_event.specs.Line.{spaced_names}
+use Rattle.sc_report.specs.Check.{scalar_word}
+use Rattle.sc_report.proofs.interface.append_words.Given as goal
+
+abbrev pub invariant-loop-param : goal.invariant-loop-param
+invariant-loop-param l = l.text ≡ l.initial.text ++ spaced_names (map scalar_word (take l.param-index l.params))

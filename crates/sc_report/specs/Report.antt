@@ -1,0 +1,76 @@
+-- The lines that tell of a run.
+use Rattle.std.specs.Prelude.{ℕ, List, ◌++◌, flat_map, codes, decimal}
+use Rattle.std.specs.Int.{w32, to_be_bytes}
+use Rattle.hex.specs.Hex.{encode_lower}
+use Rattle.sc_event.specs.Line.{comp_name, event_line}
+use Rattle.sc_event.specs.declared.event.Event.{Event}
+use Rattle.sc_event.specs.declared.interface.Interfaces.{Interfaces}
+use Rattle.sc_core.specs.declared.cause.Cause.{Cause}
+use Rattle.sc_core.specs.declared.cause.Cause.TheVariants as causes
+use Rattle.sc_core.specs.declared.run.RunEnd.{RunEnd}
+use Rattle.sc_core.specs.declared.run.RunEnd.TheVariants.{Ended, Blamed, TurnsOut, EventsOut}
+use Rattle.sc_core.specs.declared.run.SourceRun.{SourceRun}
+use Rattle.sc_core.specs.declared.stop.Stop.{Stop}
+use Rattle.sc_core.specs.declared.stop.Stop.TheVariants as stops
+use Rattle.sc_core.specs.declared.stop.TrapReason.{TrapReason}
+use Rattle.sc_core.specs.declared.stop.TrapReason.TheVariants as reasons
+
+-- a line per event
+abbrev pub events_text : Interfaces → List Event → List ℕ
+events_text interfaces events = flat_map (event_line interfaces) events
+
+abbrev pub cause_word : Cause → List ℕ
+cause_word causes.Overflow = codes "Overflow"
+cause_word causes.ZeroDivisor = codes "ZeroDivisor"
+cause_word causes.BadShift = codes "BadShift"
+cause_word causes.OutOfBounds = codes "OutOfBounds"
+cause_word causes.Dangling = codes "Dangling"
+cause_word causes.NullUse = codes "NullUse"
+cause_word causes.Indeterminate = codes "Indeterminate"
+cause_word causes.BadType = codes "BadType"
+cause_word causes.BadPointer = codes "BadPointer"
+cause_word causes.NoReturn = codes "NoReturn"
+
+-- the last words of a line: a cause and the line at which it came
+abbrev pub number_end : ℕ → List ℕ
+number_end line = codes " " ++ (decimal line ++ codes "\n")
+
+abbrev pub cause_end : Cause → ℕ → List ℕ
+cause_end cause line = codes " " ++ (cause_word cause ++ number_end line)
+
+-- who is blamed for what, and at which line of its section
+abbrev pub blame_line : (comp : List ℕ) → Cause → ℕ → List ℕ
+blame_line comp cause line = codes "stop blamed " ++ (comp ++ cause_end cause line)
+
+abbrev pub end_line : Interfaces → RunEnd → List ℕ
+end_line interfaces Ended = codes "stop ended\n"
+end_line interfaces (Blamed comp cause line) = blame_line (comp_name interfaces comp) cause line
+end_line interfaces TurnsOut = codes "stop turns\n"
+end_line interfaces EventsOut = codes "stop events\n"
+
+-- the events of a source run, and how it ends
+abbrev pub meaning_text : Interfaces → SourceRun → List ℕ
+meaning_text interfaces run = events_text interfaces run.trace ++ end_line interfaces run.end
+
+abbrev pub reason_word : TrapReason → List ℕ
+reason_word reasons.Owner = codes "owner"
+reason_word reasons.Misaligned = codes "misaligned"
+reason_word reasons.Illegal = codes "illegal"
+reason_word reasons.BadJump = codes "badjump"
+reason_word reasons.NoImport = codes "noimport"
+reason_word reasons.BadCall = codes "badcall"
+reason_word reasons.Breakpoint = codes "breakpoint"
+
+-- the last word of a line: an address in eight hexadecimal digits
+abbrev pub address_end : ℕ → List ℕ
+address_end address = codes " 0x" ++ (encode_lower (to_be_bytes w32 address) ++ codes "\n")
+
+abbrev pub stop_line : Stop → List ℕ
+stop_line stops.Ended = codes "stop ended\n"
+stop_line stops.EventsOut = codes "stop events\n"
+stop_line stops.StepsOut = codes "stop steps\n"
+stop_line (stops.Trap reason pc) = codes "stop trap " ++ (reason_word reason ++ address_end pc)
+
+-- the events of a machine run, and why it stops
+abbrev pub run_text : Interfaces → List Event → Stop → List ℕ
+run_text interfaces trace stop = events_text interfaces trace ++ stop_line stop

@@ -1,0 +1,11 @@
+//! The texts that tell interfaces and runs: what the commands write.
+#![tactic(auto)]
+
+mod interface;
+mod names;
+mod run;
+#[cfg(test)]
+mod tests;
+
+pub use interface::check_text;
+pub use run::{meaning_text, run_text};
