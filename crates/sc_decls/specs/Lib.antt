@@ -1,0 +1,4 @@
+pub mod Broken
+pub mod Declarations
+pub mod Interfaces
+pub mod Stars
