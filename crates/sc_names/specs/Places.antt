@@ -1,0 +1,10 @@
+-- The first places of names in a list, as a map.
+use Rattle.std.specs.Prelude.{◌≡◌, ◌==◌, ℕ, List}
+use Rattle.std.specs.Cmp.Lexicographic.{pointwise}
+use Rattle.indexmap.specs.IndexMap.{IndexMap, get}
+use Rattle.sc_event.specs.Numbering.{number_of}
+use Rattle.sc_decls.specs.Declarations.{Text}
+
+-- the map has the names of the list, each with its first place, and no others
+pub record HasPlaces (names : List Text) {S : Type 0} (places : IndexMap (List ℕ) ℕ S) : Type 0 where
+  pub at : (name : Text) → get (pointwise ◌==◌) places name ≡ number_of names name
