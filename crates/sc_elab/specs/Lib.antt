@@ -1,0 +1,4 @@
+pub mod Expressions
+pub mod Scopes
+pub mod Sections
+pub mod Statements

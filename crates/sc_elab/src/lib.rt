@@ -1,0 +1,2 @@
+//! Sections with their types.
+#![tactic(auto)]
