@@ -1,0 +1,15 @@
+pub mod Arguments
+pub mod Checking
+pub mod Entries
+pub mod Examples
+pub mod Functions
+pub mod Judging
+pub mod Lines
+pub mod OperatorRules
+pub mod Phases
+pub mod Positions
+pub mod Room
+pub mod SectionRules
+pub mod SectionTypes
+pub mod Signatures
+pub mod Unfit
