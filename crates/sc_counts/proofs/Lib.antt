@@ -1,0 +1,5 @@
+pub mod Examples
+pub mod Measures
+pub mod Noted
+pub mod Phase
+pub mod TypedNodes
