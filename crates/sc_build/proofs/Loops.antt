@@ -1,0 +1,23 @@
+-- Loops that push what is made of each item of a list.
+use Rattle.std.proofs.Common.{◌≡◌, ℕ, suc, ◌+◌, ◌<◌, List, [], ◌∷◌, ◌++◌, length, drop, get_or, sym, ap, ◌∙◌, arith}
+use Rattle.std.proofs.lemmas.List.{append_assoc, append-nil}
+use Rattle.std.proofs.Math.Seq.{drop-cons}
+
+next_place : (i : ℕ) → suc i ≡ i + 1
+next_place i = omega arith
+
+-- what is left from an item on
+pub left_from : {A : Type 0} (xs : List A) (i : ℕ) (x : A) → i < length xs → x ≡ get_or xs i x → drop i xs ≡ x ∷ drop (i + 1) xs
+left_from xs i x h e =
+    drop-cons xs i x h
+    ∙ ap (λ y. y ∷ drop (suc i) xs) (sym e)
+    ∙ ap (λ n. x ∷ drop n xs) (next_place i)
+
+-- one more item is done
+pub one_more : {B : Type 0} (done more left rest whole : List B) (x : B) → more ≡ done ++ x ∷ [] → left ≡ x ∷ rest → done ++ left ≡ whole → more ++ rest ≡ whole
+one_more done more left rest whole x e h i =
+    ap (λ m. m ++ rest) e ∙ append_assoc done (x ∷ []) rest ∙ ap (λ l. done ++ l) (sym h) ∙ i
+
+-- all are done
+pub all_done : {B : Type 0} (done left whole : List B) → left ≡ [] → done ++ left ≡ whole → done ≡ whole
+all_done done left whole h i = sym (append-nil done) ∙ ap (λ l. done ++ l) (sym h) ∙ i

@@ -1,0 +1,11 @@
+-- The types of parameters, one after another.
+use Rattle.std.specs.Prelude.{List, [], ◌∷◌, Option, Some, None}
+use Rattle.sc_core.specs.declared.ty.Ty.{Ty}
+
+abbrev pub first_of : List Ty → Option Ty
+first_of [] = None
+first_of (first ∷ rest) = Some first
+
+abbrev pub rest_of : List Ty → List Ty
+rest_of [] = []
+rest_of (first ∷ rest) = rest
