@@ -1,0 +1,122 @@
+-- Tests that hold, lists that are empty, and the places of names.
+use Rattle.std.proofs.Common.{◌≡◌, refl, sym, ap, ◌∙◌, ℕ, zero, suc, ◌+◌, ◌<◌, Bool, true, false, not, ◌&&◌, ◌||◌, if◌then◌else◌, List, [], ◌∷◌, ◌++◌, map, length, Option, None, Some, arith}
+use Rattle.std.specs.Prelude.{position, slice_get, cond}
+use Rattle.std.specs.List.{concat, list_all, list_any, position_from, position_or_len}
+use Rattle.std.specs.Option.{option_map}
+use Rattle.std.proofs.lemmas.Bool.{false≢true}
+use Rattle.std.proofs.lemmas.Iterator.Adapters.{position_from-zero}
+use Rattle.sc_event.specs.Numbering.{is_numbered, number_of}
+use Rattle.sc_decls.specs.Broken.{unless}
+
+pub both : (a b : Bool) → a ≡ true → b ≡ true → (a && b) ≡ true
+both true true h k = refl
+both true false h k = k
+both false b h k = h
+
+pub left : (a b : Bool) → (a && b) ≡ true → a ≡ true
+left true b h = refl
+left false b h = h
+
+pub right : (a b : Bool) → (a && b) ≡ true → b ≡ true
+right true b h = h
+right false b h = absurd (false≢true h)
+
+pub not_true : (a : Bool) → not a ≡ true → a ≡ false
+not_true false h = refl
+not_true true h = absurd (false≢true h)
+
+pub either : {C : Type 0} (a b : Bool) → (a || b) ≡ true → (a ≡ true → C) → (a ≡ false → b ≡ true → C) → C
+either true b h f g = f refl
+either false b h f g = g refl h
+
+abbrev pub is_empty : {A : Type 0} → List A → Bool
+is_empty [] = true
+is_empty (x ∷ xs) = false
+
+pub some_item : {A B : Type 0} (x : A) (xs : List A) → x ∷ xs ≡ [] → B
+some_item x xs h = absurd (false≢true (ap is_empty h))
+
+-- a rule that is broken at no line holds
+pub held : (b : Bool) (line : ℕ) → unless b line ≡ [] → b ≡ true
+held true line h = refl
+held false line h = some_item line [] h
+
+pub front_empty : {A : Type 0} (xs ys : List A) → xs ++ ys ≡ [] → xs ≡ []
+front_empty [] ys h = refl
+front_empty (x ∷ xs) ys h = some_item x (xs ++ ys) h
+
+pub back_empty : {A : Type 0} (xs ys : List A) → xs ++ ys ≡ [] → ys ≡ []
+back_empty [] ys h = h
+back_empty (x ∷ xs) ys h = some_item x (xs ++ ys) h
+
+pub map_empty : {A B : Type 0} (f : A → B) (xs : List A) → map f xs ≡ [] → xs ≡ []
+map_empty f [] h = refl
+map_empty f (x ∷ xs) h = some_item (f x) (map f xs) h
+
+-- P of each
+abbrev pub Each : {A : Type 0} → (A → Type 0) → List A → Type 0
+Each P [] = Unit {0}
+Each P (x ∷ xs) = P x × Each P xs
+
+pub each_empty : {A : Type 0} (f : A → List ℕ) (xs : List A) → concat (map f xs) ≡ [] → Each (λ x. f x ≡ []) xs
+each_empty f [] h = tt
+each_empty f (x ∷ xs) h = (front_empty (f x) (concat (map f xs)) h, each_empty f xs (back_empty (f x) (concat (map f xs)) h))
+
+pub each_passes : {A : Type 0} (p : A → Bool) (xs : List A) → list_all p xs ≡ true → Each (λ x. p x ≡ true) xs
+each_passes p [] h = tt
+each_passes p (x ∷ xs) h = (left (p x) (list_all p xs) h, each_passes p xs (right (p x) (list_all p xs) h))
+
+pub all_pass : {A : Type 0} (p : A → Bool) (xs : List A) → Each (λ x. p x ≡ true) xs → list_all p xs ≡ true
+all_pass p [] h = refl
+all_pass p (x ∷ xs) h = both (p x) (list_all p xs) h.0 (all_pass p xs h.1)
+
+pub each_with : {A : Type 0} (P Q R : A → Type 0) → ((x : A) → P x → Q x → R x) → (xs : List A) → Each P xs → Each Q xs → Each R xs
+each_with P Q R f [] h k = tt
+each_with P Q R f (x ∷ xs) h k = (f x h.0 k.0, each_with P Q R f xs h.1 k.1)
+
+pub each_from : {A : Type 0} (P Q : A → Type 0) → ((x : A) → P x → Q x) → (xs : List A) → Each P xs → Each Q xs
+each_from P Q f [] h = tt
+each_from P Q f (x ∷ xs) h = (f x h.0, each_from P Q f xs h.1)
+
+pub each_map : {A B : Type 0} (P : B → Type 0) (f : A → B) (xs : List A) → Each (λ x. P (f x)) xs → Each P (map f xs)
+each_map P f [] h = tt
+each_map P f (x ∷ xs) h = (h.0, each_map P f xs h.1)
+
+-- what is in an option
+abbrev pub or_given : {A : Type 0} → A → Option A → A
+or_given given None = given
+or_given given (Some x) = x
+
+pub some_is : {A : Type 0} (x y : A) → Some x ≡ Some y → x ≡ y
+some_is x y h = ap (or_given x) h
+
+abbrev pub is_there : {A : Type 0} → Option A → Bool
+is_there None = false
+is_there (Some x) = true
+
+pub none_some : {A C : Type 0} (x : A) → None ≡ Some x → C
+none_some x h = absurd (false≢true (ap is_there h))
+
+-- the first place at which a test passes
+abbrev pub find : {A : Type 0} → (A → Bool) → List A → Option ℕ
+find p [] = None
+find p (x ∷ xs) = if p x then Some 0 else option_map suc (find p xs)
+
+shift : (i : ℕ) (o : Option ℕ) → option_map (λ k. k + (i + 1)) o ≡ option_map (λ k. k + i) (option_map suc o)
+shift i None = refl
+shift i (Some k) = ap Some (omega arith)
+
+find_at : {A : Type 0} (p : A → Bool) (i : ℕ) (xs : List A) (b : Bool) → position_from p (i + 1) xs ≡ option_map (λ k. k + (i + 1)) (find p xs) → cond b (Some i) (position_from p (i + 1) xs) ≡ option_map (λ k. k + i) (if b then Some 0 else option_map suc (find p xs))
+find_at p i xs true h = ap Some (omega arith)
+find_at p i xs false h = h ∙ shift i (find p xs)
+
+find_from : {A : Type 0} (p : A → Bool) (i : ℕ) (xs : List A) → position_from p i xs ≡ option_map (λ k. k + i) (find p xs)
+find_from p i [] = refl
+find_from p i (x ∷ xs) = find_at p i xs (p x) (find_from p (i + 1) xs)
+
+unshifted : (o : Option ℕ) → option_map (λ k. k + 0) o ≡ o
+unshifted None = refl
+unshifted (Some k) = ap Some (omega arith)
+
+pub position_is : {A : Type 0} (p : A → Bool) (xs : List A) → position p xs ≡ find p xs
+position_is p xs = position_from-zero p xs ∙ find_from p 0 xs ∙ unshifted (find p xs)

@@ -1,0 +1,119 @@
+-- What sections keep that break no rule of interfaces.
+use Rattle.std.proofs.Common.{◌≡◌, refl, sym, ap, ◌∙◌, ℕ, zero, suc, Bool, true, false, not, ◌&&◌, ◌||◌, List, [], ◌∷◌, ◌++◌, map, Option, None, Some, subst}
+use Rattle.std.specs.Prelude.{slice_get, bytes_eq}
+use Rattle.std.specs.List.{list_any, list_all}
+use Rattle.std.proofs.lemmas.Bool.{false≢true}
+use Rattle.sc_event.specs.Numbering.{is_numbered}
+use Rattle.sc_ast.specs.declared.section.Decl.{Decl}
+use Rattle.sc_ast.specs.declared.section.Decl.TheVariants.{Struct, Global, Proto, Function}
+use Rattle.sc_ast.specs.declared.section.ExportLine.{ExportLine}
+use Rattle.sc_ast.specs.declared.section.ImportLine.{ImportLine}
+use Rattle.sc_ast.specs.declared.section.HeadTree.{HeadTree}
+use Rattle.sc_ast.specs.declared.section.SectionTree.{SectionTree}
+use Rattle.sc_ast.specs.Heads.{head_of}
+use Rattle.sc_decls.specs.Declarations.{among, are_distinct, function_names, proto_names, export_names, import_names}
+use Rattle.sc_decls.specs.Interfaces.{main_name}
+use Rattle.sc_decls.specs.Broken.{unless}
+use Rattle.sc_faces.specs.Faces.{is_plain, export_holds, exports_from, is_offered, import_holds, imports_from, head_holds, head_fits, imported_agrees, main_holds, agrees_with, decl_lines, decls_from, name_holds, section_lines}
+use Rattle.sc_types.proofs.Basics.{left, right, both, not_true, held, front_empty, back_empty, Each}
+use Rattle.sc_types.proofs.Places.{Text, same_refl, same_is, numbered_front}
+
+-- Names that are new one after another are distinct.
+
+abbrev pub Fresh : (before : List Text) → List Text → Type 0
+Fresh before [] = Unit {0}
+Fresh before (name ∷ names) = (is_numbered before name ≡ false) × Fresh (before ++ name ∷ []) names
+
+last_there : (before : List Text) (name : Text) → bytes_eq name name ≡ true → is_numbered (before ++ name ∷ []) name ≡ true
+last_there [] name h = ap (λ b. b || false) h
+last_there (x ∷ before) name h = by_case (bytes_eq name x) (last_there before name h) where
+  by_case : (b : Bool) → is_numbered (before ++ name ∷ []) name ≡ true → (b || is_numbered (before ++ name ∷ []) name) ≡ true
+  by_case true k = refl
+  by_case false k = k
+
+not_again_at : (name : Text) (before : List Text) (x : Text) (names : List Text) (b : Bool) → bytes_eq name x ≡ b → is_numbered before x ≡ false → is_numbered before name ≡ true → is_numbered names name ≡ false → (b || is_numbered names name) ≡ false
+not_again_at name before x names true q new there rest = absurd (false≢true (sym new ∙ ap (is_numbered before) (sym (same_is name x q)) ∙ there))
+not_again_at name before x names false q new there rest = rest
+
+pub not_again : (name : Text) (before names : List Text) → Fresh before names → is_numbered before name ≡ true → is_numbered names name ≡ false
+not_again name before [] fresh there = refl
+not_again name before (x ∷ names) fresh there =
+    not_again_at name before x names (bytes_eq name x) refl fresh.0 there (not_again name (before ++ x ∷ []) names fresh.1 (numbered_front before (x ∷ []) name there))
+
+pub fresh_distinct : (before names : List Text) → Fresh before names → are_distinct names ≡ true
+fresh_distinct before [] fresh = refl
+fresh_distinct before (name ∷ names) fresh =
+    both (not (is_numbered names name)) (are_distinct names) (ap not (not_again name (before ++ name ∷ []) names fresh.1 (last_there before name (same_refl name)))) (fresh_distinct (before ++ name ∷ []) names fresh.1)
+
+-- Exports, imports and declarations.
+
+module _ (sections : List SectionTree) (number : ℕ) (section : SectionTree) where
+  pub record ExportFacts (line : ExportLine) : Type 0 where
+    pub defined : among (function_names section.decls) line.name ≡ true
+    pub no_main : bytes_eq line.name main_name ≡ false
+    pub plain : is_plain line.name ≡ true
+
+  pub record ImportFacts (line : ImportLine) : Type 0 where
+    pub offered : is_offered sections number section line ≡ true
+    pub not_defined : among (function_names section.decls) line.name ≡ false
+    pub declared : among (proto_names section.decls) line.name ≡ true
+    pub plain : is_plain line.name ≡ true
+
+  abbrev pub DeclFacts : Bool → Decl → Type 0
+  DeclFacts mains (Proto head) =
+      (head_fits sections number section head ≡ true) × (imported_agrees sections number section head ≡ true)
+  DeclFacts mains (Function tree) =
+      (head_fits sections number section (head_of tree.head) ≡ true) × (main_holds mains (head_of tree.head) ≡ true)
+  DeclFacts mains _ = Unit {0}
+
+  exports_each : (before : List Text) (lines : List ExportLine) → exports_from sections number section before lines ≡ [] → Each ExportFacts lines × Fresh before (map {A = ExportLine} (λ line. line.name) lines)
+  exports_each before [] h = (tt, tt)
+  exports_each before (line ∷ lines) h =
+      let holds : export_holds sections number section before line ≡ true = held _ line.line (front_empty _ _ h) in
+      let new : (not (among before line.name) && (not (bytes_eq line.name main_name) && is_plain line.name)) ≡ true = right (among (function_names section.decls) line.name) _ holds in
+      let other : (not (bytes_eq line.name main_name) && is_plain line.name) ≡ true = right (not (among before line.name)) _ new in
+      let rest : Each ExportFacts lines × Fresh (before ++ line.name ∷ []) (map {A = ExportLine} (λ line. line.name) lines) = exports_each (before ++ line.name ∷ []) lines (back_empty (unless (export_holds sections number section before line) line.line) _ h) in
+      ((record { defined = left _ _ holds; no_main = not_true _ (left _ _ other); plain = right (not (bytes_eq line.name main_name)) _ other }, rest.0), (not_true _ (left _ _ new), rest.1))
+
+  imports_each : (before : List Text) (lines : List ImportLine) → imports_from sections number section before lines ≡ [] → Each ImportFacts lines × Fresh before (map {A = ImportLine} (λ line. line.name) lines)
+  imports_each before [] h = (tt, tt)
+  imports_each before (line ∷ lines) h =
+      let holds : import_holds sections number section before line ≡ true = held _ line.line (front_empty _ _ h) in
+      let new : (not (among before line.name) && (not (among (function_names section.decls) line.name) && (among (proto_names section.decls) line.name && is_plain line.name))) ≡ true = right (is_offered sections number section line) _ holds in
+      let other : (not (among (function_names section.decls) line.name) && (among (proto_names section.decls) line.name && is_plain line.name)) ≡ true = right (not (among before line.name)) _ new in
+      let last : (among (proto_names section.decls) line.name && is_plain line.name) ≡ true = right (not (among (function_names section.decls) line.name)) _ other in
+      let rest : Each ImportFacts lines × Fresh (before ++ line.name ∷ []) (map {A = ImportLine} (λ line. line.name) lines) = imports_each (before ++ line.name ∷ []) lines (back_empty (unless (import_holds sections number section before line) line.line) _ h) in
+      ((record { offered = left _ _ holds; not_defined = not_true _ (left _ _ other); declared = left _ _ last; plain = right (among (proto_names section.decls) line.name) _ last }, rest.0), (not_true _ (left _ _ new), rest.1))
+
+  decls_each : (mains : Bool) (before decls : List Decl) → decls_from sections number section mains before decls ≡ [] → Each (DeclFacts mains) decls
+  decls_each mains before [] h = tt
+  decls_each mains before (Struct tree ∷ decls) h = (tt, decls_each mains (before ++ Struct tree ∷ []) decls h)
+  decls_each mains before (Global tree ∷ decls) h = (tt, decls_each mains (before ++ Global tree ∷ []) decls h)
+  decls_each mains before (Proto head ∷ decls) h =
+      let holds : (head_holds sections number section before head && imported_agrees sections number section head) ≡ true = held _ head.line (front_empty _ _ h) in
+      ((right (agrees_with _ head) _ (left _ _ holds), right (head_holds sections number section before head) _ holds), decls_each mains (before ++ Proto head ∷ []) decls (back_empty (unless (head_holds sections number section before head && imported_agrees sections number section head) head.line) _ h))
+  decls_each mains before (Function tree ∷ decls) h =
+      let holds : (head_holds sections number section before (head_of tree.head) && main_holds mains (head_of tree.head)) ≡ true = held _ tree.head.line (front_empty _ _ h) in
+      ((right (agrees_with _ (head_of tree.head)) _ (left _ _ holds), right (head_holds sections number section before (head_of tree.head)) _ holds), decls_each mains (before ++ Function tree ∷ []) decls (back_empty (unless (head_holds sections number section before (head_of tree.head) && main_holds mains (head_of tree.head)) tree.head.line) _ h))
+
+  -- what a section keeps, where some sections before it define `main` or not
+  pub record FaceFacts : Type 0 where
+    pub exports : Each ExportFacts section.exports
+    pub fresh_exports : Fresh [] (export_names section)
+    pub imports : Each ImportFacts section.imports
+    pub fresh_imports : Fresh [] (import_names section)
+    pub mains : Bool
+    pub decls : Each (DeclFacts mains) section.decls
+
+  pub face_facts : (mains : Bool) (before : List SectionTree) → section_lines sections number section mains before ≡ [] → FaceFacts
+  face_facts mains before h =
+      let behind_name : exports_from sections number section [] section.exports ++ (imports_from sections number section [] section.imports ++ decls_from sections number section mains [] section.decls) ≡ [] = back_empty (unless (name_holds sections number section mains before) 1) _ h in
+      let behind_exports : imports_from sections number section [] section.imports ++ decls_from sections number section mains [] section.decls ≡ [] = back_empty (exports_from sections number section [] section.exports) _ behind_name in
+      let out : Each ExportFacts section.exports × Fresh [] (export_names section) = exports_each [] section.exports (front_empty _ _ behind_name) in
+      let imported : Each ImportFacts section.imports × Fresh [] (import_names section) = imports_each [] section.imports (front_empty _ _ behind_exports) in
+      record { exports = out.0; fresh_exports = out.1; imports = imported.0; fresh_imports = imported.1; mains = mains; decls = decls_each mains [] section.decls (back_empty (imports_from sections number section [] section.imports) _ behind_exports) }
+
+  -- its declarations, under these mains
+  pub decls_hold : (mains : Bool) (before : List SectionTree) → section_lines sections number section mains before ≡ [] → Each (DeclFacts mains) section.decls
+  decls_hold mains before h =
+      decls_each mains [] section.decls (back_empty (imports_from sections number section [] section.imports) _ (back_empty (exports_from sections number section [] section.exports) _ (back_empty (unless (name_holds sections number section mains before) 1) _ h)))

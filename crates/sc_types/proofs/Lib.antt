@@ -1,0 +1,15 @@
+mod Basics
+mod Phases
+mod Places
+mod Structs
+mod Bodies
+mod Heights
+mod Lookups
+mod Refusals
+mod Facts
+mod Calls
+mod Callees
+mod Functions
+mod Sections
+mod Whole
+mod Stars

@@ -1,0 +1,120 @@
+-- The places of names in lists of names.
+use Rattle.std.proofs.Common.{◌≡◌, refl, sym, ap, ◌∙◌, ℕ, zero, suc, ◌+◌, ◌<◌, ◌≤◌, Bool, true, false, not, ◌&&◌, ◌||◌, ◌==◌, if◌then◌else◌, List, [], ◌∷◌, ◌++◌, map, length, Option, None, Some, arith, subst}
+use Rattle.std.specs.Prelude.{slice_get, bytes_eq, nat_lt, nat_le}
+use Rattle.std.specs.List.{list_any}
+use Rattle.std.specs.Option.{option_map}
+use Rattle.std.proofs.lemmas.Bool.{false≢true, le-leb, leb-true, lt-ltb}
+use Rattle.std.proofs.lemmas.Bool.Decides.{Decides-eqb}
+use Rattle.std.proofs.lemmas.Slice.Eq.{bytes_eq-Decides}
+use Rattle.sc_event.specs.Numbering.{is_numbered, number_of}
+use Rattle.sc_decls.specs.Interfaces.{number_or_zero}
+use Rattle.sc_types.proofs.Basics.{find, position_is}
+
+abbrev pub Text : Type 0
+Text = List ℕ
+
+pub same_refl : (name : Text) → bytes_eq name name ≡ true
+same_refl name = (bytes_eq-Decides name name).1 refl
+
+pub same_is : (a b : Text) → bytes_eq a b ≡ true → a ≡ b
+same_is a b h = (bytes_eq-Decides a b).0 h
+
+pub eq_refl : (n : ℕ) → (n == n) ≡ true
+eq_refl n = (Decides-eqb n n).1 refl
+
+pub eq_is : (a b : ℕ) → (a == b) ≡ true → a ≡ b
+eq_is a b h = (Decides-eqb a b).0 h
+
+pub less : (a b : ℕ) → a < b → nat_lt a b ≡ true
+less a b h = lt-ltb a b h
+
+pub at_most : (a b : ℕ) → a ≤ b → nat_le a b ≡ true
+at_most a b h = le-leb a b h
+
+pub is_at_most : (a b : ℕ) → nat_le a b ≡ true → a ≤ b
+is_at_most a b h = leb-true a b h
+
+-- a name that is there, at its first place
+pub record Placed (names : List Text) (name : Text) : Type 0 where
+  pub at : ℕ
+  pub is : number_of names name ≡ Some at
+  pub within : at < length names
+
+-- the same of any test
+pub record Found {A : Type 0} (p : A → Bool) (xs : List A) : Type 0 where
+  pub at : ℕ
+  pub item : A
+  pub is : find p xs ≡ Some at
+  pub within : at < length xs
+  pub got : slice_get xs at ≡ Some item
+  pub passes : p item ≡ true
+
+module _ {A : Type 0} (p : A → Bool) where
+  found_at : (x : A) (xs : List A) (b : Bool) → p x ≡ b → (list_any p xs ≡ true → Found p xs) → (b || list_any p xs) ≡ true → Found p (x ∷ xs)
+  found_at x xs true q f h =
+      record { at = 0; item = x; is = ap (λ c. if c then Some 0 else option_map suc (find p xs)) q; within = omega arith; got = refl; passes = q }
+  found_at x xs false q f h =
+      let rest : Found p xs = f h in
+      record { at = suc rest.at; item = rest.item; is = ap (λ c. if c then Some 0 else option_map suc (find p xs)) q ∙ ap (option_map suc) rest.is; within = omega (arith, rest.within); got = rest.got; passes = rest.passes }
+
+  pub any_found : (xs : List A) → list_any p xs ≡ true → Found p xs
+  any_found [] h = absurd (false≢true h)
+  any_found (x ∷ xs) h = found_at x xs (p x) refl (any_found xs) h
+
+  front_at : (x : A) (xs ys : List A) (b : Bool) → (list_any p xs ≡ true → find p (xs ++ ys) ≡ find p xs) → (b || list_any p xs) ≡ true → (if b then Some 0 else option_map suc (find p (xs ++ ys))) ≡ (if b then Some 0 else option_map suc (find p xs))
+  front_at x xs ys true f h = refl
+  front_at x xs ys false f h = ap (option_map suc) (f h)
+
+  -- what is found in a front is found there in the whole
+  pub find_front : (xs ys : List A) → list_any p xs ≡ true → find p (xs ++ ys) ≡ find p xs
+  find_front [] ys h = absurd (false≢true h)
+  find_front (x ∷ xs) ys h = front_at x xs ys (p x) (find_front xs ys) h
+
+  next_at : (x : A) (rest : Option ℕ) (n : ℕ) (b : Bool) → b ≡ false → rest ≡ Some n → (if b then Some 0 else option_map suc rest) ≡ Some (suc n)
+  next_at x rest n true q h = absurd (false≢true (sym q))
+  next_at x rest n false q h = ap (option_map suc) h
+
+  none_left : (a b : Bool) → (a || b) ≡ false → a ≡ false
+  none_left true b h = h
+  none_left false b h = refl
+
+  none_right : (a b : Bool) → (a || b) ≡ false → b ≡ false
+  none_right true b h = absurd (false≢true (sym h))
+  none_right false b h = h
+
+  -- the first one behind a front in which nothing is found
+  pub find_next : (xs : List A) (y : A) (ys : List A) → list_any p xs ≡ false → p y ≡ true → find p (xs ++ y ∷ ys) ≡ Some (length xs)
+  find_next [] y ys h k = ap (λ c. if c then Some 0 else option_map suc (find p ys)) k
+  find_next (x ∷ xs) y ys h k =
+      next_at x (find p (xs ++ y ∷ ys)) (length xs) (p x) (none_left (p x) (list_any p xs) h) (find_next xs y ys (none_right (p x) (list_any p xs) h) k)
+
+-- the number of a name is where it is found
+pub number_is : (names : List Text) (name : Text) → number_of names name ≡ find (bytes_eq name) names
+number_is names name = position_is (bytes_eq name) names
+
+pub placed : (names : List Text) (name : Text) → is_numbered names name ≡ true → Placed names name
+placed names name h =
+    let f : Found (bytes_eq name) names = any_found (bytes_eq name) names h in
+    record { at = f.at; is = number_is names name ∙ f.is; within = f.within }
+
+-- the number of a name that is there
+pub number_within : (names : List Text) (name : Text) → is_numbered names name ≡ true → number_or_zero (number_of names name) < length names
+number_within names name h =
+    let p : Placed names name = placed names name h in subst (λ o. number_or_zero o < length names) (sym p.is) p.within
+
+pub number_front : (names more : List Text) (name : Text) → is_numbered names name ≡ true → number_of (names ++ more) name ≡ number_of names name
+number_front names more name h =
+    number_is (names ++ more) name ∙ find_front (bytes_eq name) names more h ∙ sym (number_is names name)
+
+pub number_next : (names : List Text) (name : Text) (more : List Text) → is_numbered names name ≡ false → number_of (names ++ name ∷ more) name ≡ Some (length names)
+number_next names name more h = number_is (names ++ name ∷ more) name ∙ find_next (bytes_eq name) names name more h (same_refl name)
+
+list_any-append : {A : Type 0} (p : A → Bool) (xs ys : List A) → list_any p xs ≡ true → list_any p (xs ++ ys) ≡ true
+list_any-append p [] ys h = absurd (false≢true h)
+list_any-append p (x ∷ xs) ys h = either_way (p x) h (list_any-append p xs ys) where
+  either_way : (b : Bool) → (b || list_any p xs) ≡ true → (list_any p xs ≡ true → list_any p (xs ++ ys) ≡ true) → (b || list_any p (xs ++ ys)) ≡ true
+  either_way true h f = refl
+  either_way false h f = f h
+
+pub numbered_front : (names more : List Text) (name : Text) → is_numbered names name ≡ true → is_numbered (names ++ more) name ≡ true
+numbered_front names more name h = list_any-append (bytes_eq name) names more h

@@ -1,0 +1,296 @@
+-- Sections that break no rule are well typed, and have the interfaces of the text.
+use Rattle.std.proofs.Common.{◌≡◌, refl, sym, ap, ◌∙◌, ℕ, zero, suc, ◌+◌, ◌<◌, ◌≤◌, Bool, true, false, not, ◌&&◌, ◌||◌, ◌==◌, if◌then◌else◌, List, [], ◌∷◌, ◌++◌, map, length, Option, None, Some, is_some, arith, subst, append_assoc}
+use Rattle.std.specs.Prelude.{slice_get, bytes_eq, nat_lt, nat_le, codes}
+use Rattle.std.specs.List.{concat, list_any, list_all}
+use Rattle.std.specs.Option.{option_map}
+use Rattle.std.proofs.lemmas.List.{append-nil}
+use Rattle.std.proofs.lemmas.List.Elements.{filter_map-append}
+use Rattle.std.proofs.lemmas.Bool.{false≢true}
+use Rattle.std.proofs.lemmas.Slice.Eq.{bytes_eq-Decides}
+use Rattle.std.proofs.lemmas.Bool.Decides.{Decides-eqb}
+use Rattle.sc_event.specs.Numbering.{is_numbered, number_of}
+use Rattle.sc_event.specs.Lookup.{export_at}
+use Rattle.sc_event.specs.declared.interface.Import.{Import}
+use Rattle.sc_event.specs.declared.interface.Import.TheVariants as import
+use Rattle.sc_event.specs.declared.interface.Interface.{Interface}
+use Rattle.sc_event.specs.declared.interface.Proto as event
+use Rattle.sc_ast.specs.declared.types.BaseTree.{BaseTree}
+use Rattle.sc_ast.specs.declared.types.BaseTree.TheVariants as tree_base
+use Rattle.sc_ast.specs.declared.types.TypeName.{TypeName}
+use Rattle.sc_ast.specs.declared.section.ParamTree.{ParamTree}
+use Rattle.sc_ast.specs.declared.section.HeadTree.{HeadTree}
+use Rattle.sc_ast.specs.declared.section.FunctionTree.{FunctionTree}
+use Rattle.sc_ast.specs.declared.section.ExportLine.{ExportLine}
+use Rattle.sc_ast.specs.declared.section.ImportLine.{ImportLine}
+use Rattle.sc_ast.specs.declared.section.Decl.{Decl}
+use Rattle.sc_ast.specs.declared.section.Decl.TheVariants.{Struct, Global, Proto, Function}
+use Rattle.sc_ast.specs.declared.section.SectionTree.{SectionTree}
+use Rattle.sc_ast.specs.Heads.{head_of, param_of}
+use Rattle.sc_ast.specs.Height as surface
+use Rattle.sc_core.specs.declared.ty.Ty.{Ty}
+use Rattle.sc_core.specs.declared.ty.Ty.TheVariants as ty
+use Rattle.sc_core.specs.declared.ty.BaseTy.{BaseTy}
+use Rattle.sc_core.specs.declared.ty.BaseTy.TheVariants as base
+use Rattle.sc_core.specs.declared.section.TypedFunction.{TypedFunction}
+use Rattle.sc_core.specs.declared.section.TypedSection.{TypedSection}
+use Rattle.sc_core.specs.Sizes.{nodes, total}
+use Rattle.sc_core.specs.Typing.{Signature, same_base, same_ty, signature_of, proto_signature}
+use Rattle.sc_core.specs.WellTyped.{most_exports, most_nodes, same_types, same_results, same_signature, is_plain_name, export_fits, import_fits, export_name, import_name, section_fits, interface_fits, are_distinct}
+use Rattle.sc_decls.specs.Broken.{unless}
+use Rattle.sc_decls.specs.Declarations as decls
+use Rattle.sc_decls.specs.Declarations.{structs_in, globals_in, heads_in, functions_in, function_names, export_names, import_names}
+use Rattle.sc_decls.specs.Interfaces.{number_or_zero, is_environment, offering, offered, import_of, promised, proto_of, interface_of, interfaces_of, main_name, function_named}
+use Rattle.sc_names.specs.Names as names
+use Rattle.sc_elab.specs.Statements.{Callees}
+use Rattle.sc_elab.specs.Sections as elab
+use Rattle.sc_elab.specs.Sections.{callees_of, signature_by, tags, structs, typed_function, typed_section}
+use Rattle.sc_faces.specs.Faces.{head_fits, head_crosses, agree, same_type, input_name, output_name, is_offered}
+use Rattle.sc_faces.specs.Faces as faces
+use Rattle.sc_counts.specs.Counts as counts
+use Rattle.sc_types.proofs.Basics.{both, left, right, not_true, held, front_empty, back_empty, Each, all_pass, some_is, none_some, some_item, find}
+use Rattle.sc_types.proofs.Places.{Text, same_refl, same_is, eq_refl, at_most, numbered_front}
+use Rattle.sc_types.proofs.Structs.{AllSmall, structs_all_fit}
+use Rattle.sc_types.proofs.Lookups.{each_at, each_function, same_sym, FoundFunction, find_function}
+use Rattle.sc_types.proofs.Facts.{Fresh, not_again, fresh_distinct, ExportFacts, ImportFacts, DeclFacts, FaceFacts}
+use Rattle.sc_types.proofs.Calls.{agreed_signature, FoundBy, found_by, get_map, any_at, own_signature, Offering, find_offering, export_is}
+use Rattle.sc_types.proofs.Callees as called
+use Rattle.sc_types.proofs.Functions.{map_map, map_append, map_length, small_from, functions_are, globals_are, structs_known}
+
+-- Signatures are the same as themselves.
+
+base_refl : (b : BaseTy) → same_base b b ≡ true
+base_refl base.Int = refl
+base_refl base.Unsigned = refl
+base_refl (base.Struct n) = eq_refl n
+
+ty_refl : (t : Ty) → same_ty t t ≡ true
+ty_refl ty.Int = refl
+ty_refl ty.Unsigned = refl
+ty_refl (ty.Struct n) = eq_refl n
+ty_refl (ty.Pointer stars b) = both (stars == stars) (same_base b b) (eq_refl stars) (base_refl b)
+ty_refl (ty.Array stars b count) = both (stars == stars) _ (eq_refl stars) (both _ _ (base_refl b) (eq_refl count))
+
+types_refl : (types : List Ty) → same_types types types ≡ true
+types_refl [] = refl
+types_refl (t ∷ types) = both _ _ (ty_refl t) (types_refl types)
+
+result_refl : (result : Option Ty) → same_results result result ≡ true
+result_refl None = refl
+result_refl (Some t) = ty_refl t
+
+pub signature_refl : (s : Signature) → same_signature s s ≡ true
+signature_refl s = both _ _ (types_refl s.params) (result_refl s.result)
+
+-- Heads agree with themselves.
+
+base_agrees : (a : BaseTree) → faces.same_base a a ≡ true
+base_agrees tree_base.Int = refl
+base_agrees tree_base.Unsigned = refl
+base_agrees (tree_base.Struct tag) = same_refl tag
+
+type_agrees : (t : TypeName) → same_type t t ≡ true
+type_agrees t = both _ _ ((Decides-eqb t.stars t.stars).1 refl) (base_agrees t.base)
+
+params_agree : (params : List ParamTree) → faces.same_params params params ≡ true
+params_agree [] = refl
+params_agree (p ∷ params) = both _ _ (type_agrees p.ty) (params_agree params)
+
+result_agrees : (result : Option TypeName) → faces.same_result result result ≡ true
+result_agrees None = refl
+result_agrees (Some t) = type_agrees t
+
+agrees : (head : HeadTree) → agree head head ≡ true
+agrees head = both _ _ (result_agrees head.result) (params_agree head.params)
+
+types_same : (sections : List SectionTree) (number : ℕ) (section : SectionTree) → elab.section_lines section (callees_of sections 0 section) ≡ elab.section_lines section (callees_of sections number section)
+types_same sections number section = refl
+
+get_at_end : {A : Type 0} (xs : List A) (y : A) (ys : List A) → slice_get (xs ++ y ∷ ys) (length xs) ≡ Some y
+get_at_end [] y ys = refl
+get_at_end (x ∷ xs) y ys = get_at_end xs y ys
+
+within : {A : Type 0} (xs : List A) (n : ℕ) → slice_get xs n ≡ None → length xs ≤ n
+within [] n h = omega arith
+within (x ∷ xs) zero h = none_some x (sym h)
+within (x ∷ xs) (suc n) h = omega (arith, within xs n h)
+
+by_item : {A : Type 0} (line_of : A → ℕ) (most : ℕ) (items : List A) (o : Option A) → slice_get items most ≡ o → counts.line_of_some line_of o ≡ [] → nat_le (length items) most ≡ true
+by_item line_of most items None q h = at_most (length items) most (within items most q)
+by_item line_of most items (Some x) q h = some_item (line_of x) [] h
+
+pub none_beyond : {A : Type 0} (line_of : A → ℕ) (most : ℕ) (items : List A) → counts.line_beyond line_of most items ≡ [] → nat_le (length items) most ≡ true
+none_beyond line_of most items h = by_item line_of most items (slice_get items most) refl h
+
+-- Names that a list doesn't have are distinct from its own.
+
+none_there : (a b : Bool) → (a || b) ≡ false → (a ≡ false) × (b ≡ false)
+none_there true b h = absurd (false≢true (sym h))
+none_there false b h = (refl, h)
+
+not_in_append : (name : Text) (xs ys : List Text) → is_numbered xs name ≡ false → is_numbered ys name ≡ false → is_numbered (xs ++ ys) name ≡ false
+not_in_append name [] ys h k = k
+not_in_append name (x ∷ xs) ys h k =
+    let parts : (bytes_eq name x ≡ false) × (is_numbered xs name ≡ false) = none_there (bytes_eq name x) (is_numbered xs name) h in
+    ap (λ b. b || is_numbered (xs ++ ys) name) parts.0 ∙ not_in_append name xs ys parts.1 k
+
+both_distinct : (xs ys : List Text) → decls.are_distinct xs ≡ true → Each (λ x. is_numbered ys x ≡ false) xs → decls.are_distinct ys ≡ true → decls.are_distinct (xs ++ ys) ≡ true
+both_distinct [] ys h none k = k
+both_distinct (x ∷ xs) ys h none k =
+    both _ _ (ap not (not_in_append x xs ys (not_true _ (left _ _ h)) none.0)) (both_distinct xs ys (right (not (is_numbered xs x)) _ h) none.1 k)
+
+-- Functions are distinct.
+
+names_append : (before more : List Decl) → function_names (before ++ more) ≡ function_names before ++ function_names more
+names_append before more =
+    ap (map {A = FunctionTree} (λ tree. tree.head.name)) (filter_map-append decls.function_in before more) ∙ map_append {A = FunctionTree} (λ tree. tree.head.name) (functions_in before) (functions_in more)
+
+names_same : (before : List Decl) (decl : Decl) → function_names (decl ∷ []) ≡ [] → function_names (before ++ decl ∷ []) ≡ function_names before
+names_same before decl h =
+    names_append before (decl ∷ []) ∙ ap (λ more. function_names before ++ more) h ∙ append-nil (function_names before)
+
+functions_fresh : (section : SectionTree) (before rest : List Decl) → names.lines_from section before rest ≡ [] → Fresh (function_names before) (function_names rest)
+functions_fresh section before [] h = tt
+functions_fresh section before (Struct tree ∷ rest) h =
+    subst (λ all. Fresh all (function_names rest)) (names_same before (Struct tree) refl) (functions_fresh section (before ++ Struct tree ∷ []) rest (back_empty (names.decl_lines (names.declared section before) (Struct tree)) _ h))
+functions_fresh section before (Global tree ∷ rest) h =
+    subst (λ all. Fresh all (function_names rest)) (names_same before (Global tree) refl) (functions_fresh section (before ++ Global tree ∷ []) rest (back_empty (names.decl_lines (names.declared section before) (Global tree)) _ h))
+functions_fresh section before (Proto head ∷ rest) h =
+    subst (λ all. Fresh all (function_names rest)) (names_same before (Proto head) refl) (functions_fresh section (before ++ Proto head ∷ []) rest (back_empty (names.decl_lines (names.declared section before) (Proto head)) _ h))
+functions_fresh section before (Function tree ∷ rest) h =
+    let known : names.head_of_known (names.declared section before) tree ≡ true = held _ tree.head.line (front_empty _ _ (front_empty _ _ h)) in
+    (not_true _ (left _ _ (right (not (is_numbered (decls.global_names before) tree.head.name)) _ known)), subst (λ all. Fresh all (function_names rest)) (names_append before (Function tree ∷ [])) (functions_fresh section (before ++ Function tree ∷ []) rest (back_empty (names.decl_lines (names.declared section before) (Function tree)) _ h)))
+
+module _ (sections : List SectionTree) (hold : (j : ℕ) (s : SectionTree) → slice_get sections j ≡ Some s → FaceFacts sections j s) (number : ℕ) (section : SectionTree) (there : slice_get sections number ≡ Some section) where
+  abbrev callees : Callees
+  callees = callees_of sections number section
+
+  abbrev typed : TypedSection
+  typed = typed_section section callees
+
+  abbrev facts : FaceFacts sections number section
+  facts = hold number section there
+
+  abbrev interface : Interface
+  interface = interface_of sections number section
+
+  -- The names by which imports are called.
+
+  promised_name : (name : Text) (found : Option FunctionTree) → (promised name found).name ≡ name
+  promised_name name None = refl
+  promised_name name (Some tree) = refl
+
+  other_name : (line : ImportLine) → Offering number line sections → import_name (interfaces_of sections) (offered line (offering number line 0 sections)) ≡ line.name
+  other_name line o =
+      let export : FoundBy {A = ExportLine} (λ line. line.name) line.name o.section.exports = found_by {A = ExportLine} (λ line. line.name) line.name o.section.exports (right (not (o.number == number)) _ (right (bytes_eq o.section.name line.comp) _ o.offers)) in
+      ap (λ found. import_name (interfaces_of sections) (offered line found)) o.is
+      ∙ ap (λ index. export_name (export_at (interfaces_of sections) o.number (number_or_zero index))) export.place
+      ∙ ap export_name (export_is sections o.number o.section export.at export.item o.got export.got)
+      ∙ promised_name export.item.name (function_named export.item.name (functions_in o.section.decls))
+      ∙ sym (same_is line.name export.item.name export.named)
+
+  name_by : (line : ImportLine) (env input output : Bool) → bytes_eq line.name input_name ≡ input → bytes_eq line.name output_name ≡ output → (if env then input || output else is_some (offering number line 0 sections)) ≡ true → import_name (interfaces_of sections) (if env then (if input then import.Input else import.Output) else offered line (offering number line 0 sections)) ≡ line.name
+  name_by line true true output i o h = sym (same_is line.name input_name i)
+  name_by line true false true i o h = sym (same_is line.name output_name o)
+  name_by line true false false i o h = absurd (false≢true h)
+  name_by line false input output i o h = other_name line (find_offering number line sections h)
+
+  import_named_is : (line : ImportLine) → ImportFacts sections number section line → import_name (interfaces_of sections) (import_of sections number line) ≡ line.name
+  import_named_is line f =
+      name_by line (is_environment line) (bytes_eq line.name input_name) (bytes_eq line.name output_name) refl refl f.offered
+
+  imports_named : (lines : List ImportLine) → Each (ImportFacts sections number section) lines → map (import_name (interfaces_of sections)) (map (import_of sections number) lines) ≡ map {A = ImportLine} (λ line. line.name) lines
+  imports_named [] each = refl
+  imports_named (line ∷ lines) each = λ i. import_named_is line each.0 i ∷ imports_named lines each.1 i
+
+  not_defined : (lines : List ImportLine) → Each (ImportFacts sections number section) lines → Each (λ name. is_numbered (function_names section.decls) name ≡ false) (map {A = ImportLine} (λ line. line.name) lines)
+  not_defined [] each = tt
+  not_defined (line ∷ lines) each = (each.0.not_defined, not_defined lines each.1)
+
+  functions_named : map {A = TypedFunction} (λ f. f.name) typed.functions ≡ function_names section.decls
+  functions_named = map_map {A = FunctionTree} {B = TypedFunction} (λ f. f.name) (typed_function section callees) (functions_in section.decls)
+
+  all_distinct : names.section_lines section ≡ [] → are_distinct (map (import_name (interfaces_of sections)) interface.imports ++ map {A = TypedFunction} (λ f. f.name) typed.functions) ≡ true
+  all_distinct in_names =
+      subst (λ all. are_distinct all ≡ true) (λ i. sym (imports_named section.imports facts.imports) i ++ sym functions_named i) (both_distinct (import_names section) (function_names section.decls) (fresh_distinct [] (import_names section) facts.fresh_imports) (not_defined section.imports facts.imports) (fresh_distinct [] (function_names section.decls) (functions_fresh section [] section.decls in_names)))
+
+  -- Exports.
+
+  exports_named : (lines : List ExportLine) → map {A = event.Proto} (λ p. p.name) (map (proto_of section) lines) ≡ map {A = ExportLine} (λ line. line.name) lines
+  exports_named [] = refl
+  exports_named (line ∷ lines) =
+      λ i. promised_name line.name (function_named line.name (functions_in section.decls)) i ∷ exports_named lines i
+
+  exports_distinct : are_distinct (map {A = event.Proto} (λ p. p.name) interface.exports) ≡ true
+  exports_distinct =
+      subst (λ all. are_distinct all ≡ true) (sym (exports_named section.exports)) (fresh_distinct [] (export_names section) facts.fresh_exports)
+
+  or_not : (a b : Bool) → (a || not b) ≡ true → b ≡ true → a ≡ true
+  or_not true b h q = refl
+  or_not false true h q = h
+  or_not false false h q = absurd (false≢true q)
+
+  or_left : (a b : Bool) → a ≡ true → (a || b) ≡ true
+  or_left true b h = refl
+  or_left false b h = absurd (false≢true h)
+
+  -- an export line at its place
+  module _ (at : ℕ) (line : ExportLine) (got : slice_get section.exports at ≡ Some line) (f : ExportFacts sections number section line) where
+    g : FoundFunction line.name (functions_in section.decls)
+    g = find_function line.name (functions_in section.decls) f.defined
+
+    exported : is_numbered (export_names section) g.tree.head.name ≡ true
+    exported =
+        any_at (bytes_eq g.tree.head.name) (export_names section) at line.name (get_map {A = ExportLine} (λ line. line.name) section.exports at ∙ ap (option_map {T = ExportLine} (λ line. line.name)) got) g.named
+
+    fits : head_fits sections number section (head_of g.tree.head) ≡ true
+    fits =
+        (each_at (λ tree. DeclFacts sections number section facts.mains (Function tree)) (functions_in section.decls) g.at g.tree (each_function (DeclFacts sections number section facts.mains) section.decls facts.decls) g.got).0
+
+    crossing : head_crosses (head_of g.tree.head) ≡ true
+    crossing = or_not (head_crosses (head_of g.tree.head)) _ fits (or_left _ _ exported)
+
+    promise : proto_of section line ≡ promised line.name (Some g.tree)
+    promise = ap (promised line.name) g.first
+
+    signatures : signature_of (typed_function section callees g.tree) ≡ proto_signature (proto_of section line)
+    signatures =
+        own_signature section callees g.tree ∙ sym (agreed_signature (tags section) line.name g.tree (head_of g.tree.head) (agrees (head_of g.tree.head)) crossing) ∙ ap proto_signature (sym promise)
+
+    is_function : list_any {X = TypedFunction} (λ f. bytes_eq f.name (proto_of section line).name && same_signature (signature_of f) (proto_signature (proto_of section line))) typed.functions ≡ true
+    is_function =
+        any_at {A = TypedFunction} (λ f. bytes_eq f.name (proto_of section line).name && same_signature (signature_of f) (proto_signature (proto_of section line))) typed.functions g.at (typed_function section callees g.tree) (get_map (typed_function section callees) (functions_in section.decls) g.at ∙ ap (option_map (typed_function section callees)) g.got) (both _ _ (ap (bytes_eq g.tree.head.name) (promised_name line.name (function_named line.name (functions_in section.decls))) ∙ g.named) (ap (λ s. same_signature s (proto_signature (proto_of section line))) signatures ∙ signature_refl (proto_signature (proto_of section line))))
+
+    export_is_function : export_fits typed.functions (proto_of section line) ≡ true
+    export_is_function =
+        both _ _ (ap is_plain_name (promised_name line.name (function_named line.name (functions_in section.decls))) ∙ f.plain) (both _ _ (ap not (ap (λ n. bytes_eq n main_name) (promised_name line.name (function_named line.name (functions_in section.decls))) ∙ f.no_main)) is_function)
+
+  exports_are : (before lines : List ExportLine) → before ++ lines ≡ section.exports → Each (ExportFacts sections number section) lines → list_all (export_fits typed.functions) (map (proto_of section) lines) ≡ true
+  exports_are before [] whole each = refl
+  exports_are before (line ∷ lines) whole each =
+      both _ _ (export_is_function (length before) line (ap (λ list. slice_get list (length before)) (sym whole) ∙ get_at_end before line lines) each.0) (exports_are (before ++ line ∷ []) lines (append_assoc before (line ∷ []) lines ∙ whole) each.1)
+
+  -- Imports lead to exports of other sections.
+
+  other_fits : (line : ImportLine) → Offering number line sections → import_fits (interfaces_of sections) number (offered line (offering number line 0 sections)) ≡ true
+  other_fits line o =
+      let export : FoundBy {A = ExportLine} (λ line. line.name) line.name o.section.exports = found_by {A = ExportLine} (λ line. line.name) line.name o.section.exports (right (not (o.number == number)) _ (right (bytes_eq o.section.name line.comp) _ o.offers)) in
+      ap (λ found. import_fits (interfaces_of sections) number (offered line found)) o.is
+      ∙ ap (λ index. import_fits (interfaces_of sections) number (import.Function o.number (number_or_zero index))) export.place
+      ∙ both _ _ (left _ _ (right (bytes_eq o.section.name line.comp) _ o.offers)) (ap is_some (export_is sections o.number o.section export.at export.item o.got export.got))
+
+  fits_by : (line : ImportLine) (env input output : Bool) → (if env then input || output else is_some (offering number line 0 sections)) ≡ true → import_fits (interfaces_of sections) number (if env then (if input then import.Input else import.Output) else offered line (offering number line 0 sections)) ≡ true
+  fits_by line true true output h = refl
+  fits_by line true false output h = refl
+  fits_by line false input output h = other_fits line (find_offering number line sections h)
+
+  imports_are : (lines : List ImportLine) → Each (ImportFacts sections number section) lines → list_all (import_fits (interfaces_of sections) number) (map (import_of sections number) lines) ≡ true
+  imports_are [] each = refl
+  imports_are (line ∷ lines) each =
+      both _ _ (fits_by line (is_environment line) (bytes_eq line.name input_name) (bytes_eq line.name output_name) each.0.offered) (imports_are lines each.1)
+
+  -- Counts.
+
+  pub interface_is : names.section_lines section ≡ [] → counts.section_lines section callees ≡ [] → interface_fits (interfaces_of sections) number interface typed ≡ true
+  interface_is in_names count =
+      let behind : counts.line_beyond {A = ExportLine} (λ line. line.line) most_exports section.exports ++ (counts.line_beyond {A = ImportLine} (λ line. line.line) most_exports section.imports ++ _) ≡ [] = back_empty (unless (nat_le (counts.section_nodes section callees) most_nodes && nat_le (length section.decls) most_nodes) 1) _ count in
+      both _ _ (all_distinct in_names) (both _ _ exports_distinct (both _ _ (exports_are [] section.exports refl facts.exports) (both _ _ (imports_are section.imports facts.imports) (both _ _ (ap (λ n. nat_le n most_exports) (map_length (proto_of section) section.exports) ∙ none_beyond {A = ExportLine} (λ line. line.line) most_exports section.exports (front_empty _ _ behind)) (ap (λ n. nat_le n most_exports) (map_length (import_of sections number) section.imports) ∙ none_beyond {A = ImportLine} (λ line. line.line) most_exports section.imports (front_empty _ _ (back_empty (counts.line_beyond {A = ExportLine} (λ line. line.line) most_exports section.exports) _ behind)))))))

@@ -1,0 +1,225 @@
+-- Structs whose tags are known and whose sizes are small fit.
+use Rattle.std.proofs.Common.{◌≡◌, refl, sym, ap, ◌∙◌, ℕ, zero, suc, ◌+◌, ◌*◌, ◌-◌, ◌<◌, ◌≤◌, Bool, true, false, not, ◌&&◌, ◌||◌, ◌==◌, if◌then◌else◌, List, [], ◌∷◌, ◌++◌, map, length, Option, None, Some, arith, subst, append_assoc}
+use Rattle.std.specs.Prelude.{slice_get, bytes_eq, nat_lt, nat_le, nat_eq}
+use Rattle.std.specs.List.{list_any, list_all}
+use Rattle.std.specs.Option.{option_map, option_map_or}
+use Rattle.std.proofs.lemmas.List.{append-nil}
+use Rattle.std.proofs.lemmas.Bool.{false≢true, ltb-true}
+use Rattle.sc_event.specs.Numbering.{is_numbered, number_of}
+use Rattle.sc_ast.specs.declared.types.BaseTree.{BaseTree}
+use Rattle.sc_ast.specs.declared.types.BaseTree.TheVariants as base_tree
+use Rattle.sc_ast.specs.declared.types.TypeTree.{TypeTree}
+use Rattle.sc_ast.specs.declared.types.TypeName.{TypeName}
+use Rattle.sc_ast.specs.declared.section.MemberTree.{MemberTree}
+use Rattle.sc_ast.specs.declared.section.StructTree.{StructTree}
+use Rattle.sc_core.specs.declared.ty.Ty.{Ty}
+use Rattle.sc_core.specs.declared.ty.Ty.TheVariants as ty
+use Rattle.sc_core.specs.declared.ty.BaseTy.{BaseTy}
+use Rattle.sc_core.specs.declared.ty.BaseTy.TheVariants as base
+use Rattle.sc_core.specs.declared.section.TypedMember.{TypedMember}
+use Rattle.sc_core.specs.declared.section.TypedStruct.{TypedStruct}
+use Rattle.sc_core.specs.Types.{cells_of, base_cells, starred_cells, struct_cells}
+use Rattle.sc_core.specs.Typing.{starred}
+use Rattle.sc_core.specs.WellTyped.{base_within, starred_within, type_within, members_fit, struct_fits, structs_fit, most_cells}
+use Rattle.sc_decls.specs.Interfaces.{number_or_zero}
+use Rattle.sc_names.specs.Names.{base_known, pointed_known, member_known}
+use Rattle.sc_elab.specs.Sections.{is_sized, base_of, type_of_name, type_with, type_of, members_from, cells_from, typed_struct, typed_structs}
+use Rattle.sc_types.proofs.Basics.{both, left, right, either, Each, each_passes}
+use Rattle.sc_types.proofs.Places.{Text, same_is, eq_refl, less, at_most, number_within, number_front, number_next}
+
+-- Tags.
+
+-- a base that is known among the first tags has a number below theirs
+pub base_is_within : (tags more : List Text) (b : BaseTree) → base_known tags b ≡ true → base_within (length tags) (base_of (tags ++ more) b) ≡ true
+base_is_within tags more base_tree.Int h = refl
+base_is_within tags more base_tree.Unsigned h = refl
+base_is_within tags more (base_tree.Struct tag) h =
+    less (number_or_zero (number_of (tags ++ more) tag)) (length tags) (subst (λ o. number_or_zero o < length tags) (sym (number_front tags more tag h)) (number_within tags tag h))
+
+pub is_less : (i n : ℕ) → nat_lt i n ≡ true → i < n
+is_less i n h = ltb-true i n h
+
+more_within : (n m : ℕ) (b : BaseTy) → n ≤ m → base_within n b ≡ true → base_within m b ≡ true
+more_within n m base.Int h k = refl
+more_within n m base.Unsigned h k = refl
+more_within n m (base.Struct i) h k = less i m (omega (arith, h, is_less i n k))
+
+-- Types by their parts.
+
+starred_within_is : (whole pointed stars : ℕ) (b : BaseTy) → starred_within whole pointed stars b ≡ true → type_within whole pointed (starred stars b) ≡ true
+starred_within_is whole pointed zero base.Int h = refl
+starred_within_is whole pointed zero base.Unsigned h = refl
+starred_within_is whole pointed zero (base.Struct n) h = h
+starred_within_is whole pointed (suc stars) b h = both (nat_le 1 (suc stars)) (base_within pointed b) (at_most 1 (suc stars) (omega arith)) h
+
+with_within : (tags : List Text) (whole pointed : ℕ) (size : Option ℕ) (stars : ℕ) (b : BaseTy) → option_map_or (λ n. nat_le 1 n) size true ≡ true → starred_within whole pointed stars b ≡ true → type_within whole pointed (type_with tags size stars b) ≡ true
+with_within tags whole pointed None stars b sized h = starred_within_is whole pointed stars b h
+with_within tags whole pointed (Some n) stars b sized h = both (nat_le 1 n) (starred_within whole pointed stars b) sized h
+
+all_within : (n stars : ℕ) (b : BaseTy) → base_within n b ≡ true → starred_within n n stars b ≡ true
+all_within n zero b h = h
+all_within n (suc stars) b h = h
+
+-- a type over tags that are all known
+pub type_is_within : (tags more : List Text) (t : TypeTree) → is_sized t ≡ true → base_known tags t.base ≡ true → type_within (length tags) (length tags) (type_of (tags ++ more) t) ≡ true
+type_is_within tags more t sized h =
+    with_within (tags ++ more) (length tags) (length tags) t.length t.stars (base_of (tags ++ more) t.base) sized (all_within (length tags) t.stars (base_of (tags ++ more) t.base) (base_is_within tags more t.base h))
+
+pub name_is_within : (tags more : List Text) (t : TypeName) → base_known tags t.base ≡ true → type_within (length tags) (length tags) (type_of_name (tags ++ more) t) ≡ true
+name_is_within tags more t h =
+    starred_within_is (length tags) (length tags) t.stars (base_of (tags ++ more) t.base) (all_within (length tags) t.stars (base_of (tags ++ more) t.base) (base_is_within tags more t.base h))
+
+-- Members, of the struct behind the first ones.
+
+module _ (names : List Text) (self : Text) (more : List Text) (new : is_numbered names self ≡ false) where
+  abbrev tags : List Text
+  tags = names ++ self ∷ more
+
+  abbrev k : ℕ
+  k = length names
+
+  known_within : (stars : ℕ) (b : BaseTree) → base_known names b ≡ true → starred_within k (suc k) stars (base_of tags b) ≡ true
+  known_within zero b h = base_is_within names (self ∷ more) b h
+  known_within (suc stars) b h = more_within k (suc k) (base_of tags b) (omega arith) (base_is_within names (self ∷ more) b h)
+
+  self_number : (tag : Text) → bytes_eq tag self ≡ true → number_or_zero (number_of tags tag) ≡ k
+  self_number tag h = ap (λ t. number_or_zero (number_of tags t)) (same_is tag self h) ∙ ap number_or_zero (number_next names self more new)
+
+  pointed_within : (stars : ℕ) (b : BaseTree) → pointed_known self stars b ≡ true → starred_within k (suc k) stars (base_of tags b) ≡ true
+  pointed_within stars base_tree.Int h = absurd (false≢true h)
+  pointed_within stars base_tree.Unsigned h = absurd (false≢true h)
+  pointed_within zero (base_tree.Struct tag) h = absurd (false≢true (right (bytes_eq tag self) false h))
+  pointed_within (suc stars) (base_tree.Struct tag) h =
+      less (number_or_zero (number_of tags tag)) (suc k) (omega (arith, self_number tag (left (bytes_eq tag self) (not (nat_eq (suc stars) 0)) h)))
+
+  member_starred : (m : MemberTree) → member_known names self m ≡ true → starred_within k (suc k) m.ty.stars (base_of tags m.ty.base) ≡ true
+  member_starred m h =
+      either (base_known names m.ty.base) (pointed_known self m.ty.stars m.ty.base) h (known_within m.ty.stars m.ty.base) (λ no. pointed_within m.ty.stars m.ty.base)
+
+  member_within : (m : MemberTree) → member_known names self m ≡ true → is_sized m.ty ≡ true → type_within k (suc k) (type_of tags m.ty) ≡ true
+  member_within m h sized = with_within tags k (suc k) m.ty.length m.ty.stars (base_of tags m.ty.base) sized (member_starred m h)
+
+-- Cells over the first structs are those over all.
+
+pub get_front : {A : Type 0} (xs ys : List A) (n : ℕ) → n < length xs → slice_get (xs ++ ys) n ≡ slice_get xs n
+get_front [] ys n h = absurd (omega (arith, h))
+get_front (x ∷ xs) ys zero h = refl
+get_front (x ∷ xs) ys (suc n) h = get_front xs ys n (omega (arith, h))
+
+module _ (done more : List TypedStruct) (n : ℕ) (size : length done ≡ n) where
+  base_cells_same : (b : BaseTy) → base_within n b ≡ true → base_cells (done ++ more) b ≡ base_cells done b
+  base_cells_same base.Int h = refl
+  base_cells_same base.Unsigned h = refl
+  base_cells_same (base.Struct i) h = ap struct_cells (get_front done more i (omega (arith, size, is_less i n h)))
+
+  starred_cells_same : (pointed stars : ℕ) (b : BaseTy) → starred_within n pointed stars b ≡ true → starred_cells (done ++ more) stars b ≡ starred_cells done stars b
+  starred_cells_same pointed zero b h = base_cells_same b h
+  starred_cells_same pointed (suc stars) b h = refl
+
+  pub cells_same : (pointed : ℕ) (t : Ty) → type_within n pointed t ≡ true → cells_of (done ++ more) t ≡ cells_of done t
+  cells_same pointed ty.Int h = refl
+  cells_same pointed ty.Unsigned h = refl
+  cells_same pointed (ty.Struct i) h = ap struct_cells (get_front done more i (omega (arith, size, is_less i n h)))
+  cells_same pointed (ty.Pointer stars b) h = refl
+  cells_same pointed (ty.Array stars b count) h =
+      ap (λ cells. count * cells) (starred_cells_same pointed stars b (right (nat_le 1 count) (starred_within n pointed stars b) h))
+
+-- A struct over those before it.
+
+-- what is known of a struct's members
+pub record Known (names : List Text) (tree : StructTree) : Type 0 where
+  pub new : is_numbered names tree.name ≡ false
+  pub members : list_all {X = MemberTree} (member_known names tree.name) tree.members ≡ true
+  pub sized : list_all {X = MemberTree} (λ member. is_sized member.ty) tree.members ≡ true
+  pub some : nat_le 1 (length tree.members) ≡ true
+
+module _ (names : List Text) (self : Text) (after : List Text) (new : is_numbered names self ≡ false) (done more : List TypedStruct) (size : length done ≡ length names) where
+  abbrev every : List Text
+  every = names ++ self ∷ after
+
+  abbrev Fits : ℕ → List MemberTree → Type 0
+  Fits offset members =
+      members_fit (done ++ more) (length names) offset (members_from every done offset members) (cells_from every done offset members) ≡ true
+
+  member_is : (offset : ℕ) (m : MemberTree) (members : List MemberTree) → member_known names self m ≡ true → is_sized m.ty ≡ true → Fits (offset + cells_of done (type_of every m.ty)) members → Fits offset (m ∷ members)
+  member_is offset m members known sized rest =
+      let within : type_within (length names) (suc (length names)) (type_of every m.ty) ≡ true = member_within names self after new m known sized in
+      both (offset == offset) _ (eq_refl offset) (both _ _ within (subst (λ cells. members_fit (done ++ more) (length names) (offset + cells) (members_from every done (offset + cells_of done (type_of every m.ty)) members) (cells_from every done (offset + cells_of done (type_of every m.ty)) members) ≡ true) (sym (cells_same done more (length names) size (suc (length names)) (type_of every m.ty) within)) rest))
+
+  members_are : (offset : ℕ) (members : List MemberTree) → list_all (member_known names self) members ≡ true → list_all {X = MemberTree} (λ member. is_sized member.ty) members ≡ true → Fits offset members
+  members_are offset [] known sized = eq_refl offset
+  members_are offset (m ∷ members) known sized =
+      member_is offset m members (left (member_known names self m) (list_all (member_known names self) members) known) (left (is_sized m.ty) (list_all {X = MemberTree} (λ member. is_sized member.ty) members) sized) (members_are (offset + cells_of done (type_of every m.ty)) members (right (member_known names self m) (list_all (member_known names self) members) known) (right (is_sized m.ty) (list_all {X = MemberTree} (λ member. is_sized member.ty) members) sized))
+
+map_length : {A B : Type 0} (f : A → B) (xs : List A) → length (map f xs) ≡ length xs
+map_length f [] = refl
+map_length f (x ∷ xs) = ap suc (map_length f xs)
+
+members_length : (all : List Text) (structs : List TypedStruct) (offset : ℕ) (members : List MemberTree) → length (members_from all structs offset members) ≡ length members
+members_length all structs offset [] = refl
+members_length all structs offset (m ∷ members) = ap suc (members_length all structs (offset + cells_of structs (type_of all m.ty)) members)
+
+-- All structs.
+
+-- the structs behind those that are done
+abbrev pub rest_of : (all : List Text) → List TypedStruct → List StructTree → List TypedStruct
+rest_of all done [] = []
+rest_of all done (tree ∷ trees) = typed_struct all done tree ∷ rest_of all (done ++ typed_struct all done tree ∷ []) trees
+
+pub structs_are : (all : List Text) (done : List TypedStruct) (trees : List StructTree) → typed_structs all done trees ≡ done ++ rest_of all done trees
+unfolding typed_structs
+structs_are all done [] = sym (append-nil done)
+structs_are all done (tree ∷ trees) =
+    structs_are all (done ++ typed_struct all done tree ∷ []) trees ∙ append_assoc done (typed_struct all done tree ∷ []) (rest_of all (done ++ typed_struct all done tree ∷ []) trees)
+
+abbrev pub tags_of : List StructTree → List Text
+tags_of trees = map {A = StructTree} (λ tree. tree.name) trees
+
+-- each struct is known among those before it
+abbrev pub AllKnown : (names : List Text) → List StructTree → Type 0
+AllKnown names [] = Unit {0}
+AllKnown names (tree ∷ trees) = Known names tree × AllKnown (names ++ tree.name ∷ []) trees
+
+-- each of the structs from this number on is small
+abbrev pub AllSmall : (structs : List TypedStruct) → (number : ℕ) → List StructTree → Type 0
+AllSmall structs number [] = Unit {0}
+AllSmall structs number (tree ∷ trees) =
+    (nat_le (struct_cells (slice_get structs number)) most_cells ≡ true) × AllSmall structs (suc number) trees
+
+get_next : {A : Type 0} (xs : List A) (y : A) (ys : List A) → slice_get (xs ++ y ∷ ys) (length xs) ≡ Some y
+get_next [] y ys = refl
+get_next (x ∷ xs) y ys = get_next xs y ys
+
+length_next : {A : Type 0} (xs : List A) (y : A) → length (xs ++ y ∷ []) ≡ suc (length xs)
+length_next [] y = refl
+length_next (x ∷ xs) y = ap suc (length_next xs y)
+
+module _ (all : List Text) where
+  struct_is : (names after : List Text) (tree : StructTree) (done more structs : List TypedStruct) → names ++ tree.name ∷ after ≡ all → length done ≡ length names → structs ≡ done ++ (typed_struct all done tree ∷ more) → Known names tree → nat_le (struct_cells (slice_get structs (length names))) most_cells ≡ true → struct_fits structs (length names) (typed_struct all done tree) ≡ true
+  struct_is names after tree done more structs is size whole known small =
+      both _ _ (ap (nat_le 1) (members_length all done 0 tree.members) ∙ known.some) (both _ _ members (subst (λ o. nat_le (struct_cells o) most_cells ≡ true) got small)) where
+        got : slice_get structs (length names) ≡ Some (typed_struct all done tree)
+        got = ap (λ s. slice_get s (length names)) whole ∙ ap (slice_get (done ++ typed_struct all done tree ∷ more)) (sym size) ∙ get_next done (typed_struct all done tree) more
+
+        members : members_fit structs (length names) 0 (members_from all done 0 tree.members) (cells_from all done 0 tree.members) ≡ true
+        members =
+            subst (λ s. members_fit s (length names) 0 (members_from all done 0 tree.members) (cells_from all done 0 tree.members) ≡ true) (sym whole) (subst (λ a. members_fit (done ++ typed_struct all done tree ∷ more) (length names) 0 (members_from a done 0 tree.members) (cells_from a done 0 tree.members) ≡ true) is (members_are names tree.name after known.new done (typed_struct all done tree ∷ more) size 0 tree.members known.members known.sized))
+
+  rest_fit : (names : List Text) (trees : List StructTree) (done structs : List TypedStruct) → names ++ tags_of trees ≡ all → length done ≡ length names → structs ≡ done ++ rest_of all done trees → AllKnown names trees → AllSmall structs (length names) trees → structs_fit structs (length names) (rest_of all done trees) ≡ true
+  rest_fit names [] done structs is size whole known small = refl
+  rest_fit names (tree ∷ trees) done structs is size whole known small =
+      both _ _ (struct_is names (tags_of trees) tree done (rest_of all (done ++ typed_struct all done tree ∷ []) trees) structs is size whole known.0 small.0) (subst (λ n. structs_fit structs n (rest_of all (done ++ typed_struct all done tree ∷ []) trees) ≡ true) (length_next names tree.name) (rest_fit (names ++ tree.name ∷ []) trees (done ++ typed_struct all done tree ∷ []) structs (append_assoc names (tree.name ∷ []) (tags_of trees) ∙ is) (length_next done (typed_struct all done tree) ∙ ap suc size ∙ sym (length_next names tree.name)) (whole ∙ sym (append_assoc done (typed_struct all done tree ∷ []) (rest_of all (done ++ typed_struct all done tree ∷ []) trees))) known.1 (subst (λ n. AllSmall structs n trees) (sym (length_next names tree.name)) small.1)))
+
+-- structs that are known and small fit
+pub structs_all_fit : (trees : List StructTree) → AllKnown [] trees → AllSmall (typed_structs (tags_of trees) [] trees) 0 trees → structs_fit (typed_structs (tags_of trees) [] trees) 0 (typed_structs (tags_of trees) [] trees) ≡ true
+structs_all_fit trees known small =
+    subst (λ s. structs_fit (typed_structs (tags_of trees) [] trees) 0 s ≡ true) (sym (structs_are (tags_of trees) [] trees)) (rest_fit (tags_of trees) [] trees [] (typed_structs (tags_of trees) [] trees) refl refl (structs_are (tags_of trees) [] trees) known small)
+
+-- there are as many as tags
+rest_length : (all : List Text) (done : List TypedStruct) (trees : List StructTree) → length (rest_of all done trees) ≡ length trees
+rest_length all done [] = refl
+rest_length all done (tree ∷ trees) = ap suc (rest_length all (done ++ typed_struct all done tree ∷ []) trees)
+
+pub structs_length : (trees : List StructTree) → length (typed_structs (tags_of trees) [] trees) ≡ length (tags_of trees)
+structs_length trees =
+    ap length (structs_are (tags_of trees) [] trees) ∙ rest_length (tags_of trees) [] trees ∙ sym (map_length {A = StructTree} (λ tree. tree.name) trees)
