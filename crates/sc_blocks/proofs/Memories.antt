@@ -1,0 +1,42 @@
+-- The memory of rows, as rows are made and change.
+use Rattle.std.proofs.Common.{◌≡◌, refl, sym, ap, ◌∙◌, subst, ℕ, zero, suc, ◌<◌, ◌≤◌, ◌==◌, Bool, true, false, if◌then◌else◌, List, [], ◌∷◌, ◌++◌, map, length, get_or, arith, tests, rules}
+use Rattle.std.specs.Prelude.{slice_index_or, slice_set}
+use Rattle.std.proofs.Math.Dec.{eqb-suc-zero, eqb-zero-suc, eqb-suc-suc}
+use Rattle.std.proofs.lemmas.List.{get_or_default}
+use Rattle.sc_core.specs.Memory.{Block, Blocks, Memory, with_blocks}
+use Rattle.sc_blocks.specs.Rows.{memory_of}
+
+row_of_more : (rows : List Blocks) (comp : ℕ) → slice_index_or (rows ++ [] ∷ []) comp [] ≡ slice_index_or rows comp []
+row_of_more [] zero = refl
+row_of_more [] (suc comp) = refl
+row_of_more (row ∷ rows) zero = refl
+row_of_more (row ∷ rows) (suc comp) = row_of_more rows comp
+
+-- one more compartment has no blocks yet
+pub memory_more : (rows : List Blocks) → memory_of (rows ++ [] ∷ []) ≡ memory_of rows
+memory_more rows = λ i comp. row_of_more rows comp i
+
+pub memory_more_by : (rows more : List Blocks) (row : Blocks) → row ≡ [] → more ≡ rows ++ row ∷ [] → memory_of more ≡ memory_of rows
+memory_more_by rows more row none is = ap memory_of (is ∙ ap (λ r. rows ++ r ∷ []) none) ∙ memory_more rows
+
+row_of_set : (rows : List Blocks) (comp : ℕ) (row : Blocks) (c : ℕ) → comp < length rows → slice_index_or (slice_set rows comp row) c [] ≡ (if c == comp then row else slice_index_or rows c [])
+row_of_set [] comp row c h = absurd (omega arith)
+row_of_set (r ∷ rows) zero row zero h = refl
+row_of_set (r ∷ rows) zero row (suc c) h = ap (λ b. if b then row else slice_index_or rows c []) (sym (eqb-suc-zero c))
+row_of_set (r ∷ rows) (suc comp) row zero h = ap (λ b. if b then row else r) (sym (eqb-zero-suc comp))
+row_of_set (r ∷ rows) (suc comp) row (suc c) h =
+    row_of_set rows comp row c (omega arith) ∙ ap (λ b. if b then row else slice_index_or rows c []) (sym (eqb-suc-suc c comp))
+
+pub memory_set : (rows : List Blocks) (comp : ℕ) (row : Blocks) → comp < length rows → memory_of (slice_set rows comp row) ≡ with_blocks comp row (memory_of rows)
+memory_set rows comp row h = λ i c. row_of_set rows comp row c h i
+
+-- a row, as it was looked up
+pub row_is : (rows : List Blocks) (memory : Memory) (at comp : ℕ) (old : Blocks) → memory_of rows ≡ memory → at ≡ comp → comp < length rows → old ≡ get_or rows at old → old ≡ memory comp
+row_is rows memory at comp old is same there looked =
+    looked ∙ get_or_default rows at old [] (subst (λ n. n < length rows) (sym same) there) ∙ ap (λ n. slice_index_or rows n []) same ∙ (λ i. is i comp)
+
+-- what a change of one row makes of the memory
+pub memory_changed : (rows : List Blocks) (memory : Memory) (at comp : ℕ) (old row : Blocks) (f : Blocks → Blocks) → memory_of rows ≡ memory → at ≡ comp → comp < length rows → old ≡ get_or rows at old → row ≡ f old → memory_of (slice_set rows at row) ≡ with_blocks comp (f (memory comp)) memory
+memory_changed rows memory at comp old row f is same there looked gives =
+    ap (λ n. memory_of (slice_set rows n row)) same ∙ memory_set rows comp row there
+    ∙ (λ i. with_blocks comp ((gives ∙ ap f (row_is rows memory at comp old is same there looked)) i) (is i))

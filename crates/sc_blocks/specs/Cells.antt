@@ -1,0 +1,15 @@
+-- One block, and a store into it.
+use Rattle.std.specs.Prelude.{ℕ, List, Option, None, Some, Result, Ok, Err}
+use Rattle.sc_core.specs.declared.cause.Cause.{Cause}
+use Rattle.sc_core.specs.declared.value.Cell.{Cell}
+use Rattle.sc_core.specs.Memory.{Block, bind, live_cells}
+use Rattle.sc_blocks.specs.Rows.{living, ended, put_in}
+
+-- a block that lives, by its cells, or else one that has ended
+abbrev pub block_of : Option (List Cell) → Block
+block_of None = ended
+block_of (Some cells) = living cells
+
+-- the block once the cell at an index is another
+abbrev pub stored_in : Block → ℕ → Cell → Result Block Cause
+stored_in block index cell = bind (live_cells (Some block)) (λ cells. bind (put_in cells index cell) (λ cells. Ok (living cells)))

@@ -1,0 +1,66 @@
+-- Rows of blocks as a memory, and loads and stores of single cells (C11 6.2.4, 6.5.3.2, 6.5.6).
+use Rattle.std.specs.Prelude.{ℕ, Bool, true, false, if◌then◌else◌, nat_lt, List, [], ◌∷◌, length, replicate, Option, None, Some, Result, Ok, Err, slice_get, slice_set, slice_index_or, MatchResult, ◌≡◌}
+use Rattle.sc_core.specs.declared.cause.Cause.{Cause}
+use Rattle.sc_core.specs.declared.cause.Cause.TheVariants as cause
+use Rattle.sc_core.specs.declared.value.Cell.{Cell}
+use Rattle.sc_core.specs.declared.value.Cell.TheVariants.{Undef, Word, Null, Ptr}
+use Rattle.sc_core.specs.Memory.{Block, Blocks, Memory, bind, is_live, cells_at}
+use Rattle.sc_blocks.specs.declared.fault.BlockFault.{BlockFault}
+use Rattle.sc_blocks.specs.declared.fault.BlockFault.TheVariants.{OutOfBounds, Dangling, NullUse, Indeterminate}
+
+-- the memory of which these are the rows of blocks, one for each of the first compartments
+abbrev pub memory_of : List Blocks → Memory
+memory_of rows comp = slice_index_or rows comp []
+
+-- the cause of undefined behaviour that a fault is
+abbrev pub cause_of : BlockFault → Cause
+cause_of OutOfBounds = cause.OutOfBounds
+cause_of Dangling = cause.Dangling
+cause_of NullUse = cause.NullUse
+cause_of Indeterminate = cause.Indeterminate
+
+abbrev pub or_cause : {A : Type 0} → Result A BlockFault → Result A Cause
+or_cause (Ok x) = Ok x
+or_cause (Err fault) = Err (cause_of fault)
+
+-- a block that lives, with these cells
+abbrev pub living : List Cell → Block
+living cells = record { live = true; cells = cells }
+
+-- a block that has ended: it keeps its number, and gives its cells back
+abbrev pub ended : Block
+ended = record { live = false; cells = [] }
+
+-- a place, or null
+abbrev pub is_place : Cell → Bool
+is_place Null = true
+is_place (Ptr p) = true
+is_place _ = false
+
+-- what a cell holds: a pointer into a block that has ended is nothing that can be loaded
+abbrev pub held : Blocks → Option Cell → Result Cell Cause
+held blocks None = Err cause.OutOfBounds
+held blocks (Some Undef) = Err cause.Indeterminate
+held blocks (Some (Word w)) = Ok (Word w)
+held blocks (Some Null) = Ok Null
+held blocks (Some (Ptr p)) = if is_live (slice_get blocks p.block) then Ok (Ptr p) else Err cause.Dangling
+
+-- the cell at a place
+abbrev pub load_cell : Blocks → Cell → Result Cell Cause
+load_cell blocks (Ptr p) = bind (cells_at blocks p.block) (λ cells. held blocks (slice_get cells p.index))
+load_cell blocks _ = Err cause.NullUse
+
+-- the cells once the one at an index is another
+abbrev pub put_in : List Cell → ℕ → Cell → Result (List Cell) Cause
+put_in cells index cell = if nat_lt index (length cells) then Ok (slice_set cells index cell) else Err cause.OutOfBounds
+
+-- the blocks once a place holds this cell
+abbrev pub store_cell : Blocks → Cell → Cell → Result Blocks Cause
+store_cell blocks (Ptr p) cell =
+    bind (cells_at blocks p.block) (λ cells. bind (put_in cells p.index cell) (λ cells. Ok (slice_set blocks p.block (living cells))))
+store_cell blocks _ cell = Err cause.NullUse
+
+-- how many cells a block has, if it lives
+abbrev pub cell_count : Option Block → Option ℕ
+cell_count None = None
+cell_count (Some block) = if block.live then Some (length block.cells) else None

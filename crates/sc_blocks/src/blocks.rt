@@ -1,0 +1,168 @@
+ghost use Rattle.std.specs.Prelude.{◌≡◌, ◌<◌, ◌^◌, ℕ, [], ◌∷◌, ◌++◌, length, replicate, IfOk, OnOk, OnErr, Ok, Err, MatchResult, IsTrue, slice_get, slice_set};
+ghost use Rattle.sc_core.specs.declared.value.Cell.TheVariants.{Undef};
+ghost use Rattle.sc_core.specs.Memory.{with_blocks, is_live};
+ghost use Rattle.sc_blocks.specs.Rows.{memory_of, or_cause, cause_of, living, ended, is_place, load_cell, store_cell, cell_count};
+ghost use Rattle.sc_blocks.specs.Living.{left_from};
+
+use crate::BlockFault;
+use crate::cells::Cells;
+use crate::row::Row;
+use sc_core::{Cell, Pointer};
+use sc_event::{CompId, OutOfMemory};
+use sqlite_items::Items;
+use std::alloc::{AllocError, Global};
+use std::marker::Model;
+
+/// The blocks of all compartments. Contracts see the rows of blocks, of which `memory_of` is the memory.
+/// A block's number is its place among the blocks that its compartment ever had, so numbers never come again.
+#[derive(Drop)]
+pub struct Blocks {
+    alloc: Global,
+    rows: Vec<Row>,
+}
+
+impl Model for Blocks {
+    ghost use Rattle.std.specs.Prelude.{List};
+    ghost use Rattle.sc_core.specs.Memory.{Block};
+
+    ghost Value = { List (List Block) };
+
+    ghost view = { λ blocks. blocks.rows.items };
+}
+
+impl Blocks {
+    /// No blocks yet. Takes no memory.
+    pub fn new(alloc: Global) -> Blocks
+        ensures { memory_of result ≡ (λ comp. []) }
+    {
+        Blocks {
+            alloc,
+            rows: Vec::new(alloc),
+        }
+    }
+
+    // The row of a compartment, made where it isn't there.
+    fn make_row(&mut self, comp: CompId) -> Result<(), OutOfMemory>
+        ensures same { memory_of self.new ≡ memory_of self.old }
+        ensures there { OnOk result (comp < length self.new) }
+    {
+        while self.rows.len() <= comp.number() as usize {
+            self.rows.push(Row::new(self.alloc))?;
+        }
+        Ok(())
+    }
+
+    // A block with these cells, behind those of the compartment.
+    fn add(&mut self, comp: CompId, cells: Cells) -> Result<u64, OutOfMemory>
+        ensures number { IfOk result (λ number. number ≡ length (memory_of self.old comp)) }
+        ensures made { OnOk result (memory_of self.new ≡ with_blocks comp (memory_of self.old comp ++ living cells ∷ []) (memory_of self.old)) }
+        ensures err { OnErr result (memory_of self.new ≡ memory_of self.old) }
+    {
+        self.make_row(comp)?;
+        let row = &mut self.rows[comp.number() as usize];
+        let number = row.len() as u64;
+        row.push(cells)?;
+        Ok(number)
+    }
+
+    /// A new block with these cells, and its number: the next one of the compartment.
+    pub fn new_block(&mut self, comp: CompId, cells: &[Cell]) -> Result<u64, OutOfMemory>
+        requires { length cells.now < 2 ^ 32 }
+        ensures number { IfOk result (λ number. number ≡ length (memory_of self.old comp)) }
+        ensures made { OnOk result (memory_of self.new ≡ with_blocks comp (memory_of self.old comp ++ living cells.now ∷ []) (memory_of self.old)) }
+        ensures err { OnErr result (memory_of self.new ≡ memory_of self.old) }
+    {
+        let cells = Items::from_slice(self.alloc, cells)?;
+        self.add(comp, Cells::new(cells))
+    }
+
+    /// A new block of so many cells, in which nothing was stored yet.
+    pub fn new_blank(&mut self, comp: CompId, count: u32) -> Result<u64, OutOfMemory>
+        ensures number { IfOk result (λ number. number ≡ length (memory_of self.old comp)) }
+        ensures made { OnOk result (memory_of self.new ≡ with_blocks comp (memory_of self.old comp ++ living (replicate count Undef) ∷ []) (memory_of self.old)) }
+        ensures err { OnErr result (memory_of self.new ≡ memory_of self.old) }
+    {
+        let cells = blank(self.alloc, count)?;
+        self.add(comp, cells)
+    }
+
+    /// How many blocks the compartment ever had, which is the number of its next one.
+    pub fn made(&self, comp: CompId) -> u64
+        ensures { result ≡ length (memory_of self.now comp) }
+    {
+        match self.rows.get(comp.number() as usize) {
+            Some(row) => row.len() as u64,
+            None => 0,
+        }
+    }
+
+    /// Ends a block, whose cells are given back (C11 6.2.4p2).
+    pub fn end_block(&mut self, comp: CompId, block: u64)
+        requires { IsTrue (is_live (slice_get (memory_of self.old comp) block)) }
+        ensures { memory_of self.new ≡ with_blocks comp (slice_set (memory_of self.old comp) block ended) (memory_of self.old) }
+    {
+        if (comp.number() as usize) < self.rows.len() {
+            let row = &mut self.rows[comp.number() as usize];
+            row.end(block as usize);
+        }
+    }
+
+    /// Ends all blocks of the compartment from a number on, as at a return. This takes time for those alone that live.
+    pub fn end_from(&mut self, comp: CompId, first: u64)
+        ensures { memory_of self.new ≡ with_blocks comp (left_from first (memory_of self.old comp)) (memory_of self.old) }
+    {
+        if (comp.number() as usize) < self.rows.len() {
+            let row = &mut self.rows[comp.number() as usize];
+            row.end_from(first as usize);
+        }
+    }
+
+    /// How many cells a block has, `None` where it doesn't live.
+    pub fn live(&self, comp: CompId, block: u64) -> Option<u32>
+        ensures { result ≡ cell_count (slice_get (memory_of self.now comp) block) }
+    {
+        let row = self.rows.get(comp.number() as usize)?;
+        row.count(block as usize)
+    }
+
+    /// The cell at a place of the compartment. Its pointer, where it is one, is to a block that lives.
+    pub fn load(&self, comp: CompId, place: Cell) -> Result<Cell, BlockFault>
+        requires { IsTrue (is_place place) }
+        ensures { or_cause result ≡ load_cell (memory_of self.now comp) place }
+    {
+        let Cell::Ptr(place) = place else {
+            return Err(BlockFault::NullUse);
+        };
+        match self.rows.get(comp.number() as usize) {
+            Some(row) => row.load(place),
+            None => Err(BlockFault::Dangling),
+        }
+    }
+
+    /// Puts a cell at a place of the compartment, and changes nothing else.
+    pub fn store(&mut self, comp: CompId, place: Cell, value: Cell) -> Result<(), BlockFault>
+        requires { IsTrue (is_place place) }
+        ensures value { MatchResult result
+            (λ _. store_cell (memory_of self.old comp) place value ≡ Ok (memory_of self.new comp))
+            (λ fault. store_cell (memory_of self.old comp) place value ≡ Err (cause_of fault)) }
+        ensures others { memory_of self.new ≡ with_blocks comp (memory_of self.new comp) (memory_of self.old) }
+        ensures err { OnErr result (memory_of self.new ≡ memory_of self.old) }
+    {
+        let Cell::Ptr(place) = place else {
+            return Err(BlockFault::NullUse);
+        };
+        if comp.number() as usize >= self.rows.len() {
+            return Err(BlockFault::Dangling);
+        }
+        let row = &mut self.rows[comp.number() as usize];
+        row.store(place, value)
+    }
+}
+
+// So many cells in which nothing was stored yet.
+fn blank(alloc: Global, count: u32) -> Result<Cells, AllocError>
+    ensures { IfOk result (λ cells. cells ≡ replicate count Undef) }
+{
+    let cells = Vec::from_elem(alloc, Cell::Undef, count as usize)?;
+    Ok(Cells::new(Items::from_vec(cells)))
+}

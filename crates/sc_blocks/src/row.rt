@@ -1,0 +1,187 @@
+ghost use Rattle.std.specs.Prelude.{◌≡◌, ◌<◌, [], ◌∷◌, ◌++◌, length, map, reverse, OnOk, OnErr, Ok, Err, MatchResult, slice_get, slice_set};
+ghost use Rattle.std.specs.Option.{option_copied};
+ghost use Rattle.sc_core.specs.declared.value.Cell.TheVariants.{Ptr};
+ghost use Rattle.sc_core.specs.Memory.{is_live, cells_at};
+ghost use Rattle.sc_blocks.specs.Cells.{block_of, stored_in};
+ghost use Rattle.sc_blocks.specs.Living.{left_from, newest_from};
+ghost use Rattle.sc_blocks.specs.Rows.{or_cause, cause_of, living, ended, held, load_cell, store_cell, cell_count};
+
+use crate::BlockFault;
+use crate::cells::Cells;
+use sc_core::{Cell, Pointer};
+use std::alloc::{AllocError, Global};
+use std::marker::Model;
+
+/// The blocks of one compartment, in the order in which they were made. A block that has ended keeps its place alone.
+#[derive(Drop)]
+pub struct Row {
+    blocks: Vec<Option<Cells>>,
+    // The numbers of the blocks that live, and maybe of some that were ended one by one.
+    living: Vec<usize>,
+}
+
+impl Model for Row {
+    ghost use Rattle.std.specs.Prelude.{List, map, reverse};
+    ghost use Rattle.sc_core.specs.Memory.{Block};
+    ghost use Rattle.sc_blocks.specs.Cells.{block_of};
+    ghost use Rattle.sc_blocks.specs.Living.{Lists};
+
+    ghost Value = { List Block };
+
+    ghost view = { λ row. map block_of row.blocks.items };
+
+    ghost invariant = { λ row. Lists (reverse row.living.items) (map block_of row.blocks.items) };
+}
+
+impl Row {
+    pub fn new(alloc: Global) -> Row
+        ensures { result ≡ [] }
+    {
+        Row {
+            blocks: Vec::new(alloc),
+            living: Vec::new(alloc),
+        }
+    }
+
+    pub fn len(&self) -> usize
+        ensures { result ≡ length self.now }
+    {
+        self.blocks.len()
+    }
+
+    /// One more block, with these cells.
+    pub fn push(&mut self, cells: Cells) -> Result<(), AllocError>
+        ensures ok { OnOk result (self.new ≡ self.old ++ living cells ∷ []) }
+        ensures err { OnErr result (self.new ≡ self.old) }
+    {
+        self.living.reserve(1)?;
+        self.blocks.push(Some(cells))?;
+        self.living.push(self.blocks.len() - 1)?;
+        Ok(())
+    }
+
+    /// Ends a block, if it is there.
+    pub fn end(&mut self, block: usize)
+        ensures { self.new ≡ slice_set self.old block ended }
+    {
+        end_in(&mut self.blocks, block);
+    }
+
+    /// Ends all blocks from a number on. This takes time for those alone that live.
+    pub fn end_from(&mut self, first: usize)
+        ensures { self.new ≡ left_from first self.old }
+    {
+        while is_newest_from(&self.living, first) {
+            let Some(newest) = self.living.pop() else {
+                return;
+            };
+            end_in(&mut self.blocks, newest);
+        }
+    }
+
+    pub fn cells(&self, block: usize) -> Result<&[Cell], BlockFault>
+        ensures { MatchResult result
+            (λ cells. cells_at self.now block ≡ Ok cells.now)
+            (λ fault. cells_at self.now block ≡ Err (cause_of fault)) }
+    {
+        match self.blocks.get(block) {
+            Some(Some(cells)) => Ok(cells.as_slice()),
+            _ => Err(BlockFault::Dangling),
+        }
+    }
+
+    pub fn count(&self, block: usize) -> Option<u32>
+        ensures { result ≡ cell_count (slice_get self.now block) }
+    {
+        match self.blocks.get(block) {
+            Some(Some(cells)) => Some(cells.len()),
+            _ => None,
+        }
+    }
+
+    pub fn is_live(&self, block: usize) -> bool
+        ensures { result ≡ is_live (slice_get self.now block) }
+    {
+        match self.blocks.get(block) {
+            Some(Some(_)) => true,
+            _ => false,
+        }
+    }
+
+    // What a cell holds, where there is one.
+    fn held(&self, cell: Option<&Cell>) -> Result<Cell, BlockFault>
+        ensures { or_cause result ≡ held self.now (option_copied cell.entry) }
+    {
+        match cell {
+            None => Err(BlockFault::OutOfBounds),
+            Some(Cell::Undef) => Err(BlockFault::Indeterminate),
+            Some(Cell::Word(word)) => Ok(Cell::Word(*word)),
+            Some(Cell::Null) => Ok(Cell::Null),
+            Some(Cell::Ptr(to)) => {
+                if self.is_live(to.block as usize) {
+                    Ok(Cell::Ptr(*to))
+                } else {
+                    Err(BlockFault::Dangling)
+                }
+            }
+        }
+    }
+
+    pub fn load(&self, place: Pointer) -> Result<Cell, BlockFault>
+        ensures { or_cause result ≡ load_cell self.now (Ptr place) }
+    {
+        match self.cells(place.block as usize) {
+            Ok(cells) => self.held(cells.get(place.index as usize)),
+            Err(fault) => Err(fault),
+        }
+    }
+
+    pub fn store(&mut self, place: Pointer, cell: Cell) -> Result<(), BlockFault>
+        ensures value { MatchResult result
+            (λ _. store_cell self.old (Ptr place) cell ≡ Ok self.new)
+            (λ fault. store_cell self.old (Ptr place) cell ≡ Err (cause_of fault)) }
+        ensures err { OnErr result (self.new ≡ self.old) }
+    {
+        let block = place.block as usize;
+        if block >= self.blocks.len() {
+            return Err(BlockFault::Dangling);
+        }
+        put(&mut self.blocks[block], place.index, cell)
+    }
+}
+
+fn is_newest_from(numbers: &[usize], first: usize) -> bool
+    ensures { result ≡ newest_from first (reverse numbers.now) }
+{
+    match numbers {
+        [] => false,
+        [.., newest] => first <= *newest,
+    }
+}
+
+fn end_in(blocks: &mut Vec<Option<Cells>>, block: usize)
+    ensures { map block_of blocks.new.items ≡ slice_set (map block_of blocks.old.items) block ended }
+{
+    if block < blocks.len() {
+        blocks[block] = None;
+    }
+}
+
+// Puts a cell into a block that lives.
+fn put(block: &mut Option<Cells>, index: u32, cell: Cell) -> Result<(), BlockFault>
+    ensures value { MatchResult result
+        (λ _. stored_in (block_of block.old) index cell ≡ Ok (block_of block.new))
+        (λ fault. stored_in (block_of block.old) index cell ≡ Err (cause_of fault)) }
+    ensures err { OnErr result (block.new ≡ block.old) }
+{
+    match block {
+        None => Err(BlockFault::Dangling),
+        Some(cells) => {
+            if index >= cells.len() {
+                return Err(BlockFault::OutOfBounds);
+            }
+            cells.set(index, cell);
+            Ok(())
+        }
+    }
+}
