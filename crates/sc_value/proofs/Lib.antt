@@ -1,0 +1,4 @@
+pub mod Lists
+pub mod Loads
+pub mod Shifts
+pub mod Operands

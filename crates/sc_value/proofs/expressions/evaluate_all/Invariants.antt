@@ -1,0 +1,11 @@
+use Rattle.std.proofs.Common.{◌≡◌, map, drop}
+use Rattle.sc_core.specs.Value.{c_arith}
+use Rattle.sc_core.specs.Tree.{ways, values}
+use Rattle.sc_blocks.specs.Rows.{memory_of}
+use Rattle.sc_value.specs.Where.{here_of}
+use Rattle.sc_value.proofs.Lists.{behind}
+use Rattle.sc_value.proofs.expressions.evaluate_all.Given as goal
+
+abbrev pub invariant-loop-expr : goal.invariant-loop-expr
+invariant-loop-expr l =
+    behind l.found (values (map (ways c_arith l.scope.structs.now (here_of l.scope) l.scope.params) (drop l.expr-index l.exprs)) (memory_of l.blocks l.scope.comp.now)) ≡ values (map (ways c_arith l.scope.structs.now (here_of l.scope) l.scope.params) l.exprs) (memory_of l.blocks l.scope.comp.now)

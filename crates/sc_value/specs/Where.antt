@@ -1,0 +1,8 @@
+-- Where an expression stands.
+use Rattle.std.specs.Prelude.{ℕ, List, Bool, true, false}
+use Rattle.sc_core.specs.Words.{Here}
+use Rattle.sc_value.specs.declared.standing.Scope.{Scope}
+
+-- the compartment and the first block of the call
+abbrev pub here_of : Scope → Here
+here_of scope = record { comp = scope.comp.now; first = scope.first }

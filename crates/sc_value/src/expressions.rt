@@ -1,0 +1,237 @@
+//! Expressions (C11 6.5), by recursion on the tree, whose height is at most 256.
+
+ghost use Rattle.std.specs.Prelude.{◌≡◌, map, IfOk};
+ghost use Rattle.sc_core.specs.declared.op.BinaryOp.TheVariants.{Add};
+ghost use Rattle.sc_core.specs.Value.{c_arith};
+ghost use Rattle.sc_core.specs.Tree.{variable_at, wanted, literal, is_unsigned_op, at_pointer, applied, ways, values};
+ghost use Rattle.sc_blocks.specs.Rows.{memory_of};
+ghost use Rattle.sc_value.specs.Evaluation.{decided, joined};
+ghost use Rattle.sc_value.specs.Where.{here_of};
+
+use crate::Scope;
+use crate::access::load;
+use crate::moves::{moved_back, moved_on, offset_by};
+use crate::pointers::between;
+use crate::sizes::{is_array, is_pointer, is_unsigned, target_cells};
+use crate::words::{applied_one, is_true, of_bool, on_words};
+use sc_blocks::Blocks;
+use sc_core::{BinaryOp, Cause, Pointer, Ty, TypedExpr, TypedKind, Value, VarRef, Want};
+use sqlite_items::Items;
+use std::alloc::{AllocError, Global};
+
+fn literal(ty: Ty, word: u32) -> Value
+    ensures { result ≡ literal ty word }
+{
+    if is_pointer(ty) {
+        Value::Null
+    } else {
+        Value::Word(word)
+    }
+}
+
+/// The place of a variable.
+pub fn variable_at(scope: &Scope, variable: VarRef) -> Value
+    ensures { result ≡ variable_at (here_of scope.now) scope.now.params variable }
+{
+    let block = match variable {
+        VarRef::Global(number) => number as u64,
+        VarRef::Param(number) => scope.first as u64 + number as u64,
+        VarRef::Local(number) => scope.first as u64 + scope.params as u64 + number as u64,
+    };
+    Value::Ptr(Pointer { block, index: 0 })
+}
+
+// From a place of this type to what is wanted.
+fn wanted(blocks: &Blocks, scope: &Scope, ty: Ty, place: Value, want: Want) -> Result<Value, Cause>
+    ensures { result ≡ wanted ty place want (memory_of blocks.now scope.now.comp.now) }
+{
+    match want {
+        Want::Place => Ok(place),
+        Want::Value => {
+            if is_array(ty) {
+                Ok(place)
+            } else {
+                load(blocks, *scope.comp, is_pointer(ty), place)
+            }
+        }
+    }
+}
+
+fn is_unsigned_op(op: BinaryOp, left: Ty, right: Ty) -> bool
+    ensures { result ≡ is_unsigned_op op left right }
+{
+    match op {
+        BinaryOp::ShiftLeft => is_unsigned(left),
+        BinaryOp::ShiftRight => is_unsigned(left),
+        _ => is_unsigned(left) || is_unsigned(right),
+    }
+}
+
+// The operator between a pointer and an integer.
+fn at_pointer(
+    blocks: &Blocks,
+    scope: &Scope,
+    op: BinaryOp,
+    pointer: Ty,
+    index: Ty,
+    place: Value,
+    by: Value,
+) -> Result<Value, Cause>
+    ensures { result ≡ at_pointer scope.now.structs.now (memory_of blocks.now scope.now.comp.now) op pointer index place by }
+{
+    let cells = target_cells(scope.structs, pointer);
+    match op {
+        BinaryOp::Sub => moved_back(blocks, *scope.comp, cells, is_unsigned(index), place, by),
+        _ => moved_on(blocks, *scope.comp, cells, is_unsigned(index), place, by),
+    }
+}
+
+// An operator between two values of these types.
+fn applied(
+    blocks: &Blocks,
+    scope: &Scope,
+    op: BinaryOp,
+    types: (Ty, Ty),
+    left: Value,
+    right: Value,
+) -> Result<Value, Cause>
+    ensures { result ≡ applied c_arith scope.now.structs.now (memory_of blocks.now scope.now.comp.now) op types.0 types.1 left right }
+{
+    if is_pointer(types.0) {
+        if is_pointer(types.1) {
+            between(
+                blocks,
+                *scope.comp,
+                op,
+                target_cells(scope.structs, types.0),
+                left,
+                right,
+            )
+        } else {
+            at_pointer(blocks, scope, op, types.0, types.1, left, right)
+        }
+    } else if is_pointer(types.1) {
+        at_pointer(blocks, scope, op, types.1, types.0, right, left)
+    } else {
+        on_words(is_unsigned_op(op, types.0, types.1), op, left, right)
+    }
+}
+
+// What the first operand of `&&` or `||` decides alone.
+fn decided(op: BinaryOp, value: Value) -> Option<Value>
+    ensures { result ≡ decided op value }
+{
+    match op {
+        BinaryOp::AndAlso => {
+            if is_true(value) {
+                None
+            } else {
+                Some(Value::Word(0))
+            }
+        }
+        BinaryOp::OrElse => {
+            if is_true(value) {
+                Some(Value::Word(1))
+            } else {
+                None
+            }
+        }
+        _ => None,
+    }
+}
+
+fn joined(
+    blocks: &Blocks,
+    scope: &Scope,
+    op: BinaryOp,
+    types: (Ty, Ty),
+    left: Value,
+    right: Value,
+) -> Result<Value, Cause>
+    ensures { result ≡ joined scope.now.structs.now (memory_of blocks.now scope.now.comp.now) op types.0 types.1 left right }
+{
+    match op {
+        BinaryOp::AndAlso => Ok(of_bool(is_true(right))),
+        BinaryOp::OrElse => Ok(of_bool(is_true(right))),
+        _ => applied(blocks, scope, op, types, left, right),
+    }
+}
+
+/// The place or the value of an expression, or the first cause that evaluation from left to right meets.
+pub fn evaluate(
+    blocks: &Blocks,
+    scope: &Scope,
+    want: Want,
+    expr: &TypedExpr,
+) -> Result<Value, Cause>
+    ensures { result ≡ ways c_arith scope.now.structs.now (here_of scope.now) scope.now.params expr.now want (memory_of blocks.now scope.now.comp.now) }
+{
+    match &expr.kind {
+        TypedKind::Literal { value } => Ok(literal(expr.ty, *value)),
+        TypedKind::Variable(variable) => {
+            wanted(blocks, scope, expr.ty, variable_at(scope, *variable), want)
+        }
+        TypedKind::Unary { op, of } => {
+            let operand = evaluate(blocks, scope, Want::Value, of.get())?;
+            applied_one(is_unsigned(of.get().ty), *op, operand)
+        }
+        TypedKind::Binary { op, left, right } => {
+            let first = evaluate(blocks, scope, Want::Value, left.get())?;
+            if let Some(value) = decided(*op, first) {
+                return Ok(value);
+            }
+            let second = evaluate(blocks, scope, Want::Value, right.get())?;
+            let types = (left.get().ty, right.get().ty);
+            joined(blocks, scope, *op, types, first, second)
+        }
+        TypedKind::Index { base, index } => {
+            let first = evaluate(blocks, scope, Want::Value, base.get())?;
+            let second = evaluate(blocks, scope, Want::Value, index.get())?;
+            let types = (base.get().ty, index.get().ty);
+            let place = at_pointer(
+                blocks,
+                scope,
+                BinaryOp::Add,
+                types.0,
+                types.1,
+                first,
+                second,
+            )?;
+            wanted(blocks, scope, expr.ty, place, want)
+        }
+        TypedKind::Member { base, offset } => {
+            let first = evaluate(blocks, scope, Want::Place, base.get())?;
+            let place = offset_by(blocks, *scope.comp, *offset, first)?;
+            wanted(blocks, scope, expr.ty, place, want)
+        }
+        TypedKind::Arrow { base, offset } => {
+            let first = evaluate(blocks, scope, Want::Value, base.get())?;
+            let place = offset_by(blocks, *scope.comp, *offset, first)?;
+            wanted(blocks, scope, expr.ty, place, want)
+        }
+        TypedKind::Deref(of) => {
+            let place = evaluate(blocks, scope, Want::Value, of.get())?;
+            wanted(blocks, scope, expr.ty, place, want)
+        }
+        TypedKind::Address(of) => evaluate(blocks, scope, Want::Place, of.get()),
+    }
+}
+
+/// The values of expressions from left to right, or the first cause.
+pub fn evaluate_all(
+    alloc: Global,
+    blocks: &Blocks,
+    scope: &Scope,
+    exprs: &[TypedExpr],
+) -> Result<Result<Items<Value>, Cause>, AllocError>
+    ensures { IfOk result (λ found. found ≡ values (map (ways c_arith scope.now.structs.now (here_of scope.now) scope.now.params) exprs.now) (memory_of blocks.now scope.now.comp.now)) }
+{
+    let mut found = Items::new(alloc);
+    for expr in exprs {
+        match evaluate(blocks, scope, Want::Value, expr) {
+            Ok(value) => found.push(value)?,
+            Err(cause) => return Ok(Err(cause)),
+        }
+    }
+    Ok(Ok(found))
+}
