@@ -2,8 +2,12 @@
 #![tactic(auto)]
 
 #[cfg(test)]
+mod exec;
+#[cfg(test)]
 mod machine;
 #[cfg(test)]
 mod meaning;
 #[cfg(test)]
 mod program;
+#[cfg(test)]
+mod refusal;

@@ -30,11 +30,6 @@ fn a_compiled_program_is_run_and_explained(rt: HostRuntime) -> Result<(), Fail> 
         assert_eq!(rt; ran.err.len(), 0);
         assert_eq!(rt; ran.unread, 0);
     }
-    for word in ["compile", "run", "explain"] {
-        let ran = Run::new(&[word], b"int main(void) { return 0; }").run(rt.alloc())?;
-        assert_eq!(rt; ran.status, 10);
-        assert_eq!(rt; ran.out.len(), 0);
-    }
     Ok(())
 }
 

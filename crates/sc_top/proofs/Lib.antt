@@ -1,7 +1,11 @@
 pub mod Answers
-pub mod Blames
 pub mod Bodies
 pub mod Known
+pub mod Lengths
 pub mod Numbers
 pub mod Statements
 pub mod Streams
+pub mod ThinBrackets
+pub mod ThinReads
+pub mod ThinSplit
+pub mod ThinTree

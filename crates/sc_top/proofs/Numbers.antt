@@ -16,7 +16,7 @@ use Rattle.sc_top.specs.Statement.{IsNumber, EndsNumber}
 model : IsNumeralModel (λ ds. all_ascii_digits ds ≡ true) (digits_value 10)
 model = numerals_by_value _ tells_all_ascii_digits
 
-digits_of_decimal : (word : ℕ) → word ≤ 2147483647 → all_ascii_digits (decimal word) ≡ true
+pub digits_of_decimal : (word : ℕ) → word ≤ 2147483647 → all_ascii_digits (decimal word) ≡ true
 digits_of_decimal word small = digits_decimal model word (omega arith)
 
 first_is : (a b : Bool) → (a && b) ≡ true → a ≡ true

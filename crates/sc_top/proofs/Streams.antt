@@ -3,7 +3,7 @@ use Rattle.std.proofs.Common.{◌≡◌, ℕ, ◌+◌, ◌-◌, ◌≤◌, inl, 
 use Rattle.std.proofs.lemmas.List.{append-nil, take-append-drop, take_all, take_rest}
 use Rattle.std.proofs.Math.Seq.{take-add}
 use Rattle.sc_edge.specs.Edge.{Rose, Takes, Adds, IsAtEnd}
-use Rattle.sc_top.specs.Answer.{Reads, Tells}
+use Rattle.sc_top.specs.Answer.{Fetches, IsFront, Tells}
 
 -- a count that rose later has risen
 pub rose_since : (before then_ after : ℕ) → before ≤ then_ → Rose then_ after → Rose before after
@@ -44,12 +44,12 @@ more_taken most a b c f g h text more so_far taken within counted =
     record { taken = Takes-more a b c text more so_far.taken taken; within = rw length-append within; counted = omega arith }
 
 -- at the end of the input all was read
-pub all_taken : (limit : ℕ) (a b c : Option (List ℕ)) (f g : ℕ) (text : List ℕ) → HasTaken (limit + 1) a b f g text → Takes b c [] → IsAtEnd c → Reads limit a c text
+pub all_taken : (limit : ℕ) (a b c : Option (List ℕ)) (f g : ℕ) (text : List ℕ) → HasTaken (limit + 1) a b f g text → Takes b c [] → IsAtEnd c → Fetches limit a c text
 all_taken limit a b c f g text so_far taken ended =
     record { taken = subst (Takes a c) (append-nil text) (Takes-more a b c text [] so_far.taken taken); ended = λ _. ended }
 
 -- past the limit nothing is said of the rest
-pub enough_taken : (limit : ℕ) (a b : Option (List ℕ)) (f g : ℕ) (text : List ℕ) → HasTaken (limit + 1) a b f g text → limit + 1 ≤ length text → Reads limit a b text
+pub enough_taken : (limit : ℕ) (a b : Option (List ℕ)) (f g : ℕ) (text : List ℕ) → HasTaken (limit + 1) a b f g text → limit + 1 ≤ length text → Fetches limit a b text
 enough_taken limit a b f g text so_far long = record { taken = so_far.taken; ended = λ short. absurd (omega arith) }
 
 -- so many of the bytes were written
@@ -91,6 +91,30 @@ cut_short bytes a b c f g h count so_far same rose =
 pub on_err : {T E : Type 0} (r : Result T E) (P : Type 0) → P → OnErr r P
 on_err (Ok value) P holds = tt
 on_err (Err error) P holds = holds
+
+pub on_err_more : {T E : Type 0} (r : Result T E) (P Q : Type 0) → (P → Q) → OnErr r P → OnErr r Q
+on_err_more (Ok value) P Q on h = tt
+on_err_more (Err error) P Q on h = on h
+
+-- a text that was cut short is the front of a longer one
+pub first_cut : (a b : List ℕ) (w w' : Option (List ℕ)) (f f' : ℕ) → Tells a w w' f f' → Rose f f' → Tells (a ++ b) w w' f f'
+first_cut a b w w' f f' t rose =
+    record {
+      front = t.front;
+      begins = record { rest = t.begins.rest ++ b; joined = ap (λ x. x ++ b) t.begins.joined ∙ append_assoc t.front t.begins.rest b };
+      part = t.part;
+      whole = inr rose;
+    }
+
+-- behind a text that was written whole, the next is told
+pub then_told : (a b : List ℕ) (w u w' : Option (List ℕ)) (f g f' : ℕ) → Adds w u a → f ≤ g → Tells b u w' g f' → Tells (a ++ b) w w' f f'
+then_told a b w u w' f g f' added low t =
+    record {
+      front = a ++ t.front;
+      begins = record { rest = t.begins.rest; joined = ap (λ x. a ++ x) t.begins.joined ∙ sym (append_assoc a t.front t.begins.rest) };
+      part = Adds-more w u w' a t.front added t.part;
+      whole = ⊎_elim (λ same. inl (ap (λ x. a ++ x) same)) (λ rose. inr (rose_since f g f' low rose)) t.whole;
+    }
 
 pub ruleset reading = (nothing_taken, more_taken, all_taken, enough_taken, rose_since)
 

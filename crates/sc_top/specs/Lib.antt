@@ -1,7 +1,7 @@
 pub mod Answer
 pub mod Command
+pub mod Names
 pub mod Output
-pub mod Report
 pub mod Statement
 pub mod Status
 pub mod Thin

@@ -1,7 +1,7 @@
-ghost use Rattle.std.specs.Prelude.{◌≡◌, ◌≤◌, IfOk, IsErrOf};
+ghost use Rattle.std.specs.Prelude.{◌≡◌, ◌≤◌, ℕ, IfOk, IfErr, IsErrOf};
 ghost use Rattle.sc_edge.specs.Edge.{Rose};
 ghost use Rattle.sc_top.specs.declared.input.ReadFault.TheVariants as faults;
-ghost use Rattle.sc_top.specs.Answer.{Reads};
+ghost use Rattle.sc_top.specs.Answer.{Fetches, IsWhole, IsLonger, IsFetchFault};
 
 use crate::Status;
 use sc_edge::Source;
@@ -46,7 +46,7 @@ pub(crate) fn read_text<S: Source>(
     source: &mut S,
     limit: u32,
 ) -> Result<Text, ReadFault>
-    ensures bytes { IfOk result (λ text. Reads limit (S.left source.old) (S.left source.new) text) }
+    ensures bytes { IfOk result (λ text. Fetches limit (S.left source.old) (S.left source.new) text) }
     ensures fault { IsErrOf result ReadFault.Source → Rose (S.faults source.old) (S.faults source.new) }
     ensures faults { S.faults source.old ≤ S.faults source.new }
 {
@@ -62,6 +62,24 @@ pub(crate) fn read_text<S: Source>(
             return Ok(text);
         }
         text.append(&piece[..taken])?;
+    }
+    Ok(text)
+}
+
+/// Reads the whole of the input, which is refused where more bytes came than the limit.
+pub(crate) fn read_whole<S: Source>(
+    alloc: Global,
+    source: &mut S,
+    limit: u32,
+) -> Result<Text, Status>
+    ensures whole { IfOk result (IsWhole limit (S.left source.old) (S.left source.new)) }
+    ensures too_long { (other : ℕ) → IsErrOf result (Status.TooLong other) → (other ≡ limit) × IsLonger limit (S.left source.old) (S.left source.new) }
+    ensures read_fault { IsErrOf result Status.ReadFault → Rose (S.faults source.old) (S.faults source.new) }
+    ensures causes { IfErr result (IsFetchFault limit) }
+{
+    let text = read_text(alloc, source, limit)?;
+    if text.as_bytes().len() > limit as usize {
+        return Err(Status::TooLong { limit });
     }
     Ok(text)
 }

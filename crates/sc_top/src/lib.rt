@@ -2,14 +2,19 @@
 #![tactic(auto)]
 
 mod command;
+mod exec;
 mod input;
+mod laws;
 mod machine;
+mod names;
 mod output;
-mod report;
 mod status;
+mod telling;
 mod thin;
 mod top;
 
-pub use command::Command;
+pub use command::{Command, TextCommand};
+pub use laws::{one_answer, thin_texts_are_read};
 pub use status::Status;
-pub use top::{secomp, tell};
+pub use telling::tell;
+pub use top::secomp;

@@ -10,7 +10,7 @@ use std::alloc::Global;
 use std::str;
 
 /// The longest thin text, in bytes.
-pub(crate) const LIMIT: u32 = 16_384;
+const LIMIT: u32 = 16_384;
 
 // The greatest number of a thin text.
 const GREATEST: u32 = 2_147_483_647;

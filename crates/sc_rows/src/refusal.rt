@@ -1,0 +1,48 @@
+// Texts that aren't taken.
+use crate::program::Run;
+use std::test::Fail;
+
+const WITHOUT_ITS_BRACE: &[u8] =
+    b"#pragma compartment Main\n#pragma import Env output\nvoid output(int v);\nint main(void) {\n  output(7);\n  return 0;\n";
+
+const WITH_A_WIDE_NUMBER: &[u8] =
+    b"#pragma compartment Main\n#pragma import Env output\nvoid output(int v);\nint main(void) {\n  output(4294967296);\n  return 0;\n}\n";
+
+const SECTION_IN_A_COMMENT: &[u8] = b"/*\n#pragma compartment Main\n*/\n";
+
+#[test]
+fn a_text_is_refused_at_the_first_phase_that_it_fails(rt: HostRuntime) -> Result<(), Fail> {
+    let cases: [(&[u8], &[u8]); 4] = [
+        (WITHOUT_ITS_BRACE, b"secomp: refused syntax line 6\n"),
+        (WITH_A_WIDE_NUMBER, b"secomp: refused lex line 5\n"),
+        (SECTION_IN_A_COMMENT, b"secomp: refused lex line 1\n"),
+        (
+            b"\nint main(void) { return 0; }",
+            b"secomp: refused syntax line 2\n",
+        ),
+    ];
+    for (text, err) in cases {
+        for word in ["meaning", "explain"] {
+            let ran = Run::new(&[word], text).run(rt.alloc())?;
+            assert_eq!(rt; ran.status, 3);
+            assert_eq!(rt; ran.out.len(), 0);
+            assert!(rt; ran.err.as_slice() == err);
+            assert_eq!(rt; ran.unread, 0);
+        }
+    }
+    Ok(())
+}
+
+#[test]
+fn a_text_is_too_long_above_its_limit(rt: HostRuntime) -> Result<(), Fail> {
+    let text = vec![in rt.alloc(); b' '; 1_048_577]?;
+    let ran = Run::new(&["run"], &text).run(rt.alloc())?;
+    assert_eq!(rt; ran.status, 5);
+    assert_eq!(rt; ran.out.len(), 0);
+    assert!(rt; ran.err.as_slice() == b"secomp: too long 1048576\n".as_slice());
+    for (word, bytes) in [("run", &text[1..]), ("meaning", text.as_slice())] {
+        let ran = Run::new(&[word], bytes).run(rt.alloc())?;
+        assert_eq!(rt; ran.status, 10);
+    }
+    Ok(())
+}
