@@ -1,5 +1,5 @@
 -- Expressions with their types (C11 6.5). Where an expression breaks the rules of types, it gets some type that doesn't fit.
-use Rattle.std.specs.Prelude.{ℕ, zero, Bool, true, false, ◌&&◌, if◌then◌else◌, List, map, Option, Some, None}
+use Rattle.std.specs.Prelude.{ℕ, zero, Bool, true, false, ◌&&◌, if◌then◌else◌, Option, Some, None}
 use Rattle.std.specs.Option.{option_map_or}
 use Rattle.sc_ast.specs.Numbers.{Number}
 use Rattle.sc_ast.specs.declared.expr.UnaryOp.{UnaryOp}

@@ -1,5 +1,5 @@
 -- Sections and programs with their types, and the lines of the declarations that break the rules of types.
-use Rattle.std.specs.Prelude.{ℕ, zero, suc, ◌+◌, ◌-◌, ◌%◌, ◌^◌, Bool, true, false, ◌&&◌, not, nat_eq, nat_le, bytes_eq, List, [], ◌∷◌, ◌++◌, length, map, take, position, slice_get, Option, Some, None, if◌then◌else◌}
+use Rattle.std.specs.Prelude.{ℕ, zero, suc, ◌+◌, ◌-◌, ◌%◌, ◌^◌, Bool, true, false, ◌&&◌, not, nat_eq, nat_le, bytes_eq, List, [], ◌∷◌, ◌++◌, length, map, take, Option, Some, None, if◌then◌else◌}
 use Rattle.std.specs.List.{concat, list_all}
 use Rattle.std.specs.Option.{option_map, option_map_or}
 use Rattle.sc_event.specs.declared.interface.Import.{Import}
@@ -42,10 +42,9 @@ use Rattle.sc_core.specs.declared.section.TypedFunction.{TypedFunction}
 use Rattle.sc_core.specs.declared.section.TypedSection.{TypedSection}
 use Rattle.sc_core.specs.declared.program.ProgramTree.{ProgramTree}
 use Rattle.sc_core.specs.Types.{cells_of}
-use Rattle.sc_core.specs.Typing.{Scope, Signature, starred, judged, init_fits}
-use Rattle.sc_core.specs.WellTyped.{scope_of}
+use Rattle.sc_core.specs.Typing.{Scope, Signature, starred, init_fits}
 use Rattle.sc_decls.specs.Broken.{unless, line_of_text}
-use Rattle.sc_decls.specs.Declarations.{structs_in, globals_in, functions_in, heads_in, struct_names, function_names, import_names}
+use Rattle.sc_decls.specs.Declarations.{structs_in, globals_in, functions_in, heads_in, struct_names, function_names}
 use Rattle.sc_decls.specs.Interfaces.{number_or_zero, import_of, interfaces_of, function_named}
 use Rattle.sc_elab.specs.Scopes.{Visible}
 use Rattle.sc_elab.specs.Expressions.{typed, going_to}

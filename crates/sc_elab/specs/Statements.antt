@@ -1,5 +1,5 @@
 -- Statements with their types, and the lines of those that break the rules of types (C11 6.8).
-use Rattle.std.specs.Prelude.{ℕ, Bool, true, false, ◌&&◌, not, List, [], ◌∷◌, ◌++◌, map, Option, Some, None, is_some}
+use Rattle.std.specs.Prelude.{ℕ, Bool, false, ◌&&◌, not, List, [], ◌∷◌, ◌++◌, map, Option, Some, None, is_some}
 use Rattle.std.specs.List.{concat}
 use Rattle.std.specs.Option.{option_map}
 use Rattle.sc_ast.specs.declared.expr.ExprTree.{ExprTree}
@@ -20,7 +20,7 @@ use Rattle.sc_core.specs.declared.stmt.TypedStmtKind.{TypedStmtKind}
 use Rattle.sc_core.specs.declared.stmt.TypedSimple.{TypedSimple}
 use Rattle.sc_core.specs.declared.stmt.TypedSimpleKind.{TypedSimpleKind}
 use Rattle.sc_core.specs.declared.stmt.TypedSimpleKind.TheVariants as simple
-use Rattle.sc_core.specs.Typing.{Scope, Judged, Signature, judged, is_scalar, assign_fits, args_fit, is_target, result_goes, option_goes, returned_fits}
+use Rattle.sc_core.specs.Typing.{Scope, Judged, Signature, judged, is_scalar, assign_fits, args_fit, is_target, result_goes, returned_fits}
 use Rattle.sc_decls.specs.Broken.{unless}
 use Rattle.sc_elab.specs.Scopes.{Visible}
 use Rattle.sc_elab.specs.Expressions.{typed, going_to}
