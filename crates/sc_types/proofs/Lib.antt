@@ -13,3 +13,6 @@ mod Functions
 mod Sections
 mod Whole
 mod Stars
+mod Readings
+mod Sources
+mod Verdicts

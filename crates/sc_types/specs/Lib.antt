@@ -1,1 +1,3 @@
 pub mod Acceptance
+pub mod Source
+pub mod Starts

@@ -1,11 +1,12 @@
 //! What holds of every text.
 
-ghost use Rattle.std.specs.Prelude.{◌≡◌, ℕ, List};
+ghost use Rattle.std.specs.Prelude.{◌≡◌, ◌≢◌, ◌⊎◌, ℕ, List};
 ghost use Rattle.sc_lex.specs.declared.refusal.Phase.{Phase};
+ghost use Rattle.sc_lex.specs.declared.refusal.Phase.TheVariants.{Syntax};
 ghost use Rattle.sc_core.specs.declared.program.ProgramTree.{ProgramTree};
 ghost use Rattle.sc_types.specs.Acceptance.{Accepts, Fails};
 
-use sc_read::{one_reading, read_or_refused};
+use sc_read::{one_phase as one_phase_of_reading, one_reading, read_or_fails, read_or_refused};
 
 /// A text is accepted as one program at most.
 pub fn one_program()
@@ -20,4 +21,20 @@ pub fn accepted_or_refused()
 {
     one_reading();
     read_or_refused();
+}
+
+/// Each text is accepted, or fails a phase.
+pub fn accepted_or_fails()
+    ensures { (text : List ℕ) → ((program : ProgramTree) × Accepts text program) ⊎ ((phase : Phase) × (line : ℕ) × Fails text phase line) }
+{
+    read_or_fails();
+}
+
+/// A text fails one phase at most, and a phase other than Syntax in one line at most.
+pub fn one_phase()
+    ensures { (text : List ℕ) (phase other : Phase) (line later : ℕ) → Fails text phase line → Fails text other later → (phase ≡ other) × (phase ≢ Syntax → line ≡ later) }
+{
+    one_reading();
+    read_or_refused();
+    one_phase_of_reading();
 }

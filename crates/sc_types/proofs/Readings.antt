@@ -1,0 +1,143 @@
+-- What is read of a text is low and has few stars, and what it fails is failed by the text.
+use Rattle.std.proofs.Common.{◌≡◌, refl, sym, ap, ◌∙◌, ℕ, ◌+◌, ◌-◌, ◌≤◌, ◌<◌, ◌⊎◌, inl, inr, true, List, [], ◌∷◌, map, drop, length, Option, None, Some, Result, Ok, Err, IfOk, arith, subst}
+use Rattle.std.specs.Prelude.{nat_le, slice_range, IsErrOf}
+use Rattle.std.specs.List.{list_all, AllZip}
+use Rattle.std.proofs.lemmas.List.{length-take, length-drop, length-map}
+use Rattle.sc_lex.specs.Cutting.{Cuts, nothing, gap, token}
+use Rattle.sc_lex.specs.Splitting.{IsSection, AreSections, none, section, IsSplit}
+use Rattle.sc_lex.specs.declared.token.Token.{Token}
+use Rattle.sc_lex.specs.declared.section.Section.{Section}
+use Rattle.sc_lex.specs.declared.refusal.Refusal.{Refusal}
+use Rattle.sc_lex.specs.declared.refusal.Phase.{Phase}
+use Rattle.sc_lex.specs.declared.refusal.Phase.TheVariants as phase
+use Rattle.sc_lex.proofs.Runs.{token_positive}
+use Rattle.sc_ast.specs.declared.section.SectionTree.{SectionTree}
+use Rattle.sc_ast.specs.Height.{section_height}
+use Rattle.sc_expr.specs.declared.lexeme.Lexeme.{Lexeme}
+use Rattle.sc_expr.specs.Lexemes.{lexeme_of}
+use Rattle.sc_parse.specs.Limits.{lexemes_of}
+use Rattle.sc_read.specs.Reading.{Part, part_of, IsRead, Reads}
+use Rattle.sc_read.specs.Reading as reading
+use Rattle.sc_core.specs.declared.program.ProgramTree.{ProgramTree}
+use Rattle.sc_decls.specs.Broken.{refused_at}
+use Rattle.sc_decls.specs.Stars.{section_has_few, HasFewStars}
+use Rattle.sc_names.specs.Names.{names_broken}
+use Rattle.sc_elab.specs.Sections.{types_broken, program_of}
+use Rattle.sc_faces.specs.Faces.{interface_broken}
+use Rattle.sc_counts.specs.Counts.{counts_broken}
+use Rattle.sc_types.specs.Acceptance.{AreLow, IsTyped, FailsRules, Accepts, Fails}
+use Rattle.sc_types.proofs.Basics.{both, Each}
+use Rattle.sc_types.proofs.Functions.{map_length}
+use Rattle.sc_types.proofs.Places.{at_most}
+use Rattle.sc_types.proofs.Refusals.{no_line}
+use Rattle.sc_types.proofs.Stars.{section_few}
+
+low_from : (text : List ℕ) (parts : List Part) (trees : List SectionTree) → AllZip (IsRead text) parts trees → list_all {X = SectionTree} (λ tree. nat_le (section_height tree) 256) trees ≡ true
+low_from text [] [] h = refl
+low_from text [] (tree ∷ trees) h = absurd h
+low_from text (part ∷ parts) [] h = absurd h
+low_from text (part ∷ parts) (tree ∷ trees) h =
+    both (nat_le (section_height tree) 256) _ (at_most (section_height tree) 256 h.0.parsed.low) (low_from text parts trees h.1)
+
+-- no tree of a text is high
+pub reads_low : (text : List ℕ) (trees : List SectionTree) → Reads text trees → AreLow trees
+reads_low text trees r = low_from text r.sections trees r.each
+
+-- Bytes are no fewer than the tokens that they are cut into.
+tokens_within : {bytes : List ℕ} {at to : ℕ} {tokens : List Token} → Cuts bytes at to tokens → at + length tokens ≤ to
+tokens_within nothing = omega arith
+tokens_within (gap len h c) = omega (arith, tokens_within c)
+tokens_within (token kind len h c) = omega (arith, token_positive len h, tokens_within c)
+
+abbrev IsWithin : List ℕ → Part → Type 0
+IsWithin text part = length part.bytes ≤ length text
+
+range_within : (text : List ℕ) (a b : ℕ) → b ≤ length text → length (slice_range text a b) ≤ length text
+range_within text a b h = omega (arith, h, length-take (b - a) (drop a text))
+
+parts_within : {text : List ℕ} {at end : ℕ} {found : List Section} → AreSections text at end found → Each (IsWithin text) (map part_of found)
+parts_within none = tt
+parts_within {text} {at} (section {next = next} first g others) =
+    (subst (λ bytes. length bytes ≤ length text) (sym g.bytes) (range_within text at next g.within.1), parts_within others)
+
+few_in : (text : List ℕ) (part : Part) (tree : SectionTree) → IsWithin text part → length text < 18446744073709551615 → IsRead text part tree → section_has_few tree ≡ true
+few_in text part tree within short r =
+    section_few _ (lexemes_of part.bytes r.tokens) tree r.parsed.spelled (omega (arith, within, short, tokens_within r.cut, map_length (λ token. lexeme_of part.bytes token) r.tokens))
+
+few_from : (text : List ℕ) (parts : List Part) (trees : List SectionTree) → length text < 18446744073709551615 → Each (IsWithin text) parts → AllZip (IsRead text) parts trees → list_all section_has_few trees ≡ true
+few_from text [] [] short w h = refl
+few_from text [] (tree ∷ trees) short w h = absurd h
+few_from text (part ∷ parts) [] short w h = absurd h
+few_from text (part ∷ parts) (tree ∷ trees) short w h =
+    both (section_has_few tree) _ (few_in text part tree w.0 short h.0) (few_from text parts trees short w.1 h.1)
+
+-- a text has fewer stars than bytes
+pub reads_few : (text : List ℕ) (trees : List SectionTree) → length text < 18446744073709551615 → Reads text trees → HasFewStars trees
+reads_few text trees short r =
+    few_from text r.sections trees short (subst (Each (IsWithin text)) (sym r.lexed.parts) (parts_within r.lexed.split.behind)) r.each
+
+-- a text that isn't read fails
+pub unread_fails : (text : List ℕ) (in_phase : Phase) (line : ℕ) → reading.Fails text in_phase line → Fails text in_phase line
+unread_fails text phase.Lex line f = f
+unread_fails text phase.Syntax line f = f
+unread_fails text phase.Names line f = absurd f
+unread_fails text phase.Types line f = absurd f
+unread_fails text phase.Interface line f = absurd f
+unread_fails text phase.Count line f = absurd f
+
+-- a text whose trees break a rule fails
+pub untyped_fails : (text : List ℕ) (trees : List SectionTree) (in_phase : Phase) (line : ℕ) → Reads text trees → FailsRules trees in_phase line → Fails text in_phase line
+untyped_fails text trees phase.Lex line r f = absurd f
+untyped_fails text trees phase.Syntax line r f = absurd f
+untyped_fails text trees phase.Names line r f = record { sections = trees; reads = r; fails = f }
+untyped_fails text trees phase.Types line r f = record { sections = trees; reads = r; fails = f }
+untyped_fails text trees phase.Interface line r f = record { sections = trees; reads = r; fails = f }
+untyped_fails text trees phase.Count line r f = record { sections = trees; reads = r; fails = f }
+
+-- a text whose trees have their types is accepted
+pub typed_accepted : {E : Type 0} (text : List ℕ) (trees : List SectionTree) (r : Result ProgramTree E) → Reads text trees → IfOk r (IsTyped trees) → IfOk r (Accepts text)
+typed_accepted text trees (Ok program) read h = record { sections = trees; reads = read; typed = h }
+typed_accepted text trees (Err e) read h = tt
+
+-- A rule is broken at a line, or holds.
+abbrev Decided : List ℕ → Type 0
+Decided lines = (lines ≡ []) ⊎ ((line : ℕ) × (refused_at lines ≡ Some line))
+
+decide : (lines : List ℕ) → Decided lines
+decide lines = go (refused_at lines) refl
+  where
+    go : (found : Option ℕ) → refused_at lines ≡ found → Decided lines
+    go None h = inl (no_line lines h)
+    go (Some line) h = inr (line, h)
+
+abbrev Judged : List SectionTree → Type 0
+Judged trees = IsTyped trees (program_of trees) ⊎ ((in_phase : Phase) × (line : ℕ) × FailsRules trees in_phase line)
+
+judge : (trees : List SectionTree) → Judged trees
+judge trees = elim (decide (names_broken trees)) [
+  | inr n ↦ inr (phase.Names, n.0, n.1)
+  | inl names ↦ elim (decide (types_broken trees)) [
+    | inr t ↦ inr (phase.Types, t.0, (names, t.1))
+    | inl types ↦ elim (decide (interface_broken trees)) [
+      | inr i ↦ inr (phase.Interface, i.0, (names, types, i.1))
+      | inl interfaces ↦ elim (decide (counts_broken trees)) [
+        | inr c ↦ inr (phase.Count, c.0, (names, types, interfaces, c.1))
+        | inl counts ↦ inl (record { names = names; types = types; interfaces = interfaces; counts = counts; is = refl })
+      ]
+    ]
+  ]
+]
+
+abbrev pub Verdict : List ℕ → Type 0
+Verdict text =
+    ((program : ProgramTree) × Accepts text program) ⊎ ((in_phase : Phase) × (line : ℕ) × Fails text in_phase line)
+
+-- each text is accepted or fails
+pub accepted_or_fails_of : ((text : List ℕ) → ((trees : List SectionTree) × Reads text trees) ⊎ ((in_phase : Phase) × (line : ℕ) × reading.Fails text in_phase line)) → (text : List ℕ) → Verdict text
+accepted_or_fails_of read_or_fails text = elim (read_or_fails text) [
+  | inr f ↦ inr (f.0, f.1, unread_fails text f.0 f.1 f.2)
+  | inl r ↦ elim (judge r.0) [
+    | inl t ↦ inl (program_of r.0, record { sections = r.0; reads = r.1; typed = t })
+    | inr f ↦ inr (f.0, f.1, untyped_fails text r.0 f.0 f.1 r.1 f.2)
+  ]
+]

@@ -1,0 +1,28 @@
+use Rattle.std.proofs.Common.{◌≡◌, Err, ap, arith}
+use Rattle.std.proofs.lemmas.Result.{err_from_is_err_and}
+use Rattle.sc_read.specs.declared.fault.TextFault.TheVariants.{Refused}
+use Rattle.sc_types.proofs.Readings.{reads_low, reads_few, unread_fails, untyped_fails, typed_accepted}
+use Rattle.sc_types.proofs.text.read_program.Goals as goal
+
+pub returns-in_err-trees-clause-refused : goal.returns-in_err-trees-clause-refused
+returns-in_err-trees-clause-refused c = λ refusal is.
+    let p = err_from_is_err_and c.from_residual.result c.from_residual.ensures.1 in
+    let returned : c.from_residual.result ≡ Err p.0 = p.1 in
+    let passed_on : p.0 ≡ c.in_err-trees.field-0.0 = p.2 in
+    let below : c.in_err-trees.field-0.0 ≡ Refused refusal = cc in
+    unread_fails c.args.text.now refusal.phase refusal.line (c.in_err-trees.ensures.refused refusal (ap Err below))
+
+pub type_program-requires-clause-low : goal.type_program-requires-clause-low
+type_program-requires-clause-low c = rw c.as_slice.ensures (reads_low c.args.text.now c.in_ok-trees.trees c.in_ok-trees.ensures.read)
+
+pub type_program-requires-clause-stars : goal.type_program-requires-clause-stars
+type_program-requires-clause-stars c =
+    rw c.as_slice.ensures (reads_few c.args.text.now c.in_ok-trees.trees (omega arith) c.in_ok-trees.ensures.read)
+
+pub returns-clause-accepted : goal.returns-clause-accepted
+returns-clause-accepted c =
+    typed_accepted c.args.text.now c.in_ok-trees.trees c.type_program.result c.in_ok-trees.ensures.read (rw c.as_slice.ensures at c.type_program.ensures.accepted)
+
+pub returns-clause-refused : goal.returns-clause-refused
+returns-clause-refused c = λ refusal is.
+    untyped_fails c.args.text.now c.in_ok-trees.trees refusal.phase refusal.line c.in_ok-trees.ensures.read (rw c.as_slice.ensures at (c.type_program.ensures.refused refusal is))
