@@ -1,0 +1,75 @@
+-- A run from its first step to its end.
+use Rattle.std.proofs.Common.{◌≡◌, refl, sym, ap, ◌∙◌, subst, ℕ, ◌≤◌, if◌then◌else◌, List, [], ◌∷◌, map, length, take, Option, None, Some}
+use Rattle.std.specs.Prelude.{nat_le}
+use Rattle.std.proofs.lemmas.Bool.{le-leb}
+use Rattle.sc_event.specs.declared.event.Event.{Event}
+use Rattle.sc_event.specs.declared.row.Entry.TheVariants.{Main}
+use Rattle.sc_core.specs.declared.program.ProgramTree.{ProgramTree}
+use Rattle.sc_core.specs.declared.run.RunEnd.{RunEnd}
+use Rattle.sc_core.specs.declared.run.RunEnd.TheVariants.{TurnsOut, EventsOut}
+use Rattle.sc_core.specs.declared.run.SourceRun.{SourceRun}
+use Rattle.sc_core.specs.Run.{stopped_at}
+use Rattle.sc_core.specs.Value.{c_arith}
+use Rattle.sc_core.specs.Calls.{entered}
+use Rattle.sc_core.specs.Meaning.{globals_of, run_of, meaning}
+use Rattle.sc_run.specs.declared.work.Frame.{Frame}
+use Rattle.sc_run.specs.declared.work.Callee.{Callee}
+use Rattle.sc_run.specs.declared.work.Work.{Work}
+use Rattle.sc_run.specs.declared.work.Now.{Now}
+use Rattle.sc_run.specs.declared.work.Step.{Step}
+use Rattle.sc_run.specs.declared.work.Step.TheVariants.{Go, Stop}
+use Rattle.sc_run.specs.Seen.{Seen}
+use Rattle.sc_run.specs.Finding.{MainAt}
+use Rattle.sc_run.specs.Entering.{Begun, body_acts}
+use Rattle.sc_run.specs.Resume.{library, does_now, EndsAs, Standing, Steps}
+use Rattle.sc_run.proofs.Beginning.{no_main, main_missing, begins}
+use Rattle.sc_run.proofs.Onward.{stopped_here}
+
+-- whatever the whole run is, it stands here after it stood there
+abbrev pub Since : ProgramTree → Now → Seen → Frame → Now → Seen → List Work → Frame → Type 0
+Since program first begun f now seen work g =
+    (whole : SourceRun) → Standing program whole begun [] f (does_now program f first) → Standing program whole seen work g (does_now program g now)
+
+module _ (program : ProgramTree) (first : Now) (begun : Seen) (f : Frame) (now : Now) (seen : Seen) (work : List Work) (g : Frame) (held : Since program first begun f now seen work g) where
+  -- one more step
+  pub since_step : (next : Now) (later : Seen) (last : List Work) (h : Frame) → Steps program seen work g (does_now program g now) (Go next) later last h → Since program first begun f next later last h
+  since_step next later last h steps whole start = steps.stands whole (held whole start)
+
+  -- the run is over
+  pub since_stop : (events : ℕ) (end : RunEnd) (later : Seen) (last : List Work) (h : Frame) → Steps program seen work g (does_now program g now) (Stop end) later last h → EndsAs program first begun f events later.trace end
+  since_stop events end later last h steps whole start = ap (stopped_at events) (steps.stands whole (held whole start))
+
+  -- there are as many events as were allowed
+  pub since_events : (events : ℕ) → events ≤ length seen.trace → EndsAs program first begun f events seen.trace EventsOut
+  since_events events enough whole start =
+      stopped_here program whole seen work g now events enough (held whole start)
+      ∙ sym (ap (λ b. if b then (record { trace = take events seen.trace; end = EventsOut }) else (record { trace = seen.trace; end = EventsOut })) (le-leb events (length seen.trace) enough))
+
+module _ (program : ProgramTree) (inputs : List ℕ) (turns events : ℕ) where
+  abbrev seen_first : Seen
+  seen_first = record { memory = globals_of program.sections; trace = []; turns = turns; inputs = inputs }
+
+  abbrev whole_run : SourceRun
+  whole_run = (run_of c_arith program inputs turns).shown
+
+  no_main_at : (o : Option ℕ) → entered (library program) program.interfaces.main Main ≡ o → MainAt program None → whole_run ≡ record { trace = []; end = TurnsOut }
+  no_main_at None is h = no_main program inputs turns is
+  no_main_at (Some number) is h = main_missing program inputs turns number is (h number is)
+
+  -- a program without `main`
+  pub not_begun : (run : SourceRun) (trace : List Event) → trace ≡ [] → MainAt program None → run ≡ stopped_at events (record { trace = trace; end = TurnsOut }) → run ≡ meaning program inputs turns events
+  not_begun run trace none h is =
+      is ∙ ap (λ t. stopped_at events (record { trace = t; end = TurnsOut })) none ∙ ap (stopped_at events) (sym (no_main_at (entered (library program) program.interfaces.main Main) refl h))
+
+  module _ (run : SourceRun) (callee : Callee) (before after started : Seen) (f : Frame) (at_first : before ≡ seen_first) (at : MainAt program (Some callee)) (begun : Begun callee [] before after f) where
+    stands_first : Standing program whole_run after [] f (λ n s. body_acts program n f tt s)
+    stands_first =
+        begins program inputs turns callee callee.number after f at.0 at.1.0 refl at.1.1.1 (subst (λ x. Begun callee [] x after f) at_first begun)
+
+    -- a run that ends before the first statement
+    pub over_at_once : (end : RunEnd) → Steps program after [] f (λ n s. body_acts program n f tt s) (Stop end) started [] f → run ≡ stopped_at events (record { trace = started.trace; end = end }) → run ≡ meaning program inputs turns events
+    over_at_once end steps is = is ∙ sym (ap (stopped_at events) (steps.stands whole_run stands_first))
+
+    -- a run that was gone through to its end
+    pub gone_through : (now : Now) (trace : List Event) (end : RunEnd) → Steps program after [] f (λ n s. body_acts program n f tt s) (Go now) started [] f → EndsAs program now started f events trace end → run ≡ stopped_at events (record { trace = trace; end = end }) → run ≡ meaning program inputs turns events
+    gone_through now trace end steps ends is = is ∙ sym (ends whole_run (steps.stands whole_run stands_first))
