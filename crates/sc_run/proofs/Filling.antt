@@ -1,7 +1,7 @@
 -- Globals, one after the other.
-use Rattle.std.proofs.Common.{◌≡◌, refl, sym, ap, ◌∙◌, subst, ℕ, zero, suc, ◌+◌, ◌<◌, ◌==◌, ◌++◌, Bool, true, false, if◌then◌else◌, List, [], ◌∷◌, map, length, take, drop, get_or, Option, None, Some, append_assoc, add-one, drop-cons, arith}
+use Rattle.std.proofs.Common.{◌≡◌, refl, sym, ap, ◌∙◌, subst, ℕ, zero, suc, ◌+◌, ◌<◌, ◌≤◌, ◌==◌, ◌++◌, Bool, true, false, if◌then◌else◌, List, [], ◌∷◌, map, length, take, drop, get_or, Option, None, Some, append_assoc, add-one, drop-cons, arith}
 use Rattle.std.specs.Prelude.{slice_get}
-use Rattle.std.proofs.lemmas.List.{append-nil, length-take, take_more, take-map, map-append}
+use Rattle.std.proofs.lemmas.List.{append-nil, drop_all, length-take, take_more, take-map, map-append}
 use Rattle.std.proofs.lemmas.Bool.{eq-eqb}
 use Rattle.std.proofs.Math.Dec.{eqb-suc-zero, eqb-zero-suc, eqb-suc-suc}
 use Rattle.sc_core.specs.declared.section.TypedMember.{TypedMember}
@@ -73,6 +73,15 @@ word_more ws cs i c new word so_far whole there item is gives held =
     ∙ held where
       plus_one : (k : ℕ) → k + 1 ≡ suc k
       plus_one k = omega arith
+
+no_more : (ws : List ℕ) → with_words ws [] ≡ []
+no_more [] = refl
+no_more (w ∷ ws) = refl
+
+-- all cells
+pub words_all : (ws : List ℕ) (cs : List Cell) (i : ℕ) (so_far whole : List Cell) → length cs ≤ i → so_far ++ with_words (drop i ws) (drop i cs) ≡ whole → so_far ≡ whole
+words_all ws cs i so_far whole past held =
+    sym (append-nil so_far) ∙ ap (λ xs. so_far ++ xs) (sym (ap (with_words (drop i ws)) (drop_all i cs past) ∙ no_more (drop i ws))) ∙ held
 
 -- one more global
 pub global_more : (zeros : List (List Cell)) (gs : List TypedGlobal) (i : ℕ) (g : TypedGlobal) (comp : ℕ) (memory now later : Memory) → i < length gs → g ≡ get_or gs i g → now ≡ with_blocks comp (memory comp ++ map (global_block zeros) (take i gs)) memory → later ≡ with_blocks comp (now comp ++ global_block zeros g ∷ []) now → later ≡ with_blocks comp (memory comp ++ map (global_block zeros) (take (i + 1) gs)) memory

@@ -50,7 +50,7 @@ itself comp memory c =
 pub with_none : (comp : ℕ) (args : List Value) (memory : Memory) → with_sizes comp [] args memory ≡ memory
 with_none comp args memory = λ i c. itself comp memory c i
 
-at_itself : (comp : ℕ) (x : Blocks) (memory : Memory) → with_blocks comp x memory comp ≡ x
+pub at_itself : (comp : ℕ) (x : Blocks) (memory : Memory) → with_blocks comp x memory comp ≡ x
 at_itself comp x memory = ap (λ b. if b then x else memory comp) (eq-eqb comp comp refl)
 
 -- one more variable

@@ -21,7 +21,7 @@ use Rattle.sc_run.specs.declared.work.Step.TheVariants.{Go, Stop}
 use Rattle.sc_run.specs.Seen.{Seen}
 use Rattle.sc_run.specs.Finding.{MainAt}
 use Rattle.sc_run.specs.Entering.{Begun, body_acts}
-use Rattle.sc_run.specs.Resume.{library, does_now, EndsAs, Standing, Steps}
+use Rattle.sc_run.specs.Resume.{library, does_now, EndsAs, Standing, Stands, Steps}
 use Rattle.sc_run.proofs.Beginning.{no_main, main_missing, begins}
 use Rattle.sc_run.proofs.Onward.{stopped_here}
 
@@ -31,13 +31,15 @@ Since program first begun f now seen work g =
     (whole : SourceRun) → Standing program whole begun [] f (does_now program f first) → Standing program whole seen work g (does_now program g now)
 
 module _ (program : ProgramTree) (first : Now) (begun : Seen) (f : Frame) (now : Now) (seen : Seen) (work : List Work) (g : Frame) (held : Since program first begun f now seen work g) where
-  -- one more step
-  pub since_step : (next : Now) (later : Seen) (last : List Work) (h : Frame) → Steps program seen work g (does_now program g now) (Go next) later last h → Since program first begun f next later last h
-  since_step next later last h steps whole start = steps.stands whole (held whole start)
+  module _ (step : Step) (later : Seen) (last : List Work) (h : Frame) (steps : Steps program seen work g (does_now program g now) step later last h) where
+    -- one more step
+    pub since_step : (next : Now) → step ≡ Go next → Since program first begun f next later last h
+    since_step next is whole start = subst (λ x. Stands program whole x later last h) is (steps.stands whole (held whole start))
 
-  -- the run is over
-  pub since_stop : (events : ℕ) (end : RunEnd) (later : Seen) (last : List Work) (h : Frame) → Steps program seen work g (does_now program g now) (Stop end) later last h → EndsAs program first begun f events later.trace end
-  since_stop events end later last h steps whole start = ap (stopped_at events) (steps.stands whole (held whole start))
+    -- the run is over
+    pub since_stop : (events : ℕ) (end : RunEnd) → step ≡ Stop end → EndsAs program first begun f events later.trace end
+    since_stop events end is whole start =
+        ap (stopped_at events) (subst (λ x. Stands program whole x later last h) is (steps.stands whole (held whole start)))
 
   -- there are as many events as were allowed
   pub since_events : (events : ℕ) → events ≤ length seen.trace → EndsAs program first begun f events seen.trace EventsOut
@@ -64,12 +66,15 @@ module _ (program : ProgramTree) (inputs : List ℕ) (turns events : ℕ) where
   module _ (run : SourceRun) (callee : Callee) (before after started : Seen) (f : Frame) (at_first : before ≡ seen_first) (at : MainAt program (Some callee)) (begun : Begun callee [] before after f) where
     stands_first : Standing program whole_run after [] f (λ n s. body_acts program n f tt s)
     stands_first =
-        begins program inputs turns callee callee.number after f at.0 at.1.0 refl at.1.1.1 (subst (λ x. Begun callee [] x after f) at_first begun)
+        begins program inputs turns callee callee.number after f at.0 at.1.0 refl at.1.2 (subst (λ x. Begun callee [] x after f) at_first begun)
 
-    -- a run that ends before the first statement
-    pub over_at_once : (end : RunEnd) → Steps program after [] f (λ n s. body_acts program n f tt s) (Stop end) started [] f → run ≡ stopped_at events (record { trace = started.trace; end = end }) → run ≡ meaning program inputs turns events
-    over_at_once end steps is = is ∙ sym (ap (stopped_at events) (steps.stands whole_run stands_first))
+    module _ (step : Step) (steps : Steps program after [] f (λ n s. body_acts program n f tt s) step started [] f) where
+      -- a run that ends before the first statement
+      pub over_at_once : (end : RunEnd) → step ≡ Stop end → run ≡ stopped_at events (record { trace = started.trace; end = end }) → run ≡ meaning program inputs turns events
+      over_at_once end stops is =
+          is ∙ sym (ap (stopped_at events) (subst (λ x. Stands program whole_run x started [] f) stops (steps.stands whole_run stands_first)))
 
-    -- a run that was gone through to its end
-    pub gone_through : (now : Now) (trace : List Event) (end : RunEnd) → Steps program after [] f (λ n s. body_acts program n f tt s) (Go now) started [] f → EndsAs program now started f events trace end → run ≡ stopped_at events (record { trace = trace; end = end }) → run ≡ meaning program inputs turns events
-    gone_through now trace end steps ends is = is ∙ sym (ends whole_run (steps.stands whole_run stands_first))
+      -- a run that was gone through to its end
+      pub gone_through : (now : Now) (trace : List Event) (end : RunEnd) → step ≡ Go now → EndsAs program now started f events trace end → run ≡ stopped_at events (record { trace = trace; end = end }) → run ≡ meaning program inputs turns events
+      gone_through now trace end goes ends is =
+          is ∙ sym (ends whole_run (subst (λ x. Stands program whole_run x started [] f) goes (steps.stands whole_run stands_first)))

@@ -154,7 +154,8 @@ fn with_words(alloc: Global, words: &[u32], cells: &[Cell]) -> Result<Items<Cell
 {
     let mut all = Items::new(alloc);
     for at in 0..cells.len() {
-        all.push(cell_with(word_at(words, at), cells[at]))?;
+        let cell = cells[at];
+        all.push(cell_with(word_at(words, at), cell))?;
     }
     Ok(all)
 }

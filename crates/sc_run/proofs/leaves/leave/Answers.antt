@@ -1,4 +1,4 @@
-use Rattle.std.proofs.Common.{◌≡◌, sym, ◌∙◌, ◌++◌, [], ◌∷◌}
+use Rattle.std.proofs.Common.{◌≡◌, sym, ◌∙◌, ◌++◌, [], ◌∷◌, length, rules, arith}
 use Rattle.std.proofs.lemmas.Result.{IfOk-weaker}
 use Rattle.sc_core.specs.Words.{leave}
 use Rattle.sc_run.specs.declared.work.Work.TheVariants.{Caller}
@@ -9,7 +9,9 @@ use Rattle.sc_run.proofs.leaves.leave.Goals as goal
 
 pub returns-in-None : goal.returns-in-None
 returns-in-None c =
-    IfOk-weaker c.finish.result _ _ (λ step h. nothing_waits c.args.program.now (kept_by c.args.machine.now) c.args.work.now.items c.pop.new.self.items c.args.frame.now (λ n s. leave (exit_of c.args.exit) tt s) step _ _ c.in-None.ensures.cases.0 c.in-None.ensures.cases.1 h) c.finish.ensures
+    let none : length c.args.work.now.items ≡ 0 = search (rules, arith) in
+    let left : length c.pop.new.self.items ≡ 0 = search (rules, arith) in
+    IfOk-weaker c.finish.result _ _ (λ step h. nothing_waits c.args.program.now (kept_by c.args.machine.now) c.args.work.now.items c.pop.new.self.items c.args.frame.now (λ n s. leave (exit_of c.args.exit) tt s) step _ _ none left h) c.finish.ensures
 
 pub returns-in-Some-Rest : goal.returns-in-Some-Rest
 returns-in-Some-Rest c =

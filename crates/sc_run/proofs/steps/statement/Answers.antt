@@ -57,8 +57,8 @@ returns-in-If c =
 
 pub returns-in-While : goal.returns-in-While
 returns-in-While c =
-    IfOk-weaker c.while_loop.result _ _ (λ step h. stmt_as c.args.program.now (kept_by c.args.machine.now) c.args.work.now.items c.args.frame.now c.args.stmt.now (layer.While c.in-While.cond c.in-While.body) step _ _ _ (c.in-While.is ∙ sym (rolls-While _ _)) (while_layer c.args.program.now (kept_by c.args.machine.now) c.args.work.now.items c.args.frame.now c.args.stmt.now.line step _ _ _ c.in-While.cond c.in-While.body c.as_slice-in-While.result.now c.as_slice-in-While.ensures h)) c.while_loop.ensures
+    IfOk-weaker c.while_loop.result _ _ (λ step h. stmt_as c.args.program.now (kept_by c.args.machine.now) c.args.work.now.items c.args.frame.now c.args.stmt.now (layer.While c.in-While.cond c.in-While.body) step _ _ _ (c.in-While.is ∙ sym (rolls-While _ _)) (while_layer c.args.program.now (kept_by c.args.machine.now) c.args.work.now.items c.args.frame.now c.args.stmt.now.line step _ _ _ c.in-While.cond c.in-While.body c.as_slice-body.result.now c.as_slice-body.ensures h)) c.while_loop.ensures
 
 pub returns-in-For : goal.returns-in-For
 returns-in-For c =
-    IfOk-weaker c.for_loop.result _ _ (λ step h. stmt_as c.args.program.now (kept_by c.args.machine.now) c.args.work.now.items c.args.frame.now c.args.stmt.now (layer.For c.in-For.first c.in-For.cond c.in-For.next c.in-For.body) step _ _ _ (c.in-For.is ∙ sym (rolls-For _ _ _ _)) (for_layer c.args.program.now (kept_by c.args.machine.now) c.args.work.now.items c.args.frame.now c.args.stmt.now.line step _ _ _ c.in-For.first c.in-For.cond c.in-For.next c.in-For.body c.as_slice-in-For.result.now c.as_slice-in-For.ensures h)) c.for_loop.ensures
+    IfOk-weaker c.for_loop.result _ _ (λ step h. stmt_as c.args.program.now (kept_by c.args.machine.now) c.args.work.now.items c.args.frame.now c.args.stmt.now (layer.For c.in-For.first c.in-For.cond c.in-For.next c.in-For.body) step _ _ _ (c.in-For.is ∙ sym (rolls-For _ _ _ _)) (for_layer c.args.program.now (kept_by c.args.machine.now) c.args.work.now.items c.args.frame.now c.args.stmt.now.line step _ _ _ c.in-For.first c.in-For.cond c.in-For.next c.in-For.body c.as_slice-body-in-For.result.now c.as_slice-body-in-For.ensures h)) c.for_loop.ensures
