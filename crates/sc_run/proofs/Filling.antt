@@ -66,10 +66,10 @@ rest_of_rest (w ∷ ws) zero = refl
 rest_of_rest (w ∷ ws) (suc i) = rest_of_rest ws i
 
 -- one more cell
-pub word_more : (ws : List ℕ) (cs : List Cell) (i : ℕ) (c new : Cell) (word : Option ℕ) (so_far whole : List Cell) → i < length cs → c ≡ get_or cs i c → word ≡ slice_get ws i → new ≡ cell_with word c → so_far ++ with_words (drop i ws) (drop i cs) ≡ whole → (so_far ++ new ∷ []) ++ with_words (drop (i + 1) ws) (drop (i + 1) cs) ≡ whole
+pub word_more : (ws : List ℕ) (cs : List Cell) (i : ℕ) (c new : Cell) (word : Option ℕ) (so_far whole : List Cell) → i < length cs → c ≡ get_or cs i Undef → word ≡ slice_get ws i → new ≡ cell_with word c → so_far ++ with_words (drop i ws) (drop i cs) ≡ whole → (so_far ++ new ∷ []) ++ with_words (drop (i + 1) ws) (drop (i + 1) cs) ≡ whole
 word_more ws cs i c new word so_far whole there item is gives held =
     append_assoc so_far (new ∷ []) (with_words (drop (i + 1) ws) (drop (i + 1) cs))
-    ∙ ap (λ xs. so_far ++ xs) ((λ k. (gives ∙ ap (λ o. cell_with o c) (is ∙ sym (first_of_rest ws i))) k ∷ with_words (drop (plus_one i k) ws) (drop (i + 1) cs)) ∙ ap (λ xs. cell_with (slice_get (drop i ws) 0) c ∷ with_words xs (drop (i + 1) cs)) (sym (rest_of_rest ws i)) ∙ sym (word_first (drop i ws) c (drop (i + 1) cs)) ∙ ap (with_words (drop i ws)) (sym (rw (add-one, drop-cons cs i c) (λ k. sym item k ∷ drop (suc i) cs))))
+    ∙ ap (λ xs. so_far ++ xs) ((λ k. (gives ∙ ap (λ o. cell_with o c) (is ∙ sym (first_of_rest ws i))) k ∷ with_words (drop (plus_one i k) ws) (drop (i + 1) cs)) ∙ ap (λ xs. cell_with (slice_get (drop i ws) 0) c ∷ with_words xs (drop (i + 1) cs)) (sym (rest_of_rest ws i)) ∙ sym (word_first (drop i ws) c (drop (i + 1) cs)) ∙ ap (with_words (drop i ws)) (sym (rw (add-one, drop-cons cs i Undef) (λ k. sym item k ∷ drop (suc i) cs))))
     ∙ held where
       plus_one : (k : ℕ) → k + 1 ≡ suc k
       plus_one k = omega arith

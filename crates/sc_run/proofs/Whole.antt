@@ -8,6 +8,7 @@ use Rattle.sc_core.specs.declared.program.ProgramTree.{ProgramTree}
 use Rattle.sc_core.specs.declared.run.RunEnd.{RunEnd}
 use Rattle.sc_core.specs.declared.run.RunEnd.TheVariants.{TurnsOut, EventsOut}
 use Rattle.sc_core.specs.declared.run.SourceRun.{SourceRun}
+use Rattle.sc_core.specs.Memory.{Memory}
 use Rattle.sc_core.specs.Run.{stopped_at}
 use Rattle.sc_core.specs.Value.{c_arith}
 use Rattle.sc_core.specs.Calls.{entered}
@@ -53,6 +54,10 @@ module _ (program : ProgramTree) (inputs : List ℕ) (turns events : ℕ) where
 
   abbrev whole_run : SourceRun
   whole_run = (run_of c_arith program inputs turns).shown
+
+  -- what is seen at the start
+  pub seen_at_first : (memory : Memory) (trace : List Event) → memory ≡ globals_of program.sections → trace ≡ [] → ◌≡◌ {A = Seen} (record { memory = memory; trace = trace; turns = turns; inputs = inputs }) seen_first
+  seen_at_first memory trace is none = λ i. record { memory = is i; trace = none i; turns = turns; inputs = inputs }
 
   no_main_at : (o : Option ℕ) → entered (library program) program.interfaces.main Main ≡ o → MainAt program None → whole_run ≡ record { trace = []; end = TurnsOut }
   no_main_at None is h = no_main program inputs turns is

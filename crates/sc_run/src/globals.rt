@@ -154,8 +154,7 @@ fn with_words(alloc: Global, words: &[u32], cells: &[Cell]) -> Result<Items<Cell
 {
     let mut all = Items::new(alloc);
     for at in 0..cells.len() {
-        let cell = cells[at];
-        all.push(cell_with(word_at(words, at), cell))?;
+        all.push(cell_with(word_at(words, at), cells[at]))?;
     }
     Ok(all)
 }

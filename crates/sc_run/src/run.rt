@@ -100,10 +100,10 @@ pub fn run_source(
     ensures { IfOk result (λ run. run ≡ meaning program.now (map word_of inputs.now) turns events) }
 {
     let tree = program.tree();
-    let blocks = first_blocks(alloc, tree.sections.as_slice())?;
+    let globals = first_blocks(alloc, tree.sections.as_slice())?;
     let mut machine = Machine {
         alloc,
-        blocks,
+        blocks: globals,
         trace: Trace::new(alloc),
         turns,
         inputs,
