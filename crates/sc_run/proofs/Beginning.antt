@@ -1,28 +1,24 @@
 -- Where a run begins.
-use Rattle.std.proofs.Common.{◌≡◌, refl, sym, ap, ◌∙◌, subst, ℕ, zero, suc, ◌≤◌, ◌++◌, List, [], ◌∷◌, map, length, Option, None, Some, Result, Ok, Err, arith}
+use Rattle.std.proofs.Common.{◌≡◌, refl, sym, ap, ◌∙◌, subst, ℕ, suc, List, [], ◌∷◌, map, length, Option, None, Some, arith}
 use Rattle.std.specs.Prelude.{slice_get}
 use Rattle.sc_core.specs.declared.program.ProgramTree.{ProgramTree}
 use Rattle.sc_core.specs.declared.run.RunEnd.TheVariants.{TurnsOut}
-use Rattle.sc_core.specs.declared.run.SourceRun.{SourceRun}
 use Rattle.sc_core.specs.declared.section.TypedGlobal.{TypedGlobal}
 use Rattle.sc_core.specs.declared.section.TypedSection.{TypedSection}
 use Rattle.sc_core.specs.declared.value.Cell.{Cell}
 use Rattle.sc_core.specs.declared.value.Value.{Value}
 use Rattle.sc_event.specs.declared.row.Entry.TheVariants.{Main}
-use Rattle.sc_core.specs.Memory.{Block, Blocks, Memory}
 use Rattle.sc_core.specs.Value.{c_arith}
-use Rattle.sc_core.specs.Words.{State, Piece, Reached, Stopped, and_then, Left}
-use Rattle.sc_core.specs.Calls.{Function, function, entered, begun, done, found, back_own, run_in, call_own, run_step, within}
+use Rattle.sc_core.specs.Words.{State, Piece, and_then}
+use Rattle.sc_core.specs.Calls.{function, entered, begun, done, found, back_own, run_in, call_own, run_step, within}
 use Rattle.sc_core.specs.Meaning.{function_of, struct_zeros, global_block, first_blocks, globals_of, run_to, first_state, run_of}
-use Rattle.sc_value.specs.Where.{here_of}
 use Rattle.sc_run.specs.declared.work.Frame.{Frame}
 use Rattle.sc_run.specs.declared.work.Callee.{Callee}
 use Rattle.sc_run.specs.declared.work.To.TheVariants.{Nowhere}
 use Rattle.sc_run.specs.Seen.{Seen, seen_of}
-use Rattle.sc_run.specs.Resume.{library, bodies, returned, resume, Standing}
-use Rattle.sc_run.specs.Entering.{Begun, with_variables, body_acts}
+use Rattle.sc_run.specs.Resume.{library, bodies, Standing}
+use Rattle.sc_run.specs.Entering.{Begun, body_acts}
 use Rattle.sc_run.proofs.Blank.{blank}
-use Rattle.sc_run.proofs.Coming.{with_memory}
 use Rattle.sc_run.proofs.Calling.{frame_at, enter_is, begun_seen, frame_is}
 
 globals_live : (zeros : List (List Cell)) (gs : List TypedGlobal) → blank (map (global_block zeros) gs) ≡ map (global_block zeros) gs

@@ -1,5 +1,5 @@
 -- Blocks whose ended variables hold no cells are loaded from and stored to as the others.
-use Rattle.std.proofs.Common.{◌≡◌, refl, sym, ap, ◌∙◌, subst, ℕ, zero, suc, ◌==◌, Bool, true, false, if◌then◌else◌, List, [], ◌∷◌, ◌++◌, map, length, replicate, Option, None, Some, Result, Ok, Err}
+use Rattle.std.proofs.Common.{◌≡◌, refl, sym, ap, ◌∙◌, ℕ, zero, suc, ◌==◌, Bool, true, false, if◌then◌else◌, List, [], ◌∷◌, ◌++◌, map, length, replicate, Option, None, Some, Result, Ok, Err}
 use Rattle.std.specs.Prelude.{slice_get, slice_set, nat_lt}
 use Rattle.std.proofs.lemmas.List.{map-set, map-append, length-map}
 use Rattle.sc_core.specs.declared.cause.Cause.{Cause}
@@ -9,7 +9,7 @@ use Rattle.sc_core.specs.declared.value.Cell.TheVariants as cell
 use Rattle.sc_core.specs.declared.value.Pointer.{Pointer}
 use Rattle.sc_core.specs.declared.value.Value.{Value}
 use Rattle.sc_core.specs.declared.value.Value.TheVariants.{Word, Null, Ptr}
-use Rattle.sc_core.specs.Memory.{Block, Blocks, Memory, with_blocks, bind, is_live, live_cells, cells_at, cell_of, loaded, load, with_cell, store, ended_from}
+use Rattle.sc_core.specs.Memory.{Blocks, Memory, with_blocks, bind, is_live, live_cells, cells_at, cell_of, loaded, load, with_cell, store, ended_from}
 use Rattle.sc_core.specs.Calls.{blocks_for}
 use Rattle.sc_blocks.specs.Rows.{ended}
 use Rattle.sc_blocks.specs.Living.{given_back, left_from}

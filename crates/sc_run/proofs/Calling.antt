@@ -1,5 +1,5 @@
 -- Calls that begin.
-use Rattle.std.proofs.Common.{◌≡◌, refl, sym, ap, ◌∙◌, subst, ℕ, zero, suc, ◌≤◌, ◌++◌, List, [], ◌∷◌, map, length, reverse, Option, None, Some, Result, Ok, Err, arith}
+use Rattle.std.proofs.Common.{◌≡◌, refl, sym, ap, ◌∙◌, subst, ℕ, zero, suc, ◌≤◌, ◌++◌, List, [], ◌∷◌, map, length, reverse, Option, None, Some, Ok, Err, arith}
 use Rattle.sc_event.specs.declared.event.Event.TheVariants.{Call}
 use denote.Bor.{Bor}
 use Rattle.sc_core.specs.declared.expr.TypedExpr.{TypedExpr}
@@ -7,10 +7,10 @@ use Rattle.sc_core.specs.declared.program.ProgramTree.{ProgramTree}
 use Rattle.sc_core.specs.declared.run.RunEnd.{RunEnd}
 use Rattle.sc_core.specs.declared.run.SourceRun.{SourceRun}
 use Rattle.sc_core.specs.declared.value.Value.{Value}
-use Rattle.sc_core.specs.Memory.{Blocks, Memory, with_blocks}
+use Rattle.sc_core.specs.Memory.{with_blocks}
 use Rattle.sc_core.specs.Types.{variables}
 use Rattle.sc_core.specs.Value.{c_arith}
-use Rattle.sc_core.specs.Words.{State, Here, Piece, Reached, Stopped, and_then, turn, Left, leave}
+use Rattle.sc_core.specs.Words.{State, Piece, Reached, Stopped, and_then, turn, Left}
 use Rattle.sc_core.specs.Tree.{store_at}
 use Rattle.sc_core.specs.Calls.{Function, function, blocks_for, begun, done, found, word_in, run_in}
 use Rattle.sc_core.specs.Meaning.{function_of}
@@ -25,9 +25,9 @@ use Rattle.sc_run.specs.declared.work.Step.{Step}
 use Rattle.sc_run.specs.declared.work.Step.TheVariants.{Stop}
 use Rattle.sc_run.specs.Seen.{Seen, seen_of}
 use Rattle.sc_run.specs.Comes.{CameTo, Comes}
-use Rattle.sc_run.specs.Resume.{way_in, library, bodies, calls_in, back_to, returned, result_goes, resume, Standing, Steps}
+use Rattle.sc_run.specs.Resume.{way_in, library, bodies, calls_in, returned, result_goes, resume, Standing, Steps}
 use Rattle.sc_run.specs.Entering.{with_variables, Begun, told_call, entry_from, back_from, body_acts}
-use Rattle.sc_run.proofs.Blank.{blank, blank_more, blank_new, length_same}
+use Rattle.sc_run.proofs.Blank.{blank_more, blank_new, length_same}
 use Rattle.sc_run.proofs.Coming.{with_memory, seen_with, blocks_seen}
 use Rattle.sc_run.proofs.Standing.{step_stops, step_ends, newest_first}
 use Rattle.sc_run.proofs.Looping.{assoc, steps_as}

@@ -1,13 +1,12 @@
 -- Pieces of a run, one after the other.
-use Rattle.std.proofs.Common.{◌≡◌, refl, sym, ap, ◌∙◌, subst, ℕ, zero, suc, ◌≤◌, List, [], ◌∷◌, ◌++◌, map, Option, None, Some, Result, Ok, Err, arith}
+use Rattle.std.proofs.Common.{◌≡◌, refl, sym, ap, ◌∙◌, subst, ℕ, zero, suc, Result, Ok, Err, arith}
 use Rattle.sc_core.specs.declared.cause.Cause.{Cause}
 use Rattle.sc_core.specs.declared.run.RunEnd.{RunEnd}
 use Rattle.sc_core.specs.declared.run.RunEnd.TheVariants.{Blamed, TurnsOut}
 use Rattle.sc_core.specs.declared.value.Value.{Value}
-use Rattle.sc_core.specs.declared.value.Want.{Want}
-use Rattle.sc_core.specs.Memory.{Block, Blocks, Memory, with_blocks, bind, store}
-use Rattle.sc_core.specs.Words.{State, Here, Piece, Reached, Stopped, and_then, computed, turn, turn_of, Next, leave, Left}
-use Rattle.sc_core.specs.Tree.{Ways, given, stored}
+use Rattle.sc_core.specs.Memory.{Blocks, Memory, with_blocks, store}
+use Rattle.sc_core.specs.Words.{State, Here, Piece, Reached, Stopped, and_then, computed, turn, turn_of, Next, leave}
+use Rattle.sc_core.specs.Tree.{stored}
 use Rattle.sc_run.specs.Seen.{Seen, seen_of}
 use Rattle.sc_run.specs.Comes.{CameTo, Comes, with_exit}
 use Rattle.sc_run.proofs.Blank.{blank, blanked, store_same, memory_with}

@@ -1,8 +1,7 @@
 -- Globals, one after the other.
-use Rattle.std.proofs.Common.{◌≡◌, refl, sym, ap, ◌∙◌, subst, ℕ, zero, suc, ◌+◌, ◌<◌, ◌≤◌, ◌==◌, ◌++◌, Bool, true, false, if◌then◌else◌, List, [], ◌∷◌, map, length, take, drop, get_or, Option, None, Some, append_assoc, add-one, drop-cons, arith}
+use Rattle.std.proofs.Common.{◌≡◌, refl, sym, ap, ◌∙◌, ℕ, zero, suc, ◌+◌, ◌<◌, ◌≤◌, ◌==◌, ◌++◌, if◌then◌else◌, List, [], ◌∷◌, map, length, take, drop, get_or, Option, Some, append_assoc, add-one, drop-cons, arith}
 use Rattle.std.specs.Prelude.{slice_get}
-use Rattle.std.proofs.lemmas.List.{append-nil, drop_all, length-take, take_more, take-map, map-append}
-use Rattle.std.proofs.lemmas.Bool.{eq-eqb}
+use Rattle.std.proofs.lemmas.List.{append-nil, drop_all, length-take, take_more, map-append}
 use Rattle.std.proofs.Math.Dec.{eqb-suc-zero, eqb-zero-suc, eqb-suc-suc}
 use Rattle.sc_core.specs.declared.section.TypedMember.{TypedMember}
 use Rattle.sc_core.specs.declared.section.TypedGlobal.{TypedGlobal}
@@ -10,7 +9,7 @@ use Rattle.sc_core.specs.declared.section.TypedSection.{TypedSection}
 use Rattle.sc_core.specs.declared.section.TypedStruct.{TypedStruct}
 use Rattle.sc_core.specs.declared.value.Cell.{Cell}
 use Rattle.sc_core.specs.declared.value.Cell.TheVariants.{Undef, Word, Null, Ptr}
-use Rattle.sc_core.specs.Memory.{Block, Blocks, Memory, with_blocks}
+use Rattle.sc_core.specs.Memory.{Blocks, Memory, with_blocks}
 use Rattle.sc_core.specs.Meaning.{repeated, zeros_of, member_zeros, struct_zeros, with_words, global_block, first_blocks, globals_of}
 use Rattle.sc_run.specs.Starting.{cell_with}
 use Rattle.sc_run.proofs.Making.{with_twice, with_none, at_itself}

@@ -1,5 +1,5 @@
 -- Functions of a program's library, by the program's tree.
-use Rattle.std.proofs.Common.{◌≡◌, refl, sym, ap, ◌∙◌, ℕ, zero, suc, ◌+◌, Bool, true, false, cond, not, List, [], ◌∷◌, map, length, codes, Option, None, Some}
+use Rattle.std.proofs.Common.{◌≡◌, refl, sym, ap, ◌∙◌, ℕ, zero, suc, ◌+◌, Bool, cond, not, List, [], ◌∷◌, map, Option, None, Some}
 use Rattle.std.specs.Prelude.{slice_get, slice_index_or, bytes_eq, nat_lt}
 use Rattle.std.specs.Option.{option_map}
 use Rattle.std.specs.List.{position, prefix_len}
@@ -7,13 +7,13 @@ use Rattle.std.proofs.lemmas.List.{length-map}
 use Rattle.std.proofs.lemmas.Option.{slice_get-map}
 use Rattle.sc_event.specs.Lookup.{export_at}
 use Rattle.sc_event.specs.declared.interface.Proto.{Proto}
-use Rattle.sc_event.specs.declared.row.Entry.TheVariants.{Main, Export}
+use Rattle.sc_event.specs.declared.row.Entry.TheVariants.{Export}
 use Rattle.sc_core.specs.declared.program.ProgramTree.{ProgramTree}
 use Rattle.sc_core.specs.declared.section.TypedStruct.{TypedStruct}
 use Rattle.sc_core.specs.declared.section.TypedFunction.{TypedFunction}
 use Rattle.sc_core.specs.declared.section.TypedSection.{TypedSection}
 use Rattle.sc_core.specs.Value.{c_arith}
-use Rattle.sc_core.specs.Calls.{Function, function, functions_of, entered, main_name, place_named, place_of_export}
+use Rattle.sc_core.specs.Calls.{Function, function, functions_of, entered, place_named, place_of_export}
 use Rattle.sc_core.specs.Meaning.{function_of, functions_in as library_functions}
 use Rattle.sc_run.specs.Resume.{library}
 use Rattle.sc_run.specs.Finding.{functions_in, functions_at}

@@ -1,6 +1,5 @@
 -- Calls in statements: refused, looked up, and of the environment.
-use Rattle.std.proofs.Common.{◌≡◌, refl, sym, ap, ◌∙◌, subst, ℕ, zero, suc, ◌++◌, Bool, true, false, if◌then◌else◌, List, [], ◌∷◌, map, length, reverse, drop, Option, None, Some, Result, Ok, Err, arith}
-use Rattle.sc_event.specs.declared.event.Event.{Event}
+use Rattle.std.proofs.Common.{◌≡◌, refl, sym, ap, ◌∙◌, subst, ℕ, zero, suc, ◌++◌, true, false, if◌then◌else◌, List, [], ◌∷◌, map, length, reverse, drop, Option, None, Some, Result, Ok, Err, arith}
 use Rattle.sc_event.specs.declared.event.Event.TheVariants.{Call, In, Out}
 use Rattle.sc_event.specs.declared.row.Entry.TheVariants.{Export}
 use Rattle.sc_core.specs.declared.expr.CallTarget.{CallTarget}
@@ -13,11 +12,11 @@ use Rattle.sc_core.specs.declared.run.RunEnd.{RunEnd}
 use Rattle.sc_core.specs.declared.run.RunEnd.TheVariants.{TurnsOut}
 use Rattle.sc_core.specs.declared.run.SourceRun.{SourceRun}
 use Rattle.sc_core.specs.declared.value.Value.{Value}
-use Rattle.sc_core.specs.declared.value.Value.TheVariants.{Word, Null, Ptr}
-use Rattle.sc_core.specs.Words.{tell, State, Here, Piece, Reached, Stopped, and_then, computed, turn, turn_of, Left}
+use Rattle.sc_core.specs.declared.value.Value.TheVariants.{Word}
+use Rattle.sc_core.specs.Words.{tell, State, Piece, Reached, Stopped, and_then, computed, turn, turn_of, Left}
 use Rattle.sc_core.specs.declared.stmt.TypedSimpleKind.{TypedSimpleKind}
 use Rattle.sc_core.specs.Value.{c_arith}
-use Rattle.sc_core.specs.Tree.{Ways, values, call, assign_call, store_result, simple_does}
+use Rattle.sc_core.specs.Tree.{values, call, assign_call, store_result, simple_does}
 use Rattle.sc_core.specs.Calls.{begun, done, function, entered, found, word_in, crossed, first_word, next_input, read_input, may_call, back_own, back_cross, run_in, call_own, call_cross, called}
 use Rattle.sc_value.specs.Where.{here_of}
 use Rattle.sc_run.specs.declared.work.Frame.{Frame}
@@ -28,8 +27,8 @@ use Rattle.sc_run.specs.declared.work.Work.{Work}
 use Rattle.sc_run.specs.declared.work.Step.{Step}
 use Rattle.sc_run.specs.declared.work.Step.TheVariants.{Stop}
 use Rattle.sc_run.specs.Seen.{Seen, seen_of}
-use Rattle.sc_run.specs.Comes.{CameTo, Comes}
-use Rattle.sc_run.specs.Resume.{way_in, library, bodies, calls_in, result_goes, resume, Standing, Steps}
+use Rattle.sc_run.specs.Comes.{Comes}
+use Rattle.sc_run.specs.Resume.{way_in, library, bodies, calls_in, result_goes, resume, Steps}
 use Rattle.sc_run.specs.Entering.{entry_from, back_from}
 use Rattle.sc_run.proofs.Standing.{resume_stopped, step_stops}
 use Rattle.sc_run.proofs.Looping.{assoc, steps_as, steps_on}

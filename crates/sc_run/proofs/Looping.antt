@@ -1,30 +1,29 @@
 -- Loops, and what waits behind statements.
-use Rattle.std.proofs.Common.{◌≡◌, refl, sym, ap, ◌∙◌, subst, ℕ, suc, ◌++◌, Bool, true, false, if◌then◌else◌, List, [], ◌∷◌, map, length, reverse, Option, None, Some, Result, Ok, Err, arith}
+use Rattle.std.proofs.Common.{◌≡◌, refl, sym, ap, ◌∙◌, subst, ℕ, suc, ◌++◌, Bool, true, false, if◌then◌else◌, List, [], ◌∷◌, length, reverse, Ok, Err, arith}
 use Rattle.std.specs.Option.{option_copied}
 use denote.Bor.{Bor}
 use Rattle.sc_core.specs.declared.program.ProgramTree.{ProgramTree}
 use Rattle.sc_core.specs.declared.run.RunEnd.{RunEnd}
-use Rattle.sc_core.specs.declared.run.SourceRun.{SourceRun}
 use Rattle.sc_core.specs.declared.stmt.TypedStmt.{TypedStmt}
 use Rattle.sc_core.specs.declared.value.Value.{Value}
 use Rattle.sc_core.specs.declared.value.Want.TheVariants as want
 use Rattle.sc_core.specs.Value.{c_arith, is_true}
-use Rattle.sc_core.specs.Words.{State, Here, Piece, Reached, Stopped, and_then, turn, Exit, Next, Break, Continue, Return, Left, leave, in_order, in_loop, follow, take, choose}
+use Rattle.sc_core.specs.Words.{State, Piece, Reached, Stopped, and_then, turn, Exit, Next, Break, Left, leave, in_order, in_loop, follow, take, choose}
 use Rattle.sc_core.specs.Tree.{Acts, given, test}
-use Rattle.sc_core.proofs.Keeping.{DoesKeep, CallsKeep, test_kept, block_kept, part_kept}
+use Rattle.sc_core.proofs.Keeping.{CallsKeep, test_kept, block_kept, part_kept}
 use Rattle.sc_core.proofs.Opening.{library_is_open}
 use Rattle.sc_value.specs.Where.{here_of}
 use Rattle.sc_run.specs.declared.work.Frame.{Frame}
 use Rattle.sc_run.specs.declared.work.Loop.{Loop}
 use Rattle.sc_run.specs.declared.work.Work.{Work}
-use Rattle.sc_run.specs.declared.work.Work.TheVariants.{Rest, Body as Body', Again, Caller}
+use Rattle.sc_run.specs.declared.work.Work.TheVariants.{Rest, Body as Body', Again}
 use Rattle.sc_run.specs.declared.work.Now.{Now}
-use Rattle.sc_run.specs.declared.work.Now.TheVariants.{Run as Run', Leave}
+use Rattle.sc_run.specs.declared.work.Now.TheVariants.{Run as Run'}
 use Rattle.sc_run.specs.declared.work.Step.{Step}
 use Rattle.sc_run.specs.declared.work.Step.TheVariants.{Go, Stop}
-use Rattle.sc_run.specs.Seen.{Seen, seen_of}
+use Rattle.sc_run.specs.Seen.{Seen}
 use Rattle.sc_run.specs.Comes.{Comes}
-use Rattle.sc_run.specs.Resume.{way_in, library, bodies, calls_in, block_acts, next_acts, loop_acts, resume, does_now, Standing, Steps}
+use Rattle.sc_run.specs.Resume.{way_in, library, bodies, calls_in, block_acts, next_acts, loop_acts, resume, does_now, Steps}
 use Rattle.sc_run.proofs.Rounds.{few, is_few, calls_few, within_few, loop_again}
 use Rattle.sc_run.proofs.Standing.{Acting, told_as, goes_on, step_stops, moved, newest_first}
 

@@ -1,5 +1,5 @@
 -- The variables of a call, one block after the other, and their initialisers.
-use Rattle.std.proofs.Common.{◌≡◌, refl, sym, ap, ◌∙◌, subst, ℕ, zero, suc, ◌+◌, ◌<◌, ◌≤◌, ◌==◌, ◌++◌, Bool, true, false, if◌then◌else◌, List, [], ◌∷◌, map, length, take, drop, get_or, replicate, Option, None, Some, Result, Ok, Err, append_assoc, add-one, drop-cons, arith}
+use Rattle.std.proofs.Common.{◌≡◌, refl, sym, ap, ◌∙◌, subst, ℕ, suc, ◌+◌, ◌<◌, ◌≤◌, ◌==◌, ◌++◌, Bool, true, false, if◌then◌else◌, List, [], ◌∷◌, map, length, take, drop, get_or, Option, None, Some, Result, Ok, Err, append_assoc, add-one, drop-cons, arith}
 use Rattle.std.specs.Prelude.{slice_get}
 use Rattle.std.proofs.lemmas.Bool.{eqb-true, eq-eqb}
 use Rattle.std.proofs.lemmas.List.{append-nil, length-append, length-map, length-take, drop_all, take-map, take_more, map-append}
@@ -11,9 +11,9 @@ use Rattle.sc_core.specs.declared.section.TypedParam.{TypedParam}
 use Rattle.sc_core.specs.declared.section.TypedFunction.{TypedFunction}
 use Rattle.sc_core.specs.Types.{cells_of}
 use Rattle.sc_core.specs.declared.value.Value.{Value}
-use Rattle.sc_core.specs.Memory.{Block, Blocks, Memory, with_blocks}
+use Rattle.sc_core.specs.Memory.{Blocks, Memory, with_blocks}
 use Rattle.sc_core.specs.Value.{c_arith}
-use Rattle.sc_core.specs.Words.{State, Here, Piece, Reached, Stopped, Next, Left, leave, in_order, follow, all_do}
+use Rattle.sc_core.specs.Words.{State, Here, Piece, Reached, Stopped, Next, Left, in_order, follow, all_do}
 use Rattle.sc_core.specs.Tree.{Acts}
 use Rattle.sc_core.specs.Calls.{blocks_for}
 use Rattle.sc_core.specs.Meaning.{init_does, inits_do}

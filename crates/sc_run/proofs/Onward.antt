@@ -1,6 +1,6 @@
 -- A run that stands somewhere only adds events, so it may be stopped at a number of events.
-use Rattle.std.proofs.Common.{◌≡◌, refl, sym, ap, ◌∙◌, subst, ℕ, suc, ◌≤◌, ◌<◌, ◌+◌, ◌++◌, Bool, true, false, if◌then◌else◌, List, [], ◌∷◌, map, length, take, reverse, Option, None, Some, length-append, arith}
-use Rattle.std.specs.Prelude.{nat_lt, nat_le, is_some, bytes_eq, ◌==◌, ◌&&◌}
+use Rattle.std.proofs.Common.{◌≡◌, refl, sym, ap, ◌∙◌, subst, ℕ, suc, ◌≤◌, ◌<◌, ◌++◌, if◌then◌else◌, List, [], ◌∷◌, length, take, reverse, Option, None, Some, length-append, arith}
+use Rattle.std.specs.Prelude.{is_some, bytes_eq, ◌==◌, ◌&&◌}
 use Rattle.std.specs.Option.{option_copied}
 use Rattle.std.proofs.lemmas.Bool.{le-leb, lt-ltb}
 use Rattle.sc_event.specs.declared.event.Event.{Event}
@@ -12,13 +12,13 @@ use Rattle.sc_core.specs.declared.run.SourceRun.{SourceRun}
 use Rattle.sc_core.specs.declared.stmt.TypedStmt.{TypedStmt}
 use Rattle.sc_core.specs.declared.value.Value.{Value}
 use Rattle.sc_core.specs.Growth.{Grown}
-use Rattle.sc_core.specs.Run.{reaches, stopped_at}
+use Rattle.sc_core.specs.Run.{stopped_at}
 use Rattle.sc_core.specs.Value.{c_arith}
-use Rattle.sc_core.specs.Words.{State, Piece, Reached, Stopped, and_then, Left, leave, in_order, in_loop, follow}
+use Rattle.sc_core.specs.Words.{State, Piece, Reached, Stopped, and_then, Left, in_order, in_loop, follow}
 use Rattle.sc_core.specs.Calls.{main_name, back_own, done, run_step}
 use Rattle.sc_core.specs.Meaning.{run_to, exit_word}
-use Rattle.sc_core.proofs.Keeping.{Property, Kept, then_kept, DoesKeep, CallsKeep, follow_kept, loop_kept, test_kept, block_kept, part_kept, closed_kept, store_result_kept}
-use Rattle.sc_core.proofs.Growing.{growth, is_grown, IsHalt, grown_refl, grown_trans, grown_tell, calls_grown, run_step_grows, within_grows}
+use Rattle.sc_core.proofs.Keeping.{Kept, then_kept, DoesKeep, CallsKeep, follow_kept, loop_kept, test_kept, block_kept, part_kept, closed_kept, store_result_kept}
+use Rattle.sc_core.proofs.Growing.{growth, is_grown, IsHalt, grown_refl, grown_tell, calls_grown, run_step_grows, within_grows}
 use Rattle.sc_core.proofs.Opening.{library_is_open}
 use Rattle.sc_core.proofs.Cuts.{take_front}
 use Rattle.sc_value.specs.Where.{here_of}
@@ -30,8 +30,8 @@ use Rattle.sc_run.specs.declared.work.Work.{Work}
 use Rattle.sc_run.specs.declared.work.Work.TheVariants.{Rest, Body as Body', Again, Caller}
 use Rattle.sc_run.specs.declared.work.Now.{Now}
 use Rattle.sc_run.specs.declared.work.Now.TheVariants.{Run as Run', Leave}
-use Rattle.sc_run.specs.Seen.{Seen, seen_of}
-use Rattle.sc_run.specs.Resume.{exit_of, way_in, library, bodies, calls_in, block_acts, next_acts, loop_acts, closes, function_in, returned, back_to, result_goes, resume, does_now, Standing}
+use Rattle.sc_run.specs.Seen.{Seen}
+use Rattle.sc_run.specs.Resume.{way_in, library, bodies, calls_in, block_acts, next_acts, loop_acts, closes, function_in, returned, back_to, result_goes, resume, does_now, Standing}
 
 -- the run has at least these events, and one more where it ends by itself
 pub record Onward (t : List Event) (run : SourceRun) : Type 0 where

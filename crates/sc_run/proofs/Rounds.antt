@@ -1,15 +1,15 @@
 -- Pieces of a run give no turn, and a loop is a round and then the loop again.
-use Rattle.std.proofs.Common.{◌≡◌, refl, sym, ap, ◌∙◌, subst, ℕ, zero, suc, ◌≤◌, ◌<◌, ◌++◌, List, [], ◌∷◌, map, length, Option, None, Some, Bool, true, false, if◌then◌else◌, arith}
+use Rattle.std.proofs.Common.{◌≡◌, refl, ℕ, zero, suc, ◌≤◌, ◌<◌, List, map, length, Option, Bool, true, false, if◌then◌else◌, arith}
 use Rattle.sc_event.specs.declared.event.Event.TheVariants.{Call}
 use Rattle.sc_event.specs.declared.row.Entry.TheVariants.{Export}
 use Rattle.sc_core.specs.declared.expr.CallTarget.{CallTarget}
 use Rattle.sc_core.specs.declared.expr.CallTarget.TheVariants.{Own, Cross, Input, Output}
 use Rattle.sc_core.specs.declared.run.RunEnd.TheVariants.{TurnsOut}
 use Rattle.sc_core.specs.declared.value.Value.{Value}
-use Rattle.sc_core.specs.Words.{State, Here, Piece, Reached, Stopped, and_then, turn, turn_of, tell, Left, Does, Route, On, Out, Exit, in_order, in_loop, take, follow, rounds, loop, Calls}
-use Rattle.sc_core.specs.Calls.{Function, Library, Body, function, entered, begun, done, found, word_in, crossed, may_call, back_own, back_cross, run_in, call_own, call_cross, called, calls, run_step, within}
-use Rattle.sc_core.proofs.Keeping.{Property, Kept, IsKept, then_kept, DoesKeep, CallsKeep}
-use Rattle.sc_core.proofs.Growing.{found_kept, IsOpen, AreOpen}
+use Rattle.sc_core.specs.Words.{State, Here, Piece, Reached, Stopped, and_then, turn, turn_of, tell, Left, Does, Route, On, Out, Exit, in_order, in_loop, take, follow, rounds, loop}
+use Rattle.sc_core.specs.Calls.{Library, Body, function, entered, begun, done, word_in, crossed, may_call, back_own, back_cross, run_in, call_own, call_cross, called, calls, run_step, within}
+use Rattle.sc_core.proofs.Keeping.{Property, Kept, IsKept, then_kept, DoesKeep}
+use Rattle.sc_core.proofs.Growing.{found_kept, AreOpen}
 
 -- no more than n turns are left
 abbrev pub few : ℕ → Property

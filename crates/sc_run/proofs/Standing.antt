@@ -1,19 +1,16 @@
 -- Where a run stands, as pieces come to something and as things are left to wait.
-use Rattle.std.proofs.Common.{◌≡◌, refl, sym, ap, ◌∙◌, subst, ℕ, zero, suc, ◌≤◌, ◌++◌, List, [], ◌∷◌, map, reverse, Option, None, Some, Result, Ok, Err, arith}
+use Rattle.std.proofs.Common.{◌≡◌, refl, sym, ap, ◌∙◌, ℕ, suc, ◌≤◌, ◌++◌, List, [], ◌∷◌, reverse, Ok, Err, arith}
 use Rattle.std.proofs.lemmas.List.{reverse-append}
 use Rattle.sc_core.specs.declared.program.ProgramTree.{ProgramTree}
 use Rattle.sc_core.specs.declared.run.RunEnd.{RunEnd}
 use Rattle.sc_core.specs.declared.run.SourceRun.{SourceRun}
-use Rattle.sc_core.specs.declared.value.Value.{Value}
-use Rattle.sc_core.specs.Words.{State, Piece, Reached, Stopped, and_then, Exit, Left, leave}
+use Rattle.sc_core.specs.Words.{State, Piece, Reached, Stopped, and_then, Left}
 use Rattle.sc_run.specs.declared.work.Frame.{Frame}
-use Rattle.sc_run.specs.declared.work.To.{To}
-use Rattle.sc_run.specs.declared.work.To.TheVariants.{Nowhere, Place, Back}
 use Rattle.sc_run.specs.declared.work.Work.{Work}
 use Rattle.sc_run.specs.declared.work.Work.TheVariants.{Rest, Body as Body', Again, Caller}
-use Rattle.sc_run.specs.Seen.{Seen, seen_of}
+use Rattle.sc_run.specs.Seen.{Seen}
 use Rattle.sc_run.specs.Comes.{CameTo, Comes}
-use Rattle.sc_run.specs.declared.work.Step.TheVariants.{Go, Stop}
+use Rattle.sc_run.specs.declared.work.Step.TheVariants.{Stop}
 use Rattle.sc_run.specs.Resume.{resume, Standing, Steps}
 
 abbrev pub Acting : Type 0

@@ -1,6 +1,5 @@
 -- Statements, by their layers.
-use Rattle.std.proofs.Common.{◌≡◌, refl, sym, ap, ◌∙◌, subst, ℕ, suc, ◌-◌, ◌≤◌, ◌++◌, List, [], ◌∷◌, map, length, take, drop, get_or, Option, None, Some, arith}
-use Rattle.std.specs.Option.{option_copied}
+use Rattle.std.proofs.Common.{◌≡◌, refl, sym, ap, ◌∙◌, subst, ℕ, ◌-◌, ◌≤◌, ◌++◌, List, [], ◌∷◌, length, take, drop, get_or, Option, None, Some, arith}
 use Rattle.std.proofs.lemmas.List.{take_all, length-drop}
 use denote.Bor.{Bor}
 use Rattle.sc_core.specs.declared.program.ProgramTree.{ProgramTree}
@@ -12,7 +11,7 @@ use Rattle.sc_core.specs.declared.value.Want.TheVariants as want
 use Rattle.sc_core.specs.declared.stmt.TypedSimple.{TypedSimple}
 use Rattle.sc_core.specs.Value.{c_arith}
 use Rattle.sc_core.specs.Words.{State, Piece, Left, and_then, choose, leave, loop, Next, in_order, follow}
-use Rattle.sc_core.specs.Tree.{Acts, assign, given, test, kind_step, stmt_step, stmt_does, part_does, simple_does}
+use Rattle.sc_core.specs.Tree.{Acts, assign, given, test, kind_step, stmt_step, part_does, simple_does}
 use Rattle.sc_core.proofs.Layers.{stmt_at, layer_of}
 use Rattle.sc_value.specs.Where.{here_of}
 use Rattle.sc_run.specs.declared.work.Frame.{Frame}

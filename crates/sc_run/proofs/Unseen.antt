@@ -1,5 +1,5 @@
 -- Expressions give the same where ended variables hold no cells.
-use Rattle.std.proofs.Common.{◌≡◌, refl, sym, ap, ◌∙◌, subst, ℕ, Bool, true, false, if◌then◌else◌, List, [], ◌∷◌, map, length, Result, Ok, Err, pos, ◌+ℤ◌, ℤ, not, ◌&&◌, ◌==◌}
+use Rattle.std.proofs.Common.{◌≡◌, refl, sym, ap, ◌∙◌, subst, ℕ, Bool, false, if◌then◌else◌, List, [], ◌∷◌, map, length, Result, Ok, Err, pos, ◌+ℤ◌, ℤ, not, ◌&&◌, ◌==◌}
 use Rattle.std.specs.Prelude.{nat_lt}
 use Rattle.sc_core.specs.declared.cause.Cause.{Cause}
 use Rattle.sc_core.specs.declared.cause.Cause.TheVariants.{BadPointer}
@@ -15,8 +15,8 @@ use Rattle.sc_core.specs.declared.value.Value.{Value}
 use Rattle.sc_core.specs.declared.value.Value.TheVariants.{Word, Null, Ptr}
 use Rattle.sc_core.specs.declared.value.Want.{Want}
 use Rattle.sc_core.specs.declared.value.Want.TheVariants as want
-use Rattle.sc_core.specs.Memory.{Blocks, bind, load, cells_at}
-use Rattle.sc_core.specs.Value.{c_arith, is_true, of_bool, place_at, moved, moved_on, moved_back, is_inside, same_place, between, number_of, on_words, applied_one}
+use Rattle.sc_core.specs.Memory.{Blocks, bind}
+use Rattle.sc_core.specs.Value.{c_arith, is_true, of_bool, place_at, moved, moved_on, moved_back, is_inside, same_place, between, on_words, applied_one}
 use Rattle.sc_core.specs.Types.{is_unsigned, is_array, is_pointer, target_cells}
 use Rattle.sc_core.specs.Words.{Here, choose}
 use Rattle.sc_core.specs.Tree.{Ways, Meant, variable_at, wanted, at_place, at_pointer, is_unsigned_op, applied, binary, term_step, meant_step, meant, ways, values}

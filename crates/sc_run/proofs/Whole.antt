@@ -1,6 +1,5 @@
 -- A run from its first step to its end.
-use Rattle.std.proofs.Common.{◌≡◌, refl, sym, ap, ◌∙◌, subst, ℕ, ◌≤◌, if◌then◌else◌, List, [], ◌∷◌, map, length, take, Option, None, Some}
-use Rattle.std.specs.Prelude.{nat_le}
+use Rattle.std.proofs.Common.{◌≡◌, refl, sym, ap, ◌∙◌, subst, ℕ, ◌≤◌, if◌then◌else◌, List, [], length, take, Option, None, Some}
 use Rattle.std.proofs.lemmas.Bool.{le-leb}
 use Rattle.sc_event.specs.declared.event.Event.{Event}
 use Rattle.sc_event.specs.declared.row.Entry.TheVariants.{Main}

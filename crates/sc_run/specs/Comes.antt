@@ -1,5 +1,5 @@
 -- What pieces of a run come to.
-use Rattle.std.specs.Prelude.{◌≡◌, ℕ, ◌≤◌, Result, Ok, Err}
+use Rattle.std.specs.Prelude.{◌≡◌, ◌≤◌, Result, Ok, Err}
 use Rattle.sc_core.specs.declared.run.RunEnd.{RunEnd}
 use Rattle.sc_core.specs.Words.{State, Piece, Reached, Stopped, Exit, Left}
 use Rattle.sc_run.specs.Seen.{Seen, seen_of}

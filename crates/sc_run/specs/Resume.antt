@@ -1,5 +1,5 @@
 -- What a run that has got somewhere does from there.
-use Rattle.std.specs.Prelude.{◌≡◌, ℕ, suc, ◌≤◌, Bool, ◌&&◌, ◌==◌, bytes_eq, List, [], ◌∷◌, length, map, reverse, Option, None, Some, is_some, Result}
+use Rattle.std.specs.Prelude.{◌≡◌, ℕ, suc, ◌≤◌, ◌&&◌, ◌==◌, bytes_eq, List, [], ◌∷◌, reverse, Option, None, Some, is_some}
 use Rattle.std.specs.Option.{option_copied}
 use Rattle.sc_event.specs.declared.event.Event.{Event}
 use Rattle.sc_core.specs.declared.expr.TypedExpr.{TypedExpr}
@@ -11,7 +11,7 @@ use Rattle.sc_core.specs.declared.run.SourceRun.{SourceRun}
 use Rattle.sc_core.specs.declared.value.Value.{Value}
 use Rattle.sc_core.specs.Run.{stopped_at}
 use Rattle.sc_core.specs.Value.{c_arith}
-use Rattle.sc_core.specs.Words.{State, Here, Piece, and_then, Exit, Next, Break, Continue, Return, Left, leave, in_order, in_loop, follow, loop, Calls}
+use Rattle.sc_core.specs.Words.{State, Piece, and_then, Exit, Next, Break, Continue, Return, Left, leave, in_order, in_loop, follow, loop, Calls}
 use Rattle.sc_core.specs.Tree.{Ways, Acts, ways, test, store_result, part_does, block_does, stmt_does}
 use Rattle.sc_core.specs.Calls.{Function, Library, Body, main_name, back_own, back_cross, done, calls, run_step, within}
 use Rattle.sc_core.specs.Meaning.{closed, function_of, library_of, Run, run_to}

@@ -1,5 +1,5 @@
 -- How a call ends, as it is seen.
-use Rattle.std.specs.Prelude.{◌≡◌, ℕ, ◌++◌, List, [], ◌∷◌, Option, None, Some, Result, Ok, Err}
+use Rattle.std.specs.Prelude.{ℕ, ◌++◌, [], ◌∷◌, Option, None, Some, Result, Ok, Err}
 use Rattle.sc_event.specs.declared.event.Event.TheVariants.{Ret}
 use Rattle.sc_event.specs.Lookup.{export_at}
 use Rattle.sc_core.specs.declared.program.ProgramTree.{ProgramTree}

@@ -1,5 +1,5 @@
 -- What of a state is kept while a program runs: the changes of frames are not, nor the cells of variables that have ended.
-use Rattle.std.specs.Prelude.{◌≡◌, ℕ, ◌≤◌, List, map, Result, Ok, Err}
+use Rattle.std.specs.Prelude.{ℕ, List, map}
 use Rattle.sc_event.specs.declared.event.Event.{Event}
 use Rattle.sc_word.specs.Word.{word_of}
 use Rattle.sc_core.specs.Memory.{Memory}

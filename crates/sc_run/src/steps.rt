@@ -211,9 +211,7 @@ fn statement<'a>(
             body,
         } => {
             let body = body.as_slice();
-            for_loop(
-                program, machine, work, frame, first, cond, next, body, line,
-            )
+            for_loop(program, machine, work, frame, first, cond, next, body, line)
         }
     }
 }

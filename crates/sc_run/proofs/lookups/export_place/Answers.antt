@@ -1,4 +1,4 @@
-use Rattle.std.proofs.Common.{◌≡◌, ◌∙◌, sym, ap}
+use Rattle.std.proofs.Common.{sym}
 use Rattle.sc_run.proofs.Finding.{export_is}
 use Rattle.sc_run.proofs.lookups.export_place.Goals as goal
 

@@ -1,4 +1,3 @@
-use Rattle.std.proofs.Common.{◌≡◌}
 use Rattle.sc_value.specs.Where.{here_of}
 use Rattle.sc_run.specs.Seen.{kept_by}
 use Rattle.sc_run.specs.Resume.{way_in}

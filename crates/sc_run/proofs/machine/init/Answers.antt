@@ -1,4 +1,4 @@
-use Rattle.std.proofs.Common.{sym, subst}
+use Rattle.std.proofs.Common.{subst}
 use Rattle.sc_core.specs.declared.expr.VarRef.TheVariants.{Local}
 use Rattle.sc_core.specs.Words.{Next}
 use Rattle.sc_core.specs.Tree.{stored, given, variable_at}

@@ -1,4 +1,4 @@
-use Rattle.std.proofs.Common.{◌≡◌, ◌∙◌, ap, subst, [], map, Some}
+use Rattle.std.proofs.Common.{◌∙◌, ap, subst, map}
 use Rattle.sc_word.specs.Word.{word_of}
 use Rattle.sc_core.specs.Meaning.{globals_of, meaning}
 use Rattle.sc_blocks.specs.Rows.{memory_of}

@@ -1,4 +1,3 @@
-use Rattle.std.proofs.Common.{◌≡◌, sym, ◌∙◌}
 use Rattle.std.proofs.lemmas.Result.{IfOk-weaker}
 use Rattle.sc_run.specs.Seen.{kept_by}
 use Rattle.sc_run.proofs.Invoking.{call_steps_by, call_blamed_by}

@@ -1,4 +1,4 @@
-use Rattle.std.proofs.Common.{◌≡◌, sym, ◌∙◌}
+use Rattle.std.proofs.Common.{sym, ◌∙◌}
 use Rattle.std.proofs.lemmas.Result.{IfOk-weaker}
 use Rattle.sc_run.specs.Seen.{kept_by}
 use Rattle.sc_run.proofs.Invoking.{cross_unknown, cross_missing, cross_enters}

@@ -1,4 +1,4 @@
-use Rattle.std.proofs.Common.{◌≡◌, sym, ◌∙◌}
+use Rattle.std.proofs.Common.{sym}
 use Rattle.std.proofs.lemmas.Result.{IfOk-weaker}
 use Rattle.sc_core.specs.declared.expr.CallTarget.TheVariants.{Cross, Input, Output}
 use Rattle.sc_run.specs.Seen.{kept_by}

@@ -1,4 +1,3 @@
-use Rattle.std.proofs.Common.{◌≡◌, sym, ◌∙◌}
 use Rattle.std.proofs.lemmas.Result.{IfOk-weaker}
 use Rattle.sc_core.specs.declared.stmt.TypedSimpleKind.TheVariants.{AssignCall, Call}
 use Rattle.sc_run.specs.Seen.{kept_by}

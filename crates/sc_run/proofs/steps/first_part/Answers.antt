@@ -1,6 +1,6 @@
 use Rattle.std.proofs.lemmas.Result.{IfOk-weaker}
 use Rattle.sc_run.specs.Seen.{kept_by}
-use Rattle.sc_run.proofs.Stating.{first_steps, no_first}
+use Rattle.sc_run.proofs.Stating.{first_steps}
 use Rattle.sc_run.proofs.steps.first_part.Goals as goal
 
 pub returns-in_ok-push-in-Some : goal.returns-in_ok-push-in-Some

@@ -1,4 +1,3 @@
-use Rattle.std.proofs.Common.{refl}
 use Rattle.std.proofs.lemmas.Result.{IfOk-weaker}
 use Rattle.sc_run.specs.Seen.{kept_by}
 use Rattle.sc_run.proofs.Stating.{list_steps, first_and_rest, rest_of}

@@ -1,4 +1,4 @@
-use Rattle.std.proofs.Common.{◌≡◌, refl, sym, ◌∙◌, None}
+use Rattle.std.proofs.Common.{refl, sym, ◌∙◌, None}
 use Rattle.std.proofs.lemmas.Result.{IfOk-weaker}
 use Rattle.sc_core.specs.declared.stmt.TypedStmtKind.TheOpen as layer
 use Rattle.sc_core.specs.declared.stmt.TypedStmtKind.TheVariants.{rolls-Empty, rolls-Assign, rolls-AssignCall, rolls-Call, rolls-If, rolls-While, rolls-For, rolls-Break, rolls-Continue, rolls-Return, rolls-ReturnValue, rolls-ReturnCall}
