@@ -68,7 +68,7 @@ fn crossed(alloc: Global, args: &[Value]) -> Result<Items<Value>, OutOfMemory>
     Ok(words)
 }
 
-// A call of an export of another compartment.
+// A call of an export of another compartment. It is looked up by its name, and is an event, of which a run has few.
 fn call_cross<'a>(
     program: &'a ProgramTree,
     machine: &mut Machine,
