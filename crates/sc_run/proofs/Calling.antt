@@ -1,0 +1,129 @@
+-- Calls that begin.
+use Rattle.std.proofs.Common.{◌≡◌, refl, sym, ap, ◌∙◌, subst, ℕ, zero, suc, ◌≤◌, ◌++◌, List, [], ◌∷◌, map, length, reverse, Option, None, Some, Ok, Err, arith}
+use Rattle.sc_event.specs.declared.event.Event.TheVariants.{Call}
+use denote.Bor.{Bor}
+use Rattle.sc_core.specs.declared.expr.TypedExpr.{TypedExpr}
+use Rattle.sc_core.specs.declared.program.ProgramTree.{ProgramTree}
+use Rattle.sc_core.specs.declared.run.RunEnd.{RunEnd}
+use Rattle.sc_core.specs.declared.run.SourceRun.{SourceRun}
+use Rattle.sc_core.specs.declared.value.Value.{Value}
+use Rattle.sc_core.specs.Memory.{with_blocks}
+use Rattle.sc_core.specs.Types.{variables}
+use Rattle.sc_core.specs.Value.{c_arith}
+use Rattle.sc_core.specs.Words.{State, Piece, Reached, Stopped, and_then, turn, Left}
+use Rattle.sc_core.specs.Tree.{store_at}
+use Rattle.sc_core.specs.Calls.{Function, function, blocks_for, begun, done, found, word_in, run_in}
+use Rattle.sc_core.specs.Meaning.{function_of}
+use Rattle.sc_value.specs.Where.{here_of}
+use Rattle.sc_run.specs.declared.work.Frame.{Frame}
+use Rattle.sc_run.specs.declared.work.Callee.{Callee}
+use Rattle.sc_run.specs.declared.work.To.{To}
+use Rattle.sc_run.specs.declared.work.To.TheVariants.{Place}
+use Rattle.sc_run.specs.declared.work.Work.{Work}
+use Rattle.sc_run.specs.declared.work.Work.TheVariants.{Caller}
+use Rattle.sc_run.specs.declared.work.Step.{Step}
+use Rattle.sc_run.specs.declared.work.Step.TheVariants.{Stop}
+use Rattle.sc_run.specs.Seen.{Seen, seen_of}
+use Rattle.sc_run.specs.Comes.{CameTo, Comes}
+use Rattle.sc_run.specs.Resume.{way_in, library, bodies, calls_in, returned, result_goes, resume, Standing, Steps}
+use Rattle.sc_run.specs.Entering.{with_variables, Begun, told_call, entry_from, back_from, body_acts}
+use Rattle.sc_run.proofs.Blank.{blank_more, blank_new, length_same}
+use Rattle.sc_run.proofs.Coming.{with_memory, seen_with, blocks_seen}
+use Rattle.sc_run.proofs.Standing.{step_stops, step_ends, newest_first}
+use Rattle.sc_run.proofs.Looping.{assoc, steps_as}
+
+-- a result that can't be stored
+pub unstored : (program : ProgramTree) (before after : Seen) (work : List Work) (f : Frame) (to : To) (result : Option Value) (place : Bor TypedExpr) (line : ℕ) (v : Value) (end : RunEnd) → to ≡ Place place line → result ≡ Some v → Comes before after (Err end) (store_at (here_of f.scope) (way_in f place.now) v line tt) → Steps program before work f (λ n s. result_goes program f to result s) (Stop end) after work f
+unstored program before after work f to result place line v end is has c =
+    subst (λ x. Steps program before work f (λ n s. result_goes program f x result s) (Stop end) after work f) (sym is) (subst (λ x. Steps program before work f (λ n s. result_goes program f (Place place line) x s) (Stop end) after work f) (sym has) (step_ends program before after work f end (store_at (here_of f.scope) (way_in f place.now) v line tt) c))
+
+module _ (program : ProgramTree) (caller : Frame) (callee : Callee) (args : List Value) (to : To) where
+  abbrev pub called_function : Function
+  called_function = function_of c_arith program.interfaces.main callee.structs.now callee.function.now
+
+  -- the frame of the call, where the compartment had so many blocks
+  abbrev pub frame_at : ℕ → Frame
+  frame_at first =
+      record { scope = record { structs = callee.structs; comp = callee.comp; first = first; params = length callee.function.now.params }; function = callee.function }
+
+  abbrev pub Found : Type 0
+  Found = function (library program) callee.comp.now callee.number ≡ Some called_function
+
+  abbrev pub entering : (State → State) → (Option Value → State → Piece (Option Value)) → ℕ → State → Piece (Option Value)
+  entering entry back n s = run_in (library program) (bodies program n) callee.comp.now callee.number args entry back s
+
+  pub enter_is : Found → (entry : State → State) (back : Option Value → State → Piece (Option Value)) (m : ℕ) (t : State) → entering entry back (suc m) t ≡ returned program (frame_at (length (t.memory callee.comp.now))) back (body_acts program m (frame_at (length (t.memory callee.comp.now))) tt (entry (begun callee.comp.now called_function args t)))
+  enter_is there entry back m t =
+      ap (λ o. and_then (found o t) (λ f s. and_then (bodies program (suc m) callee.number (record { comp = callee.comp.now; first = length (s.memory callee.comp.now) }) (entry (begun callee.comp.now f args s))) (λ v u. back v (done callee.comp.now f (length (s.memory callee.comp.now)) u)))) there
+      ∙ ap (λ o. and_then (and_then (found o (entry (begun callee.comp.now called_function args t))) (λ f s. f.does (calls_in program m) (record { comp = callee.comp.now; first = length (t.memory callee.comp.now) }) s)) (λ v u. back v (done callee.comp.now called_function (length (t.memory callee.comp.now)) u))) there
+
+  pub begun_seen : (t : State) (mid : Seen) → seen_of t ≡ mid → seen_of (begun callee.comp.now called_function args t) ≡ with_memory mid (with_variables callee args mid.memory)
+  begun_seen t mid shows =
+      seen_with t mid callee.comp.now (t.memory callee.comp.now ++ blocks_for (variables callee.structs.now callee.function.now) args) shows
+      ∙ ap (λ bs. with_memory mid (with_blocks callee.comp.now bs mid.memory)) (blank_more (t.memory callee.comp.now) (blocks_for (variables callee.structs.now callee.function.now) args) ∙ (λ i. blocks_seen t mid callee.comp.now shows i ++ blank_new (variables callee.structs.now callee.function.now) args i))
+
+  first_seen : (t : State) (mid : Seen) → seen_of t ≡ mid → length (mid.memory callee.comp.now) ≡ length (t.memory callee.comp.now)
+  first_seen t mid shows = ap length (sym (blocks_seen t mid callee.comp.now shows)) ∙ length_same (t.memory callee.comp.now)
+
+  pub frame_is : (t : State) (mid after : Seen) (g : Frame) → seen_of t ≡ mid → Begun callee args mid after g → g ≡ frame_at (length (t.memory callee.comp.now))
+  frame_is t mid after g shows b = λ i.
+      record { scope = record { structs = b.structs i; comp = b.comp i; first = (b.first ∙ first_seen t mid shows) i; params = b.params i }; function = b.function i }
+
+  entry_seen : (crossing : Option ℕ) (s : State) (seen : Seen) → seen_of s ≡ seen → seen_of (entry_from caller callee args crossing s) ≡ told_call caller callee args crossing seen
+  entry_seen None s seen shows = shows
+  entry_seen (Some index) s seen shows =
+      ap {A = Seen} (λ x. record x { trace = x.trace ++ Call caller.scope.comp.now callee.comp.now index (map word_in args) ∷ [] }) shows
+
+  entry_turns : (crossing : Option ℕ) (s : State) → (entry_from caller callee args crossing s).turns ≡ s.turns
+  entry_turns None s = refl
+  entry_turns (Some index) s = refl
+
+  module _ (whole : SourceRun) (work later : List Work) (mid begun_to : Seen) (g : Frame) (there : Found) (b : Begun callee args mid begun_to g) where
+    abbrev Entered : Option ℕ → Type 0
+    Entered crossing = Standing program whole (told_call caller callee args crossing begun_to) later g (λ n s. body_acts program n g tt s)
+
+    enter_at : (crossing : Option ℕ) (m : ℕ) (t : State) → later ≡ work ++ Caller caller to crossing ∷ [] → ((n : ℕ) (p : Piece (Left (Unit {0}))) (f : Frame) → f ≡ frame_at (length (t.memory callee.comp.now)) → resume program n (Caller caller to crossing ∷ reverse work) f p ≡ resume program (suc n) (reverse work) caller (and_then (returned program f (back_from program caller callee crossing) p) (result_goes program caller to))) → seen_of t ≡ mid → mid.turns ≤ m → (resume program (suc m) (reverse work) caller (and_then (entering (entry_from caller callee args crossing) (back_from program caller callee crossing) (suc m) t) (result_goes program caller to))).shown ≡ whole → Entered crossing
+    enter_at crossing m t pushed waits shows enough rest =
+        let same : g ≡ frame_at (length (t.memory callee.comp.now)) = frame_is t mid begun_to g shows b in
+        subst (λ f. Standing program whole (told_call caller callee args crossing begun_to) later f (λ n s. body_acts program n f tt s)) (sym same) (record {
+          open_calls = m;
+          state = entry_from caller callee args crossing (begun callee.comp.now called_function args t);
+          shows = entry_seen crossing (begun callee.comp.now called_function args t) begun_to (begun_seen t mid shows ∙ sym b.seen);
+          enough = le (entry_turns crossing (begun callee.comp.now called_function args t)) (ap (λ x. x.turns) shows);
+          rest = ap (λ ws. (resume program m ws (frame_at (length (t.memory callee.comp.now))) entered_piece).shown) (ap reverse pushed ∙ newest_first work (Caller caller to crossing)) ∙ ap (λ x. x.shown) (waits m entered_piece (frame_at (length (t.memory callee.comp.now))) refl) ∙ ap (λ q. (resume program (suc m) (reverse work) caller (and_then q (result_goes program caller to))).shown) (sym (enter_is there (entry_from caller callee args crossing) (back_from program caller callee crossing) m t)) ∙ rest;
+        }) where
+          entered_piece : Piece (Left (Unit {0}))
+          entered_piece = body_acts program m (frame_at (length (t.memory callee.comp.now))) tt (entry_from caller callee args crossing (begun callee.comp.now called_function args t))
+
+          le : (entry_from caller callee args crossing (begun callee.comp.now called_function args t)).turns ≡ t.turns → t.turns ≡ mid.turns → (entry_from caller callee args crossing (begun callee.comp.now called_function args t)).turns ≤ m
+          le x y = omega (arith, x, y, enough)
+
+    waits_at : (crossing : Option ℕ) (first : ℕ) (n : ℕ) (p : Piece (Left (Unit {0}))) (f : Frame) → f ≡ frame_at first → resume program n (Caller caller to crossing ∷ reverse work) f p ≡ resume program (suc n) (reverse work) caller (and_then (returned program f (back_from program caller callee crossing) p) (result_goes program caller to))
+    waits_at None first n p f is = refl
+    waits_at (Some index) first n p f is =
+        subst (λ f. resume program n (Caller caller to (Some index) ∷ reverse work) f p ≡ resume program (suc n) (reverse work) caller (and_then (returned program f (back_from program caller callee (Some index)) p) (result_goes program caller to))) (sym is) refl
+
+    entered_from : (crossing : Option ℕ) (before : Seen) → later ≡ work ++ Caller caller to crossing ∷ [] → before.turns ≡ suc mid.turns → Comes before mid (Ok tt) turn → Standing program whole before work caller (λ n s. and_then (and_then (turn s) (λ _ s. entering (entry_from caller callee args crossing) (back_from program caller callee crossing) n s)) (result_goes program caller to)) → Entered crossing
+    entered_from crossing before pushed taken c h =
+        by_turn h.open_calls (turn h.state) (c.comes h.state h.shows) (more (ap (λ x. x.turns) h.shows) taken h.enough) h.rest where
+          more : h.state.turns ≡ before.turns → before.turns ≡ suc mid.turns → h.state.turns ≤ h.open_calls → suc mid.turns ≤ h.open_calls
+          more x y z = omega (arith, x, y, z)
+
+          by_turn : (n : ℕ) (x : Piece (Unit {0})) → CameTo (Ok tt) mid x → suc mid.turns ≤ n → (resume program n (reverse work) caller (and_then (and_then x (λ _ s. entering (entry_from caller callee args crossing) (back_from program caller callee crossing) n s)) (result_goes program caller to))).shown ≡ whole → Entered crossing
+          by_turn zero x e le rest = absurd (none mid.turns le) where
+            none : (k : ℕ) → suc k ≤ 0 → ⊥
+            none k z = omega (arith, z)
+          by_turn (suc m) (Reached u t) e le rest =
+              enter_at crossing m t pushed (λ n p f is. waits_at crossing (length (t.memory callee.comp.now)) n p f is) e.1 (less mid.turns m le) rest where
+                less : (a b : ℕ) → suc a ≤ suc b → a ≤ b
+                less a b z = omega (arith, z)
+          by_turn (suc m) (Stopped end t) e le rest = elim e [ ]
+
+  pub enter_steps : (crossing : Option ℕ) (work later : List Work) (before mid begun_to told : Seen) (g : Frame) (step : Step) (last : Seen) (last_work : List Work) (last_frame : Frame) → function (library program) callee.comp.now callee.number ≡ Some (function_of c_arith program.interfaces.main callee.structs.now callee.function.now) → Comes before mid (Ok tt) turn → before.turns ≡ suc mid.turns → Begun callee args mid begun_to g → told ≡ told_call caller callee args crossing begun_to → later ≡ work ++ Caller caller to crossing ∷ [] → Steps program told later g (λ n s. body_acts program n g tt s) step last last_work last_frame → Steps program before work caller (λ n s. and_then (and_then (turn s) (λ _ s. run_in (library program) (bodies program n) callee.comp.now callee.number args (entry_from caller callee args crossing) (back_from program caller callee crossing) s)) (result_goes program caller to)) step last last_work last_frame
+  enter_steps crossing work later before mid begun_to told g step last last_work last_frame there c taken b tells pushed h =
+      record { stands = λ whole standing. h.stands whole (subst (λ x. Standing program whole x later g (λ n s. body_acts program n g tt s)) (sym tells) (entered_from whole work later mid begun_to g there b crossing before pushed taken c standing)) }
+
+  -- a call that has no turn left
+  pub enter_stops : (crossing : Option ℕ) (work : List Work) (before after : Seen) (end : RunEnd) → Comes before after (Err end) turn → Steps program before work caller (λ n s. and_then (and_then (turn s) (λ _ s. run_in (library program) (bodies program n) callee.comp.now callee.number args (entry_from caller callee args crossing) (back_from program caller callee crossing) s)) (result_goes program caller to)) (Stop end) after work caller
+  enter_stops crossing work before after end c =
+      steps_as program before work caller (λ n s. and_then (and_then (turn s) (λ _ s. entering (entry_from caller callee args crossing) (back_from program caller callee crossing) n s)) (result_goes program caller to)) (λ n s. and_then (turn s) (λ _ s. and_then (entering (entry_from caller callee args crossing) (back_from program caller callee crossing) n s) (result_goes program caller to))) (Stop end) after work caller (λ n s. assoc (turn s) (λ _ s. entering (entry_from caller callee args crossing) (back_from program caller callee crossing) n s) (result_goes program caller to)) (step_stops program before after work caller end turn (λ n u s. and_then (entering (entry_from caller callee args crossing) (back_from program caller callee crossing) n s) (result_goes program caller to)) c)

@@ -1,0 +1,16 @@
+pub mod Beginning
+pub mod Blank
+pub mod Calling
+pub mod Coming
+pub mod Ending
+pub mod Filling
+pub mod Finding
+pub mod Invoking
+pub mod Looping
+pub mod Making
+pub mod Onward
+pub mod Rounds
+pub mod Standing
+pub mod Stating
+pub mod Unseen
+pub mod Whole

@@ -1,0 +1,14 @@
+use Rattle.sc_core.specs.Value.{c_arith}
+use Rattle.sc_core.specs.Words.{all_do, take, in_order}
+use Rattle.sc_core.specs.Meaning.{inits_do}
+use Rattle.sc_value.specs.Where.{here_of}
+use Rattle.sc_run.specs.Seen.{kept_by}
+use Rattle.sc_run.specs.Resume.{block_acts}
+use Rattle.sc_run.proofs.Standing.{step_stops}
+use Rattle.sc_run.proofs.calls.start.Goals as goal
+
+pub returns-in-Err : goal.returns-in-Err
+returns-in-Err c =
+    let f = c.args.frame.now in
+    let program = c.args.program.now in
+    step_stops program (kept_by c.args.machine.now) (kept_by c.init_all.new.machine) c.args.work.now.items f c.in-Err.end (all_do (inits_do c_arith f.scope.structs.now (here_of f.scope) f.scope.params 0 f.function.now.locals) tt) (λ n left s. take (in_order left.exit) (block_acts program n f f.function.now.body) left.carried s) c.in-Err.ensures

@@ -1,0 +1,6 @@
+use Rattle.std.proofs.Common.{◌≡◌, take}
+use Rattle.sc_core.specs.Meaning.{member_zeros}
+use Rattle.sc_run.proofs.globals.member_zeros.Given as goal
+
+abbrev pub invariant-loop-member : goal.invariant-loop-member
+invariant-loop-member l = l.all ≡ member_zeros l.zeros (take l.member-index l.members)

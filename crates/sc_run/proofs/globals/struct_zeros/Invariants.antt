@@ -1,0 +1,6 @@
+use Rattle.std.proofs.Common.{◌≡◌, [], drop}
+use Rattle.sc_core.specs.Meaning.{struct_zeros}
+use Rattle.sc_run.proofs.globals.struct_zeros.Given as goal
+
+abbrev pub invariant-loop-found : goal.invariant-loop-found
+invariant-loop-found l = struct_zeros l.known.items (drop l.found-index l.structs) ≡ struct_zeros [] l.structs

@@ -1,0 +1,25 @@
+use Rattle.std.proofs.Common.{◌∙◌, ap, subst, map}
+use Rattle.sc_word.specs.Word.{word_of}
+use Rattle.sc_core.specs.Meaning.{globals_of, meaning}
+use Rattle.sc_blocks.specs.Rows.{memory_of}
+use Rattle.sc_run.specs.Seen.{kept_by}
+use Rattle.sc_run.specs.Entering.{body_acts}
+use Rattle.sc_run.specs.Resume.{Steps}
+use Rattle.sc_run.proofs.Whole.{seen_at_first, over_at_once, gone_through}
+use Rattle.sc_run.proofs.run.run_source.Goals as goal
+
+pub returns-in-Stop : goal.returns-in-Stop
+returns-in-Stop c =
+    let tree = c.tree-tree.result.now in
+    let inputs = map word_of c.args.inputs.now in
+    let frame = c.in_ok-frame.frame in
+    over_at_once tree inputs c.args.turns c.args.events c.shown-in-Stop.result c.in-Some.callee _ (kept_by c.begin.new.machine) (kept_by c.start.new.machine) frame (seen_at_first tree inputs c.args.turns c.args.events (memory_of c.in_ok-globals.globals) c.new.result (c.in_ok-globals.ensures ∙ ap globals_of c.as_slice.ensures) c.new.ensures) c.in-Some.ensures c.in_ok-frame.ensures c.start.result (subst (λ ws. Steps tree (kept_by c.begin.new.machine) ws frame (λ n s. body_acts tree n frame tt s) c.start.result (kept_by c.start.new.machine) ws frame) c.new-2.ensures.items c.start.ensures) c.in-Stop.end c.in-Stop.is c.shown-in-Stop.ensures
+    ∙ ap (λ p. meaning p inputs c.args.turns c.args.events) c.tree-tree.ensures.tree
+
+pub returns : goal.returns
+returns c =
+    let tree = c.tree-tree.result.now in
+    let inputs = map word_of c.args.inputs.now in
+    let frame = c.in_ok-frame.frame in
+    gone_through tree inputs c.args.turns c.args.events c.shown-in-Go.result c.in-Some.callee _ (kept_by c.begin.new.machine) (kept_by c.start.new.machine) frame (seen_at_first tree inputs c.args.turns c.args.events (memory_of c.in_ok-globals.globals) c.new.result (c.in_ok-globals.ensures ∙ ap globals_of c.as_slice.ensures) c.new.ensures) c.in-Some.ensures c.in_ok-frame.ensures c.start.result (subst (λ ws. Steps tree (kept_by c.begin.new.machine) ws frame (λ n s. body_acts tree n frame tt s) c.start.result (kept_by c.start.new.machine) ws frame) c.new-2.ensures.items c.start.ensures) c.in-Go.now c.run_on.new.machine.trace c.in_ok-end-in-Go.end c.in-Go.is c.in_ok-end-in-Go.ensures c.shown-in-Go.ensures
+    ∙ ap (λ p. meaning p inputs c.args.turns c.args.events) c.tree-tree.ensures.tree

@@ -1,0 +1,10 @@
+use Rattle.sc_core.specs.Tree.{assign}
+use Rattle.sc_value.specs.Where.{here_of}
+use Rattle.sc_run.specs.Seen.{kept_by}
+use Rattle.sc_run.specs.Resume.{way_in}
+use Rattle.sc_run.proofs.Standing.{step_ends}
+use Rattle.sc_run.proofs.simple.assigned.Goals as goal
+
+pub returns-in-Err : goal.returns-in-Err
+returns-in-Err c =
+    step_ends c.args.program.now (kept_by c.args.machine.now) (kept_by c.assign.new.machine) c.args.work.now.items c.args.frame.now c.in-Err.end (assign (here_of c.args.frame.now.scope) (way_in c.args.frame.now c.args.place.now) (way_in c.args.frame.now c.args.value.now) c.args.line tt) c.in-Err.ensures

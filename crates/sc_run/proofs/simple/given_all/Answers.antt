@@ -1,0 +1,18 @@
+use Rattle.std.proofs.Common.{sym, ◌∙◌, map}
+use Rattle.sc_core.specs.Tree.{values}
+use Rattle.sc_value.specs.Where.{here_of}
+use Rattle.sc_run.specs.Seen.{kept_by}
+use Rattle.sc_run.specs.Resume.{way_in}
+use Rattle.sc_run.proofs.Unseen.{values_same}
+use Rattle.sc_run.proofs.Coming.{computed_comes, given_err}
+use Rattle.sc_run.proofs.simple.given_all.Goals as goal
+
+pub returns-in-Ok : goal.returns-in-Ok
+returns-in-Ok c =
+    let f = c.args.frame.now in
+    computed_comes (here_of f.scope) c.args.line (λ bs. values (map (way_in f) c.args.exprs.now) bs) (values_same f.scope.structs.now (here_of f.scope) f.scope.params c.args.exprs.now) (kept_by c.args.machine.now) c.in-Ok.found (sym c.in-Ok.is ∙ c.in_ok-found.ensures)
+
+pub returns-in-Err : goal.returns-in-Err
+returns-in-Err c =
+    let f = c.args.frame.now in
+    given_err (here_of f.scope) c.args.line (λ bs. values (map (way_in f) c.args.exprs.now) bs) (values_same f.scope.structs.now (here_of f.scope) f.scope.params c.args.exprs.now) (kept_by c.args.machine.now) c.in-Err.cause c.blamed.result c.blamed.ensures (sym c.in-Err.is ∙ c.in_ok-found.ensures)

@@ -1,0 +1,128 @@
+-- What a run that has got somewhere does from there.
+use Rattle.std.specs.Prelude.{◌≡◌, ℕ, suc, ◌≤◌, ◌&&◌, ◌==◌, bytes_eq, List, [], ◌∷◌, reverse, Option, None, Some, is_some}
+use Rattle.std.specs.Option.{option_copied}
+use Rattle.sc_event.specs.declared.event.Event.{Event}
+use Rattle.sc_core.specs.declared.expr.TypedExpr.{TypedExpr}
+use Rattle.sc_core.specs.declared.stmt.TypedSimple.{TypedSimple}
+use Rattle.sc_core.specs.declared.stmt.TypedStmt.{TypedStmt}
+use Rattle.sc_core.specs.declared.program.ProgramTree.{ProgramTree}
+use Rattle.sc_core.specs.declared.run.RunEnd.{RunEnd}
+use Rattle.sc_core.specs.declared.run.SourceRun.{SourceRun}
+use Rattle.sc_core.specs.declared.value.Value.{Value}
+use Rattle.sc_core.specs.Run.{stopped_at}
+use Rattle.sc_core.specs.Value.{c_arith}
+use Rattle.sc_core.specs.Words.{State, Piece, and_then, Exit, Next, Break, Continue, Return, Left, leave, in_order, in_loop, follow, loop, Calls}
+use Rattle.sc_core.specs.Tree.{Ways, Acts, ways, test, store_result, part_does, block_does, stmt_does}
+use Rattle.sc_core.specs.Calls.{Function, Library, Body, main_name, back_own, back_cross, done, calls, run_step, within}
+use Rattle.sc_core.specs.Meaning.{closed, function_of, library_of, Run, run_to}
+use Rattle.sc_value.specs.Where.{here_of}
+use Rattle.sc_run.specs.declared.work.Frame.{Frame}
+use Rattle.sc_run.specs.declared.work.Loop.{Loop}
+use Rattle.sc_run.specs.declared.work.To.{To}
+use Rattle.sc_run.specs.declared.work.To.TheVariants.{Nowhere, Place, Back}
+use Rattle.sc_run.specs.declared.work.Work.{Work}
+use Rattle.sc_run.specs.declared.work.Work.TheVariants.{Rest, Body as Body', Again, Caller}
+use Rattle.sc_run.specs.declared.work.Leaving.{Leaving}
+use Rattle.sc_run.specs.declared.work.Leaving.TheVariants as leaving
+use Rattle.sc_run.specs.declared.work.Now.{Now}
+use Rattle.sc_run.specs.declared.work.Now.TheVariants.{Run as Run', Leave}
+use Rattle.sc_run.specs.declared.work.Step.{Step}
+use Rattle.sc_run.specs.declared.work.Step.TheVariants.{Go, Stop}
+use Rattle.sc_run.specs.Seen.{Seen, seen_of}
+
+abbrev pub exit_of : Leaving → Exit
+exit_of leaving.Next = Next
+exit_of leaving.Break = Break
+exit_of leaving.Continue = Continue
+exit_of (leaving.Return v) = Return v
+
+-- an expression of the function that runs
+abbrev pub way_in : Frame → TypedExpr → Ways
+way_in f e = ways c_arith f.scope.structs.now (here_of f.scope) f.scope.params e
+
+module _ (program : ProgramTree) where
+  abbrev pub library : Library
+  library = library_of c_arith program
+
+  -- functions in which at most so many calls are open, and calls of them
+  abbrev pub bodies : ℕ → Body
+  bodies n = within (run_step library) n
+
+  abbrev pub calls_in : ℕ → Calls
+  calls_in n = calls library (bodies n)
+
+  module _ (n : ℕ) (f : Frame) where
+    -- statements of the function that runs
+    abbrev pub stmt_acts : TypedStmt → Acts
+    stmt_acts stmt = stmt_does c_arith f.scope.structs.now (here_of f.scope) f.scope.params (calls_in n) stmt
+
+    abbrev pub block_acts : List TypedStmt → Acts
+    block_acts stmts = block_does c_arith f.scope.structs.now (here_of f.scope) f.scope.params (calls_in n) stmts
+
+    abbrev pub part_acts : Option TypedSimple → Acts
+    part_acts part = part_does c_arith f.scope.structs.now (here_of f.scope) f.scope.params (calls_in n) part
+
+    abbrev pub next_acts : Loop → Acts
+    next_acts l = part_acts (option_copied l.next)
+
+    abbrev pub loop_acts : Loop → Acts
+    loop_acts l = loop (test (here_of f.scope) (way_in f l.cond.now) l.line) (block_acts l.body.now) (next_acts l)
+
+  -- the function that runs, as a call sees it
+  abbrev pub function_in : Frame → Function
+  function_in f = function_of c_arith program.interfaces.main f.scope.structs.now f.function.now
+
+  -- the call ends once control left the body
+  abbrev pub closes : Frame → Left (Unit {0}) → State → Piece (Option Value)
+  closes f left s =
+      closed left.exit (is_some f.function.now.result) (f.scope.comp.now == program.interfaces.main && bytes_eq f.function.now.name main_name) f.function.now.close_line (here_of f.scope) s
+
+  abbrev pub returned : Frame → (Option Value → State → Piece (Option Value)) → Piece (Left (Unit {0})) → Piece (Option Value)
+  returned f back p = and_then (and_then p (closes f)) (λ v t. back v (done f.scope.comp.now (function_in f) f.scope.first t))
+
+  -- a return inside the compartment, or one from an export
+  abbrev pub back_to : Frame → Frame → Option ℕ → Option Value → State → Piece (Option Value)
+  back_to caller f None v s = back_own v s
+  back_to caller f (Some index) v s = back_cross program.interfaces caller.scope.comp.now f.scope.comp.now index v s
+
+  -- what is done with the result of a call
+  abbrev pub result_goes : Frame → To → Option Value → State → Piece (Left (Unit {0}))
+  result_goes f Nowhere v s = leave Next tt s
+  result_goes f (Place place line) v s = store_result (here_of f.scope) (way_in f place.now) v line tt s
+  result_goes f Back v s = leave (Return v) tt s
+
+  -- what is left of a run where this waits, the newest first, and the statements that run in this function come to a piece
+  abbrev pub resume : ℕ → List Work → Frame → Piece (Left (Unit {0})) → Run
+  resume n [] f p = run_to program.interfaces.main (returned f back_own p)
+  resume n (Rest stmts ∷ work) f p = resume n work f (follow in_order p (block_acts n f stmts.now))
+  resume n (Body' l ∷ work) f p = resume n work f (follow in_loop p (λ a s. follow in_order (next_acts n f l a s) (loop_acts n f l)))
+  resume n (Again l ∷ work) f p = resume n work f (follow in_order p (loop_acts n f l))
+  resume n (Caller caller to crossing ∷ work) f p =
+      resume (suc n) work caller (and_then (returned f (back_to caller f crossing) p) (result_goes caller to))
+
+  -- what is done at the moment
+  abbrev pub does_now : Frame → Now → ℕ → State → Piece (Left (Unit {0}))
+  does_now f (Run' stmts) n s = block_acts n f stmts.now tt s
+  does_now f (Leave exit) n s = leave (exit_of exit) tt s
+
+  -- a run stands here: of some state this is seen, and what is left from there on is the whole
+  pub record Standing (whole : SourceRun) (seen : Seen) (work : List Work) (f : Frame) (piece : ℕ → State → Piece (Left (Unit {0}))) : Type 0 where
+    pub open_calls : ℕ
+    pub state : State
+    pub shows : seen_of state ≡ seen
+    pub enough : state.turns ≤ open_calls
+    pub rest : (resume open_calls (reverse work) f (piece open_calls state)).shown ≡ whole
+
+  -- stopped at a number of events, a run that stands here is this one
+  abbrev pub EndsAs : Now → Seen → Frame → ℕ → List Event → RunEnd → Type 0
+  EndsAs first seen f events trace end =
+      (whole : SourceRun) → Standing whole seen [] f (does_now f first) → stopped_at events whole ≡ stopped_at events (record { trace = trace; end = end })
+
+  -- after a step a run stands somewhere, or is over
+  abbrev pub Stands : SourceRun → Step → Seen → List Work → Frame → Type 0
+  Stands whole (Go now) seen work f = Standing whole seen work f (does_now f now)
+  Stands whole (Stop end) seen work f = whole ≡ record { trace = seen.trace; end = end }
+
+  -- a step, whatever the whole run is
+  pub record Steps (before : Seen) (work : List Work) (f : Frame) (piece : ℕ → State → Piece (Left (Unit {0}))) (step : Step) (after : Seen) (later : List Work) (g : Frame) : Type 0 where
+    pub stands : (whole : SourceRun) → Standing whole before work f piece → Stands whole step after later g

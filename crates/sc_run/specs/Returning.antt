@@ -1,0 +1,38 @@
+-- How a call ends, as it is seen.
+use Rattle.std.specs.Prelude.{ℕ, ◌++◌, [], ◌∷◌, Option, None, Some, Result, Ok, Err}
+use Rattle.sc_event.specs.declared.event.Event.TheVariants.{Ret}
+use Rattle.sc_event.specs.Lookup.{export_at}
+use Rattle.sc_core.specs.declared.program.ProgramTree.{ProgramTree}
+use Rattle.sc_core.specs.declared.run.RunEnd.{RunEnd}
+use Rattle.sc_core.specs.declared.value.Value.{Value}
+use Rattle.sc_core.specs.Memory.{with_blocks}
+use Rattle.sc_core.specs.Words.{State, Piece, Reached, Stopped}
+use Rattle.sc_core.specs.Calls.{crossing, option_value}
+use Rattle.sc_blocks.specs.Living.{left_from}
+use Rattle.sc_run.specs.declared.work.Frame.{Frame}
+use Rattle.sc_run.specs.Seen.{Seen}
+
+-- what was found, with the state as it was
+abbrev pub ended_as : Result (Option Value) RunEnd → State → Piece (Option Value)
+ended_as (Ok v) s = Reached v s
+ended_as (Err end) s = Stopped end s
+
+-- the variables of a call have ended
+abbrev pub left_by : Frame → Seen → Seen
+left_by f seen =
+    record seen { memory = with_blocks f.scope.comp.now (left_from f.scope.first (seen.memory f.scope.comp.now)) seen.memory }
+
+-- what crosses at a return from an export
+abbrev pub word_crossing : ProgramTree → Frame → ℕ → Option Value → Option ℕ
+word_crossing program f index v = crossing (export_at program.interfaces f.scope.comp.now index) v
+
+-- a return from an export is told
+abbrev pub told_back : ProgramTree → Frame → Frame → Option ℕ → Option Value → Seen → Seen
+told_back program caller f None v seen = seen
+told_back program caller f (Some index) v seen =
+    record seen { trace = seen.trace ++ Ret f.scope.comp.now caller.scope.comp.now (word_crossing program f index v) ∷ [] }
+
+-- what the function that called gets
+abbrev pub back_value : ProgramTree → Frame → Option ℕ → Option Value → Option Value
+back_value program f None v = v
+back_value program f (Some index) v = option_value (word_crossing program f index v)

@@ -1,0 +1,177 @@
+//! Calls: from their arguments to the first statement of what is called, and back (C11 6.5.2.2).
+
+ghost use Rattle.std.specs.Prelude.{◌≡◌, ◌<◌, ◌^◌, ◌++◌, [], ◌∷◌, IfOk, OnOk, Ok, Some, map, length, slice_get, suc};
+ghost use Rattle.std.specs.Option.{option_copied};
+ghost use Rattle.sc_event.specs.Lookup.{export_at};
+ghost use Rattle.sc_event.specs.Legal.{is_input, is_output, is_function, imports, takes};
+ghost use Rattle.sc_event.specs.declared.row.Entry.TheVariants.{Export};
+ghost use Rattle.sc_core.specs.Memory.{with_blocks};
+ghost use Rattle.sc_core.specs.Types.{variables};
+ghost use Rattle.sc_core.specs.Value.{c_arith};
+ghost use Rattle.sc_core.specs.Words.{Next, and_then, turn, leave, all_do};
+ghost use Rattle.sc_core.specs.Tree.{call};
+ghost use Rattle.sc_core.specs.Calls.{entered, function, blocks_for, may_call, crossing, option_value, word_in, crossed, run_in, calls};
+ghost use Rattle.sc_core.specs.Meaning.{function_of, inits_do, body_does};
+ghost use Rattle.sc_blocks.specs.Rows.{memory_of};
+ghost use Rattle.sc_blocks.specs.Living.{left_from};
+ghost use Rattle.sc_value.specs.Where.{here_of};
+ghost use Rattle.sc_run.specs.Seen.{kept_by};
+ghost use Rattle.sc_run.specs.Comes.{Comes, with_exit};
+ghost use Rattle.sc_run.specs.Resume.{Steps, exit_of, way_in, library, bodies, calls_in, closes, back_to, result_goes, does_now};
+ghost use Rattle.sc_run.specs.Entering.{Begun, told_call, entry_from, back_from, body_acts};
+
+use crate::machine::{Machine, init_all, make_blocks, store_at, take_turn, tell};
+use crate::work::{Callee, Frame, Leaving, Now, Step, To, Work};
+use sc_core::{ProgramTree, RunEnd, Value};
+use sc_event::{Args, Event, OutOfMemory};
+use sc_value::Scope;
+use std::alloc::Global;
+
+// What is done with the result of a call.
+pub fn hand_back<'a>(
+    program: &'a ProgramTree,
+    machine: &mut Machine,
+    work: &Vec<Work<'a>>,
+    frame: &Frame<'a>,
+    to: To<'a>,
+    result_value: Option<Value>,
+) -> Step<'a>
+    ensures { Steps program.now (kept_by machine.old) work.now.items frame.now (λ n s. result_goes program.now frame.now to.entry result_value s) result (kept_by machine.new) work.now.items frame.now }
+{
+    match to {
+        To::Nowhere => Step::Go(Now::Leave(Leaving::Next)),
+        To::Back => Step::Go(Now::Leave(Leaving::Return(result_value))),
+        To::Place(place, line) => match result_value {
+            Some(value) => match store_at(machine, frame, place, value, line) {
+                Ok(()) => Step::Go(Now::Leave(Leaving::Next)),
+                Err(end) => Step::Stop(end),
+            },
+            None => Step::Go(Now::Leave(Leaving::Next)),
+        },
+    }
+}
+
+// The initialisers and then the statements of a call that has begun.
+pub fn start<'a>(
+    program: &'a ProgramTree,
+    machine: &mut Machine,
+    work: &Vec<Work<'a>>,
+    frame: &Frame<'a>,
+) -> Step<'a>
+    requires { length frame.now.function.now.locals < 2 ^ 32 }
+    ensures { Steps program.now (kept_by machine.old) work.now.items frame.now (λ n s. body_acts program.now n frame.now tt s) result (kept_by machine.new) work.now.items frame.now }
+{
+    match init_all(machine, frame) {
+        Ok(()) => Step::Go(Now::Run(frame.function.body.as_slice())),
+        Err(end) => Step::Stop(end),
+    }
+}
+
+// The variables of a call begin.
+pub fn begin<'a>(
+    machine: &mut Machine,
+    callee: &Callee<'a>,
+    args: &[Value],
+) -> Result<Frame<'a>, OutOfMemory>
+    ensures { IfOk result (λ frame. Begun callee.now args.now (kept_by machine.old) (kept_by machine.new) frame) }
+{
+    let first = match u32::try_from(machine.blocks.made(*callee.comp)) {
+        Ok(first) => first,
+        Err(_) => return Err(OutOfMemory),
+    };
+    let params = match u32::try_from(callee.function.params.len()) {
+        Ok(params) => params,
+        Err(_) => return Err(OutOfMemory),
+    };
+    if callee.function.locals.len() > u32::MAX as usize {
+        return Err(OutOfMemory);
+    }
+    make_blocks(&mut machine.blocks, callee, args)?;
+    Ok(Frame {
+        scope: Scope {
+            structs: callee.structs,
+            comp: callee.comp,
+            first,
+            params,
+        },
+        function: callee.function,
+    })
+}
+
+// A call of an export is told.
+fn tell_call<'a>(
+    machine: &mut Machine,
+    frame: &Frame<'a>,
+    callee: &Callee<'a>,
+    args: &[Value],
+    crossing: Option<u16>,
+) -> Result<(), OutOfMemory>
+    ensures { OnOk result (kept_by machine.new ≡ told_call frame.now callee.now args.now crossing (kept_by machine.old)) }
+{
+    match crossing {
+        Some(index) => {
+            let words = words_of(machine.alloc, args)?;
+            tell(
+                machine,
+                Event::Call {
+                    from: *frame.scope.comp,
+                    to: *callee.comp,
+                    index,
+                    args: words,
+                },
+            )?;
+            Ok(())
+        }
+        None => Ok(()),
+    }
+}
+
+pub fn word_in(value: Value) -> u32
+    ensures { result ≡ word_in value }
+{
+    match value {
+        Value::Word(word) => word,
+        Value::Null => 0,
+        Value::Ptr(_) => 0,
+    }
+}
+
+// The words that cross.
+fn words_of(alloc: Global, values: &[Value]) -> Result<Args, OutOfMemory>
+    ensures { IfOk result (λ words. words ≡ map word_in values.now) }
+{
+    let mut words = Args::new(alloc);
+    for value in values {
+        match words.push(word_in(*value)) {
+            Some(()) => {}
+            None => return Err(OutOfMemory),
+        }
+    }
+    Ok(words)
+}
+
+// A function begins, once it is found: a turn, its variables, its event, and its first statement.
+pub fn enter<'a>(
+    program: &'a ProgramTree,
+    machine: &mut Machine,
+    work: &mut Vec<Work<'a>>,
+    frame: &mut Frame<'a>,
+    callee: &Callee<'a>,
+    args: &[Value],
+    to: To<'a>,
+    crossing: Option<u16>,
+) -> Result<Step<'a>, OutOfMemory>
+    requires { function (library program.now) callee.now.comp.now callee.now.number ≡ Some (function_of c_arith program.now.interfaces.main callee.now.structs.now callee.now.function.now) }
+    ensures { IfOk result (λ step. Steps program.now (kept_by machine.old) work.old.items frame.old (λ n s. and_then (and_then (turn s) (λ _ s. run_in (library program.now) (bodies program.now n) callee.now.comp.now callee.now.number args.now (entry_from frame.old callee.now args.now crossing) (back_from program.now frame.old callee.now crossing) s)) (result_goes program.now frame.old to.entry)) step (kept_by machine.new) work.new.items frame.new) }
+{
+    match take_turn(machine) {
+        Err(end) => Ok(Step::Stop(end)),
+        Ok(()) => {
+            let next = begin(machine, callee, args)?;
+            tell_call(machine, frame, callee, args, crossing)?;
+            work.push(Work::Caller(*frame, to, crossing))?;
+            *frame = next;
+            Ok(start(program, machine, work, frame))
+        }
+    }
+}

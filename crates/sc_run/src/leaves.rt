@@ -1,0 +1,260 @@
+//! What follows when control leaves statements (C11 6.8.5, 6.8.6).
+
+ghost use Rattle.std.specs.Prelude.{◌≡◌, ◌++◌, [], ◌∷◌, IfOk, OnOk, Ok, Err, Some, is_some, bytes_eq, ◌==◌, ◌&&◌};
+ghost use Rattle.sc_event.specs.Lookup.{export_at};
+ghost use Rattle.sc_core.specs.Words.{State, leave, follow, in_order, in_loop};
+ghost use Rattle.sc_core.specs.Calls.{crossing, word_back, option_value, word_in, main_name};
+ghost use Rattle.sc_core.specs.Meaning.{exit_word};
+ghost use Rattle.sc_blocks.specs.Rows.{memory_of};
+ghost use Rattle.sc_run.specs.Seen.{kept_by};
+ghost use Rattle.sc_run.specs.Comes.{Comes};
+ghost use Rattle.sc_run.specs.Resume.{Steps, exit_of, block_acts, next_acts, loop_acts, closes, returned, back_to, result_goes, does_now};
+ghost use Rattle.sc_run.specs.Returning.{ended_as, left_by, word_crossing, told_back, back_value};
+
+use crate::calls::{hand_back, word_in};
+use crate::machine::{Machine, tell};
+use crate::simple::simple;
+use crate::steps::round;
+use crate::work::{Frame, Leaving, Loop, Now, Step, To, Work};
+use sc_core::{Cause, ProgramTree, RunEnd, TypedStmt, Value};
+use sc_event::{Event, OutOfMemory, Scalar};
+
+// The statements that follow, where control reached the end of those before.
+fn leave_before_rest<'a>(
+    program: &'a ProgramTree,
+    machine: &Machine,
+    work: &Vec<Work<'a>>,
+    frame: &Frame<'a>,
+    rest: &'a [TypedStmt],
+    exit: Leaving,
+) -> Step<'a>
+    ensures { Steps program.now (kept_by machine.now) work.now.items frame.now (λ n s. follow in_order (leave (exit_of exit) tt s) (block_acts program.now n frame.now rest.now)) result (kept_by machine.now) work.now.items frame.now }
+{
+    match exit {
+        Leaving::Next => Step::Go(Now::Run(rest)),
+        Leaving::Break => Step::Go(Now::Leave(Leaving::Break)),
+        Leaving::Continue => Step::Go(Now::Leave(Leaving::Continue)),
+        Leaving::Return(value) => Step::Go(Now::Leave(Leaving::Return(value))),
+    }
+}
+
+// The next round, where control reached the end of what stands before it.
+fn leave_before_round<'a>(
+    program: &'a ProgramTree,
+    machine: &mut Machine,
+    work: &mut Vec<Work<'a>>,
+    frame: &Frame<'a>,
+    whole: &Loop<'a>,
+    exit: Leaving,
+) -> Result<Step<'a>, OutOfMemory>
+    ensures { IfOk result (λ step. Steps program.now (kept_by machine.old) work.old.items frame.now (λ n s. follow in_order (leave (exit_of exit) tt s) (loop_acts program.now n frame.now whole.now)) step (kept_by machine.new) work.new.items frame.now) }
+{
+    match exit {
+        Leaving::Next => round(program, machine, work, frame, whole),
+        Leaving::Break => Ok(Step::Go(Now::Leave(Leaving::Break))),
+        Leaving::Continue => Ok(Step::Go(Now::Leave(Leaving::Continue))),
+        Leaving::Return(value) => Ok(Step::Go(Now::Leave(Leaving::Return(value)))),
+    }
+}
+
+// What stands between the body of a loop and its next round.
+fn next_part<'a>(
+    program: &'a ProgramTree,
+    machine: &mut Machine,
+    work: &mut Vec<Work<'a>>,
+    frame: &mut Frame<'a>,
+    whole: &Loop<'a>,
+) -> Result<Step<'a>, OutOfMemory>
+    ensures { IfOk result (λ step. Steps program.now (kept_by machine.old) work.old.items frame.old (λ n s. follow in_order (next_acts program.now n frame.old whole.now tt s) (loop_acts program.now n frame.old whole.now)) step (kept_by machine.new) work.new.items frame.new) }
+{
+    match whole.next {
+        None => round(program, machine, work, frame, whole),
+        Some(next) => {
+            work.push(Work::Again(*whole))?;
+            simple(program, machine, work, frame, next)
+        }
+    }
+}
+
+// What follows the body of a loop.
+fn leave_body<'a>(
+    program: &'a ProgramTree,
+    machine: &mut Machine,
+    work: &mut Vec<Work<'a>>,
+    frame: &mut Frame<'a>,
+    whole: &Loop<'a>,
+    exit: Leaving,
+) -> Result<Step<'a>, OutOfMemory>
+    ensures { IfOk result (λ step. Steps program.now (kept_by machine.old) work.old.items frame.old (λ n s. follow in_loop (leave (exit_of exit) tt s) (λ a s. follow in_order (next_acts program.now n frame.old whole.now a s) (loop_acts program.now n frame.old whole.now))) step (kept_by machine.new) work.new.items frame.new) }
+{
+    match exit {
+        Leaving::Next => next_part(program, machine, work, frame, whole),
+        Leaving::Continue => next_part(program, machine, work, frame, whole),
+        Leaving::Break => Ok(Step::Go(Now::Leave(Leaving::Next))),
+        Leaving::Return(value) => Ok(Step::Go(Now::Leave(Leaving::Return(value)))),
+    }
+}
+
+fn is_main(program: &ProgramTree, frame: &Frame) -> bool
+    ensures { result ≡ (frame.now.scope.comp.now == program.now.interfaces.main && bytes_eq frame.now.function.now.name main_name) }
+{
+    frame.scope.comp.number() == program.interfaces.main.number()
+        && frame.function.name.as_bytes() == b"main".as_slice()
+}
+
+// How a call ends, once control left the body of its function.
+fn closed(program: &ProgramTree, frame: &Frame, exit: Leaving) -> Result<Option<Value>, RunEnd>
+    ensures { (s : State) → closes program.now frame.now (record { exit = exit_of exit; carried = tt }) s ≡ ended_as result s }
+{
+    if let Leaving::Return(value) = exit {
+        return Ok(value);
+    }
+    if frame.function.result.is_none() {
+        return Ok(None);
+    }
+    if is_main(program, frame) {
+        return Ok(Some(Value::Word(0)));
+    }
+    Err(RunEnd::Blamed {
+        comp: *frame.scope.comp,
+        cause: Cause::NoReturn,
+        line: frame.function.close_line,
+    })
+}
+
+// The variables of a call end.
+fn end_variables(machine: &mut Machine, frame: &Frame)
+    ensures { kept_by machine.new ≡ left_by frame.now (kept_by machine.old) }
+{
+    machine
+        .blocks
+        .end_from(*frame.scope.comp, frame.scope.first as u64);
+}
+
+fn word_crossing(
+    program: &ProgramTree,
+    frame: &Frame,
+    index: u16,
+    value: Option<Value>,
+) -> Option<u32>
+    ensures { result ≡ word_crossing program.now frame.now index value }
+{
+    match program.interfaces.export(*frame.scope.comp, index) {
+        None => None,
+        Some(proto) => match proto.result {
+            None => None,
+            Some(_) => match value {
+                None => Some(0),
+                Some(value) => Some(word_in(value)),
+            },
+        },
+    }
+}
+
+// A return from an export is told; this is what the function that called gets.
+fn tell_back(
+    program: &ProgramTree,
+    machine: &mut Machine,
+    caller: &Frame,
+    frame: &Frame,
+    crossed: Option<u16>,
+    value: Option<Value>,
+) -> Result<Option<Value>, OutOfMemory>
+    ensures value { IfOk result (λ back. back ≡ back_value program.now frame.now crossed value) }
+    ensures told { OnOk result (kept_by machine.new ≡ told_back program.now caller.now frame.now crossed value (kept_by machine.old)) }
+{
+    match crossed {
+        None => Ok(value),
+        Some(index) => {
+            let word = word_crossing(program, frame, index, value);
+            tell(
+                machine,
+                Event::Ret {
+                    from: *frame.scope.comp,
+                    to: *caller.scope.comp,
+                    value: word,
+                },
+            )?;
+            match word {
+                None => Ok(None),
+                Some(word) => Ok(Some(Value::Word(word))),
+            }
+        }
+    }
+}
+
+// A call ends, and the function that called goes on.
+fn return_to<'a>(
+    program: &'a ProgramTree,
+    machine: &mut Machine,
+    work: &Vec<Work<'a>>,
+    frame: &mut Frame<'a>,
+    caller: &Frame<'a>,
+    to: To<'a>,
+    crossed: Option<u16>,
+    exit: Leaving,
+) -> Result<Step<'a>, OutOfMemory>
+    ensures { IfOk result (λ step. Steps program.now (kept_by machine.old) (work.now.items ++ Work.Caller caller.now to.entry crossed ∷ []) frame.old (λ n s. leave (exit_of exit) tt s) step (kept_by machine.new) work.now.items frame.new) }
+{
+    match closed(program, frame, exit) {
+        Err(end) => Ok(Step::Stop(end)),
+        Ok(value) => {
+            end_variables(machine, frame);
+            let back = tell_back(program, machine, caller, frame, crossed, value)?;
+            *frame = *caller;
+            Ok(hand_back(program, machine, work, frame, to, back))
+        }
+    }
+}
+
+fn exit_word(value: Option<Value>) -> u32
+    ensures { result ≡ exit_word value }
+{
+    match value {
+        None => 0,
+        Some(value) => word_in(value),
+    }
+}
+
+// The first call of `main` ends, and the run with it.
+fn finish<'a>(
+    program: &'a ProgramTree,
+    machine: &mut Machine,
+    frame: &Frame<'a>,
+    exit: Leaving,
+) -> Result<Step<'a>, OutOfMemory>
+    ensures { IfOk result (λ step. Steps program.now (kept_by machine.old) [] frame.now (λ n s. leave (exit_of exit) tt s) step (kept_by machine.new) [] frame.now) }
+{
+    match closed(program, frame, exit) {
+        Err(end) => Ok(Step::Stop(end)),
+        Ok(value) => {
+            let comp = program.interfaces.main;
+            let value = exit_word(value);
+            tell(machine, Event::End { comp, value })?;
+            Ok(Step::Stop(RunEnd::Ended))
+        }
+    }
+}
+
+/// What follows when control leaves statements.
+pub fn leave<'a>(
+    program: &'a ProgramTree,
+    machine: &mut Machine,
+    work: &mut Vec<Work<'a>>,
+    frame: &mut Frame<'a>,
+    exit: Leaving,
+) -> Result<Step<'a>, OutOfMemory>
+    ensures { IfOk result (λ step. Steps program.now (kept_by machine.old) work.old.items frame.old (λ n s. leave (exit_of exit) tt s) step (kept_by machine.new) work.new.items frame.new) }
+{
+    match work.pop() {
+        None => finish(program, machine, frame, exit),
+        Some(Work::Rest(rest)) => Ok(leave_before_rest(program, machine, work, frame, rest, exit)),
+        Some(Work::Again(whole)) => {
+            leave_before_round(program, machine, work, frame, &whole, exit)
+        }
+        Some(Work::Body(whole)) => leave_body(program, machine, work, frame, &whole, exit),
+        Some(Work::Caller(caller, to, crossed)) => return_to(
+            program, machine, work, frame, &caller, to, crossed, exit,
+        ),
+    }
+}

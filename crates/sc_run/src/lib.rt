@@ -1,0 +1,14 @@
+//! Runs programs as their source meaning says, with a stack of its own.
+#![tactic(auto)]
+
+mod calls;
+mod globals;
+mod leaves;
+mod lookups;
+mod machine;
+mod run;
+mod simple;
+mod steps;
+mod work;
+
+pub use run::run_source;

@@ -1,0 +1,243 @@
+//! Calls in statements, and the statements that may stand in the head of a `for`.
+
+ghost use Rattle.std.specs.Prelude.{◌≡◌, ◌++◌, [], ◌∷◌, IfOk, OnOk, Ok, Some, None, map, length, drop};
+ghost use Rattle.sc_event.specs.declared.event.Event.TheVariants.{In, Out};
+ghost use Rattle.sc_core.specs.declared.value.Value.TheVariants.{Word};
+ghost use Rattle.sc_core.specs.Value.{c_arith};
+ghost use Rattle.sc_core.specs.Words.{and_then, turn, computed};
+ghost use Rattle.sc_core.specs.Tree.{assign, call, values, simple_does};
+ghost use Rattle.sc_core.specs.Calls.{word_in, crossed, first_word, next_input, called};
+ghost use Rattle.sc_value.specs.Where.{here_of};
+ghost use Rattle.sc_run.specs.Seen.{kept_by};
+ghost use Rattle.sc_run.specs.Comes.{Comes};
+ghost use Rattle.sc_run.specs.Resume.{Steps, way_in, library, bodies, calls_in, result_goes};
+
+use crate::calls::{enter, hand_back, word_in};
+use crate::lookups::{callee_at, export_place, may_call};
+use crate::machine::{Machine, assign, blamed, tell};
+use crate::work::{Frame, Leaving, Now, Step, To, Work};
+use sc_core::{
+    CallTarget, ProgramTree, RunEnd, TypedCall, TypedExpr, TypedSimple, TypedSimpleKind, Value,
+};
+use sc_event::{CompId, Event, OutOfMemory};
+use sqlite_items::Items;
+use std::alloc::{AllocError, Global};
+
+// The values of arguments from left to right.
+fn given_all(
+    machine: &Machine,
+    frame: &Frame,
+    exprs: &[TypedExpr],
+    line: u32,
+) -> Result<Result<Items<Value>, RunEnd>, AllocError>
+    ensures { IfOk result (λ found. Comes (kept_by machine.now) (kept_by machine.now) found (λ s. computed (here_of frame.now.scope) line (values (map (way_in frame.now) exprs.now) (s.memory frame.now.scope.comp.now)) s)) }
+{
+    match sc_value::evaluate_all(machine.alloc, &machine.blocks, &frame.scope, exprs)? {
+        Ok(found) => Ok(Ok(found)),
+        Err(cause) => Ok(Err(blamed(frame, cause, line))),
+    }
+}
+
+// A call inside the compartment.
+fn call_own<'a>(
+    program: &'a ProgramTree,
+    machine: &mut Machine,
+    work: &mut Vec<Work<'a>>,
+    frame: &mut Frame<'a>,
+    number: usize,
+    args: &[Value],
+    to: To<'a>,
+) -> Result<Step<'a>, OutOfMemory>
+    ensures { IfOk result (λ step. Steps program.now (kept_by machine.old) work.old.items frame.old (λ n s. and_then (called (library program.now) (bodies program.now n) frame.old.scope.comp.now (CallTarget.Own number) args.now s) (result_goes program.now frame.old to.entry)) step (kept_by machine.new) work.new.items frame.new) }
+{
+    let comp = frame.scope.comp;
+    match callee_at(program, comp, number) {
+        None => Ok(Step::Stop(RunEnd::TurnsOut)),
+        Some(callee) => enter(program, machine, work, frame, &callee, args, to, None),
+    }
+}
+
+// The words that cross.
+fn crossed(alloc: Global, args: &[Value]) -> Result<Items<Value>, OutOfMemory>
+    ensures { IfOk result (λ words. words ≡ crossed args.now) }
+{
+    let mut words = Items::new(alloc);
+    for arg in args {
+        words.push(Value::Word(word_in(*arg)))?;
+    }
+    Ok(words)
+}
+
+// A call of an export of another compartment. It is looked up by its name, and is an event, of which a run has few.
+fn call_cross<'a>(
+    program: &'a ProgramTree,
+    machine: &mut Machine,
+    work: &mut Vec<Work<'a>>,
+    frame: &mut Frame<'a>,
+    comp: &'a CompId,
+    index: u16,
+    args: &[Value],
+    to: To<'a>,
+) -> Result<Step<'a>, OutOfMemory>
+    ensures { IfOk result (λ step. Steps program.now (kept_by machine.old) work.old.items frame.old (λ n s. and_then (called (library program.now) (bodies program.now n) frame.old.scope.comp.now (CallTarget.Cross comp.now index) args.now s) (result_goes program.now frame.old to.entry)) step (kept_by machine.new) work.new.items frame.new) }
+{
+    let Some(number) = export_place(program, *comp, index) else {
+        return Ok(Step::Stop(RunEnd::TurnsOut));
+    };
+    match callee_at(program, comp, number) {
+        None => Ok(Step::Stop(RunEnd::TurnsOut)),
+        Some(callee) => {
+            let words = crossed(machine.alloc, args)?;
+            enter(
+                program,
+                machine,
+                work,
+                frame,
+                &callee,
+                words.as_slice(),
+                to,
+                Some(index),
+            )
+        }
+    }
+}
+
+// The next input, 0 after the last.
+fn next_input(machine: &mut Machine) -> u32
+    ensures word { result ≡ next_input (kept_by machine.old).inputs }
+    ensures rest { kept_by machine.new ≡ record (kept_by machine.old) { inputs = drop 1 (kept_by machine.old).inputs } }
+{
+    match machine.inputs {
+        [] => 0,
+        [first, rest @ ..] => {
+            machine.inputs = rest;
+            first.cast_unsigned()
+        }
+    }
+}
+
+fn first_word(args: &[Value]) -> u32
+    ensures { result ≡ first_word args.now }
+{
+    match args {
+        [] => 0,
+        [first, ..] => word_in(*first),
+    }
+}
+
+// A call, once its arguments have their values.
+fn called<'a>(
+    program: &'a ProgramTree,
+    machine: &mut Machine,
+    work: &mut Vec<Work<'a>>,
+    frame: &mut Frame<'a>,
+    target: &'a CallTarget,
+    args: &[Value],
+    to: To<'a>,
+) -> Result<Step<'a>, OutOfMemory>
+    ensures { IfOk result (λ step. Steps program.now (kept_by machine.old) work.old.items frame.old (λ n s. and_then (calls_in program.now n frame.old.scope.comp.now target.now args.now s) (result_goes program.now frame.old to.entry)) step (kept_by machine.new) work.new.items frame.new) }
+{
+    if !may_call(&program.interfaces, *frame.scope.comp, *target, args.len()) {
+        return Ok(Step::Stop(RunEnd::TurnsOut));
+    }
+    match target {
+        CallTarget::Own(number) => {
+            call_own(program, machine, work, frame, *number as usize, args, to)
+        }
+        CallTarget::Cross(comp, index) => {
+            call_cross(program, machine, work, frame, comp, *index, args, to)
+        }
+        CallTarget::Input => {
+            let value = next_input(machine);
+            let comp = *frame.scope.comp;
+            tell(machine, Event::In { comp, value })?;
+            Ok(hand_back(program, machine, work, frame, to, Some(Value::Word(value))))
+        }
+        CallTarget::Output => {
+            let comp = *frame.scope.comp;
+            let value = first_word(args);
+            tell(machine, Event::Out { comp, value })?;
+            Ok(hand_back(program, machine, work, frame, to, None))
+        }
+    }
+}
+
+/// A call: its arguments, and then what is called.
+pub fn call<'a>(
+    program: &'a ProgramTree,
+    machine: &mut Machine,
+    work: &mut Vec<Work<'a>>,
+    frame: &mut Frame<'a>,
+    made: &'a TypedCall,
+    to: To<'a>,
+    line: u32,
+) -> Result<Step<'a>, OutOfMemory>
+    ensures { IfOk result (λ step. Steps program.now (kept_by machine.old) work.old.items frame.old (λ n s. and_then (call (here_of frame.old.scope) (calls_in program.now n) made.now.target (map (way_in frame.old) made.now.args) line s) (result_goes program.now frame.old to.entry)) step (kept_by machine.new) work.new.items frame.new) }
+{
+    match given_all(machine, frame, made.args.as_slice(), line)? {
+        Ok(args) => called(
+            program,
+            machine,
+            work,
+            frame,
+            &made.target,
+            args.as_slice(),
+            to,
+        ),
+        Err(end) => Ok(Step::Stop(end)),
+    }
+}
+
+// An assignment.
+pub fn assigned<'a>(
+    program: &'a ProgramTree,
+    machine: &mut Machine,
+    work: &Vec<Work<'a>>,
+    frame: &Frame<'a>,
+    place: &TypedExpr,
+    value: &TypedExpr,
+    line: u32,
+) -> Step<'a>
+    ensures { Steps program.now (kept_by machine.old) work.now.items frame.now (λ n. assign (here_of frame.now.scope) (way_in frame.now place.now) (way_in frame.now value.now) line tt) result (kept_by machine.new) work.now.items frame.now }
+{
+    match assign(machine, frame, place, value, line) {
+        Ok(()) => Step::Go(Now::Leave(Leaving::Next)),
+        Err(end) => Step::Stop(end),
+    }
+}
+
+/// A statement in the head of a `for`.
+pub fn simple<'a>(
+    program: &'a ProgramTree,
+    machine: &mut Machine,
+    work: &mut Vec<Work<'a>>,
+    frame: &mut Frame<'a>,
+    part: &'a TypedSimple,
+) -> Result<Step<'a>, OutOfMemory>
+    ensures { IfOk result (λ step. Steps program.now (kept_by machine.old) work.old.items frame.old (λ n. simple_does c_arith frame.old.scope.structs.now (here_of frame.old.scope) frame.old.scope.params (calls_in program.now n) part.now.kind part.now.line tt) step (kept_by machine.new) work.new.items frame.new) }
+{
+    match &part.kind {
+        TypedSimpleKind::Assign { place, value } => Ok(assigned(
+            program,
+            machine,
+            work,
+            frame,
+            place.get(),
+            value,
+            part.line,
+        )),
+        TypedSimpleKind::AssignCall { place, call: made } => {
+            let to = To::Place(place.get(), part.line);
+            call(program, machine, work, frame, made, to, part.line)
+        }
+        TypedSimpleKind::Call(made) => call(
+            program,
+            machine,
+            work,
+            frame,
+            made,
+            To::Nowhere,
+            part.line,
+        ),
+    }
+}

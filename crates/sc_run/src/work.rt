@@ -1,0 +1,74 @@
+use sc_core::{RunEnd, TypedExpr, TypedFunction, TypedSimple, TypedStmt, TypedStruct, Value};
+use sc_event::CompId;
+use sc_value::Scope;
+
+/// A call that has begun: where it stands, and its function.
+#[derive(Clone, Copy)]
+pub struct Frame<'a> {
+    pub scope: Scope<'a>,
+    pub function: &'a TypedFunction,
+}
+
+/// A function that is called: its compartment, its place there, and the structs of its section.
+#[derive(Clone, Copy)]
+pub struct Callee<'a> {
+    pub comp: &'a CompId,
+    pub number: usize,
+    pub structs: &'a [TypedStruct],
+    pub function: &'a TypedFunction,
+}
+
+/// A `while`, or a `for` without its first part.
+#[derive(Clone, Copy)]
+pub struct Loop<'a> {
+    pub cond: &'a TypedExpr,
+    pub body: &'a [TypedStmt],
+    pub next: Option<&'a TypedSimple>,
+    pub line: u32,
+}
+
+/// What is done with the result of a call.
+#[derive(Clone, Copy)]
+pub enum To<'a> {
+    Nowhere,
+    /// It is stored at a place, by a statement on this line.
+    Place(&'a TypedExpr, u32),
+    /// It is returned.
+    Back,
+}
+
+/// What waits while something else runs.
+#[derive(Clone, Copy)]
+pub enum Work<'a> {
+    /// Statements that follow.
+    Rest(&'a [TypedStmt]),
+    /// A loop, whose body runs.
+    Body(Loop<'a>),
+    /// A loop, before its next round.
+    Again(Loop<'a>),
+    /// The function that called, what it does with the result, and the place of the export that it called, if it is one.
+    Caller(Frame<'a>, To<'a>, Option<u16>),
+}
+
+/// How control leaves statements.
+#[derive(Clone, Copy)]
+pub enum Leaving {
+    Next,
+    Break,
+    Continue,
+    Return(Option<Value>),
+}
+
+/// What is done at the moment.
+#[derive(Clone, Copy)]
+pub enum Now<'a> {
+    Run(&'a [TypedStmt]),
+    Leave(Leaving),
+}
+
+/// What is done after a step, or how the run ended.
+#[derive(Clone, Copy)]
+pub enum Step<'a> {
+    Go(Now<'a>),
+    Stop(RunEnd),
+}
