@@ -1,11 +1,10 @@
 -- Tests that hold, lists that are empty, and the places of names.
-use Rattle.std.proofs.Common.{◌≡◌, refl, sym, ap, ◌∙◌, ℕ, zero, suc, ◌+◌, ◌<◌, Bool, true, false, not, ◌&&◌, ◌||◌, if◌then◌else◌, List, [], ◌∷◌, ◌++◌, map, length, Option, None, Some, arith}
-use Rattle.std.specs.Prelude.{position, slice_get, cond}
-use Rattle.std.specs.List.{concat, list_all, list_any, position_from, position_or_len}
+use Rattle.std.proofs.Common.{◌≡◌, refl, ap, ◌∙◌, ℕ, suc, ◌+◌, Bool, true, false, not, ◌&&◌, ◌||◌, if◌then◌else◌, List, [], ◌∷◌, ◌++◌, map, Option, None, Some, arith}
+use Rattle.std.specs.Prelude.{position, cond}
+use Rattle.std.specs.List.{concat, list_all, position_from}
 use Rattle.std.specs.Option.{option_map}
 use Rattle.std.proofs.lemmas.Bool.{false≢true}
 use Rattle.std.proofs.lemmas.Iterator.Adapters.{position_from-zero}
-use Rattle.sc_event.specs.Numbering.{is_numbered, number_of}
 use Rattle.sc_decls.specs.Broken.{unless}
 
 pub both : (a b : Bool) → a ≡ true → b ≡ true → (a && b) ≡ true

@@ -1,5 +1,5 @@
 -- Statements that break no rule of names and of types are well typed.
-use Rattle.std.proofs.Common.{◌≡◌, refl, sym, ap, ◌∙◌, ℕ, Bool, true, false, not, ◌&&◌, List, [], ◌∷◌, ◌++◌, map, Option, None, Some, is_some, subst}
+use Rattle.std.proofs.Common.{◌≡◌, refl, sym, ap, ◌∙◌, ℕ, Bool, true, ◌&&◌, List, [], ◌∷◌, ◌++◌, map, Option, None, Some}
 use Rattle.std.specs.List.{concat, list_all}
 use Rattle.std.specs.Option.{option_map}
 use Rattle.sc_ast.specs.declared.expr.ExprTree.{ExprTree}
@@ -8,28 +8,27 @@ use Rattle.sc_ast.specs.declared.stmt.SimpleKind.{SimpleKind}
 use Rattle.sc_ast.specs.declared.stmt.SimpleKind.TheVariants as simple
 use Rattle.sc_ast.specs.declared.stmt.SimpleTree.{SimpleTree}
 use Rattle.sc_ast.specs.declared.stmt.StmtTree.{StmtTree}
-use Rattle.sc_ast.specs.declared.stmt.StmtKind.{StmtKind, StmtKind-F, roll-StmtKind}
+use Rattle.sc_ast.specs.declared.stmt.StmtKind.{StmtKind, StmtKind-F}
 use Rattle.sc_ast.specs.declared.stmt.StmtKind.TheOpen as tree
 use Rattle.sc_ast.proofs.Induction.{Inside, stmt_induction}
 use Rattle.sc_ast.proofs.Induction as tree_induction
 use Rattle.sc_ast.proofs.Layers as tree_layers
 use Rattle.sc_core.specs.declared.ty.Ty.{Ty}
 use Rattle.sc_core.specs.declared.expr.TypedExpr.{TypedExpr}
-use Rattle.sc_core.specs.declared.expr.TypedKind.{TypedKind, TypedKind-F}
+use Rattle.sc_core.specs.declared.expr.TypedKind.{TypedKind-F}
 use Rattle.sc_core.specs.declared.expr.TypedKind.TheOpen as term
 use Rattle.sc_core.specs.declared.stmt.TypedStmt.{TypedStmt}
 use Rattle.sc_core.specs.declared.stmt.TypedStmtKind.{TypedStmtKind, TypedStmtKind-F, roll-TypedStmtKind}
 use Rattle.sc_core.specs.declared.stmt.TypedStmtKind.TheOpen as layer
-use Rattle.sc_core.specs.declared.stmt.TypedSimple.{TypedSimple}
-use Rattle.sc_core.specs.Typing.{Scope, Judged, Signature, Callable, judged, term_judged, is_scalar, assign_fits, args_fit, is_target, result_goes, returned_fits, target_signature, call_fits, assign_call_fits, returned_call_fits, simple_fits, part_fits, kind_fits, stmt_fits, body_fits}
-use Rattle.sc_core.proofs.Layers.{typed, on_line, expr_at, layer_of, stmt_at}
+use Rattle.sc_core.specs.Typing.{Scope, Judged, Callable, judged, term_judged, args_fit, is_target, result_goes, target_signature, call_fits, assign_call_fits, returned_call_fits, simple_fits, part_fits, kind_fits, stmt_fits}
+use Rattle.sc_core.proofs.Layers.{on_line, expr_at, layer_of, stmt_at}
 use Rattle.sc_core.proofs.Induction.{expr_induction}
 use Rattle.sc_decls.specs.Broken.{unless}
 use Rattle.sc_names.specs.Names as names
 use Rattle.sc_names.specs.Names.{Known, is_callable, call_known, expr_known, simple_known}
 use Rattle.sc_elab.specs.Scopes.{Visible}
 use Rattle.sc_elab.specs.Expressions as elab
-use Rattle.sc_elab.specs.Statements.{Callees, typed_args, typed_call, typed_value, going_to_some, typed_simple, typed_simple_kind, kind_step, stmt_step, typed_stmt, judge, call_holds, assign_holds, assign_call_holds, cond_holds, return_call_holds, return_value_holds, simple_holds, part_lines, kind_lines, stmt_lines}
+use Rattle.sc_elab.specs.Statements.{Callees, typed_args, typed_call, typed_value, going_to_some, typed_simple, typed_simple_kind, kind_step, stmt_step, typed_stmt, call_holds, assign_call_holds, cond_holds, return_call_holds, simple_holds, part_lines, kind_lines, stmt_lines}
 use Rattle.sc_types.proofs.Basics.{both, left, right, held, front_empty, back_empty}
 
 -- the type of a judged expression is its own

@@ -1,10 +1,10 @@
 -- In a text that breaks no rule of interfaces, a call by its name is typed as the call of its target.
-use Rattle.std.proofs.Common.{◌≡◌, refl, sym, ap, ◌∙◌, ℕ, Bool, true, false, not, ◌&&◌, ◌||◌, ◌==◌, if◌then◌else◌, List, [], ◌∷◌, ◌++◌, map, Option, None, Some, is_some, subst}
-use Rattle.std.specs.Prelude.{slice_get, bytes_eq, codes}
-use Rattle.std.specs.List.{list_any, list_all}
+use Rattle.std.proofs.Common.{◌≡◌, refl, sym, ap, ◌∙◌, ℕ, Bool, true, false, not, ◌&&◌, ◌||◌, ◌==◌, if◌then◌else◌, List, [], ◌∷◌, ◌++◌, map, None, Some, is_some, subst}
+use Rattle.std.specs.Prelude.{slice_get, bytes_eq}
+use Rattle.std.specs.List.{list_any}
 use Rattle.std.specs.Option.{option_map}
 use Rattle.std.proofs.lemmas.Bool.{false≢true}
-use Rattle.sc_event.specs.Numbering.{is_numbered, number_of}
+use Rattle.sc_event.specs.Numbering.{is_numbered}
 use Rattle.sc_event.specs.Lookup.{export_at}
 use Rattle.sc_event.specs.declared.interface.Import.{Import}
 use Rattle.sc_event.specs.declared.interface.Import.TheVariants as import
@@ -16,19 +16,17 @@ use Rattle.sc_ast.specs.declared.section.Decl.{Decl}
 use Rattle.sc_ast.specs.declared.section.SectionTree.{SectionTree}
 use Rattle.sc_ast.specs.Heads.{head_of}
 use Rattle.sc_core.specs.declared.ty.Ty.TheVariants as ty
-use Rattle.sc_core.specs.declared.expr.CallTarget.{CallTarget}
-use Rattle.sc_core.specs.declared.expr.CallTarget.TheVariants.{Own}
-use Rattle.sc_core.specs.Typing.{Signature, Callable, proto_signature, same_import, allowed, option_signature, target_signature}
+use Rattle.sc_core.specs.Typing.{Callable, proto_signature, same_import, allowed, option_signature, target_signature}
 use Rattle.sc_core.specs.WellTyped.{callable_in}
-use Rattle.sc_decls.specs.Declarations.{functions_in, function_names, proto_names, heads_in, export_names, import_names}
-use Rattle.sc_decls.specs.Interfaces.{number_or_zero, is_environment, offers, offering, offered, import_of, promised, proto_of, interface_of, interfaces_of, function_named}
-use Rattle.sc_faces.specs.Faces.{agree, agrees_with, head_crosses, head_fits, is_input, is_output, input_name, output_name, is_offered, agrees_there, agrees_as, imported_agrees}
-use Rattle.sc_names.specs.Names.{Known, is_callable, declared, known_in}
+use Rattle.sc_decls.specs.Declarations.{functions_in, function_names, proto_names, heads_in, import_names}
+use Rattle.sc_decls.specs.Interfaces.{number_or_zero, is_environment, offering, offered, import_of, promised, interface_of, interfaces_of}
+use Rattle.sc_faces.specs.Faces.{agree, agrees_with, head_crosses, is_input, is_output, input_name, output_name, is_offered, agrees_there, agrees_as}
+use Rattle.sc_names.specs.Names.{is_callable, declared, known_in}
 use Rattle.sc_elab.specs.Statements.{Callees}
-use Rattle.sc_elab.specs.Sections.{tags, signature_by, head_named, or_first, called_head, import_target, import_named, imported_target, target_or, callees_of, typed_section}
-use Rattle.sc_types.proofs.Basics.{Each, left, right, each_passes}
+use Rattle.sc_elab.specs.Sections.{tags, signature_by, head_named, or_first, import_target, import_named, imported_target, target_or, callees_of, typed_section}
+use Rattle.sc_types.proofs.Basics.{left, right, each_passes}
 use Rattle.sc_types.proofs.Places.{Text, same_refl, same_is, eq_refl}
-use Rattle.sc_types.proofs.Lookups.{each_at, same_sym, FoundFunction, find_function, no_function, no_place, heads_of_functions, FoundHead, find_head, names_of}
+use Rattle.sc_types.proofs.Lookups.{each_at, FoundFunction, find_function, no_function, no_place, heads_of_functions, FoundHead, find_head}
 use Rattle.sc_types.proofs.Facts.{ExportFacts, ImportFacts, DeclFacts, FaceFacts}
 use Rattle.sc_types.proofs.Calls.{agreed_signature, input_signature, output_signature, FoundBy, found_by, get_map, any_at, own_at, FoundImport, find_import, Offering, find_offering, export_is}
 

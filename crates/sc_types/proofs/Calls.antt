@@ -1,18 +1,12 @@
 -- A call by its name in a section is the call of its target in the program.
-use Rattle.std.proofs.Common.{◌≡◌, refl, sym, ap, ◌∙◌, ℕ, zero, suc, ◌+◌, ◌<◌, Bool, true, false, not, ◌&&◌, ◌||◌, ◌==◌, if◌then◌else◌, List, [], ◌∷◌, ◌++◌, map, length, Option, None, Some, is_some, arith, subst, append_assoc}
-use Rattle.std.specs.Prelude.{slice_get, bytes_eq, nat_eq, codes}
+use Rattle.std.proofs.Common.{◌≡◌, refl, sym, ap, ◌∙◌, ℕ, zero, suc, ◌+◌, Bool, true, false, not, ◌||◌, if◌then◌else◌, List, [], ◌∷◌, ◌++◌, map, length, Option, None, Some, is_some, arith, append_assoc}
+use Rattle.std.specs.Prelude.{slice_get, bytes_eq, nat_eq}
 use Rattle.std.specs.List.{list_any, list_all}
 use Rattle.std.specs.Option.{option_map, option_and_then}
 use Rattle.std.proofs.lemmas.Bool.{false≢true}
 use Rattle.std.proofs.lemmas.Bool.Decides.{Decides-eqb}
 use Rattle.sc_event.specs.Numbering.{is_numbered, number_of}
 use Rattle.sc_event.specs.Lookup.{comp_at, export_at}
-use Rattle.sc_event.specs.declared.interface.Scalar.{Scalar}
-use Rattle.sc_event.specs.declared.interface.Import.{Import}
-use Rattle.sc_event.specs.declared.interface.Import.TheVariants as import
-use Rattle.sc_event.specs.declared.interface.Interface.{Interface}
-use Rattle.sc_event.specs.declared.interface.Interfaces.{Interfaces}
-use Rattle.sc_event.specs.declared.interface.Proto.{Proto}
 use Rattle.sc_ast.specs.declared.types.BaseTree.{BaseTree}
 use Rattle.sc_ast.specs.declared.types.BaseTree.TheVariants as base_tree
 use Rattle.sc_ast.specs.declared.types.TypeName.{TypeName}
@@ -22,27 +16,19 @@ use Rattle.sc_ast.specs.declared.section.HeadTree.{HeadTree}
 use Rattle.sc_ast.specs.declared.section.FunctionTree.{FunctionTree}
 use Rattle.sc_ast.specs.declared.section.ExportLine.{ExportLine}
 use Rattle.sc_ast.specs.declared.section.ImportLine.{ImportLine}
-use Rattle.sc_ast.specs.declared.section.Decl.{Decl}
 use Rattle.sc_ast.specs.declared.section.SectionTree.{SectionTree}
 use Rattle.sc_ast.specs.Heads.{head_of, param_of}
-use Rattle.sc_core.specs.declared.ty.Ty.{Ty}
 use Rattle.sc_core.specs.declared.ty.Ty.TheVariants as ty
-use Rattle.sc_core.specs.declared.section.TypedFunction.{TypedFunction}
 use Rattle.sc_core.specs.declared.section.TypedParam.{TypedParam}
-use Rattle.sc_core.specs.declared.expr.CallTarget.{CallTarget}
-use Rattle.sc_core.specs.declared.expr.CallTarget.TheVariants.{Own, Cross, Input, Output}
-use Rattle.sc_core.specs.Typing.{Signature, Callable, starred, scalar_ty, result_ty, signature_of, proto_signature, same_import, allowed, option_signature, target_signature}
-use Rattle.sc_core.specs.WellTyped.{callable_in}
-use Rattle.sc_decls.specs.Declarations.{among, functions_in, function_names, heads_in, export_names, import_names}
-use Rattle.sc_decls.specs.Interfaces.{number_or_zero, environment, is_environment, offers, offering, offered, import_of, base_scalar, scalar_of, promised, proto_of, interface_of, interfaces_from, interfaces_of, function_named}
-use Rattle.sc_faces.specs.Faces.{same_base, same_type, same_result, same_params, agree, agrees_with, crosses, result_crosses, head_crosses, head_fits, int_type, is_int, gives_int, takes_nothing, takes_int, is_input, is_output, input_name, output_name, is_offered, agrees_there, agrees_as, imported_agrees}
+use Rattle.sc_core.specs.Typing.{starred, scalar_ty, result_ty, signature_of, proto_signature}
+use Rattle.sc_decls.specs.Declarations.{functions_in}
+use Rattle.sc_decls.specs.Interfaces.{offers, offering, base_scalar, scalar_of, promised, proto_of, interface_of, interfaces_from, interfaces_of}
+use Rattle.sc_faces.specs.Faces.{same_base, same_type, same_result, same_params, agree, crosses, result_crosses, head_crosses, is_int, gives_int, takes_nothing, takes_int, is_input, is_output}
 use Rattle.sc_elab.specs.Statements.{Callees}
-use Rattle.sc_elab.specs.Sections.{tags, base_of, type_of_name, param_ty, signature_by, head_named, or_first, called_head, import_target, import_named, imported_target, target_or, callees_of, typed_param, typed_function, typed_section, sections_from, result_of}
-use Rattle.sc_types.proofs.Basics.{Each, left, right, both, either, each_passes, some_is, none_some, find}
-use Rattle.sc_types.proofs.Places.{Text, same_refl, same_is, eq_refl, number_is}
-use Rattle.sc_types.proofs.Structs.{get_front}
-use Rattle.sc_types.proofs.Lookups.{each_at, same_sym, FoundFunction, find_function, no_function, no_place, heads_of_functions, FoundHead, find_head, names_of}
-use Rattle.sc_types.proofs.Facts.{ExportFacts, ImportFacts, DeclFacts, FaceFacts}
+use Rattle.sc_elab.specs.Sections.{tags, base_of, type_of_name, param_ty, signature_by, import_named, typed_param, typed_function, result_of}
+use Rattle.sc_types.proofs.Basics.{Each, left, right, some_is, none_some, find}
+use Rattle.sc_types.proofs.Places.{Text, number_is}
+use Rattle.sc_types.proofs.Lookups.{same_sym, FoundFunction}
 
 -- Types that cross.
 

@@ -1,13 +1,13 @@
 -- Functions, globals and structs of a section that breaks no rule are well typed.
-use Rattle.std.proofs.Common.{◌≡◌, refl, sym, ap, ◌∙◌, ℕ, zero, suc, ◌+◌, ◌-◌, ◌%◌, ◌<◌, ◌≤◌, max, Bool, true, false, not, ◌&&◌, ◌||◌, ◌==◌, if◌then◌else◌, List, [], ◌∷◌, ◌++◌, map, length, Option, None, Some, arith, subst, append_assoc}
-use Rattle.std.specs.Prelude.{◌^◌, slice_get, bytes_eq, nat_lt, nat_le, nat_eq}
-use Rattle.std.specs.List.{concat, list_any, list_all, filter_map}
-use Rattle.std.specs.Option.{option_map, option_map_or}
+use Rattle.std.proofs.Common.{◌≡◌, refl, sym, ap, ◌∙◌, ℕ, zero, suc, ◌+◌, ◌-◌, ◌%◌, ◌<◌, max, Bool, true, false, not, ◌&&◌, ◌==◌, if◌then◌else◌, List, [], ◌∷◌, ◌++◌, map, length, Option, None, Some, arith, subst, append_assoc}
+use Rattle.std.specs.Prelude.{◌^◌, slice_get, nat_le, nat_eq}
+use Rattle.std.specs.List.{concat, list_all}
+use Rattle.std.specs.Option.{option_map}
 use Rattle.std.proofs.Math.Nat.{le-max_left, le-max_right}
 use Rattle.std.proofs.lemmas.List.{append-nil}
 use Rattle.std.proofs.lemmas.List.Elements.{filter_map-append}
 use Rattle.std.proofs.lemmas.Bool.{false≢true}
-use Rattle.sc_event.specs.Numbering.{is_numbered, number_of}
+use Rattle.sc_event.specs.Numbering.{is_numbered}
 use Rattle.sc_ast.specs.declared.expr.ExprTree.{ExprTree}
 use Rattle.sc_ast.specs.declared.types.BaseTree.{BaseTree}
 use Rattle.sc_ast.specs.declared.types.BaseTree.TheVariants as base_tree
@@ -23,7 +23,6 @@ use Rattle.sc_ast.specs.declared.section.GlobalTree.{GlobalTree}
 use Rattle.sc_ast.specs.declared.section.ParamTree.{ParamTree}
 use Rattle.sc_ast.specs.declared.section.FunctionParam.{FunctionParam}
 use Rattle.sc_ast.specs.declared.section.LocalTree.{LocalTree}
-use Rattle.sc_ast.specs.declared.section.HeadTree.{HeadTree}
 use Rattle.sc_ast.specs.declared.section.FunctionTree.{FunctionTree}
 use Rattle.sc_ast.specs.declared.section.Decl.{Decl}
 use Rattle.sc_ast.specs.declared.section.Decl.TheVariants.{Struct, Global, Proto, Function}
@@ -34,28 +33,25 @@ use Rattle.sc_core.specs.declared.ty.Ty.{Ty}
 use Rattle.sc_core.specs.declared.ty.Ty.TheVariants as ty
 use Rattle.sc_core.specs.declared.ty.BaseTy.{BaseTy}
 use Rattle.sc_core.specs.declared.ty.BaseTy.TheVariants as base
-use Rattle.sc_core.specs.declared.expr.TypedExpr.{TypedExpr}
 use Rattle.sc_core.specs.declared.stmt.TypedStmt.{TypedStmt}
-use Rattle.sc_core.specs.declared.section.TypedStruct.{TypedStruct}
 use Rattle.sc_core.specs.declared.section.TypedGlobal.{TypedGlobal}
 use Rattle.sc_core.specs.declared.section.TypedParam.{TypedParam}
 use Rattle.sc_core.specs.declared.section.TypedLocal.{TypedLocal}
-use Rattle.sc_core.specs.declared.section.TypedFunction.{TypedFunction}
-use Rattle.sc_core.specs.Types.{is_array, cells_of, struct_cells}
-use Rattle.sc_core.specs.Height.{expr_height, stmt_height}
-use Rattle.sc_core.specs.Typing.{Scope, Callable, starred, init_fits, stmt_fits, body_fits, target_signature}
+use Rattle.sc_core.specs.Types.{is_array, struct_cells}
+use Rattle.sc_core.specs.Height.{stmt_height}
+use Rattle.sc_core.specs.Typing.{Callable, starred, body_fits, target_signature}
 use Rattle.sc_core.specs.WellTyped.{type_within, variable_fits, words_fit, global_fits, passed_fits, result_fits, init_height, local_fits, function_fits, scope_of, most_params, most_cells, most_height}
 use Rattle.sc_decls.specs.Broken.{unless}
 use Rattle.sc_decls.specs.Declarations.{structs_in, globals_in, functions_in, heads_in, struct_names, struct_in, global_names, proto_names, function_names, import_names, are_distinct}
 use Rattle.sc_names.specs.Names as names
 use Rattle.sc_names.specs.Names.{base_known, is_callable, known_in, head_known, result_known, member_known, param_names}
 use Rattle.sc_elab.specs.Statements.{Callees, typed_stmt, stmt_lines}
-use Rattle.sc_elab.specs.Sections.{is_sized, base_of, type_of_name, type_of, is_null, word_of_const, init_words, init_holds, typed_global, typed_param, tags, structs, visible_of, visible_in, scope_in, typed_init, typed_local, typed_locals, result_of, typed_function, typed_section, local_holds, locals_from, function_lines, global_lines, struct_lines, decl_lines}
+use Rattle.sc_elab.specs.Sections.{is_sized, base_of, type_of_name, type_of, is_null, word_of_const, init_words, init_holds, typed_global, typed_param, tags, structs, visible_of, visible_in, scope_in, typed_init, typed_local, typed_locals, result_of, typed_function, typed_section, local_holds, locals_from, function_lines, struct_lines, decl_lines}
 use Rattle.sc_counts.specs.Counts as counts
 use Rattle.sc_counts.specs.Counts.{is_small, type_in, structs_from}
-use Rattle.sc_types.proofs.Basics.{both, left, right, not_true, held, front_empty, back_empty, Each, each_passes, all_pass}
+use Rattle.sc_types.proofs.Basics.{both, left, right, not_true, held, front_empty, back_empty}
 use Rattle.sc_types.proofs.Places.{Text, is_at_most, at_most, numbered_front}
-use Rattle.sc_types.proofs.Structs.{Known, AllKnown, AllSmall, structs_all_fit, structs_length, tags_of, type_is_within, name_is_within, is_less}
+use Rattle.sc_types.proofs.Structs.{Known, AllKnown, AllSmall, structs_length, type_is_within, name_is_within, is_less}
 use Rattle.sc_types.proofs.Bodies.{fits}
 use Rattle.sc_types.proofs.Heights as heights
 

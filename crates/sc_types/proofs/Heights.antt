@@ -1,6 +1,5 @@
 -- Typed trees are as high as the trees that they come from.
-use Rattle.std.proofs.Common.{◌≡◌, refl, sym, ap, ◌∙◌, ℕ, suc, ◌+◌, ◌≤◌, max, Bool, true, false, ◌&&◌, if◌then◌else◌, List, [], ◌∷◌, map, Option, None, Some, arith, subst}
-use Rattle.std.specs.Prelude.{nat_le}
+use Rattle.std.proofs.Common.{◌≡◌, refl, sym, ap, ◌∙◌, ℕ, suc, ◌+◌, max, Bool, true, false, ◌&&◌, if◌then◌else◌, List, [], ◌∷◌, map, Option, None, Some, arith}
 use Rattle.std.specs.Option.{option_map}
 use Rattle.sc_ast.specs.declared.expr.ExprTree.{ExprTree, ExprTree-F, map-ExprTree}
 use Rattle.sc_ast.specs.declared.expr.ExprTree.TheOpen as tree_term
@@ -24,15 +23,13 @@ use Rattle.sc_core.specs.declared.expr.TypedKind.TheOpen as term
 use Rattle.sc_core.specs.declared.stmt.TypedStmt.{TypedStmt}
 use Rattle.sc_core.specs.declared.stmt.TypedStmtKind.{TypedStmtKind, TypedStmtKind-F, roll-TypedStmtKind}
 use Rattle.sc_core.specs.declared.stmt.TypedStmtKind.TheOpen as layer
-use Rattle.sc_core.specs.declared.stmt.TypedSimpleKind.{TypedSimpleKind}
-use Rattle.sc_core.specs.declared.stmt.TypedSimple.{TypedSimple}
 use Rattle.sc_core.specs.Height.{highest, term_height, expr_height, call_height, simple_height, part_height, kind_height, stmt_height}
 use Rattle.sc_core.specs.Types.{is_pointer}
 use Rattle.sc_core.proofs.Layers.{typed, term_of, expr_at, on_line, layer_of, stmt_at}
 use Rattle.sc_elab.specs.Scopes.{Visible, found, Found}
 use Rattle.sc_elab.specs.Expressions as elab
 use Rattle.sc_elab.specs.Expressions.{going_to, beside, is_zero, variable_typed}
-use Rattle.sc_elab.specs.Statements.{Callees, going_to_some, going_to_all, params_of, typed_args, typed_call, typed_value, typed_simple, typed_simple_kind, kind_step, stmt_step, typed_stmt}
+use Rattle.sc_elab.specs.Statements.{Callees, going_to_some, going_to_all, params_of, typed_call, typed_value, typed_simple, typed_simple_kind, kind_step, stmt_step, typed_stmt}
 
 one_more : (n : ℕ) → suc n ≡ n + 1
 one_more n = omega arith

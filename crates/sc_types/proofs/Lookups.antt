@@ -1,7 +1,7 @@
 -- What is found by a name among a section's declarations.
-use Rattle.std.proofs.Common.{◌≡◌, refl, sym, ap, ◌∙◌, ℕ, zero, suc, ◌+◌, ◌<◌, Bool, true, false, not, ◌&&◌, ◌||◌, ◌==◌, if◌then◌else◌, List, [], ◌∷◌, ◌++◌, map, length, Option, None, Some, arith, subst}
+use Rattle.std.proofs.Common.{◌≡◌, refl, sym, ap, ◌∙◌, ℕ, zero, suc, Bool, true, false, ◌||◌, if◌then◌else◌, List, [], ◌∷◌, map, None, Some, subst}
 use Rattle.std.specs.Prelude.{slice_get, bytes_eq}
-use Rattle.std.specs.List.{list_any, list_all, filter_map}
+use Rattle.std.specs.List.{list_any, list_all}
 use Rattle.std.specs.Option.{option_map}
 use Rattle.std.proofs.lemmas.Bool.{false≢true}
 use Rattle.std.proofs.lemmas.Slice.Eq.{bytes_eq-Decides}
@@ -14,8 +14,8 @@ use Rattle.sc_ast.specs.Heads.{head_of}
 use Rattle.sc_decls.specs.Declarations.{heads_in, functions_in, function_names, proto_names}
 use Rattle.sc_decls.specs.Interfaces.{function_named}
 use Rattle.sc_elab.specs.Sections.{head_named}
-use Rattle.sc_types.proofs.Basics.{Each, left, right, some_is, none_some, find, position_is}
-use Rattle.sc_types.proofs.Places.{Text, same_refl, same_is, number_is}
+use Rattle.sc_types.proofs.Basics.{Each, left, right, some_is, none_some, find}
+use Rattle.sc_types.proofs.Places.{Text, same_is, number_is}
 
 pub each_at : {A : Type 0} (P : A → Type 0) (xs : List A) (i : ℕ) (x : A) → Each P xs → slice_get xs i ≡ Some x → P x
 each_at P [] i x h got = none_some x got

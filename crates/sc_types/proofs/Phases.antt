@@ -1,5 +1,5 @@
 -- What the phases give to one another.
-use Rattle.std.proofs.Common.{◌≡◌, refl, sym, ap, ◌∙◌, ℕ, zero, suc, ◌≤◌, ◌&&◌, List, [], ◌∷◌, ◌++◌, map, length, Option, None, Some, arith, subst}
+use Rattle.std.proofs.Common.{◌≡◌, sym, ap, ◌∙◌, ℕ, zero, suc, ◌&&◌, List, [], ◌∷◌, ◌++◌, map, length, Option, None, Some, arith, subst}
 use Rattle.std.specs.Prelude.{nat_le, OnOk, Result, Ok, Err}
 use Rattle.std.specs.List.{All, concat}
 use Rattle.sc_lex.specs.declared.refusal.Phase.{Phase}
@@ -7,8 +7,6 @@ use Rattle.sc_lex.specs.declared.refusal.Phase.TheVariants as phase
 use Rattle.sc_lex.specs.declared.refusal.Refusal.{Refusal}
 use Rattle.sc_ast.specs.declared.section.ExportLine.{ExportLine}
 use Rattle.sc_ast.specs.declared.section.ImportLine.{ImportLine}
-use Rattle.sc_ast.specs.declared.section.HeadTree.{HeadTree}
-use Rattle.sc_ast.specs.declared.section.FunctionTree.{FunctionTree}
 use Rattle.sc_ast.specs.declared.section.Decl.{Decl}
 use Rattle.sc_ast.specs.declared.section.Decl.TheVariants as decl
 use Rattle.sc_ast.specs.declared.section.SectionTree.{SectionTree}
@@ -23,7 +21,7 @@ use Rattle.sc_faces.specs.Faces.{interface_broken}
 use Rattle.sc_faces.specs.Offering.{IsWithinCounts, HasFewExports, HasFewParams}
 use Rattle.sc_counts.specs.Counts as counts
 use Rattle.sc_counts.specs.Counts.{counts_broken}
-use Rattle.sc_types.specs.Acceptance.{FailsRules, AreLow, IsTyped}
+use Rattle.sc_types.specs.Acceptance.{FailsRules, AreLow}
 use Rattle.sc_types.proofs.Basics.{Each, held, front_empty, back_empty, map_empty}
 use Rattle.sc_types.proofs.Places.{is_at_most}
 use Rattle.sc_types.proofs.Functions.{map_length}

@@ -1,19 +1,17 @@
 -- What is read of a text is low and has few stars, and what it fails is failed by the text.
-use Rattle.std.proofs.Common.{◌≡◌, refl, sym, ap, ◌∙◌, ℕ, ◌+◌, ◌-◌, ◌≤◌, ◌<◌, ◌⊎◌, inl, inr, true, List, [], ◌∷◌, map, drop, length, Option, None, Some, Result, Ok, Err, IfOk, arith, subst}
-use Rattle.std.specs.Prelude.{nat_le, slice_range, IsErrOf}
+use Rattle.std.proofs.Common.{◌≡◌, refl, sym, ℕ, ◌+◌, ◌-◌, ◌≤◌, ◌<◌, ◌⊎◌, inl, inr, true, List, [], ◌∷◌, map, drop, length, Option, None, Some, Result, Ok, Err, IfOk, arith, subst}
+use Rattle.std.specs.Prelude.{nat_le, slice_range}
 use Rattle.std.specs.List.{list_all, AllZip}
-use Rattle.std.proofs.lemmas.List.{length-take, length-drop, length-map}
+use Rattle.std.proofs.lemmas.List.{length-take}
 use Rattle.sc_lex.specs.Cutting.{Cuts, nothing, gap, token}
-use Rattle.sc_lex.specs.Splitting.{IsSection, AreSections, none, section, IsSplit}
+use Rattle.sc_lex.specs.Splitting.{AreSections, none, section}
 use Rattle.sc_lex.specs.declared.token.Token.{Token}
 use Rattle.sc_lex.specs.declared.section.Section.{Section}
-use Rattle.sc_lex.specs.declared.refusal.Refusal.{Refusal}
 use Rattle.sc_lex.specs.declared.refusal.Phase.{Phase}
 use Rattle.sc_lex.specs.declared.refusal.Phase.TheVariants as phase
 use Rattle.sc_lex.proofs.Runs.{token_positive}
 use Rattle.sc_ast.specs.declared.section.SectionTree.{SectionTree}
 use Rattle.sc_ast.specs.Height.{section_height}
-use Rattle.sc_expr.specs.declared.lexeme.Lexeme.{Lexeme}
 use Rattle.sc_expr.specs.Lexemes.{lexeme_of}
 use Rattle.sc_parse.specs.Limits.{lexemes_of}
 use Rattle.sc_read.specs.Reading.{Part, part_of, IsRead, Reads}

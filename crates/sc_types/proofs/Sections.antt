@@ -1,16 +1,14 @@
 -- Sections that break no rule are well typed, and have the interfaces of the text.
-use Rattle.std.proofs.Common.{◌≡◌, refl, sym, ap, ◌∙◌, ℕ, zero, suc, ◌+◌, ◌<◌, ◌≤◌, Bool, true, false, not, ◌&&◌, ◌||◌, ◌==◌, if◌then◌else◌, List, [], ◌∷◌, ◌++◌, map, length, Option, None, Some, is_some, arith, subst, append_assoc}
-use Rattle.std.specs.Prelude.{slice_get, bytes_eq, nat_lt, nat_le, codes}
-use Rattle.std.specs.List.{concat, list_any, list_all}
+use Rattle.std.proofs.Common.{◌≡◌, refl, sym, ap, ◌∙◌, ℕ, zero, suc, ◌≤◌, Bool, true, false, not, ◌&&◌, ◌||◌, ◌==◌, if◌then◌else◌, List, [], ◌∷◌, ◌++◌, map, length, Option, None, Some, is_some, arith, subst, append_assoc}
+use Rattle.std.specs.Prelude.{slice_get, bytes_eq, nat_le}
+use Rattle.std.specs.List.{list_any, list_all}
 use Rattle.std.specs.Option.{option_map}
 use Rattle.std.proofs.lemmas.List.{append-nil}
 use Rattle.std.proofs.lemmas.List.Elements.{filter_map-append}
 use Rattle.std.proofs.lemmas.Bool.{false≢true}
-use Rattle.std.proofs.lemmas.Slice.Eq.{bytes_eq-Decides}
 use Rattle.std.proofs.lemmas.Bool.Decides.{Decides-eqb}
-use Rattle.sc_event.specs.Numbering.{is_numbered, number_of}
+use Rattle.sc_event.specs.Numbering.{is_numbered}
 use Rattle.sc_event.specs.Lookup.{export_at}
-use Rattle.sc_event.specs.declared.interface.Import.{Import}
 use Rattle.sc_event.specs.declared.interface.Import.TheVariants as import
 use Rattle.sc_event.specs.declared.interface.Interface.{Interface}
 use Rattle.sc_event.specs.declared.interface.Proto as event
@@ -25,17 +23,15 @@ use Rattle.sc_ast.specs.declared.section.ImportLine.{ImportLine}
 use Rattle.sc_ast.specs.declared.section.Decl.{Decl}
 use Rattle.sc_ast.specs.declared.section.Decl.TheVariants.{Struct, Global, Proto, Function}
 use Rattle.sc_ast.specs.declared.section.SectionTree.{SectionTree}
-use Rattle.sc_ast.specs.Heads.{head_of, param_of}
-use Rattle.sc_ast.specs.Height as surface
+use Rattle.sc_ast.specs.Heads.{head_of}
 use Rattle.sc_core.specs.declared.ty.Ty.{Ty}
 use Rattle.sc_core.specs.declared.ty.Ty.TheVariants as ty
 use Rattle.sc_core.specs.declared.ty.BaseTy.{BaseTy}
 use Rattle.sc_core.specs.declared.ty.BaseTy.TheVariants as base
 use Rattle.sc_core.specs.declared.section.TypedFunction.{TypedFunction}
 use Rattle.sc_core.specs.declared.section.TypedSection.{TypedSection}
-use Rattle.sc_core.specs.Sizes.{nodes, total}
 use Rattle.sc_core.specs.Typing.{Signature, same_base, same_ty, signature_of, proto_signature}
-use Rattle.sc_core.specs.WellTyped.{most_exports, most_nodes, same_types, same_results, same_signature, is_plain_name, export_fits, import_fits, export_name, import_name, section_fits, interface_fits, are_distinct}
+use Rattle.sc_core.specs.WellTyped.{most_exports, most_nodes, same_types, same_results, same_signature, is_plain_name, export_fits, import_fits, export_name, import_name, interface_fits, are_distinct}
 use Rattle.sc_decls.specs.Broken.{unless}
 use Rattle.sc_decls.specs.Declarations as decls
 use Rattle.sc_decls.specs.Declarations.{structs_in, globals_in, heads_in, functions_in, function_names, export_names, import_names}
@@ -47,14 +43,12 @@ use Rattle.sc_elab.specs.Sections.{callees_of, signature_by, tags, structs, type
 use Rattle.sc_faces.specs.Faces.{head_fits, head_crosses, agree, same_type, input_name, output_name, is_offered}
 use Rattle.sc_faces.specs.Faces as faces
 use Rattle.sc_counts.specs.Counts as counts
-use Rattle.sc_types.proofs.Basics.{both, left, right, not_true, held, front_empty, back_empty, Each, all_pass, some_is, none_some, some_item, find}
-use Rattle.sc_types.proofs.Places.{Text, same_refl, same_is, eq_refl, at_most, numbered_front}
-use Rattle.sc_types.proofs.Structs.{AllSmall, structs_all_fit}
-use Rattle.sc_types.proofs.Lookups.{each_at, each_function, same_sym, FoundFunction, find_function}
-use Rattle.sc_types.proofs.Facts.{Fresh, not_again, fresh_distinct, ExportFacts, ImportFacts, DeclFacts, FaceFacts}
+use Rattle.sc_types.proofs.Basics.{both, left, right, not_true, held, front_empty, back_empty, Each, none_some, some_item}
+use Rattle.sc_types.proofs.Places.{Text, same_refl, same_is, eq_refl, at_most}
+use Rattle.sc_types.proofs.Lookups.{each_at, each_function, FoundFunction, find_function}
+use Rattle.sc_types.proofs.Facts.{Fresh, fresh_distinct, ExportFacts, ImportFacts, DeclFacts, FaceFacts}
 use Rattle.sc_types.proofs.Calls.{agreed_signature, FoundBy, found_by, get_map, any_at, own_signature, Offering, find_offering, export_is}
-use Rattle.sc_types.proofs.Callees as called
-use Rattle.sc_types.proofs.Functions.{map_map, map_append, map_length, small_from, functions_are, globals_are, structs_known}
+use Rattle.sc_types.proofs.Functions.{map_map, map_append, map_length}
 
 -- Signatures are the same as themselves.
 

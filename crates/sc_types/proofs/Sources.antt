@@ -1,7 +1,7 @@
 -- The parts of a text, by the places at which its sections begin.
-use Rattle.std.proofs.Common.{◌≡◌, refl, sym, ap, ap₂, ◌∙◌, ℕ, zero, suc, ◌+◌, ◌-◌, ◌≤◌, ◌<◌, List, [], ◌∷◌, ◌++◌, map, take, drop, length, Option, None, Some, arith, subst, add-one, get_or}
+use Rattle.std.proofs.Common.{◌≡◌, refl, sym, ap, ap₂, ◌∙◌, ℕ, zero, suc, ◌+◌, ◌-◌, ◌≤◌, ◌<◌, List, [], ◌∷◌, ◌++◌, map, take, drop, length, None, Some, arith, subst, add-one, get_or}
 use Rattle.std.specs.Prelude.{slice_range, slice_get, flat_map}
-use Rattle.std.specs.List.{concat, AllZip}
+use Rattle.std.specs.List.{concat}
 use Rattle.std.proofs.lemmas.List.{take_more, map-append}
 use Rattle.sc_lex.specs.Lines.{line_at}
 use Rattle.sc_lex.specs.Splitting.{AreSections, none, section, IsSplit}
@@ -9,12 +9,12 @@ use Rattle.sc_lex.specs.declared.section.Section.{Section}
 use Rattle.sc_lex.proofs.Splits.{progress_joined}
 use Rattle.sc_read.proofs.Splits.{split_good, same_parts}
 use Rattle.sc_read.proofs.Steps.{as_many}
-use Rattle.sc_read.specs.Reading.{Part, part_of, IsRead, Reads}
+use Rattle.sc_read.specs.Reading.{part_of, IsRead, Reads}
 use Rattle.sc_ast.specs.declared.section.SectionTree.{SectionTree}
 use Rattle.sc_core.specs.declared.program.ProgramTree.{ProgramTree}
 use Rattle.sc_decls.specs.Interfaces.{interfaces_from}
 use Rattle.sc_types.specs.Acceptance.{Accepts}
-use Rattle.sc_types.specs.Source.{IsSplitInto, IsSource}
+use Rattle.sc_types.specs.Source.{IsSource}
 use Rattle.sc_types.specs.Starts.{start_of, AreStarts, first_start, parts_from, source_of, IsKept}
 use Rattle.sc_types.proofs.Functions.{map_length}
 

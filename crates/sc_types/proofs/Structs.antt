@@ -1,8 +1,8 @@
 -- Structs whose tags are known and whose sizes are small fit.
-use Rattle.std.proofs.Common.{◌≡◌, refl, sym, ap, ◌∙◌, ℕ, zero, suc, ◌+◌, ◌*◌, ◌-◌, ◌<◌, ◌≤◌, Bool, true, false, not, ◌&&◌, ◌||◌, ◌==◌, if◌then◌else◌, List, [], ◌∷◌, ◌++◌, map, length, Option, None, Some, arith, subst, append_assoc}
+use Rattle.std.proofs.Common.{◌≡◌, refl, sym, ap, ◌∙◌, ℕ, zero, suc, ◌+◌, ◌*◌, ◌<◌, ◌≤◌, true, false, not, ◌==◌, List, [], ◌∷◌, ◌++◌, map, length, Option, None, Some, arith, subst, append_assoc}
 use Rattle.std.specs.Prelude.{slice_get, bytes_eq, nat_lt, nat_le, nat_eq}
-use Rattle.std.specs.List.{list_any, list_all}
-use Rattle.std.specs.Option.{option_map, option_map_or}
+use Rattle.std.specs.List.{list_all}
+use Rattle.std.specs.Option.{option_map_or}
 use Rattle.std.proofs.lemmas.List.{append-nil}
 use Rattle.std.proofs.lemmas.Bool.{false≢true, ltb-true}
 use Rattle.sc_event.specs.Numbering.{is_numbered, number_of}
@@ -16,7 +16,6 @@ use Rattle.sc_core.specs.declared.ty.Ty.{Ty}
 use Rattle.sc_core.specs.declared.ty.Ty.TheVariants as ty
 use Rattle.sc_core.specs.declared.ty.BaseTy.{BaseTy}
 use Rattle.sc_core.specs.declared.ty.BaseTy.TheVariants as base
-use Rattle.sc_core.specs.declared.section.TypedMember.{TypedMember}
 use Rattle.sc_core.specs.declared.section.TypedStruct.{TypedStruct}
 use Rattle.sc_core.specs.Types.{cells_of, base_cells, starred_cells, struct_cells}
 use Rattle.sc_core.specs.Typing.{starred}
@@ -24,7 +23,7 @@ use Rattle.sc_core.specs.WellTyped.{base_within, starred_within, type_within, me
 use Rattle.sc_decls.specs.Interfaces.{number_or_zero}
 use Rattle.sc_names.specs.Names.{base_known, pointed_known, member_known}
 use Rattle.sc_elab.specs.Sections.{is_sized, base_of, type_of_name, type_with, type_of, members_from, cells_from, typed_struct, typed_structs}
-use Rattle.sc_types.proofs.Basics.{both, left, right, either, Each, each_passes}
+use Rattle.sc_types.proofs.Basics.{both, left, right, either}
 use Rattle.sc_types.proofs.Places.{Text, same_is, eq_refl, less, at_most, number_within, number_front, number_next}
 
 -- Tags.

@@ -1,29 +1,26 @@
 -- A text that breaks no rule is a well-typed program.
-use Rattle.std.proofs.Common.{◌≡◌, refl, sym, ap, ◌∙◌, ℕ, zero, suc, ◌+◌, ◌<◌, ◌≤◌, Bool, true, false, not, ◌&&◌, ◌||◌, ◌==◌, if◌then◌else◌, List, [], ◌∷◌, ◌++◌, map, length, Option, None, Some, is_some, arith, subst, append_assoc}
-use Rattle.std.specs.Prelude.{slice_get, bytes_eq, nat_lt, nat_le, codes, IsTrue}
-use Rattle.std.specs.List.{concat, list_any, list_all}
+use Rattle.std.proofs.Common.{◌≡◌, refl, sym, ap, ◌∙◌, ℕ, zero, suc, ◌+◌, Bool, true, false, not, ◌&&◌, ◌||◌, ◌==◌, if◌then◌else◌, List, [], ◌∷◌, ◌++◌, map, length, Some, arith, subst, append_assoc}
+use Rattle.std.specs.Prelude.{slice_get, bytes_eq, nat_le, codes}
+use Rattle.std.specs.List.{concat, list_any}
 use Rattle.std.specs.Option.{option_map}
 use Rattle.std.proofs.lemmas.Bool.{false≢true}
-use Rattle.sc_event.specs.Numbering.{is_numbered, number_of}
+use Rattle.sc_event.specs.Numbering.{is_numbered}
 use Rattle.sc_event.specs.declared.interface.Interface.{Interface}
 use Rattle.sc_ast.specs.declared.section.FunctionTree.{FunctionTree}
 use Rattle.sc_ast.specs.declared.section.ExportLine.{ExportLine}
 use Rattle.sc_ast.specs.declared.section.ImportLine.{ImportLine}
-use Rattle.sc_ast.specs.declared.section.Decl.{Decl}
-use Rattle.sc_ast.specs.declared.section.Decl.TheVariants.{Struct, Global, Proto, Function}
+use Rattle.sc_ast.specs.declared.section.Decl.TheVariants.{Function}
 use Rattle.sc_ast.specs.declared.section.SectionTree.{SectionTree}
 use Rattle.sc_ast.specs.Heads.{head_of}
 use Rattle.sc_ast.specs.Height.{section_height}
 use Rattle.sc_core.specs.declared.ty.Ty.TheVariants as ty
 use Rattle.sc_core.specs.declared.section.TypedFunction.{TypedFunction}
 use Rattle.sc_core.specs.declared.section.TypedSection.{TypedSection}
-use Rattle.sc_core.specs.declared.program.ProgramTree.{ProgramTree}
 use Rattle.sc_core.specs.Value.{truth}
-use Rattle.sc_core.specs.Sizes.{nodes, total}
-use Rattle.sc_core.specs.Typing.{Signature, signature_of}
+use Rattle.sc_core.specs.Typing.{signature_of}
 use Rattle.sc_core.specs.WellTyped.{most_compartments, most_exports, most_nodes, are_distinct, same_signature, section_fits, interface_fits, sections_fit, is_main, main_fits, mains_in, is_well_typed, IsWellTyped}
 use Rattle.sc_decls.specs.Broken.{unless, line_of_text}
-use Rattle.sc_decls.specs.Declarations.{structs_in, globals_in, heads_in, functions_in, function_names}
+use Rattle.sc_decls.specs.Declarations.{structs_in, globals_in, heads_in, functions_in}
 use Rattle.sc_decls.specs.Interfaces.{environment, interface_of, interfaces_from, interfaces_of, main_name, defines_main, main_from}
 use Rattle.sc_names.specs.Names as names
 use Rattle.sc_names.specs.Names.{names_broken}
@@ -36,14 +33,14 @@ use Rattle.sc_counts.specs.Counts as counts
 use Rattle.sc_counts.specs.Counts.{counts_broken}
 use Rattle.sc_types.specs.Acceptance.{AreLow}
 use Rattle.sc_types.proofs.Basics.{both, left, right, not_true, held, front_empty, back_empty, map_empty, Each, each_empty, each_passes, some_is, none_some}
-use Rattle.sc_types.proofs.Places.{Text, same_refl, same_is, eq_refl}
+use Rattle.sc_types.proofs.Places.{Text}
 use Rattle.sc_types.proofs.Structs.{AllSmall, structs_all_fit}
 use Rattle.sc_types.proofs.Lookups.{each_at, each_function, same_sym, FoundFunction, find_function}
 use Rattle.sc_types.proofs.Facts.{Fresh, fresh_distinct, DeclFacts, FaceFacts, face_facts, decls_hold}
 use Rattle.sc_types.proofs.Calls.{input_signature, get_map, any_at, own_signature}
 use Rattle.sc_types.proofs.Callees as called
 use Rattle.sc_types.proofs.Functions.{map_append, small_from, functions_are, globals_are, structs_known}
-use Rattle.sc_types.proofs.Sections.{signature_refl, none_beyond, interface_is}
+use Rattle.sc_types.proofs.Sections.{none_beyond, interface_is}
 
 length_snoc : {A : Type 0} (xs : List A) (y : A) → length (xs ++ y ∷ []) ≡ suc (length xs)
 length_snoc [] y = refl
