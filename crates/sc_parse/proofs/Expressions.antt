@@ -2,7 +2,6 @@
 use Rattle.std.proofs.Common.{◌≡◌, ℕ, zero, suc, ◌+◌, ◌-◌, ◌≤◌, ◌<◌, max, Bool, true, false, cond, IsTrue, List, [], ◌∷◌, ◌++◌, drop, map, length, Option, Some, None, is_some, refl, sym, ap, ◌∙◌, subst, append_assoc, arith, rules}
 use Rattle.std.proofs.lemmas.Option.{none-some}
 use Rattle.sc_ast.specs.Height.{expr_height, exprs_height, call_height}
-use Rattle.sc_ast.specs.Places.{is_place}
 use Rattle.sc_ast.specs.declared.expr.ExprTree.{ExprTree, the_lemmas}
 use Rattle.sc_ast.specs.declared.expr.ExprTree.TheVariants as expr
 use Rattle.sc_ast.specs.declared.expr.BinaryOp.{BinaryOp}
@@ -93,6 +92,10 @@ measured free room ts x h = let r = read_sound free room loosest_level ts x (ome
 
 pub expr_reads : (free : ℕ) → {level : ℕ} {ts : List Lexeme} {e : ExprTree} (d : Spells level ts e) (room : ℕ) (rest : List Lexeme) → level ≤ 11 → expr_height e ≤ room → Few free ts → NoExtension rest → read free room loosest_level (ts ++ rest) ≡ Some (found e (expr_height e) rest)
 expr_reads free d room rest inside low few ends = reads_all d free room loosest_level 0 rest inside low (omega arith) (λ ext at. absurd (none-some ext (sym ends ∙ at)))
+
+-- the same up to an operator between operands
+pub unary_reads : (free : ℕ) → {ts : List Lexeme} {e : ExprTree} (d : Spells unary_level ts e) (room : ℕ) (rest : List Lexeme) → expr_height e ≤ room → Few free ts → NoExtension rest → read free room unary_level (ts ++ rest) ≡ Some (found e (expr_height e) rest)
+unary_reads free d room rest low few ends = reads_all d free room unary_level 0 rest (omega arith) low (omega arith) (λ ext at. absurd (none-some ext (sym ends ∙ at)))
 
 expr_sound : (free : ℕ) → (room : ℕ) (ts rest : List Lexeme) (x : ExprTree) → expr_at free room ts ≡ Some (x, rest) → Taken (IsExpr room) ts x rest
 unfolding expr_at
@@ -255,21 +258,3 @@ no_call (arrow {ts = ts} t u name p q d) rest h = ap begins_call (append_assoc t
 no_call (prefix t m o p q d) rest h = rw p
 no_call (joined {ts = ts} {us = us} t m op p q k d g) rest h = ap begins_call (append_assoc ts (t ∷ us) rest) ∙ no_call d (t ∷ us ++ rest) (binary_no_paren t m op p q)
 no_call (looser d) rest h = no_call d rest h
-
-place_literal : (number : Number) → is_place (expr.Literal number) ≡ false
-place_literal number = search (rules, the_lemmas)
-
-place_binary : (op : BinaryOp) (e f : ExprTree) → is_place (expr.Binary op e f) ≡ false
-place_binary op e f = search (rules, the_lemmas)
-
--- what names a place is a unary expression
-pub place_unary : {level : ℕ} {ts : List Lexeme} {e : ExprTree} (d : Spells level ts e) → is_place e ≡ true → Spells unary_level ts e
-place_unary (literal t number p) h = absurd (false-true (sym (place_literal number) ∙ h))
-place_unary (variable t name p) h = looser (variable t name p)
-place_unary (parenthesised t u p q d) h = looser (parenthesised t u p q d)
-place_unary (index t u p q d g) h = looser (index t u p q d g)
-place_unary (member t u name p q d) h = looser (member t u name p q d)
-place_unary (arrow t u name p q d) h = looser (arrow t u name p q d)
-place_unary (prefix t m o p q d) h = prefix t m o p q d
-place_unary (joined {e = e} {f = f} t m op p q k d g) h = absurd (false-true (sym (place_binary op e f) ∙ h))
-place_unary (looser d) h = place_unary d h

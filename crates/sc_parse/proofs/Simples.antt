@@ -18,10 +18,11 @@ use Rattle.sc_expr.specs.declared.lexeme.Symbol.TheVariants as symbol
 use Rattle.sc_expr.specs.declared.lexeme.Lexeme.{Lexeme}
 use Rattle.sc_expr.specs.Fronts.{behind, extension_at}
 use Rattle.sc_expr.specs.Grammar.{IsMark, Spells}
-use Rattle.sc_expr.specs.Marks.{unary_level, loosest_level}
+use Rattle.sc_expr.specs.Marks.{unary_level}
 use Rattle.sc_expr.specs.Reading.{◌>>=◌, Found, found, lead_by, read}
 use Rattle.sc_expr.proofs.Options.{same_some, bound, cond_is}
 use Rattle.sc_expr.proofs.Heights.{literal_height, joined_height, positive}
+use Rattle.sc_expr.proofs.Sound.{read_sound}
 use Rattle.sc_parse.specs.declared.simple.Change.{Change}
 use Rattle.sc_parse.specs.declared.simple.Change.TheVariants as change
 use Rattle.sc_parse.specs.declared.simple.Placed.{Placed}
@@ -31,7 +32,7 @@ use Rattle.sc_parse.specs.Fronts.{begins_with, begins_call}
 use Rattle.sc_parse.specs.StmtReaders as readers
 use Rattle.sc_parse.specs.StmtReaders.{expr_at, call_at, mark_by, mark_at, change_of, change_at, step_at, placed, place_at, value_behind, operand_behind, stepped, changed, assignment_at, call_alone, unstepped, simple_at}
 use Rattle.sc_parse.proofs.Exact.{Taken, Exact, took, glued}
-use Rattle.sc_parse.proofs.Expressions.{Few, few_left, few_right, few_tail, IsExpr, NoExtension, Measured, measured, expr_reads, expr_exact, IsCall, call_exact, call_begins, no_call, place_unary, begins_expr, expr_starts, starts_expr}
+use Rattle.sc_parse.proofs.Expressions.{Few, few_left, few_right, few_tail, IsExpr, NoExtension, unary_reads, expr_exact, IsCall, call_exact, call_begins, no_call, begins_expr, expr_starts, starts_expr}
 
 -- a mark at the front
 pub record Marked (ts : List Lexeme) (m : Mark) : Type 0 where
@@ -92,18 +93,18 @@ record PlaceTaken (room : ℕ) (ts : List Lexeme) (x : Placed) (rest : List Lexe
 place_sound : (free : ℕ) → (room : ℕ) (ts rest : List Lexeme) (x : Placed) → place_at free room ts ≡ Some (x, rest) → PlaceTaken room ts x rest
 unfolding place_at
 place_sound free room ts rest x h =
-    let b = bound (λ x. cond (is_place x.tree) (Some (placed x.tree x.height, x.rest)) None) (read free room loosest_level ts) (x, rest) h in
-    let m = measured free room ts b.0 b.1 in
+    let b = bound (λ x. cond (is_place x.tree) (Some (placed x.tree x.height, x.rest)) None) (read free room unary_level ts) (x, rest) h in
+    let m = read_sound free room unary_level ts b.0 (omega arith) b.1 in
     let c = cond_is (is_place b.0.tree) (Some (placed b.0.tree b.0.height, b.0.rest)) (x, rest) b.2 in
     let same = same_some c.1 in
     let value : placed b.0.tree b.0.height ≡ x = ap (λ p. p.0) same in
     let after : b.0.rest ≡ rest = ap (λ p. p.1) same in
-    let made : PlaceTaken room ts (placed b.0.tree b.0.height) b.0.rest = record { taken = m.taken; split = m.split; spelled = (place_unary m.spelled c.0, c.0); height = m.height; low = m.low } in
+    let made : PlaceTaken room ts (placed b.0.tree b.0.height) b.0.rest = record { taken = m.taken; split = m.split; spelled = (m.spelled, c.0); height = m.measured; low = m.low } in
     subst (λ y. PlaceTaken room ts y rest) value (subst (λ r. PlaceTaken room ts (placed b.0.tree b.0.height) r) after made)
 
 place_reads : (free : ℕ) → (room : ℕ) {ts : List Lexeme} {place : ExprTree} (d : SpellsPlace ts place) (rest : List Lexeme) → expr_height place ≤ room → Few free ts → NoExtension rest → place_at free room (ts ++ rest) ≡ Some (placed place (expr_height place), rest)
 unfolding place_at
-place_reads free room d rest low few ends = rw (expr_reads free d.0 room rest (omega arith) low few ends, d.1)
+place_reads free room d rest low few ends = rw (unary_reads free d.0 room rest low few ends, d.1)
 
 pub one_height : expr_height one ≡ 1
 one_height = literal_height (record { value = 1; unsigned = false })

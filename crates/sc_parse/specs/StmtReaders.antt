@@ -20,7 +20,7 @@ use Rattle.sc_expr.specs.declared.lexeme.Symbol.{Symbol}
 use Rattle.sc_expr.specs.declared.lexeme.Symbol.TheVariants as symbol
 use Rattle.sc_expr.specs.declared.lexeme.Lexeme.{Lexeme}
 use Rattle.sc_expr.specs.Fronts.{behind}
-use Rattle.sc_expr.specs.Marks.{loosest_level}
+use Rattle.sc_expr.specs.Marks.{unary_level, loosest_level}
 use Rattle.sc_expr.specs.Reading.{◌>>=◌, name_at, read}
 use Rattle.sc_parse.specs.declared.simple.Change.{Change}
 use Rattle.sc_parse.specs.declared.simple.Change.TheVariants as change
@@ -75,7 +75,7 @@ placed place height = record { place = place; height = height }
 
 -- a place, with its height
 unfoldable pub place_at : (free : ℕ) → ℕ → Reader Placed
-place_at free room ts = read free room loosest_level ts >>= (λ x. if is_place x.tree then Some (placed x.tree x.height, x.rest) else None)
+place_at free room ts = read free room unary_level ts >>= (λ x. if is_place x.tree then Some (placed x.tree x.height, x.rest) else None)
 
 -- what stands behind `=`
 unfoldable pub value_behind : (free : ℕ) → ℕ → ExprTree → Reader SimpleKind

@@ -17,6 +17,9 @@ pub const MAX_BRACKETS: u32 = 1024;
 /// The level that holds every expression.
 pub const LOOSEST: u8 = 11;
 
+/// The level of the operators before an operand.
+pub const UNARY: u8 = 1;
+
 /// An expression, at most `room` high.
 #[tactic(auto, unfolding(crate::specs::StmtReaders::expr_at))]
 pub fn expr_at(alloc: Global, room: u32, rest: &mut &[Lexeme]) -> Result<ExprTree, SyntaxFault>

@@ -5,11 +5,11 @@ ghost use Rattle.sc_expr.specs.Fronts.{Agrees};
 ghost use Rattle.sc_parse.specs.Statements.{compound_of, step_of, updates, one};
 ghost use Rattle.sc_parse.specs.StmtReaders.{mark_by, mark_at, change_of, change_at, step_at, place_at, value_behind, operand_behind, stepped, changed, assignment_at, step_before, call_alone, unstepped, simple_at, always, part_at, test_at};
 
-use crate::calls::{LOOSEST, MAX_BRACKETS, call_at, expr_at};
+use crate::calls::{MAX_BRACKETS, UNARY, call_at, expr_at};
 use crate::copy::copy_expr;
 use crate::front::{begins_call, begins_with, first_line, past};
 use sc_ast::{BinaryOp, ExprTree, Literal, PlaceTree, SimpleKind, SimpleTree};
-use sc_expr::{Built, Lexeme, Mark, Symbol, SyntaxFault, parse_level, refused};
+use sc_expr::{Built, Lexeme, Mark, Symbol, SyntaxFault, parse_level, refused, refused_before};
 use sqlite_items::Boxed;
 use std::alloc::{AllocError, Global};
 
@@ -113,7 +113,7 @@ fn step_at(rest: &[Lexeme]) -> Option<BinaryOp>
 fn place_at(alloc: Global, room: u32, rest: &mut &[Lexeme]) -> Result<Placed, SyntaxFault>
     ensures { Agrees (λ x. (x, rest.new.now)) result (place_at 1024 room rest.old.now) }
 {
-    let (Built { tree, height }, behind) = parse_level(alloc, MAX_BRACKETS, room, LOOSEST, rest)?;
+    let (Built { tree, height }, behind) = parse_level(alloc, MAX_BRACKETS, room, UNARY, rest)?;
     *rest = behind;
     match PlaceTree::new(tree.into_inner()) {
         Ok(place) => Ok(Placed { place, height }),
@@ -172,7 +172,7 @@ fn operand_behind(
     ensures { Agrees (λ x. (x, rest.new.now)) result (operand_behind 1024 room op placed rest.old.now) }
 {
     if placed.height >= room {
-        return Err(refused(rest));
+        return Err(refused_before(rest));
     }
     let operand = expr_at(alloc, room - 1, rest)?;
     Ok(updates(alloc, op, placed.place, operand)?)
@@ -189,7 +189,7 @@ fn stepped(
     ensures { Agrees (λ x. (x, rest.now)) result (stepped room op placed rest.now) }
 {
     if placed.height >= room {
-        return Err(refused(rest));
+        return Err(refused_before(rest));
     }
     match one() {
         Some(one) => Ok(updates(alloc, op, placed.place, one)?),
@@ -207,7 +207,7 @@ fn changed(
     ensures { Agrees (λ x. (x, rest.new.now)) result (changed 1024 room change placed rest.old.now) }
 {
     match change {
-        None => Err(refused(rest)),
+        None => Err(refused_before(rest)),
         Some(Change::Set) => value_behind(alloc, room, placed.place, rest),
         Some(Change::By(op)) => operand_behind(alloc, room, op, placed, rest),
         Some(Change::Step(op)) => stepped(alloc, room, op, placed, rest),

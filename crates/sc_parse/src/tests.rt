@@ -54,7 +54,7 @@ const BROKEN: [(&[u8], u32); 30] = [
         4,
     ),
     (
-        b"#pragma compartment Main\nvoid f(void) { a + b\n= c; }\n",
+        b"#pragma compartment Main\nvoid f(void) { a\n+ b\n= c; }\n",
         3,
     ),
     (b"#pragma compartment Main\nvoid f(void) { 1\n= c; }\n", 3),

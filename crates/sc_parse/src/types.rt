@@ -6,9 +6,9 @@ ghost use Rattle.sc_parse.specs.Readers.{base_by, base_at, type_name_at, element
 
 use crate::front::{integer_by, keyword_at, name_at, past_int, skip, star_count, take};
 use sc_ast::{ArrayLength, BaseTree, Ident, TypeName};
-use sc_expr::{Keyword, Lexeme, Mark, SyntaxFault, refused};
+use sc_expr::{Keyword, Lexeme, Mark, SyntaxFault, refused, refused_before};
 
-// The base that a reserved word begins, where these lexemes stand behind it.
+// The base that a reserved word begins, where these lexemes stand behind it. A word that begins none is refused itself.
 fn base_by(word: Option<Keyword>, rest: &mut &[Lexeme]) -> Result<BaseTree, SyntaxFault>
     ensures { Agrees (λ x. (x, rest.new.now)) result (base_by word rest.old.now) }
 {
@@ -23,7 +23,7 @@ fn base_by(word: Option<Keyword>, rest: &mut &[Lexeme]) -> Result<BaseTree, Synt
             Ok(BaseTree::Unsigned)
         }
         Some(Keyword::Struct) => Ok(BaseTree::Struct(name_at(rest)?)),
-        _ => Err(refused(rest)),
+        _ => Err(refused_before(rest)),
     }
 }
 
