@@ -45,9 +45,6 @@ module _ (program : ProgramTree) (inputs : List ℕ) (turns : ℕ) where
   main_does s =
       and_then (found (entered (library program) program.interfaces.main Main) s) (λ number s. call_own (library program) (within (run_step (library program)) (suc turns)) program.interfaces.main number [] s)
 
-  run_is : (run_of c_arith program inputs turns) ≡ run_to program.interfaces.main (main_does at_start)
-  run_is = refl
-
   pub no_main : entered (library program) program.interfaces.main Main ≡ None → (run_of c_arith program inputs turns).shown ≡ record { trace = []; end = TurnsOut }
   no_main is =
       ap (λ o. (run_to program.interfaces.main (and_then (found o at_start) (λ number s. call_own (library program) (within (run_step (library program)) (suc turns)) program.interfaces.main number [] s))).shown) is

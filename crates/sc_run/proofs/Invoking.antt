@@ -33,9 +33,6 @@ use Rattle.sc_run.specs.Entering.{entry_from, back_from}
 use Rattle.sc_run.proofs.Standing.{resume_stopped, step_stops}
 use Rattle.sc_run.proofs.Looping.{assoc, steps_as, steps_on}
 
-word_twice : (v : Value) → word_in (Word (word_in v)) ≡ word_in v
-word_twice v = refl
-
 words_crossed : (args : List Value) → map word_in (crossed args) ≡ map word_in args
 words_crossed [] = refl
 words_crossed (v ∷ args) = ap (λ ws. word_in v ∷ ws) (words_crossed args)

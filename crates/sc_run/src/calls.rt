@@ -1,28 +1,17 @@
 //! Calls: from their arguments to the first statement of what is called, and back (C11 6.5.2.2).
 
-ghost use Rattle.std.specs.Prelude.{◌≡◌, ◌<◌, ◌^◌, ◌++◌, [], ◌∷◌, IfOk, OnOk, Ok, Some, map, length, slice_get, suc};
-ghost use Rattle.std.specs.Option.{option_copied};
-ghost use Rattle.sc_event.specs.Lookup.{export_at};
-ghost use Rattle.sc_event.specs.Legal.{is_input, is_output, is_function, imports, takes};
-ghost use Rattle.sc_event.specs.declared.row.Entry.TheVariants.{Export};
-ghost use Rattle.sc_core.specs.Memory.{with_blocks};
-ghost use Rattle.sc_core.specs.Types.{variables};
+ghost use Rattle.std.specs.Prelude.{◌≡◌, ◌<◌, ◌^◌, IfOk, OnOk, Some, map, length};
 ghost use Rattle.sc_core.specs.Value.{c_arith};
-ghost use Rattle.sc_core.specs.Words.{Next, and_then, turn, leave, all_do};
-ghost use Rattle.sc_core.specs.Tree.{call};
-ghost use Rattle.sc_core.specs.Calls.{entered, function, blocks_for, may_call, crossing, option_value, word_in, crossed, run_in, calls};
-ghost use Rattle.sc_core.specs.Meaning.{function_of, inits_do, body_does};
-ghost use Rattle.sc_blocks.specs.Rows.{memory_of};
-ghost use Rattle.sc_blocks.specs.Living.{left_from};
-ghost use Rattle.sc_value.specs.Where.{here_of};
+ghost use Rattle.sc_core.specs.Words.{and_then, turn};
+ghost use Rattle.sc_core.specs.Calls.{function, word_in, run_in};
+ghost use Rattle.sc_core.specs.Meaning.{function_of};
 ghost use Rattle.sc_run.specs.Seen.{kept_by};
-ghost use Rattle.sc_run.specs.Comes.{Comes, with_exit};
-ghost use Rattle.sc_run.specs.Resume.{Steps, exit_of, way_in, library, bodies, calls_in, closes, back_to, result_goes, does_now};
+ghost use Rattle.sc_run.specs.Resume.{Steps, library, bodies, result_goes};
 ghost use Rattle.sc_run.specs.Entering.{Begun, told_call, entry_from, back_from, body_acts};
 
 use crate::machine::{Machine, init_all, make_blocks, store_at, take_turn, tell};
 use crate::work::{Callee, Frame, Leaving, Now, Step, To, Work};
-use sc_core::{ProgramTree, RunEnd, Value};
+use sc_core::{ProgramTree, Value};
 use sc_event::{Args, Event, OutOfMemory};
 use sc_value::Scope;
 use std::alloc::Global;

@@ -2,7 +2,7 @@
 
 ghost use Rattle.std.specs.Prelude.{◌≡◌, ◌++◌, [], ◌∷◌, IfOk, OnOk, map, slice_get, slice_index_or};
 ghost use Rattle.sc_core.specs.Memory.{with_blocks};
-ghost use Rattle.sc_core.specs.Meaning.{base_zeros, starred_zeros, repeated, zeros_of, member_zeros, struct_zeros, with_words, global_block, first_blocks, globals_of};
+ghost use Rattle.sc_core.specs.Meaning.{base_zeros, starred_zeros, repeated, zeros_of, member_zeros, struct_zeros, with_words, global_block, globals_of};
 ghost use Rattle.sc_blocks.specs.Rows.{memory_of};
 ghost use Rattle.sc_run.specs.Starting.{cell_with};
 

@@ -1,14 +1,11 @@
 //! What follows when control leaves statements (C11 6.8.5, 6.8.6).
 
-ghost use Rattle.std.specs.Prelude.{◌≡◌, ◌++◌, [], ◌∷◌, IfOk, OnOk, Ok, Err, Some, is_some, bytes_eq, ◌==◌, ◌&&◌};
-ghost use Rattle.sc_event.specs.Lookup.{export_at};
+ghost use Rattle.std.specs.Prelude.{◌≡◌, ◌++◌, [], ◌∷◌, IfOk, OnOk, bytes_eq, ◌==◌, ◌&&◌};
 ghost use Rattle.sc_core.specs.Words.{State, leave, follow, in_order, in_loop};
-ghost use Rattle.sc_core.specs.Calls.{crossing, word_back, option_value, word_in, main_name};
+ghost use Rattle.sc_core.specs.Calls.{main_name};
 ghost use Rattle.sc_core.specs.Meaning.{exit_word};
-ghost use Rattle.sc_blocks.specs.Rows.{memory_of};
 ghost use Rattle.sc_run.specs.Seen.{kept_by};
-ghost use Rattle.sc_run.specs.Comes.{Comes};
-ghost use Rattle.sc_run.specs.Resume.{Steps, exit_of, block_acts, next_acts, loop_acts, closes, returned, back_to, result_goes, does_now};
+ghost use Rattle.sc_run.specs.Resume.{Steps, exit_of, block_acts, next_acts, loop_acts, closes};
 ghost use Rattle.sc_run.specs.Returning.{ended_as, left_by, word_crossing, told_back, back_value};
 
 use crate::calls::{hand_back, word_in};
@@ -17,7 +14,7 @@ use crate::simple::simple;
 use crate::steps::round;
 use crate::work::{Frame, Leaving, Loop, Now, Step, To, Work};
 use sc_core::{Cause, ProgramTree, RunEnd, TypedStmt, Value};
-use sc_event::{Event, OutOfMemory, Scalar};
+use sc_event::{Event, OutOfMemory};
 
 // The statements that follow, where control reached the end of those before.
 fn leave_before_rest<'a>(

@@ -1,20 +1,16 @@
 //! What a program has: its functions, and what its compartments may call.
 
-ghost use Rattle.std.specs.Prelude.{◌≡◌, bytes_eq, map, Some, None, MatchOption, slice_get};
+ghost use Rattle.std.specs.Prelude.{◌≡◌, bytes_eq, Some, slice_get};
 ghost use Rattle.std.specs.List.{position};
-ghost use Rattle.std.specs.Option.{option_copied};
-ghost use Rattle.sc_event.specs.Lookup.{export_at};
 ghost use Rattle.sc_event.specs.Legal.{is_input, is_output, is_function, imports_of, imports, takes};
 ghost use Rattle.sc_event.specs.declared.row.Entry.TheVariants.{Main, Export};
-ghost use Rattle.sc_core.specs.Value.{c_arith};
-ghost use Rattle.sc_core.specs.Calls.{function, entered, may_call, crossing, word_in};
-ghost use Rattle.sc_core.specs.Meaning.{function_of};
+ghost use Rattle.sc_core.specs.Calls.{entered, may_call};
 ghost use Rattle.sc_run.specs.Resume.{library};
 ghost use Rattle.sc_run.specs.Finding.{functions_at, FoundAt, MainAt};
 
 use crate::work::Callee;
-use sc_core::{CallTarget, ProgramTree, TypedFunction, TypedSection, Value};
-use sc_event::{CompId, Import, Interfaces, Proto};
+use sc_core::{CallTarget, ProgramTree, TypedFunction, TypedSection};
+use sc_event::{CompId, Import, Interfaces};
 
 fn is_input(import: Import) -> bool
     ensures { result ≡ is_input import }

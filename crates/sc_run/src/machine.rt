@@ -1,6 +1,6 @@
 //! The state of a run.
 
-ghost use Rattle.std.specs.Prelude.{◌≡◌, ◌<◌, ◌^◌, ◌++◌, [], ◌∷◌, suc, length, Ok, Err, OnOk, slice_get};
+ghost use Rattle.std.specs.Prelude.{◌≡◌, ◌<◌, ◌^◌, ◌++◌, [], ◌∷◌, suc, length, OnOk, slice_get};
 ghost use Rattle.sc_core.specs.declared.value.Want.TheVariants as want;
 ghost use Rattle.sc_core.specs.Memory.{with_blocks};
 ghost use Rattle.sc_core.specs.Value.{c_arith};
@@ -9,7 +9,7 @@ ghost use Rattle.sc_core.specs.Tree.{given, stored, store_at, assign};
 ghost use Rattle.sc_core.specs.Meaning.{init_does, inits_do};
 ghost use Rattle.sc_blocks.specs.Rows.{memory_of};
 ghost use Rattle.sc_value.specs.Where.{here_of};
-ghost use Rattle.sc_run.specs.Seen.{Seen, kept_by};
+ghost use Rattle.sc_run.specs.Seen.{kept_by};
 ghost use Rattle.sc_run.specs.Comes.{Comes, with_exit};
 ghost use Rattle.sc_run.specs.Resume.{way_in};
 ghost use Rattle.sc_run.specs.Entering.{block_for, with_variables};

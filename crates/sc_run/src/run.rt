@@ -1,6 +1,6 @@
 //! Whole runs.
 
-ghost use Rattle.std.specs.Prelude.{◌≡◌, [], map, take, IfOk};
+ghost use Rattle.std.specs.Prelude.{◌≡◌, map, take, IfOk};
 ghost use Rattle.sc_word.specs.Word.{word_of};
 ghost use Rattle.sc_core.specs.Run.{stopped_at};
 ghost use Rattle.sc_core.specs.Meaning.{meaning};

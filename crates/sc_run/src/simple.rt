@@ -1,12 +1,10 @@
 //! Calls in statements, and the statements that may stand in the head of a `for`.
 
-ghost use Rattle.std.specs.Prelude.{◌≡◌, ◌++◌, [], ◌∷◌, IfOk, OnOk, Ok, Some, None, map, length, drop};
-ghost use Rattle.sc_event.specs.declared.event.Event.TheVariants.{In, Out};
-ghost use Rattle.sc_core.specs.declared.value.Value.TheVariants.{Word};
+ghost use Rattle.std.specs.Prelude.{◌≡◌, IfOk, map, drop};
 ghost use Rattle.sc_core.specs.Value.{c_arith};
-ghost use Rattle.sc_core.specs.Words.{and_then, turn, computed};
+ghost use Rattle.sc_core.specs.Words.{and_then, computed};
 ghost use Rattle.sc_core.specs.Tree.{assign, call, values, simple_does};
-ghost use Rattle.sc_core.specs.Calls.{word_in, crossed, first_word, next_input, called};
+ghost use Rattle.sc_core.specs.Calls.{crossed, first_word, next_input, called};
 ghost use Rattle.sc_value.specs.Where.{here_of};
 ghost use Rattle.sc_run.specs.Seen.{kept_by};
 ghost use Rattle.sc_run.specs.Comes.{Comes};

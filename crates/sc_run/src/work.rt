@@ -1,3 +1,5 @@
+//! What a run does at the moment, and what waits.
+
 use sc_core::{RunEnd, TypedExpr, TypedFunction, TypedSimple, TypedStmt, TypedStruct, Value};
 use sc_event::CompId;
 use sc_value::Scope;
