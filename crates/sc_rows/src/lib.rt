@@ -2,6 +2,10 @@
 #![tactic(auto)]
 
 #[cfg(test)]
+mod blame;
+#[cfg(test)]
+mod check;
+#[cfg(test)]
 mod exec;
 #[cfg(test)]
 mod machine;
@@ -11,3 +15,7 @@ mod meaning;
 mod program;
 #[cfg(test)]
 mod refusal;
+#[cfg(test)]
+mod runs;
+#[cfg(test)]
+mod words;

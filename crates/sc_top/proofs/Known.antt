@@ -1,27 +1,28 @@
--- The numbers of all events stand for something: in the meaning of thin programs, and where the machine runs an image.
-use Rattle.std.proofs.Common.{◌≡◌, ◌∙◌, ℕ, Result, Ok, Err, IfOk, All, List, [], ◌∷◌, map, take, Bool, true, false, IsSome, ◌<◌, length, refl, sym, subst, arith, zero, suc, if◌then◌else◌}
+-- The numbers of all events stand for something: in the meaning of a program, and where the machine runs an image.
+use Rattle.std.proofs.Common.{◌≡◌, ◌∙◌, ap, ℕ, Result, Ok, Err, IfOk, All, List, [], ◌∷◌, map, IsSome, IsTrue, ◌<◌, length, refl, sym, subst, arith, zero, suc}
 use Rattle.std.specs.Prelude.{slice_get}
+use Rattle.std.proofs.lemmas.Bool.{and_parts, false≢true}
 use Rattle.std.proofs.lemmas.List.{length-map}
-use Rattle.std.specs.List.{AllByRecursion}
-use Rattle.std.proofs.lemmas.List.Elements.{All-append, All-take, All-from_recursion}
 use Rattle.sc_event.specs.declared.event.Event.{Event}
-use Rattle.sc_event.specs.declared.event.Event.TheVariants.{Out, End}
-use Rattle.sc_event.specs.Lookup.{IsKnown}
-use Rattle.sc_core.specs.declared.run.RunEnd.TheVariants.{EventsOut}
-use Rattle.sc_core.specs.declared.run.SourceRun.{SourceRun}
-use Rattle.sc_core.specs.declared.stop.Stop.{Stop}
-use Rattle.sc_core.specs.declared.thin.ThinProgram.{ThinProgram}
-use Rattle.sc_core.specs.Thin.{thin_meaning, whole_run}
-use Rattle.sc_event.proofs.Known.{legal_is_known}
-use Rattle.sc_event.specs.Lookup.{comp_at}
+use Rattle.sc_event.specs.declared.interface.Interface.{Interface}
 use Rattle.sc_event.specs.declared.interface.Interfaces.{Interfaces}
-use Rattle.sc_report.specs.Report.{meaning_text, run_text}
+use Rattle.sc_event.specs.Lookup.{IsKnown, comp_at}
+use Rattle.sc_event.proofs.Known.{legal_is_known}
+use Rattle.sc_word.specs.Word.{word_of}
+use Rattle.sc_core.specs.declared.program.ProgramTree.{ProgramTree}
+use Rattle.sc_core.specs.declared.section.TypedSection.{TypedSection}
+use Rattle.sc_core.specs.declared.stop.Stop.{Stop}
+use Rattle.sc_core.specs.Laws.{TracesAreLegal as SourceTracesAreLegal}
+use Rattle.sc_core.specs.Value.{c_arith}
+use Rattle.sc_core.specs.WellTyped.{sections_fit, main_fits, IsWellTyped}
+use Rattle.sc_report.specs.Report.{run_text}
 use Rattle.sc_image.specs.Bytes.{image_bytes}
 use Rattle.sc_image.specs.declared.parts.ImageParts.{ImageParts}
 use Rattle.sc_image.specs.Interfaces.{interface_of, interfaces_of, TracesAreLegal}
 use Rattle.sc_image.specs.WellFormed.{IsWellFormed}
-use Rattle.sc_top.specs.Output.{shown, machine_text, default_events, default_steps, IsExecuted}
-use Rattle.sc_top.specs.Names.{thin_interfaces}
+use Rattle.sc_words.specs.declared.command.MeaningOptions.{MeaningOptions}
+use Rattle.sc_words.specs.declared.command.RunOptions.{RunOptions}
+use Rattle.sc_top.specs.Output.{meant, shown, machine_text, IsExecuted}
 
 within : {A : Type 0} (xs : List A) (n : ℕ) → n < length xs → IsSome (slice_get xs n)
 within [] n lt = absurd (omega arith)
@@ -33,43 +34,43 @@ main_known : (image : ImageParts) → IsWellFormed image → IsSome (comp_at (in
 main_known image formed =
     within (interfaces_of image).comps image.main (subst (λ n. image.main < n) (sym (length-map image.comps interface_of)) formed.main)
 
-abbrev AreKnown : List Event → Type 0
-AreKnown = All (IsKnown thin_interfaces)
+-- a program has as many compartments as sections, and its main compartment is one of them
+as_many : (interfaces : Interfaces) (comp : ℕ) (comps : List Interface) (sections : List TypedSection) → IsTrue (sections_fit interfaces comp comps sections) → length comps ≡ length sections
+as_many interfaces comp [] [] fit = refl
+as_many interfaces comp [] (section ∷ sections) fit = absurd (false≢true fit)
+as_many interfaces comp (i ∷ comps) [] fit = absurd (false≢true fit)
+as_many interfaces comp (i ∷ comps) (section ∷ sections) fit =
+    ap suc (as_many interfaces (suc comp) comps sections (and_parts _ _ (and_parts _ _ fit).1).1)
 
-outputs_known : (words : List ℕ) → AllByRecursion (IsKnown thin_interfaces) (map (λ word. Out 0 word) words)
-outputs_known [] = tt
-outputs_known (word ∷ words) = (refl, outputs_known words)
+main_there : (sections : List TypedSection) (main : ℕ) → IsTrue (main_fits (slice_get sections main)) → main < length sections
+main_there [] main fit = absurd (false≢true fit)
+main_there (section ∷ sections) zero fit = omega arith
+main_there (section ∷ sections) (suc main) fit = let less = main_there sections main fit in omega (arith, less)
 
-whole_known : (program : ThinProgram) → AreKnown (whole_run program).trace
-whole_known program =
-    All-append (IsKnown thin_interfaces) _ _ (All-from_recursion (IsKnown thin_interfaces) _ (outputs_known program.outputs))
-    (All-from_recursion (IsKnown thin_interfaces) (End 0 program.result ∷ []) (refl, tt))
+program_main : (program : ProgramTree) → IsWellTyped program → IsSome (comp_at program.interfaces program.interfaces.main)
+program_main program typed =
+    let behind = (and_parts _ _ (and_parts _ _ typed).1).1 in
+    let fit = (and_parts _ _ behind).0 in
+    let main = (and_parts _ _ (and_parts _ _ behind).1).0 in
+    within program.interfaces.comps program.interfaces.main
+    (subst (λ n. program.interfaces.main < n) (sym (as_many program.interfaces 0 program.interfaces.comps program.sections fit)) (main_there program.sections program.interfaces.main main))
 
-stopped_known : (events : ℕ) (run : SourceRun) (stopped : Bool) → AreKnown run.trace →
-    AreKnown (if stopped then record { trace = take events run.trace; end = EventsOut } else run).trace
-stopped_known events run true known = All-take (IsKnown thin_interfaces) events run.trace known
-stopped_known events run false known = known
-
-pub meaning_known : (events : ℕ) (program : ThinProgram) → All (IsKnown thin_interfaces) (thin_meaning events program).trace
-meaning_known events program = stopped_known events (whole_run program) _ (whole_known program)
+-- what a program shows is known by its names: such traces are legal
+pub meant_known : SourceTracesAreLegal → (options : MeaningOptions) (program : ProgramTree) → IsWellTyped program → All (IsKnown program.interfaces) (meant options program).trace
+meant_known legal options program typed =
+    legal_is_known program.interfaces (meant options program).trace (program_main program typed) (legal.meaning c_arith program (map word_of options.inputs) options.turns options.events)
 
 -- what the machine shows on an image is known by the image's names: such traces are legal
-pub shown_known : TracesAreLegal → (image : ImageParts) → IsWellFormed image → All (IsKnown (interfaces_of image)) (shown image).state.trace
-shown_known legal image formed =
-    legal_is_known (interfaces_of image) (shown image).state.trace (main_known image formed) (legal image [] default_steps default_events formed)
+pub shown_known : TracesAreLegal → (options : RunOptions) (image : ImageParts) → IsWellFormed image → All (IsKnown (interfaces_of image)) (shown options image).state.trace
+shown_known legal options image formed =
+    legal_is_known (interfaces_of image) (shown options image).state.trace (main_known image formed) (legal image options.inputs options.steps options.events formed)
 
 -- the run's text, from what was found of the image and of the run
-pub shown_text : {E : Type 0} (r : Result (List ℕ) E) (image : ImageParts) (interfaces : Interfaces) (trace : List Event) (stop : Stop) → interfaces ≡ interfaces_of image →
-    trace ≡ (shown image).state.trace → stop ≡ (shown image).stop → IfOk r (λ text. text ≡ run_text interfaces trace stop) → IfOk r (λ text. text ≡ machine_text image)
-shown_text (Ok text) image interfaces trace stop names events why told = told ∙ rw (names, events, why) refl
-shown_text (Err fault) image interfaces trace stop names events why told = tt
-
--- so it is with the meaning of a thin program
-pub meant_text : {E : Type 0} (r : Result (List ℕ) E) (interfaces : Interfaces) (run : SourceRun) (program : ThinProgram) → interfaces ≡ thin_interfaces → run ≡ thin_meaning default_events program →
-    IfOk r (λ text. text ≡ meaning_text interfaces run) → IfOk r (λ text. text ≡ meaning_text thin_interfaces (thin_meaning default_events program))
-meant_text (Ok text) interfaces run program names is told = told ∙ rw (names, is) refl
-meant_text (Err fault) interfaces run program names is told = tt
+pub shown_text : {E : Type 0} (r : Result (List ℕ) E) (options : RunOptions) (image : ImageParts) (interfaces : Interfaces) (trace : List Event) (stop : Stop) → interfaces ≡ interfaces_of image →
+    trace ≡ (shown options image).state.trace → stop ≡ (shown options image).stop → IfOk r (λ text. text ≡ run_text interfaces trace stop) → IfOk r (λ text. text ≡ machine_text options image)
+shown_text (Ok text) options image interfaces trace stop names events why told = told ∙ rw (names, events, why) refl
+shown_text (Err fault) options image interfaces trace stop names events why told = tt
 
 -- an image that was read and run
-pub executed : (bytes text : List ℕ) (image : ImageParts) → bytes ≡ image_bytes image → IsWellFormed image → text ≡ machine_text image → IsExecuted bytes text
-executed bytes text image bytes_are formed told = record { read = record { image = image; well_formed = formed; bytes_are = bytes_are }; told = told }
+pub executed : (options : RunOptions) (bytes text : List ℕ) (image : ImageParts) → bytes ≡ image_bytes image → IsWellFormed image → text ≡ machine_text options image → IsExecuted options bytes text
+executed options bytes text image bytes_are formed told = record { read = record { image = image; well_formed = formed; bytes_are = bytes_are }; told = told }

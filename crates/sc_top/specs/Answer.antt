@@ -1,15 +1,15 @@
 -- What an answer says of the bytes that were read and written.
-use Rattle.std.specs.Prelude.{◌≡◌, ◌<◌, ◌≤◌, ◌⊎◌, ℕ, List, ◌++◌, length, Option, Some}
+use Rattle.std.specs.Prelude.{◌≡◌, ◌≢◌, ◌<◌, ◌≤◌, ◌⊎◌, ℕ, List, ◌++◌, length, Option, Some, None, IsSomeAnd, option_and_then}
 use Rattle.std.specs.Option.{option_map}
 use Rattle.sc_lex.specs.declared.refusal.Refusal.{Refusal}
-use Rattle.sc_lex.specs.declared.refusal.Phase.TheVariants.{Lex}
-use Rattle.sc_ast.specs.declared.section.SectionTree.{SectionTree}
-use Rattle.sc_read.specs.Reading.{Reads, Fails}
+use Rattle.sc_lex.specs.declared.refusal.Phase.TheVariants.{Syntax}
 use Rattle.sc_core.specs.declared.thin.ThinProgram.{ThinProgram}
+use Rattle.sc_core.specs.declared.program.ProgramTree.{ProgramTree}
 use Rattle.sc_image.specs.Reading.{cause_number, bad}
 use Rattle.sc_edge.specs.Edge.{Rose, Takes, Adds, IsAtEnd}
-use Rattle.sc_top.specs.declared.command.Command.{Command}
-use Rattle.sc_top.specs.declared.command.Command.TheVariants.{OfText, Exec}
+use Rattle.sc_types.specs.Acceptance.{Accepts, Fails}
+use Rattle.sc_words.specs.declared.command.Command.{Command}
+use Rattle.sc_words.specs.declared.command.Command.TheVariants.{Check, Meaning, Compile, Run, Exec, Explain, Make}
 use Rattle.sc_top.specs.declared.status.Status.{Status}
 use Rattle.sc_top.specs.declared.status.Status.TheVariants.{Done, Usage, Refused, TooLong, BadImage, ReadFault, WriteFault, OutOfMemory, NotBuilt}
 use Rattle.sc_top.specs.Command.{limit_of}
@@ -32,11 +32,15 @@ pub record IsWhole (limit : ℕ) (left left' : Option (List ℕ)) (bytes : List 
   pub ended : IsAtEnd left'
   pub within : length bytes ≤ limit
 
--- the whole text was read, and the command's output for it was written
+-- these bytes are the whole input of a command that reads some
+abbrev pub IsInput : Command → (left left' : Option (List ℕ)) → List ℕ → Type 0
+IsInput command left left' bytes = IsSomeAnd (limit_of command) (λ limit. IsWhole limit left left' bytes)
+
+-- the whole input was read, and the command's output for it was written
 pub record IsDone (command : Command) (left left' written written' : Option (List ℕ)) : Type 0 where
   pub bytes : List ℕ
   pub text : List ℕ
-  pub input : IsWhole (limit_of command) left left' bytes
+  pub input : IsInput command left left' bytes
   pub output : IsOutput command bytes text
   pub whole : Adds written written' text
 
@@ -45,20 +49,21 @@ pub record IsCutShort (command : Command) (left left' written written' : Option 
   pub bytes : List ℕ
   pub text : List ℕ
   pub front : List ℕ
-  pub input : IsWhole (limit_of command) left left' bytes
+  pub input : IsInput command left left' bytes
   pub output : IsOutput command bytes text
   pub begins : IsFront front text
   pub part : Adds written written' front
 
 -- a command takes a text through the phases, which refuse it here; an image has none
 abbrev pub Refuses : Command → List ℕ → Refusal → Type 0
-Refuses (OfText command) bytes refusal = Fails bytes refusal.phase refusal.line
-Refuses Exec bytes refusal = ⊥
+Refuses (Exec options) bytes refusal = ⊥
+Refuses (Make options) bytes refusal = ⊥
+Refuses _ bytes refusal = Fails bytes refusal.phase refusal.line
 
 -- the whole text was read, and it fails a phase
 pub record IsRefused (command : Command) (left left' : Option (List ℕ)) (refusal : Refusal) : Type 0 where
   pub bytes : List ℕ
-  pub input : IsWhole (limit_of command) left left' bytes
+  pub input : IsInput command left left' bytes
   pub fails : Refuses command bytes refusal
 
 -- the number of the cause for which the bytes are no image, if they are none
@@ -67,13 +72,13 @@ cause_in bytes = option_map cause_number (bad bytes)
 
 -- a command takes the bytes for an image, and this is why they are none
 abbrev pub FindsBad : Command → List ℕ → (cause : ℕ) → Type 0
-FindsBad (OfText command) bytes cause = ⊥
-FindsBad Exec bytes cause = cause_in bytes ≡ Some cause
+FindsBad (Exec options) bytes cause = cause_in bytes ≡ Some cause
+FindsBad _ bytes cause = ⊥
 
 -- all bytes were read, and they are no image
 pub record IsBadInput (command : Command) (left left' : Option (List ℕ)) (cause : ℕ) : Type 0 where
   pub bytes : List ℕ
-  pub input : IsWhole (limit_of command) left left' bytes
+  pub input : IsInput command left left' bytes
   pub bad_for : FindsBad command bytes cause
 
 -- more bytes came than the limit
@@ -86,11 +91,11 @@ pub record IsLonger (limit : ℕ) (left left' : Option (List ℕ)) : Type 0 wher
 abbrev pub IsFetchFault : ℕ → Status → Type 0
 IsFetchFault limit status = (status ≡ TooLong limit) ⊎ (status ≡ ReadFault) ⊎ (status ≡ OutOfMemory)
 
--- a text passes the phases, and isn't thin
+-- a text is accepted, and isn't thin
 pub record IsBeyond (text : List ℕ) : Type 0 where
-  pub trees : List SectionTree
-  pub reads : Reads text trees
-  pub thick : (program : ThinProgram) → IsThin text program → ⊥
+  pub program : ProgramTree
+  pub accepted : Accepts text program
+  pub thick : (thin : ThinProgram) → IsThin text thin → ⊥
 
 -- why a text has no output
 abbrev pub IsTextFault : Status → Type 0
@@ -104,16 +109,18 @@ IsImageFault status = (status ≡ OutOfMemory) ⊎ ((cause : ℕ) × (status ≡
 abbrev pub IsInputFault : Status → Type 0
 IsInputFault status = IsTextFault status ⊎ IsImageFault status
 
--- a command of texts takes the thin ones alone
+-- `check` and `meaning` are there for all texts, and the other commands of texts for thin ones alone; `make` isn't there yet
 abbrev pub GivesUp : Command → List ℕ → Type 0
-GivesUp (OfText command) bytes = IsBeyond bytes
-GivesUp Exec bytes = ⊥
+GivesUp Check bytes = ⊥
+GivesUp (Meaning options) bytes = ⊥
+GivesUp (Exec options) bytes = ⊥
+GivesUp (Make options) bytes = Unit {0}
+GivesUp _ bytes = IsBeyond bytes
 
--- the whole text was read, and it is beyond the thin ones
-pub record IsNotBuilt (command : Command) (left left' : Option (List ℕ)) : Type 0 where
-  pub bytes : List ℕ
-  pub input : IsWhole (limit_of command) left left' bytes
-  pub beyond : GivesUp command bytes
+-- the whole text was read, and it is beyond the thin ones; or the command reads nothing
+pub data IsNotBuilt (command : Command) (left left' : Option (List ℕ)) : Type 0 where
+  reads_nothing : limit_of command ≡ None → left' ≡ left → IsNotBuilt command left left'
+  beyond : (bytes : List ℕ) → IsInput command left left' bytes → GivesUp command bytes → IsNotBuilt command left left'
 
 -- a text was written, whole or cut short by a fault
 pub record Tells (text : List ℕ) (written written' : Option (List ℕ)) (faults faults' : ℕ) : Type 0 where
@@ -122,16 +129,30 @@ pub record Tells (text : List ℕ) (written written' : Option (List ℕ)) (fault
   pub part : Adds written written' front
   pub whole : (front ≡ text) ⊎ Rose faults faults'
 
+-- the words are no command that reads
+abbrev pub IsSilent : Option Command → Type 0
+IsSilent asked = option_and_then limit_of asked ≡ None
+
+-- no more bytes than the command takes
+abbrev pub IsWithin : Command → List ℕ → Type 0
+IsWithin command text = IsSomeAnd (limit_of command) (λ limit. length text ≤ limit)
+
+-- the command takes every accepted text
+abbrev pub IsOfAnyText : Command → Type 0
+IsOfAnyText Check = Unit {0}
+IsOfAnyText (Meaning options) = Unit {0}
+IsOfAnyText _ = ⊥
+
 -- the answer to these bytes, unless memory runs out or the outside fails
 abbrev pub IsAnswer : Command → List ℕ → Status → Type 0
-IsAnswer command text Done = (length text ≤ limit_of command) × ((output : List ℕ) × IsOutput command text output)
-IsAnswer command text (Refused refusal) = (length text ≤ limit_of command) × Refuses command text refusal
-IsAnswer command text (TooLong limit) = (limit ≡ limit_of command) × (limit < length text)
-IsAnswer command text (BadImage cause) = (length text ≤ limit_of command) × FindsBad command text cause
-IsAnswer command text NotBuilt = (length text ≤ limit_of command) × GivesUp command text
+IsAnswer command text Done = IsWithin command text × ((output : List ℕ) × IsOutput command text output)
+IsAnswer command text (Refused refusal) = IsWithin command text × Refuses command text refusal
+IsAnswer command text (TooLong limit) = (limit_of command ≡ Some limit) × (limit < length text)
+IsAnswer command text (BadImage cause) = IsWithin command text × FindsBad command text cause
+IsAnswer command text NotBuilt = (limit_of command ≡ None) ⊎ (IsWithin command text × GivesUp command text)
 IsAnswer command text _ = ⊥
 
 -- two answers are the same; which line of a section phase Syntax refuses isn't told
 abbrev pub SameAnswer : Status → Status → Type 0
-SameAnswer (Refused refusal) (Refused other) = (refusal.phase ≡ other.phase) × (refusal.phase ≡ Lex → refusal.line ≡ other.line)
+SameAnswer (Refused refusal) (Refused other) = (refusal.phase ≡ other.phase) × (refusal.phase ≢ Syntax → refusal.line ≡ other.line)
 SameAnswer status other = status ≡ other

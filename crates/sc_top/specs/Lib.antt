@@ -1,6 +1,5 @@
 pub mod Answer
 pub mod Command
-pub mod Names
 pub mod Output
 pub mod Statement
 pub mod Status

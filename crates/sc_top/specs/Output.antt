@@ -1,59 +1,83 @@
 -- What each command writes for what it read.
-use Rattle.std.specs.Prelude.{◌≡◌, ℕ, List, [], ◌++◌, length, codes}
+use Rattle.std.specs.Prelude.{◌≡◌, ℕ, List, ◌++◌, length, map, codes, Option, Some, None}
+use Rattle.sc_word.specs.Word.{word_of}
+use Rattle.sc_core.specs.declared.run.SourceRun.{SourceRun}
+use Rattle.sc_core.specs.Meaning.{meaning}
 use Rattle.sc_core.specs.Thin.{thin_meaning}
 use Rattle.sc_core.specs.declared.thin.ThinProgram.{ThinProgram}
+use Rattle.sc_core.specs.declared.program.ProgramTree.{ProgramTree}
 use Rattle.sc_image.specs.declared.parts.ImageParts.{ImageParts}
 use Rattle.sc_image.specs.Bytes.{image_bytes}
 use Rattle.sc_image.specs.Interfaces.{interfaces_of}
 use Rattle.sc_image.specs.Machine.{Run, machine}
 use Rattle.sc_image.specs.RoundTrip.{IsImage}
 use Rattle.sc_compile.specs.Image.{thin_image}
+use Rattle.sc_report.specs.Check.{check_text}
 use Rattle.sc_report.specs.Report.{meaning_text, run_text}
-use Rattle.sc_top.specs.declared.command.Command.{Command}
-use Rattle.sc_top.specs.declared.command.Command.TheVariants.{OfText, Exec}
-use Rattle.sc_top.specs.declared.command.TextCommand.{TextCommand}
-use Rattle.sc_top.specs.declared.command.TextCommand.TheVariants as commands
-use Rattle.sc_top.specs.Names.{thin_interfaces}
+use Rattle.sc_types.specs.Acceptance.{Accepts}
+use Rattle.sc_words.specs.declared.command.Command.{Command}
+use Rattle.sc_words.specs.declared.command.Command.TheVariants as commands
+use Rattle.sc_words.specs.declared.command.MeaningOptions.{MeaningOptions}
+use Rattle.sc_words.specs.declared.command.RunOptions.{RunOptions}
 use Rattle.sc_top.specs.Thin.{IsThin}
 
--- at most so many events, and so many steps of the machine, where the words don't say
-abbrev pub default_events : ℕ
-default_events = 1024
+-- what a program means, with so many turns and events and these inputs
+abbrev pub meant : MeaningOptions → ProgramTree → SourceRun
+meant options program = meaning program (map word_of options.inputs) options.turns options.events
 
-abbrev pub default_steps : ℕ
-default_steps = 1000000
+-- the same in words
+abbrev pub told : MeaningOptions → ProgramTree → List ℕ
+told options program = meaning_text program.interfaces (meant options program)
 
 -- what the machine shows on an image
-abbrev pub shown : ImageParts → Run
-shown image = machine image [] default_steps default_events
+abbrev pub shown : RunOptions → ImageParts → Run
+shown options image = machine image options.inputs options.steps options.events
 
 -- the same in words, with the image's own names
-abbrev pub machine_text : ImageParts → List ℕ
-machine_text image = run_text (interfaces_of image) (shown image).state.trace (shown image).stop
+abbrev pub machine_text : RunOptions → ImageParts → List ℕ
+machine_text options image =
+    run_text (interfaces_of image) (shown options image).state.trace (shown options image).stop
 
 -- within so many events as the machine shows, the program's own meaning has just this trace
-abbrev pub IsMeant : ThinProgram → Type 0
-IsMeant program =
-    let trace = (shown (thin_image program)).state.trace in (thin_meaning (length trace) program).trace ≡ trace
+abbrev pub IsMeant : RunOptions → ThinProgram → Type 0
+IsMeant options program =
+    let trace = (shown options (thin_image program)).state.trace in (thin_meaning (length trace) program).trace ≡ trace
 
--- the text tells what the machine shows, and that nothing has to be replaced in the program for its meaning to be that
-pub record IsExplained (program : ThinProgram) (text : List ℕ) : Type 0 where
-  pub told : text ≡ machine_text (thin_image program) ++ codes "chain 0\n"
-  pub chain : IsMeant program
+-- the report tells what the machine shows, and that nothing has to be replaced. Of the chain, which is the text alone, any text is that one
+abbrev pub explained : RunOptions → (show : Option ℕ) → List ℕ → ThinProgram → List ℕ
+explained options None bytes program = machine_text options (thin_image program) ++ codes "chain 0\n"
+explained options (Some place) bytes program = bytes
 
--- the text is the command's output for this program
-abbrev pub IsOutputOf : TextCommand → ThinProgram → List ℕ → Type 0
-IsOutputOf commands.Meaning program text = text ≡ meaning_text thin_interfaces (thin_meaning default_events program)
-IsOutputOf commands.Compile program text = text ≡ image_bytes (thin_image program)
-IsOutputOf commands.Run program text = text ≡ machine_text (thin_image program)
-IsOutputOf commands.Explain program text = IsExplained program text
+-- the text accounts for what the machine shows: nothing has to be replaced in the program for its meaning to be that
+pub record IsExplained (options : RunOptions) (show : Option ℕ) (bytes : List ℕ) (program : ThinProgram) (text : List ℕ) : Type 0 where
+  pub told : text ≡ explained options show bytes program
+  pub chain : IsMeant options program
 
 -- the bytes are those of an image, and the text tells what the machine shows on it
-pub record IsExecuted (bytes text : List ℕ) : Type 0 where
+pub record IsExecuted (options : RunOptions) (bytes text : List ℕ) : Type 0 where
   pub read : IsImage bytes
-  pub told : text ≡ machine_text read.image
+  pub told : text ≡ machine_text options read.image
+
+-- the bytes are accepted as a program, of which this holds
+abbrev pub IsOfProgram : List ℕ → (ProgramTree → Type 0) → Type 0
+IsOfProgram bytes Q = (program : ProgramTree) × Accepts bytes program × Q program
+
+-- the bytes are accepted, and they are the thin text of this program
+pub record IsThinText (bytes : List ℕ) (program : ThinProgram) : Type 0 where
+  pub tree : ProgramTree
+  pub accepted : Accepts bytes tree
+  pub thin : IsThin bytes program
+
+-- the bytes are the thin text of a program, of which this holds
+abbrev pub IsOfThin : List ℕ → (ThinProgram → Type 0) → Type 0
+IsOfThin bytes Q = (program : ThinProgram) × IsThinText bytes program × Q program
 
 -- the text is the command's output for these bytes
 abbrev pub IsOutput : Command → List ℕ → List ℕ → Type 0
-IsOutput (OfText command) bytes text = (program : ThinProgram) × IsThin bytes program × IsOutputOf command program text
-IsOutput Exec bytes text = IsExecuted bytes text
+IsOutput commands.Check bytes text = IsOfProgram bytes (λ program. text ≡ check_text program.interfaces)
+IsOutput (commands.Meaning options) bytes text = IsOfProgram bytes (λ program. text ≡ told options program)
+IsOutput commands.Compile bytes text = IsOfThin bytes (λ program. text ≡ image_bytes (thin_image program))
+IsOutput (commands.Run options) bytes text = IsOfThin bytes (λ program. text ≡ machine_text options (thin_image program))
+IsOutput (commands.Exec options) bytes text = IsExecuted options bytes text
+IsOutput (commands.Explain options show) bytes text = IsOfThin bytes (λ program. IsExplained options show bytes program text)
+IsOutput (commands.Make options) bytes text = ⊥

@@ -1,16 +1,17 @@
 //! What holds of every text.
 
-ghost use Rattle.std.specs.Prelude.{ℕ, List};
+ghost use Rattle.std.specs.Prelude.{◌⊎◌, ℕ, List};
 ghost use Rattle.sc_core.specs.declared.thin.ThinProgram.{ThinProgram};
 ghost use Rattle.sc_ast.specs.declared.section.SectionTree.{SectionTree};
 ghost use Rattle.sc_read.specs.Reading.{Reads};
-ghost use Rattle.sc_top.specs.declared.command.Command.{Command};
+ghost use Rattle.sc_words.specs.declared.command.Command.{Command};
 ghost use Rattle.sc_top.specs.declared.status.Status.{Status};
-ghost use Rattle.sc_top.specs.Answer.{IsAnswer, SameAnswer};
+ghost use Rattle.sc_top.specs.Answer.{IsOfAnyText, IsWithin, IsAnswer, SameAnswer};
+ghost use Rattle.sc_top.specs.Output.{IsOutput};
 ghost use Rattle.sc_top.specs.Thin.{IsThin};
 
 use sc_print::{dense_sections_are_cut, lines_add_no_height, words_of_sections_spell_them};
-use sc_read::{one_phase, read_or_refused};
+use sc_types::{accepted_or_refused, one_phase};
 
 /// A thin text passes phases Lex and Syntax.
 pub fn thin_texts_are_read()
@@ -21,11 +22,15 @@ pub fn thin_texts_are_read()
     lines_add_no_height();
 }
 
+/// A thin text and an image are never longer than the commands take that read them alone.
+pub fn thin_texts_and_images_are_within()
+    ensures { (c : Command) (bytes text : List ℕ) → IsOutput c bytes text → IsOfAnyText c ⊎ IsWithin c bytes }
+{}
+
 /// Bytes have one answer at most.
 pub fn one_answer()
     ensures { (c : Command) (text : List ℕ) (status other : Status) → IsAnswer c text status → IsAnswer c text other → SameAnswer status other }
 {
-    thin_texts_are_read();
-    read_or_refused();
+    accepted_or_refused();
     one_phase();
 }

@@ -6,15 +6,14 @@ mod exec;
 mod input;
 mod laws;
 mod machine;
-mod names;
 mod output;
 mod status;
 mod telling;
+mod text;
 mod thin;
 mod top;
 
-pub use command::{Command, TextCommand};
-pub use laws::{one_answer, thin_texts_are_read};
+pub use laws::{one_answer, thin_texts_and_images_are_within, thin_texts_are_read};
 pub use status::Status;
 pub use telling::tell;
 pub use top::secomp;

@@ -1,32 +1,26 @@
-ghost use Rattle.std.specs.Prelude.{◌≡◌, ◌≢◌, ◌<◌, ◌≤◌, ◌⊎◌, ◌↔◌, ℕ, List, None, Some, length, map, OnOk, IfOk, IfErr, IsErrOf, IsSomeAnd};
-ghost use Rattle.sc_core.specs.declared.thin.ThinProgram.{ThinProgram};
+ghost use Rattle.std.specs.Prelude.{◌≡◌, ◌≢◌, ◌⊎◌, ◌↔◌, ℕ, List, None, Some, map, OnOk, IfOk, IfErr, IsErrOf, IsSomeAnd};
 ghost use Rattle.sc_lex.specs.declared.refusal.Refusal.{Refusal};
-ghost use Rattle.sc_read.specs.Reading.{Fails};
-ghost use Rattle.sc_top.specs.declared.command.Command.{Command};
-ghost use Rattle.sc_top.specs.declared.command.Command.TheVariants.{OfText};
+ghost use Rattle.sc_words.specs.declared.command.Command.{Command};
+ghost use Rattle.sc_words.specs.Words.{command};
 ghost use Rattle.sc_top.specs.declared.status.Status.{Status};
 ghost use Rattle.std.specs.String.{string_bytes};
 ghost use Rattle.sc_edge.specs.Edge.{Rose};
-ghost use Rattle.sc_top.specs.Answer.{IsDone, IsCutShort, Refuses, IsRefused, FindsBad, IsBadInput, IsLonger, IsBeyond, GivesUp, IsNotBuilt, IsTextFault, IsInputFault, IsAnswer, Tells};
-ghost use Rattle.sc_top.specs.Command.{command, limit_of};
-ghost use Rattle.sc_top.specs.Output.{IsOutput, IsOutputOf};
+ghost use Rattle.sc_top.specs.Answer.{IsDone, IsCutShort, Refuses, IsRefused, FindsBad, IsBadInput, IsLonger, GivesUp, IsNotBuilt, IsInputFault, IsSilent, IsWithin, IsAnswer, Tells};
+ghost use Rattle.sc_top.specs.Command.{limit_of};
+ghost use Rattle.sc_top.specs.Output.{IsOutput};
 ghost use Rattle.sc_top.specs.Status.{status_text};
 
 use crate::Status;
-use crate::command::{Command, TextCommand, read_command};
+use crate::command::limit;
 use crate::exec::execute;
 use crate::input::read_whole;
 use crate::laws::one_answer;
-use crate::machine::{compiled_text, explanation, meaning_text};
 use crate::output::write_text;
 use crate::telling::tell;
-use crate::thin::read_thin;
-use sc_compile::compile;
-use sc_core::ThinProgram;
+use crate::text::{check, compiled, explain, meaning, run};
 use sc_edge::{Sink, Source};
-use sc_event::{OutOfMemory, Text};
-use sc_image::write_image;
-use sc_read::read_trees;
+use sc_event::Text;
+use sc_words::{Command, read_command};
 use std::alloc::Global;
 
 /// Runs the program on its words, without its own name in front. A status other than `Done` is told on `err`.
@@ -40,14 +34,15 @@ pub fn secomp<S: Source, O: Sink, E: Sink>(
     ensures done { result ≡ Status.Done → IsSomeAnd (command (map string_bytes words.now))
         (λ c. IsDone c (S.left source.old) (S.left source.new) (O.written out.old) (O.written out.new)) }
 
-    ensures usage { (result ≡ Status.Usage) ↔ (command (map string_bytes words.now) ≡ None) }
-    ensures unread { result ≡ Status.Usage → source.new ≡ source.old }
+    ensures usage { result ≡ Status.Usage → command (map string_bytes words.now) ≡ None }
+    ensures no_command { command (map string_bytes words.now) ≡ None → (result ≡ Status.Usage) ⊎ (result ≡ Status.OutOfMemory) }
+    ensures unread { IsSilent (command (map string_bytes words.now)) → source.new ≡ source.old }
     ensures refused { (refusal : Refusal) → result ≡ Status.Refused refusal → IsSomeAnd (command (map string_bytes words.now))
         (λ c. IsRefused c (S.left source.old) (S.left source.new) refusal) }
     ensures bad_image { (cause : ℕ) → result ≡ Status.BadImage cause → IsSomeAnd (command (map string_bytes words.now))
         (λ c. IsBadInput c (S.left source.old) (S.left source.new) cause) }
     ensures too_long { (limit : ℕ) → result ≡ Status.TooLong limit → IsSomeAnd (command (map string_bytes words.now))
-        (λ c. (limit ≡ limit_of c) × IsLonger limit (S.left source.old) (S.left source.new)) }
+        (λ c. (limit_of c ≡ Some limit) × IsLonger limit (S.left source.old) (S.left source.new)) }
     ensures not_built { result ≡ Status.NotBuilt → IsSomeAnd (command (map string_bytes words.now))
         (λ c. IsNotBuilt c (S.left source.old) (S.left source.new)) }
     ensures read_fault { result ≡ Status.ReadFault → Rose (S.faults source.old) (S.faults source.new) }
@@ -65,7 +60,7 @@ pub fn secomp<S: Source, O: Sink, E: Sink>(
 
     // Good input of a command is answered unless memory runs out or the outside fails.
     ensures complete { IsSomeAnd (command (map string_bytes words.now)) (λ c. IsSomeAnd (S.left source.old)
-        (λ bytes. (text : List ℕ) × IsOutput c bytes text))
+        (λ bytes. IsWithin c bytes × ((text : List ℕ) × IsOutput c bytes text)))
         → (Rose (S.faults source.old) (S.faults source.new) → ⊥) → (Rose (O.faults out.old) (O.faults out.new) → ⊥)
         → (result ≡ Status.Done) ⊎ (result ≡ Status.OutOfMemory) }
 
@@ -89,14 +84,15 @@ fn answer<S: Source, O: Sink>(
     ensures done { OnOk result (IsSomeAnd (command (map string_bytes words.now))
         (λ c. IsDone c (S.left source.old) (S.left source.new) (O.written out.old) (O.written out.new))) }
     ensures not_done { IsErrOf result Status.Done → ⊥ }
-    ensures usage { IsErrOf result Status.Usage ↔ (command (map string_bytes words.now) ≡ None) }
-    ensures unread { IsErrOf result Status.Usage → source.new ≡ source.old }
+    ensures usage { IsErrOf result Status.Usage → command (map string_bytes words.now) ≡ None }
+    ensures no_command { command (map string_bytes words.now) ≡ None → IsErrOf result Status.Usage ⊎ IsErrOf result Status.OutOfMemory }
+    ensures unread { IsSilent (command (map string_bytes words.now)) → source.new ≡ source.old }
     ensures refused { (refusal : Refusal) → IsErrOf result (Status.Refused refusal) → IsSomeAnd (command (map string_bytes words.now))
         (λ c. IsRefused c (S.left source.old) (S.left source.new) refusal) }
     ensures bad_image { (cause : ℕ) → IsErrOf result (Status.BadImage cause) → IsSomeAnd (command (map string_bytes words.now))
         (λ c. IsBadInput c (S.left source.old) (S.left source.new) cause) }
     ensures too_long { (limit : ℕ) → IsErrOf result (Status.TooLong limit) → IsSomeAnd (command (map string_bytes words.now))
-        (λ c. (limit ≡ limit_of c) × IsLonger limit (S.left source.old) (S.left source.new)) }
+        (λ c. (limit_of c ≡ Some limit) × IsLonger limit (S.left source.old) (S.left source.new)) }
     ensures not_built { IsErrOf result Status.NotBuilt → IsSomeAnd (command (map string_bytes words.now))
         (λ c. IsNotBuilt c (S.left source.old) (S.left source.new)) }
     ensures read_fault { IsErrOf result Status.ReadFault → Rose (S.faults source.old) (S.faults source.new) }
@@ -105,55 +101,28 @@ fn answer<S: Source, O: Sink>(
         (λ c. IsCutShort c (S.left source.old) (S.left source.new) (O.written out.old) (O.written out.new)) }
     ensures untouched { (status : Status) → IsErrOf result status → status ≢ Status.WriteFault → out.new ≡ out.old }
 {
-    let command = read_command(words).ok_or(Status::Usage)?;
-    let bytes = read_whole(alloc, source, command.limit())?;
-    let text = output(alloc, command, bytes.as_bytes())?;
+    let command = read_command(alloc, words)?;
+    let limit = limit(&command).ok_or(Status::NotBuilt)?;
+    let bytes = read_whole(alloc, source, limit)?;
+    let text = output(alloc, &command, bytes.as_bytes())?;
     write_text(out, text.as_bytes()).map_err(|_| Status::WriteFault)
 }
 
 // The command's output for these bytes.
-fn output(alloc: Global, command: Command, bytes: &[u8]) -> Result<Text, Status>
-    ensures ok { IfOk result (IsOutput command bytes.now) }
-    ensures refused { (refusal : Refusal) → IsErrOf result (Status.Refused refusal) → Refuses command bytes.now refusal }
-    ensures bad_image { (cause : ℕ) → IsErrOf result (Status.BadImage cause) → FindsBad command bytes.now cause }
-    ensures not_built { IsErrOf result Status.NotBuilt → GivesUp command bytes.now }
+fn output(alloc: Global, command: &Command, bytes: &[u8]) -> Result<Text, Status>
+    ensures ok { IfOk result (IsOutput command.now bytes.now) }
+    ensures refused { (refusal : Refusal) → IsErrOf result (Status.Refused refusal) → Refuses command.now bytes.now refusal }
+    ensures bad_image { (cause : ℕ) → IsErrOf result (Status.BadImage cause) → FindsBad command.now bytes.now cause }
+    ensures not_built { IsErrOf result Status.NotBuilt → GivesUp command.now bytes.now }
     ensures causes { IfErr result IsInputFault }
 {
     match command {
-        Command::OfText(command) => text_output(alloc, command, bytes),
-        Command::Exec => execute(alloc, bytes),
-    }
-}
-
-// The command's output for this text, which is first taken through the phases.
-#[tactic(auto, using(crate::proofs::Bodies::few_outputs))]
-fn text_output(alloc: Global, command: TextCommand, bytes: &[u8]) -> Result<Text, Status>
-    ensures ok { IfOk result (IsOutput (OfText command) bytes.now) }
-    ensures refused { (refusal : Refusal) → IsErrOf result (Status.Refused refusal) → Fails bytes.now refusal.phase refusal.line }
-    ensures not_built { IsErrOf result Status.NotBuilt → IsBeyond bytes.now }
-    ensures causes { IfErr result IsTextFault }
-{
-    let trees = read_trees(alloc, bytes)?;
-    drop(trees);
-    let Some(program) = read_thin(alloc, bytes)? else {
-        return Err(Status::NotBuilt);
-    };
-    Ok(output_of(alloc, command, &program)?)
-}
-
-// The command's output for this program.
-fn output_of(
-    alloc: Global,
-    command: TextCommand,
-    program: &ThinProgram,
-) -> Result<Text, OutOfMemory>
-    requires { length program.now.outputs ≤ 16384 }
-    ensures { IfOk result (IsOutputOf command program.now) }
-{
-    match command {
-        TextCommand::Meaning => meaning_text(alloc, program),
-        TextCommand::Compile => write_image(alloc, &compile(alloc, program)?),
-        TextCommand::Run => compiled_text(alloc, program),
-        TextCommand::Explain => explanation(alloc, program),
+        Command::Check => check(alloc, bytes),
+        Command::Meaning(options) => meaning(alloc, options, bytes),
+        Command::Compile => compiled(alloc, bytes),
+        Command::Run(options) => run(alloc, options, bytes),
+        Command::Exec(options) => execute(alloc, options, bytes),
+        Command::Explain(options, show) => explain(alloc, options, *show, bytes),
+        Command::Make(_) => Err(Status::NotBuilt),
     }
 }

@@ -11,7 +11,7 @@ returns-clause-answered g c =
     (Rose (g.O.Sink.faults c.args.out.now) (g.O.Sink.faults c.answer.new.out)) c.match-answer.status
     (record {
       done = λ is. elim c.match-answer.branch [ in-Ok w ↦ w.in-Ok.ensures.done | in-Err w ↦ absurd (w.in-Err.ensures.not_done (ap Err (sym w.status-is ∙ is))) ];
-      usage = λ is. elim c.match-answer.branch [ in-Ok w ↦ absurd (cc) | in-Err w ↦ w.in-Err.ensures.usage.0 (ap Err (sym w.status-is ∙ is)) ];
+      usage = λ is. elim c.match-answer.branch [ in-Ok w ↦ absurd (cc) | in-Err w ↦ w.in-Err.ensures.usage (ap Err (sym w.status-is ∙ is)) ];
       refused = λ r is. elim c.match-answer.branch [ in-Ok w ↦ absurd (cc) | in-Err w ↦ w.in-Err.ensures.refused r (ap Err (sym w.status-is ∙ is)) ];
       too_long = λ l is. elim c.match-answer.branch [ in-Ok w ↦ absurd (cc) | in-Err w ↦ w.in-Err.ensures.too_long l (ap Err (sym w.status-is ∙ is)) ];
       bad_image = λ n is. elim c.match-answer.branch [ in-Ok w ↦ absurd (cc) | in-Err w ↦ w.in-Err.ensures.bad_image n (ap Err (sym w.status-is ∙ is)) ];
@@ -27,7 +27,7 @@ returns-clause-complete g c =
     (Rose (g.O.Sink.faults c.args.out.now) (g.O.Sink.faults c.answer.new.out)) c.match-answer.status
     (record {
       done = λ is. elim c.match-answer.branch [ in-Ok w ↦ w.in-Ok.ensures.done | in-Err w ↦ absurd (w.in-Err.ensures.not_done (ap Err (sym w.status-is ∙ is))) ];
-      usage = λ is. elim c.match-answer.branch [ in-Ok w ↦ absurd (cc) | in-Err w ↦ w.in-Err.ensures.usage.0 (ap Err (sym w.status-is ∙ is)) ];
+      usage = λ is. elim c.match-answer.branch [ in-Ok w ↦ absurd (cc) | in-Err w ↦ w.in-Err.ensures.usage (ap Err (sym w.status-is ∙ is)) ];
       refused = λ r is. elim c.match-answer.branch [ in-Ok w ↦ absurd (cc) | in-Err w ↦ w.in-Err.ensures.refused r (ap Err (sym w.status-is ∙ is)) ];
       too_long = λ l is. elim c.match-answer.branch [ in-Ok w ↦ absurd (cc) | in-Err w ↦ w.in-Err.ensures.too_long l (ap Err (sym w.status-is ∙ is)) ];
       bad_image = λ n is. elim c.match-answer.branch [ in-Ok w ↦ absurd (cc) | in-Err w ↦ w.in-Err.ensures.bad_image n (ap Err (sym w.status-is ∙ is)) ];
@@ -36,3 +36,21 @@ returns-clause-complete g c =
       write_fault = λ is. elim c.match-answer.branch [ in-Ok w ↦ absurd (cc) | in-Err w ↦ w.in-Err.ensures.write_fault (ap Err (sym w.status-is ∙ is)) ];
     })
     c.one_answer.ensures
+
+pub returns-clause-refused : goal.returns-clause-refused
+returns-clause-refused g c = λ r is. elim c.match-answer.branch [
+  | in-Ok w ↦ absurd (cc)
+  | in-Err w ↦ w.in-Err.ensures.refused r (ap Err (sym w.status-is ∙ is))
+]
+
+pub returns-clause-bad_image : goal.returns-clause-bad_image
+returns-clause-bad_image g c = λ n is. elim c.match-answer.branch [
+  | in-Ok w ↦ absurd (cc)
+  | in-Err w ↦ w.in-Err.ensures.bad_image n (ap Err (sym w.status-is ∙ is))
+]
+
+pub returns-clause-too_long : goal.returns-clause-too_long
+returns-clause-too_long g c = λ l is. elim c.match-answer.branch [
+  | in-Ok w ↦ absurd (cc)
+  | in-Err w ↦ w.in-Err.ensures.too_long l (ap Err (sym w.status-is ∙ is))
+]

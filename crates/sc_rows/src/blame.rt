@@ -1,0 +1,276 @@
+// Which undefined behaviour a run is blamed for, and at which line of its section, where the compartment line is line 1.
+use crate::program::Run;
+use std::alloc::Global;
+use std::test::Fail;
+
+// What stands behind the compartment line, and what the run is blamed for. None of these runs has an event.
+type Blamed = (&'static [u8], &'static [u8]);
+
+const ARITHMETIC: [Blamed; 18] = [
+    (
+        b"int main(void) {\n  int a = 2147483647;\n  a = a + 1;\n}\n",
+        b"Overflow 4",
+    ),
+    (
+        b"int main(void) {\n  int a =\n    -2147483647 - 2;\n}\n",
+        b"Overflow 3",
+    ),
+    (
+        b"int main(void) {\n  if (65536 * 32768) {\n  }\n}\n",
+        b"Overflow 3",
+    ),
+    (
+        b"int main(void) {\n  int a = -2147483647 - 1;\n  return -a;\n}\n",
+        b"Overflow 4",
+    ),
+    (
+        b"void f(int a) {\n}\nint main(void) {\n  f(-1 << 0);\n}\n",
+        b"Overflow 5",
+    ),
+    (
+        b"int main(void) {\n  while (1 << 31) {\n  }\n}\n",
+        b"Overflow 3",
+    ),
+    (
+        b"int a[2];\nint main(void) {\n  return\n    a[(-2147483647 - 1) / -1];\n}\n",
+        b"Overflow 4",
+    ),
+    (
+        b"int main(void) {\n  int a = -2147483647 - 1;\n  a %= -1;\n}\n",
+        b"Overflow 4",
+    ),
+    (
+        b"int main(void) {\n  int a = 2147483647;\n  a +=\n    1;\n}\n",
+        b"Overflow 4",
+    ),
+    (
+        b"int main(void) {\n  int a = 2147483647;\n  for (;; a++) {\n  }\n}\n",
+        b"Overflow 4",
+    ),
+    (b"int main(void) {\n  return 1 / 0;\n}\n", b"ZeroDivisor 3"),
+    (b"int main(void) {\n  return 1 % 0u;\n}\n", b"ZeroDivisor 3"),
+    (
+        b"int main(void) {\n  int a;\n  a = 1 && 1 / 0;\n}\n",
+        b"ZeroDivisor 4",
+    ),
+    (
+        b"int main(void) {\n  int a;\n  for (a = 0; 1 / a;) {\n  }\n}\n",
+        b"ZeroDivisor 4",
+    ),
+    (b"int main(void) {\n  return 1u << 32;\n}\n", b"BadShift 3"),
+    (b"int main(void) {\n  return 1 >> -1;\n}\n", b"BadShift 3"),
+    (b"int main(void) {\n  return -1 << 32;\n}\n", b"BadShift 3"),
+    (
+        b"int main(void) {\n  int a = 1;\n  a <<=\n  32;\n}\n",
+        b"BadShift 4",
+    ),
+];
+
+const POINTERS: [Blamed; 22] = [
+    (
+        b"int a[4];\nint main(void) {\n  return a[4];\n}\n",
+        b"OutOfBounds 4",
+    ),
+    (
+        b"int a[4];\nint main(void) {\n  a[4] = 1;\n}\n",
+        b"OutOfBounds 4",
+    ),
+    (
+        b"int a[4];\nint main(void) {\n  int i = -1;\n  if (a[i]) {\n  }\n}\n",
+        b"OutOfBounds 5",
+    ),
+    (
+        b"int a[4];\nint main(void) {\n  int *p = a + 4;\n  p = p + 1;\n}\n",
+        b"OutOfBounds 5",
+    ),
+    (
+        b"int a[4];\nint main(void) {\n  int *p = &a[4];\n  *p = 1;\n}\n",
+        b"OutOfBounds 5",
+    ),
+    (
+        b"int x;\nint main(void) {\n  return *(&x + 1);\n}\n",
+        b"OutOfBounds 4",
+    ),
+    (
+        b"int *keep(void) {\n  int x = 1;\n  return &x;\n}\nint main(void) {\n  int *p;\n  p = keep();\n  return *p;\n}\n",
+        b"Dangling 9",
+    ),
+    (
+        b"int *keep(int x) {\n  return &x;\n}\nint main(void) {\n  int *p;\n  p = keep(1);\n  if (p) {\n  }\n}\n",
+        b"Dangling 8",
+    ),
+    (
+        b"int *p;\nint main(void) {\n  return *p;\n}\n",
+        b"NullUse 4",
+    ),
+    (b"int *p;\nint main(void) {\n  *p = 1;\n}\n", b"NullUse 4"),
+    (
+        b"int *p;\nint main(void) {\n  p = p + 0;\n}\n",
+        b"NullUse 4",
+    ),
+    (
+        b"int *p;\nint main(void) {\n  return p - p;\n}\n",
+        b"NullUse 4",
+    ),
+    (
+        b"int *p;\nint main(void) {\n  return p <= p;\n}\n",
+        b"NullUse 4",
+    ),
+    (
+        b"int *p;\nint main(void) {\n  p = &p[0];\n}\n",
+        b"NullUse 4",
+    ),
+    (
+        b"struct S { int m; };\nstruct S *p;\nint main(void) {\n  int *q = &p->m;\n}\n",
+        b"NullUse 5",
+    ),
+    (
+        b"struct S { int a; int *q; };\nstruct S s;\nint main(void) {\n  return *(&s.a + 1);\n}\n",
+        b"BadType 5",
+    ),
+    (
+        b"struct S { int a; int *q; };\nstruct S s;\nint main(void) {\n  int *p = *(&s.q - 1);\n}\n",
+        b"BadType 5",
+    ),
+    (
+        b"int x;\nint y;\nint main(void) {\n  return &x - &y;\n}\n",
+        b"BadPointer 5",
+    ),
+    (
+        b"int x;\nint y;\nint main(void) {\n  return &x < &y;\n}\n",
+        b"BadPointer 5",
+    ),
+    (
+        b"struct S { int a; int b; };\nstruct T { struct S s; int x; struct S t; };\nstruct T v;\nint main(void) {\n  return &v.t - &v.s;\n}\n",
+        b"BadPointer 6",
+    ),
+    (
+        b"int x;\nint y;\nint main(void) {\n  return &x + 1 == &y;\n}\n",
+        b"BadPointer 5",
+    ),
+    (
+        b"int f(void) {\n  if (1) {\n  }\n}\nint main(void) {\n  int r;\n  r = f();\n}\n",
+        b"NoReturn 5",
+    ),
+];
+
+const INDETERMINATE: [Blamed; 9] = [
+    (
+        b"int main(void) {\n  int x;\n  return x;\n}\n",
+        b"Indeterminate 4",
+    ),
+    (b"int main(void) {\n  int x = x;\n}\n", b"Indeterminate 3"),
+    (
+        b"int x;\nint main(void) {\n  int x = x;\n}\n",
+        b"Indeterminate 4",
+    ),
+    (
+        b"int main(void) {\n  int x;\n  while (x) {\n  }\n}\n",
+        b"Indeterminate 4",
+    ),
+    (
+        b"int main(void) {\n  int *p;\n  *p = 1;\n}\n",
+        b"Indeterminate 4",
+    ),
+    (
+        b"int main(void) {\n  int a[2];\n  a[0] = 1;\n  a[1] += 1;\n}\n",
+        b"Indeterminate 5",
+    ),
+    (
+        b"void f(int x) {\n}\nint main(void) {\n  int x;\n  f(x);\n}\n",
+        b"Indeterminate 6",
+    ),
+    (
+        b"struct S { int a; int b; };\nint main(void) {\n  struct S s;\n  s.a = 1;\n  return s.b;\n}\n",
+        b"Indeterminate 6",
+    ),
+    (
+        b"int a[2];\nint main(void) {\n  int i;\n  a[i] = 1;\n}\n",
+        b"Indeterminate 5",
+    ),
+];
+
+// Which of two causes comes first.
+const ORDER: [Blamed; 9] = [
+    (
+        b"int *p;\nint main(void) {\n  *p = 1 / 0;\n}\n",
+        b"ZeroDivisor 4",
+    ),
+    (
+        b"int *p;\nint main(void) {\n  return p[1 / 0];\n}\n",
+        b"ZeroDivisor 4",
+    ),
+    (
+        b"int *p;\nint main(void) {\n  *p += 1 / 0;\n}\n",
+        b"NullUse 4",
+    ),
+    (
+        b"int *p;\nint main(void) {\n  return 1 / 0 + *p;\n}\n",
+        b"ZeroDivisor 4",
+    ),
+    (
+        b"int *p;\nint main(void) {\n  return *p + 1 / 0;\n}\n",
+        b"NullUse 4",
+    ),
+    (
+        b"int *p;\nvoid f(int a, int b) {\n}\nint main(void) {\n  f(*p, 1 / 0);\n}\n",
+        b"NullUse 6",
+    ),
+    (
+        b"int *p;\nint main(void) {\n  int a = 1 / 1;\n  int b = *p;\n  return 1 / 0;\n}\n",
+        b"NullUse 5",
+    ),
+    (
+        b"int *p;\nint f(void) {\n  return 1 / 0;\n}\nint main(void) {\n  *p = f();\n}\n",
+        b"ZeroDivisor 4",
+    ),
+    (
+        b"int *p;\nint f(void) {\n  return 1;\n}\nint main(void) {\n  *p =\n    f();\n}\n",
+        b"NullUse 7",
+    ),
+];
+
+// The places of the cases that are told otherwise.
+fn told_otherwise(alloc: Global, cases: &[Blamed]) -> Result<Vec<usize>, Fail> {
+    let mut wrong = Vec::new(alloc);
+    for (place, (section, cause)) in cases.iter().enumerate() {
+        let mut text = b"#pragma compartment M\n".to_vec(alloc)?;
+        text.extend_from_slice(section)?;
+        let mut want = b"stop blamed M ".to_vec(alloc)?;
+        want.extend_from_slice(cause)?;
+        want.push(b'\n')?;
+        let ran = Run::new(&["meaning"], &text).run(alloc)?;
+        if ran.status != 0 || ran.out.as_slice() != want.as_slice() {
+            wrong.push(place)?;
+        }
+    }
+    Ok(wrong)
+}
+
+#[test]
+fn arithmetic_is_blamed(rt: HostRuntime) -> Result<(), Fail> {
+    let wrong = told_otherwise(rt.alloc(), &ARITHMETIC)?;
+    assert!(rt; wrong.is_empty(), "{wrong:?}");
+    Ok(())
+}
+
+#[test]
+fn pointers_are_blamed(rt: HostRuntime) -> Result<(), Fail> {
+    let wrong = told_otherwise(rt.alloc(), &POINTERS)?;
+    assert!(rt; wrong.is_empty(), "{wrong:?}");
+    Ok(())
+}
+
+#[test]
+fn cells_that_hold_nothing_are_blamed(rt: HostRuntime) -> Result<(), Fail> {
+    let wrong = told_otherwise(rt.alloc(), &INDETERMINATE)?;
+    assert!(rt; wrong.is_empty(), "{wrong:?}");
+    Ok(())
+}
+
+#[test]
+fn the_first_cause_is_blamed(rt: HostRuntime) -> Result<(), Fail> {
+    let wrong = told_otherwise(rt.alloc(), &ORDER)?;
+    assert!(rt; wrong.is_empty(), "{wrong:?}");
+    Ok(())
+}

@@ -1,0 +1,70 @@
+// The words of the command line.
+use crate::program::Run;
+use std::test::Fail;
+
+const SEVEN: &[u8] =
+    b"#pragma compartment Main\n#pragma import Env output\nvoid output(int v);\nint main(void) {\n  output(7);\n  return 0;\n}\n";
+
+#[test]
+fn words_that_are_no_command_leave_the_input_unread(rt: HostRuntime) -> Result<(), Fail> {
+    let cases: [&[&str]; 12] = [
+        &[],
+        &["meaning", "x"],
+        &["meanings"],
+        &["--help"],
+        &["run", "--help"],
+        &["run", "--events", "4097"],
+        &["meaning", "--events", "1", "--events", "1"],
+        &["run", "--"],
+        &["run", "--in", "-5"],
+        &["run", "--ev", "1"],
+        &["explain", "--show", "33"],
+        &["make", "--size", "1"],
+    ];
+    for words in cases {
+        let ran = Run::new(words, SEVEN).run(rt.alloc())?;
+        assert_eq!(rt; ran.status, 2);
+        assert_eq!(rt; ran.out.len(), 0);
+        assert!(rt; ran.err.starts_with(b"secomp: usage"));
+        assert_eq!(rt; ran.unread, SEVEN.len());
+    }
+    Ok(())
+}
+
+#[test]
+fn options_bound_what_is_told(rt: HostRuntime) -> Result<(), Fail> {
+    let told: &[u8] = b"out Main 7\nend Main 0\nstop ended\n";
+    let cases: [(&[&str], &[u8]); 8] = [
+        (&["run", "--events", "0"], b"stop events\n"),
+        (&["run", "--steps=0"], b"stop steps\n"),
+        (&["run", "--steps", "3"], b"out Main 7\nstop steps\n"),
+        (
+            &["meaning", "--events=1", "--in=-5,3"],
+            b"out Main 7\nstop events\n",
+        ),
+        (&["meaning", "--turns", "00"], told),
+        (
+            &["explain", "--steps=3"],
+            b"out Main 7\nstop steps\nchain 0\n",
+        ),
+        (&["explain", "--show=32"], SEVEN),
+        (&["explain", "--show", "0", "--events", "0"], SEVEN),
+    ];
+    for (words, want) in cases {
+        let ran = Run::new(words, SEVEN).run(rt.alloc())?;
+        assert_eq!(rt; ran.status, 0);
+        assert!(rt; ran.out.as_slice() == want);
+        assert_eq!(rt; ran.unread, 0);
+    }
+    Ok(())
+}
+
+#[test]
+fn a_text_is_not_made_yet(rt: HostRuntime) -> Result<(), Fail> {
+    let words = ["make", "--size", "2", "--seed=1", "--summary"];
+    let ran = Run::new(&words, SEVEN).run(rt.alloc())?;
+    assert_eq!(rt; ran.status, 10);
+    assert!(rt; ran.err.as_slice() == b"secomp: not built\n".as_slice());
+    assert_eq!(rt; ran.unread, SEVEN.len());
+    Ok(())
+}
