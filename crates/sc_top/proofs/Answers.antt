@@ -7,6 +7,7 @@ use Rattle.sc_lex.specs.declared.refusal.Refusal.{Refusal}
 use Rattle.sc_lex.specs.declared.refusal.Phase.{Phase}
 use Rattle.sc_lex.specs.declared.refusal.Phase.TheVariants.{Syntax}
 use Rattle.sc_core.specs.declared.program.ProgramTree.{ProgramTree}
+use Rattle.sc_core.specs.declared.thin.ThinProgram.{ThinProgram}
 use Rattle.sc_image.specs.Reading.{cause_number, cause_of, bad}
 use Rattle.sc_image.specs.RoundTrip.{IsImage}
 use Rattle.sc_image.proofs.Images.{is_read_again}
@@ -110,9 +111,9 @@ same_done status.NotBuilt same = same
 pub within_limit : (c : Command) (bytes output : List ℕ) → IsOutput c bytes output → IsOfAnyText c ⊎ IsWithin c bytes
 within_limit Check bytes output o = inl tt
 within_limit (Meaning options) bytes output o = inl tt
-within_limit Compile bytes output o = inr (let short = o.1.thin.short in omega (arith, short))
-within_limit (Run options) bytes output o = inr (let short = o.1.thin.short in omega (arith, short))
-within_limit (Explain options show) bytes output o = inr (let short = o.1.thin.short in omega (arith, short))
+within_limit Compile bytes output o = inr (let short = o.2.thin.short in omega (arith, short))
+within_limit (Run options) bytes output o = inr (let short = o.2.thin.short in omega (arith, short))
+within_limit (Explain options show) bytes output o = inr (let short = o.2.thin.short in omega (arith, short))
 within_limit (Exec options) bytes output o =
     inr (subst (λ (b : List ℕ). length b ≤ 67108864) (sym o.read.bytes_are) (image_is_short o.read.image o.read.well_formed))
 within_limit (Make options) bytes output o = absurd o
@@ -170,15 +171,15 @@ some_limit (Some l) n low none = none-some l (sym none)
 
 -- a text has one answer
 module _ (accepted_or_refused : (text : List ℕ) (program : ProgramTree) (phase : Phase) (line : ℕ) → Accepts text program → Fails text phase line → ⊥) (one_phase : (text : List ℕ) (phase other : Phase) (line later : ℕ) → Fails text phase line → Fails text other later → (phase ≡ other) × ((phase ≡ Syntax → ⊥) → line ≡ later)) where
-  thin_refused : (text : List ℕ) (refusal : Refusal) → ((thin : _) × IsThinText text thin) → Fails text refusal.phase refusal.line → ⊥
-  thin_refused text refusal t f = accepted_or_refused text t.1.tree refusal.phase refusal.line t.1.accepted f
+  thin_refused : (text : List ℕ) (refusal : Refusal) (program : ProgramTree) (thin : ThinProgram) → IsThinText text program thin → Fails text refusal.phase refusal.line → ⊥
+  thin_refused text refusal program thin t f = accepted_or_refused text program refusal.phase refusal.line t.accepted f
 
   done_refused : (c : Command) (text output : List ℕ) (refusal : Refusal) → IsOutput c text output → Refuses c text refusal → ⊥
   done_refused Check text output refusal o f = accepted_or_refused text o.0 refusal.phase refusal.line o.1 f
   done_refused (Meaning options) text output refusal o f = accepted_or_refused text o.0 refusal.phase refusal.line o.1 f
-  done_refused Compile text output refusal o f = thin_refused text refusal (o.0, o.1) f
-  done_refused (Run options) text output refusal o f = thin_refused text refusal (o.0, o.1) f
-  done_refused (Explain options show) text output refusal o f = thin_refused text refusal (o.0, o.1) f
+  done_refused Compile text output refusal o f = thin_refused text refusal o.0 o.1 o.2 f
+  done_refused (Run options) text output refusal o f = thin_refused text refusal o.0 o.1 o.2 f
+  done_refused (Explain options show) text output refusal o f = thin_refused text refusal o.0 o.1 o.2 f
   done_refused (Exec options) text output refusal o f = f
   done_refused (Make options) text output refusal o f = f
 
@@ -197,9 +198,9 @@ module _ (accepted_or_refused : (text : List ℕ) (program : ProgramTree) (phase
   done_beyond : (c : Command) (text output : List ℕ) → IsOutput c text output → GivesUp c text → ⊥
   done_beyond Check text output o b = b
   done_beyond (Meaning options) text output o b = b
-  done_beyond Compile text output o b = b.thick o.0 o.1.thin
-  done_beyond (Run options) text output o b = b.thick o.0 o.1.thin
-  done_beyond (Explain options show) text output o b = b.thick o.0 o.1.thin
+  done_beyond Compile text output o b = b.thick o.1 o.2.thin
+  done_beyond (Run options) text output o b = b.thick o.1 o.2.thin
+  done_beyond (Explain options show) text output o b = b.thick o.1 o.2.thin
   done_beyond (Exec options) text output o b = b
   done_beyond (Make options) text output o b = o
 

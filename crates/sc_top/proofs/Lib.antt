@@ -1,11 +1,16 @@
 pub mod Answers
 pub mod Bodies
+pub mod Explained
 pub mod Known
 pub mod Lengths
 pub mod Numbers
 pub mod Statements
 pub mod Streams
+pub mod ThinAccepted
 pub mod ThinBrackets
+pub mod ThinLines
+pub mod ThinMeaning
 pub mod ThinReads
+pub mod ThinRules
 pub mod ThinSplit
 pub mod ThinTree

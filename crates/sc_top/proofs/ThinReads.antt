@@ -1,29 +1,25 @@
 -- A thin text is read.
-use Rattle.std.proofs.Common.{◌≡◌, ℕ, ◌+◌, ◌≤◌, max, IsTrue, List, [], ◌∷◌, ◌++◌, map, codes, refl, sym, ap, ap₂, ◌∙◌, subst, append_assoc, arith}
+use Rattle.std.proofs.Common.{◌≡◌, ℕ, ◌≤◌, max, IsTrue, List, [], ◌∷◌, ◌++◌, map, codes, refl, sym, ap, ◌∙◌, subst, arith}
 use Rattle.std.specs.List.{flat_map}
 use Rattle.std.proofs.lemmas.List.Elements.{recursion_from_All}
 use Rattle.sc_core.specs.declared.thin.ThinProgram.{ThinProgram}
-use Rattle.sc_event.specs.Identifier.{is_name}
-use Rattle.sc_reserved.specs.Reserved.{is_reserved}
 use Rattle.sc_lex.specs.Cutting.{nothing}
 use Rattle.sc_lex.specs.Splitting.{IsSplit}
 use Rattle.sc_lex.specs.declared.token.Token.{Token}
 use Rattle.sc_ast.specs.Height.{section_height}
 use Rattle.sc_ast.specs.Lineless.{SameButLines}
-use Rattle.sc_ast.specs.Pieces.{Piece}
 use Rattle.sc_ast.specs.SectionWords.{section_words}
 use Rattle.sc_ast.specs.declared.section.SectionTree.{SectionTree}
-use Rattle.sc_expr.specs.declared.lexeme.Symbol.{Symbol}
 use Rattle.sc_expr.specs.declared.lexeme.Lexeme.{Lexeme}
 use Rattle.sc_expr.specs.Brackets.{open_after, most_open}
-use Rattle.sc_expr.specs.Lexemes.{lexeme_of, symbol_of}
+use Rattle.sc_expr.specs.Lexemes.{symbol_of}
 use Rattle.sc_parse.specs.Limits.{lexemes_of}
 use Rattle.sc_print.specs.Symbols.{symbols}
 use Rattle.sc_print.specs.KeptSections.{kept_section}
 use Rattle.sc_print.specs.SectionsRead.{SectionSpells}
 use Rattle.sc_print.specs.Dense.{dense_text, SaysAll}
 use Rattle.sc_read.specs.Reading.{Reads, part_of}
-use Rattle.sc_top.specs.Thin.{IsThin, IsBody, head, output_line, return_line}
+use Rattle.sc_top.specs.Thin.{IsThin, head, output_line, return_line}
 use Rattle.sc_top.proofs.Bodies.{AreSmall}
 use Rattle.sc_top.proofs.ThinTree.{tree_of, thin_text, tree_kept, tree_low}
 use Rattle.sc_top.proofs.ThinSplit.{body_plain, section_of, one_section}
@@ -37,8 +33,14 @@ opens_lexemes : (count : ℕ) (ts : List Lexeme) → most_open count ts ≡ open
 opens_lexemes count [] = refl
 opens_lexemes count (t ∷ ts) = ap (λ n. max count n) (opens_lexemes (open_after t.symbol count) ts)
 
+-- the tree that a thin text is read as
+pub record ThinReading (text outputs : List ℕ) (result : ℕ) : Type 0 where
+  pub tree : SectionTree
+  pub same : SameButLines tree (tree_of outputs result)
+  pub reads : Reads text (tree ∷ [])
+
 module _ (cut : (tree : SectionTree) → IsTrue (kept_section tree) → SaysAll (dense_text tree) (symbols (section_words tree))) (spell : (tree : SectionTree) → IsTrue (kept_section tree) → SectionSpells tree) (height : (tree other : SectionTree) → SameButLines tree other → section_height tree ≡ section_height other) where
-  reads_body : (outputs : List ℕ) (result : ℕ) (text : List ℕ) → text ≡ head ++ (flat_map output_line outputs ++ (return_line result ++ codes "}\n")) → AreSmall outputs → result ≤ 2147483647 → (trees : List SectionTree) × Reads text trees
+  reads_body : (outputs : List ℕ) (result : ℕ) (text : List ℕ) → text ≡ head ++ (flat_map output_line outputs ++ (return_line result ++ codes "}\n")) → AreSmall outputs → result ≤ 2147483647 → ThinReading text outputs result
   reads_body outputs result text is small low =
       let tree : SectionTree = tree_of outputs result in
       let kept = tree_kept outputs result small low in
@@ -49,9 +51,11 @@ module _ (cut : (tree : SectionTree) → IsTrue (kept_section tree) → SaysAll 
       let spelled = spell tree kept lexemes says in
       let tall : section_height spelled.0 ≡ section_height tree = height spelled.0 tree spelled.2 in
       let few : most_open 0 lexemes ≡ opens 0 (symbols (section_words tree)) = opens_lexemes 0 lexemes ∙ ap (opens 0) says in
-      let split = subst (λ t. IsSplit t [] (section_of t ∷ [])) (sym is) (one_section (flat_map output_line outputs ++ (return_line result ++ codes "}\n")) (body_plain outputs result small low)) in (
-        spelled.0 ∷ [],
-        record {
+      let split = subst (λ t. IsSplit t [] (section_of t ∷ [])) (sym is) (one_section (flat_map output_line outputs ++ (return_line result ++ codes "}\n")) (body_plain outputs result small low)) in
+      record {
+        tree = spelled.0;
+        same = spelled.2;
+        reads = record {
           sections = part_of (section_of text) ∷ [];
           lexed = record {
             preamble = [];
@@ -70,9 +74,12 @@ module _ (cut : (tree : SectionTree) → IsTrue (kept_section tree) → SaysAll 
             },
             tt,
           );
-        },
-      )
+        };
+      }
+
+  pub thin_reading : (text : List ℕ) (program : ThinProgram) → IsThin text program → ThinReading text program.outputs program.result
+  thin_reading text program thin =
+      reads_body program.outputs program.result text (thin.whole ∙ ap (λ b. head ++ b) thin.body.spelled) (recursion_from_All _ _ thin.body.outputs) thin.body.result
 
   pub thin_reads : (text : List ℕ) (program : ThinProgram) → IsThin text program → (trees : List SectionTree) × Reads text trees
-  thin_reads text program thin =
-      reads_body program.outputs program.result text (thin.whole ∙ ap (λ b. head ++ b) thin.body.spelled) (recursion_from_All _ _ thin.body.outputs) thin.body.result
+  thin_reads text program thin = let r = thin_reading text program thin in (r.tree ∷ [], r.reads)

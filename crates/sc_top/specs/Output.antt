@@ -38,20 +38,30 @@ abbrev pub machine_text : RunOptions → ImageParts → List ℕ
 machine_text options image =
     run_text (interfaces_of image) (shown options image).state.trace (shown options image).stop
 
--- within so many events as the machine shows, the program's own meaning has just this trace
-abbrev pub IsMeant : RunOptions → ThinProgram → Type 0
-IsMeant options program =
-    let trace = (shown options (thin_image program)).state.trace in (thin_meaning (length trace) program).trace ≡ trace
+-- within so many events as the machine shows, and with as many turns as there were steps, the program's own meaning has just this trace
+abbrev pub IsMeant : RunOptions → ProgramTree → ThinProgram → Type 0
+IsMeant options program thin =
+    let trace = (shown options (thin_image thin)).state.trace in (meaning program (map word_of options.inputs) options.steps (length trace)).trace ≡ trace
+
+-- the same of the meaning that a thin program has by itself
+abbrev pub IsThinMeant : RunOptions → ThinProgram → Type 0
+IsThinMeant options thin =
+    let trace = (shown options (thin_image thin)).state.trace in (thin_meaning (length trace) thin).trace ≡ trace
 
 -- the report tells what the machine shows, and that nothing has to be replaced. Of the chain, which is the text alone, any text is that one
 abbrev pub explained : RunOptions → (show : Option ℕ) → List ℕ → ThinProgram → List ℕ
-explained options None bytes program = machine_text options (thin_image program) ++ codes "chain 0\n"
-explained options (Some place) bytes program = bytes
+explained options None bytes thin = machine_text options (thin_image thin) ++ codes "chain 0\n"
+explained options (Some place) bytes thin = bytes
 
 -- the text accounts for what the machine shows: nothing has to be replaced in the program for its meaning to be that
-pub record IsExplained (options : RunOptions) (show : Option ℕ) (bytes : List ℕ) (program : ThinProgram) (text : List ℕ) : Type 0 where
-  pub told : text ≡ explained options show bytes program
-  pub chain : IsMeant options program
+pub record IsExplained (options : RunOptions) (show : Option ℕ) (bytes : List ℕ) (program : ProgramTree) (thin : ThinProgram) (text : List ℕ) : Type 0 where
+  pub told : text ≡ explained options show bytes thin
+  pub chain : IsMeant options program thin
+
+-- the same by the meaning that the thin program has by itself
+pub record IsThinExplained (options : RunOptions) (show : Option ℕ) (bytes : List ℕ) (thin : ThinProgram) (text : List ℕ) : Type 0 where
+  pub told : text ≡ explained options show bytes thin
+  pub chain : IsThinMeant options thin
 
 -- the bytes are those of an image, and the text tells what the machine shows on it
 pub record IsExecuted (options : RunOptions) (bytes text : List ℕ) : Type 0 where
@@ -62,22 +72,21 @@ pub record IsExecuted (options : RunOptions) (bytes text : List ℕ) : Type 0 wh
 abbrev pub IsOfProgram : List ℕ → (ProgramTree → Type 0) → Type 0
 IsOfProgram bytes Q = (program : ProgramTree) × Accepts bytes program × Q program
 
--- the bytes are accepted, and they are the thin text of this program
-pub record IsThinText (bytes : List ℕ) (program : ThinProgram) : Type 0 where
-  pub tree : ProgramTree
-  pub accepted : Accepts bytes tree
-  pub thin : IsThin bytes program
+-- the bytes are accepted as this program, and they are the thin text of that one
+pub record IsThinText (bytes : List ℕ) (program : ProgramTree) (thin : ThinProgram) : Type 0 where
+  pub accepted : Accepts bytes program
+  pub thin : IsThin bytes thin
 
--- the bytes are the thin text of a program, of which this holds
-abbrev pub IsOfThin : List ℕ → (ThinProgram → Type 0) → Type 0
-IsOfThin bytes Q = (program : ThinProgram) × IsThinText bytes program × Q program
+-- the bytes are accepted as a program and thin, and this holds of the program and the thin one
+abbrev pub IsOfThin : List ℕ → (ProgramTree → ThinProgram → Type 0) → Type 0
+IsOfThin bytes Q = (program : ProgramTree) × (thin : ThinProgram) × IsThinText bytes program thin × Q program thin
 
 -- the text is the command's output for these bytes
 abbrev pub IsOutput : Command → List ℕ → List ℕ → Type 0
 IsOutput commands.Check bytes text = IsOfProgram bytes (λ program. text ≡ check_text program.interfaces)
 IsOutput (commands.Meaning options) bytes text = IsOfProgram bytes (λ program. text ≡ told options program)
-IsOutput commands.Compile bytes text = IsOfThin bytes (λ program. text ≡ image_bytes (thin_image program))
-IsOutput (commands.Run options) bytes text = IsOfThin bytes (λ program. text ≡ machine_text options (thin_image program))
+IsOutput commands.Compile bytes text = IsOfThin bytes (λ program thin. text ≡ image_bytes (thin_image thin))
+IsOutput (commands.Run options) bytes text = IsOfThin bytes (λ program thin. text ≡ machine_text options (thin_image thin))
 IsOutput (commands.Exec options) bytes text = IsExecuted options bytes text
-IsOutput (commands.Explain options show) bytes text = IsOfThin bytes (λ program. IsExplained options show bytes program text)
+IsOutput (commands.Explain options show) bytes text = IsOfThin bytes (λ program thin. IsExplained options show bytes program thin text)
 IsOutput (commands.Make options) bytes text = ⊥

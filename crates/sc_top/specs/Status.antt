@@ -8,6 +8,7 @@ use Rattle.sc_image.specs.declared.fault.ImageFault.TheVariants as image
 use Rattle.sc_image.specs.Reading.{cause_number}
 use Rattle.sc_read.specs.declared.fault.TextFault.{TextFault}
 use Rattle.sc_read.specs.declared.fault.TextFault.TheVariants as text
+use Rattle.sc_words.specs.Usage.{usage_text}
 use Rattle.sc_words.specs.declared.fault.WordsFault.{WordsFault}
 use Rattle.sc_words.specs.declared.fault.WordsFault.TheVariants as words
 use Rattle.sc_top.specs.declared.input.ReadFault as read
@@ -30,9 +31,6 @@ status_number NotBuilt = 10
 abbrev pub status_of : read.ReadFault → Status
 status_of faults.Source = ReadFault
 status_of faults.Memory = OutOfMemory
-
-unfoldable pub usage : List ℕ
-usage = codes "secomp: usage: secomp COMMAND [OPTION ..] < INPUT\n\n  check    writes what the compartments of a text export and import\n  meaning  writes the source meaning of a text: its events and how it ends\n  compile  writes the image of a text\n  run      writes what the machine shows on that image, and why it stops\n  exec     reads an image, and writes what the machine shows on it\n  explain  writes what run writes, and accounts for it by source programs\n  make     writes a text that is made from a seed (not built yet)\n\n  --turns N    meaning: at most N calls and rounds of loops\n               (0 to 16777216; 1000000 if not given)\n  --steps N    run, exec, explain: at most N instructions (the same)\n  --events M   meaning, run, exec, explain: at most M events\n               (0 to 4096; 1024 if not given)\n  --in LIST    the same commands: what the text's input() gets, as 3,-1,4\n               (up to 65536 numbers, then 0; none if not given)\n  --show K     explain: writes the text after K replacements instead (0 to 32)\n  --size K     make: so many functions (1 to 1000)\n  --seed N     make: from this number (0 to 4294967295)\n  --summary    make: writes what the text shows instead\n\nOptions are written --name VALUE or --name=VALUE, in any order, each once.\nA list that begins with - is written --in=-5,3.\n"
 
 -- how a fault of reading the words is answered
 abbrev pub of_words_fault : WordsFault → Status
@@ -64,7 +62,7 @@ refusal_text refusal = phase_word refusal.phase ++ (codes " line " ++ (decimal r
 -- what stands of every status of a kind
 abbrev pub fixed_text : Status → List ℕ
 fixed_text Done = []
-fixed_text Usage = usage
+fixed_text Usage = usage_text
 fixed_text (Refused refusal) = codes "secomp: refused "
 fixed_text (TooLong limit) = codes "secomp: too long "
 fixed_text (BadImage cause) = codes "secomp: bad image "

@@ -1,6 +1,7 @@
 //! What holds of every text.
 
 ghost use Rattle.std.specs.Prelude.{◌⊎◌, ℕ, List};
+ghost use Rattle.sc_core.specs.declared.program.ProgramTree.{ProgramTree};
 ghost use Rattle.sc_core.specs.declared.thin.ThinProgram.{ThinProgram};
 ghost use Rattle.sc_ast.specs.declared.section.SectionTree.{SectionTree};
 ghost use Rattle.sc_read.specs.Reading.{Reads};
@@ -9,6 +10,8 @@ ghost use Rattle.sc_top.specs.declared.status.Status.{Status};
 ghost use Rattle.sc_top.specs.Answer.{IsOfAnyText, IsWithin, IsAnswer, SameAnswer};
 ghost use Rattle.sc_top.specs.Output.{IsOutput};
 ghost use Rattle.sc_top.specs.Thin.{IsThin};
+ghost use Rattle.sc_top.specs.ThinMeaning.{IsThinProgram};
+ghost use Rattle.sc_types.specs.Acceptance.{Accepts};
 
 use sc_print::{dense_sections_are_cut, lines_add_no_height, words_of_sections_spell_them};
 use sc_types::{accepted_or_refused, one_phase};
@@ -16,6 +19,15 @@ use sc_types::{accepted_or_refused, one_phase};
 /// A thin text passes phases Lex and Syntax.
 pub fn thin_texts_are_read()
     ensures { (text : List ℕ) (program : ThinProgram) → IsThin text program → (trees : List SectionTree) × Reads text trees }
+{
+    dense_sections_are_cut();
+    words_of_sections_spell_them();
+    lines_add_no_height();
+}
+
+/// A thin text is accepted, as a program that means what its thin program means.
+pub fn thin_texts_are_accepted()
+    ensures { (text : List ℕ) (thin : ThinProgram) → IsThin text thin → (program : ProgramTree) × Accepts text program × IsThinProgram program thin }
 {
     dense_sections_are_cut();
     words_of_sections_spell_them();

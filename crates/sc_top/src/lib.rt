@@ -13,7 +13,9 @@ mod text;
 mod thin;
 mod top;
 
-pub use laws::{one_answer, thin_texts_and_images_are_within, thin_texts_are_read};
+pub use laws::{
+    one_answer, thin_texts_and_images_are_within, thin_texts_are_accepted, thin_texts_are_read,
+};
 pub use status::Status;
 pub use telling::tell;
 pub use top::secomp;

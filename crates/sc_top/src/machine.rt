@@ -1,7 +1,7 @@
 ghost use Rattle.std.specs.Prelude.{◌≡◌, ◌≤◌, length, IfOk, OnOk};
 ghost use Rattle.sc_image.specs.WellFormed.{IsWellFormed};
 ghost use Rattle.sc_compile.specs.Image.{thin_image};
-ghost use Rattle.sc_top.specs.Output.{machine_text, IsMeant};
+ghost use Rattle.sc_top.specs.Output.{machine_text, IsThinMeant};
 
 use sc_compile::compile;
 use sc_core::ThinProgram;
@@ -41,7 +41,7 @@ pub(crate) fn compiled_text(
 ) -> Result<Text, OutOfMemory>
     requires { length program.now.outputs ≤ 16384 }
     ensures text { IfOk result (λ text. text ≡ machine_text options.now (thin_image program.now)) }
-    ensures meant { OnOk result (IsMeant options.now program.now) }
+    ensures meant { OnOk result (IsThinMeant options.now program.now) }
 {
     let image = compile(alloc, program)?;
     machine_text(alloc, options, image)

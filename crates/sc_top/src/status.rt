@@ -5,7 +5,7 @@ use sc_event::OutOfMemory;
 use sc_image::ImageFault;
 use sc_lex::{Phase, Refusal};
 use sc_types::TextFault;
-use sc_words::WordsFault;
+use sc_words::{WordsFault, usage};
 
 /// The program's answer.
 #[derive(Clone, Copy, Debug, PartialEq, Eq)]
@@ -50,15 +50,12 @@ impl Status {
 }
 
 /// What is written of a status to standard error, or the part of it before what differs from text to text.
-#[tactic(auto, unfolding(crate::specs::Status::usage))]
 pub(crate) fn fixed_text(status: Status) -> &'static [u8]
     ensures { result.now ≡ fixed_text status }
 {
     match status {
         Status::Done => b"",
-        Status::Usage => {
-            b"secomp: usage: secomp COMMAND [OPTION ..] < INPUT\n\n  check    writes what the compartments of a text export and import\n  meaning  writes the source meaning of a text: its events and how it ends\n  compile  writes the image of a text\n  run      writes what the machine shows on that image, and why it stops\n  exec     reads an image, and writes what the machine shows on it\n  explain  writes what run writes, and accounts for it by source programs\n  make     writes a text that is made from a seed (not built yet)\n\n  --turns N    meaning: at most N calls and rounds of loops\n               (0 to 16777216; 1000000 if not given)\n  --steps N    run, exec, explain: at most N instructions (the same)\n  --events M   meaning, run, exec, explain: at most M events\n               (0 to 4096; 1024 if not given)\n  --in LIST    the same commands: what the text's input() gets, as 3,-1,4\n               (up to 65536 numbers, then 0; none if not given)\n  --show K     explain: writes the text after K replacements instead (0 to 32)\n  --size K     make: so many functions (1 to 1000)\n  --seed N     make: from this number (0 to 4294967295)\n  --summary    make: writes what the text shows instead\n\nOptions are written --name VALUE or --name=VALUE, in any order, each once.\nA list that begins with - is written --in=-5,3.\n"
-        }
+        Status::Usage => usage(),
         Status::Refused(_) => b"secomp: refused ",
         Status::TooLong { .. } => b"secomp: too long ",
         Status::BadImage { .. } => b"secomp: bad image ",

@@ -2,12 +2,14 @@
 
 ghost use Rattle.std.specs.Prelude.{◌≡◌, ◌≤◌, length, IfOk, IfErr, IsErrOf};
 ghost use Rattle.sc_lex.specs.declared.refusal.Refusal.{Refusal};
+ghost use Rattle.sc_core.specs.declared.program.ProgramTree.{ProgramTree};
 ghost use Rattle.sc_types.specs.Acceptance.{Fails};
 ghost use Rattle.sc_words.specs.declared.command.Command.TheVariants.{Check, Meaning, Compile, Run, Explain};
 ghost use Rattle.sc_top.specs.Answer.{IsBeyond, IsTextFault};
-ghost use Rattle.sc_top.specs.Output.{told, IsOutput, IsThinText, IsExplained};
+ghost use Rattle.sc_top.specs.Output.{told, IsOutput, IsThinText, IsThinExplained};
 
 use crate::Status;
+use crate::laws::thin_texts_are_accepted;
 use crate::machine::compiled_text;
 use crate::thin::read_thin;
 use sc_compile::compile;
@@ -15,7 +17,7 @@ use sc_core::{Program, ThinProgram, traces_are_legal};
 use sc_event::{OutOfMemory, Text};
 use sc_image::write_image;
 use sc_run::run_source;
-use sc_types::SourceText;
+use sc_types::{SourceText, one_program};
 use sc_words::{MeaningOptions, RunOptions};
 use std::alloc::Global;
 
@@ -31,11 +33,7 @@ pub(crate) fn check(alloc: Global, bytes: &[u8]) -> Result<Text, Status>
 }
 
 /// What the text means: its events and how it ends.
-pub(crate) fn meaning(
-    alloc: Global,
-    options: &MeaningOptions,
-    bytes: &[u8],
-) -> Result<Text, Status>
+pub(crate) fn meaning(alloc: Global, options: &MeaningOptions, bytes: &[u8]) -> Result<Text, Status>
     ensures ok { IfOk result (IsOutput (Meaning options.now) bytes.now) }
     ensures refused { (refusal : Refusal) → IsErrOf result (Status.Refused refusal) → Fails bytes.now refusal.phase refusal.line }
     ensures built { IsErrOf result Status.NotBuilt → ⊥ }
@@ -63,8 +61,8 @@ fn meaning_text(
 // The program of an accepted text, which must be thin.
 #[tactic(auto, using(crate::proofs::Bodies::few_outputs))]
 fn read_program(alloc: Global, bytes: &[u8]) -> Result<ThinProgram, Status>
-    ensures thin { IfOk result (IsThinText bytes.now) }
-    ensures few { IfOk result (λ program. length program.outputs ≤ 16384) }
+    ensures thin { IfOk result (λ thin. (program : ProgramTree) × IsThinText bytes.now program thin) }
+    ensures few { IfOk result (λ thin. length thin.outputs ≤ 16384) }
     ensures refused { (refusal : Refusal) → IsErrOf result (Status.Refused refusal) → Fails bytes.now refusal.phase refusal.line }
     ensures not_built { IsErrOf result Status.NotBuilt → IsBeyond bytes.now }
     ensures causes { IfErr result IsTextFault }
@@ -111,6 +109,8 @@ pub(crate) fn explain(
     ensures not_built { IsErrOf result Status.NotBuilt → IsBeyond bytes.now }
     ensures causes { IfErr result IsTextFault }
 {
+    thin_texts_are_accepted();
+    one_program();
     let program = read_program(alloc, bytes)?;
     Ok(explanation(alloc, options, show, bytes, &program)?)
 }
@@ -123,7 +123,7 @@ fn explanation(
     program: &ThinProgram,
 ) -> Result<Text, OutOfMemory>
     requires { length program.now.outputs ≤ 16384 }
-    ensures { IfOk result (IsExplained options.now show bytes.now program.now) }
+    ensures { IfOk result (IsThinExplained options.now show bytes.now program.now) }
 {
     let mut report = compiled_text(alloc, options, program)?;
     report.append(b"chain 0\n")?;

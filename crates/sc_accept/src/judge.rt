@@ -1,0 +1,65 @@
+// What a text gives, against what it must give.
+use sc_lex::{Phase, Refusal};
+use sc_types::{SourceText, TextFault};
+use std::alloc::Global;
+use std::test::Fail;
+
+// A text, and the line at which it must be refused; none where it is a program.
+pub type Row = (&'static [u8], Option<u32>);
+
+// A row that gives something else than it must.
+#[derive(Clone, Copy, Debug, Drop, PartialEq, Eq)]
+pub struct Wrong {
+    pub row: usize,
+    pub given: Option<Refusal>,
+}
+
+// What stands before and behind each row of a table.
+#[derive(Clone, Copy)]
+pub struct Frame {
+    pub before: &'static [u8],
+    pub after: &'static [u8],
+}
+
+pub const WHOLE: Frame = Frame {
+    before: b"",
+    after: b"",
+};
+
+pub const DECLARATIONS: Frame = Frame {
+    before: b"#pragma compartment Main\n",
+    after: b"int main(void) { return 0; }\n",
+};
+
+// The refusal of a text, or none where it is a program.
+pub fn judge(alloc: Global, text: &[u8]) -> Result<Option<Refusal>, Fail> {
+    match SourceText::read(alloc, text) {
+        Ok(_) => Ok(None),
+        Err(TextFault::Refused(refusal)) => Ok(Some(refusal)),
+        Err(fault) => Err(fault)?,
+    }
+}
+
+// The rows that aren't refused in this phase at their line, or are no program where they have none.
+pub fn wrong_rows(
+    alloc: Global,
+    frame: Frame,
+    phase: Phase,
+    rows: &[Row],
+) -> Result<Vec<Wrong>, Fail> {
+    let mut wrong = Vec::new(alloc);
+    for (row, (text, line)) in rows.iter().enumerate() {
+        let mut whole = frame.before.to_vec(alloc)?;
+        whole.extend_from_slice(text)?;
+        whole.extend_from_slice(frame.after)?;
+        let given = judge(alloc, whole.as_slice())?;
+        let want = match *line {
+            None => None,
+            Some(line) => Some(Refusal { phase, line }),
+        };
+        if given != want {
+            wrong.push(Wrong { row, given })?;
+        }
+    }
+    Ok(wrong)
+}

@@ -1,0 +1,58 @@
+-- A thin text is accepted, as a program that means what its thin program means.
+use Rattle.std.proofs.Common.{◌≡◌, ℕ, ◌≤◌, IsTrue, List, [], ◌∷◌, ◌++◌, length, codes, decimal, refl, ap, ◌∙◌, subst, length-append, arith}
+use Rattle.std.specs.List.{flat_map}
+use Rattle.std.proofs.lemmas.List.Elements.{recursion_from_All}
+use Rattle.sc_ast.specs.Height.{section_height}
+use Rattle.sc_ast.specs.Lineless.{SameButLines}
+use Rattle.sc_ast.specs.SectionWords.{section_words}
+use Rattle.sc_ast.specs.declared.section.SectionTree.{SectionTree}
+use Rattle.sc_print.specs.Symbols.{symbols}
+use Rattle.sc_print.specs.KeptSections.{kept_section}
+use Rattle.sc_print.specs.SectionsRead.{SectionSpells}
+use Rattle.sc_print.specs.Dense.{dense_text, SaysAll}
+use Rattle.sc_read.specs.Reading.{Reads}
+use Rattle.sc_core.specs.declared.thin.ThinProgram.{ThinProgram}
+use Rattle.sc_core.specs.declared.program.ProgramTree.{ProgramTree}
+use Rattle.sc_types.specs.Acceptance.{Accepts}
+use Rattle.sc_top.specs.Thin.{IsThin, head, output_line, return_line}
+use Rattle.sc_top.specs.ThinMeaning.{IsThinProgram}
+use Rattle.sc_top.proofs.Bodies.{AreSmall}
+use Rattle.sc_top.proofs.ThinReads.{ThinReading, thin_reading}
+use Rattle.sc_top.proofs.ThinLines.{tree_at, IsThinTree, thin_tree}
+use Rattle.sc_top.proofs.ThinRules.{thin_names, thin_types, thin_interface, thin_counts, thin_faces}
+use Rattle.sc_top.proofs.ThinMeaning.{program, thin_means}
+
+-- a text is longer than its outputs are many
+lines_long : (outputs : List ℕ) → length outputs ≤ length (flat_map output_line outputs)
+lines_long [] = omega arith
+lines_long (value ∷ outputs) =
+    omega (arith, lines_long outputs, length-append (output_line value) (flat_map output_line outputs), length-append (codes "  output(") (decimal value ++ codes ");\n"))
+
+few_outputs : (text : List ℕ) (thin : ThinProgram) → IsThin text thin → length thin.outputs ≤ 16384
+few_outputs text thin h =
+    let whole : length text ≡ length (head ++ (flat_map output_line thin.outputs ++ (return_line thin.result ++ codes "}\n"))) = ap length (h.whole ∙ ap (λ b. head ++ b) h.body.spelled) in
+    omega (arith, whole, h.short, lines_long thin.outputs, length-append head (flat_map output_line thin.outputs ++ (return_line thin.result ++ codes "}\n")), length-append (flat_map output_line thin.outputs) (return_line thin.result ++ codes "}\n"))
+
+module _ (cut : (tree : SectionTree) → IsTrue (kept_section tree) → SaysAll (dense_text tree) (symbols (section_words tree))) (spell : (tree : SectionTree) → IsTrue (kept_section tree) → SectionSpells tree) (height : (tree other : SectionTree) → SameButLines tree other → section_height tree ≡ section_height other) where
+  pub thin_accepted : (text : List ℕ) (thin : ThinProgram) → IsThin text thin → (accepted : ProgramTree) × Accepts text accepted × IsThinProgram accepted thin
+  thin_accepted text thin h =
+      let r : ThinReading text thin.outputs thin.result = thin_reading cut spell height text thin h in
+      let t : IsThinTree thin.outputs thin.result r.tree = thin_tree thin.outputs thin.result r.tree r.same in
+      let small : AreSmall thin.outputs = recursion_from_All _ _ h.body.outputs in (
+        program t.lines t.body,
+        record {
+          sections = tree_at t.lines t.body ∷ [];
+          reads = subst (λ tree. Reads text (tree ∷ [])) t.is r.reads;
+          typed = record {
+            names = thin_names thin.outputs thin.result t.lines t.body t.statements;
+            types = thin_types t.lines t.body thin.outputs thin.result small h.body.result t.statements;
+            interfaces = thin_interface t.lines t.body;
+            counts = thin_counts t.lines t.body thin.outputs thin.result (few_outputs text thin h) t.statements;
+            is = refl;
+          };
+        },
+        record {
+          interfaces = thin_faces t.lines t.body;
+          means = λ inputs turns events. thin_means t.lines t.body inputs turns thin.outputs thin.result t.statements events;
+        },
+      )

@@ -1,0 +1,9 @@
+mod Bare
+mod Basics
+mod Digits
+mod Examples
+mod Level
+mod Lookup
+mod Reading
+mod Rows
+mod Top

@@ -1,0 +1,5 @@
+pub mod Application
+pub mod Numbers
+pub mod Options
+pub mod Usage
+pub mod Words

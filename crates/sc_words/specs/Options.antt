@@ -1,0 +1,86 @@
+-- How the options of a command are written.
+use Rattle.std.specs.Prelude.{ℕ, Bool, true, not, ◌==◌, ◌&&◌, ◌||◌, if◌then◌else◌, List, [], ◌∷◌, take, drop, length, find, codes, Option, Some, None}
+use Rattle.std.specs.Prelude.{option_and_then, option_map}
+use Rattle.std.specs.List.{list_all, list_any, before_first, after_first}
+use Rattle.std.specs.Str.{bytes_eq}
+
+abbrev pub Text : Type 0
+Text = List ℕ
+
+-- the names of a command's options: those with a value, of which some have to be given, and those that stand alone
+pub record Form : Type 0 where
+  pub needed : List Text
+  pub valued : List Text
+  pub alone : List Text
+
+-- an option with its value, which is empty where the option stands alone
+abbrev pub Given : Type 0
+Given = Text × Text
+
+abbrev pub is_among : List Text → Text → Bool
+is_among names name = list_any (λ known. bytes_eq known name) names
+
+abbrev pub has_value : Form → Text → Bool
+has_value form name = is_among form.needed name || is_among form.valued name
+
+abbrev pub begins_with_hyphen : Text → Bool
+begins_with_hyphen word = bytes_eq (take 1 word) (codes "-")
+
+abbrev pub is_equals : ℕ → Bool
+is_equals byte = byte == 61
+
+abbrev pub name_and_value : Text → Text × Option Text
+name_and_value text = (
+  before_first is_equals text,
+  if list_any is_equals text then Some (after_first is_equals text) else None,
+)
+
+-- `--name` or `--name=value`, where the value stands behind the first `=`
+abbrev pub named : Text → Option (Text × Option Text)
+named word = if bytes_eq (take 2 word) (codes "--") then Some (name_and_value (drop 2 word)) else None
+
+-- the word begins with a hyphen and names no option: `-`, `--`, or one hyphen before something else
+abbrev pub is_bare : Text → Bool
+is_bare word = begins_with_hyphen word && (not (bytes_eq (take 2 word) (codes "--")) || length word == 2)
+
+abbrev pub more : Text → Text → Option (List Given) → Option (List Given)
+more name value = option_map (λ given. (name, value) ∷ given)
+
+-- what a word that is no value says, where `behind` reads the words behind it for the option that waits for its value
+abbrev pub named_option : Form → Option (Text × Option Text) → (Option Text → Option (List Given)) → Option (List Given)
+named_option form None behind = None
+named_option form (Some (name, Some value)) behind =
+    if has_value form name then more name value (behind None) else None
+named_option form (Some (name, None)) behind =
+    if has_value form name then behind (Some name)
+    else (if is_among form.alone name then more name [] (behind None) else None)
+
+-- the options that words give, in order, where `waiting` is the option whose value is the first word. A value in a word
+-- of its own has no hyphen in front
+unfoldable pub given : Form → Option Text → List Text → Option (List Given)
+given form None [] = Some []
+given form (Some name) [] = None
+given form None (word ∷ rest) = named_option form (named word) (λ waiting. given form waiting rest)
+given form (Some name) (word ∷ rest) = if begins_with_hyphen word then None else more name word (given form None rest)
+
+abbrev pub has_option : Text → List Given → Bool
+has_option name = list_any (λ option. bytes_eq option.0 name)
+
+abbrev pub each_once : List Given → Bool
+each_once [] = true
+each_once (option ∷ rest) = not (has_option option.0 rest) && each_once rest
+
+-- each option is given at most once, and those that have to be given are
+abbrev pub is_complete : Form → List Given → Bool
+is_complete form options = each_once options && list_all (λ name. has_option name options) form.needed
+
+abbrev pub when_complete : Form → List Given → Option (List Given)
+when_complete form options = if is_complete form options then Some options else None
+
+-- the options that the words are
+abbrev pub options : Form → List Text → Option (List Given)
+options form words = option_and_then (when_complete form) (given form None words)
+
+-- the value of an option, if it is given
+abbrev pub value_of : Text → List Given → Option Text
+value_of name options = option_map (λ option. option.1) (find (λ option. bytes_eq option.0 name) options)

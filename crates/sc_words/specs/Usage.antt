@@ -1,0 +1,35 @@
+-- What somebody is told whose words are no command.
+use Rattle.std.specs.Prelude.{ℕ, List, [], ◌∷◌, ◌++◌, codes}
+
+-- lines, each with its end
+abbrev pub text_of : List (List ℕ) → List ℕ
+text_of [] = []
+text_of (line ∷ lines) = line ++ (10 ∷ text_of lines)
+
+unfoldable pub usage_text : List ℕ
+usage_text = text_of (
+    codes "secomp: usage" ∷
+    codes "  secomp COMMAND [OPTION]... <INPUT" ∷
+    [] ∷
+    codes "commands" ∷
+    codes "  check     the compartments of a program, and what they import and export" ∷
+    codes "  meaning   what the program does by the meaning of its source" ∷
+    codes "  compile   its machine image" ∷
+    codes "  run       what the machine does on that image" ∷
+    codes "  explain   the same, and the sections to replace so that the source does it too" ∷
+    codes "  exec      what the machine does on an image" ∷
+    codes "  make      a program made from two numbers" ∷
+    [] ∷
+    codes "options, as --name value or --name=value, each at most once" ∷
+    codes "  --turns N    meaning: at most N turns, 0 to 16777216 (1000000)" ∷
+    codes "  --steps N    run, exec, explain: at most N steps, 0 to 16777216 (1000000)" ∷
+    codes "  --events M   meaning, run, exec, explain: at most M events, 0 to 4096 (1024)" ∷
+    codes "  --in LIST    meaning, run, exec, explain: the inputs (none), as --in=-5,3:" ∷
+    codes "               1 to 65536 numbers from -2147483648 to 2147483647" ∷
+    codes "  --show K     explain: only the text after K replacements, 0 to 32" ∷
+    codes "  --size K     make, needed: how many functions, 1 to 1000" ∷
+    codes "  --seed N     make, needed: which program, 0 to 4294967295" ∷
+    codes "  --summary    make: a summary of the program in place of its text" ∷
+    codes "In parentheses stands what holds where the option is not given." ∷
+    codes "The input is an image for exec, nothing for make, and else a program's text." ∷
+    [])

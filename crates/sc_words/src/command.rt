@@ -1,0 +1,53 @@
+use sqlite_items::Items;
+
+/// What `secomp` is asked to do, with the options of each command. An option that isn't given has its default.
+#[derive(Debug, Drop)]
+pub enum Command {
+    /// The compartments of a program, and what they import and export.
+    Check,
+    /// What a program does by the meaning of its source.
+    Meaning(MeaningOptions),
+    /// The machine image of a program.
+    Compile,
+    /// What the machine does on the image of a program.
+    Run(RunOptions),
+    /// What the machine does on an image.
+    Exec(RunOptions),
+    /// The events of the machine on a program, and the chain of texts that accounts for them. With a number, the text
+    /// of the chain that is to be written in place of that report, at most 32.
+    Explain(RunOptions, Option<u32>),
+    /// A program that is made from a seed.
+    Make(MakeOptions),
+}
+
+/// How far the source meaning runs, and on what inputs.
+#[derive(Debug, Drop)]
+pub struct MeaningOptions {
+    /// At most 16,777,216.
+    pub turns: u32,
+    /// At most 4,096.
+    pub events: u32,
+    /// At most 65,536 of them.
+    pub inputs: Items<i32>,
+}
+
+/// How far the machine runs, and on what inputs.
+#[derive(Debug, Drop)]
+pub struct RunOptions {
+    /// At most 16,777,216.
+    pub steps: u32,
+    /// At most 4,096.
+    pub events: u32,
+    /// At most 65,536 of them.
+    pub inputs: Items<i32>,
+}
+
+/// Which program is made.
+#[derive(Clone, Copy, Debug)]
+pub struct MakeOptions {
+    /// How many functions, from 1 to 1,000.
+    pub size: u32,
+    pub seed: u32,
+    /// Whether a summary of the program is written in place of its text.
+    pub summary: bool,
+}
