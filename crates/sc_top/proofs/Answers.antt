@@ -11,15 +11,15 @@ use Rattle.sc_core.specs.declared.thin.ThinProgram.{ThinProgram}
 use Rattle.sc_image.specs.Reading.{cause_number, cause_of, bad}
 use Rattle.sc_image.specs.RoundTrip.{IsImage}
 use Rattle.sc_image.proofs.Images.{is_read_again}
-use Rattle.sc_edge.specs.Edge.{Takes, IsAtEnd}
+use Rattle.sc_edge.specs.Edge.{Takes}
 use Rattle.sc_types.specs.Acceptance.{Accepts, Fails}
 use Rattle.sc_words.specs.declared.command.Command.{Command}
 use Rattle.sc_words.specs.declared.command.Command.TheVariants.{Check, Meaning, Compile, Run, Exec, Explain, Make}
 use Rattle.sc_top.specs.declared.status.Status.{Status}
 use Rattle.sc_top.specs.declared.status.Status.TheVariants as status
-use Rattle.sc_top.specs.Answer.{IsWhole, IsInput, IsDone, Refuses, IsRefused, cause_in, FindsBad, IsBadInput, IsLonger, IsBeyond, GivesUp, IsNotBuilt, reads_nothing, beyond, IsOfAnyText, IsWithin, IsAnswer, SameAnswer}
+use Rattle.sc_top.specs.Answer.{IsWhole, IsDone, Refuses, IsRefused, cause_in, FindsBad, IsBadInput, IsLonger, IsBeyond, GivesUp, IsNotBuilt, reads_nothing, beyond, IsOfAnyText, IsWithin, IsAnswer, SameAnswer}
 use Rattle.sc_top.specs.Command.{limit_of}
-use Rattle.sc_top.specs.Output.{IsOutput, IsThinText, IsExecuted}
+use Rattle.sc_top.specs.Output.{IsOutput, IsThinText}
 use Rattle.sc_top.proofs.Lengths.{image_is_short}
 
 -- all that was left is the text

@@ -1,17 +1,14 @@
 -- Few brackets are open in a thin text.
-use Rattle.std.proofs.Common.{◌≡◌, ℕ, ◌+◌, ◌-◌, ◌≤◌, max, IsTrue, true, List, [], ◌∷◌, ◌++◌, map, codes, refl, sym, ap, ap₂, ◌∙◌, subst, arith}
+use Rattle.std.proofs.Common.{◌≡◌, ℕ, ◌+◌, ◌-◌, ◌≤◌, max, IsTrue, List, [], ◌∷◌, ◌++◌, codes, refl, sym, ap, ◌∙◌, subst, arith}
 use Rattle.std.proofs.lemmas.List.{append-nil}
 use Rattle.sc_event.specs.Identifier.{is_name}
 use Rattle.sc_reserved.specs.Reserved.{is_reserved}
 use Rattle.sc_ast.specs.Identifiers.{is_ident}
-use Rattle.sc_ast.specs.Numbers.{fits}
 use Rattle.sc_ast.specs.Pieces.{Piece, word, newline, line_of}
 use Rattle.sc_ast.specs.ExprWords.{literal_text}
 use Rattle.sc_ast.specs.StmtWords.{layouts, lines_at}
-use Rattle.sc_ast.specs.SectionWords.{export_words, import_words, section_words}
-use Rattle.sc_expr.specs.declared.mark.Mark.TheVariants as mark
+use Rattle.sc_ast.specs.SectionWords.{import_words, section_words}
 use Rattle.sc_expr.specs.declared.lexeme.Symbol.{Symbol}
-use Rattle.sc_expr.specs.declared.lexeme.Symbol.TheVariants as symbol
 use Rattle.sc_expr.specs.Brackets.{open_after}
 use Rattle.sc_print.specs.Symbols.{word_symbol, symbols}
 use Rattle.sc_print.proofs.Tables as tables
@@ -20,7 +17,7 @@ use Rattle.sc_print.proofs.Literals.{literal_says}
 use Rattle.sc_print.proofs.DirectiveWords.{heading_says, import_says}
 use Rattle.sc_print.proofs.Spelling.{joined_symbols}
 use Rattle.sc_top.proofs.Bodies.{AreSmall}
-use Rattle.sc_top.proofs.ThinTree.{number, output_words, return_words, body_of, body_words, lines_are, tree_of, small_fits}
+use Rattle.sc_top.proofs.ThinTree.{number, output_words, body_of, body_words, lines_are, tree_of, small_fits}
 
 -- the most brackets that are open along symbols
 abbrev pub opens : ℕ → List Symbol → ℕ

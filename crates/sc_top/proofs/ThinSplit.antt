@@ -1,6 +1,6 @@
 -- A thin text is one section.
-use Rattle.std.proofs.Common.{◌≡◌, ℕ, zero, suc, ◌+◌, ◌-◌, ◌≤◌, ◌<◌, Bool, true, false, not, ◌&&◌, IsTrue, Bor, List, [], ◌∷◌, ◌++◌, length, take, drop, get_or, codes, decimal, Some, refl, sym, ap, ◌∙◌, subst, ⊎_elim, arith, length-append}
-use Rattle.std.specs.Prelude.{slice_index, slice_range, ◌==◌}
+use Rattle.std.proofs.Common.{◌≡◌, ℕ, zero, suc, ◌+◌, ◌-◌, ◌≤◌, Bool, true, not, ◌&&◌, IsTrue, List, [], ◌∷◌, ◌++◌, length, drop, get_or, codes, decimal, Some, refl, sym, ap, ◌∙◌, subst, ⊎_elim, arith, length-append}
+use Rattle.std.specs.Prelude.{◌==◌}
 use Rattle.std.specs.Char.{is_ascii_digit}
 use Rattle.std.specs.Str.{all_ascii_digits}
 use Rattle.std.specs.List.{flat_map, list_all}
@@ -10,7 +10,7 @@ use Rattle.sc_event.specs.Identifier.{is_name}
 use Rattle.sc_lex.specs.Lines.{begins_line}
 use Rattle.sc_lex.specs.Words.{words}
 use Rattle.sc_lex.specs.Headings.{begins_heading, is_heading, heading_name, name_at}
-use Rattle.sc_lex.specs.Splitting.{NoHeading, IsSection, AreSections, none, section, IsSplit}
+use Rattle.sc_lex.specs.Splitting.{NoHeading, IsSection, none, section, IsSplit}
 use Rattle.sc_lex.specs.declared.section.Section.{Section}
 use Rattle.sc_lex.proofs.Wording.{front_byte}
 use Rattle.sc_top.specs.Thin.{head, output_line, return_line}

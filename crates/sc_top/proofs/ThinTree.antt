@@ -1,18 +1,17 @@
 -- A thin text is the text of a section without empty lines.
-use Rattle.std.proofs.Common.{◌≡◌, ℕ, ◌+◌, ◌≤◌, ◌<◌, max, Bool, true, false, ◌&&◌, IsTrue, List, [], ◌∷◌, ◌++◌, map, replicate, codes, decimal, Some, None, refl, sym, ap, ap₂, ◌∙◌, subst, append_assoc, arith, rules}
-use Rattle.std.specs.Prelude.{nat_le}
-use Rattle.std.specs.List.{flat_map, list_all, AllByRecursion}
+use Rattle.std.proofs.Common.{◌≡◌, ℕ, ◌≤◌, true, false, IsTrue, List, [], ◌∷◌, ◌++◌, map, codes, decimal, Some, None, refl, sym, ap, ap₂, ◌∙◌, append_assoc, arith, rules}
+use Rattle.std.specs.List.{flat_map}
 use Rattle.std.proofs.lemmas.Bool.{le-leb}
 use Rattle.std.proofs.lemmas.List.{append-nil}
 use Rattle.std.proofs.lemmas.Grind.{flat_map-append}
 use Rattle.sc_event.specs.Identifier.{is_name}
 use Rattle.sc_reserved.specs.Reserved.{is_reserved}
 use Rattle.sc_ast.specs.Numbers.{Number, fits}
-use Rattle.sc_ast.specs.Pieces.{Piece, word, blank, indent, newline, piece_text, text_of, line_of}
+use Rattle.sc_ast.specs.Pieces.{Piece, word, blank, newline, piece_text, text_of, line_of}
 use Rattle.sc_ast.specs.ExprWords.{literal_text}
 use Rattle.sc_ast.specs.StmtWords.{stmt_layout, layouts, lines_at}
-use Rattle.sc_ast.specs.SectionWords.{export_words, import_words, section_words}
-use Rattle.sc_ast.specs.Height.{highest, stmt_height, stmts_height, section_height}
+use Rattle.sc_ast.specs.SectionWords.{import_words}
+use Rattle.sc_ast.specs.Height.{stmt_height, stmts_height, section_height}
 use Rattle.sc_ast.specs.declared.types.BaseTree.TheVariants as base
 use Rattle.sc_ast.specs.declared.expr.ExprTree as exprs
 use Rattle.sc_ast.specs.declared.expr.ExprTree.TheVariants as expr
@@ -22,13 +21,9 @@ use Rattle.sc_ast.specs.declared.stmt.StmtKind as kinds
 use Rattle.sc_ast.specs.declared.stmt.StmtKind.TheVariants as stmt
 use Rattle.sc_ast.specs.declared.section.Decl.TheVariants as decl
 use Rattle.sc_ast.specs.declared.section.SectionTree.{SectionTree}
-use Rattle.sc_expr.specs.declared.mark.Mark.TheVariants as mark
-use Rattle.sc_expr.specs.declared.lexeme.Symbol.{Symbol}
-use Rattle.sc_expr.specs.Brackets.{open_after}
-use Rattle.sc_print.specs.Symbols.{word_symbol, symbols}
-use Rattle.sc_print.specs.KeptStmts.{is_kept_stmt, all_kept, are_kept}
+use Rattle.sc_print.specs.KeptStmts.{is_kept_stmt, are_kept}
 use Rattle.sc_print.specs.KeptSections.{kept_section}
-use Rattle.sc_print.specs.Dense.{dense_words, dense_text}
+use Rattle.sc_print.specs.Dense.{dense_text}
 use Rattle.sc_top.specs.Thin.{head, output_line, return_line}
 use Rattle.sc_top.proofs.Bodies.{AreSmall}
 

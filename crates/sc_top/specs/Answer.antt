@@ -9,9 +9,9 @@ use Rattle.sc_image.specs.Reading.{cause_number, bad}
 use Rattle.sc_edge.specs.Edge.{Rose, Takes, Adds, IsAtEnd}
 use Rattle.sc_types.specs.Acceptance.{Accepts, Fails}
 use Rattle.sc_words.specs.declared.command.Command.{Command}
-use Rattle.sc_words.specs.declared.command.Command.TheVariants.{Check, Meaning, Compile, Run, Exec, Explain, Make}
+use Rattle.sc_words.specs.declared.command.Command.TheVariants.{Check, Meaning, Exec, Make}
 use Rattle.sc_top.specs.declared.status.Status.{Status}
-use Rattle.sc_top.specs.declared.status.Status.TheVariants.{Done, Usage, Refused, TooLong, BadImage, ReadFault, WriteFault, OutOfMemory, NotBuilt}
+use Rattle.sc_top.specs.declared.status.Status.TheVariants.{Done, Refused, TooLong, BadImage, ReadFault, OutOfMemory, NotBuilt}
 use Rattle.sc_top.specs.Command.{limit_of}
 use Rattle.sc_top.specs.Output.{IsOutput}
 use Rattle.sc_top.specs.Thin.{IsThin}

@@ -73,9 +73,9 @@ abbrev pub IsOfProgram : List ℕ → (ProgramTree → Type 0) → Type 0
 IsOfProgram bytes Q = (program : ProgramTree) × Accepts bytes program × Q program
 
 -- the bytes are accepted as this program, and they are the thin text of that one
-pub record IsThinText (bytes : List ℕ) (program : ProgramTree) (thin : ThinProgram) : Type 0 where
+pub record IsThinText (bytes : List ℕ) (program : ProgramTree) (outputs_and_result : ThinProgram) : Type 0 where
   pub accepted : Accepts bytes program
-  pub thin : IsThin bytes thin
+  pub thin : IsThin bytes outputs_and_result
 
 -- the bytes are accepted as a program and thin, and this holds of the program and the thin one
 abbrev pub IsOfThin : List ℕ → (ProgramTree → ThinProgram → Type 0) → Type 0

@@ -1,4 +1,4 @@
-use Rattle.std.proofs.Common.{◌≡◌, ◌++◌, codes, decimal, [], ◌∷◌, sym, ◌∙◌, subst}
+use Rattle.std.proofs.Common.{◌≡◌, codes, decimal, subst}
 use Rattle.sc_edge.specs.Edge.{Adds}
 use Rattle.sc_top.specs.Answer.{Tells}
 use Rattle.sc_top.proofs.Streams.{on_err, on_err_more, first_cut, then_told}

@@ -1,6 +1,5 @@
-use Rattle.std.proofs.Common.{◌≡◌, ◌++◌, ◌≤◌, codes, decimal, ◌∙◌, subst, arith}
+use Rattle.std.proofs.Common.{◌++◌, codes, decimal, subst}
 use Rattle.sc_edge.specs.Edge.{Adds}
-use Rattle.sc_top.specs.Answer.{Tells}
 use Rattle.sc_top.specs.Status.{phase_word}
 use Rattle.sc_top.proofs.Streams.{on_err, on_err_more, first_cut, then_told}
 use Rattle.sc_top.proofs.telling.write_refusal.Goals as goal

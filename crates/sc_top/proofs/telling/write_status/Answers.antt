@@ -1,9 +1,7 @@
-use Rattle.std.proofs.Common.{◌≡◌, ◌++◌, codes, decimal, sym, ap, ◌∙◌, subst}
+use Rattle.std.proofs.Common.{◌≡◌, ◌++◌, codes, decimal, sym, ap, subst}
 use Rattle.sc_edge.specs.Edge.{Adds}
 use Rattle.sc_top.specs.Answer.{Tells}
 use Rattle.sc_top.specs.Status.{fixed_text, own_text, status_text, refusal_text}
-use Rattle.sc_top.specs.declared.status.Status.{Status}
-use Rattle.sc_top.specs.declared.status.Status.TheVariants as status
 use Rattle.sc_top.proofs.Streams.{on_err, on_err_more, first_cut, then_told}
 use Rattle.sc_top.proofs.telling.write_status.Goals as goal
 
