@@ -1,4 +1,4 @@
-ghost use Rattle.std.specs.Prelude.{◌≡◌, Some, None, IfOk, IsErrOf, map};
+ghost use Rattle.std.specs.Prelude.{◌≡◌, ◌≢◌, Some, None, IfOk, IsErrOf, map};
 ghost use Rattle.std.specs.List.{list_any};
 ghost use Rattle.std.specs.String.{string_bytes};
 ghost use Rattle.clap.specs.Words.{kind_of};
@@ -58,7 +58,8 @@ fn is_bare(word: &str) -> bool
 }
 
 fn fault_of(error: &Error) -> WordsFault
-    ensures { result ≡ WordsFault.Usage → kind_of error.now ≡ kind.OutOfMemory → ⊥ }
+    ensures usage { result ≡ WordsFault.Usage → kind_of error.now ≢ kind.OutOfMemory }
+    ensures memory { result ≡ WordsFault.OutOfMemory → kind_of error.now ≡ kind.OutOfMemory }
 {
     match error.kind() {
         ErrorKind::OutOfMemory => WordsFault::OutOfMemory,

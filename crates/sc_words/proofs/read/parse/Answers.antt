@@ -26,7 +26,7 @@ returns-in-Err-clause-usage c =
     λ usage.
     let is : c.fault_of.result ≡ Usage = cc usage in
     elim (c.in-Err.ensures.kinds (ap is_simple_and_free c.in_ok-application.ensures ∙ is_exact)) [
-      | inl memory ↦ absurd (c.fault_of.ensures is memory)
+      | inl memory ↦ absurd (c.fault_of.ensures.usage is memory)
       | inr among ↦ refusal (map string_bytes c.args.words.now) (app_of c.in_ok-application.application) (kind_of c.in-Err.error) c.in_ok-application.ensures
           (bare ∙ c.if-has_bare.false) among
     ]
