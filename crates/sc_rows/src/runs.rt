@@ -11,6 +11,19 @@ const TWO_STORES: &[u8] =
 const REENTRY: &[u8] =
     b"#pragma compartment Main\n#pragma import A f\n#pragma import Env output\nint f(int i);\nvoid output(int v);\nint main(void) {\n  int r;\n  r = f(1);\n  output(r);\n  return 0;\n}\n#pragma compartment A\n#pragma export f\n#pragma export h\n#pragma import B g\nint g(int v);\nint x[2];\nint y;\nint f(int i) {\n  int r;\n  x[i] = 5;\n  r = g(y);\n  return r + y;\n}\nint h(int v) {\n  y = y + v;\n  return y;\n}\n#pragma compartment B\n#pragma export g\n#pragma import A h\nint h(int v);\nint g(int v) {\n  int r;\n  r = h(v + 1);\n  return r;\n}\n";
 
+// The same, where A stores behind the end of its array.
+const REENTRY_BLAMED: &[u8] =
+    b"#pragma compartment Main\n#pragma import A f\n#pragma import Env output\nint f(int i);\nvoid output(int v);\nint main(void) {\n  int r;\n  r = f(2);\n  output(r);\n  return 0;\n}\n#pragma compartment A\n#pragma export f\n#pragma export h\n#pragma import B g\nint g(int v);\nint x[2];\nint y;\nint f(int i) {\n  int r;\n  x[i] = 5;\n  r = g(y);\n  return r + y;\n}\nint h(int v) {\n  y = y + v;\n  return y;\n}\n#pragma compartment B\n#pragma export g\n#pragma import A h\nint h(int v);\nint g(int v) {\n  int r;\n  r = h(v + 1);\n  return r;\n}\n";
+
+// Requests are read into an array that holds four numbers, and the third request has five.
+const ACCOUNTS: &[u8] =
+    b"#pragma compartment Reader\n#pragma import Accounts apply\n#pragma import Log note\n#pragma import Env input\nint apply(int kind, int who, int amount);\nvoid note(int what, int value);\nint input(void);\nint req[4];\nint served;\n\nvoid read_request(int n) {\n  int i;\n  int v;\n  for (i = 0; i < n; i++) {\n    v = input();\n    req[i] = v;\n  }\n}\n\nint main(void) {\n  int n;\n  int r;\n  n = input();\n  while (n != 0) {\n    read_request(n);\n    r = apply(req[0], req[1], req[2]);\n    note(req[0], r);\n    served = served + 1;\n    n = input();\n  }\n  note(0, served);\n  return 0;\n}\n#pragma compartment Accounts\n#pragma export apply\nstruct Account {\n  int balance;\n  unsigned int moves;\n};\nstruct Account table[8];\n\nint apply(int kind, int who, int amount) {\n  struct Account *a;\n  if (who < 0 || who >= 8 || amount < 0 || amount > 1000000) {\n    return -1;\n  }\n  a = &table[who];\n  if (kind == 1) {\n    a->balance = a->balance + amount;\n  } else if (kind == 2 && a->balance >= amount) {\n    a->balance = a->balance - amount;\n  } else {\n    return -2;\n  }\n  a->moves = a->moves + 1u;\n  return a->balance;\n}\n#pragma compartment Log\n#pragma export note\n#pragma import Env output\nvoid output(int v);\nunsigned int lines;\n\nvoid note(int what, int value) {\n  lines = lines + 1u;\n  if (what == 0) {\n    output(1000 + value);\n  } else {\n    output(value);\n  }\n}\n";
+
+const REQUESTS: &str = "3,1,2,500,3,2,2,200,5,1,3,40,7,99,3,2,5,10,0";
+
+const REQUESTS_TOLD: &[u8] =
+    b"in Reader 3\nin Reader 1\nin Reader 2\nin Reader 500\ncall Reader Accounts apply 1 2 500\nret Accounts Reader 500\ncall Reader Log note 1 500\nout Log 500\nret Log Reader\nin Reader 3\nin Reader 2\nin Reader 2\nin Reader 200\ncall Reader Accounts apply 2 2 200\nret Accounts Reader 300\ncall Reader Log note 2 300\nout Log 300\nret Log Reader\nin Reader 5\nin Reader 1\nin Reader 3\nin Reader 40\nin Reader 7\nin Reader 99\nstop blamed Reader OutOfBounds 16\n";
+
 const MISSING_RETURN: &[u8] =
     b"#pragma compartment Main\nint f(void) {\n}\nint main(void) {\n  int r;\n  r = f();\n  return r;\n}\n";
 
@@ -63,7 +76,7 @@ const UNSIGNED: &[u8] =
 
 #[test]
 fn whole_programs_are_told(rt: HostRuntime) -> Result<(), Fail> {
-    let cases: [(&[&str], &[u8], &[u8]); 29] = [
+    let cases: [(&[&str], &[u8], &[u8]); 32] = [
         (
             &["meaning"],
             STORE,
@@ -79,6 +92,13 @@ fn whole_programs_are_told(rt: HostRuntime) -> Result<(), Fail> {
             REENTRY,
             b"call Main A f 1\ncall A B g 0\ncall B A h 1\nret A B 1\nret B A 1\nret A Main 2\nout Main 2\nend Main 0\nstop ended\n",
         ),
+        (
+            &["meaning"],
+            REENTRY_BLAMED,
+            b"call Main A f 2\nstop blamed A OutOfBounds 10\n",
+        ),
+        (&["meaning", "--in", REQUESTS], ACCOUNTS, REQUESTS_TOLD),
+        (&["meaning", "--turns", "1"], ROUNDS, b"stop turns\n"),
         (
             &["meaning"],
             MISSING_RETURN,
