@@ -3,12 +3,12 @@ use Rattle.std.specs.Prelude.{ℕ, ◌-◌, nat_lt, Bool, ◌&&◌, ◌||◌, by
 use Rattle.std.specs.Fmt.{decimal}
 use Rattle.std.specs.List.{join_by}
 use Rattle.sc_ast.specs.Numbers.{Number}
-use Rattle.sc_ast.specs.Levels.{postfix_level, unary_level, loosest_level, level_of}
+use Rattle.sc_base.specs.Levels.{postfix_level, unary_level, loosest_level, level_of}
 use Rattle.sc_ast.specs.Pieces.{Piece, word, blank, in_parens, comma}
-use Rattle.sc_ast.specs.declared.expr.UnaryOp.{UnaryOp}
-use Rattle.sc_ast.specs.declared.expr.UnaryOp.TheVariants as unary
-use Rattle.sc_ast.specs.declared.expr.BinaryOp.{BinaryOp}
-use Rattle.sc_ast.specs.declared.expr.BinaryOp.TheVariants as binary
+use Rattle.sc_base.specs.declared.op.UnaryOp.{UnaryOp}
+use Rattle.sc_base.specs.declared.op.UnaryOp.TheVariants as unary
+use Rattle.sc_base.specs.declared.op.BinaryOp.{BinaryOp}
+use Rattle.sc_base.specs.declared.op.BinaryOp.TheVariants as binary
 use Rattle.sc_ast.specs.declared.expr.ExprTree.{ExprTree, ExprTree-F, fold-ExprTree}
 use Rattle.sc_ast.specs.declared.expr.ExprTree.TheOpen as term
 use Rattle.sc_ast.specs.declared.expr.CallTree.{CallTree}

@@ -2,7 +2,6 @@ pub mod ExprWords
 pub mod Heads
 pub mod Height
 pub mod Identifiers
-pub mod Levels
 pub mod Lineless
 pub mod Lists
 pub mod Numbers

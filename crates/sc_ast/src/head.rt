@@ -2,7 +2,7 @@ ghost use Rattle.std.specs.Prelude.{◌≡◌, IsTrue, IfOk, IfSome, IfNone, map
 ghost use Rattle.sc_ast.specs.Heads.{param_of, head_of, has_nameless};
 
 use crate::section::{FunctionHead, FunctionParam, FunctionParams, HeadTree, ParamTree};
-use sc_event::OutOfMemory;
+use sc_base::OutOfMemory;
 use sqlite_items::Items;
 use std::alloc::Global;
 

@@ -1,8 +1,7 @@
 ghost use Rattle.std.specs.Prelude.{◌≡◌, IsTrue};
 ghost use Rattle.sc_ast.specs.Identifiers.{is_ident, ident_of};
 
-use sc_event::Name;
-use sc_reserved::is_reserved;
+use sc_base::{Name, is_reserved};
 use std::marker::Model;
 
 /// A name that a program may declare: an identifier of 1 to 63 bytes that is no reserved word. Contracts see its bytes.

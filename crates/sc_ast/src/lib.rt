@@ -23,7 +23,7 @@ mod stmt;
 mod tests;
 mod types;
 
-pub use expr::{BinaryOp, CallTree, ExprTree, Exprs, UnaryOp};
+pub use expr::{CallTree, ExprTree, Exprs};
 pub use height::{expr_height, section_height, stmt_height, stmts_height};
 pub use ident::Ident;
 pub use non_empty::NonEmpty;

@@ -27,7 +27,7 @@ use crate::section::{
     LocalTree, LocalTrees, SectionTree,
 };
 use crate::stmt::Stmts;
-use sc_event::{Name, OutOfMemory, Text};
+use sc_base::{Name, OutOfMemory, Text};
 use std::alloc::Global;
 
 /// The text of a section, whose lines need not be those of the tree.

@@ -4,7 +4,7 @@ use crate::non_empty::NonEmpty;
 use crate::number::Literal;
 use crate::stmt::Stmts;
 use crate::types::{TypeName, TypeTree};
-use sc_event::Name;
+use sc_base::Name;
 use sqlite_items::Items;
 
 /// A section: a compartment, what it exports and imports, and its declarations in order.

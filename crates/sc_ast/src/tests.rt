@@ -3,7 +3,7 @@ use crate::{
     Ident, Literal, LocalTree, LocalTrees, ParamTree, PlaceTree, SectionTree, SimpleKind,
     SimpleTree, StmtKind, StmtTree, Stmts, TypeName, TypeTree, section_height,
 };
-use sc_event::Name;
+use sc_base::Name;
 use sqlite_items::{Boxed, Items};
 use std::alloc::Global;
 use std::test::Fail;

@@ -1,10 +1,10 @@
 -- Known values of the definitions that are built.
 use Rattle.std.proofs.Common.{◌≡◌, true, false, codes, [], ◌∷◌, Some, None, refl, arith, rules}
-use Rattle.sc_ast.specs.declared.expr.BinaryOp.TheVariants as binary
+use Rattle.sc_base.specs.declared.op.BinaryOp.TheVariants as binary
 use Rattle.sc_ast.specs.declared.expr.ExprTree.{the_lemmas}
 use Rattle.sc_ast.specs.declared.expr.ExprTree.TheVariants as tree
 use Rattle.sc_ast.specs.declared.types.BaseTree.TheVariants as base_tree
-use Rattle.sc_core.specs.declared.op.BinaryOp.TheVariants as op
+use Rattle.sc_base.specs.declared.op.BinaryOp.TheVariants as op
 use Rattle.sc_core.specs.declared.ty.Ty.TheVariants as ty
 use Rattle.sc_core.specs.declared.ty.BaseTy.TheVariants as base
 use Rattle.sc_core.specs.declared.expr.TypedExpr as exprs

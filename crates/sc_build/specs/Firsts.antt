@@ -2,7 +2,7 @@
 use Rattle.std.specs.Prelude.{◌≡◌, ◌==◌, ℕ, List}
 use Rattle.std.specs.Cmp.Lexicographic.{pointwise}
 use Rattle.indexmap.specs.IndexMap.{IndexMap, get}
-use Rattle.sc_event.specs.Numbering.{number_of}
+use Rattle.sc_base.specs.Numbering.{number_of}
 
 -- the map gives each name the number of its first place in the list
 pub record HasFirsts (names : List (List ℕ)) {S : Type 0} (firsts : IndexMap (List ℕ) ℕ S) : Type 0 where

@@ -5,7 +5,7 @@ use Rattle.sc_core.specs.declared.ty.Ty.{Ty}
 use Rattle.sc_core.specs.declared.section.TypedMember.{TypedMember}
 use Rattle.sc_core.specs.declared.section.TypedParam.{TypedParam}
 use Rattle.sc_core.specs.declared.section.TypedStruct.{TypedStruct}
-use Rattle.sc_event.specs.Numbering.{number_of}
+use Rattle.sc_base.specs.Numbering.{number_of}
 
 abbrev pub variable_names : List TypedParam → List (List ℕ)
 variable_names variables = map {A = TypedParam} (λ variable. variable.name) variables

@@ -1,9 +1,9 @@
 ghost use Rattle.std.specs.Prelude.{◌≡◌, ℕ, List, ◌<◌, ◌++◌, ◌∷◌, [], length, IfOk};
-ghost use Rattle.sc_event.specs.Numbering.{number_of};
+ghost use Rattle.sc_base.specs.Numbering.{number_of};
 ghost use Rattle.sc_build.specs.Firsts.{HasFirsts};
 
+use sc_base::{Name, OutOfMemory};
 use indexmap::IndexMap;
-use sc_event::{Name, OutOfMemory};
 use sqlite_items::Items;
 use std::alloc::Global;
 use std::marker::Model;

@@ -8,6 +8,7 @@ ghost use Rattle.sc_elab.specs.Sections.{typed_function, typed_section, callees_
 ghost use Rattle.sc_build.specs.Called.{called, CallsIn, struct_name};
 ghost use Rattle.sc_build.specs.Stands.{Stands};
 
+use sc_base::OutOfMemory;
 use crate::calls::build_callees;
 use crate::function::build_function;
 use crate::globals::{build_globals, global_variables};
@@ -16,7 +17,7 @@ use crate::places::Places;
 use crate::scope::SectionScope;
 use sc_ast::{Decl, SectionTree};
 use sc_core::{TypedFunctions, TypedSection};
-use sc_event::{Import, OutOfMemory};
+use sc_event::Import;
 use sqlite_items::Items;
 use std::alloc::Global;
 

@@ -5,9 +5,8 @@ ghost use Rattle.sc_core.specs.Types.{is_pointer};
 ghost use Rattle.sc_core.specs.Typing.{starred, decayed, target, pointer_to, common};
 ghost use Rattle.sc_elab.specs.Expressions.{unary_op, binary_op, moved_ty, binary_ty, unary_ty};
 
-use sc_ast::{BinaryOp, UnaryOp};
+use sc_base::{BinaryOp, OutOfMemory, UnaryOp};
 use sc_core::{BaseTy, Ty};
-use sc_event::OutOfMemory;
 
 /// A type with so many `*`.
 pub fn starred(stars: u64, base: BaseTy) -> Ty
@@ -143,39 +142,39 @@ pub fn unary_ty(op: UnaryOp, a: Ty) -> Ty
 }
 
 /// The operator.
-pub fn unary_op(op: UnaryOp) -> sc_core::UnaryOp
+pub fn unary_op(op: UnaryOp) -> sc_base::UnaryOp
     ensures { result ≡ unary_op op }
 {
     match op {
-        UnaryOp::Minus => sc_core::UnaryOp::Minus,
-        UnaryOp::Plus => sc_core::UnaryOp::Plus,
-        UnaryOp::Not => sc_core::UnaryOp::Not,
-        UnaryOp::BitNot => sc_core::UnaryOp::BitNot,
+        UnaryOp::Minus => sc_base::UnaryOp::Minus,
+        UnaryOp::Plus => sc_base::UnaryOp::Plus,
+        UnaryOp::Not => sc_base::UnaryOp::Not,
+        UnaryOp::BitNot => sc_base::UnaryOp::BitNot,
     }
 }
 
 /// The operator.
-pub fn binary_op(op: BinaryOp) -> sc_core::BinaryOp
+pub fn binary_op(op: BinaryOp) -> sc_base::BinaryOp
     ensures { result ≡ binary_op op }
 {
     match op {
-        BinaryOp::OrElse => sc_core::BinaryOp::OrElse,
-        BinaryOp::AndAlso => sc_core::BinaryOp::AndAlso,
-        BinaryOp::BitOr => sc_core::BinaryOp::BitOr,
-        BinaryOp::BitXor => sc_core::BinaryOp::BitXor,
-        BinaryOp::BitAnd => sc_core::BinaryOp::BitAnd,
-        BinaryOp::Equal => sc_core::BinaryOp::Equal,
-        BinaryOp::NotEqual => sc_core::BinaryOp::NotEqual,
-        BinaryOp::Less => sc_core::BinaryOp::Less,
-        BinaryOp::Greater => sc_core::BinaryOp::Greater,
-        BinaryOp::LessEqual => sc_core::BinaryOp::LessEqual,
-        BinaryOp::GreaterEqual => sc_core::BinaryOp::GreaterEqual,
-        BinaryOp::ShiftLeft => sc_core::BinaryOp::ShiftLeft,
-        BinaryOp::ShiftRight => sc_core::BinaryOp::ShiftRight,
-        BinaryOp::Add => sc_core::BinaryOp::Add,
-        BinaryOp::Sub => sc_core::BinaryOp::Sub,
-        BinaryOp::Mul => sc_core::BinaryOp::Mul,
-        BinaryOp::Div => sc_core::BinaryOp::Div,
-        BinaryOp::Rem => sc_core::BinaryOp::Rem,
+        BinaryOp::OrElse => sc_base::BinaryOp::OrElse,
+        BinaryOp::AndAlso => sc_base::BinaryOp::AndAlso,
+        BinaryOp::BitOr => sc_base::BinaryOp::BitOr,
+        BinaryOp::BitXor => sc_base::BinaryOp::BitXor,
+        BinaryOp::BitAnd => sc_base::BinaryOp::BitAnd,
+        BinaryOp::Equal => sc_base::BinaryOp::Equal,
+        BinaryOp::NotEqual => sc_base::BinaryOp::NotEqual,
+        BinaryOp::Less => sc_base::BinaryOp::Less,
+        BinaryOp::Greater => sc_base::BinaryOp::Greater,
+        BinaryOp::LessEqual => sc_base::BinaryOp::LessEqual,
+        BinaryOp::GreaterEqual => sc_base::BinaryOp::GreaterEqual,
+        BinaryOp::ShiftLeft => sc_base::BinaryOp::ShiftLeft,
+        BinaryOp::ShiftRight => sc_base::BinaryOp::ShiftRight,
+        BinaryOp::Add => sc_base::BinaryOp::Add,
+        BinaryOp::Sub => sc_base::BinaryOp::Sub,
+        BinaryOp::Mul => sc_base::BinaryOp::Mul,
+        BinaryOp::Div => sc_base::BinaryOp::Div,
+        BinaryOp::Rem => sc_base::BinaryOp::Rem,
     }
 }

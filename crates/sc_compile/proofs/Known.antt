@@ -1,7 +1,7 @@
 -- Known values: how words are loaded, the program that outputs 7 and returns 0, and what the machine does on its image.
 use Rattle.std.proofs.Common.{◌≡◌, pos, negsuc, [], ◌∷◌, map, refl}
 use Rattle.sc_event.specs.declared.event.Event.TheVariants.{Out, End}
-use Rattle.sc_core.specs.declared.stop.Stop.TheVariants.{Ended, EventsOut, StepsOut}
+use Rattle.sc_base.specs.declared.stop.Stop.TheVariants.{Ended, EventsOut, StepsOut}
 use Rattle.sc_core.specs.declared.thin.ThinProgram.{ThinProgram}
 use Rattle.rv_code.specs.declared.instr.Instr.TheVariants.{Upper, OpImm}
 use Rattle.rv_code.specs.declared.instr.UpperOp.TheVariants.{Lui}

@@ -2,8 +2,8 @@
 use Rattle.std.specs.Prelude.{◌≡◌, ℕ, ◌+◌, ◌*◌, ◌≤◌, ◌↔◌, ℤ, List, length}
 use Rattle.sc_core.specs.declared.run.RunEnd.{RunEnd}
 use Rattle.sc_core.specs.declared.run.RunEnd.TheVariants.{Ended as MeaningEnded, Blamed, TurnsOut, EventsOut as MeaningEventsOut}
-use Rattle.sc_core.specs.declared.stop.Stop.{Stop}
-use Rattle.sc_core.specs.declared.stop.Stop.TheVariants.{Ended, EventsOut, Trap}
+use Rattle.sc_base.specs.declared.stop.Stop.{Stop}
+use Rattle.sc_base.specs.declared.stop.Stop.TheVariants.{Ended, EventsOut, Trap}
 use Rattle.sc_core.specs.declared.thin.ThinProgram.{ThinProgram}
 use Rattle.sc_core.specs.Thin.{thin_meaning}
 use Rattle.sc_image.specs.declared.parts.ImageParts.{ImageParts}

@@ -4,9 +4,9 @@ use Rattle.sc_event.specs.declared.event.Event.TheVariants.{Out, In, End}
 use Rattle.sc_event.specs.declared.interface.Interfaces.{Interfaces}
 use Rattle.sc_event.specs.declared.interface.Import.TheVariants as import
 use Rattle.sc_core.specs.declared.ty.Ty.TheVariants as ty
-use Rattle.sc_core.specs.declared.op.UnaryOp.TheVariants as unary
-use Rattle.sc_core.specs.declared.op.BinaryOp.{BinaryOp}
-use Rattle.sc_core.specs.declared.op.BinaryOp.TheVariants as op
+use Rattle.sc_base.specs.declared.op.UnaryOp.TheVariants as unary
+use Rattle.sc_base.specs.declared.op.BinaryOp.{BinaryOp}
+use Rattle.sc_base.specs.declared.op.BinaryOp.TheVariants as op
 use Rattle.sc_core.specs.declared.expr.VarRef.TheVariants.{Global, Local}
 use Rattle.sc_core.specs.declared.expr.CallTarget.TheVariants.{Own, Input}
 use Rattle.sc_core.specs.declared.cause.Cause.{Cause}

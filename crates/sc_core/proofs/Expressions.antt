@@ -1,10 +1,10 @@
 -- What expressions give under the two arithmetics fits.
 use Rattle.std.proofs.Common.{◌≡◌, refl, sym, subst, ℕ, Bool, true, false, List, Result, Ok, if◌then◌else◌, pos}
 use Rattle.sc_core.specs.declared.cause.Cause.{Cause}
-use Rattle.sc_core.specs.declared.op.UnaryOp.{UnaryOp}
-use Rattle.sc_core.specs.declared.op.UnaryOp.TheVariants as unary
-use Rattle.sc_core.specs.declared.op.BinaryOp.{BinaryOp}
-use Rattle.sc_core.specs.declared.op.BinaryOp.TheVariants as op
+use Rattle.sc_base.specs.declared.op.UnaryOp.{UnaryOp}
+use Rattle.sc_base.specs.declared.op.UnaryOp.TheVariants as unary
+use Rattle.sc_base.specs.declared.op.BinaryOp.{BinaryOp}
+use Rattle.sc_base.specs.declared.op.BinaryOp.TheVariants as op
 use Rattle.sc_core.specs.declared.ty.Ty.{Ty}
 use Rattle.sc_core.specs.declared.expr.TypedExpr.{TypedExpr}
 use Rattle.sc_core.specs.declared.expr.TypedKind.{TypedKind, TypedKind-F}

@@ -10,8 +10,8 @@ use Rattle.sc_event.specs.declared.interface.Import.TheVariants as import
 use Rattle.sc_core.specs.declared.ty.Ty.{Ty}
 use Rattle.sc_core.specs.declared.ty.Ty.TheVariants as ty
 use Rattle.sc_core.specs.declared.ty.BaseTy.TheVariants as base
-use Rattle.sc_core.specs.declared.op.UnaryOp.TheVariants as unary
-use Rattle.sc_core.specs.declared.op.BinaryOp.TheVariants as op
+use Rattle.sc_base.specs.declared.op.UnaryOp.TheVariants as unary
+use Rattle.sc_base.specs.declared.op.BinaryOp.TheVariants as op
 use Rattle.sc_core.specs.declared.expr.VarRef.TheVariants.{Global, Param, Local}
 use Rattle.sc_core.specs.declared.expr.CallTarget.TheVariants.{Own, Cross, Output}
 use Rattle.sc_core.specs.declared.section.TypedGlobal.{TypedGlobal}

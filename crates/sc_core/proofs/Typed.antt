@@ -18,7 +18,7 @@ use Rattle.sc_core.proofs.Plans.{Slot, Plan, Sheet, local, init_of, function, se
 use Rattle.sc_core.proofs.Programs.{alone, seven, min_by_minus_one, uninitialised, missing_return, leak, store_interfaces, store_sheets, two_stores_interfaces, two_stores, reentry_interfaces, reentry}
 use Rattle.sc_core.proofs.Accounts.{accounts_interfaces, accounts}
 use Rattle.sc_core.proofs.Causes.{one_main, return, int, two, recursive, main_again, pointer_read, reader, three_inputs, null, pointer, pointer_at}
-use Rattle.sc_core.specs.declared.op.BinaryOp.TheVariants as op
+use Rattle.sc_base.specs.declared.op.BinaryOp.TheVariants as op
 use Rattle.sc_core.proofs.Shapes.{NoLine, BreakLine, CallLine, AssignLine}
 use Rattle.sc_core.proofs.Programs.{lit}
 use Rattle.sc_core.specs.declared.expr.CallTarget.TheVariants.{Own, Input}

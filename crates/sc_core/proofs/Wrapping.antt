@@ -7,8 +7,8 @@ use Rattle.sc_word.specs.declared.fault.WordFault.{WordFault}
 use Rattle.sc_word.specs.declared.fault.WordFault.TheVariants as fault
 use Rattle.sc_word.specs.Word.{signed_of, word_of, fits_signed}
 use Rattle.sc_word.specs.CArithmetic.{checked}
-use Rattle.sc_core.specs.declared.op.BinaryOp.{BinaryOp}
-use Rattle.sc_core.specs.declared.op.BinaryOp.TheVariants as op
+use Rattle.sc_base.specs.declared.op.BinaryOp.{BinaryOp}
+use Rattle.sc_base.specs.declared.op.BinaryOp.TheVariants as op
 use Rattle.sc_core.specs.Laws.{IsArithmetic}
 use Rattle.sc_core.specs.Value.{cause_of, or_cause, on_all_words, negated_word, c_binary, c_negated}
 use Rattle.sc_core.proofs.Joining.{Bond, Fits, same, passed}

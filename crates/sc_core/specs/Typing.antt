@@ -8,10 +8,10 @@ use Rattle.sc_event.specs.declared.interface.Scalar.TheVariants as scalar
 use Rattle.sc_event.specs.declared.interface.Import.{Import}
 use Rattle.sc_event.specs.declared.interface.Import.TheVariants as import
 use Rattle.sc_event.specs.Lookup.{export_at}
-use Rattle.sc_core.specs.declared.op.UnaryOp.{UnaryOp}
-use Rattle.sc_core.specs.declared.op.UnaryOp.TheVariants as unary
-use Rattle.sc_core.specs.declared.op.BinaryOp.{BinaryOp}
-use Rattle.sc_core.specs.declared.op.BinaryOp.TheVariants as op
+use Rattle.sc_base.specs.declared.op.UnaryOp.{UnaryOp}
+use Rattle.sc_base.specs.declared.op.UnaryOp.TheVariants as unary
+use Rattle.sc_base.specs.declared.op.BinaryOp.{BinaryOp}
+use Rattle.sc_base.specs.declared.op.BinaryOp.TheVariants as op
 use Rattle.sc_core.specs.declared.ty.Ty.{Ty}
 use Rattle.sc_core.specs.declared.ty.Ty.TheVariants as ty
 use Rattle.sc_core.specs.declared.ty.BaseTy.{BaseTy}

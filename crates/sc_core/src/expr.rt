@@ -1,5 +1,5 @@
-use crate::op::{BinaryOp, UnaryOp};
 use crate::ty::Ty;
+use sc_base::{BinaryOp, UnaryOp};
 use sc_event::CompId;
 use sqlite_items::{Boxed, Items};
 

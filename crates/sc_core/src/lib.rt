@@ -4,13 +4,11 @@
 mod cause;
 mod expr;
 mod laws;
-mod op;
 mod place;
 mod program;
 mod run;
 mod section;
 mod stmt;
-mod stop;
 mod thin;
 mod ty;
 mod value;
@@ -18,16 +16,15 @@ mod value;
 pub use cause::Cause;
 pub use expr::{CallTarget, TypedCall, TypedExpr, TypedExprs, TypedKind, VarRef};
 pub use laws::{empty_set_is_meaning, more_goes_on, traces_are_legal, wrapped_agrees};
-pub use op::{BinaryOp, UnaryOp};
 pub use place::TypedPlace;
 pub use program::{Program, ProgramTree};
 pub use run::{RunEnd, SourceRun};
+pub use sc_base::{Stop, TrapReason};
 pub use section::{
     TypedFunction, TypedFunctions, TypedGlobal, TypedGlobals, TypedLocal, TypedLocals, TypedMember,
     TypedMembers, TypedParam, TypedParams, TypedSection, TypedSections, TypedStruct, TypedStructs,
 };
 pub use stmt::{TypedSimple, TypedSimpleKind, TypedStmt, TypedStmtKind, TypedStmts};
-pub use stop::{Stop, TrapReason};
-pub use thin::{ThinProgram, Words, run_thin};
+pub use thin::{ThinProgram, run_thin};
 pub use ty::{BaseTy, Ty};
 pub use value::{Cell, Pointer, Value, Want};

@@ -1,8 +1,7 @@
 use crate::expr::TypedExpr;
 use crate::stmt::TypedStmts;
-use crate::thin::Words;
 use crate::ty::Ty;
-use sc_event::Name;
+use sc_base::Name;
 use sqlite_items::Items;
 
 /// A struct, with the cells of all its members.

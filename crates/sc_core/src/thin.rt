@@ -3,12 +3,9 @@ ghost use Rattle.sc_event.specs.declared.event.Event.TheVariants.{Out};
 ghost use Rattle.sc_core.specs.Thin.{thin_meaning};
 
 use crate::{RunEnd, SourceRun};
-use sc_event::{CompId, Event, OutOfMemory, Trace};
-use sqlite_items::Items;
+use sc_base::OutOfMemory;
+use sc_event::{CompId, Event, Trace};
 use std::alloc::Global;
-
-/// Words of 32 bits. Contracts see the list.
-pub type Words = Items<u32>;
 
 /// A program of one compartment whose `main` outputs these words in order and returns the result.
 #[derive(Debug, Drop)]

@@ -2,8 +2,8 @@
 use Rattle.std.proofs.Common.{◌≡◌, ℕ, suc, ◌+◌, Bool, true, false, ◌&&◌, cond, List, [], ◌∷◌, map, Option, None, Some, refl, ap, ap₂, sym, ◌∙◌, rules}
 use Rattle.std.specs.Option.{option_map}
 use Rattle.std.proofs.lemmas.List.{length-map}
-use Rattle.sc_ast.specs.declared.expr.BinaryOp.{BinaryOp}
-use Rattle.sc_ast.specs.declared.expr.BinaryOp.TheVariants as tree_op
+use Rattle.sc_base.specs.declared.op.BinaryOp.{BinaryOp}
+use Rattle.sc_base.specs.declared.op.BinaryOp.TheVariants as tree_op
 use Rattle.sc_ast.specs.declared.expr.CallTree.{CallTree}
 use Rattle.sc_ast.specs.declared.expr.ExprTree.{ExprTree, ExprTree-F, map-ExprTree}
 use Rattle.sc_ast.specs.declared.expr.ExprTree.TheOpen as tree
@@ -19,8 +19,8 @@ use Rattle.sc_ast.specs.declared.section.SectionTree.{SectionTree}
 use Rattle.sc_ast.proofs.Induction.{Each, Under, Inside, expr_induction, stmt_induction}
 use Rattle.sc_ast.proofs.Layers as layers
 use Rattle.sc_core.specs.declared.ty.Ty.{Ty}
-use Rattle.sc_core.specs.declared.op.UnaryOp.{UnaryOp}
-use Rattle.sc_core.specs.declared.op.BinaryOp as core_op
+use Rattle.sc_base.specs.declared.op.UnaryOp.{UnaryOp}
+use Rattle.sc_base.specs.declared.op.BinaryOp as core_op
 use Rattle.sc_core.specs.declared.expr.VarRef.{VarRef}
 use Rattle.sc_core.specs.declared.expr.TypedExpr.{TypedExpr}
 use Rattle.sc_core.specs.declared.expr.TypedKind as term

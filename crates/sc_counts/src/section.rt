@@ -8,6 +8,7 @@ ghost use Rattle.sc_elab.specs.Statements.{Callees};
 ghost use Rattle.sc_counts.specs.Counts.{counts_broken, line_beyond, section_lines};
 ghost use Rattle.sc_counts.specs.TreeNodes.{decls_nodes};
 
+use sc_base::OutOfMemory;
 use crate::lines::{
     export_lines, functions_lines, globals_lines, heads_lines, import_lines, structs_lines,
 };
@@ -15,7 +16,6 @@ use crate::nodes::decls_nodes;
 use crate::sizes::Sizes;
 use sc_ast::{Decls, SectionTree};
 use sc_decls::{BrokenLines, line_of_text};
-use sc_event::OutOfMemory;
 use sqlite_items::at;
 use std::alloc::Global;
 

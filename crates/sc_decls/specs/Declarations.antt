@@ -1,7 +1,7 @@
 -- What a section declares, and the names that stand there.
 use Rattle.std.specs.Prelude.{ℕ, Bool, true, not, ◌&&◌, List, [], ◌∷◌, map, Option, Some, None}
 use Rattle.std.specs.List.{filter_map}
-use Rattle.sc_event.specs.Numbering.{is_numbered}
+use Rattle.sc_base.specs.Numbering.{is_numbered}
 use Rattle.sc_ast.specs.declared.section.Decl.{Decl}
 use Rattle.sc_ast.specs.declared.section.Decl.TheVariants.{Struct, Global, Proto, Function}
 use Rattle.sc_ast.specs.declared.section.StructTree.{StructTree}

@@ -14,12 +14,13 @@ mod sink;
 mod source;
 mod standard;
 
-pub use crate::error::{Failed, OutOfMemory};
+pub use crate::error::Failed;
 pub use crate::mem_sink::MemSink;
 pub use crate::mem_source::MemSource;
 pub use crate::sink::Sink;
 pub use crate::source::Source;
 pub use crate::standard::{StdSink, StdSource};
+pub use sc_base::OutOfMemory;
 
 #[cfg(test)]
 mod tests {

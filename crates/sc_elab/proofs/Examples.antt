@@ -1,11 +1,11 @@
 -- Small names and expressions with their types, computed.
 use Rattle.std.proofs.Common.{◌≡◌, ℕ, true, false, [], ◌∷◌, codes, Some, refl, rules}
-use Rattle.sc_ast.specs.declared.expr.UnaryOp.TheVariants as unary
-use Rattle.sc_ast.specs.declared.expr.BinaryOp.TheVariants as tree_op
+use Rattle.sc_base.specs.declared.op.UnaryOp.TheVariants as unary
+use Rattle.sc_base.specs.declared.op.BinaryOp.TheVariants as tree_op
 use Rattle.sc_ast.specs.declared.expr.ExprTree.TheOpen as tree
 use Rattle.sc_core.specs.declared.ty.Ty.TheVariants as ty
 use Rattle.sc_core.specs.declared.ty.BaseTy.TheVariants as base
-use Rattle.sc_core.specs.declared.op.BinaryOp.TheVariants as op
+use Rattle.sc_base.specs.declared.op.BinaryOp.TheVariants as op
 use Rattle.sc_core.specs.declared.expr.VarRef.{VarRef}
 use Rattle.sc_core.specs.declared.expr.VarRef.TheVariants.{Global, Param, Local}
 use Rattle.sc_core.specs.declared.expr.TypedExpr.{TypedExpr}

@@ -4,7 +4,7 @@ use Rattle.std.specs.List.{concat, list_all}
 use Rattle.std.specs.Option.{option_map, option_map_or}
 use Rattle.sc_event.specs.declared.interface.Import.{Import}
 use Rattle.sc_event.specs.declared.interface.Import.TheVariants as import
-use Rattle.sc_event.specs.Numbering.{number_of}
+use Rattle.sc_base.specs.Numbering.{number_of}
 use Rattle.sc_ast.specs.declared.expr.ExprTree.{ExprTree}
 use Rattle.sc_ast.specs.declared.types.BaseTree.{BaseTree}
 use Rattle.sc_ast.specs.declared.types.BaseTree.TheVariants as base_tree

@@ -1,10 +1,6 @@
-pub mod Filled
-pub mod Identifier
 pub mod Legal
 pub mod Line
 pub mod Lookup
-pub mod Numbering
 pub mod OpenCall
 pub mod Part
 pub mod Standing
-pub mod Word

@@ -5,7 +5,7 @@ use Rattle.sc_event.specs.declared.event.Event.{Event}
 use Rattle.sc_event.specs.declared.event.Event.TheVariants.{Call, Ret, Out, In, End}
 use Rattle.sc_event.specs.declared.interface.Interfaces.{Interfaces}
 use Rattle.sc_event.specs.Lookup.{comp_at, export_at}
-use Rattle.sc_event.specs.Word.{signed_text}
+use Rattle.sc_base.specs.Word.{signed_text}
 
 -- the names that the numbers stand for
 abbrev pub comp_name : Interfaces → ℕ → List ℕ

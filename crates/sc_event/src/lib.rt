@@ -7,12 +7,8 @@ mod event;
 mod interface;
 mod legality;
 mod line;
-mod name;
-mod name_table;
-mod out_of_memory;
 mod params;
 mod row;
-mod text;
 
 pub use args::Args;
 pub use comp_id::CompId;
@@ -20,12 +16,9 @@ pub use event::{Event, Trace};
 pub use interface::{Import, Imports, Interface, InterfaceList, Interfaces, Proto, Protos, Scalar};
 pub use legality::legal;
 pub use line::{append_event, event_text};
-pub use name::{Name, is_name};
-pub use name_table::NameTable;
-pub use out_of_memory::OutOfMemory;
 pub use params::Params;
 pub use row::{Action, Entry, Row, Script};
-pub use text::Text;
+pub use sc_base::{Name, NameTable, OutOfMemory, Text};
 
 #[cfg(test)]
 mod tests;

@@ -3,8 +3,8 @@ use Rattle.std.proofs.Common.{◌≡◌, ℕ, ◌≤◌, ◌<◌, true, cond, le
 use Rattle.std.specs.Option.{option_map}
 use Rattle.std.proofs.lemmas.Option.{none-some, cond_some}
 use Rattle.std.proofs.lemmas.Bool.{leb-true, le-leb, cases_lt}
-use Rattle.sc_ast.specs.declared.expr.BinaryOp.{BinaryOp}
-use Rattle.sc_ast.specs.declared.expr.BinaryOp.TheVariants as binary
+use Rattle.sc_base.specs.declared.op.BinaryOp.{BinaryOp}
+use Rattle.sc_base.specs.declared.op.BinaryOp.TheVariants as binary
 use Rattle.sc_expr.specs.contracts.mark.Mark.{the_type}
 use denote.Enum.Bare.{same_true}
 use Rattle.sc_expr.specs.declared.mark.Mark.{Mark}
@@ -17,7 +17,8 @@ use Rattle.sc_expr.specs.declared.lexeme.Symbol.TheVariants as symbol
 use Rattle.sc_expr.specs.declared.lexeme.Lexeme.{Lexeme}
 use Rattle.sc_expr.specs.declared.parser.Lead.{Lead}
 use Rattle.sc_expr.specs.declared.parser.Lead.TheVariants as lead
-use Rattle.sc_expr.specs.Marks.{level_of, binary_of, prefix_of, extension_of, extension_level}
+use Rattle.sc_base.specs.Levels.{level_of}
+use Rattle.sc_expr.specs.Marks.{binary_of, prefix_of, extension_of, extension_level}
 use Rattle.sc_expr.specs.Grammar.{IsMark, IsIdent}
 use Rattle.sc_expr.specs.Fronts.{is_mark, behind, extension_by, extension_at}
 use Rattle.sc_expr.specs.Reading.{within, extension_within, lead_by, lead_of, name_by, name_at}

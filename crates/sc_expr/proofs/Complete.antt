@@ -4,7 +4,7 @@ use Rattle.std.specs.Option.{option_map}
 use Rattle.std.proofs.lemmas.Option.{none-some}
 use Rattle.std.proofs.lemmas.Bool.{le-leb, lt-leb}
 use Rattle.sc_ast.specs.Height.{expr_height}
-use Rattle.sc_ast.specs.declared.expr.BinaryOp.{BinaryOp}
+use Rattle.sc_base.specs.declared.op.BinaryOp.{BinaryOp}
 use Rattle.sc_ast.specs.declared.expr.ExprTree.{ExprTree}
 use Rattle.sc_ast.specs.declared.expr.ExprTree.TheVariants as expr
 use Rattle.sc_expr.specs.declared.mark.Mark.{Mark}
@@ -16,7 +16,8 @@ use Rattle.sc_expr.specs.declared.lexeme.Symbol.{Symbol}
 use Rattle.sc_expr.specs.declared.lexeme.Symbol.TheVariants as symbol
 use Rattle.sc_expr.specs.declared.lexeme.Lexeme.{Lexeme}
 use Rattle.sc_expr.specs.declared.parser.Lead.TheVariants as lead
-use Rattle.sc_expr.specs.Marks.{level_of, prefix_of, prefixed, extension_of, extension_level}
+use Rattle.sc_base.specs.Levels.{level_of}
+use Rattle.sc_expr.specs.Marks.{prefix_of, prefixed, extension_of, extension_level}
 use Rattle.sc_expr.specs.Brackets.{most_open}
 use Rattle.sc_expr.specs.Grammar.{Spells, literal, variable, parenthesised, index, member, arrow, «prefix», joined, looser, IsMark, IsIdent}
 use Rattle.sc_expr.specs.Fronts.{extension_by, extension_at}

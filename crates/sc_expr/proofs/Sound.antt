@@ -3,7 +3,7 @@ use Rattle.std.proofs.Common.{◌≡◌, ℕ, zero, suc, ◌+◌, ◌-◌, ◌�
 use Rattle.std.proofs.lemmas.Option.{none-some}
 use Rattle.std.proofs.lemmas.Bool.{leb-true, cases_lt}
 use Rattle.sc_ast.specs.Height.{expr_height}
-use Rattle.sc_ast.specs.declared.expr.BinaryOp.{BinaryOp}
+use Rattle.sc_base.specs.declared.op.BinaryOp.{BinaryOp}
 use Rattle.sc_ast.specs.declared.expr.ExprTree.{ExprTree}
 use Rattle.sc_ast.specs.declared.expr.ExprTree.TheVariants as expr
 use Rattle.sc_expr.specs.declared.mark.Mark.{Mark}
@@ -16,7 +16,8 @@ use Rattle.sc_expr.specs.declared.lexeme.Symbol.TheVariants as symbol
 use Rattle.sc_expr.specs.declared.lexeme.Lexeme.{Lexeme}
 use Rattle.sc_expr.specs.declared.parser.Lead.{Lead}
 use Rattle.sc_expr.specs.declared.parser.Lead.TheVariants as lead
-use Rattle.sc_expr.specs.Marks.{level_of, prefix_of, extension_level}
+use Rattle.sc_base.specs.Levels.{level_of}
+use Rattle.sc_expr.specs.Marks.{prefix_of, extension_level}
 use Rattle.sc_expr.specs.Brackets.{open_behind, most_open}
 use Rattle.sc_expr.specs.Grammar.{Spells, literal, variable, parenthesised, index, member, arrow, «prefix», joined, looser, IsMark}
 use Rattle.sc_expr.specs.Fronts.{behind, extension_by, extension_at}

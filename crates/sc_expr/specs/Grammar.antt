@@ -3,13 +3,14 @@ use Rattle.std.specs.Prelude.{◌≡◌, ℕ, suc, List, [], ◌∷◌, ◌++◌
 use Rattle.sc_ast.specs.Numbers.{Number}
 use Rattle.sc_ast.specs.declared.expr.ExprTree.{ExprTree}
 use Rattle.sc_ast.specs.declared.expr.ExprTree.TheVariants as expr
-use Rattle.sc_ast.specs.declared.expr.BinaryOp.{BinaryOp}
+use Rattle.sc_base.specs.declared.op.BinaryOp.{BinaryOp}
 use Rattle.sc_expr.specs.declared.mark.Mark.{Mark}
 use Rattle.sc_expr.specs.declared.mark.Mark.TheVariants as mark
 use Rattle.sc_expr.specs.declared.operator.Prefix.{Prefix}
 use Rattle.sc_expr.specs.declared.lexeme.Symbol.TheVariants as symbol
 use Rattle.sc_expr.specs.declared.lexeme.Lexeme.{Lexeme}
-use Rattle.sc_expr.specs.Marks.{postfix_level, unary_level, loosest_level, level_of, binary_of, prefix_of, prefixed}
+use Rattle.sc_base.specs.Levels.{postfix_level, unary_level, loosest_level, level_of}
+use Rattle.sc_expr.specs.Marks.{binary_of, prefix_of, prefixed}
 
 -- the lexeme is this mark
 abbrev pub IsMark : Mark → Lexeme → Type 0

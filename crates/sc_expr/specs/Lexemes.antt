@@ -1,7 +1,7 @@
 -- What tokens say.
 use Rattle.std.specs.Prelude.{ℕ, bytes_eq, codes, List, [], ◌∷◌, get_or, slice_range, Option, Some, None, if◌then◌else◌}
 use Rattle.std.specs.Option.{option_map, option_and_then}
-use Rattle.sc_event.specs.Identifier.{name_of}
+use Rattle.sc_base.specs.Identifier.{name_of}
 use Rattle.sc_ast.specs.Identifiers.{ident_of}
 use Rattle.sc_ast.specs.Numbers.{Number, number_of}
 use Rattle.sc_lex.specs.Words.{words}

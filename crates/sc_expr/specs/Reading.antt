@@ -13,7 +13,8 @@ use Rattle.sc_expr.specs.declared.lexeme.Symbol.TheVariants as symbol
 use Rattle.sc_expr.specs.declared.lexeme.Lexeme.{Lexeme}
 use Rattle.sc_expr.specs.declared.parser.Lead.{Lead}
 use Rattle.sc_expr.specs.declared.parser.Lead.TheVariants as lead
-use Rattle.sc_expr.specs.Marks.{unary_level, loosest_level, level_of, prefix_of, prefixed, extension_level}
+use Rattle.sc_base.specs.Levels.{unary_level, loosest_level, level_of}
+use Rattle.sc_expr.specs.Marks.{prefix_of, prefixed, extension_level}
 use Rattle.sc_expr.specs.Fronts.{behind, extension_at}
 
 -- A tree that is read, its height, and the lexemes behind it.

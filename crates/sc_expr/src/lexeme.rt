@@ -8,7 +8,7 @@ use crate::fault::SyntaxFault;
 use crate::mark::{Keyword, Mark};
 use crate::reading::symbol_of;
 use sc_ast::{Ident, Literal};
-use sc_event::{Name, OutOfMemory};
+use sc_base::{Name, OutOfMemory};
 use sc_lex::Token;
 use sqlite_items::Items;
 use std::alloc::{AllocError, Global};

@@ -1,8 +1,10 @@
 ghost use Rattle.std.specs.Prelude.{◌≡◌, ◌<◌, ◌-◌};
-ghost use Rattle.sc_expr.specs.Marks.{level_of, binary_of, prefix_of, prefixed, extension_of, extension_level};
+ghost use Rattle.sc_base.specs.Levels.{level_of};
+ghost use Rattle.sc_expr.specs.Marks.{binary_of, prefix_of, prefixed, extension_of, extension_level};
 
 use crate::mark::Mark;
-use sc_ast::{BinaryOp, ExprTree, UnaryOp};
+use sc_ast::ExprTree;
+use sc_base::{BinaryOp, UnaryOp};
 use sqlite_items::Boxed;
 
 /// An operator in front of its operand (C11 6.5.3).
@@ -25,32 +27,6 @@ pub enum Extension {
     Member,
     /// `->`
     Arrow,
-}
-
-fn level_of(op: BinaryOp) -> u8
-    ensures level { result ≡ level_of op }
-    ensures positive { 0 < result }
-{
-    match op {
-        BinaryOp::Mul => 2,
-        BinaryOp::Div => 2,
-        BinaryOp::Rem => 2,
-        BinaryOp::Add => 3,
-        BinaryOp::Sub => 3,
-        BinaryOp::ShiftLeft => 4,
-        BinaryOp::ShiftRight => 4,
-        BinaryOp::Less => 5,
-        BinaryOp::Greater => 5,
-        BinaryOp::LessEqual => 5,
-        BinaryOp::GreaterEqual => 5,
-        BinaryOp::Equal => 6,
-        BinaryOp::NotEqual => 6,
-        BinaryOp::BitAnd => 7,
-        BinaryOp::BitXor => 8,
-        BinaryOp::BitOr => 9,
-        BinaryOp::AndAlso => 10,
-        BinaryOp::OrElse => 11,
-    }
 }
 
 /// The level of an operator's right operand, the next tighter than its own.

@@ -4,7 +4,7 @@ ghost use Rattle.std.specs.Prelude.{◌≡◌, ℕ, ◌<◌, ◌≤◌, ◌+◌,
 ghost use Rattle.std.specs.Option.{option_map};
 ghost use Rattle.sc_ast.specs.Height.{expr_height};
 ghost use Rattle.sc_ast.specs.declared.expr.ExprTree.{ExprTree};
-ghost use Rattle.sc_expr.specs.Marks.{unary_level, loosest_level};
+ghost use Rattle.sc_base.specs.Levels.{unary_level, loosest_level};
 ghost use Rattle.sc_expr.specs.Fronts.{Agrees, IsFront, extension_by};
 ghost use Rattle.sc_expr.specs.Reading.{found, leaf_of, lead_by, lead_of, name_by, leaf_at, extension_within, named_with, paren_with, prefix_with, operand_with, extended_with, joined_with, read, read_nested, read_expr};
 ghost use Rattle.sc_ast.specs.declared.expr.ExprTree.TheVariants as expr;
@@ -19,20 +19,10 @@ use crate::mark::Mark;
 use crate::operator::{
     Extension, Prefix, extension_level, extension_of, prefix_of, prefixed, right_level_of,
 };
-use sc_ast::{BinaryOp, ExprTree, Ident};
+use sc_ast::{ExprTree, Ident};
+use sc_base::{BinaryOp, LOOSEST, MAX_BRACKETS, MAX_HEIGHT, UNARY};
 use sqlite_items::Boxed;
 use std::alloc::Global;
-
-// How high a tree may be.
-const MAX_HEIGHT: u32 = 256;
-
-// How many brackets may be open at a place.
-const MAX_BRACKETS: u32 = 1024;
-
-/// The level of unary expressions (C11 6.5.3).
-const UNARY: u8 = 1;
-/// The level that holds every expression.
-const LOOSEST: u8 = 11;
 
 /// An expression and its height.
 #[derive(Drop)]

@@ -2,7 +2,7 @@
 
 ghost use Rattle.std.specs.Prelude.{◌≡◌, [], get_or, map};
 ghost use Rattle.std.specs.Option.{option_map};
-ghost use Rattle.sc_event.specs.Identifier.{name_of};
+ghost use Rattle.sc_base.specs.Identifier.{name_of};
 ghost use Rattle.sc_lex.specs.Words.{words};
 ghost use Rattle.sc_lex.specs.Spans.{IsSpan};
 ghost use Rattle.sc_expr.specs.Lexemes.{look_up, mark_of, keyword_of, number_in, ident_in, third_word, fourth_word, import_of, says, symbol_of};
@@ -10,7 +10,7 @@ ghost use Rattle.sc_expr.specs.Lexemes.{look_up, mark_of, keyword_of, number_in,
 use crate::lexeme::Symbol;
 use crate::mark::{Keyword, Mark};
 use sc_ast::{Ident, Literal};
-use sc_event::Name;
+use sc_base::Name;
 use sc_lex::{Token, TokenKind, first_words, heading_name, integer_of};
 
 const MARK_TEXTS: [(&[u8], Mark); 43] = [

@@ -1,5 +1,6 @@
 use crate::{Lexemes, SyntaxFault, lexemes, parse_expr, parse_unary};
-use sc_ast::{BinaryOp, ExprTree, UnaryOp};
+use sc_ast::ExprTree;
+use sc_base::{BinaryOp, UnaryOp};
 use sc_lex::{slices_in_order, tokens};
 use std::alloc::Global;
 use std::test::Fail;

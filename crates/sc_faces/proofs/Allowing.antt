@@ -5,7 +5,7 @@ use Rattle.std.proofs.lemmas.Cmp.{nat_list_eq_equiv}
 use Rattle.std.proofs.lemmas.Slice.Eq.{bytes_eq-Decides}
 use Rattle.std.proofs.lemmas.List.Folds.{list_any-append}
 use Rattle.std.proofs.Math.Bool.{and_assoc, and-true}
-use Rattle.sc_event.specs.Numbering.{is_numbered, numbered}
+use Rattle.sc_base.specs.Numbering.{is_numbered, numbered}
 use Rattle.sc_ast.specs.declared.section.HeadTree.{HeadTree}
 use Rattle.sc_decls.specs.Declarations.{Text, among}
 use Rattle.sc_faces.specs.declared.agreements.Agreements.{Agreements}

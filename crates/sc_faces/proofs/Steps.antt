@@ -10,7 +10,7 @@ use Rattle.sc_ast.specs.declared.section.ParamTree.{ParamTree}
 use Rattle.sc_ast.specs.declared.section.Decl.{Decl}
 use Rattle.sc_ast.specs.declared.section.Decl.TheVariants.{Struct, Global, Proto, Function}
 use Rattle.sc_decls.specs.declared.broken.BrokenLines.{BrokenLines}
-use Rattle.sc_event.specs.Numbering.{numbered}
+use Rattle.sc_base.specs.Numbering.{numbered}
 use Rattle.sc_decls.specs.Broken.{unless, with_lines}
 use Rattle.sc_decls.specs.Declarations.{Text, head_in, heads_in}
 use Rattle.sc_decls.proofs.Noting.{with_lines-append, with_lines-nil}

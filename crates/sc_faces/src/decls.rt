@@ -4,13 +4,13 @@ ghost use Rattle.sc_decls.specs.Broken.{unless, with_lines};
 ghost use Rattle.sc_decls.specs.Declarations.{head_in};
 ghost use Rattle.sc_faces.specs.Tables.{allowed, decl_told, decls_told, head_added, head_fits_by, no_heads};
 
+use sc_base::OutOfMemory;
 use crate::agreements::Agreements;
 use crate::heads::{head_crosses, main_holds, prototype};
 use crate::imports::Imported;
 use crate::tables::SectionTable;
 use sc_ast::{Decl, FunctionTree, HeadTree};
 use sc_decls::BrokenLines;
-use sc_event::OutOfMemory;
 use std::alloc::Global;
 
 /// Heads agree with those before them and with what they are imported as; those of functions that cross have types that

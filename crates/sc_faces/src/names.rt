@@ -4,7 +4,8 @@ ghost use Rattle.std.specs.Prelude.{◌≡◌, bytes_eq};
 ghost use Rattle.sc_faces.specs.Faces.{is_plain, input_name, output_name};
 ghost use Rattle.sc_decls.specs.Interfaces.{environment, main_name};
 
-use sc_event::Name;
+use sc_base::Name;
+
 
 pub(crate) fn same_name(a: &Name, b: &Name) -> bool
     ensures { result ≡ bytes_eq a.now b.now }

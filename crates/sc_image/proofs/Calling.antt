@@ -3,8 +3,8 @@ use Rattle.std.proofs.Common.{◌≡◌, ℕ, List, [], ◌∷◌, Bool, true, f
 use Rattle.std.specs.Prelude.{codes}
 use Rattle.sc_event.specs.declared.event.Event.TheVariants.{Call, Ret, In}
 use Rattle.sc_event.specs.declared.row.Entry.TheVariants.{Export}
-use Rattle.sc_core.specs.declared.stop.Stop.TheVariants.{Ended, EventsOut, Trap}
-use Rattle.sc_core.specs.declared.stop.TrapReason.TheVariants.{Misaligned, BadJump, NoImport, BadCall, Breakpoint}
+use Rattle.sc_base.specs.declared.stop.Stop.TheVariants.{Ended, EventsOut, Trap}
+use Rattle.sc_base.specs.declared.stop.TrapReason.TheVariants.{Misaligned, BadJump, NoImport, BadCall, Breakpoint}
 use Rattle.rv_code.specs.Decoding.{decoded, jalr_in, load_in, store_in, op_imm_in, op_in, system_in, load_op_of, store_op_of, op_imm_op_of, op_op_of}
 use Rattle.sc_image.specs.declared.parts.ImageParts.{ImageParts}
 use Rattle.sc_image.specs.declared.parts.ImportPart.{ImportPart}

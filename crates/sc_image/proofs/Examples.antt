@@ -1,8 +1,8 @@
 -- Small programs of other instructions, and the bytes of other tables.
 use Rattle.std.proofs.Common.{◌≡◌, ℕ, List, [], ◌∷◌, true, false, refl}
 use Rattle.std.specs.Prelude.{codes}
-use Rattle.sc_core.specs.declared.stop.Stop.TheVariants.{Trap}
-use Rattle.sc_core.specs.declared.stop.TrapReason.TheVariants.{Owner, Misaligned, BadJump}
+use Rattle.sc_base.specs.declared.stop.Stop.TheVariants.{Trap}
+use Rattle.sc_base.specs.declared.stop.TrapReason.TheVariants.{Owner, Misaligned, BadJump}
 use Rattle.rv_code.specs.Decoding.{decoded, jalr_in, branch_in, load_in, store_in, op_imm_in, op_in, branch_op_of, load_op_of, store_op_of, op_imm_op_of, op_op_of}
 use Rattle.sc_image.specs.declared.parts.ImageParts.{ImageParts}
 use Rattle.sc_image.specs.Bytes.{comp_bytes}

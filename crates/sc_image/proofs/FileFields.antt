@@ -6,7 +6,7 @@ use Rattle.std.proofs.lemmas.Bool.{leb-true, le-leb, ltb-true, lt-ltb, eqb-true,
 use Rattle.std.proofs.lemmas.Bool.Decides.{nat_tests}
 use Rattle.std.specs.Cmp.Lexicographic.{same_text}
 use Rattle.byteorder.specs.Endian.{little_bytes}
-use Rattle.sc_event.specs.Identifier.{is_name, is_between, is_name_byte, is_nondigit}
+use Rattle.sc_base.specs.Identifier.{is_name, is_between, is_name_byte, is_nondigit}
 use Rattle.sc_image.specs.declared.fault.BadImage.{BadImage}
 use Rattle.sc_image.specs.declared.fault.BadImage.TheVariants.{Mark, Version, Count, Start, Compartment, Exports, Imports, Contents}
 use Rattle.sc_image.specs.declared.parts.ImageParts.{ImageParts}

@@ -2,8 +2,8 @@
 use Rattle.std.proofs.Common.{◌≡◌, ℕ, ◌≤◌, IsTrue, List, length, All, Some, arith, get_or}
 use Rattle.std.specs.List.{slice_get}
 use Rattle.std.proofs.lemmas.Option.{slice_get-get_or}
-use Rattle.sc_event.proofs.Filled.{name_is_short}
-use Rattle.sc_event.specs.Identifier.{is_name}
+use Rattle.sc_base.proofs.Filled.{name_is_short}
+use Rattle.sc_base.specs.Identifier.{is_name}
 use Rattle.sc_image.specs.declared.parts.ImageParts.{ImageParts}
 use Rattle.sc_image.specs.declared.parts.CompPart.{CompPart}
 use Rattle.sc_image.specs.WellFormed.{IsComp, IsWellFormed}

@@ -11,8 +11,8 @@ use Rattle.sc_event.specs.declared.event.Event.{Event}
 use Rattle.sc_event.specs.declared.event.Event.TheVariants.{Call, Ret, Out, In, End}
 use Rattle.sc_event.specs.declared.row.Entry.{Entry}
 use Rattle.sc_event.specs.declared.row.Entry.TheVariants.{Export}
-use Rattle.sc_core.specs.declared.stop.Stop.{Stop}
-use Rattle.sc_core.specs.declared.stop.Stop.TheVariants.{StepsOut}
+use Rattle.sc_base.specs.declared.stop.Stop.{Stop}
+use Rattle.sc_base.specs.declared.stop.Stop.TheVariants.{StepsOut}
 use Rattle.sc_image.specs.declared.parts.ImageParts.{ImageParts}
 use Rattle.sc_image.specs.declared.parts.CompPart.{CompPart}
 use Rattle.sc_image.specs.declared.parts.ImportPart.{ImportPart}

@@ -2,7 +2,7 @@
 use Rattle.std.proofs.Common.{◌≡◌, ℕ, List, [], ◌∷◌, ◌++◌, take, map, replicate, true, false, Some, None, Ok, Err, refl}
 use Rattle.std.specs.Prelude.{codes, nat_le}
 use Rattle.std.specs.List.{range_with_len}
-use Rattle.sc_event.specs.Identifier.{is_name}
+use Rattle.sc_base.specs.Identifier.{is_name}
 use Rattle.sc_image.specs.declared.fault.BadImage.TheVariants.{Mark, Version, Count, Start, Compartment, Exports, Imports, Contents, Whole}
 use Rattle.sc_image.specs.declared.parts.ImageParts.{ImageParts}
 use Rattle.sc_image.specs.declared.parts.ImportPart.{ImportPart}

@@ -1,10 +1,10 @@
 -- The image of a program that outputs 7 and returns 0: its bytes, and what the machine does on it.
 use Rattle.std.proofs.Common.{◌≡◌, ℕ, List, [], ◌∷◌, Bool, true, false, All, refl, lit≤, lit<}
-use Rattle.sc_event.specs.Identifier.{is_name}
+use Rattle.sc_base.specs.Identifier.{is_name}
 use Rattle.std.specs.Prelude.{codes}
 use Rattle.sc_event.specs.declared.event.Event.TheVariants.{Out, End}
-use Rattle.sc_core.specs.declared.stop.Stop.TheVariants.{Ended, EventsOut, StepsOut, Trap}
-use Rattle.sc_core.specs.declared.stop.TrapReason.TheVariants.{NoImport}
+use Rattle.sc_base.specs.declared.stop.Stop.TheVariants.{Ended, EventsOut, StepsOut, Trap}
+use Rattle.sc_base.specs.declared.stop.TrapReason.TheVariants.{NoImport}
 use Rattle.sc_image.specs.declared.parts.ImageParts.{ImageParts}
 use Rattle.sc_image.specs.declared.parts.CompPart.{CompPart}
 use Rattle.sc_image.specs.Bytes.{image_bytes}

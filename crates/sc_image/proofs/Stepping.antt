@@ -1,6 +1,6 @@
 -- What a step is, by what lies at pc.
 use Rattle.std.proofs.Common.{◌≡◌, ℕ, ℤ, List, Some, None, refl}
-use Rattle.sc_core.specs.declared.stop.TrapReason.TheVariants.{BadJump, Illegal}
+use Rattle.sc_base.specs.declared.stop.TrapReason.TheVariants.{BadJump, Illegal}
 use Rattle.rv_code.specs.declared.instr.Instr.{Instr}
 use Rattle.rv_code.specs.Decoding.{decoded}
 use Rattle.sc_image.specs.declared.parts.ImageParts.{ImageParts}

@@ -1,7 +1,7 @@
 -- What one instruction does (RISC-V Unprivileged ISA, RV32I and M), and when it traps.
 use Rattle.std.specs.Prelude.{ℕ, ℤ, ◌+◌, ◌*◌, ◌/◌, ◌%◌, ◌^◌, Bool, ◌&&◌, ◌==◌, not, nat_eq, nat_lt, nat_le, int_lt, int_le, List, Option, Some, None, if◌then◌else◌, bit_and, bit_or, bit_xor, is_some}
-use Rattle.sc_core.specs.declared.stop.TrapReason.{TrapReason}
-use Rattle.sc_core.specs.declared.stop.TrapReason.TheVariants.{Owner, Misaligned, Illegal, BadJump, NoImport, BadCall, Breakpoint}
+use Rattle.sc_base.specs.declared.stop.TrapReason.{TrapReason}
+use Rattle.sc_base.specs.declared.stop.TrapReason.TheVariants.{Owner, Misaligned, Illegal, BadJump, NoImport, BadCall, Breakpoint}
 use Rattle.sc_word.specs.Word.{signed_of, word_of}
 use Rattle.sc_word.specs.Machine.{add_word, sub_word, sll_word, srl_word, sra_word, slt_word, sltu_word, mul_word, mulh_word, mulhsu_word, mulhu_word, div_word, divu_word, rem_word, remu_word}
 use Rattle.rv_code.specs.declared.instr.Instr.{Instr}

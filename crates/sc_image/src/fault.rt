@@ -4,7 +4,7 @@ ghost use Rattle.std.specs.Prelude.{◌≡◌};
 ghost use Rattle.sc_image.specs.Reading.{cause_number};
 ghost use Rattle.sc_image.specs.declared.fault.ImageFault.TheVariants.{OutOfMemory};
 
-use sc_event::OutOfMemory;
+use sc_base::OutOfMemory;
 use std::alloc::AllocError;
 
 /// The first thing that is wrong with the bytes, in the order of the file.

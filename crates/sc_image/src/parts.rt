@@ -1,5 +1,5 @@
-use sc_core::Words;
-use sc_event::{CompId, Name, Text};
+use sc_base::{Name, Text, Words};
+use sc_event::CompId;
 use sqlite_items::Items;
 
 /// The compartments of an image, in the order of their numbers. Contracts see the list.

@@ -3,18 +3,18 @@
 ghost use Rattle.std.specs.Prelude.{◌≡◌, ◌≤◌, ◌==◌, nat_le, nat_lt, Some, None, IfOk, OnOk, IsErrOf};
 ghost use Rattle.sc_image.specs.Bytes.{image_bytes};
 ghost use Rattle.sc_image.specs.Reading.{Gives, bytes_at, number_at, number_that, fields_at, name_at, mark_at, comp_name_at, export_at, exports_at, import_at, imports_at, code_at, globals_at, comp_at, parts_at, image_of, bad};
-ghost use Rattle.sc_event.specs.Identifier.{is_between};
+ghost use Rattle.sc_base.specs.Identifier.{is_between};
 ghost use Rattle.sc_image.specs.declared.fault.BadImage.TheVariants.{Version, Count, Contents};
 ghost use Rattle.sc_image.specs.declared.fault.ImageFault.TheVariants.{Bad};
 
+use sc_base::{Name, Text, Words};
 use crate::rules::keeps_rules;
 use crate::{
     BadImage, CompPart, CompParts, ExportPart, ExportParts, Image, ImageFault, ImageParts,
     ImportPart, ImportParts,
 };
 use byteorder::{ByteOrder, LittleEndian};
-use sc_core::Words;
-use sc_event::{CompId, Name, Text};
+use sc_event::CompId;
 use std::alloc::Global;
 
 // The most bytes of a compartment's code, and of its globals.

@@ -2,7 +2,7 @@
 use Rattle.std.proofs.Common.{◌≡◌, ℕ, ◌<◌, Bool, true, false, ◌&&◌, List, [], ◌∷◌, length, get_or, refl, sym, arith}
 use Rattle.std.proofs.lemmas.Bool.{ne_eqb}
 use Rattle.std.specs.Prelude.{bytes_eq, codes}
-use Rattle.sc_event.specs.Identifier.{is_name}
+use Rattle.sc_base.specs.Identifier.{is_name}
 use Rattle.sc_lex.specs.Words.{words, is_empty}
 use Rattle.sc_lex.specs.Kinds.{is_export, is_import}
 use Rattle.sc_lex.proofs.Wording.{words_full}

@@ -5,7 +5,7 @@ use Rattle.std.proofs.lemmas.Bool.{false≢true, cases_lt, or_cases, and_from, a
 use Rattle.std.proofs.lemmas.List.{get_or-take, length-take, length-take-le}
 use Rattle.std.specs.Prelude.{IsTrue, IfSome, IfNone, slice_index, nat_le, ◌==◌}
 use Rattle.std.specs.List.{list_all, prefix_len}
-use Rattle.sc_event.specs.Identifier.{is_name_byte}
+use Rattle.sc_base.specs.Identifier.{is_name_byte}
 use Rattle.sc_lex.specs.Lines.{is_inside_line, line_len, is_white_space}
 use Rattle.sc_lex.specs.Tables.{is_mark}
 use Rattle.sc_lex.specs.Kinds.{line_kind, word_kind, mark_kind, directive_kind, kind_of, is_directive}

@@ -8,11 +8,11 @@ use Rattle.std.proofs.lemmas.List.Folds.{list_all-append}
 use Rattle.std.specs.Prelude.{is_some, bytes_eq, slice_index, nat_le, nat_lt, ◌==◌}
 use Rattle.std.specs.List.{list_all, list_any}
 use Rattle.std.specs.Option.{option_or}
-use Rattle.sc_event.specs.Identifier.{is_between, is_name, is_nondigit, is_name_byte}
+use Rattle.sc_base.specs.Identifier.{is_between, is_name, is_nondigit, is_name_byte}
 use Rattle.sc_lex.specs.Lines.{is_white_space, is_inside_line}
 use Rattle.sc_lex.specs.Words.{words, is_empty}
 use Rattle.sc_lex.specs.Headings.{heading_name}
-use Rattle.sc_reserved.specs.Reserved.{reserved_words, is_reserved}
+use Rattle.sc_base.specs.Reserved.{reserved_words, is_reserved}
 use Rattle.sc_lex.specs.Tables.{marks, is_mark}
 use Rattle.sc_lex.specs.Integers.{has_suffix, without_suffix, is_hexadecimal, digits_of, base_of, is_digit, is_number, is_integer}
 use Rattle.sc_lex.specs.Kinds.{is_export, is_import, is_pragma, line_kind, word_kind, mark_kind, directive_kind, kind_of, may_follow, is_directive}

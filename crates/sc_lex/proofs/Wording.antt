@@ -8,7 +8,7 @@ use Rattle.std.specs.List.{filter, starts_with, prefix_len, position_or_len, sli
 use Rattle.std.proofs.lemmas.Slice.Eq.{slice_eq-Decides}
 use Rattle.std.proofs.lemmas.Bool.Decides.{Decides-eqb}
 use Rattle.std.specs.Prelude.{codes, nat_eq}
-use Rattle.sc_event.specs.Identifier.{name_of, is_name}
+use Rattle.sc_base.specs.Identifier.{name_of, is_name}
 use Rattle.sc_lex.specs.Lines.{is_blank}
 use Rattle.sc_lex.specs.Words.{words, is_empty, only_name}
 use Rattle.sc_lex.specs.Headings.{begins_heading}

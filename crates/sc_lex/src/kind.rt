@@ -2,7 +2,7 @@
 
 ghost use Rattle.std.specs.Prelude.{◌≡◌, ◌≢◌, ℕ, ◌≤◌, ◌<◌, Bool, true, false, [], get_or, length, take, nat_le, ◌&&◌, slice_index, IsTrue, IfSome, IfNone};
 ghost use Rattle.std.specs.List.{prefix_len};
-ghost use Rattle.sc_event.specs.Identifier.{is_name_byte};
+ghost use Rattle.sc_base.specs.Identifier.{is_name_byte};
 ghost use Rattle.sc_lex.specs.Words.{words};
 ghost use Rattle.sc_lex.specs.Tables.{is_mark};
 ghost use Rattle.sc_lex.specs.Kinds.{is_export, is_import, line_kind, word_kind, is_directive};
@@ -10,14 +10,13 @@ ghost use Rattle.sc_lex.specs.Cutting.{begins_block_comment, begins_line_comment
 ghost use Rattle.sc_lex.specs.Pieces.{NoToken};
 ghost use Rattle.sc_lex.specs.declared.token.TokenKind.{TokenKind};
 
+use sc_base::{is_name, is_reserved};
 use crate::TokenKind;
 use crate::bytes::line_len;
 use crate::gap::begins_comment;
 use crate::heading::{heading_name, next_word};
 use crate::integer::is_integer;
 use crate::tables::is_mark;
-use sc_event::is_name;
-use sc_reserved::is_reserved;
 
 fn is_name_byte(byte: u8) -> bool
     ensures { result ≡ is_name_byte byte }

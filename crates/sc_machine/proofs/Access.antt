@@ -7,7 +7,7 @@ use Rattle.std.proofs.lemmas.Bool.Decides.{nat_tests}
 use Rattle.std.proofs.lemmas.Option.{slice_get_cases}
 use Rattle.rv_code.specs.declared.instr.LoadOp.{LoadOp}
 use Rattle.rv_code.specs.declared.instr.StoreOp.{StoreOp}
-use Rattle.sc_core.specs.declared.stop.TrapReason.{TrapReason}
+use Rattle.sc_base.specs.declared.stop.TrapReason.{TrapReason}
 use Rattle.sc_store.specs.Memory.{Memory, HasBytes, load_of, stored}
 use Rattle.sc_store.proofs.Words.{address_kept}
 use Rattle.sc_image.specs.declared.parts.ImageParts.{ImageParts}

@@ -6,8 +6,8 @@ use Rattle.std.specs.Option.{option_map_or}
 use Rattle.std.proofs.lemmas.Bool.{eq-eqb, ne_eqb}
 use Rattle.std.proofs.lemmas.Option.{slice_get_within, slice_get-get_or}
 use Rattle.std.proofs.lemmas.List.Quantifiers.{position-Some}
-use Rattle.sc_core.specs.declared.stop.TrapReason.{TrapReason}
-use Rattle.sc_core.specs.declared.stop.TrapReason.TheVariants.{BadJump, NoImport}
+use Rattle.sc_base.specs.declared.stop.TrapReason.{TrapReason}
+use Rattle.sc_base.specs.declared.stop.TrapReason.TheVariants.{BadJump, NoImport}
 use Rattle.sc_image.specs.declared.parts.ImageParts.{ImageParts}
 use Rattle.sc_image.specs.declared.parts.CompPart.{CompPart}
 use Rattle.sc_image.specs.declared.parts.ExportPart.{ExportPart}

@@ -2,7 +2,7 @@
 use Rattle.std.proofs.Common.{◌≡◌, ◌≢◌, ℕ, ◌+◌, ◌*◌, ◌/◌, ◌%◌, ℤ, None, true, false, refl, sym, ap, arith, ⊎_elim}
 use Rattle.std.specs.Prelude.{is_some, List}
 use Rattle.std.proofs.lemmas.Bool.{cases_eq, eq-eqb, ne_eqb}
-use Rattle.sc_core.specs.declared.stop.TrapReason.TheVariants.{Misaligned}
+use Rattle.sc_base.specs.declared.stop.TrapReason.TheVariants.{Misaligned}
 use Rattle.rv_code.specs.declared.instr.Instr.TheVariants.{Jalr}
 use Rattle.sc_word.specs.Word.{word_of}
 use Rattle.sc_word.specs.Machine.{add_word}

@@ -1,6 +1,6 @@
 -- A run that is made by several calls.
 use Rattle.std.specs.Prelude.{ℕ, ℤ, List, fold}
-use Rattle.sc_core.specs.declared.stop.Stop.TheVariants.{StepsOut}
+use Rattle.sc_base.specs.declared.stop.Stop.TheVariants.{StepsOut}
 use Rattle.sc_image.specs.declared.parts.ImageParts.{ImageParts}
 use Rattle.sc_image.specs.State.{start}
 use Rattle.sc_image.specs.Machine.{Run, run, continued}

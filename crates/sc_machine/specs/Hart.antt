@@ -1,6 +1,6 @@
 -- What instructions change, as the state that it stands for.
 use Rattle.std.specs.Prelude.{◌≡◌, ◌+◌, ◌<◌, ◌≤◌, ℕ, All, length, is_some, vec_capacity, Result, Ok, Err}
-use Rattle.sc_core.specs.declared.stop.TrapReason.{TrapReason}
+use Rattle.sc_base.specs.declared.stop.TrapReason.{TrapReason}
 use Rattle.sc_store.specs.Memory.{Memory}
 use Rattle.sc_image.specs.declared.parts.ImageParts.{ImageParts}
 use Rattle.sc_image.specs.State.{State, written, start_memory}

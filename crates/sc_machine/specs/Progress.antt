@@ -1,7 +1,7 @@
 -- A loaded machine, as contracts see it.
 use Rattle.std.specs.Prelude.{ℕ, ℤ, List}
 use Rattle.sc_event.specs.declared.event.Event.{Event}
-use Rattle.sc_core.specs.declared.stop.Stop.{Stop}
+use Rattle.sc_base.specs.declared.stop.Stop.{Stop}
 use Rattle.sc_store.specs.Memory.{Memory}
 use Rattle.sc_image.specs.declared.parts.ImageParts.{ImageParts}
 use Rattle.sc_image.specs.State.{State, Crossing}

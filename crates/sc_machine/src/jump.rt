@@ -6,11 +6,12 @@ ghost use Rattle.rv_code.specs.Ranges.{IsReg};
 ghost use Rattle.sc_store.specs.Memory.{Memory};
 ghost use Rattle.sc_word.specs.Word.{word_of};
 ghost use Rattle.sc_word.specs.Machine.{add_word};
-ghost use Rattle.sc_core.specs.declared.stop.TrapReason.TheVariants.{BadJump};
+ghost use Rattle.sc_base.specs.declared.stop.TrapReason.TheVariants.{BadJump};
 ghost use Rattle.sc_image.specs.State.{State};
 ghost use Rattle.sc_image.specs.Step.{Traps, jump, calls, execute};
 ghost use Rattle.sc_machine.specs.Hart.{at, comp_in, state_in, outcome_of, IsSound, HasRoom, HasRoomForOne};
 
+use sc_base::TrapReason;
 use crate::arithmetic::compares;
 use crate::calling::call_out;
 use crate::hart::{Core, Hart};
@@ -18,7 +19,6 @@ use crate::here::Here;
 use crate::layout::GATE;
 use crate::returning::leave;
 use rv_code::{BranchOffset, BranchOp, Immediate, JumpOffset, Reg};
-use sc_core::TrapReason;
 use sc_word::add;
 
 /// Where a jump from the pc leads.

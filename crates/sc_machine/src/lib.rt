@@ -1,3 +1,5 @@
+
+use sc_base::{Stop, TrapReason};
 //! The machine that runs images. Its runs are those of the images' meaning, in however many pieces
 //! they are taken, and take no memory.
 #![tactic(auto)]
@@ -22,7 +24,6 @@ mod run;
 pub use laws::any_calls;
 pub use machine::{LoadFault, Machine};
 pub use own_view::OwnView;
-pub use sc_core::{Stop, TrapReason};
-
+pub 
 #[cfg(test)]
 mod tests;

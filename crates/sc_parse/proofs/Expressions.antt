@@ -4,7 +4,7 @@ use Rattle.std.proofs.lemmas.Option.{none-some}
 use Rattle.sc_ast.specs.Height.{expr_height, exprs_height, call_height}
 use Rattle.sc_ast.specs.declared.expr.ExprTree.{ExprTree, the_lemmas}
 use Rattle.sc_ast.specs.declared.expr.ExprTree.TheVariants as expr
-use Rattle.sc_ast.specs.declared.expr.BinaryOp.{BinaryOp}
+use Rattle.sc_base.specs.declared.op.BinaryOp.{BinaryOp}
 use Rattle.sc_ast.specs.declared.expr.CallTree.{CallTree}
 use Rattle.sc_ast.specs.Numbers.{Number}
 use Rattle.sc_expr.specs.declared.mark.Mark.{Mark}
@@ -17,7 +17,8 @@ use Rattle.sc_expr.specs.declared.lexeme.Lexeme.{Lexeme}
 use Rattle.sc_expr.specs.Brackets.{open_behind, open_after, most_open}
 use Rattle.sc_expr.specs.Fronts.{is_mark, behind, extension_at}
 use Rattle.sc_expr.specs.Grammar.{IsMark, IsIdent, Spells, literal, variable, parenthesised, index, member, arrow, prefix, joined, looser}
-use Rattle.sc_expr.specs.Marks.{postfix_level, unary_level, loosest_level, level_of, binary_of, prefix_of}
+use Rattle.sc_base.specs.Levels.{postfix_level, unary_level, loosest_level, level_of}
+use Rattle.sc_expr.specs.Marks.{binary_of, prefix_of}
 use Rattle.sc_expr.specs.Reading.{◌>>=◌, Found, found, name_at, name_by, lead_by, read}
 use Rattle.sc_expr.proofs.Options.{same_some, bound, cond_is}
 use Rattle.sc_expr.proofs.Ahead.{behind_mark, name_ahead, same_mark}

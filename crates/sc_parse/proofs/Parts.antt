@@ -15,7 +15,7 @@ use Rattle.sc_expr.specs.declared.lexeme.Symbol.TheVariants as symbol
 use Rattle.sc_expr.specs.declared.lexeme.Lexeme.{Lexeme}
 use Rattle.sc_expr.specs.Fronts.{is_mark, behind}
 use Rattle.sc_expr.specs.Grammar.{IsMark, Spells}
-use Rattle.sc_expr.specs.Marks.{loosest_level}
+use Rattle.sc_base.specs.Levels.{loosest_level}
 use Rattle.sc_expr.specs.Reading.{◌>>=◌, lead_by}
 use Rattle.sc_expr.proofs.Options.{same_some, bound, cond_is}
 use Rattle.sc_expr.proofs.Ahead.{behind_mark}

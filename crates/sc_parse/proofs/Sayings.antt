@@ -5,8 +5,8 @@ use Rattle.std.proofs.lemmas.Bool.{leb-false, lt-leb, le-leb}
 use Rattle.std.proofs.lemmas.Slice.Eq.{bytes_eq-Decides}
 use Rattle.std.specs.List.{list_any}
 use Rattle.std.specs.Option.{option_or, option_map, option_and_then}
-use Rattle.sc_event.specs.Identifier.{is_name, name_of}
-use Rattle.sc_reserved.specs.Reserved.{is_reserved}
+use Rattle.sc_base.specs.Identifier.{is_name, name_of}
+use Rattle.sc_base.specs.Reserved.{is_reserved}
 use Rattle.sc_ast.specs.Numbers.{number_of}
 use Rattle.sc_ast.specs.Identifiers.{ident_of}
 use Rattle.sc_lex.specs.Words.{words}

@@ -7,7 +7,7 @@ use Rattle.std.specs.Option.{option_map_or}
 use Rattle.sc_ast.specs.Height.{expr_height, exprs_height, call_height, simple_kind_height}
 use Rattle.sc_ast.specs.Places.{is_place}
 use Rattle.sc_ast.specs.declared.expr.ExprTree.{ExprTree}
-use Rattle.sc_ast.specs.declared.expr.BinaryOp.{BinaryOp}
+use Rattle.sc_base.specs.declared.op.BinaryOp.{BinaryOp}
 use Rattle.sc_ast.specs.declared.expr.CallTree.{CallTree}
 use Rattle.sc_ast.specs.declared.stmt.SimpleKind.{SimpleKind}
 use Rattle.sc_ast.specs.declared.stmt.SimpleKind.TheVariants as simple
@@ -18,7 +18,7 @@ use Rattle.sc_expr.specs.declared.lexeme.Symbol.TheVariants as symbol
 use Rattle.sc_expr.specs.declared.lexeme.Lexeme.{Lexeme}
 use Rattle.sc_expr.specs.Fronts.{behind, extension_at}
 use Rattle.sc_expr.specs.Grammar.{IsMark, Spells}
-use Rattle.sc_expr.specs.Marks.{unary_level}
+use Rattle.sc_base.specs.Levels.{unary_level}
 use Rattle.sc_expr.specs.Reading.{◌>>=◌, Found, found, lead_by, read}
 use Rattle.sc_expr.proofs.Options.{same_some, bound, cond_is}
 use Rattle.sc_expr.proofs.Heights.{literal_height, joined_height, positive}

@@ -23,7 +23,7 @@ use Rattle.sc_ast.specs.declared.section.Decl.TheVariants as decl
 use Rattle.sc_expr.specs.declared.mark.Keyword.TheVariants as word
 use Rattle.sc_expr.specs.declared.mark.Mark.TheVariants as mark
 use Rattle.sc_expr.specs.declared.lexeme.Lexeme.{Lexeme}
-use Rattle.sc_expr.specs.Marks.{loosest_level}
+use Rattle.sc_base.specs.Levels.{loosest_level}
 use Rattle.sc_expr.specs.Grammar.{Spells, IsMark, IsIdent}
 use Rattle.sc_parse.specs.Lists.{IsKeyword, IsInteger, first_line, Separated, Grouped}
 use Rattle.sc_parse.specs.Types.{SpellsBase, SpellsTypeName, SpellsDeclarator}

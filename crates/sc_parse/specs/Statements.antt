@@ -5,8 +5,8 @@ use Rattle.sc_ast.specs.Places.{is_place}
 use Rattle.sc_ast.specs.Simple.{kind_of}
 use Rattle.sc_ast.specs.declared.expr.ExprTree.{ExprTree}
 use Rattle.sc_ast.specs.declared.expr.ExprTree.TheVariants as expr
-use Rattle.sc_ast.specs.declared.expr.BinaryOp.{BinaryOp}
-use Rattle.sc_ast.specs.declared.expr.BinaryOp.TheVariants as binary
+use Rattle.sc_base.specs.declared.op.BinaryOp.{BinaryOp}
+use Rattle.sc_base.specs.declared.op.BinaryOp.TheVariants as binary
 use Rattle.sc_ast.specs.declared.expr.CallTree.{CallTree}
 use Rattle.sc_ast.specs.declared.stmt.SimpleKind.{SimpleKind}
 use Rattle.sc_ast.specs.declared.stmt.SimpleKind.TheVariants as simple
@@ -18,7 +18,7 @@ use Rattle.sc_expr.specs.declared.mark.Keyword.TheVariants as word
 use Rattle.sc_expr.specs.declared.mark.Mark.{Mark}
 use Rattle.sc_expr.specs.declared.mark.Mark.TheVariants as mark
 use Rattle.sc_expr.specs.declared.lexeme.Lexeme.{Lexeme}
-use Rattle.sc_expr.specs.Marks.{unary_level, loosest_level}
+use Rattle.sc_base.specs.Levels.{unary_level, loosest_level}
 use Rattle.sc_expr.specs.Grammar.{Spells, IsMark, IsIdent}
 use Rattle.sc_parse.specs.Lists.{IsKeyword, Separated, first_line}
 

@@ -4,7 +4,7 @@ use Rattle.std.specs.Option.{option_map_or}
 use Rattle.sc_ast.specs.Places.{is_place}
 use Rattle.sc_ast.specs.Simple.{kind_of}
 use Rattle.sc_ast.specs.declared.expr.ExprTree.{ExprTree}
-use Rattle.sc_ast.specs.declared.expr.BinaryOp.{BinaryOp}
+use Rattle.sc_base.specs.declared.op.BinaryOp.{BinaryOp}
 use Rattle.sc_ast.specs.declared.expr.CallTree.{CallTree}
 use Rattle.sc_ast.specs.declared.stmt.SimpleKind.{SimpleKind}
 use Rattle.sc_ast.specs.declared.stmt.SimpleKind.TheVariants as simple
@@ -20,7 +20,7 @@ use Rattle.sc_expr.specs.declared.lexeme.Symbol.{Symbol}
 use Rattle.sc_expr.specs.declared.lexeme.Symbol.TheVariants as symbol
 use Rattle.sc_expr.specs.declared.lexeme.Lexeme.{Lexeme}
 use Rattle.sc_expr.specs.Fronts.{behind}
-use Rattle.sc_expr.specs.Marks.{unary_level, loosest_level}
+use Rattle.sc_base.specs.Levels.{unary_level, loosest_level}
 use Rattle.sc_expr.specs.Reading.{◌>>=◌, name_at, read}
 use Rattle.sc_parse.specs.declared.simple.Change.{Change}
 use Rattle.sc_parse.specs.declared.simple.Change.TheVariants as change

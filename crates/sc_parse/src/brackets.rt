@@ -4,7 +4,7 @@ ghost use Rattle.std.specs.Prelude.{◌≡◌, ◌<◌, ◌≤◌, IfSome, IfNon
 ghost use Rattle.sc_expr.specs.Brackets.{open_behind, open_after, most_open};
 ghost use Rattle.sc_parse.specs.Limits.{IsExcess};
 
-use crate::calls::MAX_BRACKETS;
+use sc_base::MAX_BRACKETS;
 use sc_expr::{Lexeme, Mark, Symbol};
 
 fn open_behind(mark: Mark, count: u32) -> u32

@@ -7,18 +7,10 @@ ghost use Rattle.sc_parse.specs.StmtReaders.{expr_at, args_behind, args_at, args
 
 use crate::front::{begins_with, name_at, skip, take};
 use sc_ast::{CallTree, ExprTree, Exprs};
+use sc_base::{LOOSEST, MAX_BRACKETS};
 use sc_expr::{Built, Lexeme, Mark, SyntaxFault, parse_level, refused};
 use sqlite_items::Items;
 use std::alloc::Global;
-
-/// The most brackets that an expression may have open.
-pub const MAX_BRACKETS: u32 = 1024;
-
-/// The level that holds every expression.
-pub const LOOSEST: u8 = 11;
-
-/// The level of the operators before an operand.
-pub const UNARY: u8 = 1;
 
 /// An expression, at most `room` high.
 #[tactic(auto, unfolding(crate::specs::StmtReaders::expr_at))]

@@ -1,7 +1,7 @@
 ghost use Rattle.std.specs.Prelude.{◌≡◌};
 ghost use Rattle.sc_parse.specs.declared.fault.ParseFault.TheVariants.{OutOfMemory};
 
-use sc_event::OutOfMemory;
+use sc_base::OutOfMemory;
 use sc_lex::Refusal;
 use thiserror::Error;
 

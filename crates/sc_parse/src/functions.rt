@@ -13,12 +13,10 @@ use crate::types::{Declarator, base_at, declarator_at};
 use sc_ast::{
     BaseTree, Decl, ExprTree, FunctionHead, FunctionTree, HeadTree, LocalTree, LocalTrees, TypeTree,
 };
+use sc_base::MAX_HEIGHT;
 use sc_expr::{Lexeme, Mark, SyntaxFault, refused};
 use sqlite_items::Items;
 use std::alloc::Global;
-
-/// The greatest height of an expression or a statement.
-pub const MAX_HEIGHT: u32 = 256;
 
 #[tactic(auto, unfolding(crate::specs::SectionReaders::value_at))]
 fn value_at(alloc: Global, rest: &mut &[Lexeme]) -> Result<Option<ExprTree>, SyntaxFault>

@@ -15,7 +15,7 @@ use crate::globals::globals_at;
 use crate::heads::begins_head;
 use crate::members::struct_at;
 use sc_ast::{Decl, Decls, ExportLine, ExportLines, ImportLine, ImportLines, SectionTree};
-use sc_event::Name;
+use sc_base::Name;
 use sc_expr::{Keyword, Lexeme, Mark, Symbol, SyntaxFault, refused};
 use sqlite_items::Items;
 use std::alloc::{AllocError, Global};

@@ -5,10 +5,11 @@ ghost use Rattle.sc_expr.specs.Fronts.{Agrees};
 ghost use Rattle.sc_parse.specs.Statements.{compound_of, step_of, updates, one};
 ghost use Rattle.sc_parse.specs.StmtReaders.{mark_by, mark_at, change_of, change_at, step_at, place_at, value_behind, operand_behind, stepped, changed, assignment_at, step_before, call_alone, unstepped, simple_at, always, part_at, test_at};
 
-use crate::calls::{MAX_BRACKETS, UNARY, call_at, expr_at};
+use crate::calls::{call_at, expr_at};
 use crate::copy::copy_expr;
 use crate::front::{begins_call, begins_with, first_line, past};
-use sc_ast::{BinaryOp, ExprTree, Literal, PlaceTree, SimpleKind, SimpleTree};
+use sc_ast::{ExprTree, Literal, PlaceTree, SimpleKind, SimpleTree};
+use sc_base::{BinaryOp, MAX_BRACKETS, UNARY};
 use sc_expr::{Built, Lexeme, Mark, Symbol, SyntaxFault, parse_level, refused, refused_before};
 use sqlite_items::Boxed;
 use std::alloc::{AllocError, Global};

@@ -1,6 +1,6 @@
 use crate::{ParseFault, parse};
 use sc_ast::section_height;
-use sc_event::Name;
+use sc_base::Name;
 use sc_lex::{Section, tokens};
 use std::alloc::Global;
 use std::test::Fail;

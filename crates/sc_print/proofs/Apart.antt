@@ -4,8 +4,8 @@ use Rattle.std.specs.Prelude.{nat_le, ◌==◌, slice_index}
 use Rattle.std.specs.List.{list_all, prefix_len}
 use Rattle.std.proofs.Math.Seq.{take-append_seam}
 use Rattle.std.proofs.lemmas.Bool.{and_parts, and_from, le-leb, false≢true}
-use Rattle.sc_event.specs.Identifier.{is_name_byte}
-use Rattle.sc_reserved.specs.Reserved.{is_reserved}
+use Rattle.sc_base.specs.Identifier.{is_name_byte}
+use Rattle.sc_base.specs.Reserved.{is_reserved}
 use Rattle.sc_lex.specs.Tables.{marks, is_mark}
 use Rattle.sc_lex.specs.Cutting.{begins_block_comment, begins_line_comment, IsToken}
 use Rattle.sc_lex.specs.Kinds.{word_kind}
@@ -13,8 +13,8 @@ use Rattle.sc_lex.specs.declared.token.TokenKind.{TokenKind}
 use Rattle.sc_lex.specs.declared.token.TokenKind.TheVariants as kind
 use Rattle.sc_lex.proofs.Texts.{word_run}
 use Rattle.sc_lex.proofs.Fronts.{word_found, mark_one, mark_two}
-use Rattle.sc_ast.specs.declared.expr.BinaryOp.{BinaryOp}
-use Rattle.sc_ast.specs.declared.expr.BinaryOp.TheVariants as binary
+use Rattle.sc_base.specs.declared.op.BinaryOp.{BinaryOp}
+use Rattle.sc_base.specs.declared.op.BinaryOp.TheVariants as binary
 use Rattle.sc_ast.specs.ExprWords.{binary_text}
 use Rattle.sc_print.proofs.Literals.{no_table}
 

@@ -9,7 +9,7 @@ use Rattle.sc_ast.specs.Numbers.{Number, fits, array_length}
 use Rattle.sc_ast.specs.Pieces.{word, blank, comma}
 use Rattle.sc_ast.specs.ExprWords.{literal_text}
 use Rattle.sc_ast.specs.SectionWords.{base_words, star_words, length_number, length_words, declared_words, minus_words, const_words, init_words}
-use Rattle.sc_ast.specs.declared.expr.UnaryOp.TheVariants as unary
+use Rattle.sc_base.specs.declared.op.UnaryOp.TheVariants as unary
 use Rattle.sc_ast.specs.declared.types.BaseTree.{BaseTree}
 use Rattle.sc_ast.specs.declared.types.BaseTree.TheVariants as base
 use Rattle.sc_ast.specs.declared.types.TypeTree.{TypeTree}

@@ -9,7 +9,7 @@ use Rattle.std.proofs.lemmas.Bool.Decides.{Decides-eqb}
 use Rattle.std.proofs.lemmas.List.Folds.{list_all-append}
 use Rattle.std.proofs.lemmas.List.Splits.{slice_split_at, slice_split_none}
 use Rattle.std.proofs.lemmas.Slice.Eq.{slice_eq-Decides}
-use Rattle.sc_event.specs.Identifier.{is_nondigit, is_digit, is_name_byte, is_name, name_of}
+use Rattle.sc_base.specs.Identifier.{is_nondigit, is_digit, is_name_byte, is_name, name_of}
 use Rattle.sc_lex.specs.Lines.{is_blank, is_inside_line}
 use Rattle.sc_lex.specs.Words.{words, is_empty, only_name}
 use Rattle.sc_lex.specs.Headings.{begins_heading, heading_name}

@@ -1,8 +1,8 @@
 -- What names say.
 use Rattle.std.proofs.Common.{◌≡◌, ℕ, ◌<◌, List, [], ◌∷◌, length, Some, IsTrue, not, refl, arith}
 use Rattle.std.proofs.lemmas.Bool.{and_parts, not-true, false≢true}
-use Rattle.sc_event.specs.Identifier.{is_name}
-use Rattle.sc_reserved.specs.Reserved.{is_reserved}
+use Rattle.sc_base.specs.Identifier.{is_name}
+use Rattle.sc_base.specs.Reserved.{is_reserved}
 use Rattle.sc_lex.specs.Kinds.{kind_of, word_kind}
 use Rattle.sc_lex.specs.declared.token.TokenKind.TheVariants as kind
 use Rattle.sc_ast.specs.Identifiers.{is_ident}

@@ -10,8 +10,8 @@ use Rattle.std.proofs.lemmas.List.{append-nil}
 use Rattle.std.proofs.lemmas.List.Sums.{fold-append}
 use Rattle.std.proofs.lemmas.List.Folds.{list_all-append}
 use Rattle.std.proofs.lemmas.Slice.Eq.{bytes_eq-Decides}
-use Rattle.sc_event.specs.Identifier.{is_between, is_nondigit, is_name_byte, is_name}
-use Rattle.sc_reserved.specs.Reserved.{reserved_words, is_reserved}
+use Rattle.sc_base.specs.Identifier.{is_between, is_nondigit, is_name_byte, is_name}
+use Rattle.sc_base.specs.Reserved.{reserved_words, is_reserved}
 use Rattle.sc_ast.specs.Numbers.{Number, fits, number_of}
 use Rattle.sc_ast.specs.ExprWords.{literal_text}
 use Rattle.sc_lex.specs.Integers.{has_suffix, without_suffix, is_hexadecimal, digits_of, base_of, digit_value, is_digit, number, is_number, greatest_of, is_integer, value_of, is_unsigned, integer_of}

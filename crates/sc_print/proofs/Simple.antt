@@ -13,7 +13,7 @@ use Rattle.sc_ast.specs.declared.expr.CallTree.{CallTree}
 use Rattle.sc_ast.specs.declared.stmt.SimpleKind.{SimpleKind}
 use Rattle.sc_ast.specs.declared.stmt.SimpleKind.TheVariants as simple
 use Rattle.sc_expr.specs.declared.lexeme.Lexeme.{Lexeme}
-use Rattle.sc_expr.specs.Marks.{loosest_level}
+use Rattle.sc_base.specs.Levels.{loosest_level}
 use Rattle.sc_expr.specs.Grammar.{Spells}
 use Rattle.sc_parse.specs.Lists.{Separated, one, more}
 use Rattle.sc_parse.specs.Statements.{SpellsArgs, no_args, some_args, SpellsCall, SpellsPlace, SpellsKind, SpellsCondition}

@@ -4,14 +4,14 @@ use Rattle.std.specs.Prelude.{nat_lt, ◌==◌, slice_index, bytes_eq}
 use Rattle.std.proofs.lemmas.Bool.{and_parts, ne_eqb, lt-ltb, false≢true}
 use Rattle.std.proofs.lemmas.List.{append-nil}
 use Rattle.std.proofs.lemmas.Grind.{flat_map-append}
-use Rattle.sc_event.specs.Identifier.{is_name_byte}
+use Rattle.sc_base.specs.Identifier.{is_name_byte}
 use Rattle.sc_ast.specs.Identifiers.{is_ident}
-use Rattle.sc_ast.specs.Levels as levels
+use Rattle.sc_base.specs.Levels as levels
 use Rattle.sc_ast.specs.Pieces.{Piece, word, blank, indent, newline, piece_text, text_of, in_parens}
 use Rattle.sc_ast.specs.ExprWords.{Printed, unary_text, binary_text, literal_text, is_doubled, prefix_words, binary_words, expr_step, words_at}
-use Rattle.sc_ast.specs.declared.expr.UnaryOp.{UnaryOp}
-use Rattle.sc_ast.specs.declared.expr.UnaryOp.TheVariants as unary
-use Rattle.sc_ast.specs.declared.expr.BinaryOp.{BinaryOp}
+use Rattle.sc_base.specs.declared.op.UnaryOp.{UnaryOp}
+use Rattle.sc_base.specs.declared.op.UnaryOp.TheVariants as unary
+use Rattle.sc_base.specs.declared.op.BinaryOp.{BinaryOp}
 use Rattle.sc_ast.specs.declared.expr.ExprTree.{ExprTree, ExprTree-F, map-ExprTree}
 use Rattle.sc_ast.specs.declared.expr.ExprTree.TheOpen as term
 use Rattle.sc_ast.proofs.Induction.{Under, expr_induction}

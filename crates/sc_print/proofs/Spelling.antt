@@ -5,10 +5,10 @@ use Rattle.std.proofs.lemmas.Bool.{and_parts, ltb-false}
 use Rattle.std.proofs.lemmas.List.{append-nil}
 use Rattle.std.proofs.lemmas.Grind.{flat_map-append}
 use Rattle.sc_ast.specs.Identifiers.{is_ident}
-use Rattle.sc_ast.specs.Levels as levels
+use Rattle.sc_base.specs.Levels as levels
 use Rattle.sc_ast.specs.Pieces.{Piece, word, blank, in_parens}
 use Rattle.sc_ast.specs.ExprWords.{Printed, unary_text, binary_text, literal_text, is_doubled, apart, prefix_words, binary_words, expr_step, words_at}
-use Rattle.sc_ast.specs.declared.expr.BinaryOp.{BinaryOp}
+use Rattle.sc_base.specs.declared.op.BinaryOp.{BinaryOp}
 use Rattle.sc_ast.specs.declared.expr.ExprTree.{ExprTree, ExprTree-F, roll-ExprTree, map-ExprTree}
 use Rattle.sc_ast.specs.declared.expr.ExprTree.TheOpen as term
 use Rattle.sc_ast.specs.declared.expr.ExprTree.TheVariants as expr

@@ -2,7 +2,7 @@
 use Rattle.std.proofs.Common.{◌≡◌, ℕ, true, ◌&&◌, IsTrue, List, [], ◌∷◌, ◌++◌, append_assoc, map, refl, sym, ap, ◌∙◌, subst}
 use Rattle.std.specs.List.{list_all, flat_map}
 use Rattle.std.proofs.lemmas.Bool.{and_parts}
-use Rattle.sc_event.specs.Identifier.{is_name}
+use Rattle.sc_base.specs.Identifier.{is_name}
 use Rattle.sc_ast.specs.Pieces.{Piece, text_of}
 use Rattle.sc_ast.specs.SectionWords.{decl_words, export_words, import_words, section_words, printed}
 use Rattle.sc_ast.specs.Lineless.{lineless_export, lineless_import, lineless_decl, SameButLines}

@@ -5,7 +5,7 @@ use Rattle.sc_ast.specs.ExprWords.{expr_words}
 use Rattle.sc_ast.specs.declared.expr.ExprTree.{ExprTree}
 use Rattle.sc_lex.specs.Cutting.{IsCut}
 use Rattle.sc_lex.specs.declared.token.Token.{Token}
-use Rattle.sc_expr.specs.Marks.{loosest_level}
+use Rattle.sc_base.specs.Levels.{loosest_level}
 use Rattle.sc_expr.specs.Grammar.{Spells}
 use Rattle.sc_expr.specs.Lexemes.{lexeme_of}
 use Rattle.sc_expr.specs.declared.lexeme.Lexeme.{Lexeme}

@@ -10,10 +10,10 @@ use Rattle.sc_core.specs.declared.cause.Cause.TheVariants as causes
 use Rattle.sc_core.specs.declared.run.RunEnd.{RunEnd}
 use Rattle.sc_core.specs.declared.run.RunEnd.TheVariants.{Ended, Blamed, TurnsOut, EventsOut}
 use Rattle.sc_core.specs.declared.run.SourceRun.{SourceRun}
-use Rattle.sc_core.specs.declared.stop.Stop.{Stop}
-use Rattle.sc_core.specs.declared.stop.Stop.TheVariants as stops
-use Rattle.sc_core.specs.declared.stop.TrapReason.{TrapReason}
-use Rattle.sc_core.specs.declared.stop.TrapReason.TheVariants as reasons
+use Rattle.sc_base.specs.declared.stop.Stop.{Stop}
+use Rattle.sc_base.specs.declared.stop.Stop.TheVariants as stops
+use Rattle.sc_base.specs.declared.stop.TrapReason.{TrapReason}
+use Rattle.sc_base.specs.declared.stop.TrapReason.TheVariants as reasons
 
 -- a line per event
 abbrev pub events_text : Interfaces → List Event → List ℕ

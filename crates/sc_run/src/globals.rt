@@ -6,9 +6,10 @@ ghost use Rattle.sc_core.specs.Meaning.{base_zeros, starred_zeros, repeated, zer
 ghost use Rattle.sc_blocks.specs.Rows.{memory_of};
 ghost use Rattle.sc_run.specs.Starting.{cell_with};
 
+use sc_base::OutOfMemory;
 use sc_blocks::Blocks;
 use sc_core::{BaseTy, Cell, Ty, TypedGlobal, TypedMember, TypedSection, TypedStruct};
-use sc_event::{CompId, OutOfMemory};
+use sc_event::CompId;
 use sqlite_items::Items;
 use std::alloc::Global;
 

@@ -10,6 +10,7 @@ ghost use Rattle.sc_run.specs.Seen.{kept_by};
 ghost use Rattle.sc_run.specs.Comes.{Comes};
 ghost use Rattle.sc_run.specs.Resume.{Steps, way_in, library, bodies, calls_in, result_goes};
 
+use sc_base::OutOfMemory;
 use crate::calls::{enter, hand_back, word_in};
 use crate::lookups::{callee_at, export_place, may_call};
 use crate::machine::{Machine, assign, blamed, tell};
@@ -17,7 +18,7 @@ use crate::work::{Frame, Leaving, Now, Step, To, Work};
 use sc_core::{
     CallTarget, ProgramTree, RunEnd, TypedCall, TypedExpr, TypedSimple, TypedSimpleKind, Value,
 };
-use sc_event::{CompId, Event, OutOfMemory};
+use sc_event::{CompId, Event};
 use sqlite_items::Items;
 use std::alloc::{AllocError, Global};
 

@@ -5,18 +5,17 @@
 //! [`FlatStore`] keeps one vector per region.
 #![tactic(auto)]
 
-mod error;
 mod flat;
 mod laws;
 mod part;
 mod region;
 mod store;
 
-pub use crate::error::OutOfMemory;
 pub use crate::flat::FlatStore;
 pub use crate::laws::{gives_stored, keeps_addresses, keeps_apart};
 pub use crate::region::Region;
 pub use crate::store::Store;
+pub use sc_base::OutOfMemory;
 
 #[cfg(test)]
 mod tests;

@@ -11,7 +11,7 @@ use Rattle.sc_event.proofs.Known.{legal_is_known}
 use Rattle.sc_word.specs.Word.{word_of}
 use Rattle.sc_core.specs.declared.program.ProgramTree.{ProgramTree}
 use Rattle.sc_core.specs.declared.section.TypedSection.{TypedSection}
-use Rattle.sc_core.specs.declared.stop.Stop.{Stop}
+use Rattle.sc_base.specs.declared.stop.Stop.{Stop}
 use Rattle.sc_core.specs.Laws.{TracesAreLegal as SourceTracesAreLegal}
 use Rattle.sc_core.specs.Value.{c_arith}
 use Rattle.sc_core.specs.WellTyped.{sections_fit, main_fits, IsWellTyped}

@@ -1,8 +1,8 @@
 -- Few brackets are open in a thin text.
 use Rattle.std.proofs.Common.{◌≡◌, ℕ, ◌+◌, ◌-◌, ◌≤◌, max, IsTrue, List, [], ◌∷◌, ◌++◌, codes, refl, sym, ap, ◌∙◌, subst, arith}
 use Rattle.std.proofs.lemmas.List.{append-nil}
-use Rattle.sc_event.specs.Identifier.{is_name}
-use Rattle.sc_reserved.specs.Reserved.{is_reserved}
+use Rattle.sc_base.specs.Identifier.{is_name}
+use Rattle.sc_base.specs.Reserved.{is_reserved}
 use Rattle.sc_ast.specs.Identifiers.{is_ident}
 use Rattle.sc_ast.specs.Pieces.{Piece, word, newline, line_of}
 use Rattle.sc_ast.specs.ExprWords.{literal_text}

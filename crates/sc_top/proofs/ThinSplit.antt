@@ -6,7 +6,7 @@ use Rattle.std.specs.Str.{all_ascii_digits}
 use Rattle.std.specs.List.{flat_map, list_all}
 use Rattle.std.proofs.lemmas.Bool.{cases_lt, and_parts, false≢true, ne_eqb}
 use Rattle.std.proofs.lemmas.List.{take_all, get_or-append_right, get_or-drop}
-use Rattle.sc_event.specs.Identifier.{is_name}
+use Rattle.sc_base.specs.Identifier.{is_name}
 use Rattle.sc_lex.specs.Lines.{begins_line}
 use Rattle.sc_lex.specs.Words.{words}
 use Rattle.sc_lex.specs.Headings.{begins_heading, is_heading, heading_name, name_at}

@@ -4,8 +4,8 @@ use Rattle.std.specs.List.{flat_map}
 use Rattle.std.proofs.lemmas.Bool.{le-leb}
 use Rattle.std.proofs.lemmas.List.{append-nil}
 use Rattle.std.proofs.lemmas.Grind.{flat_map-append}
-use Rattle.sc_event.specs.Identifier.{is_name}
-use Rattle.sc_reserved.specs.Reserved.{is_reserved}
+use Rattle.sc_base.specs.Identifier.{is_name}
+use Rattle.sc_base.specs.Reserved.{is_reserved}
 use Rattle.sc_ast.specs.Numbers.{Number, fits}
 use Rattle.sc_ast.specs.Pieces.{Piece, word, blank, newline, piece_text, text_of, line_of}
 use Rattle.sc_ast.specs.ExprWords.{literal_text}

@@ -3,9 +3,9 @@ ghost use Rattle.sc_edge.specs.Edge.{Rose};
 ghost use Rattle.sc_top.specs.declared.input.ReadFault.TheVariants as faults;
 ghost use Rattle.sc_top.specs.Answer.{Fetches, IsWhole, IsLonger, IsFetchFault};
 
+use sc_base::{OutOfMemory, Text};
 use crate::Status;
 use sc_edge::Source;
-use sc_event::{OutOfMemory, Text};
 use std::alloc::Global;
 
 // As many bytes as one read asks for at most.

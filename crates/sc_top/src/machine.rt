@@ -3,9 +3,9 @@ ghost use Rattle.sc_image.specs.WellFormed.{IsWellFormed};
 ghost use Rattle.sc_compile.specs.Image.{thin_image};
 ghost use Rattle.sc_top.specs.Output.{machine_text, IsThinMeant};
 
+use sc_base::{OutOfMemory, Text};
 use sc_compile::compile;
 use sc_core::ThinProgram;
-use sc_event::{OutOfMemory, Text};
 use sc_image::{Image, image_interfaces, traces_are_legal};
 use sc_machine::{LoadFault, Machine};
 use sc_store::FlatStore;

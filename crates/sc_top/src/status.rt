@@ -1,7 +1,7 @@
 ghost use Rattle.std.specs.Prelude.{◌≡◌};
 ghost use Rattle.sc_top.specs.Status.{status_number, phase_word, fixed_text, of_words_fault, of_text_fault, of_image_fault};
 
-use sc_event::OutOfMemory;
+use sc_base::OutOfMemory;
 use sc_image::ImageFault;
 use sc_lex::{Phase, Refusal};
 use sc_types::TextFault;

@@ -4,8 +4,8 @@ ghost use Rattle.sc_core.specs.declared.thin.ThinProgram.{ThinProgram};
 ghost use Rattle.sc_top.specs.Statement.{IsStatement, IsNumber, EndsNumber};
 ghost use Rattle.sc_top.specs.Thin.{IsThin, IsBody, head};
 
-use sc_core::{ThinProgram, Words};
-use sc_event::OutOfMemory;
+use sc_base::{OutOfMemory, Words};
+use sc_core::ThinProgram;
 use std::alloc::Global;
 use std::str;
 

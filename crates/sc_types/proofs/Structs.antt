@@ -5,7 +5,7 @@ use Rattle.std.specs.List.{list_all}
 use Rattle.std.specs.Option.{option_map_or}
 use Rattle.std.proofs.lemmas.List.{append-nil}
 use Rattle.std.proofs.lemmas.Bool.{false≢true, ltb-true}
-use Rattle.sc_event.specs.Numbering.{is_numbered, number_of}
+use Rattle.sc_base.specs.Numbering.{is_numbered, number_of}
 use Rattle.sc_ast.specs.declared.types.BaseTree.{BaseTree}
 use Rattle.sc_ast.specs.declared.types.BaseTree.TheVariants as base_tree
 use Rattle.sc_ast.specs.declared.types.TypeTree.{TypeTree}

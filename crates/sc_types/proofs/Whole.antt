@@ -4,7 +4,7 @@ use Rattle.std.specs.Prelude.{slice_get, bytes_eq, nat_le, codes}
 use Rattle.std.specs.List.{concat, list_any}
 use Rattle.std.specs.Option.{option_map}
 use Rattle.std.proofs.lemmas.Bool.{false≢true}
-use Rattle.sc_event.specs.Numbering.{is_numbered}
+use Rattle.sc_base.specs.Numbering.{is_numbered}
 use Rattle.sc_event.specs.declared.interface.Interface.{Interface}
 use Rattle.sc_ast.specs.declared.section.FunctionTree.{FunctionTree}
 use Rattle.sc_ast.specs.declared.section.ExportLine.{ExportLine}

@@ -1,8 +1,8 @@
 -- Small expressions, statements and their types, computed.
 use Rattle.std.proofs.Common.{◌≡◌, ℕ, true, false, List, [], ◌∷◌, codes, Option, Some, None, if◌then◌else◌, rules}
 use Rattle.std.specs.Prelude.{bytes_eq}
-use Rattle.sc_ast.specs.declared.expr.UnaryOp.TheVariants as unary
-use Rattle.sc_ast.specs.declared.expr.BinaryOp.TheVariants as op
+use Rattle.sc_base.specs.declared.op.UnaryOp.TheVariants as unary
+use Rattle.sc_base.specs.declared.op.BinaryOp.TheVariants as op
 use Rattle.sc_ast.specs.declared.expr.ExprTree
 use Rattle.sc_ast.specs.declared.expr.ExprTree.{the_lemmas}
 use Rattle.sc_core.specs.declared.ty.Ty.{Ty}

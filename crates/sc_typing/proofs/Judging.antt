@@ -6,9 +6,9 @@ use Rattle.std.proofs.lemmas.Bool.{eq-eqb, ne_eqb}
 use Rattle.std.specs.Option.{option_map, option_and_then}
 use Rattle.std.proofs.Math.Bool.{and-false, or-true}
 use Rattle.sc_ast.specs.Numbers.{Number}
-use Rattle.sc_ast.specs.declared.expr.BinaryOp.{BinaryOp}
-use Rattle.sc_ast.specs.declared.expr.BinaryOp.TheVariants as tree_op
-use Rattle.sc_ast.specs.declared.expr.UnaryOp.{UnaryOp}
+use Rattle.sc_base.specs.declared.op.BinaryOp.{BinaryOp}
+use Rattle.sc_base.specs.declared.op.BinaryOp.TheVariants as tree_op
+use Rattle.sc_base.specs.declared.op.UnaryOp.{UnaryOp}
 use Rattle.sc_ast.specs.declared.expr.ExprTree.{ExprTree, ExprTree-F, roll-ExprTree, map-ExprTree}
 use Rattle.sc_ast.specs.declared.expr.ExprTree.TheOpen as tree
 use Rattle.sc_ast.proofs.Layers as tree_layers

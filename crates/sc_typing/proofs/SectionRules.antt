@@ -6,7 +6,7 @@ use Rattle.std.specs.Option.{option_map, option_and_then}
 use Rattle.std.proofs.lemmas.Option.{slice_get-map}
 use Rattle.std.proofs.Math.Nat.{le_refl}
 use Rattle.std.proofs.lemmas.List.{take_all}
-use Rattle.sc_event.specs.Numbering.{number_of}
+use Rattle.sc_base.specs.Numbering.{number_of}
 use Rattle.sc_ast.specs.declared.expr.ExprTree.{ExprTree}
 use Rattle.sc_ast.specs.declared.section.ParamTree.{ParamTree}
 use Rattle.sc_ast.specs.declared.section.GlobalTree.{GlobalTree}

@@ -2,7 +2,7 @@
 use Rattle.std.proofs.Common.{◌≡◌, ℕ, Bool, true, false, if◌then◌else◌, List, [], ◌∷◌, map, is_some, Option, Some, None, refl, sym, ap, ◌∙◌, true≢false}
 use Rattle.std.specs.Prelude.{bytes_eq}
 use Rattle.std.specs.Option.{option_map}
-use Rattle.sc_event.specs.Numbering.{number_of}
+use Rattle.sc_base.specs.Numbering.{number_of}
 use Rattle.sc_ast.specs.declared.section.HeadTree.{HeadTree}
 use Rattle.sc_ast.specs.declared.section.FunctionTree.{FunctionTree}
 use Rattle.sc_ast.specs.declared.section.Decl.{Decl}

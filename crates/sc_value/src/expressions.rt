@@ -1,13 +1,14 @@
 //! Expressions (C11 6.5), by recursion on the tree, whose height is at most 256.
 
 ghost use Rattle.std.specs.Prelude.{◌≡◌, map, IfOk};
-ghost use Rattle.sc_core.specs.declared.op.BinaryOp.TheVariants.{Add};
+ghost use Rattle.sc_base.specs.declared.op.BinaryOp.TheVariants.{Add};
 ghost use Rattle.sc_core.specs.Value.{c_arith};
 ghost use Rattle.sc_core.specs.Tree.{variable_at, wanted, literal, is_unsigned_op, at_pointer, applied, ways, values};
 ghost use Rattle.sc_blocks.specs.Rows.{memory_of};
 ghost use Rattle.sc_value.specs.Evaluation.{decided, joined};
 ghost use Rattle.sc_value.specs.Where.{here_of};
 
+use sc_base::BinaryOp;
 use crate::Scope;
 use crate::access::load;
 use crate::moves::{moved_back, moved_on, offset_by};
@@ -15,7 +16,7 @@ use crate::pointers::between;
 use crate::sizes::{is_array, is_pointer, is_unsigned, target_cells};
 use crate::words::{applied_one, is_true, of_bool, on_words};
 use sc_blocks::Blocks;
-use sc_core::{BinaryOp, Cause, Pointer, Ty, TypedExpr, TypedKind, Value, VarRef, Want};
+use sc_core::{Cause, Pointer, Ty, TypedExpr, TypedKind, Value, VarRef, Want};
 use sqlite_items::Items;
 use std::alloc::{AllocError, Global};
 

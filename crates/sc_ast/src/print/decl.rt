@@ -15,7 +15,7 @@ use crate::section::{
     MemberTree, MemberTrees, ParamTree, ParamTrees, StructTree,
 };
 use crate::types::{BaseTree, TypeName, TypeTree};
-use sc_event::{OutOfMemory, Text};
+use sc_base::{OutOfMemory, Text};
 
 fn append_base(out: &mut Text, base: &BaseTree) -> Result<(), OutOfMemory>
     ensures { OnOk result (out.new ≡ out.old ++ text_of (base_words base.now)) }

@@ -2,20 +2,13 @@
 
 ghost use Rattle.std.specs.Prelude.{◌≡◌, ◌<◌, ◌++◌, [], ◌∷◌, OnOk, codes};
 ghost use Rattle.std.specs.List.{join_by};
-ghost use Rattle.sc_ast.specs.Levels.{loosest_level, level_of};
+ghost use Rattle.sc_base.specs.Levels.{loosest_level, level_of};
 ghost use Rattle.sc_ast.specs.Pieces.{word, blank, text_of, opened, closed, comma};
 ghost use Rattle.sc_ast.specs.ExprWords.{unary_text, binary_text, is_doubled, apart, prefix_words, words_at, expr_words, place_words, call_words};
 
-use crate::expr::{BinaryOp, CallTree, ExprTree, Exprs, UnaryOp};
+use crate::expr::{CallTree, ExprTree, Exprs};
 use crate::print::words::{append_closed, append_literal, append_opened};
-use sc_event::{OutOfMemory, Text};
-
-// The level of postfix expressions.
-const POSTFIX: u8 = 0;
-// The level of unary expressions.
-const UNARY: u8 = 1;
-// The level that holds every expression.
-const LOOSEST: u8 = 11;
+use sc_base::{OutOfMemory, Text};
 
 fn unary_text(op: UnaryOp) -> &'static [u8]
     ensures { result.now ≡ unary_text op }
@@ -50,32 +43,6 @@ fn binary_text(op: BinaryOp) -> &'static [u8]
         BinaryOp::Mul => b"*",
         BinaryOp::Div => b"/",
         BinaryOp::Rem => b"%",
-    }
-}
-
-fn level_of(op: BinaryOp) -> u8
-    ensures level { result ≡ level_of op }
-    ensures positive { 0 < result }
-{
-    match op {
-        BinaryOp::Mul => 2,
-        BinaryOp::Div => 2,
-        BinaryOp::Rem => 2,
-        BinaryOp::Add => 3,
-        BinaryOp::Sub => 3,
-        BinaryOp::ShiftLeft => 4,
-        BinaryOp::ShiftRight => 4,
-        BinaryOp::Less => 5,
-        BinaryOp::Greater => 5,
-        BinaryOp::LessEqual => 5,
-        BinaryOp::GreaterEqual => 5,
-        BinaryOp::Equal => 6,
-        BinaryOp::NotEqual => 6,
-        BinaryOp::BitAnd => 7,
-        BinaryOp::BitXor => 8,
-        BinaryOp::BitOr => 9,
-        BinaryOp::AndAlso => 10,
-        BinaryOp::OrElse => 11,
     }
 }
 

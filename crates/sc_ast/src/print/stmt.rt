@@ -11,7 +11,7 @@ use crate::place::PlaceTree;
 use crate::print::expr::{append_call, append_expr, append_place};
 use crate::print::words::{append_indent, deeper};
 use crate::stmt::{SimpleKind, SimpleTree, StmtKind, StmtTree, Stmts};
-use sc_event::{OutOfMemory, Text};
+use sc_base::{OutOfMemory, Text};
 
 fn append_assign(out: &mut Text, place: &PlaceTree, value: &ExprTree) -> Result<(), OutOfMemory>
     ensures { OnOk result (out.new ≡ out.old ++ text_of (assign_words place.now value.now)) }

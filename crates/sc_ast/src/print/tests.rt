@@ -1,5 +1,4 @@
 use super::*;
-use crate::expr::{BinaryOp, UnaryOp};
 use crate::ident::Ident;
 use crate::number::{ArrayLength, Literal};
 use crate::place::PlaceTree;

@@ -6,7 +6,7 @@ ghost use Rattle.sc_ast.specs.ExprWords.{literal_text};
 
 use crate::number::Literal;
 use itoa::Buffer;
-use sc_event::{OutOfMemory, Text};
+use sc_base::{OutOfMemory, Text};
 
 /// Adds `(` where it is wanted.
 pub fn append_opened(out: &mut Text, wanted: bool) -> Result<(), OutOfMemory>

@@ -1,5 +1,5 @@
 use Rattle.std.proofs.Common.{arith}
-use Rattle.sc_expr.specs.Marks.{loosest_level}
+use Rattle.sc_base.specs.Levels.{loosest_level}
 use Rattle.sc_expr.proofs.Theorem.{found_front, found_height, refused_front}
 use Rattle.sc_expr.proofs.parser.parse_expr.Goals as goal
 

@@ -1,6 +1,6 @@
 use Rattle.std.proofs.Common.{◌≡◌, ℕ, List, Option, Some, sym, ◌∙◌}
 use Rattle.std.specs.Prelude.{codes}
-use Rattle.sc_event.specs.Identifier.{is_name, name_of}
+use Rattle.sc_base.specs.Identifier.{is_name, name_of}
 use Rattle.sc_image.proofs.Seven.{seven_is_well_formed}
 use Rattle.sc_image.proofs.tests.seven.Goals as goal
 

@@ -1,5 +1,5 @@
 ghost use Rattle.std.specs.Prelude.{◌≡◌, [], ◌<◌, length, IfOk, OnOk, OnErr};
-ghost use Rattle.sc_event.specs.Numbering.{number_of, next_number, numbered, HasOneNumberEach};
+ghost use Rattle.sc_base.specs.Numbering.{number_of, next_number, numbered, HasOneNumberEach};
 
 use crate::{Name, OutOfMemory};
 use indexmap::IndexSet;
@@ -15,7 +15,7 @@ pub struct NameTable {
 
 impl Model for NameTable {
     ghost use Rattle.std.specs.Prelude.{List, ℕ, ◌≤◌, length};
-    ghost use Rattle.sc_event.specs.Numbering.{HasOneNumberEach};
+    ghost use Rattle.sc_base.specs.Numbering.{HasOneNumberEach};
 
     ghost Value = { List (List ℕ) };
 

@@ -1,9 +1,6 @@
-//! The reserved words of the language: no program may declare them, and a tokenizer tells them from identifiers.
-#![tactic(auto)]
-
 ghost use Rattle.std.specs.Prelude.{◌≡◌, bytes_eq};
 ghost use Rattle.std.specs.List.{list_any};
-ghost use Rattle.sc_reserved.specs.Reserved.{is_reserved};
+ghost use Rattle.sc_base.specs.Reserved.{is_reserved};
 
 const RESERVED_WORDS: [&[u8]; 46] = [
     b"auto",

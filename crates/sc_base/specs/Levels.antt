@@ -1,8 +1,8 @@
 -- The levels of expressions, the tightest first: postfix expressions (C11 6.5.2), unary expressions (6.5.3), and those
 -- of the binary operators (6.5.5 to 6.5.14), of which the last holds every expression.
 use Rattle.std.specs.Prelude.{ℕ}
-use Rattle.sc_ast.specs.declared.expr.BinaryOp.{BinaryOp}
-use Rattle.sc_ast.specs.declared.expr.BinaryOp.TheVariants as binary
+use Rattle.sc_base.specs.declared.op.BinaryOp.{BinaryOp}
+use Rattle.sc_base.specs.declared.op.BinaryOp.TheVariants as binary
 
 abbrev pub postfix_level : ℕ
 postfix_level = 0

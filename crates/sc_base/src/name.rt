@@ -4,8 +4,8 @@ ghost use Rattle.std.specs.Cmp.Rules.{comparing, hashing};
 ghost use Rattle.std.specs.Hash as fed;
 ghost use Rattle.std.specs.List.{list_all};
 ghost use Rattle.std.proofs.Common.{rules};
-ghost use Rattle.sc_event.specs.Filled.{filled};
-ghost use Rattle.sc_event.specs.Identifier.{is_name, name_of, is_digit, is_nondigit, is_name_byte};
+ghost use Rattle.sc_base.specs.Filled.{filled};
+ghost use Rattle.sc_base.specs.Identifier.{is_name, name_of, is_digit, is_nondigit, is_name_byte};
 
 use std::hash::{Hash, Hasher};
 use std::marker::Model;
@@ -21,7 +21,7 @@ pub struct Name {
 impl Model for Name {
     ghost use Rattle.std.specs.Prelude.{List, ℕ, take, length};
     ghost use Rattle.std.specs.Coded.{coded_list, coded_ℕ};
-    ghost use Rattle.sc_event.specs.Filled.{filled, IsFilled, refilled, front_length};
+    ghost use Rattle.sc_base.specs.Filled.{filled, IsFilled, refilled, front_length};
 
     ghost Value = { List ℕ };
 

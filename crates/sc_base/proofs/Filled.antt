@@ -3,8 +3,8 @@ use Rattle.std.proofs.Common.{◌≡◌, ℕ, ◌≤◌, List, [], ◌∷◌, �
 use Rattle.std.proofs.Math.Seq.{take-append_seam, drop-append_seam}
 use Rattle.std.proofs.lemmas.Bool.Decides.{nat_tests}
 use Rattle.std.proofs.lemmas.List.{drop-replicate}
-use Rattle.sc_event.specs.Identifier.{is_name}
-use Rattle.sc_event.specs.Filled.{zeros_behind, filled, IsFilled}
+use Rattle.sc_base.specs.Identifier.{is_name}
+use Rattle.sc_base.specs.Filled.{zeros_behind, filled, IsFilled}
 
 pub name_is_short : (text : List ℕ) → is_name text ≡ true → length text ≤ 63
 unfolding is_name

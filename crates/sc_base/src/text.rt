@@ -1,5 +1,5 @@
 ghost use Rattle.std.specs.Prelude.{◌≡◌, [], ◌∷◌, ◌++◌, OnOk, OnErr};
-ghost use Rattle.sc_event.specs.Word.{signed_text};
+ghost use Rattle.sc_base.specs.Word.{signed_text};
 
 use crate::OutOfMemory;
 use itoa::Buffer;

@@ -1,3 +1,5 @@
+ghost use Rattle.std.specs.Prelude.{◌≡◌};
+
 use std::alloc::{AllocError, AllocFailed};
 use thiserror::Error;
 
@@ -7,6 +9,8 @@ use thiserror::Error;
 pub struct OutOfMemory;
 
 impl From<AllocError> for OutOfMemory {
+    ghost from_gives = { λ _ e. e ≡ record {} };
+
     fn from(_: AllocError) -> OutOfMemory {
         OutOfMemory
     }

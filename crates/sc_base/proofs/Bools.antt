@@ -1,0 +1,14 @@
+-- Tests that are joined by `&&`, from their parts and into them. std has `and_from`, `and_parts`, `or_from` and `or_parts`.
+use Rattle.std.proofs.Common.{◌≡◌, Bool, true, false, refl}
+use Rattle.std.specs.Prelude.{◌&&◌, ◌||◌}
+use Rattle.std.proofs.lemmas.Bool.{and_parts}
+
+pub and_first : (a b : Bool) → (a && b) ≡ true → a ≡ true
+and_first a b h = (and_parts a b h).0
+
+pub and_rest : (a b : Bool) → (a && b) ≡ true → b ≡ true
+and_rest a b h = (and_parts a b h).1
+
+pub and_false : (b : Bool) → (b && false) ≡ false
+and_false true = refl
+and_false false = refl

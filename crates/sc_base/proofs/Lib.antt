@@ -1,0 +1,5 @@
+pub mod Bools
+pub mod Filled
+pub mod Lists
+mod Names
+pub mod Texts

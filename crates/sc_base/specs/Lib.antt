@@ -1,0 +1,7 @@
+pub mod Filled
+pub mod Identifier
+pub mod Levels
+pub mod Limits
+pub mod Numbering
+pub mod Reserved
+pub mod Word
