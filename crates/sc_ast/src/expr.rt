@@ -1,5 +1,6 @@
 use crate::ident::Ident;
 use crate::number::Literal;
+use sc_base::{BinaryOp, UnaryOp};
 use sqlite_items::{Boxed, Items};
 
 /// An expression (C11 6.5). Parentheses leave no mark.

@@ -4,10 +4,10 @@ ghost use Rattle.sc_core.specs.Memory.{with_blocks, is_live};
 ghost use Rattle.sc_blocks.specs.Rows.{memory_of, or_cause, cause_of, living, ended, is_place, load_cell, store_cell, cell_count};
 ghost use Rattle.sc_blocks.specs.Living.{left_from};
 
-use sc_base::OutOfMemory;
 use crate::BlockFault;
 use crate::cells::Cells;
 use crate::row::Row;
+use sc_base::OutOfMemory;
 use sc_core::{Cell, Pointer};
 use sc_event::CompId;
 use sqlite_items::Items;

@@ -2,8 +2,8 @@ ghost use Rattle.std.specs.Prelude.{◌≡◌, [], slice_get};
 ghost use Rattle.std.specs.Option.{option_copied};
 ghost use Rattle.sc_build.specs.Called.{called, imported};
 
-use sc_base::Name;
 use crate::places::Places;
+use sc_base::Name;
 use sc_core::{CallTarget, Ty};
 use sqlite_items::Items;
 use std::marker::Model;

@@ -6,11 +6,11 @@ ghost use Rattle.sc_decls.specs.Declarations.{functions_in, heads_in};
 ghost use Rattle.sc_elab.specs.Sections.{param_ty, signature_by, import_target};
 ghost use Rattle.sc_build.specs.Called.{function_name, head_name, import_line_name, function_signature, calling_heads, CallsIn};
 
-use sc_base::{Name, OutOfMemory};
 use crate::callees::{Callees, Signature};
 use crate::places::Places;
 use crate::tree_ty::{type_of_name, type_of_result};
 use sc_ast::{Decl, FunctionHead, FunctionParam, HeadTree, ImportLine, ParamTree, SectionTree};
+use sc_base::{Name, OutOfMemory};
 use sc_core::{CallTarget, Ty};
 use sc_event::Import;
 use sqlite_items::Items;

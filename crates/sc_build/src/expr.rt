@@ -4,13 +4,13 @@ ghost use Rattle.sc_core.specs.Typing.{decayed, target, pointer_to};
 ghost use Rattle.sc_core.specs.declared.expr.TypedKind;
 ghost use Rattle.sc_build.specs.Seen.{expr_in};
 
-use sc_base::{BinaryOp, OutOfMemory, UnaryOp};
 use crate::scope::{FunctionScope, SectionScope, found};
 use crate::ty::{
     binary_op, binary_ty, decayed, is_pointer, pointed, pointer_to, unary_op, unary_ty,
 };
 use crate::variables::Found;
 use sc_ast::{ExprTree, Literal};
+use sc_base::{BinaryOp, OutOfMemory, UnaryOp};
 use sc_core::{BaseTy, Ty, TypedExpr, TypedKind, TypedMember, VarRef};
 use sqlite_items::Boxed;
 use std::alloc::Global;

@@ -7,13 +7,13 @@ ghost use Rattle.sc_build.specs.Called.{called};
 ghost use Rattle.sc_build.specs.Seen.{value_in};
 ghost use Rattle.sc_build.specs.Stands.{Stands, StandsIn, local_in};
 
-use sc_base::OutOfMemory;
 use crate::places::Places;
 use crate::scope::{FunctionScope, SectionScope};
 use crate::stmt::{build_stmts, build_value};
 use crate::tree_ty::{type_of, type_of_name, type_of_result};
 use crate::variables::Variables;
 use sc_ast::{ExprTree, FunctionParam, FunctionTree, LocalTree, SectionTree};
+use sc_base::OutOfMemory;
 use sc_core::{Ty, TypedExpr, TypedFunction, TypedLocal, TypedLocals, TypedParam};
 use sqlite_items::Items;
 use std::alloc::Global;

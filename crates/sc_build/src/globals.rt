@@ -4,11 +4,11 @@ ghost use Rattle.std.specs.Prelude.{◌≡◌, ◌-◌, ◌%◌, ◌^◌, ◌++�
 ghost use Rattle.sc_decls.specs.Declarations.{globals_in};
 ghost use Rattle.sc_elab.specs.Sections.{word_of_const, init_words, typed_global, global_variable};
 
-use sc_base::{OutOfMemory, Words};
 use crate::places::Places;
 use crate::tree_ty::type_of;
 use crate::variables::Variables;
 use sc_ast::{ConstTree, Decl, GlobalTree, InitTree};
+use sc_base::{OutOfMemory, Words};
 use sc_core::{TypedGlobal, TypedGlobals, TypedParam};
 use sqlite_items::Items;
 use std::alloc::Global;

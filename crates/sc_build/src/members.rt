@@ -6,11 +6,11 @@ ghost use Rattle.sc_decls.specs.Declarations.{structs_in};
 ghost use Rattle.sc_elab.specs.Sections.{members_from, cells_from, typed_struct, typed_structs};
 ghost use Rattle.sc_build.specs.Placed.{member_names, names_of};
 
-use sc_base::OutOfMemory;
 use crate::places::Places;
 use crate::structs::Structs;
 use crate::tree_ty::type_of;
 use sc_ast::{Decl, MemberTree, StructTree};
+use sc_base::OutOfMemory;
 use sc_core::{BaseTy, Ty, TypedMember, TypedMembers, TypedStruct};
 use sqlite_items::Items;
 use std::alloc::Global;

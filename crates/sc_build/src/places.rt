@@ -2,8 +2,8 @@ ghost use Rattle.std.specs.Prelude.{◌≡◌, ℕ, List, ◌<◌, ◌++◌, ◌
 ghost use Rattle.sc_base.specs.Numbering.{number_of};
 ghost use Rattle.sc_build.specs.Firsts.{HasFirsts};
 
-use sc_base::{Name, OutOfMemory};
 use indexmap::IndexMap;
+use sc_base::{Name, OutOfMemory};
 use sqlite_items::Items;
 use std::alloc::Global;
 use std::marker::Model;

@@ -2,9 +2,9 @@ ghost use Rattle.std.specs.Prelude.{◌≡◌, slice_get, Some, IfOk};
 ghost use Rattle.sc_decls.specs.Interfaces.{interfaces_of};
 ghost use Rattle.sc_elab.specs.Sections.{typed_section, callees_of, sections_from, program_of};
 
-use sc_base::OutOfMemory;
 use crate::section::build_section;
 use sc_ast::SectionTree;
+use sc_base::OutOfMemory;
 use sc_core::{ProgramTree, TypedSection, TypedSections};
 use sc_event::Interfaces;
 use sqlite_items::Items;

@@ -2,11 +2,11 @@ ghost use Rattle.std.specs.Prelude.{◌≡◌};
 ghost use Rattle.sc_elab.specs.Scopes.{found};
 ghost use Rattle.sc_build.specs.Seen.{visible};
 
-use sc_base::Name;
 use crate::callees::Callees;
 use crate::places::Places;
 use crate::structs::Structs;
 use crate::variables::{Found, Variables};
+use sc_base::Name;
 use sc_core::Ty;
 
 /// What a section gives to the bodies of its functions: the tags of its structs, its structs and globals, and whom it calls.

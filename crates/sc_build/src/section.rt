@@ -8,7 +8,6 @@ ghost use Rattle.sc_elab.specs.Sections.{typed_function, typed_section, callees_
 ghost use Rattle.sc_build.specs.Called.{called, CallsIn, struct_name};
 ghost use Rattle.sc_build.specs.Stands.{Stands};
 
-use sc_base::OutOfMemory;
 use crate::calls::build_callees;
 use crate::function::build_function;
 use crate::globals::{build_globals, global_variables};
@@ -16,6 +15,7 @@ use crate::members::build_structs;
 use crate::places::Places;
 use crate::scope::SectionScope;
 use sc_ast::{Decl, SectionTree};
+use sc_base::OutOfMemory;
 use sc_core::{TypedFunctions, TypedSection};
 use sc_event::Import;
 use sqlite_items::Items;

@@ -6,11 +6,11 @@ ghost use Rattle.sc_build.specs.Called.{called};
 ghost use Rattle.sc_build.specs.Args.{first_of, rest_of};
 ghost use Rattle.sc_build.specs.Seen.{expr_in, value_in, returned_in, args_in, call_in, simple_in, part_in, kind_in, stmt_in};
 
-use sc_base::{Name, OutOfMemory};
 use crate::callees::{Callees, Signature};
 use crate::expr::{build_expr, going_to};
 use crate::scope::{FunctionScope, SectionScope};
 use sc_ast::{CallTree, ExprTree, PlaceTree, SimpleKind, SimpleTree, StmtKind, StmtTree, Stmts};
+use sc_base::{Name, OutOfMemory};
 use sc_core::{
     Ty, TypedCall, TypedExpr, TypedExprs, TypedPlace, TypedSimple, TypedSimpleKind, TypedStmt,
     TypedStmtKind, TypedStmts,

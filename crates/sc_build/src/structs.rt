@@ -3,8 +3,8 @@ ghost use Rattle.sc_core.specs.Types.{struct_cells};
 ghost use Rattle.sc_elab.specs.Scopes.{member_named, struct_of};
 ghost use Rattle.sc_build.specs.Placed.{member_names};
 
-use sc_base::{Name, OutOfMemory};
 use crate::places::Places;
+use sc_base::{Name, OutOfMemory};
 use sc_core::{BaseTy, Ty, TypedMember, TypedStruct, TypedStructs};
 use sqlite_items::Items;
 use std::alloc::Global;

@@ -3,8 +3,8 @@ ghost use Rattle.sc_core.specs.declared.expr.VarRef.TheVariants as var;
 ghost use Rattle.sc_elab.specs.Scopes.{found_in};
 ghost use Rattle.sc_build.specs.Placed.{placed};
 
-use sc_base::{Name, OutOfMemory};
 use crate::places::Places;
+use sc_base::{Name, OutOfMemory};
 use sc_core::{Ty, TypedParam, TypedParams, VarRef};
 use sqlite_items::Items;
 use std::alloc::Global;

@@ -7,8 +7,8 @@ ghost use Rattle.rv_code.specs.Ranges.{IsReg, IsImmediate};
 ghost use Rattle.rv_code.specs.Words.{word_of};
 ghost use Rattle.sc_compile.specs.Code.{upper_part, lower_part, loading, outputting, returning, thin_code, HasWords};
 
-use sc_base::{OutOfMemory, Words};
 use rv_code::{Immediate, Instr, OpImmOp, Reg, UpperImmediate, UpperOp, encode};
+use sc_base::{OutOfMemory, Words};
 use sc_core::ThinProgram;
 use std::alloc::Global;
 

@@ -2,8 +2,8 @@ ghost use Rattle.std.specs.Prelude.{◌≡◌, ◌≤◌, length, codes, IfOk};
 ghost use Rattle.sc_compile.specs.Image.{main_comp, image_of, thin_image};
 ghost use Rattle.sc_compile.specs.Correct.{IsForward, IsBackward};
 
-use sc_base::{Name, OutOfMemory, Text, Words};
 use crate::code::thin_code;
+use sc_base::{Name, OutOfMemory, Text, Words};
 use sc_core::ThinProgram;
 use sc_event::CompId;
 use sc_image::{CompPart, CompParts, ExportParts, Image, ImageParts, ImportParts};

@@ -1,7 +1,7 @@
 use crate::expr::TypedExpr;
 use crate::stmt::TypedStmts;
 use crate::ty::Ty;
-use sc_base::Name;
+use sc_base::{Name, Words};
 use sqlite_items::Items;
 
 /// A struct, with the cells of all its members.

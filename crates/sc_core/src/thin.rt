@@ -3,7 +3,7 @@ ghost use Rattle.sc_event.specs.declared.event.Event.TheVariants.{Out};
 ghost use Rattle.sc_core.specs.Thin.{thin_meaning};
 
 use crate::{RunEnd, SourceRun};
-use sc_base::OutOfMemory;
+use sc_base::{OutOfMemory, Words};
 use sc_event::{CompId, Event, Trace};
 use std::alloc::Global;
 

@@ -9,9 +9,9 @@ ghost use Rattle.sc_decls.specs.Declarations.{functions_in, globals_in, heads_in
 ghost use Rattle.sc_core.specs.WellTyped.{most_exports};
 ghost use Rattle.sc_counts.specs.Counts.{function_lines, global_lines, head_lines, line_beyond, local_lines, param_small, structs_from};
 
-use sc_base::OutOfMemory;
 use crate::sizes::Sizes;
 use sc_ast::{Decl, Decls, ExportLines, FunctionParam, FunctionTree, ImportLines, LocalTrees};
+use sc_base::OutOfMemory;
 use sc_decls::BrokenLines;
 
 /// The most parameters that a function may have.

@@ -8,13 +8,13 @@ ghost use Rattle.sc_elab.specs.Statements.{Callees};
 ghost use Rattle.sc_counts.specs.Counts.{counts_broken, line_beyond, section_lines};
 ghost use Rattle.sc_counts.specs.TreeNodes.{decls_nodes};
 
-use sc_base::OutOfMemory;
 use crate::lines::{
     export_lines, functions_lines, globals_lines, heads_lines, import_lines, structs_lines,
 };
 use crate::nodes::decls_nodes;
 use crate::sizes::Sizes;
 use sc_ast::{Decls, SectionTree};
+use sc_base::OutOfMemory;
 use sc_decls::{BrokenLines, line_of_text};
 use sqlite_items::at;
 use std::alloc::Global;

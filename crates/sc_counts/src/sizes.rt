@@ -11,8 +11,8 @@ ghost use Rattle.sc_counts.specs.Counts.{is_small, type_in};
 ghost use Rattle.sc_counts.specs.Measured.{limited_cells};
 ghost use Rattle.sc_core.specs.declared.ty.Ty.TheVariants as ty;
 
-use sc_base::OutOfMemory;
 use sc_ast::{ArrayLength, BaseTree, Decl, MemberTree, SectionTree, TypeName, TypeTree};
+use sc_base::OutOfMemory;
 use sc_names::NameList;
 use sqlite_items::Items;
 use std::alloc::Global;

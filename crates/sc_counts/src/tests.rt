@@ -1,6 +1,6 @@
-use sc_base::Name;
 use crate::broken_count;
 use sc_ast::{ArrayLength, BaseTree, Decl, GlobalTree, Ident, InitTree, SectionTree, TypeTree};
+use sc_base::Name;
 use sqlite_items::Items;
 use std::alloc::Global;
 use std::test::Fail;

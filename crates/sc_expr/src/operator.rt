@@ -4,7 +4,7 @@ ghost use Rattle.sc_expr.specs.Marks.{binary_of, prefix_of, prefixed, extension_
 
 use crate::mark::Mark;
 use sc_ast::ExprTree;
-use sc_base::{BinaryOp, UnaryOp};
+use sc_base::{BinaryOp, UnaryOp, level_of};
 use sqlite_items::Boxed;
 
 /// An operator in front of its operand (C11 6.5.3).

@@ -3,11 +3,11 @@ ghost use Rattle.std.specs.Option.{option_copied, option_map};
 ghost use Rattle.sc_faces.specs.Faces.{agree};
 ghost use Rattle.sc_faces.specs.Tables.{no_heads, forbidden, added, agrees_first, allowed, first_of};
 
-use sc_base::{Name, OutOfMemory};
 use crate::first_heads::FirstHeads;
 use crate::heads::{agree, copied};
 use crate::name_set::NameSet;
 use sc_ast::HeadTree;
+use sc_base::{Name, OutOfMemory};
 use std::alloc::Global;
 
 /// The heads that names stand for, as far as a later head has to agree with all of its name. Where two heads of a name

@@ -5,14 +5,16 @@ ghost use Rattle.std.specs.Option.{option_and_then, option_copied, option_map};
 ghost use Rattle.sc_decls.specs.Interfaces.{interfaces_of, scalar_of};
 ghost use Rattle.sc_faces.specs.Offering.{IsWithinCounts, place_of, option_placed, all_placed, export_name, function_name, export_places, function_places, function_at, promised_by, export_by, offered_by, import_by, interface_by, interfaces_by, main_by};
 
-use sc_base::{Name, OutOfMemory};
 use crate::names::{is_environment_name, is_input_name, main_name};
 use crate::places::Places;
 use crate::tables::{SectionTable, offering_number, section_tables};
 use sc_ast::{
     BaseTree, Decl, ExportLine, FunctionParam, FunctionTree, ImportLine, SectionTree, TypeName,
 };
-use sc_event::{CompId, Import, Imports, Interface, InterfaceList, Interfaces, Params, Proto, Protos, Scalar};
+use sc_base::{Name, OutOfMemory};
+use sc_event::{
+    CompId, Import, Imports, Interface, InterfaceList, Interfaces, Params, Proto, Protos, Scalar,
+};
 use sqlite_items::Items;
 use std::alloc::Global;
 

@@ -4,12 +4,12 @@ ghost use Rattle.sc_decls.specs.Broken.{unless, with_lines};
 ghost use Rattle.sc_decls.specs.Declarations.{head_in};
 ghost use Rattle.sc_faces.specs.Tables.{allowed, decl_told, decls_told, head_added, head_fits_by, no_heads};
 
-use sc_base::OutOfMemory;
 use crate::agreements::Agreements;
 use crate::heads::{head_crosses, main_holds, prototype};
 use crate::imports::Imported;
 use crate::tables::SectionTable;
 use sc_ast::{Decl, FunctionTree, HeadTree};
+use sc_base::OutOfMemory;
 use sc_decls::BrokenLines;
 use std::alloc::Global;
 

@@ -2,10 +2,10 @@ ghost use Rattle.std.specs.Prelude.{◌≡◌, [], OnOk};
 ghost use Rattle.sc_decls.specs.Broken.{with_lines};
 ghost use Rattle.sc_faces.specs.Tables.{export_fits, exports_told};
 
-use sc_base::OutOfMemory;
 use crate::name_set::NameSet;
 use crate::names::{is_main_name, is_plain};
 use sc_ast::ExportLine;
+use sc_base::OutOfMemory;
 use sc_decls::BrokenLines;
 use std::alloc::Global;
 

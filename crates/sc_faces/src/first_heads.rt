@@ -2,9 +2,9 @@ ghost use Rattle.std.specs.Prelude.{◌≡◌, [], ◌∷◌, ◌++◌, OnOk, No
 ghost use Rattle.std.specs.Option.{option_copied};
 ghost use Rattle.sc_faces.specs.Tables.{first_of};
 
-use sc_base::{Name, OutOfMemory};
 use indexmap::IndexMap;
 use sc_ast::HeadTree;
+use sc_base::{Name, OutOfMemory};
 use std::alloc::Global;
 use std::marker::Model;
 

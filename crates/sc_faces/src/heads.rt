@@ -5,9 +5,9 @@ ghost use Rattle.std.specs.List.{list_all};
 ghost use Rattle.sc_ast.specs.Heads.{param_of, head_of};
 ghost use Rattle.sc_faces.specs.Faces.{same_base, same_type, same_result, same_params, agree, crosses, result_crosses, head_crosses, is_int, gives_int, takes_nothing, main_holds, is_main};
 
-use sc_base::OutOfMemory;
 use crate::names::is_main_name;
 use sc_ast::{BaseTree, FunctionHead, FunctionParam, HeadTree, ParamTree, ParamTrees, TypeName};
+use sc_base::OutOfMemory;
 use sqlite_items::Items;
 use std::alloc::Global;
 

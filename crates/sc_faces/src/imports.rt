@@ -4,12 +4,12 @@ ghost use Rattle.sc_decls.specs.Broken.{with_lines};
 ghost use Rattle.sc_faces.specs.Faces.{int_type, input_name, output_name};
 ghost use Rattle.sc_faces.specs.Tables.{import_fits, imports_told, is_offered_by, all_numbered, no_heads, imported_by, imports_added, import_added, others_added, first_added, environment_added, input_head, output_head};
 
-use sc_base::{Name, OutOfMemory};
 use crate::agreements::Agreements;
 use crate::name_set::NameSet;
 use crate::names::{is_environment_name, is_input_name, is_output_name, is_plain};
 use crate::tables::{SectionTable, offering_number, offering_table};
 use sc_ast::{BaseTree, HeadTree, Ident, ImportLine, ParamTree, ParamTrees, SectionTree, TypeName};
+use sc_base::{Name, OutOfMemory};
 use sc_decls::BrokenLines;
 use std::alloc::Global;
 

@@ -1,8 +1,8 @@
 ghost use Rattle.std.specs.Prelude.{◌≡◌, [], OnOk};
 ghost use Rattle.sc_base.specs.Numbering.{is_numbered, numbered};
 
-use sc_base::{Name, OutOfMemory};
 use indexmap::IndexSet;
+use sc_base::{Name, OutOfMemory};
 use std::alloc::Global;
 use std::marker::Model;
 

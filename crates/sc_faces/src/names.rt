@@ -6,7 +6,6 @@ ghost use Rattle.sc_decls.specs.Interfaces.{environment, main_name};
 
 use sc_base::Name;
 
-
 pub(crate) fn same_name(a: &Name, b: &Name) -> bool
     ensures { result ≡ bytes_eq a.now b.now }
 {

@@ -5,7 +5,6 @@ ghost use Rattle.sc_decls.specs.Interfaces.{main_name};
 ghost use Rattle.sc_faces.specs.Faces.{interface_broken};
 ghost use Rattle.sc_faces.specs.Tables.{name_fits, section_told};
 
-use sc_base::{Name, OutOfMemory};
 use crate::decls::decls_told;
 use crate::exports::exports_told;
 use crate::imports::{imports_of, imports_told};
@@ -13,6 +12,7 @@ use crate::name_set::NameSet;
 use crate::names::{is_environment_name, main_name};
 use crate::tables::{SectionTable, section_tables};
 use sc_ast::SectionTree;
+use sc_base::{Name, OutOfMemory};
 use sc_decls::BrokenLines;
 use std::alloc::Global;
 

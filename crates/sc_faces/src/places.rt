@@ -1,8 +1,8 @@
 ghost use Rattle.std.specs.Prelude.{◌≡◌, [], OnOk};
 ghost use Rattle.sc_faces.specs.Offering.{place_of, placed};
 
-use sc_base::{Name, OutOfMemory};
 use indexmap::IndexMap;
+use sc_base::{Name, OutOfMemory};
 use std::alloc::Global;
 use std::marker::Model;
 

@@ -5,12 +5,12 @@ ghost use Rattle.std.specs.Option.{option_copied};
 ghost use Rattle.sc_decls.specs.Declarations.{function_names, heads_in, proto_names, head_in};
 ghost use Rattle.sc_faces.specs.Tables.{all_numbered, all_added, no_heads, head_added, table_of, offering_number, offering_table};
 
-use sc_base::{Name, OutOfMemory};
 use crate::agreements::Agreements;
 use crate::heads::prototype;
 use crate::name_set::NameSet;
 use crate::names::same_name;
 use sc_ast::{Decl, ExportLine, ImportLine, SectionTree};
+use sc_base::{Name, OutOfMemory};
 use sqlite_items::Items;
 use std::alloc::Global;
 

@@ -1,11 +1,11 @@
 ghost use Rattle.std.specs.Prelude.{◌≡◌, [], IfOk};
 
-use sc_base::Name;
 use crate::{broken_interface, interfaces};
 use sc_ast::{
     BaseTree, Decl, Decls, ExportLine, ExportLines, FunctionHead, FunctionTree, HeadTree, Ident,
     ImportLine, ImportLines, ParamTree, SectionTree, TypeName,
 };
+use sc_base::Name;
 use sqlite_items::Items;
 use std::alloc::Global;
 use std::test::Fail;

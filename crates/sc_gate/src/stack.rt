@@ -1,8 +1,8 @@
 ghost use Rattle.std.specs.Prelude.{◌≡◌, ◌+◌, ◌<◌, [], ◌∷◌, IfOk, IfSome, IfNone, OnSome};
 ghost use Rattle.sc_gate.specs.Waiting.{crossing_of};
 
-use sc_base::OutOfMemory;
 use crate::CrossEntry;
+use sc_base::OutOfMemory;
 use std::alloc::Global;
 use std::marker::Model;
 

@@ -1,5 +1,5 @@
-use sc_base::OutOfMemory;
 use crate::{CrossEntry, CrossStack, clear_for_call, clear_for_ret};
+use sc_base::OutOfMemory;
 use sc_event::{CompId, Entry};
 
 // A call from the first compartment to itself, which goes on at this address.

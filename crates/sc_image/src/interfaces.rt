@@ -2,9 +2,11 @@ ghost use Rattle.std.specs.Prelude.{◌≡◌, ◌≤◌, [], ◌∷◌, ◌++�
 ghost use Rattle.sc_event.specs.declared.interface.Scalar.TheVariants.{Int};
 ghost use Rattle.sc_image.specs.Interfaces.{proto_of, import_of, interface_of, interfaces_of};
 
-use sc_base::OutOfMemory;
 use crate::{CompPart, ExportPart, Image, ImportPart};
-use sc_event::{Import, Imports, Interface, InterfaceList, Interfaces, Params, Proto, Protos, Scalar};
+use sc_base::OutOfMemory;
+use sc_event::{
+    Import, Imports, Interface, InterfaceList, Interfaces, Params, Proto, Protos, Scalar,
+};
 use std::alloc::Global;
 
 /// The interfaces of the image's compartments. An image doesn't tell `int` from `unsigned int`: every parameter and

@@ -7,13 +7,13 @@ ghost use Rattle.sc_base.specs.Identifier.{is_between};
 ghost use Rattle.sc_image.specs.declared.fault.BadImage.TheVariants.{Version, Count, Contents};
 ghost use Rattle.sc_image.specs.declared.fault.ImageFault.TheVariants.{Bad};
 
-use sc_base::{Name, Text, Words};
 use crate::rules::keeps_rules;
 use crate::{
     BadImage, CompPart, CompParts, ExportPart, ExportParts, Image, ImageFault, ImageParts,
     ImportPart, ImportParts,
 };
 use byteorder::{ByteOrder, LittleEndian};
+use sc_base::{Name, Text, Words};
 use sc_event::CompId;
 use std::alloc::Global;
 

@@ -6,8 +6,8 @@ ghost use Rattle.sc_image.specs.Layout.{code_of};
 ghost use Rattle.std.specs.HashSet.{IsFromIterResult};
 ghost use Rattle.std.specs.List.{list_all};
 
-use sc_base::Name;
 use crate::{CompPart, ExportPart, ImageParts, ImportPart};
+use sc_base::Name;
 use std::alloc::{AllocError, Global};
 use std::collections::HashSet;
 

@@ -1,8 +1,8 @@
-use sc_base::{Name, OutOfMemory, Text, Words};
 use crate::{
     CompPart, CompParts, ExportParts, Image, ImageFault, ImageParts, ImportParts, image_interfaces,
     read_image, write_image,
 };
+use sc_base::{Name, OutOfMemory, Text, Words};
 use sc_event::CompId;
 use std::alloc::Global;
 

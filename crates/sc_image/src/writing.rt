@@ -2,9 +2,9 @@ ghost use Rattle.std.specs.Prelude.{◌≡◌, ◌*◌, ◌^◌, ◌<◌, ◌++�
 ghost use Rattle.byteorder.specs.Endian.{little_bytes};
 ghost use Rattle.sc_image.specs.Bytes.{name_bytes, flags, export_bytes, import_bytes, exports_bytes, imports_bytes, code_bytes, globals_bytes, comp_bytes, image_bytes, FitsItsFields};
 
-use sc_base::{Name, OutOfMemory, Text};
 use crate::{CompPart, ExportPart, Image, ImportPart};
 use byteorder::{ByteOrder, LittleEndian};
+use sc_base::{Name, OutOfMemory, Text};
 use std::alloc::Global;
 
 /// The bytes of the image, in version 1 of the format.

@@ -6,8 +6,8 @@ ghost use Rattle.sc_lex.specs.Lines.{is_blank};
 ghost use Rattle.sc_lex.specs.Words.{words, only_name};
 ghost use Rattle.sc_lex.specs.Headings.{begins_heading, heading_name};
 
-use sc_base::Name;
 use crate::bytes::is_blank;
+use sc_base::Name;
 
 /// Whether the bytes begin a compartment line, good or bad.
 pub fn begins_heading(text: &[u8]) -> bool

@@ -10,13 +10,13 @@ ghost use Rattle.sc_lex.specs.Cutting.{begins_block_comment, begins_line_comment
 ghost use Rattle.sc_lex.specs.Pieces.{NoToken};
 ghost use Rattle.sc_lex.specs.declared.token.TokenKind.{TokenKind};
 
-use sc_base::{is_name, is_reserved};
 use crate::TokenKind;
 use crate::bytes::line_len;
 use crate::gap::begins_comment;
 use crate::heading::{heading_name, next_word};
 use crate::integer::is_integer;
 use crate::tables::is_mark;
+use sc_base::{is_name, is_reserved};
 
 fn is_name_byte(byte: u8) -> bool
     ensures { result ≡ is_name_byte byte }

@@ -7,10 +7,10 @@ ghost use Rattle.sc_lex.specs.declared.refusal.Refusal.{Refusal};
 ghost use Rattle.sc_lex.specs.declared.refusal.Phase.TheVariants.{Lex};
 ghost use Rattle.sc_lex.specs.declared.section.SplitFault.TheVariants.{OutOfMemory};
 
-use sc_base::Name;
 use crate::bytes::{begins_line, line_after, line_len};
 use crate::heading::{begins_heading, heading_name};
 use crate::{Phase, Refusal};
+use sc_base::Name;
 use sqlite_items::Items;
 use std::alloc::{AllocError, Global};
 use thiserror::Error;

@@ -8,9 +8,9 @@ ghost use Rattle.sc_image.specs.Cross.{input_at, input, output};
 ghost use Rattle.sc_image.specs.Step.{Goes, next, environment_call};
 ghost use Rattle.sc_machine.specs.Hart.{state_in, outcome_of, IsSound, HasRoom, HasRoomForOne};
 
-use sc_base::TrapReason;
 use crate::hart::{A0, Hart};
 use crate::here::Here;
+use sc_base::TrapReason;
 use sc_event::Event;
 
 /// The number of register a7, which says what an environment call calls.

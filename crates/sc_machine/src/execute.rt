@@ -4,7 +4,6 @@ ghost use Rattle.std.specs.Prelude.{◌≡◌, ◌+◌, ◌^◌, ◌<◌, ℕ, O
 ghost use Rattle.sc_image.specs.Step.{execute, step};
 ghost use Rattle.sc_machine.specs.Hart.{state_in, outcome_of, IsSound, HasRoom, HasRoomForOne, IsBacked};
 
-use sc_base::TrapReason;
 use crate::arithmetic::{op, op_imm, shift, upper};
 use crate::environment::environment_call;
 use crate::hart::Hart;
@@ -12,6 +11,7 @@ use crate::here::Here;
 use crate::jump::{branch, jal, jalr};
 use crate::memory::{load, store};
 use rv_code::{Instr, decode};
+use sc_base::TrapReason;
 use sc_store::Store;
 
 /// Executes the instruction at the pc.

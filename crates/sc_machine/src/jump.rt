@@ -11,7 +11,6 @@ ghost use Rattle.sc_image.specs.State.{State};
 ghost use Rattle.sc_image.specs.Step.{Traps, jump, calls, execute};
 ghost use Rattle.sc_machine.specs.Hart.{at, comp_in, state_in, outcome_of, IsSound, HasRoom, HasRoomForOne};
 
-use sc_base::TrapReason;
 use crate::arithmetic::compares;
 use crate::calling::call_out;
 use crate::hart::{Core, Hart};
@@ -19,6 +18,7 @@ use crate::here::Here;
 use crate::layout::GATE;
 use crate::returning::leave;
 use rv_code::{BranchOffset, BranchOp, Immediate, JumpOffset, Reg};
+use sc_base::TrapReason;
 use sc_word::add;
 
 /// Where a jump from the pc leads.

@@ -8,13 +8,13 @@ ghost use Rattle.sc_image.specs.Machine.{run, continued};
 ghost use Rattle.sc_machine.specs.Progress.{state_of, run_of};
 ghost use Rattle.sc_machine.specs.Calls.{loaded};
 
-use sc_base::Stop;
 use crate::hart::Hart;
 use crate::here::Here;
 use crate::loading::{start, start_memory};
 use crate::own_view::OwnView;
 use crate::program::Program;
 use crate::run::run;
+use sc_base::Stop;
 use sc_event::{CompId, Event};
 use sc_image::Image;
 use sc_store::Store;

@@ -6,10 +6,10 @@ ghost use Rattle.sc_image.specs.State.{State, start_memory};
 ghost use Rattle.sc_image.specs.Step.{load_size, store_size, extended, refused, load, store};
 ghost use Rattle.sc_machine.specs.Hart.{at, active_in, outcome_of, IsBacked};
 
-use sc_base::TrapReason;
 use crate::hart::Core;
 use crate::here::Here;
 use rv_code::{LoadOp, Reg, StoreOp};
+use sc_base::TrapReason;
 use sc_store::Store;
 
 /// Loads from an address into a register.

@@ -4,11 +4,11 @@ ghost use Rattle.std.specs.Prelude.{◌≡◌};
 ghost use Rattle.sc_image.specs.Machine.{Run, is_ended, stopped, run};
 ghost use Rattle.sc_machine.specs.Hart.{state_in, IsSound, HasRoom, IsBacked};
 
-use sc_base::Stop;
 use crate::execute::step;
 use crate::hart::Hart;
 use crate::here::Here;
 use crate::program::Program;
+use sc_base::Stop;
 use sc_event::Event;
 use sc_store::Store;
 

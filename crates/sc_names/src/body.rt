@@ -6,9 +6,9 @@ ghost use Rattle.sc_decls.specs.Broken.{with_lines};
 ghost use Rattle.sc_decls.specs.Declarations.{among};
 ghost use Rattle.sc_names.specs.Names.{all_in, call_known, expr_known, is_callable, known, knows, part_lines, simple_known, stmt_lines};
 
-use sc_base::Name;
 use crate::{NameList, SectionNames};
 use sc_ast::{CallTree, ExprTree, Exprs, SimpleKind, SimpleTree, StmtKind, StmtTree, Stmts};
+use sc_base::Name;
 use sc_decls::BrokenLines;
 
 /// Notes the lines of statements, which stand in a loop or not, at which rules of names are broken. The parameters

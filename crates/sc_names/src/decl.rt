@@ -5,7 +5,6 @@ ghost use Rattle.sc_decls.specs.Broken.{with_lines};
 ghost use Rattle.sc_names.specs.Names.{decl_lines, function_lines, global_known, head_of_known, init_known, local_known, locals_from, param_names, proto_known, struct_known};
 ghost use Rattle.sc_ast.specs.declared.section.LocalTree.{LocalTree};
 
-use sc_base::OutOfMemory;
 use crate::body::{all_lines, knows};
 use crate::distinct::{members_distinct, push_new, push_params};
 use crate::types::{base_known, head_types_known, members_known, proto_types_known};
@@ -13,6 +12,7 @@ use crate::{NameList, SectionNames};
 use sc_ast::{
     Decl, ExprTree, FunctionTree, GlobalTree, HeadTree, LocalTree, LocalTrees, StructTree,
 };
+use sc_base::OutOfMemory;
 use sc_decls::BrokenLines;
 use std::alloc::Global;
 

@@ -5,9 +5,9 @@ ghost use Rattle.sc_ast.specs.declared.section.FunctionParam.{FunctionParam};
 ghost use Rattle.sc_decls.specs.Declarations.{among, are_distinct};
 ghost use Rattle.sc_names.specs.Names.{member_names};
 
-use sc_base::{Name, OutOfMemory};
 use crate::NameList;
 use sc_ast::{FunctionParam, MemberTree};
+use sc_base::{Name, OutOfMemory};
 use std::alloc::Global;
 
 /// Adds a name, and answers whether it is new.

@@ -3,8 +3,8 @@ ghost use Rattle.sc_base.specs.Numbering.{number_of};
 ghost use Rattle.sc_decls.specs.Declarations.{among};
 ghost use Rattle.sc_names.specs.Places.{HasPlaces};
 
-use sc_base::{Name, OutOfMemory};
 use indexmap::IndexMap;
+use sc_base::{Name, OutOfMemory};
 use std::alloc::Global;
 use std::marker::Model;
 

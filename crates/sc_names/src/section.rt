@@ -4,10 +4,10 @@ ghost use Rattle.std.specs.Prelude.{◌≡◌, OnOk, IfOk};
 ghost use Rattle.sc_decls.specs.Broken.{refused_at, with_lines};
 ghost use Rattle.sc_names.specs.Names.{names_broken, section_lines};
 
-use sc_base::OutOfMemory;
 use crate::SectionNames;
 use crate::decl::decl_lines;
 use sc_ast::SectionTree;
+use sc_base::OutOfMemory;
 use sc_decls::BrokenLines;
 use std::alloc::Global;
 

@@ -2,9 +2,9 @@ ghost use Rattle.std.specs.Prelude.{◌≡◌, ◌++◌, [], map, OnOk, IfOk};
 ghost use Rattle.sc_decls.specs.Declarations.{function_names, import_names};
 ghost use Rattle.sc_names.specs.Names.{declared, with_decl};
 
-use sc_base::OutOfMemory;
 use crate::NameList;
 use sc_ast::{Decl, SectionTree};
+use sc_base::OutOfMemory;
 use std::alloc::Global;
 
 /// The names that a section declares before one of its declarations, those that it imports, and those that may be

@@ -1,9 +1,9 @@
-use sc_base::Name;
 use crate::{NameList, broken_name};
 use sc_ast::{
     BaseTree, Decl, ExprTree, FunctionHead, FunctionParam, FunctionTree, GlobalTree, Ident,
     InitTree, SectionTree, StmtKind, StmtTree, TypeName, TypeTree,
 };
+use sc_base::Name;
 use sqlite_items::Items;
 use std::alloc::Global;
 use std::test::Fail;

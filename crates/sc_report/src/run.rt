@@ -3,9 +3,9 @@ ghost use Rattle.sc_base.specs.declared.stop.Stop.TheVariants.{Trap};
 ghost use Rattle.sc_event.specs.Lookup.{IsKnown};
 ghost use Rattle.sc_report.specs.Report.{events_text, cause_word, number_end, cause_end, blame_line, end_line, meaning_text, reason_word, address_end, stop_line, run_text};
 
-use sc_base::{OutOfMemory, Stop, Text, TrapReason};
 use crate::names::comp_name;
 use itoa::Buffer;
+use sc_base::{OutOfMemory, Stop, Text, TrapReason};
 use sc_core::{Cause, RunEnd, SourceRun};
 use sc_event::{Event, Interfaces, append_event};
 use std::alloc::Global;

@@ -1,7 +1,10 @@
-use sc_base::{Name, Stop, TrapReason};
 use crate::{check_text, meaning_text, run_text};
+use sc_base::{Name, Stop, TrapReason};
 use sc_core::{Cause, RunEnd, SourceRun};
-use sc_event::{CompId, Import, Imports, Interface, InterfaceList, Interfaces, Params, Proto, Protos, Scalar, Trace};
+use sc_event::{
+    CompId, Import, Imports, Interface, InterfaceList, Interfaces, Params, Proto, Protos, Scalar,
+    Trace,
+};
 use std::alloc::Global;
 use std::test::Fail;
 

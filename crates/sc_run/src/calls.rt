@@ -9,9 +9,9 @@ ghost use Rattle.sc_run.specs.Seen.{kept_by};
 ghost use Rattle.sc_run.specs.Resume.{Steps, library, bodies, result_goes};
 ghost use Rattle.sc_run.specs.Entering.{Begun, told_call, entry_from, back_from, body_acts};
 
-use sc_base::OutOfMemory;
 use crate::machine::{Machine, init_all, make_blocks, store_at, take_turn, tell};
 use crate::work::{Callee, Frame, Leaving, Now, Step, To, Work};
+use sc_base::OutOfMemory;
 use sc_core::{ProgramTree, Value};
 use sc_event::{Args, Event};
 use sc_value::Scope;

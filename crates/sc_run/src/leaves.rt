@@ -8,12 +8,12 @@ ghost use Rattle.sc_run.specs.Seen.{kept_by};
 ghost use Rattle.sc_run.specs.Resume.{Steps, exit_of, block_acts, next_acts, loop_acts, closes};
 ghost use Rattle.sc_run.specs.Returning.{ended_as, left_by, word_crossing, told_back, back_value};
 
-use sc_base::OutOfMemory;
 use crate::calls::{hand_back, word_in};
 use crate::machine::{Machine, tell};
 use crate::simple::simple;
 use crate::steps::round;
 use crate::work::{Frame, Leaving, Loop, Now, Step, To, Work};
+use sc_base::OutOfMemory;
 use sc_core::{Cause, ProgramTree, RunEnd, TypedStmt, Value};
 use sc_event::Event;
 

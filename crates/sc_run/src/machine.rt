@@ -14,8 +14,8 @@ ghost use Rattle.sc_run.specs.Comes.{Comes, with_exit};
 ghost use Rattle.sc_run.specs.Resume.{way_in};
 ghost use Rattle.sc_run.specs.Entering.{block_for, with_variables};
 
-use sc_base::OutOfMemory;
 use crate::work::{Callee, Frame};
+use sc_base::OutOfMemory;
 use sc_blocks::Blocks;
 use sc_core::{Cause, RunEnd, TypedExpr, TypedLocal, Value, VarRef, Want};
 use sc_event::{CompId, Event, Trace};

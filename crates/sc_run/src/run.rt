@@ -7,7 +7,6 @@ ghost use Rattle.sc_core.specs.Meaning.{meaning};
 ghost use Rattle.sc_run.specs.Seen.{kept_by};
 ghost use Rattle.sc_run.specs.Resume.{Steps, EndsAs, does_now};
 
-use sc_base::OutOfMemory;
 use crate::calls::{begin, start};
 use crate::globals::first_blocks;
 use crate::leaves::leave;
@@ -15,6 +14,7 @@ use crate::lookups::main_callee;
 use crate::machine::Machine;
 use crate::steps::run_list;
 use crate::work::{Frame, Now, Step, Work};
+use sc_base::OutOfMemory;
 use sc_core::{Program, ProgramTree, RunEnd, SourceRun};
 use sc_event::Trace;
 use std::alloc::Global;

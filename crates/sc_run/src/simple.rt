@@ -10,11 +10,11 @@ ghost use Rattle.sc_run.specs.Seen.{kept_by};
 ghost use Rattle.sc_run.specs.Comes.{Comes};
 ghost use Rattle.sc_run.specs.Resume.{Steps, way_in, library, bodies, calls_in, result_goes};
 
-use sc_base::OutOfMemory;
 use crate::calls::{enter, hand_back, word_in};
 use crate::lookups::{callee_at, export_place, may_call};
 use crate::machine::{Machine, assign, blamed, tell};
 use crate::work::{Frame, Leaving, Now, Step, To, Work};
+use sc_base::OutOfMemory;
 use sc_core::{
     CallTarget, ProgramTree, RunEnd, TypedCall, TypedExpr, TypedSimple, TypedSimpleKind, Value,
 };

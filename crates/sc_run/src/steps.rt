@@ -8,10 +8,10 @@ ghost use Rattle.sc_value.specs.Where.{here_of};
 ghost use Rattle.sc_run.specs.Seen.{kept_by};
 ghost use Rattle.sc_run.specs.Resume.{Steps, way_in, stmt_acts, block_acts, part_acts, loop_acts};
 
-use sc_base::OutOfMemory;
 use crate::machine::{Machine, given, take_turn};
 use crate::simple::{assigned, call, simple};
 use crate::work::{Frame, Leaving, Loop, Now, Step, To, Work};
+use sc_base::OutOfMemory;
 use sc_core::{ProgramTree, TypedExpr, TypedSimple, TypedStmt, TypedStmtKind, Want};
 use sc_value::is_true;
 

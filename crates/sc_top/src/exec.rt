@@ -2,9 +2,9 @@ ghost use Rattle.std.specs.Prelude.{◌≡◌, ℕ, Some, IfOk, IfErr, IsErrOf};
 ghost use Rattle.sc_top.specs.Answer.{cause_in, IsImageFault};
 ghost use Rattle.sc_top.specs.Output.{IsExecuted};
 
-use sc_base::Text;
 use crate::Status;
 use crate::machine::machine_text;
+use sc_base::Text;
 use sc_image::read_image;
 use sc_words::RunOptions;
 use std::alloc::Global;

@@ -3,8 +3,8 @@ ghost use Rattle.sc_edge.specs.Edge.{Rose};
 ghost use Rattle.sc_top.specs.declared.input.ReadFault.TheVariants as faults;
 ghost use Rattle.sc_top.specs.Answer.{Fetches, IsWhole, IsLonger, IsFetchFault};
 
-use sc_base::{OutOfMemory, Text};
 use crate::Status;
+use sc_base::{OutOfMemory, Text};
 use sc_edge::Source;
 use std::alloc::Global;
 

@@ -8,11 +8,11 @@ ghost use Rattle.sc_words.specs.declared.command.Command.TheVariants.{Check, Mea
 ghost use Rattle.sc_top.specs.Answer.{IsBeyond, IsTextFault};
 ghost use Rattle.sc_top.specs.Output.{told, IsOutput, IsThinText, IsThinExplained};
 
-use sc_base::{OutOfMemory, Text};
 use crate::Status;
 use crate::laws::thin_texts_are_accepted;
 use crate::machine::compiled_text;
 use crate::thin::read_thin;
+use sc_base::{OutOfMemory, Text};
 use sc_compile::compile;
 use sc_core::{Program, ThinProgram, traces_are_legal};
 use sc_image::write_image;

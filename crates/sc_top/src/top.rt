@@ -10,7 +10,6 @@ ghost use Rattle.sc_top.specs.Command.{limit_of};
 ghost use Rattle.sc_top.specs.Output.{IsOutput};
 ghost use Rattle.sc_top.specs.Status.{status_text};
 
-use sc_base::Text;
 use crate::Status;
 use crate::command::limit;
 use crate::exec::execute;
@@ -19,6 +18,7 @@ use crate::laws::one_answer;
 use crate::output::write_text;
 use crate::telling::tell;
 use crate::text::{check, compiled, explain, meaning, run};
+use sc_base::Text;
 use sc_edge::{Sink, Source};
 use sc_words::{Command, read_command};
 use std::alloc::Global;

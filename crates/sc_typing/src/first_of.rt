@@ -2,8 +2,8 @@ ghost use Rattle.std.specs.Prelude.{◌≡◌, OnOk};
 ghost use Rattle.std.specs.Option.{option_copied};
 ghost use Rattle.sc_typing.specs.Firsts.{value_of, nothing, only, both};
 
-use sc_base::{Name, OutOfMemory};
 use indexmap::IndexMap;
+use sc_base::{Name, OutOfMemory};
 use std::alloc::Global;
 
 /// Values by names: where a name comes twice, its first value counts. A look-up takes as long as one in a hash map.

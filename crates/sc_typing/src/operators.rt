@@ -1,10 +1,10 @@
 ghost use Rattle.std.specs.Prelude.{◌≡◌};
 ghost use Rattle.sc_typing.specs.Checks.{both_integers, same_target, sum_ty, difference_ty, are_equatable, are_ordered, result_ty, operand_ty, indexed_ty, when};
 
-use sc_base::{BinaryOp, UnaryOp};
 use crate::checked::{
     Checked, common, is_integer, is_pointer, is_scalar, same_ty, target_ty, value_ty,
 };
+use sc_base::{BinaryOp, UnaryOp};
 use sc_core::Ty;
 
 fn both_integers(a: Ty, b: Ty) -> bool

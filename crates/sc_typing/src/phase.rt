@@ -3,10 +3,10 @@ ghost use Rattle.sc_decls.specs.Broken.{line_of_text, noted_all, refused_at};
 ghost use Rattle.sc_decls.specs.Stars.{section_has_few, HasFewStars};
 ghost use Rattle.sc_elab.specs.Sections.{callees_of, section_lines, types_broken};
 
-use sc_base::OutOfMemory;
 use crate::section::note_decls;
 use crate::tables::SectionTables;
 use sc_ast::SectionTree;
+use sc_base::OutOfMemory;
 use sc_decls::BrokenLines;
 use std::alloc::Global;
 

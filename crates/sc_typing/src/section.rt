@@ -6,12 +6,12 @@ ghost use Rattle.sc_elab.specs.Sections.{is_sized};
 ghost use Rattle.sc_typing.specs.Firsts.{value_of, nothing, all_of};
 ghost use Rattle.sc_typing.specs.Declares.{param_entry, local_entry, declared_by, local_checked, locals_checked, function_checked, global_checked, struct_checked, decl_checked};
 
-use sc_base::OutOfMemory;
 use crate::first_of::FirstOf;
 use crate::scope::Scope;
 use crate::tables::{SectionTables, result_ty};
 use crate::types::{is_sized, may_begin, name_ty, tree_ty};
 use sc_ast::{Decl, FunctionParam, FunctionTree, GlobalTree, LocalTree, MemberTree, StructTree};
+use sc_base::OutOfMemory;
 use sc_core::Ty;
 use sc_decls::BrokenLines;
 use std::alloc::Global;

@@ -6,10 +6,10 @@ ghost use Rattle.sc_typing.specs.Firsts.{value_of, both, all_of};
 ghost use Rattle.sc_typing.specs.Scopes.{member_in};
 ghost use Rattle.sc_typing.specs.Declares.{name_by, member_entry, members_by, global_entry, signature_by, function_entry, proto_entry, tag_entry, next_tag, tags_from};
 
-use sc_base::{Name, OutOfMemory};
 use crate::first_of::FirstOf;
 use crate::types::{name_ty, tree_ty};
 use sc_ast::{Decl, FunctionHead, HeadTree, MemberTree, TypeName};
+use sc_base::{Name, OutOfMemory};
 use sc_core::Ty;
 use sqlite_items::Items;
 use std::alloc::Global;

@@ -1,12 +1,12 @@
 ghost use Rattle.std.specs.Prelude.{IsTrue, IfOk};
 ghost use Rattle.sc_decls.specs.Stars.{decl_has_few, section_has_few};
 
-use sc_base::Name;
 use crate::broken_type;
 use sc_ast::{
     BaseTree, ConstTree, Decl, ExprTree, FunctionHead, FunctionTree, GlobalTree, Ident, InitTree,
     Literal, SectionTree, StmtKind, StmtTree, TypeName, TypeTree,
 };
+use sc_base::Name;
 use sqlite_items::Items;
 use std::alloc::Global;
 use std::test::Fail;

@@ -8,13 +8,13 @@ ghost use Rattle.sc_blocks.specs.Rows.{memory_of};
 ghost use Rattle.sc_value.specs.Evaluation.{decided, joined};
 ghost use Rattle.sc_value.specs.Where.{here_of};
 
-use sc_base::BinaryOp;
 use crate::Scope;
 use crate::access::load;
 use crate::moves::{moved_back, moved_on, offset_by};
 use crate::pointers::between;
 use crate::sizes::{is_array, is_pointer, is_unsigned, target_cells};
 use crate::words::{applied_one, is_true, of_bool, on_words};
+use sc_base::BinaryOp;
 use sc_blocks::Blocks;
 use sc_core::{Cause, Pointer, Ty, TypedExpr, TypedKind, Value, VarRef, Want};
 use sqlite_items::Items;

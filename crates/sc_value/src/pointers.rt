@@ -8,9 +8,9 @@ ghost use Rattle.sc_core.specs.declared.value.Value.TheVariants.{Ptr};
 ghost use Rattle.sc_core.specs.Value.{of_bool, apart, in_elements, ordered, is_inside, same_place, between};
 ghost use Rattle.sc_blocks.specs.Rows.{memory_of};
 
-use sc_base::BinaryOp;
 use crate::moves::count_at;
 use crate::words::of_bool;
+use sc_base::BinaryOp;
 use sc_blocks::Blocks;
 use sc_core::{Cause, Pointer, Value};
 use sc_event::CompId;

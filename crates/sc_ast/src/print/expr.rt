@@ -8,7 +8,7 @@ ghost use Rattle.sc_ast.specs.ExprWords.{unary_text, binary_text, is_doubled, ap
 
 use crate::expr::{CallTree, ExprTree, Exprs};
 use crate::print::words::{append_closed, append_literal, append_opened};
-use sc_base::{OutOfMemory, Text};
+use sc_base::{BinaryOp, LOOSEST, OutOfMemory, POSTFIX, Text, UNARY, UnaryOp, level_of};
 
 fn unary_text(op: UnaryOp) -> &'static [u8]
     ensures { result.now ≡ unary_text op }
