@@ -1,5 +1,3 @@
-
-use sc_base::{Stop, TrapReason};
 //! The machine that runs images. Its runs are those of the images' meaning, in however many pieces
 //! they are taken, and take no memory.
 #![tactic(auto)]
@@ -24,6 +22,7 @@ mod run;
 pub use laws::any_calls;
 pub use machine::{LoadFault, Machine};
 pub use own_view::OwnView;
-pub 
+pub use sc_base::{Stop, TrapReason};
+
 #[cfg(test)]
 mod tests;
