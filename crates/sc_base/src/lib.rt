@@ -4,6 +4,7 @@
 
 mod limits;
 mod name;
+mod name_list;
 mod name_table;
 mod op;
 mod out_of_memory;
@@ -14,6 +15,7 @@ mod words;
 
 pub use limits::{MAX_BRACKETS, MAX_HEIGHT};
 pub use name::{Name, is_name};
+pub use name_list::NameList;
 pub use name_table::NameTable;
 pub use op::{BinaryOp, LOOSEST, POSTFIX, UNARY, UnaryOp, level_of};
 pub use out_of_memory::OutOfMemory;

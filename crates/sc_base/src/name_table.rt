@@ -1,5 +1,5 @@
 ghost use Rattle.std.specs.Prelude.{◌≡◌, [], ◌<◌, length, IfOk, OnOk, OnErr};
-ghost use Rattle.sc_base.specs.Numbering.{number_of, next_number, numbered, HasOneNumberEach};
+ghost use Rattle.sc_base.specs.Numbering.{is_numbered, number_of, next_number, numbered, HasOneNumberEach};
 
 use crate::{Name, OutOfMemory};
 use indexmap::IndexSet;
@@ -46,6 +46,17 @@ impl NameTable {
         Ok(if is_new { Some(number) } else { None })
     }
 
+    /// Adds a name, unless it is there. There is no memory for more than 4294967295 names.
+    pub fn add(&mut self, name: Name) -> Result<(), OutOfMemory>
+        ensures { OnOk result (self.new ≡ numbered self.old name) }
+    {
+        if self.len() >= 4_294_967_295 {
+            return Err(OutOfMemory);
+        }
+        self.insert(name)?;
+        Ok(())
+    }
+
     /// The number of a name, `None` where it isn't there.
     pub fn number_of(&self, name: &Name) -> Option<u32>
         ensures number { result ≡ number_of self.now name.now }
@@ -53,5 +64,19 @@ impl NameTable {
     {
         let number = self.names.get_index_of(name)?;
         Some(number as u32)
+    }
+
+    /// How many names there are.
+    pub fn len(&self) -> usize
+        ensures { result ≡ length self.now }
+    {
+        self.names.len()
+    }
+
+    /// Whether a name is there.
+    pub fn contains(&self, name: &Name) -> bool
+        ensures { result ≡ is_numbered self.now name.now }
+    {
+        self.names.contains(name)
     }
 }

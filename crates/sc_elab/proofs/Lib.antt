@@ -1,1 +1,12 @@
+pub mod Calling
+pub mod Computed
 pub mod Examples
+pub mod Firsts
+pub mod Functions
+pub mod Gathered
+pub mod Kept
+pub mod Loops
+pub mod Offsets
+pub mod Programs
+pub mod Scopes
+pub mod Statements

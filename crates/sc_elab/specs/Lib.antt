@@ -1,4 +1,10 @@
+pub mod Args
+pub mod Called
 pub mod Expressions
+pub mod Firsts
+pub mod Placed
 pub mod Scopes
 pub mod Sections
+pub mod Seen
+pub mod Stands
 pub mod Statements

@@ -43,9 +43,9 @@ use Rattle.sc_core.specs.declared.section.TypedSection.{TypedSection}
 use Rattle.sc_core.specs.declared.program.ProgramTree.{ProgramTree}
 use Rattle.sc_core.specs.Types.{cells_of}
 use Rattle.sc_core.specs.Typing.{Scope, Signature, starred, init_fits}
-use Rattle.sc_decls.specs.Broken.{unless, line_of_text}
-use Rattle.sc_decls.specs.Declarations.{structs_in, globals_in, functions_in, heads_in, struct_names, function_names}
-use Rattle.sc_decls.specs.Interfaces.{number_or_zero, import_of, interfaces_of, function_named}
+use Rattle.sc_scope.specs.Broken.{unless, line_of_text}
+use Rattle.sc_scope.specs.Declarations.{structs_in, globals_in, functions_in, heads_in, struct_names, function_names}
+use Rattle.sc_scope.specs.Interfaces.{number_or_zero, import_of, interfaces_of, function_named}
 use Rattle.sc_elab.specs.Scopes.{Visible}
 use Rattle.sc_elab.specs.Expressions.{typed, going_to}
 use Rattle.sc_elab.specs.Statements.{Callees, typed_stmt, stmt_lines}

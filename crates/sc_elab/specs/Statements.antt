@@ -21,7 +21,7 @@ use Rattle.sc_core.specs.declared.stmt.TypedSimple.{TypedSimple}
 use Rattle.sc_core.specs.declared.stmt.TypedSimpleKind.{TypedSimpleKind}
 use Rattle.sc_core.specs.declared.stmt.TypedSimpleKind.TheVariants as simple
 use Rattle.sc_core.specs.Typing.{Scope, Judged, Signature, judged, is_scalar, assign_fits, args_fit, is_target, result_goes, returned_fits}
-use Rattle.sc_decls.specs.Broken.{unless}
+use Rattle.sc_scope.specs.Broken.{unless}
 use Rattle.sc_elab.specs.Scopes.{Visible}
 use Rattle.sc_elab.specs.Expressions.{typed, going_to}
 

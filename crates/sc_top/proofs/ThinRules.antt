@@ -15,17 +15,17 @@ use Rattle.sc_core.specs.declared.stmt.TypedStmtKind as typed_stmt_kinds
 use Rattle.sc_core.specs.declared.ty.Ty.TheVariants as ty
 use Rattle.sc_core.specs.Typing.{Scope}
 use Rattle.sc_core.specs.Sizes.{total, stmt_nodes}
-use Rattle.sc_names.specs.Names.{Known, names_broken}
-use Rattle.sc_names.specs.Names as names
-use Rattle.sc_faces.specs.Faces.{interface_broken}
+use Rattle.sc_scope.specs.Names.{Known, names_broken}
+use Rattle.sc_scope.specs.Names as names
+use Rattle.sc_interfaces.specs.Faces.{interface_broken}
 use Rattle.sc_elab.specs.Scopes.{Visible}
 use Rattle.sc_elab.specs.Statements as elab
 use Rattle.sc_elab.specs.Statements.{Callees, typed_stmt}
 use Rattle.sc_elab.specs.Sections.{types_broken, program_of, callees_of, visible_of, scope_in}
 use Rattle.sc_elab.specs.Sections as sections
-use Rattle.sc_counts.specs.Counts.{counts_broken}
-use Rattle.sc_counts.specs.Counts as counts
-use Rattle.sc_decls.specs.Broken.{unless, line_of_text}
+use Rattle.sc_types.specs.Counts.{counts_broken}
+use Rattle.sc_types.specs.Counts as counts
+use Rattle.sc_scope.specs.Broken.{unless, line_of_text}
 use Rattle.sc_core.specs.WellTyped.{most_nodes}
 use Rattle.sc_ast.specs.declared.section.FunctionTree.{FunctionTree}
 use Rattle.sc_top.specs.Names.{thin_interfaces}

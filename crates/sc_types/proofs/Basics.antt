@@ -5,7 +5,7 @@ use Rattle.std.specs.List.{concat, list_all, position_from}
 use Rattle.std.specs.Option.{option_map}
 use Rattle.std.proofs.lemmas.Bool.{false≢true}
 use Rattle.std.proofs.lemmas.Iterator.Adapters.{position_from-zero}
-use Rattle.sc_decls.specs.Broken.{unless}
+use Rattle.sc_scope.specs.Broken.{unless}
 
 pub both : (a b : Bool) → a ≡ true → b ≡ true → (a && b) ≡ true
 both true true h k = refl

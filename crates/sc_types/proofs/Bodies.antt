@@ -23,9 +23,9 @@ use Rattle.sc_core.specs.declared.stmt.TypedStmtKind.TheOpen as layer
 use Rattle.sc_core.specs.Typing.{Scope, Judged, Callable, judged, term_judged, args_fit, is_target, result_goes, target_signature, call_fits, assign_call_fits, returned_call_fits, simple_fits, part_fits, kind_fits, stmt_fits}
 use Rattle.sc_core.proofs.Layers.{on_line, expr_at, layer_of, stmt_at}
 use Rattle.sc_core.proofs.Induction.{expr_induction}
-use Rattle.sc_decls.specs.Broken.{unless}
-use Rattle.sc_names.specs.Names as names
-use Rattle.sc_names.specs.Names.{Known, is_callable, call_known, expr_known, simple_known}
+use Rattle.sc_scope.specs.Broken.{unless}
+use Rattle.sc_scope.specs.Names as names
+use Rattle.sc_scope.specs.Names.{Known, is_callable, call_known, expr_known, simple_known}
 use Rattle.sc_elab.specs.Scopes.{Visible}
 use Rattle.sc_elab.specs.Expressions as elab
 use Rattle.sc_elab.specs.Statements.{Callees, typed_args, typed_call, typed_value, going_to_some, typed_simple, typed_simple_kind, kind_step, stmt_step, typed_stmt, call_holds, assign_call_holds, cond_holds, return_call_holds, simple_holds, part_lines, kind_lines, stmt_lines}

@@ -18,10 +18,10 @@ use Rattle.sc_ast.specs.Heads.{head_of}
 use Rattle.sc_core.specs.declared.ty.Ty.TheVariants as ty
 use Rattle.sc_core.specs.Typing.{Callable, proto_signature, same_import, allowed, option_signature, target_signature}
 use Rattle.sc_core.specs.WellTyped.{callable_in}
-use Rattle.sc_decls.specs.Declarations.{functions_in, function_names, proto_names, heads_in, import_names}
-use Rattle.sc_decls.specs.Interfaces.{number_or_zero, is_environment, offering, offered, import_of, promised, interface_of, interfaces_of}
-use Rattle.sc_faces.specs.Faces.{agree, agrees_with, head_crosses, is_input, is_output, input_name, output_name, is_offered, agrees_there, agrees_as}
-use Rattle.sc_names.specs.Names.{is_callable, declared, known_in}
+use Rattle.sc_scope.specs.Declarations.{functions_in, function_names, proto_names, heads_in, import_names}
+use Rattle.sc_scope.specs.Interfaces.{number_or_zero, is_environment, offering, offered, import_of, promised, interface_of, interfaces_of}
+use Rattle.sc_interfaces.specs.Faces.{agree, agrees_with, head_crosses, is_input, is_output, input_name, output_name, is_offered, agrees_there, agrees_as}
+use Rattle.sc_scope.specs.Names.{is_callable, declared, known_in}
 use Rattle.sc_elab.specs.Statements.{Callees}
 use Rattle.sc_elab.specs.Sections.{tags, signature_by, head_named, or_first, import_target, import_named, imported_target, target_or, callees_of, typed_section}
 use Rattle.sc_types.proofs.Basics.{left, right, each_passes}

@@ -21,9 +21,9 @@ use Rattle.sc_ast.specs.Heads.{head_of, param_of}
 use Rattle.sc_core.specs.declared.ty.Ty.TheVariants as ty
 use Rattle.sc_core.specs.declared.section.TypedParam.{TypedParam}
 use Rattle.sc_core.specs.Typing.{starred, scalar_ty, result_ty, signature_of, proto_signature}
-use Rattle.sc_decls.specs.Declarations.{functions_in}
-use Rattle.sc_decls.specs.Interfaces.{offers, offering, base_scalar, scalar_of, promised, proto_of, interface_of, interfaces_from, interfaces_of}
-use Rattle.sc_faces.specs.Faces.{same_base, same_type, same_result, same_params, agree, crosses, result_crosses, head_crosses, is_int, gives_int, takes_nothing, takes_int, is_input, is_output}
+use Rattle.sc_scope.specs.Declarations.{functions_in}
+use Rattle.sc_scope.specs.Interfaces.{offers, offering, base_scalar, scalar_of, promised, proto_of, interface_of, interfaces_from, interfaces_of}
+use Rattle.sc_interfaces.specs.Faces.{same_base, same_type, same_result, same_params, agree, crosses, result_crosses, head_crosses, is_int, gives_int, takes_nothing, takes_int, is_input, is_output}
 use Rattle.sc_elab.specs.Statements.{Callees}
 use Rattle.sc_elab.specs.Sections.{tags, base_of, type_of_name, param_ty, signature_by, import_named, typed_param, typed_function, result_of}
 use Rattle.sc_types.proofs.Basics.{Each, left, right, some_is, none_some, find}

@@ -9,10 +9,10 @@ use Rattle.sc_ast.specs.declared.section.ExportLine.{ExportLine}
 use Rattle.sc_ast.specs.declared.section.ImportLine.{ImportLine}
 use Rattle.sc_ast.specs.declared.section.SectionTree.{SectionTree}
 use Rattle.sc_ast.specs.Heads.{head_of}
-use Rattle.sc_decls.specs.Declarations.{among, are_distinct, function_names, proto_names, export_names, import_names}
-use Rattle.sc_decls.specs.Interfaces.{main_name}
-use Rattle.sc_decls.specs.Broken.{unless}
-use Rattle.sc_faces.specs.Faces.{is_plain, export_holds, exports_from, is_offered, import_holds, imports_from, head_holds, head_fits, imported_agrees, main_holds, agrees_with, decls_from, name_holds, section_lines}
+use Rattle.sc_scope.specs.Declarations.{among, are_distinct, function_names, proto_names, export_names, import_names}
+use Rattle.sc_scope.specs.Interfaces.{main_name}
+use Rattle.sc_scope.specs.Broken.{unless}
+use Rattle.sc_interfaces.specs.Faces.{is_plain, export_holds, exports_from, is_offered, import_holds, imports_from, head_holds, head_fits, imported_agrees, main_holds, agrees_with, decls_from, name_holds, section_lines}
 use Rattle.sc_types.proofs.Basics.{left, right, both, not_true, held, front_empty, back_empty, Each}
 use Rattle.sc_types.proofs.Places.{Text, same_refl, same_is, numbered_front}
 

@@ -41,14 +41,14 @@ use Rattle.sc_core.specs.Types.{is_array, struct_cells}
 use Rattle.sc_core.specs.Height.{stmt_height}
 use Rattle.sc_core.specs.Typing.{Callable, starred, body_fits, target_signature}
 use Rattle.sc_core.specs.WellTyped.{type_within, variable_fits, words_fit, global_fits, passed_fits, result_fits, init_height, local_fits, function_fits, scope_of, most_params, most_cells, most_height}
-use Rattle.sc_decls.specs.Broken.{unless}
-use Rattle.sc_decls.specs.Declarations.{structs_in, globals_in, functions_in, heads_in, struct_names, struct_in, global_names, proto_names, function_names, import_names, are_distinct}
-use Rattle.sc_names.specs.Names as names
-use Rattle.sc_names.specs.Names.{base_known, is_callable, known_in, head_known, result_known, member_known, param_names}
+use Rattle.sc_scope.specs.Broken.{unless}
+use Rattle.sc_scope.specs.Declarations.{structs_in, globals_in, functions_in, heads_in, struct_names, struct_in, global_names, proto_names, function_names, import_names, are_distinct}
+use Rattle.sc_scope.specs.Names as names
+use Rattle.sc_scope.specs.Names.{base_known, is_callable, known_in, head_known, result_known, member_known, param_names}
 use Rattle.sc_elab.specs.Statements.{Callees, typed_stmt, stmt_lines}
 use Rattle.sc_elab.specs.Sections.{is_sized, base_of, type_of_name, type_of, is_null, word_of_const, init_words, init_holds, typed_global, typed_param, tags, structs, visible_of, visible_in, scope_in, typed_init, typed_local, typed_locals, result_of, typed_function, typed_section, local_holds, locals_from, function_lines, struct_lines, decl_lines}
-use Rattle.sc_counts.specs.Counts as counts
-use Rattle.sc_counts.specs.Counts.{is_small, type_in, structs_from}
+use Rattle.sc_types.specs.Counts as counts
+use Rattle.sc_types.specs.Counts.{is_small, type_in, structs_from}
 use Rattle.sc_types.proofs.Basics.{both, left, right, not_true, held, front_empty, back_empty}
 use Rattle.sc_types.proofs.Places.{Text, is_at_most, at_most, numbered_front}
 use Rattle.sc_types.proofs.Structs.{Known, AllKnown, AllSmall, structs_length, type_is_within, name_is_within, is_less}

@@ -1,18 +1,23 @@
 mod Basics
-mod Phases
-mod Places
-mod Structs
 mod Bodies
+mod Callees
+mod Calls
+pub mod Examples
+mod Facts
+mod Functions
 mod Heights
 mod Lookups
-mod Refusals
-mod Facts
-mod Calls
-mod Callees
-mod Functions
-mod Sections
-mod Whole
-mod Stars
+pub mod Measures
+pub mod Noted
+pub mod Phase
+mod Phases
+mod Places
 mod Readings
+mod Refusals
+mod Sections
 mod Sources
+mod Stars
+mod Structs
+pub mod TypedNodes
 mod Verdicts
+mod Whole

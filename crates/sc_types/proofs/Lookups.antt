@@ -11,8 +11,8 @@ use Rattle.sc_ast.specs.declared.section.Decl.TheVariants.{Struct, Global, Proto
 use Rattle.sc_ast.specs.declared.section.HeadTree.{HeadTree}
 use Rattle.sc_ast.specs.declared.section.FunctionTree.{FunctionTree}
 use Rattle.sc_ast.specs.Heads.{head_of}
-use Rattle.sc_decls.specs.Declarations.{heads_in, functions_in, function_names, proto_names}
-use Rattle.sc_decls.specs.Interfaces.{function_named}
+use Rattle.sc_scope.specs.Declarations.{heads_in, functions_in, function_names, proto_names}
+use Rattle.sc_scope.specs.Interfaces.{function_named}
 use Rattle.sc_elab.specs.Sections.{head_named}
 use Rattle.sc_types.proofs.Basics.{Each, left, right, some_is, none_some, find}
 use Rattle.sc_types.proofs.Places.{Text, same_is, number_is}

@@ -13,14 +13,14 @@ use Rattle.sc_ast.specs.declared.section.SectionTree.{SectionTree}
 use Rattle.sc_ast.specs.Heads.{head_of, param_of}
 use Rattle.sc_core.specs.declared.program.ProgramTree.{ProgramTree}
 use Rattle.sc_core.specs.WellTyped.{most_compartments, most_exports, most_params, most_nodes, IsWellTyped}
-use Rattle.sc_decls.specs.Broken.{refused_at, unless, line_of_text}
-use Rattle.sc_decls.specs.Declarations.{heads_in, functions_in, structs_in, globals_in}
-use Rattle.sc_names.specs.Names.{names_broken}
+use Rattle.sc_scope.specs.Broken.{refused_at, unless, line_of_text}
+use Rattle.sc_scope.specs.Declarations.{heads_in, functions_in, structs_in, globals_in}
+use Rattle.sc_scope.specs.Names.{names_broken}
 use Rattle.sc_elab.specs.Sections.{types_broken, program_of, callees_of}
-use Rattle.sc_faces.specs.Faces.{interface_broken}
-use Rattle.sc_faces.specs.Offering.{IsWithinCounts, HasFewExports, HasFewParams}
-use Rattle.sc_counts.specs.Counts as counts
-use Rattle.sc_counts.specs.Counts.{counts_broken}
+use Rattle.sc_interfaces.specs.Faces.{interface_broken}
+use Rattle.sc_interfaces.specs.Offering.{IsWithinCounts, HasFewExports, HasFewParams}
+use Rattle.sc_types.specs.Counts as counts
+use Rattle.sc_types.specs.Counts.{counts_broken}
 use Rattle.sc_types.specs.Acceptance.{FailsRules, AreLow}
 use Rattle.sc_types.proofs.Basics.{Each, held, front_empty, back_empty, map_empty}
 use Rattle.sc_types.proofs.Places.{is_at_most}

@@ -17,12 +17,12 @@ use Rattle.sc_parse.specs.Limits.{lexemes_of}
 use Rattle.sc_read.specs.Reading.{Part, part_of, IsRead, Reads}
 use Rattle.sc_read.specs.Reading as reading
 use Rattle.sc_core.specs.declared.program.ProgramTree.{ProgramTree}
-use Rattle.sc_decls.specs.Broken.{refused_at}
-use Rattle.sc_decls.specs.Stars.{section_has_few, HasFewStars}
-use Rattle.sc_names.specs.Names.{names_broken}
+use Rattle.sc_scope.specs.Broken.{refused_at}
+use Rattle.sc_scope.specs.Stars.{section_has_few, HasFewStars}
+use Rattle.sc_scope.specs.Names.{names_broken}
 use Rattle.sc_elab.specs.Sections.{types_broken, program_of}
-use Rattle.sc_faces.specs.Faces.{interface_broken}
-use Rattle.sc_counts.specs.Counts.{counts_broken}
+use Rattle.sc_interfaces.specs.Faces.{interface_broken}
+use Rattle.sc_types.specs.Counts.{counts_broken}
 use Rattle.sc_types.specs.Acceptance.{AreLow, IsTyped, FailsRules, Accepts, Fails}
 use Rattle.sc_types.proofs.Basics.{both, Each}
 use Rattle.sc_types.proofs.Functions.{map_length}

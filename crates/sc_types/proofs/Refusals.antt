@@ -6,11 +6,11 @@ use Rattle.sc_ast.specs.declared.section.SectionTree.{SectionTree}
 use Rattle.sc_read.specs.Reading.{Reads}
 use Rattle.sc_read.specs.Reading as reading
 use Rattle.sc_core.specs.declared.program.ProgramTree.{ProgramTree}
-use Rattle.sc_decls.specs.Broken.{earlier, noted_all, refused_at}
-use Rattle.sc_names.specs.Names.{names_broken}
+use Rattle.sc_scope.specs.Broken.{earlier, noted_all, refused_at}
+use Rattle.sc_scope.specs.Names.{names_broken}
 use Rattle.sc_elab.specs.Sections.{types_broken, program_of}
-use Rattle.sc_faces.specs.Faces.{interface_broken}
-use Rattle.sc_counts.specs.Counts.{counts_broken}
+use Rattle.sc_interfaces.specs.Faces.{interface_broken}
+use Rattle.sc_types.specs.Counts.{counts_broken}
 use Rattle.sc_types.specs.Acceptance.{IsTyped, FailsRules, Accepts, FailsTyped, Fails}
 use Rattle.sc_types.proofs.Basics.{none_some, some_is}
 

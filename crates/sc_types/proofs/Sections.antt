@@ -32,17 +32,17 @@ use Rattle.sc_core.specs.declared.section.TypedFunction.{TypedFunction}
 use Rattle.sc_core.specs.declared.section.TypedSection.{TypedSection}
 use Rattle.sc_core.specs.Typing.{Signature, same_base, same_ty, signature_of, proto_signature}
 use Rattle.sc_core.specs.WellTyped.{most_exports, most_nodes, same_types, same_results, same_signature, is_plain_name, export_fits, import_fits, export_name, import_name, interface_fits, are_distinct}
-use Rattle.sc_decls.specs.Broken.{unless}
-use Rattle.sc_decls.specs.Declarations as decls
-use Rattle.sc_decls.specs.Declarations.{structs_in, globals_in, heads_in, functions_in, function_names, export_names, import_names}
-use Rattle.sc_decls.specs.Interfaces.{number_or_zero, is_environment, offering, offered, import_of, promised, proto_of, interface_of, interfaces_of, main_name, function_named}
-use Rattle.sc_names.specs.Names as names
+use Rattle.sc_scope.specs.Broken.{unless}
+use Rattle.sc_scope.specs.Declarations as decls
+use Rattle.sc_scope.specs.Declarations.{structs_in, globals_in, heads_in, functions_in, function_names, export_names, import_names}
+use Rattle.sc_scope.specs.Interfaces.{number_or_zero, is_environment, offering, offered, import_of, promised, proto_of, interface_of, interfaces_of, main_name, function_named}
+use Rattle.sc_scope.specs.Names as names
 use Rattle.sc_elab.specs.Statements.{Callees}
 use Rattle.sc_elab.specs.Sections as elab
 use Rattle.sc_elab.specs.Sections.{callees_of, signature_by, tags, structs, typed_function, typed_section}
-use Rattle.sc_faces.specs.Faces.{head_fits, head_crosses, agree, same_type, input_name, output_name, is_offered}
-use Rattle.sc_faces.specs.Faces as faces
-use Rattle.sc_counts.specs.Counts as counts
+use Rattle.sc_interfaces.specs.Faces.{head_fits, head_crosses, agree, same_type, input_name, output_name, is_offered}
+use Rattle.sc_interfaces.specs.Faces as faces
+use Rattle.sc_types.specs.Counts as counts
 use Rattle.sc_types.proofs.Basics.{both, left, right, not_true, held, front_empty, back_empty, Each, none_some, some_item}
 use Rattle.sc_types.proofs.Places.{Text, same_refl, same_is, eq_refl, at_most}
 use Rattle.sc_types.proofs.Lookups.{each_at, each_function, FoundFunction, find_function}

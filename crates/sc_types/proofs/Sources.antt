@@ -12,7 +12,7 @@ use Rattle.sc_read.proofs.Steps.{as_many}
 use Rattle.sc_read.specs.Reading.{part_of, IsRead, Reads}
 use Rattle.sc_ast.specs.declared.section.SectionTree.{SectionTree}
 use Rattle.sc_core.specs.declared.program.ProgramTree.{ProgramTree}
-use Rattle.sc_decls.specs.Interfaces.{interfaces_from}
+use Rattle.sc_scope.specs.Interfaces.{interfaces_from}
 use Rattle.sc_types.specs.Acceptance.{Accepts}
 use Rattle.sc_types.specs.Source.{IsSource}
 use Rattle.sc_types.specs.Starts.{start_of, AreStarts, first_start, parts_from, source_of, IsKept}

@@ -23,7 +23,7 @@ use Rattle.sc_parse.specs.Lists.{Separated, one, more, Grouped, next}
 use Rattle.sc_parse.specs.Lists as lists
 use Rattle.sc_parse.specs.Declarations.{Declares, declares, IsMember, SpellsStruct, struct, IsGlobal, global, SpellsParam, named, nameless, SpellsParams, no_params, some_params, SpellsResult, no_result, a_result, SpellsHead, head, IsLocal, local, SpellsFunction, function, SpellsDecl, a_struct, globals, prototype, a_function}
 use Rattle.sc_parse.specs.Sections.{SpellsSection, section}
-use Rattle.sc_decls.specs.Stars.{are_few, result_has_few, head_has_few, function_has_few, decl_has_few, section_has_few}
+use Rattle.sc_scope.specs.Stars.{are_few, result_has_few, head_has_few, function_has_few, decl_has_few, section_has_few}
 use Rattle.sc_types.proofs.Basics.{both, left, right}
 use Rattle.sc_types.proofs.Places.{less}
 

@@ -20,8 +20,8 @@ use Rattle.sc_core.specs.declared.section.TypedStruct.{TypedStruct}
 use Rattle.sc_core.specs.Types.{cells_of, base_cells, starred_cells, struct_cells}
 use Rattle.sc_core.specs.Typing.{starred}
 use Rattle.sc_core.specs.WellTyped.{base_within, starred_within, type_within, members_fit, struct_fits, structs_fit, most_cells}
-use Rattle.sc_decls.specs.Interfaces.{number_or_zero}
-use Rattle.sc_names.specs.Names.{base_known, pointed_known, member_known}
+use Rattle.sc_scope.specs.Interfaces.{number_or_zero}
+use Rattle.sc_scope.specs.Names.{base_known, pointed_known, member_known}
 use Rattle.sc_elab.specs.Sections.{is_sized, base_of, type_of_name, type_with, type_of, members_from, cells_from, typed_struct, typed_structs}
 use Rattle.sc_types.proofs.Basics.{both, left, right, either}
 use Rattle.sc_types.proofs.Places.{Text, same_is, eq_refl, less, at_most, number_within, number_front, number_next}

@@ -19,18 +19,18 @@ use Rattle.sc_core.specs.declared.section.TypedSection.{TypedSection}
 use Rattle.sc_core.specs.Value.{truth}
 use Rattle.sc_core.specs.Typing.{signature_of}
 use Rattle.sc_core.specs.WellTyped.{most_compartments, most_exports, most_nodes, are_distinct, same_signature, section_fits, interface_fits, sections_fit, is_main, main_fits, mains_in, is_well_typed, IsWellTyped}
-use Rattle.sc_decls.specs.Broken.{unless, line_of_text}
-use Rattle.sc_decls.specs.Declarations.{structs_in, globals_in, heads_in, functions_in}
-use Rattle.sc_decls.specs.Interfaces.{environment, interface_of, interfaces_from, interfaces_of, main_name, defines_main, main_from}
-use Rattle.sc_names.specs.Names as names
-use Rattle.sc_names.specs.Names.{names_broken}
+use Rattle.sc_scope.specs.Broken.{unless, line_of_text}
+use Rattle.sc_scope.specs.Declarations.{structs_in, globals_in, heads_in, functions_in}
+use Rattle.sc_scope.specs.Interfaces.{environment, interface_of, interfaces_from, interfaces_of, main_name, defines_main, main_from}
+use Rattle.sc_scope.specs.Names as names
+use Rattle.sc_scope.specs.Names.{names_broken}
 use Rattle.sc_elab.specs.Statements.{Callees}
 use Rattle.sc_elab.specs.Sections as elab
 use Rattle.sc_elab.specs.Sections.{types_broken, program_of, callees_of, sections_from, structs, tags, signature_by, typed_function, typed_section}
-use Rattle.sc_faces.specs.Faces as faces
-use Rattle.sc_faces.specs.Faces.{interface_broken, name_holds}
-use Rattle.sc_counts.specs.Counts as counts
-use Rattle.sc_counts.specs.Counts.{counts_broken}
+use Rattle.sc_interfaces.specs.Faces as faces
+use Rattle.sc_interfaces.specs.Faces.{interface_broken, name_holds}
+use Rattle.sc_types.specs.Counts as counts
+use Rattle.sc_types.specs.Counts.{counts_broken}
 use Rattle.sc_types.specs.Acceptance.{AreLow}
 use Rattle.sc_types.proofs.Basics.{both, left, right, not_true, held, front_empty, back_empty, map_empty, Each, each_empty, each_passes, some_is, none_some}
 use Rattle.sc_types.proofs.Places.{Text}

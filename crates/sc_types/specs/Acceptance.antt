@@ -8,11 +8,11 @@ use Rattle.sc_ast.specs.Height.{section_height}
 use Rattle.sc_read.specs.Reading.{Reads}
 use Rattle.sc_read.specs.Reading as reading
 use Rattle.sc_core.specs.declared.program.ProgramTree.{ProgramTree}
-use Rattle.sc_decls.specs.Broken.{refused_at}
-use Rattle.sc_names.specs.Names.{names_broken}
+use Rattle.sc_scope.specs.Broken.{refused_at}
+use Rattle.sc_scope.specs.Names.{names_broken}
 use Rattle.sc_elab.specs.Sections.{types_broken, program_of}
-use Rattle.sc_faces.specs.Faces.{interface_broken}
-use Rattle.sc_counts.specs.Counts.{counts_broken}
+use Rattle.sc_interfaces.specs.Faces.{interface_broken}
+use Rattle.sc_types.specs.Counts.{counts_broken}
 
 -- no tree is higher than 256
 abbrev pub AreLow : List SectionTree → Type 0

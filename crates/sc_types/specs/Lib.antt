@@ -1,3 +1,6 @@
 pub mod Acceptance
+pub mod Counts
+pub mod Measured
 pub mod Source
 pub mod Starts
+pub mod TreeNodes

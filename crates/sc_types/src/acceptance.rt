@@ -1,19 +1,19 @@
 ghost use Rattle.std.specs.Prelude.{◌≡◌, [], None, Some, OnOk, IfOk, IsErrOf};
 ghost use Rattle.sc_lex.specs.declared.refusal.Refusal.{Refusal};
-ghost use Rattle.sc_names.specs.Names.{names_broken};
+ghost use Rattle.sc_scope.specs.Names.{names_broken};
 ghost use Rattle.sc_elab.specs.Sections.{types_broken, program_of};
-ghost use Rattle.sc_faces.specs.Faces.{interface_broken};
-ghost use Rattle.sc_counts.specs.Counts.{counts_broken};
-ghost use Rattle.sc_decls.specs.Stars.{HasFewStars};
+ghost use Rattle.sc_interfaces.specs.Faces.{interface_broken};
+ghost use Rattle.sc_types.specs.Counts.{counts_broken};
+ghost use Rattle.sc_scope.specs.Stars.{HasFewStars};
 ghost use Rattle.sc_types.specs.Acceptance.{AreLow, IsTyped, FailsRules};
 
 use sc_ast::SectionTree;
-use sc_build::build_program;
+use sc_elab::build_program;
 use sc_core::Program;
-use sc_counts::broken_count;
-use sc_faces::{broken_interface, interfaces};
+use crate::counts::broken_count;
+use sc_interfaces::{broken_interface, interfaces};
 use sc_lex::{Phase, Refusal};
-use sc_names::broken_name;
+use sc_scope::broken_name;
 use sc_read::TextFault;
 use sc_typing::broken_type;
 use std::alloc::Global;

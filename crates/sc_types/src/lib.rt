@@ -1,11 +1,14 @@
 //! Which texts are programs: the trees of a text are tried by the rules of names, types, interfaces and counts, and the
-//! program is built. A text that is accepted is kept with its sections and its program.
+//! program is built. A text that is accepted is kept with its sections and its program. How much a program may hold:
+//! sections, parameters, exports and imports, cells of variables and structs, nodes and declarations.
 #![tactic(auto)]
 
 mod acceptance;
+mod counts;
 mod laws;
-#[cfg(test)]
-mod tests;
+mod lines;
+mod nodes;
+mod sizes;
 mod text;
 
 pub use acceptance::type_program;

@@ -14,7 +14,7 @@ use Rattle.sc_core.specs.declared.ty.Ty.TheVariants as ty
 use Rattle.sc_core.specs.declared.expr.TypedExpr.{TypedExpr}
 use Rattle.sc_core.specs.Types.{is_pointer}
 use Rattle.sc_core.specs.Typing.{Scope, Signature, judged, is_integer, is_scalar, type_goes, goes_into, all_go_into, args_fit, result_goes, is_target, decayed}
-use Rattle.sc_decls.specs.Broken.{unless}
+use Rattle.sc_scope.specs.Broken.{unless}
 use Rattle.sc_elab.specs.Scopes.{Visible}
 use Rattle.sc_elab.specs.Expressions.{typed, going_to}
 use Rattle.sc_elab.specs.Statements.{Callees, going_to_all, params_of, call_holds, assign_holds, assign_call_holds, cond_holds, return_call_holds, return_value_holds, simple_holds, part_lines, kind_lines, stmt_lines}

@@ -7,9 +7,9 @@ use Rattle.sc_ast.specs.declared.section.FunctionParam.{FunctionParam}
 use Rattle.sc_ast.specs.declared.section.LocalTree.{LocalTree}
 use Rattle.sc_ast.specs.declared.section.FunctionTree.{FunctionTree}
 use Rattle.sc_core.specs.declared.ty.Ty.{Ty}
-use Rattle.sc_decls.specs.declared.broken.BrokenLines.{BrokenLines}
-use Rattle.sc_decls.specs.Broken.{with_lines, unless}
-use Rattle.sc_decls.proofs.Noting.{with_lines-nil, with_lines-append}
+use Rattle.sc_scope.specs.declared.broken.BrokenLines.{BrokenLines}
+use Rattle.sc_scope.specs.Broken.{with_lines, unless}
+use Rattle.sc_scope.proofs.Noting.{with_lines-nil, with_lines-append}
 use Rattle.sc_typing.specs.Bodies.{stmts_checked}
 use Rattle.sc_typing.specs.Firsts.{nothing, both, all_of}
 use Rattle.sc_typing.specs.Declares.{Declared, name_by, param_entry, local_entry, lookups_in, local_checked, locals_checked, function_checked}

@@ -9,9 +9,9 @@ use Rattle.sc_ast.specs.declared.stmt.StmtTree.{StmtTree}
 use Rattle.sc_ast.specs.declared.stmt.StmtKind
 use Rattle.sc_ast.specs.declared.stmt.StmtKind.{StmtKind, the_lemmas}
 use Rattle.sc_core.specs.declared.ty.Ty.{Ty}
-use Rattle.sc_decls.specs.declared.broken.BrokenLines.{BrokenLines}
-use Rattle.sc_decls.specs.Broken.{with_lines, unless}
-use Rattle.sc_decls.proofs.Noting.{with_lines-nil, with_lines-append}
+use Rattle.sc_scope.specs.declared.broken.BrokenLines.{BrokenLines}
+use Rattle.sc_scope.specs.Broken.{with_lines, unless}
+use Rattle.sc_scope.proofs.Noting.{with_lines-nil, with_lines-append}
 use Rattle.sc_typing.specs.Lookups.{Lookups}
 use Rattle.sc_typing.specs.Bodies.{cond_checked, part_checked, kind_checked, stmts_checked}
 

@@ -6,10 +6,10 @@ use Rattle.std.proofs.lemmas.List.{drop_all}
 use Rattle.sc_base.specs.Numbering.{number_of}
 use Rattle.sc_ast.specs.declared.section.Decl.{Decl}
 use Rattle.sc_ast.specs.declared.section.SectionTree.{SectionTree}
-use Rattle.sc_decls.specs.declared.broken.BrokenLines.{BrokenLines}
-use Rattle.sc_decls.specs.Broken.{line_of_text, noted, noted_all, with_lines}
-use Rattle.sc_decls.specs.Declarations.{struct_names, structs_in}
-use Rattle.sc_decls.specs.Stars.{section_has_few}
+use Rattle.sc_scope.specs.declared.broken.BrokenLines.{BrokenLines}
+use Rattle.sc_scope.specs.Broken.{line_of_text, noted, noted_all, with_lines}
+use Rattle.sc_scope.specs.Declarations.{struct_names, structs_in}
+use Rattle.sc_scope.specs.Stars.{section_has_few}
 use Rattle.sc_elab.specs.Sections.{callees_of, section_lines, types_broken}
 use Rattle.sc_typing.specs.declared.tables.SectionTables.{SectionTables}
 use Rattle.sc_typing.specs.Firsts.{value_of, both, all_of}

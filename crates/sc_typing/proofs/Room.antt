@@ -12,8 +12,8 @@ use Rattle.sc_ast.specs.declared.section.Decl.TheVariants.{Struct, Global, Proto
 use Rattle.sc_ast.specs.Heads.{param_of}
 use Rattle.sc_core.specs.declared.ty.Ty.{Ty}
 use Rattle.sc_core.specs.declared.ty.BaseTy.{BaseTy}
-use Rattle.sc_decls.specs.Declarations.{structs_in}
-use Rattle.sc_decls.specs.Stars.{are_few, head_has_few, function_has_few, decl_has_few}
+use Rattle.sc_scope.specs.Declarations.{structs_in}
+use Rattle.sc_scope.specs.Stars.{are_few, head_has_few, function_has_few, decl_has_few}
 use Rattle.sc_elab.specs.Scopes.{or_else}
 use Rattle.sc_typing.specs.Firsts.{only, all_of}
 use Rattle.sc_typing.specs.Declares.{base_by, name_by, with_length, type_by, member_entry, members_by, global_entry, param_entry, local_entry}

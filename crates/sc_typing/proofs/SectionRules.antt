@@ -19,9 +19,9 @@ use Rattle.sc_ast.specs.Heads.{head_of, param_of}
 use Rattle.sc_core.specs.declared.ty.Ty.{Ty}
 use Rattle.sc_core.specs.declared.expr.VarRef.TheVariants as var
 use Rattle.sc_core.specs.Typing.{Scope, is_type, init_fits, variable_ty}
-use Rattle.sc_decls.specs.Broken.{unless}
-use Rattle.sc_decls.specs.Declarations.{struct_names, structs_in, globals_in}
-use Rattle.sc_decls.specs.Stars.{are_few, result_has_few, head_has_few, function_has_few, decl_has_few}
+use Rattle.sc_scope.specs.Broken.{unless}
+use Rattle.sc_scope.specs.Declarations.{struct_names, structs_in, globals_in}
+use Rattle.sc_scope.specs.Stars.{are_few, result_has_few, head_has_few, function_has_few, decl_has_few}
 use Rattle.sc_elab.specs.Scopes.{Visible, Found, found, found_in, or_else}
 use Rattle.sc_elab.specs.Expressions.{no_ty}
 use Rattle.sc_elab.specs.Statements.{Callees}

@@ -25,7 +25,7 @@ use Rattle.sc_core.specs.declared.section.TypedMember.{TypedMember}
 use Rattle.sc_core.specs.declared.section.TypedParam.{TypedParam}
 use Rattle.sc_core.specs.Types.{cells_of}
 use Rattle.sc_core.specs.Typing.{starred, same_ty, same_base, has_member}
-use Rattle.sc_decls.specs.Declarations.{struct_names, globals_in}
+use Rattle.sc_scope.specs.Declarations.{struct_names, globals_in}
 use Rattle.sc_elab.specs.Scopes.{member_named, or_else}
 use Rattle.sc_elab.specs.Expressions.{no_ty}
 use Rattle.sc_elab.specs.Sections.{base_of, type_of_name, type_with, type_of, members_from, typed_struct, typed_structs, typed_param, local_variable, global_variable}

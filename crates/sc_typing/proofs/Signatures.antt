@@ -8,8 +8,8 @@ use Rattle.sc_ast.specs.declared.section.FunctionTree.{FunctionTree}
 use Rattle.sc_ast.specs.declared.section.Decl.{Decl}
 use Rattle.sc_ast.specs.declared.section.Decl.TheVariants.{Struct, Global, Proto, Function}
 use Rattle.sc_ast.specs.Heads.{head_of}
-use Rattle.sc_decls.specs.Declarations.{functions_in, protos_in, heads_in}
-use Rattle.sc_decls.specs.Interfaces.{function_named}
+use Rattle.sc_scope.specs.Declarations.{functions_in, protos_in, heads_in}
+use Rattle.sc_scope.specs.Interfaces.{function_named}
 use Rattle.sc_elab.specs.Scopes.{or_else}
 use Rattle.sc_elab.specs.Sections as sections
 use Rattle.sc_elab.specs.Sections.{head_named, or_first, called_head}

@@ -12,7 +12,7 @@ use Rattle.sc_ast.specs.declared.stmt.StmtKind.TheOpen as tree
 use Rattle.sc_core.specs.declared.ty.Ty.{Ty}
 use Rattle.sc_core.specs.Types.{is_pointer, is_array}
 use Rattle.sc_core.specs.Typing.{Signature, type_goes, result_goes}
-use Rattle.sc_decls.specs.Broken.{unless}
+use Rattle.sc_scope.specs.Broken.{unless}
 use Rattle.sc_typing.specs.Checks.{value_ty, is_scalar_ty, expr_checked}
 use Rattle.sc_typing.specs.Lookups.{Lookups}
 use Rattle.sc_typing.specs.declared.checked.Checked.{Checked}

@@ -23,8 +23,8 @@ use Rattle.sc_core.specs.declared.ty.BaseTy.{BaseTy}
 use Rattle.sc_core.specs.declared.ty.BaseTy.TheVariants as base
 use Rattle.sc_core.specs.Typing as typing
 use Rattle.sc_core.specs.Typing.{starred}
-use Rattle.sc_decls.specs.Broken.{unless}
-use Rattle.sc_decls.specs.Interfaces.{number_or_zero}
+use Rattle.sc_scope.specs.Broken.{unless}
+use Rattle.sc_scope.specs.Interfaces.{number_or_zero}
 use Rattle.sc_elab.specs.Sections.{is_sized, init_holds}
 use Rattle.sc_typing.specs.declared.tables.Signature.{Signature}
 use Rattle.sc_typing.specs.declared.tables.SectionTables.{SectionTables}

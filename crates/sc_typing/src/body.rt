@@ -1,5 +1,5 @@
 ghost use Rattle.std.specs.Prelude.{◌≡◌, ◌++◌};
-ghost use Rattle.sc_decls.specs.Broken.{with_lines};
+ghost use Rattle.sc_scope.specs.Broken.{with_lines};
 ghost use Rattle.sc_typing.specs.Bodies.{assign_checked, assign_call_checked, cond_checked, init_checked, return_checked, return_call_checked, simple_checked, part_checked, kind_checked, stmt_checked, stmts_checked};
 ghost use Rattle.sc_typing.specs.Scopes.{lookups_of};
 
@@ -7,7 +7,7 @@ use crate::checked::is_scalar;
 use crate::scope::Scope;
 use sc_ast::{CallTree, ExprTree, SimpleKind, SimpleTree, StmtKind, StmtTree, Stmts};
 use sc_core::Ty;
-use sc_decls::BrokenLines;
+use sc_scope::BrokenLines;
 
 impl Scope<'_> {
     fn is_assignment(&self, place: &ExprTree, value: &ExprTree) -> bool

@@ -1,13 +1,13 @@
 ghost use Rattle.std.specs.Prelude.{◌≡◌, IsTrue, IfOk, map, []};
-ghost use Rattle.sc_decls.specs.Broken.{line_of_text, noted_all, refused_at};
-ghost use Rattle.sc_decls.specs.Stars.{section_has_few, HasFewStars};
+ghost use Rattle.sc_scope.specs.Broken.{line_of_text, noted_all, refused_at};
+ghost use Rattle.sc_scope.specs.Stars.{section_has_few, HasFewStars};
 ghost use Rattle.sc_elab.specs.Sections.{callees_of, section_lines, types_broken};
 
 use crate::section::note_decls;
 use crate::tables::SectionTables;
 use sc_ast::SectionTree;
 use sc_base::OutOfMemory;
-use sc_decls::BrokenLines;
+use sc_scope::BrokenLines;
 use std::alloc::Global;
 
 /// The least line of a text at which a rule of types is broken, as a line of the whole text, or `None` where none is.

@@ -1,7 +1,7 @@
 ghost use Rattle.std.specs.Prelude.{◌≡◌, OnOk, IfOk, map};
 ghost use Rattle.std.specs.List.{concat, list_all};
 ghost use Rattle.sc_ast.specs.declared.section.MemberTree.{MemberTree};
-ghost use Rattle.sc_decls.specs.Broken.{with_lines, unless};
+ghost use Rattle.sc_scope.specs.Broken.{with_lines, unless};
 ghost use Rattle.sc_elab.specs.Sections.{is_sized};
 ghost use Rattle.sc_typing.specs.Firsts.{value_of, nothing, all_of};
 ghost use Rattle.sc_typing.specs.Declares.{param_entry, local_entry, declared_by, local_checked, locals_checked, function_checked, global_checked, struct_checked, decl_checked};
@@ -13,7 +13,7 @@ use crate::types::{is_sized, may_begin, name_ty, tree_ty};
 use sc_ast::{Decl, FunctionParam, FunctionTree, GlobalTree, LocalTree, MemberTree, StructTree};
 use sc_base::OutOfMemory;
 use sc_core::Ty;
-use sc_decls::BrokenLines;
+use sc_scope::BrokenLines;
 use std::alloc::Global;
 
 fn params_of(

@@ -1,7 +1,7 @@
 ghost use Rattle.std.specs.Prelude.{◌≡◌, ◌++◌, [], ◌∷◌, map, OnOk, IfOk};
 ghost use Rattle.std.specs.Option.{option_map};
 ghost use Rattle.sc_ast.specs.Heads.{head_of};
-ghost use Rattle.sc_decls.specs.Declarations.{structs_in};
+ghost use Rattle.sc_scope.specs.Declarations.{structs_in};
 ghost use Rattle.sc_typing.specs.Firsts.{value_of, both, all_of};
 ghost use Rattle.sc_typing.specs.Scopes.{member_in};
 ghost use Rattle.sc_typing.specs.Declares.{name_by, member_entry, members_by, global_entry, signature_by, function_entry, proto_entry, tag_entry, next_tag, tags_from};

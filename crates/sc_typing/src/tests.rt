@@ -1,5 +1,5 @@
 ghost use Rattle.std.specs.Prelude.{IsTrue, IfOk};
-ghost use Rattle.sc_decls.specs.Stars.{decl_has_few, section_has_few};
+ghost use Rattle.sc_scope.specs.Stars.{decl_has_few, section_has_few};
 
 use crate::broken_type;
 use sc_ast::{

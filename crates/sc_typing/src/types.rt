@@ -1,5 +1,5 @@
 ghost use Rattle.std.specs.Prelude.{◌≡◌};
-ghost use Rattle.sc_decls.specs.Interfaces.{number_or_zero};
+ghost use Rattle.sc_scope.specs.Interfaces.{number_or_zero};
 ghost use Rattle.sc_elab.specs.Sections.{is_sized, init_holds, is_null};
 ghost use Rattle.sc_typing.specs.Firsts.{value_of};
 ghost use Rattle.sc_typing.specs.Declares.{base_by, name_by, type_by};

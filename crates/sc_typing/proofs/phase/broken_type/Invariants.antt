@@ -1,6 +1,6 @@
 use Rattle.std.proofs.Common.{◌≡◌, drop, map}
 use Rattle.std.specs.List.{concat}
-use Rattle.sc_decls.specs.Broken.{noted_all, refused_at}
+use Rattle.sc_scope.specs.Broken.{noted_all, refused_at}
 use Rattle.sc_elab.specs.Sections.{types_broken}
 use Rattle.sc_typing.proofs.Phases.{lines_in}
 use Rattle.sc_typing.proofs.phase.broken_type.Given as goal

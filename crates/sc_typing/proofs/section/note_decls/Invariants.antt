@@ -1,6 +1,6 @@
 use Rattle.std.proofs.Common.{◌≡◌, drop, map}
 use Rattle.std.specs.List.{concat}
-use Rattle.sc_decls.specs.Broken.{with_lines}
+use Rattle.sc_scope.specs.Broken.{with_lines}
 use Rattle.sc_typing.specs.Declares.{declared_by, decl_checked}
 use Rattle.sc_typing.proofs.section.note_decls.Given as goal
 

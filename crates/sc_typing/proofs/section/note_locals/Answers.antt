@@ -1,5 +1,5 @@
 use Rattle.std.proofs.Common.{◌≡◌, ◌∙◌}
-use Rattle.sc_decls.specs.Broken.{with_lines}
+use Rattle.sc_scope.specs.Broken.{with_lines}
 use Rattle.sc_typing.specs.Firsts.{value_of, only, both, all_of}
 use Rattle.sc_typing.specs.Declares.{local_entry, declared_by, locals_checked}
 use Rattle.sc_typing.proofs.Entries.{begun, entered, ended}

@@ -1,5 +1,5 @@
 use Rattle.std.proofs.Common.{◌≡◌, ◌++◌, map, drop}
-use Rattle.sc_decls.specs.Declarations.{structs_in}
+use Rattle.sc_scope.specs.Declarations.{structs_in}
 use Rattle.sc_typing.specs.Firsts.{value_of}
 use Rattle.sc_typing.specs.Declares.{members_by}
 use Rattle.sc_typing.proofs.tables.structs_of.Given as goal

@@ -1,5 +1,5 @@
 use Rattle.std.proofs.Common.{◌≡◌, drop}
-use Rattle.sc_decls.specs.Broken.{with_lines}
+use Rattle.sc_scope.specs.Broken.{with_lines}
 use Rattle.sc_typing.specs.Bodies.{stmts_checked}
 use Rattle.sc_typing.specs.Scopes.{lookups_of}
 use Rattle.sc_typing.proofs.scope.Scope.+body.Given as goal

@@ -1,7 +1,0 @@
-use Rattle.std.proofs.Common.{◌≡◌, ◌++◌, map, drop}
-use Rattle.sc_ast.specs.Heads.{param_of}
-use Rattle.sc_elab.specs.Sections.{param_ty}
-use Rattle.sc_build.proofs.calls.function_params.Given as goal
-
-abbrev pub invariant-loop-param : goal.invariant-loop-param
-invariant-loop-param l = l.types ++ map (param_ty l.tags) (map param_of (drop l.param-index l.params)) ≡ map (param_ty l.tags) (map param_of l.params)

@@ -1,6 +1,0 @@
-use Rattle.std.proofs.Common.{◌≡◌, ◌++◌, map, drop}
-use Rattle.sc_build.specs.Called.{import_line_name}
-use Rattle.sc_build.proofs.calls.import_places.Given as goal
-
-abbrev pub invariant-loop-line : goal.invariant-loop-line
-invariant-loop-line l = l.places ++ map import_line_name (drop l.line-index l.imports) ≡ map import_line_name l.imports

@@ -1,6 +1,0 @@
-use Rattle.std.proofs.Common.{◌≡◌, ◌++◌, map, drop}
-use Rattle.sc_elab.specs.Sections.{import_target}
-use Rattle.sc_build.proofs.calls.import_targets.Given as goal
-
-abbrev pub invariant-loop-import : goal.invariant-loop-import
-invariant-loop-import l = l.targets ++ map import_target (drop l.import-index l.imports) ≡ map import_target l.imports

@@ -1,7 +1,0 @@
-use Rattle.std.proofs.Common.{◌≡◌, ◌++◌, map, drop}
-use Rattle.sc_decls.specs.Declarations.{globals_in}
-use Rattle.sc_elab.specs.Sections.{typed_global}
-use Rattle.sc_build.proofs.globals.build_globals.Given as goal
-
-abbrev pub invariant-loop-decl : goal.invariant-loop-decl
-invariant-loop-decl l = l.globals ++ map (typed_global l.tags) (globals_in (drop l.decl-index l.decls)) ≡ map (typed_global l.tags) (globals_in l.decls)

@@ -1,6 +1,0 @@
-use Rattle.std.proofs.Common.{◌≡◌, ◌++◌, map, drop}
-use Rattle.sc_elab.specs.Sections.{word_of_const}
-use Rattle.sc_build.proofs.globals.words_of.Given as goal
-
-abbrev pub invariant-loop-constant : goal.invariant-loop-constant
-invariant-loop-constant l = l.words ++ map word_of_const (drop l.constant-index l.consts) ≡ map word_of_const l.consts

@@ -1,7 +1,0 @@
-use Rattle.std.proofs.Common.{◌≡◌, [], drop}
-use Rattle.sc_decls.specs.Declarations.{structs_in}
-use Rattle.sc_elab.specs.Sections.{typed_structs}
-use Rattle.sc_build.proofs.members.build_structs.Given as goal
-
-abbrev pub invariant-loop-decl : goal.invariant-loop-decl
-invariant-loop-decl l = typed_structs l.tags l.structs (structs_in (drop l.decl-index l.decls)) ≡ typed_structs l.tags [] (structs_in l.decls)

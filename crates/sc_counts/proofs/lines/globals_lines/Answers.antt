@@ -1,9 +1,0 @@
-use Rattle.sc_counts.proofs.Noted.{globals-noted, globals-done}
-use Rattle.sc_counts.proofs.lines.globals_lines.Goals as goal
-
-pub loop-decl-preserved : goal.loop-decl-preserved
-loop-decl-preserved c =
-    globals-noted c.args.sizes.now c.as_slice-decl-items.result.now c.loop-decl.decl-index c.decl-item.result _ c.loop-decl.lines _ _ c.loop-decl-test.true c.decl-item.is c.loop-decl.invariant c.if_global.ensures
-
-pub returns : goal.returns
-returns c = globals-done c.args.sizes.now c.as_slice-decl-items.result.now c.loop-decl.decl-index _ _ _ c.loop-decl-test.false c.loop-decl.invariant

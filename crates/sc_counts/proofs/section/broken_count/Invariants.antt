@@ -1,8 +1,0 @@
-use Rattle.std.proofs.Common.{◌≡◌, drop}
-use Rattle.sc_decls.specs.Broken.{noted_all, refused_at}
-use Rattle.sc_counts.specs.Counts.{counts_broken, lines_from}
-use Rattle.sc_counts.proofs.section.broken_count.Given as goal
-
--- what is noted and what is left to note is what is to be noted
-abbrev pub invariant-loop-section : goal.invariant-loop-section
-invariant-loop-section l = noted_all l.least (lines_from l.sections l.section-index (drop l.section-index l.sections)) ≡ refused_at (counts_broken l.sections)

@@ -1,4 +1,0 @@
-pub mod Broken
-pub mod Declarations
-pub mod Interfaces
-pub mod Stars

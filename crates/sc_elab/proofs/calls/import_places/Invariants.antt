@@ -1,0 +1,6 @@
+use Rattle.std.proofs.Common.{◌≡◌, ◌++◌, map, drop}
+use Rattle.sc_elab.specs.Called.{import_line_name}
+use Rattle.sc_elab.proofs.calls.import_places.Given as goal
+
+abbrev pub invariant-loop-line : goal.invariant-loop-line
+invariant-loop-line l = l.places ++ map import_line_name (drop l.line-index l.imports) ≡ map import_line_name l.imports

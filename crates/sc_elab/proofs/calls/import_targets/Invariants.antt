@@ -1,0 +1,6 @@
+use Rattle.std.proofs.Common.{◌≡◌, ◌++◌, map, drop}
+use Rattle.sc_elab.specs.Sections.{import_target}
+use Rattle.sc_elab.proofs.calls.import_targets.Given as goal
+
+abbrev pub invariant-loop-import : goal.invariant-loop-import
+invariant-loop-import l = l.targets ++ map import_target (drop l.import-index l.imports) ≡ map import_target l.imports

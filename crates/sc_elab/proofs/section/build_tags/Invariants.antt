@@ -1,0 +1,7 @@
+use Rattle.std.proofs.Common.{◌≡◌, ◌++◌, map, drop}
+use Rattle.sc_scope.specs.Declarations.{structs_in}
+use Rattle.sc_elab.specs.Called.{struct_name}
+use Rattle.sc_elab.proofs.section.build_tags.Given as goal
+
+abbrev pub invariant-loop-decl : goal.invariant-loop-decl
+invariant-loop-decl l = l.tags ++ map struct_name (structs_in (drop l.decl-index l.decls)) ≡ map struct_name (structs_in l.decls)

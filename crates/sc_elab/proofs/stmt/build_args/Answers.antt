@@ -1,0 +1,15 @@
+-- Each argument goes to the first of the parameters that are left.
+use Rattle.std.proofs.Common.{◌∙◌, ap}
+use Rattle.std.proofs.lemmas.List.{drop_all}
+use Rattle.sc_elab.specs.Seen.{args_in}
+use Rattle.sc_elab.proofs.Kept.{args_nil, args_next}
+use Rattle.sc_elab.proofs.Loops.{one_more, all_done}
+use Rattle.sc_elab.proofs.stmt.build_args.Goals as goal
+
+pub loop-arg-preserved : goal.loop-arg-preserved
+loop-arg-preserved c =
+    one_more _ c.push.new.self _ _ _ c.in_ok-going_to_some.field-0 c.in_ok-push.ensures.ok (args_next c.args.section.now c.args.function.now c.loop-arg.left.now c.args.args.now c.loop-arg.arg-index c.arg-item.result c.in_ok-arg.arg c.next_param-param.result.0 c.in_ok-going_to_some.field-0 c.next_param-param.result.1.now c.loop-arg-test.true c.arg-item.is c.in_ok-arg.ensures c.next_param-param.ensures.first c.in_ok-going_to_some.ensures c.next_param-param.ensures.rest) c.loop-arg.invariant
+
+pub returns : goal.returns
+returns c =
+    all_done c.loop-arg.built _ _ (ap (args_in c.args.section.now c.args.function.now c.loop-arg.left.now) (drop_all c.loop-arg.arg-index c.args.args.now c.loop-arg-test.false) ∙ args_nil c.args.section.now c.args.function.now c.loop-arg.left.now) c.loop-arg.invariant

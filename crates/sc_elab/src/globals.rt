@@ -1,0 +1,127 @@
+//! Globals and what they begin with.
+
+ghost use Rattle.std.specs.Prelude.{◌≡◌, ◌-◌, ◌%◌, ◌^◌, ◌++◌, ◌∷◌, [], map, IfOk};
+ghost use Rattle.sc_scope.specs.Declarations.{globals_in};
+ghost use Rattle.sc_elab.specs.Sections.{word_of_const, init_words, typed_global, global_variable};
+
+use crate::places::Places;
+use crate::tree_ty::type_of;
+use crate::variables::Variables;
+use sc_ast::{ConstTree, Decl, GlobalTree, InitTree};
+use sc_base::{OutOfMemory, Words};
+use sc_core::{TypedGlobal, TypedGlobals, TypedParam};
+use sqlite_items::Items;
+use std::alloc::Global;
+
+// The 32 bits of a constant.
+fn word_of_const(constant: &ConstTree) -> u32
+    ensures { result ≡ word_of_const constant.now }
+{
+    let value = constant.literal.value();
+    if constant.negative {
+        negated(value)
+    } else {
+        value
+    }
+}
+
+fn negated(word: u32) -> u32
+    ensures { result ≡ (2 ^ 32 - word) % 2 ^ 32 }
+{
+    0u32.wrapping_sub(word)
+}
+
+fn words_of(alloc: Global, consts: &[ConstTree]) -> Result<Words, OutOfMemory>
+    ensures { IfOk result (λ words. words ≡ map word_of_const consts.now) }
+{
+    let mut words = Items::new(alloc);
+    for constant in consts {
+        words.push(word_of_const(constant))?;
+    }
+    Ok(words)
+}
+
+fn init_words(alloc: Global, init: &InitTree) -> Result<Words, OutOfMemory>
+    ensures { IfOk result (λ words. words ≡ init_words init.now) }
+{
+    match init {
+        InitTree::Absent => Ok(Items::new(alloc)),
+        InitTree::One(constant) => {
+            let mut words = Items::new(alloc);
+            words.push(word_of_const(constant))?;
+            Ok(words)
+        }
+        InitTree::Many(consts) => words_of(alloc, consts.as_slice()),
+    }
+}
+
+fn build_global(alloc: Global, tags: &Places, tree: &GlobalTree) -> Result<TypedGlobal, OutOfMemory>
+    ensures { IfOk result (λ built. built ≡ typed_global tags.now tree.now) }
+{
+    let init = init_words(alloc, &tree.init)?;
+    let name = tree.name.name();
+    let ty = type_of(tags, &tree.ty);
+    Ok(TypedGlobal { name, ty, init })
+}
+
+// The globals and the one of this declaration, if it is one, behind them.
+fn with_global(
+    alloc: Global,
+    tags: &Places,
+    mut globals: TypedGlobals,
+    decl: &Decl,
+) -> Result<TypedGlobals, OutOfMemory>
+    ensures { IfOk result (λ more. more ≡ globals ++ map (typed_global tags.now) (globals_in (decl.now ∷ []))) }
+{
+    match decl {
+        Decl::Global(tree) => {
+            globals.push(build_global(alloc, tags, tree)?)?;
+            Ok(globals)
+        }
+        _ => Ok(globals),
+    }
+}
+
+/// The globals of a section, whose structs have these tags.
+pub fn build_globals(
+    alloc: Global,
+    tags: &Places,
+    decls: &[Decl],
+) -> Result<TypedGlobals, OutOfMemory>
+    ensures { IfOk result (λ globals. globals ≡ map (typed_global tags.now) (globals_in decls.now)) }
+{
+    let mut globals = Items::new(alloc);
+    for decl in decls {
+        globals = with_global(alloc, tags, globals, decl)?;
+    }
+    Ok(globals)
+}
+
+// The variables and the global of this declaration, if it is one, behind them.
+fn with_variable(tags: &Places, variables: Variables, decl: &Decl) -> Result<Variables, OutOfMemory>
+    ensures { IfOk result (λ more. more ≡ variables ++ map (global_variable tags.now) (globals_in (decl.now ∷ []))) }
+{
+    match decl {
+        Decl::Global(tree) => {
+            let name = tree.name.name();
+            let ty = type_of(tags, &tree.ty);
+            variables.with(TypedParam { name, ty })
+        }
+        _ => Ok(variables),
+    }
+}
+
+/// The globals of a section as variables.
+pub fn global_variables(
+    alloc: Global,
+    tags: &Places,
+    decls: &[Decl],
+) -> Result<Variables, OutOfMemory>
+    ensures { IfOk result (λ variables. variables ≡ map (global_variable tags.now) (globals_in decls.now)) }
+{
+    let mut variables = Variables::new(alloc);
+    for decl in decls {
+        variables = with_variable(tags, variables, decl)?;
+    }
+    Ok(variables)
+}

@@ -1,0 +1,139 @@
+//! Structs with their offsets.
+
+ghost use Rattle.std.specs.Prelude.{◌≡◌, ◌+◌, ◌∷◌, [], IfOk};
+ghost use Rattle.sc_core.specs.Types.{starred_cells, cells_of};
+ghost use Rattle.sc_scope.specs.Declarations.{structs_in};
+ghost use Rattle.sc_elab.specs.Sections.{members_from, cells_from, typed_struct, typed_structs};
+ghost use Rattle.sc_elab.specs.Placed.{member_names, names_of};
+
+use crate::places::Places;
+use crate::structs::Structs;
+use crate::tree_ty::type_of;
+use sc_ast::{Decl, MemberTree, StructTree};
+use sc_base::OutOfMemory;
+use sc_core::{BaseTy, Ty, TypedMember, TypedMembers, TypedStruct};
+use sqlite_items::Items;
+use std::alloc::Global;
+
+// The cells of a type with so many `*`.
+fn starred_cells(structs: &Structs, stars: u64, base: BaseTy) -> u32
+    ensures { result ≡ starred_cells structs.now stars base }
+{
+    if stars == 0 {
+        match base {
+            BaseTy::Int => 1,
+            BaseTy::Unsigned => 1,
+            BaseTy::Struct(number) => structs.cells(number),
+        }
+    } else {
+        1
+    }
+}
+
+// The cells of a variable of this type. There is no memory for more than 4294967295.
+fn cells_of(structs: &Structs, ty: Ty) -> Result<u32, OutOfMemory>
+    ensures { IfOk result (λ cells. cells ≡ cells_of structs.now ty) }
+{
+    match ty {
+        Ty::Struct(number) => Ok(structs.cells(number)),
+        Ty::Array {
+            stars,
+            base,
+            length,
+        } => match length.checked_mul(starred_cells(structs, stars, base)) {
+            Some(cells) => Ok(cells),
+            None => Err(OutOfMemory),
+        },
+        _ => Ok(1),
+    }
+}
+
+// Where a part of so many cells ends. There is no memory past 4294967295 cells.
+fn end_of(offset: u32, cells: u32) -> Result<u32, OutOfMemory>
+    ensures { IfOk result (λ end. end ≡ offset + cells) }
+{
+    match offset.checked_add(cells) {
+        Some(end) => Ok(end),
+        None => Err(OutOfMemory),
+    }
+}
+
+// Members one behind another, their names, and the cells of them all.
+fn build_members(
+    alloc: Global,
+    tags: &Places,
+    structs: &Structs,
+    members: &[MemberTree],
+) -> Result<(TypedMembers, Places, u32), OutOfMemory>
+    ensures members { IfOk result (λ built. built.0 ≡ members_from tags.now structs.now 0 members.now) }
+    ensures names { IfOk result (λ built. built.1 ≡ names_of built.0) }
+    ensures cells { IfOk result (λ built. built.2 ≡ cells_from tags.now structs.now 0 members.now) }
+{
+    let mut built = Items::new(alloc);
+    let mut names = Places::new(alloc);
+    let mut cells = 0;
+    for member in members {
+        let name = member.name.name();
+        let ty = type_of(tags, &member.ty);
+        names = names.with(name)?;
+        built.push(TypedMember {
+            name,
+            ty,
+            offset: cells,
+        })?;
+        cells = end_of(cells, cells_of(structs, ty)?)?;
+    }
+    Ok((built, names, cells))
+}
+
+// A struct over those before it, and its members' names.
+fn build_struct(
+    alloc: Global,
+    tags: &Places,
+    structs: &Structs,
+    tree: &StructTree,
+) -> Result<(TypedStruct, Places), OutOfMemory>
+    ensures tree { IfOk result (λ built. built.0 ≡ typed_struct tags.now structs.now tree.now) }
+    ensures names { IfOk result (λ built. built.1 ≡ member_names built.0) }
+{
+    let (members, names, cells) = build_members(alloc, tags, structs, tree.members.as_slice())?;
+    let name = tree.name.name();
+    Ok((
+        TypedStruct {
+            name,
+            members,
+            cells,
+        },
+        names,
+    ))
+}
+
+// The structs and the one of this declaration, if it is one, behind them.
+#[tactic(auto, using(crate::proofs::Offsets::few_structs))]
+fn with_struct(
+    alloc: Global,
+    tags: &Places,
+    structs: Structs,
+    decl: &Decl,
+) -> Result<Structs, OutOfMemory>
+    ensures { IfOk result (λ more. more ≡ typed_structs tags.now structs (structs_in (decl.now ∷ []))) }
+{
+    match decl {
+        Decl::Struct(tree) => {
+            let (built, names) = build_struct(alloc, tags, &structs, tree)?;
+            structs.with(built, names)
+        }
+        _ => Ok(structs),
+    }
+}
+
+/// The structs of a section, whose structs have these tags.
+pub fn build_structs(alloc: Global, tags: &Places, decls: &[Decl]) -> Result<Structs, OutOfMemory>
+    ensures { IfOk result (λ structs. structs ≡ typed_structs tags.now [] (structs_in decls.now)) }
+{
+    let mut structs = Structs::new(alloc);
+    for decl in decls {
+        structs = with_struct(alloc, tags, structs, decl)?;
+    }
+    Ok(structs)
+}

@@ -1,6 +1,0 @@
-use Rattle.std.proofs.Common.{◌≡◌, drop}
-use Rattle.sc_faces.specs.Offering.{main_by}
-use Rattle.sc_faces.proofs.building.main_number.Given as goal
-
-abbrev pub invariant-loop-number : goal.invariant-loop-number
-invariant-loop-number l = main_by l.number (drop l.number l.tables) ≡ main_by 0 l.tables

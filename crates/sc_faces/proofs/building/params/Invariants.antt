@@ -1,8 +1,0 @@
-use Rattle.std.proofs.Common.{◌≡◌, ◌≤◌, map, take}
-use Rattle.sc_ast.specs.declared.section.FunctionParam.{FunctionParam}
-use Rattle.sc_decls.specs.Interfaces.{scalar_of}
-use Rattle.sc_faces.proofs.building.params.Given as goal
-
-abbrev pub invariant-loop-param : goal.invariant-loop-param
-invariant-loop-param l =
-    (l.scalars ≡ map {A = FunctionParam} (λ param. scalar_of param.ty) (take l.param-index l.params)) × (l.param-index ≤ 8)

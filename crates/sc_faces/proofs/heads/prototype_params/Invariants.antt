@@ -1,6 +1,0 @@
-use Rattle.std.proofs.Common.{◌≡◌, map, take}
-use Rattle.sc_ast.specs.Heads.{param_of}
-use Rattle.sc_faces.proofs.heads.prototype_params.Given as goal
-
-abbrev pub invariant-loop-param : goal.invariant-loop-param
-invariant-loop-param l = l.list ≡ map param_of (take l.param-index l.params)

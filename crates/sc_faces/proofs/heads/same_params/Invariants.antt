@@ -1,6 +1,0 @@
-use Rattle.std.proofs.Common.{◌≡◌, drop}
-use Rattle.sc_faces.specs.Faces.{same_params}
-use Rattle.sc_faces.proofs.heads.same_params.Given as goal
-
-abbrev pub invariant-loop-i : goal.invariant-loop-i
-invariant-loop-i l = same_params (drop l.i l.params) (drop l.i l.others) ≡ same_params l.params l.others

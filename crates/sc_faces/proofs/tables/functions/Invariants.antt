@@ -1,7 +1,0 @@
-use Rattle.std.proofs.Common.{◌≡◌, [], drop}
-use Rattle.sc_decls.specs.Declarations.{function_names}
-use Rattle.sc_faces.specs.Tables.{all_numbered}
-use Rattle.sc_faces.proofs.tables.functions.Given as goal
-
-abbrev pub invariant-loop-decl : goal.invariant-loop-decl
-invariant-loop-decl l = all_numbered l.names (function_names (drop l.decl-index l.decls)) ≡ all_numbered [] (function_names l.decls)

@@ -1,6 +1,0 @@
-use Rattle.std.proofs.Common.{◌≡◌, map, take}
-use Rattle.sc_faces.specs.Tables.{table_of}
-use Rattle.sc_faces.proofs.tables.section_tables.Given as goal
-
-abbrev pub invariant-loop-section : goal.invariant-loop-section
-invariant-loop-section l = l.tables ≡ map table_of (take l.section-index l.sections)

@@ -1,0 +1,159 @@
+-- A head agrees with the first of its name and its name has no conflict, exactly where it agrees with all of its name.
+use Rattle.std.proofs.Common.{◌≡◌, Bool, true, false, not, ◌&&◌, ◌||◌, ◌==◌, bytes_eq, cond, List, [], ◌∷◌, ◌++◌, Option, Some, None, refl, sym, ap, ◌∙◌, if◌then◌else◌}
+use Rattle.std.specs.Cmp.Lexicographic.{pointwise}
+use Rattle.std.proofs.lemmas.Cmp.{nat_list_eq_equiv}
+use Rattle.std.proofs.lemmas.Slice.Eq.{bytes_eq-Decides}
+use Rattle.std.proofs.lemmas.List.Folds.{list_any-append}
+use Rattle.std.proofs.Math.Bool.{and_assoc, and-true}
+use Rattle.sc_base.specs.Numbering.{is_numbered, numbered}
+use Rattle.sc_ast.specs.declared.section.HeadTree.{HeadTree}
+use Rattle.sc_scope.specs.Declarations.{Text, among}
+use Rattle.sc_interfaces.specs.declared.agreements.Agreements.{Agreements}
+use Rattle.sc_interfaces.specs.Faces.{agree, agrees_with}
+use Rattle.sc_interfaces.specs.Tables.{first_of, no_heads, forbidden, added_beside, added, all_added, agrees_first, allowed, all_numbered}
+use Rattle.sc_interfaces.proofs.Agreeing.{agree_symm, agree_left}
+
+-- Names.
+
+pub same_text : (a b : Text) → bytes_eq a b ≡ true → a ≡ b
+same_text a b h = (bytes_eq-Decides a b).0 h
+
+or-false : (a : Bool) → (a || false) ≡ a
+or-false true = refl
+or-false false = refl
+
+or_absorbed : (a e : Bool) → (e ≡ true → a ≡ true) → a ≡ (a || e)
+or_absorbed true e h = refl
+or_absorbed false true h = h refl
+or_absorbed false false h = refl
+
+numbered_by : (names : List Text) (name k : Text) (known : Bool) → is_numbered names name ≡ known →
+    is_numbered (if known then names else names ++ name ∷ []) k ≡ (is_numbered names k || bytes_eq k name)
+numbered_by names name k true there =
+    or_absorbed (is_numbered names k) (bytes_eq k name) (λ same. ap (is_numbered names) (same_text k name same) ∙ there)
+numbered_by names name k false absent =
+    list_any-append (pointwise ◌==◌ k) names (name ∷ []) ∙ ap (λ last. is_numbered names k || last) (or-false (bytes_eq k name))
+
+-- a name is there after another came, where it was there or is that name
+pub is_numbered-numbered : (names : List Text) (name k : Text) → is_numbered (numbered names name) k ≡ (is_numbered names k || bytes_eq k name)
+is_numbered-numbered names name k = numbered_by names name k (is_numbered names name) refl
+
+all_numbered_from : (names known : List Text) (k : Text) → is_numbered (all_numbered known names) k ≡ (is_numbered known k || is_numbered names k)
+all_numbered_from [] known k = sym (or-false (is_numbered known k))
+all_numbered_from (name ∷ names) known k =
+    all_numbered_from names (numbered known name) k ∙
+    (ap (λ first. first || is_numbered names k) (is_numbered-numbered known name k) ∙ or-assoc (is_numbered known k) (bytes_eq k name) (is_numbered names k))
+  where
+    or-assoc : (a b c : Bool) → ((a || b) || c) ≡ (a || (b || c))
+    or-assoc true b c = refl
+    or-assoc false b c = refl
+
+pub all_numbered_same : (names : List Text) (k : Text) → among (all_numbered [] names) k ≡ among names k
+all_numbered_same names k = all_numbered_from names [] k
+
+-- Heads.
+
+forbidden_bools : (there same other agrees : Bool) → other ≡ same → (not (there || same) && agrees) ≡ ((not there && agrees) && not other)
+forbidden_bools true same other agrees h = refl
+forbidden_bools false true true agrees h = cc (and-false agrees)
+  where
+    and-false : (b : Bool) → (b && false) ≡ false
+    and-false true = refl
+    and-false false = refl
+forbidden_bools false true false agrees h = cc
+forbidden_bools false false true agrees h = cc
+forbidden_bools false false false agrees h = sym (and-true agrees)
+
+pub allowed_forbidden : (known : Agreements) (name : Text) (head : HeadTree) →
+    allowed (forbidden known name) head ≡ (allowed known head && not (bytes_eq name head.name))
+allowed_forbidden known name head =
+    ap (λ there. not there && agrees_first (first_of known.firsts head.name) head) (is_numbered-numbered known.conflicts name head.name) ∙
+    forbidden_bools (among known.conflicts head.name) (bytes_eq head.name name) (bytes_eq name head.name) (agrees_first (first_of known.firsts head.name) head) (nat_list_eq_equiv.symm name head.name)
+
+abbrev or_last : Option HeadTree → Bool → HeadTree → Option HeadTree
+or_last (Some first) same head = Some first
+or_last None same head = cond same (Some head) None
+
+abbrev entry_or : Bool → HeadTree → Option HeadTree → Option HeadTree
+entry_or same head later = cond same (Some head) later
+
+first_of-last : (firsts : List (Text × HeadTree)) (name k : Text) (head : HeadTree) →
+    first_of (firsts ++ (name, head) ∷ []) k ≡ or_last (first_of firsts k) (bytes_eq k name) head
+first_of-last [] name k head = refl
+first_of-last (e ∷ firsts) name k head = at (bytes_eq k e.0) (first_of-last firsts name k head)
+  where
+    at : (same : Bool) → first_of (firsts ++ (name, head) ∷ []) k ≡ or_last (first_of firsts k) (bytes_eq k name) head →
+        entry_or same e.1 (first_of (firsts ++ (name, head) ∷ []) k) ≡ or_last (entry_or same e.1 (first_of firsts k)) (bytes_eq k name) head
+    at true rest = refl
+    at false rest = rest
+
+new_bools : (there same other agrees : Bool) → other ≡ same → (first : Option HeadTree) → (head added : HeadTree) → agree added head ≡ agrees →
+    (same ≡ true → first ≡ None) →
+    (not there && agrees_first (or_last first same added) head) ≡ ((not there && agrees_first first head) && (not other || agrees))
+new_bools true same other agrees o first head added a absent = refl
+new_bools false true true agrees o None head added a absent = a
+new_bools false true true agrees o (Some f) head added a absent = cc (absent refl)
+new_bools false true false agrees o first head added a absent = cc
+new_bools false false true agrees o first head added a absent = cc
+new_bools false false false agrees o None head added a absent = refl
+new_bools false false false agrees o (Some f) head added a absent = sym (and-true (agree f head))
+
+old_bools : (x same agrees : Bool) → (same ≡ true → x ≡ true → agrees ≡ true) → x ≡ (x && (not same || agrees))
+old_bools true true agrees h = sym (h refl refl)
+old_bools true false agrees h = refl
+old_bools false same agrees h = refl
+
+conflict_bools : (x same agrees : Bool) → (same ≡ true → x ≡ true → agrees ≡ true → ⊥) → (x && not same) ≡ (x && (not same || agrees))
+conflict_bools true true true h = absurd (h refl refl refl)
+conflict_bools true true false h = refl
+conflict_bools true false agrees h = refl
+conflict_bools false same agrees h = refl
+
+-- what an allowed head of the name agrees with
+allowed_first : (known : Agreements) (name : Text) (first head : HeadTree) → first_of known.firsts name ≡ Some first → bytes_eq name head.name ≡ true →
+    allowed known head ≡ true → agree first head ≡ true
+allowed_first known name first head there same holds =
+    second (among known.conflicts head.name) (agree first head)
+    (ap (λ found. not (among known.conflicts head.name) && agrees_first found head) (sym there ∙ ap (first_of known.firsts) (same_text name head.name same)) ∙ holds)
+  where
+    second : (a b : Bool) → (not a && b) ≡ true → b ≡ true
+    second true b h = cc
+    second false b h = h
+
+beside : (known : Agreements) (name : Text) (added head : HeadTree) (first : Option HeadTree) → first_of known.firsts name ≡ first →
+    allowed (added_beside known name added first) head ≡ (allowed known head && (not (bytes_eq name head.name) || agree added head))
+beside known name added head None absent =
+    ap (λ found. not (among known.conflicts head.name) && agrees_first found head) (first_of-last known.firsts name head.name added) ∙
+    new_bools (among known.conflicts head.name) (bytes_eq head.name name) (bytes_eq name head.name) (agree added head) (nat_list_eq_equiv.symm name head.name)
+    (first_of known.firsts head.name) head added refl (λ same. ap (first_of known.firsts) (same_text head.name name same) ∙ absent)
+beside known name added head (Some first) there = at (agree first added) refl
+  where
+    at : (agrees : Bool) → agree first added ≡ agrees →
+        allowed (if agrees then known else forbidden known name) head ≡ (allowed known head && (not (bytes_eq name head.name) || agree added head))
+    at true both =
+        old_bools (allowed known head) (bytes_eq name head.name) (agree added head)
+        (λ same holds. sym (agree_left first added head both) ∙ allowed_first known name first head there same holds)
+    at false apart =
+        allowed_forbidden known name head ∙
+        conflict_bools (allowed known head) (bytes_eq name head.name) (agree added head) (λ same holds agrees. clash same holds agrees)
+      where
+        clash : bytes_eq name head.name ≡ true → allowed known head ≡ true → agree added head ≡ true → ⊥
+        clash same holds agrees =
+            let with_first : agree first head ≡ true = allowed_first known name first head there same holds in
+            let joined : agree first added ≡ true = agree_left first head added with_first ∙ (agree_symm head added ∙ agrees) in
+            cc
+
+pub allowed_added : (known : Agreements) (name : Text) (added_head head : HeadTree) →
+    allowed (added known name added_head) head ≡ (allowed known head && (not (bytes_eq name head.name) || agree added_head head))
+allowed_added known name added_head head = beside known name added_head head (first_of known.firsts name) refl
+
+pub allowed_all : (known : Agreements) (heads : List HeadTree) (head : HeadTree) → allowed (all_added known heads) head ≡ (allowed known head && agrees_with heads head)
+allowed_all known [] head = sym (and-true (allowed known head))
+allowed_all known (x ∷ heads) head =
+    allowed_all (added known x.name x) heads head ∙
+    (ap (λ first. first && agrees_with heads head) (allowed_added known x.name x head) ∙
+    and_assoc (allowed known head) (not (bytes_eq x.name head.name) || agree x head) (agrees_with heads head))
+
+-- a table of heads allows those that agree with all of them
+pub allowed_same : (heads : List HeadTree) (head : HeadTree) → allowed (all_added no_heads heads) head ≡ agrees_with heads head
+allowed_same heads head = allowed_all no_heads heads head

@@ -1,0 +1,55 @@
+-- A name that has no place comes last.
+use Rattle.std.proofs.Common.{◌≡◌, ℕ, zero, suc, ◌<◌, ◌≤◌, Bool, true, false, cond, ◌==◌, List, [], ◌∷◌, ◌++◌, length, map, take, Option, Some, None, is_some, IfNone, refl, sym, ap, ◌∙◌, if◌then◌else◌, arith}
+use Rattle.std.proofs.lemmas.List.{length-map, length-take-le, take-map}
+use Rattle.std.specs.Cmp.Lexicographic.{pointwise}
+use Rattle.indexmap.specs.IndexMap.{insert_entry}
+use Rattle.sc_scope.specs.Declarations.{Text}
+use Rattle.sc_interfaces.specs.Offering.{Placed, place_of}
+
+absent_at : (b : Bool) (e : Text × ℕ) (es : Placed) (name : Text) (place : ℕ) →
+    cond b (Some e.1) (place_of es name) ≡ None →
+    (place_of es name ≡ None → insert_entry (pointwise ◌==◌) es name place ≡ es ++ (name, place) ∷ []) →
+    (if b then (e.0, place) ∷ es else e ∷ insert_entry (pointwise ◌==◌) es name place) ≡ e ∷ (es ++ (name, place) ∷ [])
+absent_at true e es name place absent rest = cc
+absent_at false e es name place absent rest = ap (λ more. e ∷ more) (rest absent)
+
+pub insert_place_last : (es : Placed) (name : Text) (place : ℕ) → place_of es name ≡ None → insert_entry (pointwise ◌==◌) es name place ≡ es ++ (name, place) ∷ []
+insert_place_last [] name place absent = refl
+insert_place_last (e ∷ es) name place absent = absent_at (pointwise ◌==◌ name e.0) e es name place absent (insert_place_last es name place)
+
+pub ruleset places = insert_place_last
+
+-- The first 8 of a list.
+
+pub take_all : {A : Type 0} (n : ℕ) (xs : List A) → length xs ≤ n → take n xs ≡ xs
+take_all zero [] h = refl
+take_all (suc n) [] h = refl
+take_all zero (x ∷ xs) h = absurd (omega arith)
+take_all (suc n) (x ∷ xs) h = ap (λ rest. x ∷ rest) (take_all n xs (omega arith))
+
+pub front_done : {A B : Type 0} (f : A → B) (xs : List A) (ys : List B) (i : ℕ) → ys ≡ map f (take i xs) → length xs ≤ i → i ≤ 8 → ys ≡ take 8 (map f xs)
+front_done f xs ys i is past few =
+    is ∙ (ap (map f) (take_all i xs past) ∙ sym (take_all 8 (map f xs) within))
+  where
+    within : length (map f xs) ≤ 8
+    within = omega (arith, length-map xs f)
+
+pub front_full : {A B : Type 0} (f : A → B) (xs : List A) (ys : List B) (i : ℕ) → ys ≡ map f (take i xs) → i < length xs → i ≤ 8 → 8 ≤ length ys → ys ≡ take 8 (map f xs)
+front_full f xs ys i is within few full =
+    is ∙ (ap (λ n. map f (take n xs)) eight ∙ sym (take-map f 8 xs))
+  where
+    eight : i ≡ 8
+    eight = omega (arith, ap length is, length-map (take i xs) f, length-take-le i xs (omega arith))
+
+push_full : (r : Option (Unit {0})) (n : ℕ) (P : Type 0) → is_some r ≡ false → (n < 8 → is_some r ≡ true) → IfNone r P → (8 ≤ n) × P
+push_full None n P none room h = (omega (arith, at), h)
+  where
+    at : n < 8 → ⊥
+    at few = cc (room few)
+push_full (Some u) n P none room h = cc
+
+pub front_stopped : {A B : Type 0} (f : A → B) (xs : List A) (ys now : List B) (i : ℕ) (r : Option (Unit {0})) → ys ≡ map f (take i xs) → i < length xs → i ≤ 8 →
+    is_some r ≡ false → (length ys < 8 → is_some r ≡ true) → IfNone r (now ≡ ys) → now ≡ take 8 (map f xs)
+front_stopped f xs ys now i r is within few none room same =
+    let h = push_full r (length ys) (now ≡ ys) none room same in
+    h.1 ∙ front_full f xs ys i is within few h.0

@@ -1,0 +1,6 @@
+use Rattle.std.proofs.Common.{◌≡◌, map, take}
+use Rattle.sc_interfaces.specs.Offering.{export_places}
+use Rattle.sc_interfaces.proofs.building.all_export_places.Given as goal
+
+abbrev pub invariant-loop-section : goal.invariant-loop-section
+invariant-loop-section l = l.places ≡ map export_places (take l.section-index l.sections)

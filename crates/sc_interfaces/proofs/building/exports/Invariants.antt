@@ -1,0 +1,6 @@
+use Rattle.std.proofs.Common.{◌≡◌, map, take}
+use Rattle.sc_interfaces.specs.Offering.{export_by, function_places}
+use Rattle.sc_interfaces.proofs.building.exports.Given as goal
+
+abbrev pub invariant-loop-line : goal.invariant-loop-line
+invariant-loop-line l = l.protos ≡ map (export_by l.decls (function_places l.decls)) (take l.line-index l.lines)

@@ -1,0 +1,6 @@
+use Rattle.std.proofs.Common.{◌≡◌, map, take}
+use Rattle.sc_interfaces.specs.Offering.{import_by}
+use Rattle.sc_interfaces.proofs.building.imports.Given as goal
+
+abbrev pub invariant-loop-line : goal.invariant-loop-line
+invariant-loop-line l = l.imports ≡ map (import_by l.tables l.places l.importer) (take l.line-index l.lines)

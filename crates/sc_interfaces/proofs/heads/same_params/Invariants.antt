@@ -1,0 +1,6 @@
+use Rattle.std.proofs.Common.{◌≡◌, drop}
+use Rattle.sc_interfaces.specs.Faces.{same_params}
+use Rattle.sc_interfaces.proofs.heads.same_params.Given as goal
+
+abbrev pub invariant-loop-i : goal.invariant-loop-i
+invariant-loop-i l = same_params (drop l.i l.params) (drop l.i l.others) ≡ same_params l.params l.others

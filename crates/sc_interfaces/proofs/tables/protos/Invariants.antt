@@ -1,0 +1,7 @@
+use Rattle.std.proofs.Common.{◌≡◌, [], drop}
+use Rattle.sc_scope.specs.Declarations.{proto_names}
+use Rattle.sc_interfaces.specs.Tables.{all_numbered}
+use Rattle.sc_interfaces.proofs.tables.protos.Given as goal
+
+abbrev pub invariant-loop-decl : goal.invariant-loop-decl
+invariant-loop-decl l = all_numbered l.names (proto_names (drop l.decl-index l.decls)) ≡ all_numbered [] (proto_names l.decls)

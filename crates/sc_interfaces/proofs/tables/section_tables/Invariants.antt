@@ -1,0 +1,6 @@
+use Rattle.std.proofs.Common.{◌≡◌, map, take}
+use Rattle.sc_interfaces.specs.Tables.{table_of}
+use Rattle.sc_interfaces.proofs.tables.section_tables.Given as goal
+
+abbrev pub invariant-loop-section : goal.invariant-loop-section
+invariant-loop-section l = l.tables ≡ map table_of (take l.section-index l.sections)

@@ -1,0 +1,97 @@
+ghost use Rattle.std.specs.Prelude.{◌≡◌, ◌&&◌, OnOk};
+ghost use Rattle.sc_ast.specs.declared.section.Decl.TheVariants.{Proto, Function};
+ghost use Rattle.sc_scope.specs.Broken.{unless, with_lines};
+ghost use Rattle.sc_scope.specs.Declarations.{head_in};
+ghost use Rattle.sc_interfaces.specs.Tables.{allowed, decl_told, decls_told, head_added, head_fits_by, no_heads};
+
+use crate::agreements::Agreements;
+use crate::heads::{head_crosses, main_holds, prototype};
+use crate::imports::Imported;
+use crate::tables::SectionTable;
+use sc_ast::{Decl, FunctionTree, HeadTree};
+use sc_base::OutOfMemory;
+use sc_scope::BrokenLines;
+use std::alloc::Global;
+
+/// Heads agree with those before them and with what they are imported as; those of functions that cross have types that
+/// cross; and `main` is defined once, where `mains` says that a section before defines it.
+#[tactic(auto, using(crate::proofs::Steps::turns))]
+pub(crate) fn decls_told(
+    alloc: Global,
+    table: &SectionTable,
+    imported: &Imported,
+    mains: bool,
+    decls: &[Decl],
+    lines: &mut BrokenLines,
+) -> Result<(), OutOfMemory>
+    ensures { OnOk result (lines.new ≡ with_lines lines.old (decls_told table.now imported.now mains no_heads decls.now)) }
+{
+    let mut known = Agreements::new(alloc);
+    for decl in decls {
+        decl_told(alloc, table, imported, mains, &mut known, decl, lines)?;
+    }
+    Ok(())
+}
+
+#[tactic(auto, using(crate::proofs::Steps::turns))]
+fn decl_told(
+    alloc: Global,
+    table: &SectionTable,
+    imported: &Imported,
+    mains: bool,
+    known: &mut Agreements,
+    decl: &Decl,
+    lines: &mut BrokenLines,
+) -> Result<(), OutOfMemory>
+    ensures told { OnOk result (lines.new ≡ with_lines lines.old (decl_told table.now imported.now mains known.old decl.now)) }
+    ensures added { OnOk result (known.new ≡ head_added known.old (head_in decl.now)) }
+{
+    match decl {
+        Decl::Proto(head) => proto_told(alloc, table, imported, known, head, lines),
+        Decl::Function(tree) => function_told(alloc, table, imported, mains, known, tree, lines),
+        _ => Ok(()),
+    }
+}
+
+fn proto_told(
+    alloc: Global,
+    table: &SectionTable,
+    imported: &Imported,
+    known: &mut Agreements,
+    head: &HeadTree,
+    lines: &mut BrokenLines,
+) -> Result<(), OutOfMemory>
+    ensures told { OnOk result (lines.new ≡ with_lines lines.old (unless (head_fits_by table.now imported.now known.old head.now && allowed imported.now.heads head.now) head.now.line)) }
+    ensures added { OnOk result (known.new ≡ head_added known.old (head_in (Proto head.now))) }
+{
+    let holds = head_fits(table, imported, known, head) && imported.heads.allows(head);
+    lines.unless(holds, head.line);
+    known.add(alloc, head.name.name(), head)
+}
+
+fn function_told(
+    alloc: Global,
+    table: &SectionTable,
+    imported: &Imported,
+    mains: bool,
+    known: &mut Agreements,
+    tree: &FunctionTree,
+    lines: &mut BrokenLines,
+) -> Result<(), OutOfMemory>
+    ensures told { OnOk result (lines.new ≡ with_lines lines.old (decl_told table.now imported.now mains known.old (Function tree.now))) }
+    ensures added { OnOk result (known.new ≡ head_added known.old (head_in (Function tree.now))) }
+{
+    let head = prototype(alloc, &tree.head)?;
+    let holds = head_fits(table, imported, known, &head) && main_holds(mains, &head);
+    lines.unless(holds, head.line);
+    known.add(alloc, head.name.name(), &head)
+}
+
+fn head_fits(table: &SectionTable, imported: &Imported, known: &Agreements, head: &HeadTree) -> bool
+    ensures { result ≡ head_fits_by table.now imported.now known.now head.now }
+{
+    let name = head.name.name();
+    known.allows(head)
+        && (head_crosses(head)
+            || !(table.exports.contains(&name) || imported.names.contains(&name)))
+}

@@ -1,7 +1,0 @@
-pub mod Examples
-pub mod Heads
-pub mod Lines
-pub mod Noted
-pub mod Numbers
-pub mod OneMore
-pub mod Statements

@@ -1,8 +1,0 @@
-use Rattle.std.proofs.Common.{◌≡◌, drop}
-use Rattle.sc_decls.specs.Broken.{noted_all, refused_at}
-use Rattle.sc_names.specs.Names.{names_broken}
-use Rattle.sc_names.proofs.section.broken_name.Given as goal
-
--- what is noted and what is left to note is what is to be noted
-abbrev pub invariant-loop-section : goal.invariant-loop-section
-invariant-loop-section l = noted_all l.least (names_broken (drop l.section-index l.sections)) ≡ refused_at (names_broken l.sections)

@@ -1,0 +1,7 @@
+pub mod Examples
+pub mod Heads
+pub mod Lines
+pub mod Noted
+pub mod Noting
+pub mod OneMore
+pub mod Statements

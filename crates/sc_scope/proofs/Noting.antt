@@ -1,0 +1,22 @@
+-- Lines that are noted one after another.
+use Rattle.std.proofs.Common.{◌≡◌, ℕ, List, [], ◌∷◌, ◌++◌, map, Option, refl, ap, ◌∙◌}
+use Rattle.sc_scope.specs.declared.broken.BrokenLines.{BrokenLines}
+use Rattle.sc_scope.specs.Broken.{line_of_text, noted, noted_all, with_lines}
+
+noted_all-append : (least : Option ℕ) (xs ys : List ℕ) → noted_all least (xs ++ ys) ≡ noted_all (noted_all least xs) ys
+unfolding noted_all
+noted_all-append least [] ys = refl
+noted_all-append least (x ∷ xs) ys = noted_all-append (noted least x) xs ys
+
+map-append : {A B : Type 0} (f : A → B) (xs ys : List A) → map f (xs ++ ys) ≡ map f xs ++ map f ys
+map-append f [] ys = refl
+map-append f (x ∷ xs) ys = ap (λ rest. f x ∷ rest) (map-append f xs ys)
+
+pub with_lines-nil : (broken : BrokenLines) → with_lines broken [] ≡ broken
+unfolding noted_all
+with_lines-nil broken = refl
+
+pub with_lines-append : (broken : BrokenLines) (xs ys : List ℕ) → with_lines broken (xs ++ ys) ≡ with_lines (with_lines broken xs) ys
+with_lines-append broken xs ys =
+    ap (λ lines. record broken { least = noted_all broken.least lines }) (map-append (line_of_text broken.start) xs ys)
+    ∙ ap (λ least. record broken { least = least }) (noted_all-append broken.least (map (line_of_text broken.start) xs) (map (line_of_text broken.start) ys))

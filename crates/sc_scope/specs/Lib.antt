@@ -1,0 +1,5 @@
+pub mod Broken
+pub mod Declarations
+pub mod Interfaces
+pub mod Names
+pub mod Stars

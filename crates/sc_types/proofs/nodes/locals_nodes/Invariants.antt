@@ -1,0 +1,12 @@
+use Rattle.std.proofs.Common.{◌≡◌, ◌+◌, ◌≤◌, drop, map}
+use Rattle.sc_ast.specs.Height.{limited}
+use Rattle.sc_core.specs.Sizes.{total}
+use Rattle.sc_types.specs.TreeNodes.{local_nodes}
+use Rattle.sc_types.proofs.nodes.locals_nodes.Given as goal
+
+-- what is counted and what is left to count is what is to be counted
+abbrev pub invariant-loop-local : goal.invariant-loop-local
+invariant-loop-local l = record {
+  counted : limited (l.nodes + total (map local_nodes (drop l.local-index l.local-items))) ≡ limited (total (map local_nodes l.locals));
+  small : l.nodes ≤ 4294967295;
+}

@@ -1,0 +1,78 @@
+-- How much a program may hold, and the lines at which a text holds more.
+use Rattle.std.specs.Prelude.{ℕ, suc, Bool, ◌&&◌, nat_le, List, [], ◌∷◌, ◌++◌, length, map, slice_get, Option, Some, None}
+use Rattle.std.specs.List.{concat, list_all}
+use Rattle.sc_ast.specs.declared.types.TypeTree.{TypeTree}
+use Rattle.sc_ast.specs.declared.section.ExportLine.{ExportLine}
+use Rattle.sc_ast.specs.declared.section.ImportLine.{ImportLine}
+use Rattle.sc_ast.specs.declared.section.StructTree.{StructTree}
+use Rattle.sc_ast.specs.declared.section.GlobalTree.{GlobalTree}
+use Rattle.sc_ast.specs.declared.section.HeadTree.{HeadTree}
+use Rattle.sc_ast.specs.declared.section.LocalTree.{LocalTree}
+use Rattle.sc_ast.specs.declared.section.FunctionParam.{FunctionParam}
+use Rattle.sc_ast.specs.declared.section.FunctionTree.{FunctionTree}
+use Rattle.sc_ast.specs.declared.section.SectionTree.{SectionTree}
+use Rattle.sc_core.specs.declared.ty.Ty.{Ty}
+use Rattle.sc_core.specs.declared.ty.Ty.TheVariants as ty
+use Rattle.sc_core.specs.Types.{cells_of}
+use Rattle.sc_core.specs.Sizes.{nodes, total}
+use Rattle.sc_core.specs.WellTyped.{most_compartments, most_params, most_exports, most_cells, most_nodes}
+use Rattle.sc_scope.specs.Broken.{unless, line_of_text}
+use Rattle.sc_scope.specs.Declarations.{struct_names, structs_in, globals_in, heads_in, functions_in}
+use Rattle.sc_elab.specs.Statements.{Callees}
+use Rattle.sc_elab.specs.Sections.{type_of, type_of_name, structs, typed_section, callees_of}
+
+-- the line of the first item beyond a count
+abbrev pub line_of_some : {A : Type 0} → (A → ℕ) → Option A → List ℕ
+line_of_some line_of None = []
+line_of_some line_of (Some item) = line_of item ∷ []
+
+abbrev pub line_beyond : {A : Type 0} → (A → ℕ) → ℕ → List A → List ℕ
+line_beyond line_of most items = line_of_some line_of (slice_get items most)
+
+module _ (section : SectionTree) where
+  -- a variable has no more cells than are allowed
+  abbrev pub is_small : Ty → Bool
+  is_small ty = nat_le (cells_of (structs section) ty) most_cells
+
+  abbrev pub type_in : TypeTree → Ty
+  type_in ty = type_of (struct_names section.decls) ty
+
+  -- the structs from number k on
+  abbrev pub structs_from : (k : ℕ) → List StructTree → List ℕ
+  structs_from k [] = []
+  structs_from k (tree ∷ trees) = unless (is_small (ty.Struct k)) tree.line ++ structs_from (suc k) trees
+
+  abbrev pub global_lines : GlobalTree → List ℕ
+  global_lines tree = unless (is_small (type_in tree.ty)) tree.line
+
+  abbrev pub head_lines : HeadTree → List ℕ
+  head_lines head = unless (nat_le (length head.params) most_params) head.line
+
+  abbrev pub local_lines : LocalTree → List ℕ
+  local_lines tree = unless (is_small (type_in tree.ty)) tree.line
+
+  abbrev pub param_small : FunctionParam → Bool
+  param_small param = is_small (type_of_name (struct_names section.decls) param.ty)
+
+  abbrev pub function_lines : FunctionTree → List ℕ
+  function_lines tree = unless (list_all param_small tree.head.params) tree.head.line ++ concat (map local_lines tree.locals)
+
+  -- the nodes of all functions, where this stands for what is called
+  abbrev pub section_nodes : Callees → ℕ
+  section_nodes callees = total (map nodes (typed_section section callees).functions)
+
+  -- the lines, counted in the section, of what is beyond a count
+  abbrev pub section_lines : Callees → List ℕ
+  section_lines callees =
+      unless (nat_le (section_nodes callees) most_nodes && nat_le (length section.decls) most_nodes) 1 ++ (line_beyond {A = ExportLine} (λ line. line.line) most_exports section.exports ++ (line_beyond {A = ImportLine} (λ line. line.line) most_exports section.imports ++ (structs_from 0 (structs_in section.decls) ++ (concat (map global_lines (globals_in section.decls)) ++ (concat (map head_lines (heads_in section.decls)) ++ concat (map function_lines (functions_in section.decls)))))))
+
+-- the sections from number k on
+abbrev pub lines_from : List SectionTree → ℕ → List SectionTree → List ℕ
+lines_from sections k [] = []
+lines_from sections k (section ∷ rest) =
+    map (line_of_text section.line) (section_lines section (callees_of sections k section)) ++ lines_from sections (suc k) rest
+
+-- the lines of the text of what is beyond a count
+abbrev pub counts_broken : List SectionTree → List ℕ
+counts_broken sections =
+    line_beyond {A = SectionTree} (λ section. line_of_text section.line 1) most_compartments sections ++ lines_from sections 0 sections

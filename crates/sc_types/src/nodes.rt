@@ -1,0 +1,187 @@
+//! How many nodes trees have. Numbers stop at 4294967295.
+
+ghost use Rattle.std.specs.Prelude.{◌≡◌, ◌+◌, suc, [], ◌∷◌, map};
+ghost use Rattle.sc_ast.specs.Height.{limited};
+ghost use Rattle.sc_core.specs.Sizes.{total};
+ghost use Rattle.sc_types.specs.TreeNodes.{call_nodes, decls_nodes, expr_nodes, function_nodes, init_nodes, kind_nodes, local_nodes, part_nodes, simple_nodes, stmt_nodes, stmts_nodes};
+
+use sc_ast::{
+    CallTree, Decl, Decls, ExprTree, FunctionTree, LocalTree, LocalTrees, SimpleKind, SimpleTree,
+    StmtKind, StmtTree, Stmts,
+};
+
+// One node and those of its parts.
+fn over(parts: u32) -> u32
+    ensures { result ≡ limited (suc parts) }
+{
+    parts.saturating_add(1)
+}
+
+fn both(a: u32, b: u32) -> u32
+    ensures { result ≡ limited (a + b) }
+{
+    a.saturating_add(b)
+}
+
+fn expr_nodes(expr: &ExprTree) -> u32
+    ensures { result ≡ limited (expr_nodes expr.now) }
+{
+    match expr {
+        ExprTree::Literal(_) => 1,
+        ExprTree::Variable(_) => 1,
+        ExprTree::Unary { of, .. } => over(expr_nodes(of.get())),
+        ExprTree::Binary { left, right, .. } => {
+            over(both(expr_nodes(left.get()), expr_nodes(right.get())))
+        }
+        ExprTree::Index { base, index } => {
+            over(both(expr_nodes(base.get()), expr_nodes(index.get())))
+        }
+        ExprTree::Member { base, .. } => over(expr_nodes(base.get())),
+        ExprTree::Arrow { base, .. } => over(expr_nodes(base.get())),
+        ExprTree::Deref(of) => over(expr_nodes(of.get())),
+        ExprTree::Address(of) => over(expr_nodes(of.get())),
+    }
+}
+
+fn call_nodes(call: &CallTree) -> u32
+    ensures { result ≡ limited (call_nodes call.now) }
+{
+    let mut nodes = 0;
+    for arg in call.args.as_slice() {
+        nodes = both(nodes, expr_nodes(arg));
+    }
+    nodes
+}
+
+fn simple_nodes(kind: &SimpleKind) -> u32
+    ensures { result ≡ limited (simple_nodes kind.now) }
+{
+    match kind {
+        SimpleKind::Assign { place, value } => {
+            over(both(expr_nodes(place.get()), expr_nodes(value)))
+        }
+        SimpleKind::AssignCall { place, call } => {
+            over(both(expr_nodes(place.get()), call_nodes(call)))
+        }
+        SimpleKind::Call(call) => over(call_nodes(call)),
+    }
+}
+
+fn part_nodes(part: &Option<SimpleTree>) -> u32
+    ensures { result ≡ limited (part_nodes part.now) }
+{
+    match part {
+        None => 0,
+        Some(simple) => simple_nodes(&simple.kind),
+    }
+}
+
+#[cycle(nodes)]
+fn stmts_nodes(stmts: &Stmts) -> u32
+    ensures { result ≡ limited (stmts_nodes stmts.now) }
+{
+    let mut nodes = 0;
+    for stmt in stmts.as_slice() {
+        nodes = both(nodes, stmt_nodes(stmt));
+    }
+    nodes
+}
+
+#[cycle(nodes)]
+fn stmt_nodes(stmt: &StmtTree) -> u32
+    ensures { result ≡ limited (stmt_nodes stmt.now) }
+{
+    kind_nodes(&stmt.kind)
+}
+
+#[cycle(nodes)]
+fn kind_nodes(kind: &StmtKind) -> u32
+    ensures { result ≡ limited (kind_nodes kind.now) }
+{
+    match kind {
+        StmtKind::Assign { place, value } => over(both(expr_nodes(place.get()), expr_nodes(value))),
+        StmtKind::AssignCall { place, call } => {
+            over(both(expr_nodes(place.get()), call_nodes(call)))
+        }
+        StmtKind::Call(call) => over(call_nodes(call)),
+        StmtKind::If {
+            cond,
+            then_part,
+            else_part,
+        } => {
+            let condition = expr_nodes(cond);
+            over(both(
+                both(condition, stmts_nodes(then_part)),
+                stmts_nodes(else_part),
+            ))
+        }
+        StmtKind::While { cond, body } => over(both(expr_nodes(cond), stmts_nodes(body))),
+        StmtKind::For {
+            first,
+            cond,
+            next,
+            body,
+        } => {
+            let head = both(both(part_nodes(first), expr_nodes(cond)), part_nodes(next));
+            over(both(head, stmts_nodes(body)))
+        }
+        StmtKind::ReturnValue(value) => over(expr_nodes(value)),
+        StmtKind::ReturnCall(call) => over(call_nodes(call)),
+        _ => 1,
+    }
+}
+
+fn init_nodes(init: &Option<ExprTree>) -> u32
+    ensures { result ≡ limited (init_nodes init.now) }
+{
+    match init {
+        None => 0,
+        Some(init) => expr_nodes(init),
+    }
+}
+
+fn local_nodes(local: &LocalTree) -> u32
+    ensures { result ≡ limited (local_nodes local.now) }
+{
+    over(init_nodes(&local.init))
+}
+
+fn locals_nodes(locals: &LocalTrees) -> u32
+    ensures { result ≡ limited (total (map local_nodes locals.now)) }
+{
+    let mut nodes = 0;
+    for local in locals.as_slice() {
+        nodes = both(nodes, local_nodes(local));
+    }
+    nodes
+}
+
+fn function_nodes(tree: &FunctionTree) -> u32
+    ensures { result ≡ limited (function_nodes tree.now) }
+{
+    let params = u32::try_from(tree.head.params.len()).unwrap_or(u32::MAX);
+    both(
+        both(over(params), locals_nodes(&tree.locals)),
+        stmts_nodes(&tree.body),
+    )
+}
+
+fn decl_nodes(decl: &Decl) -> u32
+    ensures { result ≡ limited (decls_nodes (decl.now ∷ [])) }
+{
+    match decl {
+        Decl::Function(tree) => function_nodes(tree),
+        _ => 0,
+    }
+}
+
+/// The nodes of all functions.
+pub fn decls_nodes(decls: &Decls) -> u32
+    ensures { result ≡ limited (decls_nodes decls.now) }
+{
+    let mut nodes = 0;
+    for decl in decls.as_slice() {
+        nodes = both(nodes, decl_nodes(decl));
+    }
+    nodes
+}
