@@ -6,8 +6,8 @@ use Rattle.sc_lex.specs.declared.refusal.Refusal.{Refusal}
 use Rattle.sc_image.specs.declared.fault.ImageFault.{ImageFault}
 use Rattle.sc_image.specs.declared.fault.ImageFault.TheVariants as image
 use Rattle.sc_image.specs.Reading.{cause_number}
-use Rattle.sc_read.specs.declared.fault.TextFault.{TextFault}
-use Rattle.sc_read.specs.declared.fault.TextFault.TheVariants as text
+use Rattle.sc_lex.specs.declared.fault.TextFault.{TextFault}
+use Rattle.sc_lex.specs.declared.fault.TextFault.TheVariants as text
 use Rattle.sc_words.specs.Usage.{usage_text}
 use Rattle.sc_words.specs.declared.fault.WordsFault.{WordsFault}
 use Rattle.sc_words.specs.declared.fault.WordsFault.TheVariants as words
