@@ -1,5 +1,5 @@
 -- Lists: an element at the end of the first part, one step of a loop, the first that passes, and maps.
-use Rattle.std.proofs.Common.{◌≡◌, ℕ, suc, ◌+◌, ◌<◌, Bool, true, false, cond, List, [], ◌∷◌, ◌++◌, map, length, get_or, take, drop, Option, Some, None, refl, ap, sym, ◌∙◌, add-one, drop-cons, arith}
+use Rattle.std.proofs.Common.{◌≡◌, ℕ, suc, ◌+◌, ◌<◌, Bool, true, false, cond, List, [], ◌∷◌, ◌++◌, map, length, get_or, take, drop, Option, Some, None, refl, ap, sym, ◌∙◌, add-one, drop-cons, ltb, not, arith}
 use Rattle.std.specs.Prelude.{slice_get, position}
 use Rattle.std.specs.List.{find, position_or_len}
 use Rattle.std.specs.Option.{option_map}
@@ -32,3 +32,27 @@ find_passes {A} p (y ∷ xs) x e = go (p y) refl (find_passes p xs x)
 pub map_twice : {A B C : Type 0} (f : B → C) (g : A → B) (xs : List A) → map f (map g xs) ≡ map (λ x. f (g x)) xs
 map_twice f g [] = refl
 map_twice f g (x ∷ xs) = ap (λ rest. f (g x) ∷ rest) (map_twice f g xs)
+
+suc_within : (k n : ℕ) → ltb (suc k) (suc n) ≡ ltb k n
+suc_within k n = grind arith
+
+within_suc : (k n : ℕ) → cond (ltb (suc k) (suc n)) (Some (suc k)) None ≡ option_map suc (cond (ltb k n) (Some k) None)
+within_suc k n = ap (λ b. cond b (Some (suc k)) None) (suc_within k n) ∙ by (ltb k n) where
+  by : (b : Bool) → cond b (Some (suc k)) None ≡ option_map suc (cond b (Some k) None)
+  by true = refl
+  by false = refl
+
+one_more : (k : ℕ) → 1 + k ≡ suc k
+one_more k = omega arith
+
+zero_within : (n : ℕ) → ltb 0 (suc n) ≡ true
+zero_within n = grind arith
+
+-- the first place that passes a test, step by step
+pub position-cons : {X : Type 0} (p : X → Bool) (x : X) (xs : List X) → position p (x ∷ xs) ≡ cond (p x) (Some 0) (option_map suc (position p xs))
+position-cons p x xs = by (p x) where
+  by : (b : Bool) → cond (ltb (cond (not b) (1 + position_or_len p xs) 0) (suc (length xs))) (Some (cond (not b) (1 + position_or_len p xs) 0)) None ≡ cond b (Some 0) (option_map suc (position p xs))
+  by true = ap (λ b. cond b (Some 0) None) (zero_within (length xs))
+  by false =
+      ap (λ k. cond (ltb k (suc (length xs))) (Some k) None) (one_more (position_or_len p xs))
+      ∙ within_suc (position_or_len p xs) (length xs)
