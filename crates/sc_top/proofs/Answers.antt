@@ -23,7 +23,7 @@ use Rattle.sc_top.specs.declared.failure.Failure.TheVariants as failure
 use Rattle.sc_top.specs.declared.status.Status.{Status}
 use Rattle.sc_top.specs.declared.status.Status.TheVariants as status
 use Rattle.sc_top.specs.declared.status.TooLarge.{TooLarge}
-use Rattle.sc_top.specs.Answer.{Traffic, IsWhole, IsLonger, IsInput, HasRead, HasWritten, HasBegun, Refuses, cause_in, FindsBad, IsUnfit, IsBeyond, GivesUp, Says, IsUndisturbed, IsWithinLimit, IsWithin, IsAnswer, IsGood, Tells, SameAnswer}
+use Rattle.sc_top.specs.Answer.{Traffic, IsWhole, IsLonger, IsInput, HasRead, HasWritten, HasBegun, Refuses, cause_in, FindsBad, IsUnfit, IsBeyond, GivesUp, Says, IsUndisturbed, IsWithinLimit, IsWithin, IsAnswer, IsGood, Tells, Answers, SameAnswer}
 use Rattle.sc_top.specs.Command.{limit_of}
 use Rattle.sc_top.specs.Failure.{of_words_fault, status_of, IsInputCause, IsOutputCause}
 use Rattle.sc_top.specs.Output.{compiles, HasImage, IsTextOutput, IsOutput}
@@ -402,3 +402,13 @@ module _ (accepted_or_refused : (text : List ℕ) (program : ProgramTree) (phase
   pub completed : (c : Command) (t : Traffic) (text : List ℕ) (s : Status) → Says c t s → t.left ≡ Some text → IsUndisturbed t → IsWithin c text → IsGood c text → (s ≡ status.Done) ⊎ (s ≡ status.OutOfMemory)
   completed c t text s says is calm within good =
       ⊎_elim (λ answer. inl (only_done c text s (good_is_sound c text good) within answer)) inr (answered c t text s says is calm)
+
+  -- all that an answer says
+  pub answers_all : (asked : Option Command) (t : Traffic) (s : Status) → (asked ≡ None → (s ≡ status.Usage) ⊎ (s ≡ status.OutOfMemory)) → ((c : Command) → asked ≡ Some c → Says c t s) → Answers asked t s
+  answers_all asked t s no_command says =
+      record {
+        no_command = no_command;
+        says = says;
+        answered = λ c bytes is left calm. answered c t bytes s (says c is) left calm;
+        complete = λ c bytes is left calm within good. completed c t bytes s (says c is) left calm within good;
+      }

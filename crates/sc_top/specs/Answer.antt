@@ -177,6 +177,19 @@ pub record Tells (text : List ℕ) (written written_after : Option (List ℕ)) (
 abbrev pub IsSilent : Option Command → Type 0
 IsSilent asked = option_and_then limit_of asked ≡ None
 
+-- what a call answered, asked for a command or none
+pub record Answers (asked : Option Command) (t : Traffic) (status : Status) : Type 0 where
+  -- words that are no command are answered so
+  pub no_command : asked ≡ None → (status ≡ Usage) ⊎ (status ≡ OutOfMemory)
+  -- with a command, the status says what was read and written
+  pub says : (command : Command) → asked ≡ Some command → Says command t status
+  -- bytes that the source tells have their one answer, unless memory runs out or the outside fails
+  pub answered : (command : Command) (bytes : List ℕ) → asked ≡ Some command → t.left ≡ Some bytes → IsUndisturbed t →
+      IsAnswer command bytes status ⊎ (status ≡ OutOfMemory)
+  -- and good input is answered `Done`
+  pub complete : (command : Command) (bytes : List ℕ) → asked ≡ Some command → t.left ≡ Some bytes → IsUndisturbed t →
+      IsWithin command bytes → IsGood command bytes → (status ≡ Done) ⊎ (status ≡ OutOfMemory)
+
 -- two answers are the same; which line of a section phase Syntax refuses isn't told
 abbrev pub SameAnswer : Status → Status → Type 0
 SameAnswer (Refused refusal) (Refused other) =

@@ -1,10 +1,10 @@
-ghost use Rattle.std.specs.Prelude.{◌≡◌, ◌≢◌, ◌⊎◌, List, ℕ, None, Some, map, IfOk, IfErr, IsErrOf};
+ghost use Rattle.std.specs.Prelude.{◌≡◌, ◌≢◌, ◌⊎◌, None, Some, map, IfOk, IfErr, IsErrOf};
 ghost use Rattle.std.specs.String.{string_bytes};
 ghost use Rattle.sc_words.specs.declared.command.Command.{Command};
 ghost use Rattle.sc_words.specs.Words.{command};
 ghost use Rattle.sc_top.specs.declared.failure.Failure.{Failure};
 ghost use Rattle.sc_top.specs.declared.status.Status.{Status};
-ghost use Rattle.sc_top.specs.Answer.{IsSilent, Says, IsUndisturbed, IsAnswer, IsGood, IsWithin, Tells};
+ghost use Rattle.sc_top.specs.Answer.{Answers, IsSilent, Says, Tells};
 ghost use Rattle.sc_top.specs.Failure.{status_by, IsOutputCause};
 ghost use Rattle.sc_top.specs.Output.{IsOutput};
 ghost use Rattle.sc_top.specs.Status.{status_text};
@@ -13,12 +13,12 @@ use crate::Status;
 use crate::exec::execute;
 use crate::failure::Failure;
 use crate::input::read_input;
-use crate::laws::one_answer;
 use crate::output::write_text;
 use crate::telling::tell;
 use crate::text::{check, compiled, explain, meaning, run};
 use sc_base::Text;
 use sc_edge::{Sink, Source};
+use sc_types::{accepted_or_refused, one_phase, one_program};
 use sc_words::{Command, read_command};
 use std::alloc::Global;
 
@@ -30,12 +30,7 @@ pub fn secomp<S: Source, O: Sink, E: Sink>(
     out: &mut O,
     err: &mut E,
 ) -> Status
-    // Words that are no command are answered so, and nothing is read.
-    ensures no_command { command (map string_bytes words.now) ≡ None → (result ≡ Status.Usage) ⊎ (result ≡ Status.OutOfMemory) }
-    ensures unread { IsSilent (command (map string_bytes words.now)) → source.new ≡ source.old }
-
-    // With a command, each status says what was read and written.
-    ensures says { (c : Command) → command (map string_bytes words.now) ≡ Some c → Says c (record {
+    ensures answer { Answers (command (map string_bytes words.now)) (record {
       left = S.left source.old;
       left_after = S.left source.new;
       read_faults = S.faults source.old;
@@ -45,44 +40,29 @@ pub fn secomp<S: Source, O: Sink, E: Sink>(
       write_faults = O.faults out.old;
       write_faults_after = O.faults out.new;
     }) result }
-    ensures untouched { result ≢ Status.Done → result ≢ Status.WriteFault → out.new ≡ out.old }
 
-    // Bytes that the source tells have their one answer, and good input is answered `Done`, unless memory runs out or the
-    // outside fails.
-    ensures answered { (c : Command) (bytes : List ℕ) → command (map string_bytes words.now) ≡ Some c → S.left source.old ≡ Some bytes
-        → IsUndisturbed (record {
-          left = S.left source.old;
-          left_after = S.left source.new;
-          read_faults = S.faults source.old;
-          read_faults_after = S.faults source.new;
-          written = O.written out.old;
-          written_after = O.written out.new;
-          write_faults = O.faults out.old;
-          write_faults_after = O.faults out.new;
-        })
-        → IsAnswer c bytes result ⊎ (result ≡ Status.OutOfMemory) }
-    ensures complete { (c : Command) (bytes : List ℕ) → command (map string_bytes words.now) ≡ Some c → S.left source.old ≡ Some bytes
-        → IsUndisturbed (record {
-          left = S.left source.old;
-          left_after = S.left source.new;
-          read_faults = S.faults source.old;
-          read_faults_after = S.faults source.new;
-          written = O.written out.old;
-          written_after = O.written out.new;
-          write_faults = O.faults out.old;
-          write_faults_after = O.faults out.new;
-        })
-        → IsWithin c bytes → IsGood c bytes → (result ≡ Status.Done) ⊎ (result ≡ Status.OutOfMemory) }
+    // Words that are no command, or one that reads nothing, leave the source; nothing is written unless the whole output is
+    // there and taken at least in part.
+    ensures unread { IsSilent (command (map string_bytes words.now)) → source.new ≡ source.old }
+    ensures untouched { result ≢ Status.Done → result ≢ Status.WriteFault → out.new ≡ out.old }
 
     ensures told { Tells (status_text result) (E.written err.old) (E.written err.new) (E.faults err.old) (E.faults err.new) }
 {
-    one_answer();
-    let status = match answer(alloc, words, source, out) {
-        Ok(()) => Status::Done,
-        Err(failure) => Status::from(failure),
-    };
+    accepted_or_refused();
+    one_phase();
+    one_program();
+    let status = status_by(answer(alloc, words, source, out));
     tell(err, &status);
     status
+}
+
+fn status_by(outcome: Result<(), Failure>) -> Status
+    ensures { result ≡ status_by outcome }
+{
+    match outcome {
+        Ok(()) => Status::Done,
+        Err(failure) => Status::from(failure),
+    }
 }
 
 fn answer<S: Source, O: Sink>(

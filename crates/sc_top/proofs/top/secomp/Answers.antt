@@ -1,6 +1,6 @@
-use Rattle.std.proofs.Common.{sym, subst}
-use Rattle.sc_top.proofs.Answers.{answered, completed}
+use Rattle.sc_top.proofs.Answers.{answers_all}
 use Rattle.sc_top.proofs.top.secomp.Goals as goal
 
-pub returns-clause-answered : goal.returns-clause-answered
-returns-clause-answered g c = λ command bytes asked left calm. answered command _ bytes _ ? left calm
+pub returns-clause-answer : goal.returns-clause-answer
+returns-clause-answer g c =
+    answers_all c.accepted_or_refused.ensures c.one_phase.ensures c.one_program.ensures _ _ c.status_by-status.result ? ?
