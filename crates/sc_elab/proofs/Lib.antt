@@ -3,10 +3,12 @@ pub mod Computed
 pub mod Examples
 pub mod Functions
 pub mod Gathered
-pub mod Parts
 pub mod Kept
 pub mod Loops
+pub mod Noted
 pub mod Offsets
+pub mod Parts
 pub mod Programs
+pub mod Ruled
 pub mod Scopes
 pub mod Statements
