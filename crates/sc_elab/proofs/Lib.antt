@@ -1,6 +1,7 @@
 pub mod Calling
 pub mod Computed
 pub mod Examples
+pub mod FunctionLines
 pub mod Functions
 pub mod Gathered
 pub mod Kept
@@ -8,7 +9,9 @@ pub mod Loops
 pub mod Noted
 pub mod Offsets
 pub mod Parts
+pub mod Phases
 pub mod Programs
 pub mod Ruled
 pub mod Scopes
 pub mod Statements
+pub mod Suiting

@@ -1,5 +1,6 @@
 -- What the lines of a statement's parts are.
 use Rattle.std.proofs.Common.{◌≡◌, ◌≤◌, ◌<◌, ℕ, suc, ◌+◌, Bool, List, [], ◌∷◌, ◌++◌, length, map, drop, get_or, Option, None, Some, refl, sym, ap, ◌∙◌, rules, add-one}
+use Rattle.std.specs.Prelude.{Result, Ok, Err, OnOk}
 use Rattle.std.specs.List.{concat}
 use Rattle.std.proofs.Math.Seq.{drop-cons}
 use Rattle.std.proofs.lemmas.List.{drop_all}
@@ -106,6 +107,10 @@ module _ {A : Type 0} (f : A → List ℕ) (items : List A) (i : ℕ) (whole : B
 
   pub noted-all : (a : BrokenLines) → length items ≤ i → with_lines a (concat (map f (drop i items))) ≡ whole → a ≡ whole
   noted-all a done so = sym (with_lines-nil a) ∙ (λ j. with_lines a (concat (map f (sym (drop_all i items done) j)))) ∙ so
+
+pub on_ok : {A E : Type 0} {P Q : Type 0} (r : Result A E) → (P → Q) → OnOk r P → OnOk r Q
+on_ok (Ok x) f p = f p
+on_ok (Err e) f p = tt
 
 pub ruleset nothing = (with_lines-nil)
 

@@ -1,4 +1,5 @@
-//! Building the program of a text from the trees of its sections.
+//! Elaboration: the program of a text is built from the trees of its sections, and the rules of types are judged on what
+//! is built.
 #![tactic(auto)]
 
 mod callees;
@@ -17,6 +18,8 @@ mod stmt;
 mod structs;
 mod tree_ty;
 mod ty;
+mod typing;
 mod variables;
 
 pub use program::build_program;
+pub use typing::broken_type;

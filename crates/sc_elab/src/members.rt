@@ -1,6 +1,7 @@
 //! Structs with their offsets.
 
 ghost use Rattle.std.specs.Prelude.{◌≡◌, ◌+◌, ◌∷◌, [], IfOk};
+ghost use Rattle.sc_ast.specs.Height.{limited};
 ghost use Rattle.sc_core.specs.Types.{starred_cells, cells_of};
 ghost use Rattle.sc_scope.specs.Declarations.{structs_in};
 ghost use Rattle.sc_elab.specs.Sections.{members_from, cells_from, typed_struct, typed_structs};
@@ -29,32 +30,26 @@ fn starred_cells(structs: &Structs, stars: u64, base: BaseTy) -> u32
     }
 }
 
-// The cells of a variable of this type. There is no memory for more than 4294967295.
-fn cells_of(structs: &Structs, ty: Ty) -> Result<u32, OutOfMemory>
-    ensures { IfOk result (λ cells. cells ≡ cells_of structs.now ty) }
+/// The cells of a variable of this type, as a number that stops at 4294967295.
+pub fn cells_of(structs: &Structs, ty: Ty) -> u32
+    ensures { result ≡ limited (cells_of structs.now ty) }
 {
     match ty {
-        Ty::Struct(number) => Ok(structs.cells(number)),
+        Ty::Struct(number) => structs.cells(number),
         Ty::Array {
             stars,
             base,
             length,
-        } => match length.checked_mul(starred_cells(structs, stars, base)) {
-            Some(cells) => Ok(cells),
-            None => Err(OutOfMemory),
-        },
-        _ => Ok(1),
+        } => length.saturating_mul(starred_cells(structs, stars, base)),
+        _ => 1,
     }
 }
 
-// Where a part of so many cells ends. There is no memory past 4294967295 cells.
-fn end_of(offset: u32, cells: u32) -> Result<u32, OutOfMemory>
-    ensures { IfOk result (λ end. end ≡ offset + cells) }
+// Where a part of this type ends.
+fn end_of(structs: &Structs, offset: u32, ty: Ty) -> u32
+    ensures { result ≡ limited (offset + cells_of structs.now ty) }
 {
-    match offset.checked_add(cells) {
-        Some(end) => Ok(end),
-        None => Err(OutOfMemory),
-    }
+    offset.saturating_add(cells_of(structs, ty))
 }
 
 // Members one behind another, their names, and the cells of them all.
@@ -80,7 +75,7 @@ fn build_members(
             ty,
             offset: cells,
         })?;
-        cells = end_of(cells, cells_of(structs, ty)?)?;
+        cells = end_of(structs, cells, ty);
     }
     Ok((built, names, cells))
 }

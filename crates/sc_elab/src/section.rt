@@ -40,8 +40,8 @@ fn build_tags(alloc: Global, decls: &[Decl]) -> Result<NameList, OutOfMemory>
     Ok(tags)
 }
 
-// What the section gives to the bodies of its functions, where it imports these functions.
-fn build_scope(
+/// What the section gives to the bodies of its functions, where it imports these functions.
+pub fn build_scope(
     alloc: Global,
     section: &SectionTree,
     imports: &[Import],
