@@ -21,5 +21,9 @@ mod ty;
 mod typing;
 mod variables;
 
+pub use members::build_structs;
 pub use program::build_program;
+pub use section::build_tags;
+pub use structs::Structs;
+pub use tree_ty::{type_of, type_of_name};
 pub use typing::broken_type;

@@ -2,7 +2,7 @@
 
 ghost use Rattle.std.specs.Prelude.{◌≡◌, ◌+◌, ◌∷◌, [], IfOk};
 ghost use Rattle.sc_ast.specs.Height.{limited};
-ghost use Rattle.sc_core.specs.Types.{starred_cells, cells_of};
+ghost use Rattle.sc_core.specs.Types.{cells_of};
 ghost use Rattle.sc_scope.specs.Declarations.{structs_in};
 ghost use Rattle.sc_elab.specs.Sections.{members_from, cells_from, typed_struct, typed_structs};
 ghost use Rattle.sc_elab.specs.Placed.{member_names, names_of};
@@ -11,45 +11,15 @@ use crate::structs::Structs;
 use crate::tree_ty::type_of;
 use sc_ast::{Decl, MemberTree, StructTree};
 use sc_base::{NameList, OutOfMemory};
-use sc_core::{BaseTy, Ty, TypedMember, TypedMembers, TypedStruct};
+use sc_core::{Ty, TypedMember, TypedMembers, TypedStruct};
 use sqlite_items::Items;
 use std::alloc::Global;
-
-// The cells of a type with so many `*`.
-fn starred_cells(structs: &Structs, stars: u64, base: BaseTy) -> u32
-    ensures { result ≡ starred_cells structs.now stars base }
-{
-    if stars == 0 {
-        match base {
-            BaseTy::Int => 1,
-            BaseTy::Unsigned => 1,
-            BaseTy::Struct(number) => structs.cells(number),
-        }
-    } else {
-        1
-    }
-}
-
-/// The cells of a variable of this type, as a number that stops at 4294967295.
-pub fn cells_of(structs: &Structs, ty: Ty) -> u32
-    ensures { result ≡ limited (cells_of structs.now ty) }
-{
-    match ty {
-        Ty::Struct(number) => structs.cells(number),
-        Ty::Array {
-            stars,
-            base,
-            length,
-        } => length.saturating_mul(starred_cells(structs, stars, base)),
-        _ => 1,
-    }
-}
 
 // Where a part of this type ends.
 fn end_of(structs: &Structs, offset: u32, ty: Ty) -> u32
     ensures { result ≡ limited (offset + cells_of structs.now ty) }
 {
-    offset.saturating_add(cells_of(structs, ty))
+    offset.saturating_add(structs.cells_of(ty))
 }
 
 // Members one behind another, their names, and the cells of them all.
