@@ -52,7 +52,7 @@ fn main_comp(alloc: Global, code: Words) -> CompPart
     }
 }
 
-#[tactic(auto, unfolding(sc_event::specs::Identifier::is_name))]
+#[tactic(auto, unfolding(sc_base::specs::Identifier::is_name))]
 fn main_name() -> Name
     ensures { result ≡ codes "Main" }
 {

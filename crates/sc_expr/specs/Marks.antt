@@ -12,6 +12,7 @@ use Rattle.sc_expr.specs.declared.operator.Prefix.{Prefix}
 use Rattle.sc_expr.specs.declared.operator.Prefix.TheVariants as prefix
 use Rattle.sc_expr.specs.declared.operator.Extension.{Extension}
 use Rattle.sc_expr.specs.declared.operator.Extension.TheVariants as extension
+use Rattle.sc_base.specs.Levels.{postfix_level, level_of}
 
 -- the operator that a mark is between two operands
 abbrev pub binary_of : Mark → Option BinaryOp

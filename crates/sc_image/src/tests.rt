@@ -14,7 +14,7 @@ const SEVEN: &[u8] = b"SCIM\x01\x00\x01\x00\x00\x00\x00\x01\
 \x00\x00\x00\x00";
 
 // A compartment `M` that outputs 7 and returns 0.
-#[tactic(auto, unfolding(sc_event::specs::Identifier::is_name))]
+#[tactic(auto, unfolding(sc_base::specs::Identifier::is_name))]
 fn seven(alloc: Global) -> Result<Image, OutOfMemory> {
     let code = [
         0x0070_0513,

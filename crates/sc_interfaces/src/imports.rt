@@ -217,14 +217,14 @@ fn int_type() -> TypeName
     }
 }
 
-#[tactic(auto, unfolding(sc_event::specs::Identifier::is_name, sc_reserved::specs::Reserved::is_reserved))]
+#[tactic(auto, unfolding(sc_base::specs::Identifier::is_name, sc_base::specs::Reserved::is_reserved))]
 fn input_ident() -> Ident
     ensures { result ≡ input_name }
 {
     Ident::new(Name::new(b"input").unwrap()).unwrap()
 }
 
-#[tactic(auto, unfolding(sc_event::specs::Identifier::is_name, sc_reserved::specs::Reserved::is_reserved))]
+#[tactic(auto, unfolding(sc_base::specs::Identifier::is_name, sc_base::specs::Reserved::is_reserved))]
 fn output_ident() -> Ident
     ensures { result ≡ output_name }
 {

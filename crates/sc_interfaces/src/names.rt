@@ -45,7 +45,7 @@ pub(crate) fn is_plain(name: &Name) -> bool
     !name.as_bytes().starts_with(b"bt_")
 }
 
-#[tactic(auto, unfolding(sc_event::specs::Identifier::is_name))]
+#[tactic(auto, unfolding(sc_base::specs::Identifier::is_name))]
 pub(crate) fn main_name() -> Name
     ensures { result ≡ main_name }
 {

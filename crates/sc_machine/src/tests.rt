@@ -15,7 +15,7 @@ const START: u32 = 0x0100_0000;
 
 const STACK_TOP: u32 = 0x1001_0000;
 
-#[tactic(auto, unfolding(sc_event::specs::Identifier::is_name))]
+#[tactic(auto, unfolding(sc_base::specs::Identifier::is_name))]
 fn a_name() -> Name
     ensures { result ≡ codes "A" }
 {
@@ -261,14 +261,14 @@ fn taken(alloc: Global, imported: bool) -> Result<ImportParts, OutOfMemory>
     Ok(imports)
 }
 
-#[tactic(auto, unfolding(sc_event::specs::Identifier::is_name))]
+#[tactic(auto, unfolding(sc_base::specs::Identifier::is_name))]
 fn b_name() -> Name
     ensures { result ≡ codes "B" }
 {
     Name::new(b"B").unwrap()
 }
 
-#[tactic(auto, unfolding(sc_event::specs::Identifier::is_name))]
+#[tactic(auto, unfolding(sc_base::specs::Identifier::is_name))]
 fn f_name() -> Name
     ensures { result ≡ codes "f" }
 {

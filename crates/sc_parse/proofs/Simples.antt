@@ -6,7 +6,9 @@ use borrow.Author.Tests.{ltb-true}
 use Rattle.std.specs.Option.{option_map_or}
 use Rattle.sc_ast.specs.Height.{expr_height, exprs_height, call_height, simple_kind_height}
 use Rattle.sc_ast.specs.Places.{is_place}
-use Rattle.sc_ast.specs.declared.expr.ExprTree.{ExprTree}
+use Rattle.sc_ast.specs.declared.expr.ExprTree.{ExprTree, the_lemmas}
+use Rattle.sc_ast.specs.declared.expr.ExprTree.TheVariants as expr
+use Rattle.sc_base.specs.declared.op.UnaryOp.{UnaryOp}
 use Rattle.sc_base.specs.declared.op.BinaryOp.{BinaryOp}
 use Rattle.sc_ast.specs.declared.expr.CallTree.{CallTree}
 use Rattle.sc_ast.specs.declared.stmt.SimpleKind.{SimpleKind}
@@ -17,7 +19,10 @@ use Rattle.sc_expr.specs.declared.lexeme.Symbol.{Symbol}
 use Rattle.sc_expr.specs.declared.lexeme.Symbol.TheVariants as symbol
 use Rattle.sc_expr.specs.declared.lexeme.Lexeme.{Lexeme}
 use Rattle.sc_expr.specs.Fronts.{behind, extension_at}
-use Rattle.sc_expr.specs.Grammar.{IsMark, Spells}
+use Rattle.sc_expr.specs.Grammar.{IsMark, Spells, literal, variable, parenthesised, index, member, arrow, prefix, joined, looser}
+use Rattle.sc_expr.specs.declared.operator.Prefix.{Prefix}
+use Rattle.sc_expr.specs.declared.operator.Prefix.TheVariants as prefixes
+use Rattle.sc_expr.specs.Marks.{prefix_of, prefixed}
 use Rattle.sc_base.specs.Levels.{unary_level}
 use Rattle.sc_expr.specs.Reading.{◌>>=◌, Found, found, lead_by, read}
 use Rattle.sc_expr.proofs.Options.{same_some, bound, cond_is}
@@ -30,9 +35,9 @@ use Rattle.sc_parse.specs.Statements as statements
 use Rattle.sc_parse.specs.Statements.{SpellsCall, SpellsPlace, compound_of, step_of, one, updates, SpellsKind, assign, assign_call, compound, call, step_behind, step_before}
 use Rattle.sc_parse.specs.Fronts.{begins_with, begins_call}
 use Rattle.sc_parse.specs.StmtReaders as readers
-use Rattle.sc_parse.specs.StmtReaders.{expr_at, call_at, mark_by, mark_at, change_of, change_at, step_at, placed, place_at, value_behind, operand_behind, stepped, changed, assignment_at, call_alone, unstepped, simple_at}
+use Rattle.sc_parse.specs.StmtReaders.{expr_at, call_at, mark_by, mark_at, change_of, change_at, step_at, makes_value, begins_value, placed, unary_place, place_at, value_behind, operand_behind, stepped, changed, assignment_at, call_alone, unstepped, simple_at}
 use Rattle.sc_parse.proofs.Exact.{Taken, Exact, took, glued}
-use Rattle.sc_parse.proofs.Expressions.{Few, few_left, few_right, few_tail, IsExpr, NoExtension, unary_reads, expr_exact, IsCall, call_exact, call_begins, no_call, begins_expr, expr_starts, starts_expr}
+use Rattle.sc_parse.proofs.Expressions.{Few, few_left, few_right, few_tail, IsExpr, NoExtension, unary_reads, expr_exact, IsCall, call_exact, call_begins, no_call, begins_expr, expr_starts, starts_expr, false-true}
 
 -- a mark at the front
 pub record Marked (ts : List Lexeme) (m : Mark) : Type 0 where
@@ -90,9 +95,8 @@ record PlaceTaken (room : ℕ) (ts : List Lexeme) (x : Placed) (rest : List Lexe
   height : x.height ≡ expr_height x.place
   low : x.height ≤ room
 
-place_sound : (free : ℕ) → (room : ℕ) (ts rest : List Lexeme) (x : Placed) → place_at free room ts ≡ Some (x, rest) → PlaceTaken room ts x rest
-unfolding place_at
-place_sound free room ts rest x h =
+unary_place_sound : (free : ℕ) → (room : ℕ) (ts rest : List Lexeme) (x : Placed) → unary_place free room ts ≡ Some (x, rest) → PlaceTaken room ts x rest
+unary_place_sound free room ts rest x h =
     let b = bound (λ x. cond (is_place x.tree) (Some (placed x.tree x.height, x.rest)) None) (read free room unary_level ts) (x, rest) h in
     let m = read_sound free room unary_level ts b.0 (omega arith) b.1 in
     let c = cond_is (is_place b.0.tree) (Some (placed b.0.tree b.0.height, b.0.rest)) (x, rest) b.2 in
@@ -102,9 +106,64 @@ place_sound free room ts rest x h =
     let made : PlaceTaken room ts (placed b.0.tree b.0.height) b.0.rest = record { taken = m.taken; split = m.split; spelled = (m.spelled, c.0); height = m.measured; low = m.low } in
     subst (λ y. PlaceTaken room ts y rest) value (subst (λ r. PlaceTaken room ts (placed b.0.tree b.0.height) r) after made)
 
+place_sound : (free : ℕ) → (room : ℕ) (ts rest : List Lexeme) (x : Placed) → place_at free room ts ≡ Some (x, rest) → PlaceTaken room ts x rest
+unfolding place_at
+place_sound free room ts rest x h = go (begins_value ts) h
+  where
+    go : (b : Bool) → cond {A = Option (Placed × List Lexeme)} b None (unary_place free room ts) ≡ Some (x, rest) → PlaceTaken room ts x rest
+    go true e = absurd (none-some (x, rest) e)
+    go false e = unary_place_sound free room ts rest x e
+
+-- a postfix expression begins with no operator
+postfix_begins : {level : ℕ} {ts : List Lexeme} {e : ExprTree} (d : Spells level ts e) (rest : List Lexeme) → level ≡ 0 → begins_value (ts ++ rest) ≡ false
+postfix_begins (literal t number p) rest h = rw p
+postfix_begins (variable t name p) rest h = rw p
+postfix_begins (parenthesised t u p q d) rest h = rw p
+postfix_begins (index {ts = ts} {us = us} t u p q d g) rest h = ap begins_value (append_assoc ts (t ∷ (us ++ u ∷ [])) rest) ∙ postfix_begins d (t ∷ (us ++ u ∷ []) ++ rest) refl
+postfix_begins (member {ts = ts} t u name p q d) rest h = ap begins_value (append_assoc ts (t ∷ u ∷ []) rest) ∙ postfix_begins d (t ∷ u ∷ rest) refl
+postfix_begins (arrow {ts = ts} t u name p q d) rest h = ap begins_value (append_assoc ts (t ∷ u ∷ []) rest) ∙ postfix_begins d (t ∷ u ∷ rest) refl
+postfix_begins (prefix t m o p q d) rest h = absurd (omega arith)
+postfix_begins (joined t m op p q k d g) rest h = absurd (omega arith)
+postfix_begins (looser d) rest h = absurd (omega arith)
+
+unary_no_place : (op : UnaryOp) (e : ExprTree) → is_place (expr.Unary op e) ≡ false
+unary_no_place op e = search (rules, the_lemmas)
+
+address_no_place : (e : ExprTree) → is_place (expr.Address e) ≡ false
+address_no_place e = search (rules, the_lemmas)
+
+binary_no_place : (op : BinaryOp) (e f : ExprTree) → is_place (expr.Binary op e f) ≡ false
+binary_no_place op e f = search (rules, the_lemmas)
+
+star_makes_none : (m : Mark) → prefix_of m ≡ Some prefixes.Dereference → makes_value m ≡ false
+star_makes_none mark.Minus h = cc
+star_makes_none mark.Plus h = cc
+star_makes_none mark.Not h = cc
+star_makes_none mark.Tilde h = cc
+star_makes_none mark.And h = cc
+star_makes_none _ h = refl
+
+no_value : (m : Mark) (p : Prefix) (e : ExprTree) → prefix_of m ≡ Some p → IsTrue (is_place (prefixed p e)) → makes_value m ≡ false
+no_value m prefixes.Dereference e h place = star_makes_none m h
+no_value m prefixes.Address e h place = absurd (false-true (sym (address_no_place e) ∙ place))
+no_value m (prefixes.Operator op) e h place = absurd (false-true (sym (unary_no_place op e) ∙ place))
+
+-- of the operators `*` alone begins a place
+place_begins : {level : ℕ} {ts : List Lexeme} {e : ExprTree} (d : Spells level ts e) (rest : List Lexeme) → IsTrue (is_place e) → begins_value (ts ++ rest) ≡ false
+place_begins (literal t number p) rest h = rw p
+place_begins (variable t name p) rest h = rw p
+place_begins (parenthesised t u p q d) rest h = rw p
+place_begins (index {ts = ts} {us = us} t u p q d g) rest h = ap begins_value (append_assoc ts (t ∷ (us ++ u ∷ [])) rest) ∙ postfix_begins d (t ∷ (us ++ u ∷ []) ++ rest) refl
+place_begins (member {ts = ts} t u name p q d) rest h = ap begins_value (append_assoc ts (t ∷ u ∷ []) rest) ∙ postfix_begins d (t ∷ u ∷ rest) refl
+place_begins (arrow {ts = ts} t u name p q d) rest h = ap begins_value (append_assoc ts (t ∷ u ∷ []) rest) ∙ postfix_begins d (t ∷ u ∷ rest) refl
+place_begins (prefix {e = e} t m o p q d) rest h = rw p (no_value m o e q h)
+place_begins (joined {e = e} {f = f} t m op p q k d g) rest h = absurd (false-true (sym (binary_no_place op e f) ∙ h))
+place_begins (looser d) rest h = place_begins d rest h
+
+
 place_reads : (free : ℕ) → (room : ℕ) {ts : List Lexeme} {place : ExprTree} (d : SpellsPlace ts place) (rest : List Lexeme) → expr_height place ≤ room → Few free ts → NoExtension rest → place_at free room (ts ++ rest) ≡ Some (placed place (expr_height place), rest)
 unfolding place_at
-place_reads free room d rest low few ends = rw (unary_reads free d.0 room rest low few ends, d.1)
+place_reads free room d rest low few ends = rw (place_begins d.0 rest d.1, unary_reads free d.0 room rest low few ends, d.1)
 
 pub one_height : expr_height one ≡ 1
 one_height = literal_height (record { value = 1; unsigned = false })

@@ -73,9 +73,25 @@ step_at ts = mark_at ts >>= step_of
 abbrev pub placed : ExprTree → ℕ → Placed
 placed place height = record { place = place; height = height }
 
+-- an operator that makes a value of what stands behind it, and no place
+abbrev pub makes_value : Mark → Bool
+makes_value mark.Minus = true
+makes_value mark.Plus = true
+makes_value mark.Not = true
+makes_value mark.Tilde = true
+makes_value mark.And = true
+makes_value _ = false
+
+-- such an operator stands at the front, so that no place does
+abbrev pub begins_value : List Lexeme → Bool
+begins_value ts = option_map_or makes_value (mark_at ts) false
+
+abbrev pub unary_place : (free : ℕ) → ℕ → Reader Placed
+unary_place free room ts = read free room unary_level ts >>= (λ x. if is_place x.tree then Some (placed x.tree x.height, x.rest) else None)
+
 -- a place, with its height
 unfoldable pub place_at : (free : ℕ) → ℕ → Reader Placed
-place_at free room ts = read free room unary_level ts >>= (λ x. if is_place x.tree then Some (placed x.tree x.height, x.rest) else None)
+place_at free room ts = if begins_value ts then None else unary_place free room ts
 
 -- what stands behind `=`
 unfoldable pub value_behind : (free : ℕ) → ℕ → ExprTree → Reader SimpleKind

@@ -3,7 +3,7 @@
 ghost use Rattle.std.specs.Prelude.{◌≡◌, ◌≤◌, ◌+◌, drop, length, IsSome, IfOk, Some};
 ghost use Rattle.sc_expr.specs.Fronts.{Agrees};
 ghost use Rattle.sc_parse.specs.Statements.{compound_of, step_of, updates, one};
-ghost use Rattle.sc_parse.specs.StmtReaders.{mark_by, mark_at, change_of, change_at, step_at, place_at, value_behind, operand_behind, stepped, changed, assignment_at, step_before, call_alone, unstepped, simple_at, always, part_at, test_at};
+ghost use Rattle.sc_parse.specs.StmtReaders.{mark_by, mark_at, change_of, change_at, step_at, makes_value, begins_value, place_at, value_behind, operand_behind, stepped, changed, assignment_at, step_before, call_alone, unstepped, simple_at, always, part_at, test_at};
 
 use crate::calls::{call_at, expr_at};
 use crate::copy::copy_expr;
@@ -110,10 +110,28 @@ fn step_at(rest: &[Lexeme]) -> Option<BinaryOp>
     step_of(mark)
 }
 
+fn makes_value(mark: Mark) -> bool
+    ensures { result ≡ makes_value mark }
+{
+    matches!(mark, Mark::Minus | Mark::Plus | Mark::Not | Mark::Tilde | Mark::And)
+}
+
+fn begins_value(rest: &[Lexeme]) -> bool
+    ensures { result ≡ begins_value rest.now }
+{
+    match mark_at(rest) {
+        Some(mark) => makes_value(mark),
+        None => false,
+    }
+}
+
 #[tactic(auto, unfolding(crate::specs::StmtReaders::place_at))]
 fn place_at(alloc: Global, room: u32, rest: &mut &[Lexeme]) -> Result<Placed, SyntaxFault>
     ensures { Agrees (λ x. (x, rest.new.now)) result (place_at 1024 room rest.old.now) }
 {
+    if begins_value(rest) {
+        return Err(refused(rest));
+    }
     let (Built { tree, height }, behind) = parse_level(alloc, MAX_BRACKETS, room, UNARY, rest)?;
     *rest = behind;
     match PlaceTree::new(tree.into_inner()) {

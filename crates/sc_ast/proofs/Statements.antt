@@ -1,6 +1,7 @@
--- The height of each kind of statement.
+-- The height of each kind of statement, and a statement without its lines.
 use Rattle.std.proofs.Common.{◌≡◌, ℕ, ◌+◌, max, List, Option, refl, ◌∙◌, ap, arith, rules}
 use Rattle.sc_ast.specs.Height.{expr_height, call_height, simple_kind_height, option_height, stmt_height, kind_height, stmts_height}
+use Rattle.sc_ast.specs.Lineless.{lineless_stmt, lineless_kind}
 use Rattle.sc_ast.specs.Simple.{kind_of}
 use Rattle.sc_ast.specs.declared.expr.ExprTree.{ExprTree}
 use Rattle.sc_ast.specs.declared.expr.CallTree.{CallTree}
@@ -10,9 +11,9 @@ use Rattle.sc_ast.specs.declared.stmt.SimpleTree.{SimpleTree}
 use Rattle.sc_ast.specs.declared.stmt.StmtKind.{StmtKind, the_lemmas}
 use Rattle.sc_ast.specs.declared.stmt.StmtKind.TheVariants as stmt
 use Rattle.sc_ast.specs.declared.stmt.StmtTree.{StmtTree}
-use Rattle.sc_parse.specs.StmtReaders.{stmt_tree}
+use Rattle.sc_ast.specs.declared.stmt.StmtTree as trees
 
-pub tree_height : (line : ℕ) (kind : StmtKind) → stmt_height (stmt_tree line kind) ≡ kind_height kind + 1
+pub tree_height : (line : ℕ) (kind : StmtKind) → stmt_height (record { line = line; kind = kind }) ≡ kind_height kind + 1
 tree_height line kind = search (rules, the_lemmas)
 
 pub if_height : (cond : ExprTree) (then_part else_part : List StmtTree) → kind_height (stmt.If cond then_part else_part) ≡ max (expr_height cond) (max (stmts_height then_part) (stmts_height else_part))
@@ -46,3 +47,6 @@ pub plain_height : (kind : SimpleKind) → kind_height (kind_of kind) ≡ simple
 plain_height (simple.Assign place value) = search (rules, the_lemmas)
 plain_height (simple.AssignCall place call) = search (rules, the_lemmas)
 plain_height (simple.Call call) = search (rules, the_lemmas)
+
+pub bare_stmt : (line : ℕ) (kind : StmtKind) → lineless_stmt (record { line = line; kind = kind }) ≡ record { line = 0; kind = lineless_kind kind }
+bare_stmt line kind = search (rules, the_lemmas, trees.the_lemmas)
