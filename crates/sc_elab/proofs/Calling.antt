@@ -74,13 +74,17 @@ mapped_twice : {A B C : Type 0} (g : B → C) (f : A → B) (xs : List A) → ma
 mapped_twice g f [] = refl
 mapped_twice g f (x ∷ xs) = ap (λ l. g (f x) ∷ l) (mapped_twice g f xs)
 
-module _ (sections : List SectionTree) (number : ℕ) (section : SectionTree) (imports : List Import) (callees : Callees) (calls : CallsIn (struct_names section.decls) section imports callees) (are : imports ≡ map (import_of sections number) section.imports) where
+module _ (section : SectionTree) (imports : List Import) (callees : Callees) (calls : CallsIn (struct_names section.decls) section imports callees) where
   signature_is : (name : List ℕ) → option_and_then (slice_get callees.signatures) (number_of callees.heads name) ≡ option_map (signature_by (struct_names section.decls)) (called_head section name)
   signature_is name =
       ap (λ s. option_and_then (slice_get s) (number_of callees.heads name)) calls.signatures
       ∙ ap (λ h. option_and_then (slice_get (map (signature_by (struct_names section.decls)) (calling_heads section.decls))) (number_of h name)) calls.heads
       ∙ signature_found name (struct_names section.decls) section
 
+  pub signatures_kept : (called callees).signature ≡ (callees_of [] 0 section).signature
+  signatures_kept = λ j name. signature_is name j
+
+module _ (sections : List SectionTree) (number : ℕ) (section : SectionTree) (imports : List Import) (callees : Callees) (calls : CallsIn (struct_names section.decls) section imports callees) (are : imports ≡ map (import_of sections number) section.imports) where
   targets_are : callees.targets ≡ map (λ line. import_target (import_of sections number line)) section.imports
   targets_are = calls.targets ∙ ap (map import_target) are ∙ mapped_twice import_target (import_of sections number) section.imports
 
@@ -93,4 +97,4 @@ module _ (sections : List SectionTree) (number : ℕ) (section : SectionTree) (i
 
   -- What a section calls by its tables is what its program calls.
   pub called_kept : called callees ≡ callees_of sections number section
-  called_kept = λ j. record { signature = λ name. signature_is name j; target = λ name. target_is name j }
+  called_kept = λ j. record { signature = λ name. signature_is section imports callees calls name j; target = λ name. target_is name j }

@@ -22,11 +22,11 @@ use Rattle.sc_elab.specs.Seen.{visible, value_in, stmt_in}
 use Rattle.sc_elab.specs.Stands.{Stands, StandsIn, local_in}
 use Rattle.sc_elab.proofs.Loops.{left_from, one_more, all_done}
 
-next_place : (i : ℕ) → suc i ≡ i + 1
+pub next_place : (i : ℕ) → suc i ≡ i + 1
 next_place i = omega arith
 
 module _ (scope : SectionScope) (section : SectionTree) (stands : Stands scope section) (tree : FunctionTree) where
-  seen : (count : ℕ) (function : FunctionScope) → StandsIn section tree count function → visible scope function ≡ visible_in section tree count
+  pub seen : (count : ℕ) (function : FunctionScope) → StandsIn section tree count function → visible scope function ≡ visible_in section tree count
   seen count function within =
       λ j. record { structs = stands.structs j; globals = stands.globals j; params = within.params j; locals = within.locals j }
 

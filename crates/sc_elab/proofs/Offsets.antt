@@ -5,11 +5,10 @@ use Rattle.std.proofs.lemmas.List.{drop_all}
 use Rattle.sc_ast.specs.declared.section.Decl.{Decl}
 use Rattle.sc_ast.specs.declared.section.MemberTree.{MemberTree}
 use Rattle.sc_ast.specs.declared.section.StructTree.{StructTree}
-use Rattle.sc_core.specs.Types.{cells_of}
 use Rattle.sc_core.specs.declared.section.TypedMember.{TypedMember}
 use Rattle.sc_core.specs.declared.section.TypedStruct.{TypedStruct}
 use Rattle.sc_scope.specs.Declarations.{struct_in, structs_in}
-use Rattle.sc_elab.specs.Sections.{type_of, members_from, cells_from, typed_struct, typed_structs}
+use Rattle.sc_elab.specs.Sections.{type_of, end_of_member, members_from, cells_from, typed_struct, typed_structs}
 use Rattle.sc_elab.proofs.Loops.{left_from}
 
 module _ (tags : List (List ℕ)) (structs : List TypedStruct) where
@@ -19,7 +18,7 @@ module _ (tags : List (List ℕ)) (structs : List TypedStruct) where
 
   -- the offset behind a member
   abbrev pub end_of : ℕ → MemberTree → ℕ
-  end_of offset member = offset + cells_of structs (type_of tags member.ty)
+  end_of offset member = end_of_member tags structs offset member
 
   pub members_next : (members : List MemberTree) (i : ℕ) (member : MemberTree) (offset : ℕ) → i < length members → member ≡ get_or members i member → members_from tags structs offset (drop i members) ≡ member_at offset member ∷ members_from tags structs (end_of offset member) (drop (i + 1) members)
   members_next members i member offset h e = ap (members_from tags structs offset) (left_from members i member h e)

@@ -1,11 +1,12 @@
 -- Helping: how expressions are judged while they are built.
-use Rattle.std.specs.Prelude.{◌≡◌, ℕ, true, false, List, Option, Some, slice_get}
+use Rattle.std.specs.Prelude.{◌≡◌, ℕ, Bool, true, false, ◌&&◌, List, [], ◌∷◌, Option, Some, None, slice_get}
 use Rattle.sc_ast.specs.declared.stmt.StmtKind.{StmtKind, fold-StmtKind}
 use Rattle.sc_ast.specs.declared.stmt.StmtTree.{StmtTree}
 use Rattle.sc_core.specs.declared.ty.Ty.{Ty}
-use Rattle.sc_core.specs.Typing.{Scope, is_type, variable_ty, has_member}
+use Rattle.sc_core.specs.Typing.{Scope, is_type, variable_ty, has_member, judged, goes_into}
 use Rattle.sc_elab.specs.Scopes.{Visible, Found, found}
-use Rattle.sc_elab.specs.Expressions.{no_ty}
+use Rattle.sc_ast.specs.declared.expr.ExprTree.{ExprTree}
+use Rattle.sc_elab.specs.Expressions.{no_ty, typed, going_to}
 use Rattle.sc_elab.specs.Statements.{Callees, kind_lines}
 
 -- The scope says of what is visible what was declared, and nothing there has the type of what isn't there.
@@ -19,3 +20,19 @@ pub record Suits (visible : Visible) (scope : Scope) : Type 0 where
 abbrev pub lines_at : Visible → Callees → Scope → Option Ty → StmtKind → ℕ → List ℕ
 lines_at visible callees scope result =
     fold-StmtKind (ℕ → List ℕ) (List ℕ) (kind_lines visible callees scope result) (λ s. s.kind s.line)
+
+module _ (visible : Visible) (scope : Scope) where
+  -- a value goes into a place of this type
+  abbrev pub goes_in : Ty → ExprTree → Bool
+  goes_in place value = goes_into place (judged scope (going_to place (typed visible value)))
+
+  -- a local of this type may begin with this
+  abbrev pub init_goes : Ty → Option ExprTree → Bool
+  init_goes t None = true
+  init_goes t (Some init) = goes_in t init
+
+-- each of the arguments goes into its parameter, and there are as many
+abbrev pub all_go : (Ty → ExprTree → Bool) → List Ty → List ExprTree → Bool
+all_go goes [] [] = true
+all_go goes (t ∷ types) (arg ∷ args) = goes t arg && all_go goes types args
+all_go goes _ _ = false

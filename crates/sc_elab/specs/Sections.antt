@@ -26,6 +26,7 @@ use Rattle.sc_ast.specs.declared.section.SectionTree.{SectionTree}
 use Rattle.sc_ast.specs.declared.section.Decl.{Decl}
 use Rattle.sc_ast.specs.declared.section.Decl.TheVariants.{Struct, Global, Function}
 use Rattle.sc_ast.specs.Heads.{head_of}
+use Rattle.sc_ast.specs.Height.{limited}
 use Rattle.sc_core.specs.declared.ty.Ty.{Ty}
 use Rattle.sc_core.specs.declared.ty.Ty.TheVariants as ty
 use Rattle.sc_core.specs.declared.ty.BaseTy.{BaseTy}
@@ -75,14 +76,18 @@ module _ (tags : List (List ℕ)) where
 
   -- Structs: members stand one behind another (C11 6.7.2.1p15).
 
+  -- the offset behind a member that stands at this one; offsets stop at 4294967295, far beyond what a struct may hold
+  abbrev pub end_of_member : List TypedStruct → ℕ → MemberTree → ℕ
+  end_of_member structs offset member = limited (offset + cells_of structs (type_of member.ty))
+
   abbrev pub members_from : List TypedStruct → ℕ → List MemberTree → List TypedMember
   members_from structs offset [] = []
   members_from structs offset (member ∷ members) =
-      record { name = member.name; ty = type_of member.ty; offset = offset } ∷ members_from structs (offset + cells_of structs (type_of member.ty)) members
+      record { name = member.name; ty = type_of member.ty; offset = offset } ∷ members_from structs (end_of_member structs offset member) members
 
   abbrev pub cells_from : List TypedStruct → ℕ → List MemberTree → ℕ
   cells_from structs offset [] = offset
-  cells_from structs offset (member ∷ members) = cells_from structs (offset + cells_of structs (type_of member.ty)) members
+  cells_from structs offset (member ∷ members) = cells_from structs (end_of_member structs offset member) members
 
   -- a struct over those that stand before it
   abbrev pub typed_struct : List TypedStruct → StructTree → TypedStruct
@@ -219,6 +224,16 @@ module _ (section : SectionTree) where
   abbrev pub result_of : FunctionTree → Option Ty
   result_of tree = option_map (type_of_name tags) tree.head.result
 
+  -- The lines, counted in the section, at which a global or a struct breaks a rule.
+
+  abbrev pub global_lines : GlobalTree → List ℕ
+  global_lines tree = unless (is_sized tree.ty && init_holds (type_of tags tree.ty) tree.init) tree.line
+
+  -- a struct has a member
+  abbrev pub struct_lines : StructTree → List ℕ
+  struct_lines tree =
+      unless (nat_le 1 (length tree.members) && list_all {X = MemberTree} (λ member. is_sized member.ty) tree.members) tree.line
+
   module _ (callees : Callees) where
     abbrev pub typed_function : FunctionTree → TypedFunction
     typed_function tree = record {
@@ -251,14 +266,6 @@ module _ (section : SectionTree) where
     abbrev pub function_lines : FunctionTree → List ℕ
     function_lines tree =
         locals_from tree 0 tree.locals ++ concat (map (stmt_lines (visible_of tree) callees (scope_in tree) (result_of tree)) tree.body)
-
-    abbrev pub global_lines : GlobalTree → List ℕ
-    global_lines tree = unless (is_sized tree.ty && init_holds (type_of tags tree.ty) tree.init) tree.line
-
-    -- a struct has a member
-    abbrev pub struct_lines : StructTree → List ℕ
-    struct_lines tree =
-        unless (nat_le 1 (length tree.members) && list_all {X = MemberTree} (λ member. is_sized member.ty) tree.members) tree.line
 
     abbrev pub decl_lines : Decl → List ℕ
     decl_lines (Struct tree) = struct_lines tree

@@ -29,6 +29,13 @@ impl Signature {
     {
         self.params.as_slice()
     }
+
+    /// The type of the result, which is absent for `void`.
+    pub fn result(&self) -> Option<Ty>
+        ensures { result ≡ self.now.result }
+    {
+        self.result
+    }
 }
 
 /// What a section calls by name: the heads by which calls are typed, with their types, the section's functions, and what it imports, with whom that calls.

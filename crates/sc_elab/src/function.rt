@@ -71,8 +71,8 @@ fn build_local(
     })
 }
 
-// The function's variables and this local behind them.
-fn with_local(
+/// The function's variables and this local behind them.
+pub fn with_local(
     tags: &NameList,
     function: FunctionScope,
     local: &LocalTree,
@@ -94,8 +94,8 @@ fn with_local(
     })
 }
 
-// What a function's head gives to its body.
-fn head_scope(
+/// What a function's head gives to its body.
+pub fn head_scope(
     alloc: Global,
     scope: &SectionScope,
     tree: &FunctionTree,

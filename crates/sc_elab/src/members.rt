@@ -1,7 +1,8 @@
 //! Structs with their offsets.
 
 ghost use Rattle.std.specs.Prelude.{◌≡◌, ◌+◌, ◌∷◌, [], IfOk};
-ghost use Rattle.sc_core.specs.Types.{starred_cells, cells_of};
+ghost use Rattle.sc_ast.specs.Height.{limited};
+ghost use Rattle.sc_core.specs.Types.{cells_of};
 ghost use Rattle.sc_scope.specs.Declarations.{structs_in};
 ghost use Rattle.sc_elab.specs.Sections.{members_from, cells_from, typed_struct, typed_structs};
 ghost use Rattle.sc_elab.specs.Placed.{member_names, names_of};
@@ -10,51 +11,15 @@ use crate::structs::Structs;
 use crate::tree_ty::type_of;
 use sc_ast::{Decl, MemberTree, StructTree};
 use sc_base::{NameList, OutOfMemory};
-use sc_core::{BaseTy, Ty, TypedMember, TypedMembers, TypedStruct};
+use sc_core::{Ty, TypedMember, TypedMembers, TypedStruct};
 use sqlite_items::Items;
 use std::alloc::Global;
 
-// The cells of a type with so many `*`.
-fn starred_cells(structs: &Structs, stars: u64, base: BaseTy) -> u32
-    ensures { result ≡ starred_cells structs.now stars base }
+// Where a part of this type ends.
+fn end_of(structs: &Structs, offset: u32, ty: Ty) -> u32
+    ensures { result ≡ limited (offset + cells_of structs.now ty) }
 {
-    if stars == 0 {
-        match base {
-            BaseTy::Int => 1,
-            BaseTy::Unsigned => 1,
-            BaseTy::Struct(number) => structs.cells(number),
-        }
-    } else {
-        1
-    }
-}
-
-// The cells of a variable of this type. There is no memory for more than 4294967295.
-fn cells_of(structs: &Structs, ty: Ty) -> Result<u32, OutOfMemory>
-    ensures { IfOk result (λ cells. cells ≡ cells_of structs.now ty) }
-{
-    match ty {
-        Ty::Struct(number) => Ok(structs.cells(number)),
-        Ty::Array {
-            stars,
-            base,
-            length,
-        } => match length.checked_mul(starred_cells(structs, stars, base)) {
-            Some(cells) => Ok(cells),
-            None => Err(OutOfMemory),
-        },
-        _ => Ok(1),
-    }
-}
-
-// Where a part of so many cells ends. There is no memory past 4294967295 cells.
-fn end_of(offset: u32, cells: u32) -> Result<u32, OutOfMemory>
-    ensures { IfOk result (λ end. end ≡ offset + cells) }
-{
-    match offset.checked_add(cells) {
-        Some(end) => Ok(end),
-        None => Err(OutOfMemory),
-    }
+    offset.saturating_add(structs.cells_of(ty))
 }
 
 // Members one behind another, their names, and the cells of them all.
@@ -80,7 +45,7 @@ fn build_members(
             ty,
             offset: cells,
         })?;
-        cells = end_of(cells, cells_of(structs, ty)?)?;
+        cells = end_of(structs, cells, ty);
     }
     Ok((built, names, cells))
 }

@@ -30,7 +30,8 @@ fn push_tag(tags: &mut NameList, decl: &Decl) -> Result<(), OutOfMemory>
     }
 }
 
-fn build_tags(alloc: Global, decls: &[Decl]) -> Result<NameList, OutOfMemory>
+/// The tags of the structs of a section, in order.
+pub fn build_tags(alloc: Global, decls: &[Decl]) -> Result<NameList, OutOfMemory>
     ensures { IfOk result (λ tags. tags ≡ struct_names decls.now) }
 {
     let mut tags = NameList::new(alloc);
@@ -40,8 +41,8 @@ fn build_tags(alloc: Global, decls: &[Decl]) -> Result<NameList, OutOfMemory>
     Ok(tags)
 }
 
-// What the section gives to the bodies of its functions, where it imports these functions.
-fn build_scope(
+/// What the section gives to the bodies of its functions, where it imports these functions.
+pub fn build_scope(
     alloc: Global,
     section: &SectionTree,
     imports: &[Import],

@@ -1,5 +1,6 @@
 ghost use Rattle.std.specs.Prelude.{◌≡◌, ◌++◌, ◌∷◌, [], map, slice_get, Some, IfOk};
-ghost use Rattle.sc_core.specs.Types.{struct_cells};
+ghost use Rattle.sc_ast.specs.Height.{limited};
+ghost use Rattle.sc_core.specs.Types.{struct_cells, starred_cells, cells_of};
 ghost use Rattle.sc_elab.specs.Scopes.{member_named, struct_of};
 ghost use Rattle.sc_elab.specs.Placed.{member_names};
 
@@ -69,6 +70,35 @@ impl Structs {
         match self.list.get(number as usize) {
             None => 0,
             Some(tree) => tree.cells,
+        }
+    }
+
+    // The cells of a type with so many `*`.
+    fn starred_cells(&self, stars: u64, base: BaseTy) -> u32
+        ensures { result ≡ starred_cells self.now stars base }
+    {
+        if stars > 0 {
+            return 1;
+        }
+        match base {
+            BaseTy::Int => 1,
+            BaseTy::Unsigned => 1,
+            BaseTy::Struct(number) => self.cells(number),
+        }
+    }
+
+    /// The cells of a variable of this type, as a number that stops at 4294967295.
+    pub fn cells_of(&self, ty: Ty) -> u32
+        ensures { result ≡ limited (cells_of self.now ty) }
+    {
+        match ty {
+            Ty::Struct(number) => self.cells(number),
+            Ty::Array {
+                stars,
+                base,
+                length,
+            } => length.saturating_mul(self.starred_cells(stars, base)),
+            _ => 1,
         }
     }
 

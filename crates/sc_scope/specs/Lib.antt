@@ -2,4 +2,3 @@ pub mod Broken
 pub mod Declarations
 pub mod Interfaces
 pub mod Names
-pub mod Stars

@@ -277,7 +277,7 @@ module _ (section : SectionTree) where
     globals_are before (Function tree ∷ decls) whole in_names holds sizes =
         globals_are (before ++ Function tree ∷ []) decls (append_assoc before (Function tree ∷ []) decls ∙ whole) (back_empty (names.decl_lines (names.declared section before) (Function tree)) _ in_names) (back_empty (decl_lines section callees (Function tree)) _ holds) sizes
 
-    struct_is : (before : List Decl) (tree : StructTree) → names.decl_lines (names.declared section before) (Struct tree) ≡ [] → struct_lines section callees tree ≡ [] → Known (struct_names before) tree
+    struct_is : (before : List Decl) (tree : StructTree) → names.decl_lines (names.declared section before) (Struct tree) ≡ [] → struct_lines section tree ≡ [] → Known (struct_names before) tree
     struct_is before tree in_names holds =
         let known : names.struct_known (names.declared section before) tree ≡ true = held _ tree.line in_names in
         let shape : (nat_le 1 (length tree.members) && list_all {X = MemberTree} (λ member. is_sized member.ty) tree.members) ≡ true = held _ tree.line holds in

@@ -16,7 +16,6 @@ mod Readings
 mod Refusals
 mod Sections
 mod Sources
-mod Stars
 mod Structs
 pub mod TypedNodes
 mod Verdicts

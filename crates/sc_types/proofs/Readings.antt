@@ -18,7 +18,6 @@ use Rattle.sc_read.specs.Reading.{Part, part_of, IsRead, Reads}
 use Rattle.sc_read.specs.Reading as reading
 use Rattle.sc_core.specs.declared.program.ProgramTree.{ProgramTree}
 use Rattle.sc_scope.specs.Broken.{refused_at}
-use Rattle.sc_scope.specs.Stars.{section_has_few, HasFewStars}
 use Rattle.sc_scope.specs.Names.{names_broken}
 use Rattle.sc_elab.specs.Sections.{types_broken, program_of}
 use Rattle.sc_interfaces.specs.Faces.{interface_broken}
@@ -28,7 +27,6 @@ use Rattle.sc_types.proofs.Basics.{both, Each}
 use Rattle.sc_types.proofs.Functions.{map_length}
 use Rattle.sc_types.proofs.Places.{at_most}
 use Rattle.sc_types.proofs.Refusals.{no_line}
-use Rattle.sc_types.proofs.Stars.{section_few}
 
 low_from : (text : List ℕ) (parts : List Part) (trees : List SectionTree) → AllZip (IsRead text) parts trees → list_all {X = SectionTree} (λ tree. nat_le (section_height tree) 256) trees ≡ true
 low_from text [] [] h = refl
@@ -52,27 +50,6 @@ IsWithin text part = length part.bytes ≤ length text
 
 range_within : (text : List ℕ) (a b : ℕ) → b ≤ length text → length (slice_range text a b) ≤ length text
 range_within text a b h = omega (arith, h, length-take (b - a) (drop a text))
-
-parts_within : {text : List ℕ} {at end : ℕ} {found : List Section} → AreSections text at end found → Each (IsWithin text) (map part_of found)
-parts_within none = tt
-parts_within {text} {at} (section {next = next} first g others) =
-    (subst (λ bytes. length bytes ≤ length text) (sym g.bytes) (range_within text at next g.within.1), parts_within others)
-
-few_in : (text : List ℕ) (part : Part) (tree : SectionTree) → IsWithin text part → length text < 18446744073709551615 → IsRead text part tree → section_has_few tree ≡ true
-few_in text part tree within short r =
-    section_few _ (lexemes_of part.bytes r.tokens) tree r.parsed.spelled (omega (arith, within, short, tokens_within r.cut, map_length (λ token. lexeme_of part.bytes token) r.tokens))
-
-few_from : (text : List ℕ) (parts : List Part) (trees : List SectionTree) → length text < 18446744073709551615 → Each (IsWithin text) parts → AllZip (IsRead text) parts trees → list_all section_has_few trees ≡ true
-few_from text [] [] short w h = refl
-few_from text [] (tree ∷ trees) short w h = absurd h
-few_from text (part ∷ parts) [] short w h = absurd h
-few_from text (part ∷ parts) (tree ∷ trees) short w h =
-    both (section_has_few tree) _ (few_in text part tree w.0 short h.0) (few_from text parts trees short w.1 h.1)
-
--- a text has fewer stars than bytes
-pub reads_few : (text : List ℕ) (trees : List SectionTree) → length text < 18446744073709551615 → Reads text trees → HasFewStars trees
-reads_few text trees short r =
-    few_from text r.sections trees short (subst (Each (IsWithin text)) (sym r.lexed.parts) (parts_within r.lexed.split.behind)) r.each
 
 -- a text that isn't read fails
 pub unread_fails : (text : List ℕ) (in_phase : Phase) (line : ℕ) → reading.Fails text in_phase line → Fails text in_phase line

@@ -22,9 +22,9 @@ use Rattle.sc_core.specs.Typing.{starred}
 use Rattle.sc_core.specs.WellTyped.{base_within, starred_within, type_within, members_fit, struct_fits, structs_fit, most_cells}
 use Rattle.sc_scope.specs.Interfaces.{number_or_zero}
 use Rattle.sc_scope.specs.Names.{base_known, pointed_known, member_known}
-use Rattle.sc_elab.specs.Sections.{is_sized, base_of, type_of_name, type_with, type_of, members_from, cells_from, typed_struct, typed_structs}
+use Rattle.sc_elab.specs.Sections.{is_sized, base_of, type_of_name, type_with, type_of, end_of_member, members_from, cells_from, typed_struct, typed_structs}
 use Rattle.sc_types.proofs.Basics.{both, left, right, either}
-use Rattle.sc_types.proofs.Places.{Text, same_is, eq_refl, less, at_most, number_within, number_front, number_next}
+use Rattle.sc_types.proofs.Places.{Text, same_is, eq_refl, less, at_most, is_at_most, number_within, number_front, number_next}
 
 -- Tags.
 
@@ -140,15 +140,34 @@ module _ (names : List Text) (self : Text) (after : List Text) (new : is_numbere
   Fits offset members =
       members_fit (done ++ more) (length names) offset (members_from every done offset members) (cells_from every done offset members) ≡ true
 
-  member_is : (offset : ℕ) (m : MemberTree) (members : List MemberTree) → member_known names self m ≡ true → is_sized m.ty ≡ true → Fits (offset + cells_of done (type_of every m.ty)) members → Fits offset (m ∷ members)
-  member_is offset m members known sized rest =
-      let within : type_within (length names) (suc (length names)) (type_of every m.ty) ≡ true = member_within names self after new m known sized in
-      both (offset == offset) _ (eq_refl offset) (both _ _ within (subst (λ cells. members_fit (done ++ more) (length names) (offset + cells) (members_from every done (offset + cells_of done (type_of every m.ty)) members) (cells_from every done (offset + cells_of done (type_of every m.ty)) members) ≡ true) (sym (cells_same done more (length names) size (suc (length names)) (type_of every m.ty) within)) rest))
+  -- the offset behind a member
+  abbrev end : ℕ → MemberTree → ℕ
+  end offset m = end_of_member every done offset m
 
-  members_are : (offset : ℕ) (members : List MemberTree) → list_all (member_known names self) members ≡ true → list_all {X = MemberTree} (λ member. is_sized member.ty) members ≡ true → Fits offset members
-  members_are offset [] known sized = eq_refl offset
-  members_are offset (m ∷ members) known sized =
-      member_is offset m members (left (member_known names self m) (list_all (member_known names self) members) known) (left (is_sized m.ty) (list_all {X = MemberTree} (λ member. is_sized member.ty) members) sized) (members_are (offset + cells_of done (type_of every m.ty)) members (right (member_known names self m) (list_all (member_known names self) members) known) (right (is_sized m.ty) (list_all {X = MemberTree} (λ member. is_sized member.ty) members) sized))
+  end_within : (offset : ℕ) (m : MemberTree) → end offset m ≤ 4294967295
+  end_within offset m = omega arith
+
+  below : (offset : ℕ) (members : List MemberTree) → offset ≤ 4294967295 → offset ≤ cells_from every done offset members
+  below offset [] within = omega arith
+  below offset (m ∷ members) within =
+      let behind : end offset m ≤ cells_from every done (end offset m) members = below (end offset m) members (end_within offset m) in
+      omega (arith, within, behind)
+
+  -- in a small struct no offset stops
+  exact : (offset : ℕ) (m : MemberTree) (members : List MemberTree) → cells_from every done (end offset m) members ≤ 1048576 → end offset m ≡ offset + cells_of done (type_of every m.ty)
+  exact offset m members small =
+      let behind : end offset m ≤ cells_from every done (end offset m) members = below (end offset m) members (end_within offset m) in
+      omega (arith, small, behind)
+
+  member_is : (offset : ℕ) (m : MemberTree) (members : List MemberTree) → member_known names self m ≡ true → is_sized m.ty ≡ true → end offset m ≡ offset + cells_of done (type_of every m.ty) → Fits (end offset m) members → Fits offset (m ∷ members)
+  member_is offset m members known sized same rest =
+      let within : type_within (length names) (suc (length names)) (type_of every m.ty) ≡ true = member_within names self after new m known sized in
+      both (offset == offset) _ (eq_refl offset) (both _ _ within (subst (λ start. members_fit (done ++ more) (length names) start (members_from every done (end offset m) members) (cells_from every done (end offset m) members) ≡ true) (same ∙ ap (λ cells. offset + cells) (sym (cells_same done more (length names) size (suc (length names)) (type_of every m.ty) within))) rest))
+
+  members_are : (offset : ℕ) (members : List MemberTree) → list_all (member_known names self) members ≡ true → list_all {X = MemberTree} (λ member. is_sized member.ty) members ≡ true → cells_from every done offset members ≤ 1048576 → Fits offset members
+  members_are offset [] known sized small = eq_refl offset
+  members_are offset (m ∷ members) known sized small =
+      member_is offset m members (left (member_known names self m) (list_all (member_known names self) members) known) (left (is_sized m.ty) (list_all {X = MemberTree} (λ member. is_sized member.ty) members) sized) (exact offset m members small) (members_are (end offset m) members (right (member_known names self m) (list_all (member_known names self) members) known) (right (is_sized m.ty) (list_all {X = MemberTree} (λ member. is_sized member.ty) members) sized) small)
 
 map_length : {A B : Type 0} (f : A → B) (xs : List A) → length (map f xs) ≡ length xs
 map_length f [] = refl
@@ -156,7 +175,7 @@ map_length f (x ∷ xs) = ap suc (map_length f xs)
 
 members_length : (all : List Text) (structs : List TypedStruct) (offset : ℕ) (members : List MemberTree) → length (members_from all structs offset members) ≡ length members
 members_length all structs offset [] = refl
-members_length all structs offset (m ∷ members) = ap suc (members_length all structs (offset + cells_of structs (type_of all m.ty)) members)
+members_length all structs offset (m ∷ members) = ap suc (members_length all structs (end_of_member all structs offset m) members)
 
 -- All structs.
 
@@ -200,9 +219,15 @@ module _ (all : List Text) where
         got : slice_get structs (length names) ≡ Some (typed_struct all done tree)
         got = ap (λ s. slice_get s (length names)) whole ∙ ap (slice_get (done ++ typed_struct all done tree ∷ more)) (sym size) ∙ get_next done (typed_struct all done tree) more
 
+        whole_cells : nat_le (cells_from all done 0 tree.members) most_cells ≡ true
+        whole_cells = subst (λ o. nat_le (struct_cells o) most_cells ≡ true) got small
+
+        within : cells_from (names ++ tree.name ∷ after) done 0 tree.members ≤ 1048576
+        within = subst (λ a. cells_from a done 0 tree.members ≤ 1048576) (sym is) (is_at_most (cells_from all done 0 tree.members) most_cells whole_cells)
+
         members : members_fit structs (length names) 0 (members_from all done 0 tree.members) (cells_from all done 0 tree.members) ≡ true
         members =
-            subst (λ s. members_fit s (length names) 0 (members_from all done 0 tree.members) (cells_from all done 0 tree.members) ≡ true) (sym whole) (subst (λ a. members_fit (done ++ typed_struct all done tree ∷ more) (length names) 0 (members_from a done 0 tree.members) (cells_from a done 0 tree.members) ≡ true) is (members_are names tree.name after known.new done (typed_struct all done tree ∷ more) size 0 tree.members known.members known.sized))
+            subst (λ s. members_fit s (length names) 0 (members_from all done 0 tree.members) (cells_from all done 0 tree.members) ≡ true) (sym whole) (subst (λ a. members_fit (done ++ typed_struct all done tree ∷ more) (length names) 0 (members_from a done 0 tree.members) (cells_from a done 0 tree.members) ≡ true) is (members_are names tree.name after known.new done (typed_struct all done tree ∷ more) size 0 tree.members known.members known.sized within))
 
   rest_fit : (names : List Text) (trees : List StructTree) (done structs : List TypedStruct) → names ++ tags_of trees ≡ all → length done ≡ length names → structs ≡ done ++ rest_of all done trees → AllKnown names trees → AllSmall structs (length names) trees → structs_fit structs (length names) (rest_of all done trees) ≡ true
   rest_fit names [] done structs is size whole known small = refl

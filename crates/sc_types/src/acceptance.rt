@@ -4,25 +4,22 @@ ghost use Rattle.sc_scope.specs.Names.{names_broken};
 ghost use Rattle.sc_elab.specs.Sections.{types_broken, program_of};
 ghost use Rattle.sc_interfaces.specs.Faces.{interface_broken};
 ghost use Rattle.sc_types.specs.Counts.{counts_broken};
-ghost use Rattle.sc_scope.specs.Stars.{HasFewStars};
 ghost use Rattle.sc_types.specs.Acceptance.{AreLow, IsTyped, FailsRules};
 
 use sc_ast::SectionTree;
-use sc_elab::build_program;
+use sc_elab::{broken_type, build_program};
 use sc_core::Program;
 use crate::counts::broken_count;
 use sc_interfaces::{broken_interface, interfaces};
 use sc_lex::{Phase, Refusal};
 use sc_scope::broken_name;
 use sc_read::TextFault;
-use sc_typing::broken_type;
 use std::alloc::Global;
 
 /// The program of a text's sections, or the first of the phases names, types, interface and count that they fail, and the
 /// line: the least positive one at which a rule of that phase is broken, or 0 where a `main` is missing alone.
 pub fn type_program(alloc: Global, sections: &[SectionTree]) -> Result<Program, TextFault>
-    requires low { AreLow sections.now }
-    requires stars { HasFewStars sections.now }
+    requires { AreLow sections.now }
     ensures accepted { IfOk result (IsTyped sections.now) }
     ensures refused { (refusal : Refusal) → IsErrOf result (TextFault.Refused refusal) → FailsRules sections.now refusal.phase refusal.line }
 {
@@ -46,8 +43,7 @@ fn check_names(alloc: Global, sections: &[SectionTree]) -> Result<(), TextFault>
 
 #[tactic(auto, using(crate::proofs::Phases::passes))]
 fn check_types(alloc: Global, sections: &[SectionTree]) -> Result<(), TextFault>
-    requires names { names_broken sections.now ≡ [] }
-    requires stars { HasFewStars sections.now }
+    requires { names_broken sections.now ≡ [] }
     ensures ok { OnOk result (types_broken sections.now ≡ []) }
     ensures refused { (refusal : Refusal) → IsErrOf result (TextFault.Refused refusal) → FailsRules sections.now refusal.phase refusal.line }
 {

@@ -1,7 +1,7 @@
-use Rattle.std.proofs.Common.{◌≡◌, Err, ap, arith}
+use Rattle.std.proofs.Common.{◌≡◌, Err, ap}
 use Rattle.std.proofs.lemmas.Result.{err_from_is_err_and}
 use Rattle.sc_lex.specs.declared.fault.TextFault.TheVariants.{Refused}
-use Rattle.sc_types.proofs.Readings.{reads_low, reads_few, unread_fails, untyped_fails, typed_accepted}
+use Rattle.sc_types.proofs.Readings.{reads_low, unread_fails, untyped_fails, typed_accepted}
 use Rattle.sc_types.proofs.text.read_program.Goals as goal
 
 pub returns-in_err-trees-clause-refused : goal.returns-in_err-trees-clause-refused
@@ -12,12 +12,8 @@ returns-in_err-trees-clause-refused c = λ refusal is.
     let below : c.in_err-trees.field-0.0 ≡ Refused refusal = cc in
     unread_fails c.args.text.now refusal.phase refusal.line (c.in_err-trees.ensures.refused refusal (ap Err below))
 
-pub type_program-requires-clause-low : goal.type_program-requires-clause-low
-type_program-requires-clause-low c = rw c.as_slice.ensures (reads_low c.args.text.now c.in_ok-trees.trees c.in_ok-trees.ensures.read)
-
-pub type_program-requires-clause-stars : goal.type_program-requires-clause-stars
-type_program-requires-clause-stars c =
-    rw c.as_slice.ensures (reads_few c.args.text.now c.in_ok-trees.trees (omega arith) c.in_ok-trees.ensures.read)
+pub type_program-requires : goal.type_program-requires
+type_program-requires c = rw c.as_slice.ensures (reads_low c.args.text.now c.in_ok-trees.trees c.in_ok-trees.ensures.read)
 
 pub returns-clause-accepted : goal.returns-clause-accepted
 returns-clause-accepted c =

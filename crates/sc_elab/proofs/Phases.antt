@@ -1,0 +1,53 @@
+-- The lines of a text are those of its sections.
+use Rattle.std.proofs.Common.{◌≡◌, ◌≤◌, ◌<◌, ℕ, ◌+◌, List, [], ◌∷◌, ◌++◌, length, map, drop, get_or, Option, refl, sym, ap, ◌∙◌, add-one}
+use Rattle.std.specs.List.{concat}
+use Rattle.std.proofs.Math.Seq.{drop-cons}
+use Rattle.std.proofs.lemmas.List.{drop_all}
+use Rattle.sc_event.specs.declared.interface.Import.{Import}
+use Rattle.sc_ast.specs.declared.section.Decl.{Decl}
+use Rattle.sc_ast.specs.declared.section.SectionTree.{SectionTree}
+use Rattle.sc_scope.specs.declared.broken.BrokenLines.{BrokenLines}
+use Rattle.sc_scope.specs.Broken.{line_of_text, noted, noted_all, with_lines}
+use Rattle.sc_scope.specs.Declarations.{struct_names}
+use Rattle.sc_elab.specs.Called.{called, CallsIn}
+use Rattle.sc_elab.specs.Sections.{callees_of, decl_lines, section_lines}
+use Rattle.sc_elab.specs.declared.callees.Callees.{Callees}
+use Rattle.sc_elab.proofs.Calling.{signatures_kept}
+
+noted-append : (least : Option ℕ) (xs ys : List ℕ) → noted_all least (xs ++ ys) ≡ noted_all (noted_all least xs) ys
+unfolding noted_all
+noted-append least [] ys = refl
+noted-append least (x ∷ xs) ys = noted-append (noted least x) xs ys
+
+noted-nil : (least : Option ℕ) → noted_all least [] ≡ least
+unfolding noted_all
+noted-nil least = refl
+
+-- the lines of a section, as lines of the text
+abbrev pub lines_in : SectionTree → List ℕ
+lines_in section = map (line_of_text section.line) (section_lines section (callees_of [] 0 section))
+
+-- who is called matters not for types
+same_lines : (section : SectionTree) (imports : List Import) (callees : Callees) → CallsIn (struct_names section.decls) section imports callees → section_lines section (called callees) ≡ section_lines section (callees_of [] 0 section)
+same_lines section imports callees calls =
+    λ j. section_lines section (record { signature = signatures_kept section imports callees calls j; target = (called callees).target })
+
+pub section-noted : (section : SectionTree) (imports : List Import) (callees : Callees) → CallsIn (struct_names section.decls) section imports callees → (decls : List Decl) → decls ≡ section.decls → (least : Option ℕ) (lines : BrokenLines) → lines ≡ with_lines (record { start = section.line; least = least }) (concat (map (decl_lines section (called callees)) decls)) → lines.least ≡ noted_all least (lines_in section)
+section-noted section imports callees calls decls same least lines is =
+    ap (λ x. x.least) is
+    ∙ ap (λ d. noted_all least (map (line_of_text section.line) (concat (map (decl_lines section (called callees)) d)))) same
+    ∙ ap (λ l. noted_all least (map (line_of_text section.line) l)) (same_lines section imports callees calls)
+
+module _ (sections : List SectionTree) (i : ℕ) (whole : Option ℕ) where
+  pub section-next : (least next : Option ℕ) (x : SectionTree) → i < length sections → x ≡ get_or sections i x → next ≡ noted_all least (lines_in x) → noted_all least (concat (map lines_in (drop i sections))) ≡ whole → noted_all next (concat (map lines_in (drop (i + 1) sections))) ≡ whole
+  section-next least next x within is noted so =
+      ap (λ least. noted_all least (concat (map lines_in (drop (i + 1) sections)))) noted
+      ∙ sym (noted-append least (lines_in x) (concat (map lines_in (drop (i + 1) sections))))
+      ∙ (λ j. noted_all least (lines_in (is j) ++ concat (map lines_in (drop (add-one i j) sections))))
+      ∙ (λ j. noted_all least (concat (map lines_in (sym (drop-cons sections i x within) j))))
+      ∙ so
+
+  pub sections-end : (least : Option ℕ) → length sections ≤ i → noted_all least (concat (map lines_in (drop i sections))) ≡ whole → least ≡ whole
+  sections-end least done so =
+      sym (noted-nil least) ∙ (λ j. noted_all least (concat (map lines_in (sym (drop_all i sections done) j)))) ∙ so
+

@@ -1,0 +1,236 @@
+//! The rules of types on the parts of statements (C11 6.5.2.2, 6.5.16.1, 6.8), by what is judged of their expressions.
+
+ghost use Rattle.std.specs.Prelude.{◌≡◌, ◌&&◌, Some, IfOk};
+ghost use Rattle.sc_ast.specs.declared.section.InitTree;
+ghost use Rattle.sc_core.specs.Typing.{Scope, option_goes, result_goes, is_target};
+ghost use Rattle.sc_elab.specs.Called.{called};
+ghost use Rattle.sc_elab.specs.Judging.{Suits, goes_in, init_goes, all_go};
+ghost use Rattle.sc_elab.specs.Sections.{is_sized, is_null, init_holds};
+ghost use Rattle.sc_elab.specs.Seen.{visible};
+ghost use Rattle.sc_elab.specs.Statements.{assign_holds, assign_call_holds, call_holds, cond_holds, return_value_holds, return_call_holds, simple_holds};
+
+use crate::expr::build_expr;
+use crate::judged::Judged;
+use crate::scope::{FunctionScope, SectionScope};
+use crate::stmt::build_value;
+use sc_ast::{CallTree, ConstTree, ExprTree, InitTree, SimpleKind, TypeTree};
+use sc_base::{Name, OutOfMemory};
+use sc_core::{BaseTy, Ty};
+use std::alloc::Global;
+
+/// What is seen at a place of a function.
+#[derive(Clone, Copy)]
+pub struct Place<'a> {
+    pub section: &'a SectionScope,
+    pub function: &'a FunctionScope,
+}
+
+impl Place<'_> {
+    // Whether a value goes into a place of this type.
+    #[tactic(auto, unfolding(crate::specs::Seen::value_in))]
+    fn goes(&self, alloc: Global, ty: Ty, value: &ExprTree) -> Result<bool, OutOfMemory>
+        ensures { (scope : Scope) → Suits (visible self.now.section.now self.now.function.now) scope → IfOk result (λ goes. goes ≡ goes_in (visible self.now.section.now self.now.function.now) scope ty value.now) }
+    {
+        let value = build_value(alloc, self.section, self.function, ty, value)?;
+        value.judged.goes_into(ty)
+    }
+
+    /// Whether a local of this type may begin with this (C11 6.7.9p11).
+    pub fn may_begin(
+        &self,
+        alloc: Global,
+        ty: Ty,
+        init: &Option<ExprTree>,
+    ) -> Result<bool, OutOfMemory>
+        ensures { (scope : Scope) → Suits (visible self.now.section.now self.now.function.now) scope → IfOk result (λ holds. holds ≡ init_goes (visible self.now.section.now self.now.function.now) scope ty init.now) }
+    {
+        match init {
+            None => Ok(true),
+            Some(init) => self.goes(alloc, ty, init),
+        }
+    }
+
+    // Whether arguments go into parameters of these types (C11 6.5.2.2p2).
+    #[tactic(auto, using(crate::proofs::Ruled::arguments))]
+    fn all_go(
+        &self,
+        alloc: Global,
+        params: &[Ty],
+        args: &[ExprTree],
+    ) -> Result<bool, OutOfMemory>
+        ensures { (scope : Scope) → Suits (visible self.now.section.now self.now.function.now) scope → IfOk result (λ holds. holds ≡ all_go (goes_in (visible self.now.section.now self.now.function.now) scope) params.now args.now) }
+    {
+        if params.len() != args.len() {
+            return Ok(false);
+        }
+        for i in 0..params.len() {
+            if !self.goes(alloc, params[i], &args[i])? {
+                return Ok(false);
+            }
+        }
+        Ok(true)
+    }
+
+    pub fn call_holds(&self, alloc: Global, call: &CallTree) -> Result<bool, OutOfMemory>
+        ensures { (scope : Scope) → Suits (visible self.now.section.now self.now.function.now) scope → IfOk result (λ holds. holds ≡ call_holds (visible self.now.section.now self.now.function.now) (called self.now.section.now.callees) scope self.now.function.now.result call.now) }
+    {
+        match self.section.callees.signature(&call.name.name()) {
+            None => Ok(false),
+            Some(signature) => self.all_go(alloc, signature.params(), call.args.as_slice()),
+        }
+    }
+
+    // Whether what is called by this name has a result that goes into a place of this type.
+    fn result_goes(&self, name: &Name, ty: Ty) -> bool
+        ensures { result ≡ result_goes ((called self.now.section.now.callees).signature name.now) ty }
+    {
+        match self.section.callees.signature(name) {
+            None => false,
+            Some(signature) => option_goes(signature.result(), ty),
+        }
+    }
+
+    // Whether a call fits and its result goes into a place of this type.
+    fn gives(&self, alloc: Global, call: &CallTree, ty: Ty) -> Result<bool, OutOfMemory>
+        ensures { (scope : Scope) → Suits (visible self.now.section.now self.now.function.now) scope → IfOk result (λ holds. holds ≡ (call_holds (visible self.now.section.now self.now.function.now) (called self.now.section.now.callees) scope self.now.function.now.result call.now && result_goes ((called self.now.section.now.callees).signature call.now.name) ty)) }
+    {
+        let fits = self.call_holds(alloc, call)?;
+        Ok(fits && self.result_goes(&call.name.name(), ty))
+    }
+
+    pub fn assign_holds(
+        &self,
+        alloc: Global,
+        place: &ExprTree,
+        value: &ExprTree,
+    ) -> Result<bool, OutOfMemory>
+        ensures { (scope : Scope) → Suits (visible self.now.section.now self.now.function.now) scope → IfOk result (λ holds. holds ≡ assign_holds (visible self.now.section.now self.now.function.now) (called self.now.section.now.callees) scope self.now.function.now.result place.now value.now) }
+    {
+        let place = build_expr(alloc, self.section, self.function, place)?;
+        let goes = self.goes(alloc, place.expr.ty, value)?;
+        Ok(takes(place.judged, goes))
+    }
+
+    pub fn assign_call_holds(
+        &self,
+        alloc: Global,
+        place: &ExprTree,
+        call: &CallTree,
+    ) -> Result<bool, OutOfMemory>
+        ensures { (scope : Scope) → Suits (visible self.now.section.now self.now.function.now) scope → IfOk result (λ holds. holds ≡ assign_call_holds (visible self.now.section.now self.now.function.now) (called self.now.section.now.callees) scope self.now.function.now.result place.now call.now) }
+    {
+        let place = build_expr(alloc, self.section, self.function, place)?;
+        let gives = self.gives(alloc, call, place.expr.ty)?;
+        Ok(takes(place.judged, gives))
+    }
+
+    /// Whether this is a condition.
+    pub fn cond_holds(&self, alloc: Global, cond: &ExprTree) -> Result<bool, OutOfMemory>
+        ensures { (scope : Scope) → Suits (visible self.now.section.now self.now.function.now) scope → IfOk result (λ holds. holds ≡ cond_holds (visible self.now.section.now self.now.function.now) (called self.now.section.now.callees) scope self.now.function.now.result cond.now) }
+    {
+        let cond = build_expr(alloc, self.section, self.function, cond)?;
+        Ok(cond.judged.is_scalar())
+    }
+
+    /// Whether a value may be returned (C11 6.8.6.4).
+    pub fn return_value_holds(&self, alloc: Global, value: &ExprTree) -> Result<bool, OutOfMemory>
+        ensures { (scope : Scope) → Suits (visible self.now.section.now self.now.function.now) scope → IfOk result (λ holds. holds ≡ return_value_holds (visible self.now.section.now self.now.function.now) (called self.now.section.now.callees) scope self.now.function.now.result value.now) }
+    {
+        match self.function.result {
+            None => Ok(false),
+            Some(ty) => self.goes(alloc, ty, value),
+        }
+    }
+
+    /// Whether a call's result may be returned.
+    pub fn return_call_holds(&self, alloc: Global, call: &CallTree) -> Result<bool, OutOfMemory>
+        ensures { (scope : Scope) → Suits (visible self.now.section.now self.now.function.now) scope → IfOk result (λ holds. holds ≡ return_call_holds (visible self.now.section.now self.now.function.now) (called self.now.section.now.callees) scope self.now.function.now.result self.now.function.now.result call.now) }
+    {
+        match self.function.result {
+            None => Ok(false),
+            Some(ty) => self.gives(alloc, call, ty),
+        }
+    }
+
+    /// Whether an assignment or a call keeps the rules.
+    pub fn simple_holds(&self, alloc: Global, simple: &SimpleKind) -> Result<bool, OutOfMemory>
+        ensures { (scope : Scope) → Suits (visible self.now.section.now self.now.function.now) scope → IfOk result (λ holds. holds ≡ simple_holds (visible self.now.section.now self.now.function.now) (called self.now.section.now.callees) scope self.now.function.now.result simple.now) }
+    {
+        match simple {
+            SimpleKind::Assign { place, value } => self.assign_holds(alloc, place.get(), value),
+            SimpleKind::AssignCall { place, call } => {
+                self.assign_call_holds(alloc, place.get(), call)
+            }
+            SimpleKind::Call(call) => self.call_holds(alloc, call),
+        }
+    }
+}
+
+fn option_goes(value: Option<Ty>, place: Ty) -> bool
+    ensures { result ≡ option_goes value place }
+{
+    match value {
+        None => false,
+        Some(value) => value.goes_into(place),
+    }
+}
+
+// Whether a place can be stored to, and what is stored goes there.
+fn takes(place: Judged, goes: bool) -> bool
+    ensures { result ≡ (is_target place && goes) }
+{
+    place.is_target() && goes
+}
+
+/// Whether an array has an element (C11 6.7.6.2p1).
+pub fn is_sized(ty: &TypeTree) -> bool
+    ensures { result ≡ is_sized ty.now }
+{
+    match ty.length {
+        None => true,
+        Some(length) => length.elements() >= 1,
+    }
+}
+
+fn is_null(constant: &ConstTree) -> bool
+    ensures { result ≡ is_null constant.now }
+{
+    !constant.negative && constant.literal.value() == 0
+}
+
+// Whether a global of this type may begin with one constant.
+fn is_one(ty: Ty, constant: &ConstTree) -> bool
+    ensures { result ≡ init_holds ty (InitTree.One constant.now) }
+{
+    match ty {
+        Ty::Int => true,
+        Ty::Unsigned => true,
+        Ty::Pointer { .. } => is_null(constant),
+        _ => false,
+    }
+}
+
+// Whether a global of this type may begin with a list of constants.
+fn is_list(ty: Ty, constants: &[ConstTree]) -> bool
+    ensures { result ≡ init_holds ty (InitTree.Many constants.now) }
+{
+    match ty {
+        Ty::Array {
+            stars: 0,
+            base: BaseTy::Int | BaseTy::Unsigned,
+            length,
+        } => constants.len() <= length as usize,
+        _ => false,
+    }
+}
+
+/// Whether a global of this type may begin with this (C11 6.7.9).
+pub fn init_holds(ty: Ty, init: &InitTree) -> bool
+    ensures { result ≡ init_holds ty init.now }
+{
+    match init {
+        InitTree::Absent => true,
+        InitTree::One(constant) => is_one(ty, constant),
+        InitTree::Many(constants) => is_list(ty, constants.as_slice()),
+    }
+}

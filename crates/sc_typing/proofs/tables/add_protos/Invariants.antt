@@ -1,8 +1,0 @@
-use Rattle.std.proofs.Common.{◌≡◌, drop}
-use Rattle.sc_typing.specs.Firsts.{value_of, both, all_of}
-use Rattle.sc_typing.specs.Declares.{proto_entry}
-use Rattle.sc_typing.proofs.tables.add_protos.Given as goal
-
-abbrev pub invariant-loop-decl : goal.invariant-loop-decl
-invariant-loop-decl l =
-    both (value_of l.table) (all_of (proto_entry (value_of l.tags)) (drop l.decl-index l.decls)) ≡ both (value_of l.initial.table) (all_of (proto_entry (value_of l.tags)) l.decls)
