@@ -27,7 +27,8 @@ use Rattle.sc_parse.specs.Statements.{SpellsPart, SpellsTest, SpellsStmtKind, em
 use Rattle.sc_parse.specs.Fronts.{Reader, keyword_at, is_else, begins_with, begins_call}
 use Rattle.sc_parse.specs.Readers.{Adder, adds, grouped}
 use Rattle.sc_parse.specs.StmtReaders as readers
-use Rattle.sc_parse.specs.StmtReaders.{expr_at, call_at, simple_at, value_returned, returned, simple_or_none, plain_at, ended_at, condition_at, before_mark, part_at, test_at, first_part, middle_part, last_part, is_if, stmts_at, block_at, else_behind, else_at, if_behind, while_behind, for_behind, kind_by, stmt_tree, stmt_within, stmt_at}
+use Rattle.sc_parse.specs.declared.stmts.ForHead.{ForHead}
+use Rattle.sc_parse.specs.StmtReaders.{expr_at, call_at, simple_at, value_returned, returned, simple_or_none, plain_at, ended_at, condition_at, before_mark, part_at, test_at, first_part, middle_part, last_part, is_if, stmts_at, block_at, else_behind, else_at, if_behind, while_behind, for_parts, for_head, loop_of, for_behind, kind_by, stmt_tree, stmt_within, stmt_at}
 use Rattle.sc_parse.proofs.Exact.{Taken, Added, Exact, ExactAdder, took, glued, One, adds_exact, grouped_exact}
 use Rattle.sc_parse.proofs.Bases.{Word, word_ahead, mark_is}
 use Rattle.sc_parse.proofs.Expressions.{Few, few_left, few_right, few_tail, NoExtension, expr_exact, expr_starts, call_exact, call_begins, no_call, no_mark, false-true}
@@ -247,14 +248,20 @@ module _ (free : ℕ) (room : ℕ) (inner : Reader StmtTree) (exact : Exact (Few
       let first = (condition_exact free room).complete ts (us ++ rest) c (record { spelled = k; low = low }) (few_left free ts us few) tt in
       ap (while_behind free inner room) (append_assoc ts us rest) ∙ rw (first, block_complete b rest less (few_right free ts us few))
 
+  -- the body of a loop, and the loop
+  abbrev in_block : ForHead × List Lexeme → Option (StmtKind × List Lexeme)
+  in_block p = block_at inner p.1 >>= (λ z. Some (loop_of p.0 z.0, z.1))
+
   for_sound : (ts rest : List Lexeme) (x : StmtKind) → keyword_at ts ≡ Some word.For → for_behind free inner room (drop 1 ts) ≡ Some (x, rest) → Taken (IsKind room) ts x rest
-  unfolding for_behind first_part middle_part last_part
+  unfolding for_behind for_head first_part middle_part last_part
   for_sound ts rest x q h =
       let t = word_ahead ts word.For q in
-      let a = bound (λ w. middle_part free room w.1 >>= (λ x. last_part free room x.1 >>= (λ y. block_at inner y.1 >>= (λ z. Some (stmt.For w.0 x.0 y.0 z.0, z.1))))) (first_part free room (drop 1 ts)) (x, rest) h in
-      let b = bound (λ x. last_part free room x.1 >>= (λ y. block_at inner y.1 >>= (λ z. Some (stmt.For a.0.0 x.0 y.0 z.0, z.1)))) (middle_part free room a.0.1) (x, rest) a.2 in
-      let c = bound (λ y. block_at inner y.1 >>= (λ z. Some (stmt.For a.0.0 b.0.0 y.0 z.0, z.1))) (last_part free room b.0.1) (x, rest) b.2 in
-      let e = bound (λ z. Some (stmt.For a.0.0 b.0.0 c.0.0 z.0, z.1)) (block_at inner c.0.1) (x, rest) c.2 in
+      let head = bound in_block (for_head free room (drop 1 ts)) (x, rest) h in
+      let a = bound (λ w. middle_part free room w.1 >>= (λ x. last_part free room x.1 >>= (λ y. Some (for_parts w.0 x.0 y.0, y.1)))) (first_part free room (drop 1 ts)) head.0 head.1 in
+      let b = bound (λ x. last_part free room x.1 >>= (λ y. Some (for_parts a.0.0 x.0 y.0, y.1))) (middle_part free room a.0.1) head.0 a.2 in
+      let c = bound (λ y. Some (for_parts a.0.0 b.0.0 y.0, y.1)) (last_part free room b.0.1) head.0 b.2 in
+      let behind_head = subst (λ p. in_block p ≡ Some (x, rest)) (sym (same_some c.2)) head.2 in
+      let e = bound (λ z. Some (stmt.For a.0.0 b.0.0 c.0.0 z.0, z.1)) (block_at inner c.0.1) (x, rest) behind_head in
       let o = bound (λ us. before_mark mark.Semicolon (part_at free room mark.Semicolon) us) (behind mark.OpenParen (drop 1 ts)) a.0 a.1 in
       let u = behind_mark mark.OpenParen (drop 1 ts) o.0 o.1 in
       let first = part_ended mark.Semicolon (part_at free room mark.Semicolon) (IsPart room) (part_sound free room mark.Semicolon) o.0 a.0 o.2 in
@@ -275,7 +282,7 @@ module _ (free : ℕ) (room : ℕ) (inner : Reader StmtTree) (exact : Exact (Few
       (record { spelled = for_loop t.first u.0 first.ends second.ends third.ends t.keyword u.2 first.mark second.mark third.mark first.spelled.spelled second.spelled.spelled third.spelled.spelled body.spelled.spelled; low = omega arith }) e.2
 
   for_reads : {ts us vs ws : List Lexeme} {first next : Option SimpleTree} {c : ExprTree} {body : List StmtTree} (u v w x : Lexeme) → IsMark mark.OpenParen u → IsMark mark.Semicolon v → IsMark mark.Semicolon w → IsMark mark.CloseParen x → (f : SpellsPart ts first) (k : SpellsTest us c) (n : SpellsPart vs next) (b : SpellsBlock ws body) (rest : List Lexeme) → option_height first ≤ room → expr_height c ≤ room → option_height next ≤ room → stmts_height body ≤ room → Few free (ts ++ v ∷ (us ++ w ∷ (vs ++ x ∷ ws))) → for_behind free inner room (u ∷ (ts ++ v ∷ (us ++ w ∷ (vs ++ x ∷ (ws ++ rest))))) ≡ Some (stmt.For first c next body, rest)
-  unfolding for_behind first_part middle_part last_part
+  unfolding for_behind for_head first_part middle_part last_part
   for_reads {ts} {us} {vs} {ws} {first} {next} {c} {body} u v w x p q r s f k n b rest l1 l2 l3 l4 few =
       let few2 = few_tail free v (us ++ w ∷ (vs ++ x ∷ ws)) (few_right free ts (v ∷ (us ++ w ∷ (vs ++ x ∷ ws))) few) in
       let few3 = few_tail free w (vs ++ x ∷ ws) (few_right free us (w ∷ (vs ++ x ∷ ws)) few2) in

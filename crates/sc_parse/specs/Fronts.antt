@@ -10,11 +10,15 @@ use Rattle.sc_expr.specs.declared.lexeme.Symbol.{Symbol}
 use Rattle.sc_expr.specs.declared.lexeme.Symbol.TheVariants as symbol
 use Rattle.sc_expr.specs.declared.lexeme.Lexeme.{Lexeme}
 use Rattle.sc_expr.specs.Fronts.{is_mark, behind}
-use Rattle.sc_expr.specs.Reading.{name_by}
+use Rattle.sc_expr.specs.Reading.{◌>>=◌, name_by}
 
 -- what is read at the front, and the lexemes behind it
 abbrev pub Reader : Type 0 → Type 0
 Reader A = List Lexeme → Option (A × List Lexeme)
+
+-- a value that was read, where this mark stands behind it
+abbrev pub ended_by : {A : Type 0} → Mark → A → Reader A
+ended_by m x ts = behind m ts >>= (λ rest. Some (x, rest))
 
 abbrev pub keyword_by : Symbol → Option Keyword
 keyword_by (symbol.Keyword word) = Some word

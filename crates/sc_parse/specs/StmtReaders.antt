@@ -25,6 +25,7 @@ use Rattle.sc_expr.specs.Reading.{◌>>=◌, name_at, read}
 use Rattle.sc_parse.specs.declared.simple.Change.{Change}
 use Rattle.sc_parse.specs.declared.simple.Change.TheVariants as change
 use Rattle.sc_parse.specs.declared.simple.Placed.{Placed}
+use Rattle.sc_parse.specs.declared.stmts.ForHead.{ForHead}
 use Rattle.sc_parse.specs.Lists.{first_line}
 use Rattle.sc_parse.specs.Statements.{compound_of, step_of, one, updates}
 use Rattle.sc_parse.specs.Fronts.{Reader, keyword_at, is_else, begins_with, begins_call}
@@ -180,6 +181,17 @@ middle_part free room ts = before_mark mark.Semicolon (test_at free room) ts
 unfoldable pub last_part : (free : ℕ) → ℕ → Reader (Option SimpleTree)
 last_part free room ts = before_mark mark.CloseParen (part_at free room mark.CloseParen) ts
 
+abbrev pub for_parts : Option SimpleTree → ExprTree → Option SimpleTree → ForHead
+for_parts first cond next = record { first = first; cond = cond; next = next }
+
+-- what stands behind `for`, up to its body
+unfoldable pub for_head : (free : ℕ) → ℕ → Reader ForHead
+for_head free room ts =
+    first_part free room ts >>= (λ w. middle_part free room w.1 >>= (λ x. last_part free room x.1 >>= (λ y. Some (for_parts w.0 x.0 y.0, y.1))))
+
+abbrev pub loop_of : ForHead → List StmtTree → StmtKind
+loop_of head body = stmt.For head.first head.cond head.next body
+
 abbrev pub is_if : Option Keyword → Bool
 is_if (Some word.If) = true
 is_if _ = false
@@ -213,8 +225,7 @@ module _ (free : ℕ) (inner : Reader StmtTree) (room : ℕ) where
 
   -- behind `for`
   unfoldable pub for_behind : Reader StmtKind
-  for_behind ts =
-      first_part free room ts >>= (λ w. middle_part free room w.1 >>= (λ x. last_part free room x.1 >>= (λ y. block_at inner y.1 >>= (λ z. Some (stmt.For w.0 x.0 y.0 z.0, z.1)))))
+  for_behind ts = for_head free room ts >>= (λ x. block_at inner x.1 >>= (λ y. Some (loop_of x.0 y.0, y.1)))
 
   abbrev pub kind_by : Option Keyword → Reader StmtKind
   kind_by (Some word.If) ts = if_behind (drop 1 ts)

@@ -5,7 +5,7 @@ ghost use Rattle.sc_expr.specs.Fronts.{Agrees};
 ghost use Rattle.sc_parse.specs.Readers.{all_separated};
 ghost use Rattle.sc_parse.specs.StmtReaders.{expr_at, args_behind, args_at, args_in_parens, call_at, condition_at};
 
-use crate::front::{begins_with, name_at, skip, take};
+use crate::front::{begins_with, ended_by, name_at, skip, take};
 use sc_ast::{CallTree, ExprTree, Exprs};
 use sc_base::{LOOSEST, MAX_BRACKETS};
 use sc_expr::{Built, Lexeme, Mark, SyntaxFault, parse_level, refused};
@@ -65,8 +65,7 @@ fn args_in_parens(alloc: Global, room: u32, rest: &mut &[Lexeme]) -> Result<Expr
 {
     take(Mark::OpenParen, rest)?;
     let args = args_at(alloc, room, rest)?;
-    take(Mark::CloseParen, rest)?;
-    Ok(args)
+    ended_by(Mark::CloseParen, args, rest)
 }
 
 /// A call, whose arguments are at most `room` high.
@@ -86,6 +85,5 @@ pub fn condition_at(alloc: Global, room: u32, rest: &mut &[Lexeme]) -> Result<Ex
 {
     take(Mark::OpenParen, rest)?;
     let cond = expr_at(alloc, room, rest)?;
-    take(Mark::CloseParen, rest)?;
-    Ok(cond)
+    ended_by(Mark::CloseParen, cond, rest)
 }

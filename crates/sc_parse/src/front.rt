@@ -6,7 +6,7 @@ ghost use Rattle.std.specs.Prelude.{◌≡◌, ◌≤◌, length, drop, IsSome, 
 ghost use Rattle.sc_expr.specs.Fronts.{Agrees, is_mark, behind};
 ghost use Rattle.sc_expr.specs.Reading.{name_by, name_at};
 ghost use Rattle.sc_parse.specs.Lists.{first_line};
-ghost use Rattle.sc_parse.specs.Fronts.{past_int, is_void, is_else, is_base, keyword_by, keyword_at, integer_by, begins_with, begins_call, star_count, behind_inner_comma};
+ghost use Rattle.sc_parse.specs.Fronts.{ended_by, past_int, is_void, is_else, is_base, keyword_by, keyword_at, integer_by, begins_with, begins_call, star_count, behind_inner_comma};
 
 use sc_ast::{Ident, Literal};
 use sc_expr::{Keyword, Lexeme, Mark, Symbol, SyntaxFault, expect, refused};
@@ -89,6 +89,18 @@ pub fn take(mark: Mark, rest: &mut &[Lexeme]) -> Result<(), SyntaxFault>
 {
     *rest = expect(mark, rest)?;
     Ok(())
+}
+
+/// A value that was read, where this mark stands behind it, past which it goes.
+pub fn ended_by<T: Drop>(
+    mark: Mark,
+    value: T,
+    rest: &mut &[Lexeme],
+) -> Result<T, SyntaxFault>
+    ensures { Agrees (λ x. (x, rest.new.now)) result (ended_by mark value rest.old.now) }
+{
+    take(mark, rest)?;
+    Ok(value)
 }
 
 fn keyword_by(symbol: &Symbol) -> Option<Keyword>

@@ -5,15 +5,23 @@ ghost use Rattle.sc_expr.specs.Fronts.{Agrees};
 ghost use Rattle.sc_ast.specs.Simple.{kind_of};
 ghost use Rattle.sc_parse.specs.Fronts.{is_else, keyword_at};
 ghost use Rattle.sc_parse.specs.Readers.{adds};
-ghost use Rattle.sc_parse.specs.StmtReaders.{value_returned, returned, simple_or_none, plain_at, ended_at, first_part, middle_part, last_part, stmts_at, block_at, alone, else_behind, else_at, if_behind, while_behind, for_behind, kind_by, stmt_within, stmt_at};
+ghost use Rattle.sc_parse.specs.StmtReaders.{value_returned, returned, simple_or_none, plain_at, ended_at, first_part, middle_part, last_part, for_head, loop_of, stmts_at, block_at, alone, else_behind, else_at, if_behind, while_behind, for_behind, kind_by, stmt_within, stmt_at};
 
 use crate::calls::{call_at, condition_at, expr_at};
-use crate::front::{begins_call, begins_with, first_line, is_else, keyword_at, past, take};
+use crate::front::{begins_call, begins_with, ended_by, first_line, is_else, keyword_at, past, take};
 use crate::simple::{part_at, simple_at, test_at};
 use sc_ast::{ExprTree, SimpleKind, SimpleTree, StmtKind, StmtTree, Stmts};
 use sc_expr::{Keyword, Lexeme, Mark, SyntaxFault, refused};
 use sqlite_items::Items;
 use std::alloc::Global;
+
+/// What stands between `for` and its body.
+#[derive(Drop)]
+struct ForHead {
+    first: Option<SimpleTree>,
+    cond: ExprTree,
+    next: Option<SimpleTree>,
+}
 
 fn kind_of(kind: SimpleKind) -> StmtKind
     ensures { result ≡ kind_of kind }
@@ -89,8 +97,7 @@ fn ended_at(alloc: Global, room: u32, rest: &mut &[Lexeme]) -> Result<StmtKind, 
     ensures { Agrees (λ x. (x, rest.new.now)) result (ended_at 1024 room rest.old.now) }
 {
     let kind = plain_at(alloc, room, keyword_at(rest), rest)?;
-    take(Mark::Semicolon, rest)?;
-    Ok(kind)
+    ended_by(Mark::Semicolon, kind, rest)
 }
 
 #[tactic(auto, unfolding(crate::specs::StmtReaders::first_part))]
@@ -103,8 +110,7 @@ fn first_part(
 {
     take(Mark::OpenParen, rest)?;
     let part = part_at(alloc, room, Mark::Semicolon, rest)?;
-    take(Mark::Semicolon, rest)?;
-    Ok(part)
+    ended_by(Mark::Semicolon, part, rest)
 }
 
 #[tactic(auto, unfolding(crate::specs::StmtReaders::middle_part))]
@@ -112,8 +118,7 @@ fn middle_part(alloc: Global, room: u32, rest: &mut &[Lexeme]) -> Result<ExprTre
     ensures { Agrees (λ x. (x, rest.new.now)) result (middle_part 1024 room rest.old.now) }
 {
     let cond = test_at(alloc, room, rest)?;
-    take(Mark::Semicolon, rest)?;
-    Ok(cond)
+    ended_by(Mark::Semicolon, cond, rest)
 }
 
 #[tactic(auto, unfolding(crate::specs::StmtReaders::last_part))]
@@ -125,8 +130,29 @@ fn last_part(
     ensures { Agrees (λ x. (x, rest.new.now)) result (last_part 1024 room rest.old.now) }
 {
     let part = part_at(alloc, room, Mark::CloseParen, rest)?;
-    take(Mark::CloseParen, rest)?;
-    Ok(part)
+    ended_by(Mark::CloseParen, part, rest)
+}
+
+#[tactic(auto, unfolding(crate::specs::StmtReaders::for_head))]
+fn for_head(alloc: Global, room: u32, rest: &mut &[Lexeme]) -> Result<ForHead, SyntaxFault>
+    ensures { Agrees (λ x. (x, rest.new.now)) result (for_head 1024 room rest.old.now) }
+{
+    let first = first_part(alloc, room, rest)?;
+    let cond = middle_part(alloc, room, rest)?;
+    let next = last_part(alloc, room, rest)?;
+    Ok(ForHead { first, cond, next })
+}
+
+fn loop_of(head: ForHead, body: Stmts) -> StmtKind
+    ensures { result ≡ loop_of head body }
+{
+    let ForHead { first, cond, next } = head;
+    StmtKind::For {
+        first,
+        cond,
+        next,
+        body,
+    }
 }
 
 /// Statements up to `}`, each at most `room` high.
@@ -166,8 +192,7 @@ fn block_at(alloc: Global, room: u32, rest: &mut &[Lexeme]) -> Result<Stmts, Syn
 {
     take(Mark::OpenCurly, rest)?;
     let stmts = stmts_at(alloc, room, rest)?;
-    take(Mark::CloseCurly, rest)?;
-    Ok(stmts)
+    ended_by(Mark::CloseCurly, stmts, rest)
 }
 
 // The statement behind `else`, alone, where it is an `if`.
@@ -234,16 +259,9 @@ fn while_behind(alloc: Global, room: u32, rest: &mut &[Lexeme]) -> Result<StmtKi
 fn for_behind(alloc: Global, room: u32, rest: &mut &[Lexeme]) -> Result<StmtKind, SyntaxFault>
     ensures { Agrees (λ x. (x, rest.new.now)) result (for_behind 1024 (stmt_at 1024 room) room rest.old.now) }
 {
-    let first = first_part(alloc, room, rest)?;
-    let cond = middle_part(alloc, room, rest)?;
-    let next = last_part(alloc, room, rest)?;
+    let head = for_head(alloc, room, rest)?;
     let body = block_at(alloc, room, rest)?;
-    Ok(StmtKind::For {
-        first,
-        cond,
-        next,
-        body,
-    })
+    Ok(loop_of(head, body))
 }
 
 #[cycle(statements)]

@@ -53,15 +53,15 @@ args_tidy : (args : List ExprTree) → list_all is_kept args ≡ true → Sound 
 args_tidy [] all rest calm = none
 args_tidy (e ∷ es) all rest calm = let parts = and_parts (is_kept e) (list_all is_kept es) all in args_from e es parts.0 parts.1 rest calm
 
-call_tidy : (c : CallTree) → IsTrue (kept_call c) → Free (call_words c)
+pub call_tidy : (c : CallTree) → IsTrue (kept_call c) → Free (call_words c)
 call_tidy c k rest =
     let parts = and_parts (is_ident c.name) (list_all is_kept c.args) k in
     next (plain_word c.name _ kind.Ident (name_some c.name parts.0) (name_kind c.name parts.0) refl) (next (open_paren _) (closing (join_by expr_words comma c.args) (codes ")") (args_tidy c.args parts.1) (λ r. refl) close_paren rest))
 
-assigned_tidy : (place : ExprTree) (value : List Piece) → IsTrue (kept_place place) → Sound value → Sound (place_words place ++ (equals ++ value))
+pub assigned_tidy : (place : ExprTree) (value : List Piece) → IsTrue (kept_place place) → Sound value → Sound (place_words place ++ (equals ++ value))
 assigned_tidy place value k t rest calm = tidy_append (place_words place) (equals ++ value) rest (place_tidy place k _ refl) (gap (next (equal_word _) (gap (t rest calm))))
 
-simple_tidy : (k : SimpleKind) → IsTrue (kept_simple k) → Sound (simple_words k)
+pub simple_tidy : (k : SimpleKind) → IsTrue (kept_simple k) → Sound (simple_words k)
 simple_tidy (simple.Assign place value) k = let parts = and_parts (kept_place place) (is_kept value) k in assigned_tidy place (expr_words value) parts.0 (expr_tidy value parts.1)
 simple_tidy (simple.AssignCall place call) k = let parts = and_parts (kept_place place) (kept_call call) k in assigned_tidy place (call_words call) parts.0 (λ rest calm. call_tidy call parts.1 rest)
 simple_tidy (simple.Call call) k = λ rest calm. call_tidy call k rest
@@ -69,10 +69,10 @@ simple_tidy (simple.Call call) k = λ rest calm. call_tidy call k rest
 pub ended_tidy : (pieces : List Piece) → Sound pieces → Free (ended pieces)
 ended_tidy pieces t = closing pieces (codes ";") t (λ r. refl) semicolon
 
-condition_tidy : (keyword : List ℕ) (cond : ExprTree) → ((rest : List ℕ) → Calm rest → IsWord keyword rest) → IsTrue (is_kept cond) → Free (condition_words keyword cond)
+pub condition_tidy : (keyword : List ℕ) (cond : ExprTree) → ((rest : List ℕ) → Calm rest → IsWord keyword rest) → IsTrue (is_kept cond) → Free (condition_words keyword cond)
 condition_tidy keyword cond w k rest = next (w _ refl) (gap (next (open_paren _) (tidy_append (expr_words cond) (word (codes ")") ∷ blank ∷ []) rest (expr_tidy cond k _ refl) (next (close_paren _) (gap none)))))
 
-return_tidy : (value : List Piece) → Sound value → Free (return_words value)
+pub return_tidy : (value : List Piece) → Sound value → Free (return_words value)
 return_tidy value t rest = next (return_word _ refl) (gap (ended_tidy value t rest))
 
 first_tidy : (o : Option SimpleTree) → IsTrue (kept_option o) → Sound (first_words o)
@@ -145,7 +145,7 @@ at_line line k inside kept_s depth rest =
     let kept_eq = stmt_at Bool Bool kept.kind_step kept.stmt_step line k in
     subst (λ l. Tidy (l.words depth) rest) (sym eq) (form k inside (subst (λ x. IsTrue x) kept_eq kept_s) depth rest)
 
-stmt_holds : (s : StmtTree) → Holds s
+pub stmt_holds : (s : StmtTree) → Holds s
 stmt_holds = stmt_induction Holds at_line
 
 everywhere : (stmts : List StmtTree) → Each Holds stmts

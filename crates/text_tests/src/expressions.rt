@@ -1,13 +1,14 @@
 // Expressions and their trees.
-use sc_ast::ExprTree;
-use sc_base::{BinaryOp, UnaryOp};
+use sc_ast::print_section;
+use sc_base::Text;
 use sc_expr::{Lexemes, SyntaxFault, lexemes, parse_expr, parse_unary};
 use sc_lex::{slices_in_order, tokens};
+use sc_read::read_trees;
 use std::alloc::Global;
 use std::test::Fail;
 
-// Expressions, each with its parts in parentheses as the grammar of C11 6.5 groups them. A literal of type `unsigned
-// int` ends in `u`, and each is written in decimal.
+// Expressions, each with its parts in parentheses as the grammar of C11 6.5 groups them, and each literal as a decimal
+// one of its type.
 const GROUPED: [(&[u8], &[u8]); 64] = [
     (b"a", b"a"),
     (b"7", b"7"),
@@ -81,18 +82,18 @@ const GROUPED: [(&[u8], &[u8]); 64] = [
     (b"*p->q[i].m", b"(*(((p->q)[i]).m))"),
 ];
 
-// Texts, the number of lexemes that are left behind their first expression, and that expression.
-const FRONTS: [(&[u8], usize, &[u8]); 10] = [
-    (b"a;", 1, b"a"),
-    (b"a b", 1, b"a"),
-    (b"a+b)", 1, b"(a+b)"),
-    (b"a]", 1, b"a"),
-    (b"a = b", 2, b"a"),
-    (b"a += b", 2, b"a"),
-    (b"a++", 1, b"a"),
-    (b"a(b)", 3, b"a"),
-    (b"a, b", 2, b"a"),
-    (b"-a-=b", 2, b"(-a)"),
+// Texts, and the number of lexemes that are left behind their first expression.
+const FRONTS: [(&[u8], usize); 10] = [
+    (b"a;", 1),
+    (b"a b", 1),
+    (b"a+b)", 1),
+    (b"a]", 1),
+    (b"a = b", 2),
+    (b"a += b", 2),
+    (b"a++", 1),
+    (b"a(b)", 3),
+    (b"a, b", 2),
+    (b"-a-=b", 2),
 ];
 
 // Texts that begin with no expression, and the number of lexemes from the one that can't go on.
@@ -116,127 +117,46 @@ const REFUSED: [(&[u8], usize); 17] = [
     (b"1.5", 1),
 ];
 
-fn prefix_text(op: UnaryOp) -> &'static [u8] {
-    match op {
-        UnaryOp::Minus => b"-",
-        UnaryOp::Plus => b"+",
-        UnaryOp::Not => b"!",
-        UnaryOp::BitNot => b"~",
-    }
-}
-
-fn operator_text(op: BinaryOp) -> &'static [u8] {
-    match op {
-        BinaryOp::OrElse => b"||",
-        BinaryOp::AndAlso => b"&&",
-        BinaryOp::BitOr => b"|",
-        BinaryOp::BitXor => b"^",
-        BinaryOp::BitAnd => b"&",
-        BinaryOp::Equal => b"==",
-        BinaryOp::NotEqual => b"!=",
-        BinaryOp::Less => b"<",
-        BinaryOp::Greater => b">",
-        BinaryOp::LessEqual => b"<=",
-        BinaryOp::GreaterEqual => b">=",
-        BinaryOp::ShiftLeft => b"<<",
-        BinaryOp::ShiftRight => b">>",
-        BinaryOp::Add => b"+",
-        BinaryOp::Sub => b"-",
-        BinaryOp::Mul => b"*",
-        BinaryOp::Div => b"/",
-        BinaryOp::Rem => b"%",
-    }
-}
-
-// The expression with parentheses round every form that has parts.
-#[cycle(group)]
-fn group(alloc: Global, expr: &ExprTree, out: &mut Vec<u8>) -> Result<(), Fail> {
-    match expr {
-        ExprTree::Literal(literal) => {
-            let value = literal.value();
-            out.extend_from_slice(format!(in alloc; "{value}")?.as_bytes())?;
-            if literal.is_unsigned() {
-                out.push(b'u')?;
-            }
-        }
-        ExprTree::Variable(name) => out.extend_from_slice(name.as_bytes())?,
-        ExprTree::Unary { op, of } => group_behind(alloc, prefix_text(*op), of.get(), out)?,
-        ExprTree::Deref(of) => group_behind(alloc, b"*", of.get(), out)?,
-        ExprTree::Address(of) => group_behind(alloc, b"&", of.get(), out)?,
-        ExprTree::Binary { op, left, right } => {
-            out.push(b'(')?;
-            group(alloc, left.get(), out)?;
-            out.extend_from_slice(operator_text(*op))?;
-            group(alloc, right.get(), out)?;
-            out.push(b')')?;
-        }
-        ExprTree::Index { base, index } => {
-            out.push(b'(')?;
-            group(alloc, base.get(), out)?;
-            out.push(b'[')?;
-            group(alloc, index.get(), out)?;
-            out.extend_from_slice(b"])")?;
-        }
-        ExprTree::Member { base, name } => {
-            out.push(b'(')?;
-            group(alloc, base.get(), out)?;
-            out.push(b'.')?;
-            out.extend_from_slice(name.as_bytes())?;
-            out.push(b')')?;
-        }
-        ExprTree::Arrow { base, name } => {
-            out.push(b'(')?;
-            group(alloc, base.get(), out)?;
-            out.extend_from_slice(b"->")?;
-            out.extend_from_slice(name.as_bytes())?;
-            out.push(b')')?;
-        }
-    }
-    Ok(())
-}
-
-#[cycle(group)]
-fn group_behind(
-    alloc: Global,
-    prefix: &[u8],
-    of: &ExprTree,
-    out: &mut Vec<u8>,
-) -> Result<(), Fail> {
-    out.push(b'(')?;
-    out.extend_from_slice(prefix)?;
-    group(alloc, of, out)?;
-    out.push(b')')?;
-    Ok(())
-}
-
 fn lexemes_of(alloc: Global, text: &[u8]) -> Result<Lexemes, Fail> {
     let cut = tokens(alloc, text, 1)?;
     slices_in_order();
     Ok(lexemes(alloc, text, cut.as_slice())?)
 }
 
+// The text of a section in which the expression is assigned.
+fn printed(alloc: Global, expression: &[u8]) -> Result<Text, Fail> {
+    let mut text = Vec::from_slice(alloc, b"#pragma compartment Main\nvoid f(void) { x = ")?;
+    text.extend_from_slice(expression)?;
+    text.extend_from_slice(b"; }")?;
+    let trees = read_trees(alloc, &text)?;
+    let tree = trees.get(0).ok_or("no section")?;
+    Ok(print_section(alloc, tree)?)
+}
+
 #[test]
 fn groups_as_the_grammar_does(rt: HostRuntime) -> Result<(), Fail> {
-    for (text, grouped) in GROUPED {
-        let lexemes = lexemes_of(rt.alloc(), text)?;
-        let (built, rest) = parse_expr(rt.alloc(), 0, lexemes.as_slice())?;
-        assert_eq!(rt; rest.len(), 0);
-        let mut out = Vec::new(rt.alloc());
-        group(rt.alloc(), built.tree.get(), &mut out)?;
-        assert_eq!(rt; out.as_slice(), grouped);
+    for (expression, grouped) in GROUPED {
+        let left = printed(rt.alloc(), expression)?;
+        let right = printed(rt.alloc(), grouped)?;
+        assert_eq!(rt; left.as_bytes(), right.as_bytes());
     }
     Ok(())
 }
 
 #[test]
+fn other_groups_are_other_trees(rt: HostRuntime) -> Result<(), Fail> {
+    let left = printed(rt.alloc(), b"a - b - c")?;
+    let right = printed(rt.alloc(), b"a - (b - c)")?;
+    assert!(rt; left.as_bytes() != right.as_bytes());
+    Ok(())
+}
+
+#[test]
 fn ends_where_nothing_goes_on(rt: HostRuntime) -> Result<(), Fail> {
-    for (text, left, grouped) in FRONTS {
+    for (text, left) in FRONTS {
         let lexemes = lexemes_of(rt.alloc(), text)?;
-        let (built, rest) = parse_expr(rt.alloc(), 0, lexemes.as_slice())?;
+        let (_, rest) = parse_expr(rt.alloc(), 0, lexemes.as_slice())?;
         assert_eq!(rt; rest.len(), left);
-        let mut out = Vec::new(rt.alloc());
-        group(rt.alloc(), built.tree.get(), &mut out)?;
-        assert_eq!(rt; out.as_slice(), grouped);
     }
     let lexemes = lexemes_of(rt.alloc(), b"-a[1]*b")?;
     let (_, rest) = parse_unary(rt.alloc(), 0, lexemes.as_slice())?;
@@ -248,11 +168,8 @@ fn ends_where_nothing_goes_on(rt: HostRuntime) -> Result<(), Fail> {
 fn refuses_at_the_lexeme(rt: HostRuntime) -> Result<(), Fail> {
     for (text, left) in REFUSED {
         let lexemes = lexemes_of(rt.alloc(), text)?;
-        let fault = match parse_expr(rt.alloc(), 0, lexemes.as_slice()) {
-            Ok(_) => return Err("parsed")?,
-            Err(fault) => fault,
-        };
-        assert_eq!(rt; fault, SyntaxFault::Refused { left });
+        let fault = parse_expr(rt.alloc(), 0, lexemes.as_slice()).err();
+        assert_eq!(rt; fault, Some(SyntaxFault::Refused { left }));
     }
     Ok(())
 }

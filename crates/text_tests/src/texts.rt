@@ -141,9 +141,12 @@ const HEADING: &[u8] = b"#pragma compartment Main\n";
 fn height_of(alloc: Global, declaration: &[u8]) -> Result<Option<u32>, Fail> {
     let mut text = HEADING.to_vec(alloc)?;
     text.extend_from_slice(declaration)?;
-    match read_trees(alloc, text.as_slice()) {
-        Ok(trees) => Ok(trees.get(0).map(section_height)),
-        Err(_) => Ok(None),
+    let Ok(trees) = read_trees(alloc, text.as_slice()) else {
+        return Ok(None);
+    };
+    match trees.get(0) {
+        Some(tree) => Ok(Some(section_height(tree))),
+        None => Ok(None),
     }
 }
 
