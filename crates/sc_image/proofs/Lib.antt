@@ -6,7 +6,9 @@ pub mod Running
 pub mod Stepping
 pub mod Fits
 pub mod OneComp
+pub mod Words
 pub mod Cases
+pub mod Bytes
 pub mod Reached
 pub mod Others
 pub mod Same

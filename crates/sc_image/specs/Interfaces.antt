@@ -1,5 +1,5 @@
 -- What an image says to the outside: the interfaces of its compartments, where every word is an `int`, and that its runs keep them.
-use Rattle.std.specs.Prelude.{◌≡◌, ℕ, ℤ, true, List, [], ◌∷◌, ◌++◌, map, replicate, Some, None, if◌then◌else◌}
+use Rattle.std.specs.Prelude.{◌≡◌, ℕ, All, true, List, [], ◌∷◌, ◌++◌, map, replicate, Some, None, if◌then◌else◌}
 use Rattle.sc_event.specs.declared.interface.Import.{Import}
 use Rattle.sc_event.specs.declared.interface.Import.TheVariants.{Input, Output, Function}
 use Rattle.sc_event.specs.declared.interface.Interface.{Interface}
@@ -11,7 +11,7 @@ use Rattle.sc_image.specs.declared.parts.ImageParts.{ImageParts}
 use Rattle.sc_image.specs.declared.parts.CompPart.{CompPart}
 use Rattle.sc_image.specs.declared.parts.ExportPart.{ExportPart}
 use Rattle.sc_image.specs.declared.parts.ImportPart.{ImportPart}
-use Rattle.sc_image.specs.WellFormed.{IsWellFormed}
+use Rattle.sc_image.specs.WellFormed.{IsWord, IsWellFormed}
 use Rattle.sc_image.specs.Machine.{machine}
 
 abbrev pub proto_of : ExportPart → Proto
@@ -33,5 +33,5 @@ interfaces_of image = record { comps = map interface_of image.comps; main = imag
 -- A run's trace is one that the image's interfaces allow, wherever the run stops.
 abbrev pub TracesAreLegal : Type 0
 TracesAreLegal =
-    (image : ImageParts) (inputs : List ℤ) (steps events : ℕ) → IsWellFormed image →
+    (image : ImageParts) (inputs : List ℕ) (steps events : ℕ) → IsWellFormed image → All IsWord inputs →
     legal (interfaces_of image) (machine image inputs steps events).state.trace ≡ true

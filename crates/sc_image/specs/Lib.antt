@@ -7,6 +7,7 @@ pub mod Cross
 pub mod Step
 pub mod Machine
 pub mod Own
+pub mod Steady
 pub mod Isolation
 pub mod Rules
 pub mod Reading

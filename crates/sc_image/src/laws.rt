@@ -2,7 +2,7 @@
 //! proofs of callers.
 
 ghost use Rattle.sc_image.specs.Interfaces.{TracesAreLegal};
-ghost use Rattle.sc_image.specs.Isolation.{LeavesOthers, FollowsFromOwn, EntersByEvent};
+ghost use Rattle.sc_image.specs.Isolation.{LeavesOthers, FollowsFromOwn, EntersByEvent, RunsAreSteady};
 ghost use Rattle.sc_image.specs.RoundTrip.{BytesNameOneImage, BadOrImage};
 
 /// Bytes are those of one image at most.
@@ -20,13 +20,20 @@ pub fn traces_are_legal()
     ensures { TracesAreLegal }
 {}
 
-/// A step leaves what belongs to every compartment but the active one, unless it makes it active.
+/// A run starts in a steady state, and a step from a steady state leads to one. The laws below hold
+/// of all steady states, and so of all that a run reaches.
+pub fn runs_are_steady()
+    ensures { RunsAreSteady }
+{}
+
+/// A step leaves what belongs to every compartment but the active one, unless its event is a call
+/// or a return that makes that one active.
 pub fn leaves_others()
     ensures { LeavesOthers }
 {}
 
 /// What a compartment does until the next event, and that event, follow from its own parts and the
-/// events before.
+/// events before: the two states may differ in all that belongs to others.
 pub fn follows_from_own()
     ensures { FollowsFromOwn }
 {}
