@@ -87,7 +87,7 @@ module _ (program : ThinProgram) (events : ℕ) where
     ended_where (Trap _ _) h = absurd h
 
 module _ (program : ThinProgram) (words : HasWords program) where
-  ran : (inputs : List ℤ) (steps events : ℕ) →
+  ran : (inputs : List ℕ) (steps events : ℕ) →
       Shows (whole_run program).trace events (length (thin_code program)) steps (machine (thin_image program) inputs steps events)
   ran inputs steps events = (thin_runs program inputs events words.result words.outputs).each steps
 

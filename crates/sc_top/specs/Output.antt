@@ -31,7 +31,7 @@ told options program = meaning_text program.interfaces (meant options program)
 
 -- what the machine shows on an image
 abbrev pub shown : RunOptions → ImageParts → Run
-shown options image = machine image options.inputs options.steps options.events
+shown options image = machine image (map word_of options.inputs) options.steps options.events
 
 -- the same in words, with the image's own names
 abbrev pub machine_text : RunOptions → ImageParts → List ℕ
