@@ -1,5 +1,5 @@
 -- What the machine shows on a thin program's image is the program's meaning.
-use Rattle.std.proofs.Common.{◌≡◌, ℕ, ◌*◌, ◌<◌, ◌≤◌, ℤ, Bool, true, false, List, [], ◌∷◌, length, flat_map, take, refl, sym, ◌∙◌, ap, arith, ⊎_elim, subst}
+use Rattle.std.proofs.Common.{◌≡◌, ℕ, ◌*◌, ◌<◌, ◌≤◌, Bool, true, false, List, [], ◌∷◌, length, flat_map, take, refl, sym, ◌∙◌, ap, arith, ⊎_elim, subst}
 use Rattle.std.specs.Prelude.{nat_lt, ◌↔◌}
 use Rattle.std.proofs.lemmas.Bool.{lt-ltb, le-ltb, cases_lt}
 use Rattle.std.proofs.lemmas.List.{take_all, length-append}

@@ -20,3 +20,6 @@ pub mod Images
 pub mod Traces
 pub mod Loops
 pub mod Keeping
+pub mod Walking
+pub mod Stretches
+pub mod WordInterfaces

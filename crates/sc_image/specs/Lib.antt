@@ -9,6 +9,7 @@ pub mod Machine
 pub mod Own
 pub mod Steady
 pub mod Isolation
+pub mod Walks
 pub mod Rules
 pub mod Reading
 pub mod RoundTrip

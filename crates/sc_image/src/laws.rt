@@ -1,8 +1,9 @@
 //! Laws of images and of the machine that runs them. Each law is the contract of a function with nothing to do, for the
 //! proofs of callers.
 
-ghost use Rattle.sc_image.specs.Interfaces.{TracesAreLegal};
+ghost use Rattle.sc_image.specs.Interfaces.{TracesAreLegal, LegalByWords};
 ghost use Rattle.sc_image.specs.Isolation.{LeavesOthers, FollowsFromOwn, EntersByEvent, RunsAreSteady};
+ghost use Rattle.sc_image.specs.Walks.{StretchesCompose, StepsByInstruction, ImageInMemory};
 ghost use Rattle.sc_image.specs.RoundTrip.{BytesNameOneImage, BadOrImage};
 
 /// Bytes are those of one image at most.
@@ -18,6 +19,11 @@ pub fn bad_or_image()
 /// A run's trace is one that the image's interfaces allow.
 pub fn traces_are_legal()
     ensures { TracesAreLegal }
+{}
+
+/// Which traces are legal doesn't look at the types of scalars.
+pub fn legal_by_words()
+    ensures { LegalByWords }
 {}
 
 /// A run starts in a steady state, and a step from a steady state leads to one. The laws below hold
@@ -42,4 +48,19 @@ pub fn follows_from_own()
 /// it before and from that event.
 pub fn enters_by_event()
     ensures { EntersByEvent }
+{}
+
+/// Stretches of a run follow one another, and a run goes along them.
+pub fn stretches_compose()
+    ensures { StretchesCompose }
+{}
+
+/// What a step is, by the instruction at the pc.
+pub fn steps_by_instruction()
+    ensures { StepsByInstruction }
+{}
+
+/// Where an image's words of code and bytes of data stand at the start.
+pub fn image_in_memory()
+    ensures { ImageInMemory }
 {}
