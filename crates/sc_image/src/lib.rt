@@ -21,6 +21,3 @@ pub use parts::{
 };
 pub use reading::read_image;
 pub use writing::write_image;
-
-#[cfg(test)]
-mod tests;

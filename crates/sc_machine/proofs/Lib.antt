@@ -5,5 +5,3 @@ pub mod Jumps
 pub mod Crossings
 pub mod Callees
 pub mod Runs
-pub mod Alone
-pub mod Pair
