@@ -19,6 +19,8 @@ mod order;
 #[cfg(test)]
 mod results;
 #[cfg(test)]
+mod stuck;
+#[cfg(test)]
 mod syntax;
 #[cfg(test)]
 mod types;

@@ -19,8 +19,6 @@ mod place;
 mod print;
 mod section;
 mod stmt;
-#[cfg(test)]
-mod tests;
 mod types;
 
 pub use expr::{CallTree, ExprTree, Exprs};

@@ -47,14 +47,6 @@ impl PlaceTree {
     {
         &self.expr
     }
-
-    /// The expression, by value.
-    pub fn into_expr(self) -> ExprTree
-        ensures value { result ≡ self }
-        ensures place { IsTrue (is_place self) }
-    {
-        self.expr
-    }
 }
 
 fn is_place(expr: &ExprTree) -> bool

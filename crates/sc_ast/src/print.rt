@@ -11,8 +11,6 @@ ghost use Rattle.sc_ast.specs.SectionWords.{head_words, value_words, local_line,
 mod decl;
 mod expr;
 mod stmt;
-#[cfg(test)]
-mod tests;
 mod words;
 
 use crate::expr::ExprTree;

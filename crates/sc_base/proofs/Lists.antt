@@ -1,7 +1,8 @@
 -- Lists: an element at the end of the first part, one step of a loop, the first that passes, and maps.
 use Rattle.std.proofs.Common.{◌≡◌, ℕ, suc, ◌+◌, ◌<◌, Bool, true, false, cond, List, [], ◌∷◌, ◌++◌, map, length, get_or, take, drop, Option, Some, None, refl, ap, sym, ◌∙◌, add-one, drop-cons, arith}
 use Rattle.std.specs.Prelude.{slice_get, position}
-use Rattle.std.specs.List.{find, position_or_len}
+use Rattle.std.specs.List.{find, list_all, position_or_len}
+use Rattle.std.proofs.lemmas.Bool.{and_from, and_parts}
 use Rattle.std.specs.Option.{option_map}
 use Rattle.std.proofs.lemmas.List.{take_more}
 
@@ -32,3 +33,9 @@ find_passes {A} p (y ∷ xs) x e = go (p y) refl (find_passes p xs x)
 pub map_twice : {A B C : Type 0} (f : B → C) (g : A → B) (xs : List A) → map f (map g xs) ≡ map (λ x. f (g x)) xs
 map_twice f g [] = refl
 map_twice f g (x ∷ xs) = ap (λ rest. f (g x) ∷ rest) (map_twice f g xs)
+
+-- a test that another implies
+pub list_all_along : {A : Type 0} (p q : A → Bool) → ((x : A) → p x ≡ true → q x ≡ true) → (xs : List A) → list_all p xs ≡ true → list_all q xs ≡ true
+list_all_along p q on [] h = refl
+list_all_along p q on (x ∷ xs) h =
+    let parts = and_parts (p x) (list_all p xs) h in and_from (q x) (list_all q xs) (on x parts.0) (list_all_along p q on xs parts.1)

@@ -10,8 +10,6 @@ mod mark;
 mod operator;
 mod parser;
 mod reading;
-#[cfg(test)]
-mod tests;
 
 pub use fault::SyntaxFault;
 pub use lexeme::{Lexeme, Lexemes, Symbol, expect, lexemes, refused, refused_before};

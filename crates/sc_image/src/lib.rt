@@ -22,6 +22,3 @@ pub use parts::{
 };
 pub use reading::read_image;
 pub use writing::write_image;
-
-#[cfg(test)]
-mod tests;

@@ -24,7 +24,7 @@ gap_and_token {directives} {text} {kind} {m = m} (white_space h) t = white_none 
 gap_and_token (block_comment at h low ends first) t = t.no_block_comment h
 gap_and_token (line_comment h) t = t.no_line_comment h
 
-token_le : {directives : Bool} {text : List ℕ} {kind other : TokenKind} (n m : ℕ) → IsToken directives text kind n → IsToken directives text other m → n ≤ m
+pub token_le : {directives : Bool} {text : List ℕ} {kind other : TokenKind} (n m : ℕ) → IsToken directives text kind n → IsToken directives text other m → n ≤ m
 token_le {kind = kind} n m t u = ⊎_elim (λ less. absurd (none-some kind (sym (u.longest n less t.within) ∙ t.spelled))) (λ le. le) (cases_lt m n)
 
 -- one piece at most stands at the front

@@ -2,14 +2,11 @@
 use Rattle.std.proofs.Common.{◌≡◌, ℕ, ◌<◌, Bool, true, false, ◌&&◌, List, [], ◌∷◌, length, get_or, refl, sym, arith}
 use Rattle.std.proofs.lemmas.Bool.{ne_eqb}
 use Rattle.std.specs.Prelude.{bytes_eq, codes}
+use Rattle.sc_base.proofs.Bools.{and_false}
 use Rattle.sc_base.specs.Identifier.{is_name}
 use Rattle.sc_lex.specs.Words.{words, is_empty}
 use Rattle.sc_lex.specs.Kinds.{is_export, is_import}
 use Rattle.sc_lex.proofs.Wording.{words_full}
-
-and-false : (b : Bool) → (b && false) ≡ false
-and-false true = refl
-and-false false = refl
 
 and-true : (b : Bool) → (b && true) ≡ b
 and-true true = refl
@@ -21,19 +18,19 @@ not_empty word h = ne_eqb (length word) 0 (λ none. absurd (omega arith))
 export-words : (ws : List (List ℕ)) → (3 < length ws → 0 < length (get_or ws 3 [])) → is_export ws ≡ (bytes_eq (get_or ws 0 []) (codes "#pragma") && bytes_eq (get_or ws 1 []) (codes "export") && is_name (get_or ws 2 []) && is_empty (get_or ws 3 []))
 unfolding is_name
 export-words [] full = refl
-export-words (a ∷ []) full = simp and-false
-export-words (a ∷ b ∷ []) full = simp and-false
+export-words (a ∷ []) full = simp and_false
+export-words (a ∷ b ∷ []) full = simp and_false
 export-words (a ∷ b ∷ c ∷ []) full = simp and-true
-export-words (a ∷ b ∷ c ∷ d ∷ ws) full = let some : is_empty d ≡ false = not_empty d (full (omega arith)) in rw some (sym (and-false _))
+export-words (a ∷ b ∷ c ∷ d ∷ ws) full = let some : is_empty d ≡ false = not_empty d (full (omega arith)) in rw some (sym (and_false _))
 
 import-words : (ws : List (List ℕ)) → (4 < length ws → 0 < length (get_or ws 4 [])) → is_import ws ≡ (bytes_eq (get_or ws 0 []) (codes "#pragma") && bytes_eq (get_or ws 1 []) (codes "import") && is_name (get_or ws 2 []) && is_name (get_or ws 3 []) && is_empty (get_or ws 4 []))
 unfolding is_name
 import-words [] full = refl
-import-words (a ∷ []) full = simp and-false
-import-words (a ∷ b ∷ []) full = simp and-false
-import-words (a ∷ b ∷ c ∷ []) full = simp and-false
+import-words (a ∷ []) full = simp and_false
+import-words (a ∷ b ∷ []) full = simp and_false
+import-words (a ∷ b ∷ c ∷ []) full = simp and_false
 import-words (a ∷ b ∷ c ∷ d ∷ []) full = simp and-true
-import-words (a ∷ b ∷ c ∷ d ∷ e ∷ ws) full = let some : is_empty e ≡ false = not_empty e (full (omega arith)) in rw some (sym (and-false _))
+import-words (a ∷ b ∷ c ∷ d ∷ e ∷ ws) full = let some : is_empty e ≡ false = not_empty e (full (omega arith)) in rw some (sym (and_false _))
 
 pub is_export-at : (line : List ℕ) → is_export (words line) ≡ (bytes_eq (get_or (words line) 0 []) (codes "#pragma") && bytes_eq (get_or (words line) 1 []) (codes "export") && is_name (get_or (words line) 2 []) && is_empty (get_or (words line) 3 []))
 is_export-at line = export-words (words line) (words_full line 3)

@@ -14,7 +14,7 @@ use Rattle.sc_lex.specs.declared.refusal.Refusal.{Refusal}
 use Rattle.sc_lex.specs.declared.refusal.Phase.TheVariants.{Lex}
 use Rattle.sc_lex.proofs.Wording.{heading_fits}
 
-heading_within : (text : List ℕ) (at : ℕ) → IsTrue (is_heading text at) → at < length text
+pub heading_within : (text : List ℕ) (at : ℕ) → IsTrue (is_heading text at) → at < length text
 heading_within text at h =
     let begins = (and_parts (begins_line text at) (begins_heading (drop at text)) h).1 in
     omega (arith, heading_fits (drop at text) begins, length-drop at text)
@@ -44,7 +44,7 @@ sections_push : {text : List ℕ} {at end next : ℕ} {ss : List Section} → Ar
 sections_push none s h = section s h none
 sections_push (section first g others) s h = section first g (sections_push others s h)
 
-sections_rise : {text : List ℕ} {at end : ℕ} {ss : List Section} → AreSections text at end ss → at ≤ end
+pub sections_rise : {text : List ℕ} {at end : ℕ} {ss : List Section} → AreSections text at end ss → at ≤ end
 sections_rise none = omega arith
 sections_rise (section first g others) = omega (arith, g.within, sections_rise others)
 

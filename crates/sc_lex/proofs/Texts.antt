@@ -8,6 +8,7 @@ use Rattle.std.proofs.lemmas.List.Folds.{list_all-append}
 use Rattle.std.specs.Prelude.{is_some, bytes_eq, slice_index, nat_le, nat_lt, ◌==◌}
 use Rattle.std.specs.List.{list_all, list_any}
 use Rattle.std.specs.Option.{option_or}
+use Rattle.sc_base.proofs.Lists.{list_all_along}
 use Rattle.sc_base.specs.Identifier.{is_between, is_name, is_nondigit, is_name_byte}
 use Rattle.sc_lex.specs.Lines.{is_white_space, is_inside_line}
 use Rattle.sc_lex.specs.Words.{words, is_empty}
@@ -37,10 +38,6 @@ mark_shape text = not (is_name_byte (slice_index text 0)) && not (slice_index te
 mark_shaped : (text : List ℕ) → is_mark text ≡ true → mark_shape text ≡ true
 unfolding is_mark
 mark_shaped text h = table_says mark_shape marks text refl h
-
-list_all_along : (p q : ℕ → Bool) → ((b : ℕ) → p b ≡ true → q b ≡ true) → (bs : List ℕ) → list_all p bs ≡ true → list_all q bs ≡ true
-list_all_along p q on [] h = refl
-list_all_along p q on (b ∷ bs) h = let parts = and_parts (p b) (list_all p bs) h in and_from (q b) (list_all q bs) (on b parts.0) (list_all_along p q on bs parts.1)
 
 digit_is_name_byte : (base b : ℕ) → base ≤ 16 → is_digit base b ≡ true → is_name_byte b ≡ true
 digit_is_name_byte base b low h = go (is_between 48 57 b) (is_between 97 102 b) (is_between 65 70 b) refl refl refl h

@@ -5,36 +5,17 @@ ghost use Rattle.sc_lex.specs.Pieces.{IsPiece, NoPiece, placed};
 ghost use Rattle.sc_lex.specs.declared.refusal.Phase.TheVariants.{Lex};
 ghost use Rattle.sc_lex.specs.declared.refusal.Refusal.{Refusal};
 ghost use Rattle.sc_lex.specs.declared.token.Token.{Token};
-ghost use Rattle.sc_lex.specs.declared.cut.LexFault.TheVariants.{OutOfMemory};
 
 use crate::bytes::{begins_line, line_after};
 use crate::gap::gap_len;
 use crate::heading::begins_heading;
 use crate::kind::token_at;
-use crate::{Phase, Refusal, Token, TokenKind};
+use crate::{Phase, Refusal, TextFault, Token, TokenKind};
 use sqlite_items::Items;
 use std::alloc::{AllocError, Global};
-use thiserror::Error;
 
 /// The tokens of some bytes, in order. Contracts see the list.
 pub type Tokens = Items<Token>;
-
-/// Why bytes could not be cut into tokens.
-#[derive(Clone, Copy, Debug, PartialEq, Eq, Error)]
-pub enum LexFault {
-    #[error("a byte that begins no token")]
-    Refused(Refusal),
-    #[error("out of memory")]
-    OutOfMemory,
-}
-
-impl From<AllocError> for LexFault {
-    ghost from_gives = { λ _ e. e ≡ OutOfMemory };
-
-    fn from(_: AllocError) -> LexFault {
-        LexFault::OutOfMemory
-    }
-}
 
 // What stands between two tokens, or one.
 #[derive(Clone, Copy)]
@@ -47,12 +28,12 @@ enum Piece {
 /// and comments (C11 6.4.9) between them. Where the bytes begin with a compartment line, as a section does, a line
 /// that begins with `#` outside a comment is a directive. The line of a refusal is counted from `line`, that of a
 /// token from 1.
-pub fn tokens(alloc: Global, bytes: &[u8], line: u32) -> Result<Tokens, LexFault>
+pub fn tokens(alloc: Global, bytes: &[u8], line: u32) -> Result<Tokens, TextFault>
     ensures cut { IfOk result (IsCut bytes.now) }
 
     // Bytes are refused exactly where no tokens cut them, at the first place that begins neither gap nor token.
-    ensures refused { (refusal : Refusal) → IsErrOf result (LexFault.Refused refusal) → RefusesBytes bytes.now line refusal }
-    ensures uncut { (refusal : Refusal) → IsErrOf result (LexFault.Refused refusal) → (tokens : List Token) → IsCut bytes.now tokens → ⊥ }
+    ensures refused { (refusal : Refusal) → IsErrOf result (TextFault.Refused refusal) → RefusesBytes bytes.now line refusal }
+    ensures uncut { (refusal : Refusal) → IsErrOf result (TextFault.Refused refusal) → (tokens : List Token) → IsCut bytes.now tokens → ⊥ }
 {
     let mut found = Items::new(alloc);
     let mut at = 0;
@@ -60,7 +41,7 @@ pub fn tokens(alloc: Global, bytes: &[u8], line: u32) -> Result<Tokens, LexFault
     while at < bytes.len() {
         let rest = &bytes[at..];
         let Some((piece, len)) = piece_at(rest, allows_directive(bytes, at)) else {
-            return Err(LexFault::Refused(Refusal {
+            return Err(TextFault::Refused(Refusal {
                 phase: Phase::Lex,
                 line: line_after(line, &bytes[..at]),
             }));
@@ -130,6 +111,3 @@ pub fn one_cut()
 pub fn one_refusal()
     ensures { (bytes : List ℕ) (line : ℕ) (refusal other : Refusal) → RefusesBytes bytes line refusal → RefusesBytes bytes line other → refusal ≡ other }
 {}
-
-#[cfg(test)]
-mod tests;

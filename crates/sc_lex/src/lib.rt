@@ -3,6 +3,7 @@
 
 mod bytes;
 mod cut;
+mod fault;
 mod gap;
 mod heading;
 mod integer;
@@ -12,10 +13,16 @@ mod section;
 mod tables;
 mod token;
 
-pub use cut::{LexFault, Tokens, one_cut, one_refusal, slices_in_order, tokens};
+pub use cut::{Tokens, one_cut, one_refusal, slices_in_order, tokens};
+pub use fault::TextFault;
+
+// The faults of each part of reading.
+pub use fault::TextFault as LexFault;
+pub use fault::TextFault as SplitFault;
+
 pub use heading::heading_name;
 pub use integer::{IntegerConstant, integer_of};
 pub use kind::{FirstWords, first_words};
 pub use refusal::{Phase, Refusal};
-pub use section::{Section, Sections, Split, SplitFault, sections};
+pub use section::{Section, Sections, Split, sections};
 pub use token::{Token, TokenKind};

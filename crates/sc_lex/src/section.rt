@@ -5,15 +5,13 @@ ghost use Rattle.sc_lex.specs.Headings.{is_heading, name_at};
 ghost use Rattle.sc_lex.specs.Splitting.{NoHeading, IsSection, IsSplit, IsBadHeading, RefusesHeading};
 ghost use Rattle.sc_lex.specs.declared.refusal.Refusal.{Refusal};
 ghost use Rattle.sc_lex.specs.declared.refusal.Phase.TheVariants.{Lex};
-ghost use Rattle.sc_lex.specs.declared.section.SplitFault.TheVariants.{OutOfMemory};
 
 use crate::bytes::{begins_line, line_after, line_len};
 use crate::heading::{begins_heading, heading_name};
-use crate::{Phase, Refusal};
+use crate::{Phase, Refusal, TextFault};
 use sc_base::Name;
 use sqlite_items::Items;
-use std::alloc::{AllocError, Global};
-use thiserror::Error;
+use std::alloc::Global;
 
 /// One section of a text: a compartment line and what stands behind it, up to the next one.
 #[derive(Clone, Copy)]
@@ -39,32 +37,15 @@ pub struct Split<'a> {
     pub sections: Sections<'a>,
 }
 
-/// Why a text could not be split.
-#[derive(Clone, Copy, Debug, PartialEq, Eq, Error)]
-pub enum SplitFault {
-    #[error("a bad compartment line")]
-    Refused(Refusal),
-    #[error("out of memory")]
-    OutOfMemory,
-}
-
-impl From<AllocError> for SplitFault {
-    ghost from_gives = { λ _ e. e ≡ OutOfMemory };
-
-    fn from(_: AllocError) -> SplitFault {
-        SplitFault::OutOfMemory
-    }
-}
-
 /// The preamble and the sections of a text. Each line that begins with `#pragma compartment `, also inside a comment,
 /// begins a section, and nothing else does. A name and any blanks follow on that line.
-pub fn sections(alloc: Global, text: &[u8]) -> Result<Split<'_>, SplitFault>
+pub fn sections(alloc: Global, text: &[u8]) -> Result<Split<'_>, TextFault>
     ensures split { IfOk result (λ split. IsSplit text.now split.preamble.now split.sections) }
     ensures joined { IfOk result (λ split. split.preamble.now ++ flat_map (λ section. section.bytes.now) split.sections ≡ text.now) }
 
     // A text is refused exactly where a compartment line is bad, at the first such line.
     ensures good { OnOk result ((at : ℕ) → IsBadHeading text.now at → ⊥) }
-    ensures refused { (refusal : Refusal) → IsErrOf result (SplitFault.Refused refusal) → RefusesHeading text.now refusal }
+    ensures refused { (refusal : Refusal) → IsErrOf result (TextFault.Refused refusal) → RefusesHeading text.now refusal }
 {
     let first = next_heading(text, 0);
     let mut sections = Items::new(alloc);
@@ -73,7 +54,7 @@ pub fn sections(alloc: Global, text: &[u8]) -> Result<Split<'_>, SplitFault>
     while at < text.len() {
         let end = next_heading(text, at + 1);
         let Some(section) = section_at(text, at, end, line) else {
-            return Err(SplitFault::Refused(Refusal {
+            return Err(TextFault::Refused(Refusal {
                 phase: Phase::Lex,
                 line,
             }));
@@ -129,6 +110,3 @@ fn is_heading(text: &[u8], at: usize) -> bool
 {
     begins_line(text, at) && begins_heading(&text[at..])
 }
-
-#[cfg(test)]
-mod tests;

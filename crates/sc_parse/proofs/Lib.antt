@@ -8,7 +8,6 @@ pub mod Prototypes
 pub mod Expressions
 pub mod Simples
 pub mod Parts
-pub mod StmtHeights
 pub mod Ended
 pub mod Nested
 pub mod Bodies

@@ -33,7 +33,7 @@ use Rattle.sc_parse.proofs.Bases.{Word, word_ahead, mark_is}
 use Rattle.sc_parse.proofs.Expressions.{Few, few_left, few_right, few_tail, NoExtension, expr_exact, expr_starts, call_exact, call_begins, no_call, no_mark, false-true}
 use Rattle.sc_parse.proofs.Simples.{IsSimple, EndsSimple, simple_exact}
 use Rattle.sc_parse.proofs.Parts.{IsCondition, condition_exact, kind_some, first_line_some, kind_no_word, kind_no_mark, call_no_mark, IsPart, part_sound, part_reads, IsTest, test_sound, test_reads}
-use Rattle.sc_parse.proofs.StmtHeights.{tree_height, if_height, while_height, for_height, empty_height, break_height, continue_height, return_height, value_height, return_call_height, plain_height}
+use Rattle.sc_ast.proofs.Statements.{tree_height, if_height, while_height, for_height, empty_height, break_height, continue_height, return_height, value_height, return_call_height, plain_height}
 use Rattle.sc_parse.proofs.Ended.{NoElse, Starts, kind_starts, IsKind, IsStmt, a_stmt, stmt_starts, ended_sound}
 
 -- behind a `}` no `else` stands at the front

@@ -5,6 +5,7 @@ use Rattle.std.proofs.lemmas.Bool.{leb-false, lt-leb, le-leb}
 use Rattle.std.proofs.lemmas.Slice.Eq.{bytes_eq-Decides}
 use Rattle.std.specs.List.{list_any}
 use Rattle.std.specs.Option.{option_or, option_map, option_and_then}
+use Rattle.sc_base.proofs.Bools.{and_first, and_rest}
 use Rattle.sc_base.specs.Identifier.{is_name, name_of}
 use Rattle.sc_base.specs.Reserved.{is_reserved}
 use Rattle.sc_ast.specs.Numbers.{number_of}
@@ -72,19 +73,11 @@ mark_speaks text h = looked mark_texts text h
 named_word : (word : List ℕ) → is_name word ≡ true → is_some (name_of word) ≡ true
 named_word word h = rw h
 
-last_of_two : (a b : Bool) → (a && b) ≡ true → b ≡ true
-last_of_two true b h = h
-last_of_two false b h = absurd (false-true h)
-
-first_of_two : (a b : Bool) → (a && b) ≡ true → a ≡ true
-first_of_two true b h = refl
-first_of_two false b h = absurd (false-true h)
-
 export_speaks : (ws : List (List ℕ)) → is_export ws ≡ true → is_some (name_of (get_or ws 2 [])) ≡ true
 export_speaks [] h = absurd (false-true h)
 export_speaks (a ∷ []) h = absurd (false-true h)
 export_speaks (a ∷ b ∷ []) h = absurd (false-true h)
-export_speaks (a ∷ b ∷ c ∷ []) h = named_word c (last_of_two (bytes_eq a (codes "#pragma") && bytes_eq b (codes "export")) (is_name c) h)
+export_speaks (a ∷ b ∷ c ∷ []) h = named_word c (and_rest (bytes_eq a (codes "#pragma") && bytes_eq b (codes "export")) (is_name c) h)
 export_speaks (a ∷ b ∷ c ∷ d ∷ more) h = absurd (false-true h)
 
 import_speaks : (ws : List (List ℕ)) → is_import ws ≡ true → is_some (import_of (name_of (get_or ws 2 [])) (name_of (get_or ws 3 []))) ≡ true
@@ -94,7 +87,7 @@ import_speaks (a ∷ b ∷ []) h = absurd (false-true h)
 import_speaks (a ∷ b ∷ c ∷ []) h = absurd (false-true h)
 import_speaks (a ∷ b ∷ c ∷ d ∷ []) h =
     let words = bytes_eq a (codes "#pragma") && bytes_eq b (codes "import") in
-    both (is_name c) refl (is_name d) refl (last_of_two words (is_name c) (first_of_two (words && is_name c) (is_name d) h)) (last_of_two (words && is_name c) (is_name d) h)
+    both (is_name c) refl (is_name d) refl (and_rest words (is_name c) (and_first (words && is_name c) (is_name d) h)) (and_rest (words && is_name c) (is_name d) h)
   where
     both : (x : Bool) → is_name c ≡ x → (y : Bool) → is_name d ≡ y → x ≡ true → y ≡ true → is_some (import_of (name_of c) (name_of d)) ≡ true
     both true p true q e f = rw (p, q)

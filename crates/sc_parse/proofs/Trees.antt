@@ -12,8 +12,8 @@ use Rattle.sc_expr.specs.declared.lexeme.Lexeme.{Lexeme}
 use Rattle.sc_expr.specs.Brackets.{open_after, most_open}
 use Rattle.sc_expr.specs.Lexemes.{lexeme_of}
 use Rattle.sc_expr.proofs.Options.{same_some, cond_is}
-use Rattle.sc_parse.specs.declared.fault.ParseFault.{ParseFault}
-use Rattle.sc_parse.specs.declared.fault.ParseFault.TheVariants as fault
+use Rattle.sc_lex.specs.declared.fault.TextFault.{TextFault}
+use Rattle.sc_lex.specs.declared.fault.TextFault.TheVariants as fault
 use Rattle.sc_parse.specs.SectionReaders.{section_at}
 use Rattle.sc_parse.specs.Limits.{IsExcess, tree_of, IsParsed, lexemes_of, whole_line, Parses}
 use Rattle.sc_parse.proofs.Sections.{section_sound, section_complete}
@@ -43,7 +43,7 @@ tree_found line ts rest x h few =
 
 pub ruleset trees = (too_many, unread, tree_found)
 
-pub parsed : (line : ℕ) (ts : List Lexeme) (result : Result SectionTree ParseFault) → Parses line ts result → IfOk result (λ tree. IsParsed line ts tree)
+pub parsed : (line : ℕ) (ts : List Lexeme) (result : Result SectionTree TextFault) → Parses line ts result → IfOk result (λ tree. IsParsed line ts tree)
 unfolding tree_of
 parsed line ts (Err e) h = tt
 parsed line ts (Ok tree) h =
@@ -60,11 +60,11 @@ parsed line ts (Ok tree) h =
         record { spelled = s.spelled; low = s.low; few = few h }
 
 -- the fault is a refusal
-abbrev IsRefusal : Result SectionTree ParseFault → Type 0
+abbrev IsRefusal : Result SectionTree TextFault → Type 0
 IsRefusal (Err (fault.Refused refusal)) = Unit {0}
 IsRefusal _ = ⊥
 
-pub unparsed : (line : ℕ) (ts : List Lexeme) (result : Result SectionTree ParseFault) → Parses line ts result → (refusal : Refusal) → IsErrOf result (fault.Refused refusal) → (tree : SectionTree) → IsParsed line ts tree → ⊥
+pub unparsed : (line : ℕ) (ts : List Lexeme) (result : Result SectionTree TextFault) → Parses line ts result → (refusal : Refusal) → IsErrOf result (fault.Refused refusal) → (tree : SectionTree) → IsParsed line ts tree → ⊥
 unparsed line ts (Ok x) h refusal e tree p = subst IsRefusal (sym e) tt
 unparsed line ts (Err fault.OutOfMemory) h refusal e tree p = subst IsRefusal (sym e) tt
 unparsed line ts (Err (fault.Refused other)) h refusal e tree p = none-some tree (sym h ∙ tree_found line ts [] tree (section_complete p.spelled p.low p.few) p.few)

@@ -9,8 +9,8 @@ use Rattle.sc_expr.specs.declared.lexeme.Lexeme.{Lexeme}
 use Rattle.sc_expr.specs.Brackets.{most_open}
 use Rattle.sc_expr.specs.Lexemes.{lexeme_of}
 use Rattle.sc_parse.specs.Sections.{SpellsSection}
-use Rattle.sc_parse.specs.declared.fault.ParseFault.{ParseFault}
-use Rattle.sc_parse.specs.declared.fault.ParseFault.TheVariants as fault
+use Rattle.sc_lex.specs.declared.fault.TextFault.{TextFault}
+use Rattle.sc_lex.specs.declared.fault.TextFault.TheVariants as fault
 use Rattle.sc_parse.specs.SectionReaders.{section_at}
 
 -- at this place stands the first lexeme behind which more than 1,024 brackets are open
@@ -43,7 +43,7 @@ abbrev pub whole_line : ℕ → Lexeme → ℕ
 whole_line first t = line_after first (t.line - 1)
 
 -- an answer is the tree that the lexemes have, and lexemes that have none are refused
-abbrev pub Parses : ℕ → List Lexeme → Result SectionTree ParseFault → Type 0
+abbrev pub Parses : ℕ → List Lexeme → Result SectionTree TextFault → Type 0
 Parses line lexemes (Ok tree) = tree_of line lexemes ≡ Some tree
 Parses line lexemes (Err (fault.Refused refusal)) = tree_of line lexemes ≡ None
 Parses line lexemes (Err fault.OutOfMemory) = Unit {0}

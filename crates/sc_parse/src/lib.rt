@@ -7,7 +7,6 @@
 mod brackets;
 mod calls;
 mod copy;
-mod fault;
 mod front;
 mod functions;
 mod globals;
@@ -18,11 +17,11 @@ mod says;
 mod section;
 mod simple;
 mod stmts;
-#[cfg(test)]
-mod tests;
 mod types;
 
-pub use fault::ParseFault;
 pub use reading::parse;
 pub use says::tokens_say;
 pub use section::one_section;
+
+// Why a section was not parsed.
+pub use sc_lex::TextFault as ParseFault;

@@ -9,11 +9,10 @@ ghost use Rattle.sc_ast.specs.declared.section.SectionTree.{SectionTree};
 ghost use Rattle.sc_parse.specs.Limits.{IsParsed, Parses, lexemes_of, whole_line};
 
 use crate::brackets::first_excess;
-use crate::fault::ParseFault;
 use crate::section::section_at;
 use sc_ast::SectionTree;
 use sc_expr::{Lexeme, SyntaxFault, lexemes};
-use sc_lex::{Phase, Refusal, Section, Token, slices_in_order};
+use sc_lex::{Phase, Refusal, Section, TextFault, Token, slices_in_order};
 use std::alloc::Global;
 
 // The line in the whole text of a lexeme, the last where fewer stand there, of a section that begins in this line.
@@ -38,10 +37,10 @@ fn refused_at(line: u32, lexemes: &[Lexeme], at: usize) -> Refusal
 }
 
 #[tactic(auto, using(crate::proofs::Trees::trees))]
-fn parse_lexemes(alloc: Global, line: u32, lexemes: &[Lexeme]) -> Result<SectionTree, ParseFault>
+fn parse_lexemes(alloc: Global, line: u32, lexemes: &[Lexeme]) -> Result<SectionTree, TextFault>
     ensures parses { Parses line lexemes.now result }
-    ensures phase { (refusal : Refusal) → IsErrOf result (ParseFault.Refused refusal) → refusal.phase ≡ Syntax }
-    ensures line { (refusal : Refusal) → IsErrOf result (ParseFault.Refused refusal) → 0 < length lexemes.now → Any (λ t. refusal.line ≡ whole_line line t) lexemes.now }
+    ensures phase { (refusal : Refusal) → IsErrOf result (TextFault.Refused refusal) → refusal.phase ≡ Syntax }
+    ensures line { (refusal : Refusal) → IsErrOf result (TextFault.Refused refusal) → 0 < length lexemes.now → Any (λ t. refusal.line ≡ whole_line line t) lexemes.now }
 {
     let excess = first_excess(lexemes);
     let mut rest = lexemes;
@@ -50,13 +49,13 @@ fn parse_lexemes(alloc: Global, line: u32, lexemes: &[Lexeme]) -> Result<Section
         Err(SyntaxFault::Refused { left }) => {
             let stuck = lexemes.len().saturating_sub(left);
             let first = stuck.min(excess.unwrap_or(stuck));
-            return Err(ParseFault::Refused(refused_at(line, lexemes, first)));
+            return Err(TextFault::Refused(refused_at(line, lexemes, first)));
         }
-        Err(SyntaxFault::OutOfMemory) => return Err(ParseFault::OutOfMemory),
+        Err(SyntaxFault::OutOfMemory) => return Err(TextFault::OutOfMemory),
     };
     match excess {
         None => Ok(tree),
-        Some(at) => Err(ParseFault::Refused(refused_at(line, lexemes, at))),
+        Some(at) => Err(TextFault::Refused(refused_at(line, lexemes, at))),
     }
 }
 
@@ -67,14 +66,14 @@ pub fn parse(
     alloc: Global,
     section: &Section<'_>,
     tokens: &[Token],
-) -> Result<SectionTree, ParseFault>
+) -> Result<SectionTree, TextFault>
     requires { IsCut section.now.bytes.now tokens.now }
     ensures parsed { IfOk result (λ tree. IsParsed section.now.line (lexemes_of section.now.bytes.now tokens.now) tree) }
 
     // Tokens are refused exactly where they are no tree within the limits, with the line of one of them.
-    ensures refused { (refusal : Refusal) → IsErrOf result (ParseFault.Refused refusal) → (tree : SectionTree) → IsParsed section.now.line (lexemes_of section.now.bytes.now tokens.now) tree → ⊥ }
-    ensures phase { (refusal : Refusal) → IsErrOf result (ParseFault.Refused refusal) → refusal.phase ≡ Syntax }
-    ensures line { (refusal : Refusal) → IsErrOf result (ParseFault.Refused refusal) → 0 < length tokens.now → Any (λ token. refusal.line ≡ line_after section.now.line (token.line - 1)) tokens.now }
+    ensures refused { (refusal : Refusal) → IsErrOf result (TextFault.Refused refusal) → (tree : SectionTree) → IsParsed section.now.line (lexemes_of section.now.bytes.now tokens.now) tree → ⊥ }
+    ensures phase { (refusal : Refusal) → IsErrOf result (TextFault.Refused refusal) → refusal.phase ≡ Syntax }
+    ensures line { (refusal : Refusal) → IsErrOf result (TextFault.Refused refusal) → 0 < length tokens.now → Any (λ token. refusal.line ≡ line_after section.now.line (token.line - 1)) tokens.now }
 {
     slices_in_order();
     let lexemes = lexemes(alloc, section.bytes, tokens)?;

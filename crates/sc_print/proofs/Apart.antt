@@ -4,6 +4,7 @@ use Rattle.std.specs.Prelude.{nat_le, ◌==◌, slice_index}
 use Rattle.std.specs.List.{list_all, prefix_len}
 use Rattle.std.proofs.Math.Seq.{take-append_seam}
 use Rattle.std.proofs.lemmas.Bool.{and_parts, and_from, le-leb, false≢true}
+use Rattle.sc_base.proofs.Bools.{and_false}
 use Rattle.sc_base.specs.Identifier.{is_name_byte}
 use Rattle.sc_base.specs.Reserved.{is_reserved}
 use Rattle.sc_lex.specs.Tables.{marks, is_mark}
@@ -49,10 +50,6 @@ plain_word text rest k some is calm =
       kind = k;
       token = λ here. word_found (text ++ rest) (starts text rest some all) (length text) k here (omega (arith, long, some)) (sym run) (sym is ∙ ap word_kind (sym back));
     }
-
-and_false : (a : Bool) → (a && false) ≡ false
-and_false true = refl
-and_false false = refl
 
 one_two : (c : ℕ) (rest : List ℕ) → is_mark (c ∷ slice_index rest 0 ∷ []) ≡ false → (nat_le 2 (length (c ∷ rest)) && is_mark (take 2 (c ∷ rest))) ≡ false
 one_two c [] h = refl

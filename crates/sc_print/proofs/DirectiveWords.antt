@@ -9,6 +9,7 @@ use Rattle.std.proofs.lemmas.Bool.Decides.{Decides-eqb}
 use Rattle.std.proofs.lemmas.List.Folds.{list_all-append}
 use Rattle.std.proofs.lemmas.List.Splits.{slice_split_at, slice_split_none}
 use Rattle.std.proofs.lemmas.Slice.Eq.{slice_eq-Decides}
+use Rattle.sc_base.proofs.Lists.{list_all_along}
 use Rattle.sc_base.specs.Identifier.{is_nondigit, is_digit, is_name_byte, is_name, name_of}
 use Rattle.sc_lex.specs.Lines.{is_blank, is_inside_line}
 use Rattle.sc_lex.specs.Words.{words, is_empty, only_name}
@@ -27,10 +28,6 @@ use Rattle.sc_print.proofs.Spacing.{other}
 -- a byte that stands inside a word
 abbrev pub solid : ℕ → Bool
 solid byte = not (is_blank byte)
-
-along : (p q : ℕ → Bool) → ((b : ℕ) → p b ≡ true → q b ≡ true) → (bs : List ℕ) → list_all p bs ≡ true → list_all q bs ≡ true
-along p q on [] h = refl
-along p q on (b ∷ bs) h = let parts = and_parts (p b) (list_all p bs) h in and_from (q b) (list_all q bs) (on b parts.0) (along p q on bs parts.1)
 
 solid_at : (bs : List ℕ) → list_all solid bs ≡ true → (k d : ℕ) → k < length bs → is_blank (get_or bs k d) ≡ false
 solid_at [] h k d less = absurd (omega (arith, less))
@@ -71,10 +68,10 @@ named (b ∷ bs) h =
     record { some = omega arith; bytes = and_from (is_name_byte b) (list_all is_name_byte bs) (or_left (is_nondigit b) (is_digit b) parts.0) rest.0 }
 
 name_solid : (name : List ℕ) → is_name name ≡ true → list_all solid name ≡ true
-name_solid name h = along is_name_byte solid byte_solid name (named name h).bytes
+name_solid name h = list_all_along is_name_byte solid byte_solid name (named name h).bytes
 
 name_inside : (name : List ℕ) → is_name name ≡ true → list_all is_inside_line name ≡ true
-name_inside name h = along is_name_byte is_inside_line byte_inside name (named name h).bytes
+name_inside name h = list_all_along is_name_byte is_inside_line byte_inside name (named name h).bytes
 
 name_word : (name : List ℕ) → is_name name ≡ true → words name ≡ name ∷ []
 name_word name h = word_alone name (name_solid name h) (named name h).some

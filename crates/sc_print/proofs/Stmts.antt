@@ -20,6 +20,7 @@ use Rattle.sc_ast.specs.declared.stmt.StmtKind.{StmtKind, StmtKind-F, roll-StmtK
 use Rattle.sc_ast.specs.declared.stmt.StmtKind as kinds
 use Rattle.sc_ast.specs.declared.stmt.StmtKind.TheOpen as layer
 use Rattle.sc_ast.specs.declared.stmt.StmtKind.TheVariants as stmt
+use Rattle.sc_ast.proofs.Statements.{bare_stmt}
 use Rattle.sc_ast.proofs.Induction.{Each, Inside, stmt_induction}
 use Rattle.sc_ast.proofs.Layers.{stmt_at}
 use Rattle.sc_expr.specs.declared.lexeme.Lexeme.{Lexeme}
@@ -46,9 +47,6 @@ same_while c b = search (rules, kinds.the_lemmas, trees.the_lemmas)
 
 same_for : (f : Option SimpleTree) (c : ExprTree) (n : Option SimpleTree) (b : List StmtTree) → lineless_kind (stmt.For f c n b) ≡ stmt.For (lineless_option f) c (lineless_option n) (lineless_stmts b)
 same_for f c n b = search (rules, kinds.the_lemmas, trees.the_lemmas)
-
-same_stmt : (line : ℕ) (k : StmtKind) → lineless_stmt (record { line = line; kind = k }) ≡ record { line = 0; kind = lineless_kind k }
-same_stmt line k = search (rules, kinds.the_lemmas, trees.the_lemmas)
 
 -- The lexemes spell a statement, which is an `if` where that is told, and which is this one, lines aside.
 pub record Spelled (ts : List Lexeme) (is_if : Bool) (k : StmtKind) : Type 0 where
@@ -83,7 +81,7 @@ lines_read depth (s ∷ stmts) each k ts h =
     record {
       others = record { line = first_line p.front; kind = first.kind } ∷ rest.others;
       spelled = subst (λ us. SpellsStmts us (record { line = first_line p.front; kind = first.kind } ∷ rest.others)) (sym p.whole) (spell.next first.spelled rest.spelled);
-      same = ap₂ (λ x xs. x ∷ xs) (same_stmt (first_line p.front) first.kind ∙ ap (λ x. record { line = 0; kind = x }) first.same ∙ sym (same_stmt s.line s.kind)) rest.same;
+      same = ap₂ (λ x xs. x ∷ xs) (bare_stmt (first_line p.front) first.kind ∙ ap (λ x. record { line = 0; kind = x }) first.same ∙ sym (bare_stmt s.line s.kind)) rest.same;
     }
 
 record Block (ts : List Lexeme) (stmts : List StmtTree) : Type 0 where
@@ -114,7 +112,7 @@ chain_reads : (depth : ℕ) (s : StmtTree) (stmts : List StmtTree) → Each Hold
 chain_reads depth s [] each k q ts vs u whole is h =
     let chained = (and_parts (stmt_layout s).is_if true (and_parts true ((stmt_layout s).is_if && true) q).1).0 in
     let inner = each.0 (and_parts (is_kept_stmt s) true k).0 depth vs (h ∙ ap symbols (append-nil ((stmt_layout s).words depth))) in
-    else_if u vs inner.kind whole is (inner.chained chained) (ap (λ x. x ∷ []) (same_stmt (first_line vs) inner.kind ∙ ap (λ x. record { line = 0; kind = x }) inner.same ∙ sym (same_stmt s.line s.kind)))
+    else_if u vs inner.kind whole is (inner.chained chained) (ap (λ x. x ∷ []) (bare_stmt (first_line vs) inner.kind ∙ ap (λ x. record { line = 0; kind = x }) inner.same ∙ sym (bare_stmt s.line s.kind)))
 chain_reads depth s (x ∷ xs) each k q ts vs u whole is h =
     let long = eqb-true (length (layouts (s ∷ x ∷ xs))) 1 (and_parts (length (layouts (s ∷ x ∷ xs)) == 1) (list_all (λ stmt. stmt.is_if) (layouts (s ∷ x ∷ xs))) q).0 in
     absurd (omega (arith, long))

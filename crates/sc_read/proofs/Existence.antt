@@ -16,7 +16,7 @@ use Rattle.sc_lex.specs.declared.refusal.Phase.{Phase}
 use Rattle.sc_lex.specs.declared.refusal.Phase.TheVariants as phase
 use Rattle.sc_ast.specs.declared.section.SectionTree.{SectionTree}
 use Rattle.sc_expr.specs.declared.lexeme.Lexeme.{Lexeme}
-use Rattle.sc_parse.specs.declared.fault.ParseFault.TheVariants as fault
+use Rattle.sc_lex.specs.declared.fault.TextFault.TheVariants as fault
 use Rattle.sc_parse.specs.Limits.{tree_of, IsParsed, lexemes_of}
 use Rattle.sc_parse.proofs.Trees.{parsed, unparsed}
 use Rattle.sc_read.specs.First.{First, here, later}

@@ -8,17 +8,8 @@ use Rattle.sc_lex.specs.Lines.{line_at, begins_line}
 use Rattle.sc_lex.specs.Headings.{is_heading, begins_heading, name_at}
 use Rattle.sc_lex.specs.Splitting.{IsSection, AreSections, none, section, IsSplit, IsBadHeading}
 use Rattle.sc_lex.specs.declared.section.Section.{Section}
-use Rattle.sc_lex.proofs.Wording.{heading_fits}
+use Rattle.sc_lex.proofs.Splits.{heading_within, sections_rise}
 use Rattle.sc_read.specs.Reading.{Part, part_of, parts_of}
-
-pub heading_inside : (text : List ℕ) (at : ℕ) → IsTrue (is_heading text at) → at < length text
-heading_inside text at h =
-    let begins = (and_parts (begins_line text at) (begins_heading (drop at text)) h).1 in
-    omega (arith, heading_fits (drop at text) begins, length-drop at text)
-
-rises : {text : List ℕ} {at end : ℕ} {ss : List Section} → AreSections text at end ss → at ≤ end
-rises none = omega arith
-rises (section first g others) = omega (arith, g.within, rises others)
 
 begins : {text : List ℕ} {at end : ℕ} {ss : List Section} → AreSections text at end ss → at < end → IsTrue (is_heading text at)
 begins none h = absurd (omega arith)
@@ -34,8 +25,8 @@ same_end {n = n} {m = m} g g' same others others' e e' =
 
 same_sections : {text : List ℕ} {at end at' end' : ℕ} {ss ss' : List Section} → AreSections text at end ss → AreSections text at' end' ss' → at ≡ at' → end ≡ length text → end' ≡ length text → map part_of ss ≡ map part_of ss'
 same_sections none none same e e' = refl
-same_sections none (section first g others) same e e' = absurd (omega (arith, g.within, rises others))
-same_sections (section first g others) none same e e' = absurd (omega (arith, g.within, rises others))
+same_sections none (section first g others) same e e' = absurd (omega (arith, g.within, sections_rise others))
+same_sections (section first g others) none same e e' = absurd (omega (arith, g.within, sections_rise others))
 same_sections {text} (section first g others) (section first' g' others') same e e' =
     let next = same_end g g' same others others' e e' in
     let starts : first.start ≡ first'.start = g.start ∙ same ∙ sym g'.start in
@@ -45,7 +36,7 @@ same_sections {text} (section first g others) (section first' g' others') same e
 
 -- no compartment line stands before the end of the preamble
 not_before : {text p q : List ℕ} {ss ss' : List Section} → IsSplit text p ss → IsSplit text q ss' → length p < length q → ⊥
-not_before {p = p} c d less = d.before (length p) (omega arith) less (begins c.behind (omega (arith, rises d.behind)))
+not_before {p = p} c d less = d.before (length p) (omega arith) less (begins c.behind (omega (arith, sections_rise d.behind)))
 
 pub same_preamble : {text p q : List ℕ} {ss ss' : List Section} → IsSplit text p ss → IsSplit text q ss' → p ≡ q
 same_preamble {text} {p} {q} c d =
@@ -63,4 +54,4 @@ good_from {text} {from} (section {next = next} first g others) at low high bad =
 -- no compartment line of a split text is bad
 pub split_good : {text p : List ℕ} {ss : List Section} → IsSplit text p ss → (at : ℕ) → IsBadHeading text at → ⊥
 split_good {text} {p} c at bad =
-    ⊎_elim (λ less. c.before at (omega arith) less bad.heading) (λ le. good_from c.behind at le (heading_inside text at bad.heading) bad) (cases_lt at (length p))
+    ⊎_elim (λ less. c.before at (omega arith) less bad.heading) (λ le. good_from c.behind at le (heading_within text at bad.heading) bad) (cases_lt at (length p))

@@ -17,13 +17,6 @@ use Rattle.sc_lex.specs.declared.refusal.Refusal.{Refusal}
 use Rattle.sc_lex.specs.declared.refusal.Phase.TheVariants as phase
 use Rattle.sc_ast.specs.declared.section.SectionTree.{SectionTree}
 use Rattle.sc_parse.specs.Limits.{IsParsed, lexemes_of}
-use Rattle.sc_lex.specs.declared.section.SplitFault.{SplitFault}
-use Rattle.sc_lex.specs.declared.section.SplitFault.TheVariants as split
-use Rattle.sc_lex.specs.declared.cut.LexFault.{LexFault}
-use Rattle.sc_lex.specs.declared.cut.LexFault.TheVariants as lex
-use Rattle.sc_read.specs.declared.fault.TextFault.{TextFault}
-use Rattle.sc_read.specs.declared.fault.TextFault.TheVariants.{Refused}
-use Rattle.sc_read.specs.Faults.{of_split, of_lex}
 use Rattle.sc_read.specs.First.{First, here, later}
 use Rattle.sc_read.specs.Steps.{IsCutInto, IsCuttable, IsTreeOf, IsParsable, RefusesTokens}
 use Rattle.sc_read.specs.Reading.{Part, part_of, parts_of, HasTokens, PassesLex, IsRead, Reads, IsUncut, FailsLex, bad_heading, uncut, HasTree, IsUnread, FailsSyntax, in_preamble, in_section, Fails}
@@ -196,12 +189,3 @@ is_empty (u ∷ tokens) h = absurd (none-some u h)
 pub if_ok_more : {T E : Type 0} {P Q : T → Type 0} (r : Result T E) → ((x : T) → P x → Q x) → IfOk r P → IfOk r Q
 if_ok_more (Ok x) on h = on x h
 if_ok_more (Err e) on h = tt
-
--- what was refused below
-pub from_split : (f : SplitFault) (fault : TextFault) (refusal : Refusal) → fault ≡ of_split f → fault ≡ Refused refusal → f ≡ split.Refused refusal
-from_split (split.Refused r) fault refusal e h = let same : r ≡ refusal = cc in ap split.Refused same
-from_split split.OutOfMemory fault refusal e h = absurd (cc)
-
-pub from_lex : (f : LexFault) (fault : TextFault) (refusal : Refusal) → fault ≡ of_lex f → fault ≡ Refused refusal → f ≡ lex.Refused refusal
-from_lex (lex.Refused r) fault refusal e h = let same : r ≡ refusal = cc in ap lex.Refused same
-from_lex lex.OutOfMemory fault refusal e h = absurd (cc)

@@ -1,4 +1,3 @@
 pub mod First
 pub mod Reading
-pub mod Faults
 pub mod Steps

@@ -2,12 +2,9 @@
 //! section are parsed.
 #![tactic(auto)]
 
-mod fault;
 mod laws;
 mod reading;
-#[cfg(test)]
-mod tests;
 
-pub use fault::TextFault;
 pub use laws::{one_phase, one_reading, read_or_fails, read_or_refused};
 pub use reading::{Trees, read_trees};
+pub use sc_lex::TextFault;

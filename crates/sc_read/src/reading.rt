@@ -7,9 +7,8 @@ ghost use Rattle.sc_read.specs.First.{First};
 ghost use Rattle.sc_read.specs.Reading.{Reads, Fails};
 ghost use Rattle.sc_read.specs.Steps.{IsCutInto, IsCuttable, IsTreeOf, IsParsable, RefusesTokens};
 
-use crate::TextFault;
 use sc_ast::SectionTree;
-use sc_lex::{Phase, Refusal, Section, Split, Token, Tokens, sections, tokens};
+use sc_lex::{Phase, Refusal, Section, Split, TextFault, Token, Tokens, sections, tokens};
 use sc_parse::parse;
 use sqlite_items::Items;
 use std::alloc::Global;

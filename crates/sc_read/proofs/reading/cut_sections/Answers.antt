@@ -1,17 +1,16 @@
 use Rattle.std.proofs.Common.{◌≡◌, Err, sym, ap, ◌∙◌}
 use Rattle.std.proofs.lemmas.Result.{err_from_is_err_and}
-use Rattle.sc_lex.specs.declared.cut.LexFault.TheVariants as lex
-use Rattle.sc_read.specs.declared.fault.TextFault.TheVariants.{Refused}
+use Rattle.sc_lex.specs.declared.fault.TextFault.TheVariants.{Refused}
 use Rattle.sc_read.specs.Steps.{IsCutInto}
-use Rattle.sc_read.proofs.Steps.{more_sections, first_bad, from_lex}
+use Rattle.sc_read.proofs.Steps.{more_sections, first_bad}
 use Rattle.sc_read.proofs.reading.cut_sections.Goals as goal
 
 pub returns-in_err-tokens-clause-refused : goal.returns-in_err-tokens-clause-refused
 returns-in_err-tokens-clause-refused c = λ refusal is.
     let p = err_from_is_err_and c.from_residual.result c.from_residual.ensures.1 in
     let returned : c.from_residual.result ≡ Err p.0 = p.1 in
-    let refused : p.0 ≡ Refused refusal = cc in
-    let below : c.in_err-tokens.field-0.0 ≡ lex.Refused refusal = from_lex c.in_err-tokens.field-0.0 p.0 refusal p.2 refused in
+    let passed_on : p.0 ≡ c.in_err-tokens.field-0.0 = p.2 in
+    let below : c.in_err-tokens.field-0.0 ≡ Refused refusal = cc in
     first_bad IsCutInto (λ s tokens cut. (tokens, cut)) c.args.sections.now c.loop-section.cuts c.loop-section.section-index c.section-item.result c.loop-section-test.true c.section-item.is c.loop-section.invariant (c.in_err-tokens.ensures.refused refusal (ap Err below))
 
 pub loop-section-preserved : goal.loop-section-preserved

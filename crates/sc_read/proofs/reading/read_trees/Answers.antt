@@ -3,31 +3,29 @@ use Rattle.std.proofs.lemmas.Result.{err_from_is_err_and}
 use Rattle.std.specs.List.{AllZip}
 use Rattle.sc_lex.specs.Cutting.{IsCut, RefusesBytes}
 use Rattle.sc_lex.specs.Splitting.{IsSplit}
-use Rattle.sc_lex.specs.declared.section.SplitFault.TheVariants as split
-use Rattle.sc_lex.specs.declared.cut.LexFault.TheVariants as lex
 use Rattle.sc_lex.specs.declared.refusal.Refusal.{Refusal}
 use Rattle.sc_lex.specs.declared.refusal.Phase.TheVariants.{Syntax}
-use Rattle.sc_read.specs.declared.fault.TextFault.TheVariants.{Refused}
+use Rattle.sc_lex.specs.declared.fault.TextFault.TheVariants.{Refused}
 use Rattle.sc_read.specs.First.{First}
 use Rattle.sc_read.specs.Reading.{Fails}
 use Rattle.sc_read.specs.Steps.{IsCutInto, IsCuttable, IsTreeOf, IsParsable, RefusesTokens}
-use Rattle.sc_read.proofs.Steps.{heading_fails, preamble_uncut, section_uncut, lex_phase, preamble_spells, reads, section_unread, begins_with, is_empty, if_ok_more, from_split, from_lex}
+use Rattle.sc_read.proofs.Steps.{heading_fails, preamble_uncut, section_uncut, lex_phase, preamble_spells, reads, section_unread, begins_with, is_empty, if_ok_more}
 use Rattle.sc_read.proofs.reading.read_trees.Goals as goal
 
 pub returns-in_err-preamble-clause-refused : goal.returns-in_err-preamble-clause-refused
 returns-in_err-preamble-clause-refused c = λ refusal is.
     let p = err_from_is_err_and c.from_residual.result c.from_residual.ensures.1 in
     let returned : c.from_residual.result ≡ Err p.0 = p.1 in
-    let refused : p.0 ≡ Refused refusal = cc in
-    let below : c.in_err-preamble.field-0.0 ≡ split.Refused refusal = from_split c.in_err-preamble.field-0.0 p.0 refusal p.2 refused in
+    let passed_on : p.0 ≡ c.in_err-preamble.field-0.0 = p.2 in
+    let below : c.in_err-preamble.field-0.0 ≡ Refused refusal = cc in
     heading_fails c.args.text.now refusal (c.in_err-preamble.ensures.refused refusal (ap Err below))
 
 pub returns-in_err-before-clause-refused : goal.returns-in_err-before-clause-refused
 returns-in_err-before-clause-refused c = λ refusal is.
     let p = err_from_is_err_and c.from_residual-in_err-before.result c.from_residual-in_err-before.ensures.1 in
     let returned : c.from_residual-in_err-before.result ≡ Err p.0 = p.1 in
-    let refused : p.0 ≡ Refused refusal = cc in
-    let below : c.in_err-before.field-0.0 ≡ lex.Refused refusal = from_lex c.in_err-before.field-0.0 p.0 refusal p.2 refused in
+    let passed_on : p.0 ≡ c.in_err-before.field-0.0 = p.2 in
+    let below : c.in_err-before.field-0.0 ≡ Refused refusal = cc in
     preamble_uncut c.args.text.now c.in_ok-preamble.field-0.preamble.now c.in_ok-preamble.field-0.sections c.in_ok-preamble.ensures.split refusal (c.in_err-before.ensures.refused refusal (ap Err below))
 
 pub returns-in_err-cuts-clause-refused : goal.returns-in_err-cuts-clause-refused
