@@ -1,5 +1,5 @@
 -- Lists: an element at the end of the first part, one step of a loop, the first that passes, and maps.
-use Rattle.std.proofs.Common.{◌≡◌, ℕ, suc, ◌+◌, ◌<◌, Bool, true, false, cond, List, [], ◌∷◌, ◌++◌, map, length, get_or, take, drop, Option, Some, None, refl, ap, sym, ◌∙◌, add-one, drop-cons, arith}
+use Rattle.std.proofs.Common.{◌≡◌, ℕ, suc, ◌+◌, ◌<◌, Bool, true, false, cond, List, [], ◌∷◌, ◌++◌, map, length, get_or, take, drop, Option, Some, None, refl, ap, sym, ◌∙◌, add-one, drop-cons, ltb, not, arith}
 use Rattle.std.specs.Prelude.{slice_get, position}
 use Rattle.std.specs.List.{find, list_all, position_or_len}
 use Rattle.std.proofs.lemmas.Bool.{and_from, and_parts}
@@ -39,3 +39,27 @@ pub list_all_along : {A : Type 0} (p q : A → Bool) → ((x : A) → p x ≡ tr
 list_all_along p q on [] h = refl
 list_all_along p q on (x ∷ xs) h =
     let parts = and_parts (p x) (list_all p xs) h in and_from (q x) (list_all q xs) (on x parts.0) (list_all_along p q on xs parts.1)
+
+suc_within : (k n : ℕ) → ltb (suc k) (suc n) ≡ ltb k n
+suc_within k n = grind arith
+
+within_suc : (k n : ℕ) → cond (ltb (suc k) (suc n)) (Some (suc k)) None ≡ option_map suc (cond (ltb k n) (Some k) None)
+within_suc k n = ap (λ b. cond b (Some (suc k)) None) (suc_within k n) ∙ by (ltb k n) where
+  by : (b : Bool) → cond b (Some (suc k)) None ≡ option_map suc (cond b (Some k) None)
+  by true = refl
+  by false = refl
+
+one_more : (k : ℕ) → 1 + k ≡ suc k
+one_more k = omega arith
+
+zero_within : (n : ℕ) → ltb 0 (suc n) ≡ true
+zero_within n = grind arith
+
+-- the first place that passes a test, step by step
+pub position-cons : {X : Type 0} (p : X → Bool) (x : X) (xs : List X) → position p (x ∷ xs) ≡ cond (p x) (Some 0) (option_map suc (position p xs))
+position-cons p x xs = by (p x) where
+  by : (b : Bool) → cond (ltb (cond (not b) (1 + position_or_len p xs) 0) (suc (length xs))) (Some (cond (not b) (1 + position_or_len p xs) 0)) None ≡ cond b (Some 0) (option_map suc (position p xs))
+  by true = ap (λ b. cond b (Some 0) None) (zero_within (length xs))
+  by false =
+      ap (λ k. cond (ltb k (suc (length xs))) (Some k) None) (one_more (position_or_len p xs))
+      ∙ within_suc (position_or_len p xs) (length xs)

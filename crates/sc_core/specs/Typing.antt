@@ -116,24 +116,46 @@ both_ints a b = is_int a && is_int b
 abbrev pub same_pointers : Judged → Judged → Bool
 same_pointers a b = same_ty (decayed a.ty) (decayed b.ty)
 
+-- `==` and `!=` also take a pointer and a null pointer, but not two of these (C11 6.5.9p2)
+abbrev pub are_equatable : Judged → Judged → Bool
+are_equatable a b =
+    both_ints a b ||
+    points a && (points b && (same_pointers a b && not (a.null && b.null)))
+
+-- what `<` and the like compare (C11 6.5.8p2)
+abbrev pub are_ordered : Judged → Judged → Bool
+are_ordered a b =
+    both_ints a b ||
+    is_address a && (is_address b && same_pointers a b)
+
+-- a sum of two integers, or of a pointer and an integer (C11 6.5.6p2)
+abbrev pub sum_fits : Judged → Judged → Ty → Bool
+sum_fits a b t =
+    both_ints a b && same_ty t (common a.ty b.ty) ||
+    is_address a && (is_int b && same_ty t (decayed a.ty)) ||
+    is_int a && (is_address b && same_ty t (decayed b.ty))
+
+-- a difference of two integers, of a pointer and an integer, or of two pointers (C11 6.5.6p3)
+abbrev pub difference_fits : Judged → Judged → Ty → Bool
+difference_fits a b t =
+    both_ints a b && same_ty t (common a.ty b.ty) ||
+    is_address a && (is_int b && same_ty t (decayed a.ty)) ||
+    is_address a && (is_address b && (same_pointers a b && same_ty t ty.Int))
+
 -- whether an operator gives this type (C11 6.5.5 to 6.5.14)
 abbrev pub binary_fits : BinaryOp → Judged → Judged → Ty → Bool
 binary_fits op.OrElse a b t = is_scalar a && (is_scalar b && same_ty t ty.Int)
 binary_fits op.AndAlso a b t = is_scalar a && (is_scalar b && same_ty t ty.Int)
-binary_fits op.Equal a b t =
-    (both_ints a b || points a && (points b && (same_pointers a b && not (a.null && b.null)))) && same_ty t ty.Int
-binary_fits op.NotEqual a b t =
-    (both_ints a b || points a && (points b && (same_pointers a b && not (a.null && b.null)))) && same_ty t ty.Int
-binary_fits op.Less a b t = (both_ints a b || is_address a && (is_address b && same_pointers a b)) && same_ty t ty.Int
-binary_fits op.Greater a b t = (both_ints a b || is_address a && (is_address b && same_pointers a b)) && same_ty t ty.Int
-binary_fits op.LessEqual a b t = (both_ints a b || is_address a && (is_address b && same_pointers a b)) && same_ty t ty.Int
-binary_fits op.GreaterEqual a b t = (both_ints a b || is_address a && (is_address b && same_pointers a b)) && same_ty t ty.Int
+binary_fits op.Equal a b t = are_equatable a b && same_ty t ty.Int
+binary_fits op.NotEqual a b t = are_equatable a b && same_ty t ty.Int
+binary_fits op.Less a b t = are_ordered a b && same_ty t ty.Int
+binary_fits op.Greater a b t = are_ordered a b && same_ty t ty.Int
+binary_fits op.LessEqual a b t = are_ordered a b && same_ty t ty.Int
+binary_fits op.GreaterEqual a b t = are_ordered a b && same_ty t ty.Int
 binary_fits op.ShiftLeft a b t = both_ints a b && same_ty t a.ty
 binary_fits op.ShiftRight a b t = both_ints a b && same_ty t a.ty
-binary_fits op.Add a b t =
-    both_ints a b && same_ty t (common a.ty b.ty) || is_address a && (is_int b && same_ty t (decayed a.ty)) || is_int a && (is_address b && same_ty t (decayed b.ty))
-binary_fits op.Sub a b t =
-    both_ints a b && same_ty t (common a.ty b.ty) || is_address a && (is_int b && same_ty t (decayed a.ty)) || is_address a && (is_address b && (same_pointers a b && same_ty t ty.Int))
+binary_fits op.Add a b t = sum_fits a b t
+binary_fits op.Sub a b t = difference_fits a b t
 binary_fits o a b t = both_ints a b && same_ty t (common a.ty b.ty)
 
 abbrev pub unary_fits : UnaryOp → Judged → Ty → Bool

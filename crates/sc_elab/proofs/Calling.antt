@@ -15,7 +15,7 @@ use Rattle.sc_scope.specs.Interfaces.{import_of, function_named}
 use Rattle.sc_elab.specs.Sections.{signature_by, head_named, or_first, called_head, import_target, import_named, imported_target, target_or, callees_of}
 use Rattle.sc_elab.specs.declared.callees.Callees.{Callees}
 use Rattle.sc_elab.specs.Called.{or_first_own, imported, called, head_name, import_line_name, calling_heads, CallsIn}
-use Rattle.sc_elab.proofs.Firsts.{position-cons}
+use Rattle.sc_base.proofs.Lists.{position-cons}
 
 abbrev same : List ℕ → List ℕ → Bool
 same = pointwise ◌==◌

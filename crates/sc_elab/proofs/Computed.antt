@@ -1,6 +1,5 @@
 -- Known values of the definitions that are built.
 use Rattle.std.proofs.Common.{◌≡◌, true, false, codes, [], ◌∷◌, Some, None, refl, arith, rules}
-use Rattle.sc_base.specs.declared.op.BinaryOp.TheVariants as binary
 use Rattle.sc_ast.specs.declared.expr.ExprTree.{the_lemmas}
 use Rattle.sc_ast.specs.declared.expr.ExprTree.TheVariants as tree
 use Rattle.sc_ast.specs.declared.types.BaseTree.TheVariants as base_tree
@@ -36,5 +35,5 @@ pub minus_one_is_all_ones : word_of_const (record { negative = true; literal = r
 minus_one_is_all_ones = refl
 
 -- `p[1] == 0`, where the 0 is a null pointer
-pub null_beside_a_pointer : typed some_visible (tree.Binary binary.Equal (tree.Index (tree.Variable (codes "p")) (tree.Literal (record { value = 1; unsigned = false }))) (tree.Literal (record { value = 0; unsigned = false }))) ≡ record { ty = ty.Int; kind = kind.Binary op.Equal (record { ty = ty.Pointer 1 base.Int; kind = kind.Index (record { ty = ty.Array 1 base.Int 2; kind = kind.Variable (Local 0) }) (record { ty = ty.Int; kind = kind.Literal 1 }) }) (record { ty = ty.Pointer 1 base.Int; kind = kind.Literal 0 }) }
+pub null_beside_a_pointer : typed some_visible (tree.Binary op.Equal (tree.Index (tree.Variable (codes "p")) (tree.Literal (record { value = 1; unsigned = false }))) (tree.Literal (record { value = 0; unsigned = false }))) ≡ record { ty = ty.Int; kind = kind.Binary op.Equal (record { ty = ty.Pointer 1 base.Int; kind = kind.Index (record { ty = ty.Array 1 base.Int 2; kind = kind.Variable (Local 0) }) (record { ty = ty.Int; kind = kind.Literal 1 }) }) (record { ty = ty.Pointer 1 base.Int; kind = kind.Literal 0 }) }
 null_beside_a_pointer = search (arith, rules, the_lemmas, exprs.the_lemmas, kind.the_lemmas)

@@ -1,7 +1,6 @@
 -- Small names and expressions with their types, computed.
 use Rattle.std.proofs.Common.{◌≡◌, ℕ, true, false, [], ◌∷◌, codes, Some, refl, rules}
 use Rattle.sc_base.specs.declared.op.UnaryOp.TheVariants as unary
-use Rattle.sc_base.specs.declared.op.BinaryOp.TheVariants as tree_op
 use Rattle.sc_ast.specs.declared.expr.ExprTree.TheOpen as tree
 use Rattle.sc_core.specs.declared.ty.Ty.TheVariants as ty
 use Rattle.sc_core.specs.declared.ty.BaseTy.TheVariants as base
@@ -58,18 +57,18 @@ unsigned_literal : (literal_typed (record { value = 1; unsigned = true })).ty �
 unsigned_literal = refl
 
 -- `x << y` has the type of x
-shifted : binary_ty tree_op.ShiftLeft ty.Int ty.Unsigned ≡ ty.Int
+shifted : binary_ty op.ShiftLeft ty.Int ty.Unsigned ≡ ty.Int
 shifted = refl
 
 -- a product with an `unsigned` is one
-product : binary_ty tree_op.Mul ty.Int ty.Unsigned ≡ ty.Unsigned
+product : binary_ty op.Mul ty.Int ty.Unsigned ≡ ty.Unsigned
 product = refl
 
 -- `p - p` and `p - 1`
-difference : binary_ty tree_op.Sub p p ≡ ty.Int
+difference : binary_ty op.Sub p p ≡ ty.Int
 difference = refl
 
-moved : binary_ty tree_op.Sub p ty.Int ≡ p
+moved : binary_ty op.Sub p ty.Int ≡ p
 moved = refl
 
 -- `!p`
@@ -77,8 +76,8 @@ negated : unary_ty unary.Not p ≡ ty.Int
 negated = refl
 
 -- `p != 0` compares with a null pointer, `p != 1` with the number
-with_null : binary_typed tree_op.NotEqual (variable (Local 0) p) (literal 0) ≡ record { ty = ty.Int; kind = TypedKind.Binary op.NotEqual (variable (Local 0) p) (record { ty = p; kind = TypedKind.Literal 0 }) }
+with_null : binary_typed op.NotEqual (variable (Local 0) p) (literal 0) ≡ record { ty = ty.Int; kind = TypedKind.Binary op.NotEqual (variable (Local 0) p) (record { ty = p; kind = TypedKind.Literal 0 }) }
 with_null = search (rules, the_lemmas)
 
-with_one : binary_typed tree_op.NotEqual (variable (Local 0) p) (literal 1) ≡ record { ty = ty.Int; kind = TypedKind.Binary op.NotEqual (variable (Local 0) p) (literal 1) }
+with_one : binary_typed op.NotEqual (variable (Local 0) p) (literal 1) ≡ record { ty = ty.Int; kind = TypedKind.Binary op.NotEqual (variable (Local 0) p) (literal 1) }
 with_one = search (rules, the_lemmas)

@@ -1,9 +1,9 @@
 pub mod Calling
 pub mod Computed
 pub mod Examples
-pub mod Firsts
 pub mod Functions
 pub mod Gathered
+pub mod Parts
 pub mod Kept
 pub mod Loops
 pub mod Offsets

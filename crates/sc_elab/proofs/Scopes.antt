@@ -10,7 +10,7 @@ use Rattle.sc_core.specs.declared.section.TypedStruct.{TypedStruct}
 use Rattle.sc_base.specs.Numbering.{number_of}
 use Rattle.sc_elab.specs.Scopes.{Found, found_in, member_named}
 use Rattle.sc_elab.specs.Placed.{placed, variable_names, member_names}
-use Rattle.sc_elab.proofs.Firsts.{position-cons}
+use Rattle.sc_base.proofs.Lists.{position-cons}
 
 pub position-map : {A B : Type 0} (f : A → B) (p : B → Bool) (xs : List A) → position p (map f xs) ≡ position (λ x. p (f x)) xs
 position-map f p [] = refl

@@ -3,15 +3,11 @@ use Rattle.std.specs.Prelude.{ℕ, zero, Bool, true, false, ◌&&◌, if◌then�
 use Rattle.std.specs.Option.{option_map_or}
 use Rattle.sc_ast.specs.Numbers.{Number}
 use Rattle.sc_base.specs.declared.op.UnaryOp.{UnaryOp}
-use Rattle.sc_base.specs.declared.op.UnaryOp.TheVariants as tree_unary
+use Rattle.sc_base.specs.declared.op.UnaryOp.TheVariants as unary
 use Rattle.sc_base.specs.declared.op.BinaryOp.{BinaryOp}
-use Rattle.sc_base.specs.declared.op.BinaryOp.TheVariants as tree_op
+use Rattle.sc_base.specs.declared.op.BinaryOp.TheVariants as op
 use Rattle.sc_ast.specs.declared.expr.ExprTree.{ExprTree, ExprTree-F, fold-ExprTree}
 use Rattle.sc_ast.specs.declared.expr.ExprTree.TheOpen as tree
-use Rattle.sc_base.specs.declared.op.UnaryOp as core_unary_op
-use Rattle.sc_base.specs.declared.op.UnaryOp.TheVariants as unary
-use Rattle.sc_base.specs.declared.op.BinaryOp as core_binary_op
-use Rattle.sc_base.specs.declared.op.BinaryOp.TheVariants as op
 use Rattle.sc_core.specs.declared.ty.Ty.{Ty}
 use Rattle.sc_core.specs.declared.ty.Ty.TheVariants as ty
 use Rattle.sc_core.specs.declared.ty.BaseTy.TheVariants as base
@@ -24,32 +20,6 @@ use Rattle.sc_core.specs.declared.section.TypedMember.{TypedMember}
 use Rattle.sc_core.specs.Types.{is_pointer}
 use Rattle.sc_core.specs.Typing.{decayed, target, pointer_to, common}
 use Rattle.sc_elab.specs.Scopes.{Visible, Found, found, member_named, struct_of}
-
-abbrev pub unary_op : UnaryOp → core_unary_op.UnaryOp
-unary_op tree_unary.Minus = unary.Minus
-unary_op tree_unary.Plus = unary.Plus
-unary_op tree_unary.Not = unary.Not
-unary_op tree_unary.BitNot = unary.BitNot
-
-abbrev pub binary_op : BinaryOp → core_binary_op.BinaryOp
-binary_op tree_op.OrElse = op.OrElse
-binary_op tree_op.AndAlso = op.AndAlso
-binary_op tree_op.BitOr = op.BitOr
-binary_op tree_op.BitXor = op.BitXor
-binary_op tree_op.BitAnd = op.BitAnd
-binary_op tree_op.Equal = op.Equal
-binary_op tree_op.NotEqual = op.NotEqual
-binary_op tree_op.Less = op.Less
-binary_op tree_op.Greater = op.Greater
-binary_op tree_op.LessEqual = op.LessEqual
-binary_op tree_op.GreaterEqual = op.GreaterEqual
-binary_op tree_op.ShiftLeft = op.ShiftLeft
-binary_op tree_op.ShiftRight = op.ShiftRight
-binary_op tree_op.Add = op.Add
-binary_op tree_op.Sub = op.Sub
-binary_op tree_op.Mul = op.Mul
-binary_op tree_op.Div = op.Div
-binary_op tree_op.Rem = op.Rem
 
 -- the type of what isn't there: a pointer without a `*`, which nothing has, so that nothing fits it
 abbrev pub no_ty : Ty
@@ -66,22 +36,22 @@ moved_ty a b =
     if is_pointer a then (if is_pointer b then ty.Int else decayed a) else if is_pointer b then decayed b else common a b
 
 abbrev pub binary_ty : BinaryOp → Ty → Ty → Ty
-binary_ty tree_op.OrElse a b = ty.Int
-binary_ty tree_op.AndAlso a b = ty.Int
-binary_ty tree_op.Equal a b = ty.Int
-binary_ty tree_op.NotEqual a b = ty.Int
-binary_ty tree_op.Less a b = ty.Int
-binary_ty tree_op.Greater a b = ty.Int
-binary_ty tree_op.LessEqual a b = ty.Int
-binary_ty tree_op.GreaterEqual a b = ty.Int
-binary_ty tree_op.ShiftLeft a b = a
-binary_ty tree_op.ShiftRight a b = a
-binary_ty tree_op.Add a b = moved_ty a b
-binary_ty tree_op.Sub a b = moved_ty a b
+binary_ty op.OrElse a b = ty.Int
+binary_ty op.AndAlso a b = ty.Int
+binary_ty op.Equal a b = ty.Int
+binary_ty op.NotEqual a b = ty.Int
+binary_ty op.Less a b = ty.Int
+binary_ty op.Greater a b = ty.Int
+binary_ty op.LessEqual a b = ty.Int
+binary_ty op.GreaterEqual a b = ty.Int
+binary_ty op.ShiftLeft a b = a
+binary_ty op.ShiftRight a b = a
+binary_ty op.Add a b = moved_ty a b
+binary_ty op.Sub a b = moved_ty a b
 binary_ty o a b = common a b
 
 abbrev pub unary_ty : UnaryOp → Ty → Ty
-unary_ty tree_unary.Not a = ty.Int
+unary_ty unary.Not a = ty.Int
 unary_ty o a = a
 
 -- a literal of value 0
@@ -98,8 +68,8 @@ going_to place e = if is_pointer place && is_zero e then record { ty = decayed p
 
 -- both operands of `==` and `!=` may be null beside a pointer
 abbrev pub beside : BinaryOp → Ty → TypedExpr → TypedExpr
-beside tree_op.Equal other e = going_to other e
-beside tree_op.NotEqual other e = going_to other e
+beside op.Equal other e = going_to other e
+beside op.NotEqual other e = going_to other e
 beside o other e = e
 
 abbrev pub literal_typed : Number → TypedExpr
@@ -111,7 +81,7 @@ variable_typed (Some f) = record { ty = f.ty; kind = TypedKind.Variable f.variab
 
 abbrev pub binary_typed : BinaryOp → TypedExpr → TypedExpr → TypedExpr
 binary_typed o a b =
-    record { ty = binary_ty o a.ty b.ty; kind = TypedKind.Binary (binary_op o) (beside o b.ty a) (beside o a.ty b) }
+    record { ty = binary_ty o a.ty b.ty; kind = TypedKind.Binary o (beside o b.ty a) (beside o a.ty b) }
 
 abbrev pub member_ty : Option TypedMember → Ty
 member_ty member = option_map_or (λ m. m.ty) member no_ty
@@ -123,7 +93,7 @@ module _ (visible : Visible) where
   abbrev pub step : ExprTree-F TypedExpr → TypedExpr
   step (tree.Literal number) = literal_typed number
   step (tree.Variable name) = variable_typed (found visible name)
-  step (tree.Unary o e) = record { ty = unary_ty o e.ty; kind = TypedKind.Unary (unary_op o) e }
+  step (tree.Unary o e) = record { ty = unary_ty o e.ty; kind = TypedKind.Unary o e }
   step (tree.Binary o a b) = binary_typed o a b
   step (tree.Index a b) = record { ty = or_int (target (decayed a.ty)); kind = TypedKind.Index a b }
   step (tree.Member a name) =

@@ -1,7 +1,7 @@
 pub mod Args
 pub mod Called
 pub mod Expressions
-pub mod Firsts
+pub mod Judging
 pub mod Placed
 pub mod Scopes
 pub mod Sections

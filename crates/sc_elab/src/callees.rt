@@ -2,8 +2,7 @@ ghost use Rattle.std.specs.Prelude.{◌≡◌, [], slice_get};
 ghost use Rattle.std.specs.Option.{option_copied};
 ghost use Rattle.sc_elab.specs.Called.{called, imported};
 
-use crate::places::Places;
-use sc_base::Name;
+use sc_base::{Name, NameList};
 use sc_core::{CallTarget, Ty};
 use sqlite_items::Items;
 use std::marker::Model;
@@ -35,10 +34,10 @@ impl Signature {
 /// What a section calls by name: the heads by which calls are typed, with their types, the section's functions, and what it imports, with whom that calls.
 #[derive(Drop)]
 pub struct Callees {
-    pub heads: Places,
+    pub heads: NameList,
     pub signatures: Items<Signature>,
-    pub functions: Places,
-    pub imports: Places,
+    pub functions: NameList,
+    pub imports: NameList,
     pub targets: Items<CallTarget>,
 }
 
@@ -47,7 +46,7 @@ impl Callees {
     pub fn signature(&self, name: &Name) -> Option<&Signature>
         ensures { option_copied result ≡ (called self.now).signature name.now }
     {
-        let place = self.heads.find(name)?;
+        let place = self.heads.number_of(name)?;
         self.signatures.get(place as usize)
     }
 
@@ -55,7 +54,7 @@ impl Callees {
     pub fn target(&self, name: &Name) -> CallTarget
         ensures { result ≡ (called self.now).target name.now }
     {
-        match self.functions.find(name) {
+        match self.functions.number_of(name) {
             Some(place) => CallTarget::Own(place),
             None => self.imported(name).unwrap_or(CallTarget::Own(0)),
         }
@@ -65,7 +64,7 @@ impl Callees {
     fn imported(&self, name: &Name) -> Option<CallTarget>
         ensures { result ≡ imported self.now name.now }
     {
-        let place = self.imports.find(name)?;
+        let place = self.imports.number_of(name)?;
         self.targets.get(place as usize).copied()
     }
 }

@@ -1,22 +1,21 @@
 //! Whom a section calls by name.
 
-ghost use Rattle.std.specs.Prelude.{◌≡◌, ◌++◌, ◌∷◌, [], map, IfOk};
+ghost use Rattle.std.specs.Prelude.{◌≡◌, ◌++◌, ◌∷◌, [], map, IfOk, OnOk};
 ghost use Rattle.sc_ast.specs.Heads.{param_of, head_of};
 ghost use Rattle.sc_scope.specs.Declarations.{functions_in, heads_in};
 ghost use Rattle.sc_elab.specs.Sections.{param_ty, signature_by, import_target};
 ghost use Rattle.sc_elab.specs.Called.{function_name, head_name, import_line_name, function_signature, calling_heads, CallsIn};
 
 use crate::callees::{Callees, Signature};
-use crate::places::Places;
 use crate::tree_ty::{type_of_name, type_of_result};
 use sc_ast::{Decl, FunctionHead, FunctionParam, HeadTree, ImportLine, ParamTree, SectionTree};
-use sc_base::{Name, OutOfMemory};
+use sc_base::{Name, NameList, OutOfMemory};
 use sc_core::{CallTarget, Ty};
 use sc_event::Import;
 use sqlite_items::Items;
 use std::alloc::Global;
 
-fn head_params(alloc: Global, tags: &Places, params: &[ParamTree]) -> Result<Items<Ty>, OutOfMemory>
+fn head_params(alloc: Global, tags: &NameList, params: &[ParamTree]) -> Result<Items<Ty>, OutOfMemory>
     ensures { IfOk result (λ types. types ≡ map (param_ty tags.now) params.now) }
 {
     let mut types = Items::new(alloc);
@@ -28,7 +27,7 @@ fn head_params(alloc: Global, tags: &Places, params: &[ParamTree]) -> Result<Ite
 
 fn function_params(
     alloc: Global,
-    tags: &Places,
+    tags: &NameList,
     params: &[FunctionParam],
 ) -> Result<Items<Ty>, OutOfMemory>
     ensures { IfOk result (λ types. types ≡ map (param_ty tags.now) (map param_of params.now)) }
@@ -42,7 +41,7 @@ fn function_params(
 
 fn signature_of_head(
     alloc: Global,
-    tags: &Places,
+    tags: &NameList,
     head: &HeadTree,
 ) -> Result<Signature, OutOfMemory>
     ensures { IfOk result (λ signature. signature ≡ signature_by tags.now head.now) }
@@ -54,7 +53,7 @@ fn signature_of_head(
 
 fn signature_of_function(
     alloc: Global,
-    tags: &Places,
+    tags: &NameList,
     head: &FunctionHead,
 ) -> Result<Signature, OutOfMemory>
     ensures { IfOk result (λ signature. signature ≡ signature_by tags.now (head_of head.now)) }
@@ -67,7 +66,7 @@ fn signature_of_function(
 // Heads by their names, with their types.
 #[derive(Drop)]
 struct Heads {
-    names: Places,
+    names: NameList,
     signatures: Items<Signature>,
 }
 
@@ -77,18 +76,18 @@ fn with_head(heads: Heads, name: Name, signature: Signature) -> Result<Heads, Ou
     ensures signatures { IfOk result (λ more. more.signatures ≡ heads.signatures ++ signature ∷ []) }
 {
     let Heads {
-        names,
+        mut names,
         mut signatures,
     } = heads;
     signatures.push(signature)?;
-    let names = names.with(name)?;
+    names.push(name)?;
     Ok(Heads { names, signatures })
 }
 
 // The heads and that of the function of this declaration, if it is one, behind them.
 fn with_function(
     alloc: Global,
-    tags: &Places,
+    tags: &NameList,
     heads: Heads,
     decl: &Decl,
 ) -> Result<Heads, OutOfMemory>
@@ -107,7 +106,7 @@ fn with_function(
 // The heads and that of this declaration, if it is a function or a prototype, behind them.
 fn with_declared(
     alloc: Global,
-    tags: &Places,
+    tags: &NameList,
     heads: Heads,
     decl: &Decl,
 ) -> Result<Heads, OutOfMemory>
@@ -128,12 +127,12 @@ fn with_declared(
 }
 
 // The heads of the functions.
-fn function_heads(alloc: Global, tags: &Places, decls: &[Decl]) -> Result<Heads, OutOfMemory>
+fn function_heads(alloc: Global, tags: &NameList, decls: &[Decl]) -> Result<Heads, OutOfMemory>
     ensures names { IfOk result (λ heads. heads.names ≡ map function_name (functions_in decls.now)) }
     ensures signatures { IfOk result (λ heads. heads.signatures ≡ map (function_signature tags.now) (functions_in decls.now)) }
 {
     let mut heads = Heads {
-        names: Places::new(alloc),
+        names: NameList::new(alloc),
         signatures: Items::new(alloc),
     };
     for decl in decls {
@@ -143,7 +142,7 @@ fn function_heads(alloc: Global, tags: &Places, decls: &[Decl]) -> Result<Heads,
 }
 
 // The heads by which calls are typed: those of the functions, and behind them all that are declared.
-fn calling_heads(alloc: Global, tags: &Places, decls: &[Decl]) -> Result<Heads, OutOfMemory>
+fn calling_heads(alloc: Global, tags: &NameList, decls: &[Decl]) -> Result<Heads, OutOfMemory>
     ensures names { IfOk result (λ heads. heads.names ≡ map head_name (calling_heads decls.now)) }
     ensures signatures { IfOk result (λ heads. heads.signatures ≡ map (signature_by tags.now) (calling_heads decls.now)) }
 {
@@ -154,32 +153,32 @@ fn calling_heads(alloc: Global, tags: &Places, decls: &[Decl]) -> Result<Heads, 
     Ok(heads)
 }
 
-fn function_places(alloc: Global, decls: &[Decl]) -> Result<Places, OutOfMemory>
+fn function_places(alloc: Global, decls: &[Decl]) -> Result<NameList, OutOfMemory>
     ensures { IfOk result (λ places. places ≡ map function_name (functions_in decls.now)) }
 {
-    let mut places = Places::new(alloc);
+    let mut places = NameList::new(alloc);
     for decl in decls {
-        places = with_function_name(places, decl)?;
+        push_function_name(&mut places, decl)?;
     }
     Ok(places)
 }
 
 // The names and that of the function of this declaration, if it is one, behind them.
-fn with_function_name(places: Places, decl: &Decl) -> Result<Places, OutOfMemory>
-    ensures { IfOk result (λ more. more ≡ places ++ map function_name (functions_in (decl.now ∷ []))) }
+fn push_function_name(places: &mut NameList, decl: &Decl) -> Result<(), OutOfMemory>
+    ensures { OnOk result (places.new ≡ places.old ++ map function_name (functions_in (decl.now ∷ []))) }
 {
     match decl {
-        Decl::Function(tree) => places.with(tree.head.name.name()),
-        _ => Ok(places),
+        Decl::Function(tree) => places.push(tree.head.name.name()),
+        _ => Ok(()),
     }
 }
 
-fn import_places(alloc: Global, imports: &[ImportLine]) -> Result<Places, OutOfMemory>
+fn import_places(alloc: Global, imports: &[ImportLine]) -> Result<NameList, OutOfMemory>
     ensures { IfOk result (λ places. places ≡ map import_line_name imports.now) }
 {
-    let mut places = Places::new(alloc);
+    let mut places = NameList::new(alloc);
     for line in imports {
-        places = places.with(line.name)?;
+        places.push(line.name)?;
     }
     Ok(places)
 }
@@ -207,7 +206,7 @@ fn import_targets(alloc: Global, imports: &[Import]) -> Result<Items<CallTarget>
 /// Whom a section calls by name, where its structs have these tags and it imports these functions.
 pub fn build_callees(
     alloc: Global,
-    tags: &Places,
+    tags: &NameList,
     section: &SectionTree,
     imports: &[Import],
 ) -> Result<Callees, OutOfMemory>

@@ -7,20 +7,19 @@ ghost use Rattle.sc_elab.specs.Called.{called};
 ghost use Rattle.sc_elab.specs.Seen.{value_in};
 ghost use Rattle.sc_elab.specs.Stands.{Stands, StandsIn, local_in};
 
-use crate::places::Places;
 use crate::scope::{FunctionScope, SectionScope};
 use crate::stmt::{build_stmts, build_value};
 use crate::tree_ty::{type_of, type_of_name, type_of_result};
 use crate::variables::Variables;
 use sc_ast::{ExprTree, FunctionParam, FunctionTree, LocalTree, SectionTree};
-use sc_base::OutOfMemory;
+use sc_base::{NameList, OutOfMemory};
 use sc_core::{Ty, TypedExpr, TypedFunction, TypedLocal, TypedLocals, TypedParam};
 use sqlite_items::Items;
 use std::alloc::Global;
 
 fn param_variables(
     alloc: Global,
-    tags: &Places,
+    tags: &NameList,
     params: &[FunctionParam],
 ) -> Result<Variables, OutOfMemory>
     ensures { IfOk result (λ variables. variables ≡ map (typed_param tags.now) params.now) }
@@ -46,7 +45,10 @@ fn build_init(
 {
     match init {
         None => Ok(None),
-        Some(init) => Ok(Some(build_value(alloc, scope, function, ty, init)?)),
+        Some(init) => {
+            let built = build_value(alloc, scope, function, ty, init)?;
+            Ok(Some(built.expr))
+        }
     }
 }
 
@@ -71,7 +73,7 @@ fn build_local(
 
 // The function's variables and this local behind them.
 fn with_local(
-    tags: &Places,
+    tags: &NameList,
     function: FunctionScope,
     local: &LocalTree,
 ) -> Result<FunctionScope, OutOfMemory>

@@ -4,11 +4,10 @@ ghost use Rattle.std.specs.Prelude.{◌≡◌, ◌-◌, ◌%◌, ◌^◌, ◌++�
 ghost use Rattle.sc_scope.specs.Declarations.{globals_in};
 ghost use Rattle.sc_elab.specs.Sections.{word_of_const, init_words, typed_global, global_variable};
 
-use crate::places::Places;
 use crate::tree_ty::type_of;
 use crate::variables::Variables;
 use sc_ast::{ConstTree, Decl, GlobalTree, InitTree};
-use sc_base::{OutOfMemory, Words};
+use sc_base::{NameList, OutOfMemory, Words};
 use sc_core::{TypedGlobal, TypedGlobals, TypedParam};
 use sqlite_items::Items;
 use std::alloc::Global;
@@ -55,7 +54,7 @@ fn init_words(alloc: Global, init: &InitTree) -> Result<Words, OutOfMemory>
     }
 }
 
-fn build_global(alloc: Global, tags: &Places, tree: &GlobalTree) -> Result<TypedGlobal, OutOfMemory>
+fn build_global(alloc: Global, tags: &NameList, tree: &GlobalTree) -> Result<TypedGlobal, OutOfMemory>
     ensures { IfOk result (λ built. built ≡ typed_global tags.now tree.now) }
 {
     let init = init_words(alloc, &tree.init)?;
@@ -67,7 +66,7 @@ fn build_global(alloc: Global, tags: &Places, tree: &GlobalTree) -> Result<Typed
 // The globals and the one of this declaration, if it is one, behind them.
 fn with_global(
     alloc: Global,
-    tags: &Places,
+    tags: &NameList,
     mut globals: TypedGlobals,
     decl: &Decl,
 ) -> Result<TypedGlobals, OutOfMemory>
@@ -85,7 +84,7 @@ fn with_global(
 /// The globals of a section, whose structs have these tags.
 pub fn build_globals(
     alloc: Global,
-    tags: &Places,
+    tags: &NameList,
     decls: &[Decl],
 ) -> Result<TypedGlobals, OutOfMemory>
     ensures { IfOk result (λ globals. globals ≡ map (typed_global tags.now) (globals_in decls.now)) }
@@ -98,7 +97,7 @@ pub fn build_globals(
 }
 
 // The variables and the global of this declaration, if it is one, behind them.
-fn with_variable(tags: &Places, variables: Variables, decl: &Decl) -> Result<Variables, OutOfMemory>
+fn with_variable(tags: &NameList, variables: Variables, decl: &Decl) -> Result<Variables, OutOfMemory>
     ensures { IfOk result (λ more. more ≡ variables ++ map (global_variable tags.now) (globals_in (decl.now ∷ []))) }
 {
     match decl {
@@ -114,7 +113,7 @@ fn with_variable(tags: &Places, variables: Variables, decl: &Decl) -> Result<Var
 /// The globals of a section as variables.
 pub fn global_variables(
     alloc: Global,
-    tags: &Places,
+    tags: &NameList,
     decls: &[Decl],
 ) -> Result<Variables, OutOfMemory>
     ensures { IfOk result (λ variables. variables ≡ map (global_variable tags.now) (globals_in decls.now)) }

@@ -6,11 +6,10 @@ ghost use Rattle.sc_scope.specs.Declarations.{structs_in};
 ghost use Rattle.sc_elab.specs.Sections.{members_from, cells_from, typed_struct, typed_structs};
 ghost use Rattle.sc_elab.specs.Placed.{member_names, names_of};
 
-use crate::places::Places;
 use crate::structs::Structs;
 use crate::tree_ty::type_of;
 use sc_ast::{Decl, MemberTree, StructTree};
-use sc_base::OutOfMemory;
+use sc_base::{NameList, OutOfMemory};
 use sc_core::{BaseTy, Ty, TypedMember, TypedMembers, TypedStruct};
 use sqlite_items::Items;
 use std::alloc::Global;
@@ -61,21 +60,21 @@ fn end_of(offset: u32, cells: u32) -> Result<u32, OutOfMemory>
 // Members one behind another, their names, and the cells of them all.
 fn build_members(
     alloc: Global,
-    tags: &Places,
+    tags: &NameList,
     structs: &Structs,
     members: &[MemberTree],
-) -> Result<(TypedMembers, Places, u32), OutOfMemory>
+) -> Result<(TypedMembers, NameList, u32), OutOfMemory>
     ensures members { IfOk result (λ built. built.0 ≡ members_from tags.now structs.now 0 members.now) }
     ensures names { IfOk result (λ built. built.1 ≡ names_of built.0) }
     ensures cells { IfOk result (λ built. built.2 ≡ cells_from tags.now structs.now 0 members.now) }
 {
     let mut built = Items::new(alloc);
-    let mut names = Places::new(alloc);
+    let mut names = NameList::new(alloc);
     let mut cells = 0;
     for member in members {
         let name = member.name.name();
         let ty = type_of(tags, &member.ty);
-        names = names.with(name)?;
+        names.push(name)?;
         built.push(TypedMember {
             name,
             ty,
@@ -89,10 +88,10 @@ fn build_members(
 // A struct over those before it, and its members' names.
 fn build_struct(
     alloc: Global,
-    tags: &Places,
+    tags: &NameList,
     structs: &Structs,
     tree: &StructTree,
-) -> Result<(TypedStruct, Places), OutOfMemory>
+) -> Result<(TypedStruct, NameList), OutOfMemory>
     ensures tree { IfOk result (λ built. built.0 ≡ typed_struct tags.now structs.now tree.now) }
     ensures names { IfOk result (λ built. built.1 ≡ member_names built.0) }
 {
@@ -112,7 +111,7 @@ fn build_struct(
 #[tactic(auto, using(crate::proofs::Offsets::few_structs))]
 fn with_struct(
     alloc: Global,
-    tags: &Places,
+    tags: &NameList,
     structs: Structs,
     decl: &Decl,
 ) -> Result<Structs, OutOfMemory>
@@ -128,7 +127,7 @@ fn with_struct(
 }
 
 /// The structs of a section, whose structs have these tags.
-pub fn build_structs(alloc: Global, tags: &Places, decls: &[Decl]) -> Result<Structs, OutOfMemory>
+pub fn build_structs(alloc: Global, tags: &NameList, decls: &[Decl]) -> Result<Structs, OutOfMemory>
     ensures { IfOk result (λ structs. structs ≡ typed_structs tags.now [] (structs_in decls.now)) }
 {
     let mut structs = Structs::new(alloc);

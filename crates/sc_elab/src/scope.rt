@@ -3,16 +3,15 @@ ghost use Rattle.sc_elab.specs.Scopes.{found};
 ghost use Rattle.sc_elab.specs.Seen.{visible};
 
 use crate::callees::Callees;
-use crate::places::Places;
 use crate::structs::Structs;
 use crate::variables::{Found, Variables};
-use sc_base::Name;
+use sc_base::{Name, NameList};
 use sc_core::Ty;
 
 /// What a section gives to the bodies of its functions: the tags of its structs, its structs and globals, and whom it calls.
 #[derive(Drop)]
 pub struct SectionScope {
-    pub tags: Places,
+    pub tags: NameList,
     pub structs: Structs,
     pub globals: Variables,
     pub callees: Callees,

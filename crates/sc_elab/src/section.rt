@@ -1,6 +1,6 @@
 //! Sections.
 
-ghost use Rattle.std.specs.Prelude.{◌≡◌, ℕ, ◌++◌, ◌∷◌, [], List, map, IfOk};
+ghost use Rattle.std.specs.Prelude.{◌≡◌, ℕ, ◌++◌, ◌∷◌, [], List, map, IfOk, OnOk};
 ghost use Rattle.sc_ast.specs.declared.section.SectionTree.{SectionTree};
 ghost use Rattle.sc_scope.specs.Declarations.{structs_in, functions_in, struct_names};
 ghost use Rattle.sc_scope.specs.Interfaces.{import_of};
@@ -12,31 +12,30 @@ use crate::calls::build_callees;
 use crate::function::build_function;
 use crate::globals::{build_globals, global_variables};
 use crate::members::build_structs;
-use crate::places::Places;
 use crate::scope::SectionScope;
 use sc_ast::{Decl, SectionTree};
-use sc_base::OutOfMemory;
+use sc_base::{NameList, OutOfMemory};
 use sc_core::{TypedFunctions, TypedSection};
 use sc_event::Import;
 use sqlite_items::Items;
 use std::alloc::Global;
 
 // The tags and that of the struct of this declaration, if it is one, behind them.
-fn with_tag(tags: Places, decl: &Decl) -> Result<Places, OutOfMemory>
-    ensures { IfOk result (λ more. more ≡ tags ++ map struct_name (structs_in (decl.now ∷ []))) }
+fn push_tag(tags: &mut NameList, decl: &Decl) -> Result<(), OutOfMemory>
+    ensures { OnOk result (tags.new ≡ tags.old ++ map struct_name (structs_in (decl.now ∷ []))) }
 {
     match decl {
-        Decl::Struct(tree) => tags.with(tree.name.name()),
-        _ => Ok(tags),
+        Decl::Struct(tree) => tags.push(tree.name.name()),
+        _ => Ok(()),
     }
 }
 
-fn build_tags(alloc: Global, decls: &[Decl]) -> Result<Places, OutOfMemory>
+fn build_tags(alloc: Global, decls: &[Decl]) -> Result<NameList, OutOfMemory>
     ensures { IfOk result (λ tags. tags ≡ struct_names decls.now) }
 {
-    let mut tags = Places::new(alloc);
+    let mut tags = NameList::new(alloc);
     for decl in decls {
-        tags = with_tag(tags, decl)?;
+        push_tag(&mut tags, decl)?;
     }
     Ok(tags)
 }

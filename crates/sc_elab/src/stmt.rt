@@ -4,10 +4,12 @@ ghost use Rattle.sc_ast.specs.declared.stmt.StmtKind;
 ghost use Rattle.sc_core.specs.declared.stmt.TypedStmtKind;
 ghost use Rattle.sc_elab.specs.Called.{called};
 ghost use Rattle.sc_elab.specs.Args.{first_of, rest_of};
-ghost use Rattle.sc_elab.specs.Seen.{expr_in, value_in, returned_in, args_in, call_in, simple_in, part_in, kind_in, stmt_in};
+ghost use Rattle.sc_core.specs.Typing.{Scope, judged};
+ghost use Rattle.sc_elab.specs.Judging.{Suits};
+ghost use Rattle.sc_elab.specs.Seen.{visible, expr_in, value_in, returned_in, args_in, call_in, simple_in, part_in, kind_in, stmt_in};
 
 use crate::callees::{Callees, Signature};
-use crate::expr::{build_expr, going_to};
+use crate::expr::{Built, build_expr, going_to};
 use crate::scope::{FunctionScope, SectionScope};
 use sc_ast::{CallTree, ExprTree, PlaceTree, SimpleKind, SimpleTree, StmtKind, StmtTree, Stmts};
 use sc_base::{Name, OutOfMemory};
@@ -29,7 +31,7 @@ fn build_place(
     ensures { IfOk result (λ built. built ≡ expr_in section.now function.now place.now) }
 {
     let built = build_expr(alloc, section, function, place.get())?;
-    match TypedPlace::new(built) {
+    match TypedPlace::new(built.expr) {
         Ok(place) => Ok(place),
         Err(built) => {
             drop(built);
@@ -46,19 +48,23 @@ pub fn build_value(
     function: &FunctionScope,
     place: Ty,
     value: &ExprTree,
-) -> Result<TypedExpr, OutOfMemory>
-    ensures { IfOk result (λ built. built ≡ value_in section.now function.now place value.now) }
+) -> Result<Built, OutOfMemory>
+    ensures expr { IfOk result (λ built. built.expr ≡ value_in section.now function.now place value.now) }
+    ensures judged { (scope : Scope) → Suits (visible section.now function.now) scope → IfOk result (λ built. built.judged ≡ judged scope built.expr) }
 {
     let value = build_expr(alloc, section, function, value)?;
     going_to(place, value)
 }
 
-fn going_to_some(place: Option<Ty>, expr: TypedExpr) -> Result<TypedExpr, OutOfMemory>
-    ensures { IfOk result (λ going. going ≡ going_to_some place expr) }
+fn going_to_some(place: Option<Ty>, built: Built) -> Result<TypedExpr, OutOfMemory>
+    ensures { IfOk result (λ going. going ≡ going_to_some place built.expr) }
 {
     match place {
-        None => Ok(expr),
-        Some(place) => going_to(place, expr),
+        None => Ok(built.expr),
+        Some(place) => {
+            let built = going_to(place, built)?;
+            Ok(built.expr)
+        }
     }
 }
 
@@ -133,7 +139,7 @@ fn build_assign(
 {
     let place = build_place(alloc, section, function, place)?;
     let value = build_value(alloc, section, function, place.get().ty, value)?;
-    Ok((place, value))
+    Ok((place, value.expr))
 }
 
 // The parts of an assignment of a call.
@@ -298,7 +304,7 @@ fn if_kind(
 {
     let cond = build_expr(alloc, section, function, cond)?;
     Ok(TypedStmtKind::If {
-        cond,
+        cond: cond.expr,
         then_part,
         else_part,
     })
@@ -315,7 +321,7 @@ fn while_kind(
     ensures { IfOk result (λ built. built ≡ TypedStmtKind.While (expr_in section.now function.now cond.now) body) }
 {
     let cond = build_expr(alloc, section, function, cond)?;
-    Ok(TypedStmtKind::While { cond, body })
+    Ok(TypedStmtKind::While { cond: cond.expr, body })
 }
 
 // A `for` over its body.
@@ -335,7 +341,7 @@ fn for_kind(
     let next = build_part(alloc, section, function, next)?;
     Ok(TypedStmtKind::For {
         first,
-        cond,
+        cond: cond.expr,
         next,
         body,
     })

@@ -3,8 +3,7 @@ ghost use Rattle.sc_core.specs.Types.{struct_cells};
 ghost use Rattle.sc_elab.specs.Scopes.{member_named, struct_of};
 ghost use Rattle.sc_elab.specs.Placed.{member_names};
 
-use crate::places::Places;
-use sc_base::{Name, OutOfMemory};
+use sc_base::{Name, NameList, OutOfMemory};
 use sc_core::{BaseTy, Ty, TypedMember, TypedStruct, TypedStructs};
 use sqlite_items::Items;
 use std::alloc::Global;
@@ -14,7 +13,7 @@ use std::marker::Model;
 #[derive(Drop)]
 pub struct Structs {
     list: TypedStructs,
-    members: Items<Places>,
+    members: Items<NameList>,
 }
 
 impl Model for Structs {
@@ -41,7 +40,7 @@ impl Structs {
     }
 
     /// The structs and this one, whose members have these names, behind them.
-    pub fn with(self, tree: TypedStruct, names: Places) -> Result<Structs, OutOfMemory>
+    pub fn with(self, tree: TypedStruct, names: NameList) -> Result<Structs, OutOfMemory>
         requires { names ≡ member_names tree }
         ensures { IfOk result (λ structs. structs ≡ self ++ tree ∷ []) }
     {
@@ -96,10 +95,10 @@ impl Structs {
 
 // The first member of a name, where the members have these.
 #[tactic(auto, using(crate::proofs::Scopes::members))]
-fn member_named(tree: &TypedStruct, names: &Places, name: &Name) -> Option<TypedMember>
+fn member_named(tree: &TypedStruct, names: &NameList, name: &Name) -> Option<TypedMember>
     requires { names.now ≡ member_names tree.now }
     ensures { result ≡ member_named name.now (Some tree.now) }
 {
-    let place = names.find(name)?;
+    let place = names.number_of(name)?;
     tree.members.get(place as usize).copied()
 }

@@ -4,31 +4,30 @@ ghost use Rattle.std.specs.Prelude.{◌≡◌};
 ghost use Rattle.std.specs.Option.{option_map};
 ghost use Rattle.sc_elab.specs.Sections.{base_of, type_of_name, type_of};
 
-use crate::places::Places;
-use crate::ty::starred;
+use sc_base::NameList;
 use sc_ast::{BaseTree, TypeName, TypeTree};
 use sc_core::{BaseTy, Ty};
 
 // A struct is known by its tag's first place.
-fn base_of(tags: &Places, base: &BaseTree) -> BaseTy
+fn base_of(tags: &NameList, base: &BaseTree) -> BaseTy
     ensures { result ≡ base_of tags.now base.now }
 {
     match base {
         BaseTree::Int => BaseTy::Int,
         BaseTree::Unsigned => BaseTy::Unsigned,
-        BaseTree::Struct(tag) => BaseTy::Struct(tags.find(&tag.name()).unwrap_or(0)),
+        BaseTree::Struct(tag) => BaseTy::Struct(tags.number_of(&tag.name()).unwrap_or(0)),
     }
 }
 
 /// The type of a parameter or a result, where the structs have these tags.
-pub fn type_of_name(tags: &Places, ty: &TypeName) -> Ty
+pub fn type_of_name(tags: &NameList, ty: &TypeName) -> Ty
     ensures { result ≡ type_of_name tags.now ty.now }
 {
-    starred(ty.stars, base_of(tags, &ty.base))
+    Ty::starred(ty.stars, base_of(tags, &ty.base))
 }
 
 /// The type of a result, which is absent for `void`.
-pub fn type_of_result(tags: &Places, outcome: &Option<TypeName>) -> Option<Ty>
+pub fn type_of_result(tags: &NameList, outcome: &Option<TypeName>) -> Option<Ty>
     ensures { result ≡ option_map (type_of_name tags.now) outcome.now }
 {
     match outcome {
@@ -38,12 +37,12 @@ pub fn type_of_result(tags: &Places, outcome: &Option<TypeName>) -> Option<Ty>
 }
 
 /// The type of a variable or a member.
-pub fn type_of(tags: &Places, ty: &TypeTree) -> Ty
+pub fn type_of(tags: &NameList, ty: &TypeTree) -> Ty
     ensures { result ≡ type_of tags.now ty.now }
 {
     let base = base_of(tags, &ty.base);
     match ty.length {
-        None => starred(ty.stars, base),
+        None => Ty::starred(ty.stars, base),
         Some(length) => Ty::Array {
             stars: ty.stars,
             base,

@@ -3,8 +3,7 @@ ghost use Rattle.sc_core.specs.declared.expr.VarRef.TheVariants as var;
 ghost use Rattle.sc_elab.specs.Scopes.{found_in};
 ghost use Rattle.sc_elab.specs.Placed.{placed};
 
-use crate::places::Places;
-use sc_base::{Name, OutOfMemory};
+use sc_base::{Name, NameList, OutOfMemory};
 use sc_core::{Ty, TypedParam, TypedParams, VarRef};
 use sqlite_items::Items;
 use std::alloc::Global;
@@ -14,7 +13,7 @@ use std::marker::Model;
 #[derive(Drop)]
 pub struct Variables {
     list: TypedParams,
-    places: Places,
+    places: NameList,
 }
 
 impl Model for Variables {
@@ -68,7 +67,7 @@ impl Variables {
     {
         Variables {
             list: Items::new(alloc),
-            places: Places::new(alloc),
+            places: NameList::new(alloc),
         }
     }
 
@@ -76,8 +75,11 @@ impl Variables {
     pub fn with(self, variable: TypedParam) -> Result<Variables, OutOfMemory>
         ensures { IfOk result (λ variables. variables ≡ self ++ variable ∷ []) }
     {
-        let Variables { mut list, places } = self;
-        let places = places.with(variable.name)?;
+        let Variables {
+            mut list,
+            mut places,
+        } = self;
+        places.push(variable.name)?;
         list.push(variable)?;
         Ok(Variables { list, places })
     }
@@ -95,7 +97,7 @@ impl Variables {
     fn find(&self, name: &Name) -> Option<(u32, Ty)>
         ensures { result ≡ placed self.now name.now }
     {
-        let place = self.places.find(name)?;
+        let place = self.places.number_of(name)?;
         let variable = self.list.get(place as usize)?;
         Some((place, variable.ty))
     }

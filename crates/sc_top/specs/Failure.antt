@@ -3,8 +3,8 @@ use Rattle.std.specs.Prelude.{◌≡◌, ℕ, List, Result, Ok, Err, Option, Som
 use Rattle.sc_image.specs.declared.fault.ImageFault.{ImageFault}
 use Rattle.sc_image.specs.declared.fault.ImageFault.TheVariants as image
 use Rattle.sc_image.specs.Reading.{cause_number}
-use Rattle.sc_read.specs.declared.fault.TextFault.{TextFault}
-use Rattle.sc_read.specs.declared.fault.TextFault.TheVariants as text
+use Rattle.sc_lex.specs.declared.fault.TextFault.{TextFault}
+use Rattle.sc_lex.specs.declared.fault.TextFault.TheVariants as text
 use Rattle.sc_edge.specs.Edge.{Rose}
 use Rattle.sc_words.specs.declared.command.Command.{Command}
 use Rattle.sc_words.specs.declared.fault.WordsFault.{WordsFault}

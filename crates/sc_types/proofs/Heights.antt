@@ -85,9 +85,9 @@ module _ (visible : Visible) where
   by_term (tree_term.Literal number) under = height_at _ (term.Literal number.value)
   by_term (tree_term.Variable name) under = variable_height (found visible name)
   by_term (tree_term.Unary o e) under =
-      height_at _ (term.Unary (elab.unary_op o) (elab.typed visible e)) ∙ ap suc under ∙ one_more _
+      height_at _ (term.Unary o (elab.typed visible e)) ∙ ap suc under ∙ one_more _
   by_term (tree_term.Binary o a b) under =
-      height_at _ (term.Binary (elab.binary_op o) (beside o (elab.typed visible b).ty (elab.typed visible a)) (beside o (elab.typed visible a).ty (elab.typed visible b)))
+      height_at _ (term.Binary o (beside o (elab.typed visible b).ty (elab.typed visible a)) (beside o (elab.typed visible a).ty (elab.typed visible b)))
       ∙ (λ i. suc (max ((beside_height o (elab.typed visible b).ty (elab.typed visible a) ∙ under.0) i) ((beside_height o (elab.typed visible a).ty (elab.typed visible b) ∙ under.1) i)))
       ∙ one_more _
   by_term (tree_term.Index a b) under =

@@ -1,6 +1,7 @@
-use crate::{Lexemes, SyntaxFault, lexemes, parse_expr, parse_unary};
+// Expressions and their trees.
 use sc_ast::ExprTree;
 use sc_base::{BinaryOp, UnaryOp};
+use sc_expr::{Lexemes, SyntaxFault, lexemes, parse_expr, parse_unary};
 use sc_lex::{slices_in_order, tokens};
 use std::alloc::Global;
 use std::test::Fail;

@@ -1,6 +1,6 @@
 use Rattle.std.proofs.Common.{◌≡◌, Err, ap, arith}
 use Rattle.std.proofs.lemmas.Result.{err_from_is_err_and}
-use Rattle.sc_read.specs.declared.fault.TextFault.TheVariants.{Refused}
+use Rattle.sc_lex.specs.declared.fault.TextFault.TheVariants.{Refused}
 use Rattle.sc_types.proofs.Readings.{reads_low, reads_few, unread_fails, untyped_fails, typed_accepted}
 use Rattle.sc_types.proofs.text.read_program.Goals as goal
 
