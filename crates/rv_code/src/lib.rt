@@ -15,6 +15,3 @@ pub use encoding::encode;
 pub use field::{BranchOffset, Immediate, JumpOffset, Reg, ShiftAmount, UpperImmediate};
 pub use instr::{BranchOp, Instr, LoadOp, OpImmOp, OpOp, ShiftOp, StoreOp, UpperOp};
 pub use laws::one_word_each;
-
-#[cfg(test)]
-mod tests;

@@ -1,5 +1,5 @@
 -- What the machine shows on a thin program's image is the program's meaning.
-use Rattle.std.proofs.Common.{◌≡◌, ℕ, ◌*◌, ◌<◌, ◌≤◌, ℤ, Bool, true, false, List, [], ◌∷◌, length, flat_map, take, refl, sym, ◌∙◌, ap, arith, ⊎_elim, subst}
+use Rattle.std.proofs.Common.{◌≡◌, ℕ, ◌*◌, ◌<◌, ◌≤◌, Bool, true, false, List, [], ◌∷◌, length, flat_map, take, refl, sym, ◌∙◌, ap, arith, ⊎_elim, subst}
 use Rattle.std.specs.Prelude.{nat_lt, ◌↔◌}
 use Rattle.std.proofs.lemmas.Bool.{lt-ltb, le-ltb, cases_lt}
 use Rattle.std.proofs.lemmas.List.{take_all, length-append}
@@ -87,7 +87,7 @@ module _ (program : ThinProgram) (events : ℕ) where
     ended_where (Trap _ _) h = absurd h
 
 module _ (program : ThinProgram) (words : HasWords program) where
-  ran : (inputs : List ℤ) (steps events : ℕ) →
+  ran : (inputs : List ℕ) (steps events : ℕ) →
       Shows (whole_run program).trace events (length (thin_code program)) steps (machine (thin_image program) inputs steps events)
   ran inputs steps events = (thin_runs program inputs events words.result words.outputs).each steps
 

@@ -97,7 +97,7 @@ pub record Stands (program : ThinProgram) (events : ℕ) (code : List Instr) (do
   pub outputs : program.outputs ≡ done ++ left
   pub room : length done ≤ events
 
-module _ (program : ThinProgram) (inputs : List ℤ) (events : ℕ) where
+module _ (program : ThinProgram) (inputs : List ℕ) (events : ℕ) where
   abbrev whole : List Event
   whole = (whole_run program).trace
 

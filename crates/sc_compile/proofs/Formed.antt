@@ -1,5 +1,5 @@
 -- A thin program's image is well formed.
-use Rattle.std.proofs.Common.{◌≡◌, ◌≢◌, ℕ, ◌*◌, ◌<◌, ◌≤◌, pos, Bool, true, false, IsTrue, List, [], ◌∷◌, length, map, flat_map, All, refl, ap, arith, rules, lit<, lit≤}
+use Rattle.std.proofs.Common.{◌≡◌, ◌≢◌, ℕ, ◌<◌, ◌≤◌, pos, Bool, true, false, IsTrue, List, [], ◌∷◌, length, map, flat_map, All, refl, ap, arith, rules, lit<, lit≤}
 use Rattle.std.specs.Prelude.{codes, IsSome}
 use Rattle.std.specs.List.{slice_get}
 use Rattle.std.proofs.lemmas.List.{length-map, length-append}
@@ -11,9 +11,9 @@ use Rattle.rv_code.specs.declared.instr.Instr.TheVariants.{Upper, Jalr, OpImm, E
 use Rattle.rv_code.specs.declared.instr.UpperOp.TheVariants.{Lui}
 use Rattle.rv_code.specs.declared.instr.OpImmOp.TheVariants.{Addi}
 use Rattle.rv_code.specs.Words.{word_of, IsInstr}
-use Rattle.rv_code.proofs.OneEach.{HasWord-own, decoded-word_of, word-below}
+use Rattle.rv_code.proofs.OneEach.{HasWord-own, word-below}
 use Rattle.sc_word.specs.Word.{signed_of}
-use Rattle.sc_image.specs.Layout.{code_start, stretch, word_at}
+use Rattle.sc_image.specs.Layout.{code_start, word_at}
 use Rattle.sc_image.specs.WellFormed.{IsWord, IsByte, IsWellFormed}
 use Rattle.sc_image.proofs.OneComp.{IsLone, one_well_formed}
 use Rattle.sc_compile.specs.Code.{is_short, upper_part, lower_part, loading, output_call, outputting, returning, thin_code}

@@ -1,5 +1,5 @@
 -- Runs of the machine whose events are the first ones of a given trace.
-use Rattle.std.proofs.Common.{◌≡◌, ℕ, zero, suc, ◌<◌, ◌≤◌, ℤ, Bool, true, false, List, length, take, Some, None, refl, sym, ◌∙◌, ap, subst, arith}
+use Rattle.std.proofs.Common.{◌≡◌, ℕ, zero, suc, ◌<◌, ◌≤◌, Bool, true, false, List, length, take, Some, None, refl, sym, ◌∙◌, ap, subst, arith}
 use Rattle.std.specs.Prelude.{nat_le}
 use Rattle.std.proofs.lemmas.Bool.{leb-true, leb-false}
 use Rattle.std.proofs.lemmas.List.{take_all}
@@ -44,7 +44,7 @@ pub record IsOpen (whole : List Event) (events : ℕ) (trace : List Event) : Typ
   pub short : length trace < length whole
   pub room : length trace ≤ events
 
-module _ (image : ImageParts) (inputs : List ℤ) (whole : List Event) (events : ℕ) where
+module _ (image : ImageParts) (inputs : List ℕ) (whole : List Event) (events : ℕ) where
   -- however many steps there are, the run from this state shows the whole trace, in its step number `cost`
   pub record Runs (cost : ℕ) (state : State) : Type 0 where
     pub each : (steps : ℕ) → Shows whole events cost steps (run image inputs events steps state)

@@ -1,5 +1,5 @@
 -- What the machine shows on a compiled image is what the program means.
-use Rattle.std.specs.Prelude.{◌≡◌, ℕ, ◌+◌, ◌*◌, ◌≤◌, ◌↔◌, ℤ, List, length}
+use Rattle.std.specs.Prelude.{◌≡◌, ℕ, ◌+◌, ◌*◌, ◌≤◌, ◌↔◌, List, length}
 use Rattle.sc_core.specs.declared.run.RunEnd.{RunEnd}
 use Rattle.sc_core.specs.declared.run.RunEnd.TheVariants.{Ended as MeaningEnded, Blamed, TurnsOut, EventsOut as MeaningEventsOut}
 use Rattle.sc_base.specs.declared.stop.Stop.{Stop}
@@ -23,9 +23,9 @@ enough_steps program = 4 * length program.outputs + 3
 
 -- The program's meaning is what the machine shows, if the steps are enough.
 pub record IsForward (program : ThinProgram) (image : ImageParts) : Type 0 where
-  pub trace : (inputs : List ℤ) (steps events : ℕ) → enough_steps program ≤ steps →
+  pub trace : (inputs : List ℕ) (steps events : ℕ) → enough_steps program ≤ steps →
       (machine image inputs steps events).state.trace ≡ (thin_meaning events program).trace
-  pub stop : (inputs : List ℤ) (steps events : ℕ) → enough_steps program ≤ steps →
+  pub stop : (inputs : List ℕ) (steps events : ℕ) → enough_steps program ≤ steps →
       StopsAs (thin_meaning events program).end (machine image inputs steps events).stop
 
 -- a stop that is no trap
@@ -35,10 +35,10 @@ IsNoTrap _ = Unit {0}
 
 -- What the machine shows is the program's meaning, as far as it goes, however few the steps are.
 pub record IsBackward (program : ThinProgram) (image : ImageParts) : Type 0 where
-  pub trace : (inputs : List ℤ) (steps events : ℕ) →
+  pub trace : (inputs : List ℕ) (steps events : ℕ) →
       let shown = (machine image inputs steps events).state.trace in (thin_meaning (length shown) program).trace ≡ shown
-  pub no_trap : (inputs : List ℤ) (steps events : ℕ) → IsNoTrap (machine image inputs steps events).stop
+  pub no_trap : (inputs : List ℕ) (steps events : ℕ) → IsNoTrap (machine image inputs steps events).stop
   -- it ends exactly where the meaning does and each instruction had its step
-  pub ended : (inputs : List ℤ) (steps events : ℕ) →
+  pub ended : (inputs : List ℕ) (steps events : ℕ) →
       ((machine image inputs steps events).stop ≡ Ended) ↔
       (((thin_meaning events program).end ≡ MeaningEnded) × (length (thin_code program) ≤ steps))

@@ -5,6 +5,3 @@ mod code;
 mod image;
 
 pub use image::compile;
-
-#[cfg(test)]
-mod tests;

@@ -9,6 +9,3 @@ mod stack;
 pub use clear::{clear_for_call, clear_for_ret};
 pub use entry::CrossEntry;
 pub use stack::CrossStack;
-
-#[cfg(test)]
-mod tests;

@@ -1,5 +1,5 @@
 -- Calls between compartments, returns, inputs, and jumps that are no calls, on small images.
-use Rattle.std.proofs.Common.{◌≡◌, ℕ, List, [], ◌∷◌, Bool, true, false, Some, None, pos, negsuc, replicate, refl}
+use Rattle.std.proofs.Common.{◌≡◌, ℕ, List, [], ◌∷◌, Bool, true, false, Some, None, replicate, refl}
 use Rattle.std.specs.Prelude.{codes}
 use Rattle.sc_event.specs.declared.event.Event.TheVariants.{Call, Ret, In}
 use Rattle.sc_event.specs.declared.row.Entry.TheVariants.{Export}
@@ -130,10 +130,10 @@ alone input code = record {
 abbrev three_inputs : Bool → ImageParts
 three_inputs input = alone input (0x00100893 ∷ 0x00000073 ∷ 0x00000073 ∷ 0x00000073 ∷ 0x00100073 ∷ [])
 
-reads_inputs : ((machine (three_inputs true) (negsuc 4 ∷ pos 3 ∷ []) 99 9).stop ≡ Trap Breakpoint 0x01000010) ×
-    ((machine (three_inputs true) (negsuc 4 ∷ pos 3 ∷ []) 99 9).state.trace ≡ In 0 0xfffffffb ∷ In 0 3 ∷ In 0 0 ∷ []) ×
-    (reg (machine (three_inputs true) (negsuc 4 ∷ pos 3 ∷ []) 3 9).state a0 ≡ 3) ×
-    ((machine (three_inputs false) (negsuc 4 ∷ pos 3 ∷ []) 99 9).stop ≡ Trap NoImport 0x01000004)
+reads_inputs : ((machine (three_inputs true) (0xfffffffb ∷ 3 ∷ []) 99 9).stop ≡ Trap Breakpoint 0x01000010) ×
+    ((machine (three_inputs true) (0xfffffffb ∷ 3 ∷ []) 99 9).state.trace ≡ In 0 0xfffffffb ∷ In 0 3 ∷ In 0 0 ∷ []) ×
+    (reg (machine (three_inputs true) (0xfffffffb ∷ 3 ∷ []) 3 9).state a0 ≡ 3) ×
+    ((machine (three_inputs false) (0xfffffffb ∷ 3 ∷ []) 99 9).stop ≡ Trap NoImport 0x01000004)
 unfolding run step stopped execute word_at decoded op_imm_in op_imm_op_of system_in
 reads_inputs = (refl, refl, refl, refl)
 

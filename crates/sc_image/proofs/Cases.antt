@@ -1,20 +1,28 @@
 -- What a step can come to, in two states at once that a compartment can't tell apart: the same registers, pc, inputs and events, and the same
 -- bytes at its addresses. A relation between the outcomes holds if it holds of each kind of outcome.
-use Rattle.std.proofs.Common.{◌≡◌, ℕ, ◌+◌, ◌<◌, ◌≤◌, ◌%◌, ℤ, Bool, true, false, ◌&&◌, nat_eq, nat_le, if◌then◌else◌, List, length, set, Option, Some, None, refl, ap, subst, arith, length-set}
-use Rattle.std.specs.Prelude.{is_some, not, ◌==◌}
+use Rattle.std.proofs.Common.{◌≡◌, ℕ, ◌+◌, ◌<◌, ◌≤◌, ◌%◌, Bool, true, false, ◌&&◌, nat_eq, nat_le, if◌then◌else◌, List, length, set, Option, Some, None, refl, ap, subst, arith, length-set}
+use Rattle.std.specs.Prelude.{is_some, not, ◌==◌, slice_index}
 use Rattle.std.proofs.lemmas.Bool.Decides.{nat_tests}
 use Rattle.sc_event.specs.declared.event.Event.{Event}
 use Rattle.sc_base.specs.declared.stop.TrapReason.{TrapReason}
 use Rattle.sc_base.specs.declared.stop.TrapReason.TheVariants.{Owner, Misaligned, Illegal, BadJump, NoImport, BadCall, Breakpoint}
 use Rattle.sc_word.specs.Word.{word_of}
 use Rattle.sc_word.specs.Machine.{add_word}
+use Rattle.sc_word.proofs.Words.{word_of-lt}
+use Rattle.sc_word.proofs.Below.{add_word-lt, sll_word-lt, srl_word-lt, sra_word-lt}
+use Rattle.rv_code.specs.declared.instr.ShiftOp.{ShiftOp}
+use Rattle.rv_code.specs.declared.instr.ShiftOp.TheVariants.{Slli, Srli, Srai}
+use Rattle.rv_code.specs.Words.{HasWord}
+use Rattle.rv_code.proofs.OneEach.{HasWord-decoded}
+use Rattle.sc_image.specs.WellFormed.{IsWord, IsWellFormed}
+use Rattle.sc_image.proofs.Words.{AreWords, written_words, written_zero, computed_word, loaded_word, in_code, code_address}
 use Rattle.rv_code.specs.declared.instr.Instr.{Instr}
 use Rattle.rv_code.specs.declared.instr.Instr.TheVariants.{Upper, Jal, Jalr, Branch, Load, Store, OpImm, Shift, Op, Fence, Ecall, Ebreak}
 use Rattle.rv_code.specs.declared.instr.UpperOp.TheVariants.{Lui, Auipc}
 use Rattle.rv_code.specs.declared.instr.LoadOp.{LoadOp}
 use Rattle.rv_code.specs.declared.instr.StoreOp.{StoreOp}
 use Rattle.rv_code.specs.Decoding.{decoded}
-use Rattle.sc_store.specs.Memory.{Memory}
+use Rattle.sc_store.specs.Memory.{Memory, HoldsBytes}
 use Rattle.sc_store.proofs.Words.{load_of-same}
 use Rattle.sc_image.specs.declared.parts.ImageParts.{ImageParts}
 use Rattle.sc_image.specs.Layout.{gate, data_start, stack_top, globals_of, comp_of_code, word_at, are_data}
@@ -52,20 +60,33 @@ length-written regs r word = by_zero (nat_eq r 0)
     by_zero true = refl
     by_zero false = length-set regs r word
 
+-- a shift's amount may be any number
+shifted_word : (op : ShiftOp) (a amount : ℕ) → IsWord a → IsWord (computed (shift_on_registers op) a amount)
+shifted_word Slli a amount h = sll_word-lt a amount
+shifted_word Srli a amount h = srl_word-lt a amount h
+shifted_word Srai a amount h = sra_word-lt a amount
+
 -- The two states.
 
-module _ (image : ImageParts) (inputs : List ℤ) (regs : List ℕ) (pc c place : ℕ) (trace : List Event) (saved saved' : List ℕ) (memory memory' : Memory) (cross cross' : List Crossing) where
+module _ (image : ImageParts) (inputs : List ℕ) (formed : IsWellFormed image) (regs : List ℕ) (pc c place : ℕ) (trace : List Event) (saved saved' : List ℕ) (memory memory' : Memory) (cross cross' : List Crossing) where
   abbrev pub one : State
   one = record { regs = regs; pc = pc; active = c; saved = saved; memory = memory; cross = cross; input = place; trace = trace }
 
   abbrev pub other : State
   other = record { regs = regs; pc = pc; active = c; saved = saved'; memory = memory'; cross = cross'; input = place; trace = trace }
 
+  -- the registers and the pc after a step that changes nothing else
+  pub record Moves (regs' : List ℕ) (pc' : ℕ) : Type 0 where
+    pub count : length regs' ≡ length regs
+    pub zero : slice_index regs 0 ≡ 0 → slice_index regs' 0 ≡ 0
+    pub words : IsWord (pc + 4) → AreWords regs → HoldsBytes memory → AreWords regs'
+    pub goes : IsWord (pc + 4) → IsWord pc'
+
   -- a relation that holds of each kind of outcome
   pub record Cases (P : Outcome → Outcome → Type 0) : Type 0 where
     pub same : (a : ℕ) → are_data image c a 1 ≡ true → memory a ≡ memory' a
     pub traps : (reason : TrapReason) → P (Traps reason) (Traps reason)
-    pub quiet : (regs' : List ℕ) (pc' : ℕ) → length regs' ≡ length regs → P (Goes (record one { regs = regs'; pc = pc' })) (Goes (record other { regs = regs'; pc = pc' }))
+    pub quiet : (regs' : List ℕ) (pc' : ℕ) → Moves regs' pc' → P (Goes (record one { regs = regs'; pc = pc' })) (Goes (record other { regs = regs'; pc = pc' }))
     pub stores : (op : StoreOp) (a word : ℕ) → refused image c (store_size op) a ≡ None →
         P (Goes (with_pc (with_stored one op a word) (pc + 4))) (Goes (with_pc (with_stored other op a word) (pc + 4)))
     pub calls : (to index target : ℕ) → export_at image to target ≡ Some index → may_call image c to index ≡ true →
@@ -83,16 +104,26 @@ module _ (image : ImageParts) (inputs : List ℤ) (regs : List ℕ) (pc c place 
     where_true true x x' y y' p q = p refl
     where_true false x x' y y' p q = q
 
-    gives_both : (rd word : ℕ) → P (gives one rd word) (gives other rd word)
-    gives_both rd word = h.quiet (written regs rd word) (pc + 4) (length-written regs rd word)
+    -- rd gets a word, and the pc goes on to this address
+    moves_with : (rd word target : ℕ) → (IsWord (pc + 4) → AreWords regs → HoldsBytes memory → IsWord word) → (IsWord (pc + 4) → IsWord target) → Moves (written regs rd word) target
+    moves_with rd word target is_word next = record {
+      count = length-written regs rd word;
+      zero = written_zero regs rd word;
+      words = λ here h bytes. written_words regs rd word h (is_word here h bytes);
+      goes = next;
+    }
+
+    gives_both : (rd word : ℕ) → (IsWord (pc + 4) → AreWords regs → HoldsBytes memory → IsWord word) → P (gives one rd word) (gives other rd word)
+    gives_both rd word is_word = h.quiet (written regs rd word) (pc + 4) (moves_with rd word (pc + 4) is_word (λ here. here))
 
     next_both : P (next one) (next other)
-    next_both = h.quiet regs (pc + 4) refl
+    next_both = h.quiet regs (pc + 4) (record { count = refl; zero = λ z. z; words = λ here w bytes. w; goes = λ here. here })
 
     jump_both : (rd target : ℕ) (x x' : Outcome) → P x x' → P (jump image one rd target x) (jump image other rd target x')
     jump_both rd target x x' elsewhere =
         either (not (target % 4 == 0)) _ _ _ _ (h.traps Misaligned)
-        (either (is_some (word_at image c target)) _ _ _ _ (h.quiet (written regs rd (pc + 4)) target (length-written regs rd (pc + 4))) elsewhere)
+        (where_true (is_some (word_at image c target)) _ _ _ _
+        (λ some. h.quiet (written regs rd (pc + 4)) target (moves_with rd (pc + 4) target (λ here w bytes. here) (λ here. code_address image formed c target some))) elsewhere)
 
     export_both : (to target : ℕ) (index : Option ℕ) → export_at image to target ≡ index → P (export_called image one to target index) (export_called image other to target index)
     export_both to target None at = h.traps BadJump
@@ -119,51 +150,76 @@ module _ (image : ImageParts) (inputs : List ℤ) (regs : List ℕ) (pc c place 
         P (unless why (gives one rd (loaded one op a))) (unless why (gives other rd (loaded other op a)))
     load_both op rd a (Some reason) is = h.traps reason
     load_both op rd a None is =
-        subst (λ word. P (gives one rd (loaded one op a)) (gives other rd word)) (loaded_same op a is) (gives_both rd (loaded one op a))
+        subst (λ word. P (gives one rd (loaded one op a)) (gives other rd word)) (loaded_same op a is)
+        (gives_both rd (loaded one op a) (λ here w bytes. loaded_word memory op a bytes))
 
     store_both : (op : StoreOp) (a word : ℕ) (why : Option TrapReason) → refused image c (store_size op) a ≡ why →
         P (unless why (next (with_stored one op a word))) (unless why (next (with_stored other op a word)))
     store_both op a word (Some reason) is = h.traps reason
     store_both op a word None is = h.stores op a word is
 
-    pub execute_both : (instr : Instr) → P (execute image inputs one instr) (execute image inputs other instr)
+    -- where an instruction holds a word of its own, it has 32 bits
+    abbrev Fits : Instr → Type 0
+    Fits (Upper op rd imm) = IsWord imm
+    Fits _ = Unit {0}
+
+    execute_both : (instr : Instr) → Fits instr → P (execute image inputs one instr) (execute image inputs other instr)
     unfolding execute
-    execute_both (Upper Lui rd imm) = gives_both rd imm
-    execute_both (Upper Auipc rd imm) = gives_both rd (add_word pc imm)
-    execute_both (Jal rd imm) = jump_both rd (add_word pc (word_of imm)) _ _ (calls_both rd (add_word pc (word_of imm)))
-    execute_both (Jalr rd rs1 imm) = jump_both rd (jalr_target (reg one rs1) imm) _ _ (leaves_both rd (jalr_target (reg one rs1) imm))
-    execute_both (Branch op rs1 rs2 imm) =
+    execute_both (Upper Lui rd imm) fits = gives_both rd imm (λ here w bytes. fits)
+    execute_both (Upper Auipc rd imm) fits = gives_both rd (add_word pc imm) (λ here w bytes. add_word-lt pc imm)
+    execute_both (Jal rd imm) fits = jump_both rd (add_word pc (word_of imm)) _ _ (calls_both rd (add_word pc (word_of imm)))
+    execute_both (Jalr rd rs1 imm) fits = jump_both rd (jalr_target (reg one rs1) imm) _ _ (leaves_both rd (jalr_target (reg one rs1) imm))
+    execute_both (Branch op rs1 rs2 imm) fits =
         either (compares op (reg one rs1) (reg one rs2)) _ _ _ _ (jump_both 0 (add_word pc (word_of imm)) _ _ (h.traps BadJump)) next_both
-    execute_both (Load op rd rs1 imm) = load_both op rd (add_word (reg one rs1) (word_of imm)) _ refl
-    execute_both (Store op rs1 rs2 imm) = store_both op (add_word (reg one rs1) (word_of imm)) (reg one rs2) _ refl
-    execute_both (OpImm op rd rs1 imm) = gives_both rd (computed (on_registers op) (reg one rs1) (word_of imm))
-    execute_both (Shift op rd rs1 amount) = gives_both rd (computed (shift_on_registers op) (reg one rs1) amount)
-    execute_both (Op op rd rs1 rs2) = gives_both rd (computed op (reg one rs1) (reg one rs2))
-    execute_both (Fence imm rs1 rd) = next_both
-    execute_both Ecall =
+    execute_both (Load op rd rs1 imm) fits = load_both op rd (add_word (reg one rs1) (word_of imm)) _ refl
+    execute_both (Store op rs1 rs2 imm) fits = store_both op (add_word (reg one rs1) (word_of imm)) (reg one rs2) _ refl
+    execute_both (OpImm op rd rs1 imm) fits =
+        gives_both rd (computed (on_registers op) (reg one rs1) (word_of imm))
+        (λ here w bytes. computed_word (on_registers op) (reg one rs1) (word_of imm) (w rs1) (word_of-lt imm))
+    execute_both (Shift op rd rs1 amount) fits =
+        gives_both rd (computed (shift_on_registers op) (reg one rs1) amount)
+        (λ here w bytes. shifted_word op (reg one rs1) amount (w rs1))
+    execute_both (Op op rd rs1 rs2) fits =
+        gives_both rd (computed op (reg one rs1) (reg one rs2)) (λ here w bytes. computed_word op (reg one rs1) (reg one rs2) (w rs1) (w rs2))
+    execute_both (Fence imm rs1 rd) fits = next_both
+    execute_both Ecall fits =
         either (nat_eq (reg one a7) 1) _ _ _ _ (where_true (may_input image c) _ _ _ _ h.reads (h.traps NoImport))
         (either (nat_eq (reg one a7) 2) _ _ _ _ (where_true (may_output image c) _ _ _ _ h.outputs (h.traps NoImport)) (h.traps BadCall))
-    execute_both Ebreak = h.traps Breakpoint
+    execute_both Ebreak fits = h.traps Breakpoint
 
-    decoded_both : (instr : Option Instr) → P (if_decoded image inputs one instr) (if_decoded image inputs other instr)
-    decoded_both None = h.traps Illegal
-    decoded_both (Some instr) = execute_both instr
+    fits_decoded : (instr : Instr) (word : ℕ) → HasWord instr word → Fits instr
+    fits_decoded (Upper op rd imm) word has = has.instr.1.word
+    fits_decoded (Jal rd imm) word has = tt
+    fits_decoded (Jalr rd rs1 imm) word has = tt
+    fits_decoded (Branch op rs1 rs2 imm) word has = tt
+    fits_decoded (Load op rd rs1 imm) word has = tt
+    fits_decoded (Store op rs1 rs2 imm) word has = tt
+    fits_decoded (OpImm op rd rs1 imm) word has = tt
+    fits_decoded (Shift op rd rs1 amount) word has = tt
+    fits_decoded (Op op rd rs1 rs2) word has = tt
+    fits_decoded (Fence imm rs1 rd) word has = tt
+    fits_decoded Ecall word has = tt
+    fits_decoded Ebreak word has = tt
 
-    fetched_both : (word : Option ℕ) → P (if_fetched image inputs one word) (if_fetched image inputs other word)
-    fetched_both None = h.traps BadJump
-    fetched_both (Some word) = decoded_both (decoded word)
+    decoded_both : (word : ℕ) (instr : Option Instr) → IsWord word → decoded word ≡ instr → P (if_decoded image inputs one instr) (if_decoded image inputs other instr)
+    decoded_both word None bits is = h.traps Illegal
+    decoded_both word (Some instr) bits is = execute_both instr (fits_decoded instr word (HasWord-decoded word instr bits is))
+
+    fetched_both : (word : Option ℕ) → word_at image c pc ≡ word → P (if_fetched image inputs one word) (if_fetched image inputs other word)
+    fetched_both None at = h.traps BadJump
+    fetched_both (Some word) at = decoded_both word (decoded word) (in_code image formed c pc word at).bits refl
 
     -- the step
     pub step_both : P (step image inputs one) (step image inputs other)
     unfolding step
-    step_both = fetched_both (word_at image c pc)
+    step_both = fetched_both (word_at image c pc) refl
 
 -- One state: a property of its outcome.
-module _ (image : ImageParts) (inputs : List ℤ) (state : State) (P : Outcome → Type 0) where
+module _ (image : ImageParts) (inputs : List ℕ) (formed : IsWellFormed image) (state : State) (P : Outcome → Type 0) where
   abbrev pub OneCases : Type 0
   OneCases =
-      Cases image inputs state.regs state.pc state.active state.input state.trace state.saved state.saved state.memory state.memory state.cross state.cross (λ x y. P x)
+      Cases image inputs formed state.regs state.pc state.active state.input state.trace state.saved state.saved state.memory state.memory state.cross state.cross (λ x y. P x)
 
   pub step_of : OneCases → P (step image inputs state)
   step_of h =
-      step_both image inputs state.regs state.pc state.active state.input state.trace state.saved state.saved state.memory state.memory state.cross state.cross (λ x y. P x) h
+      step_both image inputs formed state.regs state.pc state.active state.input state.trace state.saved state.saved state.memory state.memory state.cross state.cross (λ x y. P x) h

@@ -1,5 +1,5 @@
 -- What belongs to a compartment that a call or a return makes active.
-use Rattle.std.proofs.Common.{◌≡◌, ◌≢◌, ℕ, zero, suc, ◌+◌, ◌-◌, ◌<◌, ◌≤◌, ℤ, Bool, true, false, nat_eq, nat_le, nat_lt, ◌&&◌, if◌then◌else◌, List, [], ◌∷◌, ◌++◌, length, get_or, drop, flat_map, replicate, Option, Some, None, refl, sym, ◌∙◌, ap, subst, arith, length-append, length-take-le, length-drop}
+use Rattle.std.proofs.Common.{◌≡◌, ◌≢◌, ℕ, zero, suc, ◌+◌, ◌-◌, ◌<◌, ◌≤◌, Bool, true, false, nat_eq, nat_le, nat_lt, ◌&&◌, if◌then◌else◌, List, [], ◌∷◌, ◌++◌, length, get_or, drop, flat_map, replicate, Option, Some, None, refl, sym, ◌∙◌, ap, subst, arith, length-append, length-take-le, length-drop}
 use Rattle.std.specs.Prelude.{is_some, unwrap_or, ◌==◌}
 use Rattle.std.specs.List.{slice_get}
 use Rattle.std.specs.Option.{option_map_or}
@@ -9,7 +9,7 @@ use Rattle.std.proofs.lemmas.List.{get_or-set_other, get_or-take, get_or-drop, g
 use Rattle.std.proofs.lemmas.List.Quantifiers.{position-Some}
 use Rattle.std.proofs.lemmas.Option.{slice_get-get_or, slice_get_within, get_or_from_slice_get}
 use Rattle.sc_event.specs.declared.event.Event.{Event}
-use Rattle.sc_event.specs.declared.event.Event.TheVariants.{Call, Ret}
+use Rattle.sc_event.specs.declared.event.Event.TheVariants.{Call, Ret, Out, In, End}
 use Rattle.sc_event.specs.declared.row.Entry.TheVariants.{Export}
 use Rattle.sc_image.specs.declared.parts.ImageParts.{ImageParts}
 use Rattle.sc_image.specs.declared.parts.CompPart.{CompPart}
@@ -17,13 +17,14 @@ use Rattle.sc_image.specs.declared.parts.ExportPart.{ExportPart}
 use Rattle.sc_image.specs.WellFormed.{IsExport, IsWellFormed}
 use Rattle.sc_image.specs.Layout.{gate}
 use Rattle.sc_image.specs.Calls.{exports_of, export_at, params_of, has_result}
-use Rattle.sc_image.specs.State.{State, Crossing, ra, sp, reg, saved_sp, written}
-use Rattle.sc_image.specs.Cross.{kept_from, kept, is_argument, is_result, arguments, given_back, called, returned, returned_to}
+use Rattle.sc_image.specs.State.{State, Crossing, ra, sp, a0, reg, saved_sp, written}
+use Rattle.sc_image.specs.Cross.{kept_from, kept, is_argument, is_result, arguments, given_back, called, returned, returned_to, input_at}
 use Rattle.sc_image.specs.Step.{Outcome, Goes, step}
 use Rattle.sc_image.specs.Own.{Own, Kept, Waits, Entered, kept_by, data_of, own}
-use Rattle.sc_image.specs.Isolation.{EntersByEvent, after_outcome}
+use Rattle.sc_image.specs.Isolation.{Adds, EntersByEvent, activates, shown_by, after_outcome}
+use Rattle.std.proofs.Math.Seq.{drop-append_seam, drop-length}
 use Rattle.sc_image.proofs.Cases.{step_of}
-use Rattle.sc_image.proofs.Reached.{IsChain, IsSteady, reached_steady}
+use Rattle.sc_image.specs.Steady.{IsChain, IsSteady}
 
 -- Registers that hold these words from a0 on, of which so many count.
 abbrev from_a0 : (count : ℕ) → List ℕ → List ℕ
@@ -155,7 +156,7 @@ last_same : (trace : List Event) (one other : Event) → trace ++ one ∷ [] ≡
 last_same [] one other h = cc h
 last_same (event ∷ trace) one other h = let rest : trace ++ one ∷ [] ≡ trace ++ other ∷ [] = cc h in last_same trace one other rest
 
-module _ (image : ImageParts) (inputs : List ℤ) (state : State) (d : ℕ) (formed : IsWellFormed image) (h : IsSteady image state) (differ : state.active ≢ d) where
+module _ (image : ImageParts) (inputs : List ℕ) (state : State) (d : ℕ) (formed : IsWellFormed image) (h : IsSteady image state) (differ : state.active ≢ d) where
   abbrev Enters : Outcome → Type 0
   Enters outcome =
       (after_outcome state outcome).active ≡ d → (event : Event) → (after_outcome state outcome).trace ≡ state.trace ++ event ∷ [] →
@@ -203,7 +204,7 @@ module _ (image : ImageParts) (inputs : List ℤ) (state : State) (d : ℕ) (for
       subst (λ e. own image after d ≡ entered image d (own image state d) e) is_event (first ∙ before)
 
   pub step_enters : Enters (step image inputs state)
-  step_enters = step_of image inputs state Enters (record {
+  step_enters = step_of image inputs formed state Enters (record {
     same = λ a owned. refl;
     traps = λ reason active event same. absurd (differ active);
     quiet = λ regs pc len active event same. absurd (differ active);
@@ -219,9 +220,55 @@ module _ (image : ImageParts) (inputs : List ℤ) (state : State) (d : ℕ) (for
     reads = λ may active event same. absurd (differ active);
   })
 
+-- Who is active after a step that shows this one event, a call of d or a return to it.
+
+module _ (image : ImageParts) (inputs : List ℕ) (state : State) (d : ℕ) (formed : IsWellFormed image) (event : Event) (activating : activates d event ≡ true) where
+  abbrev Activated : Outcome → Type 0
+  Activated outcome = shown_by state outcome ≡ Adds (event ∷ []) →
+      ((after_outcome state outcome).active ≡ d) × ((after_outcome state outcome).trace ≡ state.trace ++ event ∷ [])
+
+  no_event : Adds (drop (length state.trace) state.trace) ≡ Adds (event ∷ []) → ⊥
+  no_event shows =
+      let none : Adds [] ≡ Adds (event ∷ []) = ap Adds (sym (drop-length state.trace)) ∙ shows in cc none
+
+  that_event : (one : Event) → Adds (drop (length state.trace) (state.trace ++ one ∷ [])) ≡ Adds (event ∷ []) → one ≡ event
+  that_event one shows =
+      let same : Adds (one ∷ []) ≡ Adds (event ∷ []) = ap Adds (sym (drop-append_seam state.trace (one ∷ []))) ∙ shows in cc same
+
+  activates_that : (one : Event) → one ≡ event → activates d one ≡ true
+  activates_that one same = ap (activates d) same ∙ activating
+
+  return_activates : (cross : List Crossing) → Activated (Goes (returned image state cross))
+  return_activates [] shows =
+      let never : false ≡ true = activates_that (End state.active (reg state a0)) (that_event (End state.active (reg state a0)) shows) in cc never
+  return_activates (x ∷ xs) shows =
+      let one : Event = Ret state.active x.caller (given_back (has_result image x.callee x.entry) state) in
+      let same : one ≡ event = that_event one shows in
+      (eqb-true x.caller d (activates_that one same), ap (λ e. state.trace ++ e ∷ []) same)
+
+  pub step_activates : Activated (step image inputs state)
+  step_activates = step_of image inputs formed state Activated (record {
+    same = λ a owned. refl;
+    traps = λ reason shows. cc shows;
+    quiet = λ regs pc moves shows. absurd (no_event shows);
+    stores = λ op a word allowed shows. absurd (no_event shows);
+    calls = λ to index target at may shows.
+        let one : Event = Call state.active to index (arguments (params_of image to index) state.regs) in
+        let same : one ≡ event = that_event one shows in
+        (eqb-true to d (activates_that one same), ap (λ e. state.trace ++ e ∷ []) same);
+    returns = return_activates state.cross;
+    outputs = λ may shows.
+        let one : Event = Out state.active (reg state a0) in
+        let never : false ≡ true = activates_that one (that_event one shows) in cc never;
+    reads = λ may shows.
+        let one : Event = In state.active (input_at inputs state.input) in
+        let never : false ≡ true = activates_that one (that_event one shows) in cc never;
+  })
+
 pub enters_by_event : EntersByEvent
 enters_by_event image d formed = (
   entered image d,
-  λ inputs state event reached differ active same.
-      step_enters image inputs state d formed (reached_steady image inputs state formed reached) (λ e. differ (sym e)) active event same,
+  λ inputs state event h differ shows activating.
+      let after = step_activates image inputs state d formed event activating shows in
+      step_enters image inputs state d formed h (λ e. differ (sym e)) after.0 event after.1,
 )

@@ -6,7 +6,9 @@ pub mod Running
 pub mod Stepping
 pub mod Fits
 pub mod OneComp
+pub mod Words
 pub mod Cases
+pub mod Bytes
 pub mod Reached
 pub mod Others
 pub mod Same
@@ -18,3 +20,6 @@ pub mod Images
 pub mod Traces
 pub mod Loops
 pub mod Keeping
+pub mod Walking
+pub mod Stretches
+pub mod WordInterfaces

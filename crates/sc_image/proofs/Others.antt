@@ -1,28 +1,28 @@
 -- A step leaves what belongs to other compartments.
-use Rattle.std.proofs.Common.{◌≡◌, ◌≢◌, ℕ, ◌+◌, ◌<◌, ◌≤◌, ℤ, Bool, true, false, nat_eq, if◌then◌else◌, List, [], ◌∷◌, ◌++◌, length, flat_map, Some, None, refl, sym, ◌∙◌, ap, subst, arith, ⊎_elim}
-use Rattle.std.proofs.lemmas.Bool.{ne_eqb}
+use Rattle.std.proofs.Common.{◌≡◌, ◌≢◌, ℕ, ◌+◌, ◌<◌, ◌≤◌, Bool, true, false, ◌||◌, nat_eq, if◌then◌else◌, List, [], ◌∷◌, ◌++◌, length, flat_map, Some, None, refl, sym, ◌∙◌, ap, subst, arith}
+use Rattle.std.proofs.lemmas.Bool.{eq-eqb, ne_eqb}
 use Rattle.std.proofs.lemmas.List.{get_or-set_other}
-use Rattle.std.proofs.lemmas.Option.{slice_get_cases}
 use Rattle.sc_store.specs.Memory.{Memory, stored}
 use Rattle.sc_store.proofs.Words.{stored-apart}
 use Rattle.sc_event.specs.declared.row.Entry.TheVariants.{Export}
 use Rattle.sc_image.specs.declared.parts.ImageParts.{ImageParts}
 use Rattle.sc_image.specs.WellFormed.{IsWellFormed}
-use Rattle.sc_image.specs.Layout.{most_globals, data_start, stack_top, globals_of, are_data}
+use Rattle.sc_image.specs.Layout.{data_start, stack_top, globals_of, are_data}
 use Rattle.sc_image.specs.Calls.{params_of, has_result}
 use Rattle.sc_image.specs.State.{State, Crossing, a0, sp, reg, saved_sp, written}
-use Rattle.sc_image.specs.Cross.{called, returned, returned_to, input_at}
+use Rattle.sc_image.specs.Cross.{called, returned, returned_to, arguments, given_back, input_at}
 use Rattle.sc_image.specs.Step.{Outcome, Goes, store_size, step}
 use Rattle.sc_image.specs.Own.{Running, kept_by, data_of, own}
-use Rattle.sc_image.specs.Isolation.{LeavesOthers, after_outcome}
+use Rattle.sc_image.specs.Isolation.{Adds, LeavesOthers, activates, shows_entry, shown_by, after_outcome}
+use Rattle.sc_event.specs.declared.event.Event.{Event}
+use Rattle.sc_event.specs.declared.event.Event.TheVariants.{Call, Ret}
+use Rattle.std.specs.Prelude.{drop, ◌==◌}
+use Rattle.std.proofs.Math.Seq.{drop-append_seam}
 use Rattle.sc_image.proofs.Cases.{allowed_data, both_facts, step_of}
-use Rattle.sc_image.proofs.Reached.{IsChain, IsSteady, reached_steady}
+use Rattle.sc_image.proofs.Bytes.{few_globals}
+use Rattle.sc_image.specs.Steady.{IsChain, IsSteady}
 
 -- The compartments' addresses are apart.
-
-pub few_globals : (image : ImageParts) (c : ℕ) → IsWellFormed image → length (globals_of image c) ≤ most_globals
-few_globals image c formed =
-    ⊎_elim (λ found. rw found.2 (formed.comps c found.0 found.2).short_globals) (λ none. rw none.1 (omega arith)) (slice_get_cases image.comps c).1
 
 pub apart : (image : ImageParts) (c d a size x : ℕ) → IsWellFormed image → c ≢ d → are_data image c a size ≡ true → are_data image d x 1 ≡ true → a ≤ x → x < a + size → ⊥
 unfolding are_data
@@ -52,7 +52,7 @@ idle_both c e d one other differ differs = idle c d one differ ∙ sym (idle e d
 not_in : (d : ℕ) (crossing : Crossing) → crossing.caller ≢ d → crossing.callee ≢ d → kept_by d crossing ≡ []
 not_in d crossing caller callee = rw (ne_eqb crossing.caller d caller, ne_eqb crossing.callee d callee) refl
 
-module _ (image : ImageParts) (inputs : List ℤ) (state : State) (d : ℕ) (formed : IsWellFormed image) (h : IsSteady image state) (differ : state.active ≢ d) where
+module _ (image : ImageParts) (inputs : List ℕ) (state : State) (d : ℕ) (formed : IsWellFormed image) (h : IsSteady image state) (differ : state.active ≢ d) where
   abbrev Kept_after : Outcome → Type 0
   Kept_after outcome = ((after_outcome state outcome).active ≢ d) → own image (after_outcome state outcome) d ≡ own image state d
 
@@ -72,7 +72,7 @@ module _ (image : ImageParts) (inputs : List ℤ) (state : State) (d : ℕ) (for
       }
 
   pub step_keeps : Kept_after (step image inputs state)
-  step_keeps = step_of image inputs state Kept_after (record {
+  step_keeps = step_of image inputs formed state Kept_after (record {
     same = λ a owned. refl;
     traps = λ reason next. refl;
     quiet = λ regs pc same next i. record {
@@ -116,6 +116,36 @@ module _ (image : ImageParts) (inputs : List ℤ) (state : State) (d : ℕ) (for
     };
   })
 
+-- Who is active after a step that shows no entry of d.
+
+entry_by : (to d : ℕ) → (to == d || false) ≡ false → to ≢ d
+entry_by to d none same = let yes : (to == d || false) ≡ true = rw (eq-eqb to d same) refl in let never : true ≡ false = sym yes ∙ none in cc never
+
+module _ (image : ImageParts) (inputs : List ℕ) (state : State) (d : ℕ) (formed : IsWellFormed image) (differ : state.active ≢ d) where
+  abbrev Elsewhere : Outcome → Type 0
+  Elsewhere outcome = shows_entry d (shown_by state outcome) ≡ false → (after_outcome state outcome).active ≢ d
+
+  one_event : (event : Event) → shows_entry d (Adds (drop (length state.trace) (state.trace ++ event ∷ []))) ≡ false → (activates d event || false) ≡ false
+  one_event event none = sym (ap (λ events. shows_entry d (Adds events)) (drop-append_seam state.trace (event ∷ []))) ∙ none
+
+  return_elsewhere : (cross : List Crossing) → Elsewhere (Goes (returned image state cross))
+  return_elsewhere [] none = differ
+  return_elsewhere (x ∷ xs) none =
+      entry_by x.caller d (one_event (Ret state.active x.caller (given_back (has_result image x.callee x.entry) state)) none)
+
+  pub step_elsewhere : Elsewhere (step image inputs state)
+  step_elsewhere = step_of image inputs formed state Elsewhere (record {
+    same = λ a owned. refl;
+    traps = λ reason none. differ;
+    quiet = λ regs pc moves none. differ;
+    stores = λ op a word allowed none. differ;
+    calls = λ to index target at may none. entry_by to d (one_event (Call state.active to index (arguments (params_of image to index) state.regs)) none);
+    returns = return_elsewhere state.cross;
+    outputs = λ may none. differ;
+    reads = λ may none. differ;
+  })
+
 pub leaves_others : LeavesOthers
-leaves_others image inputs state d formed reached differ next =
-    step_keeps image inputs state d formed (reached_steady image inputs state formed reached) (λ same. differ (sym same)) (λ same. next (sym same))
+leaves_others image inputs state d formed h differ none =
+    let other : state.active ≢ d = λ same. differ (sym same) in
+    step_keeps image inputs state d formed h other (step_elsewhere image inputs state d formed other none)

@@ -1,82 +1,42 @@
 -- What holds of every state that a run reaches.
-use Rattle.std.proofs.Common.{◌≡◌, ◌≢◌, ℕ, zero, suc, ◌<◌, ℤ, Bool, true, false, ◌&&◌, ◌||◌, List, [], ◌∷◌, ◌++◌, length, map, All, Option, Some, None, refl, sym, ◌∙◌, ap, subst, length-set}
-use Rattle.std.specs.Prelude.{fold, position, ◌==◌}
+use Rattle.std.proofs.Common.{◌≡◌, ◌≢◌, ℕ, zero, suc, ◌+◌, ◌<◌, ◌≤◌, Bool, true, false, ◌&&◌, ◌||◌, List, [], ◌∷◌, ◌++◌, length, map, All, Option, Some, None, refl, sym, ◌∙◌, ap, subst, arith, length-set}
+use Rattle.std.specs.Prelude.{position, slice_index, unwrap_or, replicate, ◌==◌}
 use Rattle.std.specs.List.{slice_get, list_any}
 use Rattle.std.specs.Option.{option_map_or}
 use Rattle.std.proofs.lemmas.Bool.{eqb-true}
-use Rattle.std.proofs.lemmas.Option.{slice_get_within}
+use Rattle.std.proofs.lemmas.Option.{slice_get_within, get_or_from_slice_get}
 use Rattle.std.proofs.lemmas.List.Sums.{fold-append}
-use Rattle.std.proofs.lemmas.List.Elements.{All-nil, All-head, All-tail}
+use Rattle.std.proofs.lemmas.List.Elements.{All-nil, All-cons, All-head, All-tail}
 use Rattle.sc_event.specs.declared.event.Event.{Event}
 use Rattle.sc_event.specs.declared.event.Event.TheVariants.{Call, Ret, Out, In, End}
-use Rattle.sc_event.specs.declared.row.Entry.{Entry}
 use Rattle.sc_event.specs.declared.row.Entry.TheVariants.{Export}
 use Rattle.sc_base.specs.declared.stop.Stop.{Stop}
 use Rattle.sc_base.specs.declared.stop.Stop.TheVariants.{StepsOut}
 use Rattle.sc_image.specs.declared.parts.ImageParts.{ImageParts}
 use Rattle.sc_image.specs.declared.parts.CompPart.{CompPart}
 use Rattle.sc_image.specs.declared.parts.ImportPart.{ImportPart}
-use Rattle.sc_image.specs.WellFormed.{IsImport, IsWellFormed}
-use Rattle.sc_image.specs.Layout.{gate}
+use Rattle.sc_image.specs.WellFormed.{IsWord, IsImport, IsWellFormed}
+use Rattle.sc_image.specs.Layout.{gate, stack_top, word_at}
+use Rattle.sc_store.specs.Memory.{Memory, HoldsBytes, stored}
 use Rattle.sc_image.specs.Calls.{may_call, export_at, params_of, has_result}
-use Rattle.sc_image.specs.State.{State, Crossing, start, stack_tops, written, ra, sp, a0, reg, saved_sp}
-use Rattle.sc_image.specs.Cross.{kept_from, kept, is_argument, is_result, arguments, given_back, returned, input_at}
-use Rattle.sc_image.specs.Step.{Outcome, Goes, Traps, step}
+use Rattle.sc_image.specs.State.{State, Crossing, start, stack_tops, written, with_pc, ra, sp, a0, reg, saved_sp}
+use Rattle.sc_image.specs.Cross.{kept_from, kept, is_argument, is_result, arguments, given_back, called, returned, output, input, input_at}
+use Rattle.sc_image.specs.Step.{Outcome, Goes, Traps, store_size, step}
+use Rattle.sc_image.proofs.Words.{AreWords, set_words, written_words, written_zero, kept_words, kept_zero, in_code, code_address, entry_address}
+use Rattle.sc_image.proofs.Bytes.{stored_bytes, start_bytes}
+use Rattle.sc_image.proofs.Stepping.{step_nowhere}
 use Rattle.sc_image.specs.Machine.{Run, stopped, stops_or, after, run}
-use Rattle.sc_image.specs.Isolation.{IsReached}
+use Rattle.sc_image.specs.Isolation.{IsReached, RunsAreSteady, after_outcome, after_step}
+use Rattle.sc_image.specs.Steady.{without_latest, open_after, open_calls, call_of, count_read, inputs_in, IsChain, KeepsWords, IsSteady}
 use Rattle.sc_image.proofs.Cases.{length-written, step_of}
-
--- the calls that are open, as the trace tells them
-pub record Opened : Type 0 where
-  pub caller : ℕ
-  pub callee : ℕ
-  pub entry : Entry
-
-abbrev pub closed : List Opened → List Opened
-closed [] = []
-closed (latest ∷ earlier) = earlier
-
-abbrev pub opened_by : List Opened → Event → List Opened
-opened_by calls (Call from to index args) = record { caller = from; callee = to; entry = Export index } ∷ calls
-opened_by calls (Ret from to value) = closed calls
-opened_by calls (Out comp value) = calls
-opened_by calls (In comp value) = calls
-opened_by calls (End comp value) = calls
-
-abbrev pub opened : List Event → List Opened
-opened trace = fold opened_by [] trace
-
-abbrev pub shape : Crossing → Opened
-shape crossing = record { caller = crossing.caller; callee = crossing.callee; entry = crossing.entry }
-
--- the inputs that were read
-abbrev pub read_by : ℕ → Event → ℕ
-read_by count (In comp value) = suc count
-read_by count _ = count
-
-abbrev pub inputs_in : List Event → ℕ
-inputs_in trace = fold read_by 0 trace
-
--- each call was made by the one that waits for it, and goes to another compartment of the image
-abbrev pub IsChain : (count active : ℕ) → List Crossing → Type 0
-IsChain count active [] = Unit {0}
-IsChain count active (x ∷ xs) = (x.callee ≡ active) × (x.caller ≢ x.callee) × (x.caller < count) × IsChain count x.caller xs
-
-pub record IsSteady (image : ImageParts) (state : State) : Type 0 where
-  pub regs : length state.regs ≡ 32
-  pub active : state.active < length image.comps
-  pub saved : length state.saved ≡ length image.comps
-  pub chain : IsChain (length image.comps) state.active state.cross
-  pub calls : map shape state.cross ≡ opened state.trace
-  pub input : state.input ≡ inputs_in state.trace
 
 -- One more event.
 
-opened_more : (trace : List Event) (event : Event) → opened (trace ++ event ∷ []) ≡ opened_by (opened trace) event
-opened_more trace event = fold-append opened_by [] trace (event ∷ [])
+open_more : (trace : List Event) (event : Event) → open_calls (trace ++ event ∷ []) ≡ open_after (open_calls trace) event
+open_more trace event = fold-append open_after [] trace (event ∷ [])
 
-read_more : (trace : List Event) (event : Event) → inputs_in (trace ++ event ∷ []) ≡ read_by (inputs_in trace) event
-read_more trace event = fold-append read_by 0 trace (event ∷ [])
+read_more : (trace : List Event) (event : Event) → inputs_in (trace ++ event ∷ []) ≡ count_read (inputs_in trace) event
+read_more trace event = fold-append count_read 0 trace (event ∷ [])
 
 length-kept : (keeps : ℕ → Bool) (r : ℕ) (regs : List ℕ) → length (kept_from keeps r regs) ≡ length regs
 length-kept keeps r [] = refl
@@ -122,80 +82,174 @@ abbrev pub SteadyAfter : ImageParts → Outcome → Type 0
 SteadyAfter image (Goes next) = IsSteady image next
 SteadyAfter image (Traps reason) = Unit {0}
 
-module _ (image : ImageParts) (inputs : List ℤ) (formed : IsWellFormed image) (state : State) (h : IsSteady image state) where
-  -- the events that open or close no call, and the one input
-  same_calls : (event : Event) → opened_by (opened state.trace) event ≡ opened state.trace → map shape state.cross ≡ opened (state.trace ++ event ∷ [])
-  same_calls event same = h.calls ∙ sym (opened_more state.trace event ∙ same)
+-- an input is a word
+input_by : (inputs : List ℕ) (k : ℕ) → All IsWord inputs → (found : Option ℕ) → slice_get inputs k ≡ found → IsWord (unwrap_or found 0)
+input_by inputs k all None is = omega arith
+input_by inputs k all (Some word) is =
+    subst IsWord (get_or_from_slice_get inputs k word word is) (all k word (slice_get_within inputs k word is))
 
-  same_input : (event : Event) → read_by (inputs_in state.trace) event ≡ inputs_in state.trace → state.input ≡ inputs_in (state.trace ++ event ∷ [])
+input_word : (inputs : List ℕ) (k : ℕ) → All IsWord inputs → IsWord (input_at inputs k)
+input_word inputs k all = input_by inputs k all (slice_get inputs k) refl
+
+module _ (image : ImageParts) (inputs : List ℕ) (formed : IsWellFormed image) (all : All IsWord inputs) (state : State) (h : IsSteady image state) where
+  -- the events that open or close no call, and the one input
+  same_calls : (event : Event) → open_after (open_calls state.trace) event ≡ open_calls state.trace → map call_of state.cross ≡ open_calls (state.trace ++ event ∷ [])
+  same_calls event same = h.calls ∙ sym (open_more state.trace event ∙ same)
+
+  same_input : (event : Event) → count_read (inputs_in state.trace) event ≡ inputs_in state.trace → state.input ≡ inputs_in (state.trace ++ event ∷ [])
   same_input event same = h.input ∙ sym (read_more state.trace event ∙ same)
 
   steady_return : (cross : List Crossing) → state.cross ≡ cross → IsSteady image (returned image state cross)
   steady_return [] is = record {
     regs = h.regs;
+    words = h.words;
+    zero = h.zero;
+    pc = h.pc;
     active = h.active;
     saved = h.saved;
+    saved_words = h.saved_words;
+    bytes = h.bytes;
     chain = h.chain;
+    kept = h.kept;
     calls = same_calls (End state.active (reg state a0)) refl;
     input = same_input (End state.active (reg state a0)) refl;
   }
   steady_return (x ∷ xs) is =
       let chain : IsChain (length image.comps) state.active (x ∷ xs) = subst (IsChain (length image.comps) state.active) is h.chain in
+      let keeps : All KeepsWords (x ∷ xs) = subst (All KeepsWords) is h.kept in
+      let first : KeepsWords x = All-head KeepsWords x xs keeps in
       let result = has_result image x.callee x.entry in
       let event : Event = Ret state.active x.caller (given_back result state) in
-      let calls : map shape (x ∷ xs) ≡ opened state.trace = subst (λ cross. map shape cross ≡ opened state.trace) is h.calls in
+      let calls : map call_of (x ∷ xs) ≡ open_calls state.trace = subst (λ cross. map call_of cross ≡ open_calls state.trace) is h.calls in
       record {
         regs = length-written (kept (is_result result) state.regs) sp x.sp ∙ length-kept (is_result result) 0 state.regs ∙ h.regs;
+        words = written_words (kept (is_result result) state.regs) sp x.sp (kept_words (is_result result) 0 state.regs h.words) first.sp;
+        zero = written_zero (kept (is_result result) state.regs) sp x.sp (kept_zero (is_result result) 0 state.regs h.zero);
+        pc = first.pc;
         active = chain.2;
         saved = length-set state.saved state.active x.saved ∙ h.saved;
+        saved_words = set_words state.saved state.active x.saved h.saved_words first.saved;
+        bytes = h.bytes;
         chain = chain.3;
-        calls = ap closed calls ∙ sym (opened_more state.trace event);
+        kept = All-tail KeepsWords x xs keeps;
+        calls = ap without_latest calls ∙ sym (open_more state.trace event);
         input = same_input event refl;
       }
 
-  pub steady_step : SteadyAfter image (step image inputs state)
-  steady_step = step_of image inputs state (SteadyAfter image) (record {
-    same = λ a owned. refl;
-    traps = λ reason. tt;
-    quiet = λ regs pc same. record { regs = same ∙ h.regs; active = h.active; saved = h.saved; chain = h.chain; calls = h.calls; input = h.input };
-    stores = λ op a word allowed. record { regs = h.regs; active = h.active; saved = h.saved; chain = h.chain; calls = h.calls; input = h.input };
-    calls = λ to index target at may.
+  module _ (here : IsWord (state.pc + 4)) where
+    steady_call : (to index target : ℕ) → export_at image to target ≡ Some index → may_call image state.active to index ≡ true →
+        IsSteady image (called state to index (params_of image to index) target)
+    steady_call to index target at may =
         let event : Event = Call state.active to index (arguments (params_of image to index) state.regs) in
         let keeps = is_argument (params_of image to index) in
+        let cleared = kept keeps state.regs in
+        let crossing : Crossing = record { caller = state.active; pc = state.pc + 4; sp = reg state sp; callee = to; entry = Export index; saved = saved_sp state to } in
         record {
-          regs =
-              length-written (written (kept keeps state.regs) ra gate) sp (saved_sp state to) ∙ length-written (kept keeps state.regs) ra gate ∙
-              length-kept keeps 0 state.regs ∙ h.regs;
+          regs = length-written (written cleared ra gate) sp (saved_sp state to) ∙ length-written cleared ra gate ∙ length-kept keeps 0 state.regs ∙ h.regs;
+          words =
+              written_words (written cleared ra gate) sp (saved_sp state to)
+              (written_words cleared ra gate (kept_words keeps 0 state.regs h.words) (omega arith)) (h.saved_words to);
+          zero = written_zero (written cleared ra gate) sp (saved_sp state to) (written_zero cleared ra gate (kept_zero keeps 0 state.regs h.zero));
+          pc = entry_address image formed to target index at;
           active = called_there image to target index at;
           saved = length-set state.saved state.active (reg state sp) ∙ h.saved;
+          saved_words = set_words state.saved state.active (reg state sp) h.saved_words (h.words sp);
+          bytes = h.bytes;
           chain = (refl, called_other image state.active to index formed may, h.active, h.chain);
-          calls = ap (λ calls. record { caller = state.active; callee = to; entry = Export index } ∷ calls) h.calls ∙ sym (opened_more state.trace event);
+          kept = All-cons KeepsWords crossing state.cross (record { pc = here; sp = h.words sp; saved = h.saved_words to }) h.kept;
+          calls = ap (λ calls. record { caller = state.active; callee = to; entry = Export index } ∷ calls) h.calls ∙ sym (open_more state.trace event);
           input = same_input event refl;
-        };
-    returns = steady_return state.cross refl;
-    outputs = λ may. record {
-      regs = h.regs;
+        }
+
+    -- with the registers and the pc that a step leads to
+    steady_move : (regs : List ℕ) (pc : ℕ) → length regs ≡ length state.regs → AreWords regs → slice_index regs 0 ≡ 0 → IsWord pc → IsSteady image (record state { regs = regs; pc = pc })
+    steady_move regs pc count words stays place = record {
+      regs = count ∙ h.regs;
+      words = words;
+      zero = stays;
+      pc = place;
       active = h.active;
       saved = h.saved;
+      saved_words = h.saved_words;
+      bytes = h.bytes;
       chain = h.chain;
+      kept = h.kept;
+      calls = h.calls;
+      input = h.input;
+    }
+
+    steady_store : (memory : Memory) → HoldsBytes memory → IsSteady image (record state { pc = state.pc + 4; memory = memory })
+    steady_store memory bytes = record {
+      regs = h.regs;
+      words = h.words;
+      zero = h.zero;
+      pc = here;
+      active = h.active;
+      saved = h.saved;
+      saved_words = h.saved_words;
+      bytes = bytes;
+      chain = h.chain;
+      kept = h.kept;
+      calls = h.calls;
+      input = h.input;
+    }
+
+    steady_output : IsSteady image (with_pc (output state) (state.pc + 4))
+    steady_output = record {
+      regs = h.regs;
+      words = h.words;
+      zero = h.zero;
+      pc = here;
+      active = h.active;
+      saved = h.saved;
+      saved_words = h.saved_words;
+      bytes = h.bytes;
+      chain = h.chain;
+      kept = h.kept;
       calls = same_calls (Out state.active (reg state a0)) refl;
       input = same_input (Out state.active (reg state a0)) refl;
-    };
-    reads = λ may.
+    }
+
+    steady_input : IsSteady image (with_pc (input inputs state) (state.pc + 4))
+    steady_input =
         let word = input_at inputs state.input in
         record {
           regs = length-written state.regs a0 word ∙ h.regs;
+          words = written_words state.regs a0 word h.words (input_word inputs state.input all);
+          zero = written_zero state.regs a0 word h.zero;
+          pc = here;
           active = h.active;
           saved = h.saved;
+          saved_words = h.saved_words;
+          bytes = h.bytes;
           chain = h.chain;
+          kept = h.kept;
           calls = same_calls (In state.active word) refl;
           input = ap suc h.input ∙ sym (read_more state.trace (In state.active word));
-        };
-  })
+        }
+
+    steady_next : SteadyAfter image (step image inputs state)
+    steady_next = step_of image inputs formed state (SteadyAfter image) (record {
+      same = λ a owned. refl;
+      traps = λ reason. tt;
+      quiet = λ regs pc moves. steady_move regs pc moves.count (moves.words here h.words h.bytes) (moves.zero h.zero) (moves.goes here);
+      stores = λ op a word allowed. steady_store (stored state.memory a (store_size op) word) (stored_bytes image formed state.active a (store_size op) word state.memory h.active allowed h.bytes);
+      calls = steady_call;
+      returns = steady_return state.cross refl;
+      outputs = λ may. steady_output;
+      reads = λ may. steady_input;
+    })
+
+  by_fetch : (word : Option ℕ) → word_at image state.active state.pc ≡ word → SteadyAfter image (step image inputs state)
+  by_fetch None at = subst (SteadyAfter image) (sym (step_nowhere image inputs state at)) tt
+  by_fetch (Some word) at = steady_next (in_code image formed state.active state.pc word at).next
+
+  pub steady_step : SteadyAfter image (step image inputs state)
+  steady_step = by_fetch (word_at image state.active state.pc) refl
 
 -- Runs.
 
-module _ (image : ImageParts) (inputs : List ℤ) (formed : IsWellFormed image) (events : ℕ) where
+module _ (image : ImageParts) (inputs : List ℕ) (formed : IsWellFormed image) (all : All IsWord inputs) (events : ℕ) where
   steady_by : (early : Option Stop) (state : State) (later : Run) → IsSteady image state → IsSteady image later.state → IsSteady image (stops_or early state later).state
   steady_by None state later h k = k
   steady_by (Some stop) state later h k = h
@@ -210,18 +264,52 @@ module _ (image : ImageParts) (inputs : List ℤ) (formed : IsWellFormed image) 
   steady_run zero state h = steady_by (stopped events state.trace) state (record { state = state; stop = StepsOut }) h h
   steady_run (suc steps) state h =
       steady_by (stopped events state.trace) state (after state (step image inputs state) (run image inputs events steps)) h
-      (steady_after state (step image inputs state) (run image inputs events steps) h (steady_step image inputs formed state h) (steady_run steps))
+      (steady_after state (step image inputs state) (run image inputs events steps) h (steady_step image inputs formed all state h) (steady_run steps))
+
+-- The start.
+
+stack_tops_words : (c : ℕ) (comps : List CompPart) → c + length comps ≤ 32 → AreWords (stack_tops c comps)
+stack_tops_words c [] few i = omega arith
+stack_tops_words c (comp ∷ comps) few zero = omega (arith, few)
+stack_tops_words c (comp ∷ comps) few (suc i) = stack_tops_words (suc c) comps (omega (arith, few)) i
+
+zeros_words : (n : ℕ) → AreWords (replicate n 0)
+zeros_words zero i = omega arith
+zeros_words (suc n) zero = omega arith
+zeros_words (suc n) (suc i) = zeros_words n i
+
+start_words : (top : ℕ) → IsWord top → AreWords (0 ∷ gate ∷ top ∷ replicate 29 0)
+start_words top h zero = omega arith
+start_words top h (suc zero) = omega arith
+start_words top h (suc (suc zero)) = h
+start_words top h (suc (suc (suc i))) = zeros_words 29 i
 
 pub steady_start : (image : ImageParts) → IsWellFormed image → IsSteady image (start image)
 steady_start image formed = record {
   regs = refl;
+  words = start_words (stack_top image.main) (omega (arith, formed.main, formed.few_comps));
+  zero = refl;
+  pc = code_address image formed image.main image.entry formed.entry;
   active = formed.main;
   saved = length-stack_tops 0 image.comps;
+  saved_words = stack_tops_words 0 image.comps (omega (arith, formed.few_comps));
+  bytes = start_bytes image formed;
   chain = tt;
+  kept = All-nil KeepsWords;
   calls = refl;
   input = refl;
 }
 
-pub reached_steady : (image : ImageParts) (inputs : List ℤ) (state : State) → IsWellFormed image → IsReached image inputs state → IsSteady image state
-reached_steady image inputs state formed reached =
-    subst (IsSteady image) reached.1.1 (steady_run image inputs formed reached.1.0 reached.0 (start image) (steady_start image formed))
+pub reached_steady : (image : ImageParts) (inputs : List ℕ) (state : State) → IsWellFormed image → All IsWord inputs → IsReached image inputs state → IsSteady image state
+reached_steady image inputs state formed all reached =
+    subst (IsSteady image) reached.1.1 (steady_run image inputs formed all reached.1.0 reached.0 (start image) (steady_start image formed))
+
+step_steady_by : (image : ImageParts) (state : State) (outcome : Outcome) → IsSteady image state → SteadyAfter image outcome → IsSteady image (after_outcome state outcome)
+step_steady_by image state (Goes next) h k = k
+step_steady_by image state (Traps reason) h k = h
+
+pub step_steady : (image : ImageParts) (inputs : List ℕ) (state : State) → IsWellFormed image → All IsWord inputs → IsSteady image state → IsSteady image (after_step image inputs state)
+step_steady image inputs state formed all h = step_steady_by image state (step image inputs state) h (steady_step image inputs formed all state h)
+
+pub runs_are_steady : RunsAreSteady
+runs_are_steady = record { first = steady_start; step = step_steady; reached = reached_steady }

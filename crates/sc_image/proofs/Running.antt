@@ -1,5 +1,5 @@
 -- A run may be cut into pieces: it goes on from the state that it stopped in.
-use Rattle.std.proofs.Common.{◌≡◌, ℕ, zero, suc, ◌+◌, ℤ, Bool, List, length, nat_le, Option, Some, None, true, false, if◌then◌else◌, refl, sym, ◌∙◌, ap, subst, zero-add}
+use Rattle.std.proofs.Common.{◌≡◌, ℕ, zero, suc, ◌+◌, Bool, List, length, nat_le, Option, Some, None, true, false, if◌then◌else◌, refl, sym, ◌∙◌, ap, subst, zero-add}
 use Rattle.std.proofs.Math.Nat.{suc-add}
 use Rattle.sc_event.specs.declared.event.Event.{Event}
 use Rattle.sc_base.specs.declared.stop.Stop.{Stop}
@@ -23,30 +23,30 @@ unfolding stopped
 stays events trace stop earlier later h = stays_by (is_ended trace) (nat_le events (length trace)) stop earlier later h
 
 -- it stops with any number of steps
-pub run_stopped : (image : ImageParts) (inputs : List ℤ) (events n : ℕ) (state : State) (stop : Stop) →
+pub run_stopped : (image : ImageParts) (inputs : List ℕ) (events n : ℕ) (state : State) (stop : Stop) →
     stopped events state.trace ≡ Some stop → run image inputs events n state ≡ record { state = state; stop = stop }
 unfolding run
 run_stopped image inputs events zero state stop h = rw h refl
 run_stopped image inputs events (suc n) state stop h = rw h refl
 
 -- it stops for want of steps, goes on by one step, or traps
-pub run_out : (image : ImageParts) (inputs : List ℤ) (events : ℕ) (state : State) →
+pub run_out : (image : ImageParts) (inputs : List ℕ) (events : ℕ) (state : State) →
     stopped events state.trace ≡ None → run image inputs events 0 state ≡ record { state = state; stop = StepsOut }
 unfolding run
 run_out image inputs events state early = rw early refl
 
-pub run_goes : (image : ImageParts) (inputs : List ℤ) (events n : ℕ) (state next : State) →
+pub run_goes : (image : ImageParts) (inputs : List ℕ) (events n : ℕ) (state next : State) →
     stopped events state.trace ≡ None → step image inputs state ≡ Goes next → run image inputs events (suc n) state ≡ run image inputs events n next
 unfolding run
 run_goes image inputs events n state next early goes = rw (early, goes) refl
 
-pub run_traps : (image : ImageParts) (inputs : List ℤ) (events n : ℕ) (state : State) (reason : TrapReason) →
+pub run_traps : (image : ImageParts) (inputs : List ℕ) (events n : ℕ) (state : State) (reason : TrapReason) →
     stopped events state.trace ≡ None → step image inputs state ≡ Traps reason →
     run image inputs events (suc n) state ≡ record { state = state; stop = Trap reason state.pc }
 unfolding run
 run_traps image inputs events n state reason early traps = rw (early, traps) refl
 
-module _ (image : ImageParts) (inputs : List ℤ) (events n : ℕ) where
+module _ (image : ImageParts) (inputs : List ℕ) (events n : ℕ) where
   -- with no steps at first
   none_first : (state : State) (early : Option Stop) → stopped events state.trace ≡ early →
       run image inputs events n state ≡ continued (run image inputs events n) (stops_or early state (record { state = state; stop = StepsOut }))

@@ -1,6 +1,6 @@
 -- What a compartment does follows from its own parts and the events before.
-use Rattle.std.proofs.Common.{◌≡◌, ◌≢◌, ◌↔◌, ℕ, zero, suc, ◌+◌, ◌-◌, ℤ, Bool, true, false, nat_eq, nat_le, nat_lt, ◌&&◌, if◌then◌else◌, List, [], ◌∷◌, ◌++◌, length, map, flat_map, Some, None, refl, sym, ◌∙◌, ap, ap₂, subst, arith}
-use Rattle.std.specs.Prelude.{drop}
+use Rattle.std.proofs.Common.{◌≡◌, ◌≢◌, ◌↔◌, ℕ, zero, suc, ◌+◌, ◌-◌, Bool, true, false, nat_eq, nat_le, nat_lt, ◌&&◌, if◌then◌else◌, List, [], ◌∷◌, ◌++◌, length, map, flat_map, Some, None, refl, sym, ◌∙◌, ap, ap₂, subst, arith}
+use Rattle.std.specs.Prelude.{drop, All}
 use Rattle.std.proofs.lemmas.Bool.{eq-eqb, ne_eqb}
 use Rattle.std.proofs.lemmas.List.{get_or-set_same}
 use Rattle.sc_event.specs.declared.event.Event.{Event}
@@ -8,16 +8,17 @@ use Rattle.sc_event.specs.declared.event.Event.TheVariants.{Call, Ret, Out, In, 
 use Rattle.sc_event.specs.declared.row.Entry.TheVariants.{Export}
 use Rattle.sc_store.specs.Memory.{Memory, byte_of, stored}
 use Rattle.sc_image.specs.declared.parts.ImageParts.{ImageParts}
-use Rattle.sc_image.specs.WellFormed.{IsWellFormed}
+use Rattle.sc_image.specs.WellFormed.{IsWord, IsWellFormed}
 use Rattle.sc_image.specs.Layout.{are_data}
 use Rattle.sc_image.specs.Calls.{params_of, has_result}
 use Rattle.sc_image.specs.State.{State, Crossing, a0, sp, reg, written, saved_sp}
 use Rattle.sc_image.specs.Cross.{called, returned, returned_to, arguments, given_back, input_at}
 use Rattle.sc_image.specs.Step.{Outcome, Goes, Traps, store_size, step}
 use Rattle.sc_image.specs.Own.{Running, Waits, Entered, kept_by, data_of, own}
-use Rattle.sc_image.specs.Isolation.{Adds, FollowsFromOwn, GoesOnSame, IsSilent, AreSilent, shown_by, shown, after_outcome, after_step, after_steps}
+use Rattle.sc_image.specs.Isolation.{Adds, LooksSame, FollowsFromOwn, GoesOnSame, IsSilent, AreSilent, shown_by, shown, after_outcome, after_step, after_steps}
 use Rattle.sc_image.proofs.Cases.{one, other, Cases, step_both}
-use Rattle.sc_image.proofs.Reached.{Opened, shape, inputs_in, IsChain, IsSteady, called_other, reached_steady, steady_step, SteadyAfter}
+use Rattle.sc_image.specs.Steady.{OpenCall, call_of, inputs_in, IsChain, IsSteady}
+use Rattle.sc_image.proofs.Reached.{called_other, steady_step, SteadyAfter}
 use Rattle.sc_image.proofs.Others.{idle_both}
 
 -- Lists.
@@ -48,12 +49,12 @@ stored_same image c a size word memory memory' same = λ i x. stored_at image c 
 
 -- The two states, as the compartment can't tell them apart.
 
-module _ (image : ImageParts) (inputs : List ℤ) (formed : IsWellFormed image) (regs : List ℕ) (pc c place : ℕ) (trace : List Event) (saved saved' : List ℕ) (memory memory' : Memory) (cross cross' : List Crossing) where
+module _ (image : ImageParts) (inputs : List ℕ) (formed : IsWellFormed image) (regs : List ℕ) (pc c place : ℕ) (trace : List Event) (saved saved' : List ℕ) (memory memory' : Memory) (cross cross' : List Crossing) where
   abbrev pub left : State
-  left = one image inputs regs pc c place trace saved saved' memory memory' cross cross'
+  left = one image inputs formed regs pc c place trace saved saved' memory memory' cross cross'
 
   abbrev pub right : State
-  right = other image inputs regs pc c place trace saved saved' memory memory' cross cross'
+  right = other image inputs formed regs pc c place trace saved saved' memory memory' cross cross'
 
   pub record Alike : Type 0 where
     pub left_steady : IsSteady image left
@@ -77,7 +78,7 @@ module _ (image : ImageParts) (inputs : List ℤ) (formed : IsWellFormed image) 
     calls_same : flat_map (kept_by c) cross ≡ flat_map (kept_by c) cross'
     calls_same = ap (λ o. o.calls) h.own_parts
 
-    shapes_same : map shape cross ≡ map shape cross'
+    shapes_same : map call_of cross ≡ map call_of cross'
     shapes_same = h.left_steady.calls ∙ sym h.right_steady.calls
 
     -- the same registers and pc, and perhaps one event more, with the compartment still active
@@ -132,14 +133,14 @@ module _ (image : ImageParts) (inputs : List ℤ) (formed : IsWellFormed image) 
         let chain' : IsChain (length image.comps) c (x' ∷ xs') = subst (IsChain (length image.comps) c) is' h.right_steady.chain in
         let caller : x.caller ≢ c = λ same. chain.1 (same ∙ sym chain.0) in
         let caller' : x'.caller ≢ c = λ same. chain'.1 (same ∙ sym chain'.0) in
-        let shapes : shape x ∷ map shape xs ≡ shape x' ∷ map shape xs' = sym (ap (map shape) is) ∙ shapes_same ∙ ap (map shape) is' in
-        let first : shape x ≡ shape x' = cc shapes in
+        let shapes : call_of x ∷ map call_of xs ≡ call_of x' ∷ map call_of xs' = sym (ap (map call_of) is) ∙ shapes_same ∙ ap (map call_of) is' in
+        let first : call_of x ≡ call_of x' = cc shapes in
         let numbers : Entered x.saved ∷ flat_map (kept_by c) xs ≡ Entered x'.saved ∷ flat_map (kept_by c) xs' =
         ap (λ k. k ++ flat_map (kept_by c) xs) (sym (kept_of_callee x caller chain.0)) ∙ sym (ap (flat_map (kept_by c)) is) ∙ calls_same ∙ ap (flat_map (kept_by c)) is' ∙
         ap (λ k. k ++ flat_map (kept_by c) xs') (kept_of_callee x' caller' chain'.0) in
         let kept : x.saved ≡ x'.saved = cc numbers in
         let rest : flat_map (kept_by c) xs ≡ flat_map (kept_by c) xs' = cc numbers in
-        let event = λ (o : Opened). Ret c o.caller (given_back (has_result image o.callee o.entry) left) in
+        let event = λ (o : OpenCall). Ret c o.caller (given_back (has_result image o.callee o.entry) left) in
         let after = returned_to (has_result image x.callee x.entry) left x xs in
         let after' = returned_to (has_result image x'.callee x'.entry) right x' xs' in
         let sps : saved_sp after c ≡ saved_sp after' c =
@@ -154,18 +155,18 @@ module _ (image : ImageParts) (inputs : List ℤ) (formed : IsWellFormed image) 
             running = idle_both x.caller x'.caller c (record { regs = after.regs; pc = after.pc }) (record { regs = after'.regs; pc = after'.pc }) caller caller' i;
           };
           traces = ap (λ o. trace ++ event o ∷ []) first;
-          stays = λ silent. absurd (loud trace (event (shape x)) silent);
+          stays = λ silent. absurd (loud trace (event (call_of x)) silent);
         }
 
     returns_both : (xs xs' : List Crossing) → cross ≡ xs → cross' ≡ xs' → Follow (Goes (returned image left xs)) (Goes (returned image right xs'))
     returns_both [] [] is is' = on regs pc place (trace ++ End c (reg left a0) ∷ []) (λ m. m) bytes_same
     returns_both [] (x' ∷ xs') is is' =
-        let never : ◌≡◌ {A = List Opened} [] (shape x' ∷ map shape xs') = sym (ap (map shape) is) ∙ shapes_same ∙ ap (map shape) is' in cc never
+        let never : ◌≡◌ {A = List OpenCall} [] (call_of x' ∷ map call_of xs') = sym (ap (map call_of) is) ∙ shapes_same ∙ ap (map call_of) is' in cc never
     returns_both (x ∷ xs) [] is is' =
-        let never : shape x ∷ map shape xs ≡ [] = sym (ap (map shape) is) ∙ shapes_same ∙ ap (map shape) is' in cc never
+        let never : call_of x ∷ map call_of xs ≡ [] = sym (ap (map call_of) is) ∙ shapes_same ∙ ap (map call_of) is' in cc never
     returns_both (x ∷ xs) (x' ∷ xs') is is' = returns_on x x' xs xs' is is'
 
-    cases : Cases image inputs regs pc c place trace saved saved' memory memory' cross cross' Follow
+    cases : Cases image inputs formed regs pc c place trace saved saved' memory memory' cross cross' Follow
     cases = record {
       same = λ a owned. same_at image c a memory memory' bytes_same owned;
       traps = λ reason. record { shows = refl; parts = h.own_parts; traces = refl; stays = λ silent. cc silent };
@@ -179,20 +180,12 @@ module _ (image : ImageParts) (inputs : List ℤ) (formed : IsWellFormed image) 
     }
 
     pub follow : Follow (step image inputs left) (step image inputs right)
-    follow = step_both image inputs regs pc c place trace saved saved' memory memory' cross cross' Follow cases
+    follow = step_both image inputs formed regs pc c place trace saved saved' memory memory' cross cross' Follow cases
 
 -- Any two states.
 
-pub record LooksAlike (image : ImageParts) (c : ℕ) (s t : State) : Type 0 where
-  pub s_steady : IsSteady image s
-  pub t_steady : IsSteady image t
-  pub trace : s.trace ≡ t.trace
-  pub s_active : s.active ≡ c
-  pub t_active : t.active ≡ c
-  pub own_parts : own image s c ≡ own image t c
-
 -- what comes next in both
-pub record Next (image : ImageParts) (inputs : List ℤ) (c : ℕ) (s t : State) : Type 0 where
+pub record Next (image : ImageParts) (inputs : List ℕ) (c : ℕ) (s t : State) : Type 0 where
   pub shows : shown image inputs s ≡ shown image inputs t
   pub parts : own image (after_step image inputs s) c ≡ own image (after_step image inputs t) c
   pub traces : (after_step image inputs s).trace ≡ (after_step image inputs t).trace
@@ -204,16 +197,16 @@ running state = record { regs = state.regs; pc = state.pc }
 running_of : (c active : ℕ) (running : Running) → active ≡ c → (if nat_eq active c then Some running else None) ≡ Some running
 running_of c active running same = rw (eq-eqb active c same) refl
 
-module _ (image : ImageParts) (inputs : List ℤ) (formed : IsWellFormed image) (c : ℕ) where
-  module _ (s t : State) (h : LooksAlike image c s t) where
+module _ (image : ImageParts) (inputs : List ℕ) (formed : IsWellFormed image) (all : All IsWord inputs) (c : ℕ) where
+  module _ (s t : State) (h : LooksSame image c s t) where
     running_same : running s ≡ running t
     running_same =
         let both : Some (running s) ≡ Some (running t) =
-        sym (running_of c s.active (running s) h.s_active) ∙ ap (λ o. o.running) h.own_parts ∙ running_of c t.active (running t) h.t_active in
+        sym (running_of c s.active (running s) h.one_active) ∙ ap (λ o. o.running) h.own_parts ∙ running_of c t.active (running t) h.other_active in
         cc both
 
     input_same : s.input ≡ t.input
-    input_same = h.s_steady.input ∙ ap inputs_in h.trace ∙ sym h.t_steady.input
+    input_same = h.one_steady.input ∙ ap inputs_in h.trace ∙ sym h.other_steady.input
 
     -- both with the same registers, pc, inputs and events, written alike
     abbrev first : State
@@ -223,13 +216,13 @@ module _ (image : ImageParts) (inputs : List ℤ) (formed : IsWellFormed image) 
     second = record { regs = s.regs; pc = s.pc; active = c; saved = t.saved; memory = t.memory; cross = t.cross; input = s.input; trace = s.trace }
 
     first_is : s ≡ first
-    first_is = λ i. record s { active = h.s_active i }
+    first_is = λ i. record s { active = h.one_active i }
 
     second_is : t ≡ second
     second_is = λ i. record {
       regs = sym (ap (λ r. r.regs) running_same) i;
       pc = sym (ap (λ r. r.pc) running_same) i;
-      active = h.t_active i;
+      active = h.other_active i;
       saved = t.saved;
       memory = t.memory;
       cross = t.cross;
@@ -240,8 +233,8 @@ module _ (image : ImageParts) (inputs : List ℤ) (formed : IsWellFormed image) 
     next_written : Next image inputs c first second
     next_written =
         let alike : Alike image inputs formed s.regs s.pc c s.input s.trace s.saved t.saved s.memory t.memory s.cross t.cross = record {
-          left_steady = subst (IsSteady image) first_is h.s_steady;
-          right_steady = subst (IsSteady image) second_is h.t_steady;
+          left_steady = subst (IsSteady image) first_is h.one_steady;
+          right_steady = subst (IsSteady image) second_is h.other_steady;
           own_parts = ap (λ x. own image x c) (sym first_is) ∙ h.own_parts ∙ ap (λ x. own image x c) second_is;
         } in
         let f = follow image inputs formed s.regs s.pc c s.input s.trace s.saved t.saved s.memory t.memory s.cross t.cross alike in
@@ -254,16 +247,16 @@ module _ (image : ImageParts) (inputs : List ℤ) (formed : IsWellFormed image) 
   steady_after s (Goes next) h k = k
   steady_after s (Traps reason) h k = h
 
-  alike_after : (s t : State) → LooksAlike image c s t → IsSilent image inputs s → LooksAlike image c (after_step image inputs s) (after_step image inputs t)
+  alike_after : (s t : State) → LooksSame image c s t → IsSilent image inputs s → LooksSame image c (after_step image inputs s) (after_step image inputs t)
   alike_after s t h silent =
       let n = next_same s t h in
       let stays = n.stays silent in
       record {
-        s_steady = steady_after s (step image inputs s) h.s_steady (steady_step image inputs formed s h.s_steady);
-        t_steady = steady_after t (step image inputs t) h.t_steady (steady_step image inputs formed t h.t_steady);
+        one_steady = steady_after s (step image inputs s) h.one_steady (steady_step image inputs formed all s h.one_steady);
+        other_steady = steady_after t (step image inputs t) h.other_steady (steady_step image inputs formed all t h.other_steady);
         trace = n.traces;
-        s_active = stays.0;
-        t_active = stays.1;
+        one_active = stays.0;
+        other_active = stays.1;
         own_parts = n.parts;
       }
 
@@ -272,7 +265,7 @@ module _ (image : ImageParts) (inputs : List ℤ) (formed : IsWellFormed image) 
       (AreSilent image inputs steps s ↔ AreSilent image inputs steps t) ×
       (AreSilent image inputs steps s → GoesOnSame image inputs c (after_steps image inputs steps s) (after_steps image inputs steps t))
 
-  goes_on : (steps : ℕ) (s t : State) → LooksAlike image c s t → Goal steps s t
+  goes_on : (steps : ℕ) (s t : State) → LooksSame image c s t → Goal steps s t
   goes_on zero s t h =
       let n = next_same s t h in
       (((λ p. tt), (λ p. tt)), λ p. record { own_parts = h.own_parts; next = n.shows; later_parts = n.parts })
@@ -282,13 +275,4 @@ module _ (image : ImageParts) (inputs : List ℤ) (formed : IsWellFormed image) 
       (((λ p. (sym n.shows ∙ p.0, (later p.0).0.0 p.1)), (λ p. (n.shows ∙ p.0, (later (n.shows ∙ p.0)).0.1 p.1))), λ p. (later p.0).1 p.1)
 
 pub follows_from_own : FollowsFromOwn
-follows_from_own image inputs c s t steps formed looks =
-    goes_on image inputs formed c steps s t
-    (record {
-      s_steady = reached_steady image inputs s formed looks.one_reached;
-      t_steady = reached_steady image inputs t formed looks.other_reached;
-      trace = looks.trace;
-      s_active = looks.one_active;
-      t_active = looks.other_active;
-      own_parts = looks.own_parts;
-    })
+follows_from_own image inputs c s t steps formed all looks = goes_on image inputs formed all c steps s t looks

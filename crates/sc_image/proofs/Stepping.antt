@@ -1,5 +1,5 @@
 -- What a step is, by what lies at pc.
-use Rattle.std.proofs.Common.{◌≡◌, ℕ, ℤ, List, Some, None, refl}
+use Rattle.std.proofs.Common.{◌≡◌, ℕ, List, Some, None, refl}
 use Rattle.sc_base.specs.declared.stop.TrapReason.TheVariants.{BadJump, Illegal}
 use Rattle.rv_code.specs.declared.instr.Instr.{Instr}
 use Rattle.rv_code.specs.Decoding.{decoded}
@@ -9,19 +9,19 @@ use Rattle.sc_image.specs.State.{State}
 use Rattle.sc_image.specs.Step.{Traps, execute, step}
 
 -- an instruction
-pub step_executes : (image : ImageParts) (inputs : List ℤ) (state : State) (word : ℕ) (instr : Instr) →
+pub step_executes : (image : ImageParts) (inputs : List ℕ) (state : State) (word : ℕ) (instr : Instr) →
     word_at image state.active state.pc ≡ Some word → decoded word ≡ Some instr → step image inputs state ≡ execute image inputs state instr
 unfolding step
 step_executes image inputs state word instr at is = rw (at, is) refl
 
 -- a word that is none
-pub step_illegal : (image : ImageParts) (inputs : List ℤ) (state : State) (word : ℕ) →
+pub step_illegal : (image : ImageParts) (inputs : List ℕ) (state : State) (word : ℕ) →
     word_at image state.active state.pc ≡ Some word → decoded word ≡ None → step image inputs state ≡ Traps Illegal
 unfolding step
 step_illegal image inputs state word at is = rw (at, is) refl
 
 -- no word
-pub step_nowhere : (image : ImageParts) (inputs : List ℤ) (state : State) →
+pub step_nowhere : (image : ImageParts) (inputs : List ℕ) (state : State) →
     word_at image state.active state.pc ≡ None → step image inputs state ≡ Traps BadJump
 unfolding step
 step_nowhere image inputs state at = rw at refl

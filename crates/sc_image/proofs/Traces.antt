@@ -1,6 +1,6 @@
 -- The trace of a run is one that the image's interfaces allow.
-use Rattle.std.proofs.Common.{◌≡◌, ℕ, zero, suc, ◌-◌, ◌<◌, ◌≤◌, ℤ, Bool, true, false, ◌&&◌, ◌||◌, cond, ltb, if◌then◌else◌, List, [], ◌∷◌, ◌++◌, length, map, drop, replicate, Option, Some, None, refl, sym, ap, subst, ◌∙◌, arith, length-append, inl, inr, ◌⊎◌}
-use Rattle.std.specs.Prelude.{nat_le, ◌==◌, position}
+use Rattle.std.proofs.Common.{◌≡◌, ℕ, zero, suc, ◌-◌, ◌<◌, ◌≤◌, Bool, true, false, ◌&&◌, ◌||◌, cond, ltb, if◌then◌else◌, List, [], ◌∷◌, ◌++◌, length, map, drop, replicate, Option, Some, None, refl, sym, ap, subst, ◌∙◌, arith, length-append, inl, inr, ◌⊎◌}
+use Rattle.std.specs.Prelude.{All, nat_le, ◌==◌, position}
 use Rattle.std.specs.List.{slice_get, list_any, position_or_len}
 use Rattle.std.specs.Option.{option_map_or, option_map, option_and_then}
 use Rattle.std.proofs.lemmas.Bool.{eq-eqb, ltb-true, and_parts, and_from, or_left, or_right, true≢false}
@@ -26,7 +26,7 @@ use Rattle.sc_image.specs.declared.parts.ImageParts.{ImageParts}
 use Rattle.sc_image.specs.declared.parts.CompPart.{CompPart}
 use Rattle.sc_image.specs.declared.parts.ExportPart.{ExportPart}
 use Rattle.sc_image.specs.declared.parts.ImportPart.{ImportPart}
-use Rattle.sc_image.specs.WellFormed.{IsWellFormed}
+use Rattle.sc_image.specs.WellFormed.{IsWord, IsWellFormed}
 use Rattle.sc_image.specs.Calls.{exports_of, params_of, has_result}
 use Rattle.sc_image.specs.State.{State, Crossing, start, a0, reg}
 use Rattle.sc_image.specs.Cross.{arguments, given_back, returned, input_at}
@@ -34,7 +34,8 @@ use Rattle.sc_image.specs.Step.{Outcome, Goes, Traps, step}
 use Rattle.sc_image.specs.Machine.{Run, is_end, is_ended, stopped, stops_or, after, run, machine}
 use Rattle.sc_image.specs.Interfaces.{proto_of, import_of, interface_of, interfaces_of, TracesAreLegal}
 use Rattle.sc_image.proofs.Cases.{step_of}
-use Rattle.sc_image.proofs.Reached.{IsSteady, IsChain, SteadyAfter, steady_start, steady_step}
+use Rattle.sc_image.specs.Steady.{IsSteady, IsChain}
+use Rattle.sc_image.proofs.Reached.{SteadyAfter, steady_start, steady_step}
 
 -- One more event.
 
@@ -199,7 +200,7 @@ position_within test exports index is = by_test (ltb (position_or_len test expor
     by_test true at is = let same : position_or_len test exports ≡ index = cc is in subst (λ (k : ℕ). k < length exports) same (ltb-true _ _ at)
     by_test false at is = let never : ◌≡◌ {A = Option ℕ} None (Some index) = is in cc never
 
-module _ (image : ImageParts) (inputs : List ℤ) (formed : IsWellFormed image) (state : State) (h : IsTraced image state) where
+module _ (image : ImageParts) (inputs : List ℕ) (formed : IsWellFormed image) (all : All IsWord inputs) (state : State) (h : IsTraced image state) where
   -- a state after an event that is allowed, where the run goes on
   goes_on : (event : Event) (next : State) → IsSteady image next → AreOfExports image next.cross → next.trace ≡ state.trace ++ event ∷ [] →
       is_allowed (interfaces_of image) (standing_of state) event ≡ true → stands_after (standing_of state) event ≡ Some (standing_of next) → IsTold image next
@@ -248,7 +249,7 @@ module _ (image : ImageParts) (inputs : List ℤ) (formed : IsWellFormed image) 
       (ap (λ (cross : List Crossing). resumed (waiting_of cross)) is)
 
   told_step : ToldAfter image (step image inputs state)
-  told_step = step_of image inputs state (λ outcome. SteadyAfter image outcome → ToldAfter image outcome) (record {
+  told_step = step_of image inputs formed state (λ outcome. SteadyAfter image outcome → ToldAfter image outcome) (record {
     same = λ a owned. refl;
     traps = λ reason steady. tt;
     quiet = λ regs pc same steady. inl (record { steady = steady; exports = h.exports; legal = h.legal; stands = h.stands });
@@ -274,11 +275,11 @@ module _ (image : ImageParts) (inputs : List ℤ) (formed : IsWellFormed image) 
     reads = λ may steady.
         goes_on (In state.active (input_at inputs state.input)) _ steady h.exports refl
         (and_from (state.active == state.active) _ (eq-eqb state.active state.active refl) (input_said image state.active (slice_get image.comps state.active) refl may)) refl;
-  }) (steady_step image inputs formed state h.steady)
+  }) (steady_step image inputs formed all state h.steady)
 
 -- Runs.
 
-module _ (image : ImageParts) (inputs : List ℤ) (formed : IsWellFormed image) (events : ℕ) where
+module _ (image : ImageParts) (inputs : List ℕ) (formed : IsWellFormed image) (all : All IsWord inputs) (events : ℕ) where
   -- a run that has ended stops
   not_over : (ended full : Bool) → (if ended then Some Ended else if full then Some EventsOut else None) ≡ None → ended ≡ false
   not_over false full is = refl
@@ -304,7 +305,7 @@ module _ (image : ImageParts) (inputs : List ℤ) (formed : IsWellFormed image) 
   told_run zero state h = told_by (stopped events state.trace) state (record { state = state; stop = StepsOut }) refl h (λ is. h)
   told_run (suc steps) state h =
       told_by (stopped events state.trace) state (after state (step image inputs state) (run image inputs events steps)) refl h
-      (λ is. told_after state (step image inputs state) (run image inputs events steps) h (told_step image inputs formed state (goes state h is)) (told_run steps))
+      (λ is. told_after state (step image inputs state) (run image inputs events steps) h (told_step image inputs formed all state (goes state h is)) (told_run steps))
 
 told_start : (image : ImageParts) → IsWellFormed image → IsTold image (start image)
 told_start image formed = inl (record { steady = steady_start image formed; exports = tt; legal = refl; stands = refl })
@@ -314,5 +315,5 @@ told_legal image state (inl traced) = traced.legal
 told_legal image state (inr over) = over.legal
 
 pub all_traces_legal : TracesAreLegal
-all_traces_legal image inputs steps events formed =
-    told_legal image (machine image inputs steps events).state (told_run image inputs formed events steps (start image) (told_start image formed))
+all_traces_legal image inputs steps events formed all =
+    told_legal image (machine image inputs steps events).state (told_run image inputs formed all events steps (start image) (told_start image formed))

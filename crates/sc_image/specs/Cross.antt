@@ -1,10 +1,8 @@
 -- What passes between compartments, and between a compartment and the environment: calls, returns, outputs and inputs.
 -- Numbers alone pass: every register that isn't named here is 0 on the other side.
-use Rattle.std.specs.Prelude.{ℕ, suc, ℤ, ◌+◌, Bool, ◌&&◌, nat_eq, nat_le, nat_lt, List, [], ◌∷◌, ◌++◌, take, drop, slice_get, slice_set, Option, Some, None, if◌then◌else◌}
-use Rattle.std.specs.Option.{option_map_or}
+use Rattle.std.specs.Prelude.{ℕ, suc, ◌+◌, Bool, ◌&&◌, nat_eq, nat_le, nat_lt, List, [], ◌∷◌, ◌++◌, take, drop, slice_get, slice_set, Option, Some, None, unwrap_or, if◌then◌else◌}
 use Rattle.sc_event.specs.declared.event.Event.TheVariants.{Call, Ret, Out, In, End}
 use Rattle.sc_event.specs.declared.row.Entry.TheVariants.{Export}
-use Rattle.sc_word.specs.Word.{word_of}
 use Rattle.sc_image.specs.declared.parts.ImageParts.{ImageParts}
 use Rattle.sc_image.specs.Layout.{gate}
 use Rattle.sc_image.specs.Calls.{has_result}
@@ -90,11 +88,11 @@ abbrev pub output : State → State
 output state = with_event state (Out state.active (reg state a0))
 
 -- the input of that number, and 0 after the last
-abbrev pub input_at : List ℤ → ℕ → ℕ
-input_at inputs k = option_map_or word_of (slice_get inputs k) 0
+abbrev pub input_at : List ℕ → ℕ → ℕ
+input_at inputs k = unwrap_or (slice_get inputs k) 0
 
 -- the next input comes into a0
-abbrev pub input : List ℤ → State → State
+abbrev pub input : List ℕ → State → State
 input inputs state =
     let word = input_at inputs state.input in
     let read : State = record (with_reg state a0 word) { input = suc state.input } in with_event read (In state.active word)

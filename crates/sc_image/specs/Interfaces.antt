@@ -1,5 +1,7 @@
 -- What an image says to the outside: the interfaces of its compartments, where every word is an `int`, and that its runs keep them.
-use Rattle.std.specs.Prelude.{◌≡◌, ℕ, ℤ, true, List, [], ◌∷◌, ◌++◌, map, replicate, Some, None, if◌then◌else◌}
+use Rattle.std.specs.Prelude.{◌≡◌, ℕ, All, true, List, [], ◌∷◌, ◌++◌, map, replicate, Some, None, if◌then◌else◌}
+use Rattle.std.specs.Option.{option_map}
+use Rattle.sc_event.specs.declared.event.Event.{Event}
 use Rattle.sc_event.specs.declared.interface.Import.{Import}
 use Rattle.sc_event.specs.declared.interface.Import.TheVariants.{Input, Output, Function}
 use Rattle.sc_event.specs.declared.interface.Interface.{Interface}
@@ -11,7 +13,7 @@ use Rattle.sc_image.specs.declared.parts.ImageParts.{ImageParts}
 use Rattle.sc_image.specs.declared.parts.CompPart.{CompPart}
 use Rattle.sc_image.specs.declared.parts.ExportPart.{ExportPart}
 use Rattle.sc_image.specs.declared.parts.ImportPart.{ImportPart}
-use Rattle.sc_image.specs.WellFormed.{IsWellFormed}
+use Rattle.sc_image.specs.WellFormed.{IsWord, IsWellFormed}
 use Rattle.sc_image.specs.Machine.{machine}
 
 abbrev pub proto_of : ExportPart → Proto
@@ -33,5 +35,20 @@ interfaces_of image = record { comps = map interface_of image.comps; main = imag
 -- A run's trace is one that the image's interfaces allow, wherever the run stops.
 abbrev pub TracesAreLegal : Type 0
 TracesAreLegal =
-    (image : ImageParts) (inputs : List ℤ) (steps events : ℕ) → IsWellFormed image →
+    (image : ImageParts) (inputs : List ℕ) (steps events : ℕ) → IsWellFormed image → All IsWord inputs →
     legal (interfaces_of image) (machine image inputs steps events).state.trace ≡ true
+
+-- The same interfaces with `int` in place of every scalar, as an image says them.
+
+abbrev pub word_proto : Proto → Proto
+word_proto proto = record { name = proto.name; params = map (λ param. Int) proto.params; result = option_map (λ result. Int) proto.result }
+
+abbrev pub word_interface : Interface → Interface
+word_interface interface = record { name = interface.name; exports = map word_proto interface.exports; imports = interface.imports }
+
+abbrev pub word_interfaces : Interfaces → Interfaces
+word_interfaces interfaces = record { comps = map word_interface interfaces.comps; main = interfaces.main }
+
+-- Which traces are legal doesn't look at the types of scalars.
+abbrev pub LegalByWords : Type 0
+LegalByWords = (interfaces : Interfaces) (trace : List Event) → legal (word_interfaces interfaces) trace ≡ legal interfaces trace

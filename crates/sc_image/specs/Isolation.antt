@@ -1,16 +1,19 @@
 -- What isolates the compartments of an image: three laws of the machine's steps.
-use Rattle.std.specs.Prelude.{◌≡◌, ◌≢◌, ◌↔◌, ℕ, zero, suc, ℤ, List, [], ◌∷◌, ◌++◌, length, drop}
+use Rattle.std.specs.Prelude.{◌≡◌, ◌≢◌, ◌↔◌, ℕ, zero, suc, Bool, true, false, ◌==◌, List, [], ◌∷◌, length, drop, All}
+use Rattle.std.specs.List.{list_any}
 use Rattle.sc_event.specs.declared.event.Event.{Event}
+use Rattle.sc_event.specs.declared.event.Event.TheVariants.{Call, Ret, Out, In, End}
 use Rattle.sc_base.specs.declared.stop.TrapReason.{TrapReason}
 use Rattle.sc_image.specs.declared.parts.ImageParts.{ImageParts}
-use Rattle.sc_image.specs.WellFormed.{IsWellFormed}
-use Rattle.sc_image.specs.State.{State}
+use Rattle.sc_image.specs.WellFormed.{IsWord, IsWellFormed}
+use Rattle.sc_image.specs.State.{State, start}
 use Rattle.sc_image.specs.Step.{Outcome, Goes, Traps, step}
 use Rattle.sc_image.specs.Machine.{machine}
 use Rattle.sc_image.specs.Own.{Own, own}
+use Rattle.sc_image.specs.Steady.{IsSteady}
 
 -- a run with these inputs comes to this state
-abbrev pub IsReached : ImageParts → List ℤ → State → Type 0
+abbrev pub IsReached : ImageParts → List ℕ → State → Type 0
 IsReached image inputs state = (steps : ℕ) × ((events : ℕ) × ((machine image inputs steps events).state ≡ state))
 
 -- what a step shows: the events that it adds, or its trap
@@ -22,7 +25,7 @@ abbrev pub shown_by : State → Outcome → Shown
 shown_by state (Goes next) = Adds (drop (length state.trace) next.trace)
 shown_by state (Traps reason) = Stops reason
 
-abbrev pub shown : ImageParts → List ℤ → State → Shown
+abbrev pub shown : ImageParts → List ℕ → State → Shown
 shown image inputs state = shown_by state (step image inputs state)
 
 -- the state after a step: a trap leaves it
@@ -30,40 +33,54 @@ abbrev pub after_outcome : State → Outcome → State
 after_outcome state (Goes next) = next
 after_outcome state (Traps reason) = state
 
-abbrev pub after_step : ImageParts → List ℤ → State → State
+abbrev pub after_step : ImageParts → List ℕ → State → State
 after_step image inputs state = after_outcome state (step image inputs state)
 
 -- a step is silent where it adds no event and doesn't trap
-abbrev pub IsSilent : ImageParts → List ℤ → State → Type 0
+abbrev pub IsSilent : ImageParts → List ℕ → State → Type 0
 IsSilent image inputs state = shown image inputs state ≡ Adds []
 
 -- so many steps from a state on are silent
-abbrev pub AreSilent : ImageParts → List ℤ → (steps : ℕ) → State → Type 0
+abbrev pub AreSilent : ImageParts → List ℕ → (steps : ℕ) → State → Type 0
 AreSilent image inputs zero state = Unit {0}
 AreSilent image inputs (suc steps) state = IsSilent image inputs state × AreSilent image inputs steps (after_step image inputs state)
 
 -- the state after so many steps
-abbrev pub after_steps : ImageParts → List ℤ → (steps : ℕ) → State → State
+abbrev pub after_steps : ImageParts → List ℕ → (steps : ℕ) → State → State
 after_steps image inputs zero state = state
 after_steps image inputs (suc steps) state = after_steps image inputs steps (after_step image inputs state)
 
--- A step leaves what belongs to every compartment but the active one as it was, unless it makes it active.
+-- a call of compartment d, or a return to it
+abbrev pub activates : ℕ → Event → Bool
+activates d (Call from to index args) = to == d
+activates d (Ret from to value) = to == d
+activates d (Out comp value) = false
+activates d (In comp value) = false
+activates d (End comp value) = false
+
+-- a step shows an event that makes d active
+abbrev pub shows_entry : ℕ → Shown → Bool
+shows_entry d (Adds events) = list_any (activates d) events
+shows_entry d (Stops reason) = false
+
+-- A step leaves what belongs to every compartment but the active one as it was, unless its event is a call or a return that makes that one active.
 abbrev pub LeavesOthers : Type 0
 LeavesOthers =
-    (image : ImageParts) (inputs : List ℤ) (state : State) (d : ℕ) → IsWellFormed image → IsReached image inputs state →
-    d ≢ state.active → d ≢ (after_step image inputs state).active → own image (after_step image inputs state) d ≡ own image state d
+    (image : ImageParts) (inputs : List ℕ) (state : State) (d : ℕ) → IsWellFormed image → IsSteady image state →
+    d ≢ state.active → shows_entry d (shown image inputs state) ≡ false → own image (after_step image inputs state) d ≡ own image state d
 
--- two states that a compartment can't tell apart: it is active in both, with the same events before and the same own parts
-pub record LooksSame (image : ImageParts) (inputs : List ℤ) (c : ℕ) (one other : State) : Type 0 where
-  pub one_reached : IsReached image inputs one
-  pub other_reached : IsReached image inputs other
+-- Two states that a compartment can't tell apart: it is active in both, with the same events before and the same own parts. So the same
+-- calls are open. All that belongs to others may differ: their data, their saved sps and their numbers on the cross stack.
+pub record LooksSame (image : ImageParts) (c : ℕ) (one other : State) : Type 0 where
+  pub one_steady : IsSteady image one
+  pub other_steady : IsSteady image other
   pub trace : one.trace ≡ other.trace
   pub one_active : one.active ≡ c
   pub other_active : other.active ≡ c
   pub own_parts : own image one c ≡ own image other c
 
 -- after so many silent steps from both, the compartment's own parts are the same, and so is what comes next
-pub record GoesOnSame (image : ImageParts) (inputs : List ℤ) (c : ℕ) (one other : State) : Type 0 where
+pub record GoesOnSame (image : ImageParts) (inputs : List ℕ) (c : ℕ) (one other : State) : Type 0 where
   pub own_parts : own image one c ≡ own image other c
   pub next : shown image inputs one ≡ shown image inputs other
   pub later_parts : own image (after_step image inputs one) c ≡ own image (after_step image inputs other) c
@@ -71,7 +88,7 @@ pub record GoesOnSame (image : ImageParts) (inputs : List ℤ) (c : ℕ) (one ot
 -- What a compartment does until the next event, and that event, follow from its own parts and the events before.
 abbrev pub FollowsFromOwn : Type 0
 FollowsFromOwn =
-    (image : ImageParts) (inputs : List ℤ) (c : ℕ) (one other : State) (steps : ℕ) → IsWellFormed image → LooksSame image inputs c one other →
+    (image : ImageParts) (inputs : List ℕ) (c : ℕ) (one other : State) (steps : ℕ) → IsWellFormed image → All IsWord inputs → LooksSame image c one other →
     (AreSilent image inputs steps one ↔ AreSilent image inputs steps other) ×
     (AreSilent image inputs steps one →
     GoesOnSame image inputs c (after_steps image inputs steps one) (after_steps image inputs steps other))
@@ -81,6 +98,14 @@ abbrev pub EntersByEvent : Type 0
 EntersByEvent =
     (image : ImageParts) (d : ℕ) → IsWellFormed image →
     (entered : Own → Event → Own) ×
-    ((inputs : List ℤ) (state : State) (event : Event) → IsReached image inputs state → d ≢ state.active →
-    (after_step image inputs state).active ≡ d → (after_step image inputs state).trace ≡ state.trace ++ event ∷ [] →
+    ((inputs : List ℕ) (state : State) (event : Event) → IsSteady image state → d ≢ state.active →
+    shown image inputs state ≡ Adds (event ∷ []) → activates d event ≡ true →
     own image (after_step image inputs state) d ≡ entered (own image state d) event)
+
+-- The start is steady, each step from a steady state leads to one, and so every state that a run reaches is steady.
+pub record RunsAreSteady : Type 0 where
+  pub first : (image : ImageParts) → IsWellFormed image → IsSteady image (start image)
+  pub step : (image : ImageParts) (inputs : List ℕ) (state : State) → IsWellFormed image → All IsWord inputs →
+      IsSteady image state → IsSteady image (after_step image inputs state)
+  pub reached : (image : ImageParts) (inputs : List ℕ) (state : State) → IsWellFormed image → All IsWord inputs →
+      IsReached image inputs state → IsSteady image state

@@ -7,7 +7,9 @@ pub mod Cross
 pub mod Step
 pub mod Machine
 pub mod Own
+pub mod Steady
 pub mod Isolation
+pub mod Walks
 pub mod Rules
 pub mod Reading
 pub mod RoundTrip

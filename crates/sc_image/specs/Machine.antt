@@ -1,5 +1,5 @@
 -- A run: steps until something stops it.
-use Rattle.std.specs.Prelude.{ℕ, zero, suc, ℤ, Bool, true, false, nat_le, ◌-◌, List, length, slice_get, Option, Some, None, if◌then◌else◌}
+use Rattle.std.specs.Prelude.{ℕ, zero, suc, Bool, true, false, nat_le, ◌-◌, List, length, slice_get, Option, Some, None, if◌then◌else◌}
 use Rattle.std.specs.Option.{option_map_or}
 use Rattle.sc_event.specs.declared.event.Event.{Event}
 use Rattle.sc_event.specs.declared.event.Event.TheVariants.{End}
@@ -37,13 +37,13 @@ after state (Goes next) run = run next
 after state (Traps reason) run = record { state = state; stop = Trap reason state.pc }
 
 -- at most so many steps from a state on, with room for so many events in the whole trace
-unfoldable pub run : ImageParts → List ℤ → (events steps : ℕ) → State → Run
+unfoldable pub run : ImageParts → List ℕ → (events steps : ℕ) → State → Run
 run image inputs events zero state = stops_or (stopped events state.trace) state (record { state = state; stop = StepsOut })
 run image inputs events (suc steps) state =
     stops_or (stopped events state.trace) state (after state (step image inputs state) (run image inputs events steps))
 
 -- at most so many steps from the start
-abbrev pub machine : ImageParts → List ℤ → (steps events : ℕ) → Run
+abbrev pub machine : ImageParts → List ℕ → (steps events : ℕ) → Run
 machine image inputs steps events = run image inputs events steps (start image)
 
 -- a run with more steps: it goes on where it stopped for want of steps alone

@@ -166,7 +166,7 @@ jalr_target base imm = add_word base (word_of imm) / 2 * 2
 -- The environment.
 
 -- a7 says what is called: 1 is `input`, 2 is `output`
-abbrev pub environment_call : ImageParts → List ℤ → State → Outcome
+abbrev pub environment_call : ImageParts → List ℕ → State → Outcome
 environment_call image inputs state =
     if nat_eq (reg state a7) 1 then (if may_input image state.active then next (input inputs state) else Traps NoImport)
     else if nat_eq (reg state a7) 2 then (if may_output image state.active then next (output state) else Traps NoImport)
@@ -174,7 +174,7 @@ environment_call image inputs state =
 
 -- The step.
 
-unfoldable pub execute : ImageParts → List ℤ → State → Instr → Outcome
+unfoldable pub execute : ImageParts → List ℕ → State → Instr → Outcome
 execute image inputs state (Upper Lui rd imm) = gives state rd imm
 execute image inputs state (Upper Auipc rd imm) = gives state rd (add_word state.pc imm)
 execute image inputs state (Jal rd imm) =
@@ -193,15 +193,15 @@ execute image inputs state Ecall = environment_call image inputs state
 execute image inputs state Ebreak = Traps Breakpoint
 
 -- the word of an instruction, if it is one
-abbrev pub if_decoded : ImageParts → List ℤ → State → Option Instr → Outcome
+abbrev pub if_decoded : ImageParts → List ℕ → State → Option Instr → Outcome
 if_decoded image inputs state None = Traps Illegal
 if_decoded image inputs state (Some instr) = execute image inputs state instr
 
 -- a word of the own code, if pc is at one
-abbrev pub if_fetched : ImageParts → List ℤ → State → Option ℕ → Outcome
+abbrev pub if_fetched : ImageParts → List ℕ → State → Option ℕ → Outcome
 if_fetched image inputs state None = Traps BadJump
 if_fetched image inputs state (Some word) = if_decoded image inputs state (decoded word)
 
 -- the instruction at pc
-unfoldable pub step : ImageParts → List ℤ → State → Outcome
+unfoldable pub step : ImageParts → List ℕ → State → Outcome
 step image inputs state = if_fetched image inputs state (word_at image state.active state.pc)

@@ -1,8 +1,9 @@
 //! Laws of images and of the machine that runs them. Each law is the contract of a function with nothing to do, for the
 //! proofs of callers.
 
-ghost use Rattle.sc_image.specs.Interfaces.{TracesAreLegal};
-ghost use Rattle.sc_image.specs.Isolation.{LeavesOthers, FollowsFromOwn, EntersByEvent};
+ghost use Rattle.sc_image.specs.Interfaces.{TracesAreLegal, LegalByWords};
+ghost use Rattle.sc_image.specs.Isolation.{LeavesOthers, FollowsFromOwn, EntersByEvent, RunsAreSteady};
+ghost use Rattle.sc_image.specs.Walks.{StretchesCompose, StepsByInstruction, ImageInMemory};
 ghost use Rattle.sc_image.specs.RoundTrip.{BytesNameOneImage, BadOrImage};
 
 /// Bytes are those of one image at most.
@@ -20,13 +21,25 @@ pub fn traces_are_legal()
     ensures { TracesAreLegal }
 {}
 
-/// A step leaves what belongs to every compartment but the active one, unless it makes it active.
+/// Which traces are legal doesn't look at the types of scalars.
+pub fn legal_by_words()
+    ensures { LegalByWords }
+{}
+
+/// A run starts in a steady state, and a step from a steady state leads to one. The laws below hold
+/// of all steady states, and so of all that a run reaches.
+pub fn runs_are_steady()
+    ensures { RunsAreSteady }
+{}
+
+/// A step leaves what belongs to every compartment but the active one, unless its event is a call
+/// or a return that makes that one active.
 pub fn leaves_others()
     ensures { LeavesOthers }
 {}
 
 /// What a compartment does until the next event, and that event, follow from its own parts and the
-/// events before.
+/// events before: the two states may differ in all that belongs to others.
 pub fn follows_from_own()
     ensures { FollowsFromOwn }
 {}
@@ -35,4 +48,19 @@ pub fn follows_from_own()
 /// it before and from that event.
 pub fn enters_by_event()
     ensures { EntersByEvent }
+{}
+
+/// Stretches of a run follow one another, and a run goes along them.
+pub fn stretches_compose()
+    ensures { StretchesCompose }
+{}
+
+/// What a step is, by the instruction at the pc.
+pub fn steps_by_instruction()
+    ensures { StepsByInstruction }
+{}
+
+/// Where an image's words of code and bytes of data stand at the start.
+pub fn image_in_memory()
+    ensures { ImageInMemory }
 {}

@@ -14,13 +14,11 @@ pub use fault::{BadImage, ImageFault};
 pub use image::Image;
 pub use interfaces::image_interfaces;
 pub use laws::{
-    bad_or_image, enters_by_event, follows_from_own, leaves_others, one_image, traces_are_legal,
+    bad_or_image, enters_by_event, follows_from_own, image_in_memory, leaves_others,
+    legal_by_words, one_image, runs_are_steady, steps_by_instruction, stretches_compose, traces_are_legal,
 };
 pub use parts::{
     CompPart, CompParts, ExportPart, ExportParts, ImageParts, ImportPart, ImportParts,
 };
 pub use reading::read_image;
 pub use writing::write_image;
-
-#[cfg(test)]
-mod tests;

@@ -34,14 +34,14 @@ leaves_by image state rd target h =
     (λ not_zero. rw (ne_eqb rd 0 not_zero) refl)
     (cases_eq rd 0)
 
-pub jalr_jumps : (image : ImageParts) (inputs : List ℤ) (state : State) (rd rs1 : ℕ) (imm : ℤ) (sum : ℕ) →
+pub jalr_jumps : (image : ImageParts) (inputs : List ℕ) (state : State) (rd rs1 : ℕ) (imm : ℤ) (sum : ℕ) →
     sum ≡ add_word (reg state rs1) (word_of imm) → (rd ≡ 0 → sum / 2 * 2 ≡ gate → ⊥) →
     execute image inputs state (Jalr rd rs1 imm) ≡ jump image state rd (sum / 2 * 2) (calls image state rd (sum / 2 * 2))
 unfolding execute
 jalr_jumps image inputs state rd rs1 imm sum is h =
     rw (sym is) (ap (jump image state rd (sum / 2 * 2)) (leaves_by image state rd (sum / 2 * 2) h))
 
-pub jalr_returns : (image : ImageParts) (inputs : List ℤ) (state : State) (rd rs1 : ℕ) (imm : ℤ) (sum : ℕ) →
+pub jalr_returns : (image : ImageParts) (inputs : List ℕ) (state : State) (rd rs1 : ℕ) (imm : ℤ) (sum : ℕ) →
     sum ≡ add_word (reg state rs1) (word_of imm) → rd ≡ 0 → sum / 2 * 2 ≡ gate →
     execute image inputs state (Jalr rd rs1 imm) ≡ Goes (returned image state state.cross)
 unfolding execute

@@ -4,6 +4,5 @@ pub mod Start
 pub mod Jumps
 pub mod Crossings
 pub mod Callees
+pub mod Imports
 pub mod Runs
-pub mod Alone
-pub mod Pair

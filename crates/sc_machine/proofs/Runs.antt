@@ -1,5 +1,5 @@
 -- Runs, step by step and call by call.
-use Rattle.std.proofs.Common.{◌≡◌, ℕ, suc, ◌+◌, ◌<◌, ℤ, Bool, true, false, nat_le, if◌then◌else◌, List, [], ◌∷◌, length, sum, Option, Some, None, refl, sym, ◌∙◌, ap, add_assoc, add-zero}
+use Rattle.std.proofs.Common.{◌≡◌, ℕ, suc, ◌+◌, ◌<◌, Bool, true, false, nat_le, if◌then◌else◌, List, [], ◌∷◌, length, sum, Option, Some, None, refl, sym, ◌∙◌, ap, add_assoc, add-zero}
 use Rattle.std.specs.Prelude.{fold, unwrap_or}
 use Rattle.std.proofs.lemmas.Bool.{leb-false}
 use Rattle.sc_event.specs.declared.event.Event.{Event}
@@ -26,7 +26,7 @@ unfolding stopped
 room_left events trace early = room_by events trace (is_ended trace) (nat_le events (length trace)) refl early
 
 -- the last steps of a run
-module _ (image : ImageParts) (inputs : List ℤ) (events : ℕ) (state : State) where
+module _ (image : ImageParts) (inputs : List ℕ) (events : ℕ) (state : State) where
   no_more : (early : Option Stop) →
       ◌≡◌ {A = Run} (stops_or early state (record { state = state; stop = StepsOut })) (record { state = state; stop = unwrap_or early StepsOut })
   no_more None = refl
@@ -48,7 +48,7 @@ module _ (image : ImageParts) (inputs : List ℤ) (events : ℕ) (state : State)
 
 -- Calls.
 
-module _ (image : ImageParts) (inputs : List ℤ) (events : ℕ) (state : State) where
+module _ (image : ImageParts) (inputs : List ℕ) (events : ℕ) (state : State) where
   later_calls : (n : ℕ) (more : List ℕ) →
       fold (λ earlier m. continued (run image inputs events m) earlier) (run image inputs events n state) more ≡ run image inputs events (n + sum more) state
   later_calls n [] = ap (λ k. run image inputs events k state) (sym (add-zero n))
@@ -56,6 +56,6 @@ module _ (image : ImageParts) (inputs : List ℤ) (events : ℕ) (state : State)
       ap (λ r. fold (λ earlier m. continued (run image inputs events m) earlier) r more) (sym (run_more image inputs events m n state)) ∙
       later_calls (n + m) more ∙ ap (λ k. run image inputs events k state) (add_assoc n m (sum more) ∙ ap (λ k. n + k) (sym (sum_by-cons (λ x. x) m more)))
 
-pub any_calls : (image : ImageParts) (inputs : List ℤ) (events first : ℕ) (more : List ℕ) →
+pub any_calls : (image : ImageParts) (inputs : List ℕ) (events first : ℕ) (more : List ℕ) →
     calls image inputs events (first ∷ more) ≡ machine image inputs (first + sum more) events
 any_calls image inputs events first more = later_calls image inputs events (start image) first more

@@ -1,5 +1,5 @@
 -- A run that is made by several calls.
-use Rattle.std.specs.Prelude.{ℕ, ℤ, List, fold}
+use Rattle.std.specs.Prelude.{ℕ, List, fold}
 use Rattle.sc_base.specs.declared.stop.Stop.TheVariants.{StepsOut}
 use Rattle.sc_image.specs.declared.parts.ImageParts.{ImageParts}
 use Rattle.sc_image.specs.State.{start}
@@ -10,5 +10,5 @@ abbrev pub loaded : ImageParts → Run
 loaded image = record { state = start image; stop = StepsOut }
 
 -- the run after a list of calls, each with at most so many steps more
-abbrev pub calls : ImageParts → List ℤ → (events : ℕ) → (steps : List ℕ) → Run
+abbrev pub calls : ImageParts → List ℕ → (events : ℕ) → (steps : List ℕ) → Run
 calls image inputs events steps = fold (λ earlier more. continued (run image inputs events more) earlier) (loaded image) steps

@@ -1,5 +1,5 @@
 -- A loaded machine, as contracts see it.
-use Rattle.std.specs.Prelude.{ℕ, ℤ, List}
+use Rattle.std.specs.Prelude.{ℕ, List}
 use Rattle.sc_event.specs.declared.event.Event.{Event}
 use Rattle.sc_base.specs.declared.stop.Stop.{Stop}
 use Rattle.sc_store.specs.Memory.{Memory}
@@ -10,7 +10,7 @@ use Rattle.sc_image.specs.Machine.{Run}
 -- what a machine was loaded with, and how far its run is
 pub record Progress (S : Type 0) : Type 0 where
   pub image : ImageParts
-  pub inputs : List ℤ
+  pub inputs : List ℕ
   pub events : ℕ
   -- x0 to x31
   pub registers : List ℕ

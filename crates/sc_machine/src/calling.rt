@@ -25,11 +25,11 @@ use std::alloc::Global;
 pub(crate) struct Callee {
     /// The address where it begins.
     pub entry: u32,
-    comp: CompId,
+    pub comp: CompId,
     /// Its place among the exports of its compartment.
-    index: u16,
+    pub index: u16,
     /// How many words it takes.
-    params: u8,
+    pub params: u8,
 }
 
 /// A jump out of the own code, to an address that is a multiple of 4. It is a call where the address
@@ -66,7 +66,7 @@ pub(crate) fn call_out(
 }
 
 /// The function that begins at an address, if the compartment may call it.
-pub(crate) fn find_callee(image: &Image, caller: CompId, target: u32) -> Result<Callee, TrapReason>
+fn find_callee(image: &Image, caller: CompId, target: u32) -> Result<Callee, TrapReason>
     requires { IsWellFormed image.now }
     ensures callee { IfOk result (IsCallee image.now caller) }
     ensures entry { IfOk result (λ callee. callee.entry ≡ target) }

@@ -1,6 +1,7 @@
 //! Calls of the environment.
 
-ghost use Rattle.std.specs.Prelude.{◌≡◌, ◌+◌, ◌^◌, ◌<◌, ◌≤◌, ℕ, length, OnErr};
+ghost use Rattle.std.specs.Prelude.{◌≡◌, ◌+◌, ◌^◌, ◌<◌, ◌≤◌, ℕ, length, map, OnErr};
+ghost use Rattle.sc_word.specs.Word.{word_of};
 ghost use Rattle.sc_store.specs.Memory.{Memory};
 ghost use Rattle.sc_image.specs.declared.parts.ImageParts.{ImageParts};
 ghost use Rattle.sc_image.specs.Calls.{may_input, may_output};
@@ -31,7 +32,7 @@ pub(crate) fn environment_call(
     requires here { here.now.comp ≡ hart.old.active }
     requires sound { IsSound here.now.image hart.old }
     requires room { HasRoomForOne hart.old }
-    ensures outcome { (memory : Memory) → outcome_of result (state_in memory hart.new) ≡ environment_call here.now.image inputs.now (state_in memory hart.old) }
+    ensures outcome { (memory : Memory) → outcome_of result (state_in memory hart.new) ≡ environment_call here.now.image (map word_of inputs.now) (state_in memory hart.old) }
     ensures trap { OnErr result (hart.new ≡ hart.old) }
     ensures sound { IsSound here.now.image hart.new }
     ensures room { (events : ℕ) → HasRoom events hart.old → HasRoom events hart.new }
@@ -67,7 +68,7 @@ fn output(hart: &mut Hart)
 
 /// The input of that number as a word, and 0 after the last.
 fn input_at(inputs: &[i32], number: usize) -> u32
-    ensures { result ≡ input_at inputs.now number }
+    ensures { result ≡ input_at (map word_of inputs.now) number }
 {
     match inputs.get(number) {
         Some(input) => input.cast_unsigned(),
@@ -80,7 +81,7 @@ fn input(inputs: &[i32], hart: &mut Hart)
     requires pc { hart.old.core.pc + 4 < 2 ^ 32 }
     requires count { hart.old.input ≤ length hart.old.trace.items }
     requires room { HasRoomForOne hart.old }
-    ensures state { (memory : Memory) → Goes (state_in memory hart.new) ≡ next (input inputs.now (state_in memory hart.old)) }
+    ensures state { (memory : Memory) → Goes (state_in memory hart.new) ≡ next (input (map word_of inputs.now) (state_in memory hart.old)) }
     ensures sound { (image : ImageParts) → IsSound image hart.old → IsSound image hart.new }
     ensures room { (events : ℕ) → HasRoom events hart.old → HasRoom events hart.new }
 {

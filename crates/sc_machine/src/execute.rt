@@ -1,6 +1,7 @@
 //! One step, by the instruction at the pc. A step that can't be made changes nothing.
 
-ghost use Rattle.std.specs.Prelude.{◌≡◌, ◌+◌, ◌^◌, ◌<◌, ℕ, OnErr};
+ghost use Rattle.std.specs.Prelude.{◌≡◌, ◌+◌, ◌^◌, ◌<◌, ℕ, map, OnErr};
+ghost use Rattle.sc_word.specs.Word.{word_of};
 ghost use Rattle.sc_image.specs.Step.{execute, step};
 ghost use Rattle.sc_machine.specs.Hart.{state_in, outcome_of, IsSound, HasRoom, HasRoomForOne, IsBacked};
 
@@ -25,7 +26,7 @@ pub(crate) fn step<S: Store>(
     requires sound { IsSound here.now.image hart.old }
     requires backed { IsBacked here.now.image (S.bytes memory.old) }
     requires room { HasRoomForOne hart.old }
-    ensures outcome { outcome_of result (state_in (S.bytes memory.new) hart.new) ≡ step here.now.image inputs.now (state_in (S.bytes memory.old) hart.old) }
+    ensures outcome { outcome_of result (state_in (S.bytes memory.new) hart.new) ≡ step here.now.image (map word_of inputs.now) (state_in (S.bytes memory.old) hart.old) }
     ensures trap { OnErr result (hart.new ≡ hart.old) }
     ensures memory { OnErr result (S.bytes memory.new ≡ S.bytes memory.old) }
     ensures sound { IsSound here.now.image hart.new }
@@ -53,7 +54,7 @@ fn execute<S: Store>(
     requires backed { IsBacked here.now.image (S.bytes memory.old) }
     requires pc { hart.old.core.pc + 4 < 2 ^ 32 }
     requires room { HasRoomForOne hart.old }
-    ensures outcome { outcome_of result (state_in (S.bytes memory.new) hart.new) ≡ execute here.now.image inputs.now (state_in (S.bytes memory.old) hart.old) instr.now }
+    ensures outcome { outcome_of result (state_in (S.bytes memory.new) hart.new) ≡ execute here.now.image (map word_of inputs.now) (state_in (S.bytes memory.old) hart.old) instr.now }
     ensures trap { OnErr result (hart.new ≡ hart.old) }
     ensures memory { OnErr result (S.bytes memory.new ≡ S.bytes memory.old) }
     ensures sound { IsSound here.now.image hart.new }

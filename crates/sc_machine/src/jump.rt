@@ -83,7 +83,7 @@ pub(crate) fn jal(
     requires here { here.now.comp ≡ hart.old.active }
     requires sound { IsSound here.now.image hart.old }
     requires room { HasRoomForOne hart.old }
-    ensures outcome { (inputs : List ℤ) (memory : Memory) → outcome_of result (state_in memory hart.new) ≡ execute here.now.image inputs (state_in memory hart.old) (Instr.Jal rd imm) }
+    ensures outcome { (inputs : List ℕ) (memory : Memory) → outcome_of result (state_in memory hart.new) ≡ execute here.now.image inputs (state_in memory hart.old) (Instr.Jal rd imm) }
     ensures trap { OnErr result (hart.new ≡ hart.old) }
     ensures sound { IsSound here.now.image hart.new }
     ensures room { (events : ℕ) → HasRoom events hart.old → HasRoom events hart.new }
@@ -101,7 +101,7 @@ pub(crate) fn branch(
     imm: BranchOffset,
 ) -> Result<(), TrapReason>
     requires pc { core.old.pc + 4 < 2 ^ 32 }
-    ensures outcome { (inputs : List ℤ) (state : State) → let there = comp_in here.now.comp state in outcome_of result (at there core.new) ≡ execute here.now.image inputs (at there core.old) (Instr.Branch op rs1 rs2 imm) }
+    ensures outcome { (inputs : List ℕ) (state : State) → let there = comp_in here.now.comp state in outcome_of result (at there core.new) ≡ execute here.now.image inputs (at there core.old) (Instr.Branch op rs1 rs2 imm) }
     ensures trap { OnErr result (core.new ≡ core.old) }
 {
     if !compares(op, core.register(rs1), core.register(rs2)) {
@@ -124,7 +124,7 @@ pub(crate) fn jalr(
     requires here { here.now.comp ≡ hart.old.active }
     requires sound { IsSound here.now.image hart.old }
     requires room { HasRoomForOne hart.old }
-    ensures outcome { (inputs : List ℤ) (memory : Memory) → outcome_of result (state_in memory hart.new) ≡ execute here.now.image inputs (state_in memory hart.old) (Instr.Jalr rd rs1 imm) }
+    ensures outcome { (inputs : List ℕ) (memory : Memory) → outcome_of result (state_in memory hart.new) ≡ execute here.now.image inputs (state_in memory hart.old) (Instr.Jalr rd rs1 imm) }
     ensures trap { OnErr result (hart.new ≡ hart.old) }
     ensures sound { IsSound here.now.image hart.new }
     ensures room { (events : ℕ) → HasRoom events hart.old → HasRoom events hart.new }

@@ -23,6 +23,3 @@ pub use laws::any_calls;
 pub use machine::{LoadFault, Machine};
 pub use own_view::OwnView;
 pub use sc_base::{Stop, TrapReason};
-
-#[cfg(test)]
-mod tests;

@@ -1,6 +1,7 @@
 //! Machines, and their runs in pieces.
 
-ghost use Rattle.std.specs.Prelude.{◌≡◌, ◌<◌, ◌↔◌, length, IfOk, IfErr, IsSome, IsTrue};
+ghost use Rattle.std.specs.Prelude.{◌≡◌, ◌<◌, ◌↔◌, length, map, IfOk, IfErr, IsSome, IsTrue};
+ghost use Rattle.sc_word.specs.Word.{word_of};
 ghost use Rattle.sc_image.specs.Layout.{are_data};
 ghost use Rattle.sc_image.specs.Own.{data_of};
 ghost use Rattle.sc_image.specs.State.{reg, saved_sp, start_memory};
@@ -34,13 +35,15 @@ pub struct Machine<S: Store> {
 }
 
 impl<S: Store> Model for Machine<S> {
+    ghost use Rattle.std.specs.Prelude.{map};
+    ghost use Rattle.sc_word.specs.Word.{word_of};
     ghost use Rattle.sc_machine.specs.Progress.{Progress};
 
     ghost Value = { Progress S };
 
     ghost use Rattle.sc_machine.specs.Hart.{IsSound, HasRoom, IsBacked};
 
-    ghost view = { λ m. record { image = m.program; inputs = m.inputs; events = m.events; registers = m.hart.core.registers; pc = m.hart.core.pc; active = m.hart.active; saved = m.hart.saved.items; cross = m.hart.cross.calls; input = m.hart.input; trace = m.hart.trace.items; store = m.memory; stop = m.stop } };
+    ghost view = { λ m. record { image = m.program; inputs = map word_of m.inputs; events = m.events; registers = m.hart.core.registers; pc = m.hart.core.pc; active = m.hart.active; saved = m.hart.saved.items; cross = m.hart.cross.calls; input = m.hart.input; trace = m.hart.trace.items; store = m.memory; stop = m.stop } };
 
     ghost invariant = { λ m. HasRoom m.events m.hart × IsSound m.program m.hart × IsBacked m.program (S.bytes m.memory) };
 }
@@ -63,7 +66,7 @@ impl<S: Store> Machine<S> {
         events: u32,
     ) -> Result<Machine<S>, LoadFault>
         ensures image { IfOk result (λ machine. machine.image ≡ image) }
-        ensures inputs { IfOk result (λ machine. machine.inputs ≡ inputs.now) }
+        ensures inputs { IfOk result (λ machine. machine.inputs ≡ map word_of inputs.now) }
         ensures events { IfOk result (λ machine. machine.events ≡ events) }
         ensures run { IfOk result (λ machine. run_of S.bytes machine ≡ loaded image) }
         ensures back { IfErr result (λ fault. fault ≡ LoadFault.OutOfMemory image) }

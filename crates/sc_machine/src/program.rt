@@ -1,13 +1,13 @@
 //! A loaded image, with what its compartments may call.
 
-ghost use Rattle.std.specs.Prelude.{◌≡◌, ◌<◌, ◌≤◌, All, length, IfOk, IfErr, OnOk};
-ghost use Rattle.sc_image.specs.WellFormed.{IsWellFormed};
+ghost use Rattle.std.specs.Prelude.{◌≡◌, All, IfOk, IfErr, IfSome, IsTrue};
+ghost use Rattle.sc_image.specs.Calls.{imports_of, may_call};
 ghost use Rattle.sc_machine.specs.Passing.{IsCallee, AreCallees};
 
-use crate::calling::{Callee, find_callee};
+use crate::calling::Callee;
 use crate::layout::comp_id;
 use sc_event::CompId;
-use sc_image::{Image, ImageParts, ImportPart};
+use sc_image::{Image, ImportPart};
 use sqlite_items::{Items, at};
 use std::alloc::{AllocError, Global};
 use std::marker::Model;
@@ -78,42 +78,36 @@ fn all_callees(alloc: Global, image: &Image) -> Result<Vec<Callees>, AllocError>
 fn callees_of(alloc: Global, image: &Image, caller: CompId) -> Result<Callees, AllocError>
     ensures { IfOk result (All (IsCallee image.now caller)) }
 {
-    let mut callees = Vec::new(alloc);
-    for import in imports(image, caller) {
-        add_import(&mut callees, image, caller, import)?;
+    let imports = imports(image, caller);
+    let mut callees = Vec::with_capacity(alloc, imports.len())?;
+    for import in imports {
+        if let Some(callee) = imported(image, caller, import) {
+            callees.push(callee)?;
+        }
     }
     callees.sort_unstable_by_key(|callee| callee.entry);
     Ok(Items::from_vec(callees))
 }
 
-/// Adds what an import of the caller leads to.
-fn add_import(
-    callees: &mut Vec<Callee>,
-    image: &Image,
-    caller: CompId,
-    import: &ImportPart,
-) -> Result<(), AllocError>
-    ensures { All (IsCallee image.now caller) callees.old.items → OnOk result (All (IsCallee image.now caller) callees.new.items) }
+/// The function that an import of the caller leads to.
+fn imported(image: &Image, caller: CompId, import: &ImportPart) -> Option<Callee>
+    requires { IsTrue (may_call image.now caller import.now.comp import.now.index) }
+    ensures { IfSome result (IsCallee image.now caller) }
 {
-    let Some(entry) = entry_of(image.parts(), import) else {
-        return Ok(());
-    };
-    let Ok(callee) = find_callee(image, caller, entry) else {
-        return Ok(());
-    };
-    callees.push(callee)?;
-    Ok(())
-}
-
-/// Where the function that is imported begins.
-fn entry_of(parts: &ImageParts, import: &ImportPart) -> Option<u32> {
-    let comp = parts.comps.get(import.comp.number() as usize)?;
+    let comp = image.parts().comps.get(import.comp.number() as usize)?;
     let export = comp.exports.get(import.index as usize)?;
-    Some(export.entry)
+    Some(Callee {
+        entry: export.entry,
+        comp: import.comp,
+        index: import.index,
+        params: export.params,
+    })
 }
 
 /// What the compartment imports.
-fn imports(image: &Image, comp: CompId) -> &[ImportPart] {
+fn imports(image: &Image, comp: CompId) -> &[ImportPart]
+    ensures { result.now ≡ imports_of image.now comp }
+{
     match image.parts().comps.get(comp.number() as usize) {
         Some(part) => part.imports.as_slice(),
         None => &[],

@@ -1,6 +1,7 @@
 //! A run: steps until something stops it.
 
-ghost use Rattle.std.specs.Prelude.{◌≡◌};
+ghost use Rattle.std.specs.Prelude.{◌≡◌, map};
+ghost use Rattle.sc_word.specs.Word.{word_of};
 ghost use Rattle.sc_image.specs.Machine.{Run, is_ended, stopped, run};
 ghost use Rattle.sc_machine.specs.Hart.{state_in, IsSound, HasRoom, IsBacked};
 
@@ -24,7 +25,7 @@ pub(crate) fn run<S: Store>(
     requires room { HasRoom events hart.old }
     requires sound { IsSound program.now hart.old }
     requires backed { IsBacked program.now (S.bytes memory.old) }
-    ensures run { ◌≡◌ {A = Run} (record { state = state_in (S.bytes memory.new) hart.new; stop = result }) (run program.now inputs.now events steps (state_in (S.bytes memory.old) hart.old)) }
+    ensures run { ◌≡◌ {A = Run} (record { state = state_in (S.bytes memory.new) hart.new; stop = result }) (run program.now (map word_of inputs.now) events steps (state_in (S.bytes memory.old) hart.old)) }
     ensures room { HasRoom events hart.new }
     ensures sound { IsSound program.now hart.new }
     ensures backed { IsBacked program.now (S.bytes memory.new) }

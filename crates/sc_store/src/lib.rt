@@ -16,6 +16,3 @@ pub use crate::laws::{gives_stored, keeps_addresses, keeps_apart};
 pub use crate::region::Region;
 pub use crate::store::Store;
 pub use sc_base::OutOfMemory;
-
-#[cfg(test)]
-mod tests;

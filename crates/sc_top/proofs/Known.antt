@@ -1,5 +1,5 @@
 -- The numbers of all events stand for something: in the meaning of a program, and where the machine runs an image.
-use Rattle.std.proofs.Common.{◌≡◌, ◌∙◌, ap, ℕ, Result, Ok, Err, IfOk, All, List, [], ◌∷◌, map, IsSome, IsTrue, ◌<◌, length, refl, sym, subst, arith, zero, suc}
+use Rattle.std.proofs.Common.{get_or, ◌≡◌, ◌∙◌, ap, ℕ, Result, Ok, Err, IfOk, All, List, [], ◌∷◌, map, IsSome, IsTrue, ◌<◌, length, refl, sym, subst, arith, zero, suc}
 use Rattle.std.specs.Prelude.{slice_get}
 use Rattle.std.proofs.lemmas.Bool.{and_parts, false≢true}
 use Rattle.std.proofs.lemmas.List.{length-map}
@@ -9,6 +9,8 @@ use Rattle.sc_event.specs.declared.interface.Interfaces.{Interfaces}
 use Rattle.sc_event.specs.Lookup.{IsKnown, comp_at}
 use Rattle.sc_event.proofs.Known.{legal_is_known}
 use Rattle.sc_word.specs.Word.{word_of}
+use Rattle.sc_word.proofs.Words.{word_of-lt}
+use Rattle.std.proofs.lemmas.List.Elements.{All-map}
 use Rattle.sc_core.specs.declared.program.ProgramTree.{ProgramTree}
 use Rattle.sc_core.specs.declared.section.TypedSection.{TypedSection}
 use Rattle.sc_base.specs.declared.stop.Stop.{Stop}
@@ -19,7 +21,7 @@ use Rattle.sc_report.specs.Report.{run_text}
 use Rattle.sc_image.specs.Bytes.{image_bytes}
 use Rattle.sc_image.specs.declared.parts.ImageParts.{ImageParts}
 use Rattle.sc_image.specs.Interfaces.{interface_of, interfaces_of, TracesAreLegal}
-use Rattle.sc_image.specs.WellFormed.{IsWellFormed}
+use Rattle.sc_image.specs.WellFormed.{IsWord, IsWellFormed}
 use Rattle.sc_words.specs.declared.command.MeaningOptions.{MeaningOptions}
 use Rattle.sc_words.specs.declared.command.RunOptions.{RunOptions}
 use Rattle.sc_top.specs.Output.{meant, shown, machine_text, IsExecuted}
@@ -63,7 +65,7 @@ meant_known legal options program typed =
 -- what the machine shows on an image is known by the image's names: such traces are legal
 pub shown_known : TracesAreLegal → (options : RunOptions) (image : ImageParts) → IsWellFormed image → All (IsKnown (interfaces_of image)) (shown options image).state.trace
 shown_known legal options image formed =
-    legal_is_known (interfaces_of image) (shown options image).state.trace (main_known image formed) (legal image options.inputs options.steps options.events formed)
+    legal_is_known (interfaces_of image) (shown options image).state.trace (main_known image formed) (legal image (map word_of options.inputs) options.steps options.events formed (All-map IsWord word_of options.inputs (λ i d within. word_of-lt (get_or options.inputs i d))))
 
 -- the run's text, from what was found of the run
 pub shown_text : {E : Type 0} (r : Result (List ℕ) E) (names : Interfaces) (options : RunOptions) (image : ImageParts) (trace : List Event) (stop : Stop)

@@ -27,7 +27,7 @@ meant options program = meaning program (map word_of options.inputs) options.tur
 
 -- what the machine shows on an image
 abbrev pub shown : RunOptions → ImageParts → Run
-shown options image = machine image options.inputs options.steps options.events
+shown options image = machine image (map word_of options.inputs) options.steps options.events
 
 -- the same in words, by these names
 abbrev pub machine_text : Interfaces → RunOptions → ImageParts → List ℕ

@@ -1,2 +1,4 @@
 pub mod Words
+pub mod Below
 pub mod Agreeing
+pub mod OnAllWords

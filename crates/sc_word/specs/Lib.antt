@@ -2,3 +2,4 @@ pub mod Word
 pub mod CArithmetic
 pub mod Machine
 pub mod Agreement
+pub mod OnAllWords

@@ -11,7 +11,7 @@ mod c_arithmetic;
 mod fault;
 mod machine;
 
-pub use agreement::the_machine_computes_what_c_computes;
+pub use agreement::{operators_are_instructions, the_machine_computes_what_c_computes};
 pub use c_arithmetic::{
     add_signed, div_signed, div_unsigned, mul_signed, neg_signed, rem_signed, rem_unsigned,
     shl_signed, shl_unsigned, shr_signed, shr_unsigned, sub_signed,
@@ -20,6 +20,3 @@ pub use fault::WordFault;
 pub use machine::{
     add, div, divu, mul, mulh, mulhsu, mulhu, rem, remu, sll, slt, sltu, sra, srl, sub,
 };
-
-#[cfg(test)]
-mod tests;

@@ -1,3 +1,5 @@
+use Rattle.std.specs.Prelude.{map}
+use Rattle.sc_word.specs.Word.{word_of}
 use Rattle.std.proofs.Common.{refl}
 use Rattle.sc_image.specs.Step.{execute}
 use Rattle.sc_machine.specs.Hart.{state_in}
@@ -16,15 +18,15 @@ returns-in-Store-clause-outcome g c =
     rw c.in-Store.is (rw (c.displaced-address-in-Store.ensures, c.register-word.ensures, c.requires.here) at (c.store.ensures.outcome state))
 
 pub returns-in-Jal-clause-outcome : goal.returns-in-Jal-clause-outcome
-returns-in-Jal-clause-outcome g c = rw c.in-Jal.is (c.jal.ensures.outcome c.args.inputs.now (g.S.Store.bytes c.args.memory.now))
+returns-in-Jal-clause-outcome g c = rw c.in-Jal.is (c.jal.ensures.outcome (map word_of c.args.inputs.now) (g.S.Store.bytes c.args.memory.now))
 
 pub returns-in-Branch-clause-outcome : goal.returns-in-Branch-clause-outcome
 returns-in-Branch-clause-outcome g c =
     let state = state_in (g.S.Store.bytes c.args.memory.now) c.args.hart.now in
-    rw c.in-Branch.is (rw c.requires.here at (c.branch-here.ensures.outcome c.args.inputs.now state))
+    rw c.in-Branch.is (rw c.requires.here at (c.branch-here.ensures.outcome (map word_of c.args.inputs.now) state))
 
 pub returns-in-Jalr-clause-outcome : goal.returns-in-Jalr-clause-outcome
-returns-in-Jalr-clause-outcome g c = rw c.in-Jalr.is (c.jalr.ensures.outcome c.args.inputs.now (g.S.Store.bytes c.args.memory.now))
+returns-in-Jalr-clause-outcome g c = rw c.in-Jalr.is (c.jalr.ensures.outcome (map word_of c.args.inputs.now) (g.S.Store.bytes c.args.memory.now))
 
 pub returns-in-Ecall-clause-outcome : goal.returns-in-Ecall-clause-outcome
 unfolding execute
@@ -37,22 +39,22 @@ returns-in-Ebreak-clause-outcome g c = rw c.in-Ebreak.is refl
 pub returns-in-Upper-clause-outcome : goal.returns-in-Upper-clause-outcome
 returns-in-Upper-clause-outcome g c =
     let state = state_in (g.S.Store.bytes c.args.memory.now) c.args.hart.now in
-    rw c.in-Upper.is (c.upper.ensures c.args.here.now.image c.args.inputs.now state)
+    rw c.in-Upper.is (c.upper.ensures c.args.here.now.image (map word_of c.args.inputs.now) state)
 
 pub returns-in-OpImm-clause-outcome : goal.returns-in-OpImm-clause-outcome
 returns-in-OpImm-clause-outcome g c =
     let state = state_in (g.S.Store.bytes c.args.memory.now) c.args.hart.now in
-    rw c.in-OpImm.is (c.op_imm.ensures c.args.here.now.image c.args.inputs.now state)
+    rw c.in-OpImm.is (c.op_imm.ensures c.args.here.now.image (map word_of c.args.inputs.now) state)
 
 pub returns-in-Shift-clause-outcome : goal.returns-in-Shift-clause-outcome
 returns-in-Shift-clause-outcome g c =
     let state = state_in (g.S.Store.bytes c.args.memory.now) c.args.hart.now in
-    rw c.in-Shift.is (c.shift.ensures c.args.here.now.image c.args.inputs.now state)
+    rw c.in-Shift.is (c.shift.ensures c.args.here.now.image (map word_of c.args.inputs.now) state)
 
 pub returns-in-Op-clause-outcome : goal.returns-in-Op-clause-outcome
 returns-in-Op-clause-outcome g c =
     let state = state_in (g.S.Store.bytes c.args.memory.now) c.args.hart.now in
-    rw c.in-Op.is (c.op.ensures c.args.here.now.image c.args.inputs.now state)
+    rw c.in-Op.is (c.op.ensures c.args.here.now.image (map word_of c.args.inputs.now) state)
 
 pub returns-in-Fence-clause-outcome : goal.returns-in-Fence-clause-outcome
 unfolding execute

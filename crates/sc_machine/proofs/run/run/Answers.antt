@@ -1,3 +1,5 @@
+use Rattle.std.specs.Prelude.{map}
+use Rattle.sc_word.specs.Word.{word_of}
 use Rattle.std.proofs.Common.{◌≡◌, ◌∙◌, sym, suc, ◌+◌, ◌-◌, ◌<◌, arith, length}
 use Rattle.sc_image.proofs.Running.{run_stopped}
 use Rattle.sc_machine.specs.Hart.{state_in}
@@ -6,7 +8,7 @@ use Rattle.sc_machine.proofs.run.run.Goals as goal
 
 pub returns-in-Some-clause-run : goal.returns-in-Some-clause-run
 returns-in-Some-clause-run g c =
-    sym (run_stopped _ c.args.inputs.now _ _ (state_in (g.S.Store.bytes c.loop.memory) c.loop.hart) _ (rw c.deref.ensures.value at (sym c.in-Some.ensures))) ∙ c.loop.invariant.same
+    sym (run_stopped _ (map word_of c.args.inputs.now) _ _ (state_in (g.S.Store.bytes c.loop.memory) c.loop.hart) _ (rw c.deref.ensures.value at (sym c.in-Some.ensures))) ∙ c.loop.invariant.same
 
 pub step-requires-clause-room : goal.step-requires-clause-room
 step-requires-clause-room g c =
@@ -17,7 +19,7 @@ pub returns-in-Err-clause-run : goal.returns-in-Err-clause-run
 returns-in-Err-clause-run g c =
     let left : c.args.steps - c.loop.counter ≡ suc (c.args.steps - (c.loop.counter + 1)) = omega arith in
     rw (c.in-Err.ensures.trap, c.in-Err.ensures.memory)
-    (sym (trapped _ c.args.inputs.now _ (state_in (g.S.Store.bytes c.loop.memory) c.loop.hart) _ _ _ left (rw c.deref.ensures.value at (sym c.in_default.ensures)) (rw c.loop.invariant.image at c.in-Err.ensures.outcome)) ∙
+    (sym (trapped _ (map word_of c.args.inputs.now) _ (state_in (g.S.Store.bytes c.loop.memory) c.loop.hart) _ _ _ left (rw c.deref.ensures.value at (sym c.in_default.ensures)) (rw c.loop.invariant.image at c.in-Err.ensures.outcome)) ∙
     c.loop.invariant.same)
 
 pub loop-preserved : goal.loop-preserved
@@ -30,12 +32,12 @@ loop-preserved g c =
       sound = rw c.loop.invariant.image at c.in_default-step.ensures.sound;
       backed = rw c.loop.invariant.image at c.in_default-step.ensures.backed;
       same =
-          sym (gone _ c.args.inputs.now _ (state_in (g.S.Store.bytes c.loop.memory) c.loop.hart) _ _ _ left (rw c.deref.ensures.value at (sym c.in_default.ensures)) (rw c.loop.invariant.image at c.in_default-step.ensures.outcome)) ∙
+          sym (gone _ (map word_of c.args.inputs.now) _ (state_in (g.S.Store.bytes c.loop.memory) c.loop.hart) _ _ _ left (rw c.deref.ensures.value at (sym c.in_default.ensures)) (rw c.loop.invariant.image at c.in_default-step.ensures.outcome)) ∙
           c.loop.invariant.same;
     }
 
 pub returns-clause-run : goal.returns-clause-run
 returns-clause-run g c =
     let none : c.args.steps - c.loop.counter ≡ 0 = omega arith in
-    rw (c.unwrap_or.ensures, c.stopped-2.ensures, c.deref-2.ensures.value) (sym (no_steps _ c.args.inputs.now _ (state_in (g.S.Store.bytes c.loop.memory) c.loop.hart) _ none)) ∙
+    rw (c.unwrap_or.ensures, c.stopped-2.ensures, c.deref-2.ensures.value) (sym (no_steps _ (map word_of c.args.inputs.now) _ (state_in (g.S.Store.bytes c.loop.memory) c.loop.hart) _ none)) ∙
     c.loop.invariant.same

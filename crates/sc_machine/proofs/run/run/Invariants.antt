@@ -1,3 +1,5 @@
+use Rattle.std.specs.Prelude.{map}
+use Rattle.sc_word.specs.Word.{word_of}
 use Rattle.std.proofs.Common.{◌≡◌, ◌-◌}
 use Rattle.sc_image.specs.Machine.{run}
 use Rattle.sc_machine.specs.Hart.{state_in, IsSound, HasRoom, IsBacked}
@@ -10,6 +12,6 @@ invariant-loop g l = record {
   room : HasRoom l.events l.hart;
   sound : IsSound l.program l.hart;
   backed : IsBacked l.program (g.S.Store.bytes l.memory);
-  same : run l.program l.inputs l.events (l.steps - l.counter) (state_in (g.S.Store.bytes l.memory) l.hart) ≡
-      run l.program l.inputs l.events l.steps (state_in (g.S.Store.bytes l.fn.memory) l.fn.hart);
+  same : run l.program (map word_of l.inputs) l.events (l.steps - l.counter) (state_in (g.S.Store.bytes l.memory) l.hart) ≡
+      run l.program (map word_of l.inputs) l.events l.steps (state_in (g.S.Store.bytes l.fn.memory) l.fn.hart);
 }

@@ -1,0 +1,17 @@
+//! Words, instructions, memory, images, and machines that run them. This crate has tests alone.
+#![tactic(auto)]
+
+#[cfg(test)]
+mod compiling;
+#[cfg(test)]
+mod gates;
+#[cfg(test)]
+mod images;
+#[cfg(test)]
+mod instructions;
+#[cfg(test)]
+mod machines;
+#[cfg(test)]
+mod stores;
+#[cfg(test)]
+mod words;

@@ -1,0 +1,106 @@
+// The calls of a store, through its trait.
+
+ghost use Rattle.std.specs.Prelude.{IsTrue};
+ghost use Rattle.sc_store.specs.Memory.{HasBytes};
+
+use sc_store::{FlatStore, OutOfMemory, Region, Store};
+use std::alloc::Global;
+use std::process::Abort;
+use std::test::Fail;
+
+#[derive(Clone, Copy)]
+enum Step {
+    Load8,
+    Load16,
+    Load32,
+    Store8(u32),
+    Store16(u32),
+    Store32(u32),
+}
+
+fn has_all<S: Store>(store: &S, at: u32, size: u32) -> bool
+    ensures { IsTrue result → HasBytes (S.bytes store.now) at size }
+{
+    for k in 0..size {
+        if at > u32::MAX - k || !store.has(at + k) {
+            return false;
+        }
+    }
+    true
+}
+
+// What a load gives, and 0 for a store, or nothing where the store lacks a byte of the access.
+fn take<S: Store>(store: &mut S, step: Step, at: u32) -> Option<u32> {
+    match step {
+        Step::Load8 if has_all(store, at, 1) => Some(store.load8(at)),
+        Step::Load16 if has_all(store, at, 2) => Some(store.load16(at)),
+        Step::Load32 if has_all(store, at, 4) => Some(store.load32(at)),
+        Step::Store8(value) if has_all(store, at, 1) => {
+            store.store8(at, value);
+            Some(0)
+        }
+        Step::Store16(value) if has_all(store, at, 2) => {
+            store.store16(at, value);
+            Some(0)
+        }
+        Step::Store32(value) if has_all(store, at, 4) => {
+            store.store32(at, value);
+            Some(0)
+        }
+        _ => None,
+    }
+}
+
+// Two regions that touch, and one up to the last address.
+fn exercise<S: Store>(rt: &impl Abort, alloc: Global) -> Result<(), OutOfMemory> {
+    let regions = [(0x1000, 5), (0x1005, 6), (0xffff_fffc, 4)];
+    let regions = regions.map(|(start, bytes)| Region { start, bytes });
+    let mut store = S::zeroed(alloc, &regions)?;
+    for (step, at, want) in STEPS {
+        assert_eq!(rt; take(&mut store, step, at), want, "at {at}");
+    }
+    Ok(())
+}
+
+const STEPS: [(Step, u32, Option<u32>); 26] = [
+    (Step::Load32, 0x1000, Some(0)),
+    (Step::Store32(0x8765_4321), 0x1000, Some(0)),
+    (Step::Load8, 0x1000, Some(0x21)),
+    (Step::Load8, 0x1003, Some(0x87)),
+    (Step::Load16, 0x1002, Some(0x8765)),
+    (Step::Load32, 0x1001, Some(0x0087_6543)),
+    // over the border of two regions
+    (Step::Store32(0xaabb_ccdd), 0x1003, Some(0)),
+    (Step::Load32, 0x1003, Some(0xaabb_ccdd)),
+    (Step::Load16, 0x1004, Some(0xbbcc)),
+    (Step::Load8, 0x1005, Some(0xbb)),
+    (Step::Load16, 0x1006, Some(0x00aa)),
+    (Step::Load8, 0x1002, Some(0x65)),
+    // numbers that are too large
+    (Step::Store8(0x01ff), 0x1000, Some(0)),
+    (Step::Load16, 0x1000, Some(0x43ff)),
+    (Step::Store16(0xabcd_1234), 0x1000, Some(0)),
+    (Step::Load32, 0x1000, Some(0xdd65_1234)),
+    // the ends of the regions
+    (Step::Load8, 0x0fff, None),
+    (Step::Load8, 0x100a, Some(0)),
+    (Step::Load8, 0x100b, None),
+    (Step::Store16(1), 0x100a, None),
+    (Step::Load32, 0x1008, None),
+    (Step::Load8, 0xffff_fffb, None),
+    (Step::Store32(1), 0xffff_fffc, Some(0)),
+    (Step::Store8(0x80), 0xffff_ffff, Some(0)),
+    (Step::Load32, 0xffff_fffc, Some(0x8000_0001)),
+    (Step::Load16, 0xffff_ffff, None),
+];
+
+#[test]
+fn flat(rt: HostRuntime) -> Result<(), OutOfMemory> {
+    exercise::<FlatStore>(&rt, rt.alloc())
+}
+
+#[test]
+fn message(rt: HostRuntime) -> Result<(), Fail> {
+    assert!(rt; OutOfMemory.to_string(rt.alloc())?.as_str() == "out of memory");
+    Ok(())
+}

@@ -1,0 +1,80 @@
+-- What a memory holds are bytes, at addresses of 32 bits: at the start, and after a store.
+use Rattle.std.proofs.Common.{◌≡◌, ℕ, ◌+◌, ◌-◌, ◌/◌, ◌%◌, ◌^◌, ◌<◌, ◌≤◌, Bool, true, false, ◌&&◌, nat_le, nat_lt, if◌then◌else◌, length, Option, Some, None, subst, arith, refl, ⊎_elim}
+use Rattle.std.specs.List.{slice_get}
+use Rattle.std.specs.Option.{option_and_then}
+use Rattle.std.proofs.lemmas.Bool.{ltb-true}
+use Rattle.std.proofs.lemmas.Option.{slice_get_within, get_or_from_slice_get}
+use Rattle.sc_store.specs.Memory.{Memory, HoldsBytes, byte_of, stored}
+use Rattle.sc_image.specs.declared.parts.ImageParts.{ImageParts}
+use Rattle.sc_image.specs.declared.parts.CompPart.{CompPart}
+use Rattle.sc_image.specs.WellFormed.{IsByte, IsWellFormed}
+use Rattle.sc_image.specs.Layout.{stretch, stack_size, most_globals, data_start, stack_top, comp_of_data, globals_of, are_data}
+use Rattle.sc_image.specs.State.{data_byte, start_memory}
+use Rattle.sc_image.specs.Step.{refused}
+use Rattle.sc_image.proofs.Cases.{allowed_data, both_facts}
+use Rattle.std.proofs.lemmas.Option.{slice_get_cases}
+
+pub few_globals : (image : ImageParts) (c : ℕ) → IsWellFormed image → length (globals_of image c) ≤ most_globals
+few_globals image c formed =
+    ⊎_elim (λ found. rw found.2 (formed.comps c found.0 found.2).short_globals) (λ none. rw none.1 (omega arith)) (slice_get_cases image.comps c).1
+
+abbrev IsByteAt : ℕ → ℕ → Type 0
+IsByteAt address byte = (address < 2 ^ 32) × (byte < 256)
+
+-- the test of an access
+both : (x y : Bool) → (x && y) ≡ true → (x ≡ true) × (y ≡ true)
+both true y h = (refl, h)
+both false y h = let never : false ≡ true = h in cc never
+
+digit : (n : ℕ) → n % 256 < 256
+digit n = omega arith
+
+module _ (image : ImageParts) (formed : IsWellFormed image) (c a size word : ℕ) (memory : Memory) (active : c < length image.comps) (owned : are_data image c a size ≡ true) (bytes : HoldsBytes memory) where
+  data_below : (x : ℕ) → x < a + size → x < 2 ^ 32
+  unfolding are_data
+  data_below x upto =
+      let m = both_facts (data_start c) a (a + size) (stack_top c + length (globals_of image c)) owned in
+      omega (arith, m.1, upto, active, formed.few_comps, few_globals image c formed)
+
+  stored_by : (x byte : ℕ) (inside : Bool) → (nat_le a x && nat_lt x (a + size)) ≡ inside →
+      (if inside then Some (byte_of word (x - a)) else memory x) ≡ Some byte → IsByteAt x byte
+  stored_by x byte true is at =
+      let same : byte_of word (x - a) ≡ byte = cc at in
+      (data_below x (ltb-true x (a + size) (both (nat_le a x) (nat_lt x (a + size)) is).1), subst (λ b. b < 256) same (digit (word / 256 ^ (x - a))))
+  stored_by x byte false is at = bytes x byte at
+
+pub stored_bytes : (image : ImageParts) → IsWellFormed image → (c a size word : ℕ) (memory : Memory) → c < length image.comps → refused image c size a ≡ None →
+    HoldsBytes memory → HoldsBytes (stored memory a size word)
+stored_bytes image formed c a size word memory active allowed bytes x byte at =
+    stored_by image formed c a size word memory active (allowed_data image c size a allowed) bytes x byte (nat_le a x && nat_lt x (a + size)) refl at
+
+-- the start
+
+module _ (image : ImageParts) (formed : IsWellFormed image) (a b : ℕ) where
+  global_byte : (c : ℕ) (comp : CompPart) → slice_get image.comps c ≡ Some comp → (k : ℕ) → slice_get comp.globals k ≡ Some b → b < 256
+  global_byte c comp is k at =
+      subst IsByte (get_or_from_slice_get comp.globals k b b at) ((formed.comps c comp is).bytes k b (slice_get_within comp.globals k b at))
+
+  byte_by : (c : ℕ) (comp : CompPart) → slice_get image.comps c ≡ Some comp → (offset : ℕ) (in_stack : Bool) →
+      (if in_stack then Some 0 else slice_get comp.globals (offset - stack_size)) ≡ Some b → b < 256
+  byte_by c comp is offset true at = let same : ◌≡◌ {A = ℕ} 0 b = cc at in subst (λ n. n < 256) same (omega arith)
+  byte_by c comp is offset false at = global_byte c comp is (offset - stack_size) at
+
+  start_by : (comp : Option CompPart) → slice_get image.comps (comp_of_data a) ≡ comp →
+      option_and_then (data_byte ((a - data_start 0) % stretch)) comp ≡ Some b → IsByteAt a b
+  start_by None is at = let never : ◌≡◌ {A = Option ℕ} None (Some b) = at in cc never
+  start_by (Some comp) is at =
+      let within = slice_get_within image.comps (comp_of_data a) comp is in
+      (omega (arith, within, formed.few_comps),
+        byte_by (comp_of_data a) comp is ((a - data_start 0) % stretch) (nat_lt ((a - data_start 0) % stretch) stack_size) at)
+
+  below_by : (below : Bool) → (if below then None else option_and_then (data_byte ((a - data_start 0) % stretch)) (slice_get image.comps (comp_of_data a))) ≡ Some b → IsByteAt a b
+  below_by true at = let never : ◌≡◌ {A = Option ℕ} None (Some b) = at in cc never
+  below_by false at = start_by (slice_get image.comps (comp_of_data a)) refl at
+
+  start_byte : start_memory image a ≡ Some b → IsByteAt a b
+  unfolding start_memory
+  start_byte at = below_by (nat_lt a (data_start 0)) at
+
+pub start_bytes : (image : ImageParts) → IsWellFormed image → HoldsBytes (start_memory image)
+start_bytes image formed a b at = start_byte image formed a b at

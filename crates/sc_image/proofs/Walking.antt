@@ -1,0 +1,101 @@
+-- Stretches of a run, steps by their instruction, and what stands in memory at the start.
+use Rattle.std.proofs.Common.{◌≡◌, ℕ, zero, suc, ◌+◌, ◌-◌, ◌*◌, ◌/◌, ◌%◌, ◌<◌, true, false, nat_eq, nat_le, nat_lt, List, [], ◌∷◌, ◌++◌, length, Some, refl, ◌∙◌, ap, arith, suc-add, zero-add}
+use Rattle.std.specs.List.{slice_get}
+use Rattle.std.proofs.lemmas.Bool.{eq-eqb, le-leb, lt-ltb, le-ltb}
+use Rattle.rv_code.specs.declared.instr.Instr.{Instr}
+use Rattle.sc_image.specs.declared.parts.ImageParts.{ImageParts}
+use Rattle.sc_image.specs.declared.parts.CompPart.{CompPart}
+use Rattle.sc_image.specs.WellFormed.{IsWellFormed}
+use Rattle.sc_image.specs.Layout.{stretch, stack_size, code_start, data_start, stack_top, comp_of_data, code_of, word_at}
+use Rattle.sc_image.specs.State.{State, start_memory, data_byte}
+use Rattle.sc_image.specs.Step.{Outcome, Goes, Traps, execute, step}
+use Rattle.sc_image.specs.Walks.{then_on, walk, Walks, IsAt, StepsByInstruction, ImageInMemory}
+use Rattle.sc_image.proofs.Stepping.{step_executes}
+
+-- Stretches.
+
+pub walk_one : (image : ImageParts) (inputs : List ℕ) (from to : State) → step image inputs from ≡ Goes to → Walks image inputs 1 from to
+walk_one image inputs from to goes = record { by = ap (λ o. then_on o (walk image inputs 0)) goes }
+
+module _ (image : ImageParts) (inputs : List ℕ) where
+  -- the first of some steps
+  walked_first : (m n : ℕ) (outcome : Outcome) (middle : State) → then_on outcome (walk image inputs m) ≡ Goes middle →
+      ((state : State) → walk image inputs m state ≡ Goes middle → walk image inputs (m + n) state ≡ walk image inputs n middle) →
+      then_on outcome (walk image inputs (m + n)) ≡ walk image inputs n middle
+  walked_first m n (Goes state) middle goes later = later state goes
+  walked_first m n (Traps reason) middle goes later = let never : Traps reason ≡ Goes middle = goes in cc never
+
+  walk_on : (m n : ℕ) (from middle : State) → walk image inputs m from ≡ Goes middle → walk image inputs (m + n) from ≡ walk image inputs n middle
+  walk_on zero n from middle goes =
+      let same : from ≡ middle = cc goes in ap (λ k. walk image inputs k from) (zero-add n) ∙ ap (walk image inputs n) same
+  walk_on (suc m) n from middle goes =
+      ap (λ k. walk image inputs k from) (suc-add m n) ∙ walked_first m n (step image inputs from) middle goes (λ state. walk_on m n state middle)
+
+pub walk_together : (image : ImageParts) (inputs : List ℕ) (m n : ℕ) (from middle to : State) →
+    Walks image inputs m from middle → Walks image inputs n middle to → Walks image inputs (m + n) from to
+walk_together image inputs m n from middle to first second = record { by = walk_on image inputs m n from middle first.by ∙ second.by }
+
+-- Steps by their instruction.
+
+module _ (image : ImageParts) (inputs : List ℕ) (state : State) where
+  by_instr : (instr : Instr) → IsAt image state instr → step image inputs state ≡ execute image inputs state instr
+  by_instr instr at = step_executes image inputs state at.word instr at.fetched at.decodes
+
+pub steps_by_instruction : StepsByInstruction
+unfolding execute
+steps_by_instruction = record {
+  lui = λ image inputs state rd imm at. by_instr image inputs state _ at;
+  auipc = λ image inputs state rd imm at. by_instr image inputs state _ at;
+  jal = λ image inputs state rd imm target at same. by_instr image inputs state _ at ∙ rw same refl;
+  jalr = λ image inputs state rd rs1 imm target at same. by_instr image inputs state _ at ∙ rw same refl;
+  branch_taken = λ image inputs state op rs1 rs2 imm target at taken same. by_instr image inputs state _ at ∙ rw (taken, same) refl;
+  branch_not_taken = λ image inputs state op rs1 rs2 imm at taken. by_instr image inputs state _ at ∙ rw taken refl;
+  loads = λ image inputs state op rd rs1 imm address at same. by_instr image inputs state _ at ∙ rw same refl;
+  stores = λ image inputs state op rs1 rs2 imm address at same. by_instr image inputs state _ at ∙ rw same refl;
+  op_imm = λ image inputs state op rd rs1 imm at. by_instr image inputs state _ at;
+  shift = λ image inputs state op rd rs1 amount at. by_instr image inputs state _ at;
+  op = λ image inputs state op rd rs1 rs2 at. by_instr image inputs state _ at;
+  fence = λ image inputs state imm rs1 rd at. by_instr image inputs state _ at;
+  ecall = λ image inputs state at. by_instr image inputs state _ at;
+  ebreak = λ image inputs state at. by_instr image inputs state _ at;
+}
+
+-- Memory at the start.
+
+behind : (before : List ℕ) (word : ℕ) (after : List ℕ) → slice_get (before ++ word ∷ after) (length before) ≡ Some word
+behind [] word after = refl
+behind (x ∷ before) word after = behind before word after
+
+code_placed : (image : ImageParts) (c word : ℕ) (before after : List ℕ) → code_of image c ≡ before ++ word ∷ after →
+    word_at image c (code_start c + 4 * length before) ≡ Some word
+unfolding word_at
+code_placed image c word before after is =
+    let aligned : nat_eq ((code_start c + 4 * length before) % 4) 0 ≡ true = eq-eqb _ _ (omega arith) in
+    let from : nat_le (code_start c) (code_start c + 4 * length before) ≡ true = le-leb _ _ (omega arith) in
+    let place : (code_start c + 4 * length before - code_start c) / 4 ≡ length before = omega arith in
+    rw (aligned, from, place, is) (behind before word after)
+
+module _ (image : ImageParts) (c : ℕ) (comp : CompPart) (found : slice_get image.comps c ≡ Some comp) (offset : ℕ) (within : offset < stretch) where
+  data_placed : start_memory image (data_start c + offset) ≡ data_byte offset comp
+  unfolding start_memory
+  data_placed =
+      let from : nat_lt (data_start c + offset) (data_start 0) ≡ false = le-ltb _ _ (omega arith) in
+      let number : comp_of_data (data_start c + offset) ≡ c = omega (arith, within) in
+      let place : (data_start c + offset - data_start 0) % stretch ≡ offset = omega (arith, within) in
+      rw (from, number, place, found) refl
+
+stack_placed : (image : ImageParts) (c : ℕ) (comp : CompPart) (k : ℕ) → slice_get image.comps c ≡ Some comp → k < stack_size → start_memory image (data_start c + k) ≡ Some 0
+stack_placed image c comp k found below =
+    let low : nat_lt k stack_size ≡ true = lt-ltb _ _ below in data_placed image c comp found k (omega (arith, below)) ∙ rw low refl
+
+globals_placed : (image : ImageParts) (c : ℕ) (comp : CompPart) (k : ℕ) → IsWellFormed image → slice_get image.comps c ≡ Some comp → k < length comp.globals →
+    start_memory image (stack_top c + k) ≡ slice_get comp.globals k
+globals_placed image c comp k formed found below =
+    let at : stack_top c + k ≡ data_start c + (stack_size + k) = omega arith in
+    let high : nat_lt (stack_size + k) stack_size ≡ false = le-ltb _ _ (omega arith) in
+    let place : stack_size + k - stack_size ≡ k = omega arith in
+    ap (start_memory image) at ∙ data_placed image c comp found (stack_size + k) (omega (arith, below, (formed.comps c comp found).short_globals)) ∙
+    rw (high, place) refl
+
+pub image_in_memory : ImageInMemory
+image_in_memory = record { code = code_placed; stack = stack_placed; globals = globals_placed }

@@ -1,0 +1,179 @@
+-- What a state holds are words, and a step computes words from words.
+use Rattle.std.proofs.Common.{◌≡◌, ℕ, zero, suc, ◌+◌, ◌-◌, ◌/◌, ◌%◌, ◌^◌, ◌<◌, ◌≤◌, Bool, true, false, ◌&&◌, nat_eq, nat_le, if◌then◌else◌, List, [], ◌∷◌, Option, Some, None, refl, subst, arith}
+use Rattle.std.specs.Prelude.{slice_index, slice_set, unwrap_or, IsSome, position, ◌==◌}
+use Rattle.std.specs.List.{slice_get}
+use Rattle.std.specs.Option.{option_map_or}
+use Rattle.std.proofs.lemmas.Nat.{and_le_l, or_lt, xor_lt}
+use Rattle.std.proofs.lemmas.Bool.{eqb-true, leb-true}
+use Rattle.std.proofs.lemmas.List.Quantifiers.{position-Some}
+use Rattle.std.proofs.lemmas.Option.{slice_get_within, get_or_from_slice_get}
+use Rattle.sc_word.proofs.Words.{word_of-lt}
+use Rattle.sc_word.proofs.Below.{add_word-lt, sub_word-lt, sll_word-lt, srl_word-lt, sra_word-lt, slt_word-lt, sltu_word-lt, mul_word-lt, mulh_word-lt, mulhsu_word-lt, mulhu_word-lt, div_word-lt, divu_word-lt, rem_word-lt, remu_word-lt}
+use Rattle.rv_code.specs.declared.instr.OpOp.{OpOp}
+use Rattle.rv_code.specs.declared.instr.OpOp.TheVariants.{Add, Sub, Sll, Slt, Sltu, Xor, Srl, Sra, Or, And, Mul, Mulh, Mulhsu, Mulhu, Div, Divu, Rem, Remu}
+use Rattle.rv_code.specs.declared.instr.LoadOp.{LoadOp}
+use Rattle.rv_code.specs.declared.instr.LoadOp.TheVariants.{Lb, Lh, Lw, Lbu, Lhu}
+use Rattle.rv_code.specs.Ranges.{signed}
+use Rattle.sc_store.specs.Memory.{Memory, HoldsBytes, load_of}
+use Rattle.sc_image.specs.declared.parts.ImageParts.{ImageParts}
+use Rattle.sc_image.specs.declared.parts.CompPart.{CompPart}
+use Rattle.sc_image.specs.declared.parts.ExportPart.{ExportPart}
+use Rattle.sc_image.specs.WellFormed.{IsWord, IsWellFormed}
+use Rattle.sc_image.specs.Layout.{code_start, code_of, word_at}
+use Rattle.sc_image.specs.Calls.{export_at}
+use Rattle.sc_image.specs.State.{written}
+use Rattle.sc_image.specs.Cross.{kept_from}
+use Rattle.sc_image.specs.Step.{computed, load_size, extended}
+
+-- each place of a list holds a word
+abbrev pub AreWords : List ℕ → Type 0
+AreWords words = (i : ℕ) → IsWord (slice_index words i)
+
+pub set_words : (words : List ℕ) (i word : ℕ) → AreWords words → IsWord word → AreWords (slice_set words i word)
+set_words [] i word h k j = h j
+set_words (x ∷ xs) zero word h k zero = k
+set_words (x ∷ xs) zero word h k (suc j) = h (suc j)
+set_words (x ∷ xs) (suc i) word h k zero = h 0
+set_words (x ∷ xs) (suc i) word h k (suc j) = set_words xs i word (λ l. h (suc l)) k j
+
+pub written_words : (regs : List ℕ) (r word : ℕ) → AreWords regs → IsWord word → AreWords (written regs r word)
+written_words regs r word h k = by_zero (nat_eq r 0)
+  where
+    by_zero : (zero_is : Bool) → AreWords (if zero_is then regs else slice_set regs r word)
+    by_zero true = h
+    by_zero false = set_words regs r word h k
+
+if_word : (b : Bool) (x y : ℕ) → IsWord x → IsWord y → IsWord (if b then x else y)
+if_word true x y h k = h
+if_word false x y h k = k
+
+pub kept_words : (keeps : ℕ → Bool) (r : ℕ) (regs : List ℕ) → AreWords regs → AreWords (kept_from keeps r regs)
+kept_words keeps r [] h i = h i
+kept_words keeps r (word ∷ words) h zero = if_word (keeps r) word 0 (h 0) (omega arith)
+kept_words keeps r (word ∷ words) h (suc i) = kept_words keeps (suc r) words (λ l. h (suc l)) i
+
+-- x0 stays 0
+
+set_zero : (words : List ℕ) (r word : ℕ) → slice_index words 0 ≡ 0 → slice_index (slice_set words (suc r) word) 0 ≡ 0
+set_zero [] r word h = h
+set_zero (x ∷ xs) r word h = h
+
+pub written_zero : (regs : List ℕ) (r word : ℕ) → slice_index regs 0 ≡ 0 → slice_index (written regs r word) 0 ≡ 0
+written_zero regs zero word h = h
+written_zero regs (suc r) word h = by_zero (nat_eq (suc r) 0)
+  where
+    by_zero : (zero_is : Bool) → slice_index (if zero_is then regs else slice_set regs (suc r) word) 0 ≡ 0
+    by_zero true = h
+    by_zero false = set_zero regs r word h
+
+if_zero : (b : Bool) → ◌≡◌ {A = ℕ} (if b then 0 else 0) 0
+if_zero true = refl
+if_zero false = refl
+
+pub kept_zero : (keeps : ℕ → Bool) (r : ℕ) (regs : List ℕ) → slice_index regs 0 ≡ 0 → slice_index (kept_from keeps r regs) 0 ≡ 0
+kept_zero keeps r [] h = h
+kept_zero keeps r (word ∷ words) h = let first : word ≡ 0 = h in rw first (if_zero (keeps r))
+
+-- what an operation computes
+
+and_word : (a b : ℕ) → IsWord a → IsWord (computed And a b)
+and_word a b h = omega (arith, h, and_le_l a b)
+
+pub computed_word : (op : OpOp) (a b : ℕ) → IsWord a → IsWord b → IsWord (computed op a b)
+computed_word Add a b h k = add_word-lt a b
+computed_word Sub a b h k = sub_word-lt a b
+computed_word Sll a b h k = sll_word-lt a b
+computed_word Slt a b h k = slt_word-lt a b
+computed_word Sltu a b h k = sltu_word-lt a b
+computed_word Xor a b h k = xor_lt 32 a b h k
+computed_word Srl a b h k = srl_word-lt a b h
+computed_word Sra a b h k = sra_word-lt a b
+computed_word Or a b h k = or_lt 32 a b h k
+computed_word And a b h k = and_word a b h
+computed_word Mul a b h k = mul_word-lt a b
+computed_word Mulh a b h k = mulh_word-lt a b
+computed_word Mulhsu a b h k = mulhsu_word-lt a b
+computed_word Mulhu a b h k = mulhu_word-lt a b h k
+computed_word Div a b h k = div_word-lt a b
+computed_word Divu a b h k = divu_word-lt a b h
+computed_word Rem a b h k = rem_word-lt a b h
+computed_word Remu a b h k = remu_word-lt a b h
+
+-- what is loaded
+
+byte_by : (memory : Memory) (a : ℕ) → HoldsBytes memory → (byte : Option ℕ) → memory a ≡ byte → unwrap_or byte 0 < 256
+byte_by memory a h None at = omega arith
+byte_by memory a h (Some b) at = (h a b at).1
+
+byte_below : (memory : Memory) (a : ℕ) → HoldsBytes memory → unwrap_or (memory a) 0 < 256
+byte_below memory a h = byte_by memory a h (memory a) refl
+
+one_byte : (memory : Memory) (a : ℕ) → HoldsBytes memory → load_of memory a 1 < 2 ^ 8
+one_byte memory a h = omega (arith, byte_below memory (a + 0) h)
+
+two_bytes : (memory : Memory) (a : ℕ) → HoldsBytes memory → load_of memory a 2 < 2 ^ 16
+two_bytes memory a h = omega (arith, byte_below memory (a + 0) h, byte_below memory (a + 1) h)
+
+four_bytes : (memory : Memory) (a : ℕ) → HoldsBytes memory → load_of memory a 4 < 2 ^ 32
+four_bytes memory a h =
+    omega (arith, byte_below memory (a + 0) h, byte_below memory (a + 1) h, byte_below memory (a + 2) h, byte_below memory (a + 3) h)
+
+pub loaded_word : (memory : Memory) (op : LoadOp) (a : ℕ) → HoldsBytes memory → IsWord (extended op (load_of memory a (load_size op)))
+loaded_word memory Lb a h = word_of-lt (signed (2 ^ 7) (load_of memory a 1))
+loaded_word memory Lh a h = word_of-lt (signed (2 ^ 15) (load_of memory a 2))
+loaded_word memory Lw a h = four_bytes memory a h
+loaded_word memory Lbu a h = omega (arith, one_byte memory a h)
+loaded_word memory Lhu a h = omega (arith, two_bytes memory a h)
+
+-- a place in the code
+
+pub record IsInCode (address word : ℕ) : Type 0 where
+  pub next : address + 4 < 2 ^ 32
+  pub bits : IsWord word
+
+module _ (image : ImageParts) (formed : IsWellFormed image) (c address word : ℕ) where
+  comp_by : (comp : Option CompPart) → slice_get image.comps c ≡ comp →
+      slice_get (option_map_or (λ comp. comp.code) comp []) ((address - code_start c) / 4) ≡ Some word → code_start c ≤ address → IsInCode address word
+  comp_by None is at from = let none : ◌≡◌ {A = Option ℕ} None (Some word) = at in cc none
+  comp_by (Some comp) is at from =
+      let well = formed.comps c comp is in
+      let within = slice_get_within comp.code ((address - code_start c) / 4) word at in
+      record {
+        next = omega (arith, within, well.short_code, from, slice_get_within image.comps c comp is, formed.few_comps);
+        bits =
+            subst IsWord (get_or_from_slice_get comp.code ((address - code_start c) / 4) word word at)
+            (well.words ((address - code_start c) / 4) word within);
+      }
+
+  where_true : (aligned from : Bool) → nat_le (code_start c) address ≡ from →
+      (if aligned && from then slice_get (code_of image c) ((address - code_start c) / 4) else None) ≡ Some word → IsInCode address word
+  where_true true true is at = comp_by (slice_get image.comps c) refl at (leb-true (code_start c) address is)
+  where_true true false is at = let none : ◌≡◌ {A = Option ℕ} None (Some word) = at in cc none
+  where_true false from is at = let none : ◌≡◌ {A = Option ℕ} None (Some word) = at in cc none
+
+  pub in_code : word_at image c address ≡ Some word → IsInCode address word
+  unfolding word_at
+  in_code at = where_true (nat_eq (address % 4) 0) (nat_le (code_start c) address) refl at
+
+-- an address where there is a word of code, and where an export begins
+
+is_some_at : (image : ImageParts) → IsWellFormed image → (c address : ℕ) → (word : Option ℕ) → word_at image c address ≡ word → IsSome word → IsWord address
+is_some_at image formed c address None at some = let never : false ≡ true = some in cc never
+is_some_at image formed c address (Some word) at some = omega (arith, (in_code image formed c address word at).next)
+
+pub code_address : (image : ImageParts) → IsWellFormed image → (c address : ℕ) → IsSome (word_at image c address) → IsWord address
+code_address image formed c address some = is_some_at image formed c address (word_at image c address) refl some
+
+abbrev no_export : ExportPart
+no_export = record { name = []; params = 0; result = false; entry = 0 }
+
+entry_by : (image : ImageParts) → IsWellFormed image → (c target index : ℕ) (comp : Option CompPart) → slice_get image.comps c ≡ comp →
+    position (λ export. export.entry == target) (option_map_or (λ (x : CompPart). x.exports) comp []) ≡ Some index → IsWord target
+entry_by image formed c target index None is at = let none : ◌≡◌ {A = Option ℕ} None (Some index) = at in cc none
+entry_by image formed c target index (Some comp) is at =
+    let first = position-Some (λ (export : ExportPart). export.entry == target) comp.exports index no_export at in
+    let entry = ((formed.comps c comp is).exports index no_export first.0).entry in
+    subst IsWord (eqb-true _ _ first.1) (code_address image formed c _ entry)
+
+pub entry_address : (image : ImageParts) → IsWellFormed image → (c target index : ℕ) → export_at image c target ≡ Some index → IsWord target
+entry_address image formed c target index at = entry_by image formed c target index (slice_get image.comps c) refl at

@@ -1,0 +1,88 @@
+-- Each operator that answers on all words is its instructions.
+use Rattle.std.proofs.Common.{◌≡◌, ℕ, zero, suc, ◌+◌, ◌-◌, ◌*◌, ◌<◌, ◌≤◌, ◌%◌, ◌^◌, refl, sym, ap, ◌∙◌, arith, ℤ, pos, ◌+ℤ◌, ◌*ℤ◌, neg_ℤ, Bool, true, false, ◌&&◌, ◌||◌, nat_lt, bit_and, bit_or, bit_xor}
+use Rattle.std.specs.Prelude.{◌==◌, not, int_lt}
+use Rattle.std.proofs.Math.Nat.{add-mul, mul_comm}
+use Rattle.std.proofs.lemmas.Int.{ints}
+use Rattle.sc_word.specs.Word.{signed_of, word_of}
+use Rattle.sc_word.specs.Machine.{sub_word, sltu_word}
+use Rattle.sc_word.specs.OnAllWords.{IsOnWords, bit, SignedWraps, TestsAreWords, OperatorsAreInstructions}
+use Rattle.sc_word.proofs.Words.{word_of-add, word_of-sub, word_of-mul}
+
+zero_left : (z : ℤ) → pos 0 +ℤ z ≡ z
+zero_left z = omega (arith, ints)
+
+neg-times : (m k : ℕ) → neg_ℤ (pos m) *ℤ pos k ≡ neg_ℤ (pos (m * k))
+neg-times zero k = let none : 0 * k ≡ 0 = omega arith in rw none refl
+neg-times (suc n) k = refl
+
+negation : (a : ℕ) → a < 2 ^ 32 → word_of (neg_ℤ (signed_of a)) ≡ sub_word 0 a
+negation a p = ap word_of (sym (zero_left (neg_ℤ (signed_of a)))) ∙ sym (word_of-sub 0 a (omega arith) p)
+
+-- the word of -m, where m is not above some multiple of 2 ^ 32
+word_of_minus : (m k : ℕ) → m ≤ k * 2 ^ 32 → word_of (neg_ℤ (pos m)) ≡ (k * 2 ^ 32 - m) % 2 ^ 32
+word_of_minus zero k h = omega arith
+word_of_minus (suc n) k h = omega (arith, h)
+
+-- a times k, a read as signed
+times_by : (a k : ℕ) → a < 2 ^ 32 → (below : Bool) → nat_lt a (2 ^ 31) ≡ below → word_of (signed_of a *ℤ pos k) ≡ (a * k) % 2 ^ 32
+times_by a k p true is = let same : signed_of a ≡ pos a = grind arith in rw same refl
+times_by a k p false is =
+    let same : signed_of a ≡ neg_ℤ (pos (2 ^ 32 - a)) = grind arith in
+    let whole : (2 ^ 32 - a + a) * k ≡ (2 ^ 32 - a) * k + a * k = add-mul (2 ^ 32 - a) a k in
+    let full : (2 ^ 32 - a + a) * k ≡ k * 2 ^ 32 = ap (λ n. n * k) (let n : 2 ^ 32 - a + a ≡ 2 ^ 32 = omega (arith, p) in n) ∙ mul_comm (2 ^ 32) k in
+    let rest : k * 2 ^ 32 - (2 ^ 32 - a) * k ≡ a * k = omega (arith, whole, full) in
+    let bound : (2 ^ 32 - a) * k ≤ k * 2 ^ 32 = omega (arith, whole, full) in
+    let product : signed_of a *ℤ pos k ≡ neg_ℤ (pos ((2 ^ 32 - a) * k)) = rw same (neg-times (2 ^ 32 - a) k) in
+    ap word_of product ∙ word_of_minus ((2 ^ 32 - a) * k) k bound ∙ ap (λ n. n % 2 ^ 32) rest
+
+times : (a k : ℕ) → a < 2 ^ 32 → word_of (signed_of a *ℤ pos k) ≡ (a * k) % 2 ^ 32
+times a k p = times_by a k p (nat_lt a (2 ^ 31)) refl
+
+pub signed_wraps : SignedWraps
+signed_wraps = record {
+  sum = λ a b p q. sym (word_of-add a b p q);
+  difference = λ a b p q. sym (word_of-sub a b p q);
+  product = λ a b p q. sym (word_of-mul a b p q);
+  left_shift = λ a b p q. times a (2 ^ (b % 32)) p;
+  negation = negation;
+}
+
+equal : IsOnWords (λ a b. bit (a == b)) (λ a b. sltu_word (sub_word a b) 1)
+equal a b p q = grind arith
+
+not_equal : IsOnWords (λ a b. bit (not (a == b))) (λ a b. sltu_word 0 (sub_word a b))
+not_equal a b p q = grind arith
+
+flipped : (test : Bool) → bit (not test) ≡ bit_xor (bit test) 1
+flipped true = refl
+flipped false = refl
+
+either : (x y : Bool) → bit (x || y) ≡ bit_or (bit x) (bit y)
+either true true = refl
+either true false = refl
+either false true = refl
+either false false = refl
+
+both : (x y : Bool) → bit (x && y) ≡ bit_and (bit x) (bit y)
+both true true = refl
+both true false = refl
+both false true = refl
+both false false = refl
+
+not_zero : (a : ℕ) → not (a == 0) ≡ nat_lt 0 a
+not_zero a = grind arith
+
+pub tests_are_words : TestsAreWords
+tests_are_words = record {
+  equal = equal;
+  not_equal = not_equal;
+  signed_less = λ a b p q. refl;
+  unsigned_less = λ a b p q. refl;
+  signed_not_less = λ a b p q. flipped (int_lt (signed_of a) (signed_of b));
+  unsigned_not_less = λ a b p q. flipped (nat_lt a b);
+  either = λ a b p q. rw (not_zero a, not_zero b) (either (nat_lt 0 a) (nat_lt 0 b));
+  both = λ a b p q. rw (not_zero a, not_zero b) (both (nat_lt 0 a) (nat_lt 0 b));
+}
+
+pub operators_are_instructions : OperatorsAreInstructions
+operators_are_instructions = record { arithmetic = signed_wraps; tests = tests_are_words }
