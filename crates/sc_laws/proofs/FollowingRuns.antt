@@ -21,7 +21,8 @@ use Rattle.sc_core.specs.Calls.{Function, Library, Step, function, entered, begu
 use Rattle.sc_core.specs.Scripts.{roles_in, scripted_step}
 use Rattle.sc_core.specs.Meaning.{library_of, globals_of, exit_word, run_to, run_by, first_state}
 use Rattle.sc_laws.specs.Chains.{Set, IsWithin, nobody, with, Link, performed, IsChain, Includes, PassesBlame, turnless, longer}
-use Rattle.sc_laws.specs.Growth.{Front, last, IsStop, StopsSo}
+use Rattle.sc_core.specs.Growth.{Front}
+use Rattle.sc_laws.specs.Growth.{last, IsStop, StopsSo}
 use Rattle.sc_laws.specs.Steady.{now}
 use Rattle.sc_laws.specs.Laws.{IsFixed, MoreMayPerform, BlameIsPassed, BlameRemains, ChainIsLeast}
 use Rattle.sc_laws.proofs.Growing.{front_same, front_more, BodyGoes, within_goes}

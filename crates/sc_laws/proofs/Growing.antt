@@ -20,7 +20,8 @@ use Rattle.sc_core.specs.declared.value.Value.{Value}
 use Rattle.sc_core.specs.Words.{State, Here, Piece, Reached, Stopped, and_then, computed, turn_of, turn, tell, Left, Exit, Route, On, Out, Does, take, follow, in_order, in_loop, rounds, Calls}
 use Rattle.sc_core.specs.Calls.{Function, Library, Body, Step, function, entered, begun, done, found, word_in, crossing, crossed, first_word, option_value, next_input, read_input, may_call, back_own, back_cross, run_in, call_own, call_cross, called, calls, run_step, within}
 use Rattle.sc_core.specs.Scripts.{Roles, rows_left, is_number, acts, performs, scripted_step}
-use Rattle.sc_laws.specs.Growth.{Front, Grown, last, Gone}
+use Rattle.sc_core.specs.Growth.{Front}
+use Rattle.sc_laws.specs.Growth.{Grown, last, Gone}
 
 pub front_same : {A : Type 0} (xs : List A) → Front xs xs
 front_same xs = record { more = []; is = sym (append-nil xs) }

@@ -17,7 +17,8 @@ use Rattle.sc_core.specs.Words.{State, Piece, Reached, Stopped, and_then}
 use Rattle.sc_core.specs.Calls.{Library, Step, entered, found, call_own, run_step, within}
 use Rattle.sc_core.specs.Scripts.{Roles, scripted_step}
 use Rattle.sc_core.specs.Meaning.{library_of, exit_word, run_to, run_by, first_state}
-use Rattle.sc_laws.specs.Growth.{Front, last, IsStop, StopsSo, Gone}
+use Rattle.sc_core.specs.Growth.{Front}
+use Rattle.sc_laws.specs.Growth.{last, IsStop, StopsSo, Gone}
 use Rattle.sc_laws.proofs.Growing.{front_more, StepGoes, then_goes, found_goes, own_goes, within_goes}
 use Rattle.sc_laws.proofs.Expressions.{ArithKeeps}
 use Rattle.sc_laws.proofs.Libraries.{Anywhere, program_twins, entered_same}

@@ -10,7 +10,8 @@ use Rattle.sc_core.specs.Calls.{Step, run_step, within}
 use Rattle.sc_core.specs.Scripts.{Roles, scripted_step}
 use Rattle.sc_core.specs.Meaning.{library_of, scripted_by, scripted_meaning, scripted_wrapped}
 use Rattle.sc_laws.specs.Chains.{Set, IsWithin, nobody, Link, performed, IsChain, Includes, PassesBlame}
-use Rattle.sc_laws.specs.Growth.{Front, Gone}
+use Rattle.sc_core.specs.Growth.{Front}
+use Rattle.sc_laws.specs.Growth.{Gone}
 use Rattle.sc_laws.specs.Steady.{now, ExtendedByMore, AgreesUntilBlame}
 
 -- whatever a function of a program does, however many calls may be open in it, it goes on from the state in which it begins

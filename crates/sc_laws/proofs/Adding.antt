@@ -12,7 +12,7 @@ use Rattle.sc_core.specs.declared.value.Value.{Value}
 use Rattle.sc_core.specs.Growth.{Grown}
 use Rattle.sc_core.specs.Words.{State, Here, Piece, Reached, Stopped, and_then, turn, turn_of, tell, Calls}
 use Rattle.sc_core.specs.Calls.{Function, Library, Body, Step, function, entered, begun, done, found, word_in, crossed, may_call, back_own, back_cross, run_in, call_own, call_cross, called, calls, run_step, within}
-use Rattle.sc_core.proofs.Keeping.{Property, Kept, IsKept, then_kept, CallsKeep}
+use Rattle.sc_laws.proofs.Keeping.{Property, Kept, IsKept, then_kept, CallsKeep}
 
 pub grown_refl : (t : List Event) → Grown t t
 grown_refl t = record { more = []; is = sym (append-nil t) }

@@ -21,17 +21,17 @@ use Rattle.sc_core.specs.declared.run.RunEnd.{RunEnd}
 use Rattle.sc_core.specs.declared.run.RunEnd.TheVariants.{TurnsOut}
 use Rattle.sc_core.specs.declared.value.Value.{Value}
 use Rattle.sc_core.specs.declared.value.Value.TheVariants.{Word}
-use Rattle.sc_core.specs.Laws.{TracesAreLegal}
+use Rattle.sc_laws.specs.Laws.{TracesAreLegal}
 use Rattle.sc_core.specs.Memory.{Memory}
 use Rattle.sc_core.specs.Run.{stopped_at}
 use Rattle.sc_core.specs.Words.{State, Here, Piece, Reached, Stopped, and_then, turn, turn_of, tell}
 use Rattle.sc_core.specs.Calls.{Library, Body, Step, function, entered, begun, done, found, word_in, crossed, word_back, crossing, next_input, first_word, may_call, back_own, back_cross, run_in, call_own, call_cross, called, calls, run_step, within}
 use Rattle.sc_core.specs.Scripts.{Roles, roles_in, rows_left, is_number, acts, performs, scripted_step}
 use Rattle.sc_core.specs.Meaning.{library_of, globals_of, first_state, exit_word, run_to, run_by}
-use Rattle.sc_core.proofs.Keeping.{Property, Kept, IsKept, then_kept}
-use Rattle.sc_core.proofs.Growing.{IsHalt, found_kept, AreOpen}
-use Rattle.sc_core.proofs.Opening.{library_is_open}
-use Rattle.sc_core.proofs.Cuts.{cut_trace}
+use Rattle.sc_laws.proofs.Keeping.{Property, Kept, IsKept, then_kept}
+use Rattle.sc_laws.proofs.Adding.{IsHalt, found_kept, AreOpen}
+use Rattle.sc_laws.proofs.Opening.{library_is_open}
+use Rattle.sc_laws.proofs.Cuts.{cut_trace}
 
 both_true : (a b : Bool) → a ≡ true → b ≡ true → (a && b) ≡ true
 both_true a b h k = ap (λ x. x && b) h ∙ k
