@@ -1,4 +1,3 @@
-pub mod Adding
 pub mod Below
 pub mod BelowCalls
 pub mod Cuts
