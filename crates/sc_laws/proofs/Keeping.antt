@@ -1,11 +1,11 @@
 -- To show that every piece of a run keeps a property of states, show it of what changes memory, of turns and of calls.
-use Rattle.std.proofs.Common.{sym, subst, ℕ, zero, suc, Bool, true, false, List, [], ◌∷◌, map, length, Option, None, Some, Result, Ok, Err, if◌then◌else◌, ◌==◌, ◌&&◌}
+use Rattle.std.proofs.Common.{◌≡◌, refl, sym, subst, ℕ, zero, suc, Bool, true, false, List, [], ◌∷◌, map, length, Option, None, Some, Result, Ok, Err, if◌then◌else◌, ◌==◌, ◌&&◌}
 use Rattle.std.specs.Prelude.{bytes_eq, is_some}
 use Rattle.sc_core.specs.declared.cause.Cause.{Cause}
 use Rattle.sc_core.specs.declared.expr.CallTarget.{CallTarget}
 use Rattle.sc_core.specs.declared.expr.TypedExpr.{TypedExpr}
 use Rattle.sc_core.specs.declared.run.RunEnd.{RunEnd}
-use Rattle.sc_core.specs.declared.run.RunEnd.TheVariants.{Blamed, TurnsOut}
+use Rattle.sc_core.specs.declared.run.RunEnd.TheVariants.{Ended, Blamed, TurnsOut, EventsOut}
 use Rattle.sc_core.specs.declared.section.TypedStruct.{TypedStruct}
 use Rattle.sc_core.specs.declared.section.TypedLocal.{TypedLocal}
 use Rattle.sc_core.specs.declared.section.TypedFunction.{TypedFunction}
@@ -20,11 +20,11 @@ use Rattle.sc_core.specs.declared.value.Want.{Want}
 use Rattle.sc_core.specs.declared.value.Want.TheVariants as want
 use Rattle.sc_core.specs.Memory.{Blocks, with_blocks, store}
 use Rattle.sc_core.specs.Value.{Arith, is_true}
-use Rattle.sc_core.specs.Words.{State, Here, Piece, Reached, Stopped, and_then, computed, turn, Exit, Next, Break, Continue, Return, Left, Does, leave, Route, On, Out, in_order, in_loop, take, follow, all_do, rounds, loop, choose, Calls}
+use Rattle.sc_core.specs.Words.{State, Here, Piece, Reached, Stopped, and_then, computed, turn, Exit, Next, Break, Continue, Return, Left, Does, leave, stored, Route, On, Out, in_order, in_loop, take, follow, all_do, rounds, loop, choose, Calls}
 use Rattle.sc_core.specs.declared.expr.VarRef.TheVariants.{Local}
-use Rattle.sc_core.specs.Tree.{Ways, Acts, at_place, variable_at, values, given, stored, store_at, assign, test, store_result, call, assign_call, call_alone, ways, simple_does, part_does, kind_step, stmt_step, stmt_does, block_does}
-use Rattle.sc_core.specs.Calls.{main_name}
-use Rattle.sc_core.specs.Meaning.{at_brace, closed, init_does, inits_do, body_does, function_of}
+use Rattle.sc_core.specs.Tree.{Ways, Acts, at_place, variable_at, values, given, store_at, assign, test, store_result, call, assign_call, call_alone, ways, simple_does, part_does, kind_step, stmt_step, stmt_does, block_does}
+use Rattle.sc_core.specs.Calls.{Function, Library, function, found}
+use Rattle.sc_core.specs.Meaning.{main_name, at_brace, closed, init_does, inits_do, body_does, function_of}
 use Rattle.sc_core.proofs.Layers.{stmt_at, layer_of}
 use Rattle.sc_core.proofs.Induction.{Each, everywhere, Inside, stmt_induction}
 
@@ -79,7 +79,7 @@ module _ (K : Property) (here : Here) (kept : IsKept K here) where
   pub rounds_kept : {A : Type 0} (n : ℕ) (head body next : Does A) → DoesKeep K head → DoesKeep K body → DoesKeep K next → DoesKeep K (rounds n head body next)
   rounds_kept zero head body next kh kb kn a s h = record { after = kept.out s h }
   rounds_kept (suc n) head body next kh kb kn a s h =
-      follow_kept in_loop (head a s) (λ a s. and_then (turn s) (λ _ s. follow in_loop (body a s) (λ a s. follow in_order (next a s) (rounds n head body next)))) (kh a s h) (λ b t g. then_kept K (turn t) (λ _ s. follow in_loop (body b s) (λ a s. follow in_order (next a s) (rounds n head body next))) (kept.turned t g) (λ u t g. follow_kept in_loop (body b t) (λ a s. follow in_order (next a s) (rounds n head body next)) (kb b t g) (λ c t g. follow_kept in_order (next c t) (rounds n head body next) (kn c t g) (rounds_kept n head body next kh kb kn))))
+      follow_kept in_loop (head a s) (λ a s. and_then (turn s) (λ _ s. follow in_loop (body a s) (λ a s. follow in_loop (next a s) (rounds n head body next)))) (kh a s h) (λ b t g. then_kept K (turn t) (λ _ s. follow in_loop (body b s) (λ a s. follow in_loop (next a s) (rounds n head body next))) (kept.turned t g) (λ u t g. follow_kept in_loop (body b t) (λ a s. follow in_loop (next a s) (rounds n head body next)) (kb b t g) (λ c t g. follow_kept in_loop (next c t) (rounds n head body next) (kn c t g) (rounds_kept n head body next kh kb kn))))
 
   pub loop_kept : {A : Type 0} (head body next : Does A) → DoesKeep K head → DoesKeep K body → DoesKeep K next → DoesKeep K (loop head body next)
   loop_kept head body next kh kb kn a s h = rounds_kept (suc s.turns) head body next kh kb kn a s h
@@ -93,7 +93,7 @@ module _ (K : Property) (here : Here) (kept : IsKept K here) where
   pub given_kept : (want : Want) (e : Ways) (line : ℕ) (s : State) → K.Goes s → Kept K (given here want e line s)
   given_kept want e line s h = computed_kept line (e want (s.memory here.comp)) s h
 
-  pub stored_kept : (q v : Value) (line : ℕ) → DoesKeep K (stored here q v line)
+  pub stored_kept : (q v : Value) (line : ℕ) → DoesKeep K (stored {A = Unit {0}} here q v line)
   stored_kept q v line a s h =
       then_kept K (computed here line (store (s.memory here.comp) q v) s) (λ blocks s. leave Next a (record s { memory = with_blocks here.comp blocks s.memory })) (computed_kept line (store (s.memory here.comp) q v) s h) (λ blocks s h. record { after = kept.memory s blocks h })
 
@@ -204,3 +204,23 @@ module _ (K : Property) (here : Here) (kept : IsKept K here) where
     pub function_kept : (arith : Arith) (main : ℕ) (structs : List TypedStruct) (f : TypedFunction) (s : State) → K.Goes s → Kept K ((function_of arith main structs f).does calls here s)
     function_kept arith main structs f s h =
         then_kept K (body_does arith structs here (length f.params) calls f tt s) (λ left s. closed left.exit (is_some f.result) (here.comp == main && bytes_eq f.name main_name) f.close_line here s) (body_kept arith structs (length f.params) f tt s h) (λ left s h. closed_kept left.exit (is_some f.result) (here.comp == main && bytes_eq f.name main_name) f.close_line s h)
+
+-- how a piece of a run can stop: `Ended` is told of a whole run alone, and `EventsOut` of one that is stopped
+abbrev pub IsHalt : RunEnd → Type 0
+IsHalt Ended = ⊥
+IsHalt (Blamed comp cause line) = Unit {0}
+IsHalt TurnsOut = Unit {0}
+IsHalt EventsOut = ⊥
+
+-- what is looked up is there, or the run stops
+pub found_kept : (K : Property) {V W : Type 0} (option : Option V) (s : State) (go : V → State → Piece W) → K.Ends TurnsOut s → ((v : V) → option ≡ Some v → Kept K (go v s)) → Kept K (and_then (found option s) go)
+found_kept K None s go h k = record { after = h }
+found_kept K (Some v) s go h k = k v refl
+
+-- a function whose pieces keep what its calls keep
+pub record IsOpen (f : Function) : Type 1 where
+  pub keeps : (K : Property) (here : Here) (kept : IsKept K here) (by : Calls) → CallsKeep K here kept by → (s : State) → K.Goes s → Kept K (f.does by here s)
+
+-- each function of a library is so
+pub record AreOpen (library : Library) : Type 1 where
+  pub function_keeps : (comp number : ℕ) (f : Function) → function library comp number ≡ Some f → IsOpen f

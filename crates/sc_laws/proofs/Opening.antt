@@ -8,8 +8,7 @@ use Rattle.sc_core.specs.declared.section.TypedSection.{TypedSection}
 use Rattle.sc_core.specs.Value.{Arith}
 use Rattle.sc_core.specs.Calls.{Function}
 use Rattle.sc_core.specs.Meaning.{function_of, functions_in, library_of}
-use Rattle.sc_core.proofs.Keeping.{function_kept}
-use Rattle.sc_core.proofs.Growing.{IsOpen, AreOpen}
+use Rattle.sc_laws.proofs.Keeping.{function_kept, IsOpen, AreOpen}
 
 pub function_is_open : (arith : Arith) (main : ℕ) (structs : List TypedStruct) (f : TypedFunction) → IsOpen (function_of arith main structs f)
 function_is_open arith main structs f =

@@ -8,7 +8,7 @@ use Rattle.sc_core.specs.declared.run.RunEnd.{RunEnd}
 use Rattle.sc_core.specs.declared.run.RunEnd.TheVariants.{Ended, Blamed, TurnsOut, EventsOut}
 use Rattle.sc_core.specs.declared.run.SourceRun.{SourceRun}
 use Rattle.sc_core.specs.Run.{reaches, stopped_at}
-use Rattle.sc_core.specs.Growth.{Grown}
+use Rattle.sc_core.specs.Growth.{Front}
 
 abbrev pub run : List Event → RunEnd → SourceRun
 run trace end = record { trace = trace; end = end }
@@ -69,21 +69,21 @@ cut_trace n t end = by_cut (cut n t end) where
   by_cut (kept whole is) = ap (λ x. x.trace) is ∙ sym (take_all n t (whole_le n (length t) end whole))
   by_cut (stopped many is) = ap (λ x. x.trace) is
 
-front : (n m : ℕ) (t more : List Event) → n ≤ m → Grown (take n t) (take m (t ++ more))
+front : (n m : ℕ) (t more : List Event) → n ≤ m → Front (take n t) (take m (t ++ more))
 front zero m t more le = record { more = take m (t ++ more); is = refl }
 front (suc n) m [] more le = record { more = take m more; is = refl }
 front (suc n) zero (e ∷ t) more le = elim (none n le) [ ] where
   none : (n : ℕ) → suc n ≤ zero → ⊥
   none n h = omega (arith, h)
 front (suc n) (suc m) (e ∷ t) more le =
-    let g : Grown (take n t) (take m (t ++ more)) = front n m t more (less n m le) in
+    let g : Front (take n t) (take m (t ++ more)) = front n m t more (less n m le) in
     record { more = g.more; is = ap (λ x. e ∷ x) g.is } where
       less : (n m : ℕ) → suc n ≤ suc m → n ≤ m
       less n m h = omega (arith, h)
 
-pub front_grows : (n m : ℕ) (t u : List Event) → n ≤ m → Grown t u → Grown (take n t) (take m u)
-front_grows n m t u le g = subst (λ x. Grown (take n t) (take m x)) (sym g.is) (front n m t g.more le)
+pub front_grows : (n m : ℕ) (t u : List Event) → n ≤ m → Front t u → Front (take n t) (take m u)
+front_grows n m t u le g = subst (λ x. Front (take n t) (take m x)) (sym g.is) (front n m t g.more le)
 
 -- two traces have the same front, as long as the shorter one goes
-pub take_front : (n : ℕ) (t u : List Event) → n ≤ length t → Grown t u → take n u ≡ take n t
+pub take_front : (n : ℕ) (t u : List Event) → n ≤ length t → Front t u → take n u ≡ take n t
 take_front n t u few g = ap (take n) g.is ∙ take-append-le n t g.more few
