@@ -1,10 +1,12 @@
 -- The memory of rows, as rows are made and change.
-use Rattle.std.proofs.Common.{◌≡◌, refl, sym, ap, ◌∙◌, subst, ℕ, zero, suc, ◌<◌, ◌≤◌, ◌==◌, Bool, true, false, if◌then◌else◌, List, [], ◌∷◌, ◌++◌, map, length, get_or, arith, tests, rules}
+use Rattle.std.proofs.Common.{◌≡◌, refl, sym, ap, ◌∙◌, subst, ℕ, zero, suc, ◌<◌, ◌≤◌, ◌==◌, Bool, true, false, if◌then◌else◌, List, [], ◌∷◌, ◌++◌, length, get_or, arith}
 use Rattle.std.specs.Prelude.{slice_index_or, slice_set}
 use Rattle.std.proofs.Math.Dec.{eqb-suc-zero, eqb-zero-suc, eqb-suc-suc}
+use Rattle.std.proofs.lemmas.Bool.{eqb-true}
 use Rattle.std.proofs.lemmas.List.{get_or_default}
-use Rattle.sc_core.specs.Memory.{Block, Blocks, Memory, with_blocks}
-use Rattle.sc_blocks.specs.Rows.{memory_of}
+use Rattle.sc_core.specs.Memory.{Blocks, Memory, with_blocks}
+use Rattle.sc_blocks.specs.Rows.{memory_of, cleared}
+use Rattle.sc_blocks.proofs.Ending.{nothing_cleared}
 
 row_of_more : (rows : List Blocks) (comp : ℕ) → slice_index_or (rows ++ [] ∷ []) comp [] ≡ slice_index_or rows comp []
 row_of_more [] zero = refl
@@ -40,3 +42,18 @@ pub memory_changed : (rows : List Blocks) (memory : Memory) (at comp : ℕ) (old
 memory_changed rows memory at comp old row f is same there looked gives =
     ap (λ n. memory_of (slice_set rows n row)) same ∙ memory_set rows comp row there
     ∙ (λ i. with_blocks comp ((gives ∙ ap f (row_is rows memory at comp old is same there looked)) i) (is i))
+
+no_row : (rows : List Blocks) (comp : ℕ) → length rows ≤ comp → slice_index_or rows comp [] ≡ []
+no_row [] comp h = refl
+no_row (row ∷ rows) zero h = absurd (omega (arith, h))
+no_row (row ∷ rows) (suc comp) h = no_row rows comp (omega (arith, h))
+
+same_at : (memory : Memory) (comp c : ℕ) (b : Bool) → (c == comp) ≡ b → memory c ≡ (if b then memory comp else memory c)
+same_at memory comp c true is = ap memory (eqb-true c comp is)
+same_at memory comp c false is = refl
+
+-- a compartment without a row has no blocks that could end
+pub none_end : (rows : List Blocks) (comp first count : ℕ) → length rows ≤ comp → memory_of rows ≡ with_blocks comp (cleared first count (memory_of rows comp)) (memory_of rows)
+none_end rows comp first count h =
+    (λ i c. same_at (memory_of rows) comp c (c == comp) refl i)
+    ∙ ap (λ bs. with_blocks comp bs (memory_of rows)) (no_row rows comp h ∙ sym (nothing_cleared first count) ∙ ap (cleared first count) (sym (no_row rows comp h)))

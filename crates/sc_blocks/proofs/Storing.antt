@@ -1,19 +1,17 @@
 -- A store into one block of a row.
-use Rattle.std.proofs.Common.{◌≡◌, refl, sym, ap, ◌∙◌, subst, ℕ, ◌<◌, Bool, true, false, List, [], ◌∷◌, map, length, get_or, Option, None, Some, Result, Ok, Err, MatchResult, OnErr, arith}
+use Rattle.std.proofs.Common.{◌≡◌, refl, sym, ap, ◌∙◌, ℕ, ◌<◌, List, map, length, get_or, Option, Some, Result, Ok, Err, MatchResult}
 use Rattle.std.specs.Prelude.{slice_get, slice_set}
 use Rattle.std.specs.Option.{option_map}
 use Rattle.std.proofs.lemmas.Option.{slice_get-map, slice_get_read}
-use Rattle.std.proofs.lemmas.List.{map-set, set-get_or}
+use Rattle.std.proofs.lemmas.List.{map-set}
 use Rattle.sc_core.specs.declared.cause.Cause.{Cause}
 use Rattle.sc_core.specs.declared.value.Cell.{Cell}
 use Rattle.sc_core.specs.declared.value.Cell.TheVariants.{Ptr}
 use Rattle.sc_core.specs.declared.value.Pointer.{Pointer}
-use Rattle.sc_core.specs.Memory.{Block, Blocks, bind, is_live, live_cells, cells_at}
+use Rattle.sc_core.specs.Memory.{Block, Blocks, bind, live_cells, cells_at}
 use Rattle.sc_blocks.specs.declared.fault.BlockFault.{BlockFault}
 use Rattle.sc_blocks.specs.Rows.{cause_of, living, put_in, store_cell}
 use Rattle.sc_blocks.specs.Cells.{block_of, stored_in}
-use Rattle.sc_blocks.specs.Living.{Lists}
-use Rattle.sc_blocks.proofs.Ending.{Less, less_refl, less_live, lists_less}
 
 in_block : (bs : Blocks) (k : ℕ) (q : Result (List Cell) Cause) → bind q (λ cells. Ok (slice_set bs k (living cells))) ≡ bind (bind q (λ cells. Ok (living cells))) (λ block. Ok (slice_set bs k block))
 in_block bs k (Err cause) = refl
@@ -43,16 +41,3 @@ module _ (os : List (Option (List Cell))) (p : Pointer) (cell : Cell) (b c : Opt
   stored (Ok done) h =
       store_is row p cell (block_of b) found ∙ ap (λ q. bind q (λ block. Ok (slice_set row p.block block))) h ∙ ap Ok (sym (map-set block_of os p.block c))
   stored (Err fault) h = store_is row p cell (block_of b) found ∙ ap (λ q. bind q (λ block. Ok (slice_set row p.block block))) h
-
-  lives : (b : Option (List Cell)) (block : Block) → stored_in (block_of b) p.index cell ≡ Ok block → (block_of b).live ≡ true
-  lives None block h = cc h
-  lives (Some cells) block h = refl
-
-  less : (r : Result (Unit {0}) BlockFault) → MatchResult r (λ _. stored_in (block_of b) p.index cell ≡ Ok (block_of c)) (λ fault. stored_in (block_of b) p.index cell ≡ Err (cause_of fault)) → OnErr r (c ≡ b) → Less after row
-  less (Ok done) h same =
-      subst (λ bs. Less bs row) (sym (map-set block_of os p.block c)) (less_live row p.block (block_of c) (ap is_live found ∙ lives b (block_of c) h))
-  less (Err fault) h same =
-      subst (λ x. Less (map block_of (slice_set os p.block x)) row) (sym same) (subst (λ xs. Less (map block_of xs) row) (sym (ap (slice_set os p.block) old ∙ set-get_or os p.block b)) (less_refl row))
-
-  pub still_lists : (numbers : List ℕ) (r : Result (Unit {0}) BlockFault) → MatchResult r (λ _. stored_in (block_of b) p.index cell ≡ Ok (block_of c)) (λ fault. stored_in (block_of b) p.index cell ≡ Err (cause_of fault)) → OnErr r (c ≡ b) → Lists numbers row → Lists numbers after
-  still_lists numbers r h same l = lists_less numbers after row (less r h same) l

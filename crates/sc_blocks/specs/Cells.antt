@@ -1,13 +1,13 @@
--- One block, and a store into it.
-use Rattle.std.specs.Prelude.{ℕ, List, Option, None, Some, Result, Ok, Err}
+-- Helping: one block, and a store into it.
+use Rattle.std.specs.Prelude.{ℕ, List, Option, None, Some, Result, Ok}
 use Rattle.sc_core.specs.declared.cause.Cause.{Cause}
 use Rattle.sc_core.specs.declared.value.Cell.{Cell}
 use Rattle.sc_core.specs.Memory.{Block, bind, live_cells}
-use Rattle.sc_blocks.specs.Rows.{living, ended, put_in}
+use Rattle.sc_blocks.specs.Rows.{living, ended_block, put_in}
 
 -- a block that lives, by its cells, or else one that has ended
 abbrev pub block_of : Option (List Cell) → Block
-block_of None = ended
+block_of None = ended_block
 block_of (Some cells) = living cells
 
 -- the block once the cell at an index is another

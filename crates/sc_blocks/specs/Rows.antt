@@ -1,10 +1,10 @@
--- Rows of blocks as a memory, and loads and stores of single cells (C11 6.2.4, 6.5.3.2, 6.5.6).
-use Rattle.std.specs.Prelude.{ℕ, Bool, true, false, if◌then◌else◌, nat_lt, List, [], ◌∷◌, length, replicate, Option, None, Some, Result, Ok, Err, slice_get, slice_set, slice_index_or, MatchResult, ◌≡◌}
+-- Helping: rows of blocks as a memory, and loads and stores of single cells (C11 6.2.4, 6.5.3.2, 6.5.6).
+use Rattle.std.specs.Prelude.{ℕ, Bool, true, false, if◌then◌else◌, nat_lt, List, [], length, map, Option, None, Some, Result, Ok, Err, slice_get, slice_set, slice_index_or}
 use Rattle.sc_core.specs.declared.cause.Cause.{Cause}
 use Rattle.sc_core.specs.declared.cause.Cause.TheVariants as cause
 use Rattle.sc_core.specs.declared.value.Cell.{Cell}
 use Rattle.sc_core.specs.declared.value.Cell.TheVariants.{Undef, Word, Null, Ptr}
-use Rattle.sc_core.specs.Memory.{Block, Blocks, Memory, bind, is_live, cells_at}
+use Rattle.sc_core.specs.Memory.{Block, Blocks, Memory, bind, is_live, cells_at, ended}
 use Rattle.sc_blocks.specs.declared.fault.BlockFault.{BlockFault}
 use Rattle.sc_blocks.specs.declared.fault.BlockFault.TheVariants.{OutOfBounds, Dangling, NullUse, Indeterminate}
 
@@ -28,8 +28,16 @@ abbrev pub living : List Cell → Block
 living cells = record { live = true; cells = cells }
 
 -- a block that has ended: it keeps its number, and gives its cells back
-abbrev pub ended : Block
-ended = record { live = false; cells = [] }
+abbrev pub ended_block : Block
+ended_block = record { live = false; cells = [] }
+
+-- a block that has ended gives its cells back
+abbrev pub given_back : Block → Block
+given_back block = if block.live then block else ended_block
+
+-- the blocks once so many of them, from a number on, have ended, with cells for those alone that live
+abbrev pub cleared : (first count : ℕ) → Blocks → Blocks
+cleared first count blocks = map given_back (ended first count blocks)
 
 -- a place, or null
 abbrev pub is_place : Cell → Bool

@@ -1,8 +1,7 @@
-ghost use Rattle.std.specs.Prelude.{◌≡◌, ◌<◌, ◌^◌, ℕ, [], ◌∷◌, ◌++◌, length, replicate, IfOk, OnOk, OnErr, Ok, Err, MatchResult, IsTrue, slice_get, slice_set};
+ghost use Rattle.std.specs.Prelude.{◌≡◌, ◌<◌, ◌^◌, ℕ, [], ◌∷◌, ◌++◌, length, replicate, IfOk, OnOk, OnErr, Ok, Err, MatchResult, IsTrue, slice_get};
 ghost use Rattle.sc_core.specs.declared.value.Cell.TheVariants.{Undef};
-ghost use Rattle.sc_core.specs.Memory.{with_blocks, is_live};
-ghost use Rattle.sc_blocks.specs.Rows.{memory_of, or_cause, cause_of, living, ended, is_place, load_cell, store_cell, cell_count};
-ghost use Rattle.sc_blocks.specs.Living.{left_from};
+ghost use Rattle.sc_core.specs.Memory.{with_blocks};
+ghost use Rattle.sc_blocks.specs.Rows.{memory_of, or_cause, cause_of, living, cleared, is_place, load_cell, store_cell, cell_count};
 
 use crate::BlockFault;
 use crate::cells::Cells;
@@ -97,24 +96,13 @@ impl Blocks {
         }
     }
 
-    /// Ends a block, whose cells are given back (C11 6.2.4p2).
-    pub fn end_block(&mut self, comp: CompId, block: u64)
-        requires { IsTrue (is_live (slice_get (memory_of self.old comp) block)) }
-        ensures { memory_of self.new ≡ with_blocks comp (slice_set (memory_of self.old comp) block ended) (memory_of self.old) }
+    /// Ends so many blocks of the compartment, from a number on, as at a return (C11 6.2.4p2). Their cells are given back.
+    pub fn end(&mut self, comp: CompId, first: u64, count: u64)
+        ensures { memory_of self.new ≡ with_blocks comp (cleared first count (memory_of self.old comp)) (memory_of self.old) }
     {
         if (comp.number() as usize) < self.rows.len() {
             let row = &mut self.rows[comp.number() as usize];
-            row.end(block as usize);
-        }
-    }
-
-    /// Ends all blocks of the compartment from a number on, as at a return. This takes time for those alone that live.
-    pub fn end_from(&mut self, comp: CompId, first: u64)
-        ensures { memory_of self.new ≡ with_blocks comp (left_from first (memory_of self.old comp)) (memory_of self.old) }
-    {
-        if (comp.number() as usize) < self.rows.len() {
-            let row = &mut self.rows[comp.number() as usize];
-            row.end_from(first as usize);
+            row.end(first as usize, count as usize);
         }
     }
 

@@ -9,6 +9,3 @@ mod row;
 pub use blocks::Blocks;
 pub use fault::BlockFault;
 pub use sc_core::{Cell, Pointer};
-
-#[cfg(test)]
-mod tests;

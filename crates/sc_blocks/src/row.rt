@@ -1,10 +1,9 @@
-ghost use Rattle.std.specs.Prelude.{◌≡◌, ◌<◌, [], ◌∷◌, ◌++◌, length, map, reverse, OnOk, OnErr, Ok, Err, MatchResult, slice_get, slice_set};
+ghost use Rattle.std.specs.Prelude.{◌≡◌, [], ◌∷◌, ◌++◌, length, OnOk, OnErr, Ok, Err, MatchResult, slice_get};
 ghost use Rattle.std.specs.Option.{option_copied};
 ghost use Rattle.sc_core.specs.declared.value.Cell.TheVariants.{Ptr};
 ghost use Rattle.sc_core.specs.Memory.{is_live, cells_at};
 ghost use Rattle.sc_blocks.specs.Cells.{block_of, stored_in};
-ghost use Rattle.sc_blocks.specs.Living.{left_from, newest_from};
-ghost use Rattle.sc_blocks.specs.Rows.{or_cause, cause_of, living, ended, held, load_cell, store_cell, cell_count};
+ghost use Rattle.sc_blocks.specs.Rows.{or_cause, cause_of, living, cleared, held, load_cell, store_cell, cell_count};
 
 use crate::BlockFault;
 use crate::cells::Cells;
@@ -16,21 +15,16 @@ use std::marker::Model;
 #[derive(Drop)]
 pub struct Row {
     blocks: Vec<Option<Cells>>,
-    // The numbers of the blocks that live, and maybe of some that were ended one by one.
-    living: Vec<usize>,
 }
 
 impl Model for Row {
-    ghost use Rattle.std.specs.Prelude.{List, map, reverse};
+    ghost use Rattle.std.specs.Prelude.{List, map};
     ghost use Rattle.sc_core.specs.Memory.{Block};
     ghost use Rattle.sc_blocks.specs.Cells.{block_of};
-    ghost use Rattle.sc_blocks.specs.Living.{Lists};
 
     ghost Value = { List Block };
 
     ghost view = { λ row. map block_of row.blocks.items };
-
-    ghost invariant = { λ row. Lists (reverse row.living.items) (map block_of row.blocks.items) };
 }
 
 impl Row {
@@ -39,7 +33,6 @@ impl Row {
     {
         Row {
             blocks: Vec::new(alloc),
-            living: Vec::new(alloc),
         }
     }
 
@@ -54,28 +47,17 @@ impl Row {
         ensures ok { OnOk result (self.new ≡ self.old ++ living cells ∷ []) }
         ensures err { OnErr result (self.new ≡ self.old) }
     {
-        self.living.reserve(1)?;
         self.blocks.push(Some(cells))?;
-        self.living.push(self.blocks.len() - 1)?;
         Ok(())
     }
 
-    /// Ends a block, if it is there.
-    pub fn end(&mut self, block: usize)
-        ensures { self.new ≡ slice_set self.old block ended }
+    /// Ends so many blocks, from a number on. Those that were never made stay so.
+    pub fn end(&mut self, first: usize, count: usize)
+        ensures { self.new ≡ cleared first count self.old }
     {
-        end_in(&mut self.blocks, block);
-    }
-
-    /// Ends all blocks from a number on. This takes time for those alone that live.
-    pub fn end_from(&mut self, first: usize)
-        ensures { self.new ≡ left_from first self.old }
-    {
-        while is_newest_from(&self.living, first) {
-            let Some(newest) = self.living.pop() else {
-                return;
-            };
-            end_in(&mut self.blocks, newest);
+        let end = first.saturating_add(count).min(self.blocks.len());
+        for block in first..end {
+            self.blocks[block] = None;
         }
     }
 
@@ -147,23 +129,6 @@ impl Row {
             return Err(BlockFault::Dangling);
         }
         put(&mut self.blocks[block], place.index, cell)
-    }
-}
-
-fn is_newest_from(numbers: &[usize], first: usize) -> bool
-    ensures { result ≡ newest_from first (reverse numbers.now) }
-{
-    match numbers {
-        [] => false,
-        [.., newest] => first <= *newest,
-    }
-}
-
-fn end_in(blocks: &mut Vec<Option<Cells>>, block: usize)
-    ensures { map block_of blocks.new.items ≡ slice_set (map block_of blocks.old.items) block ended }
-{
-    if block < blocks.len() {
-        blocks[block] = None;
     }
 }
 

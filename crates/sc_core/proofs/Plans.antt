@@ -18,9 +18,9 @@ use Rattle.sc_core.specs.Types.{variables}
 use Rattle.sc_core.specs.Sizes.{total, init_nodes, local_nodes, nodes, frame_bound}
 use Rattle.sc_core.specs.Words.{Here, and_then, Next, leave, follow, in_order, all_do}
 use Rattle.sc_core.specs.Tree.{Acts, at_place, variable_at, assign}
-use Rattle.sc_core.specs.Calls.{Function, Library, main_name, run_step}
+use Rattle.sc_core.specs.Calls.{Function, Library, run_step}
 use Rattle.sc_core.specs.Scripts.{roles_in, scripted_step}
-use Rattle.sc_core.specs.Meaning.{closed, inits_do, function_of, functions_in, library_of, globals_of, Run, run_by, run_of, scripted_run_of}
+use Rattle.sc_core.specs.Meaning.{closed, inits_do, function_of, functions_in, library_of, globals_of, Run, run_by, run_of, scripted_run_of, main_name, entry_in}
 use Rattle.sc_core.proofs.Measures.{shape_nodes, nodes_is, lines_nodes, lines_nodes_are}
 use Rattle.sc_core.proofs.Shapes.{Shape, expr, Lines, stmts, way, way_is, lines_do, lines_are}
 
@@ -107,11 +107,11 @@ module _ (arith : Arith) (structs : List TypedStruct) (here : Here) (params : �
 module _ (arith : Arith) (main : ℕ) where
   abbrev pub quick : List TypedStruct → Plan → Function
   quick structs plan =
-      record { name = plan.name; cells = variables structs (function plan); room = frame_bound (variables structs (function plan)) (plan_nodes plan); does = λ by here s. and_then (follow in_order (all_do (slots_do arith structs here (length (map param plan.params)) 0 plan.locals) tt s) (all_do (lines_do arith structs here (length (map param plan.params)) by plan.body))) (λ left s. closed left.exit (is_some plan.result) (here.comp == main && bytes_eq plan.name main_name) plan.close_line here s) }
+      record { cells = variables structs (function plan); room = frame_bound (variables structs (function plan)) (plan_nodes plan); does = λ by here s. and_then (follow in_order (all_do (slots_do arith structs here (length (map param plan.params)) 0 plan.locals) tt s) (all_do (lines_do arith structs here (length (map param plan.params)) by plan.body))) (λ left s. closed left.exit (is_some plan.result) (here.comp == main && bytes_eq plan.name main_name) plan.close_line here s) }
 
   pub function_is : (structs : List TypedStruct) (plan : Plan) → function_of arith main structs (function plan) ≡ quick structs plan
   function_is structs plan = λ i.
-      record { name = plan.name; cells = variables structs (function plan); room = frame_bound (variables structs (function plan)) (plan_nodes_is plan i); does = λ by here s. and_then (follow in_order (all_do (inits_are arith structs here (length (map param plan.params)) 0 plan.locals i) tt s) (all_do (lines_are arith structs here (length (map param plan.params)) by plan.body i))) (λ left s. closed left.exit (is_some plan.result) (here.comp == main && bytes_eq plan.name main_name) plan.close_line here s) }
+      record { cells = variables structs (function plan); room = frame_bound (variables structs (function plan)) (plan_nodes_is plan i); does = λ by here s. and_then (follow in_order (all_do (inits_are arith structs here (length (map param plan.params)) 0 plan.locals i) tt s) (all_do (lines_are arith structs here (length (map param plan.params)) by plan.body i))) (λ left s. closed left.exit (is_some plan.result) (here.comp == main && bytes_eq plan.name main_name) plan.close_line here s) }
 
   pub functions_are : (structs : List TypedStruct) (plans : List Plan) → map (function_of arith main structs) (map function plans) ≡ map (quick structs) plans
   functions_are structs [] = refl
@@ -126,10 +126,10 @@ module _ (arith : Arith) (main : ℕ) where
 
 module _ (arith : Arith) (interfaces : Interfaces) (sheets : List Sheet) where
   abbrev pub quick_library : Library
-  quick_library = record { interfaces = interfaces; functions = map (quick_section arith interfaces.main) sheets }
+  quick_library = record { interfaces = interfaces; functions = map (quick_section arith interfaces.main) sheets; entered = entry_in (program interfaces sheets) }
 
   pub library_is : library_of arith (program interfaces sheets) ≡ quick_library
-  library_is = λ i. record { interfaces = interfaces; functions = sections_are arith interfaces.main sheets i }
+  library_is = λ i. record { interfaces = interfaces; functions = sections_are arith interfaces.main sheets i; entered = entry_in (program interfaces sheets) }
 
   module _ (inputs : List ℕ) (turns : ℕ) where
     abbrev pub quick_run : Run

@@ -1,6 +1,6 @@
 -- Calls: the variables and the frame of a function begin, its body runs, and they end (C11 6.2.4, 6.5.2.2). The same for trees and for code.
-use Rattle.std.specs.Prelude.{ℕ, zero, suc, ◌++◌, Bool, true, ◌&&◌, if◌then◌else◌, List, [], ◌∷◌, codes, bytes_eq, length, map, replicate, drop, Option, None, Some, slice_get, slice_index_or}
-use Rattle.std.specs.List.{position}
+use Rattle.std.specs.Prelude.{ℕ, zero, suc, ◌++◌, Bool, true, false, ◌&&◌, ◌==◌, if◌then◌else◌, List, [], ◌∷◌, length, map, replicate, drop, Option, None, Some, is_some, slice_get, slice_index_or}
+use Rattle.std.specs.List.{list_all}
 use Rattle.sc_event.specs.declared.event.Event.TheVariants.{Call, Ret, Out, In}
 use Rattle.sc_event.specs.Lookup.{export_at}
 use Rattle.sc_event.specs.Legal.{is_input, is_output, is_function, imports, takes}
@@ -8,42 +8,33 @@ use Rattle.sc_event.specs.declared.interface.Scalar.{Scalar}
 use Rattle.sc_event.specs.declared.interface.Interfaces.{Interfaces}
 use Rattle.sc_event.specs.declared.interface.Proto.{Proto}
 use Rattle.sc_event.specs.declared.row.Entry.{Entry}
-use Rattle.sc_event.specs.declared.row.Entry.TheVariants.{Main, Export}
+use Rattle.sc_event.specs.declared.row.Entry.TheVariants.{Export}
+use Rattle.sc_core.specs.declared.cause.Cause.TheVariants.{BadType}
 use Rattle.sc_core.specs.declared.expr.CallTarget.{CallTarget}
 use Rattle.sc_core.specs.declared.expr.CallTarget.TheVariants.{Own, Cross, Input, Output}
-use Rattle.sc_core.specs.declared.run.RunEnd.TheVariants.{TurnsOut}
+use Rattle.sc_core.specs.declared.run.RunEnd.TheVariants.{Blamed, TurnsOut}
 use Rattle.sc_core.specs.declared.value.Cell.TheVariants.{Undef}
 use Rattle.sc_core.specs.declared.value.Value.{Value}
 use Rattle.sc_core.specs.declared.value.Value.TheVariants.{Word, Null, Ptr}
-use Rattle.sc_core.specs.Memory.{Blocks, with_blocks, cell_of, ended_from}
+use Rattle.sc_core.specs.Memory.{Blocks, with_blocks, cell_of, ended}
 use Rattle.sc_core.specs.Words.{Opened, Closed, State, Here, Piece, Reached, Stopped, and_then, turn, tell, Calls}
 
--- a function as a call sees it, whatever it is written in: its name, the cells of its variables, parameters first, the bytes of its frame at most, and what it does by what its calls do
+-- a function as a call sees it, whatever it is written in: the cells of its variables, parameters first, the bytes of its
+-- frame at most, and what it does by what its calls do
 pub record Function : Type 0 where
-  pub name : List ℕ
   pub cells : List ℕ
   pub room : ℕ
   pub does : Calls → Here → State → Piece (Option Value)
 
--- a program as calls see it: the functions of each compartment
+-- a program as calls see it: the functions of each compartment, and the number of the function that an entry leads to
 pub record Library : Type 0 where
   pub interfaces : Interfaces
   pub functions : List (List Function)
+  pub entered : ℕ → Entry → Option ℕ
 
 -- what a function does, by its number, once its variables are there
 abbrev pub Body : Type 0
 Body = ℕ → Here → State → Piece (Option Value)
-
-abbrev pub main_name : List ℕ
-main_name = codes "main"
-
--- the place of the first function of this name
-abbrev pub place_named : List ℕ → List Function → Option ℕ
-place_named name functions = position {X = Function} (λ f. bytes_eq f.name name) functions
-
-abbrev pub place_of_export : Option Proto → List Function → Option ℕ
-place_of_export None functions = None
-place_of_export (Some proto) functions = place_named proto.name functions
 
 module _ (library : Library) where
   abbrev pub functions_of : ℕ → List Function
@@ -52,10 +43,10 @@ module _ (library : Library) where
   abbrev pub function : ℕ → ℕ → Option Function
   function comp number = slice_get (functions_of comp) number
 
-  -- the function that an entry leads to: an export is the function of its name, and `main` the one that is called so
-  abbrev pub entered : ℕ → Entry → Option ℕ
-  entered comp Main = place_named main_name (functions_of comp)
-  entered comp (Export index) = place_of_export (export_at library.interfaces comp index) (functions_of comp)
+  -- an entry of a compartment leads to a function of it
+  abbrev pub leads : ℕ → Option ℕ → Bool
+  leads comp None = false
+  leads comp (Some number) = is_some (function comp number)
 
 -- blocks of so many cells each: the first ones hold the arguments, the others nothing yet (C11 6.5.2.2p4, 6.7.9p10)
 abbrev pub blocks_for : List ℕ → List Value → Blocks
@@ -66,14 +57,20 @@ blocks_for (n ∷ cells) (v ∷ args) = record { live = true; cells = cell_of v 
 -- the state once the variables and the frame of a function are there
 abbrev pub begun : ℕ → Function → List Value → State → State
 begun comp f args s =
-    record s { memory = with_blocks comp (s.memory comp ++ blocks_for f.cells args) s.memory; frames = s.frames ++ Opened (length s.trace) comp f.room ∷ [] }
+    record s {
+      memory = with_blocks comp (s.memory comp ++ blocks_for f.cells args) s.memory;
+      frames = s.frames ++ Opened (length s.trace) comp f.room ∷ [];
+    }
 
--- the state once the blocks of a compartment from a number on have ended, and the frame with them
+-- the state once the variables of a function, whose first block is this, have ended, and its frame with them
 abbrev pub done : ℕ → Function → ℕ → State → State
 done comp f first s =
-    record s { memory = with_blocks comp (ended_from first (s.memory comp)) s.memory; frames = s.frames ++ Closed (length s.trace) comp f.room ∷ [] }
+    record s {
+      memory = with_blocks comp (ended first (length f.cells) (s.memory comp)) s.memory;
+      frames = s.frames ++ Closed (length s.trace) comp f.room ∷ [];
+    }
 
--- what is looked up in a program; a typed program has it
+-- what was tested to be there
 abbrev pub found : {V : Type 0} → Option V → State → Piece V
 found None s = Stopped TurnsOut s
 found (Some v) s = Reached v s
@@ -114,12 +111,21 @@ next_input (w ∷ rest) = w
 abbrev pub read_input : ℕ → State → State
 read_input comp s = tell (In comp (next_input s.inputs)) (record s { inputs = drop 1 s.inputs })
 
--- a compartment calls its own functions and what it imports, with as many values as are taken; a typed program has no other call
-abbrev pub may_call : Interfaces → ℕ → CallTarget → ℕ → Bool
-may_call interfaces from (Own number) count = true
-may_call interfaces from (Cross to index) count = imports interfaces from (is_function to index) && takes interfaces to index count
-may_call interfaces from Input count = imports interfaces from is_input
-may_call interfaces from Output count = imports interfaces from is_output
+abbrev pub is_word : Value → Bool
+is_word (Word w) = true
+is_word Null = false
+is_word (Ptr p) = false
+
+-- a compartment calls its own functions, and what it imports with as many values as are taken; words alone cross
+abbrev pub may_call : Library → ℕ → CallTarget → List Value → Bool
+may_call library from (Own number) args = is_some (function library from number)
+may_call library from (Cross to index) args =
+    imports library.interfaces from (is_function to index)
+    && (takes library.interfaces to index (length args)
+    && (list_all is_word args && leads library to (library.entered to (Export index))))
+may_call library from Input args = imports library.interfaces from is_input
+may_call library from Output args =
+    imports library.interfaces from is_output && (length args == 1 && list_all is_word args)
 
 -- a return inside a compartment
 abbrev pub back_own : Option Value → State → Piece (Option Value)
@@ -131,19 +137,22 @@ back_cross interfaces from to index v s =
     Reached (option_value (crossing (export_at interfaces to index) v)) (tell (Ret to from (crossing (export_at interfaces to index) v)) s)
 
 module _ (library : Library) (body : Body) where
-  -- a function of this number runs from here; what is told at its entry and at its return differs
-  abbrev pub run_in : ℕ → ℕ → List Value → (State → State) → (Option Value → State → Piece (Option Value)) → State → Piece (Option Value)
-  run_in comp number args entry back s =
-      and_then (found (function library comp number) s) (λ f s. and_then (body number (record { comp = comp; first = length (s.memory comp) }) (entry (begun comp f args s))) (λ v t. back v (done comp f (length (s.memory comp)) t)))
+  -- a function of this number runs from here, and `back` is what is told at its return
+  abbrev pub run_in : ℕ → ℕ → List Value → (Option Value → State → Piece (Option Value)) → State → Piece (Option Value)
+  run_in comp number args back s =
+      and_then (found (function library comp number) s) (λ f s.
+      and_then (body number (record { comp = comp; first = length (s.memory comp) }) (begun comp f args s)) (λ v t.
+      back v (done comp f (length (s.memory comp)) t)))
 
   -- a call inside a compartment is no event
   abbrev pub call_own : ℕ → ℕ → List Value → State → Piece (Option Value)
-  call_own comp number args s = run_in comp number args (λ s. s) back_own s
+  call_own comp number args s = run_in comp number args back_own s
 
-  -- the frame begins before the call is told, and ends before the return is told
+  -- the call is told before the frame begins, and the return after it has ended
   abbrev pub call_cross : ℕ → ℕ → ℕ → List Value → State → Piece (Option Value)
   call_cross from to index args s =
-      and_then (found (entered library to (Export index)) s) (λ number s. run_in to number (crossed args) (tell (Call from to index (map word_in args))) (back_cross library.interfaces from to index) s)
+      and_then (found (library.entered to (Export index)) s) (λ number s.
+      run_in to number (crossed args) (back_cross library.interfaces from to index) (tell (Call from to index (map word_in args)) s))
 
   -- a call takes its turn once its arguments are there and before its event; the environment takes none
   abbrev pub called : Calls
@@ -152,9 +161,10 @@ module _ (library : Library) (body : Body) where
   called from Input args s = Reached (Some (Word (next_input s.inputs))) (read_input from s)
   called from Output args s = Reached None (tell (Out from (first_word args)) s)
 
+  -- any other call, which no typed program makes, is blamed, at no line
   abbrev pub calls : Calls
   calls from target args s =
-      if may_call library.interfaces from target (length args) then called from target args s else Stopped TurnsOut s
+      if may_call library from target args then called from target args s else Stopped (Blamed from BadType 0) s
 
 -- functions, from what functions do that have one call less to make
 abbrev pub Step : Type 0

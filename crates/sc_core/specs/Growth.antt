@@ -1,8 +1,7 @@
--- Traces that go on.
+-- Lists that go on.
 use Rattle.std.specs.Prelude.{◌≡◌, ◌++◌, List}
-use Rattle.sc_event.specs.declared.event.Event.{Event}
 
--- the second trace begins with the first
-pub record Grown (t u : List Event) : Type 0 where
-  pub more : List Event
-  pub is : u ≡ t ++ more
+-- a list that goes on from another
+pub record Front {A : Type 0} (xs ys : List A) : Type 0 where
+  pub more : List A
+  pub is : ys ≡ xs ++ more

@@ -2,7 +2,6 @@ pub mod Calls
 pub mod Growth
 pub mod Height
 pub mod Meaning
-pub mod Laws
 pub mod Memory
 pub mod Places
 pub mod Run

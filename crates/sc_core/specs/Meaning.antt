@@ -1,8 +1,12 @@
 -- What a program means.
-use Rattle.std.specs.Prelude.{ℕ, zero, suc, ◌+◌, ◌-◌, ◌++◌, max, Bool, true, ◌&&◌, if◌then◌else◌, ◌==◌, nat_lt, List, [], ◌∷◌, bytes_eq, length, map, Option, None, Some, is_some, Ok, slice_get, slice_index_or}
+use Rattle.std.specs.Prelude.{ℕ, zero, suc, ◌+◌, ◌-◌, ◌++◌, max, Bool, true, ◌&&◌, if◌then◌else◌, ◌==◌, nat_lt, List, [], ◌∷◌, codes, bytes_eq, length, map, Option, None, Some, is_some, Ok, slice_get, slice_index_or}
+use Rattle.std.specs.List.{position}
 use Rattle.sc_event.specs.declared.event.Event.{Event}
 use Rattle.sc_event.specs.declared.event.Event.TheVariants.{End}
-use Rattle.sc_event.specs.declared.row.Entry.TheVariants.{Main}
+use Rattle.sc_event.specs.declared.interface.Proto.{Proto}
+use Rattle.sc_event.specs.declared.row.Entry.{Entry}
+use Rattle.sc_event.specs.declared.row.Entry.TheVariants.{Main, Export}
+use Rattle.sc_event.specs.Lookup.{export_at}
 use Rattle.sc_core.specs.declared.cause.Cause.TheVariants.{NoReturn}
 use Rattle.sc_core.specs.declared.ty.Ty.{Ty}
 use Rattle.sc_core.specs.declared.ty.Ty.TheVariants as ty
@@ -30,8 +34,11 @@ use Rattle.sc_core.specs.Sizes.{nodes, frame_bound}
 use Rattle.sc_core.specs.Run.{stopped_at}
 use Rattle.sc_core.specs.Words.{FrameChange, Opened, Closed, State, Here, Piece, Reached, Stopped, and_then, Exit, Next, Break, Continue, Return, leave, follow, in_order, all_do, Calls}
 use Rattle.sc_core.specs.Tree.{Acts, at_place, variable_at, ways, assign, block_does}
-use Rattle.sc_core.specs.Calls.{Function, Library, Step, main_name, entered, found, word_in, call_own, run_step, within}
+use Rattle.sc_core.specs.Calls.{Function, Library, Step, found, word_in, call_own, run_step, within}
 use Rattle.sc_core.specs.Scripts.{roles_in, scripted_step}
+
+abbrev pub main_name : List ℕ
+main_name = codes "main"
 
 -- the closing brace: a function with a result must not reach it, except `main`, which gives 0 (C11 5.1.2.2.3, 6.9.1p12)
 abbrev pub at_brace : Bool → Bool → ℕ → Here → State → Piece (Option Value)
@@ -64,14 +71,32 @@ module _ (arith : Arith) (structs : List TypedStruct) (here : Here) (params : �
 -- a function of a section as a call sees it, where this is the main compartment
 abbrev pub function_of : Arith → ℕ → List TypedStruct → TypedFunction → Function
 function_of arith main structs f =
-    record { name = f.name; cells = variables structs f; room = frame_bound (variables structs f) (nodes f); does = λ by here s. and_then (body_does arith structs here (length f.params) by f tt s) (λ left s. closed left.exit (is_some f.result) (here.comp == main && bytes_eq f.name main_name) f.close_line here s) }
+    record { cells = variables structs f; room = frame_bound (variables structs f) (nodes f); does = λ by here s. and_then (body_does arith structs here (length f.params) by f tt s) (λ left s. closed left.exit (is_some f.result) (here.comp == main && bytes_eq f.name main_name) f.close_line here s) }
 
 abbrev pub functions_in : Arith → ℕ → TypedSection → List Function
 functions_in arith main section = map (function_of arith main section.structs) section.functions
 
+-- the first function of a section that is called so
+abbrev pub place_named : List ℕ → Option TypedSection → Option ℕ
+place_named name None = None
+place_named name (Some section) = position {X = TypedFunction} (λ f. bytes_eq f.name name) section.functions
+
+abbrev pub place_of_export : Option Proto → Option TypedSection → Option ℕ
+place_of_export None section = None
+place_of_export (Some proto) section = place_named proto.name section
+
+-- an export leads to the function of its name, and `main` to the one that is called so
+abbrev pub entry_in : ProgramTree → ℕ → Entry → Option ℕ
+entry_in program comp Main = place_named main_name (slice_get program.sections comp)
+entry_in program comp (Export index) = place_of_export (export_at program.interfaces comp index) (slice_get program.sections comp)
+
 abbrev pub library_of : Arith → ProgramTree → Library
 library_of arith program =
-    record { interfaces = program.interfaces; functions = map (functions_in arith program.interfaces.main) program.sections }
+    record {
+      interfaces = program.interfaces;
+      functions = map (functions_in arith program.interfaces.main) program.sections;
+      entered = entry_in program;
+    }
 
 -- the cells of a variable without an initialiser: the word 0, or null in a pointer's place (C11 6.7.9p10)
 module _ (zeros : List (List Cell)) where
@@ -146,15 +171,20 @@ first_state globals inputs turns =
 -- the run in which functions do this step. The start of `main` takes no turn, so there are never more open calls than turns and one
 abbrev pub run_by : Library → Step → Memory → List ℕ → ℕ → Run
 run_by library step globals inputs turns =
-    run_to library.interfaces.main (and_then (found (entered library library.interfaces.main Main) (first_state globals inputs turns)) (λ number s. call_own library (within step (suc turns)) library.interfaces.main number [] s))
+    run_to library.interfaces.main (and_then (found (library.entered library.interfaces.main Main) (first_state globals inputs turns)) (λ number s. call_own library (within step (suc turns)) library.interfaces.main number [] s))
 
--- the greatest room that the open frames of a compartment took at once before so many events were told, where its frames take this room already
+-- the greatest room that the open frames of a compartment take at once, by the changes that stand before so many events
+-- were told, where its frames take this room already
 abbrev pub deepest : ℕ → ℕ → ℕ → List FrameChange → ℕ
 deepest events comp room [] = room
 deepest events comp room (Opened told c more ∷ changes) =
     if c == comp && nat_lt told events then max room (deepest events comp (room + more) changes) else deepest events comp room changes
 deepest events comp room (Closed told c less ∷ changes) =
     if c == comp && nat_lt told events then max room (deepest events comp (room - less) changes) else deepest events comp room changes
+
+-- how deep a compartment gets in a run that is stopped at a number of events
+abbrev pub depth_in : Run → ℕ → ℕ → ℕ
+depth_in run events comp = deepest events comp 0 run.frames
 
 module _ (arith : Arith) (program : ProgramTree) (inputs : List ℕ) (turns : ℕ) where
   abbrev pub run_of : Run
@@ -187,6 +217,16 @@ scripted_meaning program set trace inputs turns events = scripted_by c_arith pro
 abbrev pub scripted_wrapped : ProgramTree → (ℕ → Bool) → List Event → List ℕ → ℕ → ℕ → SourceRun
 scripted_wrapped program set trace inputs turns events = scripted_by wrapping program set trace inputs turns events
 
--- the greatest room that the frames of a compartment took at once in a run of the meaning
+-- the greatest room that the frames of a compartment take at once, in a run of each of the four forms
+abbrev pub depth_by : Arith → ProgramTree → List ℕ → ℕ → ℕ → ℕ → ℕ
+depth_by arith program inputs turns events comp = depth_in (run_of arith program inputs turns) events comp
+
+abbrev pub scripted_depth_by : Arith → ProgramTree → (ℕ → Bool) → List Event → List ℕ → ℕ → ℕ → ℕ → ℕ
+scripted_depth_by arith program set trace inputs turns events comp =
+    depth_in (scripted_run_of arith program inputs turns set trace) events comp
+
 abbrev pub depth : ProgramTree → List ℕ → ℕ → ℕ → ℕ → ℕ
-depth program inputs turns events comp = deepest events comp 0 (run_of c_arith program inputs turns).frames
+depth program inputs turns events comp = depth_by c_arith program inputs turns events comp
+
+abbrev pub wrapped_depth : ProgramTree → List ℕ → ℕ → ℕ → ℕ → ℕ
+wrapped_depth program inputs turns events comp = depth_by wrapping program inputs turns events comp

@@ -73,8 +73,10 @@ store blocks (Word w) v = Err BadType
 store blocks Null v = Err NullUse
 store blocks (Ptr p) v = bind (cells_at blocks p.block) (with_cell blocks p v)
 
--- the blocks once those from a number on have ended
-abbrev pub ended_from : ℕ → Blocks → Blocks
-ended_from zero blocks = map {A = Block} (λ block. record block { live = false }) blocks
-ended_from (suc n) [] = []
-ended_from (suc n) (block ∷ blocks) = block ∷ ended_from n blocks
+-- the blocks once so many of them, from a number on, have ended
+abbrev pub ended : (first count : ℕ) → Blocks → Blocks
+ended zero zero blocks = blocks
+ended zero (suc count) [] = []
+ended zero (suc count) (block ∷ blocks) = record block { live = false } ∷ ended zero count blocks
+ended (suc first) count [] = []
+ended (suc first) count (block ∷ blocks) = block ∷ ended first count blocks

@@ -5,12 +5,13 @@ use Rattle.sc_event.specs.declared.row.Row.{Row}
 use Rattle.sc_event.specs.declared.row.Action.{Action}
 use Rattle.sc_event.specs.declared.row.Action.TheVariants as act
 use Rattle.sc_event.specs.Part.{part, count_of}
+use Rattle.sc_core.specs.declared.expr.CallTarget.{CallTarget}
 use Rattle.sc_core.specs.declared.expr.CallTarget.TheVariants.{Cross, Input, Output}
 use Rattle.sc_core.specs.declared.run.RunEnd.TheVariants.{TurnsOut}
 use Rattle.sc_core.specs.declared.value.Value.{Value}
 use Rattle.sc_core.specs.declared.value.Value.TheVariants.{Word}
 use Rattle.sc_core.specs.Words.{State, Piece, Reached, Stopped, and_then}
-use Rattle.sc_core.specs.Calls.{Library, Body, Step, entered, calls, option_value}
+use Rattle.sc_core.specs.Calls.{Library, Body, Step, may_call, calls, option_value}
 
 -- who performs, and the rows of each
 pub record Roles : Type 0 where
@@ -30,20 +31,25 @@ is_number number None = false
 is_number number (Some n) = n == number
 
 module _ (library : Library) (body : Body) where
+  -- a call that a script asks for; where it may not be made, the run ends
+  abbrev pub asks : ℕ → CallTarget → List Value → State → Piece (Option Value)
+  asks comp target args s =
+      if may_call library comp target args then calls library body comp target args s else Stopped TurnsOut s
+
   -- one action, which is a call of the environment, a call across, or a return. After the environment the function goes on with the rows behind; after a call it performs again, the rows that are left then
   abbrev pub acts : Action → (State → Piece (Option Value)) → (State → Piece (Option Value)) → ℕ → State → Piece (Option Value)
   acts (act.Call to index args) next again comp s =
-      and_then (calls library body comp (Cross to index) (map (λ w. Word w) args) s) (λ v s. again s)
+      and_then (asks comp (Cross to index) (map (λ w. Word w) args) s) (λ v s. again s)
   acts (act.Ret v) next again comp s = Reached (option_value v) s
-  acts (act.Out w) next again comp s = and_then (calls library body comp Output (Word w ∷ []) s) (λ v s. next s)
-  acts (act.In w) next again comp s = and_then (calls library body comp Input [] s) (λ v s. next s)
+  acts (act.Out w) next again comp s = and_then (asks comp Output (Word w ∷ []) s) (λ v s. next s)
+  acts (act.In w) next again comp s = and_then (asks comp Input [] s) (λ v s. next s)
   acts (act.End w) next again comp s = Reached (Some (Word w)) s
 
   -- a function performs the rows that name it; where none is left, or the next names another, the run ends
   abbrev pub performs : List Row → Body
   performs [] number here s = Stopped TurnsOut s
   performs (row ∷ rest) number here s =
-      if is_number number (entered library here.comp row.entry) then acts row.action (performs rest number here) (body number here) here.comp s else Stopped TurnsOut s
+      if is_number number (library.entered here.comp row.entry) then acts row.action (performs rest number here) (body number here) here.comp s else Stopped TurnsOut s
 
 -- functions of scripted compartments perform, all others do this step
 abbrev pub scripted_step : Library → Roles → Step → Step

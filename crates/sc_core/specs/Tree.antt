@@ -24,7 +24,7 @@ use Rattle.sc_core.specs.declared.value.Want.TheVariants as want
 use Rattle.sc_core.specs.Memory.{Blocks, bind, load, store, with_blocks}
 use Rattle.sc_core.specs.Value.{Arith, is_true, of_bool, moved, moved_on, moved_back, between, on_words, applied_one}
 use Rattle.sc_core.specs.Types.{is_unsigned, is_array, is_pointer, target_cells}
-use Rattle.sc_core.specs.Words.{State, Here, Piece, and_then, computed, Next, Break, Continue, Return, Does, leave, follow, in_order, all_do, loop, choose, Calls}
+use Rattle.sc_core.specs.Words.{State, Here, Piece, and_then, computed, Next, Break, Continue, Return, Does, leave, stored, follow, in_order, all_do, loop, choose, Calls}
 
 -- an expression's place or value, as it is wanted, in the blocks of its compartment
 abbrev pub Ways : Type 0
@@ -90,14 +90,9 @@ module _ (here : Here) where
   abbrev pub given : Want → Ways → ℕ → State → Piece Value
   given want e line s = computed here line (e want (s.memory here.comp)) s
 
-  -- a value at this place (C11 6.5.16)
-  abbrev pub stored : Value → Value → ℕ → Acts
-  stored q v line a s =
-      and_then (computed here line (store (s.memory here.comp) q v) s) (λ blocks s. leave Next a (record s { memory = with_blocks here.comp blocks s.memory }))
-
   -- the place, and then a value there
   abbrev pub store_at : Ways → Value → ℕ → Acts
-  store_at place v line a s = and_then (given want.Place place line s) (λ q s. stored q v line a s)
+  store_at place v line a s = and_then (given want.Place place line s) (λ q s. stored here q v line a s)
 
   -- the value first, then the place, then the store
   abbrev pub assign : Ways → Ways → ℕ → Acts

@@ -25,7 +25,7 @@ use Rattle.sc_core.specs.Value.{truth}
 use Rattle.sc_core.specs.Types.{is_array, cells_of}
 use Rattle.sc_core.specs.Sizes.{nodes, total}
 use Rattle.sc_core.specs.Height.{expr_height, stmt_height}
-use Rattle.sc_core.specs.Calls.{main_name}
+use Rattle.sc_core.specs.Meaning.{main_name}
 use Rattle.sc_core.specs.Typing.{Scope, Callable, Signature, signature_of, proto_signature, same_ty, body_fits, init_fits}
 
 -- the counts that a program may reach

@@ -7,7 +7,7 @@ use Rattle.sc_core.specs.declared.expr.CallTarget.{CallTarget}
 use Rattle.sc_core.specs.declared.run.RunEnd.{RunEnd}
 use Rattle.sc_core.specs.declared.run.RunEnd.TheVariants.{Blamed, TurnsOut}
 use Rattle.sc_core.specs.declared.value.Value.{Value}
-use Rattle.sc_core.specs.Memory.{Memory}
+use Rattle.sc_core.specs.Memory.{Blocks, Memory, with_blocks, store}
 use Rattle.sc_core.specs.Value.{is_true}
 
 -- a frame of a function of this compartment begins or ends, when so many events were told; it has room for so many bytes
@@ -51,6 +51,10 @@ turn_of (suc turns) s = Reached tt (record s { turns = turns })
 abbrev pub turn : State → Piece (Unit {0})
 turn s = turn_of s.turns s
 
+-- the state in which a compartment has these blocks
+abbrev pub with_memory : ℕ → Blocks → State → State
+with_memory comp blocks s = record s { memory = with_blocks comp blocks s.memory }
+
 abbrev pub tell : Event → State → State
 tell event s = record s { trace = s.trace ++ event ∷ [] }
 
@@ -74,6 +78,11 @@ Does A = A → State → Piece (Left A)
 abbrev pub leave : {A : Type 0} → Exit → Does A
 leave exit a s = Reached (record { exit = exit; carried = a }) s
 
+-- a value at this place (C11 6.5.16)
+abbrev pub stored : {A : Type 0} → Here → Value → Value → ℕ → Does A
+stored here q v line a s =
+    and_then (computed here line (store (s.memory here.comp) q v) s) (λ blocks s. leave Next a (with_memory here.comp blocks s))
+
 -- where an exit leads: to what stands behind, or further out
 pub data Route : Type 0 where
   On : Route
@@ -86,7 +95,7 @@ in_order Break = Out Break
 in_order Continue = Out Continue
 in_order (Return v) = Out (Return v)
 
--- behind the head or the body of a loop: what the loop does next; a `break` ends the loop
+-- behind a part of a loop: what the loop does next; a `break` ends the loop
 abbrev pub in_loop : Exit → Route
 in_loop Next = On
 in_loop Break = Out Next
@@ -106,11 +115,11 @@ abbrev pub all_do : {A : Type 0} → List (Does A) → Does A
 all_do [] a s = leave Next a s
 all_do (does ∷ rest) a s = follow in_order (does a s) (all_do rest)
 
--- a loop (C11 6.8.5) of at most so many rounds: its head, a turn, its body, what comes next
+-- a loop (C11 6.8.5) of at most so many rounds: its head, a turn, its body, what comes next; a `break` in any of them ends it
 abbrev pub rounds : {A : Type 0} → ℕ → Does A → Does A → Does A → Does A
 rounds zero head body next a s = Stopped TurnsOut s
 rounds (suc n) head body next a s =
-    follow in_loop (head a s) (λ a s. and_then (turn s) (λ _ s. follow in_loop (body a s) (λ a s. follow in_order (next a s) (rounds n head body next))))
+    follow in_loop (head a s) (λ a s. and_then (turn s) (λ _ s. follow in_loop (body a s) (λ a s. follow in_loop (next a s) (rounds n head body next))))
 
 -- a loop from here: each round takes a turn, so there are never more rounds than turns and one
 abbrev pub loop : {A : Type 0} → Does A → Does A → Does A → Does A

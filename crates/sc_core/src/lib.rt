@@ -3,7 +3,6 @@
 
 mod cause;
 mod expr;
-mod laws;
 mod place;
 mod program;
 mod run;
@@ -15,7 +14,6 @@ mod value;
 
 pub use cause::Cause;
 pub use expr::{CallTarget, TypedCall, TypedExpr, TypedExprs, TypedKind, VarRef};
-pub use laws::{empty_set_is_meaning, more_goes_on, traces_are_legal, wrapped_agrees};
 pub use place::TypedPlace;
 pub use program::{Program, ProgramTree};
 pub use run::{RunEnd, SourceRun};

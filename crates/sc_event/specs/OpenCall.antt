@@ -1,4 +1,4 @@
--- Finding the call that is open at a place of a trace, from the trace alone.
+-- Helping: the call that is open at a place of a trace, found from the trace alone.
 use Rattle.std.specs.Prelude.{◌≡◌, ℕ, zero, suc, List, ◌∷◌, take, slice_get, Option, Some, None}
 use Rattle.std.specs.Option.{option_map_or}
 use Rattle.sc_event.specs.declared.event.Event.{Event}

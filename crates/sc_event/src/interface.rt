@@ -1,4 +1,6 @@
 ghost use Rattle.std.specs.Prelude.{◌≡◌};
+ghost use Rattle.sc_event.specs.declared.row.Entry.TheVariants.{Export};
+ghost use Rattle.sc_event.specs.Legal.{imports, imports_of, is_input, is_output, is_function, takes, may_return, fits_result};
 ghost use Rattle.std.specs.Option.{option_copied};
 ghost use Rattle.sc_event.specs.Lookup.{comp_at, export_at};
 
@@ -69,5 +71,85 @@ impl Interfaces {
         ensures { option_copied result ≡ export_at self.now comp index }
     {
         self.comp(comp)?.exports.get(index as usize)
+    }
+
+    /// Whether a compartment imports `input`.
+    pub fn imports_input(&self, comp: CompId) -> bool
+        ensures { result ≡ imports self.now comp is_input }
+    {
+        self.imports_of(comp).iter().any(|import| is_input(*import))
+    }
+
+    /// Whether a compartment imports `output`.
+    pub fn imports_output(&self, comp: CompId) -> bool
+        ensures { result ≡ imports self.now comp is_output }
+    {
+        self.imports_of(comp)
+            .iter()
+            .any(|import| is_output(*import))
+    }
+
+    /// Whether a compartment imports this export of another.
+    pub fn imports_function(&self, comp: CompId, to: CompId, index: u16) -> bool
+        ensures { result ≡ imports self.now comp (is_function to index) }
+    {
+        let imports = self.imports_of(comp);
+        imports.iter().any(|import| is_function(to, index, *import))
+    }
+
+    /// Whether the export takes so many arguments.
+    pub fn takes(&self, comp: CompId, index: u16, count: usize) -> bool
+        ensures { result ≡ takes self.now comp index count }
+    {
+        match self.export(comp, index) {
+            None => false,
+            Some(export) => export.params.as_slice().len() == count,
+        }
+    }
+
+    /// Whether the export may return this: a value exactly where it promises a result.
+    pub fn may_return(&self, comp: CompId, index: u16, value: Option<u32>) -> bool
+        ensures { result ≡ may_return self.now comp (Export index) value }
+    {
+        match self.export(comp, index) {
+            None => false,
+            Some(export) => fits_result(export.result, value),
+        }
+    }
+
+    fn imports_of(&self, comp: CompId) -> &[Import]
+        ensures { result.now ≡ imports_of self.now comp }
+    {
+        match self.comp(comp) {
+            None => &[],
+            Some(found) => found.imports.as_slice(),
+        }
+    }
+}
+
+fn fits_result(promised: Option<Scalar>, value: Option<u32>) -> bool
+    ensures { result ≡ fits_result promised value }
+{
+    promised.is_some() == value.is_some()
+}
+
+fn is_output(import: Import) -> bool
+    ensures { result ≡ is_output import }
+{
+    matches!(import, Import::Output)
+}
+
+fn is_input(import: Import) -> bool
+    ensures { result ≡ is_input import }
+{
+    matches!(import, Import::Input)
+}
+
+fn is_function(to: CompId, at: u16, import: Import) -> bool
+    ensures { result ≡ is_function to at import }
+{
+    match import {
+        Import::Function { comp, index } => comp == to && index == at,
+        _ => false,
     }
 }

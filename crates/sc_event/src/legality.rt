@@ -1,11 +1,11 @@
 //! Whether the interfaces allow a trace.
 
-ghost use Rattle.std.specs.Prelude.{◌≡◌, ℕ, ◌+◌, ◌^◌, ◌≤◌, ◌<◌, ◌&&◌, length, IfSome};
-ghost use Rattle.sc_event.specs.Legal.{legal, is_end, is_allowed, may_perform, may_return, awaits, imports, imports_of, is_input, is_output, is_function, takes, fits_result};
+ghost use Rattle.std.specs.Prelude.{◌≡◌, ℕ, ◌+◌, ◌^◌, ◌≤◌, ◌<◌, length, IfSome};
+ghost use Rattle.sc_event.specs.Legal.{legal, is_end, is_allowed, may_perform, may_return, awaits};
 ghost use Rattle.sc_event.specs.OpenCall.{returned_before, open_call, open_after, StandsBy};
 ghost use Rattle.sc_event.specs.Standing.{Standing};
 
-use crate::{CompId, Entry, Event, Import, Interfaces, Scalar};
+use crate::{CompId, Entry, Event, Interfaces};
 
 /// Whether each event is one that the active compartment may perform there, from the main compartment's first on, and
 /// none follows the end. Since no memory is taken, a return looks for the call that was open before in the events.
@@ -61,29 +61,17 @@ fn may_perform(
             to,
             index,
             args,
-        } => may_call(interfaces, *from, *to, *index, args.as_slice().len()),
+        } => {
+            interfaces.imports_function(*from, *to, *index)
+                && interfaces.takes(*to, *index, args.as_slice().len())
+        }
         Event::Ret { from, to, value } => {
             awaits(interfaces.main, events, pending, *to)
                 && may_return(interfaces, *from, active_entry(events, pending), *value)
         }
-        Event::Out { comp, .. } => imports_output(interfaces, *comp),
-        Event::In { comp, .. } => imports_input(interfaces, *comp),
+        Event::Out { comp, .. } => interfaces.imports_output(*comp),
+        Event::In { comp, .. } => interfaces.imports_input(*comp),
         Event::End { .. } => pending.is_none(),
-    }
-}
-
-fn may_call(interfaces: &Interfaces, from: CompId, to: CompId, index: u16, count: usize) -> bool
-    ensures { result ≡ (imports interfaces.now from (is_function to index) && takes interfaces.now to index count) }
-{
-    imports_function(interfaces, from, to, index) && takes(interfaces, to, index, count)
-}
-
-fn takes(interfaces: &Interfaces, comp: CompId, index: u16, count: usize) -> bool
-    ensures { result ≡ takes interfaces.now comp index count }
-{
-    match interfaces.export(comp, index) {
-        None => false,
-        Some(found) => found.params.as_slice().len() == count,
     }
 }
 
@@ -92,69 +80,7 @@ fn may_return(interfaces: &Interfaces, comp: CompId, entry: Entry, value: Option
 {
     match entry {
         Entry::Main => false,
-        Entry::Export(index) => match interfaces.export(comp, index) {
-            None => false,
-            Some(found) => fits_result(found.result, value),
-        },
-    }
-}
-
-fn fits_result(promised: Option<Scalar>, value: Option<u32>) -> bool
-    ensures { result ≡ fits_result promised value }
-{
-    promised.is_some() == value.is_some()
-}
-
-fn imports_output(interfaces: &Interfaces, comp: CompId) -> bool
-    ensures { result ≡ imports interfaces.now comp is_output }
-{
-    imports_of(interfaces, comp)
-        .iter()
-        .any(|import| is_output(*import))
-}
-
-fn imports_input(interfaces: &Interfaces, comp: CompId) -> bool
-    ensures { result ≡ imports interfaces.now comp is_input }
-{
-    imports_of(interfaces, comp)
-        .iter()
-        .any(|import| is_input(*import))
-}
-
-fn imports_function(interfaces: &Interfaces, comp: CompId, to: CompId, index: u16) -> bool
-    ensures { result ≡ imports interfaces.now comp (is_function to index) }
-{
-    let imports = imports_of(interfaces, comp);
-    imports.iter().any(|import| is_function(to, index, *import))
-}
-
-fn imports_of(interfaces: &Interfaces, comp: CompId) -> &[Import]
-    ensures { result.now ≡ imports_of interfaces.now comp }
-{
-    match interfaces.comp(comp) {
-        None => &[],
-        Some(found) => found.imports.as_slice(),
-    }
-}
-
-fn is_output(import: Import) -> bool
-    ensures { result ≡ is_output import }
-{
-    matches!(import, Import::Output)
-}
-
-fn is_input(import: Import) -> bool
-    ensures { result ≡ is_input import }
-{
-    matches!(import, Import::Input)
-}
-
-fn is_function(to: CompId, at: u16, import: Import) -> bool
-    ensures { result ≡ is_function to at import }
-{
-    match import {
-        Import::Function { comp, index } => comp == to && index == at,
-        _ => false,
+        Entry::Export(index) => interfaces.may_return(comp, index, value),
     }
 }
 

@@ -19,6 +19,3 @@ pub use line::{append_event, event_text};
 pub use params::Params;
 pub use row::{Action, Entry, Row, Script};
 pub use sc_base::{Name, NameTable, OutOfMemory, Text};
-
-#[cfg(test)]
-mod tests;

@@ -8,17 +8,18 @@ use Rattle.sc_event.specs.declared.row.Row.{Row}
 use Rattle.sc_event.specs.declared.row.Action.{Action}
 use Rattle.sc_event.specs.declared.row.Action.TheVariants as act
 use Rattle.sc_core.specs.declared.cause.Cause.{Cause}
+use Rattle.sc_core.specs.declared.cause.Cause.TheVariants.{BadType}
 use Rattle.sc_core.specs.declared.expr.CallTarget.{CallTarget}
 use Rattle.sc_core.specs.declared.expr.CallTarget.TheVariants.{Own, Cross, Input, Output}
-use Rattle.sc_core.specs.declared.run.RunEnd.TheVariants.{TurnsOut}
+use Rattle.sc_core.specs.declared.run.RunEnd.TheVariants.{Blamed, TurnsOut}
 use Rattle.sc_core.specs.declared.value.Value.{Value}
 use Rattle.sc_core.specs.declared.value.Value.TheVariants.{Word}
 use Rattle.sc_core.specs.Words.{State, Here, Piece, Reached, Stopped, and_then, turn, tell}
-use Rattle.sc_core.specs.Calls.{Function, Library, Body, Step, function, entered, begun, done, found, word_in, crossed, may_call, back_own, back_cross, run_in, call_own, call_cross, called, calls, run_step, within}
-use Rattle.sc_core.specs.Scripts.{Roles, rows_left, is_number, acts, performs, scripted_step}
+use Rattle.sc_core.specs.Calls.{Function, Library, Body, Step, function, begun, done, found, word_in, crossed, may_call, back_own, back_cross, run_in, call_own, call_cross, called, calls, run_step, within}
+use Rattle.sc_core.specs.Scripts.{Roles, rows_left, is_number, asks, acts, performs, scripted_step}
 use Rattle.sc_laws.specs.Growth.{Grown}
-use Rattle.sc_laws.proofs.Growing.{same, more, Goes, stays, earlier, back_goes, then_goes, BodyGoes, StepGoes, begun_goes, done_goes, told, own_goes, cross_goes, calls_go, performs_go, within_goes}
-use Rattle.sc_laws.proofs.Libraries.{Meets, Anywhere, CallsTwins, FunctionTwins, LibraryTwins, function_twins, entered_same}
+use Rattle.sc_laws.proofs.Growing.{same, more, Goes, stays, earlier, back_goes, then_goes, BodyGoes, StepGoes, begun_goes, done_goes, told, own_goes, cross_goes, calls_go, performs_go, within_goes, asks_is, asks_go}
+use Rattle.sc_laws.proofs.Libraries.{Meets, Anywhere, CallsTwins, FunctionTwins, LibraryTwins, function_twins, entered_same, may_same}
 use Rattle.sc_laws.proofs.Below.{richer, richer_piece, Below, along, Ahead, below_kept}
 
 module _ (d : ℕ) (Soft : Cause → Type 0) (Turns : Type 0) (spent : (d ≡ 0) ⊎ Turns) where
@@ -39,18 +40,20 @@ module _ (d : ℕ) (Soft : Cause → Type 0) (Turns : Type 0) (spent : (d ≡ 0)
 
     module _ (a b : Body) (goes : BodyGoes a) (goes' : BodyGoes b) (bodies : BodiesBelow n n' a b) where
       -- a function that was found in both
-      entered_below : (f g : Function) → FunctionsBelow f g → (comp number : ℕ) (args : List Value) (entry : State → State) (back : Option Value → State → Piece (Option Value))
-          → ((s : State) → Grown s (entry s)) → ((v : Option Value) → Goes (back v)) → ((s : State) → entry (richer d s) ≡ richer d (entry s)) → ((v : Option Value) (s : State) → back v (richer d s) ≡ richer_piece d (back v s)) → (s : State) → s.turns < n → s.turns + d < n'
-          → Below d Soft Turns (Option Value) (and_then (a number (record { comp = comp; first = length (s.memory comp) }) (entry (begun comp f args s))) (λ v t. back v (done comp f (length (s.memory comp)) t))) (and_then (b number (record { comp = comp; first = length (s.memory comp) }) (entry (begun comp g args (richer d s)))) (λ v t. back v (done comp g (length (s.memory comp)) t)))
-      entered_below f g twins comp number args entry back h k h' k' s few few' =
+      entered_below : (f g : Function) → FunctionsBelow f g → (comp number : ℕ) (args : List Value) (back : Option Value → State → Piece (Option Value))
+          → ((v : Option Value) → Goes (back v)) → ((v : Option Value) (s : State) → back v (richer d s) ≡ richer_piece d (back v s)) → (s : State) → s.turns < n → s.turns + d < n'
+          → Below d Soft Turns (Option Value) (and_then (a number (record { comp = comp; first = length (s.memory comp) }) (begun comp f args s)) (λ v t. back v (done comp f (length (s.memory comp)) t)))
+          (and_then (b number (record { comp = comp; first = length (s.memory comp) }) (begun comp g args (richer d s))) (λ v t. back v (done comp g (length (s.memory comp)) t)))
+      entered_below f g twins comp number args back k k' s few few' =
           let first : ℕ = length (s.memory comp) in
           let here : Here = record { comp = comp; first = first } in
-          let start : State = entry (begun comp f args s) in
-          let up : Grown s start = more s (begun comp f args s) start (begun_goes comp f args s) (h (begun comp f args s)) in
-          let alike_start : entry (begun comp g args (richer d s)) ≡ richer d start = ap₂ (λ cells room. entry (begun comp (record g { cells = cells; room = room }) args (richer d s))) twins.cells twins.room ∙ h' (begun comp f args s) in
+          let start : State = begun comp f args s in
+          let up : Grown s start = begun_goes comp f args s in
+          let alike_start : begun comp g args (richer d s) ≡ richer d start = ap₂ (λ cells room. begun comp (record g { cells = cells; room = room }) args (richer d s)) twins.cells twins.room in
           let out : Option Value → State → Piece (Option Value) = λ v t. back v (done comp f first t) in
           let out' : Option Value → State → Piece (Option Value) = λ v t. back v (done comp g first t) in
-          let alike_out : (v : Option Value) (t : State) → out' v (richer d t) ≡ richer_piece d (out v t) = λ v t. ap (λ room. back v (done comp (record g { room = room }) first (richer d t))) twins.room ∙ k' v (done comp f first t) in
+          let alike_out : (v : Option Value) (t : State) → out' v (richer d t) ≡ richer_piece d (out v t) = λ v t.
+          ap₂ (λ cells room. back v (done comp (record g { cells = cells; room = room }) first (richer d t))) twins.cells twins.room ∙ k' v (done comp f first t) in
           let leaves : (v : Option Value) → Goes (out v) = λ v t. earlier t (done comp f first t) (out v t) (done_goes comp f first t) (k v (done comp f first t)) in
           let leaves' : (v : Option Value) → Goes (out' v) = λ v t. earlier t (done comp g first t) (out' v t) (done_goes comp g first t) (k v (done comp g first t)) in
           let inside : Below d Soft Turns (Option Value) (a number here start) (b number here (richer d start)) = bodies number here start (omega (arith, up.turns, few)) (omega (arith, up.turns, few')) in
@@ -67,29 +70,28 @@ module _ (d : ℕ) (Soft : Cause → Type 0) (Turns : Type 0) (spent : (d ≡ 0)
       found_below (Some f) (Some g) meets s k l h = h f g meets
 
       module _ (L M : Library) (twins : LibrariesBelow L M) where
-        run_below : (comp number : ℕ) (args : List Value) (entry : State → State) (back : Option Value → State → Piece (Option Value))
-            → ((s : State) → Grown s (entry s)) → ((v : Option Value) → Goes (back v)) → ((s : State) → entry (richer d s) ≡ richer d (entry s)) → ((v : Option Value) (s : State) → back v (richer d s) ≡ richer_piece d (back v s)) → (s : State) → RunBelow s (run_in L a comp number args entry back) (run_in M b comp number args entry back)
-        run_below comp number args entry back h k h' k' s few few' =
-            found_below (function L comp number) (function M comp number) (function_twins (Ahead d Soft Turns n n') (Below d Soft Turns) Anywhere L M twins comp number) s _ _ (λ f g meets. entered_below f g meets comp number args entry back h k h' k' s few few')
+        run_below : (comp number : ℕ) (args : List Value) (back : Option Value → State → Piece (Option Value))
+            → ((v : Option Value) → Goes (back v)) → ((v : Option Value) (s : State) → back v (richer d s) ≡ richer_piece d (back v s)) → (s : State) → RunBelow s (run_in L a comp number args back) (run_in M b comp number args back)
+        run_below comp number args back k k' s few few' =
+            found_below (function L comp number) (function M comp number) (function_twins (Ahead d Soft Turns n n') (Below d Soft Turns) Anywhere L M twins comp number) s _ _ (λ f g meets. entered_below f g meets comp number args back k k' s few few')
 
         pub own_below : (comp number : ℕ) (args : List Value) (s : State) → RunBelow s (call_own L a comp number args) (call_own M b comp number args)
-        own_below comp number args s =
-            run_below comp number args (λ s. s) back_own same (λ v. stays v) (λ s. refl) (λ v s. refl) s
+        own_below comp number args s = run_below comp number args back_own (λ v. stays v) (λ v s. refl) s
 
         -- a call across, once the number of the function is known
         abbrev crosses : Library → Body → Interfaces → (from to index : ℕ) → List Value → ℕ → State → Piece (Option Value)
         crosses library body interfaces from to index args number s =
-            run_in library body to number (crossed args) (tell (Call from to index (map word_in args))) (back_cross interfaces from to index) s
+            run_in library body to number (crossed args) (back_cross interfaces from to index) (tell (Call from to index (map word_in args)) s)
 
         cross_to : (from to index : ℕ) (args : List Value) (number : Option ℕ) (s : State) → s.turns < n → s.turns + d < n'
             → Below d Soft Turns (Option Value) (and_then (found number s) (crosses L a L.interfaces from to index args)) (and_then (found number (richer d s)) (crosses M b L.interfaces from to index args))
         cross_to from to index args None s few few' = along refl
         cross_to from to index args (Some number) s few few' =
-            run_below to number (crossed args) (tell (Call from to index (map word_in args))) (back_cross L.interfaces from to index) (told (Call from to index (map word_in args))) (back_goes L.interfaces from to index) (λ s. refl) (λ v s. refl) s few few'
+            run_below to number (crossed args) (back_cross L.interfaces from to index) (back_goes L.interfaces from to index) (λ v s. refl) (tell (Call from to index (map word_in args)) s) few few'
 
         pub cross_below : (from to index : ℕ) (args : List Value) (s : State) → RunBelow s (call_cross L a from to index args) (call_cross M b from to index args)
         cross_below from to index args s few few' =
-            subst (λ x. Below d Soft Turns (Option Value) (call_cross L a from to index args s) (and_then (found x (richer d s)) (crosses M b M.interfaces from to index args))) (sym (entered_same (Ahead d Soft Turns n n') (Below d Soft Turns) Anywhere L M twins to (Export index))) (subst (λ i. Below d Soft Turns (Option Value) (call_cross L a from to index args s) (and_then (found (entered L to (Export index)) (richer d s)) (crosses M b i from to index args))) (sym twins.interfaces) (cross_to from to index args (entered L to (Export index)) s few few'))
+            subst (λ x. Below d Soft Turns (Option Value) (call_cross L a from to index args s) (and_then (found x (richer d s)) (crosses M b M.interfaces from to index args))) (sym (entered_same (Ahead d Soft Turns n n') (Below d Soft Turns) Anywhere L M twins to (Export index))) (subst (λ i. Below d Soft Turns (Option Value) (call_cross L a from to index args s) (and_then (found (L.entered to (Export index)) (richer d s)) (crosses M b i from to index args))) (sym twins.interfaces) (cross_to from to index args (L.entered to (Export index)) s few few'))
 
         -- a turn, and then what is related while fewer calls are made
         after_turn : (f g : State → Piece (Option Value)) → Goes f → Goes g → ((s : State) → RunBelow s f g) → (s s' : State) → Ahead d Soft Turns n n' s s' → Below d Soft Turns (Option Value) (and_then (turn s) (λ _. f)) (and_then (turn s') (λ _. g))
@@ -110,9 +112,18 @@ module _ (d : ℕ) (Soft : Cause → Type 0) (Turns : Type 0) (spent : (d ≡ 0)
         if_below true o o' p p' h k = h
         if_below false o o' p p' h k = k
 
+        same_tests : (from : ℕ) (target : CallTarget) (args : List Value) → may_call M from target args ≡ may_call L from target args
+        same_tests from target args = may_same (Ahead d Soft Turns n n') (Below d Soft Turns) Anywhere L M twins from target args
+
         guarded_below : (from : ℕ) (target : CallTarget) (args : List Value) (s s' : State) → Ahead d Soft Turns n n' s s' → Below d Soft Turns (Option Value) (calls L a from target args s) (calls M b from target args s')
         guarded_below from target args s s' ahead =
-            subst (λ i. Below d Soft Turns (Option Value) (calls L a from target args s) (if may_call i from target (length args) then called M b from target args s' else Stopped TurnsOut s')) (sym twins.interfaces) (if_below (may_call L.interfaces from target (length args)) _ _ _ _ (called_below from target args s s' ahead) (along (ap (Stopped TurnsOut) ahead.state)))
+            subst (λ may. Below d Soft Turns (Option Value) (calls L a from target args s) (if may then called M b from target args s' else Stopped (Blamed from BadType 0) s')) (sym (same_tests from target args))
+            (if_below (may_call L from target args) _ _ _ _ (called_below from target args s s' ahead) (along (ap (Stopped (Blamed from BadType 0)) ahead.state)))
+
+        asked_below : (from : ℕ) (target : CallTarget) (args : List Value) (s s' : State) → Ahead d Soft Turns n n' s s' → Below d Soft Turns (Option Value) (asks L a from target args s) (asks M b from target args s')
+        asked_below from target args s s' ahead =
+            subst (λ may. Below d Soft Turns (Option Value) (asks L a from target args s) (if may then calls M b from target args s' else Stopped TurnsOut s')) (sym (same_tests from target args))
+            (if_below (may_call L from target args) _ _ _ _ (guarded_below from target args s s' ahead) (along (ap (Stopped TurnsOut) ahead.state)))
 
         pub calls_below : (from : ℕ) → CallsTwins (Ahead d Soft Turns n n') (Below d Soft Turns) Anywhere from (calls L a) (calls M b)
         calls_below from target args =
@@ -144,15 +155,22 @@ module _ (d : ℕ) (Soft : Cause → Type 0) (Turns : Type 0) (spent : (d ≡ 0)
 
         -- a call of the environment, and then the rows behind it
         row_then : (from : ℕ) (target : CallTarget) (args : List Value) (next next' : State → Piece (Option Value)) → Goes next → Goes next' → ((s : State) → s.turns ≤ n → s.turns + d ≤ n' → Below d Soft Turns (Option Value) (next s) (next' (richer d s))) → (s : State) → s.turns ≤ n → s.turns + d ≤ n'
-            → Below d Soft Turns (Option Value) (and_then (calls L a from target args s) (λ v. next)) (and_then (calls M b from target args (richer d s)) (λ v. next'))
+            → Below d Soft Turns (Option Value) (and_then (asks L a from target args s) (λ v. next)) (and_then (asks M b from target args (richer d s)) (λ v. next'))
         row_then from target args next next' go go' h s few few' =
-            (below_kept d Soft Turns n n' spent).after (Option Value) (Option Value) s (richer d s) (calls L a from target args s) (calls M b from target args (richer d s)) (λ v. next) (λ v. next') (record { state = refl; few = few; few' = few' }) (calls_go L a goes from target args s) (calls_go M b goes' from target args (richer d s)) (λ v. go) (λ v. go') (guarded_below from target args s (richer d s) (record { state = refl; few = few; few' = few' })) (λ v t t' up up' ahead. let poorer : t'.turns ≡ t.turns + d = ap (λ x. x.turns) ahead.state in subst (λ x. Below d Soft Turns (Option Value) (next t) (next' x)) (sym ahead.state) (h t ahead.few (omega (arith, ahead.few', poorer))))
+            (below_kept d Soft Turns n n' spent).after (Option Value) (Option Value) s (richer d s) (asks L a from target args s) (asks M b from target args (richer d s)) (λ v. next) (λ v. next') (record { state = refl; few = few; few' = few' }) (asks_go L a goes from target args s) (asks_go M b goes' from target args (richer d s)) (λ v. go) (λ v. go') (asked_below from target args s (richer d s) (record { state = refl; few = few; few' = few' })) (λ v t t' up up' ahead. let poorer : t'.turns ≡ t.turns + d = ap (λ x. x.turns) ahead.state in subst (λ x. Below d Soft Turns (Option Value) (next t) (next' x)) (sym ahead.state) (h t ahead.few (omega (arith, ahead.few', poorer))))
 
         acts_below : (action : Action) (next next' : State → Piece (Option Value)) → Goes next → Goes next' → (number : ℕ) (here : Here) → ((s : State) → s.turns ≤ n → s.turns + d ≤ n' → Below d Soft Turns (Option Value) (next s) (next' (richer d s))) → (s : State) → s.turns ≤ n → s.turns + d ≤ n'
             → Below d Soft Turns (Option Value) (acts L a action next (a number here) here.comp s) (acts M b action next' (b number here) here.comp (richer d s))
         acts_below (act.Call to index words) next next' go go' number here h s few few' =
             let args : List Value = map (λ w. Word w) words in
-            subst (λ i. Below d Soft Turns (Option Value) (and_then (calls L a here.comp (Cross to index) args s) (λ v. a number here)) (and_then (if may_call i here.comp (Cross to index) (length args) then called M b here.comp (Cross to index) args (richer d s) else Stopped TurnsOut (richer d s)) (λ v. b number here))) (sym twins.interfaces) (row_call number here to index args (may_call L.interfaces here.comp (Cross to index) (length args)) s few few')
+            let k : Option Value → State → Piece (Option Value) = λ v. a number here in
+            let k' : Option Value → State → Piece (Option Value) = λ v. b number here in
+            let one : Bool → Piece (Option Value) = λ may. and_then (if may then called L a here.comp (Cross to index) args s else Stopped TurnsOut s) k in
+            let other : Bool → Piece (Option Value) = λ may. and_then (if may then called M b here.comp (Cross to index) args (richer d s) else Stopped TurnsOut (richer d s)) k' in
+            subst (λ p. Below d Soft Turns (Option Value) (and_then p k) (and_then (asks M b here.comp (Cross to index) args (richer d s)) k')) (sym (asks_is L a goes here.comp (Cross to index) args s))
+            (subst (λ p. Below d Soft Turns (Option Value) (one (may_call L here.comp (Cross to index) args)) (and_then p k')) (sym (asks_is M b goes' here.comp (Cross to index) args (richer d s)))
+            (subst (λ may. Below d Soft Turns (Option Value) (one (may_call L here.comp (Cross to index) args)) (other may)) (sym (same_tests here.comp (Cross to index) args))
+            (row_call number here to index args (may_call L here.comp (Cross to index) args) s few few')))
         acts_below (act.Ret v) next next' go go' number here h s few few' = along refl
         acts_below (act.Out w) next next' go go' number here h s few few' = row_then here.comp Output (Word w ∷ []) next next' go go' h s few few'
         acts_below (act.In w) next next' go go' number here h s few few' = row_then here.comp Input [] next next' go go' h s few few'
@@ -161,7 +179,7 @@ module _ (d : ℕ) (Soft : Cause → Type 0) (Turns : Type 0) (spent : (d ≡ 0)
         performs_below : (rows : List Row) → BodiesWithin n n' (performs L a rows) (performs M b rows)
         performs_below [] number here s few few' = along refl
         performs_below (row ∷ rest) number here s few few' =
-            subst (λ x. Below d Soft Turns (Option Value) (performs L a (row ∷ rest) number here s) (if is_number number x then acts M b row.action (performs M b rest number here) (b number here) here.comp (richer d s) else Stopped TurnsOut (richer d s))) (sym (entered_same (Ahead d Soft Turns n n') (Below d Soft Turns) Anywhere L M twins here.comp row.entry)) (if_below (is_number number (entered L here.comp row.entry)) _ _ _ _ (acts_below row.action (performs L a rest number here) (performs M b rest number here) (performs_go L a goes rest number here) (performs_go M b goes' rest number here) number here (performs_below rest number here) s few few') (along refl))
+            subst (λ x. Below d Soft Turns (Option Value) (performs L a (row ∷ rest) number here s) (if is_number number x then acts M b row.action (performs M b rest number here) (b number here) here.comp (richer d s) else Stopped TurnsOut (richer d s))) (sym (entered_same (Ahead d Soft Turns n n') (Below d Soft Turns) Anywhere L M twins here.comp row.entry)) (if_below (is_number number (L.entered here.comp row.entry)) _ _ _ _ (acts_below row.action (performs L a rest number here) (performs M b rest number here) (performs_go L a goes rest number here) (performs_go M b goes' rest number here) number here (performs_below rest number here) s few few') (along refl))
 
         pub scripted_below : (roles : Roles) (step step' : Step) → BodiesWithin n n' (step a) (step' b) → BodiesWithin n n' (scripted_step L roles step a) (scripted_step M roles step' b)
         scripted_below roles step step' h number here s few few' =

@@ -11,7 +11,7 @@ use Rattle.sc_core.proofs.Plans.{program}
 use Rattle.sc_core.proofs.Programs.{two_stores_interfaces, two_stores, reentry_interfaces, reentry}
 use Rattle.sc_core.proofs.Rows.{scripted_by_plan, two_stores_trace, reentry_trace}
 use Rattle.sc_laws.specs.Chains.{Set, nobody, with, Link, performed, IsChain, Includes}
-use Rattle.sc_laws.specs.Growth.{Front}
+use Rattle.sc_core.specs.Growth.{Front}
 use Rattle.sc_laws.proofs.FollowingRuns.{chain_is_least}
 
 -- a run that was blamed along a trace, which goes on with these events

@@ -17,12 +17,13 @@ use Rattle.sc_core.specs.declared.value.Value.{Value}
 use Rattle.sc_core.specs.declared.value.Value.TheVariants.{Word}
 use Rattle.sc_core.specs.Memory.{Blocks, with_blocks, ended_from}
 use Rattle.sc_core.specs.Words.{State, Here, Piece, Reached, Stopped, and_then, turn, turn_of, tell}
-use Rattle.sc_core.specs.Calls.{Function, Library, Body, Step, function, entered, blocks_for, begun, done, found, word_in, word_back, crossing, crossed, option_value, first_word, next_input, read_input, may_call, back_cross, run_in, call_own, call_cross, called, calls, run_step, within}
+use Rattle.sc_core.specs.Calls.{Function, Library, Body, Step, function, blocks_for, begun, done, found, word_in, word_back, crossing, crossed, option_value, first_word, next_input, read_input, may_call, back_cross, run_in, call_own, call_cross, called, calls, run_step, within}
 use Rattle.sc_event.specs.Lookup.{export_at}
 use Rattle.sc_event.specs.declared.interface.Proto.{Proto}
 use Rattle.sc_event.specs.declared.interface.Scalar.{Scalar}
 use Rattle.sc_core.specs.Scripts.{roles_in, rows_left, is_number, acts, performs, scripted_step}
-use Rattle.sc_laws.specs.Growth.{Front, last, Gone}
+use Rattle.sc_core.specs.Growth.{Front}
+use Rattle.sc_laws.specs.Growth.{last, Gone}
 use Rattle.sc_laws.specs.Steady.{now}
 use Rattle.sc_laws.specs.Laws.{IsFixed}
 use Rattle.sc_laws.proofs.Growing.{front_same, front_more, more, Goes, reached, stays, no_turn, earlier, then_from, then_goes, BodyGoes, done_goes, own_goes, cross_goes, back_goes, calls_go, performs_go, LibraryGoes, run_step_goes, scripted_goes}
@@ -94,7 +95,7 @@ module _ (L : Library) (main : ℕ) (t : List Event) (S S' : ℕ → Bool) (larg
       -- of a compartment that performs in neither run, in both, and in the second alone
       pub plain : (number : ℕ) (here : Here) (st : Standing) (s s' : State) → S' here.comp ≡ false → N st s s' → F st (a number here s) (second number here s')
       pub given : (number comp first first' : ℕ) (st : Standing) (s s' : State) → S comp ≡ true → N st s s' → F st (a number (at comp first) s) (second number (at comp first') s')
-      pub held : (number comp first k first' : ℕ) (st : Standing) (left : Piece (Option Value)) (s : State) → S comp ≡ false → S' comp ≡ true → entered L comp st.active.entry ≡ Some k → Held st k comp first' left s → P st k comp first' left (a number (at comp first) s)
+      pub held : (number comp first k first' : ℕ) (st : Standing) (left : Piece (Option Value)) (s : State) → S comp ≡ false → S' comp ≡ true → L.entered comp st.active.entry ≡ Some k → Held st k comp first' left s → P st k comp first' left (a number (at comp first) s)
 
     -- THE NEXT ROW
     pub record Telling (k comp first : ℕ) (e : Event) (s : State) : Type 0 where
@@ -103,7 +104,7 @@ module _ (L : Library) (main : ℕ) (t : List Event) (S S' : ℕ → Bool) (larg
       pub is : second k (at comp first) s ≡ acts L second (action_of e) (performs L second rest k (at comp first)) (second k (at comp first)) comp s
 
     -- a function that performs tells the next event of the trace, where that is its compartment's
-    pub performs_next : (k comp first : ℕ) (st : Standing) (s : State) (e : Event) (more : List Event) → S' comp ≡ true → entered L comp st.active.entry ≡ Some k → performer e ≡ comp → t ≡ s.trace ++ e ∷ more → stands_behind (at_start main) s.trace ≡ Some st → Telling k comp first e s
+    pub performs_next : (k comp first : ℕ) (st : Standing) (s : State) (e : Event) (more : List Event) → S' comp ≡ true → L.entered comp st.active.entry ≡ Some k → performer e ≡ comp → t ≡ s.trace ++ e ∷ more → stands_behind (at_start main) s.trace ≡ Some st → Telling k comp first e s
     performs_next k comp first st s e more set is_k own is stands =
         let next : Next (drop (count_of comp s.trace) (part main comp t)) st e = row_of_next main comp t s.trace e more st is stands own in
         let row : Row = record { entry = st.active.entry; number = next.number; action = action_of e } in
@@ -145,7 +146,7 @@ module _ (L : Library) (main : ℕ) (t : List Event) (S S' : ℕ → Bool) (larg
 
     action_passes : (action : Action) (k comp first : ℕ) (next : State → Piece (Option Value)) → Goes next → (s : State) → Passes s (acts L second action next (second k (at comp first)) comp s)
     action_passes (act.Call to index words) k comp first next goes s =
-        call_passes (may_call L.interfaces comp (Cross to index) (length (map (λ w. Word w) words))) s.turns comp to index (map (λ w. Word w) words) (entered L to (Export index)) s (λ v. second k (at comp first)) (λ v. second_goes k (at comp first))
+        call_passes (may_call L.interfaces comp (Cross to index) (length (map (λ w. Word w) words))) s.turns comp to index (map (λ w. Word w) words) (L.entered to (Export index)) s (λ v. second k (at comp first)) (λ v. second_goes k (at comp first))
     action_passes (act.Ret v) k comp first next goes s = passing.hands_back (option_value v) s refl refl
     action_passes (act.Out w) k comp first next goes s =
         environment_passes (may_call L.interfaces comp Output 1) s (Out comp w) (tell (Out comp w) s) None next refl goes
@@ -155,7 +156,7 @@ module _ (L : Library) (main : ℕ) (t : List Event) (S S' : ℕ → Bool) (larg
 
     rows_pass : (rows : List Row) (k comp first : ℕ) (s : State) → Passes s (performs L second rows k (at comp first) s)
     rows_pass [] k comp first s = halts s
-    rows_pass (row ∷ rest) k comp first s = by_test (is_number k (entered L comp row.entry)) where
+    rows_pass (row ∷ rest) k comp first s = by_test (is_number k (L.entered comp row.entry)) where
       by_test : (b : Bool) → Passes s (if b then acts L second row.action (performs L second rest k (at comp first)) (second k (at comp first)) comp s else Stopped TurnsOut s)
       by_test true = action_passes row.action k comp first (performs L second rest k (at comp first)) (performs_go L second second_goes rest k (at comp first)) s
       by_test false = halts s
@@ -207,7 +208,7 @@ module _ (L : Library) (main : ℕ) (t : List Event) (S S' : ℕ → Bool) (larg
       performed_return v u' =
           ap (λ w. Reached (option_value w) (tell (Ret to from w) (done to f first' u'))) (crossing_stays (export_at L.interfaces to index) v)
 
-      held_return : (k : ℕ) (o left : Piece (Option Value)) → S' to ≡ true → entered L to (Export index) ≡ Some k → Goes {V = Option Value} (Onward k to first') → InLine t (last (and_then o (returns to from index f first))).trace → Performs main t S' (inside st to index) left (Onward k to first') (second_goes k (at to first')) (Option Value) o
+      held_return : (k : ℕ) (o left : Piece (Option Value)) → S' to ≡ true → L.entered to (Export index) ≡ Some k → Goes {V = Option Value} (Onward k to first') → InLine t (last (and_then o (returns to from index f first))).trace → Performs main t S' (inside st to index) left (Onward k to first') (second_goes k (at to first')) (Option Value) o
           → KeepsUp main t S' st (Option Value) (and_then o (returns to from index f first)) (and_then left (returns to from index f first'))
       held_return k o left set is_k on along (performing.done a b) =
           follows.done (front_more t (last o).trace (last (and_then o (returns to from index f first))).trace a (then_from o (returns to from index f first) (returns_goes to from index f first)).events) (front_more t (last left).trace (last (and_then left (returns to from index f first'))).trace b (then_from left (returns to from index f first') (returns_goes to from index f first')).events)
@@ -242,7 +243,7 @@ module _ (L : Library) (main : ℕ) (t : List Event) (S S' : ℕ → Bool) (larg
       enters_goes body goes from to index number args f s =
           then_goes (starts from to index args f s) (body number (at to (length (s.memory to))) (starts from to index args f s)) (returns to from index f (length (s.memory to))) (goes number (at to (length (s.memory to))) (starts from to index args f s)) (returns_goes to from index f (length (s.memory to)))
 
-      module _ (from to index number : ℕ) (args : List Value) (f : Function) (is_number : entered L to (Export index) ≡ Some number) (st : Standing) (s s' : State) (n : N st s s') where
+      module _ (from to index number : ℕ) (args : List Value) (f : Function) (is_number : L.entered to (Export index) ≡ Some number) (st : Standing) (s s' : State) (n : N st s s') where
         abbrev first : ℕ
         first = length (s.memory to)
 
@@ -302,18 +303,18 @@ module _ (L : Library) (main : ℕ) (t : List Event) (S S' : ℕ → Bool) (larg
           run_in L body to number (crossed args) (tell (Call from to index (map word_in args))) (back_cross L.interfaces from to index) s
 
       -- by whether the function is there
-      by_function : (from to index number : ℕ) (args : List Value) → entered L to (Export index) ≡ Some number → (f : Option Function) (st : Standing) (s s' : State) → N st s s' → F st (and_then (found f s) (enters a from to index number args)) (and_then (found f s') (enters second from to index number args))
+      by_function : (from to index number : ℕ) (args : List Value) → L.entered to (Export index) ≡ Some number → (f : Option Function) (st : Standing) (s s' : State) → N st s s' → F st (and_then (found f s) (enters a from to index number args)) (and_then (found f s') (enters second from to index number args))
       by_function from to index number args is None st s s' n = nothing_follows st s s' n
       by_function from to index number args is (Some f) st s s' n = enters_follow from to index number args f is st s s' n
 
-      by_number : (from to index : ℕ) (args : List Value) (number : Option ℕ) → entered L to (Export index) ≡ number → (st : Standing) (s s' : State) → N st s s' → F st (and_then (found number s) (crosses a from to index args)) (and_then (found number s') (crosses second from to index args))
+      by_number : (from to index : ℕ) (args : List Value) (number : Option ℕ) → L.entered to (Export index) ≡ number → (st : Standing) (s s' : State) → N st s s' → F st (and_then (found number s) (crosses a from to index args)) (and_then (found number s') (crosses second from to index args))
       by_number from to index args None is st s s' n = nothing_follows st s s' n
       by_number from to index args (Some number) is st s s' n =
           by_function from to index number args is (function L to number) st s s' n
 
       pub cross_follows : (from to index : ℕ) (args : List Value) (st : Standing) (s s' : State) → N st s s' → F st (call_cross L a from to index args s) (call_cross L second from to index args s')
       cross_follows from to index args st s s' n =
-          by_number from to index args (entered L to (Export index)) refl st s s' n
+          by_number from to index args (L.entered to (Export index)) refl st s s' n
 
       if_follows : (b : Bool) (st : Standing) (o o' p p' : Piece (Option Value)) → F st o o' → F st p p' → F st (if b then o else p) (if b then o' else p')
       if_follows true st o o' p p' h k = h
@@ -402,10 +403,10 @@ module _ (L : Library) (main : ℕ) (t : List Event) (S S' : ℕ → Bool) (larg
       pub performs_follow : (rows : List Row) (number comp mine theirs : ℕ) → S comp ≡ true → (st : Standing) (s s' : State) → N st s s' → F st (performs L a rows number (at comp mine) s) (performs L second rows number (at comp theirs) s')
       performs_follow [] number comp mine theirs set st s s' n = nothing_follows st s s' n
       performs_follow (row ∷ rest) number comp mine theirs set st s s' n =
-          if_follows (is_number number (entered L comp row.entry)) st _ _ _ _ (acts_follow row.action (performs L a rest number (at comp mine)) (performs L second rest number (at comp theirs)) number comp mine theirs (performs_go L a bodies.goes rest number (at comp mine)) (performs_go L second second_goes rest number (at comp theirs)) set st (performs_follow rest number comp mine theirs set st) s s' n) (nothing_follows st s s' n)
+          if_follows (is_number number (L.entered comp row.entry)) st _ _ _ _ (acts_follow row.action (performs L a rest number (at comp mine)) (performs L second rest number (at comp theirs)) number comp mine theirs (performs_go L a bodies.goes rest number (at comp mine)) (performs_go L second second_goes rest number (at comp theirs)) set st (performs_follow rest number comp mine theirs set st) s s' n) (nothing_follows st s s' n)
 
       -- A FUNCTION THAT RUNS IN THE FIRST AND PERFORMS IN THE SECOND
-      module _ (st : Standing) (k comp theirs : ℕ) (left : Piece (Option Value)) (clear : S comp ≡ false) (set : S' comp ≡ true) (is_k : entered L comp st.active.entry ≡ Some k) where
+      module _ (st : Standing) (k comp theirs : ℕ) (left : Piece (Option Value)) (clear : S comp ≡ false) (set : S' comp ≡ true) (is_k : L.entered comp st.active.entry ≡ Some k) where
         abbrev rest : State → Piece (Option Value)
         rest = Onward k comp theirs
 
@@ -505,12 +506,12 @@ module _ (L : Library) (main : ℕ) (t : List Event) (S S' : ℕ → Bool) (larg
         cross_tells to index args s false m = silent s refl refl
         cross_tells to index args s true zero = silent s refl refl
         cross_tells to index args s true (suc m) =
-            same_trace to index args s (record s { turns = m }) (call_cross L a comp to index args (record s { turns = m })) refl (number_tells to index args (entered L to (Export index)) (record s { turns = m }))
+            same_trace to index args s (record s { turns = m }) (call_cross L a comp to index args (record s { turns = m })) refl (number_tells to index args (L.entered to (Export index)) (record s { turns = m }))
 
         -- a call with the words of a row is the call with the values that they come of
         recalled : (to index : ℕ) (args : List Value) (u : State) → calls L second comp (Cross to index) (map (λ w. Word w) (map word_in args)) u ≡ calls L second comp (Cross to index) args u
         recalled to index args u =
-            ap (λ count. if may (Cross to index) count then called L second comp (Cross to index) (map (λ w. Word w) (map word_in args)) u else Stopped TurnsOut u) (as_many args) ∙ ap (λ o. if may (Cross to index) (length args) then o else Stopped TurnsOut u) (ap₂ (λ values words. and_then (turn u) (λ _ s. and_then (found (entered L to (Export index)) s) (λ number s. run_in L second to number values (tell (Call comp to index words)) (back_cross L.interfaces comp to index) s))) (crossed_again args) (words_again (map word_in args)))
+            ap (λ count. if may (Cross to index) count then called L second comp (Cross to index) (map (λ w. Word w) (map word_in args)) u else Stopped TurnsOut u) (as_many args) ∙ ap (λ o. if may (Cross to index) (length args) then o else Stopped TurnsOut u) (ap₂ (λ values words. and_then (turn u) (λ _ s. and_then (found (L.entered to (Export index)) s) (λ number s. run_in L second to number values (tell (Call comp to index words)) (back_cross L.interfaces comp to index) s))) (crossed_again args) (words_again (map word_in args)))
 
         cross_performs : (to index : ℕ) (args : List Value) (s : State) → H s → InLine t (last (calls L a comp (Cross to index) args s)).trace → Done (Option Value) (calls L a comp (Cross to index) args s)
         cross_performs to index args s h along = by_told (cross_tells to index args s (may (Cross to index) (length args)) s.turns) where
@@ -611,7 +612,7 @@ module _ (L : Library) (main : ℕ) (t : List Event) (S S' : ℕ → Bool) (larg
         held_passes st k comp theirs left set s h =
             subst (λ u. MovesOrReturns main t S' u left) h.near.trace (subst (MovesOrReturns main t S' h.other.trace) (sym h.is) (second_passes k comp theirs h.other set))
 
-        step_held : (number comp mine k theirs : ℕ) (st : Standing) (left : Piece (Option Value)) (s : State) → S comp ≡ false → S' comp ≡ true → entered L comp st.active.entry ≡ Some k → Held st k comp theirs left s → P st k comp theirs left (first_step a number (at comp mine) s)
+        step_held : (number comp mine k theirs : ℕ) (st : Standing) (left : Piece (Option Value)) (s : State) → S comp ≡ false → S' comp ≡ true → L.entered comp st.active.entry ≡ Some k → Held st k comp theirs left s → P st k comp theirs left (first_step a number (at comp mine) s)
         step_held number comp mine k theirs st left s clear set is_k h =
             subst (P st k comp theirs left) (sym (runs_here a S number (at comp mine) s clear)) (by_function_held (function L comp number) (function L comp number) (function_twins (OneSided main t S' st left (Onward k comp theirs) (second_goes k (at comp theirs))) (Perform main t S' st left (Onward k comp theirs) (second_goes k (at comp theirs))) (λ h. S' h.comp ≡ true) L L (perform_twins st left (Onward k comp theirs) (second_goes k (at comp theirs)) (held_passes st k comp theirs left set)) comp number)) where
               by_function_held : (f g : Option Function) → Meets (FunctionTwins (OneSided main t S' st left (Onward k comp theirs) (second_goes k (at comp theirs))) (Perform main t S' st left (Onward k comp theirs) (second_goes k (at comp theirs))) (λ h. S' h.comp ≡ true)) f g → P st k comp theirs left (and_then (found f s) (λ f s. f.does (calls L a) (at comp mine) s))

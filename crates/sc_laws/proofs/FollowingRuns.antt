@@ -17,11 +17,12 @@ use Rattle.sc_core.specs.Memory.{Memory}
 use Rattle.sc_core.specs.Value.{Arith}
 use Rattle.sc_core.specs.Run.{reaches, stopped_at}
 use Rattle.sc_core.specs.Words.{State, Piece, Reached, Stopped, and_then}
-use Rattle.sc_core.specs.Calls.{Function, Library, Step, function, entered, begun, done, found, call_own, run_step, within}
+use Rattle.sc_core.specs.Calls.{Function, Library, Step, function, begun, done, found, call_own, run_step, within}
 use Rattle.sc_core.specs.Scripts.{roles_in, scripted_step}
 use Rattle.sc_core.specs.Meaning.{library_of, globals_of, exit_word, run_to, run_by, first_state}
 use Rattle.sc_laws.specs.Chains.{Set, IsWithin, nobody, with, Link, performed, IsChain, Includes, PassesBlame, turnless, longer}
-use Rattle.sc_laws.specs.Growth.{Front, last, IsStop, StopsSo}
+use Rattle.sc_core.specs.Growth.{Front}
+use Rattle.sc_laws.specs.Growth.{last, IsStop, StopsSo}
 use Rattle.sc_laws.specs.Steady.{now}
 use Rattle.sc_laws.specs.Laws.{IsFixed, MoreMayPerform, BlameIsPassed, BlameRemains, ChainIsLeast}
 use Rattle.sc_laws.proofs.Growing.{front_same, front_more, BodyGoes, within_goes}
@@ -124,7 +125,7 @@ module _ (arithmetic : Arith) (program : ProgramTree) (t : List Event) (S S' : S
     begins_near f =
         record { trace = refl; front = record { more = t; is = refl }; turns = omega arith; inputs = refl; memory = λ c clear. refl; stands = refl }
 
-    module _ (number : ℕ) (is_number : entered L main Main ≡ Some number) (f : Function) where
+    module _ (number : ℕ) (is_number : L.entered main Main ≡ Some number) (f : Function) where
       abbrev first : ℕ
       first = length (beginning.memory main)
 
@@ -172,18 +173,18 @@ module _ (arithmetic : Arith) (program : ProgramTree) (t : List Event) (S S' : S
       main_runs along =
           subst (λ r. RunsFollow t S' r (run_to main (and_then p ends)).shown) (sym (ended_shows o)) (subst (RunsFollow t S' (run_to main o).shown) (sym (ended_shows p)) (main_follows (S main) (S' main) refl refl (subst (λ r. InLine t r.trace) (ended_shows o) along)))
 
-    function_runs : (number : ℕ) → entered L main Main ≡ Some number → (f : Option Function) → InLine t (run_to main (and_then (found f beginning) (λ f s. and_then (within step (suc turns) number (at main (length (s.memory main))) (begun main f [] s)) (λ v u. Reached v (done main f (length (s.memory main)) u))))).shown.trace
+    function_runs : (number : ℕ) → L.entered main Main ≡ Some number → (f : Option Function) → InLine t (run_to main (and_then (found f beginning) (λ f s. and_then (within step (suc turns) number (at main (length (s.memory main))) (begun main f [] s)) (λ v u. Reached v (done main f (length (s.memory main)) u))))).shown.trace
         → RunsFollow t S' (run_to main (and_then (found f beginning) (λ f s. and_then (within step (suc turns) number (at main (length (s.memory main))) (begun main f [] s)) (λ v u. Reached v (done main f (length (s.memory main)) u))))).shown (run_to main (and_then (found f beginning) (λ f s. and_then (within step' (suc turns) number (at main (length (s.memory main))) (begun main f [] s)) (λ v u. Reached v (done main f (length (s.memory main)) u))))).shown
     function_runs number is None along = ends_so (λ comp cause line blame. absurd (cc)) refl
     function_runs number is (Some f) along = main_runs number is f along
 
-    number_runs : (number : Option ℕ) → entered L main Main ≡ number → InLine t (run_to main (and_then (found number beginning) (λ number s. call_own L (within step (suc turns)) main number [] s))).shown.trace
+    number_runs : (number : Option ℕ) → L.entered main Main ≡ number → InLine t (run_to main (and_then (found number beginning) (λ number s. call_own L (within step (suc turns)) main number [] s))).shown.trace
         → RunsFollow t S' (run_to main (and_then (found number beginning) (λ number s. call_own L (within step (suc turns)) main number [] s))).shown (run_to main (and_then (found number beginning) (λ number s. call_own L (within step' (suc turns)) main number [] s))).shown
     number_runs None is along = ends_so (λ comp cause line blame. absurd (cc)) refl
     number_runs (Some number) is along = function_runs number is (function L main number) along
 
     run_follows : InLine t (run_by L step globals inputs turns).shown.trace → RunsFollow t S' (run_by L step globals inputs turns).shown (run_by L step' globals inputs turns).shown
-    run_follows along = number_runs (entered L main Main) refl along
+    run_follows along = number_runs (L.entered main Main) refl along
 
 -- LISTS
 front_taken : {A : Type 0} (n : ℕ) (xs : List A) → Front (take n xs) xs

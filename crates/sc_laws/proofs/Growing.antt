@@ -15,12 +15,14 @@ use Rattle.sc_core.specs.declared.expr.CallTarget.{CallTarget}
 use Rattle.sc_core.specs.declared.expr.CallTarget.TheVariants.{Own, Cross, Input, Output}
 use Rattle.sc_core.specs.declared.value.Value.TheVariants.{Word}
 use Rattle.sc_core.specs.declared.cause.Cause.{Cause}
-use Rattle.sc_core.specs.declared.run.RunEnd.TheVariants.{TurnsOut}
+use Rattle.sc_core.specs.declared.cause.Cause.TheVariants.{BadType}
+use Rattle.sc_core.specs.declared.run.RunEnd.TheVariants.{Blamed, TurnsOut}
 use Rattle.sc_core.specs.declared.value.Value.{Value}
-use Rattle.sc_core.specs.Words.{State, Here, Piece, Reached, Stopped, and_then, computed, turn_of, turn, tell, Left, Exit, Route, On, Out, Does, take, follow, in_order, in_loop, rounds, Calls}
-use Rattle.sc_core.specs.Calls.{Function, Library, Body, Step, function, entered, begun, done, found, word_in, crossing, crossed, first_word, option_value, next_input, read_input, may_call, back_own, back_cross, run_in, call_own, call_cross, called, calls, run_step, within}
-use Rattle.sc_core.specs.Scripts.{Roles, rows_left, is_number, acts, performs, scripted_step}
-use Rattle.sc_laws.specs.Growth.{Front, Grown, last, Gone}
+use Rattle.sc_core.specs.Words.{Opened, Closed, State, Here, Piece, Reached, Stopped, and_then, computed, turn_of, turn, tell, Left, Exit, Route, On, Out, Does, take, follow, in_order, in_loop, rounds, Calls}
+use Rattle.sc_core.specs.Calls.{Function, Library, Body, Step, function, begun, done, found, word_in, crossing, crossed, first_word, option_value, next_input, read_input, may_call, back_own, back_cross, run_in, call_own, call_cross, called, calls, run_step, within}
+use Rattle.sc_core.specs.Scripts.{Roles, rows_left, is_number, asks, acts, performs, scripted_step}
+use Rattle.sc_core.specs.Growth.{Front}
+use Rattle.sc_laws.specs.Growth.{Grown, last, Gone}
 
 pub front_same : {A : Type 0} (xs : List A) → Front xs xs
 front_same xs = record { more = []; is = sym (append-nil xs) }
@@ -30,11 +32,11 @@ front_more xs ys zs a b =
     record { more = a.more ++ b.more; is = b.is ∙ ap (λ x. x ++ b.more) a.is ∙ append_assoc xs a.more b.more }
 
 pub same : (s : State) → Grown s s
-same s = record { events = front_same s.trace; turns = omega arith }
+same s = record { events = front_same s.trace; frames = front_same s.frames; turns = omega arith }
 
 pub more : (s t u : State) → Grown s t → Grown t u → Grown s u
 more s t u a b =
-    record { events = front_more s.trace t.trace u.trace a.events b.events; turns = (let p : t.turns ≤ s.turns = a.turns in let q : u.turns ≤ t.turns = b.turns in omega (arith, p, q)) }
+    record { events = front_more s.trace t.trace u.trace a.events b.events; frames = front_more s.frames t.frames u.frames a.frames b.frames; turns = (let p : t.turns ≤ s.turns = a.turns in let q : u.turns ≤ t.turns = b.turns in omega (arith, p, q)) }
 
 -- what is done from a state only goes on
 abbrev pub Goes : {V : Type 0} → (State → Piece V) → Type 0
@@ -68,13 +70,13 @@ computed_goes here line (Err cause) s = record { grown = same s; stop = tt }
 pub turn_of_goes : (n : ℕ) (s : State) → n ≡ s.turns → Gone s (turn_of n s)
 turn_of_goes zero s is = no_turn s
 turn_of_goes (suc n) s is =
-    reached tt s (record s { turns = n }) (record { events = front_same s.trace; turns = omega (arith, is) })
+    reached tt s (record s { turns = n }) (record { events = front_same s.trace; frames = front_same s.frames; turns = omega (arith, is) })
 
 pub turn_goes : (s : State) → Gone s (turn s)
 turn_goes s = turn_of_goes s.turns s refl
 
 pub told : (event : Event) (s : State) → Grown s (tell event s)
-told event s = record { events = record { more = event ∷ []; is = refl }; turns = omega arith }
+told event s = record { events = record { more = event ∷ []; is = refl }; frames = front_same s.frames; turns = omega arith }
 
 pub take_goes : {A : Type 0} (route : Route) (go : Does A) → ((a : A) → Goes (go a)) → (a : A) → Goes (take route go a)
 take_goes On go h a s = h a s
@@ -87,7 +89,7 @@ follow_goes route s o go g h =
 pub rounds_goes : {A : Type 0} (head body next : Does A) → ((a : A) → Goes (head a)) → ((a : A) → Goes (body a)) → ((a : A) → Goes (next a)) → (n : ℕ) (a : A) → Goes (rounds n head body next a)
 rounds_goes head body next h b x zero a s = no_turn s
 rounds_goes head body next h b x (suc n) a s =
-    follow_goes in_loop s (head a s) _ (h a s) (λ a s. then_goes s (turn s) _ (turn_goes s) (λ u t. follow_goes in_loop t (body a t) _ (b a t) (λ a s. follow_goes in_order s (next a s) _ (x a s) (rounds_goes head body next h b x n))))
+    follow_goes in_loop s (head a s) _ (h a s) (λ a s. then_goes s (turn s) _ (turn_goes s) (λ u t. follow_goes in_loop t (body a t) _ (b a t) (λ a s. follow_goes in_loop s (next a s) _ (x a s) (rounds_goes head body next h b x n))))
 
 -- calls, and functions as calls see them
 abbrev pub CallsGo : Calls → Type 0
@@ -108,13 +110,16 @@ found_goes None s = no_turn s
 found_goes (Some v) s = stays v s
 
 pub begun_goes : (comp : ℕ) (f : Function) (args : List Value) (s : State) → Grown s (begun comp f args s)
-begun_goes comp f args s = record { events = front_same s.trace; turns = omega arith }
+begun_goes comp f args s =
+    record { events = front_same s.trace; frames = record { more = Opened (length s.trace) comp f.room ∷ []; is = refl }; turns = omega arith }
 
 pub done_goes : (comp : ℕ) (f : Function) (first : ℕ) (s : State) → Grown s (done comp f first s)
-done_goes comp f first s = record { events = front_same s.trace; turns = omega arith }
+done_goes comp f first s =
+    record { events = front_same s.trace; frames = record { more = Closed (length s.trace) comp f.room ∷ []; is = refl }; turns = omega arith }
 
 pub read_goes : (comp : ℕ) (s : State) → Grown s (read_input comp s)
-read_goes comp s = record { events = record { more = In comp (next_input s.inputs) ∷ []; is = refl }; turns = omega arith }
+read_goes comp s =
+    record { events = record { more = In comp (next_input s.inputs) ∷ []; is = refl }; frames = front_same s.frames; turns = omega arith }
 
 pub if_goes : {V : Type 0} (s : State) (b : Bool) (o p : Piece V) → Gone s o → Gone s p → Gone s (if b then o else p)
 if_goes s true o p h k = h
@@ -126,16 +131,23 @@ back_goes interfaces from to index v s =
 
 module _ (library : Library) (body : Body) (goes : BodyGoes body) where
   -- what follows once the function is found
-  pub run_goes : (comp number : ℕ) (args : List Value) (entry : State → State) (back : Option Value → State → Piece (Option Value)) → ((s : State) → Grown s (entry s)) → ((v : Option Value) → Goes (back v)) → Goes (run_in library body comp number args entry back)
-  run_goes comp number args entry back h k s =
-      then_goes s (found (function library comp number) s) _ (found_goes (function library comp number) s) (λ f s. let first : ℕ = length (s.memory comp) in let here : Here = record { comp = comp; first = first } in let start : State = begun comp f args s in then_goes s (body number here (entry start)) _ (earlier s (entry start) (body number here (entry start)) (more s start (entry start) (begun_goes comp f args s) (h start)) (goes number here (entry start))) (λ v t. let end : State = done comp f first t in earlier t end (back v end) (done_goes comp f first t) (k v end)))
+  pub run_goes : (comp number : ℕ) (args : List Value) (back : Option Value → State → Piece (Option Value)) → ((v : Option Value) → Goes (back v)) → Goes (run_in library body comp number args back)
+  run_goes comp number args back k s =
+      then_goes s (found (function library comp number) s) _ (found_goes (function library comp number) s) (λ f s.
+      let first : ℕ = length (s.memory comp) in
+      let here : Here = record { comp = comp; first = first } in
+      let start : State = begun comp f args s in
+      then_goes s (body number here start) _ (earlier s start (body number here start) (begun_goes comp f args s) (goes number here start)) (λ v t.
+      let end : State = done comp f first t in earlier t end (back v end) (done_goes comp f first t) (k v end)))
 
   pub own_goes : (comp number : ℕ) (args : List Value) → Goes (call_own library body comp number args)
-  own_goes comp number args = run_goes comp number args (λ s. s) back_own same (λ v. stays v)
+  own_goes comp number args = run_goes comp number args back_own (λ v. stays v)
 
   pub cross_goes : (from to index : ℕ) (args : List Value) → Goes (call_cross library body from to index args)
   cross_goes from to index args s =
-      then_goes s (found (entered library to (Export index)) s) _ (found_goes (entered library to (Export index)) s) (λ number. run_goes to number (crossed args) (tell (Call from to index (map word_in args))) (back_cross library.interfaces from to index) (told (Call from to index (map word_in args))) (back_goes library.interfaces from to index))
+      then_goes s (found (library.entered to (Export index)) s) _ (found_goes (library.entered to (Export index)) s) (λ number s.
+      let event : Event = Call from to index (map word_in args) in
+      earlier s (tell event s) _ (told event s) (run_goes to number (crossed args) (back_cross library.interfaces from to index) (back_goes library.interfaces from to index) (tell event s)))
 
   pub called_go : CallsGo (called library body)
   called_go from (Own number) args s = then_goes s (turn s) _ (turn_goes s) (λ u. own_goes from number args)
@@ -145,7 +157,19 @@ module _ (library : Library) (body : Body) (goes : BodyGoes body) where
 
   pub calls_go : CallsGo (calls library body)
   calls_go from target args s =
-      if_goes s (may_call library.interfaces from target (length args)) (called library body from target args s) (Stopped TurnsOut s) (called_go from target args s) (no_turn s)
+      if_goes s (may_call library from target args) (called library body from target args s) (Stopped (Blamed from BadType 0) s) (called_go from target args s) (record { grown = same s; stop = tt })
+
+  -- a call that a script asks for is made where it may be
+  pub asks_is : (comp : ℕ) (target : CallTarget) (args : List Value) (s : State) →
+      asks library body comp target args s ≡ (if may_call library comp target args then called library body comp target args s else Stopped TurnsOut s)
+  asks_is comp target args s = by (may_call library comp target args) where
+    by : (b : Bool) → (if b then (if b then called library body comp target args s else Stopped (Blamed comp BadType 0) s) else Stopped TurnsOut s) ≡ (if b then called library body comp target args s else Stopped TurnsOut s)
+    by true = refl
+    by false = refl
+
+  pub asks_go : (comp : ℕ) (target : CallTarget) (args : List Value) → Goes (asks library body comp target args)
+  asks_go comp target args s =
+      if_goes s (may_call library comp target args) (calls library body comp target args s) (Stopped TurnsOut s) (calls_go comp target args s) (no_turn s)
 
   pub run_step_goes : LibraryGoes library → BodyGoes (run_step library body)
   run_step_goes h number here s =
@@ -156,18 +180,18 @@ module _ (library : Library) (body : Body) (goes : BodyGoes body) where
 
   pub acts_go : (action : Action) (next again : State → Piece (Option Value)) → Goes next → Goes again → (comp : ℕ) → Goes (acts library body action next again comp)
   acts_go (act.Call to index args) next again h k comp s =
-      then_goes s (calls library body comp (Cross to index) (map (λ w. Word w) args) s) _ (calls_go comp (Cross to index) (map (λ w. Word w) args) s) (λ v. k)
+      then_goes s (asks library body comp (Cross to index) (map (λ w. Word w) args) s) _ (asks_go comp (Cross to index) (map (λ w. Word w) args) s) (λ v. k)
   acts_go (act.Ret v) next again h k comp s = stays (option_value v) s
   acts_go (act.Out w) next again h k comp s =
-      then_goes s (calls library body comp Output (Word w ∷ []) s) _ (calls_go comp Output (Word w ∷ []) s) (λ v. h)
+      then_goes s (asks library body comp Output (Word w ∷ []) s) _ (asks_go comp Output (Word w ∷ []) s) (λ v. h)
   acts_go (act.In w) next again h k comp s =
-      then_goes s (calls library body comp Input [] s) _ (calls_go comp Input [] s) (λ v. h)
+      then_goes s (asks library body comp Input [] s) _ (asks_go comp Input [] s) (λ v. h)
   acts_go (act.End w) next again h k comp s = stays (Some (Word w)) s
 
   pub performs_go : (rows : List Row) → BodyGoes (performs library body rows)
   performs_go [] number here s = no_turn s
   performs_go (row ∷ rest) number here s =
-      if_goes s (is_number number (entered library here.comp row.entry)) _ _ (acts_go row.action (performs library body rest number here) (body number here) (performs_go rest number here) (goes number here) here.comp s) (no_turn s)
+      if_goes s (is_number number (library.entered here.comp row.entry)) _ _ (acts_go row.action (performs library body rest number here) (body number here) (performs_go rest number here) (goes number here) here.comp s) (no_turn s)
 
 -- functions in which calls go on only go on
 abbrev pub StepGoes : Step → Type 0

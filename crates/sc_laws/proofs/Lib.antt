@@ -1,5 +1,6 @@
 pub mod Below
 pub mod BelowCalls
+pub mod Cuts
 pub mod Examples
 pub mod Expressions
 pub mod Fixed
@@ -8,10 +9,15 @@ pub mod FollowingCalls
 pub mod FollowingRuns
 pub mod Growing
 pub mod Induction
+pub mod Keeping
+pub mod Legality
 pub mod Libraries
 pub mod More
+pub mod Opening
 pub mod Programs
 pub mod Rows
 pub mod Runs
+pub mod Sets
 pub mod Statements
 pub mod Twins
+pub mod Wrapping

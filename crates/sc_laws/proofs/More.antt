@@ -9,15 +9,13 @@ use Rattle.sc_core.specs.declared.run.RunEnd.{RunEnd}
 use Rattle.sc_core.specs.declared.run.RunEnd.TheVariants.{Ended, Blamed, TurnsOut, EventsOut}
 use Rattle.sc_core.specs.declared.run.SourceRun.{SourceRun}
 use Rattle.sc_core.specs.Value.{Arith, c_arith, wrapping}
-use Rattle.sc_core.specs.Laws.{IsFinal, IsArithmetic}
-use Rattle.sc_core.proofs.Joining.{Fits}
-use Rattle.sc_core.proofs.Joining.{same as alike_too, passed as passes_too}
-use Rattle.sc_core.proofs.Wrapping.{wraps, binary_fits, negated_fits}
+use Rattle.sc_laws.specs.Ends.{IsFinal, IsArithmetic}
+use Rattle.sc_laws.proofs.Wrapping.{binary_fits, negated_fits}
 use Rattle.sc_core.specs.Run.{reaches, stopped_at}
 use Rattle.sc_core.specs.Calls.{Step, run_step}
 use Rattle.sc_core.specs.Scripts.{Roles, roles_in, scripted_step}
 use Rattle.sc_core.specs.Meaning.{library_of, globals_of, run_by}
-use Rattle.sc_laws.specs.Growth.{Front}
+use Rattle.sc_core.specs.Growth.{Front}
 use Rattle.sc_laws.specs.Steady.{Extends, ExtendedByMore, AgreesUntilBlame, same, blamed}
 use Rattle.sc_laws.specs.Laws.{MoreGoesOn, WrappingAgrees}
 use Rattle.sc_laws.proofs.Growing.{front_same, StepGoes}
@@ -65,12 +63,8 @@ more_goes_on arithmetic program set trace inputs =
     more_scripted arithmetic program inputs (roles_in program.interfaces.main set trace)
 
 -- ARITHMETIC
-fits_keep : (r r' : Result ℕ Cause) → Fits wraps r r' → Keeps IsArithmetic ℕ r r'
-fits_keep r r' (alike_too is) = alike (sym is)
-fits_keep r r' (passes_too cause is soft) = blames cause soft is
-
 pub wrapping_keeps : ArithKeeps IsArithmetic c_arith wrapping
-wrapping_keeps = record { binary = λ unsigned o a b. fits_keep _ _ (binary_fits unsigned o a b); negated = λ unsigned a. fits_keep _ _ (negated_fits unsigned a) }
+wrapping_keeps = record { binary = λ unsigned o a b. binary_fits unsigned o a b; negated = λ unsigned a. negated_fits unsigned a }
 
 -- two runs with as many turns, of which the first may be blamed for arithmetic
 module _ (x y : SourceRun) (events : ℕ) where

@@ -6,7 +6,7 @@ use Rattle.sc_event.specs.declared.event.Event.{Event}
 use Rattle.sc_event.specs.declared.row.Row.{Row}
 use Rattle.sc_event.specs.Standing.{Standing, at_start, stands_after, stands_behind, performer}
 use Rattle.sc_event.specs.Part.{action_of, rows_from, part, count_of}
-use Rattle.sc_laws.specs.Growth.{Front}
+use Rattle.sc_core.specs.Growth.{Front}
 use Rattle.sc_laws.proofs.Growing.{front_more}
 
 -- STANDING

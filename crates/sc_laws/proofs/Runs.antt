@@ -14,10 +14,11 @@ use Rattle.sc_core.specs.Memory.{Memory}
 use Rattle.sc_core.specs.Value.{Arith}
 use Rattle.sc_core.specs.Run.{reaches, stopped_at}
 use Rattle.sc_core.specs.Words.{State, Piece, Reached, Stopped, and_then}
-use Rattle.sc_core.specs.Calls.{Library, Step, entered, found, call_own, run_step, within}
+use Rattle.sc_core.specs.Calls.{Library, Step, found, call_own, run_step, within}
 use Rattle.sc_core.specs.Scripts.{Roles, scripted_step}
 use Rattle.sc_core.specs.Meaning.{library_of, exit_word, run_to, run_by, first_state}
-use Rattle.sc_laws.specs.Growth.{Front, last, IsStop, StopsSo, Gone}
+use Rattle.sc_core.specs.Growth.{Front}
+use Rattle.sc_laws.specs.Growth.{last, IsStop, StopsSo, Gone}
 use Rattle.sc_laws.proofs.Growing.{front_more, StepGoes, then_goes, found_goes, own_goes, within_goes}
 use Rattle.sc_laws.proofs.Expressions.{ArithKeeps}
 use Rattle.sc_laws.proofs.Libraries.{Anywhere, program_twins, entered_same}
@@ -142,4 +143,4 @@ module _ (d : ℕ) (Soft : Cause → Type 0) (Turns : Type 0) where
 
       pub runs_below : RunsBelow (run_by L step globals inputs turns).shown (run_by M step' globals inputs (turns + d)).shown
       runs_below =
-          run_to_below main (and_then (found (entered L main Main) start) (first_call L step turns)) (and_then (found (entered M main Main) (richer d start)) (first_call M step' (turns + d))) (begin_goes L step goes turns (entered L main Main) start).stop (begin_goes M step' goes' (turns + d) (entered M main Main) (richer d start)).stop (subst (λ x. Below d Soft Turns (Option Value) (and_then (found (entered L main Main) start) (first_call L step turns)) (and_then (found x (richer d start)) (first_call M step' (turns + d)))) (sym (entered_same (Ahead d Soft Turns (suc turns) (suc (turns + d))) (Below d Soft Turns) Anywhere L M (libraries (suc turns) (suc (turns + d))) main Main)) (begin_below (entered L main Main)))
+          run_to_below main (and_then (found (L.entered main Main) start) (first_call L step turns)) (and_then (found (M.entered main Main) (richer d start)) (first_call M step' (turns + d))) (begin_goes L step goes turns (L.entered main Main) start).stop (begin_goes M step' goes' (turns + d) (M.entered main Main) (richer d start)).stop (subst (λ x. Below d Soft Turns (Option Value) (and_then (found (L.entered main Main) start) (first_call L step turns)) (and_then (found x (richer d start)) (first_call M step' (turns + d)))) (sym (entered_same (Ahead d Soft Turns (suc turns) (suc (turns + d))) (Below d Soft Turns) Anywhere L M (libraries (suc turns) (suc (turns + d))) main Main)) (begin_below (L.entered main Main)))

@@ -48,7 +48,7 @@ module _ (P : State → State → Type 0) (R : (V : Type 0) → Piece V → Piec
     stored_twins a blocks =
         record { first = λ s. reached _ s _ (unseen s blocks); second = λ s. reached _ s _ (unseen s blocks); both = λ s s' p. (leave_twins P R kept (Unit {0}) Next a).both _ _ (at.stored blocks s s' p) } where
           unseen : (s : State) (blocks : Blocks) → Grown s (record s { memory = with_blocks here.comp blocks s.memory })
-          unseen s blocks = record { events = (same s).events; turns = (same s).turns }
+          unseen s blocks = record { events = (same s).events; frames = (same s).frames; turns = (same s).turns }
 
     abbrev ActTwins : Acts → Acts → Type 0
     ActTwins f g = DoTwins P R kept (Unit {0}) f g

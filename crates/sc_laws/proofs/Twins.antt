@@ -88,7 +88,7 @@ module _ (P : State → State → Type 0) (R : (V : Type 0) → Piece V → Piec
 
         -- a round from its last part on, and from its turn on
         abbrev last_part : (n : ℕ) → Does A → Does A → Does A → Does A
-        last_part n x y z a s = follow in_order (z a s) (rounds n x y z)
+        last_part n x y z a s = follow in_loop (z a s) (rounds n x y z)
 
         abbrev spent : (n : ℕ) → Does A → Does A → Does A → Does A
         spent n x y z a s = follow in_loop (y a s) (last_part n x y z)
@@ -98,14 +98,14 @@ module _ (P : State → State → Type 0) (R : (V : Type 0) → Piece V → Piec
 
         one_round : (n n' : ℕ) → Rounds n n' → Rounds (suc n) (suc n')
         one_round n n' hyp a s s' lt lt' p =
-            let ends : (a : A) → Goes (last_part n f f2 f3 a) = λ a t. follow_goes in_order t (f3 a t) _ ((next a).first t) (first_rounds n) in
-            let ends' : (a : A) → Goes (last_part n' g g2 g3 a) = λ a t. follow_goes in_order t (g3 a t) _ ((next a).second t) (second_rounds n') in
+            let ends : (a : A) → Goes (last_part n f f2 f3 a) = λ a t. follow_goes in_loop t (f3 a t) _ ((next a).first t) (first_rounds n) in
+            let ends' : (a : A) → Goes (last_part n' g g2 g3 a) = λ a t. follow_goes in_loop t (g3 a t) _ ((next a).second t) (second_rounds n') in
             let goes : (a : A) → Goes (spent n f f2 f3 a) = λ a t. follow_goes in_loop t (f2 a t) _ ((body a).first t) ends in
             let goes' : (a : A) → Goes (spent n' g g2 g3 a) = λ a t. follow_goes in_loop t (g2 a t) _ ((body a).second t) ends' in
             follow_both in_loop s s' (f a s) (g a s') (λ a t. and_then (turn t) (λ _. spent n f f2 f3 a)) (λ a t. and_then (turn t) (λ _. spent n' g g2 g3 a)) p ((head a).first s) ((head a).second s') (λ a t. then_goes t (turn t) _ (turn_goes t) (λ u. goes a)) (λ a t. then_goes t (turn t) _ (turn_goes t) (λ u. goes' a)) ((head a).both s s' p) (λ a t t' up up' q.
             kept.turned (Left A) (λ _. spent n f f2 f3 a) (λ _. spent n' g g2 g3 a) (λ u. goes a) (λ u. goes' a) t t' q (λ w w' less less' q2.
             follow_both in_loop w w' (f2 a w) (g2 a w') (last_part n f f2 f3) (last_part n' g g2 g3) q2 ((body a).first w) ((body a).second w') ends ends' ((body a).both w w' q2) (λ a x x' up2 up2' q3.
-            follow_both in_order x x' (f3 a x) (g3 a x') (rounds n f f2 f3) (rounds n' g g2 g3) q3 ((next a).first x) ((next a).second x') (first_rounds n) (second_rounds n') ((next a).both x x' q3) (λ a y y' up3 up3' q4.
+            follow_both in_loop x x' (f3 a x) (g3 a x') (rounds n f f2 f3) (rounds n' g g2 g3) q3 ((next a).first x) ((next a).second x') (first_rounds n) (second_rounds n') ((next a).both x x' q3) (λ a y y' up3 up3' q4.
             hyp a y y' (below n s t w x y lt up.turns less up2.turns up3.turns) (below n' s' t' w' x' y' lt' up'.turns less' up2'.turns up3'.turns) q4))))
           where
             below : (n : ℕ) (s t w x y : State) → s.turns < suc n → t.turns ≤ s.turns → w.turns < t.turns → x.turns ≤ w.turns → y.turns ≤ x.turns → y.turns < n

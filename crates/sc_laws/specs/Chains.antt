@@ -7,7 +7,7 @@ use Rattle.sc_core.specs.declared.run.RunEnd.TheVariants.{Blamed, TurnsOut}
 use Rattle.sc_core.specs.declared.run.SourceRun.{SourceRun}
 use Rattle.sc_core.specs.Value.{Arith}
 use Rattle.sc_core.specs.Meaning.{scripted_by}
-use Rattle.sc_laws.specs.Growth.{Front}
+use Rattle.sc_core.specs.Growth.{Front}
 
 -- the second run tells an event more than the first, or ends right there for want of a turn or of a row
 pub data PassesBlame (run other : SourceRun) : Type 0 where

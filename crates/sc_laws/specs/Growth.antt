@@ -1,17 +1,14 @@
 -- How a run goes on: events are appended, turns are spent, and it stops for a blame or for want of turns alone.
-use Rattle.std.specs.Prelude.{◌≡◌, ◌≤◌, ◌++◌, List}
+use Rattle.std.specs.Prelude.{◌≤◌}
+use Rattle.sc_core.specs.Growth.{Front}
 use Rattle.sc_core.specs.declared.run.RunEnd.{RunEnd}
 use Rattle.sc_core.specs.declared.run.RunEnd.TheVariants.{Ended, Blamed, TurnsOut, EventsOut}
 use Rattle.sc_core.specs.Words.{State, Piece, Reached, Stopped}
 
--- a list that goes on from another
-pub record Front {A : Type 0} (xs ys : List A) : Type 0 where
-  pub more : List A
-  pub is : ys ≡ xs ++ more
-
--- a state that comes after another: its events go on from the other's, and it has no more turns
+-- a state that comes after another: its events and its frames go on from the other's, and it has no more turns
 pub record Grown (s t : State) : Type 0 where
   pub events : Front s.trace t.trace
+  pub frames : Front s.frames t.frames
   pub turns : t.turns ≤ s.turns
 
 -- the state to which a piece comes

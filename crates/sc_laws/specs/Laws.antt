@@ -8,9 +8,11 @@ use Rattle.sc_core.specs.Value.{Arith}
 use Rattle.sc_core.specs.Words.{State, Here}
 use Rattle.sc_core.specs.Calls.{Step, run_step, within}
 use Rattle.sc_core.specs.Scripts.{Roles, scripted_step}
-use Rattle.sc_core.specs.Meaning.{library_of, scripted_by, scripted_meaning, scripted_wrapped}
+use Rattle.sc_core.specs.Meaning.{library_of, meaning_by, meaning, wrapped, scripted_by, scripted_meaning, scripted_wrapped}
+use Rattle.sc_event.specs.Legal.{legal}
 use Rattle.sc_laws.specs.Chains.{Set, IsWithin, nobody, Link, performed, IsChain, Includes, PassesBlame}
-use Rattle.sc_laws.specs.Growth.{Front, Gone}
+use Rattle.sc_core.specs.Growth.{Front}
+use Rattle.sc_laws.specs.Growth.{Gone}
 use Rattle.sc_laws.specs.Steady.{now, ExtendedByMore, AgreesUntilBlame}
 
 -- whatever a function of a program does, however many calls may be open in it, it goes on from the state in which it begins
@@ -62,3 +64,25 @@ BlameIsPassed = (arith : Arith) (program : ProgramTree) (inputs : List ℕ) (tur
 abbrev pub ChainIsLeast : Type 0
 ChainIsLeast = (arith : Arith) (program : ProgramTree) (inputs : List ℕ) (turns : ℕ) (trace : List Event) (links : List Link) (set : Set) → IsChain arith program inputs turns trace nobody links
     → ((performed arith program inputs turns trace set).trace ≡ trace → Includes set links) × (Includes set links → (performed arith program inputs turns trace set).trace ≡ trace)
+
+-- what a run shows is allowed by the interfaces, also where compartments perform, whatever their scripts are
+pub record TracesAreLegal : Type 0 where
+  pub meaning : (arith : Arith) (program : ProgramTree) (inputs : List ℕ) (turns events : ℕ) →
+      legal program.interfaces (meaning_by arith program inputs turns events).trace ≡ true
+  pub scripted : (arith : Arith) (program : ProgramTree) (set : Set) (trace : List Event) (inputs : List ℕ) (turns events : ℕ) →
+      legal program.interfaces (scripted_by arith program set trace inputs turns events).trace ≡ true
+
+-- where no compartment performs, the scripted meaning is the meaning
+pub record EmptySetIsMeaning : Type 0 where
+  pub meaning : (program : ProgramTree) (trace : List Event) (inputs : List ℕ) (turns events : ℕ) →
+      scripted_meaning program nobody trace inputs turns events ≡ meaning program inputs turns events
+  pub wrapped : (program : ProgramTree) (trace : List Event) (inputs : List ℕ) (turns events : ℕ) →
+      scripted_wrapped program nobody trace inputs turns events ≡ wrapped program inputs turns events
+
+-- so with more turns or more events the meaning goes on, and the wrapping one agrees with it up to the first blame for arithmetic
+abbrev pub MeaningGoesOn : Type 0
+MeaningGoesOn = (arith : Arith) (program : ProgramTree) (inputs : List ℕ) → ExtendedByMore (meaning_by arith program inputs)
+
+abbrev pub WrappedAgrees : Type 0
+WrappedAgrees = (program : ProgramTree) (inputs : List ℕ) (turns events : ℕ) →
+    AgreesUntilBlame (meaning program inputs turns events) (wrapped program inputs turns events)

@@ -1,4 +1,5 @@
 pub mod Chains
+pub mod Ends
 pub mod Growth
 pub mod Laws
 pub mod Steady

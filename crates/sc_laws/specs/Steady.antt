@@ -4,8 +4,8 @@ use Rattle.sc_core.specs.declared.cause.Cause.{Cause}
 use Rattle.sc_core.specs.declared.run.RunEnd.TheVariants.{Blamed}
 use Rattle.sc_core.specs.declared.run.SourceRun.{SourceRun}
 use Rattle.sc_core.specs.Calls.{Body, Step, within}
-use Rattle.sc_core.specs.Laws.{IsFinal, IsArithmetic}
-use Rattle.sc_laws.specs.Growth.{Front}
+use Rattle.sc_laws.specs.Ends.{IsFinal, IsArithmetic}
+use Rattle.sc_core.specs.Growth.{Front}
 
 -- what functions do that may have as many calls open as they have turns: there are never more
 abbrev pub now : Step → Body

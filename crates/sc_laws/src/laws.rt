@@ -1,6 +1,6 @@
 // Laws of the meaning, each the contract of a function with nothing to do.
 
-ghost use Rattle.sc_laws.specs.Laws.{BlameIsPassed, BlameRemains, FixedPoint, ChainIsLeast, MoreGoesOn, MoreMayPerform, OnlyGoesOn, WrappingAgrees};
+ghost use Rattle.sc_laws.specs.Laws.{BlameIsPassed, BlameRemains, FixedPoint, ChainIsLeast, MoreGoesOn, MoreMayPerform, OnlyGoesOn, WrappingAgrees, EmptySetIsMeaning, MeaningGoesOn, TracesAreLegal, WrappedAgrees};
 
 /// Whatever a function does, events are appended to those that were told, no turn comes back, and it stops the run for
 /// a blame or for want of turns alone.
@@ -44,4 +44,24 @@ pub fn blame_is_passed()
 /// A set of compartments gives the trace exactly where it has every compartment of the chain.
 pub fn chain_is_least()
     ensures { ChainIsLeast }
+{}
+
+/// Where no compartment performs, the scripted meaning is the meaning, also where every operator gives a word.
+pub fn empty_set_is_meaning()
+    ensures { EmptySetIsMeaning }
+{}
+
+/// With more turns or more events a run of the meaning goes on, and one that the program itself ended stays as it is.
+pub fn meaning_goes_on()
+    ensures { MeaningGoesOn }
+{}
+
+/// Where every operator gives a word, a run shows the same up to the first blame for arithmetic.
+pub fn wrapped_agrees()
+    ensures { WrappedAgrees }
+{}
+
+/// What a run shows is allowed by the interfaces of its program, also where compartments perform.
+pub fn traces_are_legal()
+    ensures { TracesAreLegal }
 {}

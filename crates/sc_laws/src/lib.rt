@@ -4,6 +4,7 @@
 mod laws;
 
 pub use laws::{
-    blame_is_passed, blame_remains, chain_is_least, fixed_point, more_goes_on, more_may_perform,
-    only_goes_on, wrapping_agrees,
+    blame_is_passed, blame_remains, chain_is_least, empty_set_is_meaning, fixed_point,
+    meaning_goes_on, more_goes_on, more_may_perform, only_goes_on, traces_are_legal,
+    wrapped_agrees, wrapping_agrees,
 };

@@ -4,8 +4,6 @@
 mod interface;
 mod names;
 mod run;
-#[cfg(test)]
-mod tests;
 
 pub use interface::check_text;
 pub use run::{meaning_text, run_text};

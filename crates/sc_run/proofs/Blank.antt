@@ -9,10 +9,9 @@ use Rattle.sc_core.specs.declared.value.Cell.TheVariants as cell
 use Rattle.sc_core.specs.declared.value.Pointer.{Pointer}
 use Rattle.sc_core.specs.declared.value.Value.{Value}
 use Rattle.sc_core.specs.declared.value.Value.TheVariants.{Word, Null, Ptr}
-use Rattle.sc_core.specs.Memory.{Blocks, Memory, with_blocks, bind, is_live, live_cells, cells_at, cell_of, loaded, load, with_cell, store, ended_from}
+use Rattle.sc_core.specs.Memory.{Blocks, Memory, with_blocks, bind, is_live, live_cells, cells_at, cell_of, loaded, load, with_cell, store, ended}
 use Rattle.sc_core.specs.Calls.{blocks_for}
-use Rattle.sc_blocks.specs.Rows.{ended}
-use Rattle.sc_blocks.specs.Living.{given_back, left_from}
+use Rattle.sc_blocks.specs.Rows.{ended_block, given_back, cleared}
 
 abbrev pub blank : Blocks → Blocks
 blank bs = map given_back bs
@@ -86,11 +85,13 @@ given_twice true cells = refl
 given_twice false cells = refl
 
 -- what is left of blocks does not depend on the cells of those that had ended
-pub left_same : (first : ℕ) (bs : Blocks) → left_from first (blank bs) ≡ blank (ended_from first bs)
-left_same zero [] = refl
-left_same zero (b ∷ bs) = ap (λ cs. ended ∷ cs) (left_same zero bs)
-left_same (suc first) [] = refl
-left_same (suc first) (b ∷ bs) = λ i. given_twice b.live b.cells i ∷ left_same first bs i
+pub left_same : (first count : ℕ) (bs : Blocks) → cleared first count (blank bs) ≡ blank (ended first count bs)
+left_same zero zero [] = refl
+left_same zero zero (b ∷ bs) = λ i. given_twice b.live b.cells i ∷ left_same zero zero bs i
+left_same zero (suc count) [] = refl
+left_same zero (suc count) (b ∷ bs) = ap (λ cs. ended_block ∷ cs) (left_same zero count bs)
+left_same (suc first) count [] = refl
+left_same (suc first) count (b ∷ bs) = λ i. given_twice b.live b.cells i ∷ left_same first count bs i
 
 with_if : (b : Bool) (bs cs : Blocks) → blank (if b then bs else cs) ≡ (if b then blank bs else blank cs)
 with_if true bs cs = refl

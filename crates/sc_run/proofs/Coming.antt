@@ -5,8 +5,7 @@ use Rattle.sc_core.specs.declared.run.RunEnd.{RunEnd}
 use Rattle.sc_core.specs.declared.run.RunEnd.TheVariants.{Blamed, TurnsOut}
 use Rattle.sc_core.specs.declared.value.Value.{Value}
 use Rattle.sc_core.specs.Memory.{Blocks, Memory, with_blocks, store}
-use Rattle.sc_core.specs.Words.{State, Here, Piece, Reached, Stopped, and_then, computed, turn, turn_of, Next, leave}
-use Rattle.sc_core.specs.Tree.{stored}
+use Rattle.sc_core.specs.Words.{State, Here, Piece, Reached, Stopped, and_then, computed, turn, turn_of, Next, leave, stored}
 use Rattle.sc_run.specs.Seen.{Seen, seen_of}
 use Rattle.sc_run.specs.Comes.{CameTo, Comes, with_exit}
 use Rattle.sc_run.proofs.Blank.{blank, blanked, store_same, memory_with}

@@ -6,8 +6,8 @@ use Rattle.sc_core.specs.declared.run.RunEnd.{RunEnd}
 use Rattle.sc_core.specs.declared.run.RunEnd.TheVariants.{Ended}
 use Rattle.sc_core.specs.declared.run.SourceRun.{SourceRun}
 use Rattle.sc_core.specs.declared.value.Value.{Value}
-use Rattle.sc_core.specs.Memory.{with_blocks, ended_from}
-use Rattle.sc_blocks.specs.Living.{left_from}
+use Rattle.sc_core.specs.Memory.{with_blocks, ended}
+use Rattle.sc_blocks.specs.Rows.{cleared}
 use Rattle.sc_core.specs.Words.{tell, State, Piece, Stopped, and_then, Exit, Left, leave}
 use Rattle.sc_core.specs.Calls.{back_own, done}
 use Rattle.sc_core.specs.Meaning.{run_to, exit_word}
@@ -19,7 +19,7 @@ use Rattle.sc_run.specs.declared.work.Step.{Step}
 use Rattle.sc_run.specs.declared.work.Step.TheVariants.{Stop}
 use Rattle.sc_run.specs.Seen.{Seen, seen_of}
 use Rattle.sc_run.specs.Resume.{closes, returned, back_to, result_goes, function_in, resume, Standing, Steps}
-use Rattle.sc_run.specs.Returning.{ended_as, left_by, word_crossing, told_back, back_value}
+use Rattle.sc_run.specs.Returning.{ended_as, variable_count, left_by, word_crossing, told_back, back_value}
 use Rattle.sc_run.proofs.Blank.{left_same}
 use Rattle.sc_run.proofs.Coming.{with_memory, seen_with, blocks_seen}
 use Rattle.sc_run.proofs.Standing.{resume_stopped, newest_first}
@@ -43,8 +43,8 @@ module _ (program : ProgramTree) (f : Frame) (exit : Exit) where
 
   over_seen : (s : State) (before : Seen) → seen_of s ≡ before → seen_of (over s) ≡ left_by f before
   over_seen s before shows =
-      seen_with s before f.scope.comp.now (ended_from f.scope.first (s.memory f.scope.comp.now)) shows
-      ∙ ap (λ bs. with_memory before (with_blocks f.scope.comp.now bs before.memory)) (sym (left_same f.scope.first (s.memory f.scope.comp.now)) ∙ ap (λ bs. left_from f.scope.first bs) (blocks_seen s before f.scope.comp.now shows))
+      seen_with s before f.scope.comp.now (ended f.scope.first (variable_count f) (s.memory f.scope.comp.now)) shows
+      ∙ ap (λ bs. with_memory before (with_blocks f.scope.comp.now bs before.memory)) (sym (left_same f.scope.first (variable_count f) (s.memory f.scope.comp.now)) ∙ ap (λ bs. cleared f.scope.first (variable_count f) bs) (blocks_seen s before f.scope.comp.now shows))
 
   module _ (whole : SourceRun) (before : Seen) (work : List Work) (caller : Frame) (to : To) (crossing : Option ℕ) where
     abbrev waiting : List Work

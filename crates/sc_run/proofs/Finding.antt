@@ -1,35 +1,31 @@
 -- Functions of a program's library, by the program's tree.
-use Rattle.std.proofs.Common.{◌≡◌, refl, sym, ap, ◌∙◌, ℕ, zero, suc, ◌+◌, Bool, cond, not, List, [], ◌∷◌, map, Option, None, Some}
-use Rattle.std.specs.Prelude.{slice_get, slice_index_or, bytes_eq, nat_lt}
+use Rattle.std.proofs.Common.{◌≡◌, refl, sym, ap, ◌∙◌, subst, ℕ, zero, suc, List, [], ◌∷◌, map, None, Some}
+use Rattle.std.specs.Prelude.{slice_get, slice_index_or}
 use Rattle.std.specs.Option.{option_map}
-use Rattle.std.specs.List.{position, prefix_len}
-use Rattle.std.proofs.lemmas.List.{length-map}
-use Rattle.std.proofs.lemmas.Option.{slice_get-map}
-use Rattle.sc_event.specs.Lookup.{export_at}
-use Rattle.sc_event.specs.declared.interface.Proto.{Proto}
-use Rattle.sc_event.specs.declared.row.Entry.TheVariants.{Export}
+use Rattle.std.proofs.lemmas.Option.{none-some, slice_get-map}
+use Rattle.sc_event.specs.declared.row.Entry.{Entry}
 use Rattle.sc_core.specs.declared.program.ProgramTree.{ProgramTree}
 use Rattle.sc_core.specs.declared.section.TypedStruct.{TypedStruct}
 use Rattle.sc_core.specs.declared.section.TypedFunction.{TypedFunction}
 use Rattle.sc_core.specs.declared.section.TypedSection.{TypedSection}
 use Rattle.sc_core.specs.Value.{c_arith}
-use Rattle.sc_core.specs.Calls.{Function, function, functions_of, entered, place_named, place_of_export}
-use Rattle.sc_core.specs.Meaning.{function_of, functions_in as library_functions}
+use Rattle.sc_core.specs.Calls.{function}
+use Rattle.sc_core.specs.Meaning.{function_of, functions_in, entry_in}
 use Rattle.sc_run.specs.Resume.{library}
-use Rattle.sc_run.specs.Finding.{functions_in, functions_at}
+use Rattle.sc_run.specs.Finding.{EntryAt}
 
 module _ (program : ProgramTree) where
   abbrev main : ℕ
   main = program.interfaces.main
 
-  no_section : (sections : List TypedSection) (comp : ℕ) → slice_get sections comp ≡ None → slice_index_or (map (library_functions c_arith main) sections) comp [] ≡ []
+  no_section : (sections : List TypedSection) (comp : ℕ) → slice_get sections comp ≡ None → slice_index_or (map (functions_in c_arith main) sections) comp [] ≡ []
   no_section [] comp h = refl
   no_section (s ∷ sections) zero h = cc h
   no_section (s ∷ sections) (suc comp) h = no_section sections comp h
 
-  a_section : (sections : List TypedSection) (comp : ℕ) (section : TypedSection) → slice_get sections comp ≡ Some section → slice_index_or (map (library_functions c_arith main) sections) comp [] ≡ library_functions c_arith main section
+  a_section : (sections : List TypedSection) (comp : ℕ) (section : TypedSection) → slice_get sections comp ≡ Some section → slice_index_or (map (functions_in c_arith main) sections) comp [] ≡ functions_in c_arith main section
   a_section [] comp section h = cc h
-  a_section (s ∷ sections) zero section h = ap (library_functions c_arith main) (the_same s section h) where
+  a_section (s ∷ sections) zero section h = ap (functions_in c_arith main) (the_same s section h) where
     the_same : (a b : TypedSection) → Some a ≡ Some b → a ≡ b
     the_same a b e = cc e
   a_section (s ∷ sections) (suc comp) section h = a_section sections comp section h
@@ -49,30 +45,15 @@ module _ (program : ProgramTree) where
   a_function comp number section f structs h k same =
       some_at comp number section h ∙ ap (option_map (function_of c_arith main section.structs)) k ∙ ap (λ x. Some (function_of c_arith main x f)) (sym same)
 
-module _ (structs : List TypedStruct) (at_main : ℕ) (name : List ℕ) where
-  abbrev passes : Function → Bool
-  passes f = not (bytes_eq f.name name)
+-- an entry of a section that is there leads to a function that is there, or to none
+pub entry_none : (program : ProgramTree) (comp : ℕ) (entry : Entry) (number : ℕ) → entry_in program comp entry ≡ Some number → function (library program) comp number ≡ None → EntryAt program comp entry None
+entry_none program comp entry number at is = λ k e.
+    let same : Some number ≡ Some k = sym at ∙ e in
+    subst (λ k. function (library program) comp k ≡ None) (cc same) is
 
-  front_map : (fs : List TypedFunction) → prefix_len passes (map (function_of c_arith at_main structs) fs) ≡ prefix_len {X = TypedFunction} (λ f. not (bytes_eq f.name name)) fs
-  front_map [] = refl
-  front_map (f ∷ fs) = ap (λ n. cond (not (bytes_eq f.name name)) (1 + n) 0) (front_map fs)
+pub no_entry : (program : ProgramTree) (comp : ℕ) (entry : Entry) → entry_in program comp entry ≡ None → EntryAt program comp entry None
+no_entry program comp entry none = λ k e. absurd (none-some k (sym none ∙ e))
 
-  pub position_map : (fs : List TypedFunction) → position {X = Function} (λ f. bytes_eq f.name name) (map (function_of c_arith at_main structs) fs) ≡ position {X = TypedFunction} (λ f. bytes_eq f.name name) fs
-  position_map fs = λ i.
-      cond (nat_lt (front_map fs i) (length-map fs (function_of c_arith at_main structs) i)) (Some (front_map fs i)) None
-
-module _ (program : ProgramTree) (name : List ℕ) where
-  place_in : (comp : ℕ) (o : Option TypedSection) → slice_get program.sections comp ≡ o → place_named name (functions_of (library program) comp) ≡ position {X = TypedFunction} (λ f. bytes_eq f.name name) (functions_in o)
-  place_in comp None is = ap (place_named name) (no_section program program.sections comp is)
-  place_in comp (Some section) is =
-      ap (place_named name) (a_section program program.sections comp section is) ∙ position_map section.structs program.interfaces.main name section.functions
-
-  -- the place of a name among the functions of a compartment
-  pub place_is : (comp : ℕ) (fs : List TypedFunction) (r : Option ℕ) → fs ≡ functions_at program comp → r ≡ position {X = TypedFunction} (λ f. bytes_eq f.name name) fs → r ≡ place_named name (functions_of (library program) comp)
-  place_is comp fs r is gives =
-      gives ∙ ap (position {X = TypedFunction} (λ f. bytes_eq f.name name)) is ∙ sym (place_in comp (slice_get program.sections comp) refl)
-
--- the place of an export
-pub export_is : (program : ProgramTree) (comp index : ℕ) (proto : Proto) (name : List ℕ) (fs : List TypedFunction) (r : Option ℕ) → export_at program.interfaces comp index ≡ Some proto → name ≡ proto.name → fs ≡ functions_at program comp → r ≡ position {X = TypedFunction} (λ f. bytes_eq f.name name) fs → r ≡ entered (library program) comp (Export index)
-export_is program comp index proto name fs r is named at gives =
-    place_is program name comp fs r at gives ∙ ap (λ x. place_named x (functions_of (library program) comp)) named ∙ ap (λ o. place_of_export o (functions_of (library program) comp)) (sym is)
+-- a compartment that isn't there has no function
+pub no_comp : (program : ProgramTree) (comp : ℕ) (entry : Entry) → slice_get program.sections comp ≡ None → EntryAt program comp entry None
+no_comp program comp entry none = λ k e. none_at program comp k none

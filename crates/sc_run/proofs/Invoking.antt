@@ -1,5 +1,9 @@
 -- Calls in statements: refused, looked up, and of the environment.
-use Rattle.std.proofs.Common.{◌≡◌, refl, sym, ap, ◌∙◌, subst, ℕ, zero, suc, ◌++◌, true, false, if◌then◌else◌, List, [], ◌∷◌, map, length, reverse, drop, Option, None, Some, Result, Ok, Err, arith}
+use Rattle.std.proofs.Common.{◌≡◌, refl, sym, ap, ◌∙◌, subst, ℕ, ◌++◌, Bool, true, false, ◌&&◌, if◌then◌else◌, List, [], ◌∷◌, map, length, drop, Option, None, Some, Result, Ok, Err, true≢false, arith}
+use Rattle.std.specs.Prelude.{is_some}
+use Rattle.std.specs.List.{list_all}
+use Rattle.std.proofs.lemmas.Bool.{false≢true}
+use Rattle.sc_base.proofs.Bools.{and_rest}
 use Rattle.sc_event.specs.declared.event.Event.TheVariants.{Call, In, Out}
 use Rattle.sc_event.specs.declared.row.Entry.TheVariants.{Export}
 use Rattle.sc_core.specs.declared.expr.CallTarget.{CallTarget}
@@ -9,15 +13,17 @@ use Rattle.sc_core.specs.declared.expr.TypedCall.{TypedCall}
 use Rattle.sc_core.specs.declared.expr.TypedExpr.{TypedExpr}
 use Rattle.sc_core.specs.declared.program.ProgramTree.{ProgramTree}
 use Rattle.sc_core.specs.declared.run.RunEnd.{RunEnd}
-use Rattle.sc_core.specs.declared.run.RunEnd.TheVariants.{TurnsOut}
-use Rattle.sc_core.specs.declared.run.SourceRun.{SourceRun}
+use Rattle.sc_core.specs.declared.run.RunEnd.TheVariants.{Blamed}
+use Rattle.sc_core.specs.declared.cause.Cause.TheVariants.{BadType}
 use Rattle.sc_core.specs.declared.value.Value.{Value}
-use Rattle.sc_core.specs.declared.value.Value.TheVariants.{Word}
-use Rattle.sc_core.specs.Words.{tell, State, Piece, Reached, Stopped, and_then, computed, turn, turn_of, Left}
+use Rattle.sc_core.specs.declared.value.Value.TheVariants.{Word, Null, Ptr}
+use Rattle.sc_core.specs.Words.{tell, State, Piece, Reached, Stopped, and_then, computed, turn, Left}
 use Rattle.sc_core.specs.declared.stmt.TypedSimpleKind.{TypedSimpleKind}
 use Rattle.sc_core.specs.Value.{c_arith}
 use Rattle.sc_core.specs.Tree.{values, call, assign_call, store_result, simple_does}
-use Rattle.sc_core.specs.Calls.{begun, done, function, entered, found, word_in, crossed, first_word, next_input, read_input, may_call, back_own, back_cross, run_in, call_own, call_cross, called}
+use Rattle.sc_core.specs.Calls.{Function, function, leads, found, word_in, is_word, crossed, first_word, next_input, read_input, may_call, back_own, back_cross, run_in, called}
+use Rattle.sc_core.specs.Meaning.{entry_in}
+use Rattle.sc_event.specs.Legal.{is_function, imports, takes}
 use Rattle.sc_value.specs.Where.{here_of}
 use Rattle.sc_run.specs.declared.work.Frame.{Frame}
 use Rattle.sc_run.specs.declared.work.Callee.{Callee}
@@ -28,85 +34,127 @@ use Rattle.sc_run.specs.declared.work.Step.{Step}
 use Rattle.sc_run.specs.declared.work.Step.TheVariants.{Stop}
 use Rattle.sc_run.specs.Seen.{Seen, seen_of}
 use Rattle.sc_run.specs.Comes.{Comes}
-use Rattle.sc_run.specs.Resume.{way_in, library, bodies, calls_in, result_goes, resume, Steps}
+use Rattle.sc_run.specs.Finding.{FoundAt, EntryAt}
+use Rattle.sc_run.specs.Resume.{way_in, library, bodies, calls_in, result_goes, Steps}
 use Rattle.sc_run.specs.Entering.{entry_from, back_from}
-use Rattle.sc_run.proofs.Standing.{resume_stopped, step_stops}
+use Rattle.sc_run.proofs.Standing.{step_stops}
 use Rattle.sc_run.proofs.Looping.{assoc, steps_as, steps_on}
 
-words_crossed : (args : List Value) → map word_in (crossed args) ≡ map word_in args
-words_crossed [] = refl
-words_crossed (v ∷ args) = ap (λ ws. word_in v ∷ ws) (words_crossed args)
+-- words cross as they are
+words_cross : (args : List Value) → list_all is_word args ≡ true → crossed args ≡ args
+words_cross [] words = refl
+words_cross (Word w ∷ args) words = ap (λ vs. Word w ∷ vs) (words_cross args words)
+words_cross (Null ∷ args) words = absurd (false≢true words)
+words_cross (Ptr p ∷ args) words = absurd (false≢true words)
+
+first_fails : (a b c d : Bool) → (a && (b && c)) ≡ false → (a && (b && (c && d))) ≡ false
+first_fails false b c d is = refl
+first_fails true false c d is = refl
+first_fails true true false d is = refl
+first_fails true true true d is = absurd (true≢false is)
+
+last_fails : (a b c d : Bool) → d ≡ false → (a && (b && (c && d))) ≡ false
+last_fails false b c d is = refl
+last_fails true false c d is = refl
+last_fails true true false d is = refl
+last_fails true true true d is = is
+
+all_hold : (a b c d : Bool) → (a && (b && c)) ≡ true → d ≡ true → (a && (b && (c && d))) ≡ true
+all_hold false b c d is last = absurd (false≢true is)
+all_hold true false c d is last = absurd (false≢true is)
+all_hold true true false d is last = absurd (false≢true is)
+all_hold true true true d is last = last
 
 module _ (program : ProgramTree) (before : Seen) (work : List Work) (f : Frame) (to : To) where
   abbrev rg : Option Value → State → Piece (Left (Unit {0}))
   rg = result_goes program f to
 
-  abbrev out_of_turns : {V : Type 0} → State → Piece V
-  out_of_turns s = Stopped TurnsOut s
+  -- the blame of a call that may not be made
+  abbrev pub refusal : RunEnd
+  refusal = Blamed f.scope.comp.now BadType 0
 
-  halts : {V : Type 0} → Comes before before (Err TurnsOut) (out_of_turns {V = V})
+  abbrev stops_here : {V : Type 0} → State → Piece V
+  stops_here s = Stopped refusal s
+
+  halts : {V : Type 0} → Comes before before (Err refusal) (stops_here {V = V})
   halts = record { comes = λ s shows. (refl, shows); fewer = omega arith }
 
-  -- a call that may not be made
-  pub refused : (target : CallTarget) (args : List Value) → may_call program.interfaces f.scope.comp.now target (length args) ≡ false → Steps program before work f (λ n s. and_then (calls_in program n f.scope.comp.now target args s) rg) (Stop TurnsOut) before work f
-  refused target args is =
-      steps_as program before work f (λ n s. and_then (calls_in program n f.scope.comp.now target args s) rg) (λ n s. and_then (out_of_turns {V = Option Value} s) rg) (Stop TurnsOut) before work f (λ n s. ap (λ b. and_then (if b then called (library program) (bodies program n) f.scope.comp.now target args s else Stopped TurnsOut s) rg) is) (step_stops program before before work f TurnsOut (out_of_turns {V = Option Value}) (λ n. rg) halts)
+  -- a call that is refused, or made
+  abbrev calling : CallTarget → List Value → ℕ → State → Piece (Left (Unit {0}))
+  calling target args n s = and_then (calls_in program n f.scope.comp.now target args s) rg
 
-  pub allowed : (target : CallTarget) (args : List Value) (step : Step) (after : Seen) (later : List Work) (g : Frame) → may_call program.interfaces f.scope.comp.now target (length args) ≡ true → Steps program before work f (λ n s. and_then (called (library program) (bodies program n) f.scope.comp.now target args s) rg) step after later g → Steps program before work f (λ n s. and_then (calls_in program n f.scope.comp.now target args s) rg) step after later g
+  abbrev making : CallTarget → List Value → ℕ → State → Piece (Left (Unit {0}))
+  making target args n s = and_then (called (library program) (bodies program n) f.scope.comp.now target args s) rg
+
+  pub refused : (target : CallTarget) (args : List Value) (end : RunEnd) → end ≡ refusal → may_call (library program) f.scope.comp.now target args ≡ false → Steps program before work f (λ n s. and_then (calls_in program n f.scope.comp.now target args s) rg) (Stop end) before work f
+  refused target args end same is =
+      subst (λ e. Steps program before work f (calling target args) (Stop e) before work f) (sym same) (steps_as program before work f (calling target args) (λ n s. and_then (stops_here {V = Option Value} s) rg) (Stop refusal) before work f (λ n s. ap (λ b. and_then (if b then called (library program) (bodies program n) f.scope.comp.now target args s else Stopped refusal s) rg) is) (step_stops program before before work f refusal (stops_here {V = Option Value}) (λ n. rg) halts))
+
+  allowed : (target : CallTarget) (args : List Value) (step : Step) (after : Seen) (later : List Work) (g : Frame) → may_call (library program) f.scope.comp.now target args ≡ true → Steps program before work f (making target args) step after later g → Steps program before work f (calling target args) step after later g
   allowed target args step after later g is h =
-      steps_as program before work f (λ n s. and_then (calls_in program n f.scope.comp.now target args s) rg) (λ n s. and_then (called (library program) (bodies program n) f.scope.comp.now target args s) rg) step after later g (λ n s. ap (λ b. and_then (if b then called (library program) (bodies program n) f.scope.comp.now target args s else Stopped TurnsOut s) rg) is) h
+      steps_as program before work f (calling target args) (making target args) step after later g (λ n s. ap (λ b. and_then (if b then called (library program) (bodies program n) f.scope.comp.now target args s else Stopped refusal s) rg) is) h
 
-  module _ (after_turn : ℕ → State → Piece (Option Value)) (stuck : (n : ℕ) (s : State) → after_turn n s ≡ Stopped TurnsOut s) where
-    missing_at : (whole : SourceRun) (n k : ℕ) (s : State) → seen_of s ≡ before → (resume program n (reverse work) f (and_then (and_then (turn_of k s) (λ _ s. after_turn n s)) rg)).shown ≡ whole → whole ≡ record { trace = before.trace; end = TurnsOut }
-    missing_at whole n zero s shows rest =
-        sym rest ∙ resume_stopped program n (reverse work) f TurnsOut s ∙ (λ i. record { trace = (shows i).trace; end = TurnsOut })
-    missing_at whole n (suc k) s shows rest =
-        sym rest ∙ ap (λ p. (resume program n (reverse work) f (and_then p rg)).shown) (stuck n (record s { turns = k })) ∙ resume_stopped program n (reverse work) f TurnsOut (record s { turns = k }) ∙ (λ i. record { trace = (shows i).trace; end = TurnsOut })
-
-    -- what is called isn't there
-    pub missing : Steps program before work f (λ n s. and_then (and_then (turn s) (λ _ s. after_turn n s)) rg) (Stop TurnsOut) before work f
-    missing =
-        record { stands = λ whole h. missing_at whole h.open_calls h.state.turns h.state h.shows h.rest }
-
-  none_run : (comp number : ℕ) (args : List Value) (entry : State → State) (back : Option Value → State → Piece (Option Value)) → function (library program) comp number ≡ None → (n : ℕ) (s : State) → run_in (library program) (bodies program n) comp number args entry back s ≡ Stopped TurnsOut s
-  none_run comp number args entry back is n s =
-      ap (λ o. and_then (found o s) (λ f s. and_then (bodies program n number (record { comp = comp; first = length (s.memory comp) }) (entry (begun comp f args s))) (λ v t. back v (done comp f (length (s.memory comp)) t)))) is
-
-  pub own_missing : (number : ℕ) (args : List Value) → function (library program) f.scope.comp.now number ≡ None → Steps program before work f (λ n s. and_then (called (library program) (bodies program n) f.scope.comp.now (Own number) args s) rg) (Stop TurnsOut) before work f
-  own_missing number args is =
-      missing (λ n s. call_own (library program) (bodies program n) f.scope.comp.now number args s) (λ n s. none_run f.scope.comp.now number args (λ s. s) back_own is n s)
-
-  pub cross_unknown : (comp index : ℕ) (args : List Value) → entered (library program) comp (Export index) ≡ None → Steps program before work f (λ n s. and_then (called (library program) (bodies program n) f.scope.comp.now (Cross comp index) args s) rg) (Stop TurnsOut) before work f
-  cross_unknown comp index args is =
-      missing (λ n s. call_cross (library program) (bodies program n) f.scope.comp.now comp index args s) (λ n s. ap (λ o. and_then (found o s) (λ number s. run_in (library program) (bodies program n) comp number (crossed args) (tell (Call f.scope.comp.now comp index (map word_in args))) (back_cross program.interfaces f.scope.comp.now comp index) s)) is)
-
-  pub cross_missing : (comp index number : ℕ) (args : List Value) → entered (library program) comp (Export index) ≡ Some number → function (library program) comp number ≡ None → Steps program before work f (λ n s. and_then (called (library program) (bodies program n) f.scope.comp.now (Cross comp index) args s) rg) (Stop TurnsOut) before work f
-  cross_missing comp index number args at is =
-      missing (λ n s. call_cross (library program) (bodies program n) f.scope.comp.now comp index args s) (λ n s. ap (λ o. and_then (found o s) (λ number s. run_in (library program) (bodies program n) comp number (crossed args) (tell (Call f.scope.comp.now comp index (map word_in args))) (back_cross program.interfaces f.scope.comp.now comp index) s)) at ∙ none_run comp number (crossed args) (tell (Call f.scope.comp.now comp index (map word_in args))) (back_cross program.interfaces f.scope.comp.now comp index) is n s)
+  pub own_missing : (number : ℕ) (args : List Value) (end : RunEnd) → end ≡ refusal → function (library program) f.scope.comp.now number ≡ None → Steps program before work f (λ n s. and_then (calls_in program n f.scope.comp.now (Own number) args s) rg) (Stop end) before work f
+  own_missing number args end same is = refused (Own number) args end same (ap is_some is)
 
   -- a function that is entered, as a call sees it
   abbrev entering : Callee → List Value → Option ℕ → ℕ → State → Piece (Left (Unit {0}))
   entering callee args crossing n s =
-      and_then (and_then (turn s) (λ _ s. run_in (library program) (bodies program n) callee.comp.now callee.number args (entry_from f callee args crossing) (back_from program f callee crossing) s)) rg
+      and_then (and_then (turn s) (λ _ s. run_in (library program) (bodies program n) callee.comp.now callee.number args (back_from program f callee crossing) (entry_from f callee args crossing s))) rg
 
-  pub own_enters : (callee : Callee) (number : ℕ) (args : List Value) (step : Step) (after : Seen) (later : List Work) (g : Frame) → callee.comp.now ≡ f.scope.comp.now → callee.number ≡ number → Steps program before work f (entering callee args None) step after later g → Steps program before work f (λ n s. and_then (called (library program) (bodies program n) f.scope.comp.now (Own number) args s) rg) step after later g
-  own_enters callee number args step after later g comp place h =
-      steps_as program before work f (λ n s. and_then (called (library program) (bodies program n) f.scope.comp.now (Own number) args s) rg) (entering callee args None) step after later g (λ n s i. and_then (and_then (turn s) (λ _ s. run_in (library program) (bodies program n) (sym comp i) (sym place i) args (λ s. s) back_own s)) rg) h
+  is_there : (callee : Callee) (comp number : ℕ) → callee.comp.now ≡ comp → callee.number ≡ number → {g : Function} → function (library program) callee.comp.now callee.number ≡ Some g → is_some (function (library program) comp number) ≡ true
+  is_there callee comp number here place there = (λ i. is_some (function (library program) (sym here i) (sym place i))) ∙ ap is_some there
 
-  pub cross_enters : (callee : Callee) (comp index number : ℕ) (args words : List Value) (step : Step) (after : Seen) (later : List Work) (g : Frame) → entered (library program) comp (Export index) ≡ Some number → callee.comp.now ≡ comp → callee.number ≡ number → words ≡ crossed args → Steps program before work f (entering callee words (Some index)) step after later g → Steps program before work f (λ n s. and_then (called (library program) (bodies program n) f.scope.comp.now (Cross comp index) args s) rg) step after later g
-  cross_enters callee comp index number args words step after later g at here place is h =
-      steps_as program before work f (λ n s. and_then (called (library program) (bodies program n) f.scope.comp.now (Cross comp index) args s) rg) (entering callee words (Some index)) step after later g same h where
-        told : map word_in args ≡ map word_in words
-        told = sym (words_crossed args) ∙ ap (map word_in) (sym is)
+  pub own_enters : (callee : Callee) (number : ℕ) (args : List Value) (step : Step) (after : Seen) (later : List Work) (g : Frame) → FoundAt program f.scope.comp.now number (Some callee) → Steps program before work f (entering callee args None) step after later g → Steps program before work f (λ n s. and_then (calls_in program n f.scope.comp.now (Own number) args s) rg) step after later g
+  own_enters callee number args step after later g found h =
+      allowed (Own number) args step after later g (is_there callee f.scope.comp.now number found.0 found.1 found.2) (steps_as program before work f (making (Own number) args) (entering callee args None) step after later g (λ n s i. and_then (and_then (turn s) (λ _ s. run_in (library program) (bodies program n) (sym found.0 i) (sym found.1 i) args back_own s)) rg) h)
 
-        same : (n : ℕ) (s : State) → and_then (called (library program) (bodies program n) f.scope.comp.now (Cross comp index) args s) rg ≡ entering callee words (Some index) n s
-        same n s =
-            (λ i. and_then (and_then (turn s) (λ _ s. and_then (found (at i) s) (λ number s. run_in (library program) (bodies program n) comp number (crossed args) (tell (Call f.scope.comp.now comp index (map word_in args))) (back_cross program.interfaces f.scope.comp.now comp index) s))) rg)
-            ∙ (λ i. and_then (and_then (turn s) (λ _ s. run_in (library program) (bodies program n) (sym here i) (sym place i) (sym is i) (tell (Call f.scope.comp.now (sym here i) index (told i))) (back_cross program.interfaces f.scope.comp.now (sym here i) index) s)) rg)
+  module _ (comp index : ℕ) (args : List Value) where
+    abbrev imported : Bool
+    imported = imports program.interfaces f.scope.comp.now (is_function comp index)
+
+    abbrev taken : Bool
+    taken = takes program.interfaces comp index (length args)
+
+    abbrev words : Bool
+    words = list_all is_word args
+
+    abbrev leads_there : Option ℕ → Bool
+    leads_there o = leads (library program) comp o
+
+    abbrev leads_on : Bool
+    leads_on = leads_there (entry_in program comp (Export index))
+
+    -- what of a call across is tested before its function is looked up
+    abbrev pub MayCross : Bool → Type 0
+    MayCross may = may ≡ (imported && (taken && words))
+
+    pub cross_refused : (end : RunEnd) → end ≡ refusal → MayCross false → Steps program before work f (λ n s. and_then (calls_in program n f.scope.comp.now (Cross comp index) args s) rg) (Stop end) before work f
+    cross_refused end same may = refused (Cross comp index) args end same (first_fails imported taken words leads_on (sym may))
+
+    no_lead : (o : Option ℕ) → entry_in program comp (Export index) ≡ o → EntryAt program comp (Export index) None → leads_there o ≡ false
+    no_lead None is h = refl
+    no_lead (Some number) is h = ap is_some (h number is)
+
+    pub cross_missing : (end : RunEnd) → end ≡ refusal → EntryAt program comp (Export index) None → Steps program before work f (λ n s. and_then (calls_in program n f.scope.comp.now (Cross comp index) args s) rg) (Stop end) before work f
+    cross_missing end same none = refused (Cross comp index) args end same (last_fails imported taken words leads_on (no_lead (entry_in program comp (Export index)) refl none))
+
+    pub cross_enters : (callee : Callee) (step : Step) (after : Seen) (later : List Work) (g : Frame) → MayCross true → EntryAt program comp (Export index) (Some callee) → Steps program before work f (entering callee args (Some index)) step after later g → Steps program before work f (λ n s. and_then (calls_in program n f.scope.comp.now (Cross comp index) args s) rg) step after later g
+    cross_enters callee step after later g may entry h =
+        allowed (Cross comp index) args step after later g
+        (all_hold imported taken words leads_on (sym may) (ap leads_there entry.0 ∙ is_there callee comp callee.number entry.1.0 refl entry.1.2))
+        (steps_as program before work f (making (Cross comp index) args) (entering callee args (Some index)) step after later g same h) where
+          as_words : crossed args ≡ args
+          as_words = words_cross args (and_rest taken words (and_rest imported (taken && words) (sym may)))
+
+          same : (n : ℕ) (s : State) → making (Cross comp index) args n s ≡ entering callee args (Some index) n s
+          same n s =
+              (λ i. and_then (and_then (turn s) (λ _ s. and_then (found (entry.0 i) s) (λ number s. run_in (library program) (bodies program n) comp number (as_words i) (back_cross program.interfaces f.scope.comp.now comp index) (tell (Call f.scope.comp.now comp index (map word_in args)) s)))) rg)
+              ∙ (λ i. and_then (and_then (turn s) (λ _ s. run_in (library program) (bodies program n) (sym entry.1.0 i) callee.number args (back_cross program.interfaces f.scope.comp.now (sym entry.1.0 i) index) (tell (Call f.scope.comp.now (sym entry.1.0 i) index (map word_in args)) s))) rg)
 
   -- the next input
-  pub input_steps : (args : List Value) (word : ℕ) (middle told after : Seen) (step : Step) → word ≡ next_input before.inputs → middle ≡ record before { inputs = drop 1 before.inputs } → told ≡ record middle { trace = middle.trace ++ In f.scope.comp.now word ∷ [] } → Steps program told work f (λ n s. rg (Some (Word word)) s) step after work f → Steps program before work f (λ n s. and_then (called (library program) (bodies program n) f.scope.comp.now Input args s) rg) step after work f
-  input_steps args word middle told after step is rest tells h =
+  input_made : (args : List Value) (word : ℕ) (middle told after : Seen) (step : Step) → word ≡ next_input before.inputs → middle ≡ record before { inputs = drop 1 before.inputs } → told ≡ record middle { trace = middle.trace ++ In f.scope.comp.now word ∷ [] } → Steps program told work f (λ n s. rg (Some (Word word)) s) step after work f → Steps program before work f (λ n s. and_then (called (library program) (bodies program n) f.scope.comp.now Input args s) rg) step after work f
+  input_made args word middle told after step is rest tells h =
       steps_on program before work f told after (Some (Word word)) (λ s. Reached (Some (Word (next_input s.inputs))) (read_input f.scope.comp.now s)) (λ n. rg) step work f (record {
         comes = λ s shows. (ap (λ w. Some (Word w)) (ap (λ x. next_input x.inputs) shows ∙ sym is), seen s shows);
         fewer = omega (arith, ap (λ x. x.turns) tells, ap (λ x. x.turns) rest);
@@ -117,12 +165,20 @@ module _ (program : ProgramTree) (before : Seen) (work : List Work) (f : Frame) 
             ∙ (λ i. record before { trace = before.trace ++ In f.scope.comp.now (sym is i) ∷ []; inputs = drop 1 before.inputs })
             ∙ ap {A = Seen} (λ x. record x { trace = x.trace ++ In f.scope.comp.now word ∷ [] }) (sym rest) ∙ sym tells
 
-  pub output_steps : (args : List Value) (word : ℕ) (told after : Seen) (step : Step) → word ≡ first_word args → told ≡ record before { trace = before.trace ++ Out f.scope.comp.now word ∷ [] } → Steps program told work f (λ n s. rg None s) step after work f → Steps program before work f (λ n s. and_then (called (library program) (bodies program n) f.scope.comp.now Output args s) rg) step after work f
-  output_steps args word told after step is tells h =
+  output_made : (args : List Value) (word : ℕ) (told after : Seen) (step : Step) → word ≡ first_word args → told ≡ record before { trace = before.trace ++ Out f.scope.comp.now word ∷ [] } → Steps program told work f (λ n s. rg None s) step after work f → Steps program before work f (λ n s. and_then (called (library program) (bodies program n) f.scope.comp.now Output args s) rg) step after work f
+  output_made args word told after step is tells h =
       steps_on program before work f told after None (λ s. Reached None (tell (Out f.scope.comp.now (first_word args)) s)) (λ n. rg) step work f (record {
         comes = λ s shows. (refl, ap {A = Seen} (λ x. record x { trace = x.trace ++ Out f.scope.comp.now (first_word args) ∷ [] }) shows ∙ (λ i. record before { trace = before.trace ++ Out f.scope.comp.now (sym is i) ∷ [] }) ∙ sym tells);
         fewer = omega (arith, ap (λ x. x.turns) tells);
       }) h
+
+  pub input_steps : (args : List Value) (word : ℕ) (middle told after : Seen) (step : Step) → may_call (library program) f.scope.comp.now Input args ≡ true → word ≡ next_input before.inputs → middle ≡ record before { inputs = drop 1 before.inputs } → told ≡ record middle { trace = middle.trace ++ In f.scope.comp.now word ∷ [] } → Steps program told work f (λ n s. rg (Some (Word word)) s) step after work f → Steps program before work f (λ n s. and_then (calls_in program n f.scope.comp.now Input args s) rg) step after work f
+  input_steps args word middle told after step may is rest tells h =
+      allowed Input args step after work f may (input_made args word middle told after step is rest tells h)
+
+  pub output_steps : (args : List Value) (word : ℕ) (told after : Seen) (step : Step) → may_call (library program) f.scope.comp.now Output args ≡ true → word ≡ first_word args → told ≡ record before { trace = before.trace ++ Out f.scope.comp.now word ∷ [] } → Steps program told work f (λ n s. rg None s) step after work f → Steps program before work f (λ n s. and_then (calls_in program n f.scope.comp.now Output args s) rg) step after work f
+  output_steps args word told after step may is tells h =
+      allowed Output args step after work f may (output_made args word told after step is tells h)
 
   module _ (target : CallTarget) (args : List TypedExpr) (line : ℕ) where
     abbrev given_args : State → Piece (List Value)
@@ -145,9 +201,9 @@ module _ (program : ProgramTree) (before : Seen) (work : List Work) (f : Frame) 
     call_steps vs step after later g c h =
         steps_as program before work f whole_call stepwise step after later g by_assoc (steps_on program before work f before after vs given_args (λ n vs s. and_then (calls_in program n f.scope.comp.now target vs s) rg) step later g c h)
 
-  pub as_called : (target t : CallTarget) (args : List Value) (step : Step) (after : Seen) (later : List Work) (g : Frame) → target ≡ t → may_call program.interfaces f.scope.comp.now target (length args) ≡ true → Steps program before work f (λ n s. and_then (called (library program) (bodies program n) f.scope.comp.now t args s) rg) step after later g → Steps program before work f (λ n s. and_then (calls_in program n f.scope.comp.now target args s) rg) step after later g
-  as_called target t args step after later g is may h =
-      allowed target args step after later g may (subst (λ x. Steps program before work f (λ n s. and_then (called (library program) (bodies program n) f.scope.comp.now x args s) rg) step after later g) (sym is) h)
+  pub as_called : (target t : CallTarget) (args : List Value) (step : Step) (after : Seen) (later : List Work) (g : Frame) → target ≡ t → Steps program before work f (λ n s. and_then (calls_in program n f.scope.comp.now t args s) rg) step after later g → Steps program before work f (λ n s. and_then (calls_in program n f.scope.comp.now target args s) rg) step after later g
+  as_called target t args step after later g is h =
+      subst (λ x. Steps program before work f (λ n s. and_then (calls_in program n f.scope.comp.now x args s) rg) step after later g) (sym is) h
 
   pub call_steps_by : (target : CallTarget) (es given_es : List TypedExpr) (line : ℕ) (r : Result (List Value) RunEnd) (vs given_vs : List Value) (step : Step) (after : Seen) (later : List Work) (g : Frame) → given_es ≡ es → r ≡ Ok vs → given_vs ≡ vs → Comes before before r (given_args target given_es line) → Steps program before work f (λ n s. and_then (calls_in program n f.scope.comp.now target given_vs s) rg) step after later g → Steps program before work f (whole_call target es line) step after later g
   call_steps_by target es given_es line r vs given_vs step after later g same is values_is c h =

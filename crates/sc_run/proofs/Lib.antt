@@ -5,10 +5,13 @@ pub mod Coming
 pub mod Ending
 pub mod Filling
 pub mod Finding
+pub mod Going
 pub mod Invoking
+pub mod Keeping
 pub mod Looping
 pub mod Making
 pub mod Onward
+pub mod Opening
 pub mod Rounds
 pub mod Standing
 pub mod Stating

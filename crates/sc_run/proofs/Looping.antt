@@ -2,6 +2,7 @@
 use Rattle.std.proofs.Common.{◌≡◌, refl, sym, ap, ◌∙◌, subst, ℕ, suc, ◌++◌, Bool, true, false, if◌then◌else◌, List, [], ◌∷◌, length, reverse, Ok, Err, arith}
 use Rattle.std.specs.Option.{option_copied}
 use denote.Bor.{Bor}
+use Rattle.sc_event.specs.declared.event.Event.{Event}
 use Rattle.sc_core.specs.declared.program.ProgramTree.{ProgramTree}
 use Rattle.sc_core.specs.declared.run.RunEnd.{RunEnd}
 use Rattle.sc_core.specs.declared.stmt.TypedStmt.{TypedStmt}
@@ -10,13 +11,13 @@ use Rattle.sc_core.specs.declared.value.Want.TheVariants as want
 use Rattle.sc_core.specs.Value.{c_arith, is_true}
 use Rattle.sc_core.specs.Words.{State, Piece, Reached, Stopped, and_then, turn, Exit, Next, Break, Left, leave, in_order, in_loop, follow, take, choose}
 use Rattle.sc_core.specs.Tree.{Acts, given, test}
-use Rattle.sc_core.proofs.Keeping.{CallsKeep, test_kept, block_kept, part_kept}
-use Rattle.sc_core.proofs.Opening.{library_is_open}
+use Rattle.sc_run.proofs.Keeping.{CallsKeep, test_kept, block_kept, part_kept}
+use Rattle.sc_run.proofs.Opening.{library_is_open}
 use Rattle.sc_value.specs.Where.{here_of}
 use Rattle.sc_run.specs.declared.work.Frame.{Frame}
 use Rattle.sc_run.specs.declared.work.Loop.{Loop}
 use Rattle.sc_run.specs.declared.work.Work.{Work}
-use Rattle.sc_run.specs.declared.work.Work.TheVariants.{Rest, Body as Body', Again}
+use Rattle.sc_run.specs.declared.work.Work.TheVariants.{Rest, First, Body as Body', Again}
 use Rattle.sc_run.specs.declared.work.Now.{Now}
 use Rattle.sc_run.specs.declared.work.Now.TheVariants.{Run as Run'}
 use Rattle.sc_run.specs.declared.work.Step.{Step}
@@ -24,7 +25,8 @@ use Rattle.sc_run.specs.declared.work.Step.TheVariants.{Go, Stop}
 use Rattle.sc_run.specs.Seen.{Seen}
 use Rattle.sc_run.specs.Comes.{Comes}
 use Rattle.sc_run.specs.Resume.{way_in, library, bodies, calls_in, block_acts, next_acts, loop_acts, resume, does_now, Steps}
-use Rattle.sc_run.proofs.Rounds.{few, is_few, calls_few, within_few, loop_again}
+use Rattle.sc_run.proofs.Going.{going, is_going, calls_go_on, within_goes}
+use Rattle.sc_run.proofs.Rounds.{loop_again}
 use Rattle.sc_run.proofs.Standing.{Acting, told_as, goes_on, step_stops, moved, newest_first}
 
 pub assoc : {U V W : Type 0} (p : Piece U) (f : U → State → Piece V) (g : V → State → Piece W) → and_then (and_then p f) g ≡ and_then p (λ u s. and_then (f u s) g)
@@ -32,17 +34,17 @@ assoc (Reached u s) f g = refl
 assoc (Stopped end s) f g = refl
 
 module _ (program : ProgramTree) (f : Frame) where
-  pub calls_keep : (n k : ℕ) → CallsKeep (few k) (here_of f.scope) (is_few k (here_of f.scope)) (calls_in program n)
-  calls_keep n k target args s h =
-      calls_few (library program) (bodies program n) (within_few (library program) (library_is_open c_arith program) n) k (here_of f.scope).comp target args s h
+  pub calls_keep : (t : List Event) (n k : ℕ) → CallsKeep (going t k) (here_of f.scope) (is_going t k (here_of f.scope)) (calls_in program n)
+  calls_keep t n k target args s h =
+      calls_go_on (library program) (bodies program n) (within_goes (library program) (library_is_open c_arith program) n) t k (here_of f.scope).comp target args s h
 
   module _ (l : Loop) where
     -- a loop once its condition was looked at
     abbrev pub tested : ℕ → Bool → State → Piece (Left (Unit {0}))
-    tested n true s = and_then (turn s) (λ _ s. follow in_loop (block_acts program n f l.body.now tt s) (λ a s. follow in_order (next_acts program n f l a s) (loop_acts program n f l)))
+    tested n true s = and_then (turn s) (λ _ s. follow in_loop (block_acts program n f l.body.now tt s) (λ a s. follow in_loop (next_acts program n f l a s) (loop_acts program n f l)))
     tested n false s = leave Next tt s
 
-    by_truth : (n : ℕ) (b : Bool) (s : State) → follow in_loop (if b then leave Next tt s else leave Break tt s) (λ a s. and_then (turn s) (λ _ s. follow in_loop (block_acts program n f l.body.now a s) (λ a s. follow in_order (next_acts program n f l a s) (loop_acts program n f l)))) ≡ tested n b s
+    by_truth : (n : ℕ) (b : Bool) (s : State) → follow in_loop (if b then leave Next tt s else leave Break tt s) (λ a s. and_then (turn s) (λ _ s. follow in_loop (block_acts program n f l.body.now a s) (λ a s. follow in_loop (next_acts program n f l a s) (loop_acts program n f l)))) ≡ tested n b s
     by_truth n true s = refl
     by_truth n false s = refl
 
@@ -55,12 +57,12 @@ module _ (program : ProgramTree) (f : Frame) where
 
     abbrev pub rest_of_round : ℕ → Acts
     rest_of_round n a s =
-        and_then (turn s) (λ _ s. follow in_loop (block_acts program n f l.body.now a s) (λ a s. follow in_order (next_acts program n f l a s) (loop_acts program n f l)))
+        and_then (turn s) (λ _ s. follow in_loop (block_acts program n f l.body.now a s) (λ a s. follow in_loop (next_acts program n f l a s) (loop_acts program n f l)))
 
     -- a loop: its condition, a turn, its body, and the loop again
     pub round_is : (n : ℕ) (s : State) → loop_acts program n f l tt s ≡ and_then (cond_given s) (λ v s. tested n (is_true v) s)
     round_is n s =
-        loop_again (test (here_of f.scope) (way_in f l.cond.now) l.line) (block_acts program n f l.body.now) (next_acts program n f l) (λ k. test_kept (few k) (here_of f.scope) (is_few k (here_of f.scope)) (way_in f l.cond.now) l.line) (λ k. block_kept (few k) (here_of f.scope) (is_few k (here_of f.scope)) (calls_in program n) (calls_keep n k) c_arith f.scope.structs.now f.scope.params l.body.now) (λ k. part_kept (few k) (here_of f.scope) (is_few k (here_of f.scope)) (calls_in program n) (calls_keep n k) c_arith f.scope.structs.now f.scope.params (option_copied l.next)) tt s
+        loop_again (test (here_of f.scope) (way_in f l.cond.now) l.line) (block_acts program n f l.body.now) (next_acts program n f l) (λ k. test_kept (going [] k) (here_of f.scope) (is_going [] k (here_of f.scope)) (way_in f l.cond.now) l.line) (λ k. block_kept (going [] k) (here_of f.scope) (is_going [] k (here_of f.scope)) (calls_in program n) (calls_keep [] n k) c_arith f.scope.structs.now f.scope.params l.body.now) (λ k. part_kept (going [] k) (here_of f.scope) (is_going [] k (here_of f.scope)) (calls_in program n) (calls_keep [] n k) c_arith f.scope.structs.now f.scope.params (option_copied l.next)) tt s
         ∙ assoc (cond_given s) (λ v s. choose v (leave Next tt s) (leave Break tt s)) (λ left s. take (in_loop left.exit) (rest_of_round n) left.carried s)
         ∙ then_same (cond_given s) (λ v s. follow in_loop (choose v (leave Next tt s) (leave Break tt s)) (rest_of_round n)) (λ v s. tested n (is_true v) s) (λ v s. by_truth n (is_true v) s)
 
@@ -98,7 +100,7 @@ module _ (program : ProgramTree) (before : Seen) (work : List Work) (f : Frame) 
         steps_as (λ n. loop_acts program n f l tt) (λ n s. and_then (cond_given program f l s) (λ v s. tested program f l n (is_true v) s)) step after later f (round_is program f l) (steps_on before after v (cond_given program f l) (λ n v s. tested program f l n (is_true v) s) step later f c (steps_as (λ n s. tested program f l n (is_true v) s) (λ n s. tested program f l n true s) step after later f (λ n s. ap (λ b. tested program f l n b s) true_is) h))
 
     abbrev in_body : ℕ → Unit {0} → State → Piece (Left (Unit {0}))
-    in_body n u s = follow in_loop (block_acts program n f l.body.now tt s) (λ a s. follow in_order (next_acts program n f l a s) (loop_acts program n f l))
+    in_body n u s = follow in_loop (block_acts program n f l.body.now tt s) (λ a s. follow in_loop (next_acts program n f l a s) (loop_acts program n f l))
 
     pub round_out : (v : Value) (after : Seen) (end : RunEnd) → Comes before before (Ok v) (cond_given program f l) → is_true v ≡ true → Comes before after (Err end) turn → Steps program before work f (λ n. loop_acts program n f l tt) (Stop end) after work f
     round_out v after end c true_is t =
@@ -127,13 +129,17 @@ module _ (program : ProgramTree) (before : Seen) (work earlier : List Work) (f :
   rest_taken exit stmts is h =
       steps_resume program before work f (Rest stmts) earlier (leaving exit) (λ n s. follow in_order (leave exit tt s) (block_acts program n f stmts.now)) step after later g (popped ∙ ap (λ x. earlier ++ x ∷ []) is) (λ n s. refl) h
 
-  pub again_taken : (exit : Exit) (l : Loop) → w ≡ Again l → Steps program before earlier f (λ n s. follow in_order (leave exit tt s) (loop_acts program n f l)) step after later g → Steps program before work f (leaving exit) step after later g
-  again_taken exit l is h =
-      steps_resume program before work f (Again l) earlier (leaving exit) (λ n s. follow in_order (leave exit tt s) (loop_acts program n f l)) step after later g (popped ∙ ap (λ x. earlier ++ x ∷ []) is) (λ n s. refl) h
+  pub first_taken : (exit : Exit) (l : Loop) → w ≡ First l → Steps program before earlier f (λ n s. follow in_order (leave exit tt s) (loop_acts program n f l)) step after later g → Steps program before work f (leaving exit) step after later g
+  first_taken exit l is h =
+      steps_resume program before work f (First l) earlier (leaving exit) (λ n s. follow in_order (leave exit tt s) (loop_acts program n f l)) step after later g (popped ∙ ap (λ x. earlier ++ x ∷ []) is) (λ n s. refl) h
 
-  pub body_taken : (exit : Exit) (l : Loop) → w ≡ Body' l → Steps program before earlier f (λ n s. follow in_loop (leave exit tt s) (λ a s. follow in_order (next_acts program n f l a s) (loop_acts program n f l))) step after later g → Steps program before work f (leaving exit) step after later g
+  pub again_taken : (exit : Exit) (l : Loop) → w ≡ Again l → Steps program before earlier f (λ n s. follow in_loop (leave exit tt s) (loop_acts program n f l)) step after later g → Steps program before work f (leaving exit) step after later g
+  again_taken exit l is h =
+      steps_resume program before work f (Again l) earlier (leaving exit) (λ n s. follow in_loop (leave exit tt s) (loop_acts program n f l)) step after later g (popped ∙ ap (λ x. earlier ++ x ∷ []) is) (λ n s. refl) h
+
+  pub body_taken : (exit : Exit) (l : Loop) → w ≡ Body' l → Steps program before earlier f (λ n s. follow in_loop (leave exit tt s) (λ a s. follow in_loop (next_acts program n f l a s) (loop_acts program n f l))) step after later g → Steps program before work f (leaving exit) step after later g
   body_taken exit l is h =
-      steps_resume program before work f (Body' l) earlier (leaving exit) (λ n s. follow in_loop (leave exit tt s) (λ a s. follow in_order (next_acts program n f l a s) (loop_acts program n f l))) step after later g (popped ∙ ap (λ x. earlier ++ x ∷ []) is) (λ n s. refl) h
+      steps_resume program before work f (Body' l) earlier (leaving exit) (λ n s. follow in_loop (leave exit tt s) (λ a s. follow in_loop (next_acts program n f l a s) (loop_acts program n f l))) step after later g (popped ∙ ap (λ x. earlier ++ x ∷ []) is) (λ n s. refl) h
 
   pub caller_taken : (p : Acting) (x : Work) → w ≡ x → Steps program before (earlier ++ x ∷ []) f p step after later g → Steps program before work f p step after later g
   caller_taken p x is h =

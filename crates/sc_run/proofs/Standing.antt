@@ -7,7 +7,7 @@ use Rattle.sc_core.specs.declared.run.SourceRun.{SourceRun}
 use Rattle.sc_core.specs.Words.{State, Piece, Reached, Stopped, and_then, Left}
 use Rattle.sc_run.specs.declared.work.Frame.{Frame}
 use Rattle.sc_run.specs.declared.work.Work.{Work}
-use Rattle.sc_run.specs.declared.work.Work.TheVariants.{Rest, Body as Body', Again, Caller}
+use Rattle.sc_run.specs.declared.work.Work.TheVariants.{Rest, First, Body as Body', Again, Caller}
 use Rattle.sc_run.specs.Seen.{Seen}
 use Rattle.sc_run.specs.Comes.{CameTo, Comes}
 use Rattle.sc_run.specs.declared.work.Step.TheVariants.{Stop}
@@ -21,6 +21,7 @@ module _ (program : ProgramTree) where
   pub resume_stopped : (n : ℕ) (work : List Work) (f : Frame) (end : RunEnd) (s : State) → (resume program n work f (Stopped end s)).shown ≡ record { trace = s.trace; end = end }
   resume_stopped n [] f end s = refl
   resume_stopped n (Rest stmts ∷ work) f end s = resume_stopped n work f end s
+  resume_stopped n (First l ∷ work) f end s = resume_stopped n work f end s
   resume_stopped n (Body' l ∷ work) f end s = resume_stopped n work f end s
   resume_stopped n (Again l ∷ work) f end s = resume_stopped n work f end s
   resume_stopped n (Caller caller to crossing ∷ work) f end s = resume_stopped (suc n) work caller end s

@@ -10,14 +10,14 @@ use Rattle.sc_core.specs.declared.expr.TypedExpr.{TypedExpr}
 use Rattle.sc_core.specs.declared.value.Want.TheVariants as want
 use Rattle.sc_core.specs.declared.stmt.TypedSimple.{TypedSimple}
 use Rattle.sc_core.specs.Value.{c_arith}
-use Rattle.sc_core.specs.Words.{State, Piece, Left, and_then, choose, leave, loop, Next, in_order, follow}
+use Rattle.sc_core.specs.Words.{State, Piece, Left, and_then, choose, leave, loop, Next, in_order, in_loop, follow}
 use Rattle.sc_core.specs.Tree.{Acts, assign, given, test, kind_step, stmt_step, part_does, simple_does}
 use Rattle.sc_core.proofs.Layers.{stmt_at, layer_of}
 use Rattle.sc_value.specs.Where.{here_of}
 use Rattle.sc_run.specs.declared.work.Frame.{Frame}
 use Rattle.sc_run.specs.declared.work.Loop.{Loop}
 use Rattle.sc_run.specs.declared.work.Work.{Work}
-use Rattle.sc_run.specs.declared.work.Work.TheVariants.{Rest, Again}
+use Rattle.sc_run.specs.declared.work.Work.TheVariants.{Rest, First, Again}
 use Rattle.sc_run.specs.declared.work.Step.{Step}
 use Rattle.sc_run.specs.Seen.{Seen}
 use Rattle.sc_run.specs.Resume.{way_in, calls_in, stmt_acts, block_acts, part_acts, loop_acts, Steps}
@@ -51,9 +51,14 @@ list_steps program before work later f stmts stmt rest step after last g split s
     steps_as program before work f (λ n s. block_acts program n f stmts tt s) (λ n s. block_acts program n f (stmt ∷ rest.now) tt s) step after last g (λ n s. ap (λ xs. block_acts program n f xs tt s) (split ∙ ap (λ xs. stmt ∷ xs) (sym same))) (steps_wait program before work f (Rest rest) later (λ n s. block_acts program n f (stmt ∷ rest.now) tt s) (λ n. stmt_acts program n f stmt tt) step after last g pushed (λ n s. refl) h)
 
 -- the first part of a `for`, while the loop waits
-pub first_steps : (program : ProgramTree) (before : Seen) (work later : List Work) (f : Frame) (first : Option TypedSimple) (part : TypedSimple) (l : Loop) (step : Step) (after : Seen) (last : List Work) (g : Frame) → first ≡ Some part → later ≡ work ++ Again l ∷ [] → Steps program before later f (λ n. simple_does c_arith f.scope.structs.now (here_of f.scope) f.scope.params (calls_in program n) part.kind part.line tt) step after last g → Steps program before work f (λ n s. follow in_order (part_does c_arith f.scope.structs.now (here_of f.scope) f.scope.params (calls_in program n) first tt s) (loop_acts program n f l)) step after last g
+pub first_steps : (program : ProgramTree) (before : Seen) (work later : List Work) (f : Frame) (first : Option TypedSimple) (part : TypedSimple) (l : Loop) (step : Step) (after : Seen) (last : List Work) (g : Frame) → first ≡ Some part → later ≡ work ++ First l ∷ [] → Steps program before later f (λ n. simple_does c_arith f.scope.structs.now (here_of f.scope) f.scope.params (calls_in program n) part.kind part.line tt) step after last g → Steps program before work f (λ n s. follow in_order (part_does c_arith f.scope.structs.now (here_of f.scope) f.scope.params (calls_in program n) first tt s) (loop_acts program n f l)) step after last g
 first_steps program before work later f first part l step after last g is pushed h =
-    steps_as program before work f (λ n s. follow in_order (part_does c_arith f.scope.structs.now (here_of f.scope) f.scope.params (calls_in program n) first tt s) (loop_acts program n f l)) (λ n s. follow in_order (simple_does c_arith f.scope.structs.now (here_of f.scope) f.scope.params (calls_in program n) part.kind part.line tt s) (loop_acts program n f l)) step after last g (λ n s. ap (λ o. follow in_order (part_does c_arith f.scope.structs.now (here_of f.scope) f.scope.params (calls_in program n) o tt s) (loop_acts program n f l)) is) (steps_wait program before work f (Again l) later (λ n s. follow in_order (simple_does c_arith f.scope.structs.now (here_of f.scope) f.scope.params (calls_in program n) part.kind part.line tt s) (loop_acts program n f l)) (λ n. simple_does c_arith f.scope.structs.now (here_of f.scope) f.scope.params (calls_in program n) part.kind part.line tt) step after last g pushed (λ n s. refl) h)
+    steps_as program before work f (λ n s. follow in_order (part_does c_arith f.scope.structs.now (here_of f.scope) f.scope.params (calls_in program n) first tt s) (loop_acts program n f l)) (λ n s. follow in_order (simple_does c_arith f.scope.structs.now (here_of f.scope) f.scope.params (calls_in program n) part.kind part.line tt s) (loop_acts program n f l)) step after last g (λ n s. ap (λ o. follow in_order (part_does c_arith f.scope.structs.now (here_of f.scope) f.scope.params (calls_in program n) o tt s) (loop_acts program n f l)) is) (steps_wait program before work f (First l) later (λ n s. follow in_order (simple_does c_arith f.scope.structs.now (here_of f.scope) f.scope.params (calls_in program n) part.kind part.line tt s) (loop_acts program n f l)) (λ n. simple_does c_arith f.scope.structs.now (here_of f.scope) f.scope.params (calls_in program n) part.kind part.line tt) step after last g pushed (λ n s. refl) h)
+
+-- what comes before the next round, while the loop waits
+pub next_steps : (program : ProgramTree) (before : Seen) (work later : List Work) (f : Frame) (first : Option TypedSimple) (part : TypedSimple) (l : Loop) (step : Step) (after : Seen) (last : List Work) (g : Frame) → first ≡ Some part → later ≡ work ++ Again l ∷ [] → Steps program before later f (λ n. simple_does c_arith f.scope.structs.now (here_of f.scope) f.scope.params (calls_in program n) part.kind part.line tt) step after last g → Steps program before work f (λ n s. follow in_loop (part_does c_arith f.scope.structs.now (here_of f.scope) f.scope.params (calls_in program n) first tt s) (loop_acts program n f l)) step after last g
+next_steps program before work later f first part l step after last g is pushed h =
+    steps_as program before work f (λ n s. follow in_loop (part_does c_arith f.scope.structs.now (here_of f.scope) f.scope.params (calls_in program n) first tt s) (loop_acts program n f l)) (λ n s. follow in_loop (simple_does c_arith f.scope.structs.now (here_of f.scope) f.scope.params (calls_in program n) part.kind part.line tt s) (loop_acts program n f l)) step after last g (λ n s. ap (λ o. follow in_loop (part_does c_arith f.scope.structs.now (here_of f.scope) f.scope.params (calls_in program n) o tt s) (loop_acts program n f l)) is) (steps_wait program before work f (Again l) later (λ n s. follow in_loop (simple_does c_arith f.scope.structs.now (here_of f.scope) f.scope.params (calls_in program n) part.kind part.line tt s) (loop_acts program n f l)) (λ n. simple_does c_arith f.scope.structs.now (here_of f.scope) f.scope.params (calls_in program n) part.kind part.line tt) step after last g pushed (λ n s. refl) h)
 
 -- a loop at once, where there is no first part
 pub no_first : (program : ProgramTree) (before : Seen) (work : List Work) (f : Frame) (first : Option TypedSimple) (l : Loop) (step : Step) (after : Seen) (last : List Work) (g : Frame) → first ≡ None → Steps program before work f (λ n. loop_acts program n f l tt) step after last g → Steps program before work f (λ n s. follow in_order (part_does c_arith f.scope.structs.now (here_of f.scope) f.scope.params (calls_in program n) first tt s) (loop_acts program n f l)) step after last g

@@ -10,8 +10,7 @@ use Rattle.sc_core.specs.declared.run.SourceRun.{SourceRun}
 use Rattle.sc_core.specs.Memory.{Memory}
 use Rattle.sc_core.specs.Run.{stopped_at}
 use Rattle.sc_core.specs.Value.{c_arith}
-use Rattle.sc_core.specs.Calls.{entered}
-use Rattle.sc_core.specs.Meaning.{globals_of, run_of, meaning}
+use Rattle.sc_core.specs.Meaning.{entry_in, globals_of, run_of, meaning}
 use Rattle.sc_run.specs.declared.work.Frame.{Frame}
 use Rattle.sc_run.specs.declared.work.Callee.{Callee}
 use Rattle.sc_run.specs.declared.work.Work.{Work}
@@ -19,9 +18,9 @@ use Rattle.sc_run.specs.declared.work.Now.{Now}
 use Rattle.sc_run.specs.declared.work.Step.{Step}
 use Rattle.sc_run.specs.declared.work.Step.TheVariants.{Go, Stop}
 use Rattle.sc_run.specs.Seen.{Seen}
-use Rattle.sc_run.specs.Finding.{MainAt}
+use Rattle.sc_run.specs.Finding.{EntryAt}
 use Rattle.sc_run.specs.Entering.{Begun, body_acts}
-use Rattle.sc_run.specs.Resume.{library, does_now, EndsAs, Standing, Stands, Steps}
+use Rattle.sc_run.specs.Resume.{does_now, EndsAs, Standing, Stands, Steps}
 use Rattle.sc_run.proofs.Beginning.{no_main, main_missing, begins}
 use Rattle.sc_run.proofs.Onward.{stopped_here}
 
@@ -58,16 +57,16 @@ module _ (program : ProgramTree) (inputs : List ℕ) (turns events : ℕ) where
   pub seen_at_first : (memory : Memory) (trace : List Event) → memory ≡ globals_of program.sections → trace ≡ [] → ◌≡◌ {A = Seen} (record { memory = memory; trace = trace; turns = turns; inputs = inputs }) seen_first
   seen_at_first memory trace is none = λ i. record { memory = is i; trace = none i; turns = turns; inputs = inputs }
 
-  no_main_at : (o : Option ℕ) → entered (library program) program.interfaces.main Main ≡ o → MainAt program None → whole_run ≡ record { trace = []; end = TurnsOut }
+  no_main_at : (o : Option ℕ) → entry_in program program.interfaces.main Main ≡ o → EntryAt program program.interfaces.main Main None → whole_run ≡ record { trace = []; end = TurnsOut }
   no_main_at None is h = no_main program inputs turns is
   no_main_at (Some number) is h = main_missing program inputs turns number is (h number is)
 
   -- a program without `main`
-  pub not_begun : (run : SourceRun) (trace : List Event) → trace ≡ [] → MainAt program None → run ≡ stopped_at events (record { trace = trace; end = TurnsOut }) → run ≡ meaning program inputs turns events
+  pub not_begun : (run : SourceRun) (trace : List Event) → trace ≡ [] → EntryAt program program.interfaces.main Main None → run ≡ stopped_at events (record { trace = trace; end = TurnsOut }) → run ≡ meaning program inputs turns events
   not_begun run trace none h is =
-      is ∙ ap (λ t. stopped_at events (record { trace = t; end = TurnsOut })) none ∙ ap (stopped_at events) (sym (no_main_at (entered (library program) program.interfaces.main Main) refl h))
+      is ∙ ap (λ t. stopped_at events (record { trace = t; end = TurnsOut })) none ∙ ap (stopped_at events) (sym (no_main_at (entry_in program program.interfaces.main Main) refl h))
 
-  module _ (run : SourceRun) (callee : Callee) (before after started : Seen) (f : Frame) (at_first : before ≡ seen_first) (at : MainAt program (Some callee)) (begun : Begun callee [] before after f) where
+  module _ (run : SourceRun) (callee : Callee) (before after started : Seen) (f : Frame) (at_first : before ≡ seen_first) (at : EntryAt program program.interfaces.main Main (Some callee)) (begun : Begun callee [] before after f) where
     stands_first : Standing program whole_run after [] f (λ n s. body_acts program n f tt s)
     stands_first =
         begins program inputs turns callee callee.number after f at.0 at.1.0 refl at.1.2 (subst (λ x. Begun callee [] x after f) at_first begun)

@@ -1,4 +1,4 @@
--- What pieces of a run come to.
+-- Helping: what pieces of a run come to.
 use Rattle.std.specs.Prelude.{◌≡◌, ◌≤◌, Result, Ok, Err}
 use Rattle.sc_core.specs.declared.run.RunEnd.{RunEnd}
 use Rattle.sc_core.specs.Words.{State, Piece, Reached, Stopped, Exit, Left}

@@ -1,4 +1,4 @@
--- How a call begins, as it is seen.
+-- Helping: how a call begins, as it is seen.
 use Rattle.std.specs.Prelude.{◌≡◌, ℕ, ◌<◌, ◌^◌, ◌++◌, true, List, [], ◌∷◌, length, map, replicate, Option, None, Some}
 use Rattle.sc_event.specs.declared.event.Event.TheVariants.{Call}
 use Rattle.sc_core.specs.declared.program.ProgramTree.{ProgramTree}

@@ -1,4 +1,4 @@
--- What a run that has got somewhere does from there.
+-- Helping: what a run that has got somewhere does from there.
 use Rattle.std.specs.Prelude.{◌≡◌, ℕ, suc, ◌≤◌, ◌&&◌, ◌==◌, bytes_eq, List, [], ◌∷◌, reverse, Option, None, Some, is_some}
 use Rattle.std.specs.Option.{option_copied}
 use Rattle.sc_event.specs.declared.event.Event.{Event}
@@ -13,15 +13,15 @@ use Rattle.sc_core.specs.Run.{stopped_at}
 use Rattle.sc_core.specs.Value.{c_arith}
 use Rattle.sc_core.specs.Words.{State, Piece, and_then, Exit, Next, Break, Continue, Return, Left, leave, in_order, in_loop, follow, loop, Calls}
 use Rattle.sc_core.specs.Tree.{Ways, Acts, ways, test, store_result, part_does, block_does, stmt_does}
-use Rattle.sc_core.specs.Calls.{Function, Library, Body, main_name, back_own, back_cross, done, calls, run_step, within}
-use Rattle.sc_core.specs.Meaning.{closed, function_of, library_of, Run, run_to}
+use Rattle.sc_core.specs.Calls.{Function, Library, Body, back_own, back_cross, done, calls, run_step, within}
+use Rattle.sc_core.specs.Meaning.{main_name, closed, function_of, library_of, Run, run_to}
 use Rattle.sc_value.specs.Where.{here_of}
 use Rattle.sc_run.specs.declared.work.Frame.{Frame}
 use Rattle.sc_run.specs.declared.work.Loop.{Loop}
 use Rattle.sc_run.specs.declared.work.To.{To}
 use Rattle.sc_run.specs.declared.work.To.TheVariants.{Nowhere, Place, Back}
 use Rattle.sc_run.specs.declared.work.Work.{Work}
-use Rattle.sc_run.specs.declared.work.Work.TheVariants.{Rest, Body as Body', Again, Caller}
+use Rattle.sc_run.specs.declared.work.Work.TheVariants.{Rest, First, Body as Body', Again, Caller}
 use Rattle.sc_run.specs.declared.work.Leaving.{Leaving}
 use Rattle.sc_run.specs.declared.work.Leaving.TheVariants as leaving
 use Rattle.sc_run.specs.declared.work.Now.{Now}
@@ -95,8 +95,10 @@ module _ (program : ProgramTree) where
   abbrev pub resume : ℕ → List Work → Frame → Piece (Left (Unit {0})) → Run
   resume n [] f p = run_to program.interfaces.main (returned f back_own p)
   resume n (Rest stmts ∷ work) f p = resume n work f (follow in_order p (block_acts n f stmts.now))
-  resume n (Body' l ∷ work) f p = resume n work f (follow in_loop p (λ a s. follow in_order (next_acts n f l a s) (loop_acts n f l)))
-  resume n (Again l ∷ work) f p = resume n work f (follow in_order p (loop_acts n f l))
+  resume n (First l ∷ work) f p = resume n work f (follow in_order p (loop_acts n f l))
+  resume n (Body' l ∷ work) f p =
+      resume n work f (follow in_loop p (λ a s. follow in_loop (next_acts n f l a s) (loop_acts n f l)))
+  resume n (Again l ∷ work) f p = resume n work f (follow in_loop p (loop_acts n f l))
   resume n (Caller caller to crossing ∷ work) f p =
       resume (suc n) work caller (and_then (returned f (back_to caller f crossing) p) (result_goes caller to))
 

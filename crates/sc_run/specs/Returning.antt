@@ -1,5 +1,5 @@
--- How a call ends, as it is seen.
-use Rattle.std.specs.Prelude.{ℕ, ◌++◌, [], ◌∷◌, Option, None, Some, Result, Ok, Err}
+-- Helping: how a call ends, as it is seen.
+use Rattle.std.specs.Prelude.{ℕ, ◌++◌, [], ◌∷◌, length, Option, None, Some, Result, Ok, Err}
 use Rattle.sc_event.specs.declared.event.Event.TheVariants.{Ret}
 use Rattle.sc_event.specs.Lookup.{export_at}
 use Rattle.sc_core.specs.declared.program.ProgramTree.{ProgramTree}
@@ -8,7 +8,8 @@ use Rattle.sc_core.specs.declared.value.Value.{Value}
 use Rattle.sc_core.specs.Memory.{with_blocks}
 use Rattle.sc_core.specs.Words.{State, Piece, Reached, Stopped}
 use Rattle.sc_core.specs.Calls.{crossing, option_value}
-use Rattle.sc_blocks.specs.Living.{left_from}
+use Rattle.sc_core.specs.Types.{variables}
+use Rattle.sc_blocks.specs.Rows.{cleared}
 use Rattle.sc_run.specs.declared.work.Frame.{Frame}
 use Rattle.sc_run.specs.Seen.{Seen}
 
@@ -17,10 +18,16 @@ abbrev pub ended_as : Result (Option Value) RunEnd → State → Piece (Option V
 ended_as (Ok v) s = Reached v s
 ended_as (Err end) s = Stopped end s
 
+-- how many variables a call has
+abbrev pub variable_count : Frame → ℕ
+variable_count f = length (variables f.scope.structs.now f.function.now)
+
 -- the variables of a call have ended
 abbrev pub left_by : Frame → Seen → Seen
 left_by f seen =
-    record seen { memory = with_blocks f.scope.comp.now (left_from f.scope.first (seen.memory f.scope.comp.now)) seen.memory }
+    record seen {
+      memory = with_blocks f.scope.comp.now (cleared f.scope.first (variable_count f) (seen.memory f.scope.comp.now)) seen.memory;
+    }
 
 -- what crosses at a return from an export
 abbrev pub word_crossing : ProgramTree → Frame → ℕ → Option Value → Option ℕ

@@ -1,4 +1,4 @@
--- The cells with which globals begin.
+-- Helping: the cells with which globals begin.
 use Rattle.std.specs.Prelude.{ℕ, Option, None, Some}
 use Rattle.sc_core.specs.declared.value.Cell.{Cell}
 use Rattle.sc_core.specs.declared.value.Cell.TheVariants.{Undef, Word, Null, Ptr}

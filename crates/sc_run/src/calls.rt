@@ -140,7 +140,7 @@ fn words_of(alloc: Global, values: &[Value]) -> Result<Args, OutOfMemory>
     Ok(words)
 }
 
-// A function begins, once it is found: a turn, its variables, its event, and its first statement.
+// A function begins, once it is found: a turn, its event, its variables, and its first statement.
 pub fn enter<'a>(
     program: &'a ProgramTree,
     machine: &mut Machine,
@@ -152,13 +152,13 @@ pub fn enter<'a>(
     crossing: Option<u16>,
 ) -> Result<Step<'a>, OutOfMemory>
     requires { function (library program.now) callee.now.comp.now callee.now.number ≡ Some (function_of c_arith program.now.interfaces.main callee.now.structs.now callee.now.function.now) }
-    ensures { IfOk result (λ step. Steps program.now (kept_by machine.old) work.old.items frame.old (λ n s. and_then (and_then (turn s) (λ _ s. run_in (library program.now) (bodies program.now n) callee.now.comp.now callee.now.number args.now (entry_from frame.old callee.now args.now crossing) (back_from program.now frame.old callee.now crossing) s)) (result_goes program.now frame.old to.entry)) step (kept_by machine.new) work.new.items frame.new) }
+    ensures { IfOk result (λ step. Steps program.now (kept_by machine.old) work.old.items frame.old (λ n s. and_then (and_then (turn s) (λ _ s. run_in (library program.now) (bodies program.now n) callee.now.comp.now callee.now.number args.now (back_from program.now frame.old callee.now crossing) (entry_from frame.old callee.now args.now crossing s))) (result_goes program.now frame.old to.entry)) step (kept_by machine.new) work.new.items frame.new) }
 {
     match take_turn(machine) {
         Err(end) => Ok(Step::Stop(end)),
         Ok(()) => {
-            let next = begin(machine, callee, args)?;
             tell_call(machine, frame, callee, args, crossing)?;
+            let next = begin(machine, callee, args)?;
             work.push(Work::Caller(*frame, to, crossing))?;
             *frame = next;
             Ok(start(program, machine, work, frame))

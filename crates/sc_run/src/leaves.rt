@@ -2,11 +2,10 @@
 
 ghost use Rattle.std.specs.Prelude.{◌≡◌, ◌++◌, [], ◌∷◌, IfOk, OnOk, bytes_eq, ◌==◌, ◌&&◌};
 ghost use Rattle.sc_core.specs.Words.{State, leave, follow, in_order, in_loop};
-ghost use Rattle.sc_core.specs.Calls.{main_name};
-ghost use Rattle.sc_core.specs.Meaning.{exit_word};
+ghost use Rattle.sc_core.specs.Meaning.{main_name, exit_word};
 ghost use Rattle.sc_run.specs.Seen.{kept_by};
 ghost use Rattle.sc_run.specs.Resume.{Steps, exit_of, block_acts, next_acts, loop_acts, closes};
-ghost use Rattle.sc_run.specs.Returning.{ended_as, left_by, word_crossing, told_back, back_value};
+ghost use Rattle.sc_run.specs.Returning.{ended_as, variable_count, left_by, word_crossing, told_back, back_value};
 
 use crate::calls::{hand_back, word_in};
 use crate::machine::{Machine, tell};
@@ -36,8 +35,8 @@ fn leave_before_rest<'a>(
     }
 }
 
-// The next round, where control reached the end of what stands before it.
-fn leave_before_round<'a>(
+// The loop, where control reached the end of its first part.
+fn leave_first<'a>(
     program: &'a ProgramTree,
     machine: &mut Machine,
     work: &mut Vec<Work<'a>>,
@@ -55,6 +54,25 @@ fn leave_before_round<'a>(
     }
 }
 
+// The next round, where control reached the end of what stands before it.
+fn leave_before_round<'a>(
+    program: &'a ProgramTree,
+    machine: &mut Machine,
+    work: &mut Vec<Work<'a>>,
+    frame: &Frame<'a>,
+    whole: &Loop<'a>,
+    exit: Leaving,
+) -> Result<Step<'a>, OutOfMemory>
+    ensures { IfOk result (λ step. Steps program.now (kept_by machine.old) work.old.items frame.now (λ n s. follow in_loop (leave (exit_of exit) tt s) (loop_acts program.now n frame.now whole.now)) step (kept_by machine.new) work.new.items frame.now) }
+{
+    match exit {
+        Leaving::Next => round(program, machine, work, frame, whole),
+        Leaving::Continue => round(program, machine, work, frame, whole),
+        Leaving::Break => Ok(Step::Go(Now::Leave(Leaving::Next))),
+        Leaving::Return(value) => Ok(Step::Go(Now::Leave(Leaving::Return(value)))),
+    }
+}
+
 // What stands between the body of a loop and its next round.
 fn next_part<'a>(
     program: &'a ProgramTree,
@@ -63,7 +81,7 @@ fn next_part<'a>(
     frame: &mut Frame<'a>,
     whole: &Loop<'a>,
 ) -> Result<Step<'a>, OutOfMemory>
-    ensures { IfOk result (λ step. Steps program.now (kept_by machine.old) work.old.items frame.old (λ n s. follow in_order (next_acts program.now n frame.old whole.now tt s) (loop_acts program.now n frame.old whole.now)) step (kept_by machine.new) work.new.items frame.new) }
+    ensures { IfOk result (λ step. Steps program.now (kept_by machine.old) work.old.items frame.old (λ n s. follow in_loop (next_acts program.now n frame.old whole.now tt s) (loop_acts program.now n frame.old whole.now)) step (kept_by machine.new) work.new.items frame.new) }
 {
     match whole.next {
         None => round(program, machine, work, frame, whole),
@@ -83,7 +101,7 @@ fn leave_body<'a>(
     whole: &Loop<'a>,
     exit: Leaving,
 ) -> Result<Step<'a>, OutOfMemory>
-    ensures { IfOk result (λ step. Steps program.now (kept_by machine.old) work.old.items frame.old (λ n s. follow in_loop (leave (exit_of exit) tt s) (λ a s. follow in_order (next_acts program.now n frame.old whole.now a s) (loop_acts program.now n frame.old whole.now))) step (kept_by machine.new) work.new.items frame.new) }
+    ensures { IfOk result (λ step. Steps program.now (kept_by machine.old) work.old.items frame.old (λ n s. follow in_loop (leave (exit_of exit) tt s) (λ a s. follow in_loop (next_acts program.now n frame.old whole.now a s) (loop_acts program.now n frame.old whole.now))) step (kept_by machine.new) work.new.items frame.new) }
 {
     match exit {
         Leaving::Next => next_part(program, machine, work, frame, whole),
@@ -120,13 +138,23 @@ fn closed(program: &ProgramTree, frame: &Frame, exit: Leaving) -> Result<Option<
     })
 }
 
+// How many variables a call has.
+fn variable_count(frame: &Frame) -> u64
+    ensures { result ≡ variable_count frame.now }
+{
+    let params = frame.function.params.as_slice();
+    let locals = frame.function.locals.as_slice();
+    params.len() as u64 + locals.len() as u64
+}
+
 // The variables of a call end.
 fn end_variables(machine: &mut Machine, frame: &Frame)
     ensures { kept_by machine.new ≡ left_by frame.now (kept_by machine.old) }
 {
+    let first = frame.scope.first as u64;
     machine
         .blocks
-        .end_from(*frame.scope.comp, frame.scope.first as u64);
+        .end(*frame.scope.comp, first, variable_count(frame));
 }
 
 fn word_crossing(
@@ -247,6 +275,7 @@ pub fn leave<'a>(
     match work.pop() {
         None => finish(program, machine, frame, exit),
         Some(Work::Rest(rest)) => Ok(leave_before_rest(program, machine, work, frame, rest, exit)),
+        Some(Work::First(whole)) => leave_first(program, machine, work, frame, &whole, exit),
         Some(Work::Again(whole)) => {
             leave_before_round(program, machine, work, frame, &whole, exit)
         }

@@ -1,100 +1,26 @@
-//! What a program has: its functions, and what its compartments may call.
+//! The functions of a program, and those that calls lead to.
 
 ghost use Rattle.std.specs.Prelude.{◌≡◌, bytes_eq, Some, slice_get};
-ghost use Rattle.std.specs.List.{position};
-ghost use Rattle.sc_event.specs.Legal.{is_input, is_output, is_function, imports_of, imports, takes};
-ghost use Rattle.sc_event.specs.declared.row.Entry.TheVariants.{Main, Export};
-ghost use Rattle.sc_core.specs.Calls.{entered, may_call};
-ghost use Rattle.sc_run.specs.Resume.{library};
-ghost use Rattle.sc_run.specs.Finding.{functions_at, FoundAt, MainAt};
+ghost use Rattle.std.specs.List.{list_all};
+ghost use Rattle.sc_core.specs.Calls.{is_word};
+ghost use Rattle.sc_core.specs.Meaning.{place_named, entry_in};
+ghost use Rattle.sc_run.specs.Finding.{FoundAt, EntryAt};
 
 use crate::work::Callee;
-use sc_core::{CallTarget, ProgramTree, TypedFunction, TypedSection};
-use sc_event::{CompId, Import, Interfaces};
+use sc_core::{ProgramTree, TypedFunction, TypedSection, Value};
+use sc_event::{CompId, Entry};
 
-fn is_input(import: Import) -> bool
-    ensures { result ≡ is_input import }
+/// Whether each value is a word, which may cross.
+pub fn are_words(values: &[Value]) -> bool
+    ensures { result ≡ list_all is_word values.now }
 {
-    matches!(import, Import::Input)
+    values.iter().all(|value| is_word(*value))
 }
 
-fn is_output(import: Import) -> bool
-    ensures { result ≡ is_output import }
+fn is_word(value: Value) -> bool
+    ensures { result ≡ is_word value }
 {
-    matches!(import, Import::Output)
-}
-
-fn is_function(to: CompId, index: u16, import: Import) -> bool
-    ensures { result ≡ is_function to index import }
-{
-    match import {
-        Import::Function { comp, index: place } => comp == to && place == index,
-        _ => false,
-    }
-}
-
-fn imports_of(interfaces: &Interfaces, comp: CompId) -> &[Import]
-    ensures { result.now ≡ imports_of interfaces.now comp }
-{
-    match interfaces.comp(comp) {
-        None => &[],
-        Some(found) => found.imports.as_slice(),
-    }
-}
-
-fn imports_input(interfaces: &Interfaces, comp: CompId) -> bool
-    ensures { result ≡ imports interfaces.now comp is_input }
-{
-    imports_of(interfaces, comp)
-        .iter()
-        .any(|import| is_input(*import))
-}
-
-fn imports_output(interfaces: &Interfaces, comp: CompId) -> bool
-    ensures { result ≡ imports interfaces.now comp is_output }
-{
-    imports_of(interfaces, comp)
-        .iter()
-        .any(|import| is_output(*import))
-}
-
-fn imports_function(interfaces: &Interfaces, comp: CompId, to: CompId, index: u16) -> bool
-    ensures { result ≡ imports interfaces.now comp (is_function to index) }
-{
-    let imports = imports_of(interfaces, comp);
-    imports.iter().any(|import| is_function(to, index, *import))
-}
-
-fn takes(interfaces: &Interfaces, comp: CompId, index: u16, count: usize) -> bool
-    ensures { result ≡ takes interfaces.now comp index count }
-{
-    match interfaces.export(comp, index) {
-        None => false,
-        Some(found) => found.params.as_slice().len() == count,
-    }
-}
-
-/// Whether a compartment may call this with so many arguments.
-pub fn may_call(interfaces: &Interfaces, from: CompId, target: CallTarget, count: usize) -> bool
-    ensures { result ≡ may_call interfaces.now from target count }
-{
-    match target {
-        CallTarget::Own(_) => true,
-        CallTarget::Cross(to, index) => {
-            imports_function(interfaces, from, to, index) && takes(interfaces, to, index, count)
-        }
-        CallTarget::Input => imports_input(interfaces, from),
-        CallTarget::Output => imports_output(interfaces, from),
-    }
-}
-
-fn functions_at(program: &ProgramTree, comp: CompId) -> &[TypedFunction]
-    ensures { result.now ≡ functions_at program.now comp }
-{
-    match program.sections.get(comp.number() as usize) {
-        Some(section) => section.functions.as_slice(),
-        None => &[],
-    }
+    matches!(value, Value::Word(_))
 }
 
 fn is_named(function: &TypedFunction, name: &[u8]) -> bool
@@ -104,38 +30,49 @@ fn is_named(function: &TypedFunction, name: &[u8]) -> bool
 }
 
 // The place of the first function of this name.
-fn place_named(functions: &[TypedFunction], name: &[u8]) -> Option<usize>
-    ensures { result ≡ position (λ f. bytes_eq f.name name.now) functions.now }
+fn place_named(section: &TypedSection, name: &[u8]) -> Option<usize>
+    ensures { result ≡ place_named name.now (Some section.now) }
 {
-    functions
+    section
+        .functions
+        .as_slice()
         .iter()
         .position(|function| is_named(function, name))
 }
 
-/// The function that an export leads to, by its place.
-pub fn export_place(program: &ProgramTree, comp: CompId, index: u16) -> Option<usize>
-    ensures { result ≡ entered (library program.now) comp (Export index) }
+// The place of the function that an entry leads to.
+fn entry_place(
+    program: &ProgramTree,
+    comp: CompId,
+    section: &TypedSection,
+    entry: Entry,
+) -> Option<usize>
+    requires { slice_get program.now.sections comp ≡ Some section.now }
+    ensures { result ≡ entry_in program.now comp entry }
 {
-    match program.interfaces.export(comp, index) {
-        Some(proto) => place_named(functions_at(program, comp), proto.name.as_bytes()),
-        None => None,
+    match entry {
+        Entry::Main => place_named(section, b"main"),
+        Entry::Export(index) => match program.interfaces.export(comp, index) {
+            None => None,
+            Some(proto) => place_named(section, proto.name.as_bytes()),
+        },
     }
 }
 
-// The place of `main`.
-fn main_place(program: &ProgramTree) -> Option<usize>
-    ensures { result ≡ entered (library program.now) program.now.interfaces.main Main }
+/// The function that an entry of a compartment leads to.
+pub fn entry_callee<'a>(
+    program: &'a ProgramTree,
+    comp: &'a CompId,
+    entry: Entry,
+) -> Option<Callee<'a>>
+    ensures { EntryAt program.now comp.now entry result }
 {
-    place_named(functions_at(program, program.interfaces.main), b"main")
-}
-
-/// The function `main`.
-pub fn main_callee(program: &ProgramTree) -> Option<Callee<'_>>
-    ensures { MainAt program.now result }
-{
-    match main_place(program) {
+    match program.sections.get(comp.number() as usize) {
         None => None,
-        Some(number) => callee_at(program, &program.interfaces.main, number),
+        Some(section) => match entry_place(program, *comp, section, entry) {
+            None => None,
+            Some(number) => callee_in(program, comp, number, section),
+        },
     }
 }
 

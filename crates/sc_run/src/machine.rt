@@ -4,8 +4,8 @@ ghost use Rattle.std.specs.Prelude.{◌≡◌, ◌<◌, ◌^◌, ◌++◌, [], �
 ghost use Rattle.sc_core.specs.declared.value.Want.TheVariants as want;
 ghost use Rattle.sc_core.specs.Memory.{with_blocks};
 ghost use Rattle.sc_core.specs.Value.{c_arith};
-ghost use Rattle.sc_core.specs.Words.{Next, turn, all_do};
-ghost use Rattle.sc_core.specs.Tree.{given, stored, store_at, assign};
+ghost use Rattle.sc_core.specs.Words.{Next, turn, stored, all_do};
+ghost use Rattle.sc_core.specs.Tree.{given, store_at, assign};
 ghost use Rattle.sc_core.specs.Meaning.{init_does, inits_do};
 ghost use Rattle.sc_blocks.specs.Rows.{memory_of};
 ghost use Rattle.sc_value.specs.Where.{here_of};

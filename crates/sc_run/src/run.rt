@@ -10,13 +10,13 @@ ghost use Rattle.sc_run.specs.Resume.{Steps, EndsAs, does_now};
 use crate::calls::{begin, start};
 use crate::globals::first_blocks;
 use crate::leaves::leave;
-use crate::lookups::main_callee;
+use crate::lookups::entry_callee;
 use crate::machine::Machine;
 use crate::steps::run_list;
 use crate::work::{Frame, Now, Step, Work};
 use sc_base::OutOfMemory;
 use sc_core::{Program, ProgramTree, RunEnd, SourceRun};
-use sc_event::Trace;
+use sc_event::{Entry, Trace};
 use std::alloc::Global;
 
 // One step of a run.
@@ -109,7 +109,7 @@ pub fn run_source(
         turns,
         inputs,
     };
-    let Some(callee) = main_callee(tree) else {
+    let Some(callee) = entry_callee(tree, &tree.interfaces.main, Entry::Main) else {
         return Ok(shown(machine, RunEnd::TurnsOut, events));
     };
     let mut frame = begin(&mut machine, &callee, &[])?;

@@ -1,26 +1,30 @@
 //! Calls in statements, and the statements that may stand in the head of a `for`.
 
-ghost use Rattle.std.specs.Prelude.{◌≡◌, IfOk, map, drop};
+ghost use Rattle.std.specs.Prelude.{◌≡◌, ◌&&◌, IfOk, length, map, drop};
+ghost use Rattle.std.specs.List.{list_all};
+ghost use Rattle.sc_event.specs.Legal.{is_function, imports, takes};
+ghost use Rattle.sc_core.specs.declared.cause.Cause.TheVariants.{BadType};
 ghost use Rattle.sc_core.specs.Value.{c_arith};
 ghost use Rattle.sc_core.specs.Words.{and_then, computed};
 ghost use Rattle.sc_core.specs.Tree.{assign, call, values, simple_does};
-ghost use Rattle.sc_core.specs.Calls.{crossed, first_word, next_input, called};
+ghost use Rattle.sc_core.specs.Calls.{is_word, may_call, first_word, next_input};
 ghost use Rattle.sc_value.specs.Where.{here_of};
 ghost use Rattle.sc_run.specs.Seen.{kept_by};
 ghost use Rattle.sc_run.specs.Comes.{Comes};
-ghost use Rattle.sc_run.specs.Resume.{Steps, way_in, library, bodies, calls_in, result_goes};
+ghost use Rattle.sc_run.specs.Resume.{Steps, way_in, library, calls_in, result_goes};
 
 use crate::calls::{enter, hand_back, word_in};
-use crate::lookups::{callee_at, export_place, may_call};
+use crate::lookups::{are_words, callee_at, entry_callee};
 use crate::machine::{Machine, assign, blamed, tell};
 use crate::work::{Frame, Leaving, Now, Step, To, Work};
 use sc_base::OutOfMemory;
 use sc_core::{
-    CallTarget, ProgramTree, RunEnd, TypedCall, TypedExpr, TypedSimple, TypedSimpleKind, Value,
+    CallTarget, Cause, ProgramTree, RunEnd, TypedCall, TypedExpr, TypedSimple, TypedSimpleKind,
+    Value,
 };
-use sc_event::{CompId, Event};
+use sc_event::{CompId, Entry, Event, Interfaces};
 use sqlite_items::Items;
-use std::alloc::{AllocError, Global};
+use std::alloc::AllocError;
 
 // The values of arguments from left to right.
 fn given_all(
@@ -37,6 +41,13 @@ fn given_all(
     }
 }
 
+// The blame of a call that may not be made.
+fn refusal(frame: &Frame) -> RunEnd
+    ensures { result ≡ RunEnd.Blamed frame.now.scope.comp.now BadType 0 }
+{
+    blamed(frame, Cause::BadType, 0)
+}
+
 // A call inside the compartment.
 fn call_own<'a>(
     program: &'a ProgramTree,
@@ -47,24 +58,21 @@ fn call_own<'a>(
     args: &[Value],
     to: To<'a>,
 ) -> Result<Step<'a>, OutOfMemory>
-    ensures { IfOk result (λ step. Steps program.now (kept_by machine.old) work.old.items frame.old (λ n s. and_then (called (library program.now) (bodies program.now n) frame.old.scope.comp.now (CallTarget.Own number) args.now s) (result_goes program.now frame.old to.entry)) step (kept_by machine.new) work.new.items frame.new) }
+    ensures { IfOk result (λ step. Steps program.now (kept_by machine.old) work.old.items frame.old (λ n s. and_then (calls_in program.now n frame.old.scope.comp.now (CallTarget.Own number) args.now s) (result_goes program.now frame.old to.entry)) step (kept_by machine.new) work.new.items frame.new) }
 {
     let comp = frame.scope.comp;
     match callee_at(program, comp, number) {
-        None => Ok(Step::Stop(RunEnd::TurnsOut)),
+        None => Ok(Step::Stop(refusal(frame))),
         Some(callee) => enter(program, machine, work, frame, &callee, args, to, None),
     }
 }
 
-// The words that cross.
-fn crossed(alloc: Global, args: &[Value]) -> Result<Items<Value>, OutOfMemory>
-    ensures { IfOk result (λ words. words ≡ crossed args.now) }
+// Whether a call across may be made, but for its function.
+fn may_cross(interfaces: &Interfaces, from: CompId, to: CompId, index: u16, args: &[Value]) -> bool
+    ensures { result ≡ (imports interfaces.now from (is_function to index) && (takes interfaces.now to index (length args.now) && list_all is_word args.now)) }
 {
-    let mut words = Items::new(alloc);
-    for arg in args {
-        words.push(Value::Word(word_in(*arg)))?;
-    }
-    Ok(words)
+    interfaces.imports_function(from, to, index)
+        && (interfaces.takes(to, index, args.len()) && are_words(args))
 }
 
 // A call of an export of another compartment. It is looked up by its name, and is an event, of which a run has few.
@@ -78,26 +86,23 @@ fn call_cross<'a>(
     args: &[Value],
     to: To<'a>,
 ) -> Result<Step<'a>, OutOfMemory>
-    ensures { IfOk result (λ step. Steps program.now (kept_by machine.old) work.old.items frame.old (λ n s. and_then (called (library program.now) (bodies program.now n) frame.old.scope.comp.now (CallTarget.Cross comp.now index) args.now s) (result_goes program.now frame.old to.entry)) step (kept_by machine.new) work.new.items frame.new) }
+    ensures { IfOk result (λ step. Steps program.now (kept_by machine.old) work.old.items frame.old (λ n s. and_then (calls_in program.now n frame.old.scope.comp.now (CallTarget.Cross comp.now index) args.now s) (result_goes program.now frame.old to.entry)) step (kept_by machine.new) work.new.items frame.new) }
 {
-    let Some(number) = export_place(program, *comp, index) else {
-        return Ok(Step::Stop(RunEnd::TurnsOut));
-    };
-    match callee_at(program, comp, number) {
-        None => Ok(Step::Stop(RunEnd::TurnsOut)),
-        Some(callee) => {
-            let words = crossed(machine.alloc, args)?;
-            enter(
-                program,
-                machine,
-                work,
-                frame,
-                &callee,
-                words.as_slice(),
-                to,
-                Some(index),
-            )
-        }
+    if !may_cross(&program.interfaces, *frame.scope.comp, *comp, index, args) {
+        return Ok(Step::Stop(refusal(frame)));
+    }
+    match entry_callee(program, comp, Entry::Export(index)) {
+        None => Ok(Step::Stop(refusal(frame))),
+        Some(callee) => enter(
+            program,
+            machine,
+            work,
+            frame,
+            &callee,
+            args,
+            to,
+            Some(index),
+        ),
     }
 }
 
@@ -124,6 +129,52 @@ fn first_word(args: &[Value]) -> u32
     }
 }
 
+// A call of `input`.
+fn call_input<'a>(
+    program: &'a ProgramTree,
+    machine: &mut Machine,
+    work: &Vec<Work<'a>>,
+    frame: &Frame<'a>,
+    args: &[Value],
+    to: To<'a>,
+) -> Result<Step<'a>, OutOfMemory>
+    ensures { IfOk result (λ step. Steps program.now (kept_by machine.old) work.now.items frame.now (λ n s. and_then (calls_in program.now n frame.now.scope.comp.now CallTarget.Input args.now s) (result_goes program.now frame.now to.entry)) step (kept_by machine.new) work.now.items frame.now) }
+{
+    let comp = *frame.scope.comp;
+    if !program.interfaces.imports_input(comp) {
+        return Ok(Step::Stop(refusal(frame)));
+    }
+    let value = next_input(machine);
+    tell(machine, Event::In { comp, value })?;
+    Ok(hand_back(program, machine, work, frame, to, Some(Value::Word(value))))
+}
+
+fn may_output(program: &ProgramTree, comp: CompId, args: &[Value]) -> bool
+    ensures { result ≡ may_call (library program.now) comp CallTarget.Output args.now }
+{
+    program.interfaces.imports_output(comp) && (args.len() == 1 && are_words(args))
+}
+
+// A call of `output`.
+fn call_output<'a>(
+    program: &'a ProgramTree,
+    machine: &mut Machine,
+    work: &Vec<Work<'a>>,
+    frame: &Frame<'a>,
+    args: &[Value],
+    to: To<'a>,
+) -> Result<Step<'a>, OutOfMemory>
+    ensures { IfOk result (λ step. Steps program.now (kept_by machine.old) work.now.items frame.now (λ n s. and_then (calls_in program.now n frame.now.scope.comp.now CallTarget.Output args.now s) (result_goes program.now frame.now to.entry)) step (kept_by machine.new) work.now.items frame.now) }
+{
+    let comp = *frame.scope.comp;
+    if !may_output(program, comp, args) {
+        return Ok(Step::Stop(refusal(frame)));
+    }
+    let value = first_word(args);
+    tell(machine, Event::Out { comp, value })?;
+    Ok(hand_back(program, machine, work, frame, to, None))
+}
+
 // A call, once its arguments have their values.
 fn called<'a>(
     program: &'a ProgramTree,
@@ -136,9 +187,6 @@ fn called<'a>(
 ) -> Result<Step<'a>, OutOfMemory>
     ensures { IfOk result (λ step. Steps program.now (kept_by machine.old) work.old.items frame.old (λ n s. and_then (calls_in program.now n frame.old.scope.comp.now target.now args.now s) (result_goes program.now frame.old to.entry)) step (kept_by machine.new) work.new.items frame.new) }
 {
-    if !may_call(&program.interfaces, *frame.scope.comp, *target, args.len()) {
-        return Ok(Step::Stop(RunEnd::TurnsOut));
-    }
     match target {
         CallTarget::Own(number) => {
             call_own(program, machine, work, frame, *number as usize, args, to)
@@ -146,18 +194,8 @@ fn called<'a>(
         CallTarget::Cross(comp, index) => {
             call_cross(program, machine, work, frame, comp, *index, args, to)
         }
-        CallTarget::Input => {
-            let value = next_input(machine);
-            let comp = *frame.scope.comp;
-            tell(machine, Event::In { comp, value })?;
-            Ok(hand_back(program, machine, work, frame, to, Some(Value::Word(value))))
-        }
-        CallTarget::Output => {
-            let comp = *frame.scope.comp;
-            let value = first_word(args);
-            tell(machine, Event::Out { comp, value })?;
-            Ok(hand_back(program, machine, work, frame, to, None))
-        }
+        CallTarget::Input => call_input(program, machine, work, frame, args, to),
+        CallTarget::Output => call_output(program, machine, work, frame, args, to),
     }
 }
 

@@ -125,7 +125,7 @@ fn first_part<'a>(
     match first {
         None => round(program, machine, work, frame, whole),
         Some(first) => {
-            work.push(Work::Again(*whole))?;
+            work.push(Work::First(*whole))?;
             simple(program, machine, work, frame, first)
         }
     }

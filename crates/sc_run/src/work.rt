@@ -44,9 +44,11 @@ pub enum To<'a> {
 pub enum Work<'a> {
     /// Statements that follow.
     Rest(&'a [TypedStmt]),
+    /// A loop, whose first part runs.
+    First(Loop<'a>),
     /// A loop, whose body runs.
     Body(Loop<'a>),
-    /// A loop, before its next round.
+    /// A loop, where what comes before its next round runs.
     Again(Loop<'a>),
     /// The function that called, what it does with the result, and the place of the export that it called, if it is one.
     Caller(Frame<'a>, To<'a>, Option<u16>),

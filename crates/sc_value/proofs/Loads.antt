@@ -1,5 +1,5 @@
 -- What the store of blocks gives and takes is what the memory does.
-use Rattle.std.proofs.Common.{◌≡◌, refl, ap, ℕ, Bool, true, false, List, length, Option, None, Some, Result, Ok, Err, if◌then◌else◌}
+use Rattle.std.proofs.Common.{◌≡◌, refl, Bool, true, false, List, length, Option, None, Some, Result, Ok, Err, if◌then◌else◌}
 use Rattle.std.specs.Prelude.{slice_get, slice_set, nat_lt}
 use Rattle.sc_core.specs.declared.cause.Cause.{Cause}
 use Rattle.sc_core.specs.declared.cause.Cause.TheVariants.{OutOfBounds, BadType, Dangling}
@@ -8,9 +8,9 @@ use Rattle.sc_core.specs.declared.value.Cell.TheVariants as cell
 use Rattle.sc_core.specs.declared.value.Pointer.{Pointer}
 use Rattle.sc_core.specs.declared.value.Value.{Value}
 use Rattle.sc_core.specs.declared.value.Value.TheVariants.{Ptr}
-use Rattle.sc_core.specs.Memory.{Block, Blocks, bind, is_live, cells_at, cell_of, loaded, load, with_cell, store}
+use Rattle.sc_core.specs.Memory.{Blocks, bind, is_live, cells_at, cell_of, loaded, load, with_cell, store}
 use Rattle.sc_blocks.specs.declared.fault.BlockFault.{BlockFault}
-use Rattle.sc_blocks.specs.Rows.{or_cause, cause_of, held, load_cell, store_cell, living, put_in}
+use Rattle.sc_blocks.specs.Rows.{or_cause, held, load_cell, store_cell, living, put_in}
 use Rattle.sc_value.specs.Access.{typed}
 
 loaded_is : (blocks : Blocks) (pointer : Bool) (o : Option Cell) → loaded blocks pointer o ≡ bind (held blocks o) (typed pointer)

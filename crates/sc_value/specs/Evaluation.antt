@@ -1,5 +1,5 @@
 -- The operators `&&` and `||`, which may need no second operand, beside the others (C11 6.5.13, 6.5.14).
-use Rattle.std.specs.Prelude.{ℕ, List, Bool, if◌then◌else◌, Option, None, Some, Result, Ok, Err}
+use Rattle.std.specs.Prelude.{List, if◌then◌else◌, Option, None, Some, Result, Ok}
 use Rattle.sc_core.specs.declared.cause.Cause.{Cause}
 use Rattle.sc_base.specs.declared.op.BinaryOp.{BinaryOp}
 use Rattle.sc_base.specs.declared.op.BinaryOp.TheVariants as op

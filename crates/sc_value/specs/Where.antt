@@ -1,5 +1,4 @@
 -- Where an expression stands.
-use Rattle.std.specs.Prelude.{ℕ, List, Bool, true, false}
 use Rattle.sc_core.specs.Words.{Here}
 use Rattle.sc_value.specs.declared.standing.Scope.{Scope}
 

@@ -5,7 +5,7 @@ use Rattle.std.specs.List.{list_all, list_any}
 use Rattle.std.specs.Str.{bytes_eq}
 use Rattle.sc_words.specs.Options.{Form, Given, Text, begins_with_hyphen, given, has_value, is_among, is_bare, more, named, named_option, options, when_complete}
 use Rattle.sc_words.specs.Words.{commands, form_of, parsed}
-use Rattle.sc_words.proofs.Basics.{same_text}
+use Rattle.sc_base.proofs.Texts.{same_text}
 
 -- ---- what holds of each command holds of the command of a name
 

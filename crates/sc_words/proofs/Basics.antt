@@ -1,40 +1,15 @@
--- Booleans, texts and kinds of faults, and words by their hyphens.
-use Rattle.std.proofs.Common.{◌≡◌, ◌∙◌, ℕ, Bool, true, false, refl, sym, [], ◌∷◌, true≢false, eqb-true}
-use Rattle.std.specs.Prelude.{◌||◌, ◌&&◌, not, ◌==◌}
-use Rattle.std.specs.Str.{bytes_eq}
-use Rattle.std.proofs.lemmas.Slice.Eq.{bytes_eq-Decides}
+-- Booleans and kinds of faults, and words by their hyphens.
+use Rattle.std.proofs.Common.{◌≡◌, ℕ, Bool, true, false, refl, sym, [], ◌∷◌, true≢false, eqb-true}
+use Rattle.std.specs.Prelude.{◌&&◌, not, ◌==◌}
 use Rattle.clap.specs.Kinds.{Kinds, or_else}
 use Rattle.clap.specs.declared.error.kind.ErrorKind.{ErrorKind}
 use Rattle.sc_words.specs.Options.{Text, begins_with_hyphen, is_bare}
 
--- ---- booleans and texts
-
-pub or_false : (b : Bool) → (b || false) ≡ b
-or_false true = refl
-or_false false = refl
+-- ---- booleans
 
 pub first_not : (b rest : Bool) → (not b && rest) ≡ true → (b ≡ false) × (rest ≡ true)
 first_not true rest e = absurd (true≢false (sym e))
 first_not false rest e = (refl, e)
-
-pub same_text : (a b : Text) → bytes_eq a b ≡ true → a ≡ b
-same_text a b e = (bytes_eq-Decides a b).0 e
-
-pub bytes_eq_self : (t : Text) → bytes_eq t t ≡ true
-bytes_eq_self t = (bytes_eq-Decides t t).1 refl
-
-pub same_either_way : (a b : Text) → bytes_eq a b ≡ bytes_eq b a
-same_either_way a b = go (bytes_eq a b) refl (bytes_eq b a) refl
-  where
-    go : (x : Bool) → bytes_eq a b ≡ x → (y : Bool) → bytes_eq b a ≡ y → x ≡ y
-    go true e true f = refl
-    go false e false f = refl
-    go true e false f =
-        let is : b ≡ a = sym (same_text a b e) in
-        absurd (true≢false (sym ((bytes_eq-Decides b a).1 is) ∙ f))
-    go false e true f =
-        let is : a ≡ b = sym (same_text b a f) in
-        absurd (true≢false (sym ((bytes_eq-Decides a b).1 is) ∙ e))
 
 -- ---- kinds
 

@@ -11,7 +11,8 @@ use Rattle.clap.specs.Lexer.{short_of}
 use Rattle.clap.specs.Walk.{Held, Row, Rule, Step, Waiting, Walk, after_flag, after_step, arg_by_id, finished, has_row, idle, long_met, nothing_held, option, reacted, rows_after, settled, used, used_by_id, walked, with_default}
 use Rattle.clap.specs.declared.error.kind.ErrorKind.TheVariants as kind
 use Rattle.sc_words.specs.Options.{Form, Given, Text, begins_with_hyphen, each_once, given, has_option, has_value, is_among, is_bare, more, name_and_value, named, named_option, options, when_complete}
-use Rattle.sc_words.proofs.Basics.{by_hyphens, bytes_eq_self, first_fails, first_not, not_empty, or_else_assoc, second_fails}
+use Rattle.sc_base.proofs.Texts.{bytes_eq_self}
+use Rattle.sc_words.proofs.Basics.{by_hyphens, first_fails, first_not, not_empty, or_else_assoc, second_fails}
 use Rattle.sc_words.proofs.Lookup.{by_id, by_index, by_long, lookup, lookup_other, lookup_valued, ready, ready_alone, ready_rules, ready_valued}
 use Rattle.sc_words.proofs.Rows.{again_alone, again_valued, check, check_is, final, has_row_rows, new_alone, new_valued, no_default_fails, once_more, plain_row, repeated, row, rows, used_alone, used_valued}
 

@@ -7,7 +7,8 @@ use Rattle.clap.specs.Walk.{Rule, arg_by_id, arg_by_index, arg_by_long, has_long
 use Rattle.clap.specs.declared.builder.value_parser.ValueParser.TheVariants as vp
 use Rattle.sc_words.specs.Application.{alone_rule, valued_rule}
 use Rattle.sc_words.specs.Options.{Form, Text, has_value, is_among}
-use Rattle.sc_words.proofs.Basics.{or_false, same_text}
+use Rattle.sc_base.proofs.Texts.{same_text}
+use Rattle.std.proofs.Math.Bool.{or-false}
 
 -- ---- the arguments as the parse reads them
 
@@ -95,7 +96,7 @@ searched p form name valued alone = first (is_among form.needed name) refl
     first false e = missed p (ready_valued true) name (valued true) form.needed _ e ∙ second (is_among form.valued name) refl
 
 pub by_long : (form : Form) (name : Text) → arg_by_long (ready_rules form) name ≡ lookup form name
-by_long form name = searched (λ a. not (is_some a.index) && has_long a name) form name (λ r n. or_false (bytes_eq n name)) (λ n. or_false (bytes_eq n name))
+by_long form name = searched (λ a. not (is_some a.index) && has_long a name) form name (λ r n. or-false (bytes_eq n name)) (λ n. or-false (bytes_eq n name))
 
 pub by_id : (form : Form) (name : Text) → arg_by_id (ready_rules form) name ≡ lookup form name
 by_id form name = searched (λ a. bytes_eq a.id name) form name (λ r n. refl) (λ n. refl)

@@ -16,7 +16,9 @@ use Rattle.clap.specs.declared.parser.matches.ValueSource.TheVariants.{DefaultVa
 use Rattle.clap.proofs.WalkLemmas.{find-map}
 use Rattle.sc_words.specs.Application.{Tells, flag_text}
 use Rattle.sc_words.specs.Options.{Form, Given, Text, each_once, has_option, has_value, is_among, more}
-use Rattle.sc_words.proofs.Basics.{not_empty, same_either_way, same_text}
+use Rattle.sc_base.proofs.Texts.{same_either_way, same_text}
+use Rattle.sc_base.proofs.Lists.{find_passes}
+use Rattle.sc_words.proofs.Basics.{not_empty}
 use Rattle.sc_words.proofs.Lookup.{ready_alone, ready_rules, ready_valued}
 
 -- ---- the rows of the options that are given
@@ -84,17 +86,6 @@ by_name name r = bytes_eq r.id name
 
 abbrev option_named : Text → List Given → Option Given
 option_named name = find (λ o. bytes_eq o.0 name)
-
-pub find_passes : {X : Type 0} (p : X → Bool) (xs : List X) (x : X) → find p xs ≡ Some x → p x ≡ true
-find_passes p [] x e = cc
-find_passes {X} p (y ∷ xs) x e = go (p y) refl (find_passes p xs x)
-  where
-    go : (b : Bool) → p y ≡ b → (find p xs ≡ Some x → p x ≡ true) → p x ≡ true
-    go true is later =
-        let here : Some y ≡ Some x = rw is at e in
-        let same : y ≡ x = cc in
-        rw (← same) is
-    go false is later = later (rw is at e)
 
 found_any : {X : Type 0} (p : X → Bool) (xs : List X) → is_some (find p xs) ≡ list_any p xs
 found_any p [] = refl

@@ -14,9 +14,11 @@ use Rattle.clap.specs.declared.error.kind.ErrorKind.TheVariants as kind
 use Rattle.sc_words.specs.Application.{Tells, application}
 use Rattle.sc_words.specs.Options.{Form, Given, Text, begins_with_hyphen, is_bare, options}
 use Rattle.sc_words.specs.Words.{commands, form_of, parsed}
-use Rattle.sc_words.proofs.Basics.{by_hyphens, first_fails, first_not, not_empty, same_text}
+use Rattle.sc_base.proofs.Texts.{same_text}
+use Rattle.sc_base.proofs.Lists.{find_passes}
+use Rattle.sc_words.proofs.Basics.{by_hyphens, first_fails, first_not, not_empty}
 use Rattle.sc_words.proofs.Lookup.{ready, ready_rules}
-use Rattle.sc_words.proofs.Rows.{find_passes, tells}
+use Rattle.sc_words.proofs.Rows.{tells}
 use Rattle.sc_words.proofs.Level.{Agrees, level_agrees}
 
 -- ---- the commands as they are built

@@ -38,6 +38,3 @@ pub use command::{Command, MakeOptions, MeaningOptions, RunOptions};
 pub use fault::WordsFault;
 pub use read::read_command;
 pub use usage_text::usage;
-
-#[cfg(test)]
-mod tests;

@@ -4,7 +4,7 @@ use Rattle.sc_core.specs.Words.{leave}
 use Rattle.sc_run.specs.declared.work.Work.TheVariants.{Caller}
 use Rattle.sc_run.specs.Seen.{kept_by}
 use Rattle.sc_run.specs.Resume.{exit_of}
-use Rattle.sc_run.proofs.Looping.{nothing_waits, rest_taken, again_taken, body_taken, caller_taken}
+use Rattle.sc_run.proofs.Looping.{nothing_waits, rest_taken, first_taken, again_taken, body_taken, caller_taken}
 use Rattle.sc_run.proofs.leaves.leave.Goals as goal
 
 pub returns-in-None : goal.returns-in-None
@@ -16,6 +16,10 @@ returns-in-None c =
 pub returns-in-Some-Rest : goal.returns-in-Some-Rest
 returns-in-Some-Rest c =
     rest_taken c.args.program.now (kept_by c.args.machine.now) c.args.work.now.items c.pop.new.self.items c.args.frame.now _ _ _ _ _ c.in-Some-Rest.ensures.items (exit_of c.args.exit) c.in-Some-Rest.rest c.in-Some-Rest.field-0-is c.leave_before_rest.ensures
+
+pub returns-in-Some-First : goal.returns-in-Some-First
+returns-in-Some-First c =
+    IfOk-weaker c.leave_first.result _ _ (λ step h. first_taken c.args.program.now (kept_by c.args.machine.now) c.args.work.now.items c.pop.new.self.items c.args.frame.now _ step _ _ _ c.in-Some-First.ensures.items (exit_of c.args.exit) c.in-Some-First.whole c.in-Some-First.field-0-is h) c.leave_first.ensures
 
 pub returns-in-Some-Again : goal.returns-in-Some-Again
 returns-in-Some-Again c =

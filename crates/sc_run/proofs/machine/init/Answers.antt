@@ -1,7 +1,7 @@
 use Rattle.std.proofs.Common.{subst}
 use Rattle.sc_core.specs.declared.expr.VarRef.TheVariants.{Local}
-use Rattle.sc_core.specs.Words.{Next}
-use Rattle.sc_core.specs.Tree.{stored, given, variable_at}
+use Rattle.sc_core.specs.Words.{Next, stored}
+use Rattle.sc_core.specs.Tree.{given, variable_at}
 use Rattle.sc_core.specs.declared.value.Want.TheVariants as want
 use Rattle.sc_value.specs.Where.{here_of}
 use Rattle.sc_run.specs.Seen.{kept_by}

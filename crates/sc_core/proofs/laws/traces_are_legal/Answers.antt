@@ -1,5 +1,0 @@
-use Rattle.sc_core.proofs.Legality.{traces_are_legal}
-use Rattle.sc_core.proofs.laws.traces_are_legal.Goals as goal
-
-pub returns : goal.returns
-returns c = traces_are_legal

@@ -1,0 +1,20 @@
+-- Ends of runs, and causes, of which laws speak.
+use Rattle.std.specs.Prelude.{ℕ}
+use Rattle.sc_core.specs.declared.cause.Cause.{Cause}
+use Rattle.sc_core.specs.declared.cause.Cause.TheVariants.{Overflow, ZeroDivisor, BadShift}
+use Rattle.sc_core.specs.declared.run.RunEnd.{RunEnd}
+use Rattle.sc_core.specs.declared.run.RunEnd.TheVariants.{Ended, Blamed, TurnsOut, EventsOut}
+
+-- the program itself ended the run, and no limit did
+abbrev pub IsFinal : RunEnd → Type 0
+IsFinal Ended = Unit {0}
+IsFinal (Blamed comp cause line) = Unit {0}
+IsFinal TurnsOut = ⊥
+IsFinal EventsOut = ⊥
+
+-- the causes that an operator on words can have
+abbrev pub IsArithmetic : Cause → Type 0
+IsArithmetic Overflow = Unit {0}
+IsArithmetic ZeroDivisor = Unit {0}
+IsArithmetic BadShift = Unit {0}
+IsArithmetic _ = ⊥
