@@ -7,7 +7,7 @@ use Rattle.sc_core.specs.declared.cause.Cause.TheVariants.{Overflow, OutOfBounds
 use Rattle.sc_core.specs.declared.run.RunEnd.TheVariants.{Ended, Blamed, TurnsOut, EventsOut}
 use Rattle.sc_core.specs.Run.{stopped_at}
 use Rattle.sc_base.specs.declared.op.BinaryOp.TheVariants as op
-use Rattle.sc_core.specs.Sizes.{code_bound, program_nodes}
+use Rattle.sc_core.specs.Sizes.{code_bound}
 use Rattle.sc_core.specs.Value.{c_arith, wrapping, on_all_words, negated_word}
 use Rattle.sc_core.specs.Meaning.{deepest, depth, wrapped_depth, scripted_depth_by, meaning, wrapped, scripted_meaning}
 use Rattle.sc_core.proofs.Plans.{Sheet, program, quick_run, quick_scripted, run_is, scripted_run_is}
@@ -146,9 +146,6 @@ no_row = scripted_by_plan reentry_interfaces reentry (λ comp. comp == 1) (Call 
 -- the bytes that code takes at most, by the nodes of each function
 code_of_two : code_bound (10 ∷ 5 ∷ []) ≡ 1440
 code_of_two = refl
-
-nodes_of_store : program_nodes (program store_interfaces store_sheets) ≡ 20
-nodes_of_store = refl
 
 -- operators on all words: a sum that wraps, the remainder by 0, the least number by -1, and minus the least number
 sum_wraps : on_all_words false op.Add 2147483647 1 ≡ 2147483648
