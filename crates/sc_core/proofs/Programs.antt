@@ -13,6 +13,7 @@ use Rattle.sc_core.specs.declared.ty.BaseTy.TheVariants as base
 use Rattle.sc_base.specs.declared.op.UnaryOp.TheVariants as unary
 use Rattle.sc_base.specs.declared.op.BinaryOp.TheVariants as op
 use Rattle.sc_core.specs.declared.expr.VarRef.TheVariants.{Global, Param, Local}
+use Rattle.sc_core.specs.declared.expr.CallTarget.{CallTarget}
 use Rattle.sc_core.specs.declared.expr.CallTarget.TheVariants.{Own, Cross, Output}
 use Rattle.sc_core.specs.declared.section.TypedGlobal.{TypedGlobal}
 use Rattle.sc_core.proofs.Shapes.{Shape, Lit, Var, One, Two, At, Star, Amp, Lines, NoLine, AssignLine, AssignCallLine, CallLine, ReturnValueLine}
@@ -136,3 +137,22 @@ reentry_interfaces =
 abbrev pub reentry : List Sheet
 reentry =
     sheet [] (main_with (slot ty.Int ∷ []) (AssignCallLine 8 (local 0) (Cross 1 0) (lit 2 ∷ []) (output_then 9 (local 0) (ReturnValueLine 10 (lit 0) NoLine))) 11 ∷ []) ∷ sheet (global_of (ints 2) ∷ global_of ty.Int ∷ []) (plan (codes "f") (ty.Int ∷ []) (slot ty.Int ∷ []) (AssignLine 10 (element 2 0 (param 0)) (lit 5) (AssignCallLine 11 (local 0) (Cross 2 0) (global 1 ∷ []) (ReturnValueLine 12 (plus (local 0) (global 1)) NoLine))) 13 ∷ plan (codes "h") (ty.Int ∷ []) [] (AssignLine 15 (global 1) (plus (global 1) (param 0)) (ReturnValueLine 16 (global 1) NoLine)) 17 ∷ []) ∷ sheet [] (plan (codes "g") (ty.Int ∷ []) (slot ty.Int ∷ []) (AssignCallLine 7 (local 0) (Cross 1 1) (plus (param 0) (lit 1) ∷ []) (ReturnValueLine 8 (local 0) NoLine)) 9 ∷ []) ∷ []
+
+-- `Main` calls `f` of `A`, which has `int a[8000]` and calls `g` of `B`, which calls `f` again, and so on
+abbrev pub deep_interfaces : Interfaces
+deep_interfaces = record {
+  comps =
+      interface (codes "Main") [] (import.Function 1 0 ∷ []) ∷
+      interface (codes "A") (proto (codes "f") [] (Some scalar.Int) ∷ []) (import.Function 2 0 ∷ []) ∷
+      interface (codes "B") (proto (codes "g") [] (Some scalar.Int) ∷ []) (import.Function 1 0 ∷ []) ∷ [];
+  main = 0;
+}
+
+abbrev pub calling : CallTarget → ℕ → Lines
+calling target place = AssignCallLine 4 (local place) target [] (ReturnValueLine 5 (local place) NoLine)
+
+abbrev pub deep : List Sheet
+deep =
+    sheet [] (main_with (slot ty.Int ∷ []) (calling (Cross 1 0) 0) 6 ∷ []) ∷
+    sheet [] (plan (codes "f") [] (slot (ints 8000) ∷ slot ty.Int ∷ []) (calling (Cross 2 0) 1) 6 ∷ []) ∷
+    sheet [] (plan (codes "g") [] (slot ty.Int ∷ []) (calling (Cross 1 0) 0) 6 ∷ []) ∷ []

@@ -1,15 +1,17 @@
 -- The meanings of worked programs, computed.
-use Rattle.std.proofs.Common.{◌≡◌, ap, ℕ, Bool, not, ◌==◌, List, [], ◌∷◌, Some}
+use Rattle.std.proofs.Common.{◌≡◌, refl, ap, ℕ, Bool, false, not, ◌==◌, List, [], ◌∷◌, Some}
 use Rattle.sc_event.specs.declared.event.Event.{Event}
 use Rattle.sc_event.specs.declared.event.Event.TheVariants.{Call, Ret, Out, End}
 use Rattle.sc_event.specs.declared.interface.Interfaces.{Interfaces}
 use Rattle.sc_core.specs.declared.cause.Cause.TheVariants.{Overflow, OutOfBounds, Dangling, Indeterminate, NoReturn}
 use Rattle.sc_core.specs.declared.run.RunEnd.TheVariants.{Ended, Blamed, TurnsOut, EventsOut}
 use Rattle.sc_core.specs.Run.{stopped_at}
-use Rattle.sc_core.specs.Value.{c_arith, wrapping}
-use Rattle.sc_core.specs.Meaning.{deepest, depth, meaning, wrapped, scripted_meaning}
+use Rattle.sc_base.specs.declared.op.BinaryOp.TheVariants as op
+use Rattle.sc_core.specs.Sizes.{code_bound}
+use Rattle.sc_core.specs.Value.{c_arith, wrapping, on_all_words, negated_word}
+use Rattle.sc_core.specs.Meaning.{deepest, depth, wrapped_depth, scripted_depth_by, meaning, wrapped, scripted_meaning}
 use Rattle.sc_core.proofs.Plans.{Sheet, program, quick_run, quick_scripted, run_is, scripted_run_is}
-use Rattle.sc_core.proofs.Programs.{alone, seven, min_by_minus_one, uninitialised, missing_return, leak, store_interfaces, store_sheets, two_stores_interfaces, two_stores, reentry_interfaces, reentry}
+use Rattle.sc_core.proofs.Programs.{alone, seven, min_by_minus_one, uninitialised, missing_return, leak, store_interfaces, store_sheets, deep_interfaces, deep, two_stores_interfaces, two_stores, reentry_interfaces, reentry}
 
 -- The meaning of a program by its plan: what follows computes.
 pub by_plan : (interfaces : Interfaces) (sheets : List Sheet) (inputs : List ℕ) (turns events : ℕ) → meaning (program interfaces sheets) inputs turns events ≡ stopped_at events (quick_run c_arith interfaces sheets inputs turns).shown
@@ -110,3 +112,50 @@ store_depth_of_net = depth_by_plan store_interfaces store_sheets [] 5 4 1
 -- with no event there is no moment
 pub store_depth_of_none : depth (program store_interfaces store_sheets) [] 5 0 1 ≡ 0
 store_depth_of_none = depth_by_plan store_interfaces store_sheets [] 5 0 1
+
+-- a call that is the last event allowed has no frame yet
+pub store_depth_at_the_call : depth (program store_interfaces store_sheets) [] 5 1 1 ≡ 0
+store_depth_at_the_call = depth_by_plan store_interfaces store_sheets [] 5 1 1
+
+-- of the three calls of `f` that five events tell, two have a frame within them
+pub deep_within_five : depth (program deep_interfaces deep) [] 9 5 1 ≡ 64192
+deep_within_five = depth_by_plan deep_interfaces deep [] 9 5 1
+
+pub deep_within_six : depth (program deep_interfaces deep) [] 9 6 1 ≡ 96288
+deep_within_six = depth_by_plan deep_interfaces deep [] 9 6 1
+
+-- the same where every operator gives a word, and where a compartment performs and has no frame
+pub store_wrapped_depth : wrapped_depth (program store_interfaces store_sheets) [] 5 4 1 ≡ 112
+store_wrapped_depth = ap (λ run. deepest 4 1 0 run.frames) (run_is wrapping store_interfaces store_sheets [] 5)
+
+pub store_scripted_depth : scripted_depth_by c_arith (program store_interfaces store_sheets) (λ comp. comp == 0) (Call 0 1 0 (4 ∷ 9 ∷ []) ∷ []) [] 5 4 1 ≡ 112
+store_scripted_depth =
+    ap (λ run. deepest 4 1 0 run.frames) (scripted_run_is c_arith store_interfaces store_sheets [] 5 (λ comp. comp == 0) (Call 0 1 0 (4 ∷ 9 ∷ []) ∷ []))
+
+pub store_scripted_wrapped_depth : scripted_depth_by wrapping (program store_interfaces store_sheets) (λ comp. comp == 0) (Call 0 1 0 (4 ∷ 9 ∷ []) ∷ []) [] 5 4 1 ≡ 112
+store_scripted_wrapped_depth =
+    ap (λ run. deepest 4 1 0 run.frames) (scripted_run_is wrapping store_interfaces store_sheets [] 5 (λ comp. comp == 0) (Call 0 1 0 (4 ∷ 9 ∷ []) ∷ []))
+
+-- a script whose next row names another function, and one with no row left
+pub wrong_row : scripted_meaning (program reentry_interfaces reentry) (λ comp. comp == 1) (Call 0 1 1 (2 ∷ []) ∷ Ret 1 0 (Some 3) ∷ []) [] 9 8 ≡ record { trace = Call 0 1 0 (2 ∷ []) ∷ []; end = TurnsOut }
+wrong_row = scripted_by_plan reentry_interfaces reentry (λ comp. comp == 1) (Call 0 1 1 (2 ∷ []) ∷ Ret 1 0 (Some 3) ∷ []) [] 9 8
+
+pub no_row : scripted_meaning (program reentry_interfaces reentry) (λ comp. comp == 1) (Call 0 1 0 (2 ∷ []) ∷ []) [] 9 8 ≡ record { trace = Call 0 1 0 (2 ∷ []) ∷ []; end = TurnsOut }
+no_row = scripted_by_plan reentry_interfaces reentry (λ comp. comp == 1) (Call 0 1 0 (2 ∷ []) ∷ []) [] 9 8
+
+-- the bytes that code takes at most, by the nodes of each function
+code_of_two : code_bound (10 ∷ 5 ∷ []) ≡ 1440
+code_of_two = refl
+
+-- operators on all words: a sum that wraps, the remainder by 0, the least number by -1, and minus the least number
+sum_wraps : on_all_words false op.Add 2147483647 1 ≡ 2147483648
+sum_wraps = refl
+
+rest_by_zero : on_all_words false op.Rem 7 0 ≡ 7
+rest_by_zero = refl
+
+rest_of_least : on_all_words false op.Rem 2147483648 4294967295 ≡ 0
+rest_of_least = refl
+
+minus_least : negated_word false 2147483648 ≡ 2147483648
+minus_least = refl

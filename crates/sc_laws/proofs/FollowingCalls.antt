@@ -1,32 +1,35 @@
 -- Calls in two runs along one trace, of which the second has more compartments that perform their parts of it.
 use Rattle.std.proofs.Common.{◌≡◌, ℕ, zero, suc, ◌≤◌, List, [], ◌∷◌, ◌++◌, map, drop, length, Option, Some, None, refl, sym, ap, ap₂, ◌∙◌, subst, arith}
-use Rattle.std.specs.Prelude.{Bool, true, false, if◌then◌else◌}
-use Rattle.std.proofs.lemmas.Bool.{eq-eqb, both_ways}
+use Rattle.std.specs.Prelude.{Bool, true, false, if◌then◌else◌, ◌&&◌, ◌==◌}
+use Rattle.std.specs.List.{list_all}
+use Rattle.std.proofs.lemmas.Bool.{eq-eqb, both_ways, and_from, and_parts}
 use Rattle.sc_event.specs.declared.event.Event.{Event}
 use Rattle.sc_event.specs.declared.event.Event.TheVariants.{Call, Ret, Out, In}
 use Rattle.sc_event.specs.declared.row.Entry.TheVariants.{Export}
 use Rattle.sc_event.specs.declared.row.Row.{Row}
 use Rattle.sc_event.specs.declared.row.Action.{Action}
 use Rattle.sc_event.specs.declared.row.Action.TheVariants as act
+use Rattle.sc_event.specs.Legal.{is_output, is_function, imports, takes}
 use Rattle.sc_event.specs.Standing.{Standing, at_start, stands_after, stands_behind, performer}
 use Rattle.sc_event.specs.Part.{action_of, part, count_of}
+use Rattle.sc_core.specs.declared.cause.Cause.TheVariants.{BadType}
 use Rattle.sc_core.specs.declared.expr.CallTarget.{CallTarget}
 use Rattle.sc_core.specs.declared.expr.CallTarget.TheVariants.{Own, Cross, Input, Output}
-use Rattle.sc_core.specs.declared.run.RunEnd.TheVariants.{TurnsOut}
+use Rattle.sc_core.specs.declared.run.RunEnd.TheVariants.{Blamed, TurnsOut}
 use Rattle.sc_core.specs.declared.value.Value.{Value}
 use Rattle.sc_core.specs.declared.value.Value.TheVariants.{Word}
-use Rattle.sc_core.specs.Memory.{Blocks, with_blocks, ended_from}
+use Rattle.sc_core.specs.Memory.{Blocks, with_blocks, ended}
 use Rattle.sc_core.specs.Words.{State, Here, Piece, Reached, Stopped, and_then, turn, turn_of, tell}
-use Rattle.sc_core.specs.Calls.{Function, Library, Body, Step, function, blocks_for, begun, done, found, word_in, word_back, crossing, crossed, option_value, first_word, next_input, read_input, may_call, back_cross, run_in, call_own, call_cross, called, calls, run_step, within}
+use Rattle.sc_core.specs.Calls.{Function, Library, Body, Step, function, blocks_for, begun, done, found, word_in, word_back, crossing, crossed, option_value, first_word, next_input, read_input, may_call, back_cross, run_in, call_own, call_cross, called, calls, run_step, within, is_word}
 use Rattle.sc_event.specs.Lookup.{export_at}
 use Rattle.sc_event.specs.declared.interface.Proto.{Proto}
 use Rattle.sc_event.specs.declared.interface.Scalar.{Scalar}
-use Rattle.sc_core.specs.Scripts.{roles_in, rows_left, is_number, acts, performs, scripted_step}
+use Rattle.sc_core.specs.Scripts.{roles_in, rows_left, is_number, acts, performs, scripted_step, asks}
 use Rattle.sc_core.specs.Growth.{Front}
 use Rattle.sc_laws.specs.Growth.{last, Gone}
 use Rattle.sc_laws.specs.Steady.{now}
 use Rattle.sc_laws.specs.Laws.{IsFixed}
-use Rattle.sc_laws.proofs.Growing.{front_same, front_more, more, Goes, reached, stays, no_turn, earlier, then_from, then_goes, BodyGoes, done_goes, own_goes, cross_goes, back_goes, calls_go, performs_go, LibraryGoes, run_step_goes, scripted_goes}
+use Rattle.sc_laws.proofs.Growing.{front_same, front_more, more, Goes, reached, stays, no_turn, earlier, then_from, then_goes, BodyGoes, done_goes, own_goes, cross_goes, back_goes, calls_go, performs_go, LibraryGoes, run_step_goes, scripted_goes, asks_is, asks_go, run_goes}
 use Rattle.sc_laws.proofs.Libraries.{Meets, CallsTwins, FunctionTwins, LibraryTwins, function_twins}
 use Rattle.sc_laws.proofs.Rows.{InLine, in_line_before, NextIs, over, next_told_is, Next, row_of_next, rows_behind}
 use Rattle.sc_laws.proofs.Rows.{told as next_told}
@@ -55,6 +58,10 @@ crossed_again (v ∷ args) = ap (λ rest. Word (word_in v) ∷ rest) (crossed_ag
 words_again : (words : List ℕ) → map word_in (map (λ w. Word w) words) ≡ words
 words_again [] = refl
 words_again (w ∷ words) = ap (λ rest. w ∷ rest) (words_again words)
+
+words_are : (words : List ℕ) → list_all is_word (map (λ w. Word w) words) ≡ true
+words_are [] = refl
+words_are (w ∷ words) = words_are words
 
 as_many : (args : List Value) → length (map (λ w. Word w) (map word_in args)) ≡ length args
 as_many [] = refl
@@ -126,15 +133,18 @@ module _ (L : Library) (main : ℕ) (t : List Event) (S S' : ℕ → Bool) (larg
     tells_more s e p front = passing.passes (passed.longer e front)
 
     call_passes : (allowed : Bool) (m : ℕ) (from to index : ℕ) (args : List Value) (number : Option ℕ) (s : State) (k : Option Value → State → Piece (Option Value)) → ((v : Option Value) → Goes (k v))
-        → Passes s (and_then (if allowed then and_then (turn_of m s) (λ _ s. and_then (found number s) (λ number s. run_in L second to number (crossed args) (tell (Call from to index (map word_in args))) (back_cross L.interfaces from to index) s)) else Stopped TurnsOut s) k)
+        → Passes s (and_then (if allowed then and_then (turn_of m s) (λ _ s. and_then (found number s) (λ number s. run_in L second to number (crossed args) (back_cross L.interfaces from to index) (tell (Call from to index (map word_in args)) s))) else Stopped TurnsOut s) k)
     call_passes false m from to index args number s k goes = halts s
     call_passes true zero from to index args number s k goes = halts s
     call_passes true (suc m) from to index args None s k goes = passing.passes (passed.no_turn (record s { turns = m }) refl refl)
     call_passes true (suc m) from to index args (Some number) s k goes = by_found (function L to number) where
-      by_found : (f : Option Function) → Passes s (and_then (and_then (found f (record s { turns = m })) (λ f s. and_then (second number (at to (length (s.memory to))) (tell (Call from to index (map word_in args)) (begun to f (crossed args) s))) (λ v u. back_cross L.interfaces from to index v (done to f (length (s.memory to)) u)))) k)
-      by_found None = passing.passes (passed.no_turn (record s { turns = m }) refl refl)
+      told_state : State
+      told_state = tell (Call from to index (map word_in args)) (record s { turns = m })
+
+      by_found : (f : Option Function) → Passes s (and_then (and_then (found f told_state) (λ f s. and_then (second number (at to (length (s.memory to))) (begun to f (crossed args) s)) (λ v u. back_cross L.interfaces from to index v (done to f (length (s.memory to)) u)))) k)
+      by_found None = tells_more s (Call from to index (map word_in args)) (Stopped TurnsOut told_state) (front_same told_state.trace)
       by_found (Some f) =
-          let start : State = tell (Call from to index (map word_in args)) (begun to f (crossed args) (record s { turns = m })) in
+          let start : State = begun to f (crossed args) told_state in
           let first : ℕ = length (s.memory to) in
           let ret : Option Value → State → Piece (Option Value) = λ v u. back_cross L.interfaces from to index v (done to f first u) in
           let ret_goes : (v : Option Value) → Goes (ret v) = λ v u. earlier u (done to f first u) (ret v u) (done_goes to f first u) (back_goes L.interfaces from to index v (done to f first u)) in
@@ -146,12 +156,16 @@ module _ (L : Library) (main : ℕ) (t : List Event) (S S' : ℕ → Bool) (larg
 
     action_passes : (action : Action) (k comp first : ℕ) (next : State → Piece (Option Value)) → Goes next → (s : State) → Passes s (acts L second action next (second k (at comp first)) comp s)
     action_passes (act.Call to index words) k comp first next goes s =
-        call_passes (may_call L.interfaces comp (Cross to index) (length (map (λ w. Word w) words))) s.turns comp to index (map (λ w. Word w) words) (L.entered to (Export index)) s (λ v. second k (at comp first)) (λ v. second_goes k (at comp first))
+        let args : List Value = map (λ w. Word w) words in
+        subst (λ o. Passes s (and_then o (λ v. second k (at comp first)))) (sym (asks_is L second second_goes comp (Cross to index) args s))
+        (call_passes (may_call L comp (Cross to index) args) s.turns comp to index args (L.entered to (Export index)) s (λ v. second k (at comp first)) (λ v. second_goes k (at comp first)))
     action_passes (act.Ret v) k comp first next goes s = passing.hands_back (option_value v) s refl refl
     action_passes (act.Out w) k comp first next goes s =
-        environment_passes (may_call L.interfaces comp Output 1) s (Out comp w) (tell (Out comp w) s) None next refl goes
+        subst (λ o. Passes s (and_then o (λ v. next))) (sym (asks_is L second second_goes comp Output (Word w ∷ []) s))
+        (environment_passes (may_call L comp Output (Word w ∷ [])) s (Out comp w) (tell (Out comp w) s) None next refl goes)
     action_passes (act.In w) k comp first next goes s =
-        environment_passes (may_call L.interfaces comp Input 0) s (In comp (next_input s.inputs)) (read_input comp s) (Some (Word (next_input s.inputs))) next refl goes
+        subst (λ o. Passes s (and_then o (λ v. next))) (sym (asks_is L second second_goes comp Input [] s))
+        (environment_passes (may_call L comp Input []) s (In comp (next_input s.inputs)) (read_input comp s) (Some (Word (next_input s.inputs))) next refl goes)
     action_passes (act.End w) k comp first next goes s = passing.hands_back (Some (Word w)) s refl refl
 
     rows_pass : (rows : List Row) (k comp first : ℕ) (s : State) → Passes s (performs L second rows k (at comp first) s)
@@ -196,9 +210,9 @@ module _ (L : Library) (main : ℕ) (t : List Event) (S S' : ℕ → Bool) (larg
             told_both (over all) =
                 follows.done (past u.trace (Ret to from (back to index v)) all) (past u'.trace (Ret to from (back to index v)) (all ∙ sym near.trace))
             told_both (next_told more all) =
-                follows.both (option_value (back to index v)) _ _ refl refl (near_tell main t S' (inside st to index) st (done to f first u) (done to f first' u') (Ret to from (back to index v)) more refl all (quiet (near_blocks main t S' (inside st to index) u u' to (ended_from first (u.memory to)) (ended_from first' (u'.memory to)) (λ clear. (λ i. ended_from (equal clear i) (near.memory to clear i))) near)))
+                follows.both (option_value (back to index v)) _ _ refl refl (near_tell main t S' (inside st to index) st (done to f first u) (done to f first' u') (Ret to from (back to index v)) more refl all (quiet (near_blocks main t S' (inside st to index) u u' to (ended first (length f.cells) (u.memory to)) (ended first' (length f.cells) (u'.memory to)) (λ clear. (λ i. ended (equal clear i) (length f.cells) (near.memory to clear i))) near)))
               where
-                quiet : Abreast main t S' (inside st to index) (record u { memory = with_blocks to (ended_from first (u.memory to)) u.memory }) (record u' { memory = with_blocks to (ended_from first' (u'.memory to)) u'.memory }) → Abreast main t S' (inside st to index) (done to f first u) (done to f first' u')
+                quiet : Abreast main t S' (inside st to index) (record u { memory = with_blocks to (ended first (length f.cells) (u.memory to)) u.memory }) (record u' { memory = with_blocks to (ended first' (length f.cells) (u'.memory to)) u'.memory }) → Abreast main t S' (inside st to index) (done to f first u) (done to f first' u')
                 quiet n = record { trace = n.trace; front = n.front; turns = n.turns; inputs = n.inputs; memory = n.memory; stands = n.stands }
       both_return o p equal along (follows.stop end x is by) =
           follows.stop end x (ap (λ y. and_then y (returns to from index f first)) is) (beyond_then main t S' (Option Value) (Option Value) end x p (returns to from index f first') (returns_goes to from index f first') by)
@@ -223,9 +237,9 @@ module _ (L : Library) (main : ℕ) (t : List Event) (S S' : ℕ → Bool) (larg
             told_held (next_told more all) =
                 let u' : State = stands.other in
                 let now_told : Telling k to first' (Ret to from (back to index v)) u' = performs_next k to first' (inside st to index) u' (Ret to from (back to index v)) more set is_k refl (all ∙ ap (λ x. x ++ Ret to from (back to index v) ∷ more) (sym stands.near.trace)) (ap (stands_behind (at_start main)) stands.near.trace ∙ stands.near.stands) in
-                follows.both (option_value (back to index v)) _ _ refl (ap (λ y. and_then y (returns to from index f first')) (stands.is ∙ now_told.is) ∙ performed_return v u') (near_tell main t S' (inside st to index) st (done to f first u) (done to f first' u') (Ret to from (back to index v)) more refl all (quiet (near_blocks main t S' (inside st to index) u u' to (ended_from first (u.memory to)) (ended_from first' (u'.memory to)) (λ clear. absurd (both_ways (S' to) clear set)) stands.near)))
+                follows.both (option_value (back to index v)) _ _ refl (ap (λ y. and_then y (returns to from index f first')) (stands.is ∙ now_told.is) ∙ performed_return v u') (near_tell main t S' (inside st to index) st (done to f first u) (done to f first' u') (Ret to from (back to index v)) more refl all (quiet (near_blocks main t S' (inside st to index) u u' to (ended first (length f.cells) (u.memory to)) (ended first' (length f.cells) (u'.memory to)) (λ clear. absurd (both_ways (S' to) clear set)) stands.near)))
               where
-                quiet : Abreast main t S' (inside st to index) (record u { memory = with_blocks to (ended_from first (u.memory to)) u.memory }) (record stands.other { memory = with_blocks to (ended_from first' (stands.other.memory to)) stands.other.memory }) → Abreast main t S' (inside st to index) (done to f first u) (done to f first' stands.other)
+                quiet : Abreast main t S' (inside st to index) (record u { memory = with_blocks to (ended first (length f.cells) (u.memory to)) u.memory }) (record stands.other { memory = with_blocks to (ended first' (length f.cells) (stands.other.memory to)) stands.other.memory }) → Abreast main t S' (inside st to index) (done to f first u) (done to f first' stands.other)
                 quiet n = record { trace = n.trace; front = n.front; turns = n.turns; inputs = n.inputs; memory = n.memory; stands = n.stands }
       held_return k o left set is_k on along (performing.stop end x is by) =
           follows.stop end x (ap (λ y. and_then y (returns to from index f first)) is) (beyond_back main t S' (Option Value) end x left (returns to from index f first') (returns_goes to from index f first') (λ v u. (Ret to from (back to index v), front_same (u.trace ++ Ret to from (back to index v) ∷ []))) by)
@@ -233,7 +247,7 @@ module _ (L : Library) (main : ℕ) (t : List Event) (S S' : ℕ → Bool) (larg
     module _ (a : Body) (bodies : Bodies a) where
       -- the call once the function is found: its variables and its frame are there, and the call is told
       abbrev starts : (from to index : ℕ) → List Value → Function → State → State
-      starts from to index args f s = tell (Call from to index (map word_in args)) (begun to f (crossed args) s)
+      starts from to index args f s = begun to f (crossed args) (tell (Call from to index (map word_in args)) s)
 
       abbrev enters : Body → (from to index number : ℕ) → List Value → Function → State → Piece (Option Value)
       enters body from to index number args f s =
@@ -261,8 +275,9 @@ module _ (L : Library) (main : ℕ) (t : List Event) (S S' : ℕ → Bool) (larg
 
         entered_near : (more : List Event) → t ≡ s.trace ++ event ∷ more → N (inside st to index) x x'
         entered_near more all =
-            near_tell main t S' st (inside st to index) (begun to f (crossed args) s) (begun to f (crossed args) s') event more refl all (quiet (near_blocks main t S' st s s' to (s.memory to ++ blocks_for f.cells (crossed args)) (s'.memory to ++ blocks_for f.cells (crossed args)) (λ clear. ap (λ blocks. blocks ++ blocks_for f.cells (crossed args)) (n.memory to clear)) n)) where
-              quiet : N st (record s { memory = with_blocks to (s.memory to ++ blocks_for f.cells (crossed args)) s.memory }) (record s' { memory = with_blocks to (s'.memory to ++ blocks_for f.cells (crossed args)) s'.memory }) → N st (begun to f (crossed args) s) (begun to f (crossed args) s')
+            quiet (near_blocks main t S' (inside st to index) (tell event s) (tell event s') to (s.memory to ++ blocks_for f.cells (crossed args)) (s'.memory to ++ blocks_for f.cells (crossed args))
+            (λ clear. ap (λ blocks. blocks ++ blocks_for f.cells (crossed args)) (n.memory to clear)) (near_tell main t S' st (inside st to index) s s' event more refl all n)) where
+              quiet : N (inside st to index) (record (tell event s) { memory = with_blocks to (s.memory to ++ blocks_for f.cells (crossed args)) s.memory }) (record (tell event s') { memory = with_blocks to (s'.memory to ++ blocks_for f.cells (crossed args)) s'.memory }) → N (inside st to index) x x'
               quiet n = record { trace = n.trace; front = n.front; turns = n.turns; inputs = n.inputs; memory = n.memory; stands = n.stands }
 
         -- by whether the callee's compartment performs in both runs, in the second, or in neither
@@ -298,13 +313,32 @@ module _ (L : Library) (main : ℕ) (t : List Event) (S S' : ℕ → Bool) (larg
       nothing_follows st s s' n =
           record { follows = λ along. follows.stop TurnsOut s refl (record { front = subst (Front s.trace) (sym n.trace) (front_same s.trace); agreed = tt; passed = tt }) }
 
+      -- the same behind an event that both told
+      nothing_told : (st : Standing) (s s' : State) (e : Event) → N st s s' → F st (Stopped TurnsOut (tell e s)) (Stopped TurnsOut (tell e s'))
+      nothing_told st s s' e n =
+          record { follows = λ along. follows.stop TurnsOut (tell e s) refl (record { front = subst (λ u. Front (s.trace ++ e ∷ []) (u ++ e ∷ [])) (sym n.trace) (front_same (s.trace ++ e ∷ [])); agreed = tt; passed = tt }) }
+
+      -- where a compartment that performs in neither is blamed it is blamed in both
+      blamed_follows : (comp : ℕ) → S' comp ≡ false → (st : Standing) (s s' : State) → N st s s' → F st (Stopped (Blamed comp BadType 0) s) (Stopped (Blamed comp BadType 0) s')
+      blamed_follows comp clear st s s' n =
+          record {
+            follows = λ along. follows.stop (Blamed comp BadType 0) s refl (record {
+              front = subst (Front s.trace) (sym n.trace) (front_same s.trace);
+              agreed = λ _. (s', refl, n.trace);
+              passed = λ set. absurd (both_ways (S' comp) clear set);
+            });
+          }
+
+      -- a call across, once the number of the function is known
       abbrev crosses : Body → (from to index : ℕ) → List Value → ℕ → State → Piece (Option Value)
       crosses body from to index args number s =
-          run_in L body to number (crossed args) (tell (Call from to index (map word_in args))) (back_cross L.interfaces from to index) s
+          run_in L body to number (crossed args) (back_cross L.interfaces from to index) (tell (Call from to index (map word_in args)) s)
 
       -- by whether the function is there
-      by_function : (from to index number : ℕ) (args : List Value) → L.entered to (Export index) ≡ Some number → (f : Option Function) (st : Standing) (s s' : State) → N st s s' → F st (and_then (found f s) (enters a from to index number args)) (and_then (found f s') (enters second from to index number args))
-      by_function from to index number args is None st s s' n = nothing_follows st s s' n
+      by_function : (from to index number : ℕ) (args : List Value) → L.entered to (Export index) ≡ Some number → (f : Option Function) (st : Standing) (s s' : State) → N st s s'
+          → F st (and_then (found f (tell (Call from to index (map word_in args)) s)) (λ f y. and_then (a number (at to (length (y.memory to))) (begun to f (crossed args) y)) (returns to from index f (length (y.memory to)))))
+          (and_then (found f (tell (Call from to index (map word_in args)) s')) (λ f y. and_then (second number (at to (length (y.memory to))) (begun to f (crossed args) y)) (returns to from index f (length (y.memory to)))))
+      by_function from to index number args is None st s s' n = nothing_told st s s' (Call from to index (map word_in args)) n
       by_function from to index number args is (Some f) st s s' n = enters_follow from to index number args f is st s s' n
 
       by_number : (from to index : ℕ) (args : List Value) (number : Option ℕ) → L.entered to (Export index) ≡ number → (st : Standing) (s s' : State) → N st s s' → F st (and_then (found number s) (crosses a from to index args)) (and_then (found number s') (crosses second from to index args))
@@ -320,10 +354,22 @@ module _ (L : Library) (main : ℕ) (t : List Event) (S S' : ℕ → Bool) (larg
       if_follows true st o o' p p' h k = h
       if_follows false st o o' p p' h k = k
 
-      -- where it may be made, with its turn
-      pub turned_follows : (from to index : ℕ) (args : List Value) (st : Standing) (s s' : State) → N st s s' → F st (calls L a from (Cross to index) args s) (calls L second from (Cross to index) args s')
+      -- a call that may be made, or what stands in its place
+      guarded : (from : ℕ) (target : CallTarget) (args : List Value) (st : Standing) (s s' : State) (p p' : Piece (Option Value)) → F st (called L a from target args s) (called L second from target args s') → F st p p'
+          → F st (if may_call L from target args then called L a from target args s else p) (if may_call L from target args then called L second from target args s' else p')
+      guarded from target args st s s' p p' h k = if_follows (may_call L from target args) st _ _ p p' h k
+
+      -- a call that both ask for
+      asked : (from : ℕ) (target : CallTarget) (args : List Value) (st : Standing) (s s' : State) → N st s s' → F st (called L a from target args s) (called L second from target args s') → F st (asks L a from target args s) (asks L second from target args s')
+      asked from target args st s s' n h =
+          subst (λ o. F st o (asks L second from target args s')) (sym (asks_is L a bodies.goes from target args s))
+          (subst (F st (if may_call L from target args then called L a from target args s else Stopped TurnsOut s)) (sym (asks_is L second second_goes from target args s'))
+          (guarded from target args st s s' (Stopped TurnsOut s) (Stopped TurnsOut s') h (nothing_follows st s s' n)))
+
+      -- with its turn
+      turned_follows : (from to index : ℕ) (args : List Value) (st : Standing) (s s' : State) → N st s s' → F st (called L a from (Cross to index) args s) (called L second from (Cross to index) args s')
       turned_follows from to index args st s s' n =
-          if_follows (may_call L.interfaces from (Cross to index) (length args)) st _ _ _ _ ((follow_kept main t S' st).turned (Option Value) (λ _. call_cross L a from to index args) (λ _. call_cross L second from to index args) (λ _. cross_goes L a bodies.goes from to index args) (λ _. cross_goes L second second_goes from to index args) s s' n (λ y y' less less' near. cross_follows from to index args st y y' near)) (nothing_follows st s s' n)
+          (follow_kept main t S' st).turned (Option Value) (λ _. call_cross L a from to index args) (λ _. call_cross L second from to index args) (λ _. cross_goes L a bodies.goes from to index args) (λ _. cross_goes L second second_goes from to index args) s s' n (λ y y' less less' near. cross_follows from to index args st y y' near)
 
       -- EVENTS OF THE ENVIRONMENT, AND CALLS WITHIN, WHERE NOBODY PERFORMS OR BOTH DO
       quiet_near : (st : Standing) (s s' y y' : State) → y.trace ≡ s.trace → y'.trace ≡ s'.trace → y.turns ≡ s.turns → y'.turns ≡ s'.turns → y.inputs ≡ s.inputs → y'.inputs ≡ s'.inputs → ((c : ℕ) → S' c ≡ false → y'.memory c ≡ y.memory c) → N st s s' → N st y y'
@@ -361,26 +407,30 @@ module _ (L : Library) (main : ℕ) (t : List Event) (S S' : ℕ → Bool) (larg
           let equal : length (s'.memory comp) ≡ first = ap length (n.memory comp clear) in
           let more_blocks : List Value → Blocks = blocks_for f.cells in
           let near_start : N st (begun comp f args s) (begun comp f args s') = quiet_near st s s' (begun comp f args s) (begun comp f args s') refl refl refl refl refl refl (near_blocks main t S' st s s' comp (s.memory comp ++ more_blocks args) (s'.memory comp ++ more_blocks args) (λ c. ap (λ blocks. blocks ++ more_blocks args) (n.memory comp c)) n).memory n in
-          subst (λ k. F st (and_then (a number (at comp first) (begun comp f args s)) (λ v u. Reached v (done comp f first u))) (and_then (second number (at comp k) (begun comp f args s')) (λ v u. Reached v (done comp f k u)))) (sym equal) ((follow_kept main t S' st).after (Option Value) (Option Value) (begun comp f args s) (begun comp f args s') (a number (at comp first) (begun comp f args s)) (second number (at comp first) (begun comp f args s')) (λ v u. Reached v (done comp f first u)) (λ v u. Reached v (done comp f first u)) near_start (bodies.goes number (at comp first) (begun comp f args s)) (second_goes number (at comp first) (begun comp f args s')) (λ v u. reached v u (done comp f first u) (done_goes comp f first u)) (λ v u. reached v u (done comp f first u) (done_goes comp f first u)) (bodies.plain number (at comp first) st (begun comp f args s) (begun comp f args s') clear near_start) (λ v u u' up up' near. record { follows = λ along. follows.both v _ _ refl refl (quiet_near st u u' (done comp f first u) (done comp f first u') refl refl refl refl refl refl (near_blocks main t S' st u u' comp (ended_from first (u.memory comp)) (ended_from first (u'.memory comp)) (λ c. ap (ended_from first) (near.memory comp c)) near).memory near) }))
+          subst (λ k. F st (and_then (a number (at comp first) (begun comp f args s)) (λ v u. Reached v (done comp f first u))) (and_then (second number (at comp k) (begun comp f args s')) (λ v u. Reached v (done comp f k u)))) (sym equal) ((follow_kept main t S' st).after (Option Value) (Option Value) (begun comp f args s) (begun comp f args s') (a number (at comp first) (begun comp f args s)) (second number (at comp first) (begun comp f args s')) (λ v u. Reached v (done comp f first u)) (λ v u. Reached v (done comp f first u)) near_start (bodies.goes number (at comp first) (begun comp f args s)) (second_goes number (at comp first) (begun comp f args s')) (λ v u. reached v u (done comp f first u) (done_goes comp f first u)) (λ v u. reached v u (done comp f first u) (done_goes comp f first u)) (bodies.plain number (at comp first) st (begun comp f args s) (begun comp f args s') clear near_start) (λ v u u' up up' near. record { follows = λ along. follows.both v _ _ refl refl (quiet_near st u u' (done comp f first u) (done comp f first u') refl refl refl refl refl refl (near_blocks main t S' st u u' comp (ended first (length f.cells) (u.memory comp)) (ended first (length f.cells) (u'.memory comp)) (λ c. ap (ended first (length f.cells)) (near.memory comp c)) near).memory near) }))
 
       own_follows : (comp number : ℕ) (args : List Value) → S' comp ≡ false → (st : Standing) (s s' : State) → N st s s' → F st (call_own L a comp number args s) (call_own L second comp number args s')
       own_follows comp number args clear st s s' n = own_function comp number args (function L comp number) clear st s s' n
 
       -- calls of the environment
-      input_follows : (from : ℕ) (args : List Value) (st : Standing) (s s' : State) → N st s s' → F st (calls L a from Input args s) (calls L second from Input args s')
+      input_follows : (from : ℕ) (args : List Value) (st : Standing) (s s' : State) → N st s s' → F st (called L a from Input args s) (called L second from Input args s')
       input_follows from args st s s' n =
-          if_follows (may_call L.interfaces from Input (length args)) st _ _ _ _ (reads (Option Value) st from s s' (λ w. Reached (Some (Word w))) (λ w. Reached (Some (Word w))) n (λ w. stays (Some (Word w))) (λ w. stays (Some (Word w))) (λ w x x' near. (follow_kept main t S' st).reached (Option Value) (Some (Word w)) x x' near)) (nothing_follows st s s' n)
+          reads (Option Value) st from s s' (λ w. Reached (Some (Word w))) (λ w. Reached (Some (Word w))) n (λ w. stays (Some (Word w))) (λ w. stays (Some (Word w))) (λ w x x' near. (follow_kept main t S' st).reached (Option Value) (Some (Word w)) x x' near)
 
-      output_follows : (from : ℕ) (args : List Value) (st : Standing) (s s' : State) → N st s s' → F st (calls L a from Output args s) (calls L second from Output args s')
+      output_follows : (from : ℕ) (args : List Value) (st : Standing) (s s' : State) → N st s s' → F st (called L a from Output args s) (called L second from Output args s')
       output_follows from args st s s' n =
-          if_follows (may_call L.interfaces from Output (length args)) st _ _ _ _ (tells (Option Value) st s s' (Out from (first_word args)) _ _ refl n (stays None (tell (Out from (first_word args)) s)) (stays None (tell (Out from (first_word args)) s')) (λ near. (follow_kept main t S' st).reached (Option Value) None _ _ near)) (nothing_follows st s s' n)
+          tells (Option Value) st s s' (Out from (first_word args)) _ _ refl n (stays None (tell (Out from (first_word args)) s)) (stays None (tell (Out from (first_word args)) s')) (λ near. (follow_kept main t S' st).reached (Option Value) None _ _ near)
+
+      both_called : (here : Here) → S' here.comp ≡ false → (st : Standing) (target : CallTarget) (args : List Value) (s s' : State) → N st s s' → F st (called L a here.comp target args s) (called L second here.comp target args s')
+      both_called here clear st (Own number) args s s' n =
+          (follow_kept main t S' st).turned (Option Value) (λ _. call_own L a here.comp number args) (λ _. call_own L second here.comp number args) (λ _. own_goes L a bodies.goes here.comp number args) (λ _. own_goes L second second_goes here.comp number args) s s' n (λ y y' less less' near. own_follows here.comp number args clear st y y' near)
+      both_called here clear st (Cross to index) args s s' n = turned_follows here.comp to index args st s s' n
+      both_called here clear st Input args s s' n = input_follows here.comp args st s s' n
+      both_called here clear st Output args s s' n = output_follows here.comp args st s s' n
 
       both_calls : (here : Here) → S' here.comp ≡ false → (st : Standing) (target : CallTarget) (args : List Value) (s s' : State) → N st s s' → F st (calls L a here.comp target args s) (calls L second here.comp target args s')
-      both_calls here clear st (Own number) args s s' n =
-          (follow_kept main t S' st).turned (Option Value) (λ _. call_own L a here.comp number args) (λ _. call_own L second here.comp number args) (λ _. own_goes L a bodies.goes here.comp number args) (λ _. own_goes L second second_goes here.comp number args) s s' n (λ y y' less less' near. own_follows here.comp number args clear st y y' near)
-      both_calls here clear st (Cross to index) args s s' n = turned_follows here.comp to index args st s s' n
-      both_calls here clear st Input args s s' n = input_follows here.comp args st s s' n
-      both_calls here clear st Output args s s' n = output_follows here.comp args st s s' n
+      both_calls here clear st target args s s' n =
+          guarded here.comp target args st s s' _ _ (both_called here clear st target args s s' n) (blamed_follows here.comp clear st s s' n)
 
       -- calls of a compartment that performs in neither run
       pub calls_follow : (here : Here) → S' here.comp ≡ false → (st : Standing) → CallsTwins (Abreast main t S' st) (Keeping main t S' st) (λ h. S' h.comp ≡ false) here.comp (calls L a) (calls L second)
@@ -392,12 +442,12 @@ module _ (L : Library) (main : ℕ) (t : List Event) (S S' : ℕ → Bool) (larg
           → F st (acts L a action next (a number (at comp mine)) comp s) (acts L second action next' (second number (at comp theirs)) comp s')
       acts_follow (act.Call to index words) next next' number comp mine theirs goes goes' set st h s s' n =
           let args : List Value = map (λ w. Word w) words in
-          (follow_kept main t S' st).after (Option Value) (Option Value) s s' (calls L a comp (Cross to index) args s) (calls L second comp (Cross to index) args s') (λ v. a number (at comp mine)) (λ v. second number (at comp theirs)) n (calls_go L a bodies.goes comp (Cross to index) args s) (calls_go L second second_goes comp (Cross to index) args s') (λ v. bodies.goes number (at comp mine)) (λ v. second_goes number (at comp theirs)) (turned_follows comp to index args st s s' n) (λ v u u' up up' near. bodies.given number comp mine theirs st u u' set near)
+          (follow_kept main t S' st).after (Option Value) (Option Value) s s' (asks L a comp (Cross to index) args s) (asks L second comp (Cross to index) args s') (λ v. a number (at comp mine)) (λ v. second number (at comp theirs)) n (asks_go L a bodies.goes comp (Cross to index) args s) (asks_go L second second_goes comp (Cross to index) args s') (λ v. bodies.goes number (at comp mine)) (λ v. second_goes number (at comp theirs)) (asked comp (Cross to index) args st s s' n (turned_follows comp to index args st s s' n)) (λ v u u' up up' near. bodies.given number comp mine theirs st u u' set near)
       acts_follow (act.Ret v) next next' number comp mine theirs goes goes' set st h s s' n = (follow_kept main t S' st).reached (Option Value) (option_value v) s s' n
       acts_follow (act.Out w) next next' number comp mine theirs goes goes' set st h s s' n =
-          (follow_kept main t S' st).after (Option Value) (Option Value) s s' (calls L a comp Output (Word w ∷ []) s) (calls L second comp Output (Word w ∷ []) s') (λ v. next) (λ v. next') n (calls_go L a bodies.goes comp Output (Word w ∷ []) s) (calls_go L second second_goes comp Output (Word w ∷ []) s') (λ v. goes) (λ v. goes') (output_follows comp (Word w ∷ []) st s s' n) (λ v u u' up up' near. h u u' near)
+          (follow_kept main t S' st).after (Option Value) (Option Value) s s' (asks L a comp Output (Word w ∷ []) s) (asks L second comp Output (Word w ∷ []) s') (λ v. next) (λ v. next') n (asks_go L a bodies.goes comp Output (Word w ∷ []) s) (asks_go L second second_goes comp Output (Word w ∷ []) s') (λ v. goes) (λ v. goes') (asked comp Output (Word w ∷ []) st s s' n (output_follows comp (Word w ∷ []) st s s' n)) (λ v u u' up up' near. h u u' near)
       acts_follow (act.In w) next next' number comp mine theirs goes goes' set st h s s' n =
-          (follow_kept main t S' st).after (Option Value) (Option Value) s s' (calls L a comp Input [] s) (calls L second comp Input [] s') (λ v. next) (λ v. next') n (calls_go L a bodies.goes comp Input [] s) (calls_go L second second_goes comp Input [] s') (λ v. goes) (λ v. goes') (input_follows comp [] st s s' n) (λ v u u' up up' near. h u u' near)
+          (follow_kept main t S' st).after (Option Value) (Option Value) s s' (asks L a comp Input [] s) (asks L second comp Input [] s') (λ v. next) (λ v. next') n (asks_go L a bodies.goes comp Input [] s) (asks_go L second second_goes comp Input [] s') (λ v. goes) (λ v. goes') (asked comp Input [] st s s' n (input_follows comp [] st s s' n)) (λ v u u' up up' near. h u u' near)
       acts_follow (act.End w) next next' number comp mine theirs goes goes' set st h s s' n = (follow_kept main t S' st).reached (Option Value) (Some (Word w)) s s' n
 
       pub performs_follow : (rows : List Row) (number comp mine theirs : ℕ) → S comp ≡ true → (st : Standing) (s s' : State) → N st s s' → F st (performs L a rows number (at comp mine) s) (performs L second rows number (at comp theirs) s')
@@ -453,11 +503,11 @@ module _ (L : Library) (main : ℕ) (t : List Event) (S S' : ℕ → Bool) (larg
           by_next (next_told more all) =
               tells_it more all (performs_next k comp theirs st h.other e more set is_k own (all ∙ ap (λ u. u ++ e ∷ more) (sym h.near.trace)) (ap (stands_behind (at_start main)) h.near.trace ∙ h.near.stands))
 
-        -- what may be called may be called in the second run too
-        abbrev may : (target : CallTarget) → ℕ → Bool
-        may target count = may_call L.interfaces comp target count
+        -- what may be called
+        abbrev may : (target : CallTarget) → List Value → Bool
+        may target args = may_call L comp target args
 
-        output_performs : (args : List Value) (s : State) → H s → may Output (length args) ≡ true → InLine t (s.trace ++ Out comp (first_word args) ∷ []) → Done (Option Value) (Reached None (tell (Out comp (first_word args)) s))
+        output_performs : (args : List Value) (s : State) → H s → may Output args ≡ true → InLine t (s.trace ++ Out comp (first_word args) ∷ []) → Done (Option Value) (Reached None (tell (Out comp (first_word args)) s))
         output_performs args s h allowed along = by_tells (tells_now s (Out comp (first_word args)) h refl along) where
           by_tells : Tells s (Out comp (first_word args)) h → Done (Option Value) (Reached None (tell (Out comp (first_word args)) s))
           by_tells (all_told all) =
@@ -467,9 +517,14 @@ module _ (L : Library) (main : ℕ) (t : List Event) (S S' : ℕ → Bool) (larg
               let w : ℕ = first_word args in
               let goes_on : State → Piece (Option Value) = performs L second act.rest k (at comp theirs) in
               let by_test : Bool → Piece (Option Value) = λ b. if b then Reached None (tell (Out comp w) u) else Stopped TurnsOut u in
-              performing.here None (tell (Out comp w) s) refl (record { other = tell (Out comp w) u; near = near_tell main t S' st st s u (Out comp w) more refl all h.near; is = h.is ∙ act.is ∙ ap (λ b. and_then (by_test b) (λ v. goes_on)) allowed ∙ rows_now (tell (Out comp w) u) act.rest act.left })
+              let allowed_too : may Output (Word w ∷ []) ≡ true = and_from (imports L.interfaces comp is_output) true (and_parts (imports L.interfaces comp is_output) _ allowed).0 refl in
+              performing.here None (tell (Out comp w) s) refl (record {
+                other = tell (Out comp w) u;
+                near = near_tell main t S' st st s u (Out comp w) more refl all h.near;
+                is = h.is ∙ act.is ∙ ap (λ o. and_then o (λ v. goes_on)) (asks_is L second second_goes comp Output (Word w ∷ []) u) ∙ ap (λ b. and_then (by_test b) (λ v. goes_on)) allowed_too ∙ rows_now (tell (Out comp w) u) act.rest act.left;
+              })
 
-        input_performs : (args : List Value) (s : State) → H s → may Input (length args) ≡ true → InLine t (s.trace ++ In comp (next_input s.inputs) ∷ []) → Done (Option Value) (Reached (Some (Word (next_input s.inputs))) (read_input comp s))
+        input_performs : (args : List Value) (s : State) → H s → may Input args ≡ true → InLine t (s.trace ++ In comp (next_input s.inputs) ∷ []) → Done (Option Value) (Reached (Some (Word (next_input s.inputs))) (read_input comp s))
         input_performs args s h allowed along = by_tells (tells_now s (In comp (next_input s.inputs)) h refl along) where
           by_tells : Tells s (In comp (next_input s.inputs)) h → Done (Option Value) (Reached (Some (Word (next_input s.inputs))) (read_input comp s))
           by_tells (all_told all) =
@@ -481,58 +536,64 @@ module _ (L : Library) (main : ℕ) (t : List Event) (S S' : ℕ → Bool) (larg
               let goes_on : State → Piece (Option Value) = performs L second act.rest k (at comp theirs) in
               let same_read : read_input comp u ≡ read = ap (λ i. tell (In comp (next_input i)) (taken u)) h.near.inputs in
               let by_test : Bool → Piece (Option Value) = λ b. if b then Reached (Some (Word (next_input u.inputs))) (read_input comp u) else Stopped TurnsOut u in
-              performing.here (Some (Word w)) (read_input comp s) refl (record { other = read; near = near_tell main t S' st st (taken s) (taken u) (In comp w) more refl all (taken_near st s u h.near); is = h.is ∙ act.is ∙ ap (λ b. and_then (by_test b) (λ v. goes_on)) allowed ∙ ap goes_on same_read ∙ rows_now read act.rest act.left })
+              performing.here (Some (Word w)) (read_input comp s) refl (record { other = read; near = near_tell main t S' st st (taken s) (taken u) (In comp w) more refl all (taken_near st s u h.near); is = h.is ∙ act.is ∙ ap (λ o. and_then o (λ v. goes_on)) (asks_is L second second_goes comp Input [] u) ∙ ap (λ b. and_then (by_test b) (λ v. goes_on)) allowed ∙ ap goes_on same_read ∙ rows_now read act.rest act.left })
 
-        -- a call across is told, or it may not be made, or there is no turn or no function for it
+        -- a call across is told, or there is no turn or no function for it
         data CrossTells (to index : ℕ) (args : List Value) (s : State) (o : Piece (Option Value)) : Type 0 where
           silent : (y : State) → o ≡ Stopped TurnsOut y → y.trace ≡ s.trace → CrossTells to index args s o
           loud : Front (s.trace ++ Call comp to index (map word_in args) ∷ []) (last o).trace → CrossTells to index args s o
 
-        function_tells : (to index number : ℕ) (args : List Value) (f : Option Function) (s : State) → CrossTells to index args s (and_then (found f s) (enters a comp to index number args))
-        function_tells to index number args None s = silent s refl refl
-        function_tells to index number args (Some f) s =
-            loud (enters_goes a bodies.goes comp to index number args f s).grown.events
-
         number_tells : (to index : ℕ) (args : List Value) (number : Option ℕ) (s : State) → CrossTells to index args s (and_then (found number s) (crosses a comp to index args))
         number_tells to index args None s = silent s refl refl
-        number_tells to index args (Some number) s = function_tells to index number args (function L to number) s
+        number_tells to index args (Some number) s =
+            loud (run_goes L a bodies.goes to number (crossed args) (back_cross L.interfaces comp to index) (back_goes L.interfaces comp to index) (tell (Call comp to index (map word_in args)) s)).grown.events
 
         same_trace : (to index : ℕ) (args : List Value) (s y : State) (o : Piece (Option Value)) → y.trace ≡ s.trace → CrossTells to index args y o → CrossTells to index args s o
         same_trace to index args s y o is (silent z stops trace) = silent z stops (trace ∙ is)
         same_trace to index args s y o is (loud front) =
             loud (subst (λ u. Front (u ++ Call comp to index (map word_in args) ∷ []) (last o).trace) is front)
 
-        cross_tells : (to index : ℕ) (args : List Value) (s : State) (allowed : Bool) (m : ℕ) → CrossTells to index args s (if allowed then and_then (turn_of m s) (λ _ s. call_cross L a comp to index args s) else Stopped TurnsOut s)
-        cross_tells to index args s false m = silent s refl refl
-        cross_tells to index args s true zero = silent s refl refl
-        cross_tells to index args s true (suc m) =
+        cross_tells : (to index : ℕ) (args : List Value) (s : State) (m : ℕ) → CrossTells to index args s (and_then (turn_of m s) (λ _ s. call_cross L a comp to index args s))
+        cross_tells to index args s zero = silent s refl refl
+        cross_tells to index args s (suc m) =
             same_trace to index args s (record s { turns = m }) (call_cross L a comp to index args (record s { turns = m })) refl (number_tells to index args (L.entered to (Export index)) (record s { turns = m }))
 
         -- a call with the words of a row is the call with the values that they come of
-        recalled : (to index : ℕ) (args : List Value) (u : State) → calls L second comp (Cross to index) (map (λ w. Word w) (map word_in args)) u ≡ calls L second comp (Cross to index) args u
-        recalled to index args u =
-            ap (λ count. if may (Cross to index) count then called L second comp (Cross to index) (map (λ w. Word w) (map word_in args)) u else Stopped TurnsOut u) (as_many args) ∙ ap (λ o. if may (Cross to index) (length args) then o else Stopped TurnsOut u) (ap₂ (λ values words. and_then (turn u) (λ _ s. and_then (found (L.entered to (Export index)) s) (λ number s. run_in L second to number values (tell (Call comp to index words)) (back_cross L.interfaces comp to index) s))) (crossed_again args) (words_again (map word_in args)))
+        words_may : (to index : ℕ) (args : List Value) → may (Cross to index) args ≡ true → may (Cross to index) (map (λ w. Word w) (map word_in args)) ≡ true
+        words_may to index args allowed =
+            let first = and_parts (imports L.interfaces comp (is_function to index)) _ allowed in
+            let second = and_parts (takes L.interfaces to index (length args)) _ first.1 in
+            let third = and_parts (list_all is_word args) _ second.1 in
+            and_from (imports L.interfaces comp (is_function to index)) _ first.0
+            (and_from (takes L.interfaces to index (length (map (λ w. Word w) (map word_in args)))) _ (ap (takes L.interfaces to index) (as_many args) ∙ second.0)
+            (and_from (list_all is_word (map (λ w. Word w) (map word_in args))) _ (words_are (map word_in args)) third.1))
 
-        cross_performs : (to index : ℕ) (args : List Value) (s : State) → H s → InLine t (last (calls L a comp (Cross to index) args s)).trace → Done (Option Value) (calls L a comp (Cross to index) args s)
-        cross_performs to index args s h along = by_told (cross_tells to index args s (may (Cross to index) (length args)) s.turns) where
-          by_told : CrossTells to index args s (calls L a comp (Cross to index) args s) → Done (Option Value) (calls L a comp (Cross to index) args s)
+        recalled : (to index : ℕ) (args : List Value) (u : State) → may (Cross to index) args ≡ true → asks L second comp (Cross to index) (map (λ w. Word w) (map word_in args)) u ≡ called L second comp (Cross to index) args u
+        recalled to index args u allowed =
+            asks_is L second second_goes comp (Cross to index) (map (λ w. Word w) (map word_in args)) u
+            ∙ ap (λ b. if b then called L second comp (Cross to index) (map (λ w. Word w) (map word_in args)) u else Stopped TurnsOut u) (words_may to index args allowed)
+            ∙ ap₂ (λ values words. and_then (turn u) (λ _ s. and_then (found (L.entered to (Export index)) s) (λ number s. run_in L second to number values (back_cross L.interfaces comp to index) (tell (Call comp to index words) s)))) (crossed_again args) (words_again (map word_in args))
+
+        cross_performs : (to index : ℕ) (args : List Value) (s : State) → H s → may (Cross to index) args ≡ true → InLine t (last (called L a comp (Cross to index) args s)).trace → Done (Option Value) (called L a comp (Cross to index) args s)
+        cross_performs to index args s h allowed along = by_told (cross_tells to index args s s.turns) where
+          by_told : CrossTells to index args s (called L a comp (Cross to index) args s) → Done (Option Value) (called L a comp (Cross to index) args s)
           by_told (silent y stops trace) =
               subst (Done (Option Value)) (sym stops) (stopped (Option Value) s y trace h)
           by_told (loud front) =
-              by_tells (tells_now s (Call comp to index (map word_in args)) h refl (in_line_before t (s.trace ++ Call comp to index (map word_in args) ∷ []) (last (calls L a comp (Cross to index) args s)).trace front along)) where
-                by_follows : (left ≡ and_then (calls L second comp (Cross to index) args h.other) (λ v. rest)) → KeepsUp main t S' st (Option Value) (calls L a comp (Cross to index) args s) (calls L second comp (Cross to index) args h.other) → Done (Option Value) (calls L a comp (Cross to index) args s)
+              by_tells (tells_now s (Call comp to index (map word_in args)) h refl (in_line_before t (s.trace ++ Call comp to index (map word_in args) ∷ []) (last (called L a comp (Cross to index) args s)).trace front along)) where
+                by_follows : (left ≡ and_then (called L second comp (Cross to index) args h.other) (λ v. rest)) → KeepsUp main t S' st (Option Value) (called L a comp (Cross to index) args s) (called L second comp (Cross to index) args h.other) → Done (Option Value) (called L a comp (Cross to index) args s)
                 by_follows is (follows.done x y) =
-                    performing.done x (subst (λ z. Front t (last z).trace) (sym is) (front_more t (last (calls L second comp (Cross to index) args h.other)).trace (last (and_then (calls L second comp (Cross to index) args h.other) (λ v. rest))).trace y (then_from (calls L second comp (Cross to index) args h.other) (λ v. rest) (λ v. rest_goes)).events))
+                    performing.done x (subst (λ z. Front t (last z).trace) (sym is) (front_more t (last (called L second comp (Cross to index) args h.other)).trace (last (and_then (called L second comp (Cross to index) args h.other) (λ v. rest))).trace y (then_from (called L second comp (Cross to index) args h.other) (λ v. rest) (λ v. rest_goes)).events))
                 by_follows is (follows.both v y y' at_y at_y' near) =
                     performing.here v y at_y (record { other = y'; near = near; is = is ∙ ap (λ z. and_then z (λ v. rest)) at_y' })
                 by_follows is (follows.stop end y at_y by) =
-                    performing.stop end y at_y (beyond_in main t S' end y left (subst (Beyond main t S' (Option Value) end y) (sym is) (beyond_then main t S' (Option Value) (Option Value) end y (calls L second comp (Cross to index) args h.other) (λ v. rest) (λ v. rest_goes) by)))
+                    performing.stop end y at_y (beyond_in main t S' end y left (subst (Beyond main t S' (Option Value) end y) (sym is) (beyond_then main t S' (Option Value) (Option Value) end y (called L second comp (Cross to index) args h.other) (λ v. rest) (λ v. rest_goes) by)))
 
-                by_tells : Tells s (Call comp to index (map word_in args)) h → Done (Option Value) (calls L a comp (Cross to index) args s)
+                by_tells : Tells s (Call comp to index (map word_in args)) h → Done (Option Value) (called L a comp (Cross to index) args s)
                 by_tells (all_told all) =
-                    performing.done (front_more t (s.trace ++ Call comp to index (map word_in args) ∷ []) (last (calls L a comp (Cross to index) args s)).trace (past s.trace (Call comp to index (map word_in args)) all) front) (whole main t S' s.trace (last left).trace all (behind s h))
+                    performing.done (front_more t (s.trace ++ Call comp to index (map word_in args) ∷ []) (last (called L a comp (Cross to index) args s)).trace (past s.trace (Call comp to index (map word_in args)) all) front) (whole main t S' s.trace (last left).trace all (behind s h))
                 by_tells (tells_it more all act) =
-                    by_follows (h.is ∙ act.is ∙ ap (λ o. and_then o (λ v. rest)) (recalled to index args h.other)) ((turned_follows comp to index args st s h.other h.near).follows along)
+                    by_follows (h.is ∙ act.is ∙ ap (λ o. and_then o (λ v. rest)) (recalled to index args h.other allowed)) ((turned_follows comp to index args st s h.other h.near).follows along)
 
         own_function_performs : (number : ℕ) (args : List Value) (f : Option Function) (s : State) → H s
             → Pieces (Option Value) (and_then (found f s) (λ f s. and_then (a number (at comp (length (s.memory comp))) (begun comp f args s)) (λ v u. Reached v (done comp f (length (s.memory comp)) u)))) (and_then (found f s) (λ f s. and_then (a number (at comp (length (s.memory comp))) (begun comp f args s)) (λ v u. Reached v (done comp f (length (s.memory comp)) u))))
@@ -542,8 +603,8 @@ module _ (L : Library) (main : ℕ) (t : List Event) (S S' : ℕ → Bool) (larg
             let start : State = begun comp f args s in
             let with_start : State = record s { memory = with_blocks comp (s.memory comp ++ blocks_for f.cells args) s.memory } in
             let h_start : H start = quiet_held with_start start refl refl refl (λ other same. same) (stands_stored main t S' st left rest rest_goes comp (s.memory comp ++ blocks_for f.cells args) s set h) in
-            let ended : State → State = λ u. record u { memory = with_blocks comp (ended_from first (u.memory comp)) u.memory } in
-            let h_done : (u : State) → H u → H (done comp f first u) = λ u at_u. quiet_held (ended u) (done comp f first u) refl refl refl (λ other same. same) (stands_stored main t S' st left rest rest_goes comp (ended_from first (u.memory comp)) u set at_u) in
+            let over_blocks : State → State = λ u. record u { memory = with_blocks comp (ended first (length f.cells) (u.memory comp)) u.memory } in
+            let h_done : (u : State) → H u → H (done comp f first u) = λ u at_u. quiet_held (over_blocks u) (done comp f first u) refl refl refl (λ other same. same) (stands_stored main t S' st left rest rest_goes comp (ended first (length f.cells) (u.memory comp)) u set at_u) in
             let o : Piece (Option Value) = a number (at comp first) start in
             let ret : Option Value → State → Piece (Option Value) = λ v u. Reached v (done comp f first u) in
             let ret_goes : (v : Option Value) → Goes (ret v) = λ v u. reached v u (done comp f first u) (done_goes comp f first u) in
@@ -552,20 +613,34 @@ module _ (L : Library) (main : ℕ) (t : List Event) (S S' : ℕ → Bool) (larg
         as_other : (o p q : Piece (Option Value)) → Pieces (Option Value) o p → Pieces (Option Value) o q
         as_other o p q h = record { performs = h.performs }
 
-        -- a call that may be made, or the end of the run
-        if_allowed : (o : Piece (Option Value)) (s : State) → H s → (allowed : Bool) → (allowed ≡ true → InLine t (last o).trace → Done (Option Value) o) → InLine t (last (if allowed then o else Stopped TurnsOut s)).trace → Done (Option Value) (if allowed then o else Stopped TurnsOut s)
-        if_allowed o s h true go along = go refl along
-        if_allowed o s h false go along = stopped (Option Value) s s refl h
+        -- a call that may not be made is blamed, and the second run, in which the compartment performs, passes that point
+        blamed_here : (s : State) → H s → Done (Option Value) (Stopped (Blamed comp BadType 0) s)
+        blamed_here s h =
+            performing.stop (Blamed comp BadType 0) s refl (record {
+              front = behind s h;
+              agreed = λ clear. absurd (both_ways (S' comp) clear set);
+              passed = λ _. subst (λ u. MovesOrReturns main t S' u left) h.near.trace (subst (MovesOrReturns main t S' h.other.trace) (sym h.is) (second_passes k comp theirs h.other set));
+            })
 
-        with_test : (target : CallTarget) (args : List Value) (s : State) → H s → (may target (length args) ≡ true → InLine t (last (called L a comp target args s)).trace → Done (Option Value) (called L a comp target args s)) → InLine t (last (calls L a comp target args s)).trace → Done (Option Value) (calls L a comp target args s)
-        with_test target args s h go along = by_test (may target (length args)) refl along where
-          by_test : (b : Bool) → may target (length args) ≡ b → InLine t (last (if b then called L a comp target args s else Stopped TurnsOut s)).trace → Done (Option Value) (if b then called L a comp target args s else Stopped TurnsOut s)
+        -- a call that may be made, or the end of the run
+        if_allowed : (o : Piece (Option Value)) (s : State) → H s → (allowed : Bool) → (allowed ≡ true → InLine t (last o).trace → Done (Option Value) o) → InLine t (last (if allowed then o else Stopped (Blamed comp BadType 0) s)).trace → Done (Option Value) (if allowed then o else Stopped (Blamed comp BadType 0) s)
+        if_allowed o s h true go along = go refl along
+        if_allowed o s h false go along = blamed_here s h
+
+        with_test : (target : CallTarget) (args : List Value) (s : State) → H s → (may target args ≡ true → InLine t (last (called L a comp target args s)).trace → Done (Option Value) (called L a comp target args s)) → InLine t (last (calls L a comp target args s)).trace → Done (Option Value) (calls L a comp target args s)
+        with_test target args s h go along = by_test (may target args) refl along where
+          by_test : (b : Bool) → may target args ≡ b → InLine t (last (if b then called L a comp target args s else Stopped (Blamed comp BadType 0) s)).trace → Done (Option Value) (if b then called L a comp target args s else Stopped (Blamed comp BadType 0) s)
           by_test b is along = if_allowed (called L a comp target args s) s h b (λ yes. go (is ∙ yes)) along
+
+        own_performs : (number : ℕ) (args : List Value) (s s' : State) → One s s' → Pieces (Option Value) (called L a comp (Own number) args s) (called L a comp (Own number) args s')
+        own_performs number args s s' one =
+            (perform_kept main t S' st left rest rest_goes).turned (Option Value) (λ _. call_own L a comp number args) (λ _. call_own L a comp number args) (λ _. own_goes L a bodies.goes comp number args) (λ _. own_goes L a bodies.goes comp number args) s s' one (λ y y' less less' now_one. as_other (call_own L a comp number args y) (call_own L a comp number args y) (call_own L a comp number args y') (own_function_performs number args (function L comp number) y now_one.stands))
 
         call_performs : (target : CallTarget) (args : List Value) (s s' : State) → One s s' → Pieces (Option Value) (calls L a comp target args s) (calls L a comp target args s')
         call_performs (Own number) args s s' one =
-            (perform_kept main t S' st left rest rest_goes).turned (Option Value) (λ _. call_own L a comp number args) (λ _. call_own L a comp number args) (λ _. own_goes L a bodies.goes comp number args) (λ _. own_goes L a bodies.goes comp number args) s s' one (λ y y' less less' now_one. as_other (call_own L a comp number args y) (call_own L a comp number args y) (call_own L a comp number args y') (own_function_performs number args (function L comp number) y now_one.stands))
-        call_performs (Cross to index) args s s' one = record { performs = λ along. cross_performs to index args s one.stands along }
+            record { performs = λ along. with_test (Own number) args s one.stands (λ allowed along. (own_performs number args s s' one).performs along) along }
+        call_performs (Cross to index) args s s' one =
+            record { performs = λ along. with_test (Cross to index) args s one.stands (λ allowed along. cross_performs to index args s one.stands allowed along) along }
         call_performs Input args s s' one =
             record { performs = λ along. with_test Input args s one.stands (λ allowed along. input_performs args s one.stands allowed along) along }
         call_performs Output args s s' one =
