@@ -14,7 +14,7 @@ use Rattle.std.proofs.lemmas.List.Elements.{All-map}
 use Rattle.sc_core.specs.declared.program.ProgramTree.{ProgramTree}
 use Rattle.sc_core.specs.declared.section.TypedSection.{TypedSection}
 use Rattle.sc_base.specs.declared.stop.Stop.{Stop}
-use Rattle.sc_core.specs.Laws.{TracesAreLegal as SourceTracesAreLegal}
+use Rattle.sc_laws.specs.Laws.{TracesAreLegal as SourceTracesAreLegal}
 use Rattle.sc_core.specs.Value.{c_arith}
 use Rattle.sc_core.specs.WellTyped.{sections_fit, main_fits, IsWellTyped}
 use Rattle.sc_report.specs.Report.{run_text}
