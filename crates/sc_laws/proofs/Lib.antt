@@ -1,5 +1,6 @@
 pub mod Below
 pub mod BelowCalls
+pub mod Blames
 pub mod Cuts
 pub mod Examples
 pub mod Expressions

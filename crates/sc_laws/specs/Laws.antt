@@ -86,3 +86,8 @@ MeaningGoesOn = (arith : Arith) (program : ProgramTree) (inputs : List ℕ) → 
 abbrev pub WrappedAgrees : Type 0
 WrappedAgrees = (program : ProgramTree) (inputs : List ℕ) (turns events : ℕ) →
     AgreesUntilBlame (meaning program inputs turns events) (wrapped program inputs turns events)
+
+-- no compartment that performs is blamed, whatever trace it performs its part of
+abbrev pub NobodyWhoPerformsIsBlamed : Type 0
+NobodyWhoPerformsIsBlamed = (arith : Arith) (program : ProgramTree) (set : Set) (trace : List Event) (inputs : List ℕ) (turns events : ℕ) →
+    (comp : ℕ) (cause : Cause) (line : ℕ) → (scripted_by arith program set trace inputs turns events).end ≡ Blamed comp cause line → set comp ≡ false

@@ -1,6 +1,6 @@
 // Laws of the meaning, each the contract of a function with nothing to do.
 
-ghost use Rattle.sc_laws.specs.Laws.{BlameIsPassed, BlameRemains, FixedPoint, ChainIsLeast, MoreGoesOn, MoreMayPerform, OnlyGoesOn, WrappingAgrees, EmptySetIsMeaning, MeaningGoesOn, TracesAreLegal, WrappedAgrees};
+ghost use Rattle.sc_laws.specs.Laws.{BlameIsPassed, BlameRemains, FixedPoint, ChainIsLeast, MoreGoesOn, MoreMayPerform, OnlyGoesOn, WrappingAgrees, EmptySetIsMeaning, MeaningGoesOn, NobodyWhoPerformsIsBlamed, TracesAreLegal, WrappedAgrees};
 
 /// Whatever a function does, events are appended to those that were told, no turn comes back, and it stops the run for
 /// a blame or for want of turns alone.
@@ -64,4 +64,9 @@ pub fn wrapped_agrees()
 /// What a run shows is allowed by the interfaces of its program, also where compartments perform.
 pub fn traces_are_legal()
     ensures { TracesAreLegal }
+{}
+
+/// No compartment that performs its part of a trace is blamed, whatever the trace is.
+pub fn nobody_who_performs_is_blamed()
+    ensures { NobodyWhoPerformsIsBlamed }
 {}
