@@ -282,17 +282,17 @@ module _ (arithmetic : Arith) (program : ProgramTree) (inputs : List ℕ) (turns
 
   is_needed : (links : List Link) (small : Set) → IsWithin small set → IsChain arithmetic program inputs turns t small links → (shown set).trace ≡ t → Includes set links
   is_needed [] small larger chain tells = tt
-  is_needed (link ∷ links) small larger chain tells = by_test (set link.comp) refl (λ has. is_needed links (with link.comp small) (with_link set small link.comp larger has) chain.2 tells) where
+  is_needed (link ∷ links) small larger chain tells = by_test (set link.comp) refl (λ has. is_needed links (with link.comp small) (with_link set small link.comp larger has) chain.1 tells) where
     by_test : (b : Bool) → set link.comp ≡ b → (set link.comp ≡ true → Includes set links) → (set link.comp ≡ true) × Includes set links
     by_test true has rest = (has, rest has)
     by_test false clear rest =
-        let equal : shown set ≡ shown small = blame_remains arithmetic program inputs turns t small set larger link.comp link.cause link.line chain.0 chain.1 clear in
-        absurd (blamed_below t (run_by (library_of arithmetic program) (scripted_step (library_of arithmetic program) (roles_in program.interfaces.main small t) (run_step (library_of arithmetic program))) (globals_of program.sections) inputs turns).shown (shown small) link.comp link.cause link.line _ refl chain.0 (ap (λ r. r.trace) (sym equal) ∙ tells))
+        let equal : shown set ≡ shown small = blame_remains arithmetic program inputs turns t small set larger link.comp link.cause link.line chain.0.blamed chain.0.front clear in
+        absurd (blamed_below t (run_by (library_of arithmetic program) (scripted_step (library_of arithmetic program) (roles_in program.interfaces.main small t) (run_step (library_of arithmetic program))) (globals_of program.sections) inputs turns).shown (shown small) link.comp link.cause link.line _ refl chain.0.blamed (ap (λ r. r.trace) (sym equal) ∙ tells))
 
   is_enough : (links : List Link) (small : Set) → IsWithin small set → IsChain arithmetic program inputs turns t small links → Includes set links → (shown set).trace ≡ t
   is_enough [] small larger chain all = more_may_perform arithmetic program inputs turns t small set larger chain
   is_enough (link ∷ links) small larger chain all =
-      is_enough links (with link.comp small) (with_link set small link.comp larger all.0) chain.2 all.1
+      is_enough links (with link.comp small) (with_link set small link.comp larger all.0) chain.1 all.1
 
 pub chain_is_least : ChainIsLeast
 chain_is_least arithmetic program inputs turns t links set chain =

@@ -1,5 +1,7 @@
 pub mod Below
 pub mod BelowCalls
+pub mod Blames
+pub mod Chaining
 pub mod Cuts
 pub mod Examples
 pub mod Expressions

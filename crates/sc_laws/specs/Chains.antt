@@ -1,5 +1,5 @@
 -- Runs in which the compartments of a set perform their parts of a trace, and the chain of sets that leads to it.
-use Rattle.std.specs.Prelude.{◌≡◌, ℕ, Bool, true, false, ◌||◌, ◌==◌, List, [], ◌∷◌, ◌++◌, length}
+use Rattle.std.specs.Prelude.{◌≡◌, ℕ, suc, ◌<◌, ◌≤◌, Bool, true, false, ◌||◌, ◌==◌, List, [], ◌∷◌, ◌++◌, length}
 use Rattle.sc_event.specs.declared.event.Event.{Event}
 use Rattle.sc_core.specs.declared.cause.Cause.{Cause}
 use Rattle.sc_core.specs.declared.program.ProgramTree.{ProgramTree}
@@ -27,22 +27,49 @@ nobody comp = false
 abbrev pub with : ℕ → Set → Set
 with more set comp = comp == more || set comp
 
--- a compartment that was blamed, and why
+-- a compartment that was blamed after so many events, and why
 pub record Link : Type 0 where
+  pub comp : ℕ
+  pub after : ℕ
+  pub cause : Cause
+  pub line : ℕ
+
+-- the run is blamed so, while it keeps to the trace
+pub record IsLink (run : SourceRun) (trace : List Event) (link : Link) : Type 0 where
+  pub blamed : run.end ≡ Blamed link.comp link.cause link.line
+  pub front : Front run.trace trace
+  pub after : length run.trace ≡ link.after
+
+-- the run is blamed on a compartment below this number that isn't of the set, while it keeps to the trace
+pub record IsBlamedOutside (count : ℕ) (set : Set) (run : SourceRun) (trace : List Event) : Type 0 where
   pub comp : ℕ
   pub cause : Cause
   pub line : ℕ
+  pub compartment : comp < count
+  pub outside : set comp ≡ false
+  pub blamed : run.end ≡ Blamed comp cause line
+  pub front : Front run.trace trace
 
 module _ (arith : Arith) (program : ProgramTree) (inputs : List ℕ) (turns : ℕ) (trace : List Event) where
   -- the run in which a set performs, stopped where it has as many events as the trace
   abbrev pub performed : Set → SourceRun
   performed set = scripted_by arith program set trace inputs turns (length trace)
 
-  -- from this set on, each next run keeps to the trace until it is blamed, and then the blamed compartment performs too; the last run tells the trace
+  -- from this set on, each next run keeps to the trace until it is blamed, and then the blamed compartment performs too;
+  -- the last run tells the trace
   abbrev pub IsChain : Set → List Link → Type 0
   IsChain set [] = (performed set).trace ≡ trace
-  IsChain set (link ∷ links) =
-      ((performed set).end ≡ Blamed link.comp link.cause link.line) × Front (performed set).trace trace × IsChain (with link.comp set) links
+  IsChain set (link ∷ links) = IsLink (performed set) trace link × IsChain (with link.comp set) links
+
+-- the blames come after ever more events, at least so many before the first, and after fewer than this
+abbrev pub IsRising : (least count : ℕ) → List Link → Type 0
+IsRising least count [] = Unit {0}
+IsRising least count (link ∷ links) = (least ≤ link.after) × (link.after < count) × IsRising (suc link.after) count links
+
+-- no compartment is of the set, and none is blamed twice
+abbrev pub AreFresh : Set → List Link → Type 0
+AreFresh set [] = Unit {0}
+AreFresh set (link ∷ links) = (set link.comp ≡ false) × AreFresh (with link.comp set) links
 
 -- all blamed compartments are in the set
 abbrev pub Includes : Set → List Link → Type 0

@@ -1,5 +1,5 @@
 -- Laws of the meaning.
-use Rattle.std.specs.Prelude.{◌≡◌, ℕ, ◌<◌, true, false, List}
+use Rattle.std.specs.Prelude.{◌≡◌, ◌⊎◌, ℕ, ◌<◌, ◌≤◌, true, false, List, length}
 use Rattle.sc_event.specs.declared.event.Event.{Event}
 use Rattle.sc_core.specs.declared.cause.Cause.{Cause}
 use Rattle.sc_core.specs.declared.program.ProgramTree.{ProgramTree}
@@ -10,7 +10,7 @@ use Rattle.sc_core.specs.Calls.{Step, run_step, within}
 use Rattle.sc_core.specs.Scripts.{Roles, scripted_step}
 use Rattle.sc_core.specs.Meaning.{library_of, meaning_by, meaning, wrapped, scripted_by, scripted_meaning, scripted_wrapped}
 use Rattle.sc_event.specs.Legal.{legal}
-use Rattle.sc_laws.specs.Chains.{Set, IsWithin, nobody, Link, performed, IsChain, Includes, PassesBlame}
+use Rattle.sc_laws.specs.Chains.{Set, IsWithin, nobody, Link, IsBlamedOutside, performed, IsChain, IsRising, AreFresh, Includes, PassesBlame}
 use Rattle.sc_core.specs.Growth.{Front}
 use Rattle.sc_laws.specs.Growth.{Gone}
 use Rattle.sc_laws.specs.Steady.{now, ExtendedByMore, AgreesUntilBlame}
@@ -86,3 +86,20 @@ MeaningGoesOn = (arith : Arith) (program : ProgramTree) (inputs : List ℕ) → 
 abbrev pub WrappedAgrees : Type 0
 WrappedAgrees = (program : ProgramTree) (inputs : List ℕ) (turns events : ℕ) →
     AgreesUntilBlame (meaning program inputs turns events) (wrapped program inputs turns events)
+
+-- no compartment that performs is blamed, whatever trace it performs its part of
+abbrev pub NobodyWhoPerformsIsBlamed : Type 0
+NobodyWhoPerformsIsBlamed = (arith : Arith) (program : ProgramTree) (set : Set) (trace : List Event) (inputs : List ℕ) (turns events : ℕ) →
+    (comp : ℕ) (cause : Cause) (line : ℕ) → (scripted_by arith program set trace inputs turns events).end ≡ Blamed comp cause line → set comp ≡ false
+
+-- the links of a chain come after ever more events of the trace, all before its end, and their compartments differ
+abbrev pub ChainsRise : Type 0
+ChainsRise = (arith : Arith) (program : ProgramTree) (inputs : List ℕ) (turns : ℕ) (trace : List Event) (links : List Link) →
+    IsChain arith program inputs turns trace nobody links → IsRising 0 (length trace) links × AreFresh nobody links
+
+-- where every set tells the trace or is blamed outside of itself, there is a chain, of at most as many links as compartments
+abbrev pub ChainExists : Type 0
+ChainExists = (arith : Arith) (program : ProgramTree) (inputs : List ℕ) (turns count : ℕ) (trace : List Event) →
+    ((set : Set) → ((performed arith program inputs turns trace set).trace ≡ trace)
+    ⊎ IsBlamedOutside count set (performed arith program inputs turns trace set) trace) →
+    (links : List Link) × IsChain arith program inputs turns trace nobody links × (length links ≤ count)

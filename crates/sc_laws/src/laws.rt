@@ -1,6 +1,6 @@
 // Laws of the meaning, each the contract of a function with nothing to do.
 
-ghost use Rattle.sc_laws.specs.Laws.{BlameIsPassed, BlameRemains, FixedPoint, ChainIsLeast, MoreGoesOn, MoreMayPerform, OnlyGoesOn, WrappingAgrees, EmptySetIsMeaning, MeaningGoesOn, TracesAreLegal, WrappedAgrees};
+ghost use Rattle.sc_laws.specs.Laws.{ChainExists, ChainsRise, BlameIsPassed, BlameRemains, FixedPoint, ChainIsLeast, MoreGoesOn, MoreMayPerform, OnlyGoesOn, WrappingAgrees, EmptySetIsMeaning, MeaningGoesOn, NobodyWhoPerformsIsBlamed, TracesAreLegal, WrappedAgrees};
 
 /// Whatever a function does, events are appended to those that were told, no turn comes back, and it stops the run for
 /// a blame or for want of turns alone.
@@ -64,4 +64,20 @@ pub fn wrapped_agrees()
 /// What a run shows is allowed by the interfaces of its program, also where compartments perform.
 pub fn traces_are_legal()
     ensures { TracesAreLegal }
+{}
+
+/// No compartment that performs its part of a trace is blamed, whatever the trace is.
+pub fn nobody_who_performs_is_blamed()
+    ensures { NobodyWhoPerformsIsBlamed }
+{}
+
+/// The blames of a chain come after ever more events of the trace, all before its end, and their compartments differ.
+pub fn chains_rise()
+    ensures { ChainsRise }
+{}
+
+/// Where every set tells the trace or is blamed outside of itself along it, there is a chain, of at most as many links as
+/// there are compartments.
+pub fn chain_exists()
+    ensures { ChainExists }
 {}

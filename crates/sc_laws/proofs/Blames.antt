@@ -1,0 +1,139 @@
+-- No compartment that performs is blamed, whatever the trace is.
+use Rattle.std.proofs.Common.{◌≡◌, refl, sym, ap, ◌∙◌, subst, ℕ, zero, suc, Bool, true, false, if◌then◌else◌, List, [], ◌∷◌, map, length, Option, None, Some}
+use Rattle.std.specs.Prelude.{nat_lt, nat_le, take}
+use Rattle.sc_event.specs.declared.event.Event.{Event}
+use Rattle.sc_event.specs.declared.row.Row.{Row}
+use Rattle.sc_event.specs.declared.row.Action.{Action}
+use Rattle.sc_event.specs.declared.row.Action.TheVariants as act
+use Rattle.sc_event.specs.declared.row.Entry.TheVariants.{Main, Export}
+use Rattle.sc_event.specs.declared.event.Event.TheVariants.{Call}
+use Rattle.sc_core.specs.declared.cause.Cause.{Cause}
+use Rattle.sc_core.specs.declared.cause.Cause.TheVariants.{BadType}
+use Rattle.sc_core.specs.declared.expr.CallTarget.{CallTarget}
+use Rattle.sc_core.specs.declared.expr.CallTarget.TheVariants.{Own, Cross, Input, Output}
+use Rattle.sc_core.specs.declared.run.RunEnd.{RunEnd}
+use Rattle.sc_core.specs.declared.run.RunEnd.TheVariants.{Ended, Blamed, TurnsOut, EventsOut}
+use Rattle.sc_core.specs.declared.run.SourceRun.{SourceRun}
+use Rattle.sc_core.specs.declared.program.ProgramTree.{ProgramTree}
+use Rattle.sc_core.specs.declared.value.Value.{Value}
+use Rattle.sc_core.specs.declared.value.Value.TheVariants.{Word}
+use Rattle.sc_core.specs.Memory.{Memory}
+use Rattle.sc_core.specs.Run.{reaches, stopped_at}
+use Rattle.sc_core.specs.Words.{State, Here, Piece, Reached, Stopped, and_then, turn, turn_of, tell}
+use Rattle.sc_core.specs.Calls.{Library, Body, Step, function, begun, done, found, word_in, crossed, may_call, back_own, back_cross, run_in, call_own, call_cross, called, calls, run_step, within}
+use Rattle.sc_core.specs.Scripts.{Roles, roles_in, rows_left, is_number, asks, acts, performs, scripted_step}
+use Rattle.sc_core.specs.Meaning.{library_of, globals_of, first_state, run_to, run_by}
+use Rattle.sc_laws.specs.Chains.{Set}
+use Rattle.sc_laws.specs.Laws.{NobodyWhoPerformsIsBlamed}
+use Rattle.sc_laws.proofs.Keeping.{Property, Kept, IsKept, then_kept, found_kept, AreOpen}
+use Rattle.sc_laws.proofs.Opening.{library_is_open}
+
+module _ (set : Set) where
+  -- an end that blames nobody of the set
+  abbrev Spares : RunEnd → Type 0
+  Spares Ended = Unit {0}
+  Spares (Blamed comp cause line) = set comp ≡ false
+  Spares TurnsOut = Unit {0}
+  Spares EventsOut = Unit {0}
+
+  abbrev sparing : Property
+  sparing = record { Goes = λ s. Unit {0}; Ends = λ end s. Spares end }
+
+  abbrev BodySpares : Body → Type 0
+  BodySpares body = (number : ℕ) (here : Here) (s : State) → Kept sparing (body number here s)
+
+  turned : (n : ℕ) (s : State) → Kept sparing (turn_of n s)
+  turned zero s = record { after = tt }
+  turned (suc n) s = record { after = tt }
+
+  is_kept : (here : Here) → set here.comp ≡ false → IsKept sparing here
+  is_kept here clear =
+      record { memory = λ s blocks h. tt; turned = λ s h. turned s.turns s; blamed = λ s cause line h. clear; out = λ s h. tt }
+
+  module _ (library : Library) (body : Body) (spares : BodySpares body) where
+    run_spares : (comp number : ℕ) (args : List Value) (back : Option Value → State → Piece (Option Value)) → ((v : Option Value) (s : State) → Kept sparing (back v s)) → (s : State) → Kept sparing (run_in library body comp number args back s)
+    run_spares comp number args back b s =
+        found_kept sparing (function library comp number) s _ tt (λ f is.
+        then_kept sparing (body number (record { comp = comp; first = length (s.memory comp) }) (begun comp f args s)) _
+        (spares number (record { comp = comp; first = length (s.memory comp) }) (begun comp f args s)) (λ v t h. b v (done comp f (length (s.memory comp)) t)))
+
+    cross_spares : (from to index : ℕ) (args : List Value) (s : State) → Kept sparing (call_cross library body from to index args s)
+    cross_spares from to index args s =
+        found_kept sparing (library.entered to (Export index)) s _ tt (λ number is.
+        run_spares to number (crossed args) (back_cross library.interfaces from to index) (λ v s. record { after = tt }) (tell (Call from to index (map word_in args)) s))
+
+    called_spares : (from : ℕ) (target : CallTarget) (args : List Value) (s : State) → Kept sparing (called library body from target args s)
+    called_spares from (Own number) args s =
+        then_kept sparing (turn s) (λ _ s. call_own library body from number args s) (turned s.turns s) (λ _ s h. run_spares from number args back_own (λ v s. record { after = tt }) s)
+    called_spares from (Cross to index) args s =
+        then_kept sparing (turn s) (λ _ s. call_cross library body from to index args s) (turned s.turns s) (λ _ s h. cross_spares from to index args s)
+    called_spares from Input args s = record { after = tt }
+    called_spares from Output args s = record { after = tt }
+
+    calls_spare : (from : ℕ) → set from ≡ false → (target : CallTarget) (args : List Value) (s : State) → Kept sparing (calls library body from target args s)
+    calls_spare from clear target args s = by (may_call library from target args) where
+      by : (b : Bool) → Kept sparing (if b then called library body from target args s else Stopped (Blamed from BadType 0) s)
+      by true = called_spares from target args s
+      by false = record { after = clear }
+
+    asks_spare : (comp : ℕ) (target : CallTarget) (args : List Value) (s : State) → Kept sparing (asks library body comp target args s)
+    asks_spare comp target args s = by (may_call library comp target args) where
+      by : (b : Bool) → Kept sparing (if b then (if b then called library body comp target args s else Stopped (Blamed comp BadType 0) s) else Stopped TurnsOut s)
+      by true = called_spares comp target args s
+      by false = record { after = tt }
+
+    run_step_spares : AreOpen library → (number : ℕ) (here : Here) (s : State) → set here.comp ≡ false → Kept sparing (run_step library body number here s)
+    run_step_spares are number here s clear =
+        found_kept sparing (function library here.comp number) s (λ f s. f.does (calls library body) here s) tt (λ f is.
+        (are.function_keeps here.comp number f is).keeps sparing here (is_kept here clear) (calls library body) (λ target args s h. calls_spare here.comp clear target args s) s tt)
+
+    acts_spare : (action : Action) (next again : State → Piece (Option Value)) → ((s : State) → Kept sparing (next s)) → ((s : State) → Kept sparing (again s)) → (comp : ℕ) (s : State) → Kept sparing (acts library body action next again comp s)
+    acts_spare (act.Call to index args) next again n a comp s =
+        then_kept sparing (asks library body comp (Cross to index) (map (λ w. Word w) args) s) _ (asks_spare comp (Cross to index) (map (λ w. Word w) args) s) (λ v s h. a s)
+    acts_spare (act.Ret v) next again n a comp s = record { after = tt }
+    acts_spare (act.Out w) next again n a comp s =
+        then_kept sparing (asks library body comp Output (Word w ∷ []) s) _ (asks_spare comp Output (Word w ∷ []) s) (λ v s h. n s)
+    acts_spare (act.In w) next again n a comp s =
+        then_kept sparing (asks library body comp Input [] s) _ (asks_spare comp Input [] s) (λ v s h. n s)
+    acts_spare (act.End w) next again n a comp s = record { after = tt }
+
+    performs_spare : (rows : List Row) → BodySpares (performs library body rows)
+    performs_spare [] number here s = record { after = tt }
+    performs_spare (row ∷ rest) number here s = by (performs_spare rest number here) (is_number number (library.entered here.comp row.entry)) where
+      by : ((s : State) → Kept sparing (performs library body rest number here s)) → (b : Bool) → Kept sparing (if b then acts library body row.action (performs library body rest number here) (body number here) here.comp s else Stopped TurnsOut s)
+      by next true = acts_spare row.action (performs library body rest number here) (body number here) next (spares number here) here.comp s
+      by next false = record { after = tt }
+
+  module _ (library : Library) (are : AreOpen library) (rows : ℕ → List Row) where
+    abbrev roles : Roles
+    roles = record { scripted = set; rows = rows }
+
+    step_spares : (body : Body) → BodySpares body → BodySpares (scripted_step library roles (run_step library) body)
+    step_spares body spares number here s = by (set here.comp) refl where
+      by : (b : Bool) → set here.comp ≡ b → Kept sparing (if b then performs library body (rows_left roles here.comp s.trace) number here s else run_step library body number here s)
+      by true is = performs_spare library body spares (rows_left roles here.comp s.trace) number here s
+      by false is = run_step_spares library body spares are number here s is
+
+    within_spares : (n : ℕ) → BodySpares (within (scripted_step library roles (run_step library)) n)
+    within_spares zero number here s = record { after = tt }
+    within_spares (suc n) number here s = step_spares (within (scripted_step library roles (run_step library)) n) (within_spares n) number here s
+
+    run_to_spares : (main : ℕ) (piece : Piece (Option Value)) → Kept sparing piece → Spares (run_to main piece).shown.end
+    run_to_spares main (Reached v s) h = tt
+    run_to_spares main (Stopped end s) h = h.after
+
+    run_by_spares : (globals : Memory) (inputs : List ℕ) (turns : ℕ) → Spares (run_by library (scripted_step library roles (run_step library)) globals inputs turns).shown.end
+    run_by_spares globals inputs turns =
+        run_to_spares library.interfaces.main _ (found_kept sparing (library.entered library.interfaces.main Main) (first_state globals inputs turns) _ tt (λ number is.
+        run_spares library (within (scripted_step library roles (run_step library)) (suc turns)) (within_spares (suc turns)) library.interfaces.main number [] back_own (λ v s. record { after = tt }) (first_state globals inputs turns)))
+
+  stopped_spares : (events : ℕ) (run : SourceRun) → Spares run.end → Spares (stopped_at events run).end
+  stopped_spares events run h = by (reaches events run run.end) where
+    by : (b : Bool) → Spares (if b then record { trace = take events run.trace; end = EventsOut } else run).end
+    by true = tt
+    by false = h
+
+pub nobody_who_performs_is_blamed : NobodyWhoPerformsIsBlamed
+nobody_who_performs_is_blamed arith program set trace inputs turns events comp cause line ends =
+    subst (Spares set) ends (stopped_spares set events (run_by (library_of arith program) (scripted_step (library_of arith program) (roles_in program.interfaces.main set trace) (run_step (library_of arith program))) (globals_of program.sections) inputs turns).shown
+    (run_by_spares set (library_of arith program) (library_is_open arith program) (roles_in program.interfaces.main set trace).rows (globals_of program.sections) inputs turns))

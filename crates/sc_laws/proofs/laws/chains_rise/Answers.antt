@@ -1,0 +1,5 @@
+use Rattle.sc_laws.proofs.Chaining.{chains_rise}
+use Rattle.sc_laws.proofs.laws.chains_rise.Goals as goal
+
+pub returns : goal.returns
+returns c = chains_rise
