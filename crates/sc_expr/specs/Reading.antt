@@ -1,4 +1,4 @@
--- Reading an expression from the front of a list, with so many brackets and levels of height left.
+-- Helping: reading an expression from the front of a list, with so many brackets and levels of height left.
 use Rattle.std.specs.Prelude.{ℕ, zero, suc, ◌+◌, ◌-◌, max, nat_le, List, [], ◌∷◌, Option, Some, None, if◌then◌else◌}
 use Rattle.std.specs.Option.{option_map}
 use Rattle.sc_ast.specs.declared.expr.ExprTree.{ExprTree}

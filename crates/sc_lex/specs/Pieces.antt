@@ -1,4 +1,4 @@
--- Gaps and tokens under one name, as the loop over the bytes sees them.
+-- Helping: gaps and tokens under one name, as the loop over the bytes sees them.
 use Rattle.std.specs.Prelude.{ℕ, ◌+◌, Bool, List, [], ◌∷◌}
 use Rattle.sc_lex.specs.Cutting.{IsGap, IsToken}
 use Rattle.sc_lex.specs.declared.token.Token.{Token}

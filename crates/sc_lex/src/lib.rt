@@ -17,9 +17,7 @@ pub use cut::{Tokens, one_cut, one_refusal, slices_in_order, tokens};
 pub use fault::TextFault;
 
 // The faults of each part of reading.
-pub use fault::TextFault as LexFault;
-pub use fault::TextFault as SplitFault;
-
+pub use fault::{TextFault as LexFault, TextFault as SplitFault};
 pub use heading::heading_name;
 pub use integer::{IntegerConstant, integer_of};
 pub use kind::{FirstWords, first_words};

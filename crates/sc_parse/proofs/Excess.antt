@@ -3,7 +3,7 @@ use Rattle.std.proofs.Common.{◌≡◌, ℕ, ◌+◌, ◌≤◌, ◌<◌, max, 
 use Rattle.std.proofs.lemmas.List.{take_more}
 use Rattle.sc_expr.specs.declared.lexeme.Lexeme.{Lexeme}
 use Rattle.sc_expr.specs.Brackets.{open_after, most_open}
-use Rattle.sc_parse.specs.Limits.{IsExcess}
+use Rattle.sc_parse.specs.Outcomes.{IsExcess}
 
 -- how many brackets are open behind lexemes
 abbrev open_along : ℕ → List Lexeme → ℕ

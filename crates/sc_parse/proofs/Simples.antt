@@ -160,7 +160,6 @@ place_begins (prefix {e = e} t m o p q d) rest h = rw p (no_value m o e q h)
 place_begins (joined {e = e} {f = f} t m op p q k d g) rest h = absurd (false-true (sym (binary_no_place op e f) ∙ h))
 place_begins (looser d) rest h = place_begins d rest h
 
-
 place_reads : (free : ℕ) → (room : ℕ) {ts : List Lexeme} {place : ExprTree} (d : SpellsPlace ts place) (rest : List Lexeme) → expr_height place ≤ room → Few free ts → NoExtension rest → place_at free room (ts ++ rest) ≡ Some (placed place (expr_height place), rest)
 unfolding place_at
 place_reads free room d rest low few ends = rw (place_begins d.0 rest d.1, unary_reads free d.0 room rest low few ends, d.1)

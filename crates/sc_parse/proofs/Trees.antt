@@ -15,7 +15,8 @@ use Rattle.sc_expr.proofs.Options.{same_some, cond_is}
 use Rattle.sc_lex.specs.declared.fault.TextFault.{TextFault}
 use Rattle.sc_lex.specs.declared.fault.TextFault.TheVariants as fault
 use Rattle.sc_parse.specs.SectionReaders.{section_at}
-use Rattle.sc_parse.specs.Limits.{IsExcess, tree_of, IsParsed, lexemes_of, whole_line, Parses}
+use Rattle.sc_parse.specs.Limits.{IsParsed, lexemes_of, whole_line}
+use Rattle.sc_parse.specs.Outcomes.{IsExcess, tree_of, Parses}
 use Rattle.sc_parse.proofs.Sections.{section_sound, section_complete}
 
 fewer : (n k : ℕ) (ts : List Lexeme) → most_open n (take k ts) ≤ most_open n ts

@@ -1,4 +1,4 @@
--- What stands at the front of a list of lexemes.
+-- Helping: what stands at the front of a list of lexemes.
 use Rattle.std.specs.Prelude.{ℕ, Bool, true, false, ◌&&◌, List, [], ◌∷◌, Option, Some, None, is_some, drop, if◌then◌else◌}
 use Rattle.std.specs.List.{prefix_len}
 use Rattle.sc_ast.specs.Numbers.{Number}

@@ -8,3 +8,4 @@ pub mod Readers
 pub mod StmtReaders
 pub mod SectionReaders
 pub mod Limits
+pub mod Outcomes

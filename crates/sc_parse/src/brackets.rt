@@ -2,7 +2,7 @@
 
 ghost use Rattle.std.specs.Prelude.{◌≡◌, ◌<◌, ◌≤◌, IfSome, IfNone, length};
 ghost use Rattle.sc_expr.specs.Brackets.{open_behind, open_after, most_open};
-ghost use Rattle.sc_parse.specs.Limits.{IsExcess};
+ghost use Rattle.sc_parse.specs.Outcomes.{IsExcess};
 
 use sc_base::MAX_BRACKETS;
 use sc_expr::{Lexeme, Mark, Symbol};

@@ -92,11 +92,7 @@ pub fn take(mark: Mark, rest: &mut &[Lexeme]) -> Result<(), SyntaxFault>
 }
 
 /// A value that was read, where this mark stands behind it, past which it goes.
-pub fn ended_by<T: Drop>(
-    mark: Mark,
-    value: T,
-    rest: &mut &[Lexeme],
-) -> Result<T, SyntaxFault>
+pub fn ended_by<T: Drop>(mark: Mark, value: T, rest: &mut &[Lexeme]) -> Result<T, SyntaxFault>
     ensures { Agrees (λ x. (x, rest.new.now)) result (ended_by mark value rest.old.now) }
 {
     take(mark, rest)?;

@@ -6,7 +6,8 @@ ghost use Rattle.sc_lex.specs.Lines.{line_after};
 ghost use Rattle.sc_lex.specs.declared.refusal.Refusal.{Refusal};
 ghost use Rattle.sc_lex.specs.declared.refusal.Phase.TheVariants.{Syntax};
 ghost use Rattle.sc_ast.specs.declared.section.SectionTree.{SectionTree};
-ghost use Rattle.sc_parse.specs.Limits.{IsParsed, Parses, lexemes_of, whole_line};
+ghost use Rattle.sc_parse.specs.Limits.{IsParsed, lexemes_of, whole_line};
+ghost use Rattle.sc_parse.specs.Outcomes.{Parses};
 
 use crate::brackets::first_excess;
 use crate::section::section_at;

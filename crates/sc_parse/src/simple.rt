@@ -113,7 +113,10 @@ fn step_at(rest: &[Lexeme]) -> Option<BinaryOp>
 fn makes_value(mark: Mark) -> bool
     ensures { result ≡ makes_value mark }
 {
-    matches!(mark, Mark::Minus | Mark::Plus | Mark::Not | Mark::Tilde | Mark::And)
+    matches!(
+        mark,
+        Mark::Minus | Mark::Plus | Mark::Not | Mark::Tilde | Mark::And
+    )
 }
 
 fn begins_value(rest: &[Lexeme]) -> bool

@@ -8,7 +8,9 @@ ghost use Rattle.sc_parse.specs.Readers.{adds};
 ghost use Rattle.sc_parse.specs.StmtReaders.{value_returned, returned, simple_or_none, plain_at, ended_at, first_part, middle_part, last_part, for_head, loop_of, stmts_at, block_at, alone, else_behind, else_at, if_behind, while_behind, for_behind, kind_by, stmt_within, stmt_at};
 
 use crate::calls::{call_at, condition_at, expr_at};
-use crate::front::{begins_call, begins_with, ended_by, first_line, is_else, keyword_at, past, take};
+use crate::front::{
+    begins_call, begins_with, ended_by, first_line, is_else, keyword_at, past, take,
+};
 use crate::simple::{part_at, simple_at, test_at};
 use sc_ast::{ExprTree, SimpleKind, SimpleTree, StmtKind, StmtTree, Stmts};
 use sc_expr::{Keyword, Lexeme, Mark, SyntaxFault, refused};

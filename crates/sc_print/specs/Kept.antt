@@ -1,4 +1,5 @@
--- What the leaves of every tree of the program keep: names are identifiers and no reserved words, and literals fit their type.
+-- Helping: what the leaves of every tree of the program keep: names are identifiers and no reserved words, and literals
+-- fit their type.
 use Rattle.std.specs.Prelude.{Bool, ◌&&◌}
 use Rattle.sc_ast.specs.Identifiers.{is_ident}
 use Rattle.sc_ast.specs.Numbers.{fits}

@@ -1,4 +1,4 @@
--- What the leaves of declarations keep.
+-- Helping: what the leaves of declarations keep.
 use Rattle.std.specs.Prelude.{ℕ, Bool, true, false, ◌&&◌, nat_le, List, [], ◌∷◌, Option, Some, None}
 use Rattle.std.specs.List.{list_all}
 use Rattle.sc_ast.specs.Identifiers.{is_ident}

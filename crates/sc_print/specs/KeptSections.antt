@@ -1,4 +1,4 @@
--- What the names of sections keep.
+-- Helping: what the names of sections keep.
 use Rattle.std.specs.Prelude.{Bool, ◌&&◌}
 use Rattle.std.specs.List.{list_all}
 use Rattle.sc_base.specs.Identifier.{is_name}

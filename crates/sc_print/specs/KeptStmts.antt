@@ -1,4 +1,4 @@
--- What the leaves of statements keep.
+-- Helping: what the leaves of statements keep.
 use Rattle.std.specs.Prelude.{Bool, true, ◌&&◌, List, map, Option, Some, None}
 use Rattle.std.specs.List.{list_all}
 use Rattle.sc_ast.specs.Identifiers.{is_ident}

@@ -17,7 +17,8 @@ use Rattle.sc_lex.specs.declared.refusal.Phase.TheVariants as phase
 use Rattle.sc_ast.specs.declared.section.SectionTree.{SectionTree}
 use Rattle.sc_expr.specs.declared.lexeme.Lexeme.{Lexeme}
 use Rattle.sc_lex.specs.declared.fault.TextFault.TheVariants as fault
-use Rattle.sc_parse.specs.Limits.{tree_of, IsParsed, lexemes_of}
+use Rattle.sc_parse.specs.Limits.{IsParsed, lexemes_of}
+use Rattle.sc_parse.specs.Outcomes.{tree_of}
 use Rattle.sc_parse.proofs.Trees.{parsed, unparsed}
 use Rattle.sc_read.specs.First.{First, here, later}
 use Rattle.sc_read.specs.Reading.{Part, part_of, parts_of, HasTokens, PassesLex, IsRead, Reads, IsUncut, FailsLex, bad_heading, uncut, HasTree, IsUnread, FailsSyntax, in_preamble, in_section, Fails}

@@ -1,4 +1,4 @@
--- What the functions over the sections of a text find.
+-- Helping: what the functions over the sections of a text find.
 use Rattle.std.specs.Prelude.{◌≡◌, ℕ, ◌-◌, ◌<◌, List, length, Any}
 use Rattle.std.specs.List.{AllZip}
 use Rattle.sc_lex.specs.Lines.{line_after}

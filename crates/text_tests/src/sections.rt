@@ -1,5 +1,5 @@
 // Texts and their sections.
-use sc_lex::{Phase, Refusal, TextFault, sections};
+use sc_lex::{Phase, Refusal, SplitFault, sections};
 use std::test::Fail;
 
 // A text, and the starts and lines of its sections.
@@ -58,6 +58,6 @@ fn refuses_bad_compartment_lines(rt: HostRuntime) {
     for (text, line) in REFUSED {
         let fault = sections(rt.alloc(), text).err();
         let phase = Phase::Lex;
-        assert_eq!(rt; fault, Some(TextFault::Refused(Refusal { phase, line })));
+        assert_eq!(rt; fault, Some(SplitFault::Refused(Refusal { phase, line })));
     }
 }

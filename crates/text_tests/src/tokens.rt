@@ -1,5 +1,5 @@
 // Bytes and their tokens.
-use sc_lex::{Phase, Refusal, TextFault, TokenKind, tokens};
+use sc_lex::{LexFault, Phase, Refusal, TokenKind, tokens};
 use std::test::Fail;
 
 // Some bytes, the kinds and lines of their tokens, and the texts of these, each with a "`" behind it.
@@ -141,6 +141,6 @@ fn refuses_bytes(rt: HostRuntime) {
     for (bytes, first_line, line) in REFUSED {
         let fault = tokens(rt.alloc(), bytes, first_line).err();
         let phase = Phase::Lex;
-        assert_eq!(rt; fault, Some(TextFault::Refused(Refusal { phase, line })));
+        assert_eq!(rt; fault, Some(LexFault::Refused(Refusal { phase, line })));
     }
 }
