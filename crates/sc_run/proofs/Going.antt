@@ -10,19 +10,19 @@ use Rattle.sc_core.specs.declared.expr.CallTarget.TheVariants.{Own, Cross, Input
 use Rattle.sc_core.specs.declared.run.RunEnd.{RunEnd}
 use Rattle.sc_core.specs.declared.run.RunEnd.TheVariants.{Ended, Blamed, TurnsOut, EventsOut}
 use Rattle.sc_core.specs.declared.value.Value.{Value}
-use Rattle.sc_core.specs.Growth.{Grown}
+use Rattle.sc_core.specs.Growth.{Front}
 use Rattle.sc_core.specs.Words.{State, Here, Piece, Stopped, and_then, turn, turn_of, tell, Calls}
 use Rattle.sc_core.specs.Calls.{Function, Library, Body, function, begun, done, found, word_in, crossed, may_call, back_own, back_cross, run_in, call_own, call_cross, called, calls, run_step, within}
 use Rattle.sc_run.proofs.Keeping.{Property, Kept, IsKept, then_kept, CallsKeep}
 
-grown_trans : {t u w : List Event} → Grown t u → Grown u w → Grown t w
+grown_trans : {t u w : List Event} → Front t u → Front u w → Front t w
 grown_trans {t} {u} {w} a b =
     record { more = a.more ++ b.more; is = b.is ∙ ap (λ x. x ++ b.more) a.is ∙ append_assoc t a.more b.more }
 
-pub grown_refl : (t : List Event) → Grown t t
+pub grown_refl : (t : List Event) → Front t t
 grown_refl t = record { more = []; is = sym (append-nil t) }
 
-pub grown_tell : {t : List Event} (u : List Event) (e : Event) → Grown t u → Grown t (u ++ e ∷ [])
+pub grown_tell : {t : List Event} (u : List Event) (e : Event) → Front t u → Front t (u ++ e ∷ [])
 grown_tell u e h = grown_trans h (record { more = e ∷ []; is = refl })
 
 -- how a piece of a run can stop: `Ended` is told of a whole run alone, and `EventsOut` of one that is stopped
@@ -34,11 +34,11 @@ IsHalt EventsOut = ⊥
 
 -- the trace begins with this one, and no more than n turns are left
 pub record IsAfter (t : List Event) (n : ℕ) (s : State) : Type 0 where
-  pub grown : Grown t s.trace
+  pub grown : Front t s.trace
   pub few : s.turns ≤ n
 
 abbrev pub going : List Event → ℕ → Property
-going t n = record { Goes = λ s. IsAfter t n s; Ends = λ end s. Grown t s.trace × IsHalt end }
+going t n = record { Goes = λ s. IsAfter t n s; Ends = λ end s. Front t s.trace × IsHalt end }
 
 pub after_tell : {t : List Event} {n : ℕ} (event : Event) (s : State) → IsAfter t n s → IsAfter t n (tell event s)
 after_tell event s h = record { grown = grown_tell s.trace event h.grown; few = h.few }

@@ -2,6 +2,7 @@
 use Rattle.std.proofs.Common.{◌≡◌, refl, sym, ap, ◌∙◌, subst, ℕ, suc, ◌≤◌, ◌<◌, ◌++◌, if◌then◌else◌, List, [], ◌∷◌, length, take, reverse, Option, None, Some, length-append, arith}
 use Rattle.std.specs.Prelude.{is_some, bytes_eq, ◌==◌, ◌&&◌}
 use Rattle.std.specs.Option.{option_copied}
+use Rattle.std.proofs.lemmas.List.{take-append-le}
 use Rattle.std.proofs.lemmas.Bool.{le-leb, lt-ltb}
 use Rattle.sc_event.specs.declared.event.Event.{Event}
 use Rattle.sc_event.specs.declared.event.Event.TheVariants.{End}
@@ -11,7 +12,7 @@ use Rattle.sc_core.specs.declared.run.RunEnd.TheVariants.{Ended, Blamed, TurnsOu
 use Rattle.sc_core.specs.declared.run.SourceRun.{SourceRun}
 use Rattle.sc_core.specs.declared.stmt.TypedStmt.{TypedStmt}
 use Rattle.sc_core.specs.declared.value.Value.{Value}
-use Rattle.sc_core.specs.Growth.{Grown}
+use Rattle.sc_core.specs.Growth.{Front}
 use Rattle.sc_core.specs.Run.{stopped_at}
 use Rattle.sc_core.specs.Value.{c_arith}
 use Rattle.sc_core.specs.Words.{State, Piece, Reached, Stopped, and_then, Left, in_order, in_loop, follow}
@@ -20,7 +21,6 @@ use Rattle.sc_core.specs.Meaning.{main_name, run_to, exit_word}
 use Rattle.sc_run.proofs.Keeping.{Kept, then_kept, DoesKeep, CallsKeep, follow_kept, loop_kept, test_kept, block_kept, part_kept, closed_kept, store_result_kept}
 use Rattle.sc_run.proofs.Going.{going, is_going, IsHalt, IsAfter, grown_refl, grown_tell, after_tell}
 use Rattle.sc_run.proofs.Looping.{calls_keep}
-use Rattle.sc_core.proofs.Cuts.{take_front}
 use Rattle.sc_value.specs.Where.{here_of}
 use Rattle.sc_run.specs.declared.work.Frame.{Frame}
 use Rattle.sc_run.specs.declared.work.Loop.{Loop}
@@ -33,9 +33,13 @@ use Rattle.sc_run.specs.declared.work.Now.TheVariants.{Run as Run', Leave}
 use Rattle.sc_run.specs.Seen.{Seen}
 use Rattle.sc_run.specs.Resume.{way_in, calls_in, block_acts, next_acts, loop_acts, closes, function_in, returned, back_to, result_goes, resume, does_now, Standing}
 
+-- two traces have the same front, as long as the shorter one goes
+take_front : (n : ℕ) (t u : List Event) → n ≤ length t → Front t u → take n u ≡ take n t
+take_front n t u few g = ap (take n) g.is ∙ take-append-le n t g.more few
+
 -- the run has at least these events, and one more where it ends by itself
 pub record Onward (t : List Event) (run : SourceRun) : Type 0 where
-  pub grown : Grown t run.trace
+  pub grown : Front t run.trace
   pub ended : run.end ≡ Ended → suc (length t) ≤ length run.trace
 
 module _ (program : ProgramTree) (t : List Event) (n0 : ℕ) where
@@ -71,7 +75,7 @@ module _ (program : ProgramTree) (t : List Event) (n0 : ℕ) where
   run_goes : (p : Piece (Option Value)) → Kept (going t n0) p → Onward t (run_to program.interfaces.main p).shown
   run_goes (Reached v s) h =
       record { grown = grown_tell s.trace (End program.interfaces.main (exit_word v)) h.after.grown; ended = λ _. longer s.trace h.after.grown } where
-        longer : (u : List Event) → Grown t u → suc (length t) ≤ length (u ++ End program.interfaces.main (exit_word v) ∷ [])
+        longer : (u : List Event) → Front t u → suc (length t) ≤ length (u ++ End program.interfaces.main (exit_word v) ∷ [])
         longer u g = omega (arith, length-append u (End program.interfaces.main (exit_word v) ∷ []), ap (length {A = Event}) g.is, length-append t g.more)
   run_goes (Stopped end s) h = record { grown = h.after.0; ended = λ is. elim (subst IsHalt is h.after.1) [ ] }
 
@@ -96,7 +100,7 @@ module _ (program : ProgramTree) (t : List Event) (n0 : ℕ) where
 module _ (program : ProgramTree) (whole : SourceRun) (seen : Seen) (work : List Work) (f : Frame) (now : Now) where
   onward : Standing program whole seen work f (does_now program f now) → Onward seen.trace whole
   onward h =
-      subst (Onward seen.trace) h.rest (resume_goes program seen.trace h.state.turns h.open_calls (reverse work) f (does_now program f now h.open_calls h.state) (now_goes program seen.trace h.state.turns h.open_calls f now h.state (record { grown = subst (λ u. Grown seen.trace u) (sym (ap (λ x. x.trace) h.shows)) (grown_refl seen.trace); few = omega arith })))
+      subst (Onward seen.trace) h.rest (resume_goes program seen.trace h.state.turns h.open_calls (reverse work) f (does_now program f now h.open_calls h.state) (now_goes program seen.trace h.state.turns h.open_calls f now h.state (record { grown = subst (λ u. Front seen.trace u) (sym (ap (λ x. x.trace) h.shows)) (grown_refl seen.trace); few = omega arith })))
 
   reached : (events : ℕ) (trace : List Event) (end : RunEnd) → events ≤ length seen.trace → Onward seen.trace (record { trace = trace; end = end }) → stopped_at events (record { trace = trace; end = end }) ≡ record { trace = take events trace; end = EventsOut }
   reached events trace Ended le h =
@@ -105,15 +109,15 @@ module _ (program : ProgramTree) (whole : SourceRun) (seen : Seen) (work : List 
         over a b x y = omega (arith, x, y)
   reached events trace (Blamed comp cause line) le h =
       ap (λ b. if b then (record { trace = take events trace; end = EventsOut }) else (record { trace = trace; end = Blamed comp cause line })) (le-leb events (length trace) (at_least trace h.grown)) where
-        at_least : (u : List Event) → Grown seen.trace u → events ≤ length u
+        at_least : (u : List Event) → Front seen.trace u → events ≤ length u
         at_least u g = omega (arith, le, ap (length {A = Event}) g.is, length-append seen.trace g.more)
   reached events trace TurnsOut le h =
       ap (λ b. if b then (record { trace = take events trace; end = EventsOut }) else (record { trace = trace; end = TurnsOut })) (le-leb events (length trace) (at_least trace h.grown)) where
-        at_least : (u : List Event) → Grown seen.trace u → events ≤ length u
+        at_least : (u : List Event) → Front seen.trace u → events ≤ length u
         at_least u g = omega (arith, le, ap (length {A = Event}) g.is, length-append seen.trace g.more)
   reached events trace EventsOut le h =
       ap (λ b. if b then (record { trace = take events trace; end = EventsOut }) else (record { trace = trace; end = EventsOut })) (le-leb events (length trace) (at_least trace h.grown)) where
-        at_least : (u : List Event) → Grown seen.trace u → events ≤ length u
+        at_least : (u : List Event) → Front seen.trace u → events ≤ length u
         at_least u g = omega (arith, le, ap (length {A = Event}) g.is, length-append seen.trace g.more)
 
   -- a run that has come to so many events is stopped
