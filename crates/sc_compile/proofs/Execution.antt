@@ -24,7 +24,7 @@ use Rattle.rv_code.proofs.OneEach.{decoded-word_of}
 use Rattle.sc_image.specs.WellFormed.{IsWord}
 use Rattle.sc_image.specs.Layout.{code_start, gate, word_at}
 use Rattle.sc_image.specs.State.{State, start, reg, ra, a0, a7, with_pc, with_event}
-use Rattle.sc_image.specs.Step.{Goes, gives, execute, step}
+use Rattle.sc_image.specs.Step.{Goes, gives, execute, step, execute_by}
 use Rattle.sc_image.specs.Machine.{is_end, is_ended}
 use Rattle.sc_image.proofs.Stepping.{step_executes}
 use Rattle.sc_compile.specs.Code.{is_short, upper_part, lower_part, loading, output_call, outputting, returning, thin_code}
@@ -163,11 +163,11 @@ module _ (program : ThinProgram) (inputs : List ℕ) (events : ℕ) where
       (λ room. later (stands_written instr code done left state rd word below h))
 
   addi_executes : (state : State) (rd rs : ℕ) (imm : ℤ) → execute (thin_image program) inputs state (OpImm Addi rd rs imm) ≡ gives state rd (add_word (reg state rs) (word_of_ℤ imm))
-  unfolding execute
+  unfolding execute_by
   addi_executes state rd rs imm = refl
 
   lui_executes : (state : State) (rd imm : ℕ) → execute (thin_image program) inputs state (Upper Lui rd imm) ≡ gives state rd imm
-  unfolding execute
+  unfolding execute_by
   lui_executes state rd imm = refl
 
   -- the word is loaded, and then the rest
@@ -216,7 +216,7 @@ module _ (program : ThinProgram) (inputs : List ℕ) (events : ℕ) where
 
   output_executes : (state : State) → state.active ≡ 0 → reg state a7 ≡ 2 →
       execute (thin_image program) inputs state Ecall ≡ Goes (output_state state)
-  unfolding execute
+  unfolding execute_by
   output_executes state active call = rw (call, active) refl
 
   stands_shown : (word : ℕ) (code : List Instr) (done left : List ℕ) (state : State) → reg state a0 ≡ word → length state.trace < events →
@@ -265,7 +265,7 @@ module _ (program : ThinProgram) (inputs : List ℕ) (events : ℕ) where
   not_code = refl
 
   return_executes : (state : State) → state.active ≡ 0 → state.cross ≡ [] → reg state ra ≡ gate → execute (thin_image program) inputs state (Jalr 0 ra (pos 0)) ≡ Goes (end_state state)
-  unfolding execute
+  unfolding execute_by
   return_executes state active none target = rw (target, active, not_code, none) refl
 
   return_runs : (done : List ℕ) (state : State) → reg state a0 ≡ program.result → Stands program events (Jalr 0 ra (pos 0) ∷ []) done [] state → RunsFrom 1 state

@@ -9,7 +9,7 @@ use Rattle.rv_code.specs.declared.instr.OpImmOp.TheVariants.{Addi}
 use Rattle.rv_code.specs.Words.{word_of}
 use Rattle.rv_code.specs.Decoding.{decoded, jalr_in, op_imm_in, system_in, op_imm_op_of}
 use Rattle.sc_image.specs.Layout.{word_at}
-use Rattle.sc_image.specs.Step.{execute, step}
+use Rattle.sc_image.specs.Step.{execute_by, step_by}
 use Rattle.sc_image.specs.Machine.{stopped, run, machine}
 use Rattle.sc_compile.specs.Code.{loading, thin_code}
 use Rattle.sc_compile.specs.Image.{thin_image}
@@ -35,5 +35,5 @@ runs : ((machine (thin_image seven) [] 5 10).state.trace ≡ Out 0 7 ∷ End 0 0
     ((machine (thin_image seven) [] 5 10).stop ≡ Ended) ×
     ((machine (thin_image seven) [] 4 10).stop ≡ StepsOut) ×
     ((machine (thin_image seven) [] 5 1).stop ≡ EventsOut)
-unfolding loading word_of run step stopped execute word_at decoded jalr_in op_imm_in op_imm_op_of system_in
+unfolding loading word_of run step_by stopped execute_by word_at decoded jalr_in op_imm_in op_imm_op_of system_in
 runs = (refl, refl, refl, refl)

@@ -10,20 +10,11 @@ ghost use Rattle.sc_compile.specs.Code.{upper_part, lower_part, loading, outputt
 use rv_code::{Immediate, Instr, OpImmOp, Reg, UpperImmediate, UpperOp, encode};
 use sc_base::{OutOfMemory, Words};
 use sc_core::ThinProgram;
+use sc_image::layout::{A0, A7, OUTPUT, RA};
 use std::alloc::Global;
 
-// Registers by their numbers: x0, the return address, the first argument, and the environment
-// call's number.
-const ZERO: u8 = 0;
-
-const RA: u8 = 1;
-
-const A0: u8 = 10;
-
-const A7: u8 = 17;
-
-// The environment's number of `output`.
-const OUTPUT: i32 = 2;
+/// Register x0, which is always 0.
+const ZERO: usize = 0;
 
 /// The words of the program's code, from its first instruction on.
 pub fn thin_code(alloc: Global, program: &ThinProgram) -> Result<Words, OutOfMemory>
@@ -44,7 +35,7 @@ fn output_word(code: &mut Words, word: u32) -> Result<(), OutOfMemory>
     ensures { OnOk result (code.new ≡ code.old ++ map word_of (outputting word)) }
 {
     load_word(code, register(A0), word)?;
-    push_addi(code, register(A7), register(ZERO), immediate(OUTPUT))?;
+    push_addi(code, register(A7), register(ZERO), immediate(OUTPUT as i32))?;
     push(code, Instr::Ecall)
 }
 
@@ -115,11 +106,11 @@ fn push(code: &mut Words, instr: Instr) -> Result<(), OutOfMemory>
     Ok(())
 }
 
-fn register(number: u8) -> Reg
+fn register(number: usize) -> Reg
     requires { IsReg number }
     ensures { result ≡ number }
 {
-    Reg::new(number).unwrap()
+    Reg::new(number as u8).unwrap()
 }
 
 fn immediate(value: i32) -> Immediate

@@ -6,11 +6,9 @@ use crate::code::thin_code;
 use sc_base::{Name, OutOfMemory, Text, Words};
 use sc_core::ThinProgram;
 use sc_event::CompId;
+use sc_image::layout::CODE;
 use sc_image::{CompPart, CompParts, ExportParts, Image, ImageParts, ImportParts};
 use std::alloc::Global;
-
-// Where the first compartment's code begins in memory.
-const CODE_START: u32 = 0x0100_0000;
 
 /// Compiles a thin program to the image of one compartment, `Main`. At most 16,384 outputs are
 /// allowed, so that the code stays within 1,048,576 bytes. Want of memory is the only error.
@@ -33,7 +31,7 @@ fn image_of(alloc: Global, code: Words) -> Result<ImageParts, OutOfMemory>
     comps.push(main_comp(alloc, code))?;
     Ok(ImageParts {
         main: CompId::first(),
-        entry: CODE_START,
+        entry: CODE,
         comps,
     })
 }

@@ -1,8 +1,7 @@
 ghost use Rattle.std.specs.Prelude.{◌≡◌, ◌≤◌};
 ghost use Rattle.sc_image.specs.Cross.{kept, is_argument, cleared_for_call, cleared_for_return};
 
-/// The number of register a0, which holds the first argument or the result.
-const A0: usize = 10;
+use sc_image::layout::A0;
 
 /// Puts 0 into every register that doesn't hold one of so many arguments, at most 8. They lie in a0
 /// to a7.

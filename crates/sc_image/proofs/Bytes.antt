@@ -64,9 +64,10 @@ module _ (image : ImageParts) (formed : IsWellFormed image) (a b : ℕ) where
       option_and_then (data_byte ((a - data_start 0) % stretch)) comp ≡ Some b → IsByteAt a b
   start_by None is at = let never : ◌≡◌ {A = Option ℕ} None (Some b) = at in cc never
   start_by (Some comp) is at =
-      let within = slice_get_within image.comps (comp_of_data a) comp is in
-      (omega (arith, within, formed.few_comps),
-        byte_by (comp_of_data a) comp is ((a - data_start 0) % stretch) (nat_lt ((a - data_start 0) % stretch) stack_size) at)
+      let within = slice_get_within image.comps (comp_of_data a) comp is in (
+        omega (arith, within, formed.few_comps),
+        byte_by (comp_of_data a) comp is ((a - data_start 0) % stretch) (nat_lt ((a - data_start 0) % stretch) stack_size) at,
+      )
 
   below_by : (below : Bool) → (if below then None else option_and_then (data_byte ((a - data_start 0) % stretch)) (slice_get image.comps (comp_of_data a))) ≡ Some b → IsByteAt a b
   below_by true at = let never : ◌≡◌ {A = Option ℕ} None (Some b) = at in cc never

@@ -10,7 +10,7 @@ use Rattle.sc_image.specs.declared.parts.ImageParts.{ImageParts}
 use Rattle.sc_image.specs.declared.parts.ImportPart.{ImportPart}
 use Rattle.sc_image.specs.Layout.{word_at, are_data}
 use Rattle.sc_image.specs.State.{a0, reg}
-use Rattle.sc_image.specs.Step.{execute, step}
+use Rattle.sc_image.specs.Step.{execute_by, step_by}
 use Rattle.sc_image.specs.Machine.{stopped, run, machine}
 
 -- A with this code, which may call the export f of B, or not; and B, which begins with f
@@ -46,7 +46,7 @@ runs_past_entry : ((machine (past_entry []) [] 9 9).stop ≡ Trap BadJump 0x0100
     ((machine (past_entry []) [] 9 9).state.trace ≡ []) ×
     ((machine (past_entry f_of_b) [] 9 9).stop ≡ Trap BadJump 0x01000004) ×
     ((machine (past_entry f_of_b) [] 9 9).state.trace ≡ [])
-unfolding run step stopped execute word_at decoded jalr_in
+unfolding run step_by stopped execute_by word_at decoded jalr_in
 runs_past_entry = (refl, refl, refl, refl)
 
 -- lui x5,0x01100; jalr x1,0(x5); ecall: a call and a return, after which a7 is 0
@@ -57,12 +57,12 @@ calls_and_returns : ((machine (at_entry f_of_b) [] 9 9).stop ≡ Trap BadCall 0x
     ((machine (at_entry f_of_b) [] 9 9).state.trace ≡ Call 0 1 0 [] ∷ Ret 1 0 None ∷ []) ×
     ((machine (at_entry f_of_b) [] 9 1).stop ≡ EventsOut) ×
     ((machine (at_entry f_of_b) [] 9 1).state.pc ≡ 0x01100000)
-unfolding run step stopped execute word_at decoded jalr_in system_in
+unfolding run step_by stopped execute_by word_at decoded jalr_in system_in
 calls_and_returns = (refl, refl, refl, refl)
 
 -- without the import
 calls_without_import : ((machine (at_entry []) [] 9 9).stop ≡ Trap NoImport 0x01000004) × ((machine (at_entry []) [] 9 9).state.trace ≡ [])
-unfolding run step stopped execute word_at decoded jalr_in
+unfolding run step_by stopped execute_by word_at decoded jalr_in
 calls_without_import = (refl, refl)
 
 -- a0, a1, a2 and x5 hold 7, 8, 9 and 5; f takes two words and gives back their sum, with a1 at 3; then ebreak
@@ -76,7 +76,7 @@ passes_numbers_alone : ((machine adding [] 9 1).state.regs ≡ 0 ∷ 0x100 ∷ 0
     ((machine adding [] 99 9).stop ≡ Trap Breakpoint 0x01000018) ×
     ((machine adding [] 99 9).state.trace ≡ Call 0 1 0 (7 ∷ 8 ∷ []) ∷ Ret 1 0 (Some 15) ∷ []) ×
     ((machine adding [] 99 9).state.regs ≡ 0 ∷ 0 ∷ 0x10010000 ∷ 0 ∷ 0 ∷ 0 ∷ 0 ∷ 0 ∷ 0 ∷ 0 ∷ 15 ∷ replicate 21 0)
-unfolding run step stopped execute word_at decoded jalr_in op_imm_in op_imm_op_of op_in op_op_of system_in
+unfolding run step_by stopped execute_by word_at decoded jalr_in op_imm_in op_imm_op_of op_in op_op_of system_in
 passes_numbers_alone = (refl, refl, refl, refl)
 
 -- A takes 16 bytes of its stack and calls g of B, which takes 16 of its own, keeps ra there and calls h of A, which gives back its sp
@@ -114,7 +114,7 @@ re_enters : ((machine reentered [] 99 9).stop ≡ Trap Breakpoint 0x0100000c) ×
     ((machine reentered [] 99 2).state.cross ≡
     record { caller = 1; pc = 0x01100010; sp = 0x1010fff0; callee = 0; entry = Export 0; saved = 0x1000fff0 } ∷
     record { caller = 0; pc = 0x0100000c; sp = 0x1000fff0; callee = 1; entry = Export 0; saved = 0x10110000 } ∷ [])
-unfolding run step stopped execute word_at are_data decoded jalr_in op_imm_in op_imm_op_of load_in load_op_of store_in store_op_of system_in
+unfolding run step_by stopped execute_by word_at are_data decoded jalr_in op_imm_in op_imm_op_of load_in load_op_of store_in store_op_of system_in
 re_enters = (refl, refl, refl, refl, refl, refl)
 
 -- one compartment with this code, which may read inputs or not
@@ -134,7 +134,7 @@ reads_inputs : ((machine (three_inputs true) (0xfffffffb ∷ 3 ∷ []) 99 9).sto
     ((machine (three_inputs true) (0xfffffffb ∷ 3 ∷ []) 99 9).state.trace ≡ In 0 0xfffffffb ∷ In 0 3 ∷ In 0 0 ∷ []) ×
     (reg (machine (three_inputs true) (0xfffffffb ∷ 3 ∷ []) 3 9).state a0 ≡ 3) ×
     ((machine (three_inputs false) (0xfffffffb ∷ 3 ∷ []) 99 9).stop ≡ Trap NoImport 0x01000004)
-unfolding run step stopped execute word_at decoded op_imm_in op_imm_op_of system_in
+unfolding run step_by stopped execute_by word_at decoded op_imm_in op_imm_op_of system_in
 reads_inputs = (refl, refl, refl, refl)
 
 -- through the gate: with rd = x1 there is no call, bit 0 is cleared, and bit 1 is not
@@ -142,5 +142,5 @@ jumps_to_the_gate : ((machine (alone false (0x000080e7 ∷ [])) [] 9 9).stop ≡
     ((machine (alone false (0x00108067 ∷ [])) [] 9 9).stop ≡ Ended) ×
     ((machine (alone false (0x00108067 ∷ [])) [] 9 9).state.pc ≡ 0x01000000) ×
     ((machine (alone false (0x00208067 ∷ [])) [] 9 9).stop ≡ Trap Misaligned 0x01000000)
-unfolding run step stopped execute word_at decoded jalr_in
+unfolding run step_by stopped execute_by word_at decoded jalr_in
 jumps_to_the_gate = (refl, refl, refl, refl)

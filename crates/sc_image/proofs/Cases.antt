@@ -29,7 +29,7 @@ use Rattle.sc_image.specs.Layout.{gate, data_start, stack_top, globals_of, comp_
 use Rattle.sc_image.specs.Calls.{may_input, may_output, may_call, export_at, params_of}
 use Rattle.sc_image.specs.State.{State, Crossing, ra, a7, reg, written, with_pc}
 use Rattle.sc_image.specs.Cross.{called, returned, output, input}
-use Rattle.sc_image.specs.Step.{Outcome, Goes, Traps, next, gives, load_size, store_size, extended, refused, unless, loaded, with_stored, jump, export_called, calls, leaves, jalr_target, compares, computed, on_registers, shift_on_registers, execute, if_decoded, if_fetched, step}
+use Rattle.sc_image.specs.Step.{Outcome, Goes, Traps, next, gives, load_size, store_size, extended, refused, unless, loaded, with_stored, jump, export_called, calls, leaves, jalr_target, compares, computed, on_registers, shift_on_registers, execute, by_owner, if_decoded, if_fetched, step, execute_by, step_by}
 
 -- each byte of an access that is the compartment's
 pub both_facts : (x y z w : ℕ) → (nat_le x y && nat_le z w) ≡ true → (x ≤ y) × (z ≤ w)
@@ -164,7 +164,7 @@ module _ (image : ImageParts) (inputs : List ℕ) (formed : IsWellFormed image) 
     Fits _ = Unit {0}
 
     execute_both : (instr : Instr) → Fits instr → P (execute image inputs one instr) (execute image inputs other instr)
-    unfolding execute
+    unfolding execute_by
     execute_both (Upper Lui rd imm) fits = gives_both rd imm (λ here w bytes. fits)
     execute_both (Upper Auipc rd imm) fits = gives_both rd (add_word pc imm) (λ here w bytes. add_word-lt pc imm)
     execute_both (Jal rd imm) fits = jump_both rd (add_word pc (word_of imm)) _ _ (calls_both rd (add_word pc (word_of imm)))
@@ -201,17 +201,17 @@ module _ (image : ImageParts) (inputs : List ℕ) (formed : IsWellFormed image) 
     fits_decoded Ecall word has = tt
     fits_decoded Ebreak word has = tt
 
-    decoded_both : (word : ℕ) (instr : Option Instr) → IsWord word → decoded word ≡ instr → P (if_decoded image inputs one instr) (if_decoded image inputs other instr)
+    decoded_both : (word : ℕ) (instr : Option Instr) → IsWord word → decoded word ≡ instr → P (if_decoded (by_owner image inputs) one instr) (if_decoded (by_owner image inputs) other instr)
     decoded_both word None bits is = h.traps Illegal
     decoded_both word (Some instr) bits is = execute_both instr (fits_decoded instr word (HasWord-decoded word instr bits is))
 
-    fetched_both : (word : Option ℕ) → word_at image c pc ≡ word → P (if_fetched image inputs one word) (if_fetched image inputs other word)
+    fetched_both : (word : Option ℕ) → word_at image c pc ≡ word → P (if_fetched (by_owner image inputs) one word) (if_fetched (by_owner image inputs) other word)
     fetched_both None at = h.traps BadJump
     fetched_both (Some word) at = decoded_both word (decoded word) (in_code image formed c pc word at).bits refl
 
     -- the step
     pub step_both : P (step image inputs one) (step image inputs other)
-    unfolding step
+    unfolding step_by
     step_both = fetched_both (word_at image c pc) refl
 
 -- One state: a property of its outcome.

@@ -8,7 +8,7 @@ use Rattle.sc_image.specs.declared.parts.ImageParts.{ImageParts}
 use Rattle.sc_image.specs.Bytes.{comp_bytes}
 use Rattle.sc_image.specs.Layout.{word_at, are_data}
 use Rattle.sc_image.specs.State.{a0, reg, start_memory}
-use Rattle.sc_image.specs.Step.{execute, step}
+use Rattle.sc_image.specs.Step.{execute_by, step_by}
 use Rattle.sc_image.specs.Machine.{stopped, run, machine}
 
 abbrev with_code : (code globals : List ℕ) → ImageParts
@@ -28,18 +28,18 @@ runs_words : ((machine words [] 20 1).stop ≡ Trap Misaligned 0x0100001c) ×
     (reg (machine words [] 20 1).state a0 ≡ 0xffffc000) ×
     (reg (machine words [] 20 1).state 11 ≡ 0xffffff80) ×
     (reg (machine words [] 20 1).state 12 ≡ 0x80)
-unfolding words run step stopped execute word_at are_data decoded load_in store_in branch_in op_imm_in op_in load_op_of store_op_of branch_op_of op_imm_op_of op_op_of
+unfolding words run step_by stopped execute_by word_at are_data decoded load_in store_in branch_in op_imm_in op_in load_op_of store_op_of branch_op_of op_imm_op_of op_op_of
 runs_words = (refl, refl, refl, refl)
 
 -- lhu a0,0(sp); lw a0,0(sp), with two bytes of globals: the word's last bytes are nobody's
 runs_past_globals : ((machine (with_code (0x00015503 ∷ 0x00012503 ∷ []) (0x34 ∷ 0x12 ∷ [])) [] 9 1).stop ≡ Trap Owner 0x01000004) ×
     (reg (machine (with_code (0x00015503 ∷ 0x00012503 ∷ []) (0x34 ∷ 0x12 ∷ [])) [] 9 1).state a0 ≡ 0x1234)
-unfolding run step stopped execute word_at are_data start_memory decoded load_in load_op_of
+unfolding run step_by stopped execute_by word_at are_data start_memory decoded load_in load_op_of
 runs_past_globals = (refl, refl)
 
 -- lui x5,0x01100; jalr x1,4(x5): there is no such code
 runs_into_nothing : (machine (with_code (0x011002b7 ∷ 0x004280e7 ∷ []) []) [] 9 1).stop ≡ Trap BadJump 0x01000004
-unfolding run step stopped execute word_at decoded jalr_in
+unfolding run step_by stopped execute_by word_at decoded jalr_in
 runs_into_nothing = refl
 
 -- all the tables

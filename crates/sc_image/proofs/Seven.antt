@@ -12,7 +12,7 @@ use Rattle.sc_image.specs.Layout.{word_at}
 use Rattle.sc_image.specs.WellFormed.{IsWord, IsByte, IsWellFormed}
 use Rattle.sc_image.proofs.OneComp.{IsLone, one_well_formed}
 use Rattle.std.proofs.lemmas.List.Elements.{All-cons, All-nil}
-use Rattle.sc_image.specs.Step.{execute, step}
+use Rattle.sc_image.specs.Step.{execute_by, step_by}
 use Rattle.sc_image.specs.Machine.{stopped, run, machine}
 use Rattle.rv_code.specs.Decoding.{decoded, jalr_in, op_imm_in, system_in, op_imm_op_of}
 
@@ -37,7 +37,7 @@ seven_bytes = refl
 
 -- five steps
 runs : ((machine (parts (codes "Main") true) [] 5 10).state.trace ≡ Out 0 7 ∷ End 0 0 ∷ []) × ((machine (parts (codes "Main") true) [] 5 10).stop ≡ Ended)
-unfolding run step stopped execute word_at decoded jalr_in op_imm_in op_imm_op_of system_in
+unfolding run step_by stopped execute_by word_at decoded jalr_in op_imm_in op_imm_op_of system_in
 runs = (refl, refl)
 
 -- no steps, too few steps, more steps, and too few events
@@ -47,7 +47,7 @@ stops : ((machine (parts (codes "Main") true) [] 0 10).stop ≡ StepsOut) ×
     ((machine (parts (codes "Main") true) [] 9 2).stop ≡ Ended) ×
     ((machine (parts (codes "Main") true) [] 9 1).stop ≡ EventsOut) ×
     ((machine (parts (codes "Main") true) [] 9 1).state.pc ≡ 0x0100000c)
-unfolding run step stopped execute word_at decoded jalr_in op_imm_in op_imm_op_of system_in
+unfolding run step_by stopped execute_by word_at decoded jalr_in op_imm_in op_imm_op_of system_in
 stops = (refl, refl, refl, refl, refl, refl)
 
 -- without the import of `output`
@@ -55,7 +55,7 @@ traps : ((machine (parts (codes "Main") false) [] 3 10).stop ≡ Trap NoImport 0
     ((machine (parts (codes "Main") false) [] 100 10).stop ≡ Trap NoImport 0x01000008) ×
     ((machine (parts (codes "Main") false) [] 100 10).state.trace ≡ []) ×
     ((machine (parts (codes "Main") false) [] 2 10).stop ≡ StepsOut)
-unfolding run step stopped execute word_at decoded jalr_in op_imm_in op_imm_op_of system_in
+unfolding run step_by stopped execute_by word_at decoded jalr_in op_imm_in op_imm_op_of system_in
 traps = (refl, refl, refl, refl)
 
 all_five : (P : ℕ → Type 0) (a b c d e : ℕ) → P a → P b → P c → P d → P e → All P (a ∷ b ∷ c ∷ d ∷ e ∷ [])

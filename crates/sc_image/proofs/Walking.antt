@@ -8,7 +8,7 @@ use Rattle.sc_image.specs.declared.parts.CompPart.{CompPart}
 use Rattle.sc_image.specs.WellFormed.{IsWellFormed}
 use Rattle.sc_image.specs.Layout.{stretch, stack_size, code_start, data_start, stack_top, comp_of_data, code_of, word_at}
 use Rattle.sc_image.specs.State.{State, start_memory, data_byte}
-use Rattle.sc_image.specs.Step.{Outcome, Goes, Traps, execute, step}
+use Rattle.sc_image.specs.Step.{Outcome, Goes, Traps, execute, step, execute_by}
 use Rattle.sc_image.specs.Walks.{then_on, walk, Walks, IsAt, StepsByInstruction, ImageInMemory}
 use Rattle.sc_image.proofs.Stepping.{step_executes}
 
@@ -42,7 +42,7 @@ module _ (image : ImageParts) (inputs : List ℕ) (state : State) where
   by_instr instr at = step_executes image inputs state at.word instr at.fetched at.decodes
 
 pub steps_by_instruction : StepsByInstruction
-unfolding execute
+unfolding execute_by
 steps_by_instruction = record {
   lui = λ image inputs state rd imm at. by_instr image inputs state _ at;
   auipc = λ image inputs state rd imm at. by_instr image inputs state _ at;

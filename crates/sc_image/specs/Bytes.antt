@@ -1,4 +1,4 @@
--- The bytes of an image, in version 1 of its format. Numbers are little-endian.
+-- The bytes of an image. Numbers are little-endian.
 use Rattle.std.specs.Prelude.{ℕ, ◌+◌, ◌*◌, ◌^◌, ◌<◌, Bool, List, ◌∷◌, ◌++◌, length, flat_map, codes, if◌then◌else◌}
 use Rattle.byteorder.specs.Endian.{little_bytes}
 use Rattle.sc_image.specs.declared.parts.ImageParts.{ImageParts}
@@ -41,9 +41,15 @@ comp_bytes comp =
     name_bytes comp.name ++ flags comp ∷ exports_bytes comp.exports ++ imports_bytes comp.imports ++ code_bytes comp.code ++ globals_bytes comp.globals
 
 -- the mark and the version, how many compartments, where the run starts, and the compartments
+abbrev pub bytes_in_version : (version : ℕ) → ImageParts → List ℕ
+bytes_in_version version image =
+    codes "SCIM" ++ little_bytes 2 version ++ length image.comps ∷ image.main ∷ little_bytes 4 image.entry ++ flat_map comp_bytes image.comps
+
+abbrev pub version : ℕ
+version = 1
+
 abbrev pub image_bytes : ImageParts → List ℕ
-image_bytes image =
-    codes "SCIM" ++ little_bytes 2 1 ++ length image.comps ∷ image.main ∷ little_bytes 4 image.entry ++ flat_map comp_bytes image.comps
+image_bytes image = bytes_in_version version image
 
 -- the lengths that are written fit their fields
 pub record FitsItsFields (comp : CompPart) : Type 0 where

@@ -108,11 +108,11 @@ store_size Sb = 1
 store_size Sh = 2
 store_size Sw = 4
 
--- why compartment c may not access so many bytes from an address on: it isn't a multiple of their number, or one of them isn't c's
-abbrev pub refused : ImageParts → (c size address : ℕ) → Option TrapReason
-refused image c size address =
+-- why so many bytes from an address on may not be accessed: it isn't a multiple of their number, or the access isn't allowed
+abbrev pub refused_by : (allowed : Bool) → (size address : ℕ) → Option TrapReason
+refused_by allowed size address =
     if not (address % size == 0) then Some Misaligned
-    else if not (are_data image c address size) then Some Owner
+    else if not allowed then Some Owner
     else None
 
 abbrev pub unless : Option TrapReason → Outcome → Outcome
@@ -123,24 +123,96 @@ unless (Some reason) outcome = Traps reason
 abbrev pub loaded : State → LoadOp → (address : ℕ) → ℕ
 loaded state op address = extended op (load_of state.memory address (load_size op))
 
-abbrev pub load : ImageParts → State → LoadOp → (rd address : ℕ) → Outcome
-load image state op rd address = unless (refused image state.active (load_size op) address) (gives state rd (loaded state op address))
+abbrev pub load_by : (allowed : Bool) → State → LoadOp → (rd address : ℕ) → Outcome
+load_by allowed state op rd address = unless (refused_by allowed (load_size op) address) (gives state rd (loaded state op address))
 
 -- the state with the lowest bytes of a word at an address
 abbrev pub with_stored : State → StoreOp → (address word : ℕ) → State
 with_stored state op address word = record state { memory = stored state.memory address (store_size op) word }
 
-abbrev pub store : ImageParts → State → StoreOp → (address word : ℕ) → Outcome
-store image state op address word = unless (refused image state.active (store_size op) address) (next (with_stored state op address word))
+abbrev pub store_by : (allowed : Bool) → State → StoreOp → (address word : ℕ) → Outcome
+store_by allowed state op address word = unless (refused_by allowed (store_size op) address) (next (with_stored state op address word))
 
 -- Jumps.
 
 -- to a place in the own code, with the address of the next instruction in rd; what comes of any other target is given
-abbrev pub jump : ImageParts → State → (rd target : ℕ) → (elsewhere : Outcome) → Outcome
-jump image state rd target elsewhere =
+abbrev pub jump_by : (in_code : Bool) → State → (rd target : ℕ) → (elsewhere : Outcome) → Outcome
+jump_by in_code state rd target elsewhere =
     if not (target % 4 == 0) then Traps Misaligned
-    else if is_some (word_at image state.active target) then Goes (with_pc (with_reg state rd (state.pc + 4)) target)
+    else if in_code then Goes (with_pc (with_reg state rd (state.pc + 4)) target)
     else elsewhere
+
+-- the target of JALR: bit 0 of the sum is cleared
+abbrev pub jalr_target : (base : ℕ) → ℤ → ℕ
+jalr_target base imm = add_word base (word_of imm) / 2 * 2
+
+-- One instruction, by what a machine says of addresses: machines differ in nothing else.
+
+pub record Protection : Type 0 where
+  -- the word that compartment c may execute at an address
+  pub fetched : (c address : ℕ) → Option ℕ
+  -- whether c may load so many bytes from an address on, or store there
+  pub may_load : (c address size : ℕ) → Bool
+  pub may_store : (c address size : ℕ) → Bool
+  -- where a jump leads whose target is out of the own code: of JAL, and of JALR
+  pub jal_leaves : State → (rd target : ℕ) → Outcome
+  pub jalr_leaves : State → (rd target : ℕ) → Outcome
+  -- what a call of the environment does
+  pub environment : State → Outcome
+
+module _ (protection : Protection) where
+  abbrev jump_in : State → (rd target : ℕ) → (elsewhere : Outcome) → Outcome
+  jump_in state rd target elsewhere = jump_by (is_some (protection.fetched state.active target)) state rd target elsewhere
+
+  unfoldable pub execute_by : State → Instr → Outcome
+  execute_by state (Upper Lui rd imm) = gives state rd imm
+  execute_by state (Upper Auipc rd imm) = gives state rd (add_word state.pc imm)
+  execute_by state (Jal rd imm) =
+      let target = add_word state.pc (word_of imm) in jump_in state rd target (protection.jal_leaves state rd target)
+  execute_by state (Jalr rd rs1 imm) =
+      let target = jalr_target (reg state rs1) imm in jump_in state rd target (protection.jalr_leaves state rd target)
+  execute_by state (Branch op rs1 rs2 imm) =
+      if compares op (reg state rs1) (reg state rs2) then jump_in state 0 (add_word state.pc (word_of imm)) (Traps BadJump) else next state
+  execute_by state (Load op rd rs1 imm) =
+      let address = add_word (reg state rs1) (word_of imm) in
+      load_by (protection.may_load state.active address (load_size op)) state op rd address
+  execute_by state (Store op rs1 rs2 imm) =
+      let address = add_word (reg state rs1) (word_of imm) in
+      store_by (protection.may_store state.active address (store_size op)) state op address (reg state rs2)
+  execute_by state (OpImm op rd rs1 imm) = gives state rd (computed (on_registers op) (reg state rs1) (word_of imm))
+  execute_by state (Shift op rd rs1 amount) = gives state rd (computed (shift_on_registers op) (reg state rs1) amount)
+  execute_by state (Op op rd rs1 rs2) = gives state rd (computed op (reg state rs1) (reg state rs2))
+  execute_by state (Fence _ _ _) = next state
+  execute_by state Ecall = protection.environment state
+  execute_by state Ebreak = Traps Breakpoint
+
+  -- the word of an instruction, if it is one
+  abbrev pub if_decoded : State → Option Instr → Outcome
+  if_decoded state None = Traps Illegal
+  if_decoded state (Some instr) = execute_by state instr
+
+  -- a word of the own code, if pc is at one
+  abbrev pub if_fetched : State → Option ℕ → Outcome
+  if_fetched state None = Traps BadJump
+  if_fetched state (Some word) = if_decoded state (decoded word)
+
+  -- the instruction at pc
+  unfoldable pub step_by : State → Outcome
+  step_by state = if_fetched state (protection.fetched state.active state.pc)
+
+-- The machine of an image, by who owns an address: a compartment executes its own code, and loads and stores in its own data.
+
+abbrev pub refused : ImageParts → (c size address : ℕ) → Option TrapReason
+refused image c size address = refused_by (are_data image c address size) size address
+
+abbrev pub load : ImageParts → State → LoadOp → (rd address : ℕ) → Outcome
+load image state op rd address = load_by (are_data image state.active address (load_size op)) state op rd address
+
+abbrev pub store : ImageParts → State → StoreOp → (address word : ℕ) → Outcome
+store image state op address word = store_by (are_data image state.active address (store_size op)) state op address word
+
+abbrev pub jump : ImageParts → State → (rd target : ℕ) → (elsewhere : Outcome) → Outcome
+jump image state rd target elsewhere = jump_by (is_some (word_at image state.active target)) state rd target elsewhere
 
 -- to where an export of another compartment begins, which is a call of it: the export's index is given, or that there is none
 abbrev pub export_called : ImageParts → State → (to target : ℕ) → Option ℕ → Outcome
@@ -159,12 +231,6 @@ abbrev pub leaves : ImageParts → State → (rd target : ℕ) → Outcome
 leaves image state rd target =
     if nat_eq rd 0 && nat_eq target gate then Goes (returned image state state.cross) else calls image state rd target
 
--- the target of JALR: bit 0 of the sum is cleared
-abbrev pub jalr_target : (base : ℕ) → ℤ → ℕ
-jalr_target base imm = add_word base (word_of imm) / 2 * 2
-
--- The environment.
-
 -- a7 says what is called: 1 is `input`, 2 is `output`
 abbrev pub environment_call : ImageParts → List ℕ → State → Outcome
 environment_call image inputs state =
@@ -172,36 +238,18 @@ environment_call image inputs state =
     else if nat_eq (reg state a7) 2 then (if may_output image state.active then next (output state) else Traps NoImport)
     else Traps BadCall
 
--- The step.
+abbrev pub by_owner : ImageParts → List ℕ → Protection
+by_owner image inputs = record {
+  fetched = word_at image;
+  may_load = are_data image;
+  may_store = are_data image;
+  jal_leaves = calls image;
+  jalr_leaves = leaves image;
+  environment = environment_call image inputs;
+}
 
-unfoldable pub execute : ImageParts → List ℕ → State → Instr → Outcome
-execute image inputs state (Upper Lui rd imm) = gives state rd imm
-execute image inputs state (Upper Auipc rd imm) = gives state rd (add_word state.pc imm)
-execute image inputs state (Jal rd imm) =
-    let target = add_word state.pc (word_of imm) in jump image state rd target (calls image state rd target)
-execute image inputs state (Jalr rd rs1 imm) =
-    let target = jalr_target (reg state rs1) imm in jump image state rd target (leaves image state rd target)
-execute image inputs state (Branch op rs1 rs2 imm) =
-    if compares op (reg state rs1) (reg state rs2) then jump image state 0 (add_word state.pc (word_of imm)) (Traps BadJump) else next state
-execute image inputs state (Load op rd rs1 imm) = load image state op rd (add_word (reg state rs1) (word_of imm))
-execute image inputs state (Store op rs1 rs2 imm) = store image state op (add_word (reg state rs1) (word_of imm)) (reg state rs2)
-execute image inputs state (OpImm op rd rs1 imm) = gives state rd (computed (on_registers op) (reg state rs1) (word_of imm))
-execute image inputs state (Shift op rd rs1 amount) = gives state rd (computed (shift_on_registers op) (reg state rs1) amount)
-execute image inputs state (Op op rd rs1 rs2) = gives state rd (computed op (reg state rs1) (reg state rs2))
-execute image inputs state (Fence _ _ _) = next state
-execute image inputs state Ecall = environment_call image inputs state
-execute image inputs state Ebreak = Traps Breakpoint
+abbrev pub execute : ImageParts → List ℕ → State → Instr → Outcome
+execute image inputs = execute_by (by_owner image inputs)
 
--- the word of an instruction, if it is one
-abbrev pub if_decoded : ImageParts → List ℕ → State → Option Instr → Outcome
-if_decoded image inputs state None = Traps Illegal
-if_decoded image inputs state (Some instr) = execute image inputs state instr
-
--- a word of the own code, if pc is at one
-abbrev pub if_fetched : ImageParts → List ℕ → State → Option ℕ → Outcome
-if_fetched image inputs state None = Traps BadJump
-if_fetched image inputs state (Some word) = if_decoded image inputs state (decoded word)
-
--- the instruction at pc
-unfoldable pub step : ImageParts → List ℕ → State → Outcome
-step image inputs state = if_fetched image inputs state (word_at image state.active state.pc)
+abbrev pub step : ImageParts → List ℕ → State → Outcome
+step image inputs = step_by (by_owner image inputs)

@@ -7,6 +7,7 @@ ghost use Rattle.sc_base.specs.Identifier.{is_between};
 ghost use Rattle.sc_image.specs.declared.fault.BadImage.TheVariants.{Version, Count, Contents};
 ghost use Rattle.sc_image.specs.declared.fault.ImageFault.TheVariants.{Bad};
 
+use crate::layout::{MOST_GLOBALS, STRETCH};
 use crate::rules::keeps_rules;
 use crate::{
     BadImage, CompPart, CompParts, ExportPart, ExportParts, Image, ImageFault, ImageParts,
@@ -16,11 +17,6 @@ use byteorder::{ByteOrder, LittleEndian};
 use sc_base::{Name, Text, Words};
 use sc_event::CompId;
 use std::alloc::Global;
-
-// The most bytes of a compartment's code, and of its globals.
-const MOST_CODE: u32 = 0x0010_0000;
-
-const MOST_GLOBALS: u32 = 458_752;
 
 /// The image that the bytes are, or why they are none: the cause of the first field, in the order of the file, that is
 /// missing, incomplete or bad. A file that isn't at fault is read unless memory runs out.
@@ -211,7 +207,7 @@ fn code_at(alloc: Global, bytes: &mut &[u8]) -> Result<Words, ImageFault>
     ensures { Gives (λ x. (x, bytes.new.now)) result (code_at bytes.old.now) }
 {
     let size = u32_at(BadImage::Contents, bytes)?;
-    if size % 4 != 0 || size > MOST_CODE {
+    if size % 4 != 0 || size > STRETCH {
         return Err(ImageFault::Bad(BadImage::Contents));
     }
     several_words(alloc, size / 4, bytes)

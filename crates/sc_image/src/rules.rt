@@ -6,15 +6,11 @@ ghost use Rattle.sc_image.specs.Layout.{code_of};
 ghost use Rattle.std.specs.HashSet.{IsFromIterResult};
 ghost use Rattle.std.specs.List.{list_all};
 
+use crate::layout::{CODE, STRETCH};
 use crate::{CompPart, ExportPart, ImageParts, ImportPart};
 use sc_base::Name;
 use std::alloc::{AllocError, Global};
 use std::collections::HashSet;
-
-// Where the code of the first compartment begins, and the stretch of addresses that each has for its code.
-const CODE_START: u32 = 0x0100_0000;
-
-const STRETCH: u32 = 0x0010_0000;
 
 /// Whether the parts keep the rules that no field shows alone: distinct names, entries and imports, entries at words of
 /// the code, and imports of what another compartment offers.
@@ -96,7 +92,7 @@ fn are_imports(parts: &ImageParts, c: u8, imports: &[ImportPart]) -> bool
 fn is_entry(parts: &ImageParts, c: u8, entry: u32) -> bool
     ensures { result ≡ is_entry parts.now c entry }
 {
-    let start = CODE_START + u32::from(c) * STRETCH;
+    let start = CODE + u32::from(c) * STRETCH;
     if entry % 4 != 0 || entry < start {
         return false;
     }

@@ -10,7 +10,7 @@ use Rattle.sc_image.specs.declared.parts.ImageParts.{ImageParts}
 use Rattle.sc_image.specs.Layout.{gate, word_at}
 use Rattle.sc_image.specs.State.{State, reg, with_reg, with_pc}
 use Rattle.sc_image.specs.Cross.{returned}
-use Rattle.sc_image.specs.Step.{Outcome, Goes, Traps, jump, calls, leaves, execute}
+use Rattle.sc_image.specs.Step.{Outcome, Goes, Traps, jump, calls, leaves, execute, execute_by}
 use Rattle.sc_machine.proofs.Words.{below_code}
 
 pub jump_misaligned : (image : ImageParts) (state : State) (rd target : ℕ) (other : Outcome) →
@@ -37,14 +37,14 @@ leaves_by image state rd target h =
 pub jalr_jumps : (image : ImageParts) (inputs : List ℕ) (state : State) (rd rs1 : ℕ) (imm : ℤ) (sum : ℕ) →
     sum ≡ add_word (reg state rs1) (word_of imm) → (rd ≡ 0 → sum / 2 * 2 ≡ gate → ⊥) →
     execute image inputs state (Jalr rd rs1 imm) ≡ jump image state rd (sum / 2 * 2) (calls image state rd (sum / 2 * 2))
-unfolding execute
+unfolding execute_by
 jalr_jumps image inputs state rd rs1 imm sum is h =
     rw (sym is) (ap (jump image state rd (sum / 2 * 2)) (leaves_by image state rd (sum / 2 * 2) h))
 
 pub jalr_returns : (image : ImageParts) (inputs : List ℕ) (state : State) (rd rs1 : ℕ) (imm : ℤ) (sum : ℕ) →
     sum ≡ add_word (reg state rs1) (word_of imm) → rd ≡ 0 → sum / 2 * 2 ≡ gate →
     execute image inputs state (Jalr rd rs1 imm) ≡ Goes (returned image state state.cross)
-unfolding execute
+unfolding execute_by
 jalr_returns image inputs state rd rs1 imm sum is zero_is at =
     let nothing : word_at image state.active gate ≡ None = below_code image state.active gate refl (omega arith) in
     rw (sym is, at, zero_is, nothing) refl

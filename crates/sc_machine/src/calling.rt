@@ -11,12 +11,12 @@ ghost use Rattle.sc_image.specs.WellFormed.{IsWellFormed};
 ghost use Rattle.sc_machine.specs.Hart.{state_in, outcome_of, IsSound, HasRoom, HasRoomForOne};
 ghost use Rattle.sc_machine.specs.Passing.{IsCallee, entered};
 
-use crate::hart::{A0, Core, Hart, RA, SP};
+use crate::hart::{Core, Hart};
 use crate::here::Here;
-use crate::layout::{GATE, comp_id, comp_of_code};
 use sc_base::TrapReason;
 use sc_event::{Args, CompId, Entry, Event};
 use sc_gate::{CrossEntry, clear_for_call};
+use sc_image::layout::{A0, GATE, RA, SP, comp_id, comp_of_code};
 use sc_image::{ExportPart, Image};
 use std::alloc::Global;
 

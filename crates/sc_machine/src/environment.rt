@@ -9,19 +9,11 @@ ghost use Rattle.sc_image.specs.Cross.{input_at, input, output};
 ghost use Rattle.sc_image.specs.Step.{Goes, next, environment_call};
 ghost use Rattle.sc_machine.specs.Hart.{state_in, outcome_of, IsSound, HasRoom, HasRoomForOne};
 
-use crate::hart::{A0, Hart};
+use crate::hart::Hart;
 use crate::here::Here;
 use sc_base::TrapReason;
 use sc_event::Event;
-
-/// The number of register a7, which says what an environment call calls.
-const A7: usize = 17;
-
-/// The number in a7 of the environment's `input`.
-const INPUT: u32 = 1;
-
-/// The number in a7 of the environment's `output`.
-const OUTPUT: u32 = 2;
+use sc_image::layout::{A0, A7, INPUT, OUTPUT};
 
 pub(crate) fn environment_call(
     here: &Here<'_>,

@@ -12,15 +12,6 @@ use sc_event::{CompId, Event};
 use sc_gate::CrossStack;
 use sc_word::add;
 
-/// The number of register ra, which holds the address that a function returns to.
-pub(crate) const RA: usize = 1;
-
-/// The number of register sp, the stack pointer.
-pub(crate) const SP: usize = 2;
-
-/// The number of register a0, which holds a result or the first argument.
-pub(crate) const A0: usize = 10;
-
 /// The immediate's word.
 pub(crate) fn word_of(imm: Immediate) -> u32
     ensures { result ≡ word_of imm }

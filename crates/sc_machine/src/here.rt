@@ -10,10 +10,10 @@ ghost use Rattle.sc_machine.specs.Place.{IsPlace};
 ghost use Rattle.sc_machine.specs.Passing.{IsCallee};
 
 use crate::calling::Callee;
-use crate::layout::{STACK_SIZE, code_start, data_start};
 use crate::program::Program;
 use sc_event::CompId;
 use sc_image::Image;
+use sc_image::layout::{STACK_SIZE, code_start, data_start};
 use sqlite_items::at;
 use std::marker::Model;
 

@@ -15,10 +15,10 @@ use crate::arithmetic::compares;
 use crate::calling::call_out;
 use crate::hart::{Core, Hart};
 use crate::here::Here;
-use crate::layout::GATE;
 use crate::returning::leave;
 use rv_code::{BranchOffset, BranchOp, Immediate, JumpOffset, Reg};
 use sc_base::TrapReason;
+use sc_image::layout::GATE;
 use sc_word::add;
 
 /// Where a jump from the pc leads.

@@ -10,7 +10,6 @@ mod hart;
 mod here;
 mod jump;
 mod laws;
-mod layout;
 mod loading;
 mod machine;
 mod memory;

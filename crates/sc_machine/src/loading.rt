@@ -7,10 +7,10 @@ ghost use Rattle.sc_image.specs.State.{start, start_memory, stack_tops};
 ghost use Rattle.sc_machine.specs.Hart.{state_in, IsSound, HasRoom};
 ghost use Rattle.sc_machine.specs.Regions.{HasFewGlobals, regions_from, filled_from};
 
-use crate::hart::{Core, Hart, RA, SP};
-use crate::layout::{GATE, STACK_SIZE, comp_id, data_start, stack_top};
+use crate::hart::{Core, Hart};
 use sc_base::OutOfMemory;
 use sc_gate::CrossStack;
+use sc_image::layout::{GATE, RA, SP, STACK_SIZE, comp_id, data_start, stack_top};
 use sc_image::{CompPart, Image};
 use sc_store::{Region, Store};
 use std::alloc::{AllocError, Global};

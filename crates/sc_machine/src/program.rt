@@ -5,8 +5,8 @@ ghost use Rattle.sc_image.specs.Calls.{imports_of, may_call};
 ghost use Rattle.sc_machine.specs.Passing.{IsCallee, AreCallees};
 
 use crate::calling::Callee;
-use crate::layout::comp_id;
 use sc_event::CompId;
+use sc_image::layout::comp_id;
 use sc_image::{Image, ImportPart};
 use sqlite_items::{Items, at};
 use std::alloc::{AllocError, Global};

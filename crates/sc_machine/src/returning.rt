@@ -8,10 +8,11 @@ ghost use Rattle.sc_image.specs.Cross.{returned};
 ghost use Rattle.sc_machine.specs.Hart.{state_in, IsSound, HasRoom, HasRoomForOne};
 ghost use Rattle.sc_machine.specs.Passing.{resumed};
 
-use crate::hart::{A0, Core, Hart, SP};
+use crate::hart::{Core, Hart};
 use sc_event::{CompId, Entry, Event};
 use sc_gate::clear_for_ret;
 use sc_image::Image;
+use sc_image::layout::{A0, SP};
 
 /// Returns to the latest caller that waits. Where none does, the run ends.
 pub(crate) fn leave(image: &Image, hart: &mut Hart)

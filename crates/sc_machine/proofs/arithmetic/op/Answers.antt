@@ -1,7 +1,7 @@
 use Rattle.std.proofs.Common.{refl}
-use Rattle.sc_image.specs.Step.{execute}
+use Rattle.sc_image.specs.Step.{execute_by}
 use Rattle.sc_machine.proofs.arithmetic.op.Goals as goal
 
 pub returns : goal.returns
-unfolding execute
+unfolding execute_by
 returns c = λ image inputs state. rw (c.give.ensures, c.computed-word.ensures, c.register.ensures, c.register-2.ensures) refl

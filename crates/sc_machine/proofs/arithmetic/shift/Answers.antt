@@ -1,7 +1,7 @@
 use Rattle.std.proofs.Common.{refl}
-use Rattle.sc_image.specs.Step.{execute}
+use Rattle.sc_image.specs.Step.{execute_by}
 use Rattle.sc_machine.proofs.arithmetic.shift.Goals as goal
 
 pub returns : goal.returns
-unfolding execute
+unfolding execute_by
 returns c = λ image inputs state. rw (c.give.ensures, c.shifted-word.ensures, c.register.ensures, c.bits.ensures.same) refl

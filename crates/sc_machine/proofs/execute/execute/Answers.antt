@@ -1,18 +1,18 @@
 use Rattle.std.specs.Prelude.{map}
 use Rattle.sc_word.specs.Word.{word_of}
 use Rattle.std.proofs.Common.{refl}
-use Rattle.sc_image.specs.Step.{execute}
+use Rattle.sc_image.specs.Step.{execute_by}
 use Rattle.sc_machine.specs.Hart.{state_in}
 use Rattle.sc_machine.proofs.execute.execute.Goals as goal
 
 pub returns-in-Load-clause-outcome : goal.returns-in-Load-clause-outcome
-unfolding execute
+unfolding execute_by
 returns-in-Load-clause-outcome g c =
     let state = state_in (g.S.Store.bytes c.args.memory.now) c.args.hart.now in
     rw c.in-Load.is (rw (c.displaced-address.ensures, c.requires.here) at (c.load.ensures.outcome state))
 
 pub returns-in-Store-clause-outcome : goal.returns-in-Store-clause-outcome
-unfolding execute
+unfolding execute_by
 returns-in-Store-clause-outcome g c =
     let state = state_in (g.S.Store.bytes c.args.memory.now) c.args.hart.now in
     rw c.in-Store.is (rw (c.displaced-address-in-Store.ensures, c.register-word.ensures, c.requires.here) at (c.store.ensures.outcome state))
@@ -29,11 +29,11 @@ pub returns-in-Jalr-clause-outcome : goal.returns-in-Jalr-clause-outcome
 returns-in-Jalr-clause-outcome g c = rw c.in-Jalr.is (c.jalr.ensures.outcome (map word_of c.args.inputs.now) (g.S.Store.bytes c.args.memory.now))
 
 pub returns-in-Ecall-clause-outcome : goal.returns-in-Ecall-clause-outcome
-unfolding execute
+unfolding execute_by
 returns-in-Ecall-clause-outcome g c = rw c.in-Ecall.is (c.environment_call.ensures.outcome (g.S.Store.bytes c.args.memory.now))
 
 pub returns-in-Ebreak-clause-outcome : goal.returns-in-Ebreak-clause-outcome
-unfolding execute
+unfolding execute_by
 returns-in-Ebreak-clause-outcome g c = rw c.in-Ebreak.is refl
 
 pub returns-in-Upper-clause-outcome : goal.returns-in-Upper-clause-outcome
@@ -57,5 +57,5 @@ returns-in-Op-clause-outcome g c =
     rw c.in-Op.is (c.op.ensures c.args.here.now.image (map word_of c.args.inputs.now) state)
 
 pub returns-in-Fence-clause-outcome : goal.returns-in-Fence-clause-outcome
-unfolding execute
+unfolding execute_by
 returns-in-Fence-clause-outcome g c = rw (c.in-Fence.is, c.advance.ensures) refl

@@ -1,4 +1,4 @@
-//! Where things lie in memory.
+//! Where things lie in memory, and the registers that have a use of their own.
 
 ghost use Rattle.std.specs.Prelude.{◌≡◌, ◌<◌};
 ghost use Rattle.sc_image.specs.Layout.{code_start, data_start, stack_top, comp_of_code};
@@ -6,36 +6,57 @@ ghost use Rattle.sc_image.specs.Layout.{code_start, data_start, stack_top, comp_
 use sc_event::CompId;
 
 /// Where the code of the first compartment begins.
-const CODE: u32 = 0x0100_0000;
+pub const CODE: u32 = 0x0100_0000;
 
 /// Where the data of the first compartment begin, which are the stack and then the globals.
-const DATA: u32 = 0x1000_0000;
+pub const DATA: u32 = 0x1000_0000;
 
-/// From one compartment's addresses to the next's.
-const STRETCH: u32 = 0x10_0000;
+/// From one compartment's addresses to the next's, and so the most bytes of code.
+pub const STRETCH: u32 = 0x10_0000;
 
 /// How many bytes a stack has.
-pub(crate) const STACK_SIZE: u32 = 0x1_0000;
+pub const STACK_SIZE: u32 = 0x1_0000;
+
+/// The most bytes of globals.
+pub const MOST_GLOBALS: u32 = 458_752;
 
 /// The address that `main` returns to, and every function that another compartment called.
-pub(crate) const GATE: u32 = 0x100;
+pub const GATE: u32 = 0x100;
+
+/// Register ra, which holds the address that a function returns to.
+pub const RA: usize = 1;
+
+/// Register sp, the stack pointer.
+pub const SP: usize = 2;
+
+/// Register a0, which holds a result or the first argument.
+pub const A0: usize = 10;
+
+/// Register a7, which says what an environment call calls.
+pub const A7: usize = 17;
+
+/// The number in a7 of the environment's `input`.
+pub const INPUT: u32 = 1;
+
+/// The number in a7 of the environment's `output`.
+pub const OUTPUT: u32 = 2;
 
 /// The address where the compartment's code begins.
-pub(crate) fn code_start(comp: CompId) -> u32
+pub fn code_start(comp: CompId) -> u32
     ensures { result ≡ code_start comp }
 {
     CODE + comp.number() as u32 * STRETCH
 }
 
 /// The address where the compartment's data begin.
-pub(crate) fn data_start(comp: CompId) -> u32
+pub fn data_start(comp: CompId) -> u32
     ensures { result ≡ data_start comp }
 {
     DATA + comp.number() as u32 * STRETCH
 }
 
 /// The address of the top of the compartment's stack.
-pub(crate) fn stack_top(comp: CompId) -> u32
+pub fn stack_top(comp: CompId) -> u32
     ensures { result ≡ stack_top comp }
 {
     data_start(comp) + STACK_SIZE
@@ -43,14 +64,14 @@ pub(crate) fn stack_top(comp: CompId) -> u32
 
 /// The number of the compartment in whose stretch of code an address lies. There may be none of
 /// that number.
-pub(crate) fn comp_of_code(address: u32) -> usize
+pub fn comp_of_code(address: u32) -> usize
     ensures { result ≡ comp_of_code address }
 {
     (address.saturating_sub(CODE) / STRETCH) as usize
 }
 
 /// The compartment of that number.
-pub(crate) fn comp_id(number: usize) -> CompId
+pub fn comp_id(number: usize) -> CompId
     requires { number < 32 }
     ensures { result ≡ number }
 {
