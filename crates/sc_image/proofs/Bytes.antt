@@ -43,7 +43,8 @@ module _ (image : ImageParts) (formed : IsWellFormed image) (c a size word : ℕ
       (data_below x (ltb-true x (a + size) (both (nat_le a x) (nat_lt x (a + size)) is).1), subst (λ b. b < 256) same (digit (word / 256 ^ (x - a))))
   stored_by x byte false is at = bytes x byte at
 
-pub stored_bytes : (image : ImageParts) → IsWellFormed image → (c a size word : ℕ) (memory : Memory) → c < length image.comps → refused image c size a ≡ None →
+pub stored_bytes : (image : ImageParts) → IsWellFormed image → (c a size word : ℕ) (memory : Memory) →
+    c < length image.comps → refused image c size a ≡ None →
     HoldsBytes memory → HoldsBytes (stored memory a size word)
 stored_bytes image formed c a size word memory active allowed bytes x byte at =
     stored_by image formed c a size word memory active (allowed_data image c size a allowed) bytes x byte (nat_le a x && nat_lt x (a + size)) refl at
@@ -51,7 +52,8 @@ stored_bytes image formed c a size word memory active allowed bytes x byte at =
 -- the start
 
 module _ (image : ImageParts) (formed : IsWellFormed image) (a b : ℕ) where
-  global_byte : (c : ℕ) (comp : CompPart) → slice_get image.comps c ≡ Some comp → (k : ℕ) → slice_get comp.globals k ≡ Some b → b < 256
+  global_byte : (c : ℕ) (comp : CompPart) → slice_get image.comps c ≡ Some comp → (k : ℕ) →
+      slice_get comp.globals k ≡ Some b → b < 256
   global_byte c comp is k at =
       subst IsByte (get_or_from_slice_get comp.globals k b b at) ((formed.comps c comp is).bytes k b (slice_get_within comp.globals k b at))
 
