@@ -18,17 +18,17 @@ use Rattle.sc_event.specs.declared.event.Event.{Event}
 use Rattle.sc_event.specs.declared.event.Event.TheVariants.{Call, Ret}
 use Rattle.std.specs.Prelude.{drop, ◌==◌}
 use Rattle.std.proofs.Math.Seq.{drop-append_seam}
-use Rattle.sc_image.proofs.Cases.{allowed_data, both_facts, step_of}
+use Rattle.sc_image.proofs.Cases.{allowed_data, step_of}
+use Rattle.sc_image.proofs.Data.{data_bounds}
 use Rattle.sc_image.proofs.Bytes.{few_globals}
 use Rattle.sc_image.specs.Steady.{IsChain, IsSteady}
 
 -- The compartments' addresses are apart.
 
 pub apart : (image : ImageParts) (c d a size x : ℕ) → IsWellFormed image → c ≢ d → are_data image c a size ≡ true → are_data image d x 1 ≡ true → a ≤ x → x < a + size → ⊥
-unfolding are_data
 apart image c d a size x formed differ mine others from upto =
-    let m = both_facts (data_start c) a (a + size) (stack_top c + length (globals_of image c)) mine in
-    let o = both_facts (data_start d) x (x + 1) (stack_top d + length (globals_of image d)) others in
+    let m = data_bounds image c a size (omega (arith, from, upto)) mine in
+    let o = data_bounds image d x 1 (omega arith) others in
     omega (arith, m.0, m.1, o.0, o.1, few_globals image c formed, few_globals image d formed)
 
 byte_kept : (image : ImageParts) (c d a size word x : ℕ) (memory : Memory) → IsWellFormed image → c ≢ d → are_data image c a size ≡ true →
