@@ -8,7 +8,7 @@ use Rattle.sc_store.specs.Memory.{Memory, HoldsBytes, byte_of, stored}
 use Rattle.sc_image.specs.declared.parts.ImageParts.{ImageParts}
 use Rattle.sc_image.specs.declared.parts.CompPart.{CompPart}
 use Rattle.sc_image.specs.WellFormed.{IsByte, IsWellFormed}
-use Rattle.sc_image.specs.Layout.{stretch, stack_size, most_globals, data_start, stack_top, comp_of_data, globals_of, are_data}
+use Rattle.sc_image.specs.Layout.{stretch, stack_size, most_globals, data_start, comp_of_data, globals_of, are_data}
 use Rattle.sc_image.specs.State.{data_byte, start_memory}
 use Rattle.sc_image.specs.Step.{refused}
 use Rattle.sc_image.proofs.Cases.{allowed_data}

@@ -1,8 +1,7 @@
 -- What a step can come to, in two states at once that a compartment can't tell apart: the same registers, pc, inputs and events, and the same
 -- bytes at its addresses. A relation between the outcomes holds if it holds of each kind of outcome.
-use Rattle.std.proofs.Common.{◌≡◌, ℕ, ◌+◌, ◌<◌, ◌≤◌, ◌%◌, Bool, true, false, ◌&&◌, nat_eq, nat_le, if◌then◌else◌, List, length, set, Option, Some, None, refl, ap, subst, arith, length-set}
+use Rattle.std.proofs.Common.{◌≡◌, ℕ, ◌+◌, ◌<◌, ◌%◌, Bool, true, false, ◌&&◌, nat_eq, if◌then◌else◌, List, length, set, Option, Some, None, refl, ap, subst, arith, length-set}
 use Rattle.std.specs.Prelude.{is_some, not, ◌==◌, slice_index}
-use Rattle.std.proofs.lemmas.Bool.Decides.{nat_tests}
 use Rattle.sc_event.specs.declared.event.Event.{Event}
 use Rattle.sc_base.specs.declared.stop.TrapReason.{TrapReason}
 use Rattle.sc_base.specs.declared.stop.TrapReason.TheVariants.{Owner, Misaligned, Illegal, BadJump, NoImport, BadCall, Breakpoint}
@@ -26,7 +25,7 @@ use Rattle.sc_store.specs.Memory.{Memory, HoldsBytes}
 use Rattle.sc_store.proofs.Words.{load_of-same}
 use Rattle.sc_image.specs.declared.parts.ImageParts.{ImageParts}
 use Rattle.sc_image.proofs.Data.{data_bounds, within_data}
-use Rattle.sc_image.specs.Layout.{gate, data_start, stack_top, globals_of, comp_of_code, word_at, are_data}
+use Rattle.sc_image.specs.Layout.{gate, comp_of_code, word_at, are_data}
 use Rattle.sc_image.specs.Calls.{may_input, may_output, may_call, export_at, params_of}
 use Rattle.sc_image.specs.State.{State, Crossing, ra, a7, reg, written, with_pc}
 use Rattle.sc_image.specs.Cross.{called, returned, output, input}

@@ -7,7 +7,7 @@ use Rattle.sc_store.proofs.Words.{stored-apart}
 use Rattle.sc_event.specs.declared.row.Entry.TheVariants.{Export}
 use Rattle.sc_image.specs.declared.parts.ImageParts.{ImageParts}
 use Rattle.sc_image.specs.WellFormed.{IsWellFormed}
-use Rattle.sc_image.specs.Layout.{data_start, stack_top, globals_of, are_data}
+use Rattle.sc_image.specs.Layout.{are_data}
 use Rattle.sc_image.specs.Calls.{params_of, has_result}
 use Rattle.sc_image.specs.State.{State, Crossing, a0, sp, reg, saved_sp, written}
 use Rattle.sc_image.specs.Cross.{called, returned, returned_to, arguments, given_back, input_at}

@@ -10,10 +10,14 @@ pub returns-in-Some-clause-run : goal.returns-in-Some-clause-run
 returns-in-Some-clause-run g c =
     sym (run_stopped _ (map word_of c.args.inputs.now) _ _ (state_in (g.S.Store.bytes c.loop.memory) c.loop.hart) _ (rw c.deref.ensures.value at (sym c.in-Some.ensures))) ∙ c.loop.invariant.same
 
-pub step-requires-clause-room : goal.step-requires-clause-room
-step-requires-clause-room g c =
+pub step-requires-clause-ready : goal.step-requires-clause-ready
+step-requires-clause-ready g c =
     let left : length c.loop.hart.trace.items < c.args.events = room_left _ _ (rw c.deref.ensures.value at (sym c.in_default.ensures)) in
-    record { trace = omega (arith, c.loop.invariant.room.trace); cross = omega (arith, c.loop.invariant.room.cross) }
+    record {
+      here = c.loop.invariant.comp;
+      sound = rw c.loop.invariant.image c.loop.invariant.sound;
+      room = record { trace = omega (arith, c.loop.invariant.room.trace); cross = omega (arith, c.loop.invariant.room.cross) };
+    }
 
 pub returns-in-Err-clause-run : goal.returns-in-Err-clause-run
 returns-in-Err-clause-run g c =
