@@ -72,6 +72,11 @@ pub record IsReady (site : Site) (hart : Hart) : Type 0 where
   pub sound : IsSound site.image hart
   pub room : HasRoomForOne hart
 
+-- what an instruction leaves so: a hart of the image, with room for all the events that there was room for
+pub record StaysSound (image : ImageParts) (before after : Hart) : Type 0 where
+  pub sound : IsSound image after
+  pub room : (events : ℕ) → HasRoom events before → HasRoom events after
+
 -- there is a byte where there was one at the start, and nowhere else
 abbrev pub IsBacked : ImageParts → Memory → Type 0
 IsBacked image memory = (address : ℕ) → is_some (memory address) ≡ is_some (start_memory image address)

@@ -3,7 +3,7 @@
 ghost use Rattle.std.specs.Prelude.{◌≡◌, ◌+◌, ◌^◌, ◌<◌, ℕ, map, OnErr};
 ghost use Rattle.sc_word.specs.Word.{word_of};
 ghost use Rattle.sc_image.specs.Step.{execute, step};
-ghost use Rattle.sc_machine.specs.Hart.{state_in, outcome_of, IsSound, HasRoom, HasRoomForOne, IsBacked, IsReady};
+ghost use Rattle.sc_machine.specs.Hart.{state_in, outcome_of, IsSound, HasRoom, HasRoomForOne, IsBacked, IsReady, StaysSound};
 
 use crate::arithmetic::{op, op_imm, shift, upper};
 use crate::environment::environment_call;
@@ -27,9 +27,8 @@ pub(crate) fn step<S: Store>(
     ensures outcome { outcome_of result (state_in (S.bytes memory.new) hart.new) ≡ step here.now.image (map word_of inputs.now) (state_in (S.bytes memory.old) hart.old) }
     ensures trap { OnErr result (hart.new ≡ hart.old) }
     ensures memory { OnErr result (S.bytes memory.new ≡ S.bytes memory.old) }
-    ensures sound { IsSound here.now.image hart.new }
+    ensures stays { StaysSound here.now.image hart.old hart.new }
     ensures backed { IsBacked here.now.image (S.bytes memory.new) }
-    ensures room { (events : ℕ) → HasRoom events hart.old → HasRoom events hart.new }
 {
     let Some(word) = here.word_at(hart.core.pc) else {
         return Err(TrapReason::BadJump);
@@ -53,9 +52,8 @@ fn execute<S: Store>(
     ensures outcome { outcome_of result (state_in (S.bytes memory.new) hart.new) ≡ execute here.now.image (map word_of inputs.now) (state_in (S.bytes memory.old) hart.old) instr.now }
     ensures trap { OnErr result (hart.new ≡ hart.old) }
     ensures memory { OnErr result (S.bytes memory.new ≡ S.bytes memory.old) }
-    ensures sound { IsSound here.now.image hart.new }
+    ensures stays { StaysSound here.now.image hart.old hart.new }
     ensures backed { IsBacked here.now.image (S.bytes memory.new) }
-    ensures room { (events : ℕ) → HasRoom events hart.old → HasRoom events hart.new }
 {
     match *instr {
         Instr::Upper { op, rd, imm } => upper(&mut hart.core, op, rd, imm),

@@ -32,8 +32,8 @@ loop-preserved g c =
     record {
       image = c.follow.ensures.image ∙ c.loop.invariant.image;
       comp = c.follow.ensures.comp;
-      room = c.in_default-step.ensures.room c.args.events c.loop.invariant.room;
-      sound = rw c.loop.invariant.image at c.in_default-step.ensures.sound;
+      room = c.in_default-step.ensures.stays.room c.args.events c.loop.invariant.room;
+      sound = rw c.loop.invariant.image at c.in_default-step.ensures.stays.sound;
       backed = rw c.loop.invariant.image at c.in_default-step.ensures.backed;
       same =
           sym (gone _ (map word_of c.args.inputs.now) _ (state_in (g.S.Store.bytes c.loop.memory) c.loop.hart) _ _ _ left (rw c.deref.ensures.value at (sym c.in_default.ensures)) (rw c.loop.invariant.image at c.in_default-step.ensures.outcome)) ∙
