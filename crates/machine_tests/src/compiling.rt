@@ -1,7 +1,7 @@
 //! Words that an assembler outside wrote, and the image of the program that outputs 7 and returns 0.
 
-use sc_compile::compile;
 use sc_base::Words;
+use sc_compile::compile;
 use sc_core::ThinProgram;
 use std::test::Fail;
 

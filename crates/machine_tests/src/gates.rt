@@ -1,6 +1,6 @@
-use sc_gate::{CrossEntry, CrossStack, clear_for_call, clear_for_ret};
 use sc_base::OutOfMemory;
 use sc_event::{CompId, Entry};
+use sc_gate::{CrossEntry, CrossStack, clear_for_call, clear_for_ret};
 
 // A call from the first compartment to itself, which goes on at this address.
 fn call_at(pc: u32) -> CrossEntry {

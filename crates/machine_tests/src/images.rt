@@ -1,9 +1,9 @@
+use sc_base::{Name, OutOfMemory, Text, Words};
+use sc_event::CompId;
 use sc_image::{
     CompPart, CompParts, ExportParts, Image, ImageFault, ImageParts, ImportParts, image_interfaces,
     read_image, write_image,
 };
-use sc_base::{Name, OutOfMemory, Text, Words};
-use sc_event::CompId;
 use std::alloc::Global;
 
 // The image of `seven`.

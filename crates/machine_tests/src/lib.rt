@@ -1,4 +1,4 @@
-//! Words, instructions, memory, images, and machines that run them. This crate has tests alone.
+//! Memory, images, and machines that run them. This crate has tests alone.
 #![tactic(auto)]
 
 #[cfg(test)]
@@ -8,10 +8,6 @@ mod gates;
 #[cfg(test)]
 mod images;
 #[cfg(test)]
-mod instructions;
-#[cfg(test)]
 mod machines;
 #[cfg(test)]
 mod stores;
-#[cfg(test)]
-mod words;

@@ -1,13 +1,13 @@
 ghost use Rattle.std.specs.Prelude.{◌≡◌, ◌*◌, ◌<◌, ◌≤◌, false, [], ◌∷◌, codes, if◌then◌else◌, length, IfOk};
 ghost use Rattle.sc_image.specs.Layout.{stretch, most_globals};
 
-use sc_machine::Machine;
 use sc_base::Stop::{self, Ended, EventsOut, StepsOut, Trap};
 use sc_base::{Name, OutOfMemory, Text, TrapReason, Words};
 use sc_event::{Args, CompId, Event};
 use sc_image::{
     CompPart, CompParts, ExportPart, ExportParts, Image, ImageParts, ImportPart, ImportParts,
 };
+use sc_machine::Machine;
 use sc_store::FlatStore;
 use std::alloc::Global;
 

@@ -2,16 +2,17 @@
 use Rattle.std.proofs.Common.{◌≡◌, ℕ, ◌+◌, ◌-◌, ◌/◌, ◌%◌, ◌^◌, ◌<◌, ◌≤◌, Bool, true, false, ◌&&◌, nat_le, nat_lt, if◌then◌else◌, length, Option, Some, None, subst, arith, refl, ⊎_elim}
 use Rattle.std.specs.List.{slice_get}
 use Rattle.std.specs.Option.{option_and_then}
-use Rattle.std.proofs.lemmas.Bool.{ltb-true}
+use Rattle.std.proofs.lemmas.Bool.{ltb-true, leb-true}
 use Rattle.std.proofs.lemmas.Option.{slice_get_within, get_or_from_slice_get}
 use Rattle.sc_store.specs.Memory.{Memory, HoldsBytes, byte_of, stored}
 use Rattle.sc_image.specs.declared.parts.ImageParts.{ImageParts}
 use Rattle.sc_image.specs.declared.parts.CompPart.{CompPart}
 use Rattle.sc_image.specs.WellFormed.{IsByte, IsWellFormed}
-use Rattle.sc_image.specs.Layout.{stretch, stack_size, most_globals, data_start, stack_top, comp_of_data, globals_of, are_data}
+use Rattle.sc_image.specs.Layout.{stretch, stack_size, most_globals, data_start, comp_of_data, globals_of, are_data}
 use Rattle.sc_image.specs.State.{data_byte, start_memory}
 use Rattle.sc_image.specs.Step.{refused}
-use Rattle.sc_image.proofs.Cases.{allowed_data, both_facts}
+use Rattle.sc_image.proofs.Cases.{allowed_data}
+use Rattle.sc_image.proofs.Data.{data_bounds}
 use Rattle.std.proofs.lemmas.Option.{slice_get_cases}
 
 pub few_globals : (image : ImageParts) (c : ℕ) → IsWellFormed image → length (globals_of image c) ≤ most_globals
@@ -30,20 +31,21 @@ digit : (n : ℕ) → n % 256 < 256
 digit n = omega arith
 
 module _ (image : ImageParts) (formed : IsWellFormed image) (c a size word : ℕ) (memory : Memory) (active : c < length image.comps) (owned : are_data image c a size ≡ true) (bytes : HoldsBytes memory) where
-  data_below : (x : ℕ) → x < a + size → x < 2 ^ 32
-  unfolding are_data
-  data_below x upto =
-      let m = both_facts (data_start c) a (a + size) (stack_top c + length (globals_of image c)) owned in
+  data_below : (x : ℕ) → a ≤ x → x < a + size → x < 2 ^ 32
+  data_below x from upto =
+      let m = data_bounds image c a size (omega (arith, from, upto)) owned in
       omega (arith, m.1, upto, active, formed.few_comps, few_globals image c formed)
 
   stored_by : (x byte : ℕ) (inside : Bool) → (nat_le a x && nat_lt x (a + size)) ≡ inside →
       (if inside then Some (byte_of word (x - a)) else memory x) ≡ Some byte → IsByteAt x byte
   stored_by x byte true is at =
       let same : byte_of word (x - a) ≡ byte = cc at in
-      (data_below x (ltb-true x (a + size) (both (nat_le a x) (nat_lt x (a + size)) is).1), subst (λ b. b < 256) same (digit (word / 256 ^ (x - a))))
+      let tests = both (nat_le a x) (nat_lt x (a + size)) is in
+      (data_below x (leb-true a x tests.0) (ltb-true x (a + size) tests.1), subst (λ b. b < 256) same (digit (word / 256 ^ (x - a))))
   stored_by x byte false is at = bytes x byte at
 
-pub stored_bytes : (image : ImageParts) → IsWellFormed image → (c a size word : ℕ) (memory : Memory) → c < length image.comps → refused image c size a ≡ None →
+pub stored_bytes : (image : ImageParts) → IsWellFormed image → (c a size word : ℕ) (memory : Memory) →
+    c < length image.comps → refused image c size a ≡ None →
     HoldsBytes memory → HoldsBytes (stored memory a size word)
 stored_bytes image formed c a size word memory active allowed bytes x byte at =
     stored_by image formed c a size word memory active (allowed_data image c size a allowed) bytes x byte (nat_le a x && nat_lt x (a + size)) refl at
@@ -51,7 +53,8 @@ stored_bytes image formed c a size word memory active allowed bytes x byte at =
 -- the start
 
 module _ (image : ImageParts) (formed : IsWellFormed image) (a b : ℕ) where
-  global_byte : (c : ℕ) (comp : CompPart) → slice_get image.comps c ≡ Some comp → (k : ℕ) → slice_get comp.globals k ≡ Some b → b < 256
+  global_byte : (c : ℕ) (comp : CompPart) → slice_get image.comps c ≡ Some comp → (k : ℕ) →
+      slice_get comp.globals k ≡ Some b → b < 256
   global_byte c comp is k at =
       subst IsByte (get_or_from_slice_get comp.globals k b b at) ((formed.comps c comp is).bytes k b (slice_get_within comp.globals k b at))
 

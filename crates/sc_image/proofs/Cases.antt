@@ -1,8 +1,7 @@
 -- What a step can come to, in two states at once that a compartment can't tell apart: the same registers, pc, inputs and events, and the same
 -- bytes at its addresses. A relation between the outcomes holds if it holds of each kind of outcome.
-use Rattle.std.proofs.Common.{◌≡◌, ℕ, ◌+◌, ◌<◌, ◌≤◌, ◌%◌, Bool, true, false, ◌&&◌, nat_eq, nat_le, if◌then◌else◌, List, length, set, Option, Some, None, refl, ap, subst, arith, length-set}
+use Rattle.std.proofs.Common.{◌≡◌, ℕ, ◌+◌, ◌<◌, ◌%◌, Bool, true, false, ◌&&◌, nat_eq, if◌then◌else◌, List, length, set, Option, Some, None, refl, ap, subst, arith, length-set}
 use Rattle.std.specs.Prelude.{is_some, not, ◌==◌, slice_index}
-use Rattle.std.proofs.lemmas.Bool.Decides.{nat_tests}
 use Rattle.sc_event.specs.declared.event.Event.{Event}
 use Rattle.sc_base.specs.declared.stop.TrapReason.{TrapReason}
 use Rattle.sc_base.specs.declared.stop.TrapReason.TheVariants.{Owner, Misaligned, Illegal, BadJump, NoImport, BadCall, Breakpoint}
@@ -25,24 +24,18 @@ use Rattle.rv_code.specs.Decoding.{decoded}
 use Rattle.sc_store.specs.Memory.{Memory, HoldsBytes}
 use Rattle.sc_store.proofs.Words.{load_of-same}
 use Rattle.sc_image.specs.declared.parts.ImageParts.{ImageParts}
-use Rattle.sc_image.specs.Layout.{gate, data_start, stack_top, globals_of, comp_of_code, word_at, are_data}
+use Rattle.sc_image.proofs.Data.{data_bounds, within_data}
+use Rattle.sc_image.specs.Layout.{gate, comp_of_code, word_at, are_data}
 use Rattle.sc_image.specs.Calls.{may_input, may_output, may_call, export_at, params_of}
 use Rattle.sc_image.specs.State.{State, Crossing, ra, a7, reg, written, with_pc}
 use Rattle.sc_image.specs.Cross.{called, returned, output, input}
 use Rattle.sc_image.specs.Step.{Outcome, Goes, Traps, next, gives, load_size, store_size, extended, refused, unless, loaded, with_stored, jump, export_called, calls, leaves, jalr_target, compares, computed, on_registers, shift_on_registers, execute, by_owner, if_decoded, if_fetched, step, execute_by, step_by}
 
 -- each byte of an access that is the compartment's
-pub both_facts : (x y z w : ℕ) → (nat_le x y && nat_le z w) ≡ true → (x ≤ y) × (z ≤ w)
-both_facts x y z w h = (grind (arith, nat_tests), grind (arith, nat_tests))
-
-both_hold : (x y z w : ℕ) → x ≤ y → z ≤ w → (nat_le x y && nat_le z w) ≡ true
-both_hold x y z w h k = grind (arith, nat_tests)
-
 pub one_of : (image : ImageParts) (c a size k : ℕ) → are_data image c a size ≡ true → k < size → are_data image c (a + k) 1 ≡ true
-unfolding are_data
 one_of image c a size k all within =
-    let tests = both_facts (data_start c) a (a + size) (stack_top c + length (globals_of image c)) all in
-    both_hold (data_start c) (a + k) (a + k + 1) (stack_top c + length (globals_of image c)) (omega (arith, tests.0)) (omega (arith, tests.1))
+    let bounds = data_bounds image c a size (omega (arith, within)) all in
+    within_data image c (a + k) 1 (omega arith) (omega (arith, bounds.0)) (omega (arith, bounds.1, within))
 
 -- an access that isn't refused is of the compartment's bytes
 data_by : (aligned owned : Bool) → (if not aligned then Some Misaligned else if not owned then Some Owner else None) ≡ None → owned ≡ true

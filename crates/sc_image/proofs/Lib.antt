@@ -7,6 +7,7 @@ pub mod Stepping
 pub mod Fits
 pub mod OneComp
 pub mod Words
+pub mod Data
 pub mod Cases
 pub mod Bytes
 pub mod Reached

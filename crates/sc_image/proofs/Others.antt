@@ -7,7 +7,7 @@ use Rattle.sc_store.proofs.Words.{stored-apart}
 use Rattle.sc_event.specs.declared.row.Entry.TheVariants.{Export}
 use Rattle.sc_image.specs.declared.parts.ImageParts.{ImageParts}
 use Rattle.sc_image.specs.WellFormed.{IsWellFormed}
-use Rattle.sc_image.specs.Layout.{data_start, stack_top, globals_of, are_data}
+use Rattle.sc_image.specs.Layout.{are_data}
 use Rattle.sc_image.specs.Calls.{params_of, has_result}
 use Rattle.sc_image.specs.State.{State, Crossing, a0, sp, reg, saved_sp, written}
 use Rattle.sc_image.specs.Cross.{called, returned, returned_to, arguments, given_back, input_at}
@@ -18,17 +18,17 @@ use Rattle.sc_event.specs.declared.event.Event.{Event}
 use Rattle.sc_event.specs.declared.event.Event.TheVariants.{Call, Ret}
 use Rattle.std.specs.Prelude.{drop, ◌==◌}
 use Rattle.std.proofs.Math.Seq.{drop-append_seam}
-use Rattle.sc_image.proofs.Cases.{allowed_data, both_facts, step_of}
+use Rattle.sc_image.proofs.Cases.{allowed_data, step_of}
+use Rattle.sc_image.proofs.Data.{data_bounds}
 use Rattle.sc_image.proofs.Bytes.{few_globals}
 use Rattle.sc_image.specs.Steady.{IsChain, IsSteady}
 
 -- The compartments' addresses are apart.
 
 pub apart : (image : ImageParts) (c d a size x : ℕ) → IsWellFormed image → c ≢ d → are_data image c a size ≡ true → are_data image d x 1 ≡ true → a ≤ x → x < a + size → ⊥
-unfolding are_data
 apart image c d a size x formed differ mine others from upto =
-    let m = both_facts (data_start c) a (a + size) (stack_top c + length (globals_of image c)) mine in
-    let o = both_facts (data_start d) x (x + 1) (stack_top d + length (globals_of image d)) others in
+    let m = data_bounds image c a size (omega (arith, from, upto)) mine in
+    let o = data_bounds image d x 1 (omega arith) others in
     omega (arith, m.0, m.1, o.0, o.1, few_globals image c formed, few_globals image d formed)
 
 byte_kept : (image : ImageParts) (c d a size word x : ℕ) (memory : Memory) → IsWellFormed image → c ≢ d → are_data image c a size ≡ true →

@@ -46,11 +46,13 @@ abbrev Adds_to : List Event → Outcome → Type 0
 Adds_to trace (Goes next) = IsFront trace next.trace
 Adds_to trace (Traps reason) = Unit {0}
 
-return_adds : (image : ImageParts) (state : State) (cross : List Crossing) → IsFront state.trace (returned image state cross).trace
+return_adds : (image : ImageParts) (state : State) (cross : List Crossing) →
+    IsFront state.trace (returned image state cross).trace
 return_adds image state [] = (End state.active (reg state a0) ∷ [], refl)
 return_adds image state (x ∷ xs) = (Ret state.active x.caller (given_back (has_result image x.callee x.entry) state) ∷ [], refl)
 
-step_adds : (image : ImageParts) (inputs : List ℕ) (state : State) → IsWellFormed image → Adds_to state.trace (step image inputs state)
+step_adds : (image : ImageParts) (inputs : List ℕ) (state : State) → IsWellFormed image →
+    Adds_to state.trace (step image inputs state)
 step_adds image inputs state formed = step_of image inputs formed state (Adds_to state.trace) (record {
   same = λ a owned. refl;
   traps = λ reason. tt;
@@ -66,7 +68,8 @@ module _ (image : ImageParts) (inputs : List ℕ) (formed : IsWellFormed image) 
   goes_adds : (state next : State) → step image inputs state ≡ Goes next → IsFront state.trace next.trace
   goes_adds state next goes = subst (Adds_to state.trace) goes (step_adds image inputs state formed)
 
-  walked_adds : (n : ℕ) (state to : State) (outcome : Outcome) → step image inputs state ≡ outcome → then_on outcome (walk image inputs n) ≡ Goes to →
+  walked_adds : (n : ℕ) (state to : State) (outcome : Outcome) → step image inputs state ≡ outcome →
+      then_on outcome (walk image inputs n) ≡ Goes to →
       ((next : State) → walk image inputs n next ≡ Goes to → IsFront next.trace to.trace) → IsFront state.trace to.trace
   walked_adds n state to (Goes next) is goes later = front_on state.trace next.trace to.trace (goes_adds state next is) (later next goes)
   walked_adds n state to (Traps reason) is goes later = let never : Traps reason ≡ Goes to = goes in cc never
@@ -76,9 +79,11 @@ module _ (image : ImageParts) (inputs : List ℕ) (formed : IsWellFormed image) 
   walk_adds (suc n) state to goes = walked_adds n state to (step image inputs state) refl goes (λ next. walk_adds n next to)
 
   module _ (events more : ℕ) where
-    along : (n : ℕ) (from to : State) (outcome : Outcome) → step image inputs from ≡ outcome → then_on outcome (walk image inputs n) ≡ Goes to →
+    along : (n : ℕ) (from to : State) (outcome : Outcome) → step image inputs from ≡ outcome →
+        then_on outcome (walk image inputs n) ≡ Goes to →
         from.trace ≡ to.trace → stopped events from.trace ≡ None →
-        ((next : State) → walk image inputs n next ≡ Goes to → next.trace ≡ to.trace → stopped events next.trace ≡ None →
+        ((next : State) → walk image inputs n next ≡ Goes to → next.trace ≡ to.trace →
+        stopped events next.trace ≡ None →
         run image inputs events (n + more) next ≡ run image inputs events more to) →
         run image inputs events (suc (n + more)) from ≡ run image inputs events more to
     along n from to (Goes next) is goes silent early later =
@@ -89,7 +94,8 @@ module _ (image : ImageParts) (inputs : List ℕ) (formed : IsWellFormed image) 
         later next goes (sym same ∙ silent) (subst (λ (t : List Event). stopped events t ≡ None) same early)
     along n from to (Traps reason) is goes silent early later = let never : Traps reason ≡ Goes to = goes in cc never
 
-    run_along : (n : ℕ) (from to : State) → walk image inputs n from ≡ Goes to → from.trace ≡ to.trace → stopped events from.trace ≡ None →
+    run_along : (n : ℕ) (from to : State) → walk image inputs n from ≡ Goes to → from.trace ≡ to.trace →
+        stopped events from.trace ≡ None →
         run image inputs events (n + more) from ≡ run image inputs events more to
     run_along zero from to goes silent early =
         let same : from ≡ to = cc goes in ap (λ k. run image inputs events k from) (zero-add more) ∙ ap (run image inputs events more) same
@@ -105,7 +111,8 @@ module _ (image : ImageParts) (inputs : List ℕ) (formed : IsWellFormed image) 
   OpenWalk (suc n) from to = (is_ended from.trace ≡ false) × ((next : State) × ((step image inputs from ≡ Goes next) × OpenWalk n next to))
 
   -- one step more
-  walk_more : (n : ℕ) (from middle to : State) → OpenWalk n from middle → is_ended middle.trace ≡ false → step image inputs middle ≡ Goes to → OpenWalk (suc n) from to
+  walk_more : (n : ℕ) (from middle to : State) → OpenWalk n from middle → is_ended middle.trace ≡ false →
+      step image inputs middle ≡ Goes to → OpenWalk (suc n) from to
   walk_more zero from middle to same going goes =
       subst (λ (m : State). (is_ended m.trace ≡ false) × ((next : State) × ((step image inputs m ≡ Goes next) × (next ≡ to)))) (sym same) (going, (to, (goes, refl)))
   walk_more (suc n) from middle to h going goes = (h.0, (h.1.0, (h.1.1.0, walk_more n h.1.0 middle to h.1.1.1 going goes)))
@@ -117,7 +124,8 @@ module _ (image : ImageParts) (inputs : List ℕ) (formed : IsWellFormed image) 
       let later = open_adds n h.1.0 to h.1.1.1 in omega (arith, first, later)
 
   -- what a run comes to
-  not_ended : (events : ℕ) (trace : List Event) (ended full : Bool) → is_ended trace ≡ ended → (if ended then Some Ended else if full then Some EventsOut else None) ≡ None → is_ended trace ≡ false
+  not_ended : (events : ℕ) (trace : List Event) (ended full : Bool) → is_ended trace ≡ ended →
+      (if ended then Some Ended else if full then Some EventsOut else None) ≡ None → is_ended trace ≡ false
   not_ended events trace false full at is = at
   not_ended events trace true full at is = let never : ◌≡◌ {A = Option Stop} (Some Ended) None = is in cc never
 
@@ -128,11 +136,13 @@ module _ (image : ImageParts) (inputs : List ℕ) (formed : IsWellFormed image) 
   abbrev Comes : State → State → Type 0
   Comes from to = (n : ℕ) × OpenWalk n from to
 
-  comes_by : (from : State) (later : Run) (early : Option Stop) → (early ≡ None → Comes from later.state) → Comes from (stops_or early from later).state
+  comes_by : (from : State) (later : Run) (early : Option Stop) → (early ≡ None → Comes from later.state) →
+      Comes from (stops_or early from later).state
   comes_by from later None h = h refl
   comes_by from later (Some stop) h = (0, refl)
 
-  comes_after : (from : State) (outcome : Outcome) (go : State → Run) → step image inputs from ≡ outcome → is_ended from.trace ≡ false →
+  comes_after : (from : State) (outcome : Outcome) (go : State → Run) → step image inputs from ≡ outcome →
+      is_ended from.trace ≡ false →
       ((next : State) → Comes next (go next).state) → Comes from (after from outcome go).state
   comes_after from (Goes next) go is going later = let rest = later next in (suc rest.0, (going, (next, (is, rest.1))))
   comes_after from (Traps reason) go is going later = (0, refl)
@@ -145,11 +155,13 @@ module _ (image : ImageParts) (inputs : List ℕ) (formed : IsWellFormed image) 
       (λ early. comes_after from (step image inputs from) (run image inputs events steps) refl (goes_on events from.trace early) (comes events steps))
 
   -- a run comes along such a stretch
-  not_stopped : (events : ℕ) (trace : List Event) → is_ended trace ≡ false → length trace < events → stopped events trace ≡ None
+  not_stopped : (events : ℕ) (trace : List Event) → is_ended trace ≡ false → length trace < events →
+      stopped events trace ≡ None
   unfolding stopped
   not_stopped events trace going below = rw (going, lt-leb events (length trace) below) refl
 
-  none_by : (from : State) (early : Option Stop) → (stops_or early from (record { state = from; stop = StepsOut })).state ≡ from
+  none_by : (from : State) (early : Option Stop) →
+      (stops_or early from (record { state = from; stop = StepsOut })).state ≡ from
   none_by from None = refl
   none_by from (Some stop) = refl
 
@@ -157,7 +169,8 @@ module _ (image : ImageParts) (inputs : List ℕ) (formed : IsWellFormed image) 
   unfolding run
   none_runs events from = none_by from (stopped events from.trace)
 
-  open_run : (events n : ℕ) (from to : State) → OpenWalk n from to → length to.trace < events → (run image inputs events n from).state ≡ to
+  open_run : (events n : ℕ) (from to : State) → OpenWalk n from to → length to.trace < events →
+      (run image inputs events n from).state ≡ to
   open_run events zero from to same below = none_runs events from ∙ same
   open_run events (suc n) from to h below =
       let fewer = open_adds (suc n) from to h in
@@ -167,7 +180,8 @@ module _ (image : ImageParts) (inputs : List ℕ) (formed : IsWellFormed image) 
   reached_open : (from : State) → IsReached image inputs from → Comes (start image) from
   reached_open from h = subst (Comes (start image)) h.1.1 (comes h.1.0 h.0 (start image))
 
-  reached_next : (from to : State) → IsReached image inputs from → is_ended from.trace ≡ false → step image inputs from ≡ Goes to → IsReached image inputs to
+  reached_next : (from to : State) → IsReached image inputs from → is_ended from.trace ≡ false →
+      step image inputs from ≡ Goes to → IsReached image inputs to
   reached_next from to h going goes =
       let way = reached_open from h in
       (suc way.0, (suc (length to.trace), open_run (suc (length to.trace)) (suc way.0) (start image) to (walk_more way.0 (start image) from to way.1 going goes) (omega arith)))

@@ -14,18 +14,21 @@ use Rattle.sc_image.proofs.Stepping.{step_executes}
 
 -- Stretches.
 
-pub walk_one : (image : ImageParts) (inputs : List ℕ) (from to : State) → step image inputs from ≡ Goes to → Walks image inputs 1 from to
+pub walk_one : (image : ImageParts) (inputs : List ℕ) (from to : State) → step image inputs from ≡ Goes to →
+    Walks image inputs 1 from to
 walk_one image inputs from to goes = record { by = ap (λ o. then_on o (walk image inputs 0)) goes }
 
 module _ (image : ImageParts) (inputs : List ℕ) where
   -- the first of some steps
   walked_first : (m n : ℕ) (outcome : Outcome) (middle : State) → then_on outcome (walk image inputs m) ≡ Goes middle →
-      ((state : State) → walk image inputs m state ≡ Goes middle → walk image inputs (m + n) state ≡ walk image inputs n middle) →
+      ((state : State) → walk image inputs m state ≡ Goes middle →
+      walk image inputs (m + n) state ≡ walk image inputs n middle) →
       then_on outcome (walk image inputs (m + n)) ≡ walk image inputs n middle
   walked_first m n (Goes state) middle goes later = later state goes
   walked_first m n (Traps reason) middle goes later = let never : Traps reason ≡ Goes middle = goes in cc never
 
-  walk_on : (m n : ℕ) (from middle : State) → walk image inputs m from ≡ Goes middle → walk image inputs (m + n) from ≡ walk image inputs n middle
+  walk_on : (m n : ℕ) (from middle : State) → walk image inputs m from ≡ Goes middle →
+      walk image inputs (m + n) from ≡ walk image inputs n middle
   walk_on zero n from middle goes =
       let same : from ≡ middle = cc goes in ap (λ k. walk image inputs k from) (zero-add n) ∙ ap (walk image inputs n) same
   walk_on (suc m) n from middle goes =
@@ -84,11 +87,13 @@ module _ (image : ImageParts) (c : ℕ) (comp : CompPart) (found : slice_get ima
       let place : (data_start c + offset - data_start 0) % stretch ≡ offset = omega (arith, within) in
       rw (from, number, place, found) refl
 
-stack_placed : (image : ImageParts) (c : ℕ) (comp : CompPart) (k : ℕ) → slice_get image.comps c ≡ Some comp → k < stack_size → start_memory image (data_start c + k) ≡ Some 0
+stack_placed : (image : ImageParts) (c : ℕ) (comp : CompPart) (k : ℕ) → slice_get image.comps c ≡ Some comp →
+    k < stack_size → start_memory image (data_start c + k) ≡ Some 0
 stack_placed image c comp k found below =
     let low : nat_lt k stack_size ≡ true = lt-ltb _ _ below in data_placed image c comp found k (omega (arith, below)) ∙ rw low refl
 
-globals_placed : (image : ImageParts) (c : ℕ) (comp : CompPart) (k : ℕ) → IsWellFormed image → slice_get image.comps c ≡ Some comp → k < length comp.globals →
+globals_placed : (image : ImageParts) (c : ℕ) (comp : CompPart) (k : ℕ) → IsWellFormed image →
+    slice_get image.comps c ≡ Some comp → k < length comp.globals →
     start_memory image (stack_top c + k) ≡ slice_get comp.globals k
 globals_placed image c comp k formed found below =
     let at : stack_top c + k ≡ data_start c + (stack_size + k) = omega arith in

@@ -21,7 +21,8 @@ use Rattle.sc_event.specs.Legal.{is_input, is_output, is_function, imports, take
 use Rattle.sc_image.specs.Interfaces.{word_proto, word_interface, word_interfaces, LegalByWords}
 
 module _ (interfaces : Interfaces) where
-  same_comp : (comp : ℕ) → comp_at (word_interfaces interfaces) comp ≡ option_map word_interface (comp_at interfaces comp)
+  same_comp : (comp : ℕ) →
+      comp_at (word_interfaces interfaces) comp ≡ option_map word_interface (comp_at interfaces comp)
   same_comp comp = slice_get-map word_interface interfaces.comps comp
 
   -- imports
@@ -30,7 +31,8 @@ module _ (interfaces : Interfaces) where
   imports_by None = refl
   imports_by (Some i) = refl
 
-  same_imports : (comp : ℕ) (is_it : Import → Bool) → imports (word_interfaces interfaces) comp is_it ≡ imports interfaces comp is_it
+  same_imports : (comp : ℕ) (is_it : Import → Bool) →
+      imports (word_interfaces interfaces) comp is_it ≡ imports interfaces comp is_it
   same_imports comp is_it =
       ap (list_any is_it) (ap (λ (found : Option Interface). option_map_or (λ (i : Interface). i.imports) found []) (same_comp comp) ∙ imports_by (comp_at interfaces comp))
 
@@ -41,7 +43,8 @@ module _ (interfaces : Interfaces) where
   export_by index None = refl
   export_by index (Some i) = slice_get-map word_proto i.exports index
 
-  same_export : (comp index : ℕ) → export_at (word_interfaces interfaces) comp index ≡ option_map word_proto (export_at interfaces comp index)
+  same_export : (comp index : ℕ) →
+      export_at (word_interfaces interfaces) comp index ≡ option_map word_proto (export_at interfaces comp index)
   same_export comp index =
       ap (λ (found : Option Interface). option_and_then (λ (i : Interface). slice_get i.exports index) found) (same_comp comp) ∙ export_by index (comp_at interfaces comp)
 
@@ -50,11 +53,13 @@ module _ (interfaces : Interfaces) where
   takes_by count None = refl
   takes_by count (Some proto) = ap (λ (n : ℕ). n == count) (length-map proto.params (λ param. Int))
 
-  same_takes : (comp index count : ℕ) → takes (word_interfaces interfaces) comp index count ≡ takes interfaces comp index count
+  same_takes : (comp index count : ℕ) →
+      takes (word_interfaces interfaces) comp index count ≡ takes interfaces comp index count
   same_takes comp index count =
       ap (λ (found : Option Proto). option_map_or (λ (p : Proto). length p.params == count) found false) (same_export comp index) ∙ takes_by count (export_at interfaces comp index)
 
-  fits_by : (result : Option Scalar) (value : Option ℕ) → fits_result (option_map (λ r. Int) result) value ≡ fits_result result value
+  fits_by : (result : Option Scalar) (value : Option ℕ) →
+      fits_result (option_map (λ r. Int) result) value ≡ fits_result result value
   fits_by None None = refl
   fits_by None (Some word) = refl
   fits_by (Some type) None = refl
@@ -65,21 +70,24 @@ module _ (interfaces : Interfaces) where
   result_by value None = refl
   result_by value (Some proto) = fits_by proto.result value
 
-  same_return : (comp : ℕ) (entry : Entry) (value : Option ℕ) → may_return (word_interfaces interfaces) comp entry value ≡ may_return interfaces comp entry value
+  same_return : (comp : ℕ) (entry : Entry) (value : Option ℕ) →
+      may_return (word_interfaces interfaces) comp entry value ≡ may_return interfaces comp entry value
   same_return comp Main value = refl
   same_return comp (Export index) value =
       ap (λ (found : Option Proto). option_map_or (λ (p : Proto). fits_result p.result value) found false) (same_export comp index) ∙ result_by value (export_at interfaces comp index)
 
   -- events
 
-  same_event : (at : Standing) (event : Event) → may_perform (word_interfaces interfaces) at event ≡ may_perform interfaces at event
+  same_event : (at : Standing) (event : Event) →
+      may_perform (word_interfaces interfaces) at event ≡ may_perform interfaces at event
   same_event at (Call from to index args) = ap₂ (λ x y. x && y) (same_imports from (is_function to index)) (same_takes to index (length args))
   same_event at (Ret from to value) = ap (λ x. awaits at.waiting to && x) (same_return from at.active.entry value)
   same_event at (Out comp value) = same_imports comp is_output
   same_event at (In comp value) = same_imports comp is_input
   same_event at (End comp value) = refl
 
-  same_from : (at : Option Standing) (trace : List Event) → is_legal_from (word_interfaces interfaces) at trace ≡ is_legal_from interfaces at trace
+  same_from : (at : Option Standing) (trace : List Event) →
+      is_legal_from (word_interfaces interfaces) at trace ≡ is_legal_from interfaces at trace
   same_from at [] = refl
   same_from None (event ∷ later) = refl
   same_from (Some at) (event ∷ later) =

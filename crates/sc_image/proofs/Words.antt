@@ -70,7 +70,8 @@ if_zero : (b : Bool) → ◌≡◌ {A = ℕ} (if b then 0 else 0) 0
 if_zero true = refl
 if_zero false = refl
 
-pub kept_zero : (keeps : ℕ → Bool) (r : ℕ) (regs : List ℕ) → slice_index regs 0 ≡ 0 → slice_index (kept_from keeps r regs) 0 ≡ 0
+pub kept_zero : (keeps : ℕ → Bool) (r : ℕ) (regs : List ℕ) → slice_index regs 0 ≡ 0 →
+    slice_index (kept_from keeps r regs) 0 ≡ 0
 kept_zero keeps r [] h = h
 kept_zero keeps r (word ∷ words) h = let first : word ≡ 0 = h in rw first (if_zero (keeps r))
 
@@ -118,7 +119,8 @@ four_bytes : (memory : Memory) (a : ℕ) → HoldsBytes memory → load_of memor
 four_bytes memory a h =
     omega (arith, byte_below memory (a + 0) h, byte_below memory (a + 1) h, byte_below memory (a + 2) h, byte_below memory (a + 3) h)
 
-pub loaded_word : (memory : Memory) (op : LoadOp) (a : ℕ) → HoldsBytes memory → IsWord (extended op (load_of memory a (load_size op)))
+pub loaded_word : (memory : Memory) (op : LoadOp) (a : ℕ) → HoldsBytes memory →
+    IsWord (extended op (load_of memory a (load_size op)))
 loaded_word memory Lb a h = word_of-lt (signed (2 ^ 7) (load_of memory a 1))
 loaded_word memory Lh a h = word_of-lt (signed (2 ^ 15) (load_of memory a 2))
 loaded_word memory Lw a h = four_bytes memory a h
@@ -146,7 +148,8 @@ module _ (image : ImageParts) (formed : IsWellFormed image) (c address word : �
       }
 
   where_true : (aligned from : Bool) → nat_le (code_start c) address ≡ from →
-      (if aligned && from then slice_get (code_of image c) ((address - code_start c) / 4) else None) ≡ Some word → IsInCode address word
+      (if aligned && from then slice_get (code_of image c) ((address - code_start c) / 4) else None) ≡ Some word →
+      IsInCode address word
   where_true true true is at = comp_by (slice_get image.comps c) refl at (leb-true (code_start c) address is)
   where_true true false is at = let none : ◌≡◌ {A = Option ℕ} None (Some word) = at in cc none
   where_true false from is at = let none : ◌≡◌ {A = Option ℕ} None (Some word) = at in cc none
@@ -157,17 +160,20 @@ module _ (image : ImageParts) (formed : IsWellFormed image) (c address word : �
 
 -- an address where there is a word of code, and where an export begins
 
-is_some_at : (image : ImageParts) → IsWellFormed image → (c address : ℕ) → (word : Option ℕ) → word_at image c address ≡ word → IsSome word → IsWord address
+is_some_at : (image : ImageParts) → IsWellFormed image → (c address : ℕ) → (word : Option ℕ) →
+    word_at image c address ≡ word → IsSome word → IsWord address
 is_some_at image formed c address None at some = let never : false ≡ true = some in cc never
 is_some_at image formed c address (Some word) at some = omega (arith, (in_code image formed c address word at).next)
 
-pub code_address : (image : ImageParts) → IsWellFormed image → (c address : ℕ) → IsSome (word_at image c address) → IsWord address
+pub code_address : (image : ImageParts) → IsWellFormed image → (c address : ℕ) → IsSome (word_at image c address) →
+    IsWord address
 code_address image formed c address some = is_some_at image formed c address (word_at image c address) refl some
 
 abbrev no_export : ExportPart
 no_export = record { name = []; params = 0; result = false; entry = 0 }
 
-entry_by : (image : ImageParts) → IsWellFormed image → (c target index : ℕ) (comp : Option CompPart) → slice_get image.comps c ≡ comp →
+entry_by : (image : ImageParts) → IsWellFormed image → (c target index : ℕ) (comp : Option CompPart) →
+    slice_get image.comps c ≡ comp →
     position (λ export. export.entry == target) (option_map_or (λ (x : CompPart). x.exports) comp []) ≡ Some index → IsWord target
 entry_by image formed c target index None is at = let none : ◌≡◌ {A = Option ℕ} None (Some index) = at in cc none
 entry_by image formed c target index (Some comp) is at =
@@ -175,5 +181,6 @@ entry_by image formed c target index (Some comp) is at =
     let entry = ((formed.comps c comp is).exports index no_export first.0).entry in
     subst IsWord (eqb-true _ _ first.1) (code_address image formed c _ entry)
 
-pub entry_address : (image : ImageParts) → IsWellFormed image → (c target index : ℕ) → export_at image c target ≡ Some index → IsWord target
+pub entry_address : (image : ImageParts) → IsWellFormed image → (c target index : ℕ) →
+    export_at image c target ≡ Some index → IsWord target
 entry_address image formed c target index at = entry_by image formed c target index (slice_get image.comps c) refl at

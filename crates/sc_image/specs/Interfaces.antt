@@ -1,4 +1,5 @@
--- What an image says to the outside: the interfaces of its compartments, where every word is an `int`, and that its runs keep them.
+-- What an image says to the outside: the interfaces of its compartments, where every word is an `int`, and that its
+-- runs keep them.
 use Rattle.std.specs.Prelude.{◌≡◌, ℕ, All, true, List, [], ◌∷◌, ◌++◌, map, replicate, Some, None, if◌then◌else◌}
 use Rattle.std.specs.Option.{option_map}
 use Rattle.sc_event.specs.declared.event.Event.{Event}

@@ -63,14 +63,17 @@ abbrev pub shows_entry : ℕ → Shown → Bool
 shows_entry d (Adds events) = list_any (activates d) events
 shows_entry d (Stops reason) = false
 
--- A step leaves what belongs to every compartment but the active one as it was, unless its event is a call or a return that makes that one active.
+-- A step leaves what belongs to every compartment but the active one as it was, unless its event is a call or a return
+-- that makes that one active.
 abbrev pub LeavesOthers : Type 0
 LeavesOthers =
     (image : ImageParts) (inputs : List ℕ) (state : State) (d : ℕ) → IsWellFormed image → IsSteady image state →
     d ≢ state.active → shows_entry d (shown image inputs state) ≡ false → own image (after_step image inputs state) d ≡ own image state d
 
--- Two states that a compartment can't tell apart: it is active in both, with the same events before and the same own parts. So the same
--- calls are open. All that belongs to others may differ: their data, their saved sps and their numbers on the cross stack.
+-- Two states that a compartment can't tell apart: it is active in both, with the same events before and the same own
+-- parts. So the same
+-- calls are open. All that belongs to others may differ: their data, their saved sps and their numbers on the cross
+-- stack.
 pub record LooksSame (image : ImageParts) (c : ℕ) (one other : State) : Type 0 where
   pub one_steady : IsSteady image one
   pub other_steady : IsSteady image other
@@ -88,7 +91,8 @@ pub record GoesOnSame (image : ImageParts) (inputs : List ℕ) (c : ℕ) (one ot
 -- What a compartment does until the next event, and that event, follow from its own parts and the events before.
 abbrev pub FollowsFromOwn : Type 0
 FollowsFromOwn =
-    (image : ImageParts) (inputs : List ℕ) (c : ℕ) (one other : State) (steps : ℕ) → IsWellFormed image → All IsWord inputs → LooksSame image c one other →
+    (image : ImageParts) (inputs : List ℕ) (c : ℕ) (one other : State) (steps : ℕ) → IsWellFormed image →
+    All IsWord inputs → LooksSame image c one other →
     (AreSilent image inputs steps one ↔ AreSilent image inputs steps other) ×
     (AreSilent image inputs steps one →
     GoesOnSame image inputs c (after_steps image inputs steps one) (after_steps image inputs steps other))

@@ -1,6 +1,9 @@
 -- Where things lie in memory. A compartment has a stretch of addresses for its code and one for its data, both found by its number.
-use Rattle.std.specs.Prelude.{ℕ, ◌+◌, ◌-◌, ◌*◌, ◌/◌, ◌%◌, Bool, ◌&&◌, nat_le, nat_eq, List, [], length, slice_get, Option, None, if◌then◌else◌}
+use Rattle.std.specs.Prelude.{ℕ, zero, suc, ◌+◌, ◌-◌, ◌*◌, ◌/◌, ◌%◌, Bool, true, ◌&&◌, nat_le, nat_eq, List, [], ◌∷◌, length, slice_get, Option, None, if◌then◌else◌}
+use Rattle.std.specs.List.{list_any}
 use Rattle.std.specs.Option.{option_map_or}
+use Rattle.sc_store.specs.declared.region.Region.{Region}
+use Rattle.sc_store.specs.Region.{is_in}
 use Rattle.sc_image.specs.declared.parts.ImageParts.{ImageParts}
 
 -- from one compartment's stretch to the next, and so the most bytes of code
@@ -49,7 +52,13 @@ unfoldable pub word_at : ImageParts → (c address : ℕ) → Option ℕ
 word_at image c address =
     if nat_eq (address % 4) 0 && nat_le (code_start c) address then slice_get (code_of image c) ((address - code_start c) / 4) else None
 
--- so many bytes from an address on all lie in c's stack and globals
+-- the regions of c's data: its stack, and its globals
+abbrev pub data_regions : ImageParts → ℕ → List Region
+data_regions image c =
+    record { start = data_start c; bytes = stack_size } ∷ record { start = stack_top c; bytes = length (globals_of image c) } ∷ []
+
+-- so many bytes from an address on all lie in c's data
 unfoldable pub are_data : ImageParts → (c address size : ℕ) → Bool
-are_data image c address size =
-    nat_le (data_start c) address && nat_le (address + size) (stack_top c + length (globals_of image c))
+are_data image c address zero = true
+are_data image c address (suc size) =
+    are_data image c address size && list_any (λ region. is_in region (address + size)) (data_regions image c)

@@ -1,5 +1,7 @@
--- The steady states: those that a run may go on from, whether or not a run reaches them. The start is one, and each step keeps it so.
--- They differ from one another in all that a compartment may hold: its data, its registers, and its numbers on the cross stack.
+-- The steady states: those that a run may go on from, whether or not a run reaches them. The start is one, and each
+-- step keeps it so.
+-- They differ from one another in all that a compartment may hold: its data, its registers, and its numbers on the
+-- cross stack.
 use Rattle.std.specs.Prelude.{◌≡◌, ◌≢◌, ℕ, suc, ◌<◌, List, [], ◌∷◌, length, map, fold, All}
 use Rattle.sc_event.specs.declared.event.Event.{Event}
 use Rattle.sc_event.specs.declared.event.Event.TheVariants.{Call, Ret, Out, In, End}
@@ -43,7 +45,8 @@ count_read count _ = count
 abbrev pub inputs_in : List Event → ℕ
 inputs_in trace = fold count_read 0 trace
 
--- the latest call is of the active compartment, was made by another one of the image, and that one is who the calls before it made active
+-- the latest call is of the active compartment, was made by another one of the image, and that one is who the calls
+-- before it made active
 abbrev pub IsChain : (count active : ℕ) → List Crossing → Type 0
 IsChain count active [] = Unit {0}
 IsChain count active (x ∷ xs) = (x.callee ≡ active) × (x.caller ≢ x.callee) × (x.caller < count) × IsChain count x.caller xs

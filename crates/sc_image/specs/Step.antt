@@ -108,7 +108,8 @@ store_size Sb = 1
 store_size Sh = 2
 store_size Sw = 4
 
--- why so many bytes from an address on may not be accessed: it isn't a multiple of their number, or the access isn't allowed
+-- why so many bytes from an address on may not be accessed: it isn't a multiple of their number, or the access isn't
+-- allowed
 abbrev pub refused_by : (allowed : Bool) → (size address : ℕ) → Option TrapReason
 refused_by allowed size address =
     if not (address % size == 0) then Some Misaligned
@@ -200,7 +201,8 @@ module _ (protection : Protection) where
   unfoldable pub step_by : State → Outcome
   step_by state = if_fetched state (protection.fetched state.active state.pc)
 
--- The machine of an image, by who owns an address: a compartment executes its own code, and loads and stores in its own data.
+-- The machine of an image, by who owns an address: a compartment executes its own code, and loads and stores in its own
+-- data.
 
 abbrev pub refused : ImageParts → (c size address : ℕ) → Option TrapReason
 refused image c size address = refused_by (are_data image c address size) size address
@@ -214,7 +216,8 @@ store image state op address word = store_by (are_data image state.active addres
 abbrev pub jump : ImageParts → State → (rd target : ℕ) → (elsewhere : Outcome) → Outcome
 jump image state rd target elsewhere = jump_by (is_some (word_at image state.active target)) state rd target elsewhere
 
--- to where an export of another compartment begins, which is a call of it: the export's index is given, or that there is none
+-- to where an export of another compartment begins, which is a call of it: the export's index is given, or that there
+-- is none
 abbrev pub export_called : ImageParts → State → (to target : ℕ) → Option ℕ → Outcome
 export_called image state to target None = Traps BadJump
 export_called image state to target (Some index) =

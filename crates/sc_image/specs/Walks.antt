@@ -1,4 +1,5 @@
--- Stretches of a run, for proofs about code: so many steps that lead from one state to another, and what they say of whole runs.
+-- Stretches of a run, for proofs about code: so many steps that lead from one state to another, and what they say of
+-- whole runs.
 use Rattle.std.specs.Prelude.{◌≡◌, ℕ, zero, suc, ◌+◌, ◌*◌, ◌<◌, ℤ, true, false, List, ◌∷◌, ◌++◌, length, slice_get, Some, None}
 use Rattle.sc_base.specs.declared.stop.Stop.TheVariants.{StepsOut, Trap}
 use Rattle.sc_base.specs.declared.stop.Stop.{Stop}
@@ -45,12 +46,15 @@ pub record IsAt (image : ImageParts) (state : State) (instr : Instr) : Type 0 wh
   pub fetched : word_at image state.active state.pc ≡ Some word
   pub decodes : decoded word ≡ Some instr
 
--- Stretches follow one another, and a run goes along a stretch as long as it neither ends nor has shown all the events that it may.
+-- Stretches follow one another, and a run goes along a stretch as long as it neither ends nor has shown all the events
+-- that it may.
 pub record StretchesCompose : Type 0 where
-  pub one_step : (image : ImageParts) (inputs : List ℕ) (from to : State) → step image inputs from ≡ Goes to → Walks image inputs 1 from to
+  pub one_step : (image : ImageParts) (inputs : List ℕ) (from to : State) → step image inputs from ≡ Goes to →
+      Walks image inputs 1 from to
   pub together : (image : ImageParts) (inputs : List ℕ) (m n : ℕ) (from middle to : State) →
       Walks image inputs m from middle → Walks image inputs n middle to → Walks image inputs (m + n) from to
-  pub run_along : (image : ImageParts) (inputs : List ℕ) (events steps more : ℕ) (from to : State) → IsWellFormed image →
+  pub run_along : (image : ImageParts) (inputs : List ℕ) (events steps more : ℕ) (from to : State) →
+      IsWellFormed image →
       Walks image inputs steps from to → from.trace ≡ to.trace → stopped events from.trace ≡ None →
       run image inputs events (steps + more) from ≡ run image inputs events more to
   pub run_step : (image : ImageParts) (inputs : List ℕ) (events more : ℕ) (from to : State) →
@@ -98,8 +102,10 @@ pub record StepsByInstruction : Type 0 where
       IsAt image state (Op op rd rs1 rs2) → step image inputs state ≡ gives state rd (computed op (reg state rs1) (reg state rs2))
   pub fence : (image : ImageParts) (inputs : List ℕ) (state : State) (imm : ℤ) (rs1 rd : ℕ) →
       IsAt image state (Fence imm rs1 rd) → step image inputs state ≡ next state
-  pub ecall : (image : ImageParts) (inputs : List ℕ) (state : State) → IsAt image state Ecall → step image inputs state ≡ environment_call image inputs state
-  pub ebreak : (image : ImageParts) (inputs : List ℕ) (state : State) → IsAt image state Ebreak → step image inputs state ≡ Traps Breakpoint
+  pub ecall : (image : ImageParts) (inputs : List ℕ) (state : State) → IsAt image state Ecall →
+      step image inputs state ≡ environment_call image inputs state
+  pub ebreak : (image : ImageParts) (inputs : List ℕ) (state : State) → IsAt image state Ebreak →
+      step image inputs state ≡ Traps Breakpoint
 
 -- where a compartment's words of code and bytes of data stand at the start
 pub record ImageInMemory : Type 0 where
@@ -107,5 +113,6 @@ pub record ImageInMemory : Type 0 where
       word_at image c (code_start c + 4 * length before) ≡ Some word
   pub stack : (image : ImageParts) (c : ℕ) (comp : CompPart) (k : ℕ) → slice_get image.comps c ≡ Some comp →
       k < stack_size → start_memory image (data_start c + k) ≡ Some 0
-  pub globals : (image : ImageParts) (c : ℕ) (comp : CompPart) (k : ℕ) → IsWellFormed image → slice_get image.comps c ≡ Some comp →
+  pub globals : (image : ImageParts) (c : ℕ) (comp : CompPart) (k : ℕ) → IsWellFormed image →
+      slice_get image.comps c ≡ Some comp →
       k < length comp.globals → start_memory image (stack_top c + k) ≡ slice_get comp.globals k

@@ -1,5 +1,5 @@
 -- Which accesses are allowed, and that there is memory for them.
-use Rattle.std.proofs.Common.{◌≡◌, ℕ, ◌+◌, ◌-◌, ◌%◌, ◌<◌, ◌≤◌, Bool, true, false, ◌&&◌, nat_le, nat_lt, List, length, Some, None, refl, sym, ◌∙◌, ap, subst, arith, ⊎_elim}
+use Rattle.std.proofs.Common.{◌≡◌, ℕ, ◌+◌, ◌-◌, ◌%◌, ◌<◌, ◌≤◌, Bool, true, false, nat_le, nat_lt, List, length, Some, None, refl, sym, ◌∙◌, ap, subst, arith, ⊎_elim}
 use Rattle.std.specs.Prelude.{is_some, if◌then◌else◌}
 use Rattle.std.specs.List.{slice_get}
 use Rattle.std.proofs.lemmas.Bool.{le-leb, lt-leb, le-ltb}
@@ -14,25 +14,24 @@ use Rattle.sc_image.specs.declared.parts.ImageParts.{ImageParts}
 use Rattle.sc_image.specs.declared.parts.CompPart.{CompPart}
 use Rattle.sc_image.specs.Layout.{stretch, most_globals, stack_size, data_start, stack_top, comp_of_data, globals_of, are_data}
 use Rattle.sc_image.specs.State.{State, start_memory}
+use Rattle.sc_image.proofs.Data.{range_of, data_bounds}
 use Rattle.sc_image.specs.Step.{Traps, next, gives, load_size, store_size, extended, refused, load, store, with_stored}
 use Rattle.sc_machine.specs.Place.{IsPlace, IsLookedUp}
 use Rattle.sc_machine.specs.Hart.{IsBacked}
 
 -- The owner's test.
 
-pub below_data : (image : ImageParts) (c a size : ℕ) → a < data_start c → are_data image c a size ≡ false
-unfolding are_data
-below_data image c a size h = rw (lt-leb (data_start c) a h) refl
+pub below_data : (image : ImageParts) (c a size : ℕ) → 0 < size → a < data_start c → are_data image c a size ≡ false
+below_data image c a size some h = rw (range_of image c a size some, lt-leb (data_start c) a h) refl
 
 moved_test : (a low n size : ℕ) → low ≤ a → size ≤ n → nat_le (a - low) (n - size) ≡ nat_le (a + size) (low + n)
 moved_test a low n size h k = grind (arith, nat_tests)
 
-pub from_data : (image : ImageParts) (c a size n : ℕ) → n ≡ length (globals_of image c) → data_start c ≤ a → size ≤ stack_size + n →
+pub from_data : (image : ImageParts) (c a size n : ℕ) → 0 < size → n ≡ length (globals_of image c) → data_start c ≤ a → size ≤ stack_size + n →
     nat_le (a - data_start c) (stack_size + n - size) ≡ are_data image c a size
-unfolding are_data
-from_data image c a size n is low few =
+from_data image c a size n some is low few =
     let top : data_start c + (stack_size + n) ≡ stack_top c + length (globals_of image c) = omega arith in
-    rw (le-leb (data_start c) a low) (moved_test a (data_start c) (stack_size + n) size low few ∙ ap (nat_le (a + size)) top)
+    rw (range_of image c a size some, le-leb (data_start c) a low) (moved_test a (data_start c) (stack_size + n) size low few ∙ ap (nat_le (a + size)) top)
 
 -- There is a byte at each of a compartment's addresses at the start.
 
@@ -53,17 +52,13 @@ start_there image c a comp found few low high =
     let offset : (a - data_start 0) % stretch ≡ a - data_start c = omega arith in
     rw (above, number, found, offset) (there_by (a - data_start c) comp (nat_lt (a - data_start c) stack_size) refl (omega arith))
 
-both_tests : (x y z w : ℕ) → (nat_le x y && nat_le z w) ≡ true → (x ≤ y) × (z ≤ w)
-both_tests x y z w h = (grind (arith, nat_tests), grind (arith, nat_tests))
-
 found_there : (image : ImageParts) (c a size : ℕ) (comp : CompPart) → slice_get image.comps c ≡ Some comp → length comp.globals ≤ most_globals →
     are_data image c a size ≡ true → HasBytes (start_memory image) a size
-unfolding are_data
-found_there image c a size comp found few h =
+found_there image c a size comp found few h = λ k below.
     let same : globals_of image c ≡ comp.globals = rw found refl in
-    let tests = both_tests (data_start c) a (a + size) (stack_top c + length comp.globals)
-    (subst (λ globals. (nat_le (data_start c) a && nat_le (a + size) (stack_top c + length globals)) ≡ true) same h) in
-    λ k below. start_there image c (a + k) comp found few (omega (arith, tests.0)) (omega (arith, tests.1))
+    let bounds = data_bounds image c a size (omega (arith, below)) h in
+    let high : a + size ≤ stack_top c + length comp.globals = subst (λ globals. a + size ≤ stack_top c + length globals) same bounds.1 in
+    start_there image c (a + k) comp found few (omega (arith, bounds.0)) (omega (arith, high, below))
 
 pub data_there : (image : ImageParts) (c a size : ℕ) → IsPlace image c → are_data image c a size ≡ true → HasBytes (start_memory image) a size
 data_there image c a size place h =
@@ -74,16 +69,16 @@ data_there image c a size place h =
 
 -- the same by what was looked up
 module _ {image : ImageParts} {c : ℕ} {words : List ℕ} {code_from data_from bytes : ℕ} (looked : IsLookedUp image c words code_from data_from bytes) where
-  pub looked_below : (a size : ℕ) → a < data_from → are_data image c a size ≡ false
-  looked_below a size low = below_data image c a size (rw looked.data_from_is at low)
+  pub looked_below : (a size : ℕ) → 0 < size → a < data_from → are_data image c a size ≡ false
+  looked_below a size some low = below_data image c a size some (rw looked.data_from_is at low)
 
-  pub looked_data : (a size : ℕ) → data_from ≤ a → size ≤ 4 → nat_le (a - data_from) (bytes - size) ≡ are_data image c a size
-  looked_data a size low few =
+  pub looked_data : (a size : ℕ) → 0 < size → data_from ≤ a → size ≤ 4 → nat_le (a - data_from) (bytes - size) ≡ are_data image c a size
+  looked_data a size some low few =
       rw (looked.data_from_is, looked.bytes_are)
-      (from_data image c a size (length (globals_of image c)) refl (rw looked.data_from_is at low) (omega arith))
+      (from_data image c a size (length (globals_of image c)) some refl (rw looked.data_from_is at low) (omega arith))
 
-  pub looked_there : (a size : ℕ) → IsPlace image c → data_from ≤ a → size ≤ 4 → nat_le (a - data_from) (bytes - size) ≡ true → HasBytes (start_memory image) a size
-  looked_there a size place low few test = data_there image c a size place (sym (looked_data a size low few) ∙ test)
+  pub looked_there : (a size : ℕ) → 0 < size → IsPlace image c → data_from ≤ a → size ≤ 4 → nat_le (a - data_from) (bytes - size) ≡ true → HasBytes (start_memory image) a size
+  looked_there a size some place low few test = data_there image c a size place (sym (looked_data a size some low few) ∙ test)
 
 -- and later
 

@@ -7,7 +7,7 @@ use Rattle.sc_image.specs.State.{State, written, start_memory}
 use Rattle.sc_image.specs.Step.{Outcome, Goes, Traps}
 use Rattle.sc_machine.specs.declared.hart.Core.{Core}
 use Rattle.sc_machine.specs.declared.hart.Hart.{Hart}
-use Rattle.sc_machine.specs.Place.{IsPlace}
+use Rattle.sc_machine.specs.Place.{IsPlace, Site}
 
 -- a state with these registers and this pc
 abbrev pub at : State → Core → State
@@ -65,6 +65,17 @@ pub record HasRoom (events : ℕ) (hart : Hart) : Type 0 where
 pub record HasRoomForOne (hart : Hart) : Type 0 where
   pub trace : length hart.trace.items < vec_capacity hart.trace
   pub cross : 0 < hart.cross.room
+
+-- a hart that an instruction of this compartment's code can change: its code runs, and there is room for what the instruction shows
+pub record IsReady (site : Site) (hart : Hart) : Type 0 where
+  pub here : site.comp ≡ hart.active
+  pub sound : IsSound site.image hart
+  pub room : HasRoomForOne hart
+
+-- what an instruction leaves so: a hart of the image, with room for all the events that there was room for
+pub record StaysSound (image : ImageParts) (before after : Hart) : Type 0 where
+  pub sound : IsSound image after
+  pub room : (events : ℕ) → HasRoom events before → HasRoom events after
 
 -- there is a byte where there was one at the start, and nowhere else
 abbrev pub IsBacked : ImageParts → Memory → Type 0

@@ -8,7 +8,7 @@ ghost use Rattle.sc_image.specs.State.{State};
 ghost use Rattle.sc_image.specs.Cross.{arguments, called};
 ghost use Rattle.sc_image.specs.Step.{Traps, export_called, calls};
 ghost use Rattle.sc_image.specs.WellFormed.{IsWellFormed};
-ghost use Rattle.sc_machine.specs.Hart.{state_in, outcome_of, IsSound, HasRoom, HasRoomForOne};
+ghost use Rattle.sc_machine.specs.Hart.{state_in, outcome_of, IsSound, HasRoom, HasRoomForOne, IsReady, StaysSound};
 ghost use Rattle.sc_machine.specs.Passing.{IsCallee, entered};
 
 use crate::hart::{Core, Hart};
@@ -41,13 +41,10 @@ pub(crate) fn call_out(
     target: u32,
 ) -> Result<(), TrapReason>
     requires pc { hart.old.core.pc + 4 < 2 ^ 32 }
-    requires here { here.now.comp ≡ hart.old.active }
-    requires sound { IsSound here.now.image hart.old }
-    requires room { HasRoomForOne hart.old }
+    requires ready { IsReady here.now hart.old }
     ensures outcome { (memory : Memory) → outcome_of result (state_in memory hart.new) ≡ calls here.now.image (state_in memory hart.old) rd target }
     ensures trap { OnErr result (hart.new ≡ hart.old) }
-    ensures sound { IsSound here.now.image hart.new }
-    ensures room { (events : ℕ) → HasRoom events hart.old → HasRoom events hart.new }
+    ensures stays { StaysSound here.now.image hart.old hart.new }
 {
     if rd as usize != RA {
         return Err(TrapReason::BadJump);

@@ -7,7 +7,7 @@ ghost use Rattle.sc_image.specs.declared.parts.ImageParts.{ImageParts};
 ghost use Rattle.sc_image.specs.Calls.{may_input, may_output};
 ghost use Rattle.sc_image.specs.Cross.{input_at, input, output};
 ghost use Rattle.sc_image.specs.Step.{Goes, next, environment_call};
-ghost use Rattle.sc_machine.specs.Hart.{state_in, outcome_of, IsSound, HasRoom, HasRoomForOne};
+ghost use Rattle.sc_machine.specs.Hart.{state_in, outcome_of, IsSound, HasRoom, HasRoomForOne, IsReady, StaysSound};
 
 use crate::hart::Hart;
 use crate::here::Here;
@@ -21,13 +21,10 @@ pub(crate) fn environment_call(
     hart: &mut Hart,
 ) -> Result<(), TrapReason>
     requires pc { hart.old.core.pc + 4 < 2 ^ 32 }
-    requires here { here.now.comp ≡ hart.old.active }
-    requires sound { IsSound here.now.image hart.old }
-    requires room { HasRoomForOne hart.old }
+    requires ready { IsReady here.now hart.old }
     ensures outcome { (memory : Memory) → outcome_of result (state_in memory hart.new) ≡ environment_call here.now.image (map word_of inputs.now) (state_in memory hart.old) }
     ensures trap { OnErr result (hart.new ≡ hart.old) }
-    ensures sound { IsSound here.now.image hart.new }
-    ensures room { (events : ℕ) → HasRoom events hart.old → HasRoom events hart.new }
+    ensures stays { StaysSound here.now.image hart.old hart.new }
 {
     match hart.core.registers[A7] {
         INPUT if may_input(here) => {

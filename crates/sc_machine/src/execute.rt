@@ -3,7 +3,7 @@
 ghost use Rattle.std.specs.Prelude.{◌≡◌, ◌+◌, ◌^◌, ◌<◌, ℕ, map, OnErr};
 ghost use Rattle.sc_word.specs.Word.{word_of};
 ghost use Rattle.sc_image.specs.Step.{execute, step};
-ghost use Rattle.sc_machine.specs.Hart.{state_in, outcome_of, IsSound, HasRoom, HasRoomForOne, IsBacked};
+ghost use Rattle.sc_machine.specs.Hart.{state_in, outcome_of, IsSound, HasRoom, HasRoomForOne, IsBacked, IsReady, StaysSound};
 
 use crate::arithmetic::{op, op_imm, shift, upper};
 use crate::environment::environment_call;
@@ -22,16 +22,13 @@ pub(crate) fn step<S: Store>(
     hart: &mut Hart,
     memory: &mut S,
 ) -> Result<(), TrapReason>
-    requires here { here.now.comp ≡ hart.old.active }
-    requires sound { IsSound here.now.image hart.old }
+    requires ready { IsReady here.now hart.old }
     requires backed { IsBacked here.now.image (S.bytes memory.old) }
-    requires room { HasRoomForOne hart.old }
     ensures outcome { outcome_of result (state_in (S.bytes memory.new) hart.new) ≡ step here.now.image (map word_of inputs.now) (state_in (S.bytes memory.old) hart.old) }
     ensures trap { OnErr result (hart.new ≡ hart.old) }
     ensures memory { OnErr result (S.bytes memory.new ≡ S.bytes memory.old) }
-    ensures sound { IsSound here.now.image hart.new }
+    ensures stays { StaysSound here.now.image hart.old hart.new }
     ensures backed { IsBacked here.now.image (S.bytes memory.new) }
-    ensures room { (events : ℕ) → HasRoom events hart.old → HasRoom events hart.new }
 {
     let Some(word) = here.word_at(hart.core.pc) else {
         return Err(TrapReason::BadJump);
@@ -49,17 +46,14 @@ fn execute<S: Store>(
     memory: &mut S,
     instr: &Instr,
 ) -> Result<(), TrapReason>
-    requires here { here.now.comp ≡ hart.old.active }
-    requires sound { IsSound here.now.image hart.old }
+    requires ready { IsReady here.now hart.old }
     requires backed { IsBacked here.now.image (S.bytes memory.old) }
     requires pc { hart.old.core.pc + 4 < 2 ^ 32 }
-    requires room { HasRoomForOne hart.old }
     ensures outcome { outcome_of result (state_in (S.bytes memory.new) hart.new) ≡ execute here.now.image (map word_of inputs.now) (state_in (S.bytes memory.old) hart.old) instr.now }
     ensures trap { OnErr result (hart.new ≡ hart.old) }
     ensures memory { OnErr result (S.bytes memory.new ≡ S.bytes memory.old) }
-    ensures sound { IsSound here.now.image hart.new }
+    ensures stays { StaysSound here.now.image hart.old hart.new }
     ensures backed { IsBacked here.now.image (S.bytes memory.new) }
-    ensures room { (events : ℕ) → HasRoom events hart.old → HasRoom events hart.new }
 {
     match *instr {
         Instr::Upper { op, rd, imm } => upper(&mut hart.core, op, rd, imm),

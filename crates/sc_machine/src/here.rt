@@ -116,6 +116,7 @@ impl<'a> Here<'a> {
 
     /// Whether so many bytes from an address on all lie in the compartment's stack and globals.
     pub fn are_data(&self, address: u32, size: u32) -> bool
+        requires some { 0 < size }
         requires few { size ≤ 4 }
         ensures data { result ≡ are_data self.now.image self.now.comp address size }
         ensures there { IsTrue result → HasBytes (start_memory self.now.image) address size }

@@ -9,7 +9,7 @@ ghost use Rattle.sc_word.specs.Machine.{add_word};
 ghost use Rattle.sc_base.specs.declared.stop.TrapReason.TheVariants.{BadJump};
 ghost use Rattle.sc_image.specs.State.{State};
 ghost use Rattle.sc_image.specs.Step.{Traps, jump, calls, execute};
-ghost use Rattle.sc_machine.specs.Hart.{at, comp_in, state_in, outcome_of, IsSound, HasRoom, HasRoomForOne};
+ghost use Rattle.sc_machine.specs.Hart.{at, comp_in, state_in, outcome_of, IsSound, HasRoom, HasRoomForOne, IsReady, StaysSound};
 
 use crate::arithmetic::compares;
 use crate::calling::call_out;
@@ -39,14 +39,11 @@ fn branch_target(core: &Core, imm: BranchOffset) -> u32
 /// out of it may be a call.
 fn jump(here: &Here<'_>, hart: &mut Hart, rd: u8, target: u32) -> Result<(), TrapReason>
     requires pc { hart.old.core.pc + 4 < 2 ^ 32 }
-    requires here { here.now.comp ≡ hart.old.active }
-    requires sound { IsSound here.now.image hart.old }
-    requires room { HasRoomForOne hart.old }
+    requires ready { IsReady here.now hart.old }
     requires register { IsReg rd }
     ensures outcome { (memory : Memory) → outcome_of result (state_in memory hart.new) ≡ jump here.now.image (state_in memory hart.old) rd target (calls here.now.image (state_in memory hart.old) rd target) }
     ensures trap { OnErr result (hart.new ≡ hart.old) }
-    ensures sound { IsSound here.now.image hart.new }
-    ensures room { (events : ℕ) → HasRoom events hart.old → HasRoom events hart.new }
+    ensures stays { StaysSound here.now.image hart.old hart.new }
 {
     if target % 4 != 0 {
         return Err(TrapReason::Misaligned);
@@ -80,13 +77,10 @@ pub(crate) fn jal(
     imm: JumpOffset,
 ) -> Result<(), TrapReason>
     requires pc { hart.old.core.pc + 4 < 2 ^ 32 }
-    requires here { here.now.comp ≡ hart.old.active }
-    requires sound { IsSound here.now.image hart.old }
-    requires room { HasRoomForOne hart.old }
+    requires ready { IsReady here.now hart.old }
     ensures outcome { (inputs : List ℕ) (memory : Memory) → outcome_of result (state_in memory hart.new) ≡ execute here.now.image inputs (state_in memory hart.old) (Instr.Jal rd imm) }
     ensures trap { OnErr result (hart.new ≡ hart.old) }
-    ensures sound { IsSound here.now.image hart.new }
-    ensures room { (events : ℕ) → HasRoom events hart.old → HasRoom events hart.new }
+    ensures stays { StaysSound here.now.image hart.old hart.new }
 {
     let target = jump_target(&hart.core, imm);
     jump(here, hart, rd.number(), target)
@@ -121,13 +115,10 @@ pub(crate) fn jalr(
     imm: Immediate,
 ) -> Result<(), TrapReason>
     requires pc { hart.old.core.pc + 4 < 2 ^ 32 }
-    requires here { here.now.comp ≡ hart.old.active }
-    requires sound { IsSound here.now.image hart.old }
-    requires room { HasRoomForOne hart.old }
+    requires ready { IsReady here.now hart.old }
     ensures outcome { (inputs : List ℕ) (memory : Memory) → outcome_of result (state_in memory hart.new) ≡ execute here.now.image inputs (state_in memory hart.old) (Instr.Jalr rd rs1 imm) }
     ensures trap { OnErr result (hart.new ≡ hart.old) }
-    ensures sound { IsSound here.now.image hart.new }
-    ensures room { (events : ℕ) → HasRoom events hart.old → HasRoom events hart.new }
+    ensures stays { StaysSound here.now.image hart.old hart.new }
 {
     let target = hart.core.displaced(rs1, imm) / 2 * 2;
     if rd.number() != 0 || target != GATE {

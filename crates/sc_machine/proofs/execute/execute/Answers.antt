@@ -9,13 +9,13 @@ pub returns-in-Load-clause-outcome : goal.returns-in-Load-clause-outcome
 unfolding execute_by
 returns-in-Load-clause-outcome g c =
     let state = state_in (g.S.Store.bytes c.args.memory.now) c.args.hart.now in
-    rw c.in-Load.is (rw (c.displaced-address.ensures, c.requires.here) at (c.load.ensures.outcome state))
+    rw c.in-Load.is (rw (c.displaced-address.ensures, c.requires.ready.here) at (c.load.ensures.outcome state))
 
 pub returns-in-Store-clause-outcome : goal.returns-in-Store-clause-outcome
 unfolding execute_by
 returns-in-Store-clause-outcome g c =
     let state = state_in (g.S.Store.bytes c.args.memory.now) c.args.hart.now in
-    rw c.in-Store.is (rw (c.displaced-address-in-Store.ensures, c.register-word.ensures, c.requires.here) at (c.store.ensures.outcome state))
+    rw c.in-Store.is (rw (c.displaced-address-in-Store.ensures, c.register-word.ensures, c.requires.ready.here) at (c.store.ensures.outcome state))
 
 pub returns-in-Jal-clause-outcome : goal.returns-in-Jal-clause-outcome
 returns-in-Jal-clause-outcome g c = rw c.in-Jal.is (c.jal.ensures.outcome (map word_of c.args.inputs.now) (g.S.Store.bytes c.args.memory.now))
@@ -23,7 +23,7 @@ returns-in-Jal-clause-outcome g c = rw c.in-Jal.is (c.jal.ensures.outcome (map w
 pub returns-in-Branch-clause-outcome : goal.returns-in-Branch-clause-outcome
 returns-in-Branch-clause-outcome g c =
     let state = state_in (g.S.Store.bytes c.args.memory.now) c.args.hart.now in
-    rw c.in-Branch.is (rw c.requires.here at (c.branch-here.ensures.outcome (map word_of c.args.inputs.now) state))
+    rw c.in-Branch.is (rw c.requires.ready.here at (c.branch-here.ensures.outcome (map word_of c.args.inputs.now) state))
 
 pub returns-in-Jalr-clause-outcome : goal.returns-in-Jalr-clause-outcome
 returns-in-Jalr-clause-outcome g c = rw c.in-Jalr.is (c.jalr.ensures.outcome (map word_of c.args.inputs.now) (g.S.Store.bytes c.args.memory.now))

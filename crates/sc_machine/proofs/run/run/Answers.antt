@@ -10,10 +10,14 @@ pub returns-in-Some-clause-run : goal.returns-in-Some-clause-run
 returns-in-Some-clause-run g c =
     sym (run_stopped _ (map word_of c.args.inputs.now) _ _ (state_in (g.S.Store.bytes c.loop.memory) c.loop.hart) _ (rw c.deref.ensures.value at (sym c.in-Some.ensures))) ∙ c.loop.invariant.same
 
-pub step-requires-clause-room : goal.step-requires-clause-room
-step-requires-clause-room g c =
+pub step-requires-clause-ready : goal.step-requires-clause-ready
+step-requires-clause-ready g c =
     let left : length c.loop.hart.trace.items < c.args.events = room_left _ _ (rw c.deref.ensures.value at (sym c.in_default.ensures)) in
-    record { trace = omega (arith, c.loop.invariant.room.trace); cross = omega (arith, c.loop.invariant.room.cross) }
+    record {
+      here = c.loop.invariant.comp;
+      sound = rw c.loop.invariant.image c.loop.invariant.sound;
+      room = record { trace = omega (arith, c.loop.invariant.room.trace); cross = omega (arith, c.loop.invariant.room.cross) };
+    }
 
 pub returns-in-Err-clause-run : goal.returns-in-Err-clause-run
 returns-in-Err-clause-run g c =
@@ -28,8 +32,8 @@ loop-preserved g c =
     record {
       image = c.follow.ensures.image ∙ c.loop.invariant.image;
       comp = c.follow.ensures.comp;
-      room = c.in_default-step.ensures.room c.args.events c.loop.invariant.room;
-      sound = rw c.loop.invariant.image at c.in_default-step.ensures.sound;
+      room = c.in_default-step.ensures.stays.room c.args.events c.loop.invariant.room;
+      sound = rw c.loop.invariant.image at c.in_default-step.ensures.stays.sound;
       backed = rw c.loop.invariant.image at c.in_default-step.ensures.backed;
       same =
           sym (gone _ (map word_of c.args.inputs.now) _ (state_in (g.S.Store.bytes c.loop.memory) c.loop.hart) _ _ _ left (rw c.deref.ensures.value at (sym c.in_default.ensures)) (rw c.loop.invariant.image at c.in_default-step.ensures.outcome)) ∙

@@ -1,8 +1,6 @@
 //! Words that an assembler outside wrote, and words that are no instruction of RV32IM.
 
-use rv_code::{
-    BranchOp, Instr, LoadOp, OpImmOp, OpOp, ShiftOp, StoreOp, UpperOp, decode, encode,
-};
+use rv_code::{BranchOp, Instr, LoadOp, OpImmOp, OpOp, ShiftOp, StoreOp, UpperOp, decode, encode};
 
 /// A mnemonic, and the operands: the registers first, in the order of `Instr`'s fields, and 0 where
 /// there is none.

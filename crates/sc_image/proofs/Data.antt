@@ -1,0 +1,48 @@
+-- A compartment's data lie in one piece.
+use Rattle.std.proofs.Common.{◌≡◌, ℕ, zero, suc, ◌+◌, ◌<◌, ◌≤◌, Bool, true, false, ◌&&◌, ◌||◌, nat_le, nat_lt, length, ap₂, sym, ◌∙◌, arith}
+use Rattle.std.proofs.lemmas.Bool.Decides.{nat_tests}
+use Rattle.sc_image.specs.declared.parts.ImageParts.{ImageParts}
+use Rattle.sc_image.specs.Layout.{stack_size, data_start, stack_top, globals_of, are_data}
+
+byte_is : (low mid count a : ℕ) →
+    (nat_le low a && nat_lt a (low + mid) || (nat_le (low + mid) a && nat_lt a (low + mid + count) || false)) ≡
+    (nat_le low a && nat_le (a + 1) (low + mid + count))
+byte_is low mid count a = grind (arith, nat_tests)
+
+first_is : (low high a : ℕ) → (nat_le low (a + 0) && nat_le (a + 0 + 1) high) ≡ (nat_le low a && nat_le (a + 1) high)
+first_is low high a = grind (arith, nat_tests)
+
+next_is : (low high a k : ℕ) → ((nat_le low a && nat_le (a + suc k) high) && (nat_le low (a + suc k) && nat_le (a + suc k + 1) high)) ≡
+    (nat_le low a && nat_le (a + suc (suc k)) high)
+next_is low high a k = grind (arith, nat_tests)
+
+-- so the first and the last of some bytes tell of all
+pub data_range : (image : ImageParts) (c a k : ℕ) →
+    are_data image c a (suc k) ≡ (nat_le (data_start c) a && nat_le (a + suc k) (stack_top c + length (globals_of image c)))
+unfolding are_data
+data_range image c a zero =
+    byte_is (data_start c) stack_size (length (globals_of image c)) (a + 0) ∙ first_is (data_start c) (stack_top c + length (globals_of image c)) a
+data_range image c a (suc k) =
+    ap₂ (λ (x y : Bool). x && y) (data_range image c a k) (byte_is (data_start c) stack_size (length (globals_of image c)) (a + suc k)) ∙
+    next_is (data_start c) (stack_top c + length (globals_of image c)) a k
+
+pub range_of : (image : ImageParts) (c a size : ℕ) → 0 < size →
+    are_data image c a size ≡ (nat_le (data_start c) a && nat_le (a + size) (stack_top c + length (globals_of image c)))
+range_of image c a zero some = absurd (omega (arith, some))
+range_of image c a (suc k) some = data_range image c a k
+
+facts : (x y z w : ℕ) → (nat_le x y && nat_le z w) ≡ true → (x ≤ y) × (z ≤ w)
+facts x y z w h = (grind (arith, nat_tests), grind (arith, nat_tests))
+
+holds : (x y z w : ℕ) → x ≤ y → z ≤ w → (nat_le x y && nat_le z w) ≡ true
+holds x y z w h k = grind (arith, nat_tests)
+
+pub data_bounds : (image : ImageParts) (c a size : ℕ) → 0 < size → are_data image c a size ≡ true →
+    (data_start c ≤ a) × (a + size ≤ stack_top c + length (globals_of image c))
+data_bounds image c a size some all =
+    facts (data_start c) a (a + size) (stack_top c + length (globals_of image c)) (sym (range_of image c a size some) ∙ all)
+
+pub within_data : (image : ImageParts) (c a size : ℕ) → 0 < size → data_start c ≤ a → a + size ≤ stack_top c + length (globals_of image c) →
+    are_data image c a size ≡ true
+within_data image c a size some low high =
+    range_of image c a size some ∙ holds (data_start c) a (a + size) (stack_top c + length (globals_of image c)) low high
