@@ -1,5 +1,5 @@
 -- Types and declarators are read exactly as they are spelled.
-use Rattle.std.proofs.Common.{◌≡◌, ℕ, zero, suc, ◌+◌, Bool, true, false, cond, List, [], ◌∷◌, ◌++◌, drop, length, Option, Some, None, refl, sym, ap, ◌∙◌, subst, append_assoc, one-add, arith}
+use Rattle.std.proofs.Common.{◌≡◌, ℕ, suc, ◌+◌, Bool, true, false, cond, List, [], ◌∷◌, ◌++◌, drop, Option, Some, None, refl, sym, ap, ◌∙◌, subst, append_assoc, one-add, arith}
 use Rattle.std.proofs.lemmas.Option.{none-some}
 use Rattle.std.specs.List.{prefix_len}
 use Rattle.std.specs.Option.{option_map_or}
@@ -22,7 +22,7 @@ use Rattle.sc_expr.proofs.Ahead.{behind_mark, name_ahead}
 use Rattle.sc_parse.specs.declared.types.Declarator.{Declarator}
 use Rattle.sc_parse.specs.Lists.{IsKeyword, IsInteger}
 use Rattle.sc_parse.specs.Types.{SpellsBase, int, signed, signed_int, unsigned, unsigned_int, struct, SpellsStars, none, star, SpellsTypeName, type_name, SpellsDeclarator, plain, array}
-use Rattle.sc_parse.specs.Fronts.{Reader, keyword_by, keyword_at, is_int, past_int, integer_by, begins_with, star_count}
+use Rattle.sc_parse.specs.Fronts.{keyword_by, keyword_at, is_int, past_int, integer_by, begins_with, star_count}
 use Rattle.sc_parse.specs.Readers.{base_by, base_at, type_name_at, elements_at, bracketed_length, length_at, declarator, declarator_at, type_of}
 use Rattle.sc_parse.proofs.Exact.{Taken, Exact, Any, took, glued}
 

@@ -1,8 +1,8 @@
 -- Locals and functions are read exactly as they are spelled.
-use Rattle.std.proofs.Common.{◌≡◌, ℕ, zero, suc, ◌+◌, ◌≤◌, ◌<◌, max, Bool, true, false, not, cond, List, [], ◌∷◌, ◌++◌, drop, map, length, length-append, Option, Some, None, refl, sym, ap, ◌∙◌, subst, append_assoc, arith}
+use Rattle.std.proofs.Common.{◌≡◌, ℕ, ◌+◌, ◌≤◌, max, true, false, not, List, [], ◌∷◌, ◌++◌, map, length, Option, Some, None, refl, sym, ap, ◌∙◌, subst, append_assoc, arith}
 use Rattle.std.proofs.lemmas.Option.{none-some}
 use Rattle.std.specs.Option.{option_map_or}
-use Rattle.sc_ast.specs.Height.{highest, expr_height, init_height, local_height, locals_height, stmts_height, function_height, decl_height, decls_height, section_height}
+use Rattle.sc_ast.specs.Height.{init_height, local_height, locals_height, stmts_height}
 use Rattle.sc_ast.specs.Heads.{param_of, head_of}
 use Rattle.sc_ast.specs.declared.types.BaseTree.{BaseTree}
 use Rattle.sc_ast.specs.declared.expr.ExprTree.{ExprTree}
@@ -13,7 +13,6 @@ use Rattle.sc_ast.specs.declared.section.FunctionParam.{FunctionParam}
 use Rattle.sc_ast.specs.declared.section.FunctionHead.{FunctionHead}
 use Rattle.sc_ast.specs.declared.section.LocalTree.{LocalTree}
 use Rattle.sc_ast.specs.declared.section.FunctionTree.{FunctionTree}
-use Rattle.sc_expr.specs.declared.mark.Mark.{Mark}
 use Rattle.sc_expr.specs.declared.mark.Mark.TheVariants as mark
 use Rattle.sc_expr.specs.declared.lexeme.Lexeme.{Lexeme}
 use Rattle.sc_expr.specs.Fronts.{behind}
@@ -21,26 +20,24 @@ use Rattle.sc_expr.specs.Grammar.{IsMark}
 use Rattle.sc_expr.specs.Reading.{◌>>=◌}
 use Rattle.sc_expr.proofs.Options.{same_some, bound}
 use Rattle.sc_expr.proofs.Ahead.{behind_mark}
-use Rattle.sc_parse.specs.declared.types.Declarator.{Declarator}
 use Rattle.sc_parse.specs.Lists.{first_line, Separated, more, Grouped}
 use Rattle.sc_parse.specs.Lists as lists
-use Rattle.sc_parse.specs.Types.{SpellsBase, int, signed, signed_int, unsigned, unsigned_int, struct, SpellsDeclarator}
-use Rattle.sc_parse.specs.Declarations.{Declares, declares, SpellsValue, no_value, a_value, IsLocal, local, SpellsHead, SpellsFunction, function}
+use Rattle.sc_parse.specs.Types.{SpellsBase, int, signed, signed_int, unsigned, unsigned_int, struct}
+use Rattle.sc_parse.specs.Declarations.{Declares, declares, SpellsValue, no_value, a_value, IsLocal, local}
 use Rattle.sc_ast.specs.declared.stmt.StmtKind.{StmtKind}
 use Rattle.sc_parse.specs.Statements as statements
 use Rattle.sc_parse.specs.Statements.{SpellsStmtKind, empty, plain, return_nothing, return_value, return_call, choice, while_loop, for_loop, SpellsIf, alone, otherwise, otherwise_if, SpellsStmts}
 use Rattle.sc_parse.proofs.Parts.{kind_no_word}
 use Rattle.sc_parse.specs.Fronts.{is_base}
-use Rattle.sc_parse.specs.Fronts.{Reader, keyword_at, begins_with}
-use Rattle.sc_parse.specs.Readers.{adds, separated, grouped, declaration_at, declarator_at, type_of}
+use Rattle.sc_parse.specs.Readers.{grouped, declaration_at, declarator_at}
 use Rattle.sc_parse.specs.StmtReaders.{expr_at, stmt_at, stmts_at}
 use Rattle.sc_parse.specs.SectionReaders.{value_at, local_tree, local_at, locals_behind, no_base, locals_at, named_params, function_param, function_head, named_head, function_tree, body_behind}
-use Rattle.sc_parse.proofs.Exact.{Taken, Added, Exact, ExactAdder, took, glued, grouped_exact}
+use Rattle.sc_parse.proofs.Exact.{Taken, Exact, ExactAdder, took, glued, grouped_exact}
 use Rattle.sc_parse.proofs.Bases.{NoInt, NoBracket, declarator_sound}
 use Rattle.sc_parse.proofs.Declared.{declaration_exact, declarator_complete, declarator_no_int}
 use Rattle.sc_parse.proofs.Structures.{declares_some}
 use Rattle.sc_parse.proofs.Expressions.{Few, few_left, few_right, few_tail, NoExtension, expr_exact}
-use Rattle.sc_parse.proofs.Nested.{IsStmts, AtEnd, stmts_exact}
+use Rattle.sc_parse.proofs.Nested.{stmts_exact}
 
 -- what a local begins with, at most so high
 record IsValue (limit : ℕ) (ts : List Lexeme) (x : Option ExprTree) : Type 0 where

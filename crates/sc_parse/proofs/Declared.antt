@@ -1,28 +1,23 @@
 -- Declarations of variables and structs are read exactly as they are spelled.
-use Rattle.std.proofs.Common.{◌≡◌, ℕ, zero, suc, ◌+◌, ◌<◌, Bool, true, false, cond, List, [], ◌∷◌, ◌++◌, drop, length, length-append, Option, Some, None, refl, sym, ap, ◌∙◌, subst, append_assoc, arith}
-use Rattle.std.proofs.lemmas.Option.{none-some}
-use Rattle.sc_ast.specs.Lists.{non_empty}
+use Rattle.std.proofs.Common.{◌≡◌, ℕ, List, [], ◌∷◌, ◌++◌, Option, Some, None, refl, sym, ap, ◌∙◌, subst, append_assoc}
 use Rattle.sc_ast.specs.declared.types.BaseTree.{BaseTree}
 use Rattle.sc_ast.specs.declared.types.TypeTree.{TypeTree}
 use Rattle.sc_ast.specs.declared.section.MemberTree.{MemberTree}
-use Rattle.sc_ast.specs.declared.section.StructTree.{StructTree}
-use Rattle.sc_expr.specs.declared.mark.Keyword.TheVariants as word
-use Rattle.sc_expr.specs.declared.mark.Mark.{Mark}
 use Rattle.sc_expr.specs.declared.mark.Mark.TheVariants as mark
 use Rattle.sc_expr.specs.declared.lexeme.Lexeme.{Lexeme}
 use Rattle.sc_expr.specs.Fronts.{behind}
-use Rattle.sc_expr.specs.Grammar.{IsMark, IsIdent}
-use Rattle.sc_expr.specs.Reading.{◌>>=◌, name_at}
+use Rattle.sc_expr.specs.Grammar.{IsMark}
+use Rattle.sc_expr.specs.Reading.{◌>>=◌}
 use Rattle.sc_expr.proofs.Options.{same_some, bound}
-use Rattle.sc_expr.proofs.Ahead.{behind_mark, name_ahead}
+use Rattle.sc_expr.proofs.Ahead.{behind_mark}
 use Rattle.sc_parse.specs.declared.types.Declarator.{Declarator}
-use Rattle.sc_parse.specs.Lists.{IsKeyword, first_line, Separated, one, more, Grouped, none, next}
-use Rattle.sc_parse.specs.Types.{SpellsBase, int, signed, signed_int, unsigned, unsigned_int, struct, SpellsStars, SpellsDeclarator, plain, array}
+use Rattle.sc_parse.specs.Lists.{first_line, Separated, one, more}
+use Rattle.sc_parse.specs.Types.{SpellsBase, int, signed, signed_int, unsigned, unsigned_int, struct, SpellsDeclarator, plain, array}
 use Rattle.sc_parse.specs.Declarations.{Declares, declares, IsMember}
-use Rattle.sc_parse.specs.Fronts.{Reader, begins_with}
-use Rattle.sc_parse.specs.Readers.{Adder, adds, separated, all_separated, grouped, base_at, declarator, declarator_at, type_of, member_at, members_behind, declaration_at}
-use Rattle.sc_parse.proofs.Exact.{Taken, Added, Exact, ExactAdder, Any, took, glued, separated_exact, grouped_exact}
-use Rattle.sc_parse.proofs.Bases.{NoInt, NoStar, NoBracket, base_exact, no_length, in_brackets, declarator_sound, declarator_reads, stars_no_int}
+use Rattle.sc_parse.specs.Fronts.{Reader}
+use Rattle.sc_parse.specs.Readers.{adds, all_separated, base_at, declarator, declarator_at, type_of, member_at, members_behind, declaration_at}
+use Rattle.sc_parse.proofs.Exact.{Taken, Added, Exact, ExactAdder, Any, took, glued, separated_exact}
+use Rattle.sc_parse.proofs.Bases.{NoInt, NoBracket, base_exact, no_length, in_brackets, declarator_sound, declarator_reads, stars_no_int}
 
 abbrev pub Comma : List Lexeme → Option (List Lexeme)
 Comma = behind mark.Comma

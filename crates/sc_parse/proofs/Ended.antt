@@ -1,40 +1,30 @@
 -- Statements are read exactly as they are spelled.
-use Rattle.std.proofs.Common.{◌≡◌, ℕ, zero, suc, ◌+◌, ◌-◌, ◌≤◌, ◌<◌, max, Bool, true, false, cond, List, [], ◌∷◌, ◌++◌, drop, map, length, length-append, Option, Some, None, is_some, refl, sym, ap, ◌∙◌, subst, append_assoc, arith, rules}
-use Rattle.std.proofs.lemmas.Option.{none-some}
-use Rattle.std.proofs.lemmas.List.{append-nil}
-use Rattle.sc_ast.specs.Height.{expr_height, call_height, simple_kind_height, option_height, stmt_height, kind_height, stmts_height}
+use Rattle.std.proofs.Common.{◌≡◌, ℕ, ◌≤◌, ◌<◌, Bool, true, false, cond, List, [], ◌∷◌, ◌++◌, drop, length, length-append, Option, Some, refl, ap, ◌∙◌, subst, append_assoc, arith}
+use Rattle.sc_ast.specs.Height.{kind_height}
 use Rattle.sc_ast.specs.Simple.{kind_of}
-use Rattle.sc_ast.specs.declared.expr.ExprTree.{ExprTree}
-use Rattle.sc_ast.specs.declared.expr.CallTree.{CallTree}
-use Rattle.sc_ast.specs.declared.stmt.SimpleKind.{SimpleKind}
-use Rattle.sc_ast.specs.declared.stmt.SimpleTree.{SimpleTree}
 use Rattle.sc_ast.specs.declared.stmt.StmtKind.{StmtKind}
 use Rattle.sc_ast.specs.declared.stmt.StmtKind.TheVariants as stmt
 use Rattle.sc_ast.specs.declared.stmt.StmtTree.{StmtTree}
 use Rattle.sc_expr.specs.declared.mark.Keyword.{Keyword}
 use Rattle.sc_expr.specs.declared.mark.Keyword.TheVariants as word
-use Rattle.sc_expr.specs.declared.mark.Mark.{Mark}
 use Rattle.sc_expr.specs.declared.mark.Mark.TheVariants as mark
 use Rattle.sc_expr.specs.declared.lexeme.Lexeme.{Lexeme}
 use Rattle.sc_expr.specs.Fronts.{behind}
 use Rattle.sc_expr.specs.Grammar.{IsMark}
-use Rattle.sc_expr.specs.Reading.{◌>>=◌, lead_by}
+use Rattle.sc_expr.specs.Reading.{◌>>=◌}
 use Rattle.sc_expr.proofs.Options.{same_some, bound}
 use Rattle.sc_expr.proofs.Ahead.{behind_mark}
-use Rattle.sc_parse.specs.Lists.{IsKeyword, first_line, Grouped}
-use Rattle.sc_parse.specs.Lists as lists
+use Rattle.sc_parse.specs.Lists.{IsKeyword, first_line}
 use Rattle.sc_parse.specs.Statements as statements
 use Rattle.sc_parse.specs.Statements.{SpellsCall, SpellsKind, step_of, SpellsPart, SpellsTest, SpellsCondition, SpellsStmtKind, empty, plain, return_nothing, return_value, return_call, choice, while_loop, for_loop, SpellsIf, alone, otherwise, otherwise_if, SpellsBlock, block, SpellsStmts}
-use Rattle.sc_parse.specs.Fronts.{Reader, keyword_at, is_else, begins_with, begins_call}
-use Rattle.sc_parse.specs.Readers.{Adder, adds, grouped}
-use Rattle.sc_parse.specs.StmtReaders as readers
-use Rattle.sc_parse.specs.StmtReaders.{expr_at, call_at, simple_at, value_returned, returned, simple_or_none, plain_at, ended_at, condition_at, before_mark, part_at, test_at, first_part, middle_part, last_part, is_if, stmts_at, block_at, else_behind, else_at, if_behind, while_behind, for_behind, kind_by, stmt_tree, stmt_within, stmt_at}
-use Rattle.sc_parse.proofs.Exact.{Taken, Added, Exact, ExactAdder, took, glued, One, adds_exact, grouped_exact}
-use Rattle.sc_parse.proofs.Bases.{Word, word_ahead}
-use Rattle.sc_parse.proofs.Expressions.{Few, few_left, few_right, few_tail, NoExtension, expr_exact, expr_starts, call_exact, call_begins, no_call, no_mark}
-use Rattle.sc_parse.proofs.Simples.{IsSimple, EndsSimple, simple_exact}
-use Rattle.sc_parse.proofs.Parts.{IsCondition, condition_exact, kind_some, first_line_some, kind_no_word, kind_no_mark, IsPart, part_sound, part_reads, IsTest, test_sound, test_reads}
-use Rattle.sc_ast.proofs.Statements.{tree_height, if_height, while_height, for_height, empty_height, break_height, continue_height, return_height, value_height, return_call_height, plain_height}
+use Rattle.sc_parse.specs.Fronts.{keyword_at, is_else, begins_with, begins_call}
+use Rattle.sc_parse.specs.StmtReaders.{expr_at, call_at, simple_at, value_returned, returned, simple_or_none, plain_at, ended_at, stmt_tree}
+use Rattle.sc_parse.proofs.Exact.{Taken, took, glued}
+use Rattle.sc_parse.proofs.Bases.{word_ahead}
+use Rattle.sc_parse.proofs.Expressions.{expr_exact, call_exact}
+use Rattle.sc_parse.proofs.Simples.{simple_exact}
+use Rattle.sc_parse.proofs.Parts.{kind_no_word, kind_no_mark}
+use Rattle.sc_ast.proofs.Statements.{empty_height, break_height, continue_height, return_height, value_height, return_call_height, plain_height}
 
 abbrev pub NoElse : List Lexeme → Type 0
 NoElse rest = is_else (keyword_at rest) ≡ false

@@ -1,9 +1,9 @@
 -- Small texts and the trees that they spell.
-use Rattle.std.proofs.Common.{◌≡◌, ℕ, List, [], ◌∷◌, ◌++◌, codes, Some, None, refl, true, false, rules}
+use Rattle.std.proofs.Common.{◌≡◌, ℕ, List, [], ◌∷◌, codes, Some, None, refl, true, false, rules}
 use Rattle.sc_ast.specs.Numbers.{Number}
 use Rattle.sc_ast.specs.declared.types.BaseTree.TheVariants as base
 use Rattle.sc_ast.specs.Places.{is_place}
-use Rattle.sc_ast.specs.declared.expr.ExprTree.{ExprTree, the_lemmas}
+use Rattle.sc_ast.specs.declared.expr.ExprTree.{the_lemmas}
 use Rattle.sc_ast.specs.declared.expr.ExprTree.TheVariants as expr
 use Rattle.sc_base.specs.declared.op.BinaryOp.TheVariants as binary
 use Rattle.sc_ast.specs.declared.stmt.SimpleKind.TheVariants as simple

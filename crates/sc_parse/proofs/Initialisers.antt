@@ -1,6 +1,5 @@
 -- Globals and what they begin with are read exactly as they are spelled.
-use Rattle.std.proofs.Common.{◌≡◌, ℕ, zero, suc, ◌+◌, ◌<◌, Bool, true, false, cond, List, [], ◌∷◌, ◌++◌, drop, map, length, length-append, Option, Some, None, refl, sym, ap, ◌∙◌, subst, append_assoc, arith}
-use Rattle.std.proofs.lemmas.Option.{none-some}
+use Rattle.std.proofs.Common.{◌≡◌, ℕ, Bool, true, false, cond, List, [], ◌∷◌, ◌++◌, Option, Some, None, refl, sym, ap, ◌∙◌, subst, append_assoc}
 use Rattle.std.specs.Option.{option_map_or}
 use Rattle.sc_ast.specs.Lists.{non_empty}
 use Rattle.sc_ast.specs.declared.types.BaseTree.{BaseTree}
@@ -10,7 +9,6 @@ use Rattle.sc_ast.specs.declared.section.InitTree.TheVariants as init
 use Rattle.sc_ast.specs.declared.section.GlobalTree.{GlobalTree}
 use Rattle.sc_ast.specs.declared.section.Decl.{Decl}
 use Rattle.sc_ast.specs.declared.section.Decl.TheVariants as decl
-use Rattle.sc_expr.specs.declared.mark.Mark.{Mark}
 use Rattle.sc_expr.specs.declared.mark.Mark.TheVariants as mark
 use Rattle.sc_expr.specs.declared.lexeme.Lexeme.{Lexeme}
 use Rattle.sc_expr.specs.Fronts.{behind}
@@ -18,13 +16,11 @@ use Rattle.sc_expr.specs.Grammar.{IsMark}
 use Rattle.sc_expr.specs.Reading.{◌>>=◌}
 use Rattle.sc_expr.proofs.Options.{same_some, bound}
 use Rattle.sc_expr.proofs.Ahead.{behind_mark}
-use Rattle.sc_parse.specs.declared.types.Declarator.{Declarator}
 use Rattle.sc_parse.specs.Lists.{Separated}
-use Rattle.sc_parse.specs.Types.{SpellsDeclarator}
 use Rattle.sc_parse.specs.Declarations.{Declares, SpellsConst, plain, negated, SpellsInit, absent, one, many, many_comma, IsGlobal, global}
 use Rattle.sc_parse.specs.Fronts.{begins_with, behind_inner_comma}
-use Rattle.sc_parse.specs.Readers.{adds, separated, declaration_at, const_at, all_consts, past_comma, consts_at, one_at, init_behind, init_at, type_of, declarator_at, global_decl, global_at, globals_behind}
-use Rattle.sc_parse.proofs.Exact.{Taken, Added, Exact, ExactAdder, Any, took, glued}
+use Rattle.sc_parse.specs.Readers.{declaration_at, const_at, all_consts, past_comma, consts_at, one_at, init_behind, init_at, declarator_at, global_decl, global_at, globals_behind}
+use Rattle.sc_parse.proofs.Exact.{Taken, Exact, ExactAdder, Any, took, glued}
 use Rattle.sc_parse.proofs.Bases.{NoInt, NoBracket, declarator_sound}
 use Rattle.sc_parse.proofs.Declared.{any_left, any_right, declaration_exact, declarator_complete, declarator_no_int}
 use Rattle.sc_parse.proofs.Structures.{non_empty_some, non_empty_is, separated_some, const_sound, const_complete, all_consts_exact}

@@ -1,5 +1,5 @@
 -- A head as that of a function.
-use Rattle.std.proofs.Common.{◌≡◌, ℕ, List, [], ◌∷◌, map, Option, Some, None, IsTrue, cond, true, refl, sym, ap, ◌∙◌}
+use Rattle.std.proofs.Common.{◌≡◌, ℕ, List, [], ◌∷◌, map, Option, Some, None, IsTrue, cond, refl, sym, ap, ◌∙◌}
 use Rattle.std.proofs.lemmas.Option.{none-some}
 use Rattle.sc_ast.specs.Heads.{param_of, head_of, has_nameless}
 use Rattle.sc_ast.specs.declared.section.ParamTree.{ParamTree}

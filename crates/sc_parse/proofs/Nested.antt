@@ -1,8 +1,8 @@
 -- Blocks and the statements that hold them are read exactly as they are spelled.
-use Rattle.std.proofs.Common.{◌≡◌, ℕ, zero, suc, ◌+◌, ◌-◌, ◌≤◌, ◌<◌, max, Bool, true, false, cond, List, [], ◌∷◌, ◌++◌, drop, map, length, length-append, Option, Some, None, is_some, refl, sym, ap, ◌∙◌, subst, append_assoc, arith, rules}
+use Rattle.std.proofs.Common.{◌≡◌, ℕ, zero, suc, ◌+◌, ◌≤◌, ◌<◌, Bool, true, false, cond, List, [], ◌∷◌, ◌++◌, drop, length, Option, Some, None, refl, sym, ap, ◌∙◌, subst, append_assoc, arith}
 use Rattle.std.proofs.lemmas.Option.{none-some}
 use Rattle.std.proofs.lemmas.List.{append-nil}
-use Rattle.sc_ast.specs.Height.{expr_height, call_height, simple_kind_height, option_height, stmt_height, kind_height, stmts_height}
+use Rattle.sc_ast.specs.Height.{expr_height, option_height, kind_height, stmts_height}
 use Rattle.sc_ast.specs.Simple.{kind_of}
 use Rattle.sc_ast.specs.declared.expr.ExprTree.{ExprTree}
 use Rattle.sc_ast.specs.declared.stmt.SimpleKind.{SimpleKind}
@@ -24,18 +24,18 @@ use Rattle.sc_parse.specs.Lists.{IsKeyword, first_line, Grouped}
 use Rattle.sc_parse.specs.Lists as lists
 use Rattle.sc_parse.specs.Statements as statements
 use Rattle.sc_parse.specs.Statements.{SpellsPart, SpellsTest, SpellsStmtKind, empty, plain, return_nothing, return_value, return_call, choice, while_loop, for_loop, SpellsIf, alone, otherwise, otherwise_if, SpellsCondition, SpellsBlock, block, SpellsStmts}
-use Rattle.sc_parse.specs.Fronts.{Reader, keyword_at, is_else, begins_with, begins_call}
-use Rattle.sc_parse.specs.Readers.{Adder, adds, grouped}
+use Rattle.sc_parse.specs.Fronts.{Reader, keyword_at, is_else, begins_with}
+use Rattle.sc_parse.specs.Readers.{adds, grouped}
 use Rattle.sc_parse.specs.StmtReaders as readers
 use Rattle.sc_parse.specs.declared.stmts.ForHead.{ForHead}
 use Rattle.sc_parse.specs.StmtReaders.{expr_at, call_at, simple_at, value_returned, returned, simple_or_none, plain_at, ended_at, condition_at, before_mark, part_at, test_at, first_part, middle_part, last_part, is_if, stmts_at, block_at, else_behind, else_at, if_behind, while_behind, for_parts, for_head, loop_of, for_behind, kind_by, stmt_tree, stmt_within, stmt_at}
-use Rattle.sc_parse.proofs.Exact.{Taken, Added, Exact, ExactAdder, took, glued, One, adds_exact, grouped_exact}
+use Rattle.sc_parse.proofs.Exact.{Taken, Exact, ExactAdder, took, glued, One, adds_exact, grouped_exact}
 use Rattle.sc_parse.proofs.Bases.{Word, word_ahead, mark_is}
-use Rattle.sc_parse.proofs.Expressions.{Few, few_left, few_right, few_tail, NoExtension, expr_exact, expr_starts, call_exact, call_begins, no_call, no_mark, false-true}
-use Rattle.sc_parse.proofs.Simples.{IsSimple, EndsSimple, simple_exact}
-use Rattle.sc_parse.proofs.Parts.{IsCondition, condition_exact, kind_some, first_line_some, kind_no_word, kind_no_mark, call_no_mark, IsPart, part_sound, part_reads, IsTest, test_sound, test_reads}
-use Rattle.sc_ast.proofs.Statements.{tree_height, if_height, while_height, for_height, empty_height, break_height, continue_height, return_height, value_height, return_call_height, plain_height}
-use Rattle.sc_parse.proofs.Ended.{NoElse, Starts, kind_starts, IsKind, IsStmt, a_stmt, stmt_starts, ended_sound}
+use Rattle.sc_parse.proofs.Expressions.{Few, few_left, few_right, few_tail, expr_exact, expr_starts, call_exact, call_begins, no_call, no_mark, false-true}
+use Rattle.sc_parse.proofs.Simples.{simple_exact}
+use Rattle.sc_parse.proofs.Parts.{condition_exact, first_line_some, kind_no_word, kind_no_mark, call_no_mark, IsPart, part_sound, part_reads, IsTest, test_sound, test_reads}
+use Rattle.sc_ast.proofs.Statements.{tree_height, if_height, while_height, for_height, value_height, return_call_height, plain_height}
+use Rattle.sc_parse.proofs.Ended.{NoElse, kind_starts, IsKind, IsStmt, a_stmt, stmt_starts, ended_sound}
 
 -- behind a `}` no `else` stands at the front
 end_no_else : (rest : List Lexeme) → begins_with mark.CloseCurly rest ≡ true → NoElse rest

@@ -1,13 +1,11 @@
 -- Conditions and the parts of a `for` are read exactly as they are spelled.
-use Rattle.std.proofs.Common.{◌≡◌, ℕ, zero, suc, ◌+◌, ◌-◌, ◌≤◌, ◌<◌, max, Bool, true, false, cond, leb, List, [], ◌∷◌, ◌++◌, drop, length, length-append, Option, Some, None, is_some, refl, sym, ap, ◌∙◌, subst, append_assoc, arith, rules}
-use Rattle.std.proofs.lemmas.Option.{none-some}
+use Rattle.std.proofs.Common.{◌≡◌, ℕ, ◌-◌, ◌≤◌, ◌<◌, Bool, true, false, cond, leb, List, [], ◌∷◌, ◌++◌, length, length-append, Option, Some, None, is_some, refl, sym, ap, ◌∙◌, append_assoc, arith}
 use Rattle.std.proofs.lemmas.Bool.{leb-true, le-leb}
-use Rattle.sc_ast.specs.Height.{expr_height, simple_kind_height, option_height}
+use Rattle.sc_ast.specs.Height.{expr_height, option_height}
 use Rattle.sc_ast.specs.declared.expr.ExprTree.{ExprTree}
 use Rattle.sc_ast.specs.declared.expr.CallTree.{CallTree}
 use Rattle.sc_ast.specs.declared.stmt.SimpleKind.{SimpleKind}
 use Rattle.sc_ast.specs.declared.stmt.SimpleTree.{SimpleTree}
-use Rattle.sc_expr.specs.declared.mark.Keyword.{Keyword}
 use Rattle.sc_expr.specs.declared.mark.Mark.{Mark}
 use Rattle.sc_expr.specs.declared.mark.Mark.TheVariants as mark
 use Rattle.sc_expr.specs.declared.lexeme.Symbol.{Symbol}
@@ -15,20 +13,18 @@ use Rattle.sc_expr.specs.declared.lexeme.Symbol.TheVariants as symbol
 use Rattle.sc_expr.specs.declared.lexeme.Lexeme.{Lexeme}
 use Rattle.sc_expr.specs.Fronts.{is_mark, behind}
 use Rattle.sc_expr.specs.Grammar.{IsMark, Spells}
-use Rattle.sc_base.specs.Levels.{loosest_level}
 use Rattle.sc_expr.specs.Reading.{◌>>=◌, lead_by}
-use Rattle.sc_expr.proofs.Options.{same_some, bound, cond_is}
+use Rattle.sc_expr.proofs.Options.{bound, cond_is}
 use Rattle.sc_expr.proofs.Ahead.{behind_mark}
-use Rattle.sc_expr.proofs.Heights.{positive}
 use Rattle.sc_parse.specs.Lists.{first_line}
 use Rattle.sc_parse.specs.Statements as statements
 use Rattle.sc_parse.specs.Statements.{SpellsCall, SpellsPlace, step_of, one, SpellsKind, assign, assign_call, compound, call, step_behind, step_before, SpellsSimple, SpellsPart, no_part, a_part, SpellsTest, no_test, a_test, SpellsCondition, condition}
-use Rattle.sc_parse.specs.Fronts.{Reader, begins_with, keyword_by, keyword_at}
+use Rattle.sc_parse.specs.Fronts.{begins_with, keyword_by, keyword_at}
 use Rattle.sc_parse.specs.StmtReaders.{expr_at, simple_at, simple_tree, part_at, always, test_at, condition_at}
 use Rattle.sc_parse.proofs.Exact.{Taken, Exact, took, glued}
 use Rattle.sc_parse.proofs.Bases.{mark_is}
-use Rattle.sc_parse.proofs.Expressions.{Few, few_left, few_right, few_tail, IsExpr, NoExtension, expr_exact, begins_expr, starts_expr, expr_starts, no_mark, false-true}
-use Rattle.sc_parse.proofs.Simples.{IsSimple, EndsSimple, simple_exact, one_height}
+use Rattle.sc_parse.proofs.Expressions.{Few, few_left, few_tail, expr_exact, begins_expr, starts_expr, expr_starts, no_mark, false-true}
+use Rattle.sc_parse.proofs.Simples.{EndsSimple, simple_exact, one_height}
 
 -- a condition that is at most so high
 pub record IsCondition (room : ℕ) (ts : List Lexeme) (e : ExprTree) : Type 0 where

@@ -1,10 +1,10 @@
 -- Assignments, `++` and `--`, and calls are read exactly as they are spelled.
-use Rattle.std.proofs.Common.{◌≡◌, ℕ, zero, suc, ◌+◌, ◌-◌, ◌≤◌, ◌<◌, max, Bool, true, false, cond, ltb, IsTrue, List, [], ◌∷◌, ◌++◌, drop, length, Option, Some, None, is_some, refl, sym, ap, ◌∙◌, subst, append_assoc, arith, rules}
+use Rattle.std.proofs.Common.{◌≡◌, ℕ, ◌+◌, ◌-◌, ◌≤◌, ◌<◌, max, Bool, true, false, cond, ltb, IsTrue, List, [], ◌∷◌, ◌++◌, drop, Option, Some, None, is_some, refl, sym, ap, ◌∙◌, subst, append_assoc, arith, rules}
 use Rattle.std.proofs.lemmas.Option.{none-some}
 use Rattle.std.proofs.lemmas.Bool.{lt-ltb}
 use borrow.Author.Tests.{ltb-true}
 use Rattle.std.specs.Option.{option_map_or}
-use Rattle.sc_ast.specs.Height.{expr_height, exprs_height, call_height, simple_kind_height}
+use Rattle.sc_ast.specs.Height.{expr_height, call_height, simple_kind_height}
 use Rattle.sc_ast.specs.Places.{is_place}
 use Rattle.sc_ast.specs.declared.expr.ExprTree.{ExprTree, the_lemmas}
 use Rattle.sc_ast.specs.declared.expr.ExprTree.TheVariants as expr
@@ -18,13 +18,12 @@ use Rattle.sc_expr.specs.declared.mark.Mark.TheVariants as mark
 use Rattle.sc_expr.specs.declared.lexeme.Symbol.{Symbol}
 use Rattle.sc_expr.specs.declared.lexeme.Symbol.TheVariants as symbol
 use Rattle.sc_expr.specs.declared.lexeme.Lexeme.{Lexeme}
-use Rattle.sc_expr.specs.Fronts.{behind, extension_at}
 use Rattle.sc_expr.specs.Grammar.{IsMark, Spells, literal, variable, parenthesised, index, member, arrow, prefix, joined, looser}
 use Rattle.sc_expr.specs.declared.operator.Prefix.{Prefix}
 use Rattle.sc_expr.specs.declared.operator.Prefix.TheVariants as prefixes
 use Rattle.sc_expr.specs.Marks.{prefix_of, prefixed}
 use Rattle.sc_base.specs.Levels.{unary_level}
-use Rattle.sc_expr.specs.Reading.{◌>>=◌, Found, found, lead_by, read}
+use Rattle.sc_expr.specs.Reading.{◌>>=◌, lead_by, read}
 use Rattle.sc_expr.proofs.Options.{same_some, bound, cond_is}
 use Rattle.sc_expr.proofs.Heights.{literal_height, joined_height, positive}
 use Rattle.sc_expr.proofs.Sound.{read_sound}
@@ -37,7 +36,7 @@ use Rattle.sc_parse.specs.Fronts.{begins_with, begins_call}
 use Rattle.sc_parse.specs.StmtReaders as readers
 use Rattle.sc_parse.specs.StmtReaders.{expr_at, call_at, mark_by, mark_at, change_of, change_at, step_at, makes_value, begins_value, placed, unary_place, place_at, value_behind, operand_behind, stepped, changed, assignment_at, call_alone, unstepped, simple_at}
 use Rattle.sc_parse.proofs.Exact.{Taken, Exact, took, glued}
-use Rattle.sc_parse.proofs.Expressions.{Few, few_left, few_right, few_tail, IsExpr, NoExtension, unary_reads, expr_exact, IsCall, call_exact, call_begins, no_call, begins_expr, expr_starts, starts_expr, false-true}
+use Rattle.sc_parse.proofs.Expressions.{Few, few_left, few_right, few_tail, NoExtension, unary_reads, expr_exact, call_exact, call_begins, no_call, begins_expr, expr_starts, starts_expr, false-true}
 
 -- a mark at the front
 pub record Marked (ts : List Lexeme) (m : Mark) : Type 0 where

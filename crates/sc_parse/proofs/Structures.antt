@@ -1,21 +1,14 @@
 -- Structs, globals and what they begin with are read exactly as they are spelled.
-use Rattle.std.proofs.Common.{◌≡◌, ℕ, zero, suc, ◌+◌, ◌<◌, Bool, true, false, cond, List, [], ◌∷◌, ◌++◌, drop, map, length, length-append, Option, Some, None, refl, sym, ap, ◌∙◌, subst, append_assoc, arith}
+use Rattle.std.proofs.Common.{◌≡◌, ℕ, ◌+◌, ◌<◌, Bool, true, false, cond, List, [], ◌∷◌, ◌++◌, drop, length, length-append, Option, Some, None, refl, sym, ap, ◌∙◌, subst, append_assoc, arith}
 use Rattle.std.proofs.lemmas.Option.{none-some}
 use Rattle.std.specs.Option.{option_map_or}
 use Rattle.sc_ast.specs.Lists.{non_empty}
 use Rattle.sc_ast.specs.Numbers.{Number}
 use Rattle.sc_ast.specs.declared.types.BaseTree.{BaseTree}
-use Rattle.sc_ast.specs.declared.types.TypeTree.{TypeTree}
 use Rattle.sc_ast.specs.declared.section.MemberTree.{MemberTree}
 use Rattle.sc_ast.specs.declared.section.StructTree.{StructTree}
 use Rattle.sc_ast.specs.declared.section.ConstTree.{ConstTree}
-use Rattle.sc_ast.specs.declared.section.InitTree.{InitTree}
-use Rattle.sc_ast.specs.declared.section.InitTree.TheVariants as init
-use Rattle.sc_ast.specs.declared.section.GlobalTree.{GlobalTree}
-use Rattle.sc_ast.specs.declared.section.Decl.{Decl}
-use Rattle.sc_ast.specs.declared.section.Decl.TheVariants as decl
 use Rattle.sc_expr.specs.declared.mark.Keyword.TheVariants as word
-use Rattle.sc_expr.specs.declared.mark.Mark.{Mark}
 use Rattle.sc_expr.specs.declared.mark.Mark.TheVariants as mark
 use Rattle.sc_expr.specs.declared.lexeme.Lexeme.{Lexeme}
 use Rattle.sc_expr.specs.Fronts.{behind}
@@ -27,12 +20,12 @@ use Rattle.sc_parse.specs.Types as types
 use Rattle.sc_parse.specs.Lists as lists
 use Rattle.sc_parse.specs.Lists.{IsKeyword, IsInteger, first_line, Separated, more, Grouped, none, next}
 use Rattle.sc_parse.specs.Types.{SpellsBase, int, signed, signed_int, unsigned, unsigned_int, SpellsDeclarator}
-use Rattle.sc_parse.specs.Declarations.{Declares, declares, IsMember, SpellsStruct, struct, SpellsConst, plain, negated, SpellsInit, absent, one, many, many_comma, IsGlobal, global}
-use Rattle.sc_parse.specs.Fronts.{Reader, keyword_at, begins_with, integer_by, behind_inner_comma}
-use Rattle.sc_parse.specs.Readers.{Adder, adds, separated, grouped, declaration_at, members_behind, members_at, members_in_braces, struct_tree, struct_at, const_tree, literal_at, const_at, all_consts, past_comma, consts_at, one_at, init_behind, init_at, type_of, declarator_at, global_decl, global_at, globals_behind}
-use Rattle.sc_parse.proofs.Exact.{Taken, Added, Exact, ExactAdder, Any, took, glued, separated_exact, grouped_exact}
-use Rattle.sc_parse.proofs.Bases.{Word, word_ahead, NoBracket, integer_is, declarator_sound}
-use Rattle.sc_parse.proofs.Declared.{any_left, any_right, member_line_exact, declaration_exact, declarator_complete, declarator_no_int}
+use Rattle.sc_parse.specs.Declarations.{Declares, declares, IsMember, SpellsStruct, struct, SpellsConst, plain, negated}
+use Rattle.sc_parse.specs.Fronts.{keyword_at, begins_with, integer_by, behind_inner_comma}
+use Rattle.sc_parse.specs.Readers.{adds, separated, grouped, declaration_at, members_behind, members_at, members_in_braces, struct_tree, struct_at, const_tree, literal_at, const_at}
+use Rattle.sc_parse.proofs.Exact.{Taken, Exact, ExactAdder, Any, took, glued, separated_exact, grouped_exact}
+use Rattle.sc_parse.proofs.Bases.{word_ahead, integer_is}
+use Rattle.sc_parse.proofs.Declared.{any_left, any_right, member_line_exact}
 
 -- no `}` stands at the front of a base
 pub base_starts : {ts : List Lexeme} {base : BaseTree} (d : SpellsBase ts base) (rest : List Lexeme) → begins_with mark.CloseCurly (ts ++ rest) ≡ false

@@ -1,8 +1,7 @@
 -- Declarations in a section are spelled as they are read.
-use Rattle.std.proofs.Common.{◌≡◌, ℕ, zero, suc, ◌+◌, ◌≤◌, ◌<◌, max, Bool, true, false, not, cond, List, [], ◌∷◌, ◌++◌, drop, map, length, Option, Some, None, refl, sym, ap, ◌∙◌, subst, append_assoc, arith}
-use Rattle.std.proofs.lemmas.Option.{none-some}
+use Rattle.std.proofs.Common.{◌≡◌, ℕ, ◌≤◌, Bool, true, false, cond, List, [], ◌∷◌, ◌++◌, drop, map, Option, Some, None, refl, sym, ap, ◌∙◌, subst, arith}
 use Rattle.std.specs.Option.{option_map_or}
-use Rattle.sc_ast.specs.Height.{decl_height, decls_height}
+use Rattle.sc_ast.specs.Height.{decls_height}
 use Rattle.sc_ast.specs.Heads.{head_of}
 use Rattle.sc_ast.specs.declared.types.BaseTree.{BaseTree}
 use Rattle.sc_ast.specs.declared.section.HeadTree.{HeadTree}
@@ -16,13 +15,12 @@ use Rattle.sc_expr.specs.declared.mark.Keyword.TheVariants as word
 use Rattle.sc_expr.specs.declared.mark.Mark.TheVariants as mark
 use Rattle.sc_expr.specs.declared.lexeme.Lexeme.{Lexeme}
 use Rattle.sc_expr.specs.Fronts.{behind}
-use Rattle.sc_expr.specs.Grammar.{IsMark}
 use Rattle.sc_expr.specs.Reading.{◌>>=◌}
 use Rattle.sc_expr.proofs.Options.{same_some, bound}
 use Rattle.sc_expr.proofs.Ahead.{behind_mark}
 use Rattle.sc_parse.specs.Lists.{Separated, more}
 use Rattle.sc_parse.specs.Lists as lists
-use Rattle.sc_parse.specs.Declarations.{Declares, declares, IsGlobal, SpellsHead, SpellsFunction, function, SpellsDecl, a_struct, globals, prototype, a_function}
+use Rattle.sc_parse.specs.Declarations.{Declares, declares, IsGlobal, SpellsHead, function, SpellsDecl, a_struct, globals, prototype, a_function}
 use Rattle.sc_parse.specs.Fronts.{Reader, keyword_at}
 use Rattle.sc_parse.specs.Readers.{adds, declaration_at, struct_at, head_at, is_struct_word, names_struct, begins_struct, begins_head, globals_behind}
 use Rattle.sc_parse.specs.SectionReaders.{named_head, body_behind, function_behind, behind_head, headed_at, struct_decl_at, decl_at}

@@ -1,5 +1,5 @@
 -- How declarations are spelled (C11 6.7, 6.9). Each declarator gives an entry, at the line of its declaration.
-use Rattle.std.specs.Prelude.{◌≡◌, ℕ, true, false, List, [], ◌∷◌, ◌++◌, map, Option, Some, None}
+use Rattle.std.specs.Prelude.{ℕ, true, false, List, [], ◌∷◌, ◌++◌, map, Option, Some, None}
 use Rattle.sc_ast.specs.Numbers.{Number}
 use Rattle.sc_ast.specs.Heads.{head_of}
 use Rattle.sc_ast.specs.declared.expr.ExprTree.{ExprTree}

@@ -1,5 +1,5 @@
 -- Helping: reading types, lists and declarations from left to right.
-use Rattle.std.specs.Prelude.{ℕ, zero, suc, ◌+◌, Bool, true, false, not, ◌||◌, List, [], ◌∷◌, ◌++◌, length, drop, Option, Some, None, is_some, if◌then◌else◌}
+use Rattle.std.specs.Prelude.{ℕ, zero, suc, ◌+◌, Bool, true, false, ◌||◌, List, [], ◌∷◌, ◌++◌, length, drop, Option, Some, None, is_some, if◌then◌else◌}
 use Rattle.std.specs.Option.{option_map_or}
 use Rattle.sc_ast.specs.Numbers.{Number, array_length}
 use Rattle.sc_ast.specs.Lists.{non_empty}
@@ -12,7 +12,6 @@ use Rattle.sc_ast.specs.declared.section.StructTree.{StructTree}
 use Rattle.sc_ast.specs.declared.section.ConstTree.{ConstTree}
 use Rattle.sc_ast.specs.declared.section.InitTree.{InitTree}
 use Rattle.sc_ast.specs.declared.section.InitTree.TheVariants as init
-use Rattle.sc_ast.specs.declared.section.GlobalTree.{GlobalTree}
 use Rattle.sc_ast.specs.declared.section.ParamTree.{ParamTree}
 use Rattle.sc_ast.specs.declared.section.HeadTree.{HeadTree}
 use Rattle.sc_ast.specs.declared.section.Decl.{Decl}

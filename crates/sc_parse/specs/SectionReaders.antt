@@ -1,6 +1,6 @@
 -- Helping: reading functions and sections from left to right, where `free` brackets may be open and trees may be as
 -- high as `limit`.
-use Rattle.std.specs.Prelude.{ℕ, zero, suc, ◌+◌, Bool, true, false, not, List, [], ◌∷◌, ◌++◌, length, drop, Option, Some, None, is_some, if◌then◌else◌}
+use Rattle.std.specs.Prelude.{ℕ, zero, suc, ◌+◌, Bool, true, false, not, List, [], ◌∷◌, ◌++◌, length, drop, Option, Some, None, if◌then◌else◌}
 use Rattle.std.specs.Option.{option_map_or}
 use Rattle.sc_ast.specs.declared.types.BaseTree.{BaseTree}
 use Rattle.sc_ast.specs.declared.types.TypeName.{TypeName}

@@ -1,6 +1,5 @@
 -- How calls and statements are spelled (C11 6.5.2.2, 6.5.16, 6.8).
-use Rattle.std.specs.Prelude.{◌≡◌, ℕ, Bool, false, IsTrue, List, [], ◌∷◌, ◌++◌, Option, Some, None}
-use Rattle.sc_ast.specs.Numbers.{Number}
+use Rattle.std.specs.Prelude.{◌≡◌, ℕ, false, IsTrue, List, [], ◌∷◌, ◌++◌, Option, Some, None}
 use Rattle.sc_ast.specs.Places.{is_place}
 use Rattle.sc_ast.specs.Simple.{kind_of}
 use Rattle.sc_ast.specs.declared.expr.ExprTree.{ExprTree}

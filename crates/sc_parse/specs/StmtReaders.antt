@@ -1,6 +1,6 @@
 -- Helping: reading calls and statements from left to right, where the parts of a statement may be so high and `free`
 -- brackets may be open.
-use Rattle.std.specs.Prelude.{ℕ, zero, suc, ◌+◌, ◌-◌, Bool, true, false, not, nat_le, nat_lt, List, [], ◌∷◌, ◌++◌, length, drop, Option, Some, None, if◌then◌else◌}
+use Rattle.std.specs.Prelude.{ℕ, zero, suc, ◌+◌, ◌-◌, Bool, true, false, nat_le, nat_lt, List, [], ◌∷◌, length, drop, Option, Some, None, if◌then◌else◌}
 use Rattle.std.specs.Option.{option_map_or}
 use Rattle.sc_ast.specs.Places.{is_place}
 use Rattle.sc_ast.specs.Simple.{kind_of}
