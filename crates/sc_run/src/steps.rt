@@ -5,7 +5,6 @@ ghost use Rattle.sc_core.specs.declared.value.Want.TheVariants as want;
 ghost use Rattle.sc_core.specs.Words.{Next, Return, and_then, leave, follow, in_order, loop, choose};
 ghost use Rattle.sc_core.specs.Tree.{given, test};
 ghost use Rattle.sc_value.specs.Where.{here_of};
-ghost use Rattle.sc_run.specs.Seen.{kept_by};
 ghost use Rattle.sc_run.specs.Resume.{way_in, stmt_acts, block_acts, part_acts, loop_acts, Advances};
 
 use crate::machine::{given, take_turn};
