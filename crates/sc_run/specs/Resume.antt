@@ -26,9 +26,10 @@ use Rattle.sc_run.specs.declared.work.Leaving.{Leaving}
 use Rattle.sc_run.specs.declared.work.Leaving.TheVariants as leaving
 use Rattle.sc_run.specs.declared.work.Now.{Now}
 use Rattle.sc_run.specs.declared.work.Now.TheVariants.{Run as Run', Leave}
+use Rattle.sc_run.specs.declared.work.Run.{Run as Run''}
 use Rattle.sc_run.specs.declared.work.Step.{Step}
 use Rattle.sc_run.specs.declared.work.Step.TheVariants.{Go, Stop}
-use Rattle.sc_run.specs.Seen.{Seen, seen_of}
+use Rattle.sc_run.specs.Seen.{Seen, seen_of, kept_by}
 
 abbrev pub exit_of : Leaving → Exit
 exit_of leaving.Next = Next
@@ -128,3 +129,8 @@ module _ (program : ProgramTree) where
   -- a step, whatever the whole run is
   pub record Steps (before : Seen) (work : List Work) (f : Frame) (piece : ℕ → State → Piece (Left (Unit {0}))) (step : Step) (after : Seen) (later : List Work) (g : Frame) : Type 0 where
     pub stands : (whole : SourceRun) → Standing whole before work f piece → Stands whole step after later g
+
+  -- the same of a run that was here before the step, and is there after it
+  abbrev pub Advances : Run'' → (ℕ → State → Piece (Left (Unit {0}))) → Step → Run'' → Type 0
+  Advances run piece step later =
+      Steps (kept_by run.machine) run.work.items run.frame piece step (kept_by later.machine) later.work.items later.frame

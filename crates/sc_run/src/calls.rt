@@ -6,11 +6,11 @@ ghost use Rattle.sc_core.specs.Words.{and_then, turn};
 ghost use Rattle.sc_core.specs.Calls.{function, word_in, run_in};
 ghost use Rattle.sc_core.specs.Meaning.{function_of};
 ghost use Rattle.sc_run.specs.Seen.{kept_by};
-ghost use Rattle.sc_run.specs.Resume.{Steps, library, bodies, result_goes};
+ghost use Rattle.sc_run.specs.Resume.{Steps, library, bodies, result_goes, Advances};
 ghost use Rattle.sc_run.specs.Entering.{Begun, told_call, entry_from, back_from, body_acts};
 
 use crate::machine::{Machine, init_all, make_blocks, store_at, take_turn, tell};
-use crate::work::{Callee, Frame, Leaving, Now, Step, To, Work};
+use crate::work::{Callee, Frame, Leaving, Now, Run, Step, To, Work};
 use sc_base::OutOfMemory;
 use sc_core::{ProgramTree, Value};
 use sc_event::{Args, Event};
@@ -143,25 +143,23 @@ fn words_of(alloc: Global, values: &[Value]) -> Result<Args, OutOfMemory>
 // A function begins, once it is found: a turn, its event, its variables, and its first statement.
 pub fn enter<'a>(
     program: &'a ProgramTree,
-    machine: &mut Machine,
-    work: &mut Vec<Work<'a>>,
-    frame: &mut Frame<'a>,
+    run: &mut Run<'a, '_>,
     callee: &Callee<'a>,
     args: &[Value],
     to: To<'a>,
     crossing: Option<u16>,
 ) -> Result<Step<'a>, OutOfMemory>
     requires { function (library program.now) callee.now.comp.now callee.now.number ≡ Some (function_of c_arith program.now.interfaces.main callee.now.structs.now callee.now.function.now) }
-    ensures { IfOk result (λ step. Steps program.now (kept_by machine.old) work.old.items frame.old (λ n s. and_then (and_then (turn s) (λ _ s. run_in (library program.now) (bodies program.now n) callee.now.comp.now callee.now.number args.now (back_from program.now frame.old callee.now crossing) (entry_from frame.old callee.now args.now crossing s))) (result_goes program.now frame.old to.entry)) step (kept_by machine.new) work.new.items frame.new) }
+    ensures { IfOk result (λ step. Advances program.now run.old (λ n s. and_then (and_then (turn s) (λ _ s. run_in (library program.now) (bodies program.now n) callee.now.comp.now callee.now.number args.now (back_from program.now run.old.frame callee.now crossing) (entry_from run.old.frame callee.now args.now crossing s))) (result_goes program.now run.old.frame to.entry)) step run.new) }
 {
-    match take_turn(machine) {
+    match take_turn(&mut run.machine) {
         Err(end) => Ok(Step::Stop(end)),
         Ok(()) => {
-            tell_call(machine, frame, callee, args, crossing)?;
-            let next = begin(machine, callee, args)?;
-            work.push(Work::Caller(*frame, to, crossing))?;
-            *frame = next;
-            Ok(start(program, machine, work, frame))
+            tell_call(&mut run.machine, &run.frame, callee, args, crossing)?;
+            let next = begin(&mut run.machine, callee, args)?;
+            run.work.push(Work::Caller(run.frame, to, crossing))?;
+            run.frame = next;
+            Ok(start(program, &mut run.machine, &run.work, &run.frame))
         }
     }
 }

@@ -4,14 +4,14 @@ ghost use Rattle.std.specs.Prelude.{◌≡◌, ◌++◌, [], ◌∷◌, IfOk, On
 ghost use Rattle.sc_core.specs.Words.{State, leave, follow, in_order, in_loop};
 ghost use Rattle.sc_core.specs.Meaning.{main_name, exit_word};
 ghost use Rattle.sc_run.specs.Seen.{kept_by};
-ghost use Rattle.sc_run.specs.Resume.{Steps, exit_of, block_acts, next_acts, loop_acts, closes};
+ghost use Rattle.sc_run.specs.Resume.{Steps, exit_of, block_acts, next_acts, loop_acts, closes, Advances};
 ghost use Rattle.sc_run.specs.Returning.{ended_as, variable_count, left_by, word_crossing, told_back, back_value};
 
 use crate::calls::{hand_back, word_in};
 use crate::machine::{Machine, tell};
 use crate::simple::simple;
 use crate::steps::round;
-use crate::work::{Frame, Leaving, Loop, Now, Step, To, Work};
+use crate::work::{Frame, Leaving, Loop, Now, Run, Step, To, Work};
 use sc_base::OutOfMemory;
 use sc_core::{Cause, ProgramTree, RunEnd, TypedStmt, Value};
 use sc_event::Event;
@@ -19,13 +19,11 @@ use sc_event::Event;
 // The statements that follow, where control reached the end of those before.
 fn leave_before_rest<'a>(
     program: &'a ProgramTree,
-    machine: &Machine,
-    work: &Vec<Work<'a>>,
-    frame: &Frame<'a>,
+    run: &Run<'a, '_>,
     rest: &'a [TypedStmt],
     exit: Leaving,
 ) -> Step<'a>
-    ensures { Steps program.now (kept_by machine.now) work.now.items frame.now (λ n s. follow in_order (leave (exit_of exit) tt s) (block_acts program.now n frame.now rest.now)) result (kept_by machine.now) work.now.items frame.now }
+    ensures { Advances program.now run.now (λ n s. follow in_order (leave (exit_of exit) tt s) (block_acts program.now n run.now.frame rest.now)) result run.now }
 {
     match exit {
         Leaving::Next => Step::Go(Now::Run(rest)),
@@ -38,16 +36,14 @@ fn leave_before_rest<'a>(
 // The loop, where control reached the end of its first part.
 fn leave_first<'a>(
     program: &'a ProgramTree,
-    machine: &mut Machine,
-    work: &mut Vec<Work<'a>>,
-    frame: &Frame<'a>,
+    run: &mut Run<'a, '_>,
     whole: &Loop<'a>,
     exit: Leaving,
 ) -> Result<Step<'a>, OutOfMemory>
-    ensures { IfOk result (λ step. Steps program.now (kept_by machine.old) work.old.items frame.now (λ n s. follow in_order (leave (exit_of exit) tt s) (loop_acts program.now n frame.now whole.now)) step (kept_by machine.new) work.new.items frame.now) }
+    ensures { IfOk result (λ step. Advances program.now run.old (λ n s. follow in_order (leave (exit_of exit) tt s) (loop_acts program.now n run.old.frame whole.now)) step run.new) }
 {
     match exit {
-        Leaving::Next => round(program, machine, work, frame, whole),
+        Leaving::Next => round(program, run, whole),
         Leaving::Break => Ok(Step::Go(Now::Leave(Leaving::Break))),
         Leaving::Continue => Ok(Step::Go(Now::Leave(Leaving::Continue))),
         Leaving::Return(value) => Ok(Step::Go(Now::Leave(Leaving::Return(value)))),
@@ -57,17 +53,15 @@ fn leave_first<'a>(
 // The next round, where control reached the end of what stands before it.
 fn leave_before_round<'a>(
     program: &'a ProgramTree,
-    machine: &mut Machine,
-    work: &mut Vec<Work<'a>>,
-    frame: &Frame<'a>,
+    run: &mut Run<'a, '_>,
     whole: &Loop<'a>,
     exit: Leaving,
 ) -> Result<Step<'a>, OutOfMemory>
-    ensures { IfOk result (λ step. Steps program.now (kept_by machine.old) work.old.items frame.now (λ n s. follow in_loop (leave (exit_of exit) tt s) (loop_acts program.now n frame.now whole.now)) step (kept_by machine.new) work.new.items frame.now) }
+    ensures { IfOk result (λ step. Advances program.now run.old (λ n s. follow in_loop (leave (exit_of exit) tt s) (loop_acts program.now n run.old.frame whole.now)) step run.new) }
 {
     match exit {
-        Leaving::Next => round(program, machine, work, frame, whole),
-        Leaving::Continue => round(program, machine, work, frame, whole),
+        Leaving::Next => round(program, run, whole),
+        Leaving::Continue => round(program, run, whole),
         Leaving::Break => Ok(Step::Go(Now::Leave(Leaving::Next))),
         Leaving::Return(value) => Ok(Step::Go(Now::Leave(Leaving::Return(value)))),
     }
@@ -76,18 +70,16 @@ fn leave_before_round<'a>(
 // What stands between the body of a loop and its next round.
 fn next_part<'a>(
     program: &'a ProgramTree,
-    machine: &mut Machine,
-    work: &mut Vec<Work<'a>>,
-    frame: &mut Frame<'a>,
+    run: &mut Run<'a, '_>,
     whole: &Loop<'a>,
 ) -> Result<Step<'a>, OutOfMemory>
-    ensures { IfOk result (λ step. Steps program.now (kept_by machine.old) work.old.items frame.old (λ n s. follow in_loop (next_acts program.now n frame.old whole.now tt s) (loop_acts program.now n frame.old whole.now)) step (kept_by machine.new) work.new.items frame.new) }
+    ensures { IfOk result (λ step. Advances program.now run.old (λ n s. follow in_loop (next_acts program.now n run.old.frame whole.now tt s) (loop_acts program.now n run.old.frame whole.now)) step run.new) }
 {
     match whole.next {
-        None => round(program, machine, work, frame, whole),
+        None => round(program, run, whole),
         Some(next) => {
-            work.push(Work::Again(*whole))?;
-            simple(program, machine, work, frame, next)
+            run.work.push(Work::Again(*whole))?;
+            simple(program, run, next)
         }
     }
 }
@@ -95,17 +87,15 @@ fn next_part<'a>(
 // What follows the body of a loop.
 fn leave_body<'a>(
     program: &'a ProgramTree,
-    machine: &mut Machine,
-    work: &mut Vec<Work<'a>>,
-    frame: &mut Frame<'a>,
+    run: &mut Run<'a, '_>,
     whole: &Loop<'a>,
     exit: Leaving,
 ) -> Result<Step<'a>, OutOfMemory>
-    ensures { IfOk result (λ step. Steps program.now (kept_by machine.old) work.old.items frame.old (λ n s. follow in_loop (leave (exit_of exit) tt s) (λ a s. follow in_loop (next_acts program.now n frame.old whole.now a s) (loop_acts program.now n frame.old whole.now))) step (kept_by machine.new) work.new.items frame.new) }
+    ensures { IfOk result (λ step. Advances program.now run.old (λ n s. follow in_loop (leave (exit_of exit) tt s) (λ a s. follow in_loop (next_acts program.now n run.old.frame whole.now a s) (loop_acts program.now n run.old.frame whole.now))) step run.new) }
 {
     match exit {
-        Leaving::Next => next_part(program, machine, work, frame, whole),
-        Leaving::Continue => next_part(program, machine, work, frame, whole),
+        Leaving::Next => next_part(program, run, whole),
+        Leaving::Continue => next_part(program, run, whole),
         Leaving::Break => Ok(Step::Go(Now::Leave(Leaving::Next))),
         Leaving::Return(value) => Ok(Step::Go(Now::Leave(Leaving::Return(value)))),
     }
@@ -212,23 +202,28 @@ fn tell_back(
 // A call ends, and the function that called goes on.
 fn return_to<'a>(
     program: &'a ProgramTree,
-    machine: &mut Machine,
-    work: &Vec<Work<'a>>,
-    frame: &mut Frame<'a>,
+    run: &mut Run<'a, '_>,
     caller: &Frame<'a>,
     to: To<'a>,
     crossed: Option<u16>,
     exit: Leaving,
 ) -> Result<Step<'a>, OutOfMemory>
-    ensures { IfOk result (λ step. Steps program.now (kept_by machine.old) (work.now.items ++ Work.Caller caller.now to.entry crossed ∷ []) frame.old (λ n s. leave (exit_of exit) tt s) step (kept_by machine.new) work.now.items frame.new) }
+    ensures { IfOk result (λ step. Steps program.now (kept_by run.old.machine) (run.old.work.items ++ Work.Caller caller.now to.entry crossed ∷ []) run.old.frame (λ n s. leave (exit_of exit) tt s) step (kept_by run.new.machine) run.new.work.items run.new.frame) }
 {
-    match closed(program, frame, exit) {
+    match closed(program, &run.frame, exit) {
         Err(end) => Ok(Step::Stop(end)),
         Ok(value) => {
-            end_variables(machine, frame);
-            let back = tell_back(program, machine, caller, frame, crossed, value)?;
-            *frame = *caller;
-            Ok(hand_back(program, machine, work, frame, to, back))
+            end_variables(&mut run.machine, &run.frame);
+            let back = tell_back(
+                program,
+                &mut run.machine,
+                caller,
+                &run.frame,
+                crossed,
+                value,
+            )?;
+            run.frame = *caller;
+            Ok(hand_back(program, &mut run.machine, &run.work, &run.frame, to, back))
         }
     }
 }
@@ -265,23 +260,19 @@ fn finish<'a>(
 /// What follows when control leaves statements.
 pub fn leave<'a>(
     program: &'a ProgramTree,
-    machine: &mut Machine,
-    work: &mut Vec<Work<'a>>,
-    frame: &mut Frame<'a>,
+    run: &mut Run<'a, '_>,
     exit: Leaving,
 ) -> Result<Step<'a>, OutOfMemory>
-    ensures { IfOk result (λ step. Steps program.now (kept_by machine.old) work.old.items frame.old (λ n s. leave (exit_of exit) tt s) step (kept_by machine.new) work.new.items frame.new) }
+    ensures { IfOk result (λ step. Advances program.now run.old (λ n s. leave (exit_of exit) tt s) step run.new) }
 {
-    match work.pop() {
-        None => finish(program, machine, frame, exit),
-        Some(Work::Rest(rest)) => Ok(leave_before_rest(program, machine, work, frame, rest, exit)),
-        Some(Work::First(whole)) => leave_first(program, machine, work, frame, &whole, exit),
-        Some(Work::Again(whole)) => {
-            leave_before_round(program, machine, work, frame, &whole, exit)
-        }
-        Some(Work::Body(whole)) => leave_body(program, machine, work, frame, &whole, exit),
+    match run.work.pop() {
+        None => finish(program, &mut run.machine, &run.frame, exit),
+        Some(Work::Rest(rest)) => Ok(leave_before_rest(program, run, rest, exit)),
+        Some(Work::First(whole)) => leave_first(program, run, &whole, exit),
+        Some(Work::Again(whole)) => { leave_before_round(program, run, &whole, exit) }
+        Some(Work::Body(whole)) => leave_body(program, run, &whole, exit),
         Some(Work::Caller(caller, to, crossed)) => return_to(
-            program, machine, work, frame, &caller, to, crossed, exit,
+            program, run, &caller, to, crossed, exit,
         ),
     }
 }

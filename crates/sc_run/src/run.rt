@@ -1,11 +1,11 @@
 //! Whole runs.
 
-ghost use Rattle.std.specs.Prelude.{◌≡◌, map, take, IfOk};
+ghost use Rattle.std.specs.Prelude.{◌≡◌, [], map, take, IfOk};
 ghost use Rattle.sc_word.specs.Word.{word_of};
 ghost use Rattle.sc_core.specs.Run.{stopped_at};
 ghost use Rattle.sc_core.specs.Meaning.{meaning};
 ghost use Rattle.sc_run.specs.Seen.{kept_by};
-ghost use Rattle.sc_run.specs.Resume.{Steps, EndsAs, does_now};
+ghost use Rattle.sc_run.specs.Resume.{Advances, EndsAs, does_now};
 
 use crate::calls::{begin, start};
 use crate::globals::first_blocks;
@@ -13,7 +13,7 @@ use crate::leaves::leave;
 use crate::lookups::entry_callee;
 use crate::machine::Machine;
 use crate::steps::run_list;
-use crate::work::{Frame, Now, Step, Work};
+use crate::work::{Now, Run, Step};
 use sc_base::OutOfMemory;
 use sc_core::{Program, ProgramTree, RunEnd, SourceRun};
 use sc_event::{Entry, Trace};
@@ -22,16 +22,14 @@ use std::alloc::Global;
 // One step of a run.
 fn proceed<'a>(
     program: &'a ProgramTree,
-    machine: &mut Machine,
-    work: &mut Vec<Work<'a>>,
-    frame: &mut Frame<'a>,
+    run: &mut Run<'a, '_>,
     now: Now<'a>,
 ) -> Result<Step<'a>, OutOfMemory>
-    ensures { IfOk result (λ step. Steps program.now (kept_by machine.old) work.old.items frame.old (does_now program.now frame.old now.entry) step (kept_by machine.new) work.new.items frame.new) }
+    ensures { IfOk result (λ step. Advances program.now run.old (does_now program.now run.old.frame now.entry) step run.new) }
 {
     match now {
-        Now::Run(stmts) => run_list(program, machine, work, frame, stmts),
-        Now::Leave(exit) => leave(program, machine, work, frame, exit),
+        Now::Run(stmts) => run_list(program, run, stmts),
+        Now::Leave(exit) => leave(program, run, exit),
     }
 }
 
@@ -65,23 +63,22 @@ fn shown(machine: Machine, end: RunEnd, events: u32) -> SourceRun
     SourceRun { trace, end }
 }
 
-// Steps from here to the end of the run, or to so many events.
+// Steps from the first statements of `main` to the end of the run, or to so many events.
 fn run_on<'a>(
     program: &'a ProgramTree,
-    machine: &mut Machine<'a>,
-    frame: &mut Frame<'a>,
+    run: &mut Run<'a, '_>,
     first: Now<'a>,
     events: u32,
 ) -> Result<RunEnd, OutOfMemory>
-    ensures { IfOk result (λ end. EndsAs program.now first.entry (kept_by machine.old) frame.old events machine.new.trace end) }
+    requires { run.old.work.items ≡ [] }
+    ensures { IfOk result (λ end. EndsAs program.now first.entry (kept_by run.old.machine) run.old.frame events run.new.machine.trace end) }
 {
-    let mut work = Vec::new(machine.alloc);
     let mut now = first;
     for _step in 0..u64::MAX {
-        if machine.trace.len() >= events as usize {
+        if run.machine.trace.len() >= events as usize {
             return Ok(RunEnd::EventsOut);
         }
-        match proceed(program, machine, &mut work, frame, now) {
+        match proceed(program, run, now) {
             Ok(Step::Stop(end)) => return Ok(end),
             Ok(Step::Go(next)) => now = next,
             Err(error) => return Err(error),
@@ -112,11 +109,18 @@ pub fn run_source(
     let Some(callee) = entry_callee(tree, &tree.interfaces.main, Entry::Main) else {
         return Ok(shown(machine, RunEnd::TurnsOut, events));
     };
-    let mut frame = begin(&mut machine, &callee, &[])?;
-    match start(tree, &mut machine, &Vec::new(alloc), &frame) {
+    let frame = begin(&mut machine, &callee, &[])?;
+    let work = Vec::new(alloc);
+    match start(tree, &mut machine, &work, &frame) {
         Step::Stop(end) => Ok(shown(machine, end, events)),
         Step::Go(now) => {
-            let end = run_on(tree, &mut machine, &mut frame, now, events)?;
+            let mut run = Run {
+                machine,
+                work,
+                frame,
+            };
+            let end = run_on(tree, &mut run, now, events)?;
+            let Run { machine, .. } = run;
             Ok(shown(machine, end, events))
         }
     }

@@ -11,12 +11,12 @@ ghost use Rattle.sc_core.specs.Calls.{is_word, may_call, first_word, next_input}
 ghost use Rattle.sc_value.specs.Where.{here_of};
 ghost use Rattle.sc_run.specs.Seen.{kept_by};
 ghost use Rattle.sc_run.specs.Comes.{Comes};
-ghost use Rattle.sc_run.specs.Resume.{Steps, way_in, library, calls_in, result_goes};
+ghost use Rattle.sc_run.specs.Resume.{Steps, way_in, library, calls_in, result_goes, Advances};
 
 use crate::calls::{enter, hand_back, word_in};
 use crate::lookups::{are_words, callee_at, entry_callee};
 use crate::machine::{Machine, assign, blamed, tell};
-use crate::work::{Frame, Leaving, Now, Step, To, Work};
+use crate::work::{Frame, Leaving, Now, Run, Step, To, Work};
 use sc_base::OutOfMemory;
 use sc_core::{
     CallTarget, Cause, ProgramTree, RunEnd, TypedCall, TypedExpr, TypedSimple, TypedSimpleKind,
@@ -51,19 +51,17 @@ fn refusal(frame: &Frame) -> RunEnd
 // A call inside the compartment.
 fn call_own<'a>(
     program: &'a ProgramTree,
-    machine: &mut Machine,
-    work: &mut Vec<Work<'a>>,
-    frame: &mut Frame<'a>,
+    run: &mut Run<'a, '_>,
     number: usize,
     args: &[Value],
     to: To<'a>,
 ) -> Result<Step<'a>, OutOfMemory>
-    ensures { IfOk result (λ step. Steps program.now (kept_by machine.old) work.old.items frame.old (λ n s. and_then (calls_in program.now n frame.old.scope.comp.now (CallTarget.Own number) args.now s) (result_goes program.now frame.old to.entry)) step (kept_by machine.new) work.new.items frame.new) }
+    ensures { IfOk result (λ step. Advances program.now run.old (λ n s. and_then (calls_in program.now n run.old.frame.scope.comp.now (CallTarget.Own number) args.now s) (result_goes program.now run.old.frame to.entry)) step run.new) }
 {
-    let comp = frame.scope.comp;
+    let comp = run.frame.scope.comp;
     match callee_at(program, comp, number) {
-        None => Ok(Step::Stop(refusal(frame))),
-        Some(callee) => enter(program, machine, work, frame, &callee, args, to, None),
+        None => Ok(Step::Stop(refusal(&run.frame))),
+        Some(callee) => enter(program, run, &callee, args, to, None),
     }
 }
 
@@ -78,31 +76,26 @@ fn may_cross(interfaces: &Interfaces, from: CompId, to: CompId, index: u16, args
 // A call of an export of another compartment. It is looked up by its name, and is an event, of which a run has few.
 fn call_cross<'a>(
     program: &'a ProgramTree,
-    machine: &mut Machine,
-    work: &mut Vec<Work<'a>>,
-    frame: &mut Frame<'a>,
+    run: &mut Run<'a, '_>,
     comp: &'a CompId,
     index: u16,
     args: &[Value],
     to: To<'a>,
 ) -> Result<Step<'a>, OutOfMemory>
-    ensures { IfOk result (λ step. Steps program.now (kept_by machine.old) work.old.items frame.old (λ n s. and_then (calls_in program.now n frame.old.scope.comp.now (CallTarget.Cross comp.now index) args.now s) (result_goes program.now frame.old to.entry)) step (kept_by machine.new) work.new.items frame.new) }
+    ensures { IfOk result (λ step. Advances program.now run.old (λ n s. and_then (calls_in program.now n run.old.frame.scope.comp.now (CallTarget.Cross comp.now index) args.now s) (result_goes program.now run.old.frame to.entry)) step run.new) }
 {
-    if !may_cross(&program.interfaces, *frame.scope.comp, *comp, index, args) {
-        return Ok(Step::Stop(refusal(frame)));
+    if !may_cross(
+        &program.interfaces,
+        *run.frame.scope.comp,
+        *comp,
+        index,
+        args,
+    ) {
+        return Ok(Step::Stop(refusal(&run.frame)));
     }
     match entry_callee(program, comp, Entry::Export(index)) {
-        None => Ok(Step::Stop(refusal(frame))),
-        Some(callee) => enter(
-            program,
-            machine,
-            work,
-            frame,
-            &callee,
-            args,
-            to,
-            Some(index),
-        ),
+        None => Ok(Step::Stop(refusal(&run.frame))),
+        Some(callee) => enter(program, run, &callee, args, to, Some(index)),
     }
 }
 
@@ -178,49 +171,40 @@ fn call_output<'a>(
 // A call, once its arguments have their values.
 fn called<'a>(
     program: &'a ProgramTree,
-    machine: &mut Machine,
-    work: &mut Vec<Work<'a>>,
-    frame: &mut Frame<'a>,
+    run: &mut Run<'a, '_>,
     target: &'a CallTarget,
     args: &[Value],
     to: To<'a>,
 ) -> Result<Step<'a>, OutOfMemory>
-    ensures { IfOk result (λ step. Steps program.now (kept_by machine.old) work.old.items frame.old (λ n s. and_then (calls_in program.now n frame.old.scope.comp.now target.now args.now s) (result_goes program.now frame.old to.entry)) step (kept_by machine.new) work.new.items frame.new) }
+    ensures { IfOk result (λ step. Advances program.now run.old (λ n s. and_then (calls_in program.now n run.old.frame.scope.comp.now target.now args.now s) (result_goes program.now run.old.frame to.entry)) step run.new) }
 {
     match target {
-        CallTarget::Own(number) => {
-            call_own(program, machine, work, frame, *number as usize, args, to)
-        }
-        CallTarget::Cross(comp, index) => {
-            call_cross(program, machine, work, frame, comp, *index, args, to)
-        }
-        CallTarget::Input => call_input(program, machine, work, frame, args, to),
-        CallTarget::Output => call_output(program, machine, work, frame, args, to),
+        CallTarget::Own(number) => { call_own(program, run, *number as usize, args, to) }
+        CallTarget::Cross(comp, index) => { call_cross(program, run, comp, *index, args, to) }
+        CallTarget::Input => call_input(program, &mut run.machine, &run.work, &run.frame, args, to),
+        CallTarget::Output => call_output(
+            program,
+            &mut run.machine,
+            &run.work,
+            &run.frame,
+            args,
+            to,
+        ),
     }
 }
 
 /// A call: its arguments, and then what is called.
 pub fn call<'a>(
     program: &'a ProgramTree,
-    machine: &mut Machine,
-    work: &mut Vec<Work<'a>>,
-    frame: &mut Frame<'a>,
+    run: &mut Run<'a, '_>,
     made: &'a TypedCall,
     to: To<'a>,
     line: u32,
 ) -> Result<Step<'a>, OutOfMemory>
-    ensures { IfOk result (λ step. Steps program.now (kept_by machine.old) work.old.items frame.old (λ n s. and_then (call (here_of frame.old.scope) (calls_in program.now n) made.now.target (map (way_in frame.old) made.now.args) line s) (result_goes program.now frame.old to.entry)) step (kept_by machine.new) work.new.items frame.new) }
+    ensures { IfOk result (λ step. Advances program.now run.old (λ n s. and_then (call (here_of run.old.frame.scope) (calls_in program.now n) made.now.target (map (way_in run.old.frame) made.now.args) line s) (result_goes program.now run.old.frame to.entry)) step run.new) }
 {
-    match given_all(machine, frame, made.args.as_slice(), line)? {
-        Ok(args) => called(
-            program,
-            machine,
-            work,
-            frame,
-            &made.target,
-            args.as_slice(),
-            to,
-        ),
+    match given_all(&run.machine, &run.frame, made.args.as_slice(), line)? {
+        Ok(args) => called(program, run, &made.target, args.as_slice(), to),
         Err(end) => Ok(Step::Stop(end)),
     }
 }
@@ -228,16 +212,14 @@ pub fn call<'a>(
 // An assignment.
 pub fn assigned<'a>(
     program: &'a ProgramTree,
-    machine: &mut Machine,
-    work: &Vec<Work<'a>>,
-    frame: &Frame<'a>,
+    run: &mut Run<'a, '_>,
     place: &TypedExpr,
     value: &TypedExpr,
     line: u32,
 ) -> Step<'a>
-    ensures { Steps program.now (kept_by machine.old) work.now.items frame.now (λ n. assign (here_of frame.now.scope) (way_in frame.now place.now) (way_in frame.now value.now) line tt) result (kept_by machine.new) work.now.items frame.now }
+    ensures { Advances program.now run.old (λ n. assign (here_of run.old.frame.scope) (way_in run.old.frame place.now) (way_in run.old.frame value.now) line tt) result run.new }
 {
-    match assign(machine, frame, place, value, line) {
+    match assign(&mut run.machine, &run.frame, place, value, line) {
         Ok(()) => Step::Go(Now::Leave(Leaving::Next)),
         Err(end) => Step::Stop(end),
     }
@@ -246,35 +228,23 @@ pub fn assigned<'a>(
 /// A statement in the head of a `for`.
 pub fn simple<'a>(
     program: &'a ProgramTree,
-    machine: &mut Machine,
-    work: &mut Vec<Work<'a>>,
-    frame: &mut Frame<'a>,
+    run: &mut Run<'a, '_>,
     part: &'a TypedSimple,
 ) -> Result<Step<'a>, OutOfMemory>
-    ensures { IfOk result (λ step. Steps program.now (kept_by machine.old) work.old.items frame.old (λ n. simple_does c_arith frame.old.scope.structs.now (here_of frame.old.scope) frame.old.scope.params (calls_in program.now n) part.now.kind part.now.line tt) step (kept_by machine.new) work.new.items frame.new) }
+    ensures { IfOk result (λ step. Advances program.now run.old (λ n. simple_does c_arith run.old.frame.scope.structs.now (here_of run.old.frame.scope) run.old.frame.scope.params (calls_in program.now n) part.now.kind part.now.line tt) step run.new) }
 {
     match &part.kind {
         TypedSimpleKind::Assign { place, value } => Ok(assigned(
             program,
-            machine,
-            work,
-            frame,
+            run,
             place.get(),
             value,
             part.line,
         )),
         TypedSimpleKind::AssignCall { place, call: made } => {
             let to = To::Place(place.get(), part.line);
-            call(program, machine, work, frame, made, to, part.line)
+            call(program, run, made, to, part.line)
         }
-        TypedSimpleKind::Call(made) => call(
-            program,
-            machine,
-            work,
-            frame,
-            made,
-            To::Nowhere,
-            part.line,
-        ),
+        TypedSimpleKind::Call(made) => call(program, run, made, To::Nowhere, part.line),
     }
 }

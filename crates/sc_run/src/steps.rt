@@ -5,12 +5,11 @@ ghost use Rattle.sc_core.specs.declared.value.Want.TheVariants as want;
 ghost use Rattle.sc_core.specs.Words.{Next, Return, and_then, leave, follow, in_order, loop, choose};
 ghost use Rattle.sc_core.specs.Tree.{given, test};
 ghost use Rattle.sc_value.specs.Where.{here_of};
-ghost use Rattle.sc_run.specs.Seen.{kept_by};
-ghost use Rattle.sc_run.specs.Resume.{Steps, way_in, stmt_acts, block_acts, part_acts, loop_acts};
+ghost use Rattle.sc_run.specs.Resume.{way_in, stmt_acts, block_acts, part_acts, loop_acts, Advances};
 
-use crate::machine::{Machine, given, take_turn};
+use crate::machine::{given, take_turn};
 use crate::simple::{assigned, call, simple};
-use crate::work::{Frame, Leaving, Loop, Now, Step, To, Work};
+use crate::work::{Leaving, Loop, Now, Run, Step, To, Work};
 use sc_base::OutOfMemory;
 use sc_core::{ProgramTree, TypedExpr, TypedSimple, TypedStmt, TypedStmtKind, Want};
 use sc_value::is_true;
@@ -18,17 +17,15 @@ use sc_value::is_true;
 // The first statements where the condition holds, else the second.
 fn branch<'a>(
     program: &'a ProgramTree,
-    machine: &Machine,
-    work: &Vec<Work<'a>>,
-    frame: &Frame<'a>,
+    run: &Run<'a, '_>,
     cond: &TypedExpr,
     line: u32,
     first: &'a [TypedStmt],
     second: &'a [TypedStmt],
 ) -> Step<'a>
-    ensures { Steps program.now (kept_by machine.now) work.now.items frame.now (λ n s. and_then (given (here_of frame.now.scope) want.Value (way_in frame.now cond.now) line s) (λ v s. choose v (block_acts program.now n frame.now first.now tt s) (block_acts program.now n frame.now second.now tt s))) result (kept_by machine.now) work.now.items frame.now }
+    ensures { Advances program.now run.now (λ n s. and_then (given (here_of run.now.frame.scope) want.Value (way_in run.now.frame cond.now) line s) (λ v s. choose v (block_acts program.now n run.now.frame first.now tt s) (block_acts program.now n run.now.frame second.now tt s))) result run.now }
 {
-    match given(machine, frame, Want::Value, cond, line) {
+    match given(&run.machine, &run.frame, Want::Value, cond, line) {
         Ok(value) => {
             if is_true(value) {
                 Step::Go(Now::Run(first))
@@ -43,21 +40,25 @@ fn branch<'a>(
 // A loop from here: its test, a turn, and its body.
 pub fn round<'a>(
     program: &'a ProgramTree,
-    machine: &mut Machine,
-    work: &mut Vec<Work<'a>>,
-    frame: &Frame<'a>,
+    run: &mut Run<'a, '_>,
     whole: &Loop<'a>,
 ) -> Result<Step<'a>, OutOfMemory>
-    ensures { IfOk result (λ step. Steps program.now (kept_by machine.old) work.old.items frame.now (λ n. loop_acts program.now n frame.now whole.now tt) step (kept_by machine.new) work.new.items frame.now) }
+    ensures { IfOk result (λ step. Advances program.now run.old (λ n. loop_acts program.now n run.old.frame whole.now tt) step run.new) }
 {
-    match given(machine, frame, Want::Value, whole.cond, whole.line) {
+    match given(
+        &run.machine,
+        &run.frame,
+        Want::Value,
+        whole.cond,
+        whole.line,
+    ) {
         Ok(value) => {
             if !is_true(value) {
                 return Ok(Step::Go(Now::Leave(Leaving::Next)));
             }
-            match take_turn(machine) {
+            match take_turn(&mut run.machine) {
                 Ok(()) => {
-                    work.push(Work::Body(*whole))?;
+                    run.work.push(Work::Body(*whole))?;
                     Ok(Step::Go(Now::Run(whole.body)))
                 }
                 Err(end) => Ok(Step::Stop(end)),
@@ -70,14 +71,12 @@ pub fn round<'a>(
 // A `while`.
 fn while_loop<'a>(
     program: &'a ProgramTree,
-    machine: &mut Machine,
-    work: &mut Vec<Work<'a>>,
-    frame: &Frame<'a>,
+    run: &mut Run<'a, '_>,
     cond: &'a TypedExpr,
     body: &'a [TypedStmt],
     line: u32,
 ) -> Result<Step<'a>, OutOfMemory>
-    ensures { IfOk result (λ step. Steps program.now (kept_by machine.old) work.old.items frame.now (λ n. loop (test (here_of frame.now.scope) (way_in frame.now cond.now) line) (block_acts program.now n frame.now body.now) (leave Next) tt) step (kept_by machine.new) work.new.items frame.now) }
+    ensures { IfOk result (λ step. Advances program.now run.old (λ n. loop (test (here_of run.old.frame.scope) (way_in run.old.frame cond.now) line) (block_acts program.now n run.old.frame body.now) (leave Next) tt) step run.new) }
 {
     let whole = Loop {
         cond,
@@ -85,48 +84,23 @@ fn while_loop<'a>(
         next: None,
         line,
     };
-    round(program, machine, work, frame, &whole)
-}
-
-// A `for`.
-fn for_loop<'a>(
-    program: &'a ProgramTree,
-    machine: &mut Machine,
-    work: &mut Vec<Work<'a>>,
-    frame: &mut Frame<'a>,
-    first: &'a Option<TypedSimple>,
-    cond: &'a TypedExpr,
-    next: &'a Option<TypedSimple>,
-    body: &'a [TypedStmt],
-    line: u32,
-) -> Result<Step<'a>, OutOfMemory>
-    ensures { IfOk result (λ step. Steps program.now (kept_by machine.old) work.old.items frame.old (λ n s. follow in_order (part_acts program.now n frame.old first.now tt s) (loop (test (here_of frame.old.scope) (way_in frame.old cond.now) line) (block_acts program.now n frame.old body.now) (part_acts program.now n frame.old next.now))) step (kept_by machine.new) work.new.items frame.new) }
-{
-    let whole = Loop {
-        cond,
-        body,
-        next: next.as_ref(),
-        line,
-    };
-    first_part(program, machine, work, frame, first, &whole)
+    round(program, run, &whole)
 }
 
 // The first part of a `for`, and then the loop.
 fn first_part<'a>(
     program: &'a ProgramTree,
-    machine: &mut Machine,
-    work: &mut Vec<Work<'a>>,
-    frame: &mut Frame<'a>,
+    run: &mut Run<'a, '_>,
     first: &'a Option<TypedSimple>,
     whole: &Loop<'a>,
 ) -> Result<Step<'a>, OutOfMemory>
-    ensures { IfOk result (λ step. Steps program.now (kept_by machine.old) work.old.items frame.old (λ n s. follow in_order (part_acts program.now n frame.old first.now tt s) (loop_acts program.now n frame.old whole.now)) step (kept_by machine.new) work.new.items frame.new) }
+    ensures { IfOk result (λ step. Advances program.now run.old (λ n s. follow in_order (part_acts program.now n run.old.frame first.now tt s) (loop_acts program.now n run.old.frame whole.now)) step run.new) }
 {
     match first {
-        None => round(program, machine, work, frame, whole),
+        None => round(program, run, whole),
         Some(first) => {
-            work.push(Work::First(*whole))?;
-            simple(program, machine, work, frame, first)
+            run.work.push(Work::First(*whole))?;
+            simple(program, run, first)
         }
     }
 }
@@ -134,15 +108,13 @@ fn first_part<'a>(
 // A value to return.
 fn returned_value<'a>(
     program: &'a ProgramTree,
-    machine: &Machine,
-    work: &Vec<Work<'a>>,
-    frame: &Frame<'a>,
+    run: &Run<'a, '_>,
     value: &TypedExpr,
     line: u32,
 ) -> Step<'a>
-    ensures { Steps program.now (kept_by machine.now) work.now.items frame.now (λ n s. and_then (given (here_of frame.now.scope) want.Value (way_in frame.now value.now) line s) (λ v s. leave (Return (Some v)) tt s)) result (kept_by machine.now) work.now.items frame.now }
+    ensures { Advances program.now run.now (λ n s. and_then (given (here_of run.now.frame.scope) want.Value (way_in run.now.frame value.now) line s) (λ v s. leave (Return (Some v)) tt s)) result run.now }
 {
-    match given(machine, frame, Want::Value, value, line) {
+    match given(&run.machine, &run.frame, Want::Value, value, line) {
         Ok(value) => Step::Go(Now::Leave(Leaving::Return(Some(value)))),
         Err(end) => Step::Stop(end),
     }
@@ -151,12 +123,10 @@ fn returned_value<'a>(
 // A statement.
 fn statement<'a>(
     program: &'a ProgramTree,
-    machine: &mut Machine,
-    work: &mut Vec<Work<'a>>,
-    frame: &mut Frame<'a>,
+    run: &mut Run<'a, '_>,
     stmt: &'a TypedStmt,
 ) -> Result<Step<'a>, OutOfMemory>
-    ensures { IfOk result (λ step. Steps program.now (kept_by machine.old) work.old.items frame.old (λ n. stmt_acts program.now n frame.old stmt.now tt) step (kept_by machine.new) work.new.items frame.new) }
+    ensures { IfOk result (λ step. Advances program.now run.old (λ n. stmt_acts program.now n run.old.frame stmt.now tt) step run.new) }
 {
     let line = stmt.line;
     match &stmt.kind {
@@ -166,35 +136,25 @@ fn statement<'a>(
         TypedStmtKind::Return => Ok(Step::Go(Now::Leave(Leaving::Return(None)))),
         TypedStmtKind::Assign { place, value } => Ok(assigned(
             program,
-            machine,
-            work,
-            frame,
+            run,
             place.get(),
             value,
             line,
         )),
         TypedStmtKind::AssignCall { place, call: made } => {
             let to = To::Place(place.get(), line);
-            call(program, machine, work, frame, made, to, line)
+            call(program, run, made, to, line)
         }
-        TypedStmtKind::Call(made) => {
-            call(program, machine, work, frame, made, To::Nowhere, line)
-        }
-        TypedStmtKind::ReturnCall(made) => {
-            call(program, machine, work, frame, made, To::Back, line)
-        }
-        TypedStmtKind::ReturnValue(value) => {
-            Ok(returned_value(program, machine, work, frame, value, line))
-        }
+        TypedStmtKind::Call(made) => { call(program, run, made, To::Nowhere, line) }
+        TypedStmtKind::ReturnCall(made) => { call(program, run, made, To::Back, line) }
+        TypedStmtKind::ReturnValue(value) => { Ok(returned_value(program, run, value, line)) }
         TypedStmtKind::If {
             cond,
             then_part,
             else_part,
         } => Ok(branch(
             program,
-            machine,
-            work,
-            frame,
+            run,
             cond,
             line,
             then_part.as_slice(),
@@ -202,7 +162,7 @@ fn statement<'a>(
         )),
         TypedStmtKind::While { cond, body } => {
             let body = body.as_slice();
-            while_loop(program, machine, work, frame, cond, body, line)
+            while_loop(program, run, cond, body, line)
         }
         TypedStmtKind::For {
             first,
@@ -210,8 +170,13 @@ fn statement<'a>(
             next,
             body,
         } => {
-            let body = body.as_slice();
-            for_loop(program, machine, work, frame, first, cond, next, body, line)
+            let whole = Loop {
+                cond,
+                body: body.as_slice(),
+                next: next.as_ref(),
+                line,
+            };
+            first_part(program, run, first, &whole)
         }
     }
 }
@@ -219,18 +184,16 @@ fn statement<'a>(
 /// The first of these statements, or what follows them.
 pub fn run_list<'a>(
     program: &'a ProgramTree,
-    machine: &mut Machine,
-    work: &mut Vec<Work<'a>>,
-    frame: &mut Frame<'a>,
+    run: &mut Run<'a, '_>,
     stmts: &'a [TypedStmt],
 ) -> Result<Step<'a>, OutOfMemory>
-    ensures { IfOk result (λ step. Steps program.now (kept_by machine.old) work.old.items frame.old (λ n s. block_acts program.now n frame.old stmts.now tt s) step (kept_by machine.new) work.new.items frame.new) }
+    ensures { IfOk result (λ step. Advances program.now run.old (λ n s. block_acts program.now n run.old.frame stmts.now tt s) step run.new) }
 {
     match stmts {
         [] => Ok(Step::Go(Now::Leave(Leaving::Next))),
         [stmt, rest @ ..] => {
-            work.push(Work::Rest(rest))?;
-            statement(program, machine, work, frame, stmt)
+            run.work.push(Work::Rest(rest))?;
+            statement(program, run, stmt)
         }
     }
 }

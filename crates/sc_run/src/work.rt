@@ -1,5 +1,6 @@
 //! What a run does at the moment, and what waits.
 
+use crate::machine::Machine;
 use sc_core::{RunEnd, TypedExpr, TypedFunction, TypedSimple, TypedStmt, TypedStruct, Value};
 use sc_event::CompId;
 use sc_value::Scope;
@@ -52,6 +53,14 @@ pub enum Work<'a> {
     Again(Loop<'a>),
     /// The function that called, what it does with the result, and the place of the export that it called, if it is one.
     Caller(Frame<'a>, To<'a>, Option<u16>),
+}
+
+/// A run that has got somewhere: what it has come to, what waits, the newest last, and the call that runs.
+#[derive(Drop)]
+pub struct Run<'a, 'i> {
+    pub machine: Machine<'i>,
+    pub work: Vec<Work<'a>>,
+    pub frame: Frame<'a>,
 }
 
 /// How control leaves statements.

@@ -68,18 +68,18 @@ fn is_unsigned_op(op: BinaryOp, left: Ty, right: Ty) -> bool
     }
 }
 
-// The operator between a pointer and an integer.
+// The operator between a pointer and an integer, of these types.
 fn at_pointer(
     blocks: &Blocks,
     scope: &Scope,
     op: BinaryOp,
-    pointer: Ty,
-    index: Ty,
+    types: (Ty, Ty),
     place: Value,
     by: Value,
 ) -> Result<Value, Cause>
-    ensures { result ≡ at_pointer scope.now.structs.now (memory_of blocks.now scope.now.comp.now) op pointer index place by }
+    ensures { result ≡ at_pointer scope.now.structs.now (memory_of blocks.now scope.now.comp.now) op types.0 types.1 place by }
 {
+    let (pointer, index) = types;
     let cells = target_cells(scope.structs, pointer);
     match op {
         BinaryOp::Sub => moved_back(blocks, *scope.comp, cells, is_unsigned(index), place, by),
@@ -109,10 +109,10 @@ fn applied(
                 right,
             )
         } else {
-            at_pointer(blocks, scope, op, types.0, types.1, left, right)
+            at_pointer(blocks, scope, op, types, left, right)
         }
     } else if is_pointer(types.1) {
-        at_pointer(blocks, scope, op, types.1, types.0, right, left)
+        at_pointer(blocks, scope, op, (types.1, types.0), right, left)
     } else {
         on_words(is_unsigned_op(op, types.0, types.1), op, left, right)
     }
@@ -189,15 +189,7 @@ pub fn evaluate(
             let first = evaluate(blocks, scope, Want::Value, base.get())?;
             let second = evaluate(blocks, scope, Want::Value, index.get())?;
             let types = (base.get().ty, index.get().ty);
-            let place = at_pointer(
-                blocks,
-                scope,
-                BinaryOp::Add,
-                types.0,
-                types.1,
-                first,
-                second,
-            )?;
+            let place = at_pointer(blocks, scope, BinaryOp::Add, types, first, second)?;
             wanted(blocks, scope, expr.ty, place, want)
         }
         TypedKind::Member { base, offset } => {

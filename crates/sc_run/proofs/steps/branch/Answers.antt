@@ -9,6 +9,6 @@ use Rattle.sc_run.proofs.steps.branch.Goals as goal
 
 pub returns-in-Err : goal.returns-in-Err
 returns-in-Err c =
-    let f = c.args.frame.now in
+    let f = c.args.run.now.frame in
     let program = c.args.program.now in
-    step_stops program (kept_by c.args.machine.now) (kept_by c.args.machine.now) c.args.work.now.items f c.in-Err.end (given (here_of f.scope) want.Value (way_in f c.args.cond.now) c.args.line) (λ n v s. choose v (block_acts program n f c.args.first.now tt s) (block_acts program n f c.args.second.now tt s)) c.in-Err.ensures
+    step_stops program (kept_by c.args.run.now.machine) (kept_by c.args.run.now.machine) c.args.run.now.work.items f c.in-Err.end (given (here_of f.scope) want.Value (way_in f c.args.cond.now) c.args.line) (λ n v s. choose v (block_acts program n f c.args.first.now tt s) (block_acts program n f c.args.second.now tt s)) c.in-Err.ensures

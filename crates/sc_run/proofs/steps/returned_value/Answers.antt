@@ -10,5 +10,5 @@ use Rattle.sc_run.proofs.steps.returned_value.Goals as goal
 
 pub returns-in-Err : goal.returns-in-Err
 returns-in-Err c =
-    let f = c.args.frame.now in
-    step_stops c.args.program.now (kept_by c.args.machine.now) (kept_by c.args.machine.now) c.args.work.now.items f c.in-Err.end (given (here_of f.scope) want.Value (way_in f c.args.value.now) c.args.line) (λ n v s. leave (Return (Some v)) tt s) c.in-Err.ensures
+    let f = c.args.run.now.frame in
+    step_stops c.args.program.now (kept_by c.args.run.now.machine) (kept_by c.args.run.now.machine) c.args.run.now.work.items f c.in-Err.end (given (here_of f.scope) want.Value (way_in f c.args.value.now) c.args.line) (λ n v s. leave (Return (Some v)) tt s) c.in-Err.ensures
