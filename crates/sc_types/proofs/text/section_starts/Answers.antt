@@ -1,8 +1,7 @@
 use Rattle.std.proofs.Common.{◌≡◌, Err, ap}
 use Rattle.std.proofs.lemmas.Result.{err_from_is_err_and}
-use Rattle.sc_lex.specs.declared.section.SplitFault.TheVariants as split
 use Rattle.sc_lex.specs.declared.fault.TextFault.TheVariants.{Refused}
-use Rattle.sc_read.proofs.Steps.{heading_fails, from_split}
+use Rattle.sc_read.proofs.Steps.{heading_fails}
 use Rattle.sc_types.proofs.Readings.{unread_fails}
 use Rattle.sc_types.proofs.text.section_starts.Goals as goal
 
@@ -10,6 +9,6 @@ pub returns-in_err-sections-clause-refused : goal.returns-in_err-sections-clause
 returns-in_err-sections-clause-refused c = λ refusal is.
     let p = err_from_is_err_and c.from_residual.result c.from_residual.ensures.1 in
     let returned : c.from_residual.result ≡ Err p.0 = p.1 in
-    let refused : p.0 ≡ Refused refusal = cc in
-    let below : c.in_err-sections.field-0.0 ≡ split.Refused refusal = from_split c.in_err-sections.field-0.0 p.0 refusal p.2 refused in
+    let passed_on : p.0 ≡ c.in_err-sections.field-0.0 = p.2 in
+    let below : c.in_err-sections.field-0.0 ≡ Refused refusal = cc in
     unread_fails c.args.text.now refusal.phase refusal.line (heading_fails c.args.text.now refusal (c.in_err-sections.ensures.refused refusal (ap Err below)))
