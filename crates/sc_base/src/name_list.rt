@@ -2,8 +2,8 @@ ghost use Rattle.std.specs.Prelude.{◌≡◌, ℕ, List, [], ◌∷◌, ◌++�
 ghost use Rattle.sc_base.specs.Numbering.{is_numbered, number_of};
 ghost use Rattle.sc_base.specs.Places.{HasPlaces};
 
-use indexmap::IndexMap;
 use crate::{Name, OutOfMemory};
+use indexmap::IndexMap;
 use std::alloc::Global;
 use std::marker::Model;
 

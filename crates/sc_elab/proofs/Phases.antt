@@ -50,4 +50,3 @@ module _ (sections : List SectionTree) (i : ℕ) (whole : Option ℕ) where
   pub sections-end : (least : Option ℕ) → length sections ≤ i → noted_all least (concat (map lines_in (drop i sections))) ≡ whole → least ≡ whole
   sections-end least done so =
       sym (noted-nil least) ∙ (λ j. noted_all least (concat (map lines_in (sym (drop_all i sections done) j)))) ∙ so
-

@@ -15,7 +15,11 @@ use sc_event::Import;
 use sqlite_items::Items;
 use std::alloc::Global;
 
-fn head_params(alloc: Global, tags: &NameList, params: &[ParamTree]) -> Result<Items<Ty>, OutOfMemory>
+fn head_params(
+    alloc: Global,
+    tags: &NameList,
+    params: &[ParamTree],
+) -> Result<Items<Ty>, OutOfMemory>
     ensures { IfOk result (λ types. types ≡ map (param_ty tags.now) params.now) }
 {
     let mut types = Items::new(alloc);

@@ -57,9 +57,7 @@ pub fn build_expr(
         }
         ExprTree::Arrow { base, name } => {
             let base = build_expr(alloc, section, function, base.get())?;
-            let member = section
-                .structs
-                .member(base.expr.ty.pointed(), &name.name());
+            let member = section.structs.member(base.expr.ty.pointed(), &name.name());
             arrow_built(alloc, base, member)
         }
         ExprTree::Deref(of) => {

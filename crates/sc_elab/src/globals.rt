@@ -54,7 +54,11 @@ fn init_words(alloc: Global, init: &InitTree) -> Result<Words, OutOfMemory>
     }
 }
 
-fn build_global(alloc: Global, tags: &NameList, tree: &GlobalTree) -> Result<TypedGlobal, OutOfMemory>
+fn build_global(
+    alloc: Global,
+    tags: &NameList,
+    tree: &GlobalTree,
+) -> Result<TypedGlobal, OutOfMemory>
     ensures { IfOk result (λ built. built ≡ typed_global tags.now tree.now) }
 {
     let init = init_words(alloc, &tree.init)?;
@@ -97,7 +101,11 @@ pub fn build_globals(
 }
 
 // The variables and the global of this declaration, if it is one, behind them.
-fn with_variable(tags: &NameList, variables: Variables, decl: &Decl) -> Result<Variables, OutOfMemory>
+fn with_variable(
+    tags: &NameList,
+    variables: Variables,
+    decl: &Decl,
+) -> Result<Variables, OutOfMemory>
     ensures { IfOk result (λ more. more ≡ variables ++ map (global_variable tags.now) (globals_in (decl.now ∷ []))) }
 {
     match decl {

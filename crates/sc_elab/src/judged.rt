@@ -125,9 +125,11 @@ fn sum_fits(a: Judged, b: Judged, ty: Ty) -> Result<bool, OutOfMemory>
 {
     let left = a.ty.decayed()?;
     let right = b.ty.decayed()?;
-    Ok(both_ints(a, b) && ty.same(a.ty.common(b.ty))
-        || a.is_address() && b.is_int() && ty.same(left)
-        || a.is_int() && b.is_address() && ty.same(right))
+    Ok(
+        both_ints(a, b) && ty.same(a.ty.common(b.ty))
+            || a.is_address() && b.is_int() && ty.same(left)
+            || a.is_int() && b.is_address() && ty.same(right),
+    )
 }
 
 fn difference_fits(a: Judged, b: Judged, ty: Ty) -> Result<bool, OutOfMemory>
@@ -135,9 +137,11 @@ fn difference_fits(a: Judged, b: Judged, ty: Ty) -> Result<bool, OutOfMemory>
 {
     let left = a.ty.decayed()?;
     let same = same_pointers(a, b)?;
-    Ok(both_ints(a, b) && ty.same(a.ty.common(b.ty))
-        || a.is_address() && b.is_int() && ty.same(left)
-        || a.is_address() && b.is_address() && same && ty.same(Ty::Int))
+    Ok(
+        both_ints(a, b) && ty.same(a.ty.common(b.ty))
+            || a.is_address() && b.is_int() && ty.same(left)
+            || a.is_address() && b.is_address() && same && ty.same(Ty::Int),
+    )
 }
 
 /// Whether an operator gives this type (C11 6.5.5 to 6.5.14).

@@ -52,12 +52,7 @@ impl Place<'_> {
 
     // Whether arguments go into parameters of these types (C11 6.5.2.2p2).
     #[tactic(auto, using(crate::proofs::Ruled::arguments))]
-    fn all_go(
-        &self,
-        alloc: Global,
-        params: &[Ty],
-        args: &[ExprTree],
-    ) -> Result<bool, OutOfMemory>
+    fn all_go(&self, alloc: Global, params: &[Ty], args: &[ExprTree]) -> Result<bool, OutOfMemory>
         ensures { (scope : Scope) → Suits (visible self.now.section.now self.now.function.now) scope → IfOk result (λ holds. holds ≡ all_go (goes_in (visible self.now.section.now self.now.function.now) scope) params.now args.now) }
     {
         if params.len() != args.len() {

@@ -321,7 +321,10 @@ fn while_kind(
     ensures { IfOk result (λ built. built ≡ TypedStmtKind.While (expr_in section.now function.now cond.now) body) }
 {
     let cond = build_expr(alloc, section, function, cond)?;
-    Ok(TypedStmtKind::While { cond: cond.expr, body })
+    Ok(TypedStmtKind::While {
+        cond: cond.expr,
+        body,
+    })
 }
 
 // A `for` over its body.

@@ -4,8 +4,8 @@ ghost use Rattle.std.specs.Prelude.{◌≡◌};
 ghost use Rattle.std.specs.Option.{option_map};
 ghost use Rattle.sc_elab.specs.Sections.{base_of, type_of_name, type_of};
 
-use sc_base::NameList;
 use sc_ast::{BaseTree, TypeName, TypeTree};
+use sc_base::NameList;
 use sc_core::{BaseTy, Ty};
 
 // A struct is known by its tag's first place.

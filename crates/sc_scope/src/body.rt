@@ -6,10 +6,10 @@ ghost use Rattle.sc_scope.specs.Broken.{with_lines};
 ghost use Rattle.sc_scope.specs.Declarations.{among};
 ghost use Rattle.sc_scope.specs.Names.{all_in, call_known, expr_known, is_callable, known, knows, part_lines, simple_known, stmt_lines};
 
+use crate::BrokenLines;
 use crate::section_names::SectionNames;
 use sc_ast::{CallTree, ExprTree, Exprs, SimpleKind, SimpleTree, StmtKind, StmtTree, Stmts};
 use sc_base::{Name, NameList};
-use crate::BrokenLines;
 
 /// Notes the lines of statements, which stand in a loop or not, at which rules of names are broken. The parameters
 /// and the locals of the function are `own`.

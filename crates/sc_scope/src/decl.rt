@@ -5,15 +5,15 @@ ghost use Rattle.sc_scope.specs.Broken.{with_lines};
 ghost use Rattle.sc_scope.specs.Names.{decl_lines, function_lines, global_known, head_of_known, init_known, local_known, locals_from, param_names, proto_known, struct_known};
 ghost use Rattle.sc_ast.specs.declared.section.LocalTree.{LocalTree};
 
+use crate::BrokenLines;
 use crate::body::{all_lines, knows};
 use crate::distinct::{members_distinct, push_new, push_params};
-use crate::types::{base_known, head_types_known, members_known, proto_types_known};
 use crate::section_names::SectionNames;
+use crate::types::{base_known, head_types_known, members_known, proto_types_known};
 use sc_ast::{
     Decl, ExprTree, FunctionTree, GlobalTree, HeadTree, LocalTree, LocalTrees, StructTree,
 };
 use sc_base::{NameList, OutOfMemory};
-use crate::BrokenLines;
 use std::alloc::Global;
 
 /// Notes the lines of a declaration at which rules of names are broken, where these names stand before.

@@ -4,11 +4,11 @@ ghost use Rattle.std.specs.Prelude.{◌≡◌, OnOk, IfOk};
 ghost use Rattle.sc_scope.specs.Broken.{refused_at, with_lines};
 ghost use Rattle.sc_scope.specs.Names.{names_broken, section_lines};
 
-use crate::section_names::SectionNames;
+use crate::BrokenLines;
 use crate::decl::decl_lines;
+use crate::section_names::SectionNames;
 use sc_ast::SectionTree;
 use sc_base::OutOfMemory;
-use crate::BrokenLines;
 use std::alloc::Global;
 
 /// The line of the text at which the rules of names are broken first, `None` where all are kept.

@@ -7,10 +7,10 @@ ghost use Rattle.sc_ast.specs.declared.section.ParamTree.{ParamTree};
 ghost use Rattle.sc_ast.specs.Heads.{head_of};
 ghost use Rattle.sc_scope.specs.Names.{base_known, head_known, member_known, pointed_known, result_known};
 
-use sc_base::NameList;
 use sc_ast::{
     BaseTree, FunctionHead, FunctionParam, HeadTree, Ident, MemberTree, ParamTree, TypeName,
 };
+use sc_base::NameList;
 
 /// Whether the tag of a base, if it has one, is one of these.
 pub fn base_known(tags: &NameList, base: &BaseTree) -> bool

@@ -18,7 +18,8 @@ use Rattle.sc_scope.specs.Broken.{unless, with_lines}
 use Rattle.sc_scope.specs.Declarations.{struct_in, structs_in, global_in, globals_in, head_in, heads_in, function_in, functions_in}
 use Rattle.sc_scope.proofs.Noting.{with_lines-nil, with_lines-append}
 use Rattle.sc_types.specs.Counts.{function_lines, global_lines, head_lines, is_small, line_beyond, line_of_some, local_lines, param_small, structs_from, type_in}
-use Rattle.sc_types.proofs.Measures.{drop-step, no-struct}
+use Rattle.sc_base.proofs.Lists.{drop-step}
+use Rattle.sc_types.proofs.Measures.{no-struct}
 
 -- no lines leave all as it is
 pub nothing : (old : BrokenLines) (xs : List ℕ) → xs ≡ [] → old ≡ with_lines old xs

@@ -8,4 +8,4 @@ use Rattle.sc_elab.specs.Sections as sections
 -- these are the tags of the section's structs, and the structs
 pub record IsMeasured (section : SectionTree) (names : List Text) (structs : List TypedStruct) : Type 0 where
   pub tags : names ≡ struct_names section.decls
-  pub structs : structs ≡ sections.structs section
+  pub kept : structs ≡ sections.structs section

@@ -6,14 +6,14 @@ ghost use Rattle.sc_interfaces.specs.Faces.{interface_broken};
 ghost use Rattle.sc_types.specs.Counts.{counts_broken};
 ghost use Rattle.sc_types.specs.Acceptance.{AreLow, IsTyped, FailsRules};
 
-use sc_ast::SectionTree;
-use sc_elab::{broken_type, build_program};
-use sc_core::Program;
 use crate::counts::broken_count;
+use sc_ast::SectionTree;
+use sc_core::Program;
+use sc_elab::{broken_type, build_program};
 use sc_interfaces::{broken_interface, interfaces};
 use sc_lex::{Phase, Refusal};
-use sc_scope::broken_name;
 use sc_read::TextFault;
+use sc_scope::broken_name;
 use std::alloc::Global;
 
 /// The program of a text's sections, or the first of the phases names, types, interface and count that they fail, and the

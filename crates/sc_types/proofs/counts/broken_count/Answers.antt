@@ -1,6 +1,6 @@
 use Rattle.sc_elab.specs.Sections.{callees_of}
 use Rattle.sc_types.proofs.Phase.{counts-begun, count-noted, counts-noted}
-use Rattle.sc_types.proofs.section.broken_count.Goals as goal
+use Rattle.sc_types.proofs.counts.broken_count.Goals as goal
 
 pub loop-section-init : goal.loop-section-init
 loop-section-init c = counts-begun c.args.sections.now _ c.section_beyond-least.ensures

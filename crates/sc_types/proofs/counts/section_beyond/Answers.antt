@@ -1,5 +1,5 @@
 use Rattle.sc_types.proofs.Phase.{none-refused, some-refused}
-use Rattle.sc_types.proofs.section.section_beyond.Goals as goal
+use Rattle.sc_types.proofs.counts.section_beyond.Goals as goal
 
 pub returns-in-None : goal.returns-in-None
 returns-in-None c = none-refused c.args.sections.now c.in-None.ensures

@@ -1,5 +1,5 @@
 use Rattle.sc_types.proofs.Phase.{section-noted}
-use Rattle.sc_types.proofs.section.section_lines.Goals as goal
+use Rattle.sc_types.proofs.counts.section_lines.Goals as goal
 
 pub returns : goal.returns
 returns c callees =
