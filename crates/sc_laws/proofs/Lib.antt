@@ -17,6 +17,7 @@ pub mod Libraries
 pub mod More
 pub mod Opening
 pub mod Programs
+pub mod Rooms
 pub mod Rows
 pub mod Runs
 pub mod Sets

@@ -2,4 +2,5 @@ pub mod Chains
 pub mod Ends
 pub mod Growth
 pub mod Laws
+pub mod Rooms
 pub mod Steady
