@@ -1,29 +1,20 @@
 -- Frames: each change is of a moment within the trace, and a call that returns leaves the open room as it was.
-use Rattle.std.proofs.Common.{◌≡◌, refl, sym, ap, ◌∙◌, subst, ℕ, zero, suc, ◌+◌, ◌-◌, ◌<◌, ◌≤◌, ◌++◌, ◌==◌, Bool, true, false, if◌then◌else◌, List, [], ◌∷◌, map, length, length-append, Option, None, Some, arith}
+use Rattle.std.proofs.Common.{◌≡◌, refl, ap, ◌∙◌, subst, ℕ, zero, suc, ◌+◌, ◌-◌, ◌≤◌, ◌++◌, ◌==◌, Bool, true, false, if◌then◌else◌, List, [], ◌∷◌, map, length, length-append, Option, arith}
 use Rattle.std.specs.Prelude.{max, nat_lt, ◌&&◌}
-use Rattle.std.proofs.lemmas.Bool.Decides.{nat_tests}
 use Rattle.std.proofs.lemmas.Bool.{lt-ltb}
 use Rattle.sc_event.specs.declared.event.Event.{Event}
-use Rattle.sc_event.specs.declared.event.Event.TheVariants.{Call, Ret, Out, In, End}
-use Rattle.sc_event.specs.declared.interface.Interfaces.{Interfaces}
-use Rattle.sc_event.specs.declared.row.Row.{Row}
-use Rattle.sc_event.specs.declared.row.Action.{Action}
-use Rattle.sc_event.specs.declared.row.Action.TheVariants as act
+use Rattle.sc_event.specs.declared.event.Event.TheVariants.{Call, Ret, Out, In}
 use Rattle.sc_event.specs.declared.row.Entry.TheVariants.{Main, Export}
 use Rattle.sc_event.specs.Lookup.{export_at}
 use Rattle.sc_core.specs.declared.cause.Cause.TheVariants.{BadType}
 use Rattle.sc_core.specs.declared.expr.CallTarget.{CallTarget}
 use Rattle.sc_core.specs.declared.expr.CallTarget.TheVariants.{Own, Cross, Input, Output}
-use Rattle.sc_core.specs.declared.run.RunEnd.{RunEnd}
-use Rattle.sc_core.specs.declared.run.RunEnd.TheVariants.{Blamed, TurnsOut}
-use Rattle.sc_core.specs.declared.program.ProgramTree.{ProgramTree}
+use Rattle.sc_core.specs.declared.run.RunEnd.TheVariants.{Blamed}
 use Rattle.sc_core.specs.declared.value.Value.{Value}
-use Rattle.sc_core.specs.declared.value.Value.TheVariants.{Word}
 use Rattle.sc_core.specs.Memory.{Memory}
 use Rattle.sc_core.specs.Words.{FrameChange, Opened, Closed, State, Here, Piece, Reached, Stopped, and_then, turn, turn_of, tell}
-use Rattle.sc_core.specs.Calls.{Function, Library, Body, Step, function, begun, done, found, word_in, crossed, crossing, first_word, next_input, read_input, may_call, back_own, back_cross, run_in, call_own, call_cross, called, calls, run_step, within}
-use Rattle.sc_core.specs.Scripts.{Roles, roles_in, rows_left, is_number, asks, acts, performs, scripted_step}
-use Rattle.sc_core.specs.Meaning.{Run, deepest, library_of, globals_of, first_state, run_to, run_by}
+use Rattle.sc_core.specs.Calls.{Function, Library, Body, function, begun, done, word_in, crossed, crossing, first_word, next_input, may_call, back_own, back_cross, run_in, call_own, call_cross, called, calls, run_step, within}
+use Rattle.sc_core.specs.Meaning.{deepest, library_of, globals_of, first_state, run_to, run_by}
 use Rattle.sc_laws.specs.Laws.{DeepestIsReached, RoomsAreKept}
 use Rattle.sc_laws.specs.Rooms.{room_after, open_room, AllBefore}
 use Rattle.sc_laws.proofs.Keeping.{Property, Kept, IsKept, then_kept, found_kept, AreOpen}

@@ -1,5 +1,5 @@
 -- How much room the open frames of a compartment take.
-use Rattle.std.specs.Prelude.{◌≡◌, ℕ, ◌+◌, ◌-◌, ◌<◌, ◌≤◌, ◌++◌, ◌==◌, if◌then◌else◌, List, [], ◌∷◌, length}
+use Rattle.std.specs.Prelude.{ℕ, ◌+◌, ◌-◌, ◌<◌, ◌==◌, if◌then◌else◌, List, [], ◌∷◌}
 use Rattle.sc_core.specs.Words.{FrameChange, Opened, Closed, State}
 
 -- the room after these changes, where the compartment's frames take this room before them
