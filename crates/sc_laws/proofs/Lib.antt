@@ -1,3 +1,4 @@
+pub mod Agreement
 pub mod Below
 pub mod BelowCalls
 pub mod Blames

@@ -17,16 +17,10 @@ use Rattle.sc_core.specs.Words.{State, Here, Piece, Calls}
 use Rattle.sc_core.specs.Calls.{Function, Library, functions_of, function, leads, is_word, may_call}
 use Rattle.sc_event.specs.Legal.{is_input, is_output, is_function, imports, takes}
 use Rattle.sc_core.specs.Meaning.{main_name, function_of, functions_in, library_of}
+use Rattle.sc_laws.specs.Agreement.{Meets}
 use Rattle.sc_laws.proofs.Twins.{Each, Twins, Kept, then_twins}
 use Rattle.sc_laws.proofs.Expressions.{ArithKeeps}
 use Rattle.sc_laws.proofs.Statements.{KeptAt, body_twins, closed_twins}
-
--- the elements of two lists at one place, if they are there
-abbrev pub Meets : {A : Type 0} → (A → A → Type 0) → Option A → Option A → Type 0
-Meets Q None None = Unit {0}
-Meets Q None (Some y) = ⊥
-Meets Q (Some x) None = ⊥
-Meets Q (Some x) (Some y) = Q x y
 
 pub meets_at : {A : Type 0} (Q : A → A → Type 0) (xs ys : List A) (i : ℕ) → Each Q xs ys → Meets Q (slice_get xs i) (slice_get ys i)
 meets_at Q [] [] i h = tt

@@ -1,3 +1,4 @@
+pub mod Agreement
 pub mod Chains
 pub mod Ends
 pub mod Growth
