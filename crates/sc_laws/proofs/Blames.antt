@@ -1,26 +1,23 @@
 -- No compartment that performs is blamed, whatever the trace is.
-use Rattle.std.proofs.Common.{◌≡◌, refl, sym, ap, ◌∙◌, subst, ℕ, zero, suc, Bool, true, false, if◌then◌else◌, List, [], ◌∷◌, map, length, Option, None, Some}
-use Rattle.std.specs.Prelude.{nat_lt, nat_le, take}
-use Rattle.sc_event.specs.declared.event.Event.{Event}
+use Rattle.std.proofs.Common.{◌≡◌, refl, subst, ℕ, zero, suc, Bool, true, false, if◌then◌else◌, List, [], ◌∷◌, map, length, Option}
+use Rattle.std.specs.Prelude.{take}
 use Rattle.sc_event.specs.declared.row.Row.{Row}
 use Rattle.sc_event.specs.declared.row.Action.{Action}
 use Rattle.sc_event.specs.declared.row.Action.TheVariants as act
 use Rattle.sc_event.specs.declared.row.Entry.TheVariants.{Main, Export}
 use Rattle.sc_event.specs.declared.event.Event.TheVariants.{Call}
-use Rattle.sc_core.specs.declared.cause.Cause.{Cause}
 use Rattle.sc_core.specs.declared.cause.Cause.TheVariants.{BadType}
 use Rattle.sc_core.specs.declared.expr.CallTarget.{CallTarget}
 use Rattle.sc_core.specs.declared.expr.CallTarget.TheVariants.{Own, Cross, Input, Output}
 use Rattle.sc_core.specs.declared.run.RunEnd.{RunEnd}
 use Rattle.sc_core.specs.declared.run.RunEnd.TheVariants.{Ended, Blamed, TurnsOut, EventsOut}
 use Rattle.sc_core.specs.declared.run.SourceRun.{SourceRun}
-use Rattle.sc_core.specs.declared.program.ProgramTree.{ProgramTree}
 use Rattle.sc_core.specs.declared.value.Value.{Value}
 use Rattle.sc_core.specs.declared.value.Value.TheVariants.{Word}
 use Rattle.sc_core.specs.Memory.{Memory}
 use Rattle.sc_core.specs.Run.{reaches, stopped_at}
-use Rattle.sc_core.specs.Words.{State, Here, Piece, Reached, Stopped, and_then, turn, turn_of, tell}
-use Rattle.sc_core.specs.Calls.{Library, Body, Step, function, begun, done, found, word_in, crossed, may_call, back_own, back_cross, run_in, call_own, call_cross, called, calls, run_step, within}
+use Rattle.sc_core.specs.Words.{State, Here, Piece, Reached, Stopped, turn, turn_of, tell}
+use Rattle.sc_core.specs.Calls.{Library, Body, function, begun, done, word_in, crossed, may_call, back_own, back_cross, run_in, call_own, call_cross, called, calls, run_step, within}
 use Rattle.sc_core.specs.Scripts.{Roles, roles_in, rows_left, is_number, asks, acts, performs, scripted_step}
 use Rattle.sc_core.specs.Meaning.{library_of, globals_of, first_state, run_to, run_by}
 use Rattle.sc_laws.specs.Chains.{Set}

@@ -1,18 +1,17 @@
 -- The links of a chain come one after another, and a chain is found.
-use Rattle.std.proofs.Common.{◌≡◌, refl, sym, ap, ap₂, ◌∙◌, subst, ℕ, zero, suc, ◌+◌, ◌<◌, ◌≤◌, Bool, true, false, if◌then◌else◌, List, [], ◌∷◌, ◌++◌, length, length-append, inl, inr, arith, ⊎_elim}
+use Rattle.std.proofs.Common.{◌≡◌, refl, sym, ap, ap₂, ◌∙◌, ℕ, zero, suc, ◌+◌, ◌<◌, ◌≤◌, Bool, true, false, if◌then◌else◌, List, [], ◌∷◌, ◌++◌, length, length-append, arith, ⊎_elim}
 use Rattle.std.specs.Prelude.{◌⊎◌, ◌||◌, ◌==◌, nat_le, take}
 use Rattle.std.proofs.lemmas.Bool.{eqb-true, eq-eqb, leb-false, cases_eq, ne_eqb}
 use Rattle.sc_event.specs.declared.event.Event.{Event}
 use Rattle.sc_core.specs.declared.cause.Cause.{Cause}
 use Rattle.sc_core.specs.declared.program.ProgramTree.{ProgramTree}
 use Rattle.sc_core.specs.declared.run.RunEnd.{RunEnd}
-use Rattle.sc_core.specs.declared.run.RunEnd.TheVariants.{Ended, Blamed, TurnsOut, EventsOut}
+use Rattle.sc_core.specs.declared.run.RunEnd.TheVariants.{Blamed, TurnsOut, EventsOut}
 use Rattle.sc_core.specs.declared.run.SourceRun.{SourceRun}
-use Rattle.sc_core.specs.Growth.{Front}
 use Rattle.sc_core.specs.Run.{reaches, stopped_at}
 use Rattle.sc_core.specs.Value.{Arith}
 use Rattle.sc_core.specs.Meaning.{scripted_run_of}
-use Rattle.sc_laws.specs.Chains.{Set, IsWithin, nobody, with, Link, IsLink, IsBlamedOutside, performed, IsChain, IsRising, AreFresh, PassesBlame, turnless, longer}
+use Rattle.sc_laws.specs.Chains.{Set, IsWithin, nobody, with, Link, IsBlamedOutside, performed, IsChain, IsRising, AreFresh, PassesBlame, turnless, longer}
 use Rattle.sc_laws.specs.Laws.{ChainsRise, ChainExists}
 use Rattle.sc_laws.proofs.Blames.{nobody_who_performs_is_blamed}
 use Rattle.sc_laws.proofs.FollowingRuns.{blame_is_passed}

@@ -1,6 +1,6 @@
 -- Calls in two runs along one trace, of which the second has more compartments that perform their parts of it.
 use Rattle.std.proofs.Common.{◌≡◌, ℕ, zero, suc, ◌≤◌, List, [], ◌∷◌, ◌++◌, map, drop, length, Option, Some, None, refl, sym, ap, ap₂, ◌∙◌, subst, arith}
-use Rattle.std.specs.Prelude.{Bool, true, false, if◌then◌else◌, ◌&&◌, ◌==◌}
+use Rattle.std.specs.Prelude.{Bool, true, false, if◌then◌else◌}
 use Rattle.std.specs.List.{list_all}
 use Rattle.std.proofs.lemmas.Bool.{eq-eqb, both_ways, and_from, and_parts}
 use Rattle.sc_event.specs.declared.event.Event.{Event}
@@ -30,7 +30,8 @@ use Rattle.sc_laws.specs.Growth.{last, Gone}
 use Rattle.sc_laws.specs.Steady.{now}
 use Rattle.sc_laws.specs.Laws.{IsFixed}
 use Rattle.sc_laws.proofs.Growing.{front_same, front_more, more, Goes, reached, stays, no_turn, earlier, then_from, then_goes, BodyGoes, done_goes, own_goes, cross_goes, back_goes, calls_go, performs_go, LibraryGoes, run_step_goes, scripted_goes, asks_is, asks_go, run_goes}
-use Rattle.sc_laws.proofs.Libraries.{Meets, CallsTwins, FunctionTwins, LibraryTwins, function_twins}
+use Rattle.sc_laws.specs.Agreement.{Meets}
+use Rattle.sc_laws.proofs.Libraries.{CallsTwins, FunctionTwins, LibraryTwins, function_twins}
 use Rattle.sc_laws.proofs.Rows.{InLine, in_line_before, NextIs, over, next_told_is, Next, row_of_next, rows_behind}
 use Rattle.sc_laws.proofs.Rows.{told as next_told}
 use Rattle.sc_laws.proofs.Following.{Abreast, Beyond, KeepsUp, Keeping, near_blocks, near_tell, whole, beyond_then, follow_kept, Stands, OneSided, Performs, Perform, left_goes, perform_kept, stands_stored, MovesOrReturns, beyond_back, beyond_in}

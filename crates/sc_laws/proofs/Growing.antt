@@ -18,7 +18,7 @@ use Rattle.sc_core.specs.declared.cause.Cause.{Cause}
 use Rattle.sc_core.specs.declared.cause.Cause.TheVariants.{BadType}
 use Rattle.sc_core.specs.declared.run.RunEnd.TheVariants.{Blamed, TurnsOut}
 use Rattle.sc_core.specs.declared.value.Value.{Value}
-use Rattle.sc_core.specs.Words.{Opened, Closed, State, Here, Piece, Reached, Stopped, and_then, computed, turn_of, turn, tell, Left, Exit, Route, On, Out, Does, take, follow, in_order, in_loop, rounds, Calls}
+use Rattle.sc_core.specs.Words.{Opened, Closed, State, Here, Piece, Reached, Stopped, and_then, computed, turn_of, turn, tell, Left, Exit, Route, On, Out, Does, take, follow, in_loop, rounds, Calls}
 use Rattle.sc_core.specs.Calls.{Function, Library, Body, Step, function, begun, done, found, word_in, crossing, crossed, first_word, option_value, next_input, read_input, may_call, back_own, back_cross, run_in, call_own, call_cross, called, calls, run_step, within}
 use Rattle.sc_core.specs.Scripts.{Roles, rows_left, is_number, asks, acts, performs, scripted_step}
 use Rattle.sc_core.specs.Growth.{Front}

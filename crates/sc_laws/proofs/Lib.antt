@@ -1,3 +1,4 @@
+pub mod Agreement
 pub mod Below
 pub mod BelowCalls
 pub mod Blames
@@ -17,6 +18,7 @@ pub mod Libraries
 pub mod More
 pub mod Opening
 pub mod Programs
+pub mod Rooms
 pub mod Rows
 pub mod Runs
 pub mod Sets

@@ -1,10 +1,9 @@
 -- The functions of a program under two arithmetics, each related to itself.
-use Rattle.std.proofs.Common.{◌≡◌, ℕ, zero, suc, List, [], ◌∷◌, map, length, Option, Some, None, ◌+◌, refl, ap, ap₂, ◌∙◌}
-use Rattle.std.specs.Prelude.{if◌then◌else◌, ◌&&◌, ◌==◌, not, nat_lt, slice_get, slice_index_or, is_some, bytes_eq}
+use Rattle.std.proofs.Common.{◌≡◌, ℕ, zero, suc, List, [], ◌∷◌, map, length, Option, Some, None, refl, ap, ◌∙◌}
+use Rattle.std.specs.Prelude.{◌&&◌, ◌==◌, slice_get, slice_index_or, is_some, bytes_eq}
 use Rattle.std.specs.List.{list_all}
 use Rattle.sc_event.specs.declared.row.Entry.{Entry}
-use Rattle.sc_event.specs.declared.row.Entry.TheVariants.{Main, Export}
-use Rattle.sc_event.specs.declared.interface.Proto.{Proto}
+use Rattle.sc_event.specs.declared.row.Entry.TheVariants.{Export}
 use Rattle.sc_core.specs.declared.cause.Cause.{Cause}
 use Rattle.sc_core.specs.declared.expr.CallTarget.{CallTarget}
 use Rattle.sc_core.specs.declared.expr.CallTarget.TheVariants.{Own, Cross, Input, Output}
@@ -18,16 +17,10 @@ use Rattle.sc_core.specs.Words.{State, Here, Piece, Calls}
 use Rattle.sc_core.specs.Calls.{Function, Library, functions_of, function, leads, is_word, may_call}
 use Rattle.sc_event.specs.Legal.{is_input, is_output, is_function, imports, takes}
 use Rattle.sc_core.specs.Meaning.{main_name, function_of, functions_in, library_of}
+use Rattle.sc_laws.specs.Agreement.{Meets}
 use Rattle.sc_laws.proofs.Twins.{Each, Twins, Kept, then_twins}
 use Rattle.sc_laws.proofs.Expressions.{ArithKeeps}
 use Rattle.sc_laws.proofs.Statements.{KeptAt, body_twins, closed_twins}
-
--- the elements of two lists at one place, if they are there
-abbrev pub Meets : {A : Type 0} → (A → A → Type 0) → Option A → Option A → Type 0
-Meets Q None None = Unit {0}
-Meets Q None (Some y) = ⊥
-Meets Q (Some x) None = ⊥
-Meets Q (Some x) (Some y) = Q x y
 
 pub meets_at : {A : Type 0} (Q : A → A → Type 0) (xs ys : List A) (i : ℕ) → Each Q xs ys → Meets Q (slice_get xs i) (slice_get ys i)
 meets_at Q [] [] i h = tt

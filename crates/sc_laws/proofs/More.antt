@@ -1,5 +1,5 @@
 -- The laws on more turns, more events, and the arithmetic that wraps.
-use Rattle.std.proofs.Common.{◌≡◌, ℕ, ◌+◌, ◌-◌, ◌<◌, ◌≤◌, List, length, take, Result, refl, sym, ap, ◌∙◌, subst, arith, inl, inr}
+use Rattle.std.proofs.Common.{◌≡◌, ℕ, ◌+◌, ◌-◌, ◌<◌, ◌≤◌, List, length, take, refl, sym, ap, ◌∙◌, subst, arith, inl, inr}
 use Rattle.std.specs.Prelude.{Bool, true, false, if◌then◌else◌, nat_le}
 use Rattle.std.proofs.lemmas.Bool.{lt-ltb, le-leb, leb-true}
 use Rattle.std.proofs.lemmas.List.{take-append-le}
@@ -19,8 +19,7 @@ use Rattle.sc_core.specs.Growth.{Front}
 use Rattle.sc_laws.specs.Steady.{Extends, ExtendedByMore, AgreesUntilBlame, same, blamed}
 use Rattle.sc_laws.specs.Laws.{MoreGoesOn, WrappingAgrees}
 use Rattle.sc_laws.proofs.Growing.{front_same, StepGoes}
-use Rattle.sc_laws.proofs.Expressions.{Keeps, alike, ArithKeeps}
-use Rattle.sc_laws.proofs.Expressions.{blamed as blames}
+use Rattle.sc_laws.proofs.Expressions.{ArithKeeps}
 use Rattle.sc_laws.proofs.Programs.{Never, itself_keeps, scripted_goes_on}
 use Rattle.sc_laws.proofs.Below.{Passes}
 use Rattle.sc_laws.proofs.BelowCalls.{StepsBelow}

@@ -12,7 +12,8 @@ use Rattle.sc_laws.proofs.Growing.{Goes, CallsGo, FunctionGoes, LibraryGoes, Ste
 use Rattle.sc_laws.proofs.Twins.{Kept}
 use Rattle.sc_laws.proofs.Expressions.{alike, ArithKeeps}
 use Rattle.sc_laws.proofs.Statements.{KeptAt}
-use Rattle.sc_laws.proofs.Libraries.{Meets, Anywhere, CallsTwins, FunctionTwins, function_twins, program_twins}
+use Rattle.sc_laws.specs.Agreement.{Meets}
+use Rattle.sc_laws.proofs.Libraries.{Anywhere, CallsTwins, FunctionTwins, function_twins, program_twins}
 
 -- an arithmetic keeps what it gives itself
 pub itself_keeps : (Soft : Cause → Type 0) (arith : Arith) → ArithKeeps Soft arith arith

@@ -1,5 +1,4 @@
 -- Ends of runs, and causes, of which laws speak.
-use Rattle.std.specs.Prelude.{ℕ}
 use Rattle.sc_core.specs.declared.cause.Cause.{Cause}
 use Rattle.sc_core.specs.declared.cause.Cause.TheVariants.{Overflow, ZeroDivisor, BadShift}
 use Rattle.sc_core.specs.declared.run.RunEnd.{RunEnd}

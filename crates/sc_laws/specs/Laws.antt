@@ -1,18 +1,20 @@
 -- Laws of the meaning.
-use Rattle.std.specs.Prelude.{◌≡◌, ◌⊎◌, ℕ, ◌<◌, ◌≤◌, true, false, List, length}
+use Rattle.std.specs.Prelude.{◌≡◌, ◌⊎◌, ℕ, suc, ◌<◌, ◌≤◌, ◌++◌, true, false, List, length, Option}
 use Rattle.sc_event.specs.declared.event.Event.{Event}
 use Rattle.sc_core.specs.declared.cause.Cause.{Cause}
 use Rattle.sc_core.specs.declared.program.ProgramTree.{ProgramTree}
 use Rattle.sc_core.specs.declared.run.RunEnd.TheVariants.{Blamed}
 use Rattle.sc_core.specs.Value.{Arith}
-use Rattle.sc_core.specs.Words.{State, Here}
-use Rattle.sc_core.specs.Calls.{Step, run_step, within}
+use Rattle.sc_core.specs.declared.value.Value.{Value}
+use Rattle.sc_core.specs.Words.{FrameChange, State, Here, Reached}
+use Rattle.sc_core.specs.Calls.{Step, call_own, run_step, within}
 use Rattle.sc_core.specs.Scripts.{Roles, scripted_step}
-use Rattle.sc_core.specs.Meaning.{library_of, meaning_by, meaning, wrapped, scripted_by, scripted_meaning, scripted_wrapped}
+use Rattle.sc_core.specs.Meaning.{deepest, library_of, run_of, meaning_by, meaning, wrapped, scripted_by, scripted_meaning, scripted_wrapped}
 use Rattle.sc_event.specs.Legal.{legal}
 use Rattle.sc_laws.specs.Chains.{Set, IsWithin, nobody, Link, IsBlamedOutside, performed, IsChain, IsRising, AreFresh, Includes, PassesBlame}
 use Rattle.sc_core.specs.Growth.{Front}
 use Rattle.sc_laws.specs.Growth.{Gone}
+use Rattle.sc_laws.specs.Rooms.{room_after, open_room, AllBefore}
 use Rattle.sc_laws.specs.Steady.{now, ExtendedByMore, AgreesUntilBlame}
 
 -- whatever a function of a program does, however many calls may be open in it, it goes on from the state in which it begins
@@ -103,3 +105,18 @@ ChainExists = (arith : Arith) (program : ProgramTree) (inputs : List ℕ) (turns
     ((set : Set) → ((performed arith program inputs turns trace set).trace ≡ trace)
     ⊎ IsBlamedOutside count set (performed arith program inputs turns trace set) trace) →
     (links : List Link) × IsChain arith program inputs turns trace nobody links × (length links ≤ count)
+
+-- the deepest room is at least the room that is open at any moment before the cut
+abbrev pub DeepestIsReached : Type 0
+DeepestIsReached = (events comp : ℕ) (before after : List FrameChange) → AllBefore events before →
+    room_after comp 0 before ≤ deepest events comp 0 (before ++ after)
+
+-- what a call of a function of a program notes: each change is of a moment within the trace, and a call that returns leaves the
+-- room of every compartment as it was
+pub record RoomsAreKept : Type 0 where
+  pub told : (arith : Arith) (program : ProgramTree) (inputs : List ℕ) (turns : ℕ) →
+      AllBefore (suc (length (run_of arith program inputs turns).shown.trace)) (run_of arith program inputs turns).frames
+  pub returns : (arith : Arith) (program : ProgramTree) (open_calls comp number : ℕ) (args : List Value) (v : Option Value) (s t : State) →
+      AllBefore (suc (length s.trace)) s.frames →
+      call_own (library_of arith program) (within (run_step (library_of arith program)) open_calls) comp number args s ≡ Reached v t →
+      (c : ℕ) → open_room c t ≡ open_room c s

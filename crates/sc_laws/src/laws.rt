@@ -1,6 +1,7 @@
 // Laws of the meaning, each the contract of a function with nothing to do.
 
-ghost use Rattle.sc_laws.specs.Laws.{ChainExists, ChainsRise, BlameIsPassed, BlameRemains, FixedPoint, ChainIsLeast, MoreGoesOn, MoreMayPerform, OnlyGoesOn, WrappingAgrees, EmptySetIsMeaning, MeaningGoesOn, NobodyWhoPerformsIsBlamed, TracesAreLegal, WrappedAgrees};
+ghost use Rattle.sc_laws.specs.Laws.{ChainExists, ChainsRise, BlameIsPassed, BlameRemains, FixedPoint, ChainIsLeast, DeepestIsReached, MoreGoesOn, MoreMayPerform, OnlyGoesOn, RoomsAreKept, WrappingAgrees, EmptySetIsMeaning, MeaningGoesOn, NobodyWhoPerformsIsBlamed, TracesAreLegal, WrappedAgrees};
+ghost use Rattle.sc_laws.specs.Agreement.{AgreeingRunAlike};
 
 /// Whatever a function does, events are appended to those that were told, no turn comes back, and it stops the run for
 /// a blame or for want of turns alone.
@@ -80,4 +81,20 @@ pub fn chains_rise()
 /// there are compartments.
 pub fn chain_exists()
     ensures { ChainExists }
+{}
+
+/// The depth of a run is at least the room that is open at any moment before its cut.
+pub fn deepest_is_reached()
+    ensures { DeepestIsReached }
+{}
+
+/// Each change of frames is of a moment within the trace, and a call that returns leaves the open room as it was.
+pub fn rooms_are_kept()
+    ensures { RoomsAreKept }
+{}
+
+/// Two libraries whose functions agree, one by one, up to the lines of blames show the same up to that line and take the
+/// same room, whatever their functions carry and whichever compartments perform.
+pub fn agreeing_run_alike()
+    ensures { AgreeingRunAlike }
 {}

@@ -1,0 +1,250 @@
+-- Libraries that agree function by function run the same, also where compartments perform scripts.
+use Rattle.std.proofs.Common.{◌≡◌, ℕ, zero, suc, Bool, true, false, List, [], ◌∷◌, length, map, Option, None, Some, refl, sym, ◌∙◌, ap, subst}
+use Rattle.std.specs.Prelude.{if◌then◌else◌, ◌&&◌, ◌==◌, nat_le, nat_lt, take, is_some}
+use Rattle.std.specs.List.{list_all}
+use Rattle.sc_event.specs.declared.event.Event.TheVariants.{Call}
+use Rattle.sc_event.specs.declared.row.Entry.TheVariants.{Main, Export}
+use Rattle.sc_event.specs.declared.row.Row.{Row}
+use Rattle.sc_event.specs.declared.row.Action.{Action}
+use Rattle.sc_event.specs.declared.row.Action.TheVariants as act
+use Rattle.sc_event.specs.Legal.{is_input, is_output, is_function, imports, takes}
+use Rattle.sc_core.specs.declared.expr.CallTarget.{CallTarget}
+use Rattle.sc_core.specs.declared.expr.CallTarget.TheVariants.{Own, Cross, Input, Output}
+use Rattle.sc_core.specs.declared.run.RunEnd.{RunEnd}
+use Rattle.sc_core.specs.declared.run.RunEnd.TheVariants.{Ended, Blamed, TurnsOut, EventsOut}
+use Rattle.sc_core.specs.declared.run.SourceRun.{SourceRun}
+use Rattle.sc_core.specs.declared.value.Value.{Value}
+use Rattle.sc_core.specs.declared.value.Value.TheVariants.{Word}
+use Rattle.sc_core.specs.Memory.{Memory}
+use Rattle.sc_core.specs.Words.{State, Here, Piece, Reached, Stopped, and_then, turn, tell}
+use Rattle.sc_core.specs.Calls.{Function, Library, Body, Step, function, leads, is_word, found, begun, done, crossed, word_in, may_call, back_own, back_cross, run_in, call_own, call_cross, called, calls, run_step, within}
+use Rattle.sc_core.specs.Scripts.{Roles, rows_left, is_number, asks, acts, performs, scripted_step}
+use Rattle.sc_core.specs.Run.{reaches, stopped_at}
+use Rattle.sc_core.specs.Meaning.{run_to, first_state, run_by}
+use Rattle.sc_laws.specs.Agreement.{Meets, without_line, piece_without_line, PiecesAgree, CallsAgree, BodiesAgree, FunctionsAgree, LibrariesAgree, ShownAgree, RunsAgree, AgreeingRunAlike}
+
+pub itself : {V : Type 0} (o : Piece V) → PiecesAgree o o
+itself o = record { same = refl }
+
+line_of_then : {V W : Type 0} (o : Piece V) (k : V → State → Piece W) →
+    piece_without_line (and_then o k) ≡ and_then (piece_without_line o) (λ v s. piece_without_line (k v s))
+line_of_then (Reached v s) k = refl
+line_of_then (Stopped end s) k = refl
+
+-- one piece after another
+pub then_agree : {V W : Type 0} (o p : Piece V) (k l : V → State → Piece W) →
+    PiecesAgree o p → ((v : V) (s : State) → PiecesAgree (k v s) (l v s)) → PiecesAgree (and_then o k) (and_then p l)
+then_agree o p k l h x = record {
+  same = line_of_then o k ∙ ap (λ y. and_then y (λ v s. piece_without_line (k v s))) h.same
+      ∙ ap (and_then (piece_without_line p)) (λ i v s. (x v s).same i) ∙ sym (line_of_then p l);
+}
+
+-- what is done where a test, which answers the same, allows it
+if_agree : {V : Type 0} (b c : Bool) (o p o' p' : Piece V) → b ≡ c → PiecesAgree o p → PiecesAgree o' p' →
+    PiecesAgree (if b then o else o') (if c then p else p')
+if_agree true true o p o' p' is h k = h
+if_agree true false o p o' p' is h k = absurd (cc)
+if_agree false true o p o' p' is h k = absurd (cc)
+if_agree false false o p o' p' is h k = k
+
+found_agree : {V : Type 0} (m n : Option V) (s : State) → m ≡ n → PiecesAgree (found m s) (found n s)
+found_agree m n s is = record { same = ap (λ x. piece_without_line (found x s)) is }
+
+both_there : (f g : Option Function) → Meets FunctionsAgree f g → is_some f ≡ is_some g
+both_there None None h = refl
+both_there None (Some g) h = absurd h
+both_there (Some f) None h = absurd h
+both_there (Some f) (Some g) h = refl
+
+module _ (L M : Library) (agree : LibrariesAgree L M) where
+  leads_same : (comp : ℕ) (number : Option ℕ) → leads L comp number ≡ leads M comp number
+  leads_same comp None = refl
+  leads_same comp (Some number) = both_there (function L comp number) (function M comp number) (agree.functions comp number)
+
+  -- the same calls may be made
+  may_same : (from : ℕ) (target : CallTarget) (args : List Value) → may_call L from target args ≡ may_call M from target args
+  may_same from (Own number) args =
+      both_there (function L from number) (function M from number) (agree.functions from number)
+  may_same from (Cross to index) args =
+      ap (λ i. imports i from (is_function to index) && (takes i to index (length args) && (list_all is_word args && leads L to (L.entered to (Export index))))) agree.interfaces
+      ∙ ap (λ b. imports M.interfaces from (is_function to index) && (takes M.interfaces to index (length args) && (list_all is_word args && b)))
+      (leads_same to (L.entered to (Export index)) ∙ ap (leads M to) (agree.entered to (Export index)))
+  may_same from Input args = ap (λ i. imports i from is_input) agree.interfaces
+  may_same from Output args = ap (λ i. imports i from is_output && (length args == 1 && list_all is_word args)) agree.interfaces
+
+  module _ (body other : Body) (bodies : BodiesAgree body other) where
+    runs_there : (comp number : ℕ) (args : List Value) (back back' : Option Value → State → Piece (Option Value)) →
+        ((v : Option Value) (s : State) → PiecesAgree (back v s) (back' v s)) → (s : State) (f g : Option Function) → Meets FunctionsAgree f g →
+        PiecesAgree
+        (and_then (found f s) (λ f s. and_then (body number (record { comp = comp; first = length (s.memory comp) }) (begun comp f args s)) (λ v t. back v (done comp f (length (s.memory comp)) t))))
+        (and_then (found g s) (λ g s. and_then (other number (record { comp = comp; first = length (s.memory comp) }) (begun comp g args s)) (λ v t. back' v (done comp g (length (s.memory comp)) t))))
+    runs_there comp number args back back' b s None None h = itself _
+    runs_there comp number args back back' b s None (Some g) h = absurd h
+    runs_there comp number args back back' b s (Some f) None h = absurd h
+    runs_there comp number args back back' b s (Some f) (Some g) h =
+        rw (h.cells, h.room) (then_agree _ _ _ _ (bodies number (record { comp = comp; first = length (s.memory comp) }) (begun comp g args s)) (λ v t. b v (done comp g (length (s.memory comp)) t)))
+
+    runs_in : (comp number : ℕ) (args : List Value) (back back' : Option Value → State → Piece (Option Value)) →
+        ((v : Option Value) (s : State) → PiecesAgree (back v s) (back' v s)) → (s : State) →
+        PiecesAgree (run_in L body comp number args back s) (run_in M other comp number args back' s)
+    runs_in comp number args back back' b s =
+        runs_there comp number args back back' b s (function L comp number) (function M comp number) (agree.functions comp number)
+
+    pub own_agree : (comp number : ℕ) (args : List Value) (s : State) →
+        PiecesAgree (call_own L body comp number args s) (call_own M other comp number args s)
+    own_agree comp number args s = runs_in comp number args back_own back_own (λ v s. itself _) s
+
+    back_agree : (from to index : ℕ) (v : Option Value) (s : State) →
+        PiecesAgree (back_cross L.interfaces from to index v s) (back_cross M.interfaces from to index v s)
+    back_agree from to index v s =
+        record { same = ap (λ i. piece_without_line (back_cross i from to index v s)) agree.interfaces }
+
+    pub cross_agree : (from to index : ℕ) (args : List Value) (s : State) →
+        PiecesAgree (call_cross L body from to index args s) (call_cross M other from to index args s)
+    cross_agree from to index args s =
+        then_agree _ _ _ _ (found_agree (L.entered to (Export index)) (M.entered to (Export index)) s (agree.entered to (Export index))) (λ number s.
+        runs_in to number (crossed args) (back_cross L.interfaces from to index) (back_cross M.interfaces from to index) (back_agree from to index) (tell (Call from to index (map word_in args)) s))
+
+    called_agree : CallsAgree (called L body) (called M other)
+    called_agree from (Own number) args s = then_agree _ _ _ _ (itself (turn s)) (λ _ s. own_agree from number args s)
+    called_agree from (Cross to index) args s = then_agree _ _ _ _ (itself (turn s)) (λ _ s. cross_agree from to index args s)
+    called_agree from Input args s = itself _
+    called_agree from Output args s = itself _
+
+    pub calls_agree : CallsAgree (calls L body) (calls M other)
+    calls_agree from target args s =
+        if_agree (may_call L from target args) (may_call M from target args) _ _ _ _ (may_same from target args) (called_agree from target args s) (itself _)
+
+    does_there : (here : Here) (s : State) (f g : Option Function) → Meets FunctionsAgree f g →
+        PiecesAgree (and_then (found f s) (λ f s. f.does (calls L body) here s)) (and_then (found g s) (λ g s. g.does (calls M other) here s))
+    does_there here s None None h = itself _
+    does_there here s None (Some g) h = absurd h
+    does_there here s (Some f) None h = absurd h
+    does_there here s (Some f) (Some g) h = h.does (calls L body) (calls M other) calls_agree here s
+
+    pub step_agree : BodiesAgree (run_step L body) (run_step M other)
+    step_agree number here s =
+        does_there here s (function L here.comp number) (function M here.comp number) (agree.functions here.comp number)
+
+    -- scripts
+    asks_agree : (comp : ℕ) (target : CallTarget) (args : List Value) (s : State) →
+        PiecesAgree (asks L body comp target args s) (asks M other comp target args s)
+    asks_agree comp target args s =
+        if_agree (may_call L comp target args) (may_call M comp target args) _ _ _ _ (may_same comp target args) (calls_agree comp target args s) (itself _)
+
+    acts_agree : (action : Action) (next next' again again' : State → Piece (Option Value)) (comp : ℕ) (s : State) →
+        ((s : State) → PiecesAgree (next s) (next' s)) → ((s : State) → PiecesAgree (again s) (again' s)) →
+        PiecesAgree (acts L body action next again comp s) (acts M other action next' again' comp s)
+    acts_agree (act.Call to index args) next next' again again' comp s n a =
+        then_agree _ _ _ _ (asks_agree comp (Cross to index) (map (λ w. Word w) args) s) (λ v s. a s)
+    acts_agree (act.Ret v) next next' again again' comp s n a = itself _
+    acts_agree (act.Out w) next next' again again' comp s n a =
+        then_agree _ _ _ _ (asks_agree comp Output (Word w ∷ []) s) (λ v s. n s)
+    acts_agree (act.In w) next next' again again' comp s n a = then_agree _ _ _ _ (asks_agree comp Input [] s) (λ v s. n s)
+    acts_agree (act.End w) next next' again again' comp s n a = itself _
+
+    pub performs_agree : (rows : List Row) → BodiesAgree (performs L body rows) (performs M other rows)
+    performs_agree [] number here s = itself _
+    performs_agree (row ∷ rest) number here s =
+        if_agree (is_number number (L.entered here.comp row.entry)) (is_number number (M.entered here.comp row.entry)) _ _ _ _
+        (ap (is_number number) (agree.entered here.comp row.entry))
+        (acts_agree row.action _ _ _ _ here.comp s (λ s. performs_agree rest number here s) (λ s. bodies number here s)) (itself _)
+
+  -- functions that agree where what they call does
+  abbrev pub StepsAgree : Step → Step → Type 0
+  StepsAgree step to = (body other : Body) → BodiesAgree body other → BodiesAgree (step body) (to other)
+
+  pub within_agree : (step to : Step) → StepsAgree step to → (n : ℕ) → BodiesAgree (within step n) (within to n)
+  within_agree step to k zero number here s = itself _
+  within_agree step to k (suc n) number here s = k (within step n) (within to n) (within_agree step to k n) number here s
+
+  pub scripted_agree : (roles : Roles) (step to : Step) → StepsAgree step to →
+      StepsAgree (scripted_step L roles step) (scripted_step M roles to)
+  scripted_agree roles step to k body other bodies number here s =
+      if_agree (roles.scripted here.comp) (roles.scripted here.comp) _ _ _ _ refl
+      (performs_agree body other bodies (rows_left roles here.comp s.trace) number here s) (k body other bodies number here s)
+
+  pub start_agree : (step to : Step) → StepsAgree step to → (main turns : ℕ) (s : State) →
+      PiecesAgree (and_then (found (L.entered main Main) s) (λ number s. call_own L (within step (suc turns)) main number [] s))
+      (and_then (found (M.entered main Main) s) (λ number s. call_own M (within to (suc turns)) main number [] s))
+  start_agree step to k main turns s =
+      then_agree _ _ _ _ (found_agree (L.entered main Main) (M.entered main Main) s (agree.entered main Main)) (λ number s.
+      own_agree (within step (suc turns)) (within to (suc turns)) (within_agree step to k (suc turns)) main number [] s)
+
+-- whole runs
+
+same_reach : (events : ℕ) (run other : SourceRun) (end end' : RunEnd) → run.trace ≡ other.trace → without_line end ≡ without_line end' →
+    reaches events run end ≡ reaches events other end'
+same_reach events run other Ended Ended is h = ap (λ t. nat_lt events (length t)) is
+same_reach events run other Ended (Blamed c x l) is h = absurd (cc)
+same_reach events run other Ended TurnsOut is h = absurd (cc)
+same_reach events run other Ended EventsOut is h = absurd (cc)
+same_reach events run other (Blamed c x l) Ended is h = absurd (cc)
+same_reach events run other (Blamed c x l) (Blamed c' x' l') is h = ap (λ t. nat_le events (length t)) is
+same_reach events run other (Blamed c x l) TurnsOut is h = ap (λ t. nat_le events (length t)) is
+same_reach events run other (Blamed c x l) EventsOut is h = ap (λ t. nat_le events (length t)) is
+same_reach events run other TurnsOut Ended is h = absurd (cc)
+same_reach events run other TurnsOut (Blamed c x l) is h = ap (λ t. nat_le events (length t)) is
+same_reach events run other TurnsOut TurnsOut is h = ap (λ t. nat_le events (length t)) is
+same_reach events run other TurnsOut EventsOut is h = ap (λ t. nat_le events (length t)) is
+same_reach events run other EventsOut Ended is h = absurd (cc)
+same_reach events run other EventsOut (Blamed c x l) is h = ap (λ t. nat_le events (length t)) is
+same_reach events run other EventsOut TurnsOut is h = ap (λ t. nat_le events (length t)) is
+same_reach events run other EventsOut EventsOut is h = ap (λ t. nat_le events (length t)) is
+
+if_shown : (b c : Bool) (run other run' other' : SourceRun) → b ≡ c → ShownAgree run other → ShownAgree run' other' →
+    ShownAgree (if b then run else run') (if c then other else other')
+if_shown true true run other run' other' is h k = h
+if_shown true false run other run' other' is h k = absurd (cc)
+if_shown false true run other run' other' is h k = absurd (cc)
+if_shown false false run other run' other' is h k = k
+
+pub stopped_agree : (events : ℕ) (run other : SourceRun) → ShownAgree run other → ShownAgree (stopped_at events run) (stopped_at events other)
+stopped_agree events run other h =
+    if_shown (reaches events run run.end) (reaches events other other.end) (record { trace = take events run.trace; end = EventsOut }) (record { trace = take events other.trace; end = EventsOut }) run other
+    (same_reach events run other run.end other.end h.trace h.end) (record { trace = ap (take events) h.trace; end = refl }) h
+
+twice : (end : RunEnd) → without_line (without_line end) ≡ without_line end
+twice Ended = refl
+twice (Blamed comp cause line) = refl
+twice TurnsOut = refl
+twice EventsOut = refl
+
+-- what a run shows, without the line, is told by its piece without the line
+trace_of : (main : ℕ) (o : Piece (Option Value)) → (run_to main (piece_without_line o)).shown.trace ≡ (run_to main o).shown.trace
+trace_of main (Reached v s) = refl
+trace_of main (Stopped end s) = refl
+
+end_of : (main : ℕ) (o : Piece (Option Value)) →
+    without_line (run_to main (piece_without_line o)).shown.end ≡ without_line (run_to main o).shown.end
+end_of main (Reached v s) = refl
+end_of main (Stopped end s) = twice end
+
+frames_of : (main : ℕ) (o : Piece (Option Value)) → (run_to main (piece_without_line o)).frames ≡ (run_to main o).frames
+frames_of main (Reached v s) = refl
+frames_of main (Stopped end s) = refl
+
+whole_agree : (main : ℕ) (o p : Piece (Option Value)) → PiecesAgree o p → ShownAgree (run_to main o).shown (run_to main p).shown
+whole_agree main o p h = record {
+  trace = sym (trace_of main o) ∙ ap (λ x. (run_to main x).shown.trace) h.same ∙ trace_of main p;
+  end = sym (end_of main o) ∙ ap (λ x. without_line (run_to main x).shown.end) h.same ∙ end_of main p;
+}
+
+pub run_agree : (main : ℕ) (o p : Piece (Option Value)) → PiecesAgree o p → RunsAgree (run_to main o) (run_to main p)
+run_agree main o p h = record {
+  shown = λ events. stopped_agree events (run_to main o).shown (run_to main p).shown (whole_agree main o p h);
+  whole = whole_agree main o p h;
+  frames = sym (frames_of main o) ∙ ap (λ x. (run_to main x).frames) h.same ∙ frames_of main p;
+}
+
+pub runs_agree : (L M : Library) (agree : LibrariesAgree L M) (step to : Step) → StepsAgree L M agree step to → (globals : Memory) (inputs : List ℕ) (turns : ℕ) →
+    RunsAgree (run_by L step globals inputs turns) (run_by M to globals inputs turns)
+runs_agree L M agree step to k globals inputs turns =
+    subst (λ i. RunsAgree (run_by L step globals inputs turns) (run_to i.main (and_then (found (M.entered i.main Main) (first_state globals inputs turns)) (λ number s. call_own M (within to (suc turns)) i.main number [] s)))) agree.interfaces
+    (run_agree L.interfaces.main _ _ (start_agree L M agree step to k L.interfaces.main turns (first_state globals inputs turns)))
+
+pub agreeing_run_alike : AgreeingRunAlike
+agreeing_run_alike = record {
+  meaning = λ L M agree. runs_agree L M agree (run_step L) (run_step M) (step_agree L M agree);
+  scripted = λ L M agree roles. runs_agree L M agree (scripted_step L roles (run_step L)) (scripted_step M roles (run_step M)) (scripted_agree L M agree roles (run_step L) (run_step M) (step_agree L M agree));
+}

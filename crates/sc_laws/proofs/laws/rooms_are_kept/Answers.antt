@@ -1,0 +1,5 @@
+use Rattle.sc_laws.proofs.Rooms.{rooms_are_kept}
+use Rattle.sc_laws.proofs.laws.rooms_are_kept.Goals as goal
+
+pub returns : goal.returns
+returns c = rooms_are_kept

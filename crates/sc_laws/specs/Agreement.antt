@@ -1,0 +1,75 @@
+-- Two libraries that do the same, whatever their functions carry, up to the lines of blames.
+use Rattle.std.specs.Prelude.{◌≡◌, ℕ, List, Option, None, Some}
+use Rattle.sc_event.specs.declared.row.Entry.{Entry}
+use Rattle.sc_core.specs.declared.expr.CallTarget.{CallTarget}
+use Rattle.sc_core.specs.declared.run.RunEnd.{RunEnd}
+use Rattle.sc_core.specs.declared.run.RunEnd.TheVariants.{Ended, Blamed, TurnsOut, EventsOut}
+use Rattle.sc_core.specs.declared.run.SourceRun.{SourceRun}
+use Rattle.sc_core.specs.declared.value.Value.{Value}
+use Rattle.sc_core.specs.Words.{State, Here, Piece, Reached, Stopped, Calls}
+use Rattle.sc_core.specs.Memory.{Memory}
+use Rattle.sc_core.specs.Calls.{Function, Library, Body, function, run_step}
+use Rattle.sc_core.specs.Scripts.{Roles, scripted_step}
+use Rattle.sc_core.specs.Meaning.{Run, run_by}
+use Rattle.sc_core.specs.Run.{stopped_at}
+
+-- two things, where they are there: either both are, and are so related, or neither is
+abbrev pub Meets : {A : Type 0} → (A → A → Type 0) → Option A → Option A → Type 0
+Meets Q None None = Unit {0}
+Meets Q None (Some y) = ⊥
+Meets Q (Some x) None = ⊥
+Meets Q (Some x) (Some y) = Q x y
+
+-- an end, whatever the line of its blame
+abbrev pub without_line : RunEnd → RunEnd
+without_line Ended = Ended
+without_line (Blamed comp cause line) = Blamed comp cause 0
+without_line TurnsOut = TurnsOut
+without_line EventsOut = EventsOut
+
+abbrev pub piece_without_line : {V : Type 0} → Piece V → Piece V
+piece_without_line (Reached v s) = Reached v s
+piece_without_line (Stopped end s) = Stopped (without_line end) s
+
+-- two pieces that are the same but for the line of a blame
+pub record PiecesAgree {V : Type 0} (o p : Piece V) : Type 0 where
+  pub same : piece_without_line o ≡ piece_without_line p
+
+abbrev pub CallsAgree : Calls → Calls → Type 0
+CallsAgree C D = (from : ℕ) (target : CallTarget) (args : List Value) (s : State) →
+    PiecesAgree (C from target args s) (D from target args s)
+
+abbrev pub BodiesAgree : Body → Body → Type 0
+BodiesAgree body other = (number : ℕ) (here : Here) (s : State) →
+    PiecesAgree (body number here s) (other number here s)
+
+-- functions that callers can't tell apart, and that do the same where their calls do
+pub record FunctionsAgree (f g : Function) : Type 0 where
+  pub cells : f.cells ≡ g.cells
+  pub room : f.room ≡ g.room
+  pub does : (C D : Calls) → CallsAgree C D → (here : Here) (s : State) →
+      PiecesAgree (f.does C here s) (g.does D here s)
+
+pub record LibrariesAgree (L M : Library) : Type 0 where
+  pub interfaces : L.interfaces ≡ M.interfaces
+  pub functions : (comp number : ℕ) → Meets FunctionsAgree (function L comp number) (function M comp number)
+  pub entered : (comp : ℕ) (entry : Entry) → L.entered comp entry ≡ M.entered comp entry
+
+-- what runs show is the same but for the line of a blame
+pub record ShownAgree (run other : SourceRun) : Type 0 where
+  pub trace : run.trace ≡ other.trace
+  pub end : without_line run.end ≡ without_line other.end
+
+-- runs that show the same, wherever they are stopped, and whose frames are the same, so that all depths are
+pub record RunsAgree (run other : Run) : Type 0 where
+  pub shown : (events : ℕ) → ShownAgree (stopped_at events run.shown) (stopped_at events other.shown)
+  pub whole : ShownAgree run.shown other.shown
+  pub frames : run.frames ≡ other.frames
+
+-- libraries that agree function by function show the same in the same room: in their meaning, and whoever performs whatever script
+pub record AgreeingRunAlike : Type 0 where
+  pub meaning : (L M : Library) → LibrariesAgree L M → (globals : Memory) (inputs : List ℕ) (turns : ℕ) →
+      RunsAgree (run_by L (run_step L) globals inputs turns) (run_by M (run_step M) globals inputs turns)
+  pub scripted : (L M : Library) → LibrariesAgree L M → (roles : Roles) (globals : Memory) (inputs : List ℕ) (turns : ℕ) →
+      RunsAgree (run_by L (scripted_step L roles (run_step L)) globals inputs turns)
+      (run_by M (scripted_step M roles (run_step M)) globals inputs turns)

@@ -1,0 +1,21 @@
+-- How much room the open frames of a compartment take.
+use Rattle.std.specs.Prelude.{ℕ, ◌+◌, ◌-◌, ◌<◌, ◌==◌, if◌then◌else◌, List, [], ◌∷◌}
+use Rattle.sc_core.specs.Words.{FrameChange, Opened, Closed, State}
+
+-- the room after these changes, where the compartment's frames take this room before them
+abbrev pub room_after : ℕ → ℕ → List FrameChange → ℕ
+room_after comp room [] = room
+room_after comp room (Opened told c more ∷ changes) =
+    if c == comp then room_after comp (room + more) changes else room_after comp room changes
+room_after comp room (Closed told c less ∷ changes) =
+    if c == comp then room_after comp (room - less) changes else room_after comp room changes
+
+-- the room that is open in a state
+abbrev pub open_room : ℕ → State → ℕ
+open_room comp s = room_after comp 0 s.frames
+
+-- each change was made before so many events were told
+abbrev pub AllBefore : ℕ → List FrameChange → Type 0
+AllBefore events [] = Unit {0}
+AllBefore events (Opened told c more ∷ changes) = (told < events) × AllBefore events changes
+AllBefore events (Closed told c less ∷ changes) = (told < events) × AllBefore events changes
