@@ -232,12 +232,7 @@ fn changed(alloc: Global, change: Change) -> Result<Vec<u8>, Fail> {
 
 #[test]
 fn operators_before_places(rt: HostRuntime) -> Result<(), Fail> {
-    let wrong = wrong_rows(
-        rt.alloc(),
-        WHOLE,
-        Phase::Syntax,
-        &OPERATORS_BEFORE_PLACES,
-    )?;
+    let wrong = wrong_rows(rt.alloc(), WHOLE, Phase::Syntax, &OPERATORS_BEFORE_PLACES)?;
     assert!(rt; wrong.is_empty(), "{wrong:?}");
     Ok(())
 }
@@ -251,7 +246,12 @@ fn changed_tokens(rt: HostRuntime) -> Result<(), Fail> {
             phase: Phase::Syntax,
             line: change.2,
         });
-        assert_eq!(rt; judge(rt.alloc(), text.as_slice())?, want, "line {}", change.0);
+        assert_eq!(rt;
+            judge(rt.alloc(), text.as_slice())?,
+            want,
+            "line {}",
+            change.0
+        );
     }
     Ok(())
 }
