@@ -1,53 +1,48 @@
-ghost use Rattle.std.specs.Prelude.{◌≡◌, ◌≤◌, length, All, IfOk, OnOk};
-ghost use Rattle.sc_event.specs.Lookup.{IsKnown};
+ghost use Rattle.std.specs.Prelude.{◌≡◌, ◌≤◌, length, IfOk, OnOk};
+ghost use Rattle.sc_image.specs.WellFormed.{IsWellFormed};
 ghost use Rattle.sc_compile.specs.Image.{thin_image};
-ghost use Rattle.sc_top.specs.Names.{thin_interfaces};
-ghost use Rattle.sc_top.specs.Output.{shown, machine_text};
-ghost use Rattle.sc_top.specs.Texts.{IsThinMeant};
+ghost use Rattle.sc_top.specs.Output.{machine_text, IsThinMeant};
 
 use sc_base::{OutOfMemory, Text};
 use sc_compile::compile;
 use sc_core::ThinProgram;
-use sc_event::Interfaces;
-use sc_image::{Image, traces_are_legal};
+use sc_image::{Image, image_interfaces, traces_are_legal};
 use sc_machine::{LoadFault, Machine};
 use sc_store::FlatStore;
 use sc_words::RunOptions;
 use std::alloc::Global;
 
-/// What the machine shows on the image: its events, by these names, and why it stops.
+/// What the machine shows on the image: its events, by the image's names, and why it stops.
 pub(crate) fn machine_text(
     alloc: Global,
-    names: &Interfaces,
     options: &RunOptions,
     image: Image,
 ) -> Result<Text, OutOfMemory>
-    requires { All (IsKnown names.now) (shown options.now image).state.trace }
-    ensures { IfOk result (λ text. text ≡ machine_text names.now options.now image) }
+    ensures text { IfOk result (λ text. text ≡ machine_text options.now image) }
+    ensures well_formed { IsWellFormed image }
 {
+    // Every image is well formed, so that its traces are legal.
+    let _parts = image.parts();
+    traces_are_legal();
+    let interfaces = image_interfaces(alloc, &image)?;
     let inputs = options.inputs.as_slice();
     let mut machine = Machine::<FlatStore>::load(alloc, image, inputs, options.events).map_err(
         |LoadFault::OutOfMemory(_)| OutOfMemory,
     )?;
     let stop = machine.run(options.steps);
-    sc_report::run_text(alloc, names, machine.trace(), stop)
+    sc_report::run_text(alloc, &interfaces, machine.trace(), stop)
 }
 
-/// What the machine shows on the compiled program, by the names of a thin program.
+/// What the machine shows on the compiled program.
 pub(crate) fn compiled_text(
     alloc: Global,
-    names: &Interfaces,
     options: &RunOptions,
     program: &ThinProgram,
 ) -> Result<Text, OutOfMemory>
-    requires few { length program.now.outputs ≤ 16384 }
-    requires thin { names.now ≡ thin_interfaces }
-    ensures text { IfOk result (λ text. text ≡ machine_text names.now options.now (thin_image program.now)) }
+    requires { length program.now.outputs ≤ 16384 }
+    ensures text { IfOk result (λ text. text ≡ machine_text options.now (thin_image program.now)) }
     ensures meant { OnOk result (IsThinMeant options.now program.now) }
 {
     let image = compile(alloc, program)?;
-    // Every image is well formed, so that its traces are legal.
-    let _parts = image.parts();
-    traces_are_legal();
-    machine_text(alloc, names, options, image)
+    machine_text(alloc, options, image)
 }
