@@ -222,7 +222,7 @@ fn changed(alloc: Global, change: Change) -> Result<Vec<u8>, Fail> {
                 text.extend_from_slice(change.1)?;
             }
             text.push(b'\n')?;
-            line += 1;
+            line = line.saturating_add(1);
         } else if line != change.0 {
             text.push(*byte)?;
         }
