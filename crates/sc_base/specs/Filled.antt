@@ -1,4 +1,4 @@
--- How a name lies in an array of 63 bytes.
+-- Helping: how a name lies in an array of 63 bytes.
 use Rattle.std.specs.Prelude.{◌≡◌, ℕ, ◌-◌, ◌≤◌, IsTrue, List, ◌++◌, length, take, drop, replicate}
 use Rattle.std.proofs.Common.{sym, ap, ◌∙◌, take-append-drop, length-take-le}
 use Rattle.sc_base.specs.Identifier.{is_name}

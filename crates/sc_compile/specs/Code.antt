@@ -1,4 +1,4 @@
--- The code of a thin program.
+-- Helping: the code of a thin program.
 use Rattle.std.specs.Prelude.{ℕ, ℤ, pos, negsuc, ◌+◌, ◌*◌, ◌/◌, ◌%◌, ◌^◌, Bool, ◌&&◌, int_le, All, List, [], ◌∷◌, ◌++◌, flat_map, if◌then◌else◌}
 use Rattle.sc_word.specs.Word.{signed_of}
 use Rattle.rv_code.specs.declared.instr.Instr.{Instr}

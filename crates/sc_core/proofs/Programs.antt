@@ -154,5 +154,6 @@ calling target place = AssignCallLine 4 (local place) target [] (ReturnValueLine
 abbrev pub deep : List Sheet
 deep =
     sheet [] (main_with (slot ty.Int ∷ []) (calling (Cross 1 0) 0) 6 ∷ []) ∷
-    sheet [] (plan (codes "f") [] (slot (ints 8000) ∷ slot ty.Int ∷ []) (calling (Cross 2 0) 1) 6 ∷ []) ∷
+    sheet [] (plan (codes "f") [] (slot (ints 8000) ∷ slot ty.Int ∷ []) (AssignCallLine 4 (local 1) (Cross 2 0) []
+        (ReturnValueLine 5 (Two ty.Int op.Add (local 1) (lit 1)) NoLine)) 6 ∷ []) ∷
     sheet [] (plan (codes "g") [] (slot ty.Int ∷ []) (calling (Cross 1 0) 0) 6 ∷ []) ∷ []

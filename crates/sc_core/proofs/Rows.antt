@@ -118,10 +118,10 @@ pub store_depth_at_the_call : depth (program store_interfaces store_sheets) [] 5
 store_depth_at_the_call = depth_by_plan store_interfaces store_sheets [] 5 1 1
 
 -- of the three calls of `f` that five events tell, two have a frame within them
-pub deep_within_five : depth (program deep_interfaces deep) [] 9 5 1 ≡ 64192
+pub deep_within_five : depth (program deep_interfaces deep) [] 9 5 1 ≡ 64208
 deep_within_five = depth_by_plan deep_interfaces deep [] 9 5 1
 
-pub deep_within_six : depth (program deep_interfaces deep) [] 9 6 1 ≡ 96288
+pub deep_within_six : depth (program deep_interfaces deep) [] 9 6 1 ≡ 96312
 deep_within_six = depth_by_plan deep_interfaces deep [] 9 6 1
 
 -- the same where every operator gives a word, and where a compartment performs and has no frame

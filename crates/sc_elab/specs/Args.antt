@@ -1,4 +1,4 @@
--- The types of parameters, one after another.
+-- Helping: the types of parameters, one after another.
 use Rattle.std.specs.Prelude.{List, [], ◌∷◌, Option, Some, None}
 use Rattle.sc_core.specs.declared.ty.Ty.{Ty}
 

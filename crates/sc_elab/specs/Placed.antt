@@ -1,4 +1,4 @@
--- Variables and members by their names' first places.
+-- Helping: variables and members by their names' first places.
 use Rattle.std.specs.Prelude.{ℕ, List, map, Option, slice_get}
 use Rattle.std.specs.Option.{option_map, option_and_then}
 use Rattle.sc_core.specs.declared.ty.Ty.{Ty}

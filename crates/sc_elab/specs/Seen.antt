@@ -1,4 +1,4 @@
--- What is visible in a function's body, and what its expressions and statements are there.
+-- Helping: what is visible in a function's body, and what its expressions and statements are there.
 use Rattle.std.specs.Prelude.{List, Option, map}
 use Rattle.std.specs.Option.{option_map}
 use Rattle.sc_ast.specs.declared.expr.ExprTree.{ExprTree}

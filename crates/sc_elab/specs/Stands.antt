@@ -1,4 +1,4 @@
--- What stands for the declarations of a section while its functions are built.
+-- Helping: what stands for the declarations of a section while its functions are built.
 use Rattle.std.specs.Prelude.{◌≡◌, ℕ, map, take}
 use Rattle.std.specs.Option.{option_map}
 use Rattle.sc_ast.specs.declared.section.SectionTree.{SectionTree}

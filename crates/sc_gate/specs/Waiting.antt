@@ -1,4 +1,4 @@
--- The calls of other compartments that haven't returned, as contracts see them.
+-- Helping: the calls of other compartments that haven't returned, as contracts see them.
 use Rattle.std.specs.Prelude.{ℕ, List}
 use Rattle.sc_image.specs.State.{Crossing}
 use Rattle.sc_gate.specs.declared.entry.CrossEntry.{CrossEntry}

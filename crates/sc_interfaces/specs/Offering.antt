@@ -1,4 +1,4 @@
--- The interfaces of sections by tables of places, in which a name is found at once.
+-- Helping: the interfaces of sections by tables of places, in which a name is found at once.
 use Rattle.std.specs.Prelude.{ℕ, suc, ◌≤◌, bytes_eq, List, [], ◌∷◌, ◌++◌, All, length, map, min, take, slice_get, Option, Some, None, is_some, if◌then◌else◌}
 use Rattle.std.specs.Option.{option_and_then, option_map}
 use Rattle.std.specs.Map.{lookup}

@@ -1,4 +1,4 @@
--- The rules of interfaces by tables of the names that sections declare, in which a name is found at once.
+-- Helping: the rules of interfaces by tables of the names that sections declare, in which a name is found at once.
 use Rattle.std.specs.Prelude.{ℕ, suc, Bool, true, not, ◌&&◌, ◌||◌, ◌==◌, bytes_eq, List, [], ◌∷◌, ◌++◌, map, slice_get, Option, Some, None, is_some, if◌then◌else◌}
 use Rattle.std.specs.Option.{option_and_then}
 use Rattle.std.specs.Map.{lookup}

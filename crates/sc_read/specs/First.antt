@@ -1,4 +1,4 @@
--- The first bad item of a list.
+-- Helping: the first bad item of a list.
 use Rattle.std.specs.Prelude.{List, ◌∷◌}
 
 -- An item is bad, and each one before it is good.

@@ -74,111 +74,113 @@ const LOOPS: &[u8] =
 const UNSIGNED: &[u8] =
     b"#pragma compartment M\nunsigned u;\nint main(void) {\n  u = u - 1;\n  return (u > 0) + (-1 < 1u) * 10 + (-8 >> 1) * 100;\n}\n";
 
+// The words of a command, the text and what is written.
+const PROGRAMS: [(&[&str], &[u8], &[u8]); 32] = [
+    (
+        &["meaning"],
+        STORE,
+        b"call Main Net put 4 9\nstop blamed Net OutOfBounds 6\n",
+    ),
+    (
+        &["meaning"],
+        TWO_STORES,
+        b"call Main A f 2\nstop blamed A OutOfBounds 6\n",
+    ),
+    (
+        &["meaning"],
+        REENTRY,
+        b"call Main A f 1\ncall A B g 0\ncall B A h 1\nret A B 1\nret B A 1\nret A Main 2\nout Main 2\nend Main 0\nstop ended\n",
+    ),
+    (
+        &["meaning"],
+        REENTRY_BLAMED,
+        b"call Main A f 2\nstop blamed A OutOfBounds 10\n",
+    ),
+    (&["meaning", "--in", REQUESTS], ACCOUNTS, REQUESTS_TOLD),
+    (&["meaning", "--turns", "1"], ROUNDS, b"stop turns\n"),
+    (
+        &["meaning"],
+        MISSING_RETURN,
+        b"stop blamed Main NoReturn 3\n",
+    ),
+    (&["meaning"], LEAK, b"stop blamed Main Dangling 11\n"),
+    (
+        &["meaning"],
+        MIN_BY_MINUS_ONE,
+        b"stop blamed Main Overflow 9\n",
+    ),
+    (
+        &["meaning"],
+        UNINITIALISED,
+        b"out Main 1\nstop blamed Main Indeterminate 7\n",
+    ),
+    (
+        &["meaning", "--in=-5,3"],
+        INPUTS,
+        b"in Main -5\nin Main 3\nin Main 0\nout Main -2\nend Main 0\nstop ended\n",
+    ),
+    (&["meaning"], ROUNDS, b"end M 2\nstop ended\n"),
+    (
+        &["meaning", "--turns", "6"],
+        ROUNDS,
+        b"end M 2\nstop ended\n",
+    ),
+    (&["meaning", "--turns", "5"], ROUNDS, b"stop turns\n"),
+    (&["meaning", "--turns", "0"], ROUNDS, b"stop turns\n"),
+    (
+        &["meaning", "--turns", "0"],
+        OUTPUTS,
+        b"out M 1\nout M 2\nend M 3\nstop ended\n",
+    ),
+    (
+        &["meaning", "--turns", "0"],
+        INPUTS,
+        b"in Main 0\nin Main 0\nin Main 0\nout Main 0\nend Main 0\nstop ended\n",
+    ),
+    (&["meaning", "--turns", "3"], ENDLESS, b"stop turns\n"),
+    (&["meaning", "--events", "0"], OUTPUTS, b"stop events\n"),
+    (
+        &["meaning", "--events", "1"],
+        OUTPUTS,
+        b"out M 1\nstop events\n",
+    ),
+    (
+        &["meaning", "--events", "2"],
+        OUTPUTS,
+        b"out M 1\nout M 2\nstop events\n",
+    ),
+    (
+        &["meaning", "--events", "3"],
+        OUTPUTS,
+        b"out M 1\nout M 2\nend M 3\nstop ended\n",
+    ),
+    (
+        &["meaning", "--events", "1"],
+        STORE,
+        b"call Main Net put 4 9\nstop events\n",
+    ),
+    (
+        &["meaning", "--events", "0", "--turns", "0"],
+        ENDLESS,
+        b"stop events\n",
+    ),
+    (&["meaning"], DEEP, b"end M 10000\nstop ended\n"),
+    (&["meaning"], PLACE_AFTER_CALL, b"end M 5\nstop ended\n"),
+    (&["meaning"], LEFT_OUT, b"end M 2\nstop ended\n"),
+    (&["meaning"], LAYOUT, b"end M 645\nstop ended\n"),
+    (&["meaning"], PAST_THE_END, b"end M 7\nstop ended\n"),
+    (&["meaning"], LOOPS, b"end M 53\nstop ended\n"),
+    (&["meaning"], UNSIGNED, b"end M -399\nstop ended\n"),
+    (
+        &["meaning"],
+        b"#pragma compartment M\nint main(void) {}\n",
+        b"end M 0\nstop ended\n",
+    ),
+];
+
 #[test]
 fn whole_programs_are_told(rt: HostRuntime) -> Result<(), Fail> {
-    let cases: [(&[&str], &[u8], &[u8]); 32] = [
-        (
-            &["meaning"],
-            STORE,
-            b"call Main Net put 4 9\nstop blamed Net OutOfBounds 6\n",
-        ),
-        (
-            &["meaning"],
-            TWO_STORES,
-            b"call Main A f 2\nstop blamed A OutOfBounds 6\n",
-        ),
-        (
-            &["meaning"],
-            REENTRY,
-            b"call Main A f 1\ncall A B g 0\ncall B A h 1\nret A B 1\nret B A 1\nret A Main 2\nout Main 2\nend Main 0\nstop ended\n",
-        ),
-        (
-            &["meaning"],
-            REENTRY_BLAMED,
-            b"call Main A f 2\nstop blamed A OutOfBounds 10\n",
-        ),
-        (&["meaning", "--in", REQUESTS], ACCOUNTS, REQUESTS_TOLD),
-        (&["meaning", "--turns", "1"], ROUNDS, b"stop turns\n"),
-        (
-            &["meaning"],
-            MISSING_RETURN,
-            b"stop blamed Main NoReturn 3\n",
-        ),
-        (&["meaning"], LEAK, b"stop blamed Main Dangling 11\n"),
-        (
-            &["meaning"],
-            MIN_BY_MINUS_ONE,
-            b"stop blamed Main Overflow 9\n",
-        ),
-        (
-            &["meaning"],
-            UNINITIALISED,
-            b"out Main 1\nstop blamed Main Indeterminate 7\n",
-        ),
-        (
-            &["meaning", "--in=-5,3"],
-            INPUTS,
-            b"in Main -5\nin Main 3\nin Main 0\nout Main -2\nend Main 0\nstop ended\n",
-        ),
-        (&["meaning"], ROUNDS, b"end M 2\nstop ended\n"),
-        (
-            &["meaning", "--turns", "6"],
-            ROUNDS,
-            b"end M 2\nstop ended\n",
-        ),
-        (&["meaning", "--turns", "5"], ROUNDS, b"stop turns\n"),
-        (&["meaning", "--turns", "0"], ROUNDS, b"stop turns\n"),
-        (
-            &["meaning", "--turns", "0"],
-            OUTPUTS,
-            b"out M 1\nout M 2\nend M 3\nstop ended\n",
-        ),
-        (
-            &["meaning", "--turns", "0"],
-            INPUTS,
-            b"in Main 0\nin Main 0\nin Main 0\nout Main 0\nend Main 0\nstop ended\n",
-        ),
-        (&["meaning", "--turns", "3"], ENDLESS, b"stop turns\n"),
-        (&["meaning", "--events", "0"], OUTPUTS, b"stop events\n"),
-        (
-            &["meaning", "--events", "1"],
-            OUTPUTS,
-            b"out M 1\nstop events\n",
-        ),
-        (
-            &["meaning", "--events", "2"],
-            OUTPUTS,
-            b"out M 1\nout M 2\nstop events\n",
-        ),
-        (
-            &["meaning", "--events", "3"],
-            OUTPUTS,
-            b"out M 1\nout M 2\nend M 3\nstop ended\n",
-        ),
-        (
-            &["meaning", "--events", "1"],
-            STORE,
-            b"call Main Net put 4 9\nstop events\n",
-        ),
-        (
-            &["meaning", "--events", "0", "--turns", "0"],
-            ENDLESS,
-            b"stop events\n",
-        ),
-        (&["meaning"], DEEP, b"end M 10000\nstop ended\n"),
-        (&["meaning"], PLACE_AFTER_CALL, b"end M 5\nstop ended\n"),
-        (&["meaning"], LEFT_OUT, b"end M 2\nstop ended\n"),
-        (&["meaning"], LAYOUT, b"end M 645\nstop ended\n"),
-        (&["meaning"], PAST_THE_END, b"end M 7\nstop ended\n"),
-        (&["meaning"], LOOPS, b"end M 53\nstop ended\n"),
-        (&["meaning"], UNSIGNED, b"end M -399\nstop ended\n"),
-        (
-            &["meaning"],
-            b"#pragma compartment M\nint main(void) {}\n",
-            b"end M 0\nstop ended\n",
-        ),
-    ];
-    for (words, text, want) in cases {
+    for (words, text, want) in PROGRAMS {
         let ran = Run::new(words, text).run(rt.alloc())?;
         assert_eq!(rt; ran.status, 0);
         assert!(rt; ran.out.as_slice() == want);

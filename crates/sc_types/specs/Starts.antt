@@ -1,4 +1,4 @@
--- The places of a text at which its sections begin.
+-- Helping: the places of a text at which its sections begin.
 use Rattle.std.specs.Prelude.{◌≡◌, ℕ, List, [], ◌∷◌, length, map, take, slice_range}
 use Rattle.sc_lex.specs.Splitting.{IsSplit}
 use Rattle.sc_lex.specs.declared.section.Section.{Section}

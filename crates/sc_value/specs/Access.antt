@@ -1,4 +1,4 @@
--- Which cells give a value.
+-- Helping: which cells give a value.
 use Rattle.std.specs.Prelude.{ℕ, Bool, if◌then◌else◌, length, Result, Ok, Err}
 use Rattle.sc_core.specs.declared.cause.Cause.{Cause}
 use Rattle.sc_core.specs.declared.cause.Cause.TheVariants.{Indeterminate, BadType}

@@ -1,4 +1,4 @@
--- The operators `&&` and `||`, which may need no second operand, beside the others (C11 6.5.13, 6.5.14).
+-- Helping: the operators `&&` and `||`, which may need no second operand, beside the others (C11 6.5.13, 6.5.14).
 use Rattle.std.specs.Prelude.{List, if◌then◌else◌, Option, None, Some, Result, Ok}
 use Rattle.sc_core.specs.declared.cause.Cause.{Cause}
 use Rattle.sc_base.specs.declared.op.BinaryOp.{BinaryOp}

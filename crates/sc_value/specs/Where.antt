@@ -1,4 +1,4 @@
--- Where an expression stands.
+-- Helping: where an expression stands.
 use Rattle.sc_core.specs.Words.{Here}
 use Rattle.sc_value.specs.declared.standing.Scope.{Scope}
 

@@ -1,4 +1,4 @@
--- What the parse is told of the commands, and what it finds.
+-- Helping: what the parse is told of the commands, and what it finds.
 use Rattle.std.specs.Prelude.{◌≡◌, Bool, true, false, List, [], ◌++◌, map, codes, Some}
 use Rattle.clap.specs.Walk.{Row, first_of, one_of}
 use Rattle.clap.specs.Words.{App, Rule, Shape, app_of, new_rule, rule_of, subcommand_rows_of}
