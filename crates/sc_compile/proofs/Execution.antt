@@ -31,11 +31,7 @@ use Rattle.sc_compile.specs.Code.{is_short, upper_part, lower_part, loading, out
 use Rattle.sc_compile.specs.Image.{thin_image}
 use Rattle.sc_compile.proofs.Loading.{IsUpper-upper_part, IsImmediate-lower_part, IsImmediate-signed_of, short_loaded, long_loaded}
 use Rattle.sc_compile.proofs.Runs.{IsOpen, Runs, Runs-step, Runs-end}
-
--- the element that stands behind these
-slice_get_behind : {A : Type 0} (before : List A) (x : A) (rest : List A) → slice_get (before ++ x ∷ rest) (length before) ≡ Some x
-slice_get_behind [] x rest = refl
-slice_get_behind (y ∷ before) x rest = slice_get_behind before x rest
+use Rattle.sc_base.proofs.Lists.{get_behind}
 
 -- The events.
 
@@ -65,14 +61,14 @@ fewer done left event =
 last_end : (trace : List Event) (event : Event) → is_end event ≡ true → is_ended (trace ++ event ∷ []) ≡ true
 last_end trace event h =
     let place : length (trace ++ event ∷ []) - 1 ≡ length trace = omega (arith, length_push trace event) in
-    ap (λ i. option_map_or is_end (slice_get (trace ++ event ∷ []) i) false) place ∙ ap (λ o. option_map_or is_end o false) (slice_get_behind trace event []) ∙ h
+    ap (λ i. option_map_or is_end (slice_get (trace ++ event ∷ []) i) false) place ∙ ap (λ o. option_map_or is_end o false) (get_behind trace event []) ∙ h
 
 -- The code.
 
 -- the word of the instruction that stands behind these
 word_behind : (passed : List Instr) (instr : Instr) (rest : List Instr) → slice_get (map word_of (passed ++ instr ∷ rest)) (length passed) ≡ Some (word_of instr)
 word_behind passed instr rest =
-    slice_get-map word_of (passed ++ instr ∷ rest) (length passed) ∙ ap (option_map word_of) (slice_get_behind passed instr rest)
+    slice_get-map word_of (passed ++ instr ∷ rest) (length passed) ∙ ap (option_map word_of) (get_behind passed instr rest)
 
 fetched_at : (program : ThinProgram) (passed : List Instr) (instr : Instr) (rest : List Instr) → thin_code program ≡ passed ++ instr ∷ rest →
     word_at (thin_image program) 0 (code_start 0 + 4 * length passed) ≡ Some (word_of instr)

@@ -9,6 +9,7 @@ use Rattle.sc_word.specs.Word.{signed_of, word_of}
 use Rattle.sc_word.specs.Machine.{add_word}
 use Rattle.rv_code.specs.Ranges.{IsUpper, IsImmediate}
 use Rattle.sc_compile.specs.Code.{is_short, upper_part, lower_part}
+use Rattle.sc_base.proofs.Bools.{and_first}
 
 -- a word is the word of its signed value
 -- a number that fits isn't changed modulo 2 ^ 32
@@ -19,16 +20,12 @@ word_of-fits (negsuc n) h = let k : n < 2 ^ 31 = h.sfits in omega arith
 pub word_of-signed_of : (w : ℕ) → w < 2 ^ 32 → word_of (signed_of w) ≡ w
 word_of-signed_of w h = word_of-fits (signed_of w) (sfits_to_z {w = w32} {n = w} (record { fits = h })) ∙ of_z-to_z w32 w h
 
-and_left : (a b : Bool) → (a && b) ≡ true → a ≡ true
-and_left true b h = refl
-and_left false b h = h
-
 int_le-true : (x y : ℤ) → int_le x y ≡ true → x ≤ℤ y
 int_le-true x y h = record { le = rw h tt }
 
 short_immediate : (z : ℤ) → (int_le (negsuc 2047) z && int_le z (pos 2047)) ≡ true → IsImmediate z
 short_immediate (pos n) h = let k : n ≤ 2047 = leb-true n 2047 h in record { least = search rules; greatest = omega (arith, ints) }
-short_immediate (negsuc n) h = record { least = int_le-true (negsuc 2047) (negsuc n) (and_left _ (int_le (negsuc n) (pos 2047)) h); greatest = search rules }
+short_immediate (negsuc n) h = record { least = int_le-true (negsuc 2047) (negsuc n) (and_first _ (int_le (negsuc n) (pos 2047)) h); greatest = search rules }
 
 -- what ADDI loads alone
 pub short_loaded : (w : ℕ) → w < 2 ^ 32 → add_word 0 (word_of (signed_of w)) ≡ w

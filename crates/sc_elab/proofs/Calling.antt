@@ -15,7 +15,7 @@ use Rattle.sc_scope.specs.Interfaces.{import_of, function_named}
 use Rattle.sc_elab.specs.Sections.{signature_by, head_named, or_first, called_head, import_target, import_named, imported_target, target_or, callees_of}
 use Rattle.sc_elab.specs.declared.callees.Callees.{Callees}
 use Rattle.sc_elab.specs.Called.{or_first_own, imported, called, head_name, import_line_name, calling_heads, CallsIn}
-use Rattle.sc_base.proofs.Lists.{position-cons}
+use Rattle.sc_base.proofs.Lists.{position-cons, map_twice}
 
 abbrev same : List ℕ → List ℕ → Bool
 same = pointwise ◌==◌
@@ -70,10 +70,6 @@ module _ (name : List ℕ) where
       by None = refl
       by (Some line) = refl
 
-mapped_twice : {A B C : Type 0} (g : B → C) (f : A → B) (xs : List A) → map g (map f xs) ≡ map (λ x. g (f x)) xs
-mapped_twice g f [] = refl
-mapped_twice g f (x ∷ xs) = ap (λ l. g (f x) ∷ l) (mapped_twice g f xs)
-
 module _ (section : SectionTree) (imports : List Import) (callees : Callees) (calls : CallsIn (struct_names section.decls) section imports callees) where
   signature_is : (name : List ℕ) → option_and_then (slice_get callees.signatures) (number_of callees.heads name) ≡ option_map (signature_by (struct_names section.decls)) (called_head section name)
   signature_is name =
@@ -86,7 +82,7 @@ module _ (section : SectionTree) (imports : List Import) (callees : Callees) (ca
 
 module _ (sections : List SectionTree) (number : ℕ) (section : SectionTree) (imports : List Import) (callees : Callees) (calls : CallsIn (struct_names section.decls) section imports callees) (are : imports ≡ map (import_of sections number) section.imports) where
   targets_are : callees.targets ≡ map (λ line. import_target (import_of sections number line)) section.imports
-  targets_are = calls.targets ∙ ap (map import_target) are ∙ mapped_twice import_target (import_of sections number) section.imports
+  targets_are = calls.targets ∙ ap (map import_target) are ∙ map_twice import_target (import_of sections number) section.imports
 
   target_is : (name : List ℕ) → target_or (number_of callees.functions name) (or_first_own (imported callees name)) ≡ target_or (number_of (function_names section.decls) name) (imported_target sections number (import_named name section.imports))
   target_is name =

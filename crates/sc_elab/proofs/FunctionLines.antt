@@ -23,9 +23,9 @@ use Rattle.sc_elab.specs.Stands.{Stands, StandsIn}
 use Rattle.sc_elab.specs.declared.scope.SectionScope.{SectionScope}
 use Rattle.sc_elab.specs.declared.scope.FunctionScope.{FunctionScope}
 use Rattle.sc_elab.proofs.Functions.{next_place, seen}
-use Rattle.sc_elab.proofs.Loops.{left_from}
 use Rattle.sc_elab.proofs.Noted.{two, on_ok}
 use Rattle.sc_elab.proofs.Suiting.{suiting}
+use Rattle.sc_base.proofs.Lists.{drop-step}
 
 module _ (scope : SectionScope) (section : SectionTree) (stands : Stands scope section) where
   pub global_noted : (tree : GlobalTree) (a b : BrokenLines) → b ≡ with_lines a (unless (is_sized tree.ty && init_holds (type_of scope.tags tree.ty) tree.init) tree.line) → b ≡ with_lines a (global_lines section tree)
@@ -50,7 +50,7 @@ module _ (scope : SectionScope) (section : SectionTree) (stands : Stands scope s
         ap (λ b. with_lines b (after (i + 1))) (noted ∙ ap (λ holds. with_lines a (unless (is_sized local.ty && holds) local.line)) holds)
         ∙ sym (with_lines-append a (unless (local_holds section callees tree i local) local.line) (after (i + 1)))
         ∙ ap (λ n. with_lines a (unless (local_holds section callees tree i local) local.line ++ locals_from section callees tree n (drop (i + 1) tree.locals))) (sym (next_place i))
-        ∙ ap (λ l. with_lines a (locals_from section callees tree i l)) (sym (left_from tree.locals i local h e))
+        ∙ ap (λ l. with_lines a (locals_from section callees tree i l)) (sym (drop-step tree.locals i local h e))
         ∙ so
       where
         at : StandsIn section tree (suc i) function

@@ -20,7 +20,8 @@ use Rattle.sc_elab.specs.declared.scope.FunctionScope.{FunctionScope}
 use Rattle.sc_elab.specs.Called.{called}
 use Rattle.sc_elab.specs.Seen.{visible, value_in, stmt_in}
 use Rattle.sc_elab.specs.Stands.{Stands, StandsIn, local_in}
-use Rattle.sc_elab.proofs.Loops.{left_from, one_more, all_done}
+use Rattle.sc_elab.proofs.Loops.{one_more, all_done}
+use Rattle.sc_base.proofs.Lists.{drop-step}
 
 pub next_place : (i : ℕ) → suc i ≡ i + 1
 next_place i = omega arith
@@ -89,7 +90,7 @@ module _ (scope : SectionScope) (section : SectionTree) (stands : Stands scope s
 
       step : typed_locals section tree i (drop i tree.locals) ≡ built ∷ typed_locals section tree (i + 1) (drop (i + 1) tree.locals)
       step =
-          ap (typed_locals section tree i) (left_from tree.locals i local h e)
+          ap (typed_locals section tree i) (drop-step tree.locals i local h e)
           ∙ locals-cons i local (drop (i + 1) tree.locals)
           ∙ ap (λ x. x ∷ typed_locals section tree (suc i) (drop (i + 1) tree.locals)) (sym (b ∙ local_kept i function at local))
           ∙ ap (λ n. built ∷ typed_locals section tree n (drop (i + 1) tree.locals)) (next_place i)

@@ -2,7 +2,7 @@
 use Rattle.std.proofs.Common.{◌≡◌, ℕ, ◌+◌, ◌<◌, ◌≤◌, List, [], ◌∷◌, ◌++◌, length, map, drop, get_or, filter_map, Option, None, Some, refl, sym, ap, ◌∙◌}
 use Rattle.std.specs.List.{cons_option}
 use Rattle.std.proofs.lemmas.List.{append_assoc, append-nil, drop_all}
-use Rattle.sc_elab.proofs.Loops.{left_from}
+use Rattle.sc_base.proofs.Lists.{drop-step}
 
 module _ {A B C : Type 0} (f : A → Option B) (g : B → C) where
   abbrev pub gathered : List A → List C
@@ -19,7 +19,7 @@ module _ {A B C : Type 0} (f : A → Option B) (g : B → C) where
   gather_more xs i x done more whole h e m k =
       ap (λ l. l ++ gathered (drop (i + 1) xs)) m
       ∙ append_assoc done (gathered (x ∷ [])) (gathered (drop (i + 1) xs))
-      ∙ ap (λ l. done ++ l) (sym (gathered-cons x (drop (i + 1) xs)) ∙ sym (ap gathered (left_from xs i x h e)))
+      ∙ ap (λ l. done ++ l) (sym (gathered-cons x (drop (i + 1) xs)) ∙ sym (ap gathered (drop-step xs i x h e)))
       ∙ k
 
   -- all are looked at

@@ -14,8 +14,8 @@ use Rattle.sc_elab.specs.Statements.{going_to_some}
 use Rattle.sc_elab.specs.declared.scope.SectionScope.{SectionScope}
 use Rattle.sc_elab.specs.declared.scope.FunctionScope.{FunctionScope}
 use Rattle.sc_elab.specs.Seen.{visible, expr_in, args_in}
-use Rattle.sc_elab.proofs.Loops.{left_from}
 use Rattle.sc_elab.specs.Args.{first_of, rest_of}
+use Rattle.sc_base.proofs.Lists.{drop-step}
 
 module _ (section : SectionScope) (function : FunctionScope) where
   pub args_nil : (types : List Ty) → args_in section function types [] ≡ []
@@ -32,7 +32,7 @@ module _ (section : SectionScope) (function : FunctionScope) where
   -- the argument at a place, which goes to the first of the parameters
   pub args_next : (types : List Ty) (args : List ExprTree) (i : ℕ) (arg : ExprTree) (built : TypedExpr) (param : Option Ty) (going : TypedExpr) (rest : List Ty) → i < length args → arg ≡ get_or args i arg → built ≡ expr_in section function arg → param ≡ first_of types → going ≡ going_to_some param built → rest ≡ rest_of types → args_in section function types (drop i args) ≡ going ∷ args_in section function rest (drop (i + 1) args)
   args_next types args i arg built param going rest h at e f g r =
-      ap (args_in section function types) (left_from args i arg h at)
+      ap (args_in section function types) (drop-step args i arg h at)
       ∙ args_cons types arg (drop (i + 1) args)
       ∙ ap (λ x. x ∷ args_in section function (rest_of types) (drop (i + 1) args)) (sym (g ∙ ap (λ p. going_to_some p built) f ∙ ap (going_to_some (first_of types)) e))
       ∙ ap (λ l. going ∷ args_in section function l (drop (i + 1) args)) (sym r)

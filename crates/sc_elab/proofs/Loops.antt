@@ -3,16 +3,6 @@ use Rattle.std.proofs.Common.{◌≡◌, ℕ, suc, ◌+◌, ◌<◌, List, [], �
 use Rattle.std.proofs.lemmas.List.{append_assoc, append-nil}
 use Rattle.std.proofs.Math.Seq.{drop-cons}
 
-next_place : (i : ℕ) → suc i ≡ i + 1
-next_place i = omega arith
-
--- what is left from an item on
-pub left_from : {A : Type 0} (xs : List A) (i : ℕ) (x : A) → i < length xs → x ≡ get_or xs i x → drop i xs ≡ x ∷ drop (i + 1) xs
-left_from xs i x h e =
-    drop-cons xs i x h
-    ∙ ap (λ y. y ∷ drop (suc i) xs) (sym e)
-    ∙ ap (λ n. x ∷ drop n xs) (next_place i)
-
 -- one more item is done
 pub one_more : {B : Type 0} (done more left rest whole : List B) (x : B) → more ≡ done ++ x ∷ [] → left ≡ x ∷ rest → done ++ left ≡ whole → more ++ rest ≡ whole
 one_more done more left rest whole x e h i =

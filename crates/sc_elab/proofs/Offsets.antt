@@ -9,7 +9,7 @@ use Rattle.sc_core.specs.declared.section.TypedMember.{TypedMember}
 use Rattle.sc_core.specs.declared.section.TypedStruct.{TypedStruct}
 use Rattle.sc_scope.specs.Declarations.{struct_in, structs_in}
 use Rattle.sc_elab.specs.Sections.{type_of, end_of_member, members_from, cells_from, typed_struct, typed_structs}
-use Rattle.sc_elab.proofs.Loops.{left_from}
+use Rattle.sc_base.proofs.Lists.{drop-step}
 
 module _ (tags : List (List ℕ)) (structs : List TypedStruct) where
   -- a member at its offset
@@ -21,10 +21,10 @@ module _ (tags : List (List ℕ)) (structs : List TypedStruct) where
   end_of offset member = end_of_member tags structs offset member
 
   pub members_next : (members : List MemberTree) (i : ℕ) (member : MemberTree) (offset : ℕ) → i < length members → member ≡ get_or members i member → members_from tags structs offset (drop i members) ≡ member_at offset member ∷ members_from tags structs (end_of offset member) (drop (i + 1) members)
-  members_next members i member offset h e = ap (members_from tags structs offset) (left_from members i member h e)
+  members_next members i member offset h e = ap (members_from tags structs offset) (drop-step members i member h e)
 
   pub cells_next : (members : List MemberTree) (i : ℕ) (member : MemberTree) (offset : ℕ) → i < length members → member ≡ get_or members i member → cells_from tags structs offset (drop i members) ≡ cells_from tags structs (end_of offset member) (drop (i + 1) members)
-  cells_next members i member offset h e = ap (cells_from tags structs offset) (left_from members i member h e)
+  cells_next members i member offset h e = ap (cells_from tags structs offset) (drop-step members i member h e)
 
 module _ (tags : List (List ℕ)) where
   pub no_structs : (structs : List TypedStruct) → typed_structs tags structs [] ≡ structs
@@ -47,7 +47,7 @@ module _ (tags : List (List ℕ)) where
   structs_more decls i decl done more whole h e m k =
       ap (λ s. typed_structs tags s (structs_in (drop (i + 1) decls))) m
       ∙ sym (structs-cons done decl (drop (i + 1) decls))
-      ∙ sym (ap (λ l. typed_structs tags done (structs_in l)) (left_from decls i decl h e))
+      ∙ sym (ap (λ l. typed_structs tags done (structs_in l)) (drop-step decls i decl h e))
       ∙ k
 
   -- all are looked at

@@ -13,11 +13,7 @@ use Rattle.sc_elab.specs.Called.{called, CallsIn}
 use Rattle.sc_elab.specs.Sections.{callees_of, decl_lines, section_lines}
 use Rattle.sc_elab.specs.declared.callees.Callees.{Callees}
 use Rattle.sc_elab.proofs.Calling.{signatures_kept}
-
-noted-append : (least : Option ℕ) (xs ys : List ℕ) → noted_all least (xs ++ ys) ≡ noted_all (noted_all least xs) ys
-unfolding noted_all
-noted-append least [] ys = refl
-noted-append least (x ∷ xs) ys = noted-append (noted least x) xs ys
+use Rattle.sc_scope.proofs.Noting.{noted_all-append}
 
 noted-nil : (least : Option ℕ) → noted_all least [] ≡ least
 unfolding noted_all
@@ -42,7 +38,7 @@ module _ (sections : List SectionTree) (i : ℕ) (whole : Option ℕ) where
   pub section-next : (least next : Option ℕ) (x : SectionTree) → i < length sections → x ≡ get_or sections i x → next ≡ noted_all least (lines_in x) → noted_all least (concat (map lines_in (drop i sections))) ≡ whole → noted_all next (concat (map lines_in (drop (i + 1) sections))) ≡ whole
   section-next least next x within is noted so =
       ap (λ least. noted_all least (concat (map lines_in (drop (i + 1) sections)))) noted
-      ∙ sym (noted-append least (lines_in x) (concat (map lines_in (drop (i + 1) sections))))
+      ∙ sym (noted_all-append least (lines_in x) (concat (map lines_in (drop (i + 1) sections))))
       ∙ (λ j. noted_all least (lines_in (is j) ++ concat (map lines_in (drop (add-one i j) sections))))
       ∙ (λ j. noted_all least (concat (map lines_in (sym (drop-cons sections i x within) j))))
       ∙ so

@@ -6,7 +6,8 @@ use Rattle.sc_core.specs.declared.section.TypedSection.{TypedSection}
 use Rattle.sc_event.specs.declared.interface.Interfaces.{Interfaces}
 use Rattle.sc_scope.specs.Interfaces.{import_of, interface_of, interfaces_from, interfaces_of}
 use Rattle.sc_elab.specs.Sections.{typed_section, callees_of, sections_from}
-use Rattle.sc_elab.proofs.Loops.{left_from, one_more}
+use Rattle.sc_elab.proofs.Loops.{one_more}
+use Rattle.sc_base.proofs.Lists.{drop-step}
 
 next_place : (i : ℕ) → suc i ≡ i + 1
 next_place i = omega arith
@@ -55,6 +56,6 @@ module _ (sections : List SectionTree) where
     where
       step : sections_from sections i (drop i sections) ≡ built ∷ sections_from sections (i + 1) (drop (i + 1) sections)
       step =
-          ap (sections_from sections i) (left_from sections i section h e)
+          ap (sections_from sections i) (drop-step sections i section h e)
           ∙ ap (λ x. x ∷ sections_from sections (suc i) (drop (i + 1) sections)) (sym b)
           ∙ ap (λ n. built ∷ sections_from sections n (drop (i + 1) sections)) (next_place i)

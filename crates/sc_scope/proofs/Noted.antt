@@ -18,13 +18,8 @@ use Rattle.sc_scope.specs.declared.section_names.SectionNames.{SectionNames}
 use Rattle.sc_scope.specs.Names.{all_in, decl_lines, declared, function_lines, head_of_known, known, lines_from, local_known, local_names, locals_from, names_broken, param_names, section_lines, stmt_lines, with_decl}
 use Rattle.sc_scope.proofs.Lines.{step, done, then}
 use Rattle.sc_scope.proofs.Statements.{body-lines}
-
--- what is left begins with the item at hand
-pub drop-step : {A : Type 0} (xs : List A) (i : ℕ) (x : A) → i < length xs → x ≡ get_or xs i x → drop i xs ≡ x ∷ drop (i + 1) xs
-drop-step xs i x lt is = rw (add-one, drop-cons xs i x) (ap (λ y. y ∷ drop (suc i) xs) (sym is))
-
-pub take-step : {A : Type 0} (xs : List A) (i : ℕ) (x : A) → i < length xs → x ≡ get_or xs i x → take (i + 1) xs ≡ take i xs ++ x ∷ []
-take-step xs i x lt is = take_more xs i x lt ∙ ap (λ y. take i xs ++ y ∷ []) (sym is)
+use Rattle.sc_scope.proofs.Noting.{noted_all-append}
+use Rattle.sc_base.proofs.Lists.{drop-step, take-step}
 
 -- what is there and what is left to add, one item further
 pub pushed : {A B : Type 0} (f : A → B) (xs : List A) (i : ℕ) (x : A) (a b all : List B) → i < length xs → x ≡ get_or xs i x → a ++ map f (drop i xs) ≡ all → b ≡ a ++ f x ∷ [] → b ++ map f (drop (i + 1) xs) ≡ all
@@ -115,11 +110,6 @@ decls-noted section decls i old a all le p =
 
 -- Sections.
 
-noted-append : (least : Option ℕ) (xs ys : List ℕ) → noted_all least (xs ++ ys) ≡ noted_all (noted_all least xs) ys
-unfolding noted_all
-noted-append least [] ys = refl
-noted-append least (x ∷ xs) ys = noted-append (noted least x) xs ys
-
 noted-none : (least : Option ℕ) → noted_all least [] ≡ least
 unfolding noted_all
 noted-none least = refl
@@ -127,7 +117,7 @@ noted-none least = refl
 pub section-noted : (sections : List SectionTree) (i : ℕ) (section : SectionTree) (least : Option ℕ) (lines : BrokenLines) (all : Option ℕ) → i < length sections → section ≡ get_or sections i section → noted_all least (names_broken (drop i sections)) ≡ all → lines ≡ with_lines (record { start = section.line; least = least }) (section_lines section) → noted_all lines.least (names_broken (drop (i + 1) sections)) ≡ all
 section-noted sections i section least lines all lt is p q =
     ap (λ l. noted_all l.least (names_broken (drop (i + 1) sections))) q
-    ∙ (sym (noted-append least (map (line_of_text section.line) (section_lines section)) (names_broken (drop (i + 1) sections)))
+    ∙ (sym (noted_all-append least (map (line_of_text section.line) (section_lines section)) (names_broken (drop (i + 1) sections)))
     ∙ (ap (λ rest. noted_all least (names_broken rest)) (sym (drop-step sections i section lt is)) ∙ p))
 
 pub sections-noted : (sections : List SectionTree) (i : ℕ) (least : Option ℕ) (all : Option ℕ) → length sections ≤ i → noted_all least (names_broken (drop i sections)) ≡ all → least ≡ all

@@ -2,15 +2,12 @@
 use Rattle.std.proofs.Common.{◌≡◌, ℕ, List, [], ◌∷◌, ◌++◌, map, Option, refl, ap, ◌∙◌}
 use Rattle.sc_scope.specs.declared.broken.BrokenLines.{BrokenLines}
 use Rattle.sc_scope.specs.Broken.{line_of_text, noted, noted_all, with_lines}
+use Rattle.std.proofs.lemmas.List.{map-append}
 
-noted_all-append : (least : Option ℕ) (xs ys : List ℕ) → noted_all least (xs ++ ys) ≡ noted_all (noted_all least xs) ys
+pub noted_all-append : (least : Option ℕ) (xs ys : List ℕ) → noted_all least (xs ++ ys) ≡ noted_all (noted_all least xs) ys
 unfolding noted_all
 noted_all-append least [] ys = refl
 noted_all-append least (x ∷ xs) ys = noted_all-append (noted least x) xs ys
-
-map-append : {A B : Type 0} (f : A → B) (xs ys : List A) → map f (xs ++ ys) ≡ map f xs ++ map f ys
-map-append f [] ys = refl
-map-append f (x ∷ xs) ys = ap (λ rest. f x ∷ rest) (map-append f xs ys)
 
 pub with_lines-nil : (broken : BrokenLines) → with_lines broken [] ≡ broken
 unfolding noted_all

@@ -3,22 +3,10 @@ use Rattle.std.proofs.Common.{◌≡◌, refl, ap, ◌∙◌, ℕ, suc, ◌+◌,
 use Rattle.std.specs.Prelude.{position, cond}
 use Rattle.std.specs.List.{concat, list_all, position_from}
 use Rattle.std.specs.Option.{option_map}
-use Rattle.std.proofs.lemmas.Bool.{false≢true}
+use Rattle.std.proofs.lemmas.Bool.{false≢true, and_from}
 use Rattle.std.proofs.lemmas.Iterator.Adapters.{position_from-zero}
 use Rattle.sc_scope.specs.Broken.{unless}
-
-pub both : (a b : Bool) → a ≡ true → b ≡ true → (a && b) ≡ true
-both true true h k = refl
-both true false h k = k
-both false b h k = h
-
-pub left : (a b : Bool) → (a && b) ≡ true → a ≡ true
-left true b h = refl
-left false b h = h
-
-pub right : (a b : Bool) → (a && b) ≡ true → b ≡ true
-right true b h = h
-right false b h = absurd (false≢true h)
+use Rattle.sc_base.proofs.Bools.{and_first, and_rest}
 
 pub not_true : (a : Bool) → not a ≡ true → a ≡ false
 not_true false h = refl
@@ -63,11 +51,11 @@ each_empty f (x ∷ xs) h = (front_empty (f x) (concat (map f xs)) h, each_empty
 
 pub each_passes : {A : Type 0} (p : A → Bool) (xs : List A) → list_all p xs ≡ true → Each (λ x. p x ≡ true) xs
 each_passes p [] h = tt
-each_passes p (x ∷ xs) h = (left (p x) (list_all p xs) h, each_passes p xs (right (p x) (list_all p xs) h))
+each_passes p (x ∷ xs) h = (and_first (p x) (list_all p xs) h, each_passes p xs (and_rest (p x) (list_all p xs) h))
 
 pub all_pass : {A : Type 0} (p : A → Bool) (xs : List A) → Each (λ x. p x ≡ true) xs → list_all p xs ≡ true
 all_pass p [] h = refl
-all_pass p (x ∷ xs) h = both (p x) (list_all p xs) h.0 (all_pass p xs h.1)
+all_pass p (x ∷ xs) h = and_from (p x) (list_all p xs) h.0 (all_pass p xs h.1)
 
 pub each_with : {A : Type 0} (P Q R : A → Type 0) → ((x : A) → P x → Q x → R x) → (xs : List A) → Each P xs → Each Q xs → Each R xs
 each_with P Q R f [] h k = tt

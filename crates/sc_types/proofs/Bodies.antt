@@ -29,7 +29,9 @@ use Rattle.sc_scope.specs.Names.{Known, is_callable, call_known, expr_known, sim
 use Rattle.sc_elab.specs.Scopes.{Visible}
 use Rattle.sc_elab.specs.Expressions as elab
 use Rattle.sc_elab.specs.Statements.{Callees, typed_args, typed_call, typed_value, going_to_some, typed_simple, typed_simple_kind, kind_step, stmt_step, typed_stmt, call_holds, assign_call_holds, cond_holds, return_call_holds, simple_holds, part_lines, kind_lines, stmt_lines}
-use Rattle.sc_types.proofs.Basics.{both, left, right, held, front_empty, back_empty}
+use Rattle.sc_types.proofs.Basics.{held, front_empty, back_empty}
+use Rattle.std.proofs.lemmas.Bool.{and_from}
+use Rattle.sc_base.proofs.Bools.{and_first, and_rest}
 
 -- the type of a judged expression is its own
 pub judged_ty : (scope : Scope) (e : TypedExpr) → (judged scope e).ty ≡ e.ty
@@ -50,19 +52,19 @@ module _ (known : Known) (visible : Visible) (callees : Callees) (scope : Scope)
 
   call_is : (call : CallTree) → call_known known call ≡ true → call_holds visible callees scope result call ≡ true → call_fits callable (typed_call visible callees call).target (map (judged scope) (typed_call visible callees call).args) ≡ true
   call_is call in_names holds =
-      ap (λ signature. args_fit signature (map (judged scope) (typed_args visible callees call))) (same call.name (left (is_callable known call.name) _ in_names)) ∙ holds
+      ap (λ signature. args_fit signature (map (judged scope) (typed_args visible callees call))) (same call.name (and_first (is_callable known call.name) _ in_names)) ∙ holds
 
   assign_call_is : (place : ExprTree) (call : CallTree) → (expr_known known place && call_known known call) ≡ true → assign_call_holds visible callees scope result place call ≡ true → assign_call_fits callable (judged scope (elab.typed visible place)) (typed_call visible callees call).target (map (judged scope) (typed_call visible callees call).args) ≡ true
   assign_call_is place call in_names holds =
-      let called : call_known known call ≡ true = right (expr_known known place) (call_known known call) in_names in
-      let rest : (call_holds visible callees scope result call && result_goes (callees.signature call.name) (elab.typed visible place).ty) ≡ true = right (is_target (judged scope (elab.typed visible place))) _ holds in
-      let goes : result_goes (target_signature callable (callees.target call.name)) (judged scope (elab.typed visible place)).ty ≡ result_goes (callees.signature call.name) (elab.typed visible place).ty = λ i. result_goes (same call.name (left (is_callable known call.name) _ called) i) (judged_ty scope (elab.typed visible place) i) in
-      both (is_target (judged scope (elab.typed visible place))) _ (left (is_target (judged scope (elab.typed visible place))) _ holds) (both _ _ (call_is call called (left (call_holds visible callees scope result call) _ rest)) (goes ∙ right (call_holds visible callees scope result call) _ rest))
+      let called : call_known known call ≡ true = and_rest (expr_known known place) (call_known known call) in_names in
+      let rest : (call_holds visible callees scope result call && result_goes (callees.signature call.name) (elab.typed visible place).ty) ≡ true = and_rest (is_target (judged scope (elab.typed visible place))) _ holds in
+      let goes : result_goes (target_signature callable (callees.target call.name)) (judged scope (elab.typed visible place)).ty ≡ result_goes (callees.signature call.name) (elab.typed visible place).ty = λ i. result_goes (same call.name (and_first (is_callable known call.name) _ called) i) (judged_ty scope (elab.typed visible place) i) in
+      and_from (is_target (judged scope (elab.typed visible place))) _ (and_first (is_target (judged scope (elab.typed visible place))) _ holds) (and_from _ _ (call_is call called (and_first (call_holds visible callees scope result call) _ rest)) (goes ∙ and_rest (call_holds visible callees scope result call) _ rest))
 
   return_call_is : (given : Option Ty) (call : CallTree) → call_known known call ≡ true → return_call_holds visible callees scope result given call ≡ true → returned_call_fits callable given (typed_call visible callees call).target (map (judged scope) (typed_call visible callees call).args) ≡ true
   return_call_is None call in_names holds = holds
   return_call_is (Some t) call in_names holds =
-      both _ _ (call_is call in_names (left (call_holds visible callees scope result call) _ holds)) (ap (λ signature. result_goes signature t) (same call.name (left (is_callable known call.name) _ in_names)) ∙ right (call_holds visible callees scope result call) _ holds)
+      and_from _ _ (call_is call in_names (and_first (call_holds visible callees scope result call) _ holds)) (ap (λ signature. result_goes signature t) (same call.name (and_first (is_callable known call.name) _ in_names)) ∙ and_rest (call_holds visible callees scope result call) _ holds)
 
   -- Statements.
 
@@ -83,7 +85,7 @@ module _ (known : Known) (visible : Visible) (callees : Callees) (scope : Scope)
   all_fit : (looping : Bool) (stmts : List StmtTree) → tree_induction.Each Fits stmts → names.all_in known looping (map (names.stmt_lines known) stmts) ≡ [] → concat (map (stmt_lines visible callees scope result) stmts) ≡ [] → list_all {X = Bool → Bool} (λ s. s looping) (map (stmt_fits scope callable result) (map (typed_stmt visible callees result) stmts)) ≡ true
   all_fit looping [] each in_names holds = refl
   all_fit looping (s ∷ stmts) each in_names holds =
-      both _ _ (each.0 looping (front_empty (names.stmt_lines known s looping) _ in_names) (front_empty (stmt_lines visible callees scope result s) _ holds)) (all_fit looping stmts each.1 (back_empty (names.stmt_lines known s looping) _ in_names) (back_empty (stmt_lines visible callees scope result s) _ holds))
+      and_from _ _ (each.0 looping (front_empty (names.stmt_lines known s looping) _ in_names) (front_empty (stmt_lines visible callees scope result s) _ holds)) (all_fit looping stmts each.1 (back_empty (names.stmt_lines known s looping) _ in_names) (back_empty (stmt_lines visible callees scope result s) _ holds))
 
   -- the layer of a statement, where the statements inside have their types
   abbrev Layer : Type 0
@@ -114,7 +116,7 @@ module _ (known : Known) (visible : Visible) (callees : Callees) (scope : Scope)
       fits_at line (layer.Call (typed_call visible callees call)) looping ∙ call_is call (held _ line in_names) (held _ line holds)
   by_kind line (tree.If cond first second) under looping in_names holds =
       fits_at line (layer.If (elab.typed visible cond) (map (typed_stmt visible callees result) first) (map (typed_stmt visible callees result) second)) looping
-      ∙ both _ _ (held _ line (front_empty (unless (cond_holds visible callees scope result cond) line) _ holds)) (both _ _ (all_fit looping first under.0 (front_empty _ _ names_inside) (front_empty _ _ inside)) (all_fit looping second under.1 (back_empty (names.all_in known looping (map (names.stmt_lines known) first)) _ names_inside) (back_empty (concat (map (stmt_lines visible callees scope result) first)) _ inside))) where
+      ∙ and_from _ _ (held _ line (front_empty (unless (cond_holds visible callees scope result cond) line) _ holds)) (and_from _ _ (all_fit looping first under.0 (front_empty _ _ names_inside) (front_empty _ _ inside)) (all_fit looping second under.1 (back_empty (names.all_in known looping (map (names.stmt_lines known) first)) _ names_inside) (back_empty (concat (map (stmt_lines visible callees scope result) first)) _ inside))) where
         names_inside : names.all_in known looping (map (names.stmt_lines known) first) ++ names.all_in known looping (map (names.stmt_lines known) second) ≡ []
         names_inside = back_empty (unless (expr_known known cond) line) _ in_names
 
@@ -122,10 +124,10 @@ module _ (known : Known) (visible : Visible) (callees : Callees) (scope : Scope)
         inside = back_empty (unless (cond_holds visible callees scope result cond) line) _ holds
   by_kind line (tree.While cond body) under looping in_names holds =
       fits_at line (layer.While (elab.typed visible cond) (map (typed_stmt visible callees result) body)) looping
-      ∙ both _ _ (held _ line (front_empty (unless (cond_holds visible callees scope result cond) line) _ holds)) (all_fit true body under (back_empty (unless (expr_known known cond) line) _ in_names) (back_empty (unless (cond_holds visible callees scope result cond) line) _ holds))
+      ∙ and_from _ _ (held _ line (front_empty (unless (cond_holds visible callees scope result cond) line) _ holds)) (all_fit true body under (back_empty (unless (expr_known known cond) line) _ in_names) (back_empty (unless (cond_holds visible callees scope result cond) line) _ holds))
   by_kind line (tree.For first cond next body) under looping in_names holds =
       fits_at line (layer.For (option_map (typed_simple visible callees) first) (elab.typed visible cond) (option_map (typed_simple visible callees) next) (map (typed_stmt visible callees result) body)) looping
-      ∙ both _ _ (part_is first (front_empty (names.part_lines known first) _ in_names) (front_empty (part_lines visible callees scope result first) _ holds)) (both _ _ (held _ line (front_empty (unless (cond_holds visible callees scope result cond) line) _ behind_first)) (both _ _ (part_is next (front_empty (names.part_lines known next) _ names_behind) (front_empty (part_lines visible callees scope result next) _ behind)) (all_fit true body under (back_empty (names.part_lines known next) _ names_behind) (back_empty (part_lines visible callees scope result next) _ behind)))) where
+      ∙ and_from _ _ (part_is first (front_empty (names.part_lines known first) _ in_names) (front_empty (part_lines visible callees scope result first) _ holds)) (and_from _ _ (held _ line (front_empty (unless (cond_holds visible callees scope result cond) line) _ behind_first)) (and_from _ _ (part_is next (front_empty (names.part_lines known next) _ names_behind) (front_empty (part_lines visible callees scope result next) _ behind)) (all_fit true body under (back_empty (names.part_lines known next) _ names_behind) (back_empty (part_lines visible callees scope result next) _ behind)))) where
         names_behind : names.part_lines known next ++ names.all_in known true (map (names.stmt_lines known) body) ≡ []
         names_behind = back_empty (unless (expr_known known cond) line) _ (back_empty (names.part_lines known first) _ in_names)
 

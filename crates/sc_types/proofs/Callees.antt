@@ -24,11 +24,13 @@ use Rattle.sc_interfaces.specs.Faces.{agree, agrees_with, head_crosses, is_input
 use Rattle.sc_scope.specs.Names.{is_callable, declared, known_in}
 use Rattle.sc_elab.specs.Statements.{Callees}
 use Rattle.sc_elab.specs.Sections.{tags, signature_by, head_named, or_first, import_target, import_named, imported_target, target_or, callees_of, typed_section}
-use Rattle.sc_types.proofs.Basics.{left, right, each_passes}
-use Rattle.sc_types.proofs.Places.{Text, same_refl, same_is, eq_refl}
+use Rattle.sc_types.proofs.Basics.{each_passes}
+use Rattle.sc_types.proofs.Places.{Text, same_refl, eq_refl}
 use Rattle.sc_types.proofs.Lookups.{each_at, FoundFunction, find_function, no_function, no_place, heads_of_functions, FoundHead, find_head}
 use Rattle.sc_types.proofs.Facts.{ExportFacts, ImportFacts, DeclFacts, FaceFacts}
 use Rattle.sc_types.proofs.Calls.{agreed_signature, input_signature, output_signature, FoundBy, found_by, get_map, any_at, own_at, FoundImport, find_import, Offering, find_offering, export_is}
+use Rattle.sc_base.proofs.Texts.{same_text}
+use Rattle.sc_base.proofs.Bools.{and_first, and_rest}
 
 same_import_refl : (i : Import) → same_import i i ≡ true
 same_import_refl import.Input = refl
@@ -83,7 +85,7 @@ module _ (sections : List SectionTree) (hold : (j : ℕ) (s : SectionTree) → s
     head = h.head
 
     same_name : line.name ≡ head.name
-    same_name = same_is line.name name f.named ∙ sym (same_is head.name name h.named)
+    same_name = same_text line.name name f.named ∙ sym (same_text head.name name h.named)
 
     as_line : agrees_as sections number section head line ≡ true
     as_line =
@@ -130,13 +132,13 @@ module _ (sections : List SectionTree) (hold : (j : ℕ) (s : SectionTree) → s
 
       export : FoundBy {A = ExportLine} (λ line. line.name) line.name other.exports
       export =
-          found_by {A = ExportLine} (λ line. line.name) line.name other.exports (right (not (o.number == number)) _ (right (bytes_eq other.name line.comp) _ o.offers))
+          found_by {A = ExportLine} (λ line. line.name) line.name other.exports (and_rest (not (o.number == number)) _ (and_rest (bytes_eq other.name line.comp) _ o.offers))
 
       abbrev export_line : ExportLine
       export_line = export.item
 
       export_name : line.name ≡ export_line.name
-      export_name = same_is line.name export_line.name export.named
+      export_name = same_text line.name export_line.name export.named
 
       defined : is_numbered (function_names other.decls) export_line.name ≡ true
       defined =
@@ -188,7 +190,7 @@ module _ (sections : List SectionTree) (hold : (j : ℕ) (s : SectionTree) → s
   import_case : (name : Text) → is_numbered (function_names section.decls) name ≡ false → is_numbered (import_names section) name ≡ true → target_signature callable (callees.target name) ≡ callees.signature name
   import_case name none h =
       let f : FoundImport (ImportFacts sections number section) name section.imports = find_import (ImportFacts sections number section) name section.imports facts.imports h in
-      let named : f.line.name ≡ name = same_is f.line.name name f.named in
+      let named : f.line.name ≡ name = same_text f.line.name name f.named in
       let head : FoundHead (DeclFacts sections number section facts.mains) name section.decls = find_head (DeclFacts sections number section facts.mains) name section.decls facts.decls (subst (λ n. is_numbered (proto_names section.decls) n ≡ true) named f.holds.declared) none in
       ap (λ n. target_signature callable (target_or n (imported_target sections number (import_named name section.imports)))) (no_place (function_names section.decls) name none) ∙ ap (λ l. target_signature callable (imported_target sections number l)) f.first ∙ import_goal name f head ∙ sym (λ i. option_map (signature_by (tags section)) (or_first (no_function name (functions_in section.decls) none i) (head.first i)))
 
@@ -198,4 +200,4 @@ module _ (sections : List SectionTree) (hold : (j : ℕ) (s : SectionTree) → s
 
   -- what may be called has the signature of its target
   pub same_signature_called : (before : List Decl) (tree : FunctionTree) (name : Text) → is_callable (known_in (declared section before) tree) name ≡ true → target_signature callable (callees.target name) ≡ callees.signature name
-  same_signature_called before tree name h = by_name name (is_numbered (function_names section.decls) name) refl (left _ _ h)
+  same_signature_called before tree name h = by_name name (is_numbered (function_names section.decls) name) refl (and_first _ _ h)

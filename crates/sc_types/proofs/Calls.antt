@@ -26,9 +26,11 @@ use Rattle.sc_scope.specs.Interfaces.{offers, offering, base_scalar, scalar_of, 
 use Rattle.sc_interfaces.specs.Faces.{same_base, same_type, same_result, same_params, agree, crosses, result_crosses, head_crosses, is_int, gives_int, takes_nothing, takes_int, is_input, is_output}
 use Rattle.sc_elab.specs.Statements.{Callees}
 use Rattle.sc_elab.specs.Sections.{tags, base_of, type_of_name, param_ty, signature_by, import_named, typed_param, typed_function, result_of}
-use Rattle.sc_types.proofs.Basics.{Each, left, right, some_is, none_some, find}
+use Rattle.sc_types.proofs.Basics.{Each, some_is, none_some, find}
 use Rattle.sc_types.proofs.Places.{Text, number_is}
 use Rattle.sc_types.proofs.Lookups.{same_sym, FoundFunction}
+use Rattle.sc_base.proofs.Lists.{get_behind}
+use Rattle.sc_base.proofs.Bools.{and_first, and_rest}
 
 -- Types that cross.
 
@@ -42,7 +44,7 @@ crossing_base tags (base_tree.Struct tag) h = absurd (false≢true h)
 
 pub crossing_ty : (tags : List Text) (t : TypeName) → crosses t ≡ true → type_of_name tags t ≡ scalar_ty (scalar_of t)
 crossing_ty tags t h =
-    ap (λ stars. starred stars (base_of tags t.base)) (zero_is t.stars (left _ _ h)) ∙ crossing_base tags t.base (right (nat_eq t.stars 0) _ h)
+    ap (λ stars. starred stars (base_of tags t.base)) (zero_is t.stars (and_first _ _ h)) ∙ crossing_base tags t.base (and_rest (nat_eq t.stars 0) _ h)
 
 same_scalar : (a b : BaseTree) → same_base a b ≡ true → base_scalar a ≡ base_scalar b
 same_scalar base_tree.Int base_tree.Int h = refl
@@ -58,14 +60,14 @@ same_scalar (base_tree.Struct tag) (base_tree.Struct other) h = refl
 -- a type that crosses and agrees with another
 agreed_ty : (tags : List Text) (a b : TypeName) → same_type a b ≡ true → crosses b ≡ true → type_of_name tags b ≡ scalar_ty (scalar_of a)
 agreed_ty tags a b same h =
-    crossing_ty tags b h ∙ ap scalar_ty (sym (same_scalar a.base b.base (right (nat_eq a.stars b.stars) _ same)))
+    crossing_ty tags b h ∙ ap scalar_ty (sym (same_scalar a.base b.base (and_rest (nat_eq a.stars b.stars) _ same)))
 
 agreed_params : (tags : List Text) (a b : List ParamTree) → same_params a b ≡ true → list_all {X = ParamTree} (λ param. crosses param.ty) b ≡ true → map (param_ty tags) b ≡ map scalar_ty (map (λ param. scalar_of param.ty) a)
 agreed_params tags [] [] same h = refl
 agreed_params tags [] (p ∷ b) same h = absurd (false≢true same)
 agreed_params tags (p ∷ a) [] same h = absurd (false≢true same)
 agreed_params tags (p ∷ a) (q ∷ b) same h = λ i.
-    agreed_ty tags p.ty q.ty (left _ _ same) (left _ _ h) i ∷ agreed_params tags a b (right (same_type p.ty q.ty) _ same) (right (crosses q.ty) _ h) i
+    agreed_ty tags p.ty q.ty (and_first _ _ same) (and_first _ _ h) i ∷ agreed_params tags a b (and_rest (same_type p.ty q.ty) _ same) (and_rest (crosses q.ty) _ h) i
 
 agreed_result : (tags : List Text) (a b : Option TypeName) → same_result a b ≡ true → result_crosses b ≡ true → option_map (type_of_name tags) b ≡ result_ty (option_map scalar_of a)
 agreed_result tags None None same h = refl
@@ -80,7 +82,7 @@ scalars_of (p ∷ params) = ap (λ rest. scalar_of p.ty ∷ rest) (scalars_of pa
 -- the signature of a head that agrees with a function and whose types cross
 pub agreed_signature : (tags : List Text) (name : Text) (tree : FunctionTree) (head : HeadTree) → agree (head_of tree.head) head ≡ true → head_crosses head ≡ true → proto_signature (promised name (Some tree)) ≡ signature_by tags head
 agreed_signature tags name tree head same h = λ i.
-    record { params = sym (agreed_params tags (map param_of tree.head.params) head.params (right (same_result tree.head.result head.result) _ same) (right (result_crosses head.result) _ h) ∙ ap (map scalar_ty) (scalars_of tree.head.params)) i; result = sym (agreed_result tags tree.head.result head.result (left _ _ same) (left _ _ h)) i }
+    record { params = sym (agreed_params tags (map param_of tree.head.params) head.params (and_rest (same_result tree.head.result head.result) _ same) (and_rest (result_crosses head.result) _ h) ∙ ap (map scalar_ty) (scalars_of tree.head.params)) i; result = sym (agreed_result tags tree.head.result head.result (and_first _ _ same) (and_first _ _ h)) i }
 
 int_by : (tags : List Text) (stars : ℕ) (b : BaseTree) → nat_eq stars 0 ≡ true → same_base b base_tree.Int ≡ true → starred stars (base_of tags b) ≡ ty.Int
 int_by tags stars base_tree.Int h k = ap (λ n. starred n (base_of tags base_tree.Int)) (zero_is stars h)
@@ -88,7 +90,7 @@ int_by tags stars base_tree.Unsigned h k = absurd (false≢true k)
 int_by tags stars (base_tree.Struct tag) h k = absurd (false≢true k)
 
 pub int_ty : (tags : List Text) (t : TypeName) → is_int t ≡ true → type_of_name tags t ≡ ty.Int
-int_ty tags t h = int_by tags t.stars t.base (left _ _ h) (right (nat_eq t.stars 0) _ h)
+int_ty tags t h = int_by tags t.stars t.base (and_first _ _ h) (and_rest (nat_eq t.stars 0) _ h)
 
 int_result : (tags : List Text) (result : Option TypeName) → gives_int result ≡ true → option_map (type_of_name tags) result ≡ Some ty.Int
 int_result tags None h = absurd (false≢true h)
@@ -109,11 +111,11 @@ int_params tags (p ∷ q ∷ params) h = absurd (false≢true h)
 
 pub input_signature : (tags : List Text) (head : HeadTree) → is_input head ≡ true → signature_by tags head ≡ record { params = []; result = Some ty.Int }
 input_signature tags head h = λ i.
-    record { params = no_params tags head.params (right (gives_int head.result) _ h) i; result = int_result tags head.result (left _ _ h) i }
+    record { params = no_params tags head.params (and_rest (gives_int head.result) _ h) i; result = int_result tags head.result (and_first _ _ h) i }
 
 pub output_signature : (tags : List Text) (head : HeadTree) → is_output head ≡ true → signature_by tags head ≡ record { params = ty.Int ∷ []; result = None }
 output_signature tags head h = λ i.
-    record { params = int_params tags head.params (right (not (is_some head.result)) _ h) i; result = no_result tags head.result (left _ _ h) i }
+    record { params = int_params tags head.params (and_rest (not (is_some head.result)) _ h) i; result = no_result tags head.result (and_first _ _ h) i }
 
 -- Lists of what is named.
 
@@ -230,10 +232,6 @@ record OfferingFrom (importer : ℕ) (line : ImportLine) (front rest : List Sect
   got : slice_get (front ++ rest) number ≡ Some section
   offers : offers importer line number section ≡ true
 
-get_at_end : {A : Type 0} (xs : List A) (y : A) (ys : List A) → slice_get (xs ++ y ∷ ys) (length xs) ≡ Some y
-get_at_end [] y ys = refl
-get_at_end (x ∷ xs) y ys = get_at_end xs y ys
-
 length_snoc : {A : Type 0} (xs : List A) (y : A) → length (xs ++ y ∷ []) ≡ suc (length xs)
 length_snoc [] y = refl
 length_snoc (x ∷ xs) y = ap suc (length_snoc xs y)
@@ -244,7 +242,7 @@ module _ (importer : ℕ) (line : ImportLine) where
 
   offering_at : (front : List SectionTree) (section : SectionTree) (rest : List SectionTree) (b : Bool) → offers importer line (length front) section ≡ b → (is_some (offering importer line (length (front ++ section ∷ [])) rest) ≡ true → OfferingFrom importer line (front ++ section ∷ []) rest) → is_some (pick b (length front) section rest) ≡ true → OfferingFrom importer line front (section ∷ rest)
   offering_at front section rest true q f h =
-      record { number = length front; section = section; is = ap (λ b. pick b (length front) section rest) q; got = get_at_end front section rest; offers = q }
+      record { number = length front; section = section; is = ap (λ b. pick b (length front) section rest) q; got = get_behind front section rest; offers = q }
   offering_at front section rest false q f h =
       let next : OfferingFrom importer line (front ++ section ∷ []) rest = f (ap (λ k. is_some (offering importer line k rest)) (length_snoc front section) ∙ h) in record {
         number = next.number;

@@ -1,7 +1,7 @@
 -- What sections keep that break no rule of interfaces.
 use Rattle.std.proofs.Common.{◌≡◌, refl, sym, ap, ◌∙◌, ℕ, Bool, true, false, not, ◌&&◌, ◌||◌, List, [], ◌∷◌, ◌++◌, map}
 use Rattle.std.specs.Prelude.{bytes_eq}
-use Rattle.std.proofs.lemmas.Bool.{false≢true}
+use Rattle.std.proofs.lemmas.Bool.{false≢true, and_from}
 use Rattle.sc_base.specs.Numbering.{is_numbered}
 use Rattle.sc_ast.specs.declared.section.Decl.{Decl}
 use Rattle.sc_ast.specs.declared.section.Decl.TheVariants.{Struct, Global, Proto, Function}
@@ -13,8 +13,10 @@ use Rattle.sc_scope.specs.Declarations.{among, are_distinct, function_names, pro
 use Rattle.sc_scope.specs.Interfaces.{main_name}
 use Rattle.sc_scope.specs.Broken.{unless}
 use Rattle.sc_interfaces.specs.Faces.{is_plain, export_holds, exports_from, is_offered, import_holds, imports_from, head_holds, head_fits, imported_agrees, main_holds, agrees_with, decls_from, name_holds, section_lines}
-use Rattle.sc_types.proofs.Basics.{left, right, both, not_true, held, front_empty, back_empty, Each}
-use Rattle.sc_types.proofs.Places.{Text, same_refl, same_is, numbered_front}
+use Rattle.sc_types.proofs.Basics.{not_true, held, front_empty, back_empty, Each}
+use Rattle.sc_types.proofs.Places.{Text, same_refl, numbered_front}
+use Rattle.sc_base.proofs.Texts.{same_text}
+use Rattle.sc_base.proofs.Bools.{and_first, and_rest}
 
 -- Names that are new one after another are distinct.
 
@@ -30,7 +32,7 @@ last_there (x ∷ before) name h = by_case (bytes_eq name x) (last_there before 
   by_case false k = k
 
 not_again_at : (name : Text) (before : List Text) (x : Text) (names : List Text) (b : Bool) → bytes_eq name x ≡ b → is_numbered before x ≡ false → is_numbered before name ≡ true → is_numbered names name ≡ false → (b || is_numbered names name) ≡ false
-not_again_at name before x names true q new there rest = absurd (false≢true (sym new ∙ ap (is_numbered before) (sym (same_is name x q)) ∙ there))
+not_again_at name before x names true q new there rest = absurd (false≢true (sym new ∙ ap (is_numbered before) (sym (same_text name x q)) ∙ there))
 not_again_at name before x names false q new there rest = rest
 
 pub not_again : (name : Text) (before names : List Text) → Fresh before names → is_numbered before name ≡ true → is_numbered names name ≡ false
@@ -41,7 +43,7 @@ not_again name before (x ∷ names) fresh there =
 pub fresh_distinct : (before names : List Text) → Fresh before names → are_distinct names ≡ true
 fresh_distinct before [] fresh = refl
 fresh_distinct before (name ∷ names) fresh =
-    both (not (is_numbered names name)) (are_distinct names) (ap not (not_again name (before ++ name ∷ []) names fresh.1 (last_there before name (same_refl name)))) (fresh_distinct (before ++ name ∷ []) names fresh.1)
+    and_from (not (is_numbered names name)) (are_distinct names) (ap not (not_again name (before ++ name ∷ []) names fresh.1 (last_there before name (same_refl name)))) (fresh_distinct (before ++ name ∷ []) names fresh.1)
 
 -- Exports, imports and declarations.
 
@@ -68,20 +70,20 @@ module _ (sections : List SectionTree) (number : ℕ) (section : SectionTree) wh
   exports_each before [] h = (tt, tt)
   exports_each before (line ∷ lines) h =
       let holds : export_holds sections number section before line ≡ true = held _ line.line (front_empty _ _ h) in
-      let new : (not (among before line.name) && (not (bytes_eq line.name main_name) && is_plain line.name)) ≡ true = right (among (function_names section.decls) line.name) _ holds in
-      let other : (not (bytes_eq line.name main_name) && is_plain line.name) ≡ true = right (not (among before line.name)) _ new in
+      let new : (not (among before line.name) && (not (bytes_eq line.name main_name) && is_plain line.name)) ≡ true = and_rest (among (function_names section.decls) line.name) _ holds in
+      let other : (not (bytes_eq line.name main_name) && is_plain line.name) ≡ true = and_rest (not (among before line.name)) _ new in
       let rest : Each ExportFacts lines × Fresh (before ++ line.name ∷ []) (map {A = ExportLine} (λ line. line.name) lines) = exports_each (before ++ line.name ∷ []) lines (back_empty (unless (export_holds sections number section before line) line.line) _ h) in
-      ((record { defined = left _ _ holds; no_main = not_true _ (left _ _ other); plain = right (not (bytes_eq line.name main_name)) _ other }, rest.0), (not_true _ (left _ _ new), rest.1))
+      ((record { defined = and_first _ _ holds; no_main = not_true _ (and_first _ _ other); plain = and_rest (not (bytes_eq line.name main_name)) _ other }, rest.0), (not_true _ (and_first _ _ new), rest.1))
 
   imports_each : (before : List Text) (lines : List ImportLine) → imports_from sections number section before lines ≡ [] → Each ImportFacts lines × Fresh before (map {A = ImportLine} (λ line. line.name) lines)
   imports_each before [] h = (tt, tt)
   imports_each before (line ∷ lines) h =
       let holds : import_holds sections number section before line ≡ true = held _ line.line (front_empty _ _ h) in
-      let new : (not (among before line.name) && (not (among (function_names section.decls) line.name) && (among (proto_names section.decls) line.name && is_plain line.name))) ≡ true = right (is_offered sections number section line) _ holds in
-      let other : (not (among (function_names section.decls) line.name) && (among (proto_names section.decls) line.name && is_plain line.name)) ≡ true = right (not (among before line.name)) _ new in
-      let last : (among (proto_names section.decls) line.name && is_plain line.name) ≡ true = right (not (among (function_names section.decls) line.name)) _ other in
+      let new : (not (among before line.name) && (not (among (function_names section.decls) line.name) && (among (proto_names section.decls) line.name && is_plain line.name))) ≡ true = and_rest (is_offered sections number section line) _ holds in
+      let other : (not (among (function_names section.decls) line.name) && (among (proto_names section.decls) line.name && is_plain line.name)) ≡ true = and_rest (not (among before line.name)) _ new in
+      let last : (among (proto_names section.decls) line.name && is_plain line.name) ≡ true = and_rest (not (among (function_names section.decls) line.name)) _ other in
       let rest : Each ImportFacts lines × Fresh (before ++ line.name ∷ []) (map {A = ImportLine} (λ line. line.name) lines) = imports_each (before ++ line.name ∷ []) lines (back_empty (unless (import_holds sections number section before line) line.line) _ h) in
-      ((record { offered = left _ _ holds; not_defined = not_true _ (left _ _ other); declared = left _ _ last; plain = right (among (proto_names section.decls) line.name) _ last }, rest.0), (not_true _ (left _ _ new), rest.1))
+      ((record { offered = and_first _ _ holds; not_defined = not_true _ (and_first _ _ other); declared = and_first _ _ last; plain = and_rest (among (proto_names section.decls) line.name) _ last }, rest.0), (not_true _ (and_first _ _ new), rest.1))
 
   decls_each : (mains : Bool) (before decls : List Decl) → decls_from sections number section mains before decls ≡ [] → Each (DeclFacts mains) decls
   decls_each mains before [] h = tt
@@ -89,10 +91,10 @@ module _ (sections : List SectionTree) (number : ℕ) (section : SectionTree) wh
   decls_each mains before (Global tree ∷ decls) h = (tt, decls_each mains (before ++ Global tree ∷ []) decls h)
   decls_each mains before (Proto head ∷ decls) h =
       let holds : (head_holds sections number section before head && imported_agrees sections number section head) ≡ true = held _ head.line (front_empty _ _ h) in
-      ((right (agrees_with _ head) _ (left _ _ holds), right (head_holds sections number section before head) _ holds), decls_each mains (before ++ Proto head ∷ []) decls (back_empty (unless (head_holds sections number section before head && imported_agrees sections number section head) head.line) _ h))
+      ((and_rest (agrees_with _ head) _ (and_first _ _ holds), and_rest (head_holds sections number section before head) _ holds), decls_each mains (before ++ Proto head ∷ []) decls (back_empty (unless (head_holds sections number section before head && imported_agrees sections number section head) head.line) _ h))
   decls_each mains before (Function tree ∷ decls) h =
       let holds : (head_holds sections number section before (head_of tree.head) && main_holds mains (head_of tree.head)) ≡ true = held _ tree.head.line (front_empty _ _ h) in
-      ((right (agrees_with _ (head_of tree.head)) _ (left _ _ holds), right (head_holds sections number section before (head_of tree.head)) _ holds), decls_each mains (before ++ Function tree ∷ []) decls (back_empty (unless (head_holds sections number section before (head_of tree.head) && main_holds mains (head_of tree.head)) tree.head.line) _ h))
+      ((and_rest (agrees_with _ (head_of tree.head)) _ (and_first _ _ holds), and_rest (head_holds sections number section before (head_of tree.head)) _ holds), decls_each mains (before ++ Function tree ∷ []) decls (back_empty (unless (head_holds sections number section before (head_of tree.head) && main_holds mains (head_of tree.head)) tree.head.line) _ h))
 
   -- what a section keeps, where some sections before it define `main` or not
   pub record FaceFacts : Type 0 where

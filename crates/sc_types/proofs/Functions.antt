@@ -4,9 +4,9 @@ use Rattle.std.specs.Prelude.{◌^◌, slice_get, nat_le, nat_eq}
 use Rattle.std.specs.List.{concat, list_all}
 use Rattle.std.specs.Option.{option_map}
 use Rattle.std.proofs.Math.Nat.{le-max_left, le-max_right}
-use Rattle.std.proofs.lemmas.List.{append-nil}
+use Rattle.std.proofs.lemmas.List.{append-nil, map-append}
 use Rattle.std.proofs.lemmas.List.Elements.{filter_map-append}
-use Rattle.std.proofs.lemmas.Bool.{false≢true}
+use Rattle.std.proofs.lemmas.Bool.{false≢true, and_from}
 use Rattle.sc_base.specs.Numbering.{is_numbered}
 use Rattle.sc_ast.specs.declared.expr.ExprTree.{ExprTree}
 use Rattle.sc_ast.specs.declared.types.BaseTree.{BaseTree}
@@ -49,19 +49,13 @@ use Rattle.sc_elab.specs.Statements.{Callees, typed_stmt, stmt_lines}
 use Rattle.sc_elab.specs.Sections.{is_sized, base_of, type_of_name, type_of, is_null, word_of_const, init_words, init_holds, typed_global, typed_param, tags, structs, visible_of, visible_in, scope_in, typed_init, typed_local, typed_locals, result_of, typed_function, typed_section, local_holds, locals_from, function_lines, struct_lines, decl_lines}
 use Rattle.sc_types.specs.Counts as counts
 use Rattle.sc_types.specs.Counts.{is_small, type_in, structs_from}
-use Rattle.sc_types.proofs.Basics.{both, left, right, not_true, held, front_empty, back_empty}
+use Rattle.sc_types.proofs.Basics.{not_true, held, front_empty, back_empty}
 use Rattle.sc_types.proofs.Places.{Text, is_at_most, at_most, numbered_front}
 use Rattle.sc_types.proofs.Structs.{Known, AllKnown, AllSmall, structs_length, type_is_within, name_is_within, is_less}
 use Rattle.sc_types.proofs.Bodies.{fits}
 use Rattle.sc_types.proofs.Heights as heights
-
-pub map_map : {A B C : Type 0} (g : B → C) (f : A → B) (xs : List A) → map g (map f xs) ≡ map (λ x. g (f x)) xs
-map_map g f [] = refl
-map_map g f (x ∷ xs) = ap (λ rest. g (f x) ∷ rest) (map_map g f xs)
-
-pub map_append : {A B : Type 0} (f : A → B) (xs ys : List A) → map f (xs ++ ys) ≡ map f xs ++ map f ys
-map_append f [] ys = refl
-map_append f (x ∷ xs) ys = ap (λ rest. f x ∷ rest) (map_append f xs ys)
+use Rattle.sc_base.proofs.Lists.{map_twice}
+use Rattle.sc_base.proofs.Bools.{and_first, and_rest}
 
 pub map_length : {A B : Type 0} (f : A → B) (xs : List A) → length (map f xs) ≡ length xs
 map_length f [] = refl
@@ -77,7 +71,7 @@ low_right a b n h = at_most b n (omega (arith, le-max_right a b, is_at_most (max
 
 pub struct_names_append : (before decls : List Decl) → struct_names (before ++ decls) ≡ struct_names before ++ struct_names decls
 struct_names_append before decls =
-    ap (map {A = StructTree} (λ tree. tree.name)) (filter_map-append struct_in before decls) ∙ map_append {A = StructTree} (λ tree. tree.name) (structs_in before) (structs_in decls)
+    ap (map {A = StructTree} (λ tree. tree.name)) (filter_map-append struct_in before decls) ∙ map-append {A = StructTree} (λ tree. tree.name) (structs_in before) (structs_in decls)
 
 known_front : (some more : List Text) (b : BaseTree) → base_known some b ≡ true → base_known (some ++ more) b ≡ true
 known_front some more base_tree.Int h = refl
@@ -94,7 +88,7 @@ module _ (section : SectionTree) where
   count_is = structs_length (structs_in section.decls)
 
   within_is : (t : Ty) → type_within (length (tags section)) (length (tags section)) t ≡ true → is_small section t ≡ true → variable_fits (structs section) t ≡ true
-  within_is t h small = both _ _ (subst (λ n. type_within n n t ≡ true) (sym count_is) h) small
+  within_is t h small = and_from _ _ (subst (λ n. type_within n n t ≡ true) (sym count_is) h) small
 
   pub tree_fits : (t : TypeTree) → is_sized t ≡ true → base_known (tags section) t.base ≡ true → is_small section (type_of (tags section) t) ≡ true → variable_fits (structs section) (type_of (tags section) t) ≡ true
   tree_fits t sized known small =
@@ -140,7 +134,7 @@ module _ (section : SectionTree) where
     no_array (suc stars) b = refl
 
     pub passed : (t : TypeName) → base_known (tags section) t.base ≡ true → passed_fits (structs section) (type_of_name (tags section) t) ≡ true
-    passed t known = both _ _ (ap not (no_array t.stars (base_of (tags section) t.base))) (named_fits t known)
+    passed t known = and_from _ _ (ap not (no_array t.stars (base_of (tags section) t.base))) (named_fits t known)
 
     pub result_passed : (result : Option TypeName) → result_known (tags section) result ≡ true → result_fits (structs section) (option_map (type_of_name (tags section)) result) ≡ true
     result_passed None known = refl
@@ -148,7 +142,7 @@ module _ (section : SectionTree) where
 
     pub params_passed : (params : List FunctionParam) → list_all {X = ParamTree} (λ param. base_known (tags section) param.ty.base) (map param_of params) ≡ true → list_all {X = TypedParam} (λ p. passed_fits (structs section) p.ty) (map (typed_param (tags section)) params) ≡ true
     params_passed [] known = refl
-    params_passed (p ∷ params) known = both _ _ (passed p.ty (left _ _ known)) (params_passed params (right (base_known (tags section) p.ty.base) _ known))
+    params_passed (p ∷ params) known = and_from _ _ (passed p.ty (and_first _ _ known)) (params_passed params (and_rest (base_known (tags section) p.ty.base) _ known))
 
   -- Globals.
 
@@ -186,7 +180,7 @@ module _ (section : SectionTree) where
 
   pub global_is : (tree : GlobalTree) → base_known (tags section) tree.ty.base ≡ true → (is_sized tree.ty && init_holds (type_of (tags section) tree.ty) tree.init) ≡ true → is_small section (type_of (tags section) tree.ty) ≡ true → global_fits (structs section) (typed_global (tags section) tree) ≡ true
   global_is tree known holds small =
-      both _ _ (tree_fits tree.ty (left _ _ holds) known small) (words_are (type_of (tags section) tree.ty) tree.init (right (is_sized tree.ty) _ holds))
+      and_from _ _ (tree_fits tree.ty (and_first _ _ holds) known small) (words_are (type_of (tags section) tree.ty) tree.init (and_rest (is_sized tree.ty) _ holds))
 
   -- A function's variables.
 
@@ -198,8 +192,8 @@ module _ (section : SectionTree) where
   pub scope_is : (callees : Callees) (tree : FunctionTree) → scope_of (typed_section section callees) (typed_function section callees tree) ≡ scope_in section tree
   scope_is callees tree = λ i. record {
     structs = structs section;
-    globals = map_map {A = GlobalTree} {B = TypedGlobal} (λ g. g.ty) (typed_global (tags section)) (globals_in section.decls) i;
-    params = map_map {A = FunctionParam} {B = TypedParam} (λ p. p.ty) (typed_param (tags section)) tree.head.params i;
+    globals = map_twice {A = GlobalTree} {B = TypedGlobal} (λ g. g.ty) (typed_global (tags section)) (globals_in section.decls) i;
+    params = map_twice {A = FunctionParam} {B = TypedParam} (λ p. p.ty) (typed_param (tags section)) tree.head.params i;
     locals = local_types tree 0 tree.locals i;
   }
 
@@ -209,14 +203,14 @@ module _ (section : SectionTree) where
 
   local_is : (callees : Callees) (tree : FunctionTree) (place : ℕ) (local : LocalTree) → local_holds section callees tree place local ≡ true → base_known (tags section) local.ty.base ≡ true → is_small section (type_of (tags section) local.ty) ≡ true → nat_le (surface.local_height local) 256 ≡ true → local_fits (scope_in section tree) (typed_local section tree place local) ≡ true
   local_is callees tree place local holds known small low =
-      both _ _ (tree_fits local.ty (left _ _ holds) known small) (both _ _ (right (is_sized local.ty) _ holds) (ap (λ n. nat_le n most_height) (init_low tree place (type_of (tags section) local.ty) local.init) ∙ low))
+      and_from _ _ (tree_fits local.ty (and_first _ _ holds) known small) (and_from _ _ (and_rest (is_sized local.ty) _ holds) (ap (λ n. nat_le n most_height) (init_low tree place (type_of (tags section) local.ty) local.init) ∙ low))
 
   locals_are : (callees : Callees) (before decls : List Decl) → before ++ decls ≡ section.decls → (globals own : List Text) (tree : FunctionTree) (place : ℕ) (locals : List LocalTree) → locals_from section callees tree place locals ≡ [] → names.locals_from (struct_names before) globals own locals ≡ [] → concat (map (counts.local_lines section) locals) ≡ [] → nat_le (surface.locals_height locals) 256 ≡ true → list_all (local_fits (scope_in section tree)) (typed_locals section tree place locals) ≡ true
   unfolding typed_locals
   locals_are callees before decls whole globals own tree place [] holds known small low = refl
   locals_are callees before decls whole globals own tree place (local ∷ locals) holds known small low =
       let in_names : names.local_known (struct_names before) globals own local ≡ true = held _ local.line (front_empty _ _ known) in
-      both _ _ (local_is callees tree place local (held _ local.line (front_empty _ _ holds)) (known_whole before decls whole local.ty.base (left _ _ (right (not (is_numbered own local.name)) _ in_names))) (held _ local.line (front_empty _ _ small)) (low_left (surface.local_height local) (surface.locals_height locals) 256 low)) (locals_are callees before decls whole globals (own ++ local.name ∷ []) tree (suc place) locals (back_empty (unless (local_holds section callees tree place local) local.line) _ holds) (back_empty (unless (names.local_known (struct_names before) globals own local) local.line) _ known) (back_empty (counts.local_lines section local) _ small) (low_right (surface.local_height local) (surface.locals_height locals) 256 low))
+      and_from _ _ (local_is callees tree place local (held _ local.line (front_empty _ _ holds)) (known_whole before decls whole local.ty.base (and_first _ _ (and_rest (not (is_numbered own local.name)) _ in_names))) (held _ local.line (front_empty _ _ small)) (low_left (surface.local_height local) (surface.locals_height locals) 256 low)) (locals_are callees before decls whole globals (own ++ local.name ∷ []) tree (suc place) locals (back_empty (unless (local_holds section callees tree place local) local.line) _ holds) (back_empty (unless (names.local_known (struct_names before) globals own local) local.line) _ known) (back_empty (counts.local_lines section local) _ small) (low_right (surface.local_height local) (surface.locals_height locals) 256 low))
 
   -- Bodies.
 
@@ -224,12 +218,12 @@ module _ (section : SectionTree) where
     body_is : (before : List Decl) (tree : FunctionTree) (body : List StmtTree) → names.body_lines (known_in (names.declared section before) tree) body ≡ [] → concat (map (stmt_lines (visible_of section tree) callees (scope_in section tree) (result_of section tree)) body) ≡ [] → body_fits (scope_in section tree) callable (result_of section tree) (map (typed_stmt (visible_of section tree) callees (result_of section tree)) body) ≡ true
     body_is before tree [] known holds = refl
     body_is before tree (s ∷ body) known holds =
-        both _ _ (fits (known_in (names.declared section before) tree) (visible_of section tree) callees (scope_in section tree) callable (same before tree) (result_of section tree) s false (front_empty _ _ known) (front_empty _ _ holds)) (body_is before tree body (back_empty (names.stmt_lines (known_in (names.declared section before) tree) s false) _ known) (back_empty (stmt_lines (visible_of section tree) callees (scope_in section tree) (result_of section tree) s) _ holds))
+        and_from _ _ (fits (known_in (names.declared section before) tree) (visible_of section tree) callees (scope_in section tree) callable (same before tree) (result_of section tree) s false (front_empty _ _ known) (front_empty _ _ holds)) (body_is before tree body (back_empty (names.stmt_lines (known_in (names.declared section before) tree) s false) _ known) (back_empty (stmt_lines (visible_of section tree) callees (scope_in section tree) (result_of section tree) s) _ holds))
 
     body_low : (tree : FunctionTree) (body : List StmtTree) → nat_le (surface.stmts_height body) 256 ≡ true → list_all {X = TypedStmt} (λ s. nat_le (stmt_height s) most_height) (map (typed_stmt (visible_of section tree) callees (result_of section tree)) body) ≡ true
     body_low tree [] low = refl
     body_low tree (s ∷ body) low =
-        both _ _ (ap (λ n. nat_le n most_height) (heights.stmt_is (visible_of section tree) callees (result_of section tree) s) ∙ low_left (surface.stmt_height s) (surface.stmts_height body) 256 low) (body_low tree body (low_right (surface.stmt_height s) (surface.stmts_height body) 256 low))
+        and_from _ _ (ap (λ n. nat_le n most_height) (heights.stmt_is (visible_of section tree) callees (result_of section tree) s) ∙ low_left (surface.stmt_height s) (surface.stmts_height body) 256 low) (body_low tree body (low_right (surface.stmt_height s) (surface.stmts_height body) 256 low))
 
     result_whole : (before decls : List Decl) → before ++ decls ≡ section.decls → (result : Option TypeName) → result_known (struct_names before) result ≡ true → result_known (tags section) result ≡ true
     result_whole before decls whole None h = refl
@@ -238,14 +232,14 @@ module _ (section : SectionTree) where
     params_whole : (before decls : List Decl) → before ++ decls ≡ section.decls → (params : List ParamTree) → list_all {X = ParamTree} (λ param. base_known (struct_names before) param.ty.base) params ≡ true → list_all {X = ParamTree} (λ param. base_known (tags section) param.ty.base) params ≡ true
     params_whole before decls whole [] h = refl
     params_whole before decls whole (p ∷ params) h =
-        both _ _ (known_whole before decls whole p.ty.base (left _ _ h)) (params_whole before decls whole params (right (base_known (struct_names before) p.ty.base) _ h))
+        and_from _ _ (known_whole before decls whole p.ty.base (and_first _ _ h)) (params_whole before decls whole params (and_rest (base_known (struct_names before) p.ty.base) _ h))
 
     function_is : (before decls : List Decl) → before ++ decls ≡ section.decls → AllSmall (structs section) 0 (structs_in section.decls) → (tree : FunctionTree) → names.function_lines (names.declared section before) tree ≡ [] → function_lines section callees tree ≡ [] → counts.function_lines section tree ≡ [] → counts.head_lines section (head_of tree.head) ≡ [] → nat_le (surface.function_height tree) 256 ≡ true → function_fits callable (typed_section section callees) (typed_function section callees tree) ≡ true
     function_is before decls whole small tree in_names holds sizes count low =
         let head : names.head_of_known (names.declared section before) tree ≡ true = held _ tree.head.line (front_empty _ _ in_names) in
         let behind_head : names.locals_from (struct_names before) (global_names before) (param_names tree) tree.locals ++ names.body_lines (known_in (names.declared section before) tree) tree.body ≡ [] = back_empty (unless (names.head_of_known (names.declared section before) tree) tree.head.line) _ in_names in
-        let tags_known : head_known (struct_names before) (head_of tree.head) ≡ true = left _ _ (right (not (is_numbered (function_names before) tree.head.name)) _ (right (not (is_numbered (global_names before) tree.head.name)) _ head)) in
-        both _ _ (ap (λ n. nat_le n most_params) (map_length (typed_param (tags section)) tree.head.params ∙ sym (map_length param_of tree.head.params)) ∙ held _ tree.head.line count) (both _ _ (params_passed small tree.head.params (params_whole before decls whole (map param_of tree.head.params) (right (result_known (struct_names before) tree.head.result) _ tags_known))) (both _ _ (result_passed small tree.head.result (result_whole before decls whole tree.head.result (left _ _ tags_known))) (both _ _ (subst (λ scope. list_all (local_fits scope) (typed_locals section tree 0 tree.locals) ≡ true) (sym (scope_is callees tree)) (locals_are callees before decls whole (global_names before) (param_names tree) tree 0 tree.locals (front_empty _ _ holds) (front_empty _ _ behind_head) (back_empty (unless (list_all (counts.param_small section) tree.head.params) tree.head.line) _ sizes) (low_left (surface.locals_height tree.locals) (surface.stmts_height tree.body) 256 low))) (both _ _ (subst (λ scope. body_fits scope callable (result_of section tree) (map (typed_stmt (visible_of section tree) callees (result_of section tree)) tree.body) ≡ true) (sym (scope_is callees tree)) (body_is before tree tree.body (back_empty (names.locals_from (struct_names before) (global_names before) (param_names tree) tree.locals) _ behind_head) (back_empty (locals_from section callees tree 0 tree.locals) _ holds))) (body_low tree tree.body (low_right (surface.locals_height tree.locals) (surface.stmts_height tree.body) 256 low))))))
+        let tags_known : head_known (struct_names before) (head_of tree.head) ≡ true = and_first _ _ (and_rest (not (is_numbered (function_names before) tree.head.name)) _ (and_rest (not (is_numbered (global_names before) tree.head.name)) _ head)) in
+        and_from _ _ (ap (λ n. nat_le n most_params) (map_length (typed_param (tags section)) tree.head.params ∙ sym (map_length param_of tree.head.params)) ∙ held _ tree.head.line count) (and_from _ _ (params_passed small tree.head.params (params_whole before decls whole (map param_of tree.head.params) (and_rest (result_known (struct_names before) tree.head.result) _ tags_known))) (and_from _ _ (result_passed small tree.head.result (result_whole before decls whole tree.head.result (and_first _ _ tags_known))) (and_from _ _ (subst (λ scope. list_all (local_fits scope) (typed_locals section tree 0 tree.locals) ≡ true) (sym (scope_is callees tree)) (locals_are callees before decls whole (global_names before) (param_names tree) tree 0 tree.locals (front_empty _ _ holds) (front_empty _ _ behind_head) (back_empty (unless (list_all (counts.param_small section) tree.head.params) tree.head.line) _ sizes) (low_left (surface.locals_height tree.locals) (surface.stmts_height tree.body) 256 low))) (and_from _ _ (subst (λ scope. body_fits scope callable (result_of section tree) (map (typed_stmt (visible_of section tree) callees (result_of section tree)) tree.body) ≡ true) (sym (scope_is callees tree)) (body_is before tree tree.body (back_empty (names.locals_from (struct_names before) (global_names before) (param_names tree) tree.locals) _ behind_head) (back_empty (locals_from section callees tree 0 tree.locals) _ holds))) (body_low tree tree.body (low_right (surface.locals_height tree.locals) (surface.stmts_height tree.body) 256 low))))))
 
     -- All declarations, those before one after another.
 
@@ -261,7 +255,7 @@ module _ (section : SectionTree) where
     functions_are small before (Proto head ∷ decls) whole in_names holds heads sizes low =
         functions_are small (before ++ Proto head ∷ []) decls (next_whole before (Proto head) decls whole) (back_empty (names.decl_lines (names.declared section before) (Proto head)) _ in_names) (back_empty (decl_lines section callees (Proto head)) _ holds) (back_empty (counts.head_lines section head) _ heads) sizes (low_right 0 (surface.decls_height decls) 256 low)
     functions_are small before (Function tree ∷ decls) whole in_names holds heads sizes low =
-        both _ _ (function_is before (Function tree ∷ decls) whole small tree (front_empty _ _ in_names) (front_empty _ _ holds) (front_empty _ _ sizes) (front_empty _ _ heads) (low_left (surface.function_height tree) (surface.decls_height decls) 256 low)) (functions_are small (before ++ Function tree ∷ []) decls (next_whole before (Function tree) decls whole) (back_empty (names.decl_lines (names.declared section before) (Function tree)) _ in_names) (back_empty (decl_lines section callees (Function tree)) _ holds) (back_empty (counts.head_lines section (head_of tree.head)) _ heads) (back_empty (counts.function_lines section tree) _ sizes) (low_right (surface.function_height tree) (surface.decls_height decls) 256 low))
+        and_from _ _ (function_is before (Function tree ∷ decls) whole small tree (front_empty _ _ in_names) (front_empty _ _ holds) (front_empty _ _ sizes) (front_empty _ _ heads) (low_left (surface.function_height tree) (surface.decls_height decls) 256 low)) (functions_are small (before ++ Function tree ∷ []) decls (next_whole before (Function tree) decls whole) (back_empty (names.decl_lines (names.declared section before) (Function tree)) _ in_names) (back_empty (decl_lines section callees (Function tree)) _ holds) (back_empty (counts.head_lines section (head_of tree.head)) _ heads) (back_empty (counts.function_lines section tree) _ sizes) (low_right (surface.function_height tree) (surface.decls_height decls) 256 low))
 
   module _ (callees : Callees) where
     pub globals_are : (before decls : List Decl) → before ++ decls ≡ section.decls → names.lines_from section before decls ≡ [] → concat (map (decl_lines section callees) decls) ≡ [] → concat (map (counts.global_lines section) (globals_in decls)) ≡ [] → list_all (global_fits (structs section)) (map (typed_global (tags section)) (globals_in decls)) ≡ true
@@ -270,8 +264,8 @@ module _ (section : SectionTree) where
         globals_are (before ++ Struct tree ∷ []) decls (append_assoc before (Struct tree ∷ []) decls ∙ whole) (back_empty (names.decl_lines (names.declared section before) (Struct tree)) _ in_names) (back_empty (decl_lines section callees (Struct tree)) _ holds) sizes
     globals_are before (Global tree ∷ decls) whole in_names holds sizes =
         let known : names.global_known (names.declared section before) tree ≡ true = held _ tree.line (front_empty _ _ in_names) in
-        let tag : base_known (struct_names before) tree.ty.base ≡ true = right (not (is_numbered (import_names section) tree.name)) _ (right (not (is_numbered (proto_names before) tree.name)) _ (right (not (is_numbered (function_names before) tree.name)) _ (right (not (is_numbered (global_names before) tree.name)) _ known))) in
-        both _ _ (global_is tree (known_whole before (Global tree ∷ decls) whole tree.ty.base tag) (held _ tree.line (front_empty _ _ holds)) (held _ tree.line (front_empty _ _ sizes))) (globals_are (before ++ Global tree ∷ []) decls (append_assoc before (Global tree ∷ []) decls ∙ whole) (back_empty (names.decl_lines (names.declared section before) (Global tree)) _ in_names) (back_empty (decl_lines section callees (Global tree)) _ holds) (back_empty (counts.global_lines section tree) _ sizes))
+        let tag : base_known (struct_names before) tree.ty.base ≡ true = and_rest (not (is_numbered (import_names section) tree.name)) _ (and_rest (not (is_numbered (proto_names before) tree.name)) _ (and_rest (not (is_numbered (function_names before) tree.name)) _ (and_rest (not (is_numbered (global_names before) tree.name)) _ known))) in
+        and_from _ _ (global_is tree (known_whole before (Global tree ∷ decls) whole tree.ty.base tag) (held _ tree.line (front_empty _ _ holds)) (held _ tree.line (front_empty _ _ sizes))) (globals_are (before ++ Global tree ∷ []) decls (append_assoc before (Global tree ∷ []) decls ∙ whole) (back_empty (names.decl_lines (names.declared section before) (Global tree)) _ in_names) (back_empty (decl_lines section callees (Global tree)) _ holds) (back_empty (counts.global_lines section tree) _ sizes))
     globals_are before (Proto head ∷ decls) whole in_names holds sizes =
         globals_are (before ++ Proto head ∷ []) decls (append_assoc before (Proto head ∷ []) decls ∙ whole) (back_empty (names.decl_lines (names.declared section before) (Proto head)) _ in_names) (back_empty (decl_lines section callees (Proto head)) _ holds) sizes
     globals_are before (Function tree ∷ decls) whole in_names holds sizes =
@@ -281,7 +275,7 @@ module _ (section : SectionTree) where
     struct_is before tree in_names holds =
         let known : names.struct_known (names.declared section before) tree ≡ true = held _ tree.line in_names in
         let shape : (nat_le 1 (length tree.members) && list_all {X = MemberTree} (λ member. is_sized member.ty) tree.members) ≡ true = held _ tree.line holds in
-        record { new = not_true _ (left _ _ known); members = right (are_distinct (map {A = MemberTree} (λ member. member.name) tree.members)) _ (right (not (is_numbered (struct_names before) tree.name)) _ known); sized = right (nat_le 1 (length tree.members)) _ shape; some = left _ _ shape }
+        record { new = not_true _ (and_first _ _ known); members = and_rest (are_distinct (map {A = MemberTree} (λ member. member.name) tree.members)) _ (and_rest (not (is_numbered (struct_names before) tree.name)) _ known); sized = and_rest (nat_le 1 (length tree.members)) _ shape; some = and_first _ _ shape }
 
     same_names : (before : List Decl) (decl : Decl) → struct_names (decl ∷ []) ≡ [] → struct_names (before ++ decl ∷ []) ≡ struct_names before
     same_names before decl h =

@@ -14,8 +14,10 @@ use Rattle.sc_ast.specs.Heads.{head_of}
 use Rattle.sc_scope.specs.Declarations.{heads_in, functions_in, function_names, proto_names}
 use Rattle.sc_scope.specs.Interfaces.{function_named}
 use Rattle.sc_elab.specs.Sections.{head_named}
-use Rattle.sc_types.proofs.Basics.{Each, left, right, some_is, none_some, find}
-use Rattle.sc_types.proofs.Places.{Text, same_is, number_is}
+use Rattle.sc_types.proofs.Basics.{Each, some_is, none_some, find}
+use Rattle.sc_types.proofs.Places.{Text, number_is}
+use Rattle.sc_base.proofs.Texts.{same_text}
+use Rattle.sc_base.proofs.Bools.{and_first, and_rest}
 
 pub each_at : {A : Type 0} (P : A → Type 0) (xs : List A) (i : ℕ) (x : A) → Each P xs → slice_get xs i ≡ Some x → P x
 each_at P [] i x h got = none_some x got
@@ -26,11 +28,11 @@ each_at P (y ∷ xs) (suc i) x h got = each_at P xs i x h.1 got
 pub same_sym : (a b : Text) → bytes_eq a b ≡ bytes_eq b a
 same_sym a b = by_cases (bytes_eq a b) refl where
   by_cases : (c : Bool) → bytes_eq a b ≡ c → c ≡ bytes_eq b a
-  by_cases true q = sym ((bytes_eq-Decides b a).1 (sym (same_is a b q)))
+  by_cases true q = sym ((bytes_eq-Decides b a).1 (sym (same_text a b q)))
   by_cases false q = other (bytes_eq b a) refl where
     other : (d : Bool) → bytes_eq b a ≡ d → false ≡ d
     other false p = refl
-    other true p = absurd (false≢true (sym q ∙ (bytes_eq-Decides a b).1 (sym (same_is b a p))))
+    other true p = absurd (false≢true (sym q ∙ (bytes_eq-Decides a b).1 (sym (same_text b a p))))
 
 -- A function of a name.
 pub record FoundFunction (name : Text) (trees : List FunctionTree) : Type 0 where
@@ -116,9 +118,9 @@ pub heads_of_functions : (p : HeadTree → Bool) (decls : List Decl) → list_al
 heads_of_functions p [] h = tt
 heads_of_functions p (Struct tree ∷ decls) h = heads_of_functions p decls h
 heads_of_functions p (Global tree ∷ decls) h = heads_of_functions p decls h
-heads_of_functions p (Proto head ∷ decls) h = heads_of_functions p decls (right (p head) _ h)
+heads_of_functions p (Proto head ∷ decls) h = heads_of_functions p decls (and_rest (p head) _ h)
 heads_of_functions p (Function tree ∷ decls) h =
-    (left (p (head_of tree.head)) _ h, heads_of_functions p decls (right (p (head_of tree.head)) _ h))
+    (and_first (p (head_of tree.head)) _ h, heads_of_functions p decls (and_rest (p (head_of tree.head)) _ h))
 
 -- the first head of a name that no function has, which is a prototype's
 pub record FoundHead (P : Decl → Type 0) (name : Text) (decls : List Decl) : Type 0 where

@@ -20,21 +20,7 @@ use Rattle.sc_scope.proofs.Noting.{with_lines-nil, with_lines-append}
 use Rattle.sc_types.specs.Counts.{function_lines, global_lines, head_lines, is_small, line_beyond, line_of_some, local_lines, param_small, structs_from, type_in}
 use Rattle.sc_base.proofs.Lists.{drop-step}
 use Rattle.sc_types.proofs.Measures.{no-struct}
-
--- no lines leave all as it is
-pub nothing : (old : BrokenLines) (xs : List ℕ) → xs ≡ [] → old ≡ with_lines old xs
-nothing old xs e = sym (with_lines-nil old) ∙ ap (with_lines old) (sym e)
-
--- some lines, and then others
-pub then : (old a b : BrokenLines) (xs ys : List ℕ) → a ≡ with_lines old xs → b ≡ with_lines a ys → b ≡ with_lines old (xs ++ ys)
-then old a b xs ys p q = q ∙ (ap (λ x. with_lines x ys) p ∙ sym (with_lines-append old xs ys))
-
--- the lines noted and those of what is left are those of all, also after one step more
-step : (old a b : BrokenLines) (xs ys all : List ℕ) → with_lines a (xs ++ ys) ≡ with_lines old all → b ≡ with_lines a xs → with_lines b ys ≡ with_lines old all
-step old a b xs ys all p q = ap (λ x. with_lines x ys) q ∙ (sym (with_lines-append a xs ys) ∙ p)
-
-done : (old a : BrokenLines) (xs all : List ℕ) → with_lines a xs ≡ with_lines old all → xs ≡ [] → a ≡ with_lines old all
-done old a xs all p e = nothing a xs e ∙ p
+use Rattle.sc_scope.proofs.Lines.{nothing, then, step, done}
 
 concat-append : (xs ys : List (List ℕ)) → concat (xs ++ ys) ≡ concat xs ++ concat ys
 concat-append [] ys = refl

@@ -13,8 +13,9 @@ use Rattle.sc_elab.specs.Statements.{Callees}
 use Rattle.sc_elab.specs.Sections.{callees_of}
 use Rattle.sc_types.specs.Counts.{counts_broken, function_lines, global_lines, head_lines, line_beyond, line_of_some, lines_from, section_lines, structs_from}
 use Rattle.sc_types.specs.TreeNodes.{decls_nodes}
-use Rattle.sc_types.proofs.Noted.{then}
+use Rattle.sc_scope.proofs.Lines.{then}
 use Rattle.sc_types.proofs.TypedNodes.{section-nodes}
+use Rattle.sc_scope.proofs.Noting.{noted_all-append}
 
 pub section-noted : (section : SectionTree) (callees : Callees) (sizes : SectionTree) (short : Bool) (old a b c d e f g : BrokenLines) → sizes ≡ section → short ≡ (nat_le (decls_nodes section.decls) most_nodes && nat_le (length section.decls) most_nodes) → a ≡ with_lines old (unless short 1) → b ≡ with_lines a (line_beyond {A = ExportLine} (λ line. line.line) most_exports section.exports) → c ≡ with_lines b (line_beyond {A = ImportLine} (λ line. line.line) most_exports section.imports) → d ≡ with_lines c (structs_from sizes 0 (structs_in section.decls)) → e ≡ with_lines d (concat (map (global_lines sizes) (globals_in section.decls))) → f ≡ with_lines e (concat (map (head_lines sizes) (heads_in section.decls))) → g ≡ with_lines f (concat (map (function_lines sizes) (functions_in section.decls))) → g ≡ with_lines old (section_lines section callees)
 section-noted section callees sizes short old a b c d e f g s h p q r t u v w =
@@ -27,11 +28,6 @@ section-noted section callees sizes short old a b c d e f g s h p q r t u v w =
     (w ∙ ap (λ x. with_lines f (concat (map (function_lines x) (functions_in section.decls)))) s))))))
 
 -- The sections.
-
-noted-append : (least : Option ℕ) (xs ys : List ℕ) → noted_all least (xs ++ ys) ≡ noted_all (noted_all least xs) ys
-unfolding noted_all
-noted-append least [] ys = refl
-noted-append least (x ∷ xs) ys = noted-append (noted least x) xs ys
 
 noted-none : (least : Option ℕ) → noted_all least [] ≡ least
 unfolding noted_all
@@ -54,13 +50,13 @@ some-refused sections section line n l =
 
 pub counts-begun : (sections : List SectionTree) (least : Option ℕ) → least ≡ refused_at (beyond sections) → noted_all least (lines_from sections 0 sections) ≡ refused_at (counts_broken sections)
 counts-begun sections least h =
-    ap (λ l. noted_all l (lines_from sections 0 sections)) h ∙ sym (noted-append None (beyond sections) (lines_from sections 0 sections))
+    ap (λ l. noted_all l (lines_from sections 0 sections)) h ∙ sym (noted_all-append None (beyond sections) (lines_from sections 0 sections))
 
 pub count-noted : (sections : List SectionTree) (i : ℕ) (section : SectionTree) (least : Option ℕ) (lines : BrokenLines) (all : Option ℕ) → i < length sections → section ≡ get_or sections i section → noted_all least (lines_from sections i (drop i sections)) ≡ all → lines ≡ with_lines (record { start = section.line; least = least }) (section_lines section (callees_of sections i section)) → noted_all lines.least (lines_from sections (i + 1) (drop (i + 1) sections)) ≡ all
 count-noted sections i section least lines all lt is p q =
     rw add-one
     (ap (λ l. noted_all l.least (lines_from sections (suc i) (drop (suc i) sections))) q
-    ∙ (sym (noted-append least (map (line_of_text section.line) (section_lines section (callees_of sections i section))) (lines_from sections (suc i) (drop (suc i) sections)))
+    ∙ (sym (noted_all-append least (map (line_of_text section.line) (section_lines section (callees_of sections i section))) (lines_from sections (suc i) (drop (suc i) sections)))
     ∙ (ap (λ rest. noted_all least (lines_from sections i rest)) (sym (drop-cons sections i section lt ∙ ap (λ s. s ∷ drop (suc i) sections) (sym is))) ∙ p)))
 
 pub counts-noted : (sections : List SectionTree) (i : ℕ) (least : Option ℕ) (all : Option ℕ) → length sections ≤ i → noted_all least (lines_from sections i (drop i sections)) ≡ all → least ≡ all

@@ -16,9 +16,6 @@ Text = List ℕ
 pub same_refl : (name : Text) → bytes_eq name name ≡ true
 same_refl name = (bytes_eq-Decides name name).1 refl
 
-pub same_is : (a b : Text) → bytes_eq a b ≡ true → a ≡ b
-same_is a b h = (bytes_eq-Decides a b).0 h
-
 pub eq_refl : (n : ℕ) → (n == n) ≡ true
 eq_refl n = (Decides-eqb n n).1 refl
 

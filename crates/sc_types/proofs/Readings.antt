@@ -23,17 +23,18 @@ use Rattle.sc_elab.specs.Sections.{types_broken, program_of}
 use Rattle.sc_interfaces.specs.Faces.{interface_broken}
 use Rattle.sc_types.specs.Counts.{counts_broken}
 use Rattle.sc_types.specs.Acceptance.{AreLow, IsTyped, FailsRules, Accepts, Fails}
-use Rattle.sc_types.proofs.Basics.{both, Each}
+use Rattle.sc_types.proofs.Basics.{Each}
 use Rattle.sc_types.proofs.Functions.{map_length}
 use Rattle.sc_types.proofs.Places.{at_most}
 use Rattle.sc_types.proofs.Refusals.{no_line}
+use Rattle.std.proofs.lemmas.Bool.{and_from}
 
 low_from : (text : List ℕ) (parts : List Part) (trees : List SectionTree) → AllZip (IsRead text) parts trees → list_all {X = SectionTree} (λ tree. nat_le (section_height tree) 256) trees ≡ true
 low_from text [] [] h = refl
 low_from text [] (tree ∷ trees) h = absurd h
 low_from text (part ∷ parts) [] h = absurd h
 low_from text (part ∷ parts) (tree ∷ trees) h =
-    both (nat_le (section_height tree) 256) _ (at_most (section_height tree) 256 h.0.parsed.low) (low_from text parts trees h.1)
+    and_from (nat_le (section_height tree) 256) _ (at_most (section_height tree) 256 h.0.parsed.low) (low_from text parts trees h.1)
 
 -- no tree of a text is high
 pub reads_low : (text : List ℕ) (trees : List SectionTree) → Reads text trees → AreLow trees

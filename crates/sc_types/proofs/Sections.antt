@@ -3,9 +3,9 @@ use Rattle.std.proofs.Common.{◌≡◌, refl, sym, ap, ◌∙◌, ℕ, zero, su
 use Rattle.std.specs.Prelude.{slice_get, bytes_eq, nat_le}
 use Rattle.std.specs.List.{list_any, list_all}
 use Rattle.std.specs.Option.{option_map}
-use Rattle.std.proofs.lemmas.List.{append-nil}
+use Rattle.std.proofs.lemmas.List.{append-nil, map-append}
 use Rattle.std.proofs.lemmas.List.Elements.{filter_map-append}
-use Rattle.std.proofs.lemmas.Bool.{false≢true}
+use Rattle.std.proofs.lemmas.Bool.{false≢true, and_from}
 use Rattle.std.proofs.lemmas.Bool.Decides.{Decides-eqb}
 use Rattle.sc_base.specs.Numbering.{is_numbered}
 use Rattle.sc_event.specs.Lookup.{export_at}
@@ -43,12 +43,15 @@ use Rattle.sc_elab.specs.Sections.{callees_of, signature_by, tags, structs, type
 use Rattle.sc_interfaces.specs.Faces.{head_fits, head_crosses, agree, same_type, input_name, output_name, is_offered}
 use Rattle.sc_interfaces.specs.Faces as faces
 use Rattle.sc_types.specs.Counts as counts
-use Rattle.sc_types.proofs.Basics.{both, left, right, not_true, held, front_empty, back_empty, Each, none_some, some_item}
-use Rattle.sc_types.proofs.Places.{Text, same_refl, same_is, eq_refl, at_most}
+use Rattle.sc_types.proofs.Basics.{not_true, held, front_empty, back_empty, Each, none_some, some_item}
+use Rattle.sc_types.proofs.Places.{Text, same_refl, eq_refl, at_most}
 use Rattle.sc_types.proofs.Lookups.{each_at, each_function, FoundFunction, find_function}
 use Rattle.sc_types.proofs.Facts.{Fresh, fresh_distinct, ExportFacts, ImportFacts, DeclFacts, FaceFacts}
 use Rattle.sc_types.proofs.Calls.{agreed_signature, FoundBy, found_by, get_map, any_at, own_signature, Offering, find_offering, export_is}
-use Rattle.sc_types.proofs.Functions.{map_map, map_append, map_length}
+use Rattle.sc_types.proofs.Functions.{map_length}
+use Rattle.sc_base.proofs.Lists.{get_behind, map_twice}
+use Rattle.sc_base.proofs.Texts.{same_text}
+use Rattle.sc_base.proofs.Bools.{and_first, and_rest}
 
 -- Signatures are the same as themselves.
 
@@ -61,19 +64,19 @@ ty_refl : (t : Ty) → same_ty t t ≡ true
 ty_refl ty.Int = refl
 ty_refl ty.Unsigned = refl
 ty_refl (ty.Struct n) = eq_refl n
-ty_refl (ty.Pointer stars b) = both (stars == stars) (same_base b b) (eq_refl stars) (base_refl b)
-ty_refl (ty.Array stars b count) = both (stars == stars) _ (eq_refl stars) (both _ _ (base_refl b) (eq_refl count))
+ty_refl (ty.Pointer stars b) = and_from (stars == stars) (same_base b b) (eq_refl stars) (base_refl b)
+ty_refl (ty.Array stars b count) = and_from (stars == stars) _ (eq_refl stars) (and_from _ _ (base_refl b) (eq_refl count))
 
 types_refl : (types : List Ty) → same_types types types ≡ true
 types_refl [] = refl
-types_refl (t ∷ types) = both _ _ (ty_refl t) (types_refl types)
+types_refl (t ∷ types) = and_from _ _ (ty_refl t) (types_refl types)
 
 result_refl : (result : Option Ty) → same_results result result ≡ true
 result_refl None = refl
 result_refl (Some t) = ty_refl t
 
 pub signature_refl : (s : Signature) → same_signature s s ≡ true
-signature_refl s = both _ _ (types_refl s.params) (result_refl s.result)
+signature_refl s = and_from _ _ (types_refl s.params) (result_refl s.result)
 
 -- Heads agree with themselves.
 
@@ -83,25 +86,21 @@ base_agrees tree_base.Unsigned = refl
 base_agrees (tree_base.Struct tag) = same_refl tag
 
 type_agrees : (t : TypeName) → same_type t t ≡ true
-type_agrees t = both _ _ ((Decides-eqb t.stars t.stars).1 refl) (base_agrees t.base)
+type_agrees t = and_from _ _ ((Decides-eqb t.stars t.stars).1 refl) (base_agrees t.base)
 
 params_agree : (params : List ParamTree) → faces.same_params params params ≡ true
 params_agree [] = refl
-params_agree (p ∷ params) = both _ _ (type_agrees p.ty) (params_agree params)
+params_agree (p ∷ params) = and_from _ _ (type_agrees p.ty) (params_agree params)
 
 result_agrees : (result : Option TypeName) → faces.same_result result result ≡ true
 result_agrees None = refl
 result_agrees (Some t) = type_agrees t
 
 agrees : (head : HeadTree) → agree head head ≡ true
-agrees head = both _ _ (result_agrees head.result) (params_agree head.params)
+agrees head = and_from _ _ (result_agrees head.result) (params_agree head.params)
 
 types_same : (sections : List SectionTree) (number : ℕ) (section : SectionTree) → elab.section_lines section (callees_of sections 0 section) ≡ elab.section_lines section (callees_of sections number section)
 types_same sections number section = refl
-
-get_at_end : {A : Type 0} (xs : List A) (y : A) (ys : List A) → slice_get (xs ++ y ∷ ys) (length xs) ≡ Some y
-get_at_end [] y ys = refl
-get_at_end (x ∷ xs) y ys = get_at_end xs y ys
 
 within : {A : Type 0} (xs : List A) (n : ℕ) → slice_get xs n ≡ None → length xs ≤ n
 within [] n h = omega arith
@@ -130,13 +129,13 @@ not_in_append name (x ∷ xs) ys h k =
 both_distinct : (xs ys : List Text) → decls.are_distinct xs ≡ true → Each (λ x. is_numbered ys x ≡ false) xs → decls.are_distinct ys ≡ true → decls.are_distinct (xs ++ ys) ≡ true
 both_distinct [] ys h none k = k
 both_distinct (x ∷ xs) ys h none k =
-    both _ _ (ap not (not_in_append x xs ys (not_true _ (left _ _ h)) none.0)) (both_distinct xs ys (right (not (is_numbered xs x)) _ h) none.1 k)
+    and_from _ _ (ap not (not_in_append x xs ys (not_true _ (and_first _ _ h)) none.0)) (both_distinct xs ys (and_rest (not (is_numbered xs x)) _ h) none.1 k)
 
 -- Functions are distinct.
 
 names_append : (before more : List Decl) → function_names (before ++ more) ≡ function_names before ++ function_names more
 names_append before more =
-    ap (map {A = FunctionTree} (λ tree. tree.head.name)) (filter_map-append decls.function_in before more) ∙ map_append {A = FunctionTree} (λ tree. tree.head.name) (functions_in before) (functions_in more)
+    ap (map {A = FunctionTree} (λ tree. tree.head.name)) (filter_map-append decls.function_in before more) ∙ map-append {A = FunctionTree} (λ tree. tree.head.name) (functions_in before) (functions_in more)
 
 names_same : (before : List Decl) (decl : Decl) → function_names (decl ∷ []) ≡ [] → function_names (before ++ decl ∷ []) ≡ function_names before
 names_same before decl h =
@@ -152,7 +151,7 @@ functions_fresh section before (Proto head ∷ rest) h =
     subst (λ all. Fresh all (function_names rest)) (names_same before (Proto head) refl) (functions_fresh section (before ++ Proto head ∷ []) rest (back_empty (names.decl_lines (names.declared section before) (Proto head)) _ h))
 functions_fresh section before (Function tree ∷ rest) h =
     let known : names.head_of_known (names.declared section before) tree ≡ true = held _ tree.head.line (front_empty _ _ (front_empty _ _ h)) in
-    (not_true _ (left _ _ (right (not (is_numbered (decls.global_names before) tree.head.name)) _ known)), subst (λ all. Fresh all (function_names rest)) (names_append before (Function tree ∷ [])) (functions_fresh section (before ++ Function tree ∷ []) rest (back_empty (names.decl_lines (names.declared section before) (Function tree)) _ h)))
+    (not_true _ (and_first _ _ (and_rest (not (is_numbered (decls.global_names before) tree.head.name)) _ known)), subst (λ all. Fresh all (function_names rest)) (names_append before (Function tree ∷ [])) (functions_fresh section (before ++ Function tree ∷ []) rest (back_empty (names.decl_lines (names.declared section before) (Function tree)) _ h)))
 
 module _ (sections : List SectionTree) (hold : (j : ℕ) (s : SectionTree) → slice_get sections j ≡ Some s → FaceFacts sections j s) (number : ℕ) (section : SectionTree) (there : slice_get sections number ≡ Some section) where
   abbrev callees : Callees
@@ -175,16 +174,16 @@ module _ (sections : List SectionTree) (hold : (j : ℕ) (s : SectionTree) → s
 
   other_name : (line : ImportLine) → Offering number line sections → import_name (interfaces_of sections) (offered line (offering number line 0 sections)) ≡ line.name
   other_name line o =
-      let export : FoundBy {A = ExportLine} (λ line. line.name) line.name o.section.exports = found_by {A = ExportLine} (λ line. line.name) line.name o.section.exports (right (not (o.number == number)) _ (right (bytes_eq o.section.name line.comp) _ o.offers)) in
+      let export : FoundBy {A = ExportLine} (λ line. line.name) line.name o.section.exports = found_by {A = ExportLine} (λ line. line.name) line.name o.section.exports (and_rest (not (o.number == number)) _ (and_rest (bytes_eq o.section.name line.comp) _ o.offers)) in
       ap (λ found. import_name (interfaces_of sections) (offered line found)) o.is
       ∙ ap (λ index. export_name (export_at (interfaces_of sections) o.number (number_or_zero index))) export.place
       ∙ ap export_name (export_is sections o.number o.section export.at export.item o.got export.got)
       ∙ promised_name export.item.name (function_named export.item.name (functions_in o.section.decls))
-      ∙ sym (same_is line.name export.item.name export.named)
+      ∙ sym (same_text line.name export.item.name export.named)
 
   name_by : (line : ImportLine) (env input output : Bool) → bytes_eq line.name input_name ≡ input → bytes_eq line.name output_name ≡ output → (if env then input || output else is_some (offering number line 0 sections)) ≡ true → import_name (interfaces_of sections) (if env then (if input then import.Input else import.Output) else offered line (offering number line 0 sections)) ≡ line.name
-  name_by line true true output i o h = sym (same_is line.name input_name i)
-  name_by line true false true i o h = sym (same_is line.name output_name o)
+  name_by line true true output i o h = sym (same_text line.name input_name i)
+  name_by line true false true i o h = sym (same_text line.name output_name o)
   name_by line true false false i o h = absurd (false≢true h)
   name_by line false input output i o h = other_name line (find_offering number line sections h)
 
@@ -201,7 +200,7 @@ module _ (sections : List SectionTree) (hold : (j : ℕ) (s : SectionTree) → s
   not_defined (line ∷ lines) each = (each.0.not_defined, not_defined lines each.1)
 
   functions_named : map {A = TypedFunction} (λ f. f.name) typed.functions ≡ function_names section.decls
-  functions_named = map_map {A = FunctionTree} {B = TypedFunction} (λ f. f.name) (typed_function section callees) (functions_in section.decls)
+  functions_named = map_twice {A = FunctionTree} {B = TypedFunction} (λ f. f.name) (typed_function section callees) (functions_in section.decls)
 
   all_distinct : names.section_lines section ≡ [] → are_distinct (map (import_name (interfaces_of sections)) interface.imports ++ map {A = TypedFunction} (λ f. f.name) typed.functions) ≡ true
   all_distinct in_names =
@@ -252,25 +251,25 @@ module _ (sections : List SectionTree) (hold : (j : ℕ) (s : SectionTree) → s
 
     is_function : list_any {X = TypedFunction} (λ f. bytes_eq f.name (proto_of section line).name && same_signature (signature_of f) (proto_signature (proto_of section line))) typed.functions ≡ true
     is_function =
-        any_at {A = TypedFunction} (λ f. bytes_eq f.name (proto_of section line).name && same_signature (signature_of f) (proto_signature (proto_of section line))) typed.functions g.at (typed_function section callees g.tree) (get_map (typed_function section callees) (functions_in section.decls) g.at ∙ ap (option_map (typed_function section callees)) g.got) (both _ _ (ap (bytes_eq g.tree.head.name) (promised_name line.name (function_named line.name (functions_in section.decls))) ∙ g.named) (ap (λ s. same_signature s (proto_signature (proto_of section line))) signatures ∙ signature_refl (proto_signature (proto_of section line))))
+        any_at {A = TypedFunction} (λ f. bytes_eq f.name (proto_of section line).name && same_signature (signature_of f) (proto_signature (proto_of section line))) typed.functions g.at (typed_function section callees g.tree) (get_map (typed_function section callees) (functions_in section.decls) g.at ∙ ap (option_map (typed_function section callees)) g.got) (and_from _ _ (ap (bytes_eq g.tree.head.name) (promised_name line.name (function_named line.name (functions_in section.decls))) ∙ g.named) (ap (λ s. same_signature s (proto_signature (proto_of section line))) signatures ∙ signature_refl (proto_signature (proto_of section line))))
 
     export_is_function : export_fits typed.functions (proto_of section line) ≡ true
     export_is_function =
-        both _ _ (ap is_plain_name (promised_name line.name (function_named line.name (functions_in section.decls))) ∙ f.plain) (both _ _ (ap not (ap (λ n. bytes_eq n main_name) (promised_name line.name (function_named line.name (functions_in section.decls))) ∙ f.no_main)) is_function)
+        and_from _ _ (ap is_plain_name (promised_name line.name (function_named line.name (functions_in section.decls))) ∙ f.plain) (and_from _ _ (ap not (ap (λ n. bytes_eq n main_name) (promised_name line.name (function_named line.name (functions_in section.decls))) ∙ f.no_main)) is_function)
 
   exports_are : (before lines : List ExportLine) → before ++ lines ≡ section.exports → Each (ExportFacts sections number section) lines → list_all (export_fits typed.functions) (map (proto_of section) lines) ≡ true
   exports_are before [] whole each = refl
   exports_are before (line ∷ lines) whole each =
-      both _ _ (export_is_function (length before) line (ap (λ list. slice_get list (length before)) (sym whole) ∙ get_at_end before line lines) each.0) (exports_are (before ++ line ∷ []) lines (append_assoc before (line ∷ []) lines ∙ whole) each.1)
+      and_from _ _ (export_is_function (length before) line (ap (λ list. slice_get list (length before)) (sym whole) ∙ get_behind before line lines) each.0) (exports_are (before ++ line ∷ []) lines (append_assoc before (line ∷ []) lines ∙ whole) each.1)
 
   -- Imports lead to exports of other sections.
 
   other_fits : (line : ImportLine) → Offering number line sections → import_fits (interfaces_of sections) number (offered line (offering number line 0 sections)) ≡ true
   other_fits line o =
-      let export : FoundBy {A = ExportLine} (λ line. line.name) line.name o.section.exports = found_by {A = ExportLine} (λ line. line.name) line.name o.section.exports (right (not (o.number == number)) _ (right (bytes_eq o.section.name line.comp) _ o.offers)) in
+      let export : FoundBy {A = ExportLine} (λ line. line.name) line.name o.section.exports = found_by {A = ExportLine} (λ line. line.name) line.name o.section.exports (and_rest (not (o.number == number)) _ (and_rest (bytes_eq o.section.name line.comp) _ o.offers)) in
       ap (λ found. import_fits (interfaces_of sections) number (offered line found)) o.is
       ∙ ap (λ index. import_fits (interfaces_of sections) number (import.Function o.number (number_or_zero index))) export.place
-      ∙ both _ _ (left _ _ (right (bytes_eq o.section.name line.comp) _ o.offers)) (ap is_some (export_is sections o.number o.section export.at export.item o.got export.got))
+      ∙ and_from _ _ (and_first _ _ (and_rest (bytes_eq o.section.name line.comp) _ o.offers)) (ap is_some (export_is sections o.number o.section export.at export.item o.got export.got))
 
   fits_by : (line : ImportLine) (env input output : Bool) → (if env then input || output else is_some (offering number line 0 sections)) ≡ true → import_fits (interfaces_of sections) number (if env then (if input then import.Input else import.Output) else offered line (offering number line 0 sections)) ≡ true
   fits_by line true true output h = refl
@@ -280,11 +279,11 @@ module _ (sections : List SectionTree) (hold : (j : ℕ) (s : SectionTree) → s
   imports_are : (lines : List ImportLine) → Each (ImportFacts sections number section) lines → list_all (import_fits (interfaces_of sections) number) (map (import_of sections number) lines) ≡ true
   imports_are [] each = refl
   imports_are (line ∷ lines) each =
-      both _ _ (fits_by line (is_environment line) (bytes_eq line.name input_name) (bytes_eq line.name output_name) each.0.offered) (imports_are lines each.1)
+      and_from _ _ (fits_by line (is_environment line) (bytes_eq line.name input_name) (bytes_eq line.name output_name) each.0.offered) (imports_are lines each.1)
 
   -- Counts.
 
   pub interface_is : names.section_lines section ≡ [] → counts.section_lines section callees ≡ [] → interface_fits (interfaces_of sections) number interface typed ≡ true
   interface_is in_names count =
       let behind : counts.line_beyond {A = ExportLine} (λ line. line.line) most_exports section.exports ++ (counts.line_beyond {A = ImportLine} (λ line. line.line) most_exports section.imports ++ _) ≡ [] = back_empty (unless (nat_le (counts.section_nodes section callees) most_nodes && nat_le (length section.decls) most_nodes) 1) _ count in
-      both _ _ (all_distinct in_names) (both _ _ exports_distinct (both _ _ (exports_are [] section.exports refl facts.exports) (both _ _ (imports_are section.imports facts.imports) (both _ _ (ap (λ n. nat_le n most_exports) (map_length (proto_of section) section.exports) ∙ none_beyond {A = ExportLine} (λ line. line.line) most_exports section.exports (front_empty _ _ behind)) (ap (λ n. nat_le n most_exports) (map_length (import_of sections number) section.imports) ∙ none_beyond {A = ImportLine} (λ line. line.line) most_exports section.imports (front_empty _ _ (back_empty (counts.line_beyond {A = ExportLine} (λ line. line.line) most_exports section.exports) _ behind)))))))
+      and_from _ _ (all_distinct in_names) (and_from _ _ exports_distinct (and_from _ _ (exports_are [] section.exports refl facts.exports) (and_from _ _ (imports_are section.imports facts.imports) (and_from _ _ (ap (λ n. nat_le n most_exports) (map_length (proto_of section) section.exports) ∙ none_beyond {A = ExportLine} (λ line. line.line) most_exports section.exports (front_empty _ _ behind)) (ap (λ n. nat_le n most_exports) (map_length (import_of sections number) section.imports) ∙ none_beyond {A = ImportLine} (λ line. line.line) most_exports section.imports (front_empty _ _ (back_empty (counts.line_beyond {A = ExportLine} (λ line. line.line) most_exports section.exports) _ behind)))))))

@@ -6,7 +6,7 @@ use Rattle.std.proofs.lemmas.List.{take_more, map-append}
 use Rattle.sc_lex.specs.Lines.{line_at}
 use Rattle.sc_lex.specs.Splitting.{AreSections, none, section, IsSplit}
 use Rattle.sc_lex.specs.declared.section.Section.{Section}
-use Rattle.sc_lex.proofs.Splits.{progress_joined}
+use Rattle.sc_lex.proofs.Splits.{progress_joined, sections_rise}
 use Rattle.sc_read.proofs.Splits.{split_good, same_parts}
 use Rattle.sc_read.proofs.Steps.{as_many}
 use Rattle.sc_read.specs.Reading.{part_of, IsRead, Reads}
@@ -106,10 +106,6 @@ part_here text [] at h = absurd (omega arith)
 part_here text (x ∷ starts) zero h = refl
 part_here text (x ∷ starts) (suc at) h = part_here text starts at (omega arith)
 
-rise : {text : List ℕ} {at end : ℕ} {found : List Section} → AreSections text at end found → at ≤ end
-rise none = omega arith
-rise (section first g others) = omega (arith, g.within, rise others)
-
 record IsRange (text starts : List ℕ) (at : ℕ) : Type 0 where
   low : first_start text (drop at starts) ≤ first_start text (drop (suc at) starts)
   high : first_start text (drop (suc at) starts) ≤ length text
@@ -119,7 +115,7 @@ ranges none e zero = record { low = omega arith; high = omega arith }
 ranges none e (suc at) = record { low = omega arith; high = omega arith }
 ranges {text} (section first g others) e zero = record {
   low = let is = first_is others e in omega (arith, g.start, g.within, is);
-  high = let is = first_is others e in omega (arith, rise others, is);
+  high = let is = first_is others e in omega (arith, sections_rise others, is);
 }
 ranges (section first g others) e (suc at) =
     let r = ranges others e at in
@@ -141,7 +137,7 @@ section_lies text starts at start end a from to =
 pub preamble_lies : (text starts : List ℕ) (end : ℕ) → AreStarts text starts → end ≡ first_start text (drop 0 starts) → (0 ≤ end) × (end ≤ length text)
 preamble_lies text starts end a to =
     let is : first_start text starts ≡ length a.preamble = ap (first_start text) a.places ∙ first_is a.split.behind refl in
-    (omega arith, omega (arith, to, is, rise a.split.behind))
+    (omega arith, omega (arith, to, is, sections_rise a.split.behind))
 
 pub preamble_ends : (text starts : List ℕ) (end : ℕ) (bytes : List ℕ) → end ≡ first_start text (drop 0 starts) → bytes ≡ slice_range text 0 end → bytes ≡ take (first_start text starts) text
 preamble_ends text starts end bytes to is = let whole : end - 0 ≡ end = omega arith in is ∙ ap (λ n. take n text) (whole ∙ to)

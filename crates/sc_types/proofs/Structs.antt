@@ -4,7 +4,7 @@ use Rattle.std.specs.Prelude.{slice_get, bytes_eq, nat_lt, nat_le, nat_eq}
 use Rattle.std.specs.List.{list_all}
 use Rattle.std.specs.Option.{option_map_or}
 use Rattle.std.proofs.lemmas.List.{append-nil}
-use Rattle.std.proofs.lemmas.Bool.{false≢true, ltb-true}
+use Rattle.std.proofs.lemmas.Bool.{false≢true, ltb-true, and_from}
 use Rattle.sc_base.specs.Numbering.{is_numbered, number_of}
 use Rattle.sc_ast.specs.declared.types.BaseTree.{BaseTree}
 use Rattle.sc_ast.specs.declared.types.BaseTree.TheVariants as base_tree
@@ -23,8 +23,11 @@ use Rattle.sc_core.specs.WellTyped.{base_within, starred_within, type_within, me
 use Rattle.sc_scope.specs.Interfaces.{number_or_zero}
 use Rattle.sc_scope.specs.Names.{base_known, pointed_known, member_known}
 use Rattle.sc_elab.specs.Sections.{is_sized, base_of, type_of_name, type_with, type_of, end_of_member, members_from, cells_from, typed_struct, typed_structs}
-use Rattle.sc_types.proofs.Basics.{both, left, right, either}
-use Rattle.sc_types.proofs.Places.{Text, same_is, eq_refl, less, at_most, is_at_most, number_within, number_front, number_next}
+use Rattle.sc_types.proofs.Basics.{either}
+use Rattle.sc_types.proofs.Places.{Text, eq_refl, less, at_most, is_at_most, number_within, number_front, number_next}
+use Rattle.sc_base.proofs.Lists.{get_behind}
+use Rattle.sc_base.proofs.Texts.{same_text}
+use Rattle.sc_base.proofs.Bools.{and_first, and_rest}
 
 -- Tags.
 
@@ -49,11 +52,11 @@ starred_within_is : (whole pointed stars : ℕ) (b : BaseTy) → starred_within 
 starred_within_is whole pointed zero base.Int h = refl
 starred_within_is whole pointed zero base.Unsigned h = refl
 starred_within_is whole pointed zero (base.Struct n) h = h
-starred_within_is whole pointed (suc stars) b h = both (nat_le 1 (suc stars)) (base_within pointed b) (at_most 1 (suc stars) (omega arith)) h
+starred_within_is whole pointed (suc stars) b h = and_from (nat_le 1 (suc stars)) (base_within pointed b) (at_most 1 (suc stars) (omega arith)) h
 
 with_within : (tags : List Text) (whole pointed : ℕ) (size : Option ℕ) (stars : ℕ) (b : BaseTy) → option_map_or (λ n. nat_le 1 n) size true ≡ true → starred_within whole pointed stars b ≡ true → type_within whole pointed (type_with tags size stars b) ≡ true
 with_within tags whole pointed None stars b sized h = starred_within_is whole pointed stars b h
-with_within tags whole pointed (Some n) stars b sized h = both (nat_le 1 n) (starred_within whole pointed stars b) sized h
+with_within tags whole pointed (Some n) stars b sized h = and_from (nat_le 1 n) (starred_within whole pointed stars b) sized h
 
 all_within : (n stars : ℕ) (b : BaseTy) → base_within n b ≡ true → starred_within n n stars b ≡ true
 all_within n zero b h = h
@@ -82,14 +85,14 @@ module _ (names : List Text) (self : Text) (more : List Text) (new : is_numbered
   known_within (suc stars) b h = more_within k (suc k) (base_of tags b) (omega arith) (base_is_within names (self ∷ more) b h)
 
   self_number : (tag : Text) → bytes_eq tag self ≡ true → number_or_zero (number_of tags tag) ≡ k
-  self_number tag h = ap (λ t. number_or_zero (number_of tags t)) (same_is tag self h) ∙ ap number_or_zero (number_next names self more new)
+  self_number tag h = ap (λ t. number_or_zero (number_of tags t)) (same_text tag self h) ∙ ap number_or_zero (number_next names self more new)
 
   pointed_within : (stars : ℕ) (b : BaseTree) → pointed_known self stars b ≡ true → starred_within k (suc k) stars (base_of tags b) ≡ true
   pointed_within stars base_tree.Int h = absurd (false≢true h)
   pointed_within stars base_tree.Unsigned h = absurd (false≢true h)
-  pointed_within zero (base_tree.Struct tag) h = absurd (false≢true (right (bytes_eq tag self) false h))
+  pointed_within zero (base_tree.Struct tag) h = absurd (false≢true (and_rest (bytes_eq tag self) false h))
   pointed_within (suc stars) (base_tree.Struct tag) h =
-      less (number_or_zero (number_of tags tag)) (suc k) (omega (arith, self_number tag (left (bytes_eq tag self) (not (nat_eq (suc stars) 0)) h)))
+      less (number_or_zero (number_of tags tag)) (suc k) (omega (arith, self_number tag (and_first (bytes_eq tag self) (not (nat_eq (suc stars) 0)) h)))
 
   member_starred : (m : MemberTree) → member_known names self m ≡ true → starred_within k (suc k) m.ty.stars (base_of tags m.ty.base) ≡ true
   member_starred m h =
@@ -121,7 +124,7 @@ module _ (done more : List TypedStruct) (n : ℕ) (size : length done ≡ n) whe
   cells_same pointed (ty.Struct i) h = ap struct_cells (get_front done more i (omega (arith, size, is_less i n h)))
   cells_same pointed (ty.Pointer stars b) h = refl
   cells_same pointed (ty.Array stars b count) h =
-      ap (λ cells. count * cells) (starred_cells_same pointed stars b (right (nat_le 1 count) (starred_within n pointed stars b) h))
+      ap (λ cells. count * cells) (starred_cells_same pointed stars b (and_rest (nat_le 1 count) (starred_within n pointed stars b) h))
 
 -- A struct over those before it.
 
@@ -162,12 +165,12 @@ module _ (names : List Text) (self : Text) (after : List Text) (new : is_numbere
   member_is : (offset : ℕ) (m : MemberTree) (members : List MemberTree) → member_known names self m ≡ true → is_sized m.ty ≡ true → end offset m ≡ offset + cells_of done (type_of every m.ty) → Fits (end offset m) members → Fits offset (m ∷ members)
   member_is offset m members known sized same rest =
       let within : type_within (length names) (suc (length names)) (type_of every m.ty) ≡ true = member_within names self after new m known sized in
-      both (offset == offset) _ (eq_refl offset) (both _ _ within (subst (λ start. members_fit (done ++ more) (length names) start (members_from every done (end offset m) members) (cells_from every done (end offset m) members) ≡ true) (same ∙ ap (λ cells. offset + cells) (sym (cells_same done more (length names) size (suc (length names)) (type_of every m.ty) within))) rest))
+      and_from (offset == offset) _ (eq_refl offset) (and_from _ _ within (subst (λ start. members_fit (done ++ more) (length names) start (members_from every done (end offset m) members) (cells_from every done (end offset m) members) ≡ true) (same ∙ ap (λ cells. offset + cells) (sym (cells_same done more (length names) size (suc (length names)) (type_of every m.ty) within))) rest))
 
   members_are : (offset : ℕ) (members : List MemberTree) → list_all (member_known names self) members ≡ true → list_all {X = MemberTree} (λ member. is_sized member.ty) members ≡ true → cells_from every done offset members ≤ 1048576 → Fits offset members
   members_are offset [] known sized small = eq_refl offset
   members_are offset (m ∷ members) known sized small =
-      member_is offset m members (left (member_known names self m) (list_all (member_known names self) members) known) (left (is_sized m.ty) (list_all {X = MemberTree} (λ member. is_sized member.ty) members) sized) (exact offset m members small) (members_are (end offset m) members (right (member_known names self m) (list_all (member_known names self) members) known) (right (is_sized m.ty) (list_all {X = MemberTree} (λ member. is_sized member.ty) members) sized) small)
+      member_is offset m members (and_first (member_known names self m) (list_all (member_known names self) members) known) (and_first (is_sized m.ty) (list_all {X = MemberTree} (λ member. is_sized member.ty) members) sized) (exact offset m members small) (members_are (end offset m) members (and_rest (member_known names self m) (list_all (member_known names self) members) known) (and_rest (is_sized m.ty) (list_all {X = MemberTree} (λ member. is_sized member.ty) members) sized) small)
 
 map_length : {A B : Type 0} (f : A → B) (xs : List A) → length (map f xs) ≡ length xs
 map_length f [] = refl
@@ -204,10 +207,6 @@ AllSmall structs number [] = Unit {0}
 AllSmall structs number (tree ∷ trees) =
     (nat_le (struct_cells (slice_get structs number)) most_cells ≡ true) × AllSmall structs (suc number) trees
 
-get_next : {A : Type 0} (xs : List A) (y : A) (ys : List A) → slice_get (xs ++ y ∷ ys) (length xs) ≡ Some y
-get_next [] y ys = refl
-get_next (x ∷ xs) y ys = get_next xs y ys
-
 length_next : {A : Type 0} (xs : List A) (y : A) → length (xs ++ y ∷ []) ≡ suc (length xs)
 length_next [] y = refl
 length_next (x ∷ xs) y = ap suc (length_next xs y)
@@ -215,9 +214,9 @@ length_next (x ∷ xs) y = ap suc (length_next xs y)
 module _ (all : List Text) where
   struct_is : (names after : List Text) (tree : StructTree) (done more structs : List TypedStruct) → names ++ tree.name ∷ after ≡ all → length done ≡ length names → structs ≡ done ++ (typed_struct all done tree ∷ more) → Known names tree → nat_le (struct_cells (slice_get structs (length names))) most_cells ≡ true → struct_fits structs (length names) (typed_struct all done tree) ≡ true
   struct_is names after tree done more structs is size whole known small =
-      both _ _ (ap (nat_le 1) (members_length all done 0 tree.members) ∙ known.some) (both _ _ members (subst (λ o. nat_le (struct_cells o) most_cells ≡ true) got small)) where
+      and_from _ _ (ap (nat_le 1) (members_length all done 0 tree.members) ∙ known.some) (and_from _ _ members (subst (λ o. nat_le (struct_cells o) most_cells ≡ true) got small)) where
         got : slice_get structs (length names) ≡ Some (typed_struct all done tree)
-        got = ap (λ s. slice_get s (length names)) whole ∙ ap (slice_get (done ++ typed_struct all done tree ∷ more)) (sym size) ∙ get_next done (typed_struct all done tree) more
+        got = ap (λ s. slice_get s (length names)) whole ∙ ap (slice_get (done ++ typed_struct all done tree ∷ more)) (sym size) ∙ get_behind done (typed_struct all done tree) more
 
         whole_cells : nat_le (cells_from all done 0 tree.members) most_cells ≡ true
         whole_cells = subst (λ o. nat_le (struct_cells o) most_cells ≡ true) got small
@@ -232,7 +231,7 @@ module _ (all : List Text) where
   rest_fit : (names : List Text) (trees : List StructTree) (done structs : List TypedStruct) → names ++ tags_of trees ≡ all → length done ≡ length names → structs ≡ done ++ rest_of all done trees → AllKnown names trees → AllSmall structs (length names) trees → structs_fit structs (length names) (rest_of all done trees) ≡ true
   rest_fit names [] done structs is size whole known small = refl
   rest_fit names (tree ∷ trees) done structs is size whole known small =
-      both _ _ (struct_is names (tags_of trees) tree done (rest_of all (done ++ typed_struct all done tree ∷ []) trees) structs is size whole known.0 small.0) (subst (λ n. structs_fit structs n (rest_of all (done ++ typed_struct all done tree ∷ []) trees) ≡ true) (length_next names tree.name) (rest_fit (names ++ tree.name ∷ []) trees (done ++ typed_struct all done tree ∷ []) structs (append_assoc names (tree.name ∷ []) (tags_of trees) ∙ is) (length_next done (typed_struct all done tree) ∙ ap suc size ∙ sym (length_next names tree.name)) (whole ∙ sym (append_assoc done (typed_struct all done tree ∷ []) (rest_of all (done ++ typed_struct all done tree ∷ []) trees))) known.1 (subst (λ n. AllSmall structs n trees) (sym (length_next names tree.name)) small.1)))
+      and_from _ _ (struct_is names (tags_of trees) tree done (rest_of all (done ++ typed_struct all done tree ∷ []) trees) structs is size whole known.0 small.0) (subst (λ n. structs_fit structs n (rest_of all (done ++ typed_struct all done tree ∷ []) trees) ≡ true) (length_next names tree.name) (rest_fit (names ++ tree.name ∷ []) trees (done ++ typed_struct all done tree ∷ []) structs (append_assoc names (tree.name ∷ []) (tags_of trees) ∙ is) (length_next done (typed_struct all done tree) ∙ ap suc size ∙ sym (length_next names tree.name)) (whole ∙ sym (append_assoc done (typed_struct all done tree ∷ []) (rest_of all (done ++ typed_struct all done tree ∷ []) trees))) known.1 (subst (λ n. AllSmall structs n trees) (sym (length_next names tree.name)) small.1)))
 
 -- structs that are known and small fit
 pub structs_all_fit : (trees : List StructTree) → AllKnown [] trees → AllSmall (typed_structs (tags_of trees) [] trees) 0 trees → structs_fit (typed_structs (tags_of trees) [] trees) 0 (typed_structs (tags_of trees) [] trees) ≡ true

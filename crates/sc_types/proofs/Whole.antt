@@ -3,7 +3,7 @@ use Rattle.std.proofs.Common.{◌≡◌, refl, sym, ap, ◌∙◌, ℕ, zero, su
 use Rattle.std.specs.Prelude.{slice_get, bytes_eq, nat_le, codes}
 use Rattle.std.specs.List.{concat, list_any}
 use Rattle.std.specs.Option.{option_map}
-use Rattle.std.proofs.lemmas.Bool.{false≢true}
+use Rattle.std.proofs.lemmas.Bool.{false≢true, and_from}
 use Rattle.sc_base.specs.Numbering.{is_numbered}
 use Rattle.sc_event.specs.declared.interface.Interface.{Interface}
 use Rattle.sc_ast.specs.declared.section.FunctionTree.{FunctionTree}
@@ -32,23 +32,22 @@ use Rattle.sc_interfaces.specs.Faces.{interface_broken, name_holds}
 use Rattle.sc_types.specs.Counts as counts
 use Rattle.sc_types.specs.Counts.{counts_broken}
 use Rattle.sc_types.specs.Acceptance.{AreLow}
-use Rattle.sc_types.proofs.Basics.{both, left, right, not_true, held, front_empty, back_empty, map_empty, Each, each_empty, each_passes, some_is, none_some}
+use Rattle.sc_types.proofs.Basics.{not_true, held, front_empty, back_empty, map_empty, Each, each_empty, each_passes, some_is, none_some}
 use Rattle.sc_types.proofs.Places.{Text}
 use Rattle.sc_types.proofs.Structs.{AllSmall, structs_all_fit}
 use Rattle.sc_types.proofs.Lookups.{each_at, each_function, same_sym, FoundFunction, find_function}
 use Rattle.sc_types.proofs.Facts.{Fresh, fresh_distinct, DeclFacts, FaceFacts, face_facts, decls_hold}
 use Rattle.sc_types.proofs.Calls.{input_signature, get_map, any_at, own_signature}
 use Rattle.sc_types.proofs.Callees as called
-use Rattle.sc_types.proofs.Functions.{map_append, small_from, functions_are, globals_are, structs_known}
+use Rattle.sc_types.proofs.Functions.{small_from, functions_are, globals_are, structs_known}
 use Rattle.sc_types.proofs.Sections.{none_beyond, interface_is}
+use Rattle.sc_base.proofs.Lists.{get_behind}
+use Rattle.std.proofs.lemmas.List.{map-append}
+use Rattle.sc_base.proofs.Bools.{and_first, and_rest}
 
 length_snoc : {A : Type 0} (xs : List A) (y : A) → length (xs ++ y ∷ []) ≡ suc (length xs)
 length_snoc [] y = refl
 length_snoc (x ∷ xs) y = ap suc (length_snoc xs y)
-
-get_at_end : {A : Type 0} (xs : List A) (y : A) (ys : List A) → slice_get (xs ++ y ∷ ys) (length xs) ≡ Some y
-get_at_end [] y ys = refl
-get_at_end (x ∷ xs) y ys = get_at_end xs y ys
 
 -- What each section keeps.
 
@@ -135,7 +134,7 @@ module _ (sections : List SectionTree) where
 
       section_is : section_fits (interfaces_of sections) number (interface_of sections number section) typed ≡ true
       section_is =
-          both _ _ (structs_all_fit (structs_in section.decls) (structs_known section callees [] section.decls names_at types_at) small) (both _ _ (globals_are section callees [] section.decls refl names_at types_at (front_empty _ _ behind_structs)) (both _ _ (functions_are section callees (called.callable sections (hold in_faces) number section there) (called.same_signature_called sections (hold in_faces) number section there) small [] section.decls refl names_at types_at (front_empty _ _ behind_globals) (back_empty (concat (map (counts.head_lines section) (heads_in section.decls))) _ behind_globals) low_at) (left _ _ (held _ 1 (front_empty _ _ counted)))))
+          and_from _ _ (structs_all_fit (structs_in section.decls) (structs_known section callees [] section.decls names_at types_at) small) (and_from _ _ (globals_are section callees [] section.decls refl names_at types_at (front_empty _ _ behind_structs)) (and_from _ _ (functions_are section callees (called.callable sections (hold in_faces) number section there) (called.same_signature_called sections (hold in_faces) number section there) small [] section.decls refl names_at types_at (front_empty _ _ behind_globals) (back_empty (concat (map (counts.head_lines section) (heads_in section.decls))) _ behind_globals) low_at) (and_first _ _ (held _ 1 (front_empty _ _ counted)))))
 
       faces_is : interface_fits (interfaces_of sections) number (interface_of sections number section) typed ≡ true
       faces_is = interface_is sections (hold in_faces) number section there names_at counted
@@ -144,8 +143,8 @@ module _ (sections : List SectionTree) where
     sections_are : (front rest : List SectionTree) → front ++ rest ≡ sections → sections_fit (interfaces_of sections) (length front) (interfaces_from sections (length front) rest) (sections_from sections (length front) rest) ≡ true
     sections_are front [] whole = refl
     sections_are front (section ∷ rest) whole =
-        let there : slice_get sections (length front) ≡ Some section = ap (λ list. slice_get list (length front)) (sym whole) ∙ get_at_end front section rest in
-        both _ _ (section_is (length front) section there) (both _ _ (faces_is (length front) section there) (subst (λ n. sections_fit (interfaces_of sections) n (interfaces_from sections n rest) (sections_from sections n rest) ≡ true) (length_snoc front section) (sections_are (front ++ section ∷ []) rest (append_assoc front (section ∷ []) rest ∙ whole))))
+        let there : slice_get sections (length front) ≡ Some section = ap (λ list. slice_get list (length front)) (sym whole) ∙ get_behind front section rest in
+        and_from _ _ (section_is (length front) section there) (and_from _ _ (faces_is (length front) section there) (subst (λ n. sections_fit (interfaces_of sections) n (interfaces_from sections n rest) (sections_from sections n rest) ≡ true) (length_snoc front section) (sections_are (front ++ section ∷ []) rest (append_assoc front (section ∷ []) rest ∙ whole))))
 
     -- Names of compartments.
     compartments : (k : ℕ) (before rest : List SectionTree) → faces.lines_from sections k before rest ≡ [] → Fresh (map name_of before) (map name_of rest) × Each (λ name. bytes_eq name environment ≡ false) (map name_of rest)
@@ -153,7 +152,7 @@ module _ (sections : List SectionTree) where
     compartments k before (section ∷ rest) h =
         let holds : name_holds sections k section (list_any defines_main before) before ≡ true = held _ 1 (front_empty _ _ (map_empty _ _ (front_empty _ _ h))) in
         let next : Fresh (map name_of (before ++ section ∷ [])) (map name_of rest) × Each (λ name. bytes_eq name environment ≡ false) (map name_of rest) = compartments (suc k) (before ++ section ∷ []) rest (back_empty (map (line_of_text section.line) (faces.section_lines sections k section (list_any defines_main before) before)) _ h) in
-        ((not_true _ (left _ _ holds), subst (λ all. Fresh all (map name_of rest)) (map_append name_of before (section ∷ [])) next.0), (not_true _ (right (not (is_numbered (map name_of before) section.name)) _ holds), next.1))
+        ((not_true _ (and_first _ _ holds), subst (λ all. Fresh all (map name_of rest)) (map-append name_of before (section ∷ [])) next.0), (not_true _ (and_rest (not (is_numbered (map name_of before) section.name)) _ holds), next.1))
 
     no_environment : (all : List Text) → Each (λ name. bytes_eq name environment ≡ false) all → is_numbered all environment ≡ false
     no_environment [] each = refl
@@ -167,7 +166,7 @@ module _ (sections : List SectionTree) where
     names_distinct : are_distinct (codes "Env" ∷ map {A = Interface} (λ i. i.name) (interfaces_of sections).comps) ≡ true
     names_distinct =
         let c : Fresh [] (map name_of sections) × Each (λ name. bytes_eq name environment ≡ false) (map name_of sections) = compartments 0 [] sections (front_empty _ _ in_faces) in
-        subst (λ all. are_distinct (codes "Env" ∷ all) ≡ true) (sym (interface_names 0 sections)) (both _ _ (ap not (no_environment (map name_of sections) c.1)) (fresh_distinct [] (map name_of sections) c.0))
+        subst (λ all. are_distinct (codes "Env" ∷ all) ≡ true) (sym (interface_names 0 sections)) (and_from _ _ (ap not (no_environment (map name_of sections) c.1)) (fresh_distinct [] (map name_of sections) c.0))
 
     -- `main`.
 
@@ -198,8 +197,8 @@ module _ (sections : List SectionTree) where
     main_typed k section got has =
         let facts : FaceFacts sections k section = hold in_faces k section got in
         let g : FoundFunction main_name (functions_in section.decls) = main_found k section facts.mains facts.decls has in
-        let is : faces.is_main (head_of g.tree.head) ≡ true = right (not facts.mains) _ (main_alone k section facts.mains facts.decls has) in
-        any_at {A = TypedFunction} (λ f. is_main f && same_signature (signature_of f) (record { params = []; result = Some ty.Int })) (typed_section section (callees_of sections k section)).functions g.at (typed_function section (callees_of sections k section) g.tree) (get_map (typed_function section (callees_of sections k section)) (functions_in section.decls) g.at ∙ ap (option_map (typed_function section (callees_of sections k section))) g.got) (both _ _ g.named (ap (λ s. same_signature s (record { params = []; result = Some ty.Int })) (own_signature section (callees_of sections k section) g.tree ∙ input_signature (tags section) (head_of g.tree.head) is)))
+        let is : faces.is_main (head_of g.tree.head) ≡ true = and_rest (not facts.mains) _ (main_alone k section facts.mains facts.decls has) in
+        any_at {A = TypedFunction} (λ f. is_main f && same_signature (signature_of f) (record { params = []; result = Some ty.Int })) (typed_section section (callees_of sections k section)).functions g.at (typed_function section (callees_of sections k section) g.tree) (get_map (typed_function section (callees_of sections k section)) (functions_in section.decls) g.at ∙ ap (option_map (typed_function section (callees_of sections k section))) g.got) (and_from _ _ g.named (ap (λ s. same_signature s (record { params = []; result = Some ty.Int })) (own_signature section (callees_of sections k section) g.tree ∙ input_signature (tags section) (head_of g.tree.head) is)))
 
     or_false : (a b : Bool) → (a || b) ≡ false → a ≡ false
     or_false true b h = h
@@ -229,7 +228,7 @@ module _ (sections : List SectionTree) where
     mains_count : (k : ℕ) (before rest : List SectionTree) → faces.lines_from sections k before rest ≡ [] → mains_in (sections_from sections k rest) ≡ (if list_any defines_main before then 0 else truth (list_any defines_main rest))
     mains_count k before [] h = none_more (list_any defines_main before)
     mains_count k before (section ∷ rest) h =
-        ap (λ b. truth b + mains_in (sections_from sections (suc k) rest)) (section_mains section (callees_of sections k section)) ∙ count_by (list_any defines_main before) (defines_main section) (list_any defines_main rest) (mains_in (sections_from sections (suc k) rest)) (λ has. left _ _ (main_alone k section (list_any defines_main before) (decls_hold sections k section (list_any defines_main before) before (map_empty _ _ (front_empty _ _ h))) has)) (mains_count (suc k) (before ++ section ∷ []) rest (back_empty (map (line_of_text section.line) (faces.section_lines sections k section (list_any defines_main before) before)) _ h) ∙ ap (λ b. if b then 0 else truth (list_any defines_main rest)) (any_append before section))
+        ap (λ b. truth b + mains_in (sections_from sections (suc k) rest)) (section_mains section (callees_of sections k section)) ∙ count_by (list_any defines_main before) (defines_main section) (list_any defines_main rest) (mains_in (sections_from sections (suc k) rest)) (λ has. and_first _ _ (main_alone k section (list_any defines_main before) (decls_hold sections k section (list_any defines_main before) before (map_empty _ _ (front_empty _ _ h))) has)) (mains_count (suc k) (before ++ section ∷ []) rest (back_empty (map (line_of_text section.line) (faces.section_lines sections k section (list_any defines_main before) before)) _ h) ∙ ap (λ b. if b then 0 else truth (list_any defines_main rest)) (any_append before section))
 
     has_main : list_any defines_main sections ≡ true
     has_main = held _ 0 (back_empty (faces.lines_from sections 0 [] sections) _ in_faces)
@@ -281,7 +280,7 @@ module _ (sections : List SectionTree) where
 
     is_typed : is_well_typed (program_of sections) ≡ true
     is_typed =
-        both _ _ few (both _ _ names_distinct (both _ _ (sections_are [] sections refl) (both _ _ main_is one_main)))
+        and_from _ _ few (and_from _ _ names_distinct (and_from _ _ (sections_are [] sections refl) (and_from _ _ main_is one_main)))
 
 -- trees that break no rule are those of a well-typed program
 pub well_typed : (sections : List SectionTree) → AreLow sections → names_broken sections ≡ [] → types_broken sections ≡ [] → interface_broken sections ≡ [] → counts_broken sections ≡ [] → IsWellTyped (program_of sections)

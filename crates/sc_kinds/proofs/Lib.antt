@@ -1,0 +1,6 @@
+pub mod Bodies
+pub mod Kinded
+pub mod Pieces
+pub mod Results
+pub mod Sections
+pub mod Values

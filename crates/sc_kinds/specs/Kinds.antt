@@ -1,0 +1,84 @@
+-- Values have the kind of their types: words for integers, pointers and null for pointers. So no operator of a program
+-- meets an operand that it has no meaning for, and numbers alone cross between compartments.
+use Rattle.std.specs.Prelude.{◌≡◌, ℕ, Bool, true, false, not, ◌&&◌, List, [], ◌∷◌, Option, None, Some, Ok, slice_get}
+use Rattle.sc_core.specs.declared.ty.Ty.{Ty}
+use Rattle.sc_core.specs.declared.expr.TypedExpr.{TypedExpr}
+use Rattle.sc_core.specs.declared.section.TypedStruct.{TypedStruct}
+use Rattle.sc_core.specs.declared.section.TypedFunction.{TypedFunction}
+use Rattle.sc_core.specs.declared.section.TypedSection.{TypedSection}
+use Rattle.sc_core.specs.declared.program.ProgramTree.{ProgramTree}
+use Rattle.sc_core.specs.declared.value.Value.{Value}
+use Rattle.sc_core.specs.declared.value.Value.TheVariants.{Word, Null, Ptr}
+use Rattle.sc_core.specs.declared.value.Want.TheVariants as want
+use Rattle.sc_core.specs.Memory.{Blocks}
+use Rattle.sc_core.specs.Value.{Arith}
+use Rattle.sc_core.specs.Types.{is_pointer}
+use Rattle.sc_core.specs.Typing.{Scope, judged}
+use Rattle.sc_core.specs.Tree.{ways}
+use Rattle.sc_core.specs.Words.{State, Here, Reached}
+use Rattle.sc_core.specs.WellTyped.{IsWellTyped}
+use Rattle.sc_core.specs.Calls.{Function, function, option_value, crossing, called, calls, run_step, within}
+use Rattle.sc_core.specs.Meaning.{library_of, entry_in}
+use Rattle.sc_event.specs.declared.interface.Proto.{Proto}
+use Rattle.sc_event.specs.declared.row.Entry.TheVariants.{Export}
+use Rattle.sc_event.specs.Lookup.{export_at}
+
+-- whether a value is one of a pointer, or else a word
+abbrev pub is_of : (pointer : Bool) → Value → Bool
+is_of pointer (Word w) = not pointer
+is_of pointer Null = pointer
+is_of pointer (Ptr p) = pointer
+
+abbrev pub has_kind : Ty → Value → Bool
+has_kind ty v = is_of (is_pointer ty) v
+
+-- what a function returns: a value of its result's kind, where it has a result
+abbrev pub returns_kind : Option Ty → Option Value → Bool
+returns_kind None None = true
+returns_kind None (Some v) = false
+returns_kind (Some ty) None = false
+returns_kind (Some ty) (Some v) = has_kind ty v
+
+-- values of the kinds of these types, one for each
+abbrev pub have_kinds : List Ty → List Value → Bool
+have_kinds [] [] = true
+have_kinds [] (v ∷ vs) = false
+have_kinds (ty ∷ types) [] = false
+have_kinds (ty ∷ types) (v ∷ vs) = has_kind ty v && have_kinds types vs
+
+-- the functions of a section that may not be there, and a function of a program
+abbrev pub section_functions : Option TypedSection → List TypedFunction
+section_functions None = []
+section_functions (Some section) = section.functions
+
+abbrev pub function_at : ProgramTree → (comp number : ℕ) → Option TypedFunction
+function_at program comp number = slice_get (section_functions (slice_get program.sections comp)) number
+
+-- what an expression that fits gives has the kind of its type, and the place that it names is one
+pub record ValuesHaveKinds : Type 0 where
+  pub value : (arith : Arith) (structs : List TypedStruct) (here : Here) (params : ℕ) (scope : Scope) (e : TypedExpr) →
+      (judged scope e).fits ≡ true →
+      (blocks : Blocks) (v : Value) → ways arith structs here params e want.Value blocks ≡ Ok v → has_kind e.ty v ≡ true
+  pub place : (arith : Arith) (structs : List TypedStruct) (here : Here) (params : ℕ) (scope : Scope) (e : TypedExpr) →
+      (judged scope e).fits ≡ true → (judged scope e).place ≡ true →
+      (blocks : Blocks) (q : Value) → ways arith structs here params e want.Place blocks ≡ Ok q → is_of true q ≡ true
+
+-- what functions of a well-typed program return, and what they ask for
+pub record ResultsHaveKinds : Type 0 where
+  -- a function returns a value of its result's kind
+  pub returned : (arith : Arith) (program : ProgramTree) → IsWellTyped program →
+      (open_calls number : ℕ) (here : Here) (f : TypedFunction) → function_at program here.comp number ≡ Some f →
+      (s t : State) (v : Option Value) → within (run_step (library_of arith program)) open_calls number here s ≡ Reached v t →
+      returns_kind f.result v ≡ true
+  -- what an export returns is what crosses: a word where its prototype has a result, and else nothing
+  pub crosses : (arith : Arith) (program : ProgramTree) → IsWellTyped program →
+      (open_calls index number : ℕ) (here : Here) (proto : Proto) → export_at program.interfaces here.comp index ≡ Some proto →
+      entry_in program here.comp (Export index) ≡ Some number →
+      (s t : State) (v : Option Value) → within (run_step (library_of arith program)) open_calls number here s ≡ Reached v t →
+      option_value (crossing (Some proto) v) ≡ v
+  -- a function makes only calls that may be made: it does the same where nobody asks whether they may
+  pub allowed : (arith : Arith) (program : ProgramTree) → IsWellTyped program →
+      (open_calls number : ℕ) (here : Here) (f : Function) → function (library_of arith program) here.comp number ≡ Some f →
+      (s : State) →
+      f.does (called (library_of arith program) (within (run_step (library_of arith program)) open_calls)) here s
+      ≡ f.does (calls (library_of arith program) (within (run_step (library_of arith program)) open_calls)) here s
