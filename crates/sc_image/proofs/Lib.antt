@@ -23,4 +23,5 @@ pub mod Loops
 pub mod Keeping
 pub mod Walking
 pub mod Stretches
+pub mod Telling
 pub mod WordInterfaces
