@@ -124,6 +124,6 @@ pub(crate) fn jalr(
     if rd.number() != 0 || target != GATE {
         return jump(here, hart, rd.number(), target);
     }
-    leave(here.image(), hart);
+    leave(here, hart);
     Ok(())
 }
