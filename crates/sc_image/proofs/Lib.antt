@@ -8,6 +8,7 @@ pub mod Fits
 pub mod OneComp
 pub mod Words
 pub mod Data
+pub mod AtStart
 pub mod Cases
 pub mod Bytes
 pub mod Reached

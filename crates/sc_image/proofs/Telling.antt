@@ -55,7 +55,8 @@ none_in_front (event ∷ first) second none =
     none_of (is_end event) _ parts.0 (none_in_front first second parts.1)
 
 -- so a trace that hadn't ended hasn't with them
-still_open : (trace told : List Event) → is_ended trace ≡ false → list_any is_end told ≡ false → is_ended (trace ++ told) ≡ false
+still_open : (trace told : List Event) → is_ended trace ≡ false → list_any is_end told ≡ false →
+    is_ended (trace ++ told) ≡ false
 still_open trace [] going none = subst (λ (t : List Event). is_ended t ≡ false) (sym (append-nil trace)) going
 still_open trace (event ∷ told) going none =
     let parts = neither (is_end event) (list_any is_end told) none in
@@ -74,8 +75,9 @@ silent : (image : ImageParts) (inputs : List ℕ) (steps : ℕ) (from to : State
 silent image inputs steps from to walks same =
     record { walks = walks; trace = sym same ∙ sym (append-nil from.trace); no_end = refl }
 
-one_event : (image : ImageParts) (inputs : List ℕ) (event : Event) (from to : State) → step image inputs from ≡ Goes to →
-    to.trace ≡ from.trace ++ event ∷ [] → is_end event ≡ false → Tells image inputs 1 (event ∷ []) from to
+one_event : (image : ImageParts) (inputs : List ℕ) (event : Event) (from to : State) →
+    step image inputs from ≡ Goes to → to.trace ≡ from.trace ++ event ∷ [] → is_end event ≡ false →
+    Tells image inputs 1 (event ∷ []) from to
 one_event image inputs event from to goes told none =
     record { walks = walk_one image inputs from to goes; trace = told; no_end = rw none refl }
 
@@ -103,19 +105,22 @@ module _ (image : ImageParts) (inputs : List ℕ) (formed : IsWellFormed image) 
       let last : IsFront next.trace to.trace = walk_adds image inputs formed n next to goes in
       let parts : first.0 ++ last.0 ≡ told =
       behind from.trace first.0 told last.0 (ap (λ (t : List Event). t ++ last.0) first.1 ∙ last.1 ∙ trace) in
-      let all : list_any is_end (first.0 ++ last.0) ≡ false = subst (λ (t : List Event). list_any is_end t ≡ false) (sym parts) none in
+      let all : list_any is_end (first.0 ++ last.0) ≡ false =
+      subst (λ (t : List Event). list_any is_end t ≡ false) (sym parts) none in
       let short : length from.trace < events =
       omega (arith, below, sym (ap length trace) ∙ refl, length-append from.trace told) in
       let still : is_ended next.trace ≡ false =
-      subst (λ (t : List Event). is_ended t ≡ false) first.1 (still_open from.trace first.0 going (none_in_front first.0 last.0 all)) in
-      run_goes image inputs events (n + more) from next (not_stopped image inputs formed events from.trace going short) is ∙
+      subst (λ (t : List Event). is_ended t ≡ false) first.1
+      (still_open from.trace first.0 going (none_in_front first.0 last.0 all)) in
+      run_goes image inputs events (n + more) from next
+      (not_stopped image inputs formed events from.trace going short) is ∙
       later last.0 next goes (sym last.1) (none_behind first.0 last.0 all) still
   along n told from to (Traps reason) is goes trace none going below later =
       let never : Traps reason ≡ Goes to = goes in cc never
 
   run_along : (n : ℕ) (told : List Event) (from to : State) → walk image inputs n from ≡ Goes to →
-      to.trace ≡ from.trace ++ told → list_any is_end told ≡ false → is_ended from.trace ≡ false → length to.trace < events →
-      run image inputs events (n + more) from ≡ run image inputs events more to
+      to.trace ≡ from.trace ++ told → list_any is_end told ≡ false → is_ended from.trace ≡ false →
+      length to.trace < events → run image inputs events (n + more) from ≡ run image inputs events more to
   run_along zero told from to goes trace none going below =
       let same : from ≡ to = cc goes in
       ap (λ k. run image inputs events k from) (zero-add more) ∙ ap (run image inputs events more) same
@@ -171,7 +176,8 @@ module _ (image : ImageParts) (formed : IsWellFormed image) (c address word : �
   code_where : (aligned from : Bool) → nat_eq (address % 4) 0 ≡ aligned → nat_le (code_start c) address ≡ from →
       (if aligned && from then slice_get (code_of image c) ((address - code_start c) / 4) else None) ≡ Some word →
       IsOfCode c address
-  code_where true true is low at = code_by (slice_get image.comps c) refl at (eqb-true _ _ is) (leb-true (code_start c) address low)
+  code_where true true is low at =
+      code_by (slice_get image.comps c) refl at (eqb-true _ _ is) (leb-true (code_start c) address low)
   code_where true false is low at = let none : ◌≡◌ {A = Option ℕ} None (Some word) = at in cc none
   code_where false from is low at = let none : ◌≡◌ {A = Option ℕ} None (Some word) = at in cc none
 
@@ -197,28 +203,36 @@ jump_out : (image : ImageParts) (state : State) (rd target : ℕ) (elsewhere : O
     is_some (word_at image state.active target) ≡ false → jump image state rd target elsewhere ≡ elsewhere
 jump_out image state rd target elsewhere aligned none = rw (eq-eqb (target % 4) 0 aligned, none) refl
 
-module _ (image : ImageParts) (state : State) (to index target : ℕ) (formed : IsWellFormed image) (call : IsCall image state to index target) where
+module _ (image : ImageParts) (state : State) (to index target : ℕ) (formed : IsWellFormed image)
+    (call : IsCall image state to index target) where
   there : IsOfCode to target
-  there = some_of_code image formed to target (word_at image to target) refl (entry_code image formed to target index call.entry)
+  there =
+      some_of_code image formed to target (word_at image to target) refl
+      (entry_code image formed to target index call.entry)
 
   outside : is_some (word_at image state.active target) ≡ false
   outside =
-      not_others image formed state.active to target (called_other image state.active to index formed call.may) there.comp
+      not_others image formed state.active to target
+      (called_other image state.active to index formed call.may) there.comp
       (word_at image state.active target) refl
 
   calls_there : calls image state ra target ≡ Goes (called state to index (params_of image to index) target)
   calls_there = rw (there.comp, call.entry, call.may) refl
 
-  jal_there : jump image state ra target (calls image state ra target) ≡ Goes (called state to index (params_of image to index) target)
+  jal_there : jump image state ra target (calls image state ra target) ≡
+      Goes (called state to index (params_of image to index) target)
   jal_there = jump_out image state ra target _ there.aligned outside ∙ calls_there
 
-  jalr_there : jump image state ra target (leaves image state ra target) ≡ Goes (called state to index (params_of image to index) target)
+  jalr_there : jump image state ra target (leaves image state ra target) ≡
+      Goes (called state to index (params_of image to index) target)
   jalr_there = jump_out image state ra target _ there.aligned outside ∙ calls_there
 
 -- nobody's code is at the gate
 no_code : (image : ImageParts) (c : ℕ) → is_some (word_at image c gate) ≡ false
 unfolding word_at
-no_code image c = let below : nat_le (code_start c) gate ≡ false = lt-leb (code_start c) gate (omega arith) in rw below refl
+no_code image c =
+    let below : nat_le (code_start c) gate ≡ false = lt-leb (code_start c) gate (omega arith) in
+    rw below refl
 
 leaves_there : (image : ImageParts) (inputs : List ℕ) (state : State) →
     jump image state 0 gate (leaves image state 0 gate) ≡ Goes (returned image state state.cross)
@@ -232,10 +246,12 @@ pub steps_tell : StepsTell
 steps_tell = record {
   jal_calls = λ image inputs state imm to index target formed at same call.
       one_event image inputs _ state _
-      (steps_by_instruction.jal image inputs state ra imm target at same ∙ jal_there image state to index target formed call) refl refl;
+      (steps_by_instruction.jal image inputs state ra imm target at same ∙
+      jal_there image state to index target formed call) refl refl;
   jalr_calls = λ image inputs state rs1 imm to index target formed at same call.
       one_event image inputs _ state _
-      (steps_by_instruction.jalr image inputs state ra rs1 imm target at same ∙ jalr_there image state to index target formed call) refl refl;
+      (steps_by_instruction.jalr image inputs state ra rs1 imm target at same ∙
+      jalr_there image state to index target formed call) refl refl;
   returns = λ image inputs state rs1 imm crossing waiting at same cross.
       one_event image inputs _ state _
       (steps_by_instruction.jalr image inputs state 0 rs1 imm gate at same ∙ leaves_there image inputs state ∙

@@ -54,7 +54,8 @@ pub record IsCall (image : ImageParts) (state : State) (to index target : ℕ) :
 abbrev pub TellsCall : (image : ImageParts) (inputs : List ℕ) (state : State) (to index target : ℕ) → Type 0
 TellsCall image inputs state to index target =
     let params = params_of image to index in
-    Tells image inputs 1 (Call state.active to index (arguments params state.regs) ∷ []) state (called state to index params target)
+    let event = Call state.active to index (arguments params state.regs) in
+    Tells image inputs 1 (event ∷ []) state (called state to index params target)
 
 -- The steps that tell an event, by their instruction.
 pub record StepsTell : Type 0 where
@@ -78,6 +79,7 @@ pub record StepsTell : Type 0 where
       Tells image inputs 1 (In state.active (input_at inputs state.input) ∷ []) state
       (with_pc (input inputs state) (state.pc + 4))
   -- a return through the gate where no call waits ends the run
-  pub ends : (image : ImageParts) (inputs : List ℕ) (state : State) (rs1 : ℕ) (imm : ℤ) → IsAt image state (Jalr 0 rs1 imm) →
-      jalr_target (reg state rs1) imm ≡ gate → state.cross ≡ [] → step image inputs state ≡ Goes (ended state)
+  pub ends : (image : ImageParts) (inputs : List ℕ) (state : State) (rs1 : ℕ) (imm : ℤ) →
+      IsAt image state (Jalr 0 rs1 imm) → jalr_target (reg state rs1) imm ≡ gate → state.cross ≡ [] →
+      step image inputs state ≡ Goes (ended state)
   pub ended_stops : (events : ℕ) (state : State) → stopped events (ended state).trace ≡ Some Ended

@@ -1,9 +1,8 @@
 //! Calls of the environment.
 
-ghost use Rattle.std.specs.Prelude.{◌≡◌, ◌+◌, ◌^◌, ◌<◌, ◌≤◌, ℕ, length, map, OnErr};
+ghost use Rattle.std.specs.Prelude.{◌≡◌, ◌+◌, ◌^◌, ◌<◌, map, OnErr};
 ghost use Rattle.sc_word.specs.Word.{word_of};
 ghost use Rattle.sc_store.specs.Memory.{Memory};
-ghost use Rattle.sc_image.specs.declared.parts.ImageParts.{ImageParts};
 ghost use Rattle.sc_image.specs.Calls.{may_input, may_output};
 ghost use Rattle.sc_image.specs.Cross.{input_at, input, output};
 ghost use Rattle.sc_image.specs.Step.{Goes, next, environment_call};
