@@ -1,5 +1,5 @@
 -- What a memory holds are bytes, at addresses of 32 bits: at the start, and after a store.
-use Rattle.std.proofs.Common.{◌≡◌, ℕ, ◌+◌, ◌-◌, ◌/◌, ◌%◌, ◌^◌, ◌<◌, ◌≤◌, Bool, true, false, ◌&&◌, nat_le, nat_lt, if◌then◌else◌, length, Option, Some, None, subst, arith, refl, ⊎_elim}
+use Rattle.std.proofs.Common.{◌≡◌, ℕ, ◌+◌, ◌-◌, ◌/◌, ◌%◌, ◌^◌, ◌<◌, ◌≤◌, Bool, true, false, ◌&&◌, nat_le, nat_lt, if◌then◌else◌, length, Option, Some, None, subst, arith, refl, sym, ◌∙◌, ⊎_elim}
 use Rattle.std.specs.List.{slice_get}
 use Rattle.std.specs.Option.{option_and_then}
 use Rattle.std.proofs.lemmas.Bool.{ltb-true, leb-true}
@@ -9,7 +9,8 @@ use Rattle.sc_image.specs.declared.parts.ImageParts.{ImageParts}
 use Rattle.sc_image.specs.declared.parts.CompPart.{CompPart}
 use Rattle.sc_image.specs.WellFormed.{IsByte, IsWellFormed}
 use Rattle.sc_image.specs.Layout.{stretch, stack_size, most_globals, data_start, comp_of_data, globals_of, are_data}
-use Rattle.sc_image.specs.State.{data_byte, start_memory}
+use Rattle.sc_image.specs.State.{start_memory}
+use Rattle.sc_image.proofs.AtStart.{data_byte, start_is}
 use Rattle.sc_image.specs.Step.{refused}
 use Rattle.sc_image.proofs.Cases.{allowed_data}
 use Rattle.sc_image.proofs.Data.{data_bounds}
@@ -77,8 +78,7 @@ module _ (image : ImageParts) (formed : IsWellFormed image) (a b : ℕ) where
   below_by false at = start_by (slice_get image.comps (comp_of_data a)) refl at
 
   start_byte : start_memory image a ≡ Some b → IsByteAt a b
-  unfolding start_memory
-  start_byte at = below_by (nat_lt a (data_start 0)) at
+  start_byte at = below_by (nat_lt a (data_start 0)) (sym (start_is a image) ∙ at)
 
 pub start_bytes : (image : ImageParts) → IsWellFormed image → HoldsBytes (start_memory image)
 start_bytes image formed a b at = start_byte image formed a b at

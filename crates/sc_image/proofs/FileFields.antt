@@ -14,9 +14,9 @@ use Rattle.sc_image.specs.declared.parts.CompPart.{CompPart}
 use Rattle.sc_image.specs.declared.parts.ExportPart.{ExportPart}
 use Rattle.sc_image.specs.declared.parts.ImportPart.{ImportPart}
 use Rattle.sc_image.specs.Layout.{stretch, most_globals}
-use Rattle.sc_image.specs.Bytes.{bit, flags, name_bytes, export_bytes, import_bytes, exports_bytes, imports_bytes, code_bytes, globals_bytes, comp_bytes, image_bytes}
+use Rattle.sc_image.specs.Bytes.{bit, flags, name_bytes, export_bytes, import_bytes, exports_bytes, imports_bytes, code_bytes, globals_bytes, comp_bytes, bytes_in_version}
 use Rattle.sc_image.specs.Rules.{is_same_name}
-use Rattle.sc_image.specs.Reading.{number_at, name_at, comp_name_at, export_at, exports_at, import_at, imports_at, code_at, globals_at, comp_at, parts_at}
+use Rattle.sc_image.specs.Reading.{number_at, name_at, comp_name_at, export_at, exports_at, import_at, imports_at, code_at, globals_at, comp_at, parts_in_version}
 use Rattle.sc_image.proofs.Fits.{short_name}
 use Rattle.sc_image.proofs.Fields.{IsBytes, IsField, restated, made, tested, followed, bytes_field, number_field, byte_field, many_field, two_wide, four_wide}
 
@@ -268,12 +268,12 @@ mark_is_bytes : IsBytes (codes "SCIM")
 unfolding is_name
 mark_is_bytes = name_is_bytes (codes "SCIM") refl
 
-parts_field : IsField parts_at image_bytes FitsParts
-unfolding parts_at
-parts_field =
+parts_field : (version : ℕ) → version < 2 ^ 16 → IsField (parts_in_version version) (bytes_in_version version) FitsParts
+unfolding parts_in_version
+parts_field version low =
     restated
     (followed (tested (bytes_field Mark 4) Mark (λ mark. is_same_name mark (codes "SCIM"))) (λ (parts : ImageParts). codes "SCIM") (λ mark ok.
-    followed (tested (number_field Version 2 two_wide) Version (λ v. v == 1)) (λ (parts : ImageParts). 1) (λ version ok.
+    followed (tested (number_field Version 2 two_wide) Version (λ v. v == version)) (λ (parts : ImageParts). version) (λ same ok.
     followed (tested (byte_field Count) Count (is_between 1 32)) (λ (parts : ImageParts). length parts.comps) (λ count ok.
     followed (tested (byte_field Start) Start (λ c. nat_lt c count)) (λ (parts : ImageParts). parts.main) (λ main ok_main.
     followed (number_field Start 4 four_wide) (λ (parts : ImageParts). parts.entry) (λ entry ok_entry.
@@ -282,7 +282,7 @@ parts_field =
     (λ entry y a b. ap (λ (p : ImageParts). p.entry) b.1))
     (λ main y a b. ap (λ (p : ImageParts). p.main) b.1.1))
     (λ count y a b. b.1.1.0.0))
-    (λ version y a b. sym (eqb-true _ _ a.1)))
+    (λ same y a b. sym (eqb-true _ _ a.1)))
     (λ mark y a b. sym (same_text mark (codes "SCIM") (sym a.1))))
     (λ parts h. refl)
     (λ parts h. record {
@@ -295,14 +295,16 @@ parts_field =
     (λ parts h. (
       ((refl, mark_is_bytes), refl),
       (
-        (omega arith, refl),
+        (omega (arith, low), eq-eqb version version refl),
         ((omega (arith, h.few), count_passes (length parts.comps) h.some h.few), ((omega (arith, h.main, h.few), lt-ltb _ _ h.main), (h.entry, ((refl, h.comps), refl)))),
       ),
     ))
 
-pub parts_take : (bytes : List ℕ) (parts : ImageParts) (rest : List ℕ) → IsBytes bytes → parts_at bytes ≡ Ok (parts, rest) →
-    (bytes ≡ image_bytes parts ++ rest) × FitsParts parts
-parts_take bytes parts rest fits e = let took = parts_field.takes bytes parts rest fits e in (took.0.parts, took.1)
+pub parts_take : (version : ℕ) → version < 2 ^ 16 → (bytes : List ℕ) (parts : ImageParts) (rest : List ℕ) → IsBytes bytes →
+    parts_in_version version bytes ≡ Ok (parts, rest) → (bytes ≡ bytes_in_version version parts ++ rest) × FitsParts parts
+parts_take version low bytes parts rest fits e =
+    let took = (parts_field version low).takes bytes parts rest fits e in (took.0.parts, took.1)
 
-pub parts_again : (parts : ImageParts) (rest : List ℕ) → FitsParts parts → parts_at (image_bytes parts ++ rest) ≡ Ok (parts, rest)
-parts_again parts rest fits = parts_field.again parts rest fits
+pub parts_again : (version : ℕ) → version < 2 ^ 16 → (parts : ImageParts) (rest : List ℕ) → FitsParts parts →
+    parts_in_version version (bytes_in_version version parts ++ rest) ≡ Ok (parts, rest)
+parts_again version low parts rest fits = (parts_field version low).again parts rest fits

@@ -1,41 +1,46 @@
 -- What is read is an image with these bytes, and what an image is written as is read as it.
-use Rattle.std.proofs.Common.{◌≡◌, ℕ, ◌≤◌, ◌&&◌, List, [], ◌++◌, length, Option, Some, None, Result, Ok, Err, refl, sym, ap, subst, ◌∙◌}
+use Rattle.std.proofs.Common.{◌≡◌, ℕ, ◌≤◌, ◌<◌, ◌^◌, arith, ◌&&◌, List, [], ◌++◌, length, Option, Some, None, Result, Ok, Err, refl, sym, ap, subst, ◌∙◌}
 use Rattle.std.specs.Prelude.{◌==◌}
 use Rattle.std.proofs.lemmas.Bool.{eqb-true, and_parts}
 use Rattle.std.proofs.lemmas.List.{append-nil, nil_from_length}
 use Rattle.sc_image.specs.declared.fault.BadImage.{BadImage}
 use Rattle.sc_image.specs.declared.fault.BadImage.TheVariants.{Whole}
 use Rattle.sc_image.specs.declared.parts.ImageParts.{ImageParts}
-use Rattle.sc_image.specs.Bytes.{image_bytes}
+use Rattle.sc_image.specs.Bytes.{version, image_bytes}
 use Rattle.sc_image.specs.Rules.{keeps_rules}
-use Rattle.sc_image.specs.Reading.{if_good, parts_at, image_of, cause_of, bad}
+use Rattle.sc_image.specs.Reading.{if_good, parts_in_version, image_in_version, image_of, cause_of, bad}
 use Rattle.sc_image.specs.WellFormed.{IsWellFormed}
 use Rattle.sc_image.specs.RoundTrip.{IsImage, BytesNameOneImage, BadOrImage}
 use Rattle.sc_image.proofs.Fields.{IsBytes, bytes_fit, bind_ok, good_ok}
 use Rattle.sc_image.proofs.FileFields.{parts_take, parts_again}
 use Rattle.sc_image.proofs.Whole.{whole_is, rules_are_kept, parts_fit}
 
+low_version : version < 2 ^ 16
+low_version = omega arith
+
 -- what is read is well formed, and these are its bytes
 pub is_read : (bytes : List ℕ) (image : ImageParts) → IsBytes bytes → image_of bytes ≡ Ok image → IsWellFormed image × (bytes ≡ image_bytes image)
-unfolding image_of
+unfolding image_in_version
 is_read bytes image fits e =
-    let a = bind_ok (parts_at bytes) (λ x. if_good Whole (length x.1 == 0 && keeps_rules x.0) x.0) image e in
+    let a = bind_ok (parts_in_version version bytes) (λ x. if_good Whole (length x.1 == 0 && keeps_rules x.0) x.0) image e in
     let g = good_ok Whole (length a.0.1 == 0 && keeps_rules a.0.0) a.0.0 image a.2 in
     let tests = and_parts (length a.0.1 == 0) (keeps_rules a.0.0) g.0 in
-    let took = parts_take bytes a.0.0 a.0.1 fits a.1 in
+    let took = parts_take version low_version bytes a.0.0 a.0.1 fits a.1 in
     let none : a.0.1 ≡ [] = nil_from_length a.0.1 (eqb-true _ _ tests.0) in
     let all : bytes ≡ image_bytes a.0.0 = took.0 ∙ ap (λ (rest : List ℕ). image_bytes a.0.0 ++ rest) none ∙ append-nil (image_bytes a.0.0) in
     subst (λ (x : ImageParts). IsWellFormed x × (bytes ≡ image_bytes x)) g.1 (whole_is a.0.0 took.1 tests.1, all)
 
-pub parts_are_few : (bytes : List ℕ) (parts : ImageParts) (rest : List ℕ) → IsBytes bytes → parts_at bytes ≡ Ok (parts, rest) → length parts.comps ≤ 32
-parts_are_few bytes parts rest fits e = (parts_take bytes parts rest fits e).1.few
+pub parts_are_few : (bytes : List ℕ) (parts : ImageParts) (rest : List ℕ) → IsBytes bytes →
+    parts_in_version version bytes ≡ Ok (parts, rest) → length parts.comps ≤ 32
+parts_are_few bytes parts rest fits e = (parts_take version low_version bytes parts rest fits e).1.few
 
 -- the bytes of an image are read as it
 pub is_read_again : (image : ImageParts) → IsWellFormed image → image_of (image_bytes image) ≡ Ok image
-unfolding image_of
+unfolding image_in_version
 is_read_again image formed =
-    let parts : parts_at (image_bytes image) ≡ Ok (image, []) =
-    ap parts_at (sym (append-nil (image_bytes image))) ∙ parts_again image [] (parts_fit image formed) in
+    let parts : parts_in_version version (image_bytes image) ≡ Ok (image, []) =
+    ap (parts_in_version version) (sym (append-nil (image_bytes image))) ∙
+    parts_again version low_version image [] (parts_fit image formed) in
     rw (parts, rules_are_kept image formed) refl
 
 pub one_image_each : BytesNameOneImage

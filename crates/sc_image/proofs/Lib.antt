@@ -8,6 +8,7 @@ pub mod Fits
 pub mod OneComp
 pub mod Words
 pub mod Data
+pub mod AtStart
 pub mod Cases
 pub mod Bytes
 pub mod Reached
@@ -23,4 +24,5 @@ pub mod Loops
 pub mod Keeping
 pub mod Walking
 pub mod Stretches
+pub mod Telling
 pub mod WordInterfaces

@@ -9,7 +9,7 @@ use Rattle.sc_image.specs.declared.parts.ImportPart.{ImportPart}
 use Rattle.sc_image.specs.Bytes.{image_bytes}
 use Rattle.sc_image.specs.Layout.{word_at}
 use Rattle.sc_image.specs.Rules.{keeps_rules}
-use Rattle.sc_image.specs.Reading.{number_that, fields_at, name_at, comp_name_at, export_at, exports_at, import_at, imports_at, code_at, globals_at, comp_at, parts_at, image_of, bad}
+use Rattle.sc_image.specs.Reading.{number_that, fields_at, name_at, comp_name_at, export_at, exports_at, import_at, imports_at, code_at, globals_at, comp_at, parts_in_version, image_in_version, image_of, bad}
 
 abbrev from_start : List ℕ
 from_start = 1 ∷ 0x4d ∷ 2 ∷ 0 ∷ 0 ∷ 0 ∷ 0 ∷ 0x14 ∷ 0 ∷ 0 ∷ 0 ∷
@@ -25,7 +25,7 @@ fronts : (map (λ k. bad (take k seven)) (range_with_len 0 47) ≡
     (replicate 2 (Some Exports) ++ (replicate 2 (Some Imports) ++ replicate 28 (Some Contents)))))))) ×
     (bad seven ≡ None) ×
     (bad (seven ++ 0 ∷ []) ≡ Some Whole)
-unfolding image_of parts_at comp_at comp_name_at name_at exports_at imports_at code_at globals_at fields_at is_name word_at
+unfolding image_in_version parts_in_version comp_at comp_name_at name_at exports_at imports_at code_at globals_at fields_at is_name word_at
 fronts = (refl, refl, refl)
 
 -- fields that are there and bad
@@ -42,7 +42,7 @@ starts : (bad (0x53 ∷ 0x43 ∷ 0x49 ∷ 0x4e ∷ []) ≡ Some Mark) ×
     (bad (starting 1 1 0 20) ≡ Some Whole) ×
     (bad (starting 1 1 0 2) ≡ Some Whole) ×
     (bad (starting 1 1 0 16) ≡ None)
-unfolding image_of parts_at comp_at comp_name_at name_at exports_at imports_at code_at globals_at fields_at is_name word_at
+unfolding image_in_version parts_in_version comp_at comp_name_at name_at exports_at imports_at code_at globals_at fields_at is_name word_at
 starts = (refl, refl, refl, refl, refl, refl, refl, refl, refl, refl)
 
 -- names of 1 to 63 bytes
@@ -111,5 +111,5 @@ rules = (refl, refl, refl, refl, refl, refl, refl, refl, refl)
 -- an image with every table is read from its bytes
 reads_all : image_of (image_bytes (pair (import 1 0 ∷ import 1 1 ∷ []) (codes "B") 0x01100000 0x01100004)) ≡
     Ok (pair (import 1 0 ∷ import 1 1 ∷ []) (codes "B") 0x01100000 0x01100004)
-unfolding image_of parts_at comp_at comp_name_at name_at exports_at export_at imports_at import_at code_at globals_at fields_at is_name word_at
+unfolding image_in_version parts_in_version comp_at comp_name_at name_at exports_at export_at imports_at import_at code_at globals_at fields_at is_name word_at
 reads_all = refl

@@ -20,7 +20,7 @@ use Rattle.sc_image.proofs.Walking.{walk_one, walk_together}
 
 -- A step adds events at the end of the trace.
 
-abbrev IsFront : List Event → List Event → Type 0
+abbrev pub IsFront : List Event → List Event → Type 0
 IsFront xs ys = (rest : List Event) × (xs ++ rest ≡ ys)
 
 front_self : (xs : List Event) → IsFront xs xs
@@ -65,7 +65,7 @@ step_adds image inputs state formed = step_of image inputs formed state (Adds_to
 })
 
 module _ (image : ImageParts) (inputs : List ℕ) (formed : IsWellFormed image) where
-  goes_adds : (state next : State) → step image inputs state ≡ Goes next → IsFront state.trace next.trace
+  pub goes_adds : (state next : State) → step image inputs state ≡ Goes next → IsFront state.trace next.trace
   goes_adds state next goes = subst (Adds_to state.trace) goes (step_adds image inputs state formed)
 
   walked_adds : (n : ℕ) (state to : State) (outcome : Outcome) → step image inputs state ≡ outcome →
@@ -74,7 +74,7 @@ module _ (image : ImageParts) (inputs : List ℕ) (formed : IsWellFormed image) 
   walked_adds n state to (Goes next) is goes later = front_on state.trace next.trace to.trace (goes_adds state next is) (later next goes)
   walked_adds n state to (Traps reason) is goes later = let never : Traps reason ≡ Goes to = goes in cc never
 
-  walk_adds : (n : ℕ) (state to : State) → walk image inputs n state ≡ Goes to → IsFront state.trace to.trace
+  pub walk_adds : (n : ℕ) (state to : State) → walk image inputs n state ≡ Goes to → IsFront state.trace to.trace
   walk_adds zero state to goes = let same : state ≡ to = cc goes in subst (λ (t : State). IsFront state.trace t.trace) same (front_self state.trace)
   walk_adds (suc n) state to goes = walked_adds n state to (step image inputs state) refl goes (λ next. walk_adds n next to)
 
@@ -129,7 +129,7 @@ module _ (image : ImageParts) (inputs : List ℕ) (formed : IsWellFormed image) 
   not_ended events trace false full at is = at
   not_ended events trace true full at is = let never : ◌≡◌ {A = Option Stop} (Some Ended) None = is in cc never
 
-  goes_on : (events : ℕ) (trace : List Event) → stopped events trace ≡ None → is_ended trace ≡ false
+  pub goes_on : (events : ℕ) (trace : List Event) → stopped events trace ≡ None → is_ended trace ≡ false
   unfolding stopped
   goes_on events trace is = not_ended events trace (is_ended trace) (nat_le events (length trace)) refl is
 
@@ -155,7 +155,7 @@ module _ (image : ImageParts) (inputs : List ℕ) (formed : IsWellFormed image) 
       (λ early. comes_after from (step image inputs from) (run image inputs events steps) refl (goes_on events from.trace early) (comes events steps))
 
   -- a run comes along such a stretch
-  not_stopped : (events : ℕ) (trace : List Event) → is_ended trace ≡ false → length trace < events →
+  pub not_stopped : (events : ℕ) (trace : List Event) → is_ended trace ≡ false → length trace < events →
       stopped events trace ≡ None
   unfolding stopped
   not_stopped events trace going below = rw (going, lt-leb events (length trace) below) refl

@@ -63,7 +63,7 @@ last_of xs x = let at : length (xs ++ x ∷ []) - 1 ≡ length xs = omega (arith
     by_length [] x = refl
     by_length (y ∷ xs) x = by_length xs x
 
-ended_by : (trace : List Event) (event : Event) → is_ended (trace ++ event ∷ []) ≡ is_end event
+pub ended_by : (trace : List Event) (event : Event) → is_ended (trace ++ event ∷ []) ≡ is_end event
 ended_by trace event = ap (λ (last : Option Event). option_map_or is_end last false) (last_of trace event)
 
 -- The interfaces of the image.

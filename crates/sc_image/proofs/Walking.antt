@@ -1,15 +1,22 @@
 -- Stretches of a run, steps by their instruction, and what stands in memory at the start.
-use Rattle.std.proofs.Common.{◌≡◌, ℕ, zero, suc, ◌+◌, ◌-◌, ◌*◌, ◌/◌, ◌%◌, ◌<◌, true, false, nat_eq, nat_le, nat_lt, List, [], ◌∷◌, ◌++◌, length, Some, refl, ◌∙◌, ap, arith, suc-add, zero-add}
-use Rattle.std.specs.List.{slice_get}
-use Rattle.std.proofs.lemmas.Bool.{eq-eqb, le-leb, lt-ltb, le-ltb}
+use Rattle.std.proofs.Common.{◌≡◌, ℕ, zero, suc, ◌+◌, ◌-◌, ◌*◌, ◌/◌, ◌%◌, ◌^◌, ◌<◌, ◌≤◌, true, false, nat_eq, nat_le, nat_lt, List, [], ◌∷◌, ◌++◌, length, Option, Some, None, refl, sym, subst, ◌∙◌, ap, arith, suc-add, zero-add}
+use Rattle.std.specs.Prelude.{flat_map}
+use Rattle.std.specs.List.{slice_get, list_any}
+use Rattle.std.proofs.lemmas.Bool.{eq-eqb, le-leb, lt-ltb, le-ltb, or_left, or_right, and_from}
+use Rattle.std.proofs.lemmas.Option.{slice_get_within}
+use Rattle.byteorder.specs.Endian.{little_bytes}
 use Rattle.rv_code.specs.declared.instr.Instr.{Instr}
+use Rattle.sc_store.specs.declared.region.Region.{Region}
+use Rattle.sc_store.specs.Region.{is_in}
+use Rattle.sc_store.specs.Memory.{Memory, load_of, byte_of}
 use Rattle.sc_image.specs.declared.parts.ImageParts.{ImageParts}
 use Rattle.sc_image.specs.declared.parts.CompPart.{CompPart}
-use Rattle.sc_image.specs.WellFormed.{IsWellFormed}
-use Rattle.sc_image.specs.Layout.{stretch, stack_size, code_start, data_start, stack_top, comp_of_data, code_of, word_at}
-use Rattle.sc_image.specs.State.{State, start_memory, data_byte}
+use Rattle.sc_image.specs.WellFormed.{IsWord, IsWellFormed}
+use Rattle.sc_image.specs.Layout.{stretch, stack_size, code_start, data_start, stack_top, comp_of_data, code_of, word_at, data_regions, are_data}
+use Rattle.sc_image.specs.State.{State, start_memory}
 use Rattle.sc_image.specs.Step.{Outcome, Goes, Traps, execute, step, execute_by}
 use Rattle.sc_image.specs.Walks.{then_on, walk, Walks, IsAt, StepsByInstruction, ImageInMemory}
+use Rattle.sc_image.proofs.AtStart.{data_byte, start_is}
 use Rattle.sc_image.proofs.Stepping.{step_executes}
 
 -- Stretches.
@@ -80,12 +87,11 @@ code_placed image c word before after is =
 
 module _ (image : ImageParts) (c : ℕ) (comp : CompPart) (found : slice_get image.comps c ≡ Some comp) (offset : ℕ) (within : offset < stretch) where
   data_placed : start_memory image (data_start c + offset) ≡ data_byte offset comp
-  unfolding start_memory
   data_placed =
       let from : nat_lt (data_start c + offset) (data_start 0) ≡ false = le-ltb _ _ (omega arith) in
       let number : comp_of_data (data_start c + offset) ≡ c = omega (arith, within) in
       let place : (data_start c + offset - data_start 0) % stretch ≡ offset = omega (arith, within) in
-      rw (from, number, place, found) refl
+      start_is (data_start c + offset) image ∙ rw (from, number, place, found) refl
 
 stack_placed : (image : ImageParts) (c : ℕ) (comp : CompPart) (k : ℕ) → slice_get image.comps c ≡ Some comp →
     k < stack_size → start_memory image (data_start c + k) ≡ Some 0
@@ -102,5 +108,81 @@ globals_placed image c comp k formed found below =
     ap (start_memory image) at ∙ data_placed image c comp found (stack_size + k) (omega (arith, below, (formed.comps c comp found).short_globals)) ∙
     rw (high, place) refl
 
+-- The bytes of words, one after the other.
+
+first_byte : (word : ℕ) (others : List ℕ) (j : ℕ) → j < 4 →
+    slice_get (little_bytes 4 word ++ others) j ≡ Some (byte_of word j)
+first_byte word others zero within = ap Some (omega arith)
+first_byte word others (suc zero) within = refl
+first_byte word others (suc (suc zero)) within = refl
+first_byte word others (suc (suc (suc zero))) within = refl
+first_byte word others (suc (suc (suc (suc j)))) within = absurd (omega (arith, within))
+
+word_byte : (words : List ℕ) (k j word : ℕ) → j < 4 → slice_get words k ≡ Some word →
+    slice_get (flat_map (little_bytes 4) words) (4 * k + j) ≡ Some (byte_of word j)
+word_byte [] k j word within at = let none : ◌≡◌ {A = Option ℕ} None (Some word) = at in cc none
+word_byte (first ∷ words) zero j word within at =
+    let same : first ≡ word = cc at in
+    ap (slice_get (flat_map (little_bytes 4) (first ∷ words))) (zero-add j) ∙
+    first_byte first (flat_map (little_bytes 4) words) j within ∙
+    ap (λ w. Some (byte_of w j)) same
+word_byte (first ∷ words) (suc k) j word within at =
+    let place : 4 * suc k + j ≡ suc (suc (suc (suc (4 * k + j)))) = omega arith in
+    ap (slice_get (flat_map (little_bytes 4) (first ∷ words))) place ∙ word_byte words k j word within at
+
+-- four bytes are the number that they make
+four_bytes : (word : ℕ) → word < 2 ^ 32 →
+    0 + byte_of word 0 * 256 ^ 0 + byte_of word 1 * 256 ^ 1 + byte_of word 2 * 256 ^ 2 + byte_of word 3 * 256 ^ 3 ≡ word
+four_bytes word below = omega (arith, below)
+
+load_is : (memory : Memory) (a word : ℕ) → word < 2 ^ 32 →
+    ((j : ℕ) → j < 4 → memory (a + j) ≡ Some (byte_of word j)) → load_of memory a 4 ≡ word
+load_is memory a word below bytes =
+    rw (bytes 0 (omega arith), bytes 1 (omega arith), bytes 2 (omega arith), bytes 3 (omega arith))
+    (four_bytes word below)
+
+words_placed : (image : ImageParts) (c : ℕ) (comp : CompPart) (words : List ℕ) (k word : ℕ) → IsWellFormed image →
+    slice_get image.comps c ≡ Some comp → comp.globals ≡ flat_map (little_bytes 4) words →
+    slice_get words k ≡ Some word → IsWord word → load_of (start_memory image) (stack_top c + 4 * k) 4 ≡ word
+words_placed image c comp words k word formed found bytes at below =
+    load_is (start_memory image) (stack_top c + 4 * k) word below (λ j within.
+    let byte : slice_get comp.globals (4 * k + j) ≡ Some (byte_of word j) =
+    rw bytes (word_byte words k j word within at) in
+    let place : stack_top c + 4 * k + j ≡ stack_top c + (4 * k + j) = omega arith in
+    ap (start_memory image) place ∙
+    globals_placed image c comp (4 * k + j) formed found
+    (slice_get_within comp.globals (4 * k + j) (byte_of word j) byte) ∙ byte)
+
+-- The addresses of a region.
+
+any_in : (regions : List Region) (number address : ℕ) (region : Region) → slice_get regions number ≡ Some region →
+    is_in region address ≡ true → list_any (λ r. is_in r address) regions ≡ true
+any_in [] number address region at within = let none : ◌≡◌ {A = Option Region} None (Some region) = at in cc none
+any_in (first ∷ regions) zero address region at within =
+    let same : first ≡ region = cc at in
+    or_left (is_in first address) _ (subst (λ r. is_in r address ≡ true) (sym same) within)
+any_in (first ∷ regions) (suc number) address region at within =
+    or_right (is_in first address) _ (any_in regions number address region at within)
+
+within_region : (region : Region) (address : ℕ) → region.start ≤ address → address + 1 ≤ region.start + region.bytes →
+    is_in region address ≡ true
+within_region region address low high = and_from _ _ (le-leb _ _ low) (lt-ltb _ _ (omega (arith, high)))
+
+owned : (image : ImageParts) (c number address size : ℕ) (region : Region) →
+    slice_get (data_regions image c) number ≡ Some region → region.start ≤ address →
+    address + size ≤ region.start + region.bytes → are_data image c address size ≡ true
+unfolding are_data
+owned image c number address zero region at low high = refl
+owned image c number address (suc size) region at low high =
+    and_from _ _ (owned image c number address size region at low (omega (arith, high)))
+    (any_in (data_regions image c) number (address + size) region at
+    (within_region region (address + size) (omega (arith, low)) (omega (arith, high))))
+
 pub image_in_memory : ImageInMemory
-image_in_memory = record { code = code_placed; stack = stack_placed; globals = globals_placed }
+image_in_memory = record {
+  code = code_placed;
+  stack = stack_placed;
+  globals = globals_placed;
+  global_words = words_placed;
+  owned = owned;
+}

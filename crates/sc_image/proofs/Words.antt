@@ -174,13 +174,18 @@ no_export = record { name = []; params = 0; result = false; entry = 0 }
 
 entry_by : (image : ImageParts) → IsWellFormed image → (c target index : ℕ) (comp : Option CompPart) →
     slice_get image.comps c ≡ comp →
-    position (λ export. export.entry == target) (option_map_or (λ (x : CompPart). x.exports) comp []) ≡ Some index → IsWord target
+    position (λ export. export.entry == target) (option_map_or (λ (x : CompPart). x.exports) comp []) ≡ Some index →
+    IsSome (word_at image c target)
 entry_by image formed c target index None is at = let none : ◌≡◌ {A = Option ℕ} None (Some index) = at in cc none
 entry_by image formed c target index (Some comp) is at =
     let first = position-Some (λ (export : ExportPart). export.entry == target) comp.exports index no_export at in
     let entry = ((formed.comps c comp is).exports index no_export first.0).entry in
-    subst IsWord (eqb-true _ _ first.1) (code_address image formed c _ entry)
+    subst (λ (address : ℕ). IsSome (word_at image c address)) (eqb-true _ _ first.1) entry
+
+pub entry_code : (image : ImageParts) → IsWellFormed image → (c target index : ℕ) →
+    export_at image c target ≡ Some index → IsSome (word_at image c target)
+entry_code image formed c target index at = entry_by image formed c target index (slice_get image.comps c) refl at
 
 pub entry_address : (image : ImageParts) → IsWellFormed image → (c target index : ℕ) →
     export_at image c target ≡ Some index → IsWord target
-entry_address image formed c target index at = entry_by image formed c target index (slice_get image.comps c) refl at
+entry_address image formed c target index at = code_address image formed c target (entry_code image formed c target index at)

@@ -1,5 +1,5 @@
 -- Where things lie in memory. A compartment has a stretch of addresses for its code and one for its data, both found by its number.
-use Rattle.std.specs.Prelude.{ℕ, zero, suc, ◌+◌, ◌-◌, ◌*◌, ◌/◌, ◌%◌, Bool, true, ◌&&◌, nat_le, nat_eq, List, [], ◌∷◌, length, slice_get, Option, None, if◌then◌else◌}
+use Rattle.std.specs.Prelude.{ℕ, zero, suc, ◌+◌, ◌-◌, ◌*◌, ◌/◌, ◌%◌, Bool, true, ◌&&◌, nat_le, nat_eq, List, [], ◌∷◌, length, map, slice_get, Option, None, if◌then◌else◌}
 use Rattle.std.specs.List.{list_any}
 use Rattle.std.specs.Option.{option_map_or}
 use Rattle.sc_store.specs.declared.region.Region.{Region}
@@ -52,10 +52,20 @@ unfoldable pub word_at : ImageParts → (c address : ℕ) → Option ℕ
 word_at image c address =
     if nat_eq (address % 4) 0 && nat_le (code_start c) address then slice_get (code_of image c) ((address - code_start c) / 4) else None
 
--- the regions of c's data: its stack, and its globals
+-- a region of data, and what it holds at the start: these bytes, and then zeros
+pub record Filled : Type 0 where
+  pub region : Region
+  pub bytes : List ℕ
+
+-- the data of compartment c with these globals: its stack, which holds zeros, and its globals
+abbrev pub data_with : (c : ℕ) → (globals : List ℕ) → List Filled
+data_with c globals =
+    record { region = record { start = data_start c; bytes = stack_size }; bytes = [] } ∷
+    record { region = record { start = stack_top c; bytes = length globals }; bytes = globals } ∷ []
+
+-- the regions of c's data
 abbrev pub data_regions : ImageParts → ℕ → List Region
-data_regions image c =
-    record { start = data_start c; bytes = stack_size } ∷ record { start = stack_top c; bytes = length (globals_of image c) } ∷ []
+data_regions image c = map (λ filled. filled.region) (data_with c (globals_of image c))
 
 -- so many bytes from an address on all lie in c's data
 unfoldable pub are_data : ImageParts → (c address size : ℕ) → Bool

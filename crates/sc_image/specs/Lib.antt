@@ -10,6 +10,7 @@ pub mod Own
 pub mod Steady
 pub mod Isolation
 pub mod Walks
+pub mod Telling
 pub mod Rules
 pub mod Reading
 pub mod RoundTrip

@@ -10,6 +10,7 @@ use Rattle.sc_image.specs.declared.parts.ImageParts.{ImageParts}
 use Rattle.sc_image.specs.declared.parts.CompPart.{CompPart}
 use Rattle.sc_image.specs.declared.parts.ExportPart.{ExportPart}
 use Rattle.sc_image.specs.declared.parts.ImportPart.{ImportPart}
+use Rattle.sc_image.specs.Bytes.{version}
 use Rattle.sc_image.specs.Layout.{stretch, most_globals}
 use Rattle.sc_image.specs.Rules.{is_same_name, keeps_rules}
 
@@ -143,23 +144,26 @@ comp_at comps bytes = do
     globals.1,
   )
 
--- the mark, the version, how many compartments there are, where the run starts, and each compartment
-unfoldable pub parts_at : List ℕ → Read ImageParts
-parts_at bytes = do
+-- the mark, this version, how many compartments there are, where the run starts, and each compartment
+unfoldable pub parts_in_version : (version : ℕ) → List ℕ → Read ImageParts
+parts_in_version version bytes = do
   mark ← mark_at bytes
-  version ← number_that (λ v. v == 1) Version 2 mark.1
-  count ← number_that (is_between 1 32) Count 1 version.1
+  same ← number_that (λ v. v == version) Version 2 mark.1
+  count ← number_that (is_between 1 32) Count 1 same.1
   main ← number_that (λ c. nat_lt c count.0) Start 1 count.1
   entry ← number_at Start 4 main.1
   comps ← fields_at (comp_at count.0) count.0 entry.1
   Ok (record { main = main.0; entry = entry.0; comps = comps.0 }, comps.1)
 
--- The image that the bytes are, or the cause of the first field that isn't good. Where all are, no byte may follow them, and the parts keep
--- the rules on a whole image.
-unfoldable pub image_of : List ℕ → Result ImageParts BadImage
-image_of bytes = do
-  parts ← parts_at bytes
+-- The image that the bytes are in this version, or the cause of the first field that isn't good. Where all are, no byte
+-- may follow them, and the parts keep the rules on a whole image.
+unfoldable pub image_in_version : (version : ℕ) → List ℕ → Result ImageParts BadImage
+image_in_version version bytes = do
+  parts ← parts_in_version version bytes
   if_good Whole (length parts.1 == 0 && keeps_rules parts.0) parts.0
+
+abbrev pub image_of : List ℕ → Result ImageParts BadImage
+image_of bytes = image_in_version version bytes
 
 abbrev pub cause_of : {A : Type 0} → Result A BadImage → Option BadImage
 cause_of (Ok x) = None

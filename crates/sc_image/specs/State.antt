@@ -1,12 +1,13 @@
 -- The machine's state, and the state that a run starts in.
-use Rattle.std.specs.Prelude.{ℕ, suc, ◌-◌, ◌%◌, nat_eq, nat_lt, List, [], ◌∷◌, ◌++◌, replicate, slice_get, slice_index, slice_set, Option, Some, None, if◌then◌else◌}
+use Rattle.std.specs.Prelude.{ℕ, suc, ◌-◌, nat_eq, List, [], ◌∷◌, ◌++◌, replicate, slice_get, slice_index, slice_set, Option, Some, None, if◌then◌else◌}
 use Rattle.std.specs.Option.{option_and_then}
 use Rattle.sc_event.specs.declared.event.Event.{Event}
 use Rattle.sc_event.specs.declared.row.Entry.{Entry}
+use Rattle.sc_store.specs.Region.{is_in}
 use Rattle.sc_store.specs.Memory.{Memory}
 use Rattle.sc_image.specs.declared.parts.ImageParts.{ImageParts}
 use Rattle.sc_image.specs.declared.parts.CompPart.{CompPart}
-use Rattle.sc_image.specs.Layout.{stretch, data_start, comp_of_data, stack_size, stack_top, gate}
+use Rattle.sc_image.specs.Layout.{comp_of_data, stack_top, gate, Filled, data_with}
 
 -- a call of another compartment that hasn't returned
 pub record Crossing : Type 0 where
@@ -72,15 +73,17 @@ with_event state event = record state { trace = state.trace ++ event ∷ [] }
 
 -- The start.
 
--- the byte of a compartment's data at an offset: a stack of zeros, and then the globals
-abbrev pub data_byte : ℕ → CompPart → Option ℕ
-data_byte offset comp = if nat_lt offset stack_size then Some 0 else slice_get comp.globals (offset - stack_size)
+-- the byte at an address of these regions
+abbrev pub byte_at : List Filled → Memory
+byte_at [] address = None
+byte_at (filled ∷ others) address =
+    if is_in filled.region address then Some (slice_index filled.bytes (address - filled.region.start)) else byte_at others address
 
--- the bytes at the start
+-- the bytes at the start: those of the compartment's data in whose stretch an address lies
 unfoldable pub start_memory : ImageParts → Memory
 start_memory image address =
-    if nat_lt address (data_start 0) then None
-    else option_and_then (data_byte ((address - data_start 0) % stretch)) (slice_get image.comps (comp_of_data address))
+    let c = comp_of_data address in
+    option_and_then (λ comp. byte_at (data_with c comp.globals) address) (slice_get image.comps c)
 
 -- the stack tops of the compartments from number c on
 abbrev pub stack_tops : ℕ → List CompPart → List ℕ

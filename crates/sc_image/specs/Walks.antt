@@ -1,6 +1,7 @@
 -- Stretches of a run, for proofs about code: so many steps that lead from one state to another, and what they say of
 -- whole runs.
-use Rattle.std.specs.Prelude.{◌≡◌, ℕ, zero, suc, ◌+◌, ◌*◌, ◌<◌, ℤ, true, false, List, ◌∷◌, ◌++◌, length, slice_get, Some, None}
+use Rattle.std.specs.Prelude.{◌≡◌, ℕ, zero, suc, ◌+◌, ◌*◌, ◌<◌, ◌≤◌, ℤ, true, false, List, ◌∷◌, ◌++◌, length, flat_map, slice_get, Some, None}
+use Rattle.byteorder.specs.Endian.{little_bytes}
 use Rattle.sc_base.specs.declared.stop.Stop.TheVariants.{StepsOut, Trap}
 use Rattle.sc_base.specs.declared.stop.Stop.{Stop}
 use Rattle.sc_base.specs.declared.stop.TrapReason.{TrapReason}
@@ -17,10 +18,12 @@ use Rattle.rv_code.specs.declared.instr.OpImmOp.{OpImmOp}
 use Rattle.rv_code.specs.declared.instr.ShiftOp.{ShiftOp}
 use Rattle.rv_code.specs.declared.instr.OpOp.{OpOp}
 use Rattle.rv_code.specs.Decoding.{decoded}
+use Rattle.sc_store.specs.declared.region.Region.{Region}
+use Rattle.sc_store.specs.Memory.{load_of}
 use Rattle.sc_image.specs.declared.parts.ImageParts.{ImageParts}
 use Rattle.sc_image.specs.declared.parts.CompPart.{CompPart}
-use Rattle.sc_image.specs.WellFormed.{IsWellFormed}
-use Rattle.sc_image.specs.Layout.{stack_size, code_start, data_start, stack_top, code_of, word_at}
+use Rattle.sc_image.specs.WellFormed.{IsWord, IsWellFormed}
+use Rattle.sc_image.specs.Layout.{stack_size, code_start, data_start, stack_top, code_of, word_at, data_regions, are_data}
 use Rattle.sc_image.specs.State.{State, reg, start_memory}
 use Rattle.sc_image.specs.Step.{Outcome, Goes, Traps, next, gives, computed, on_registers, shift_on_registers, compares, load, store, jump, calls, leaves, jalr_target, environment_call, step}
 use Rattle.sc_image.specs.Machine.{is_ended, stopped, run}
@@ -116,3 +119,11 @@ pub record ImageInMemory : Type 0 where
   pub globals : (image : ImageParts) (c : ℕ) (comp : CompPart) (k : ℕ) → IsWellFormed image →
       slice_get image.comps c ≡ Some comp →
       k < length comp.globals → start_memory image (stack_top c + k) ≡ slice_get comp.globals k
+  -- where the globals are words, the lowest byte first, LW reads each
+  pub global_words : (image : ImageParts) (c : ℕ) (comp : CompPart) (words : List ℕ) (k word : ℕ) → IsWellFormed image →
+      slice_get image.comps c ≡ Some comp → comp.globals ≡ flat_map (little_bytes 4) words →
+      slice_get words k ≡ Some word → IsWord word → load_of (start_memory image) (stack_top c + 4 * k) 4 ≡ word
+  -- the addresses of a region of the compartment's data are its data
+  pub owned : (image : ImageParts) (c number address size : ℕ) (region : Region) →
+      slice_get (data_regions image c) number ≡ Some region → region.start ≤ address →
+      address + size ≤ region.start + region.bytes → are_data image c address size ≡ true

@@ -4,6 +4,9 @@ ghost use Rattle.sc_image.specs.WellFormed.{IsWellFormed};
 use crate::ImageParts;
 use std::marker::Model;
 
+/// The version of the format that images are written in.
+pub(crate) const VERSION: u16 = 1;
+
 /// A program that the machine can run. Contracts see its parts, which are well formed.
 #[derive(Drop)]
 pub struct Image {

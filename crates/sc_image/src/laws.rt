@@ -4,6 +4,7 @@
 ghost use Rattle.sc_image.specs.Interfaces.{TracesAreLegal, LegalByWords};
 ghost use Rattle.sc_image.specs.Isolation.{LeavesOthers, FollowsFromOwn, EntersByEvent, RunsAreSteady};
 ghost use Rattle.sc_image.specs.Walks.{StretchesCompose, StepsByInstruction, ImageInMemory};
+ghost use Rattle.sc_image.specs.Telling.{TellingComposes, StepsTell};
 ghost use Rattle.sc_image.specs.RoundTrip.{BytesNameOneImage, BadOrImage};
 
 /// Bytes are those of one image at most.
@@ -58,6 +59,16 @@ pub fn stretches_compose()
 /// What a step is, by the instruction at the pc.
 pub fn steps_by_instruction()
     ensures { StepsByInstruction }
+{}
+
+/// Stretches that tell events follow one another, and a run goes along them with the trace that they tell.
+pub fn telling_composes()
+    ensures { TellingComposes }
+{}
+
+/// What a call, a return, an output, an input and the end of a run tell, by the instruction at the pc.
+pub fn steps_tell()
+    ensures { StepsTell }
 {}
 
 /// Where an image's words of code and bytes of data stand at the start.

@@ -1,12 +1,13 @@
 //! Images read from their bytes. Behind the first two, each function takes a field from the front of the bytes that are left.
 
 ghost use Rattle.std.specs.Prelude.{◌≡◌, ◌≤◌, ◌==◌, nat_le, nat_lt, Some, None, IfOk, OnOk, IsErrOf};
-ghost use Rattle.sc_image.specs.Bytes.{image_bytes};
-ghost use Rattle.sc_image.specs.Reading.{Gives, bytes_at, number_at, number_that, fields_at, name_at, mark_at, comp_name_at, export_at, exports_at, import_at, imports_at, code_at, globals_at, comp_at, parts_at, image_of, bad};
+ghost use Rattle.sc_image.specs.Bytes.{version, image_bytes};
+ghost use Rattle.sc_image.specs.Reading.{Gives, bytes_at, number_at, number_that, fields_at, name_at, mark_at, comp_name_at, export_at, exports_at, import_at, imports_at, code_at, globals_at, comp_at, parts_in_version, image_of, bad};
 ghost use Rattle.sc_base.specs.Identifier.{is_between};
 ghost use Rattle.sc_image.specs.declared.fault.BadImage.TheVariants.{Version, Count, Contents};
 ghost use Rattle.sc_image.specs.declared.fault.ImageFault.TheVariants.{Bad};
 
+use crate::image::VERSION;
 use crate::layout::{MOST_GLOBALS, STRETCH};
 use crate::rules::keeps_rules;
 use crate::{
@@ -29,7 +30,7 @@ pub fn read_image(alloc: Global, bytes: &[u8]) -> Result<Image, ImageFault>
     Ok(Image::new(parts))
 }
 
-#[tactic(auto, unfolding(crate::specs::Reading::image_of))]
+#[tactic(auto, unfolding(crate::specs::Reading::image_in_version))]
 fn image_of(alloc: Global, bytes: &[u8]) -> Result<ImageParts, ImageFault>
     ensures { Gives (λ parts. parts) result (image_of bytes.now) }
 {
@@ -42,9 +43,9 @@ fn image_of(alloc: Global, bytes: &[u8]) -> Result<ImageParts, ImageFault>
     Ok(parts)
 }
 
-#[tactic(auto, unfolding(crate::specs::Reading::parts_at))]
+#[tactic(auto, unfolding(crate::specs::Reading::parts_in_version))]
 fn parts_at(alloc: Global, bytes: &mut &[u8]) -> Result<ImageParts, ImageFault>
-    ensures { Gives (λ x. (x, bytes.new.now)) result (parts_at bytes.old.now) }
+    ensures { Gives (λ x. (x, bytes.new.now)) result (parts_in_version version bytes.old.now) }
 {
     mark_at(bytes)?;
     version_at(bytes)?;
@@ -66,10 +67,10 @@ fn mark_at<'a>(bytes: &mut &'a [u8]) -> Result<&'a [u8], ImageFault>
 }
 
 fn version_at(bytes: &mut &[u8]) -> Result<u16, ImageFault>
-    ensures { Gives (λ x. (x, bytes.new.now)) result (number_that (λ v. v == 1) Version 2 bytes.old.now) }
+    ensures { Gives (λ x. (x, bytes.new.now)) result (number_that (λ v. v == version) Version 2 bytes.old.now) }
 {
     let version = u16_at(BadImage::Version, bytes)?;
-    if version != 1 {
+    if version != VERSION {
         return Err(ImageFault::Bad(BadImage::Version));
     }
     Ok(version)

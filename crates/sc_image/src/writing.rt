@@ -2,12 +2,13 @@ ghost use Rattle.std.specs.Prelude.{◌≡◌, ◌*◌, ◌^◌, ◌<◌, ◌++�
 ghost use Rattle.byteorder.specs.Endian.{little_bytes};
 ghost use Rattle.sc_image.specs.Bytes.{name_bytes, flags, export_bytes, import_bytes, exports_bytes, imports_bytes, code_bytes, globals_bytes, comp_bytes, image_bytes, FitsItsFields};
 
+use crate::image::VERSION;
 use crate::{CompPart, ExportPart, Image, ImportPart};
 use byteorder::{ByteOrder, LittleEndian};
 use sc_base::{Name, OutOfMemory, Text};
 use std::alloc::Global;
 
-/// The bytes of the image, in version 1 of the format.
+/// The bytes of the image.
 pub fn write_image(alloc: Global, image: &Image) -> Result<Text, OutOfMemory>
     ensures { IfOk result (λ text. text ≡ image_bytes image.now) }
 {
@@ -15,7 +16,7 @@ pub fn write_image(alloc: Global, image: &Image) -> Result<Text, OutOfMemory>
     let comps = parts.comps.as_slice();
     let mut text = Text::new(alloc);
     text.append(b"SCIM")?;
-    append_u16(&mut text, 1)?;
+    append_u16(&mut text, VERSION)?;
     text.push(comps.len() as u8)?;
     text.push(parts.main.number())?;
     append_u32(&mut text, parts.entry)?;

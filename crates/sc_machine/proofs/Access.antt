@@ -14,6 +14,7 @@ use Rattle.sc_image.specs.declared.parts.ImageParts.{ImageParts}
 use Rattle.sc_image.specs.declared.parts.CompPart.{CompPart}
 use Rattle.sc_image.specs.Layout.{stretch, most_globals, stack_size, data_start, stack_top, comp_of_data, globals_of, are_data}
 use Rattle.sc_image.specs.State.{State, start_memory}
+use Rattle.sc_image.proofs.AtStart.{start_is}
 use Rattle.sc_image.proofs.Data.{range_of, data_bounds}
 use Rattle.sc_image.specs.Step.{Traps, next, gives, load_size, store_size, extended, refused, load, store, with_stored}
 use Rattle.sc_machine.specs.Place.{IsPlace, IsLookedUp}
@@ -45,12 +46,11 @@ there_by offset comp false is h =
 
 start_there : (image : ImageParts) (c a : ℕ) (comp : CompPart) → slice_get image.comps c ≡ Some comp → length comp.globals ≤ most_globals →
     data_start c ≤ a → a < stack_top c + length comp.globals → is_some (start_memory image a) ≡ true
-unfolding start_memory
 start_there image c a comp found few low high =
     let above : nat_lt a (data_start 0) ≡ false = le-ltb a (data_start 0) (omega arith) in
     let number : comp_of_data a ≡ c = omega arith in
     let offset : (a - data_start 0) % stretch ≡ a - data_start c = omega arith in
-    rw (above, number, found, offset) (there_by (a - data_start c) comp (nat_lt (a - data_start c) stack_size) refl (omega arith))
+    ap is_some (start_is a image) ∙ rw (above, number, found, offset) (there_by (a - data_start c) comp (nat_lt (a - data_start c) stack_size) refl (omega arith))
 
 found_there : (image : ImageParts) (c a size : ℕ) (comp : CompPart) → slice_get image.comps c ≡ Some comp → length comp.globals ≤ most_globals →
     are_data image c a size ≡ true → HasBytes (start_memory image) a size

@@ -16,7 +16,8 @@ use Rattle.sc_image.specs.declared.parts.ImageParts.{ImageParts}
 use Rattle.sc_image.specs.declared.parts.CompPart.{CompPart}
 use Rattle.sc_image.specs.WellFormed.{IsWellFormed}
 use Rattle.sc_image.specs.Layout.{stretch, most_globals, stack_size, data_start, stack_top, comp_of_data}
-use Rattle.sc_image.specs.State.{data_byte, start_memory, stack_tops}
+use Rattle.sc_image.specs.State.{start_memory, stack_tops}
+use Rattle.sc_image.proofs.AtStart.{data_byte, start_is}
 use Rattle.sc_machine.specs.Regions.{HasFewGlobals, region_of, regions_from, filled_from}
 
 -- One byte.
@@ -232,24 +233,21 @@ module _ (image : ImageParts) (few : All HasFewGlobals image.comps) (a : ℕ) wh
   filled = filled_from 0 image.comps (zeros (regions_from 0 image.comps)) a
 
   below_all : a < data_start 0 → filled ≡ start_memory image a
-  unfolding start_memory
   below_all low =
-      kept_below image.comps 0 (zeros (regions_from 0 image.comps)) a low ∙ no_zero_below image.comps 0 a low ∙ sym (rw (lt-ltb a (data_start 0) low) refl)
+      kept_below image.comps 0 (zeros (regions_from 0 image.comps)) a low ∙ no_zero_below image.comps 0 a low ∙ sym (start_is a image ∙ rw (lt-ltb a (data_start 0) low) refl)
 
   past_all : (n : ℕ) → data_start 0 ≤ a → comp_of_data a ≡ n → length image.comps ≤ n → filled ≡ start_memory image a
-  unfolding start_memory
   past_all n from number past =
       let high : data_start (0 + length image.comps) ≤ a = omega arith in
       let nobody : slice_get image.comps (comp_of_data a) ≡ None = slice_get_past image.comps (comp_of_data a) (omega arith) in
       kept_past image.comps 0 (zeros (regions_from 0 image.comps)) a few high ∙ no_zero_past image.comps 0 a few high ∙
-      sym (rw (le-ltb a (data_start 0) from, nobody) refl)
+      sym (start_is a image ∙ rw (le-ltb a (data_start 0) from, nobody) refl)
 
   module _ (n : ℕ) (comp : CompPart) (from : data_start 0 ≤ a) (number : comp_of_data a ≡ n) (found : slice_get image.comps n ≡ Some comp) where
     own_start : start_memory image a ≡ data_byte (a - data_start n) comp
-    unfolding start_memory
     own_start =
         let offset : (a - data_start 0) % stretch ≡ a - data_start n = omega arith in
-        rw (le-ltb a (data_start 0) from, number, found, offset) refl
+        start_is a image ∙ rw (le-ltb a (data_start 0) from, number, found, offset) refl
 
     own_filled : filled ≡ written (zeros (regions_from 0 image.comps)) (stack_top n) comp.globals a
     own_filled = filled_at image.comps 0 n n (zeros (regions_from 0 image.comps)) a comp (omega arith) few found (omega arith) (omega arith)

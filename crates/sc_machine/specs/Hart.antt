@@ -39,8 +39,8 @@ outcome_of (Ok _) state = Goes state
 outcome_of (Err reason) state = Traps reason
 
 -- the registers with a word in one of them, and the pc at the next instruction
-abbrev pub given : Core → (rd word : ℕ) → Core
-given core rd word = record { registers = written core.registers rd word; pc = core.pc + 4 }
+abbrev pub written_at_next : Core → (rd word : ℕ) → Core
+written_at_next core rd word = record { registers = written core.registers rd word; pc = core.pc + 4 }
 
 -- the address of the next instruction in one of the registers, and the pc elsewhere
 abbrev pub linked : Core → (rd target : ℕ) → Core

@@ -1,6 +1,6 @@
 //! Calls of other compartments.
 
-ghost use Rattle.std.specs.Prelude.{◌≡◌, ◌==◌, position, ◌+◌, ◌^◌, ◌<◌, ◌≤◌, ℕ, Some, length, IfOk, IfErr, OnErr};
+ghost use Rattle.std.specs.Prelude.{◌≡◌, ◌==◌, position, ◌+◌, ◌^◌, ◌<◌, ◌≤◌, Some, IfOk, IfErr, OnErr};
 ghost use Rattle.sc_store.specs.Memory.{Memory};
 ghost use Rattle.sc_image.specs.Calls.{exports_of, may_call, export_at, params_of};
 ghost use Rattle.sc_image.specs.Layout.{comp_of_code};
@@ -8,7 +8,7 @@ ghost use Rattle.sc_image.specs.State.{State};
 ghost use Rattle.sc_image.specs.Cross.{arguments, called};
 ghost use Rattle.sc_image.specs.Step.{Traps, export_called, calls};
 ghost use Rattle.sc_image.specs.WellFormed.{IsWellFormed};
-ghost use Rattle.sc_machine.specs.Hart.{state_in, outcome_of, IsSound, HasRoom, HasRoomForOne, IsReady, StaysSound};
+ghost use Rattle.sc_machine.specs.Hart.{state_in, outcome_of, IsReady, StaysSound};
 ghost use Rattle.sc_machine.specs.Passing.{IsCallee, entered};
 
 use crate::hart::{Core, Hart};
@@ -50,12 +50,12 @@ pub(crate) fn call_out(
         return Err(TrapReason::BadJump);
     }
     if let Some(callee) = here.callee(target) {
-        call(here.image(), hart, callee);
+        call(here, hart, callee);
         return Ok(());
     }
     match find_callee(here.image(), here.comp(), target) {
         Ok(callee) => {
-            call(here.image(), hart, &callee);
+            call(here, hart, &callee);
             Ok(())
         }
         Err(reason) => Err(reason),
@@ -118,16 +118,14 @@ fn may_call(image: &Image, caller: CompId, comp: CompId, index: u16) -> bool
 }
 
 /// Calls a function.
-fn call(image: &Image, hart: &mut Hart, callee: &Callee)
+fn call(here: &Here<'_>, hart: &mut Hart, callee: &Callee)
     requires pc { hart.old.core.pc + 4 < 2 ^ 32 }
-    requires sound { IsSound image.now hart.old }
-    requires room { HasRoomForOne hart.old }
-    requires callee { IsCallee image.now hart.old.active callee.now }
+    requires ready { IsReady here.now hart.old }
+    requires callee { IsCallee here.now.image here.now.comp callee.now }
     ensures state { (memory : Memory) → state_in memory hart.new ≡ called (state_in memory hart.old) callee.now.comp callee.now.index callee.now.params callee.now.entry }
-    ensures sound { IsSound image.now hart.new }
-    ensures room { (events : ℕ) → HasRoom events hart.old → HasRoom events hart.new }
+    ensures stays { StaysSound here.now.image hart.old hart.new }
 {
-    let caller = hart.active;
+    let caller = here.comp();
     let sp = hart.core.registers[SP];
     let saved = hart.saved[callee.comp.number() as usize];
     let args = arguments(*hart.trace.allocator(), &hart.core, callee.params);

@@ -1,13 +1,12 @@
 //! Calls of the environment.
 
-ghost use Rattle.std.specs.Prelude.{◌≡◌, ◌+◌, ◌^◌, ◌<◌, ◌≤◌, ℕ, length, map, OnErr};
+ghost use Rattle.std.specs.Prelude.{◌≡◌, ◌+◌, ◌^◌, ◌<◌, map, OnErr};
 ghost use Rattle.sc_word.specs.Word.{word_of};
 ghost use Rattle.sc_store.specs.Memory.{Memory};
-ghost use Rattle.sc_image.specs.declared.parts.ImageParts.{ImageParts};
 ghost use Rattle.sc_image.specs.Calls.{may_input, may_output};
 ghost use Rattle.sc_image.specs.Cross.{input_at, input, output};
 ghost use Rattle.sc_image.specs.Step.{Goes, next, environment_call};
-ghost use Rattle.sc_machine.specs.Hart.{state_in, outcome_of, IsSound, HasRoom, HasRoomForOne, IsReady, StaysSound};
+ghost use Rattle.sc_machine.specs.Hart.{state_in, outcome_of, IsReady, StaysSound};
 
 use crate::hart::Hart;
 use crate::here::Here;
@@ -28,11 +27,11 @@ pub(crate) fn environment_call(
 {
     match hart.core.registers[A7] {
         INPUT if may_input(here) => {
-            input(inputs, hart);
+            input(here, inputs, hart);
             Ok(())
         }
         OUTPUT if may_output(here) => {
-            output(hart);
+            output(here, hart);
             Ok(())
         }
         INPUT | OUTPUT => Err(TrapReason::NoImport),
@@ -41,15 +40,14 @@ pub(crate) fn environment_call(
 }
 
 /// Shows a0.
-fn output(hart: &mut Hart)
+fn output(here: &Here<'_>, hart: &mut Hart)
     requires pc { hart.old.core.pc + 4 < 2 ^ 32 }
-    requires room { HasRoomForOne hart.old }
+    requires ready { IsReady here.now hart.old }
     ensures state { (memory : Memory) → Goes (state_in memory hart.new) ≡ next (output (state_in memory hart.old)) }
-    ensures sound { (image : ImageParts) → IsSound image hart.old → IsSound image hart.new }
-    ensures room { (events : ℕ) → HasRoom events hart.old → HasRoom events hart.new }
+    ensures stays { StaysSound here.now.image hart.old hart.new }
 {
     hart.show(Event::Out {
-        comp: hart.active,
+        comp: here.comp(),
         value: hart.core.registers[A0],
     });
     hart.core.advance();
@@ -66,19 +64,17 @@ fn input_at(inputs: &[i32], number: usize) -> u32
 }
 
 /// Puts the next input into a0, and shows it.
-fn input(inputs: &[i32], hart: &mut Hart)
+fn input(here: &Here<'_>, inputs: &[i32], hart: &mut Hart)
     requires pc { hart.old.core.pc + 4 < 2 ^ 32 }
-    requires count { hart.old.input ≤ length hart.old.trace.items }
-    requires room { HasRoomForOne hart.old }
+    requires ready { IsReady here.now hart.old }
     ensures state { (memory : Memory) → Goes (state_in memory hart.new) ≡ next (input (map word_of inputs.now) (state_in memory hart.old)) }
-    ensures sound { (image : ImageParts) → IsSound image hart.old → IsSound image hart.new }
-    ensures room { (events : ℕ) → HasRoom events hart.old → HasRoom events hart.new }
+    ensures stays { StaysSound here.now.image hart.old hart.new }
 {
     let word = input_at(inputs, hart.input);
     hart.core.registers[A0] = word;
     hart.input += 1;
     hart.show(Event::In {
-        comp: hart.active,
+        comp: here.comp(),
         value: word,
     });
     hart.core.advance();

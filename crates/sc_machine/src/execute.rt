@@ -1,9 +1,9 @@
 //! One step, by the instruction at the pc. A step that can't be made changes nothing.
 
-ghost use Rattle.std.specs.Prelude.{◌≡◌, ◌+◌, ◌^◌, ◌<◌, ℕ, map, OnErr};
+ghost use Rattle.std.specs.Prelude.{◌≡◌, ◌+◌, ◌^◌, ◌<◌, map, OnErr};
 ghost use Rattle.sc_word.specs.Word.{word_of};
 ghost use Rattle.sc_image.specs.Step.{execute, step};
-ghost use Rattle.sc_machine.specs.Hart.{state_in, outcome_of, IsSound, HasRoom, HasRoomForOne, IsBacked, IsReady, StaysSound};
+ghost use Rattle.sc_machine.specs.Hart.{state_in, outcome_of, IsBacked, IsReady, StaysSound};
 
 use crate::arithmetic::{op, op_imm, shift, upper};
 use crate::environment::environment_call;

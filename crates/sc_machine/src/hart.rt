@@ -5,7 +5,7 @@ ghost use Rattle.rv_code.specs.Ranges.{IsReg};
 ghost use Rattle.sc_word.specs.Word.{word_of};
 ghost use Rattle.sc_word.specs.Machine.{add_word};
 ghost use Rattle.sc_image.specs.State.{written};
-ghost use Rattle.sc_machine.specs.Hart.{given, advanced, linked};
+ghost use Rattle.sc_machine.specs.Hart.{written_at_next, advanced, linked};
 
 use rv_code::{Immediate, Reg};
 use sc_event::{CompId, Event};
@@ -74,7 +74,7 @@ impl Core {
     /// Writes a register, and goes on to the next instruction.
     pub fn give(&mut self, number: Reg, word: u32)
         requires { self.old.pc + 4 < 2 ^ 32 }
-        ensures { self.new ≡ given self.old number word }
+        ensures { self.new ≡ written_at_next self.old number word }
     {
         self.set(number.number(), word);
         self.pc += 4;

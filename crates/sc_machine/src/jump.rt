@@ -1,6 +1,6 @@
 //! Jumps and branches, and what lies beyond the own code.
 
-ghost use Rattle.std.specs.Prelude.{◌≡◌, ◌+◌, ◌^◌, ◌<◌, ℕ, ℤ, List, OnErr};
+ghost use Rattle.std.specs.Prelude.{◌≡◌, ◌+◌, ◌^◌, ◌<◌, ℕ, List, OnErr};
 ghost use Rattle.rv_code.specs.declared.instr.Instr.{Instr};
 ghost use Rattle.rv_code.specs.Ranges.{IsReg};
 ghost use Rattle.sc_store.specs.Memory.{Memory};
@@ -9,7 +9,7 @@ ghost use Rattle.sc_word.specs.Machine.{add_word};
 ghost use Rattle.sc_base.specs.declared.stop.TrapReason.TheVariants.{BadJump};
 ghost use Rattle.sc_image.specs.State.{State};
 ghost use Rattle.sc_image.specs.Step.{Traps, jump, calls, execute};
-ghost use Rattle.sc_machine.specs.Hart.{at, comp_in, state_in, outcome_of, IsSound, HasRoom, HasRoomForOne, IsReady, StaysSound};
+ghost use Rattle.sc_machine.specs.Hart.{at, comp_in, state_in, outcome_of, IsReady, StaysSound};
 
 use crate::arithmetic::compares;
 use crate::calling::call_out;
@@ -124,6 +124,6 @@ pub(crate) fn jalr(
     if rd.number() != 0 || target != GATE {
         return jump(here, hart, rd.number(), target);
     }
-    leave(here.image(), hart);
+    leave(here, hart);
     Ok(())
 }

@@ -1,28 +1,27 @@
 //! Returns through the gate.
 
-ghost use Rattle.std.specs.Prelude.{◌≡◌, ℕ, Some, None, if◌then◌else◌, slice_index};
+ghost use Rattle.std.specs.Prelude.{◌≡◌, Some, None, if◌then◌else◌, slice_index};
 ghost use Rattle.sc_store.specs.Memory.{Memory};
 ghost use Rattle.sc_image.specs.Calls.{has_result};
 ghost use Rattle.sc_image.specs.State.{a0};
 ghost use Rattle.sc_image.specs.Cross.{returned};
-ghost use Rattle.sc_machine.specs.Hart.{state_in, IsSound, HasRoom, HasRoomForOne};
+ghost use Rattle.sc_machine.specs.Hart.{state_in, IsReady, StaysSound};
 ghost use Rattle.sc_machine.specs.Passing.{resumed};
 
 use crate::hart::{Core, Hart};
+use crate::here::Here;
 use sc_event::{CompId, Entry, Event};
 use sc_gate::clear_for_ret;
 use sc_image::Image;
 use sc_image::layout::{A0, SP};
 
 /// Returns to the latest caller that waits. Where none does, the run ends.
-pub(crate) fn leave(image: &Image, hart: &mut Hart)
-    requires sound { IsSound image.now hart.old }
-    requires room { HasRoomForOne hart.old }
-    ensures state { (memory : Memory) → state_in memory hart.new ≡ returned image.now (state_in memory hart.old) hart.old.cross.calls }
-    ensures sound { IsSound image.now hart.new }
-    ensures room { (events : ℕ) → HasRoom events hart.old → HasRoom events hart.new }
+pub(crate) fn leave(here: &Here<'_>, hart: &mut Hart)
+    requires ready { IsReady here.now hart.old }
+    ensures state { (memory : Memory) → state_in memory hart.new ≡ returned here.now.image (state_in memory hart.old) hart.old.cross.calls }
+    ensures stays { StaysSound here.now.image hart.old hart.new }
 {
-    let leaving = hart.active;
+    let leaving = here.comp();
     let Some(call) = hart.cross.ret() else {
         hart.show(Event::End {
             comp: leaving,
@@ -30,7 +29,7 @@ pub(crate) fn leave(image: &Image, hart: &mut Hart)
         });
         return;
     };
-    let has_result = has_result(image, call.callee, call.entry);
+    let has_result = has_result(here.image(), call.callee, call.entry);
     let value = given_back(&hart.core, has_result);
     hart.show(Event::Ret {
         from: leaving,

@@ -14,4 +14,4 @@ pub returns-in-Ok-clause-outcome : goal.returns-in-Ok-clause-outcome
 returns-in-Ok-clause-outcome c = λ memory.
     ap Goes (c.call-in-Ok.ensures.state memory) ∙
     sym (call_made c.args.here.now.image (state_in memory c.args.hart.now) c.args.target c.args.rd c.in-Ok.callee c.if-rd-ne-RA.false
-    c.in-Ok.ensures.entry (rw (c.image-2.ensures, c.comp.ensures, c.requires.ready.here) at c.in-Ok.ensures.callee))
+    c.in-Ok.ensures.entry (rw (c.image.ensures, c.comp.ensures, c.requires.ready.here) at c.in-Ok.ensures.callee))

@@ -4,14 +4,20 @@ use Rattle.sc_gate.specs.Waiting.{crossing_of}
 use Rattle.sc_image.specs.State.{Crossing}
 use Rattle.sc_machine.proofs.returning.leave.Goals as goal
 
-pub returns-clause-sound : goal.returns-clause-sound
-returns-clause-sound c =
-    let waits = λ (call : Crossing). call.caller < length c.args.image.now.comps in
+pub returns-clause-stays : goal.returns-clause-stays
+returns-clause-stays c =
+    let waits = λ (call : Crossing). call.caller < length c.args.here.now.image.comps in
     let latest : Crossing = crossing_of c.in-Some.call in
-    let all = subst (All waits) c.in-Some.ensures.latest c.requires.sound.callers in
+    let all = subst (All waits) c.in-Some.ensures.latest c.requires.ready.sound.callers in
     record {
-      place = record { formed = c.requires.sound.place.formed; within = All-head waits latest c.ret.new.self.calls all };
-      callers = rw c.show-2.ensures.cross (All-tail waits latest c.ret.new.self.calls all);
-      saved = length-set c.show-2.new.self.saved.items c.number.result c.in-Some.call.saved ∙ rw c.show-2.ensures.saved c.requires.sound.saved;
-      input = rw (c.show-2.ensures.input, c.show-2.ensures.trace) (simp length-append (omega (arith, c.requires.sound.input)));
+      sound = record {
+        place = record { formed = c.requires.ready.sound.place.formed; within = All-head waits latest c.ret.new.self.calls all };
+        callers = rw c.show-2.ensures.cross (All-tail waits latest c.ret.new.self.calls all);
+        saved = length-set c.show-2.new.self.saved.items c.number.result c.in-Some.call.saved ∙ rw c.show-2.ensures.saved c.requires.ready.sound.saved;
+        input = rw (c.show-2.ensures.input, c.show-2.ensures.trace) (simp length-append (omega (arith, c.requires.ready.sound.input)));
+      };
+      room = λ events has. record {
+        trace = omega (arith, has.trace, c.show-2.ensures.room);
+        cross = rw (c.show-2.ensures.cross, c.show-2.ensures.trace) (simp length-append (omega (arith, has.cross, c.in-Some.ensures.room)));
+      };
     }
