@@ -15,7 +15,7 @@ use Rattle.sc_laws.specs.Growth.{Grown, last, Gone}
 use Rattle.sc_laws.proofs.Growing.{front_same, front_more, same, more, Goes, then_from, then_goes, turn_of_goes}
 use Rattle.sc_laws.proofs.Twins.{Kept}
 use Rattle.sc_laws.proofs.Expressions.{Keeps, alike, blamed}
-use Rattle.sc_laws.proofs.Programs.{Never}
+use Rattle.sc_laws.proofs.Libraries.{Never}
 use Rattle.sc_laws.proofs.Statements.{KeptAt}
 use Rattle.sc_laws.proofs.Rows.{stands_last, InLine, in_line_before}
 

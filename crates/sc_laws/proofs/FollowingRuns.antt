@@ -26,9 +26,9 @@ use Rattle.sc_laws.specs.Growth.{last, IsStop, StopsSo}
 use Rattle.sc_laws.specs.Steady.{now}
 use Rattle.sc_laws.specs.Laws.{IsFixed, MoreMayPerform, BlameIsPassed, BlameRemains, ChainIsLeast}
 use Rattle.sc_laws.proofs.Growing.{front_same, front_more, BodyGoes, within_goes}
-use Rattle.sc_laws.proofs.Libraries.{program_twins}
-use Rattle.sc_laws.proofs.Programs.{Never, itself_keeps, scripted_goes_on, library_goes}
-use Rattle.sc_laws.proofs.Fixed.{fixed_point}
+use Rattle.sc_laws.proofs.Libraries.{Obedient, scripted_goes_on, library_goes}
+use Rattle.sc_laws.proofs.Programs.{program_obeys}
+use Rattle.sc_laws.proofs.Fixed.{scripted_fixed}
 use Rattle.sc_laws.proofs.Runs.{front_long, trace_is, take_fronts, take_all}
 use Rattle.sc_laws.proofs.Rows.{InLine, in_line_before, NextIs, over, next_told_is}
 use Rattle.sc_laws.proofs.Rows.{told as next_told}
@@ -90,12 +90,9 @@ module _ (t : List Event) (S' : Set) where
         ends_so (ended_whole (run_to main o).shown (ap (λ y. (run_to main y).shown.end) is)) (ap (λ y. (run_to main y).shown) is' ∙ ap (λ z. record { trace = z ++ event.End main (exit_word v) ∷ []; end = Ended }) near.trace ∙ sym (ap (λ y. (run_to main y).shown) is))
     both_end st o p stop (follows.stop end u is by) = stops_so end u o p is stop by
 
-module _ (arithmetic : Arith) (program : ProgramTree) (t : List Event) (S S' : Set) (larger : IsWithin S S') where
-  abbrev L : Library
-  L = library_of arithmetic program
-
+module _ (L : Library) (obedient : Obedient L) (t : List Event) (S S' : Set) (larger : IsWithin S S') where
   abbrev main : ℕ
-  main = program.interfaces.main
+  main = L.interfaces.main
 
   abbrev step : Step
   step = first_step L main t S S' larger
@@ -104,15 +101,17 @@ module _ (arithmetic : Arith) (program : ProgramTree) (t : List Event) (S S' : S
   step' = second_step L main t S S' larger
 
   step_fixed : IsFixed step'
-  step_fixed = fixed_point.scripted arithmetic program (roles_in main S' t)
+  step_fixed = scripted_fixed L obedient (roles_in main S' t)
 
   later_goes : BodyGoes (now step')
   later_goes number here s =
-      within_goes step' (scripted_goes_on arithmetic program (roles_in main S' t)) (suc s.turns) number here s
+      within_goes step' (scripted_goes_on L obedient (roles_in main S' t)) (suc s.turns) number here s
 
   bodies : (n : ℕ) → Bodies L main t S S' larger step_fixed later_goes (within step n)
   bodies =
-      all_bodies L main t S S' larger step_fixed later_goes (library_goes arithmetic program) (λ st. program_twins (Abreast main t S' st) (Keeping main t S' st) (λ h. S' h.comp ≡ false) Never (follow_kept main t S' st) (follow_at main t S' st) arithmetic arithmetic (itself_keeps Never arithmetic) program) (λ st left rest goes passes. program_twins (OneSided main t S' st left rest goes) (Perform main t S' st left rest goes) (λ h. S' h.comp ≡ true) Never (perform_kept main t S' st left rest goes) (perform_at main t S' st left rest goes passes) arithmetic arithmetic (itself_keeps Never arithmetic) program)
+      all_bodies L main t S S' larger step_fixed later_goes (library_goes L obedient)
+      (λ st. obedient.twins (Abreast main t S' st) (Keeping main t S' st) (λ h. S' h.comp ≡ false) (follow_kept main t S' st) (follow_at main t S' st))
+      (λ st left rest goes passes. obedient.twins (OneSided main t S' st left rest goes) (Perform main t S' st left rest goes) (λ h. S' h.comp ≡ true) (perform_kept main t S' st left rest goes) (perform_at main t S' st left rest goes passes))
 
   module _ (globals : Memory) (inputs : List ℕ) (turns : ℕ) where
     abbrev beginning : State
@@ -260,15 +259,15 @@ module _ (t : List Event) (x y : SourceRun) where
 
 pub more_may_perform : MoreMayPerform
 more_may_perform arithmetic program inputs turns t small large larger tells =
-    tells_too t _ _ large (run_follows arithmetic program t small large larger (globals_of program.sections) inputs turns) tells
+    tells_too t _ _ large (run_follows (library_of arithmetic program) (program_obeys arithmetic program) t small large larger (globals_of program.sections) inputs turns) tells
 
 pub blame_remains : BlameRemains
 blame_remains arithmetic program inputs turns t small large larger comp cause line ends front clear =
-    stays_so t (run_by (library_of arithmetic program) (scripted_step (library_of arithmetic program) (roles_in program.interfaces.main small t) (run_step (library_of arithmetic program))) (globals_of program.sections) inputs turns).shown (run_by (library_of arithmetic program) (scripted_step (library_of arithmetic program) (roles_in program.interfaces.main large t) (run_step (library_of arithmetic program))) (globals_of program.sections) inputs turns).shown large (run_follows arithmetic program t small large larger (globals_of program.sections) inputs turns) comp cause line clear _ refl ends front
+    stays_so t (run_by (library_of arithmetic program) (scripted_step (library_of arithmetic program) (roles_in program.interfaces.main small t) (run_step (library_of arithmetic program))) (globals_of program.sections) inputs turns).shown (run_by (library_of arithmetic program) (scripted_step (library_of arithmetic program) (roles_in program.interfaces.main large t) (run_step (library_of arithmetic program))) (globals_of program.sections) inputs turns).shown large (run_follows (library_of arithmetic program) (program_obeys arithmetic program) t small large larger (globals_of program.sections) inputs turns) comp cause line clear _ refl ends front
 
 pub blame_is_passed : BlameIsPassed
 blame_is_passed arithmetic program inputs turns t small large larger comp cause line ends front set =
-    passes_so t (run_by (library_of arithmetic program) (scripted_step (library_of arithmetic program) (roles_in program.interfaces.main small t) (run_step (library_of arithmetic program))) (globals_of program.sections) inputs turns).shown (run_by (library_of arithmetic program) (scripted_step (library_of arithmetic program) (roles_in program.interfaces.main large t) (run_step (library_of arithmetic program))) (globals_of program.sections) inputs turns).shown large (run_follows arithmetic program t small large larger (globals_of program.sections) inputs turns) comp cause line set _ refl ends front
+    passes_so t (run_by (library_of arithmetic program) (scripted_step (library_of arithmetic program) (roles_in program.interfaces.main small t) (run_step (library_of arithmetic program))) (globals_of program.sections) inputs turns).shown (run_by (library_of arithmetic program) (scripted_step (library_of arithmetic program) (roles_in program.interfaces.main large t) (run_step (library_of arithmetic program))) (globals_of program.sections) inputs turns).shown large (run_follows (library_of arithmetic program) (program_obeys arithmetic program) t small large larger (globals_of program.sections) inputs turns) comp cause line set _ refl ends front
 
 with_link : (set small : Set) (comp : ℕ) → IsWithin small set → set comp ≡ true → IsWithin (with comp small) set
 with_link set small comp larger has c is = by_test (c == comp) refl is where

@@ -16,7 +16,6 @@ pub mod Keeping
 pub mod Legality
 pub mod Libraries
 pub mod More
-pub mod Opening
 pub mod Programs
 pub mod Rooms
 pub mod Rows

@@ -17,8 +17,10 @@ use Rattle.sc_core.specs.Calls.{Function, Library, Body, function, begun, done, 
 use Rattle.sc_core.specs.Meaning.{deepest, library_of, globals_of, first_state, run_to, run_by}
 use Rattle.sc_laws.specs.Laws.{DeepestIsReached, RoomsAreKept}
 use Rattle.sc_laws.specs.Rooms.{room_after, open_room, AllBefore}
-use Rattle.sc_laws.proofs.Keeping.{Property, Kept, IsKept, then_kept, found_kept, AreOpen}
-use Rattle.sc_laws.proofs.Opening.{library_is_open}
+use Rattle.sc_laws.proofs.Growing.{BodyGoes, calls_go, within_goes}
+use Rattle.sc_laws.proofs.Libraries.{Obedient, run_goes_on}
+use Rattle.sc_laws.proofs.Programs.{program_obeys}
+use Rattle.sc_laws.proofs.Keeping.{Property, Kept, IsKept, then_kept, found_kept, function_keeps}
 
 -- LISTS OF CHANGES
 
@@ -96,7 +98,7 @@ turned rooms (suc n) s h = record { after = record { told = h.told; open_ = h.op
 
 is_kept : (rooms : Rooms) (here : Here) → IsKept (noting rooms) here
 is_kept rooms here =
-    record { memory = λ s blocks h. record { told = h.told; open_ = h.open_ }; turned = λ s h. turned rooms s.turns s h; blamed = λ s cause line h. h.told; out = λ s h. h.told }
+    record { memory = λ s blocks h. record { told = h.told; open_ = h.open_ }; turned = λ s h. turned rooms s.turns s h; blamed = λ s cause line h. h.told }
 
 told_noted : (rooms : Rooms) (e : Event) (s : State) → Noted rooms s → Noted rooms (tell e s)
 told_noted rooms e s h =
@@ -164,15 +166,15 @@ module _ (library : Library) (body : Body) (notes : BodyNotes body) (rooms : Roo
     by true = called_notes from target args s h
     by false = record { after = h.told }
 
-module _ (library : Library) (are : AreOpen library) where
-  run_step_notes : (body : Body) → BodyNotes body → BodyNotes (run_step library body)
-  run_step_notes body notes rooms number here s h =
+module _ (library : Library) (obedient : Obedient library) where
+  run_step_notes : (body : Body) → BodyGoes body → BodyNotes body → BodyNotes (run_step library body)
+  run_step_notes body goes notes rooms number here s h =
       found_kept (noting rooms) (function library here.comp number) s (λ f s. f.does (calls library body) here s) h.told (λ f is.
-      (are.function_keeps here.comp number f is).keeps (noting rooms) here (is_kept rooms here) (calls library body) (λ target args s h. calls_note library body notes rooms here.comp target args s h) s h)
+      function_keeps library obedient here.comp number f is (noting rooms) here (is_kept rooms here) (calls library body) (calls_go library body goes) (λ target args s h. calls_note library body notes rooms here.comp target args s h) s h)
 
   within_notes : (n : ℕ) → BodyNotes (within (run_step library) n)
   within_notes zero rooms number here s h = record { after = h.told }
-  within_notes (suc n) rooms number here s h = run_step_notes (within (run_step library) n) (within_notes n) rooms number here s h
+  within_notes (suc n) rooms number here s h = run_step_notes (within (run_step library) n) (within_goes (run_step library) (run_goes_on library obedient) n) (within_notes n) rooms number here s h
 
   run_to_notes : (main : ℕ) (piece : Piece (Option Value)) → Kept (noting (λ c. 0)) piece → AllBefore (suc (length (run_to main piece).shown.trace)) (run_to main piece).frames
   run_to_notes main (Reached v s) h = (told_noted (λ c. 0) _ s h.after).told
@@ -188,9 +190,9 @@ reached_noted rooms piece v t is h = (subst (λ p. Kept (noting rooms) p) is h).
 
 pub rooms_are_kept : RoomsAreKept
 rooms_are_kept = record {
-  told = λ arithmetic program inputs turns. run_by_notes (library_of arithmetic program) (library_is_open arithmetic program) (globals_of program.sections) inputs turns;
+  told = λ arithmetic program inputs turns. run_by_notes (library_of arithmetic program) (program_obeys arithmetic program) (globals_of program.sections) inputs turns;
   returns = λ arithmetic program n comp number args v s t told is.
       (reached_noted (λ c. open_room c s) (call_own (library_of arithmetic program) (within (run_step (library_of arithmetic program)) n) comp number args s) v t is
-      (own_notes (library_of arithmetic program) (within (run_step (library_of arithmetic program)) n) (within_notes (library_of arithmetic program) (library_is_open arithmetic program) n) (λ c. open_room c s) comp number args s
+      (own_notes (library_of arithmetic program) (within (run_step (library_of arithmetic program)) n) (within_notes (library_of arithmetic program) (program_obeys arithmetic program) n) (λ c. open_room c s) comp number args s
       (record { told = told; open_ = λ c. refl }))).open_;
 }
