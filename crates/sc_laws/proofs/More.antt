@@ -15,9 +15,9 @@ use Rattle.sc_laws.proofs.Wrapping.{binary_fits, negated_fits}
 use Rattle.sc_core.specs.Run.{reaches, stopped_at}
 use Rattle.sc_core.specs.Calls.{Library, Step, run_step}
 use Rattle.sc_core.specs.Scripts.{Roles, roles_in, scripted_step}
-use Rattle.sc_core.specs.Meaning.{Run, library_of, globals_of, run_by}
+use Rattle.sc_core.specs.Meaning.{Run, deepest, depth_in, library_of, globals_of, run_by}
 use Rattle.sc_core.specs.Growth.{Front}
-use Rattle.sc_laws.specs.Steady.{Extends, ExtendedByMore, AgreesUntilBlame, same, blamed}
+use Rattle.sc_laws.specs.Steady.{Extends, ExtendedByMore, AgreesUntilBlame, same, blamed, RunsUntilBlame, same_run, blamed_run, AgreesInRoom}
 use Rattle.sc_laws.specs.Laws.{MoreGoesOn, WrappingAgrees}
 use Rattle.sc_laws.proofs.Growing.{front_same, StepGoes, run_step_goes, scripted_goes}
 use Rattle.sc_laws.proofs.Expressions.{ArithKeeps}
@@ -25,7 +25,9 @@ use Rattle.sc_laws.proofs.Libraries.{Never, Parallel, Obedient, first_goes, seco
 use Rattle.sc_laws.proofs.Programs.{program_parallel, program_obeys}
 use Rattle.sc_laws.proofs.Below.{Passes}
 use Rattle.sc_laws.proofs.BelowCalls.{StepsBelow}
-use Rattle.sc_laws.proofs.Runs.{take_fronts, take_all, front_long, unreached, still_unreached, trace_is, RunsBelow, same_run, goes_past, run_steps, scripted_steps, runs_below}
+use Rattle.sc_laws.proofs.Runs.{take_fronts, take_all, front_long, unreached, still_unreached, trace_is, RunsBelow, run_steps, scripted_steps, runs_below}
+use Rattle.sc_laws.proofs.Runs.{RunsBelow as goes}
+use Rattle.sc_laws.proofs.Rooms.{deepest_more}
 
 -- MORE TURNS AND EVENTS
 module _ (d : ℕ) (one other : Run) (events more_events : ℕ) (le : events ≤ more_events) where
@@ -36,14 +38,14 @@ module _ (d : ℕ) (one other : Run) (events more_events : ℕ) (le : events ≤
   longer = other.shown
 
   front_events : RunsBelow d Never (Unit {0}) one other → Front shorter.trace longer.trace
-  front_events (same_run is) = subst (λ z. Front shorter.trace z.shown.trace) (sym is) (front_same shorter.trace)
-  front_events (goes_past end is stop passes front ended frames) = front
+  front_events (goes.same_run is) = subst (λ z. Front shorter.trace z.shown.trace) (sym is) (front_same shorter.trace)
+  front_events (goes.goes_past end is stop passes front ended frames) = front
 
   final_at : (b : Bool) → reaches events shorter shorter.end ≡ b → IsFinal (if b then record { trace = take events shorter.trace; end = EventsOut } else shorter).end → RunsBelow d Never (Unit {0}) one other → stopped_at more_events longer ≡ (if b then record { trace = take events shorter.trace; end = EventsOut } else shorter)
   final_at true is final below = absurd final
-  final_at false is final (same_run equal) =
+  final_at false is final (goes.same_run equal) =
       ap (λ z. stopped_at more_events z.shown) equal ∙ ap (λ b. if b then record { trace = take more_events shorter.trace; end = EventsOut } else shorter) (still_unreached events more_events shorter shorter.end le is)
-  final_at false is final (goes_past end ends stop passes front ended frames) = absurd (no_end end passes (subst IsFinal ends final)) where
+  final_at false is final (goes.goes_past end ends stop passes front ended frames) = absurd (no_end end passes (subst IsFinal ends final)) where
     no_end : (end : RunEnd) → Passes d Never (Unit {0}) end → IsFinal end → ⊥
     no_end Ended passes final = passes
     no_end (Blamed comp cause line) passes final = passes
@@ -107,12 +109,33 @@ module _ (one other : Run) (events : ℕ) where
       blamed comp cause line ends soft (subst (Front x.trace) (sym (trace_is events y)) (subst (λ t. Front t (take events y.trace)) (take_all events x.trace (unreached events x x.end is)) (take_fronts events events x.trace y.trace (omega arith) front)))
 
   agrees : RunsBelow 0 IsArithmetic ⊥ one other → AgreesUntilBlame (stopped_at events x) (stopped_at events y)
-  agrees (same_run is) = same (ap (λ z. stopped_at events z.shown) is)
-  agrees (goes_past Ended ends stop passes front ended frames) = absurd passes
-  agrees (goes_past (Blamed comp cause line) ends stop passes front ended frames) =
+  agrees (goes.same_run is) = same (ap (λ z. stopped_at events z.shown) is)
+  agrees (goes.goes_past Ended ends stop passes front ended frames) = absurd passes
+  agrees (goes.goes_past (Blamed comp cause line) ends stop passes front ended frames) =
       blamed_at comp cause line ends passes front ended (reaches events x x.end) refl
-  agrees (goes_past TurnsOut ends stop passes front ended frames) = absurd passes
-  agrees (goes_past EventsOut ends stop passes front ended frames) = absurd passes
+  agrees (goes.goes_past TurnsOut ends stop passes front ended frames) = absurd passes
+  agrees (goes.goes_past EventsOut ends stop passes front ended frames) = absurd passes
+
+module _ (one other : Run) where
+  whole_agrees : RunsBelow 0 IsArithmetic ⊥ one other → RunsUntilBlame one other
+  whole_agrees (goes.same_run is) = same_run is
+  whole_agrees (goes.goes_past Ended ends stop passes front ended frames) = absurd passes
+  whole_agrees (goes.goes_past (Blamed comp cause line) ends stop passes front ended frames) =
+      blamed_run comp cause line ends passes front frames
+  whole_agrees (goes.goes_past TurnsOut ends stop passes front ended frames) = absurd passes
+  whole_agrees (goes.goes_past EventsOut ends stop passes front ended frames) = absurd passes
+
+  no_deeper : RunsUntilBlame one other → (events comp : ℕ) → depth_in one events comp ≤ depth_in other events comp
+  no_deeper (same_run is) events comp = subst (λ z. depth_in one events comp ≤ depth_in z events comp) (sym is) (omega arith)
+  no_deeper (blamed_run c cause line ends soft front frames) events comp =
+      subst (λ z. depth_in one events comp ≤ deepest events comp 0 z) (sym frames.is) (deepest_more events comp 0 one.frames frames.more)
+
+  pub in_room : RunsBelow 0 IsArithmetic ⊥ one other → AgreesInRoom one other
+  in_room below = record {
+    whole = whole_agrees below;
+    shown = λ events. agrees one other events below;
+    depth = no_deeper (whole_agrees below);
+  }
 
 module _ (L M : Library) (parallel : Parallel IsArithmetic L M) (globals : Memory) (inputs : List ℕ) (turns : ℕ) where
   below_of : (step step' : Step) → StepGoes step → StepGoes step' → StepsBelow 0 IsArithmetic ⊥ (inl refl) step step' → RunsBelow 0 IsArithmetic ⊥ (run_by L step globals inputs turns) (run_by M step' globals inputs turns)
@@ -138,5 +161,5 @@ pub wrapping_parallel : (program : ProgramTree) → Parallel IsArithmetic (libra
 wrapping_parallel program = program_parallel IsArithmetic c_arith wrapping wrapping_keeps program
 
 pub wrapping_agrees : WrappingAgrees
-wrapping_agrees program set trace inputs turns events =
-    agrees _ _ events (scripts_agree (library_of c_arith program) (library_of wrapping program) (wrapping_parallel program) (globals_of program.sections) inputs turns (roles_in program.interfaces.main set trace))
+wrapping_agrees program set trace inputs turns =
+    in_room _ _ (scripts_agree (library_of c_arith program) (library_of wrapping program) (wrapping_parallel program) (globals_of program.sections) inputs turns (roles_in program.interfaces.main set trace))

@@ -16,7 +16,7 @@ pub meaning_goes_on : MeaningGoesOn
 meaning_goes_on arith program inputs = more_goes_on arith program nobody [] inputs
 
 pub wrapped_agrees : WrappedAgrees
-wrapped_agrees program inputs turns events = wrapping_agrees program nobody [] inputs turns events
+wrapped_agrees program inputs turns = wrapping_agrees program nobody [] inputs turns
 
 pub only_goes_on : OnlyGoesOn
 only_goes_on arith program n number here =

@@ -4,18 +4,18 @@ use Rattle.sc_event.specs.declared.event.Event.{Event}
 use Rattle.sc_core.specs.declared.cause.Cause.{Cause}
 use Rattle.sc_core.specs.declared.program.ProgramTree.{ProgramTree}
 use Rattle.sc_core.specs.declared.run.RunEnd.TheVariants.{Blamed}
-use Rattle.sc_core.specs.Value.{Arith}
+use Rattle.sc_core.specs.Value.{Arith, c_arith, wrapping}
 use Rattle.sc_core.specs.declared.value.Value.{Value}
 use Rattle.sc_core.specs.Words.{FrameChange, State, Here, Reached}
-use Rattle.sc_core.specs.Calls.{Step, call_own, run_step, within}
+use Rattle.sc_core.specs.Calls.{Library, Step, call_own, run_step, within}
 use Rattle.sc_core.specs.Scripts.{Roles, scripted_step}
-use Rattle.sc_core.specs.Meaning.{deepest, library_of, run_of, meaning_by, meaning, wrapped, scripted_by, scripted_meaning, scripted_wrapped}
+use Rattle.sc_core.specs.Meaning.{Run, deepest, library_of, run_of, scripted_run_of, meaning_by, meaning, wrapped, scripted_by, scripted_meaning, scripted_wrapped}
 use Rattle.sc_event.specs.Legal.{legal}
 use Rattle.sc_laws.specs.Chains.{Set, IsWithin, nobody, Link, IsBlamedOutside, performed, IsChain, IsRising, AreFresh, Includes, PassesBlame}
 use Rattle.sc_core.specs.Growth.{Front}
 use Rattle.sc_laws.specs.Growth.{Gone}
 use Rattle.sc_laws.specs.Rooms.{room_after, open_room, AllBefore}
-use Rattle.sc_laws.specs.Steady.{now, ExtendedByMore, AgreesUntilBlame}
+use Rattle.sc_laws.specs.Steady.{now, ExtendedByMore, AgreesInRoom}
 
 -- whatever a function of a program does, however many calls may be open in it, it goes on from the state in which it begins
 abbrev pub OnlyGoesOn : Type 0
@@ -41,9 +41,11 @@ pub record FixedPoint : Type 0 where
 abbrev pub MoreGoesOn : Type 0
 MoreGoesOn = (arith : Arith) (program : ProgramTree) (set : Set) (trace : List Event) (inputs : List ℕ) → ExtendedByMore (scripted_by arith program set trace inputs)
 
--- the arithmetic that wraps gives the same run up to the first blame for arithmetic, where some compartments perform a script
+-- the arithmetic that wraps gives the same run up to the first blame for arithmetic, where some compartments perform a script,
+-- and as much room at least
 abbrev pub WrappingAgrees : Type 0
-WrappingAgrees = (program : ProgramTree) (set : Set) (trace : List Event) (inputs : List ℕ) (turns events : ℕ) → AgreesUntilBlame (scripted_meaning program set trace inputs turns events) (scripted_wrapped program set trace inputs turns events)
+WrappingAgrees = (program : ProgramTree) (set : Set) (trace : List Event) (inputs : List ℕ) (turns : ℕ) →
+    AgreesInRoom (scripted_run_of c_arith program inputs turns set trace) (scripted_run_of wrapping program inputs turns set trace)
 
 -- where more compartments perform their parts of a trace that the run tells, it tells the trace too
 abbrev pub MoreMayPerform : Type 0
@@ -86,8 +88,8 @@ abbrev pub MeaningGoesOn : Type 0
 MeaningGoesOn = (arith : Arith) (program : ProgramTree) (inputs : List ℕ) → ExtendedByMore (meaning_by arith program inputs)
 
 abbrev pub WrappedAgrees : Type 0
-WrappedAgrees = (program : ProgramTree) (inputs : List ℕ) (turns events : ℕ) →
-    AgreesUntilBlame (meaning program inputs turns events) (wrapped program inputs turns events)
+WrappedAgrees = (program : ProgramTree) (inputs : List ℕ) (turns : ℕ) →
+    AgreesInRoom (run_of c_arith program inputs turns) (run_of wrapping program inputs turns)
 
 -- no compartment that performs is blamed, whatever trace it performs its part of
 abbrev pub NobodyWhoPerformsIsBlamed : Type 0
@@ -111,12 +113,20 @@ abbrev pub DeepestIsReached : Type 0
 DeepestIsReached = (events comp : ℕ) (before after : List FrameChange) → AllBefore events before →
     room_after comp 0 before ≤ deepest events comp 0 (before ++ after)
 
--- what a call of a function of a program notes: each change is of a moment within the trace, and a call that returns leaves the
--- room of every compartment as it was
+-- what a call of a function of a program notes, also where compartments perform: each change is of a moment within the trace, and a
+-- call that returns leaves the room of every compartment as it was
+abbrev pub AreTold : Run → Type 0
+AreTold run = AllBefore (suc (length run.shown.trace)) run.frames
+
+abbrev pub LeavesRooms : Library → Step → Type 0
+LeavesRooms library step = (open_calls comp number : ℕ) (args : List Value) (v : Option Value) (s t : State) →
+    AllBefore (suc (length s.trace)) s.frames → call_own library (within step open_calls) comp number args s ≡ Reached v t →
+    (c : ℕ) → open_room c t ≡ open_room c s
+
 pub record RoomsAreKept : Type 0 where
-  pub told : (arith : Arith) (program : ProgramTree) (inputs : List ℕ) (turns : ℕ) →
-      AllBefore (suc (length (run_of arith program inputs turns).shown.trace)) (run_of arith program inputs turns).frames
-  pub returns : (arith : Arith) (program : ProgramTree) (open_calls comp number : ℕ) (args : List Value) (v : Option Value) (s t : State) →
-      AllBefore (suc (length s.trace)) s.frames →
-      call_own (library_of arith program) (within (run_step (library_of arith program)) open_calls) comp number args s ≡ Reached v t →
-      (c : ℕ) → open_room c t ≡ open_room c s
+  pub told : (arith : Arith) (program : ProgramTree) (inputs : List ℕ) (turns : ℕ) → AreTold (run_of arith program inputs turns)
+  pub scripted_told : (arith : Arith) (program : ProgramTree) (set : Set) (trace : List Event) (inputs : List ℕ) (turns : ℕ) →
+      AreTold (scripted_run_of arith program inputs turns set trace)
+  pub returns : (arith : Arith) (program : ProgramTree) → LeavesRooms (library_of arith program) (run_step (library_of arith program))
+  pub scripted_returns : (arith : Arith) (program : ProgramTree) (roles : Roles) →
+      LeavesRooms (library_of arith program) (scripted_step (library_of arith program) roles (run_step (library_of arith program)))
