@@ -8,8 +8,8 @@ use Rattle.sc_core.specs.declared.run.RunEnd.TheVariants.{Ended, Blamed, TurnsOu
 use Rattle.sc_core.specs.Memory.{with_blocks}
 use Rattle.sc_core.specs.Words.{State, Here, Piece, Reached, Stopped, and_then, computed, turn_of, turn}
 use Rattle.sc_core.specs.Growth.{Front}
-use Rattle.sc_laws.specs.Growth.{Grown, last, Gone}
-use Rattle.sc_laws.proofs.Growing.{front_same, front_more, Goes, then_from}
+use Rattle.sc_laws.specs.Growth.{Grown, last, Gone, Goes}
+use Rattle.sc_laws.proofs.Growing.{front_same, front_more, then_from}
 use Rattle.sc_laws.proofs.Twins.{Kept}
 use Rattle.sc_laws.proofs.Expressions.{Keeps, alike, blamed}
 use Rattle.sc_laws.proofs.Statements.{KeptAt}

@@ -11,8 +11,8 @@ use Rattle.sc_core.specs.declared.value.Value.{Value}
 use Rattle.sc_core.specs.Memory.{Blocks, with_blocks}
 use Rattle.sc_core.specs.Words.{State, Here, Piece, Reached, Stopped, and_then, computed, turn_of, tell}
 use Rattle.sc_core.specs.Growth.{Front}
-use Rattle.sc_laws.specs.Growth.{Grown, last, Gone}
-use Rattle.sc_laws.proofs.Growing.{front_same, front_more, same, more, Goes, then_from, then_goes, turn_of_goes}
+use Rattle.sc_laws.specs.Growth.{Grown, last, Gone, Goes}
+use Rattle.sc_laws.proofs.Growing.{front_same, front_more, same, more, then_from, then_goes, turn_of_goes}
 use Rattle.sc_laws.proofs.Twins.{Kept}
 use Rattle.sc_laws.proofs.Expressions.{Keeps, alike, blamed}
 use Rattle.sc_laws.proofs.Libraries.{Never}

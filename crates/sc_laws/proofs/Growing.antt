@@ -22,7 +22,7 @@ use Rattle.sc_core.specs.Words.{Opened, Closed, State, Here, Piece, Reached, Sto
 use Rattle.sc_core.specs.Calls.{Function, Library, Body, Step, function, begun, done, found, word_in, crossing, crossed, first_word, option_value, next_input, read_input, may_call, back_own, back_cross, run_in, call_own, call_cross, called, calls, run_step, within}
 use Rattle.sc_core.specs.Scripts.{Roles, rows_left, is_number, asks, acts, performs, scripted_step}
 use Rattle.sc_core.specs.Growth.{Front}
-use Rattle.sc_laws.specs.Growth.{Grown, last, Gone}
+use Rattle.sc_laws.specs.Growth.{Grown, last, Gone, Goes}
 
 pub front_same : {A : Type 0} (xs : List A) → Front xs xs
 front_same xs = record { more = []; is = sym (append-nil xs) }
@@ -37,10 +37,6 @@ same s = record { events = front_same s.trace; frames = front_same s.frames; tur
 pub more : (s t u : State) → Grown s t → Grown t u → Grown s u
 more s t u a b =
     record { events = front_more s.trace t.trace u.trace a.events b.events; frames = front_more s.frames t.frames u.frames a.frames b.frames; turns = (let p : t.turns ≤ s.turns = a.turns in let q : u.turns ≤ t.turns = b.turns in omega (arith, p, q)) }
-
--- what is done from a state only goes on
-abbrev pub Goes : {V : Type 0} → (State → Piece V) → Type 0
-Goes f = (s : State) → Gone s (f s)
 
 pub reached : {V : Type 0} (v : V) (s t : State) → Grown s t → Gone s (Reached v t)
 reached v s t g = record { grown = g; stop = tt }

@@ -13,7 +13,8 @@ use Rattle.sc_core.specs.Calls.{Function, Library, function, leads, is_word, may
 use Rattle.sc_core.specs.Scripts.{Roles, scripted_step}
 use Rattle.sc_event.specs.Legal.{is_input, is_output, is_function, imports, takes}
 use Rattle.sc_laws.specs.Agreement.{Meets}
-use Rattle.sc_laws.proofs.Growing.{Goes, CallsGo, FunctionGoes, LibraryGoes, StepGoes, run_step_goes, scripted_goes}
+use Rattle.sc_laws.specs.Growth.{Goes}
+use Rattle.sc_laws.proofs.Growing.{CallsGo, FunctionGoes, LibraryGoes, StepGoes, run_step_goes, scripted_goes}
 use Rattle.sc_laws.proofs.Twins.{Twins, Kept}
 use Rattle.sc_laws.proofs.Statements.{KeptAt}
 

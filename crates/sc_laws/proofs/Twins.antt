@@ -2,8 +2,8 @@
 use Rattle.std.proofs.Common.{ℕ, zero, suc, ◌<◌, ◌≤◌, List, [], ◌∷◌, arith}
 use Rattle.std.specs.Prelude.{Bool, true, false, if◌then◌else◌}
 use Rattle.sc_core.specs.Words.{State, Piece, Reached, and_then, turn, Left, Exit, Next, Route, On, Out, Does, leave, take, follow, in_order, in_loop, all_do, rounds, loop}
-use Rattle.sc_laws.specs.Growth.{Grown, Gone}
-use Rattle.sc_laws.proofs.Growing.{Goes, stays, then_goes, turn_goes, take_goes, follow_goes, rounds_goes}
+use Rattle.sc_laws.specs.Growth.{Grown, Gone, Goes}
+use Rattle.sc_laws.proofs.Growing.{stays, then_goes, turn_goes, take_goes, follow_goes, rounds_goes}
 
 -- a list of doings, each related to the one at its place
 abbrev pub Each : {A B : Type 0} → (A → B → Type 0) → List A → List B → Type 0
