@@ -10,9 +10,8 @@ use Rattle.sc_core.specs.Words.{State, Here, Piece, Reached, Stopped, and_then, 
 use Rattle.sc_core.specs.Growth.{Front}
 use Rattle.sc_laws.specs.Growth.{Grown, last, Gone, Goes}
 use Rattle.sc_laws.proofs.Growing.{front_same, front_more, then_from}
-use Rattle.sc_laws.proofs.Twins.{Kept}
+use Rattle.sc_laws.proofs.Twins.{Kept, KeptAt}
 use Rattle.sc_laws.proofs.Expressions.{Keeps, alike, blamed}
-use Rattle.sc_laws.proofs.Statements.{KeptAt}
 
 -- the state with so many more turns
 abbrev pub richer : ℕ → State → State
@@ -113,4 +112,4 @@ module _ (d : ℕ) (Soft : Cause → Type 0) (Turns : Type 0) where
 
     pub below_at : (here : Here) → KeptAt (Ahead n n') Below Soft here
     below_at here =
-        record { computing = λ V line e e' h s s' a. subst (λ x. Below V (computed here line (e (s.memory here.comp)) s) (computed here line (e' (x.memory here.comp)) x)) (sym a.state) (computed_below V here line (e (s.memory here.comp)) (e' (s.memory here.comp)) s (h (s.memory here.comp))); stored = λ blocks s s' a. record { state = ap {A = State} {B = State} (λ x. record x { memory = with_blocks here.comp blocks x.memory }) a.state; few = a.few; few' = a.few' } }
+        record { computing = λ V line e e' h s s' a. subst (λ x. Below V (computed here line (e (s.memory here.comp)) s) (computed here line (e' (x.memory here.comp)) x)) (sym a.state) (computed_below V here line (e (s.memory here.comp)) (e' (s.memory here.comp)) s (h (s.memory here.comp))); passed = λ V cause line soft s s' a p g. passed (Blamed here.comp cause line) s refl soft (record { events = subst (λ x. Front x.trace (last p).trace) a.state g.grown.events; frames = subst (λ x. Front x.frames (last p).frames) a.state g.grown.frames }); stored = λ blocks s s' a. record { state = ap {A = State} {B = State} (λ x. record x { memory = with_blocks here.comp blocks x.memory }) a.state; few = a.few; few' = a.few' } }

@@ -23,7 +23,8 @@ use Rattle.sc_core.specs.Meaning.{library_of, globals_of, first_state, run_to, r
 use Rattle.sc_laws.specs.Chains.{Set}
 use Rattle.sc_laws.specs.Laws.{NobodyWhoPerformsIsBlamed}
 use Rattle.sc_laws.proofs.Growing.{BodyGoes, calls_go, within_goes}
-use Rattle.sc_laws.proofs.Libraries.{Obedient, scripted_goes_on}
+use Rattle.sc_laws.specs.Interactions.{Obedient}
+use Rattle.sc_laws.proofs.Matching.{scripted_goes_on}
 use Rattle.sc_laws.proofs.Programs.{program_obeys}
 use Rattle.sc_laws.proofs.Keeping.{Property, Kept, IsKept, then_kept, found_kept, function_keeps}
 

@@ -9,7 +9,8 @@ use Rattle.sc_core.specs.Meaning.{library_of}
 use Rattle.sc_laws.specs.Steady.{now}
 use Rattle.sc_laws.specs.Laws.{IsFixed, IsSteady, FixedPoint}
 use Rattle.sc_laws.proofs.Growing.{BodyGoes, StepGoes, within_goes}
-use Rattle.sc_laws.proofs.Libraries.{Never, Obedient, run_goes_on, scripted_goes_on}
+use Rattle.sc_laws.specs.Interactions.{Never, Obedient}
+use Rattle.sc_laws.proofs.Matching.{run_goes_on, scripted_goes_on}
 use Rattle.sc_laws.proofs.Programs.{program_obeys}
 use Rattle.sc_laws.proofs.Below.{richer, richer_piece, Passes, Below, along, passed}
 use Rattle.sc_laws.proofs.BelowCalls.{BodiesBelow, StepsBelow, within_below}

@@ -13,10 +13,9 @@ use Rattle.sc_core.specs.Words.{State, Here, Piece, Reached, Stopped, and_then, 
 use Rattle.sc_core.specs.Growth.{Front}
 use Rattle.sc_laws.specs.Growth.{Grown, last, Gone, Goes}
 use Rattle.sc_laws.proofs.Growing.{front_same, front_more, same, more, then_from, then_goes, turn_of_goes}
-use Rattle.sc_laws.proofs.Twins.{Kept}
+use Rattle.sc_laws.proofs.Twins.{Kept, KeptAt}
 use Rattle.sc_laws.proofs.Expressions.{Keeps, alike, blamed}
-use Rattle.sc_laws.proofs.Libraries.{Never}
-use Rattle.sc_laws.proofs.Statements.{KeptAt}
+use Rattle.sc_laws.specs.Interactions.{Never}
 use Rattle.sc_laws.proofs.Rows.{stands_last, InLine, in_line_before}
 
 -- MEMORY
@@ -175,7 +174,7 @@ module _ (main : ℕ) (t : List Event) (S' : ℕ → Bool) where
     -- calls of a compartment that performs in neither run
     pub follow_at : (here : Here) → S' here.comp ≡ false → KeptAt (Abreast st) (Keeping st) Never here
     follow_at here clear =
-        record { computing = λ V line e e' h s s' n. subst (λ x. Keeping st V (computed here line (e (s.memory here.comp)) s) (computed here line (e' x) s')) (sym (n.memory here.comp clear)) (equal V line (e (s.memory here.comp)) (e' (s.memory here.comp)) s s' n (h (s.memory here.comp))); stored = λ blocks s s' n. near_blocks st s s' here.comp blocks blocks (λ c. refl) n } where
+        record { computing = λ V line e e' h s s' n. subst (λ x. Keeping st V (computed here line (e (s.memory here.comp)) s) (computed here line (e' x) s')) (sym (n.memory here.comp clear)) (equal V line (e (s.memory here.comp)) (e' (s.memory here.comp)) s s' n (h (s.memory here.comp))); passed = λ V cause line soft s s' n p g. absurd soft; stored = λ blocks s s' n. near_blocks st s s' here.comp blocks blocks (λ c. refl) n } where
           equal : (V : Type 0) (line : ℕ) (r r' : Result V Cause) (s s' : State) → Abreast st s s' → Keeps Never V r r' → Keeping st V (computed here line r s) (computed here line r' s')
           equal V line r r' s s' n (alike is) = subst (λ x. Keeping st V (computed here line r s) (computed here line x s')) (sym is) (computed_follow V here clear line r s s' n)
           equal V line r r' s s' n (blamed cause never is) = absurd never
@@ -235,4 +234,4 @@ module _ (main : ℕ) (t : List Event) (S' : ℕ → Bool) where
       -- calls of a compartment that performs in the second run alone
       pub perform_at : ((s : State) → Stands s → MovesOrReturns s.trace left) → (at : Here) → S' at.comp ≡ true → KeptAt OneSided Perform Never at
       perform_at by at set =
-          record { computing = λ V line e e' h s s' one. record { performs = λ along. computed_performs V at set by line (e (s.memory at.comp)) s one.stands }; stored = λ blocks s s' one. record { same = ap {A = State} {B = State} (λ z. record z { memory = with_blocks at.comp blocks z.memory }) one.same; stands = stands_stored at.comp blocks s set one.stands } }
+          record { computing = λ V line e e' h s s' one. record { performs = λ along. computed_performs V at set by line (e (s.memory at.comp)) s one.stands }; passed = λ V cause line soft s s' one p g. absurd soft; stored = λ blocks s s' one. record { same = ap {A = State} {B = State} (λ z. record z { memory = with_blocks at.comp blocks z.memory }) one.same; stands = stands_stored at.comp blocks s set one.stands } }

@@ -26,7 +26,8 @@ use Rattle.sc_laws.specs.Growth.{last, IsStop, StopsSo}
 use Rattle.sc_laws.specs.Steady.{now}
 use Rattle.sc_laws.specs.Laws.{IsFixed, MoreMayPerform, BlameIsPassed, BlameRemains, ChainIsLeast}
 use Rattle.sc_laws.proofs.Growing.{front_same, front_more, BodyGoes, within_goes}
-use Rattle.sc_laws.proofs.Libraries.{Obedient, scripted_goes_on, library_goes}
+use Rattle.sc_laws.specs.Interactions.{Never, Obedient}
+use Rattle.sc_laws.proofs.Matching.{library_twins, scripted_goes_on, library_goes}
 use Rattle.sc_laws.proofs.Programs.{program_obeys}
 use Rattle.sc_laws.proofs.Fixed.{scripted_fixed}
 use Rattle.sc_laws.proofs.Runs.{front_long, trace_is, take_fronts, take_all}
@@ -110,8 +111,8 @@ module _ (L : Library) (obedient : Obedient L) (t : List Event) (S S' : Set) (la
   bodies : (n : ℕ) → Bodies L main t S S' larger step_fixed later_goes (within step n)
   bodies =
       all_bodies L main t S S' larger step_fixed later_goes (library_goes L obedient)
-      (λ st. obedient.twins (Abreast main t S' st) (Keeping main t S' st) (λ h. S' h.comp ≡ false) (follow_kept main t S' st) (follow_at main t S' st))
-      (λ st left rest goes passes. obedient.twins (OneSided main t S' st left rest goes) (Perform main t S' st left rest goes) (λ h. S' h.comp ≡ true) (perform_kept main t S' st left rest goes) (perform_at main t S' st left rest goes passes))
+      (λ st. library_twins Never (Abreast main t S' st) (Keeping main t S' st) (λ h. S' h.comp ≡ false) (follow_kept main t S' st) (follow_at main t S' st) L L obedient)
+      (λ st left rest goes passes. library_twins Never (OneSided main t S' st left rest goes) (Perform main t S' st left rest goes) (λ h. S' h.comp ≡ true) (perform_kept main t S' st left rest goes) (perform_at main t S' st left rest goes passes) L L obedient)
 
   module _ (globals : Memory) (inputs : List ℕ) (turns : ℕ) where
     abbrev beginning : State

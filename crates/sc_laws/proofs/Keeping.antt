@@ -11,9 +11,10 @@ use Rattle.sc_core.specs.Calls.{Function, Library, function, found}
 use Rattle.sc_laws.specs.Agreement.{Meets}
 use Rattle.sc_laws.specs.Growth.{Grown, last, Gone, Goes}
 use Rattle.sc_laws.proofs.Growing.{same, CallsGo}
-use Rattle.sc_laws.proofs.Twins.{Kept as RelationKept}
-use Rattle.sc_laws.proofs.Statements.{KeptAt}
-use Rattle.sc_laws.proofs.Libraries.{FunctionTwins, LibraryTwins, Never, Obedient}
+use Rattle.sc_laws.proofs.Twins.{Kept as RelationKept, KeptAt}
+use Rattle.sc_laws.specs.Interactions.{Never, Obedient}
+use Rattle.sc_laws.proofs.Libraries.{FunctionTwins, LibraryTwins}
+use Rattle.sc_laws.proofs.Matching.{library_twins}
 
 -- what is kept: of the states at which a run goes on, and of those at which it stops
 pub record Property : Type 1 where
@@ -76,6 +77,7 @@ module _ (K : Property) where
     one_at : (at : Here) → IsKept K at → KeptAt One Pieces Never at
     one_at at is = record {
       computing = λ V line e e' h s t one. computed_kept V at is line (e (s.memory at.comp)) s one.goes;
+      passed = λ V cause line soft s t one p g. absurd soft;
       stored = λ blocks s t one. record { goes = is.memory s blocks one.goes; is = ap {A = State} {B = State} (λ z. record z { memory = with_blocks at.comp blocks z.memory }) one.is };
     }
 
@@ -92,7 +94,7 @@ module _ (K : Property) where
 -- a function of a library keeps what its calls keep
 pub function_keeps : (library : Library) → Obedient library → (comp number : ℕ) (f : Function) → function library comp number ≡ Some f → (K : Property) (here : Here) → IsKept K here → (by : Calls) → CallsGo by → CallsKeep K here.comp by → (s : State) → K.Goes s → Kept K (f.does by here s)
 function_keeps library obedient comp number f is K here kept by goes keeps s at =
-    let twins : LibraryTwins (One K) (Pieces K) (IsKept K) library library = obedient.twins (One K) (Pieces K) (IsKept K) (one_kept K here kept) (one_at K here kept) in
+    let twins : LibraryTwins (One K) (Pieces K) (IsKept K) library library = library_twins Never (One K) (Pieces K) (IsKept K) (one_kept K here kept) (one_at K here kept) library library obedient in
     keeps_here K here kept (function library comp number) (function library comp number) (twins.functions comp number) f is by goes keeps s at
 
 -- how a piece of a run can stop: `Ended` is told of a whole run alone, and `EventsOut` of one that is stopped

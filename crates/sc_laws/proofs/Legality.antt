@@ -30,7 +30,8 @@ use Rattle.sc_core.specs.Calls.{Library, Body, Step, function, begun, done, foun
 use Rattle.sc_core.specs.Scripts.{Roles, roles_in, rows_left, is_number, asks, acts, performs, scripted_step}
 use Rattle.sc_core.specs.Meaning.{library_of, globals_of, first_state, exit_word, run_to, run_by}
 use Rattle.sc_laws.proofs.Growing.{BodyGoes, StepGoes, calls_go, within_goes}
-use Rattle.sc_laws.proofs.Libraries.{Obedient, run_goes_on, scripted_goes_on}
+use Rattle.sc_laws.specs.Interactions.{Obedient}
+use Rattle.sc_laws.proofs.Matching.{run_goes_on, scripted_goes_on}
 use Rattle.sc_laws.proofs.Programs.{program_obeys}
 use Rattle.sc_laws.proofs.Keeping.{Property, Kept, IsKept, then_kept, IsHalt, found_kept, function_keeps}
 use Rattle.sc_laws.proofs.Cuts.{cut_trace}

@@ -12,9 +12,11 @@ pub mod FollowingCalls
 pub mod FollowingRuns
 pub mod Growing
 pub mod Induction
+pub mod Interactions
 pub mod Keeping
 pub mod Legality
 pub mod Libraries
+pub mod Matching
 pub mod More
 pub mod Programs
 pub mod Rooms

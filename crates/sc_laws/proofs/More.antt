@@ -21,8 +21,9 @@ use Rattle.sc_laws.specs.Steady.{Extends, ExtendedByMore, AgreesUntilBlame, same
 use Rattle.sc_laws.specs.Laws.{MoreGoesOn, WrappingAgrees}
 use Rattle.sc_laws.proofs.Growing.{front_same, StepGoes, run_step_goes, scripted_goes}
 use Rattle.sc_laws.proofs.Expressions.{ArithKeeps}
-use Rattle.sc_laws.proofs.Libraries.{Never, Parallel, Obedient, first_goes, second_goes, run_goes_on, scripted_goes_on}
-use Rattle.sc_laws.proofs.Programs.{program_parallel, program_obeys}
+use Rattle.sc_laws.specs.Interactions.{Never, LibrariesMatch, Obedient}
+use Rattle.sc_laws.proofs.Matching.{first_goes, second_goes, run_goes_on, scripted_goes_on}
+use Rattle.sc_laws.proofs.Programs.{program_matches, program_obeys}
 use Rattle.sc_laws.proofs.Below.{Passes}
 use Rattle.sc_laws.proofs.BelowCalls.{StepsBelow}
 use Rattle.sc_laws.proofs.Runs.{take_fronts, take_all, front_long, unreached, still_unreached, trace_is, RunsBelow, run_steps, scripted_steps, runs_below}
@@ -137,29 +138,29 @@ module _ (one other : Run) where
     depth = no_deeper (whole_agrees below);
   }
 
-module _ (L M : Library) (parallel : Parallel IsArithmetic L M) (globals : Memory) (inputs : List ℕ) (turns : ℕ) where
+module _ (L M : Library) (match : LibrariesMatch IsArithmetic L M) (globals : Memory) (inputs : List ℕ) (turns : ℕ) where
   below_of : (step step' : Step) → StepGoes step → StepGoes step' → StepsBelow 0 IsArithmetic ⊥ (inl refl) step step' → RunsBelow 0 IsArithmetic ⊥ (run_by L step globals inputs turns) (run_by M step' globals inputs turns)
   below_of step step' goes goes' steps =
       let none : turns + 0 ≡ turns = omega arith in
-      subst (λ n. RunsBelow 0 IsArithmetic ⊥ (run_by L step globals inputs turns) (run_by M step' globals inputs n)) none (runs_below 0 IsArithmetic ⊥ (inl refl) L M parallel step step' goes goes' steps globals inputs turns)
+      subst (λ n. RunsBelow 0 IsArithmetic ⊥ (run_by L step globals inputs turns) (run_by M step' globals inputs n)) none (runs_below 0 IsArithmetic ⊥ (inl refl) L M match step step' goes goes' steps globals inputs turns)
 
   run_goes : StepGoes (run_step L)
-  run_goes body goes = run_step_goes L body goes (first_goes IsArithmetic L M parallel)
+  run_goes body goes = run_step_goes L body goes (first_goes IsArithmetic L M match)
 
   run_goes' : StepGoes (run_step M)
-  run_goes' body goes = run_step_goes M body goes (second_goes IsArithmetic L M parallel)
+  run_goes' body goes = run_step_goes M body goes (second_goes IsArithmetic L M match)
 
   pub runs_agree : RunsBelow 0 IsArithmetic ⊥ (run_by L (run_step L) globals inputs turns) (run_by M (run_step M) globals inputs turns)
   runs_agree =
-      below_of (run_step L) (run_step M) run_goes run_goes' (run_steps 0 IsArithmetic ⊥ (inl refl) L M parallel)
+      below_of (run_step L) (run_step M) run_goes run_goes' (run_steps 0 IsArithmetic ⊥ (inl refl) L M match)
 
   pub scripts_agree : (roles : Roles) → RunsBelow 0 IsArithmetic ⊥ (run_by L (scripted_step L roles (run_step L)) globals inputs turns) (run_by M (scripted_step M roles (run_step M)) globals inputs turns)
   scripts_agree roles =
-      below_of (scripted_step L roles (run_step L)) (scripted_step M roles (run_step M)) (scripted_goes L roles (run_step L) run_goes) (scripted_goes M roles (run_step M) run_goes') (scripted_steps 0 IsArithmetic ⊥ (inl refl) L M parallel roles)
+      below_of (scripted_step L roles (run_step L)) (scripted_step M roles (run_step M)) (scripted_goes L roles (run_step L) run_goes) (scripted_goes M roles (run_step M) run_goes') (scripted_steps 0 IsArithmetic ⊥ (inl refl) L M match roles)
 
-pub wrapping_parallel : (program : ProgramTree) → Parallel IsArithmetic (library_of c_arith program) (library_of wrapping program)
-wrapping_parallel program = program_parallel IsArithmetic c_arith wrapping wrapping_keeps program
+pub wrapping_matches : (program : ProgramTree) → LibrariesMatch IsArithmetic (library_of c_arith program) (library_of wrapping program)
+wrapping_matches program = program_matches IsArithmetic c_arith wrapping wrapping_keeps program
 
 pub wrapping_agrees : WrappingAgrees
 wrapping_agrees program set trace inputs turns =
-    in_room _ _ (scripts_agree (library_of c_arith program) (library_of wrapping program) (wrapping_parallel program) (globals_of program.sections) inputs turns (roles_in program.interfaces.main set trace))
+    in_room _ _ (scripts_agree (library_of c_arith program) (library_of wrapping program) (wrapping_matches program) (globals_of program.sections) inputs turns (roles_in program.interfaces.main set trace))

@@ -1,4 +1,4 @@
--- A program under two arithmetics, of which the second gives what the first does or the first blames: its libraries stand side by side.
+-- A program under two arithmetics, of which the second gives what the first does or the first blames: what its functions do matches.
 use Rattle.std.proofs.Common.{ℕ, zero, suc, List, [], ◌∷◌, map, length, Option, refl}
 use Rattle.std.specs.Prelude.{◌&&◌, ◌==◌, slice_get, slice_index_or, is_some, bytes_eq}
 use Rattle.sc_core.specs.declared.cause.Cause.{Cause}
@@ -8,14 +8,21 @@ use Rattle.sc_core.specs.declared.section.TypedSection.{TypedSection}
 use Rattle.sc_core.specs.declared.program.ProgramTree.{ProgramTree}
 use Rattle.sc_core.specs.declared.value.Value.{Value}
 use Rattle.sc_core.specs.Value.{Arith}
-use Rattle.sc_core.specs.Words.{State, Here, Piece}
+use Rattle.sc_core.specs.Words.{Here}
 use Rattle.sc_core.specs.Calls.{functions_of}
-use Rattle.sc_core.specs.Meaning.{main_name, function_of, functions_in, library_of}
+use Rattle.sc_core.specs.Meaning.{main_name, closed, function_of, functions_in, library_of}
 use Rattle.sc_laws.specs.Agreement.{Meets}
-use Rattle.sc_laws.proofs.Twins.{Each, Kept, then_twins}
+use Rattle.sc_laws.specs.Interactions.{FunctionsMatch, LibrariesMatch, Never, Obedient}
 use Rattle.sc_laws.proofs.Expressions.{alike, ArithKeeps}
-use Rattle.sc_laws.proofs.Statements.{KeptAt, body_twins, closed_twins}
-use Rattle.sc_laws.proofs.Libraries.{FunctionTwins, LibraryTwins, Parallel, Obedient, Never}
+use Rattle.sc_laws.proofs.Interactions.{match_then}
+use Rattle.sc_laws.proofs.Statements.{body_matches, closed_matches}
+
+-- a list of doings, each related to the one at its place
+abbrev pub Each : {A B : Type 0} → (A → B → Type 0) → List A → List B → Type 0
+Each Q [] [] = Unit {0}
+Each Q [] (y ∷ ys) = ⊥
+Each Q (x ∷ xs) [] = ⊥
+Each Q (x ∷ xs) (y ∷ ys) = Q x y × Each Q xs ys
 
 pub meets_at : {A : Type 0} (Q : A → A → Type 0) (xs ys : List A) (i : ℕ) → Each Q xs ys → Meets Q (slice_get xs i) (slice_get ys i)
 meets_at Q [] [] i h = tt
@@ -31,35 +38,36 @@ lists_at Q (x ∷ xs) [] i h = absurd h
 lists_at Q (x ∷ xs) (y ∷ ys) zero h = h.0
 lists_at Q (x ∷ xs) (y ∷ ys) (suc i) h = lists_at Q xs ys i h.1
 
-module _ (P : State → State → Type 0) (R : (V : Type 0) → Piece V → Piece V → Type 0) (Good : Here → Type 0) (Soft : Cause → Type 0) (kept : Kept P R) (at : (here : Here) → Good here → KeptAt P R Soft here) (ar br : Arith) (arith : ArithKeeps Soft ar br) where
-  of_function : (main : ℕ) (structs : List TypedStruct) (f : TypedFunction) → FunctionTwins P R Good (function_of ar main structs f) (function_of br main structs f)
-  of_function main structs f =
-      record { cells = refl; room = refl; does = λ C D here good made. then_twins P R kept _ (Option Value) _ _ _ _ (body_twins P R Soft kept here (at here good) C D made ar br arith structs (length f.params) f tt) (λ left. closed_twins P R Soft kept here (at here good) C D made ar br arith structs (length f.params) left.exit (is_some f.result) (here.comp == main && bytes_eq f.name main_name) f.close_line) }
+module _ (Soft : Cause → Type 0) (ar br : Arith) (arith : ArithKeeps Soft ar br) where
+  of_function : (main : ℕ) (structs : List TypedStruct) (f : TypedFunction) → FunctionsMatch Soft (function_of ar main structs f) (function_of br main structs f)
+  of_function main structs f = record {
+    cells = refl;
+    room = refl;
+    does = λ here.
+        match_then Soft here _ _ (λ left by s. closed left.exit (is_some f.result) (here.comp == main && bytes_eq f.name main_name) f.close_line here s) (λ left by s. closed left.exit (is_some f.result) (here.comp == main && bytes_eq f.name main_name) f.close_line here s)
+        (body_matches Soft here ar br arith structs (length f.params) f tt) (λ left. closed_matches Soft here left.exit (is_some f.result) (here.comp == main && bytes_eq f.name main_name) f.close_line);
+  }
 
-  of_functions : (main : ℕ) (structs : List TypedStruct) (fs : List TypedFunction) → Each (FunctionTwins P R Good) (map (function_of ar main structs) fs) (map (function_of br main structs) fs)
+  of_functions : (main : ℕ) (structs : List TypedStruct) (fs : List TypedFunction) → Each (FunctionsMatch Soft) (map (function_of ar main structs) fs) (map (function_of br main structs) fs)
   of_functions main structs [] = tt
   of_functions main structs (f ∷ fs) = (of_function main structs f, of_functions main structs fs)
 
-  of_sections : (main : ℕ) (sections : List TypedSection) → Each (Each (FunctionTwins P R Good)) (map (functions_in ar main) sections) (map (functions_in br main) sections)
+  of_sections : (main : ℕ) (sections : List TypedSection) → Each (Each (FunctionsMatch Soft)) (map (functions_in ar main) sections) (map (functions_in br main) sections)
   of_sections main [] = tt
   of_sections main (section ∷ sections) =
       (of_functions main section.structs section.functions, of_sections main sections)
 
-  pub program_twins : (program : ProgramTree) → LibraryTwins P R Good (library_of ar program) (library_of br program)
-  program_twins program = record {
+  pub program_matches : (program : ProgramTree) → LibrariesMatch Soft (library_of ar program) (library_of br program)
+  program_matches program = record {
     interfaces = refl;
-    functions = λ comp number. meets_at (FunctionTwins P R Good) (functions_of (library_of ar program) comp) (functions_of (library_of br program) comp) number
-        (lists_at (FunctionTwins P R Good) (library_of ar program).functions (library_of br program).functions comp (of_sections program.interfaces.main program.sections));
+    functions = λ comp number. meets_at (FunctionsMatch Soft) (functions_of (library_of ar program) comp) (functions_of (library_of br program) comp) number
+        (lists_at (FunctionsMatch Soft) (library_of ar program).functions (library_of br program).functions comp (of_sections program.interfaces.main program.sections));
     entered = λ comp entry. refl;
   }
-
-pub program_parallel : (Soft : Cause → Type 0) (ar br : Arith) → ArithKeeps Soft ar br → (program : ProgramTree) → Parallel Soft (library_of ar program) (library_of br program)
-program_parallel Soft ar br arith program =
-    record { twins = λ P R Good kept at. program_twins P R Good Soft kept at ar br arith program }
 
 -- an arithmetic keeps what it gives itself
 pub itself_keeps : (Soft : Cause → Type 0) (arith : Arith) → ArithKeeps Soft arith arith
 itself_keeps Soft arith = record { binary = λ unsigned o a b. alike refl; negated = λ unsigned a. alike refl }
 
 pub program_obeys : (arith : Arith) (program : ProgramTree) → Obedient (library_of arith program)
-program_obeys arith program = program_parallel Never arith arith (itself_keeps Never arith) program
+program_obeys arith program = program_matches Never arith arith (itself_keeps Never arith) program

@@ -23,7 +23,8 @@ use Rattle.sc_core.specs.Meaning.{deepest, library_of, globals_of, first_state, 
 use Rattle.sc_laws.specs.Laws.{DeepestIsReached, AreTold, LeavesRooms, RoomsAreKept}
 use Rattle.sc_laws.specs.Rooms.{room_after, open_room, AllBefore}
 use Rattle.sc_laws.proofs.Growing.{BodyGoes, StepGoes, calls_go, within_goes}
-use Rattle.sc_laws.proofs.Libraries.{Obedient, run_goes_on, scripted_goes_on}
+use Rattle.sc_laws.specs.Interactions.{Obedient}
+use Rattle.sc_laws.proofs.Matching.{run_goes_on, scripted_goes_on}
 use Rattle.sc_laws.proofs.Programs.{program_obeys}
 use Rattle.sc_laws.proofs.Keeping.{Property, Kept, IsKept, then_kept, found_kept, function_keeps}
 

@@ -18,7 +18,9 @@ use Rattle.sc_core.specs.Meaning.{Run, exit_word, run_to, run_by, first_state}
 use Rattle.sc_core.specs.Growth.{Front}
 use Rattle.sc_laws.specs.Growth.{last, IsStop, StopsSo, Gone}
 use Rattle.sc_laws.proofs.Growing.{front_more, StepGoes, then_goes, found_goes, own_goes, within_goes}
-use Rattle.sc_laws.proofs.Libraries.{Anywhere, Parallel}
+use Rattle.sc_laws.specs.Interactions.{LibrariesMatch}
+use Rattle.sc_laws.proofs.Libraries.{Anywhere}
+use Rattle.sc_laws.proofs.Matching.{library_twins}
 use Rattle.sc_laws.proofs.Below.{richer, richer_piece, Passes, Below, along, passed, Ahead, below_kept, below_at}
 use Rattle.sc_laws.proofs.BelowCalls.{StepsBelow, LibrariesBelow, run_step_below, scripted_below, own_below, within_below}
 use Rattle.std.proofs.lemmas.Bool.{ltb-false, leb-false, le-ltb, lt-leb}
@@ -108,10 +110,10 @@ module _ (d : ℕ) (Soft : Cause → Type 0) (Turns : Type 0) where
       goes_past end (ap (λ x. (run_to main x).shown.end) is) (subst StopsSo is stop) passes more.0 more.1
       (subst (λ x. Front x (run_to main p).frames) (sym frames) (subst (Front s.frames) (sym (frames_are main p)) on.frames))
 
-  module _ (spent : (d ≡ 0) ⊎ Turns) (L M : Library) (parallel : Parallel Soft L M) where
+  module _ (spent : (d ≡ 0) ⊎ Turns) (L M : Library) (match : LibrariesMatch Soft L M) where
     pub libraries : (n n' : ℕ) → LibrariesBelow d Soft Turns spent n n' L M
     libraries n n' =
-        parallel.twins (Ahead d Soft Turns n n') (Below d Soft Turns) Anywhere (below_kept d Soft Turns n n' spent) (λ here good. below_at d Soft Turns n n' spent here)
+        library_twins Soft (Ahead d Soft Turns n n') (Below d Soft Turns) Anywhere (below_kept d Soft Turns n n' spent) (λ here good. below_at d Soft Turns n n' spent here) L M match
 
     pub run_steps : StepsBelow d Soft Turns spent (run_step L) (run_step M)
     run_steps n n' a b goes goes' h = run_step_below d Soft Turns spent n n' a b goes goes' h L M (libraries n n')

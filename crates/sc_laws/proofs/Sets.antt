@@ -5,7 +5,7 @@ use Rattle.sc_laws.specs.Laws.{EmptySetIsMeaning, MeaningGoesOn, OnlyGoesOn, Wra
 use Rattle.sc_core.specs.Calls.{run_step}
 use Rattle.sc_core.specs.Meaning.{library_of}
 use Rattle.sc_laws.proofs.Growing.{within_goes}
-use Rattle.sc_laws.proofs.Libraries.{run_goes_on}
+use Rattle.sc_laws.proofs.Matching.{run_goes_on}
 use Rattle.sc_laws.proofs.Programs.{program_obeys}
 use Rattle.sc_laws.proofs.More.{more_goes_on, wrapping_agrees}
 
