@@ -6,6 +6,7 @@ use Rattle.sc_event.specs.declared.row.Action.{Action}
 use Rattle.sc_event.specs.declared.row.Action.TheVariants as act
 use Rattle.sc_event.specs.declared.row.Entry.TheVariants.{Main, Export}
 use Rattle.sc_event.specs.declared.event.Event.TheVariants.{Call}
+use Rattle.sc_core.specs.declared.cause.Cause.{Cause}
 use Rattle.sc_core.specs.declared.cause.Cause.TheVariants.{BadType}
 use Rattle.sc_core.specs.declared.expr.CallTarget.{CallTarget}
 use Rattle.sc_core.specs.declared.expr.CallTarget.TheVariants.{Own, Cross, Input, Output}
@@ -21,11 +22,10 @@ use Rattle.sc_core.specs.Calls.{Library, Body, function, begun, done, word_in, c
 use Rattle.sc_core.specs.Scripts.{Roles, roles_in, rows_left, is_number, asks, acts, performs, scripted_step}
 use Rattle.sc_core.specs.Meaning.{library_of, globals_of, first_state, run_to, run_by}
 use Rattle.sc_laws.specs.Chains.{Set}
-use Rattle.sc_laws.specs.Laws.{NobodyWhoPerformsIsBlamed}
+use Rattle.sc_laws.specs.Runs.{roles_run}
 use Rattle.sc_laws.proofs.Growing.{BodyGoes, calls_go, within_goes}
 use Rattle.sc_laws.specs.Interactions.{Obedient}
 use Rattle.sc_laws.proofs.Matching.{scripted_goes_on}
-use Rattle.sc_laws.proofs.Programs.{program_obeys}
 use Rattle.sc_laws.proofs.Keeping.{Property, Kept, IsKept, then_kept, found_kept, function_keeps}
 
 module _ (set : Set) where
@@ -133,7 +133,7 @@ module _ (set : Set) where
     by true = tt
     by false = h
 
-pub nobody_who_performs_is_blamed : NobodyWhoPerformsIsBlamed
-nobody_who_performs_is_blamed arith program set trace inputs turns events comp cause line ends =
-    subst (Spares set) ends (stopped_spares set events (run_by (library_of arith program) (scripted_step (library_of arith program) (roles_in program.interfaces.main set trace) (run_step (library_of arith program))) (globals_of program.sections) inputs turns).shown
-    (run_by_spares set (library_of arith program) (program_obeys arith program) (roles_in program.interfaces.main set trace).rows (globals_of program.sections) inputs turns))
+pub nobody_is_blamed : (library : Library) → Obedient library → (globals : Memory) (inputs : List ℕ) (turns events : ℕ) (roles : Roles) →
+    (comp : ℕ) (cause : Cause) (line : ℕ) → (stopped_at events (roles_run library globals inputs turns roles).shown).end ≡ Blamed comp cause line → roles.scripted comp ≡ false
+nobody_is_blamed library obedient globals inputs turns events roles comp cause line ends =
+    subst (Spares roles.scripted) ends (stopped_spares roles.scripted events (roles_run library globals inputs turns roles).shown (run_by_spares roles.scripted library obedient roles.rows globals inputs turns))

@@ -5,13 +5,11 @@ use Rattle.sc_core.specs.declared.run.RunEnd.TheVariants.{Ended, Blamed, TurnsOu
 use Rattle.sc_core.specs.Words.{State, Here, Piece, Reached, Stopped}
 use Rattle.sc_core.specs.Calls.{Library, Step, run_step, within}
 use Rattle.sc_core.specs.Scripts.{Roles, scripted_step}
-use Rattle.sc_core.specs.Meaning.{library_of}
 use Rattle.sc_laws.specs.Steady.{now}
-use Rattle.sc_laws.specs.Laws.{IsFixed, IsSteady, FixedPoint}
+use Rattle.sc_laws.specs.Laws.{IsFixed, IsSteady, HasFixedPoint}
 use Rattle.sc_laws.proofs.Growing.{BodyGoes, StepGoes, within_goes}
 use Rattle.sc_laws.specs.Interactions.{Never, Obedient}
 use Rattle.sc_laws.proofs.Matching.{run_goes_on, scripted_goes_on}
-use Rattle.sc_laws.proofs.Programs.{program_obeys}
 use Rattle.sc_laws.proofs.Below.{richer, richer_piece, Passes, Below, along, passed}
 use Rattle.sc_laws.proofs.BelowCalls.{BodiesBelow, StepsBelow, within_below}
 use Rattle.sc_laws.proofs.Runs.{run_steps, scripted_steps}
@@ -69,10 +67,6 @@ module _ (library : Library) (obedient : Obedient library) where
   scripted_steady roles =
       any_depth (scripted_step library roles (run_step library)) (scripted_goes_on library obedient roles) (steady_scripts roles)
 
-pub fixed_point : FixedPoint
-fixed_point = record {
-  run = λ arithmetic program. run_fixed (library_of arithmetic program) (program_obeys arithmetic program);
-  scripted = λ arithmetic program. scripted_fixed (library_of arithmetic program) (program_obeys arithmetic program);
-  run_steady = λ arithmetic program. run_steady (library_of arithmetic program) (program_obeys arithmetic program);
-  scripted_steady = λ arithmetic program. scripted_steady (library_of arithmetic program) (program_obeys arithmetic program);
-}
+  pub has_fixed_point : HasFixedPoint library
+  has_fixed_point =
+      record { run = run_fixed; scripted = scripted_fixed; run_steady = run_steady; scripted_steady = scripted_steady }

@@ -22,7 +22,6 @@ use Rattle.sc_core.specs.declared.run.RunEnd.{RunEnd}
 use Rattle.sc_core.specs.declared.run.RunEnd.TheVariants.{Blamed, TurnsOut}
 use Rattle.sc_core.specs.declared.value.Value.{Value}
 use Rattle.sc_core.specs.declared.value.Value.TheVariants.{Word}
-use Rattle.sc_laws.specs.Laws.{TracesAreLegal}
 use Rattle.sc_core.specs.Memory.{Memory}
 use Rattle.sc_core.specs.Run.{stopped_at}
 use Rattle.sc_core.specs.Words.{State, Here, Piece, Reached, Stopped, and_then, turn, turn_of, tell}
@@ -31,8 +30,8 @@ use Rattle.sc_core.specs.Scripts.{Roles, roles_in, rows_left, is_number, asks, a
 use Rattle.sc_core.specs.Meaning.{library_of, globals_of, first_state, exit_word, run_to, run_by}
 use Rattle.sc_laws.proofs.Growing.{BodyGoes, StepGoes, calls_go, within_goes}
 use Rattle.sc_laws.specs.Interactions.{Obedient}
+use Rattle.sc_laws.specs.Runs.{library_run, roles_run}
 use Rattle.sc_laws.proofs.Matching.{run_goes_on, scripted_goes_on}
-use Rattle.sc_laws.proofs.Programs.{program_obeys}
 use Rattle.sc_laws.proofs.Keeping.{Property, Kept, IsKept, then_kept, IsHalt, found_kept, function_keeps}
 use Rattle.sc_laws.proofs.Cuts.{cut_trace}
 
@@ -236,16 +235,10 @@ stopped_legal : (interfaces : Interfaces) (n : ℕ) (t : List Event) (end : RunE
 stopped_legal interfaces n t end h = ap (legal interfaces) (cut_trace n t end) ∙ legal_take interfaces n (at_start interfaces.main) t h
 
 module _ (library : Library) (obedient : Obedient library) (globals : Memory) (inputs : List ℕ) (turns events : ℕ) where
-  pub runs_legal : legal library.interfaces (stopped_at events (run_by library (run_step library) globals inputs turns).shown).trace ≡ true
+  pub runs_legal : legal library.interfaces (stopped_at events (library_run library globals inputs turns).shown).trace ≡ true
   runs_legal =
       stopped_legal library.interfaces events _ _ (run_legal library.interfaces library refl obedient (run_step library) (run_goes_on library obedient) (run_step_legal library.interfaces library refl obedient) globals inputs turns)
 
-  pub scripts_legal : (roles : Roles) → legal library.interfaces (stopped_at events (run_by library (scripted_step library roles (run_step library)) globals inputs turns).shown).trace ≡ true
+  pub scripts_legal : (roles : Roles) → legal library.interfaces (stopped_at events (roles_run library globals inputs turns roles).shown).trace ≡ true
   scripts_legal roles =
       stopped_legal library.interfaces events _ _ (run_legal library.interfaces library refl obedient (scripted_step library roles (run_step library)) (scripted_goes_on library obedient roles) (scripted_legal library.interfaces library refl obedient roles) globals inputs turns)
-
-pub traces_are_legal : TracesAreLegal
-traces_are_legal = record {
-  meaning = λ arith program inputs turns events. runs_legal (library_of arith program) (program_obeys arith program) (globals_of program.sections) inputs turns events;
-  scripted = λ arith program set trace inputs turns events. scripts_legal (library_of arith program) (program_obeys arith program) (globals_of program.sections) inputs turns events (roles_in program.interfaces.main set trace);
-}

@@ -18,11 +18,11 @@ pub mod Legality
 pub mod Libraries
 pub mod Matching
 pub mod More
+pub mod ProgramLaws
 pub mod Programs
 pub mod Rooms
 pub mod Rows
 pub mod Runs
-pub mod Sets
 pub mod Statements
 pub mod Twins
 pub mod Wrapping

@@ -18,12 +18,12 @@ use Rattle.sc_core.specs.Scripts.{Roles, roles_in, scripted_step}
 use Rattle.sc_core.specs.Meaning.{Run, deepest, depth_in, library_of, globals_of, run_by}
 use Rattle.sc_core.specs.Growth.{Front}
 use Rattle.sc_laws.specs.Steady.{Extends, ExtendedByMore, AgreesUntilBlame, same, blamed, RunsUntilBlame, same_run, blamed_run, AgreesInRoom}
-use Rattle.sc_laws.specs.Laws.{MoreGoesOn, WrappingAgrees}
+use Rattle.sc_laws.specs.Runs.{library_run, roles_run}
 use Rattle.sc_laws.proofs.Growing.{front_same, StepGoes, run_step_goes, scripted_goes}
 use Rattle.sc_laws.proofs.Expressions.{ArithKeeps}
 use Rattle.sc_laws.specs.Interactions.{Never, LibrariesMatch, Obedient}
 use Rattle.sc_laws.proofs.Matching.{first_goes, second_goes, run_goes_on, scripted_goes_on}
-use Rattle.sc_laws.proofs.Programs.{program_matches, program_obeys}
+use Rattle.sc_laws.proofs.Programs.{program_matches}
 use Rattle.sc_laws.proofs.Below.{Passes}
 use Rattle.sc_laws.proofs.BelowCalls.{StepsBelow}
 use Rattle.sc_laws.proofs.Runs.{take_fronts, take_all, front_long, unreached, still_unreached, trace_is, RunsBelow, run_steps, scripted_steps, runs_below}
@@ -64,16 +64,12 @@ module _ (library : Library) (obedient : Obedient library) (globals : Memory) (i
       let sum : turns + d ≡ more_turns = omega (arith, le_turns) in
       subst (λ n. Extends (stopped_at events (run_by library step globals inputs turns).shown) (stopped_at more_events (run_by library step globals inputs n).shown)) sum (extends d _ _ events more_events le_events (runs_below d Never (Unit {0}) (inr tt) library library obedient step step goes goes (steps d) globals inputs turns))
 
-  pub more_runs : ExtendedByMore (λ turns events. stopped_at events (run_by library (run_step library) globals inputs turns).shown)
+  pub more_runs : ExtendedByMore (λ turns events. stopped_at events (library_run library globals inputs turns).shown)
   more_runs = more_of (run_step library) (run_goes_on library obedient) (λ d. run_steps d Never (Unit {0}) (inr tt) library library obedient)
 
-  pub more_scripted : (roles : Roles) → ExtendedByMore (λ turns events. stopped_at events (run_by library (scripted_step library roles (run_step library)) globals inputs turns).shown)
+  pub more_scripted : (roles : Roles) → ExtendedByMore (λ turns events. stopped_at events (roles_run library globals inputs turns roles).shown)
   more_scripted roles =
       more_of (scripted_step library roles (run_step library)) (scripted_goes_on library obedient roles) (λ d. scripted_steps d Never (Unit {0}) (inr tt) library library obedient roles)
-
-pub more_goes_on : MoreGoesOn
-more_goes_on arithmetic program set trace inputs =
-    more_scripted (library_of arithmetic program) (program_obeys arithmetic program) (globals_of program.sections) inputs (roles_in program.interfaces.main set trace)
 
 -- ARITHMETIC
 pub wrapping_keeps : ArithKeeps IsArithmetic c_arith wrapping
@@ -150,17 +146,13 @@ module _ (L M : Library) (match : LibrariesMatch IsArithmetic L M) (globals : Me
   run_goes' : StepGoes (run_step M)
   run_goes' body goes = run_step_goes M body goes (second_goes IsArithmetic L M match)
 
-  pub runs_agree : RunsBelow 0 IsArithmetic ⊥ (run_by L (run_step L) globals inputs turns) (run_by M (run_step M) globals inputs turns)
+  pub runs_agree : AgreesInRoom (library_run L globals inputs turns) (library_run M globals inputs turns)
   runs_agree =
-      below_of (run_step L) (run_step M) run_goes run_goes' (run_steps 0 IsArithmetic ⊥ (inl refl) L M match)
+      in_room _ _ (below_of (run_step L) (run_step M) run_goes run_goes' (run_steps 0 IsArithmetic ⊥ (inl refl) L M match))
 
-  pub scripts_agree : (roles : Roles) → RunsBelow 0 IsArithmetic ⊥ (run_by L (scripted_step L roles (run_step L)) globals inputs turns) (run_by M (scripted_step M roles (run_step M)) globals inputs turns)
+  pub scripts_agree : (roles : Roles) → AgreesInRoom (roles_run L globals inputs turns roles) (roles_run M globals inputs turns roles)
   scripts_agree roles =
-      below_of (scripted_step L roles (run_step L)) (scripted_step M roles (run_step M)) (scripted_goes L roles (run_step L) run_goes) (scripted_goes M roles (run_step M) run_goes') (scripted_steps 0 IsArithmetic ⊥ (inl refl) L M match roles)
+      in_room _ _ (below_of (scripted_step L roles (run_step L)) (scripted_step M roles (run_step M)) (scripted_goes L roles (run_step L) run_goes) (scripted_goes M roles (run_step M) run_goes') (scripted_steps 0 IsArithmetic ⊥ (inl refl) L M match roles))
 
 pub wrapping_matches : (program : ProgramTree) → LibrariesMatch IsArithmetic (library_of c_arith program) (library_of wrapping program)
 wrapping_matches program = program_matches IsArithmetic c_arith wrapping wrapping_keeps program
-
-pub wrapping_agrees : WrappingAgrees
-wrapping_agrees program set trace inputs turns =
-    in_room _ _ (scripts_agree (library_of c_arith program) (library_of wrapping program) (wrapping_matches program) (globals_of program.sections) inputs turns (roles_in program.interfaces.main set trace))

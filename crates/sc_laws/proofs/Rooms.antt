@@ -20,12 +20,11 @@ use Rattle.sc_core.specs.Memory.{Memory}
 use Rattle.sc_core.specs.Words.{FrameChange, Opened, Closed, State, Here, Piece, Reached, Stopped, and_then, turn, turn_of, tell}
 use Rattle.sc_core.specs.Calls.{Function, Library, Body, Step, function, begun, done, word_in, crossed, crossing, first_word, next_input, may_call, back_own, back_cross, run_in, call_own, call_cross, called, calls, run_step, within}
 use Rattle.sc_core.specs.Meaning.{deepest, library_of, globals_of, first_state, run_to, run_by}
-use Rattle.sc_laws.specs.Laws.{DeepestIsReached, AreTold, LeavesRooms, RoomsAreKept}
+use Rattle.sc_laws.specs.Laws.{DeepestIsReached, AreTold, LeavesRooms, KeepsRooms}
 use Rattle.sc_laws.specs.Rooms.{room_after, open_room, AllBefore}
 use Rattle.sc_laws.proofs.Growing.{BodyGoes, StepGoes, calls_go, within_goes}
 use Rattle.sc_laws.specs.Interactions.{Obedient}
 use Rattle.sc_laws.proofs.Matching.{run_goes_on, scripted_goes_on}
-use Rattle.sc_laws.proofs.Programs.{program_obeys}
 use Rattle.sc_laws.proofs.Keeping.{Property, Kept, IsKept, then_kept, found_kept, function_keeps}
 
 -- LISTS OF CHANGES
@@ -250,24 +249,10 @@ module _ (library : Library) (obedient : Obedient library) where
           reached_noted : (rooms : Rooms) (piece : Piece (Option Value)) (v : Option Value) (t : State) → piece ≡ Reached v t → Kept (noting rooms) piece → Noted rooms t
           reached_noted rooms piece v t is h = (subst (λ p. Kept (noting rooms) p) is h).after
 
-  pub runs_told : (globals : Memory) (inputs : List ℕ) (turns : ℕ) → AreTold (run_by library (run_step library) globals inputs turns)
-  runs_told = run_by_notes (run_step library) (run_goes_on library obedient) run_step_notes
-
-  pub scripts_told : (roles : Roles) (globals : Memory) (inputs : List ℕ) (turns : ℕ) → AreTold (run_by library (scripted_step library roles (run_step library)) globals inputs turns)
-  scripts_told roles =
-      run_by_notes (scripted_step library roles (run_step library)) (scripted_goes_on library obedient roles) (scripted_notes roles)
-
-  pub runs_leave : LeavesRooms library (run_step library)
-  runs_leave = leaves_rooms (run_step library) (run_goes_on library obedient) run_step_notes
-
-  pub scripts_leave : (roles : Roles) → LeavesRooms library (scripted_step library roles (run_step library))
-  scripts_leave roles =
-      leaves_rooms (scripted_step library roles (run_step library)) (scripted_goes_on library obedient roles) (scripted_notes roles)
-
-pub rooms_are_kept : RoomsAreKept
-rooms_are_kept = record {
-  told = λ arithmetic program. runs_told (library_of arithmetic program) (program_obeys arithmetic program) (globals_of program.sections);
-  scripted_told = λ arithmetic program set trace. scripts_told (library_of arithmetic program) (program_obeys arithmetic program) (roles_in program.interfaces.main set trace) (globals_of program.sections);
-  returns = λ arithmetic program. runs_leave (library_of arithmetic program) (program_obeys arithmetic program);
-  scripted_returns = λ arithmetic program. scripts_leave (library_of arithmetic program) (program_obeys arithmetic program);
-}
+  pub keeps_rooms : KeepsRooms library
+  keeps_rooms = record {
+    told = run_by_notes (run_step library) (run_goes_on library obedient) run_step_notes;
+    scripted_told = λ globals inputs turns roles. run_by_notes (scripted_step library roles (run_step library)) (scripted_goes_on library obedient roles) (scripted_notes roles) globals inputs turns;
+    returns = leaves_rooms (run_step library) (run_goes_on library obedient) run_step_notes;
+    scripted_returns = λ roles. leaves_rooms (scripted_step library roles (run_step library)) (scripted_goes_on library obedient roles) (scripted_notes roles);
+  }

@@ -5,4 +5,5 @@ pub mod Growth
 pub mod Interactions
 pub mod Laws
 pub mod Rooms
+pub mod Runs
 pub mod Steady

@@ -1,7 +1,13 @@
 // Laws of the meaning, each the contract of a function with nothing to do.
 
-ghost use Rattle.sc_laws.specs.Laws.{ChainExists, ChainsRise, BlameIsPassed, BlameRemains, FixedPoint, ChainIsLeast, DeepestIsReached, MoreGoesOn, MoreMayPerform, OnlyGoesOn, RoomsAreKept, WrappingAgrees, EmptySetIsMeaning, MeaningGoesOn, NobodyWhoPerformsIsBlamed, TracesAreLegal, WrappedAgrees};
+ghost use Rattle.sc_laws.specs.Laws.{ChainExists, ChainsRise, BlameIsPassed, BlameRemains, FixedPoint, ChainIsLeast, DeepestIsReached, MoreGoesOn, MoreMayPerform, OnlyGoesOn, ProgramsObey, RoomsAreKept, WrappingAgrees, EmptySetIsMeaning, MeaningGoesOn, NobodyWhoPerformsIsBlamed, TracesAreLegal, WrappedAgrees};
 ghost use Rattle.sc_laws.specs.Agreement.{AgreeingRunAlike};
+
+/// What the functions of a program do is a tree: what is given or blamed, what the blocks of the compartment decide, and what comes
+/// after new blocks, after a turn and after a call. Libraries of such functions have all laws.
+pub fn programs_obey()
+    ensures { ProgramsObey }
+{}
 
 /// Whatever a function does, events are appended to those that were told, no turn comes back, and it stops the run for
 /// a blame or for want of turns alone.
