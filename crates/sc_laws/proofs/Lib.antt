@@ -24,5 +24,6 @@ pub mod Rooms
 pub mod Rows
 pub mod Runs
 pub mod Statements
+pub mod Turns
 pub mod Twins
 pub mod Wrapping

@@ -21,6 +21,8 @@ use Rattle.sc_laws.proofs.Blames.{nobody_is_blamed}
 use Rattle.sc_laws.proofs.FollowingRuns.{tells_with_more, keeps_blames, passes_blames, least_is_chain}
 use Rattle.sc_laws.proofs.Chaining.{chain_rises, has_chain}
 use Rattle.sc_laws.proofs.Rooms.{keeps_rooms}
+use Rattle.sc_laws.specs.Turns.{TurnsOutMeansTurns}
+use Rattle.sc_laws.proofs.Turns.{spends_turns}
 
 pub programs_obey : ProgramsObey
 programs_obey = record { itself = program_obeys; wraps = wrapping_matches }
@@ -112,4 +114,10 @@ pub rooms_are_kept : RoomsAreKept
 rooms_are_kept = record {
   libraries = keeps_rooms;
   programs = λ arith program. keeps_rooms (library_of arith program) (program_obeys arith program);
+}
+
+pub turns_out_means_turns : TurnsOutMeansTurns
+turns_out_means_turns = record {
+  libraries = spends_turns;
+  programs = λ arith program. spends_turns (library_of arith program) (program_obeys arith program);
 }

@@ -7,3 +7,4 @@ pub mod Laws
 pub mod Rooms
 pub mod Runs
 pub mod Steady
+pub mod Turns
