@@ -19,8 +19,8 @@ use Rattle.sc_core.specs.Memory.{Memory}
 use Rattle.sc_core.specs.Run.{reaches, stopped_at}
 use Rattle.sc_core.specs.Words.{State, Here, Piece, Reached, Stopped, turn, turn_of, tell}
 use Rattle.sc_core.specs.Calls.{Library, Body, function, begun, done, word_in, crossed, may_call, back_own, back_cross, run_in, call_own, call_cross, called, calls, run_step, within}
-use Rattle.sc_core.specs.Scripts.{Roles, roles_in, rows_left, is_number, asks, acts, performs, scripted_step}
-use Rattle.sc_core.specs.Meaning.{library_of, globals_of, first_state, run_to, run_by}
+use Rattle.sc_core.specs.Scripts.{Roles, rows_left, is_number, asks, acts, performs, scripted_step}
+use Rattle.sc_core.specs.Meaning.{first_state, run_to, run_by}
 use Rattle.sc_laws.specs.Chains.{Set}
 use Rattle.sc_laws.specs.Runs.{roles_run}
 use Rattle.sc_laws.proofs.Growing.{BodyGoes, calls_go, within_goes}

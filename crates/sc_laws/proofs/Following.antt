@@ -102,10 +102,6 @@ module _ (main : ℕ) (t : List Event) (S' : ℕ → Bool) where
   near_left st s s' c x performs n =
       record { trace = n.trace; front = n.front; turns = n.turns; inputs = n.inputs; stands = n.stands; memory = λ d clear. n.memory d clear ∙ sym (blocks_there c d x s.memory (λ is. both_ways (S' d) clear (ap S' is ∙ performs))) }
 
-  pub near_right : (st : Standing) (s s' : State) (c : ℕ) (x : Blocks) → S' c ≡ true → Abreast st s s' → Abreast st s (record s' { memory = with_blocks c x s'.memory })
-  near_right st s s' c x performs n =
-      record { trace = n.trace; front = n.front; turns = n.turns; inputs = n.inputs; stands = n.stands; memory = λ d clear. blocks_there c d x s'.memory (λ is. both_ways (S' d) clear (ap S' is ∙ performs)) ∙ n.memory d clear }
-
   pub near_tell : (st after : Standing) (s s' : State) (e : Event) (more : List Event) → stands_after st e ≡ Some after → t ≡ s.trace ++ e ∷ more → Abreast st s s' → Abreast after (tell e s) (tell e s')
   near_tell st after s s' e more moves is n =
       record { trace = ap (λ u. u ++ e ∷ []) n.trace; front = record { more = more; is = is ∙ sym (append_assoc s.trace (e ∷ []) more) }; turns = n.turns; inputs = n.inputs; memory = n.memory; stands = stands_last (at_start main) s.trace e st n.stands ∙ moves }

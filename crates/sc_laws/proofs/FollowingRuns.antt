@@ -8,18 +8,16 @@ use Rattle.sc_event.specs.declared.event.Event.TheVariants as event
 use Rattle.sc_event.specs.declared.row.Entry.TheVariants.{Main}
 use Rattle.sc_event.specs.Standing.{Standing, at_start, stands_behind}
 use Rattle.sc_core.specs.declared.cause.Cause.{Cause}
-use Rattle.sc_core.specs.declared.program.ProgramTree.{ProgramTree}
 use Rattle.sc_core.specs.declared.run.RunEnd.{RunEnd}
 use Rattle.sc_core.specs.declared.run.RunEnd.TheVariants.{Ended, Blamed, EventsOut, TurnsOut}
 use Rattle.sc_core.specs.declared.run.SourceRun.{SourceRun}
 use Rattle.sc_core.specs.declared.value.Value.{Value}
 use Rattle.sc_core.specs.Memory.{Memory}
-use Rattle.sc_core.specs.Value.{Arith}
 use Rattle.sc_core.specs.Run.{reaches, stopped_at}
 use Rattle.sc_core.specs.Words.{State, Piece, Reached, Stopped, and_then}
-use Rattle.sc_core.specs.Calls.{Function, Library, Step, function, begun, done, found, call_own, run_step, within}
-use Rattle.sc_core.specs.Scripts.{roles_in, scripted_step}
-use Rattle.sc_core.specs.Meaning.{library_of, globals_of, exit_word, run_to, run_by, first_state}
+use Rattle.sc_core.specs.Calls.{Function, Library, Step, function, begun, done, found, call_own, within}
+use Rattle.sc_core.specs.Scripts.{roles_in}
+use Rattle.sc_core.specs.Meaning.{exit_word, run_to, run_by, first_state}
 use Rattle.sc_laws.specs.Chains.{Set, IsWithin, nobody, with, Link, IsChain, Includes, PassesBlame, turnless, longer}
 use Rattle.sc_core.specs.Growth.{Front}
 use Rattle.sc_laws.specs.Growth.{last, IsStop, StopsSo}

@@ -1,12 +1,14 @@
--- What the words of the meaning make of doings that are trees are trees; for any language whose functions are told in these words.
-use Rattle.std.proofs.Common.{◌≡◌, refl, sym, ap, ◌∙◌, subst, ℕ, zero, suc, ◌<◌, ◌≤◌, List, [], ◌∷◌, Option, Result, Ok, Err, arith, inl, inr}
-use Rattle.std.specs.Prelude.{Bool, true, false, if◌then◌else◌, ◌⊎◌}
+-- What the words of the meaning make of doings that are trees are trees. For every language whose functions are told in these words: each lemma
+-- `match_` is of one word, and together they show that a library obeys.
+use Rattle.std.proofs.Common.{◌≡◌, refl, sym, ap, ◌∙◌, subst, ℕ, zero, suc, ◌<◌, ◌≤◌, List, [], ◌∷◌, map, Result, Ok, Err, arith, inl, inr}
+use Rattle.std.specs.Prelude.{Bool, true, false, if◌then◌else◌}
 use Rattle.sc_core.specs.declared.cause.Cause.{Cause}
 use Rattle.sc_core.specs.declared.expr.CallTarget.{CallTarget}
 use Rattle.sc_core.specs.declared.value.Value.{Value}
-use Rattle.sc_core.specs.Memory.{Blocks}
-use Rattle.sc_core.specs.Words.{State, Here, Piece, Reached, Stopped, and_then, computed, turn_of, turn, with_memory, Left, Exit, Next, Route, On, Out, Does, leave, take, follow, in_order, in_loop, rounds, loop, Calls}
-use Rattle.sc_laws.specs.Growth.{Grown, last, Gone, Goes}
+use Rattle.sc_core.specs.Memory.{Blocks, store}
+use Rattle.sc_core.specs.Words.{State, Here, Piece, Reached, Stopped, and_then, computed, turn_of, turn, with_memory, Left, Exit, Next, Route, On, Out, Does, leave, stored, take, follow, in_order, in_loop, all_do, rounds, loop, Calls}
+use Rattle.sc_core.proofs.Induction.{Each}
+use Rattle.sc_laws.specs.Growth.{Grown, Gone, Goes}
 use Rattle.sc_laws.specs.Interactions.{Interaction, Gives, Blames, Reads, Stores, Spends, Asks, Halts, played, Lasts, Doing, GoFrom, Plays, Alike, Match}
 use Rattle.sc_laws.proofs.Growing.{same, stays, no_turn, earlier, then_goes, turn_goes}
 use Rattle.sc_laws.proofs.Expressions.{Keeps, alike, blamed}
@@ -314,6 +316,18 @@ module _ (Soft : Cause → Type 0) where
         second = plays_follow here route g l h.twin (λ a. (x a).twin) h.second (λ a. (x a).second);
         alike = λ n. alike_trail route (h.tree n) (h.twin n) _ _ (h.alike n) (λ a. (x a).alike n);
       }
+
+      -- a value at a place
+      pub match_store : (q v : Value) (line : ℕ) → MatchWith (λ by. stored here q v line) (λ by. stored here q v line)
+      match_store q v line a =
+          match_then _ _ (λ blocks by t. leave Next a (with_memory here.comp blocks t)) (λ blocks by t. leave Next a (with_memory here.comp blocks t))
+          (match_computed line (λ blocks. store blocks q v) (λ blocks. store blocks q v) (λ blocks. alike refl)) (λ blocks. match_stored (record { exit = Next; carried = a }) blocks)
+
+      -- what each of a list does, in order
+      pub match_all : {X : Type 0} (f g : X → DoingWith A) (xs : List X) → Each (λ x. MatchWith (f x) (g x)) xs → MatchWith (λ by. all_do (map (λ x. f x by) xs)) (λ by. all_do (map (λ x. g x by) xs))
+      match_all f g [] h a = match_leave Next a
+      match_all f g (x ∷ xs) h a =
+          match_follow in_order (λ by. f x by a) (λ by. g x by a) (λ by. all_do (map (λ x. f x by) xs)) (λ by. all_do (map (λ x. g x by) xs)) (h.0 a) (match_all f g xs h.1)
 
       pub match_loop : (f g f2 g2 f3 g3 : DoingWith A) → MatchWith f g → MatchWith f2 g2 → MatchWith f3 g3 → MatchWith (λ by. loop (f by) (f2 by) (f3 by)) (λ by. loop (g by) (g2 by) (g3 by))
       match_loop f g f2 g2 f3 g3 h b x a = record {

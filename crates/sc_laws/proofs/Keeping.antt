@@ -9,8 +9,8 @@ use Rattle.sc_core.specs.Memory.{Blocks, with_blocks}
 use Rattle.sc_core.specs.Words.{State, Here, Piece, Reached, Stopped, and_then, computed, turn_of, turn, Calls}
 use Rattle.sc_core.specs.Calls.{Function, Library, function, found}
 use Rattle.sc_laws.specs.Agreement.{Meets}
-use Rattle.sc_laws.specs.Growth.{Grown, last, Gone, Goes}
-use Rattle.sc_laws.proofs.Growing.{same, CallsGo}
+use Rattle.sc_laws.specs.Growth.{Grown, Gone}
+use Rattle.sc_laws.proofs.Growing.{CallsGo}
 use Rattle.sc_laws.proofs.Twins.{Kept as RelationKept, KeptAt}
 use Rattle.sc_laws.specs.Interactions.{Never, Obedient}
 use Rattle.sc_laws.proofs.Libraries.{FunctionTwins, LibraryTwins}

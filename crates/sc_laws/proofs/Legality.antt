@@ -26,14 +26,14 @@ use Rattle.sc_core.specs.Memory.{Memory}
 use Rattle.sc_core.specs.Run.{stopped_at}
 use Rattle.sc_core.specs.Words.{State, Here, Piece, Reached, Stopped, and_then, turn, turn_of, tell}
 use Rattle.sc_core.specs.Calls.{Library, Body, Step, function, begun, done, found, word_in, crossed, word_back, crossing, next_input, first_word, may_call, back_own, back_cross, run_in, call_own, call_cross, called, calls, run_step, within}
-use Rattle.sc_core.specs.Scripts.{Roles, roles_in, rows_left, is_number, asks, acts, performs, scripted_step}
-use Rattle.sc_core.specs.Meaning.{library_of, globals_of, first_state, exit_word, run_to, run_by}
+use Rattle.sc_core.specs.Scripts.{Roles, rows_left, is_number, asks, acts, performs, scripted_step}
+use Rattle.sc_core.specs.Meaning.{first_state, exit_word, run_to, run_by}
 use Rattle.sc_laws.proofs.Growing.{BodyGoes, StepGoes, calls_go, within_goes}
 use Rattle.sc_laws.specs.Interactions.{Obedient}
 use Rattle.sc_laws.specs.Runs.{library_run, roles_run}
 use Rattle.sc_laws.proofs.Matching.{run_goes_on, scripted_goes_on}
 use Rattle.sc_laws.proofs.Keeping.{Property, Kept, IsKept, then_kept, IsHalt, found_kept, function_keeps}
-use Rattle.sc_laws.proofs.Cuts.{cut_trace}
+use Rattle.sc_laws.proofs.Runs.{trace_is}
 
 module _ (interfaces : Interfaces) where
   behind_more : (at : Option Standing) (t : List Event) (st : Standing) (e : Event) → stands_behind at t ≡ Some st → stands_behind at (t ++ e ∷ []) ≡ stands_after st e
@@ -232,7 +232,7 @@ module _ (interfaces : Interfaces) where
         subst (λ c. legal interfaces (run_to c.main (and_then (found (library.entered c.main Main) (first_state globals inputs turns)) (λ number s. call_own library (within step (suc turns)) c.main number [] s))).shown.trace ≡ true) (sym same) (piece_legal (and_then (found (library.entered interfaces.main Main) (first_state globals inputs turns)) (λ number s. call_own library (within step (suc turns)) interfaces.main number [] s)) (found_kept (standing begins) (library.entered interfaces.main Main) (first_state globals inputs turns) (λ number s. call_own library (within step (suc turns)) interfaces.main number [] s) (refl, tt) (λ number found_number. own_at library same (within step (suc turns)) (within_legal step step_goes legal_step (suc turns)) begins interfaces.main number [] (first_state globals inputs turns) refl (record { stands = refl; is_legal = refl }))))
 
 stopped_legal : (interfaces : Interfaces) (n : ℕ) (t : List Event) (end : RunEnd) → legal interfaces t ≡ true → legal interfaces (stopped_at n (record { trace = t; end = end })).trace ≡ true
-stopped_legal interfaces n t end h = ap (legal interfaces) (cut_trace n t end) ∙ legal_take interfaces n (at_start interfaces.main) t h
+stopped_legal interfaces n t end h = ap (legal interfaces) (trace_is n (record { trace = t; end = end })) ∙ legal_take interfaces n (at_start interfaces.main) t h
 
 module _ (library : Library) (obedient : Obedient library) (globals : Memory) (inputs : List ℕ) (turns events : ℕ) where
   pub runs_legal : legal library.interfaces (stopped_at events (library_run library globals inputs turns).shown).trace ≡ true

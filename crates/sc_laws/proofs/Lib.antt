@@ -3,7 +3,6 @@ pub mod Below
 pub mod BelowCalls
 pub mod Blames
 pub mod Chaining
-pub mod Cuts
 pub mod Examples
 pub mod Expressions
 pub mod Fixed
@@ -11,7 +10,6 @@ pub mod Following
 pub mod FollowingCalls
 pub mod FollowingRuns
 pub mod Growing
-pub mod Induction
 pub mod Interactions
 pub mod Keeping
 pub mod Legality

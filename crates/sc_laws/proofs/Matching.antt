@@ -1,5 +1,5 @@
 -- Functions that match are related in every relation that the words of the meaning keep.
-use Rattle.std.proofs.Common.{◌≡◌, refl, sym, subst, ap, ◌∙◌, ℕ, zero, suc, ◌+◌, ◌<◌, ◌≤◌, List, Option, Some, None, Result, Ok, Err, arith, inl, inr}
+use Rattle.std.proofs.Common.{◌≡◌, refl, sym, subst, ℕ, zero, suc, ◌+◌, ◌<◌, Option, Some, None, Ok, Err, arith, inl, inr}
 use Rattle.sc_core.specs.declared.cause.Cause.{Cause}
 use Rattle.sc_core.specs.declared.run.RunEnd.TheVariants.{Blamed}
 use Rattle.sc_core.specs.declared.value.Value.{Value}
@@ -8,7 +8,7 @@ use Rattle.sc_core.specs.Words.{State, Here, Piece, Reached, Stopped, and_then, 
 use Rattle.sc_core.specs.Calls.{Function, Library, function, run_step}
 use Rattle.sc_core.specs.Scripts.{Roles, scripted_step}
 use Rattle.sc_laws.specs.Agreement.{Meets}
-use Rattle.sc_laws.specs.Growth.{Grown, Gone, Goes}
+use Rattle.sc_laws.specs.Growth.{Gone, Goes}
 use Rattle.sc_laws.specs.Interactions.{Interaction, Gives, Blames, Reads, Stores, Spends, Asks, Halts, played, Lasts, Doing, GoFrom, Plays, Never, Alike, FunctionsMatch, LibrariesMatch, Obedient}
 use Rattle.sc_laws.proofs.Growing.{stays, FunctionGoes, LibraryGoes, StepGoes, run_step_goes, scripted_goes}
 use Rattle.sc_laws.proofs.Twins.{Twins, Kept, KeptAt}

@@ -14,8 +14,8 @@ use Rattle.sc_laws.specs.Ends.{IsFinal, IsArithmetic}
 use Rattle.sc_laws.proofs.Wrapping.{binary_fits, negated_fits}
 use Rattle.sc_core.specs.Run.{reaches, stopped_at}
 use Rattle.sc_core.specs.Calls.{Library, Step, run_step}
-use Rattle.sc_core.specs.Scripts.{Roles, roles_in, scripted_step}
-use Rattle.sc_core.specs.Meaning.{Run, deepest, depth_in, library_of, globals_of, run_by}
+use Rattle.sc_core.specs.Scripts.{Roles, scripted_step}
+use Rattle.sc_core.specs.Meaning.{Run, deepest, depth_in, library_of, run_by}
 use Rattle.sc_core.specs.Growth.{Front}
 use Rattle.sc_laws.specs.Steady.{Extends, ExtendedByMore, AgreesUntilBlame, same, blamed, RunsUntilBlame, same_run, blamed_run, AgreesInRoom}
 use Rattle.sc_laws.specs.Runs.{library_run, roles_run}

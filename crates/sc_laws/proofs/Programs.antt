@@ -1,14 +1,12 @@
 -- A program under two arithmetics, of which the second gives what the first does or the first blames: what its functions do matches.
-use Rattle.std.proofs.Common.{ℕ, zero, suc, List, [], ◌∷◌, map, length, Option, refl}
+use Rattle.std.proofs.Common.{ℕ, zero, suc, List, [], ◌∷◌, map, length, refl}
 use Rattle.std.specs.Prelude.{◌&&◌, ◌==◌, slice_get, slice_index_or, is_some, bytes_eq}
 use Rattle.sc_core.specs.declared.cause.Cause.{Cause}
 use Rattle.sc_core.specs.declared.section.TypedStruct.{TypedStruct}
 use Rattle.sc_core.specs.declared.section.TypedFunction.{TypedFunction}
 use Rattle.sc_core.specs.declared.section.TypedSection.{TypedSection}
 use Rattle.sc_core.specs.declared.program.ProgramTree.{ProgramTree}
-use Rattle.sc_core.specs.declared.value.Value.{Value}
 use Rattle.sc_core.specs.Value.{Arith}
-use Rattle.sc_core.specs.Words.{Here}
 use Rattle.sc_core.specs.Calls.{functions_of}
 use Rattle.sc_core.specs.Meaning.{main_name, closed, function_of, functions_in, library_of}
 use Rattle.sc_laws.specs.Agreement.{Meets}

@@ -15,11 +15,11 @@ use Rattle.sc_core.specs.declared.value.Value.TheVariants.{Word}
 use Rattle.sc_event.specs.declared.row.Row.{Row}
 use Rattle.sc_event.specs.declared.row.Action.{Action}
 use Rattle.sc_event.specs.declared.row.Action.TheVariants as act
-use Rattle.sc_core.specs.Scripts.{Roles, roles_in, rows_left, is_number, asks, acts, performs, scripted_step}
+use Rattle.sc_core.specs.Scripts.{Roles, rows_left, is_number, asks, acts, performs, scripted_step}
 use Rattle.sc_core.specs.Memory.{Memory}
 use Rattle.sc_core.specs.Words.{FrameChange, Opened, Closed, State, Here, Piece, Reached, Stopped, and_then, turn, turn_of, tell}
 use Rattle.sc_core.specs.Calls.{Function, Library, Body, Step, function, begun, done, word_in, crossed, crossing, first_word, next_input, may_call, back_own, back_cross, run_in, call_own, call_cross, called, calls, run_step, within}
-use Rattle.sc_core.specs.Meaning.{deepest, library_of, globals_of, first_state, run_to, run_by}
+use Rattle.sc_core.specs.Meaning.{deepest, first_state, run_to, run_by}
 use Rattle.sc_laws.specs.Laws.{DeepestIsReached, AreTold, LeavesRooms, KeepsRooms}
 use Rattle.sc_laws.specs.Rooms.{room_after, open_room, AllBefore}
 use Rattle.sc_laws.proofs.Growing.{BodyGoes, StepGoes, calls_go, within_goes}

@@ -1,5 +1,5 @@
 -- What statements do is a tree, and under two arithmetics the trees are alike.
-use Rattle.std.proofs.Common.{◌≡◌, ℕ, suc, List, [], ◌∷◌, map, Option, Some, None, Result, Ok, Err, refl, sym, subst}
+use Rattle.std.proofs.Common.{◌≡◌, ℕ, suc, List, [], ◌∷◌, map, Option, Some, None, Ok, Err, refl, sym, subst}
 use Rattle.std.specs.Prelude.{Bool, true, false}
 use Rattle.sc_core.specs.declared.cause.Cause.{Cause}
 use Rattle.sc_core.specs.declared.cause.Cause.TheVariants.{NoReturn}
@@ -16,20 +16,19 @@ use Rattle.sc_core.specs.declared.stmt.TypedSimpleKind.TheVariants as simple
 use Rattle.sc_core.specs.declared.section.TypedStruct.{TypedStruct}
 use Rattle.sc_core.specs.declared.section.TypedLocal.{TypedLocal}
 use Rattle.sc_core.specs.declared.section.TypedFunction.{TypedFunction}
-use Rattle.sc_core.specs.declared.run.RunEnd.TheVariants.{Blamed}
 use Rattle.sc_core.specs.declared.value.Value.{Value}
 use Rattle.sc_core.specs.declared.value.Value.TheVariants.{Word}
 use Rattle.sc_core.specs.declared.value.Want.{Want}
 use Rattle.sc_core.specs.declared.value.Want.TheVariants as want
-use Rattle.sc_core.specs.Memory.{Blocks, store, with_blocks}
+use Rattle.sc_core.specs.Memory.{Blocks}
 use Rattle.sc_core.specs.Value.{Arith}
-use Rattle.sc_core.specs.Words.{State, Here, Piece, with_memory, Left, Exit, Next, Break, Continue, Return, leave, stored, in_order, all_do, loop, choose, Calls}
+use Rattle.sc_core.specs.Words.{Here, Exit, Next, Break, Continue, Return, leave, stored, in_order, all_do, loop, choose, Calls}
 use Rattle.sc_core.specs.Tree.{Ways, Acts, variable_at, at_place, values, given, store_at, assign, test, store_result, call, assign_call, call_alone, ways, simple_does, part_does, kind_step, stmt_step, stmt_does, block_does}
 use Rattle.sc_core.specs.Meaning.{at_brace, closed, init_does, inits_do, body_does}
 use Rattle.sc_core.proofs.Layers.{on_line, layer_of, stmt_at}
 use Rattle.sc_laws.specs.Interactions.{Doing, Match}
-use Rattle.sc_laws.proofs.Interactions.{MatchWith, match_reached, match_then, match_computed, match_stored, match_call, match_if, match_leave, match_follow, match_loop}
-use Rattle.sc_laws.proofs.Induction.{Every, everywhere, Inside, stmt_induction}
+use Rattle.sc_laws.proofs.Interactions.{MatchWith, match_reached, match_then, match_computed, match_store, match_call, match_if, match_leave, match_follow, match_all, match_loop}
+use Rattle.sc_core.proofs.Induction.{Each, everywhere, Inside, stmt_induction}
 use Rattle.sc_laws.proofs.Expressions.{Keeps, alike, ArithKeeps, ways_keep, values_keep}
 
 module _ (Soft : Cause → Type 0) (here : Here) where
@@ -46,14 +45,9 @@ module _ (Soft : Cause → Type 0) (here : Here) where
   given_matches : (w : Want) (e e' : Ways) → WaysMatch e e' → (line : ℕ) → Match Soft here (λ by. given here w e line) (λ by. given here w e' line)
   given_matches w e e' h line = match_computed Soft here line (e w) (e' w) (h w)
 
-  stored_matches : (q v : Value) (line : ℕ) → ActsMatch (λ by. stored here q v line) (λ by. stored here q v line)
-  stored_matches q v line a =
-      match_then Soft here _ _ (λ blocks by t. leave Next a (with_memory here.comp blocks t)) (λ blocks by t. leave Next a (with_memory here.comp blocks t))
-      (match_computed Soft here line (λ blocks. store blocks q v) (λ blocks. store blocks q v) (λ blocks. alike refl)) (λ blocks. match_stored Soft here (record { exit = Next; carried = a }) blocks)
-
   store_at_matches : (place place' : Ways) → WaysMatch place place' → (v : Value) (line : ℕ) → ActsMatch (λ by. store_at here place v line) (λ by. store_at here place' v line)
   store_at_matches place place' h v line a =
-      match_then Soft here _ _ (λ q by. stored here q v line a) (λ q by. stored here q v line a) (given_matches want.Place place place' h line) (λ q. stored_matches q v line a)
+      match_then Soft here _ _ (λ q by. stored here q v line a) (λ q by. stored here q v line a) (given_matches want.Place place place' h line) (λ q. match_store Soft here q v line a)
 
   assign_matches : (place place' e e' : Ways) → WaysMatch place place' → WaysMatch e e' → (line : ℕ) → ActsMatch (λ by. assign here place e line) (λ by. assign here place' e' line)
   assign_matches place place' e e' h k line a =
@@ -108,10 +102,9 @@ module _ (Soft : Cause → Type 0) (here : Here) where
     abbrev Both : TypedStmt → Type 0
     Both stmt = ActsMatch (λ by. stmt_does ar structs here params by stmt) (λ by. stmt_does br structs here params by stmt)
 
-    inner : (block : List TypedStmt) → Every Both block → ActsMatch (λ by. block_does ar structs here params by block) (λ by. block_does br structs here params by block)
-    inner [] h a = leave_matches Next a
-    inner (stmt ∷ rest) h a =
-        match_follow Soft here in_order (λ by. stmt_does ar structs here params by stmt a) (λ by. stmt_does br structs here params by stmt a) (λ by. block_does ar structs here params by rest) (λ by. block_does br structs here params by rest) (h.0 a) (inner rest h.1)
+    inner : (block : List TypedStmt) → Each Both block → ActsMatch (λ by. block_does ar structs here params by block) (λ by. block_does br structs here params by block)
+    inner block h =
+        match_all Soft here (λ stmt by. stmt_does ar structs here params by stmt) (λ stmt by. stmt_does br structs here params by stmt) block h
 
     abbrev layered : Arith → TypedStmtKind-F TypedStmtKind TypedStmt → ℕ → Calls → Acts
     layered arith k line by = layer_of _ _ (kind_step arith structs here params by) stmt_step k line
@@ -119,7 +112,7 @@ module _ (Soft : Cause → Type 0) (here : Here) where
     abbrev tested : Arith → TypedExpr → ℕ → Calls → Acts
     tested arith cond line by = test here (ways arith structs here params cond) line
 
-    looped : (cond : TypedExpr) (line : ℕ) (block : List TypedStmt) → Every Both block → (f g : Calls → Acts) → ActsMatch f g → ActsMatch (λ by. loop (test here (ways ar structs here params cond) line) (block_does ar structs here params by block) (f by)) (λ by. loop (test here (ways br structs here params cond) line) (block_does br structs here params by block) (g by))
+    looped : (cond : TypedExpr) (line : ℕ) (block : List TypedStmt) → Each Both block → (f g : Calls → Acts) → ActsMatch f g → ActsMatch (λ by. loop (test here (ways ar structs here params cond) line) (block_does ar structs here params by block) (f by)) (λ by. loop (test here (ways br structs here params cond) line) (block_does br structs here params by block) (g by))
     looped cond line block h f g next =
         match_loop Soft here (tested ar cond line) (tested br cond line) (λ by. block_does ar structs here params by block) (λ by. block_does br structs here params by block) f g (test_matches _ _ (way_matches cond) line) (inner block h) next
 

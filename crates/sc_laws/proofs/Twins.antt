@@ -1,5 +1,5 @@
 -- Two runs side by side: which relations of them the words of the meaning keep.
-use Rattle.std.proofs.Common.{◌≡◌, ℕ, ◌<◌, Result}
+use Rattle.std.proofs.Common.{ℕ, ◌<◌, Result}
 use Rattle.sc_core.specs.declared.cause.Cause.{Cause}
 use Rattle.sc_core.specs.declared.run.RunEnd.TheVariants.{Blamed}
 use Rattle.sc_core.specs.Memory.{Blocks, with_blocks}

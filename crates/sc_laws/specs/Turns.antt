@@ -8,7 +8,7 @@ use Rattle.sc_core.specs.Memory.{Memory}
 use Rattle.sc_core.specs.Value.{Arith}
 use Rattle.sc_core.specs.Words.{State, Here, Piece, Stopped, and_then}
 use Rattle.sc_core.specs.Calls.{Library, call_own, found, function, leads, run_step, within}
-use Rattle.sc_core.specs.Meaning.{first_state, globals_of, library_of}
+use Rattle.sc_core.specs.Meaning.{first_state, library_of}
 use Rattle.sc_laws.specs.Interactions.{Obedient}
 use Rattle.sc_laws.specs.Runs.{library_run}
 use Rattle.sc_laws.specs.Steady.{now}
