@@ -244,10 +244,12 @@ module _ (Soft : Cause → Type 0) where
     alike_rounds : (n : ℕ) (f g f2 g2 f3 g3 : A → Interaction (Left A)) → ((a : A) → Alike Soft (f a) (g a)) → ((a : A) → Alike Soft (f2 a) (g2 a)) → ((a : A) → Alike Soft (f3 a) (g3 a)) → (a : A) → Alike Soft (round_trees n f f2 f3 a) (round_trees n g g2 g3 a)
     alike_rounds zero f g f2 g2 f3 g3 h b x a = refl
     alike_rounds (suc n) f g f2 g2 f3 g3 h b x a =
-        alike_trail in_loop (f a) (g a) _ _ (h a) (λ a.
-        ((trail in_loop (g2 a) (λ a. trail in_loop (g3 a) (round_trees n g g2 g3))), refl,
-        alike_trail in_loop (f2 a) (g2 a) _ _ (b a) (λ a.
-        alike_trail in_loop (f3 a) (g3 a) _ _ (x a) (alike_rounds n f g f2 g2 f3 g3 h b x))))
+        alike_trail in_loop (f a) (g a) _ _ (h a) (λ a. (
+          (trail in_loop (g2 a) (λ a. trail in_loop (g3 a) (round_trees n g g2 g3))),
+          refl,
+          alike_trail in_loop (f2 a) (g2 a) _ _ (b a) (λ a.
+              alike_trail in_loop (f3 a) (g3 a) _ _ (x a) (alike_rounds n f g f2 g2 f3 g3 h b x)),
+        ))
 
   -- DOINGS THAT MATCH
   module _ (here : Here) where

@@ -65,11 +65,11 @@ module _ (Soft : Cause → Type 0) (P : State → State → Type 0) (R : (V : Ty
           first = λ s. subst (Gone s) (sym (first_is (suc s.turns) s (omega arith))) (played_goes (m.tree (suc s.turns)) C here go s);
           second = λ s. subst (Gone s) (sym (second_is (suc s.turns) s (omega arith))) (played_goes (m.twin (suc s.turns)) D here go' s);
           both = λ s s' p. (
-            let n : ℕ = suc (s.turns + s'.turns) in
-            subst (λ x. R (Option Value) x (g.does D here s')) (sym (first_is n s (omega arith)))
-            (subst (R (Option Value) (played (m.tree n) C here s)) (sym (second_is n s' (omega arith)))
-            (played_related C D here good made n (m.tree n) (m.twin n) (m.first.lasts n) (m.alike n) s s' (omega arith) p))
-          );
+              let n : ℕ = suc (s.turns + s'.turns) in
+              subst (λ x. R (Option Value) x (g.does D here s')) (sym (first_is n s (omega arith)))
+              (subst (R (Option Value) (played (m.tree n) C here s)) (sym (second_is n s' (omega arith)))
+              (played_related C D here good made n (m.tree n) (m.twin n) (m.first.lasts n) (m.alike n) s s' (omega arith) p))
+              );
         }
 
   both_there : (f g : Option Function) → Meets (FunctionsMatch Soft) f g → Meets (FunctionTwins P R Good) f g
