@@ -2,15 +2,18 @@
 use Rattle.std.specs.Prelude.{◌≡◌, ℕ, List, Option, None, Some}
 use Rattle.sc_event.specs.declared.row.Entry.{Entry}
 use Rattle.sc_core.specs.declared.expr.CallTarget.{CallTarget}
+use Rattle.sc_core.specs.declared.program.ProgramTree.{ProgramTree}
 use Rattle.sc_core.specs.declared.run.RunEnd.{RunEnd}
 use Rattle.sc_core.specs.declared.run.RunEnd.TheVariants.{Ended, Blamed, TurnsOut, EventsOut}
 use Rattle.sc_core.specs.declared.run.SourceRun.{SourceRun}
 use Rattle.sc_core.specs.declared.value.Value.{Value}
 use Rattle.sc_core.specs.Words.{State, Here, Piece, Reached, Stopped, Calls}
 use Rattle.sc_core.specs.Memory.{Memory}
+use Rattle.sc_core.specs.Value.{Arith}
 use Rattle.sc_core.specs.Calls.{Function, Library, Body, function, run_step}
 use Rattle.sc_core.specs.Scripts.{Roles, scripted_step}
-use Rattle.sc_core.specs.Meaning.{Run, run_by}
+use Rattle.sc_core.specs.Meaning.{Run, library_of, run_by}
+use Rattle.sc_laws.specs.Lines.{program_lined}
 use Rattle.sc_core.specs.Run.{stopped_at}
 
 -- two things, where they are there: either both are, and are so related, or neither is
@@ -65,6 +68,11 @@ pub record RunsAgree (run other : Run) : Type 0 where
   pub shown : (events : ℕ) → ShownAgree (stopped_at events run.shown) (stopped_at events other.shown)
   pub whole : ShownAgree run.shown other.shown
   pub frames : run.frames ≡ other.frames
+
+-- a program whose trees stand on other lines has a library that agrees
+abbrev pub OtherLinesAgree : Type 0
+OtherLinesAgree = (arith : Arith) (line_of : ℕ → ℕ) (program : ProgramTree) →
+    LibrariesAgree (library_of arith program) (library_of arith (program_lined line_of program))
 
 -- libraries that agree function by function show the same in the same room: in their meaning, and whoever performs whatever script
 pub record AgreeingRunAlike : Type 0 where
