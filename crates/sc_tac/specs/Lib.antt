@@ -1,0 +1,5 @@
+pub mod Flow
+pub mod Functions
+pub mod Parts
+pub mod Programs
+pub mod Weights

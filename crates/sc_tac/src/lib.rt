@@ -1,0 +1,10 @@
+//! Structured three-address code: between programs and the machine's instructions.
+#![tactic(auto)]
+
+mod function;
+mod program;
+mod stmt;
+
+pub use function::{ObjectCells, TacFn, TacFnTree, TacFns};
+pub use program::{Tac, TacSection, TacSections, TacTree};
+pub use stmt::{Constant, TacOp, TacStmt, TacStmts, Temps};
