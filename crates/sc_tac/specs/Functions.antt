@@ -5,6 +5,8 @@ use Rattle.std.specs.List.{list_any, list_all}
 use Rattle.sc_event.specs.declared.row.Entry.{Entry}
 use Rattle.sc_core.specs.WellTyped.{most_params, most_nodes}
 use Rattle.sc_tac.specs.declared.function.TacFnTree.{TacFnTree}
+use Rattle.sc_tac.specs.declared.stmt.TacOp.{TacOp}
+use Rattle.sc_tac.specs.declared.stmt.TacOp.TheVariants as tacop
 use Rattle.sc_tac.specs.declared.stmt.TacStmt.{TacStmt, TacStmt-F, fold-TacStmt}
 use Rattle.sc_tac.specs.declared.stmt.TacStmt.TheOpen as tac
 use Rattle.sc_tac.specs.Flow.{all_assigned_first}
@@ -19,6 +21,20 @@ names_own_temps temps stmt = list_all (λ t. nat_lt t temps) (temps_named stmt)
 abbrev pub names_own_object : ℕ → TacStmt-F Bool → Bool
 names_own_object objects (tac.ObjectPlace dest object) = nat_lt object objects
 names_own_object objects _ = true
+
+abbrev pub takes_two : TacOp → Bool
+takes_two (tacop.Unary op scalar) = false
+takes_two (tacop.Binary op scalar) = true
+takes_two tacop.PointerNot = false
+takes_two (tacop.PointerMove minus cells index) = true
+takes_two (tacop.PointerMember offset) = false
+takes_two (tacop.PointerDifference cells) = true
+takes_two (tacop.PointerCompare op) = true
+
+-- an operator has as many values as it takes
+abbrev pub has_operands : TacStmt-F Bool → Bool
+has_operands (tac.Op dest op left right) = beq (is_some right) (takes_two op)
+has_operands _ = true
 
 -- a call has at most 8 arguments
 abbrev pub passes_few : TacStmt-F Bool → Bool
@@ -65,6 +81,7 @@ pub record IsFunction (f : TacFnTree) : Type 0 where
   pub words_enter : IsTrue (enters_by_words f.entry f.params f.objects)
   pub own_temps : IsTrue (everywhere (names_own_temps f.temps) f.body)
   pub own_objects : IsTrue (everywhere (names_own_object (length f.objects)) f.body)
+  pub operands : IsTrue (everywhere has_operands f.body)
   pub few_arguments : IsTrue (everywhere passes_few f.body)
   pub results_returned : IsTrue (everywhere (returns_result f.result) f.body)
   pub breaks_in_loops : IsTrue (has_none stray_break f.body)
