@@ -1,5 +1,5 @@
 -- Which temporaries some path through the code reads before it assigns them.
-use Rattle.std.specs.Prelude.{ℕ, zero, suc, Bool, true, false, not, ◌&&◌, ◌||◌, ◌==◌, List, [], ◌∷◌, map, Option, None, Some}
+use Rattle.std.specs.Prelude.{ℕ, zero, suc, Bool, true, false, not, ◌&&◌, ◌||◌, ◌==◌, List, [], ◌∷◌, map, Option}
 use Rattle.std.specs.List.{list_any}
 use Rattle.sc_tac.specs.Parts.{one_or_none, temps_read, temp_assigned}
 use Rattle.sc_tac.specs.declared.stmt.TacStmt.{TacStmt, TacStmt-F, fold-TacStmt}

@@ -1,5 +1,5 @@
 -- What a function of three-address code keeps.
-use Rattle.std.specs.Prelude.{◌≤◌, ◌<◌, ℕ, ◌+◌, ◌*◌, Bool, true, false, not, ◌||◌, ◌==◌, nat_lt, nat_le, List, length, take, Option, None, Some, is_some, IsTrue}
+use Rattle.std.specs.Prelude.{◌≤◌, ◌<◌, ℕ, ◌+◌, ◌*◌, Bool, true, false, not, ◌||◌, ◌==◌, nat_lt, nat_le, List, map, length, take, Option, None, Some, is_some, IsTrue}
 use Rattle.std.specs.Bool.{beq}
 use Rattle.std.specs.List.{list_any, list_all}
 use Rattle.sc_event.specs.declared.row.Entry.{Entry}
@@ -47,20 +47,23 @@ abbrev pub returns_result : Bool → TacStmt-F Bool → Bool
 returns_result result (tac.Return value) = beq (is_some value) result
 returns_result result _ = true
 
+abbrev pub some_hold : List Bool → Bool
+some_hold tests = list_any (λ holds. holds) tests
+
 -- a `Break` that no loop encloses
 abbrev pub stray_break : TacStmt-F Bool → Bool
 stray_break tac.Break = true
 stray_break (tac.Loop head body next) = false
-stray_break stmt = list_any (list_any (λ stray. stray)) (parts stmt)
+stray_break stmt = list_any some_hold (parts stmt)
 
 -- a `Continue` that doesn't stand in the body of the innermost loop
 abbrev pub stray_continue : TacStmt-F Bool → Bool
 stray_continue tac.Continue = true
-stray_continue (tac.Loop head body next) = list_any (λ stray. stray) head || list_any (λ stray. stray) next
-stray_continue stmt = list_any (list_any (λ stray. stray)) (parts stmt)
+stray_continue (tac.Loop head body next) = some_hold head || some_hold next
+stray_continue stmt = list_any some_hold (parts stmt)
 
 abbrev pub has_none : (TacStmt-F Bool → Bool) → List TacStmt → Bool
-has_none stray stmts = not (list_any (fold-TacStmt Bool stray) stmts)
+has_none stray stmts = not (some_hold (map (fold-TacStmt Bool stray) stmts))
 
 -- so many parameters have variables, of one cell each
 abbrev pub passes_words : ℕ → List ℕ → Bool
