@@ -1,5 +1,5 @@
 -- The meanings of worked code, computed.
-use Rattle.std.proofs.Common.{◌≡◌, ◌==◌, ℕ, true, false, List, [], ◌∷◌, ◌++◌, None, Some, codes}
+use Rattle.std.proofs.Common.{◌≡◌, ◌==◌, ℕ, true, false, List, [], ◌∷◌, None, Some, codes}
 use Rattle.sc_base.specs.declared.op.BinaryOp.{BinaryOp}
 use Rattle.sc_base.specs.declared.op.BinaryOp.TheVariants as op
 use Rattle.sc_event.specs.declared.event.Event.{Event}
@@ -163,14 +163,24 @@ across_interfaces = record {
   main = 0;
 }
 
+abbrev pub asking : Shape
+asking = word 0 9 (Line (tac.CallCross (Some 1) 1 0 (0 ∷ [])) (output 1 (word 2 0 (give 2))))
+
+abbrev pub answering : Shape
+answering = fetched 0 0 (give 0)
+
+abbrev pub caller : Sheet
+caller = record { globals = []; plans = main_with 3 [] 5 asking ∷ [] }
+
+abbrev pub callee : Sheet
+callee = record {
+  globals = [];
+  plans =
+      record { comp = 1; entry = Some (Export 0); params = 1; result = true; temps = 1; objects = 1 ∷ []; nodes = 4; body = answering } ∷ [];
+}
+
 abbrev pub across : List Sheet
-across =
-    one_function (main_with 3 [] 5 (word 0 9 (Line (tac.CallCross (Some 1) 1 0 (0 ∷ [])) (output 1 (word 2 0 (give 2)))))) ++
-    record {
-      globals = [];
-      plans =
-          record { comp = 1; entry = Some (Export 0); params = 1; result = true; temps = 1; objects = 1 ∷ []; nodes = 4; body = fetched 0 0 (give 0) } ∷ [];
-    } ∷ []
+across = caller ∷ callee ∷ []
 
 pub calls_across : code_meaning (program across_interfaces across) [] 1 10 ≡ record { trace = Call 0 1 0 (9 ∷ []) ∷ Ret 1 0 (Some 9) ∷ Out 0 9 ∷ End 0 0 ∷ []; end = Ended }
 calls_across = meaning_is c_arith across_interfaces across [] 1 10
