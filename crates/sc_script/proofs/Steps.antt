@@ -22,6 +22,7 @@ one_event comp number at event later = split (performer event == comp)
   where
     row : Row
     row = record { entry = at.active.entry; number = number; action = action_of event }
+
     split : (mine : Bool) →
         (if mine then row ∷ rows_from comp (suc number) (stands_after at event) later else rows_from comp number (stands_after at event) later) ≡
         (if mine then row ∷ [] else []) ++
@@ -37,6 +38,7 @@ few_rows comp number entry event = split (performer event == comp)
   where
     row : Row
     row = record { entry = entry; number = number; action = action_of event }
+
     split : (mine : Bool) → length {A = Row} (if mine then row ∷ [] else []) ≤ 1
     split true = omega arith
     split false = omega arith

@@ -2,6 +2,8 @@
 #![tactic(auto)]
 
 mod rows;
+#[cfg(test)]
+mod tests;
 mod walk;
 
 pub use rows::part;

@@ -56,7 +56,10 @@ fn action_of(event: &Event) -> Action
 {
     match event {
         Event::Call {
-            to, index, args, ..
+            to,
+            index,
+            args,
+            ..
         } => Action::Call {
             to: *to,
             index: *index,
