@@ -1,3 +1,4 @@
+pub mod Induction
 pub mod Plans
 pub mod Refusals
 pub mod Runs

@@ -1,5 +1,5 @@
 -- The meaning of three-address code, in the words in which programs' meaning is told.
-use Rattle.std.specs.Prelude.{ℕ, pos, ◌+◌, Bool, true, false, ◌==◌, if◌then◌else◌, List, [], ◌∷◌, map, Option, None, Some, Result, slice_get}
+use Rattle.std.specs.Prelude.{ℕ, pos, ◌+◌, Bool, true, false, ◌==◌, if◌then◌else◌, List, [], ◌∷◌, map, Option, None, Some, Result, Ok, Err, slice_get}
 use Rattle.std.specs.List.{position}
 use Rattle.sc_base.specs.declared.op.BinaryOp.TheVariants as op
 use Rattle.sc_base.specs.declared.op.UnaryOp.TheVariants as unary
@@ -12,7 +12,6 @@ use Rattle.sc_core.specs.declared.cause.Cause.{Cause}
 use Rattle.sc_core.specs.declared.cause.Cause.TheVariants.{Indeterminate}
 use Rattle.sc_core.specs.declared.expr.CallTarget.{CallTarget}
 use Rattle.sc_core.specs.declared.expr.CallTarget.TheVariants.{Own, Cross, Input, Output}
-use Rattle.sc_core.specs.declared.run.RunEnd.TheVariants.{Blamed}
 use Rattle.sc_core.specs.declared.run.SourceRun.{SourceRun}
 use Rattle.sc_core.specs.declared.value.Value.{Value}
 use Rattle.sc_core.specs.declared.value.Value.TheVariants.{Word, Null, Ptr}
@@ -20,8 +19,8 @@ use Rattle.sc_core.specs.Memory.{Blocks, Memory, load}
 use Rattle.sc_core.specs.Value.{Arith, c_arith, wrapping, applied_one, on_words, moved, moved_on, moved_back, between}
 use Rattle.sc_core.specs.Sizes.{frame_bound}
 use Rattle.sc_core.specs.Run.{stopped_at}
-use Rattle.sc_core.specs.Words.{State, Here, Piece, Reached, Stopped, and_then, computed, Next, Break, Continue, Return, Does, leave, stored, all_do, loop, choose, Calls}
-use Rattle.sc_core.specs.Calls.{Function, Library, run_step}
+use Rattle.sc_core.specs.Words.{State, Here, Piece, Reached, and_then, computed, Next, Break, Continue, Return, Does, leave, stored, all_do, loop, choose, Calls}
+use Rattle.sc_core.specs.Calls.{Function, Library, Step, run_step}
 use Rattle.sc_core.specs.Scripts.{roles_in, scripted_step}
 use Rattle.sc_core.specs.Meaning.{Run, closed, depth_in, global_block, run_by, struct_zeros}
 use Rattle.sc_tac.specs.declared.function.TacFnTree.{TacFnTree}
@@ -79,13 +78,13 @@ received (Some dest) None temps = temps
 received None v temps = temps
 
 -- what a temporary was given; one that wasn't is blamed, which the rules of functions exclude
-abbrev pub known : Here → Option Value → State → Piece Value
-known here None s = Stopped (Blamed here.comp Indeterminate 0) s
-known here (Some v) s = Reached v s
+abbrev pub known : Option Value → Result Value Cause
+known None = Err Indeterminate
+known (Some v) = Ok v
 
 module _ (here : Here) where
   abbrev pub read : ℕ → Temps → State → Piece Value
-  read t temps s = known here (temps t) s
+  read t temps s = computed here 0 (known (temps t)) s
 
   -- the second value of an operator; one that takes one value alone has use for none
   abbrev pub second : Option ℕ → Value → Temps → State → Piece Value
@@ -185,17 +184,24 @@ first_blocks (Some section) = map (global_block (struct_zeros [] section.structs
 abbrev pub code_globals : List TacSection → Memory
 code_globals sections comp = first_blocks (slice_get sections comp)
 
-module _ (arith : Arith) (program : TacTree) (inputs : List ℕ) (turns : ℕ) where
-  abbrev pub code_run : Run
-  code_run =
-      run_by (code_library arith program) (run_step (code_library arith program)) (code_globals program.sections) inputs turns
+-- each function runs its code
+abbrev pub code_runs : Arith → TacTree → Step
+code_runs arith program = run_step (code_library arith program)
 
-  -- the run in which the compartments of a set perform their parts of a trace
+-- those of the compartments of a set perform their parts of a trace
+abbrev pub code_performs : Arith → TacTree → (ℕ → Bool) → List Event → Step
+code_performs arith program set trace =
+    scripted_step (code_library arith program) (roles_in program.interfaces.main set trace) (code_runs arith program)
+
+module _ (arith : Arith) (program : TacTree) (inputs : List ℕ) (turns : ℕ) where
+  abbrev pub code_run_by : Step → Run
+  code_run_by step = run_by (code_library arith program) step (code_globals program.sections) inputs turns
+
+  abbrev pub code_run : Run
+  code_run = code_run_by (code_runs arith program)
+
   abbrev pub scripted_code_run : (ℕ → Bool) → List Event → Run
-  scripted_code_run set trace =
-      run_by (code_library arith program)
-      (scripted_step (code_library arith program) (roles_in program.interfaces.main set trace) (run_step (code_library arith program)))
-      (code_globals program.sections) inputs turns
+  scripted_code_run set trace = code_run_by (code_performs arith program set trace)
 
 -- what code shows under an arithmetic, stopped at a number of events
 abbrev pub code_meaning_by : Arith → TacTree → List ℕ → ℕ → ℕ → SourceRun
@@ -213,10 +219,12 @@ abbrev pub code_wrapped : TacTree → List ℕ → ℕ → ℕ → SourceRun
 code_wrapped program inputs turns events = code_meaning_by wrapping program inputs turns events
 
 abbrev pub scripted_code_meaning : TacTree → (ℕ → Bool) → List Event → List ℕ → ℕ → ℕ → SourceRun
-scripted_code_meaning program set trace inputs turns events = scripted_code_by c_arith program set trace inputs turns events
+scripted_code_meaning program set trace inputs turns events =
+    scripted_code_by c_arith program set trace inputs turns events
 
 abbrev pub scripted_code_wrapped : TacTree → (ℕ → Bool) → List Event → List ℕ → ℕ → ℕ → SourceRun
-scripted_code_wrapped program set trace inputs turns events = scripted_code_by wrapping program set trace inputs turns events
+scripted_code_wrapped program set trace inputs turns events =
+    scripted_code_by wrapping program set trace inputs turns events
 
 -- the greatest room that the frames of a compartment take at once
 abbrev pub code_depth_by : Arith → TacTree → List ℕ → ℕ → ℕ → ℕ → ℕ

@@ -74,16 +74,23 @@ count test (x ∷ xs) = truth (test x) + count test xs
 abbrev pub has_head : ℕ → Bool → TacFnTree → Bool
 has_head params result f = f.params == params && beq f.result result
 
+-- those of the functions that have this entry have such a head
+abbrev pub are_headed : Entry → ℕ → Bool → List TacFnTree → Bool
+are_headed entry params result functions =
+    list_all {X = TacFnTree} (λ f. not (same_entry entry f.entry) || has_head params result f) functions
+
 -- an entry belongs to exactly one function, which has so many parameters and such a result
 abbrev pub is_entered : Entry → ℕ → Bool → TacSection → Bool
 is_entered entry params result section =
-    count {X = TacFnTree} (λ f. same_entry entry f.entry) section.functions == 1 && list_all {X = TacFnTree} (λ f. not (same_entry entry f.entry) || has_head params result f) section.functions
+    count {X = TacFnTree} (λ f. same_entry entry f.entry) section.functions == 1 &&
+    are_headed entry params result section.functions
 
 -- exports, from this place on
 abbrev pub are_entered : ℕ → List Proto → TacSection → Bool
 are_entered index [] section = true
 are_entered index (proto ∷ protos) section =
-    is_entered (Export index) (length proto.params) (is_some proto.result) section && are_entered (suc index) protos section
+    is_entered (Export index) (length proto.params) (is_some proto.result) section &&
+    are_entered (suc index) protos section
 
 abbrev pub exports_entered : Option Interface → TacSection → Bool
 exports_entered None section = false
@@ -114,14 +121,19 @@ module _ (program : TacTree) where
   abbrev pub all_functions : (ℕ → TacFnTree → Bool) → Bool
   all_functions test = all_sections (λ comp section. list_all (test comp) section.functions)
 
+  -- a test of every statement, with the interfaces, the number of its section and the section
+  abbrev pub all_statements : (Interfaces → ℕ → TacSection → TacStmt-F Bool → Bool) → Bool
+  all_statements test = all_sections (λ comp section. in_section (test program.interfaces comp section) section)
+
 -- what a program keeps, whose functions keep what functions do
 pub record IsProgram (program : TacTree) : Type 0 where
   pub sections : length program.sections ≡ length program.interfaces.comps
   pub numbers : IsTrue (all_functions program (λ comp f. f.comp == comp))
-  pub globals : IsTrue (all_sections program (λ comp section. in_section (names_own_global program.interfaces comp section) section))
-  pub own_calls : IsTrue (all_sections program (λ comp section. in_section (calls_own program.interfaces comp section) section))
-  pub cross_calls : IsTrue (all_sections program (λ comp section. in_section (calls_exports program.interfaces comp section) section))
-  pub imported : IsTrue (all_sections program (λ comp section. in_section (calls_imports program.interfaces comp section) section))
-  pub exported : IsTrue (all_sections program (λ comp section. exports_entered (comp_at program.interfaces comp) section))
+  pub globals : IsTrue (all_statements program names_own_global)
+  pub own_calls : IsTrue (all_statements program calls_own)
+  pub cross_calls : IsTrue (all_statements program calls_exports)
+  pub imported : IsTrue (all_statements program calls_imports)
+  pub exported :
+      IsTrue (all_sections program (λ comp section. exports_entered (comp_at program.interfaces comp) section))
   pub main_there : IsTrue (main_entered (slice_get program.sections program.interfaces.main))
   pub entries : IsTrue (all_functions program (λ comp f. entry_known program.interfaces comp f.entry))

@@ -1,4 +1,4 @@
--- How many instructions a statement takes at most, where each temporary lies in memory and is reached by three instructions.
+-- How many instructions a statement takes at most, where each temporary is reached in memory by three instructions.
 use Rattle.std.specs.Prelude.{ℕ, ◌+◌, ◌*◌, List, map, length}
 use Rattle.sc_core.specs.Sizes.{total}
 use Rattle.sc_tac.specs.declared.stmt.TacOp.{TacOp}

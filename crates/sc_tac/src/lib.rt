@@ -3,8 +3,10 @@
 
 mod function;
 mod program;
+mod registers;
 mod stmt;
 
 pub use function::{ObjectCells, TacFn, TacFnTree, TacFns};
 pub use program::{Tac, TacSection, TacSections, TacTree};
+pub use registers::reg_count;
 pub use stmt::{Constant, TacOp, TacStmt, TacStmts, Temps};
