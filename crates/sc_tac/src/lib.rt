@@ -5,6 +5,8 @@ mod function;
 mod program;
 mod registers;
 mod stmt;
+#[cfg(test)]
+mod tests;
 
 pub use function::{ObjectCells, TacFn, TacFnTree, TacFns};
 pub use program::{Tac, TacSection, TacSections, TacTree};
