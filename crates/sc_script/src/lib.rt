@@ -1,0 +1,9 @@
+//! What one compartment does in a trace: the script by which it can be replayed.
+#![tactic(auto)]
+
+mod rows;
+#[cfg(test)]
+mod tests;
+mod walk;
+
+pub use rows::part;

@@ -1,0 +1,5 @@
+pub mod Induction
+pub mod Plans
+pub mod Refusals
+pub mod Runs
+pub mod Shapes

@@ -1,0 +1,6 @@
+pub mod Code
+pub mod Flow
+pub mod Functions
+pub mod Parts
+pub mod Programs
+pub mod Weights

@@ -1,0 +1,14 @@
+//! Structured three-address code: between programs and the machine's instructions.
+#![tactic(auto)]
+
+mod function;
+mod program;
+mod registers;
+mod stmt;
+#[cfg(test)]
+mod tests;
+
+pub use function::{ObjectCells, TacFn, TacFnTree, TacFns};
+pub use program::{Tac, TacSection, TacSections, TacTree};
+pub use registers::reg_count;
+pub use stmt::{Constant, TacOp, TacStmt, TacStmts, Temps};

@@ -1,0 +1,8 @@
+ghost use Rattle.std.specs.Prelude.{◌≡◌};
+
+/// How many registers temporaries may lie in: the places of registers are the numbers below.
+pub fn reg_count() -> u32
+    ensures { result ≡ 18 }
+{
+    18
+}
