@@ -10,7 +10,13 @@ use Rattle.sc_lex.specs.declared.refusal.Refusal.{Refusal}
 use Rattle.sc_lex.proofs.Gaps.{one_gap, gap_fits}
 use Rattle.sc_lex.proofs.Runs.{token_positive}
 use Rattle.sc_lex.proofs.Fronts.{white_none}
-use Rattle.sc_lex.proofs.Cuts.{token_le, gap_and_token}
+use Rattle.sc_lex.proofs.Cuts.{token_le}
+
+-- a gap begins no token
+gap_and_token : {directives : Bool} {text : List ℕ} {kind : TokenKind} {n m : ℕ} → IsGap text n → IsToken directives text kind m → ⊥
+gap_and_token {directives} {text} {kind} {m = m} (white_space h) t = white_none text h directives kind m t
+gap_and_token (block_comment at h low ends first) t = t.no_block_comment h
+gap_and_token (line_comment h) t = t.no_line_comment h
 
 module _ (bytes : List ℕ) where
   no_gap_behind : {n : ℕ} (at : ℕ) → length bytes ≤ at → IsGap (drop at bytes) n → ⊥
