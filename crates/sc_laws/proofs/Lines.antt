@@ -33,14 +33,14 @@ use Rattle.sc_core.specs.Sizes.{total, kind_nodes, stmt_nodes, local_nodes, part
 use Rattle.sc_core.specs.Types.{cells_of, variables}
 use Rattle.sc_core.specs.Value.{Arith, is_true}
 use Rattle.sc_core.specs.Words.{State, Here, Piece, computed, turn, Left, Exit, Next, Break, Continue, Return, Route, On, Out, Does, leave, stored, take, follow, in_order, in_loop, all_do, rounds, loop, choose, Calls}
-use Rattle.sc_core.specs.Calls.{functions_of}
+use Rattle.sc_core.specs.Calls.{functions_of, run_step}
 use Rattle.sc_core.specs.Tree.{Ways, Acts, at_place, variable_at, values, given, store_at, assign, test, store_result, call, assign_call, call_alone, ways, simple_does, part_does, kind_step, stmt_step, stmt_does, block_does}
-use Rattle.sc_core.specs.Meaning.{main_name, at_brace, closed, init_does, inits_do, body_does, function_of, functions_in, place_named, place_of_export, entry_in, library_of}
+use Rattle.sc_core.specs.Meaning.{main_name, at_brace, closed, init_does, inits_do, body_does, function_of, functions_in, place_named, place_of_export, entry_in, library_of, first_blocks, globals_of, run_by, run_of}
 use Rattle.sc_core.proofs.Layers.{on_line, layer_of, stmt_at}
 use Rattle.sc_core.proofs.Induction.{Each, everywhere, Inside, stmt_induction}
-use Rattle.sc_laws.specs.Agreement.{PiecesAgree, CallsAgree, FunctionsAgree, OtherLinesAgree}
+use Rattle.sc_laws.specs.Agreement.{PiecesAgree, CallsAgree, FunctionsAgree, LibrariesAgree, OtherLinesAgree, RunsAgree}
 use Rattle.sc_laws.specs.Lines.{simple_lined, layer_lined, stmt_lined, local_lined, function_lined, section_lined, program_lined}
-use Rattle.sc_laws.proofs.Agreement.{itself, then_agree}
+use Rattle.sc_laws.proofs.Agreement.{itself, then_agree, agreeing_run_alike}
 use Rattle.sc_laws.proofs.Programs.{meets_at, lists_at}
 use Rattle.sc_laws.proofs.Programs.{Each as Pairs}
 
@@ -299,10 +299,27 @@ module _ (arith : Arith) (line_of : ℕ → ℕ) where
   same_entry program comp (Export index) =
       sym (ap (place_of_export (export_at program.interfaces comp index)) (slice_get-map (section_lined line_of) program.sections comp) ∙ same_export (export_at program.interfaces comp index) (slice_get program.sections comp))
 
-pub other_lines_agree : OtherLinesAgree
-other_lines_agree arith line_of program = record {
+libraries_agree : (arith : Arith) (line_of : ℕ → ℕ) (program : ProgramTree) → LibrariesAgree (library_of arith program) (library_of arith (program_lined line_of program))
+libraries_agree arith line_of program = record {
   interfaces = refl;
   functions = λ comp number. meets_at FunctionsAgree (functions_of (library_of arith program) comp) (functions_of (library_of arith (program_lined line_of program)) comp) number
       (lists_at FunctionsAgree (library_of arith program).functions (library_of arith (program_lined line_of program)).functions comp (sections_agree arith line_of program.interfaces.main program.sections));
   entered = same_entry arith line_of program;
+}
+
+-- the globals have no lines
+same_blocks : (line_of : ℕ → ℕ) (section : Option TypedSection) → first_blocks section ≡ first_blocks (option_map (section_lined line_of) section)
+same_blocks line_of None = refl
+same_blocks line_of (Some section) = refl
+
+same_globals : (line_of : ℕ → ℕ) (sections : List TypedSection) (comp : ℕ) → globals_of sections comp ≡ globals_of (map (section_lined line_of) sections) comp
+same_globals line_of sections comp =
+    same_blocks line_of (slice_get sections comp) ∙ sym (ap first_blocks (slice_get-map (section_lined line_of) sections comp))
+
+pub other_lines_agree : OtherLinesAgree
+other_lines_agree = record {
+  libraries = libraries_agree;
+  runs = λ arith line_of program inputs turns.
+      subst (λ globals. RunsAgree (run_of arith program inputs turns) (run_by (library_of arith (program_lined line_of program)) (run_step (library_of arith (program_lined line_of program))) globals inputs turns)) (λ i comp. same_globals line_of program.sections comp i)
+      (agreeing_run_alike.meaning (library_of arith program) (library_of arith (program_lined line_of program)) (libraries_agree arith line_of program) (globals_of program.sections) inputs turns);
 }

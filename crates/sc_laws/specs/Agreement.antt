@@ -12,7 +12,7 @@ use Rattle.sc_core.specs.Memory.{Memory}
 use Rattle.sc_core.specs.Value.{Arith}
 use Rattle.sc_core.specs.Calls.{Function, Library, Body, function, run_step}
 use Rattle.sc_core.specs.Scripts.{Roles, scripted_step}
-use Rattle.sc_core.specs.Meaning.{Run, library_of, run_by}
+use Rattle.sc_core.specs.Meaning.{Run, library_of, run_by, run_of}
 use Rattle.sc_laws.specs.Lines.{program_lined}
 use Rattle.sc_core.specs.Run.{stopped_at}
 
@@ -69,11 +69,6 @@ pub record RunsAgree (run other : Run) : Type 0 where
   pub whole : ShownAgree run.shown other.shown
   pub frames : run.frames ≡ other.frames
 
--- a program whose trees stand on other lines has a library that agrees
-abbrev pub OtherLinesAgree : Type 0
-OtherLinesAgree = (arith : Arith) (line_of : ℕ → ℕ) (program : ProgramTree) →
-    LibrariesAgree (library_of arith program) (library_of arith (program_lined line_of program))
-
 -- libraries that agree function by function show the same in the same room: in their meaning, and whoever performs whatever script
 pub record AgreeingRunAlike : Type 0 where
   pub meaning : (L M : Library) → LibrariesAgree L M → (globals : Memory) (inputs : List ℕ) (turns : ℕ) →
@@ -81,3 +76,10 @@ pub record AgreeingRunAlike : Type 0 where
   pub scripted : (L M : Library) → LibrariesAgree L M → (roles : Roles) (globals : Memory) (inputs : List ℕ) (turns : ℕ) →
       RunsAgree (run_by L (scripted_step L roles (run_step L)) globals inputs turns)
       (run_by M (scripted_step M roles (run_step M)) globals inputs turns)
+
+-- a program whose trees stand on other lines has a library that agrees, and so it shows the same but for the lines of blames
+pub record OtherLinesAgree : Type 0 where
+  pub libraries : (arith : Arith) (line_of : ℕ → ℕ) (program : ProgramTree) →
+      LibrariesAgree (library_of arith program) (library_of arith (program_lined line_of program))
+  pub runs : (arith : Arith) (line_of : ℕ → ℕ) (program : ProgramTree) (inputs : List ℕ) (turns : ℕ) →
+      RunsAgree (run_of arith program inputs turns) (run_of arith (program_lined line_of program) inputs turns)
