@@ -5,6 +5,7 @@ use Rattle.std.specs.List.{list_any, after_first, position_or_len}
 use Rattle.std.specs.Result.{result_ok}
 use Rattle.std.specs.Str.{all_ascii_digits}
 use Rattle.std.specs.Str.Parse.{ParsesSigned, ParsesUnsigned, digits_value}
+use Rattle.std.proofs.lemmas.Bool.{and_parts}
 use Rattle.std.proofs.lemmas.Str.Parse.{IsNumeralModel, numerals_by_value, parse_plain, parse_signed_minus, parse_signed_plain, tells_all_ascii_digits}
 use Rattle.sc_words.specs.Numbers.{first_piece, in_front, integer, integer_list, integers, is_comma, number_within, onto_first, pieces, pieces_behind, when_within}
 
@@ -26,14 +27,10 @@ test most text = (nat_lt 0 (length text) && all_ascii_digits text) && nat_le (di
 passes : (most : ℕ) (text : List ℕ) → all_ascii_digits text ≡ true → 0 < length text → digits_value 10 text ≤ most → test most text ≡ true
 passes most text digits some within = rw (lt-ltb 0 (length text) some, digits, le-leb (digits_value 10 text) most within) refl
 
-both : (a b : Bool) → (a && b) ≡ true → (a ≡ true) × (b ≡ true)
-both true b e = (refl, e)
-both false b e = absurd (true≢false (sym e))
-
 parts : (most : ℕ) (text : List ℕ) → test most text ≡ true → (all_ascii_digits text ≡ true) × (0 < length text) × (digits_value 10 text ≤ most)
 parts most text e =
-    let all = both _ _ e in
-    let front = both _ _ all.0 in
+    let all = and_parts _ _ e in
+    let front = and_parts _ _ all.0 in
     (front.1, ltb-true 0 (length text) front.0, leb-true (digits_value 10 text) most all.1)
 
 within_by_test : {T : Type 0} (f : ℕ → T) (most : ℕ) (text : List ℕ) → cond (test most text) (Some (f (digits_value 10 text))) None ≡ option_map f (number_within 0 most text)
