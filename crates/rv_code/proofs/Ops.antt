@@ -1,7 +1,7 @@
 -- An operation is found by its own function codes, and what is found has those that were asked for.
 use Rattle.std.proofs.Common.{◌≡◌, ℕ, ◌^◌, ◌<◌, Bool, true, false, cond, List, [], ◌∷◌, Option, Some, None, refl, sym, ◌∙◌, ap, lit<}
 use Rattle.std.specs.Prelude.{◌&&◌, nat_eq, find}
-use Rattle.std.proofs.lemmas.Bool.{eqb-true}
+use Rattle.std.proofs.lemmas.Bool.{and_parts, eqb-true}
 use Rattle.rv_code.specs.declared.instr.BranchOp.{BranchOp}
 use Rattle.rv_code.specs.declared.instr.BranchOp.TheVariants.{Beq, Bne, Blt, Bge, Bltu, Bgeu}
 use Rattle.rv_code.specs.declared.instr.LoadOp.{LoadOp}
@@ -27,10 +27,6 @@ find-passes {A} p (y ∷ ys) x e =
       | false ↦ (λ t f. find-passes p ys x f)
     ]
     in at (p y) refl e
-
-both : (a b : Bool) → (a && b) ≡ true → (a ≡ true) × (b ≡ true)
-both true b e = (refl, e)
-both false b e = let q : false ≡ true = e in cc q
 
 pub branch_op_of-own : (op : BranchOp) → branch_op_of (branch_funct3 op) ≡ Some op
 unfolding branch_op_of
@@ -117,13 +113,13 @@ op_imm_funct3_of n op e = eqb-true n (op_imm_funct3 op) (find-passes (λ op. nat
 pub shift_functs_of : (m n : ℕ) (op : ShiftOp) → shift_op_of m n ≡ Some op → (m ≡ shift_funct7 op) × (n ≡ shift_funct3 op)
 unfolding shift_op_of
 shift_functs_of m n op e =
-    let passed = both (nat_eq m (shift_funct7 op)) (nat_eq n (shift_funct3 op)) (find-passes (λ op. nat_eq m (shift_funct7 op) && nat_eq n (shift_funct3 op)) shift_ops op e) in
+    let passed = and_parts (nat_eq m (shift_funct7 op)) (nat_eq n (shift_funct3 op)) (find-passes (λ op. nat_eq m (shift_funct7 op) && nat_eq n (shift_funct3 op)) shift_ops op e) in
     (eqb-true m (shift_funct7 op) passed.0, eqb-true n (shift_funct3 op) passed.1)
 
 pub op_functs_of : (m n : ℕ) (op : OpOp) → op_op_of m n ≡ Some op → (m ≡ op_funct7 op) × (n ≡ op_funct3 op)
 unfolding op_op_of
 op_functs_of m n op e =
-    let passed = both (nat_eq m (op_funct7 op)) (nat_eq n (op_funct3 op)) (find-passes (λ op. nat_eq m (op_funct7 op) && nat_eq n (op_funct3 op)) op_ops op e) in
+    let passed = and_parts (nat_eq m (op_funct7 op)) (nat_eq n (op_funct3 op)) (find-passes (λ op. nat_eq m (op_funct7 op) && nat_eq n (op_funct3 op)) op_ops op e) in
     (eqb-true m (op_funct7 op) passed.0, eqb-true n (op_funct3 op) passed.1)
 
 -- function codes fit their fields

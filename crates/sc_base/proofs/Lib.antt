@@ -1,5 +1,6 @@
 pub mod Bools
 pub mod Filled
+mod Firsts
 pub mod Lists
 mod Names
 pub mod Numbers

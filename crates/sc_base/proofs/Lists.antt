@@ -1,10 +1,11 @@
--- Lists: an element at the end of the first part, one step of a loop, the first that passes, and maps.
-use Rattle.std.proofs.Common.{◌≡◌, ℕ, suc, ◌+◌, ◌<◌, Bool, true, false, cond, List, [], ◌∷◌, ◌++◌, map, length, get_or, take, drop, Option, Some, None, refl, ap, sym, ◌∙◌, add-one, drop-cons, ltb, not, arith}
+-- Lists: an element at the end of the first part, one step of a loop, the first or the only one that passes, and maps.
+use Rattle.std.proofs.Common.{◌≡◌, ℕ, suc, ◌+◌, ◌<◌, ◌≤◌, ⊎_elim, nat_lt, if◌then◌else◌, Bool, true, false, cond, List, [], ◌∷◌, ◌++◌, map, length, get_or, take, drop, Some, None, refl, ap, sym, ◌∙◌, add-one, drop-cons, ltb, not, arith}
 use Rattle.std.specs.Prelude.{slice_get, position}
 use Rattle.std.specs.List.{find, list_all, position_or_len}
-use Rattle.std.proofs.lemmas.Bool.{and_from, and_parts}
+use Rattle.std.proofs.lemmas.Bool.{and_from, and_parts, cases_lt, lt-ltb}
 use Rattle.std.specs.Option.{option_map}
 use Rattle.std.proofs.lemmas.List.{take_more}
+use Rattle.std.proofs.lemmas.List.Sums.{passes_at_first, fails_before_first}
 
 -- the element behind a first part
 pub get_behind : {A : Type 0} (xs : List A) (y : A) (ys : List A) → slice_get (xs ++ y ∷ ys) (length xs) ≡ Some y
@@ -63,3 +64,20 @@ position-cons p x xs = by (p x) where
   by false =
       ap (λ k. cond (ltb k (suc (length xs))) (Some k) None) (one_more (position_or_len p xs))
       ∙ within_suc (position_or_len p xs) (length xs)
+
+not_both : (b : Bool) → b ≡ true → b ≡ false → ⊥
+not_both b holds fails = let never : true ≡ false = sym holds ∙ fails in cc never
+
+-- where a test passes at one place only, that is the first
+pub position_of_only : {A : Type 0} (p : A → Bool) (xs : List A) (k : ℕ) (d : A) → k < length xs →
+    p (get_or xs k d) ≡ true → ((j : ℕ) → j < length xs → p (get_or xs j d) ≡ true → j ≡ k) → position p xs ≡ Some k
+position_of_only p xs k d within at only =
+    let not_later : position_or_len p xs ≤ k =
+    ⊎_elim (λ late. absurd (not_both (p (get_or xs k d)) at (fails_before_first p xs k d late))) (λ early. early)
+    (cases_lt k (position_or_len p xs)) in
+    let there : position_or_len p xs < length xs = omega (arith, not_later, within) in
+    let same : position_or_len p xs ≡ k = only (position_or_len p xs) there (passes_at_first p xs d there) in
+    rw same (within_is k (length xs) within)
+  where
+    within_is : (n m : ℕ) → n < m → (if nat_lt n m then Some n else None) ≡ Some n
+    within_is n m h = rw (lt-ltb n m h) refl

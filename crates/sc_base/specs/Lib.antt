@@ -1,8 +1,10 @@
 pub mod Filled
+pub mod FirstByName
 pub mod Identifier
 pub mod Levels
 pub mod Limits
 pub mod Numbering
 pub mod Places
 pub mod Reserved
+pub mod Rules
 pub mod Word

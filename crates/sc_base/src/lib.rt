@@ -2,6 +2,7 @@
 //! lemmas on lists that std lacks.
 #![tactic(auto)]
 
+mod first_by_name;
 mod limits;
 mod name;
 mod name_list;
@@ -13,6 +14,7 @@ mod stop;
 mod text;
 mod words;
 
+pub use first_by_name::FirstByName;
 pub use limits::{MAX_BRACKETS, MAX_HEIGHT};
 pub use name::{Name, is_name};
 pub use name_list::NameList;

@@ -1,16 +1,17 @@
 -- A head agrees with the first of its name and its name has no conflict, exactly where it agrees with all of its name.
-use Rattle.std.proofs.Common.{◌≡◌, Bool, true, false, not, ◌&&◌, ◌||◌, ◌==◌, bytes_eq, cond, List, [], ◌∷◌, ◌++◌, Option, Some, None, refl, sym, ap, ◌∙◌, if◌then◌else◌}
+use Rattle.std.proofs.Common.{◌≡◌, Bool, true, false, not, ◌&&◌, ◌||◌, ◌==◌, bytes_eq, cond, List, [], ◌∷◌, ◌++◌, Option, Some, None, is_some, refl, sym, ap, ◌∙◌, if◌then◌else◌}
 use Rattle.std.specs.Cmp.Lexicographic.{pointwise}
 use Rattle.std.proofs.lemmas.Cmp.{nat_list_eq_equiv}
 use Rattle.std.proofs.lemmas.Slice.Eq.{bytes_eq-Decides}
 use Rattle.std.proofs.lemmas.List.Folds.{list_any-append}
 use Rattle.std.proofs.Math.Bool.{and_assoc, and-true}
+use Rattle.sc_base.specs.FirstByName.{first_by_name, with_first}
 use Rattle.sc_base.specs.Numbering.{is_numbered, numbered}
 use Rattle.sc_ast.specs.declared.section.HeadTree.{HeadTree}
 use Rattle.sc_scope.specs.Declarations.{Text, among}
 use Rattle.sc_interfaces.specs.declared.agreements.Agreements.{Agreements}
 use Rattle.sc_interfaces.specs.Faces.{agree, agrees_with}
-use Rattle.sc_interfaces.specs.Tables.{first_of, no_heads, forbidden, added_beside, added, all_added, agrees_first, allowed, all_numbered}
+use Rattle.sc_interfaces.specs.Tables.{no_heads, forbidden, added_beside, added, all_added, agrees_first, allowed, all_numbered}
 use Rattle.sc_interfaces.proofs.Agreeing.{agree_symm, agree_left}
 
 -- Names.
@@ -67,8 +68,8 @@ forbidden_bools false false false agrees h = sym (and-true agrees)
 pub allowed_forbidden : (known : Agreements) (name : Text) (head : HeadTree) →
     allowed (forbidden known name) head ≡ (allowed known head && not (bytes_eq name head.name))
 allowed_forbidden known name head =
-    ap (λ there. not there && agrees_first (first_of known.firsts head.name) head) (is_numbered-numbered known.conflicts name head.name) ∙
-    forbidden_bools (among known.conflicts head.name) (bytes_eq head.name name) (bytes_eq name head.name) (agrees_first (first_of known.firsts head.name) head) (nat_list_eq_equiv.symm name head.name)
+    ap (λ there. not there && agrees_first (first_by_name known.firsts head.name) head) (is_numbered-numbered known.conflicts name head.name) ∙
+    forbidden_bools (among known.conflicts head.name) (bytes_eq head.name name) (bytes_eq name head.name) (agrees_first (first_by_name known.firsts head.name) head) (nat_list_eq_equiv.symm name head.name)
 
 abbrev or_last : Option HeadTree → Bool → HeadTree → Option HeadTree
 or_last (Some first) same head = Some first
@@ -77,13 +78,13 @@ or_last None same head = cond same (Some head) None
 abbrev entry_or : Bool → HeadTree → Option HeadTree → Option HeadTree
 entry_or same head later = cond same (Some head) later
 
-first_of-last : (firsts : List (Text × HeadTree)) (name k : Text) (head : HeadTree) →
-    first_of (firsts ++ (name, head) ∷ []) k ≡ or_last (first_of firsts k) (bytes_eq k name) head
-first_of-last [] name k head = refl
-first_of-last (e ∷ firsts) name k head = at (bytes_eq k e.0) (first_of-last firsts name k head)
+first_by_name-last : (firsts : List (Text × HeadTree)) (name k : Text) (head : HeadTree) →
+    first_by_name (firsts ++ (name, head) ∷ []) k ≡ or_last (first_by_name firsts k) (bytes_eq k name) head
+first_by_name-last [] name k head = refl
+first_by_name-last (e ∷ firsts) name k head = at (bytes_eq k e.0) (first_by_name-last firsts name k head)
   where
-    at : (same : Bool) → first_of (firsts ++ (name, head) ∷ []) k ≡ or_last (first_of firsts k) (bytes_eq k name) head →
-        entry_or same e.1 (first_of (firsts ++ (name, head) ∷ []) k) ≡ or_last (entry_or same e.1 (first_of firsts k)) (bytes_eq k name) head
+    at : (same : Bool) → first_by_name (firsts ++ (name, head) ∷ []) k ≡ or_last (first_by_name firsts k) (bytes_eq k name) head →
+        entry_or same e.1 (first_by_name (firsts ++ (name, head) ∷ []) k) ≡ or_last (entry_or same e.1 (first_by_name firsts k)) (bytes_eq k name) head
     at true rest = refl
     at false rest = rest
 
@@ -110,22 +111,29 @@ conflict_bools true false agrees h = refl
 conflict_bools false same agrees h = refl
 
 -- what an allowed head of the name agrees with
-allowed_first : (known : Agreements) (name : Text) (first head : HeadTree) → first_of known.firsts name ≡ Some first → bytes_eq name head.name ≡ true →
+allowed_first : (known : Agreements) (name : Text) (first head : HeadTree) → first_by_name known.firsts name ≡ Some first → bytes_eq name head.name ≡ true →
     allowed known head ≡ true → agree first head ≡ true
 allowed_first known name first head there same holds =
     second (among known.conflicts head.name) (agree first head)
-    (ap (λ found. not (among known.conflicts head.name) && agrees_first found head) (sym there ∙ ap (first_of known.firsts) (same_text name head.name same)) ∙ holds)
+    (ap (λ found. not (among known.conflicts head.name) && agrees_first found head) (sym there ∙ ap (first_by_name known.firsts) (same_text name head.name same)) ∙ holds)
   where
     second : (a b : Bool) → (not a && b) ≡ true → b ≡ true
     second true b h = cc
     second false b h = h
 
-beside : (known : Agreements) (name : Text) (added head : HeadTree) (first : Option HeadTree) → first_of known.firsts name ≡ first →
+with_first_last : (firsts : List (Text × HeadTree)) (name : Text) (head : HeadTree) →
+    first_by_name firsts name ≡ None → with_first firsts name head ≡ firsts ++ (name, head) ∷ []
+with_first_last firsts name head absent =
+    ap (λ there. if is_some there then firsts else firsts ++ (name, head) ∷ []) absent
+
+beside : (known : Agreements) (name : Text) (added head : HeadTree) (first : Option HeadTree) → first_by_name known.firsts name ≡ first →
     allowed (added_beside known name added first) head ≡ (allowed known head && (not (bytes_eq name head.name) || agree added head))
 beside known name added head None absent =
-    ap (λ found. not (among known.conflicts head.name) && agrees_first found head) (first_of-last known.firsts name head.name added) ∙
+    ap (λ firsts. not (among known.conflicts head.name) && agrees_first (first_by_name firsts head.name) head)
+    (with_first_last known.firsts name added absent) ∙
+    ap (λ found. not (among known.conflicts head.name) && agrees_first found head) (first_by_name-last known.firsts name head.name added) ∙
     new_bools (among known.conflicts head.name) (bytes_eq head.name name) (bytes_eq name head.name) (agree added head) (nat_list_eq_equiv.symm name head.name)
-    (first_of known.firsts head.name) head added refl (λ same. ap (first_of known.firsts) (same_text head.name name same) ∙ absent)
+    (first_by_name known.firsts head.name) head added refl (λ same. ap (first_by_name known.firsts) (same_text head.name name same) ∙ absent)
 beside known name added head (Some first) there = at (agree first added) refl
   where
     at : (agrees : Bool) → agree first added ≡ agrees →
@@ -139,13 +147,13 @@ beside known name added head (Some first) there = at (agree first added) refl
       where
         clash : bytes_eq name head.name ≡ true → allowed known head ≡ true → agree added head ≡ true → ⊥
         clash same holds agrees =
-            let with_first : agree first head ≡ true = allowed_first known name first head there same holds in
-            let joined : agree first added ≡ true = agree_left first head added with_first ∙ (agree_symm head added ∙ agrees) in
+            let first_agrees : agree first head ≡ true = allowed_first known name first head there same holds in
+            let joined : agree first added ≡ true = agree_left first head added first_agrees ∙ (agree_symm head added ∙ agrees) in
             cc
 
 pub allowed_added : (known : Agreements) (name : Text) (added_head head : HeadTree) →
     allowed (added known name added_head) head ≡ (allowed known head && (not (bytes_eq name head.name) || agree added_head head))
-allowed_added known name added_head head = beside known name added_head head (first_of known.firsts name) refl
+allowed_added known name added_head head = beside known name added_head head (first_by_name known.firsts name) refl
 
 pub allowed_all : (known : Agreements) (heads : List HeadTree) (head : HeadTree) → allowed (all_added known heads) head ≡ (allowed known head && agrees_with heads head)
 allowed_all known [] head = sym (and-true (allowed known head))

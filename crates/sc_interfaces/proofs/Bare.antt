@@ -1,7 +1,6 @@
 -- A section with nothing in it is within the counts.
-use Rattle.std.proofs.Common.{◌≡◌, ◌≤◌, [], ◌∷◌, length, All, ap, subst, sym, arith}
+use Rattle.std.proofs.Common.{◌≡◌, [], ◌∷◌, length, All, ap, subst, sym, arith}
 use Rattle.std.proofs.lemmas.List.Elements.{All-cons, All-nil}
-use Rattle.sc_ast.specs.declared.section.FunctionTree.{FunctionTree}
 use Rattle.sc_ast.specs.declared.section.SectionTree.{SectionTree}
 use Rattle.sc_scope.specs.Declarations.{functions_in}
 use Rattle.sc_interfaces.specs.Offering.{HasFewExports, HasFewParams, IsWithinCounts}

@@ -8,6 +8,7 @@ use Rattle.std.proofs.lemmas.Bool.Decides.{nat_tests}
 use Rattle.std.proofs.lemmas.List.{length-map}
 use Rattle.std.proofs.lemmas.List.Elements.{All-head, All-tail, All-get_or}
 use Rattle.std.proofs.lemmas.Option.{slice_get-map, get_or_from_slice_get, slice_get_within}
+use Rattle.sc_base.specs.FirstByName.{first_by_name, with_first}
 use Rattle.sc_event.specs.declared.interface.Scalar.{Scalar}
 use Rattle.sc_event.specs.declared.interface.Proto.{Proto}
 use Rattle.sc_event.specs.declared.interface.Import.{Import}
@@ -27,7 +28,7 @@ use Rattle.sc_scope.specs.Interfaces.{is_environment, offering, offered, scalar_
 use Rattle.sc_interfaces.specs.declared.tables.SectionTable.{SectionTable}
 use Rattle.sc_interfaces.specs.Faces.{input_name}
 use Rattle.sc_interfaces.specs.Tables.{table_of}
-use Rattle.sc_interfaces.specs.Offering.{HasFewExports, HasFewParams, IsWithinCounts, Placed, place_of, placed, all_placed, export_name, function_name, export_places, function_places, function_at, promised_by, export_by, offered_by, import_by, interface_by, interfaces_by, main_by}
+use Rattle.sc_interfaces.specs.Offering.{HasFewExports, HasFewParams, IsWithinCounts, Placed, all_placed, export_name, function_name, export_places, function_places, function_at, promised_by, export_by, offered_by, import_by, interface_by, interfaces_by, main_by}
 use Rattle.sc_interfaces.proofs.Allowing.{same_text, all_numbered_same}
 use Rattle.sc_interfaces.proofs.Placing.{take_all}
 use Rattle.sc_interfaces.proofs.Telling.{Stands, number_in, offering_number_is, offering_stands}
@@ -54,13 +55,13 @@ moved k place = option_map (λ n. k + n) place
 abbrev entry_or : Bool → ℕ → Option ℕ → Option ℕ
 entry_or same place later = cond same (Some place) later
 
-place_of-last : (known : Placed) (other name : Text) (k : ℕ) →
-    place_of (known ++ (other, k) ∷ []) name ≡ first_or (place_of known name) (cond (pointwise ◌==◌ name other) (Some k) None)
-place_of-last [] other name k = refl
-place_of-last (e ∷ known) other name k = at (pointwise ◌==◌ name e.0) (place_of-last known other name k)
+first_by_name-last : (known : Placed) (other name : Text) (k : ℕ) →
+    first_by_name (known ++ (other, k) ∷ []) name ≡ first_or (first_by_name known name) (cond (pointwise ◌==◌ name other) (Some k) None)
+first_by_name-last [] other name k = refl
+first_by_name-last (e ∷ known) other name k = at (pointwise ◌==◌ name e.0) (first_by_name-last known other name k)
   where
-    at : (same : Bool) → place_of (known ++ (other, k) ∷ []) name ≡ first_or (place_of known name) (cond (pointwise ◌==◌ name other) (Some k) None) →
-        entry_or same e.1 (place_of (known ++ (other, k) ∷ []) name) ≡ first_or (entry_or same e.1 (place_of known name)) (cond (pointwise ◌==◌ name other) (Some k) None)
+    at : (same : Bool) → first_by_name (known ++ (other, k) ∷ []) name ≡ first_or (first_by_name known name) (cond (pointwise ◌==◌ name other) (Some k) None) →
+        entry_or same e.1 (first_by_name (known ++ (other, k) ∷ []) name) ≡ first_or (entry_or same e.1 (first_by_name known name)) (cond (pointwise ◌==◌ name other) (Some k) None)
     at true rest = refl
     at false rest = rest
 
@@ -69,14 +70,14 @@ kept (Some n) same k h = refl
 kept None true k h = cc (h refl)
 kept None false k h = refl
 
-place_of-placed : (known : Placed) (other name : Text) (k : ℕ) →
-    place_of (placed known other k) name ≡ first_or (place_of known name) (cond (pointwise ◌==◌ name other) (Some k) None)
-place_of-placed known other name k = at (is_some (place_of known other)) refl
+first_by_name-placed : (known : Placed) (other name : Text) (k : ℕ) →
+    first_by_name (with_first known other k) name ≡ first_or (first_by_name known name) (cond (pointwise ◌==◌ name other) (Some k) None)
+first_by_name-placed known other name k = at (is_some (first_by_name known other)) refl
   where
-    at : (there : Bool) → is_some (place_of known other) ≡ there →
-        place_of (if there then known else known ++ (other, k) ∷ []) name ≡ first_or (place_of known name) (cond (pointwise ◌==◌ name other) (Some k) None)
-    at true there = kept (place_of known name) (pointwise ◌==◌ name other) k (λ same. ap (λ text. is_some (place_of known text)) (same_text name other same) ∙ there)
-    at false absent = place_of-last known other name k
+    at : (there : Bool) → is_some (first_by_name known other) ≡ there →
+        first_by_name (if there then known else known ++ (other, k) ∷ []) name ≡ first_or (first_by_name known name) (cond (pointwise ◌==◌ name other) (Some k) None)
+    at true there = kept (first_by_name known name) (pointwise ◌==◌ name other) k (λ same. ap (λ text. is_some (first_by_name known text)) (same_text name other same) ∙ there)
+    at false absent = first_by_name-last known other name k
 
 first_or_none : (place : Option ℕ) → first_or place None ≡ place
 first_or_none None = refl
@@ -97,16 +98,16 @@ placed_turn false None k (Some n) = ap (λ m. Some m) (suc_moved k n)
     suc_moved a b = omega arith
 
 all_placed_is : (items : List (Option Text)) (known : Placed) (k : ℕ) (name : Text) →
-    place_of (all_placed known k items) name ≡ first_or (place_of known name) (moved k (first_place name items))
-all_placed_is [] known k name = sym (first_or_none (place_of known name))
+    first_by_name (all_placed known k items) name ≡ first_or (first_by_name known name) (moved k (first_place name items))
+all_placed_is [] known k name = sym (first_or_none (first_by_name known name))
 all_placed_is (None ∷ items) known k name =
     all_placed_is items known (suc k) name ∙
-    (ap (λ first. first_or first (moved (suc k) (first_place name items))) (sym (first_or_none (place_of known name))) ∙
-    placed_turn false (place_of known name) k (first_place name items))
+    (ap (λ first. first_or first (moved (suc k) (first_place name items))) (sym (first_or_none (first_by_name known name))) ∙
+    placed_turn false (first_by_name known name) k (first_place name items))
 all_placed_is (Some other ∷ items) known k name =
-    all_placed_is items (placed known other k) (suc k) name ∙
-    (ap (λ first. first_or first (moved (suc k) (first_place name items))) (place_of-placed known other name k) ∙
-    placed_turn (pointwise ◌==◌ name other) (place_of known name) k (first_place name items))
+    all_placed_is items (with_first known other k) (suc k) name ∙
+    (ap (λ first. first_or first (moved (suc k) (first_place name items))) (first_by_name-placed known other name k) ∙
+    placed_turn (pointwise ◌==◌ name other) (first_by_name known name) k (first_place name items))
 
 moved_zero : (place : Option ℕ) → moved 0 place ≡ place
 moved_zero None = refl
@@ -115,7 +116,7 @@ moved_zero (Some n) = ap (λ m. Some m) (zero_first n)
     zero_first : (m : ℕ) → 0 + m ≡ m
     zero_first m = omega arith
 
-place_is : (items : List (Option Text)) (name : Text) → place_of (all_placed [] 0 items) name ≡ first_place name items
+place_is : (items : List (Option Text)) (name : Text) → first_by_name (all_placed [] 0 items) name ≡ first_place name items
 place_is items name = all_placed_is items [] 0 name ∙ moved_zero (first_place name items)
 
 -- Exports.
@@ -219,7 +220,7 @@ small_place : (count : ℕ) (place : Option ℕ) → IsPlace count place → cou
 small_place count None h few = omega arith
 small_place count (Some n) h few = omega arith
 
-export_place_is : (section : SectionTree) (name : Text) → place_of (export_places section) name ≡ number_of (export_names section) name
+export_place_is : (section : SectionTree) (name : Text) → first_by_name (export_places section) name ≡ number_of (export_names section) name
 export_place_is section name = place_is (map export_name section.exports) name ∙ number_is section.exports name
 
 export_place_small : (section : SectionTree) (name : Text) → HasFewExports section → number_or_zero (number_of (export_names section) name) ≤ 65535
@@ -249,10 +250,10 @@ offered_is sections line (Some found) h count few =
     small_index : number_or_zero (number_of (export_names found.1) line.name) ≤ 65535
     small_index = export_place_small found.1 line.name few_here
 
-    place_there : option_and_then (λ known. place_of known line.name) (slice_get (map export_places sections) found.0) ≡ number_of (export_names found.1) line.name
+    place_there : option_and_then (λ known. first_by_name known line.name) (slice_get (map export_places sections) found.0) ≡ number_of (export_names found.1) line.name
     place_there =
-        ap (λ k. option_and_then (λ known. place_of known line.name) (slice_get (map export_places sections) k)) is_place ∙
-        (ap (option_and_then (λ known. place_of known line.name)) (slice_get-map export_places sections h.0 ∙ ap (option_map export_places) h.2) ∙
+        ap (λ k. option_and_then (λ known. first_by_name known line.name) (slice_get (map export_places sections) k)) is_place ∙
+        (ap (option_and_then (λ known. first_by_name known line.name)) (slice_get-map export_places sections h.0 ∙ ap (option_map export_places) h.2) ∙
         export_place_is found.1 line.name)
 
 module _ (sections : List SectionTree) (count : length sections ≤ 32) (few : All HasFewExports sections) where

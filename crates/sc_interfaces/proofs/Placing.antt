@@ -1,25 +1,6 @@
--- A name that has no place comes last.
-use Rattle.std.proofs.Common.{◌≡◌, ℕ, zero, suc, ◌<◌, ◌≤◌, Bool, true, false, cond, ◌==◌, List, [], ◌∷◌, ◌++◌, length, map, take, Option, Some, None, is_some, IfNone, refl, sym, ap, ◌∙◌, if◌then◌else◌, arith}
-use Rattle.std.proofs.lemmas.List.{length-map, length-take-le, take-map}
-use Rattle.std.specs.Cmp.Lexicographic.{pointwise}
-use Rattle.indexmap.specs.IndexMap.{insert_entry}
-use Rattle.sc_scope.specs.Declarations.{Text}
-use Rattle.sc_interfaces.specs.Offering.{Placed, place_of}
-
-absent_at : (b : Bool) (e : Text × ℕ) (es : Placed) (name : Text) (place : ℕ) →
-    cond b (Some e.1) (place_of es name) ≡ None →
-    (place_of es name ≡ None → insert_entry (pointwise ◌==◌) es name place ≡ es ++ (name, place) ∷ []) →
-    (if b then (e.0, place) ∷ es else e ∷ insert_entry (pointwise ◌==◌) es name place) ≡ e ∷ (es ++ (name, place) ∷ [])
-absent_at true e es name place absent rest = cc
-absent_at false e es name place absent rest = ap (λ more. e ∷ more) (rest absent)
-
-pub insert_place_last : (es : Placed) (name : Text) (place : ℕ) → place_of es name ≡ None → insert_entry (pointwise ◌==◌) es name place ≡ es ++ (name, place) ∷ []
-insert_place_last [] name place absent = refl
-insert_place_last (e ∷ es) name place absent = absent_at (pointwise ◌==◌ name e.0) e es name place absent (insert_place_last es name place)
-
-pub ruleset places = insert_place_last
-
 -- The first 8 of a list.
+use Rattle.std.proofs.Common.{◌≡◌, ℕ, zero, suc, ◌<◌, ◌≤◌, true, false, List, [], ◌∷◌, length, map, take, Option, Some, None, is_some, IfNone, refl, sym, ap, ◌∙◌, arith}
+use Rattle.std.proofs.lemmas.List.{length-map, length-take-le, take-map}
 
 pub take_all : {A : Type 0} (n : ℕ) (xs : List A) → length xs ≤ n → take n xs ≡ xs
 take_all zero [] h = refl

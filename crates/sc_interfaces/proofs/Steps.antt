@@ -1,9 +1,6 @@
 -- One turn of a loop.
-use Rattle.std.proofs.Common.{◌≡◌, ℕ, suc, ◌+◌, ◌<◌, ◌≤◌, ◌&&◌, Bool, true, false, cond, List, [], ◌∷◌, ◌++◌, Some, None, refl, sym, ap, ◌∙◌, if◌then◌else◌, ◌==◌, length, get_or, drop, arith, drop-cons}
+use Rattle.std.proofs.Common.{◌≡◌, ℕ, suc, ◌+◌, ◌<◌, ◌≤◌, ◌&&◌, Bool, true, false, List, [], ◌∷◌, ◌++◌, refl, sym, ap, ◌∙◌, length, get_or, drop, arith, drop-cons}
 use Rattle.std.proofs.Math.ListN.{drop_of_length-le}
-use Rattle.std.specs.Cmp.Lexicographic.{pointwise}
-use Rattle.indexmap.specs.IndexMap.{insert_entry}
-use Rattle.sc_ast.specs.declared.section.HeadTree.{HeadTree}
 use Rattle.sc_ast.specs.declared.section.ExportLine.{ExportLine}
 use Rattle.sc_ast.specs.declared.section.ImportLine.{ImportLine}
 use Rattle.sc_ast.specs.declared.section.ParamTree.{ParamTree}
@@ -18,7 +15,7 @@ use Rattle.sc_interfaces.specs.declared.agreements.Agreements.{Agreements}
 use Rattle.sc_interfaces.specs.Faces.{same_params, same_type}
 use Rattle.sc_interfaces.specs.declared.tables.SectionTable.{SectionTable}
 use Rattle.sc_interfaces.specs.declared.imports.Imported.{Imported}
-use Rattle.sc_interfaces.specs.Tables.{first_of, all_added, head_added, export_fits, exports_told, import_fits, imports_told, decl_told, decls_told}
+use Rattle.sc_interfaces.specs.Tables.{all_added, head_added, export_fits, exports_told, import_fits, imports_told, decl_told, decls_told}
 
 pub told_back : (broken : BrokenLines) (xs ys : List ℕ) → with_lines (with_lines broken xs) ys ≡ with_lines broken (xs ++ ys)
 told_back broken xs ys = sym (with_lines-append broken xs ys)
@@ -70,20 +67,6 @@ all_added_one known (Global tree) decls = refl
 all_added_one known (Proto head) decls = refl
 all_added_one known (Function tree) decls = refl
 
-absent_at : (b : Bool) (e : Text × HeadTree) (es : List (Text × HeadTree)) (name : Text) (head : HeadTree) →
-    cond b (Some e.1) (first_of es name) ≡ None →
-    (first_of es name ≡ None → insert_entry (pointwise ◌==◌) es name head ≡ es ++ (name, head) ∷ []) →
-    (if b then (e.0, head) ∷ es else e ∷ insert_entry (pointwise ◌==◌) es name head) ≡ e ∷ (es ++ (name, head) ∷ [])
-absent_at true e es name head absent rest = cc
-absent_at false e es name head absent rest = ap (λ more. e ∷ more) (rest absent)
-
--- a name that is not there goes last
-pub insert_entry_last : (es : List (Text × HeadTree)) (name : Text) (head : HeadTree) →
-    first_of es name ≡ None → insert_entry (pointwise ◌==◌) es name head ≡ es ++ (name, head) ∷ []
-insert_entry_last [] name head absent = refl
-insert_entry_last (e ∷ es) name head absent =
-    absent_at (pointwise ◌==◌ name e.0) e es name head absent (insert_entry_last es name head)
-
 -- as many parameters
 pub same_params_lengths : (params others : List ParamTree) → (length params ≡ length others → ⊥) → same_params params others ≡ false
 same_params_lengths [] [] differ = absurd (differ refl)
@@ -101,4 +84,4 @@ told_none broken = with_lines-nil broken
 
 pub ruleset turns = (told_back, told_none, all_added_one)
 
-pub ruleset places = (insert_entry_last, same_params_lengths)
+pub ruleset places = same_params_lengths

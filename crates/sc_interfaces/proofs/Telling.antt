@@ -6,6 +6,7 @@ use Rattle.std.proofs.lemmas.Option.{slice_get-map, slice_get_read}
 use Rattle.std.proofs.lemmas.List.{length-map}
 use Rattle.std.proofs.lemmas.List.Folds.{list_all-append, list_any-append}
 use Rattle.std.proofs.Math.Bool.{and_assoc, and-true, or_assoc}
+use Rattle.sc_base.specs.FirstByName.{first_by_name}
 use Rattle.sc_base.specs.Numbering.{numbered}
 use Rattle.sc_ast.specs.declared.types.TypeName.{TypeName}
 use Rattle.sc_ast.specs.declared.section.ExportLine.{ExportLine}
@@ -23,7 +24,7 @@ use Rattle.sc_interfaces.specs.declared.agreements.Agreements.{Agreements}
 use Rattle.sc_interfaces.specs.declared.tables.SectionTable.{SectionTable}
 use Rattle.sc_interfaces.specs.Faces
 use Rattle.sc_interfaces.specs.Faces.{agree, agrees_with, same_params, takes_nothing, takes_int, gives_int, same_result, is_input, is_output, int_type, input_name, output_name, head_crosses, is_plain, main_holds}
-use Rattle.sc_interfaces.specs.Tables.{no_heads, forbidden, added, all_added, first_of, agrees_first, allowed, all_numbered, table_of, offering_number, offering_table, exports_told, input_head, output_head, is_offered_by, imports_told, environment_added, first_added, others_added, import_added, imports_added, imported_by, head_fits_by, decl_told, head_added, decls_told, section_told, lines_told}
+use Rattle.sc_interfaces.specs.Tables.{no_heads, forbidden, added, all_added, agrees_first, allowed, all_numbered, table_of, offering_number, offering_table, exports_told, input_head, output_head, is_offered_by, imports_told, environment_added, first_added, others_added, import_added, imports_added, imported_by, head_fits_by, decl_told, head_added, decls_told, section_told, lines_told}
 use Rattle.sc_interfaces.proofs.Agreeing.{type_symm}
 use Rattle.sc_interfaces.proofs.Allowing.{same_text, is_numbered-numbered, all_numbered_same, allowed_forbidden, allowed_added, allowed_same}
 use Rattle.sc_interfaces.proofs.Steps.{drop_item, drop_past}
@@ -191,9 +192,9 @@ no_conflict false same x agrees h = cc
 
 -- what a table of heads asks of a name
 table_asks : (heads : Agreements) (known : Agreements) (name : Text) (head : HeadTree) →
-    allowed (if among heads.conflicts name then forbidden known name else first_added known name (first_of heads.firsts name)) head ≡
-    (allowed known head && (not (bytes_eq name head.name) || (not (among heads.conflicts name) && agrees_first (first_of heads.firsts name) head)))
-table_asks heads known name head = at (among heads.conflicts name) (first_of heads.firsts name)
+    allowed (if among heads.conflicts name then forbidden known name else first_added known name (first_by_name heads.firsts name)) head ≡
+    (allowed known head && (not (bytes_eq name head.name) || (not (among heads.conflicts name) && agrees_first (first_by_name heads.firsts name) head)))
+table_asks heads known name head = at (among heads.conflicts name) (first_by_name heads.firsts name)
   where
     at : (conflict : Bool) (found : Option HeadTree) →
         allowed (if conflict then forbidden known name else first_added known name found) head ≡
@@ -212,8 +213,8 @@ others_added_allows number known name head sections section None = or_free (allo
 others_added_allows number known name head sections section (Some found) =
     table_asks (heads_of found.1) known name head ∙
     ap (λ holds. allowed known head && holds)
-    (guarded (bytes_eq name head.name) (not (among (heads_of found.1).conflicts name) && agrees_first (first_of (heads_of found.1).firsts name) head) (agrees_with (heads_in found.1.decls) head)
-    (λ same. ap (λ text. not (among (heads_of found.1).conflicts text) && agrees_first (first_of (heads_of found.1).firsts text) head) (same_text name head.name same) ∙ allowed_same (heads_in found.1.decls) head))
+    (guarded (bytes_eq name head.name) (not (among (heads_of found.1).conflicts name) && agrees_first (first_by_name (heads_of found.1).firsts name) head) (agrees_with (heads_in found.1.decls) head)
+    (λ same. ap (λ text. not (among (heads_of found.1).conflicts text) && agrees_first (first_by_name (heads_of found.1).firsts text) head) (same_text name head.name same) ∙ allowed_same (heads_in found.1.decls) head))
 
 module _ (sections : List SectionTree) (number : ℕ) (section : SectionTree) where
   is_offered_is : (line : ImportLine) → is_offered_by (map table_of sections) number line ≡ Faces.is_offered sections number section line

@@ -1,9 +1,7 @@
 -- Helping: the interfaces of sections by tables of places, in which a name is found at once.
-use Rattle.std.specs.Prelude.{ℕ, suc, ◌≤◌, bytes_eq, List, [], ◌∷◌, ◌++◌, All, length, map, min, take, slice_get, Option, Some, None, is_some, if◌then◌else◌}
+use Rattle.std.specs.Prelude.{ℕ, suc, ◌≤◌, bytes_eq, List, [], ◌∷◌, All, length, map, min, take, slice_get, Option, Some, None, if◌then◌else◌}
 use Rattle.std.specs.Option.{option_and_then, option_map}
-use Rattle.std.specs.Map.{lookup}
-use Rattle.std.specs.Cmp.Lexicographic.{pointwise}
-use Rattle.std.specs.Bool.{◌==◌}
+use Rattle.sc_base.specs.FirstByName.{first_by_name, with_first}
 use Rattle.sc_event.specs.declared.interface.Proto.{Proto}
 use Rattle.sc_event.specs.declared.interface.Import.{Import}
 use Rattle.sc_event.specs.declared.interface.Import.TheVariants as import
@@ -39,17 +37,10 @@ pub record IsWithinCounts (text : List SectionTree) : Type 0 where
 abbrev pub Placed : Type 0
 Placed = List (Text × ℕ)
 
--- the place at which a name came first
-abbrev pub place_of : Placed → Text → Option ℕ
-place_of known name = lookup (pointwise ◌==◌ name) known
-
--- the places, after a name came at this place too
-abbrev pub placed : Placed → Text → ℕ → Placed
-placed known name place = if is_some (place_of known name) then known else known ++ (name, place) ∷ []
-
+-- the places, after a name came at this place too, if it did
 abbrev pub option_placed : Placed → Option Text → ℕ → Placed
 option_placed known None place = known
-option_placed known (Some name) place = placed known name place
+option_placed known (Some name) place = with_first known name place
 
 -- the places, after these came from place k on
 abbrev pub all_placed : Placed → ℕ → List (Option Text) → Placed
@@ -72,7 +63,7 @@ function_places decls = all_placed [] 0 (map function_name decls)
 
 -- a function by its name
 abbrev pub function_at : List Decl → Placed → Text → Option FunctionTree
-function_at decls places name = option_and_then (λ place. option_and_then function_in (slice_get decls place)) (place_of places name)
+function_at decls places name = option_and_then (λ place. option_and_then function_in (slice_get decls place)) (first_by_name places name)
 
 abbrev pub promised_by : Text → Option FunctionTree → Proto
 promised_by name None = record { name = name; params = []; result = None }
@@ -86,7 +77,7 @@ export_by decls places line = promised_by line.name (function_at decls places li
 abbrev pub offered_by : List Placed → ImportLine → Option ℕ → Import
 offered_by places line None = import.Function 0 0
 offered_by places line (Some k) =
-    import.Function (min k 31) (min (number_or_zero (option_and_then (λ found. place_of found line.name) (slice_get places k))) 65535)
+    import.Function (min k 31) (min (number_or_zero (option_and_then (λ found. first_by_name found line.name) (slice_get places k))) 65535)
 
 abbrev pub import_by : List SectionTable → List Placed → (importer : ℕ) → ImportLine → Import
 import_by tables places importer line =

@@ -1,8 +1,7 @@
 -- Helping: the rules of interfaces by tables of the names that sections declare, in which a name is found at once.
 use Rattle.std.specs.Prelude.{ℕ, suc, Bool, true, not, ◌&&◌, ◌||◌, ◌==◌, bytes_eq, List, [], ◌∷◌, ◌++◌, map, slice_get, Option, Some, None, is_some, if◌then◌else◌}
 use Rattle.std.specs.Option.{option_and_then}
-use Rattle.std.specs.Map.{lookup}
-use Rattle.std.specs.Cmp.Lexicographic.{pointwise}
+use Rattle.sc_base.specs.FirstByName.{first_by_name, with_first}
 use Rattle.sc_base.specs.Numbering.{numbered}
 use Rattle.sc_ast.specs.declared.section.ExportLine.{ExportLine}
 use Rattle.sc_ast.specs.declared.section.ImportLine.{ImportLine}
@@ -26,10 +25,6 @@ all_numbered known (name ∷ names) = all_numbered (numbered known name) names
 
 -- Heads by their names.
 
--- the first head of a name
-abbrev pub first_of : List (Text × HeadTree) → Text → Option HeadTree
-first_of firsts name = lookup (pointwise ◌==◌ name) firsts
-
 abbrev pub no_heads : Agreements
 no_heads = record { firsts = []; conflicts = [] }
 
@@ -38,12 +33,12 @@ abbrev pub forbidden : Agreements → Text → Agreements
 forbidden known name = record known { conflicts = numbered known.conflicts name }
 
 abbrev pub added_beside : Agreements → Text → HeadTree → Option HeadTree → Agreements
-added_beside known name head None = record known { firsts = known.firsts ++ (name, head) ∷ [] }
+added_beside known name head None = record known { firsts = with_first known.firsts name head }
 added_beside known name head (Some first) = if agree first head then known else forbidden known name
 
 -- a name stands for this head too
 abbrev pub added : Agreements → Text → HeadTree → Agreements
-added known name head = added_beside known name head (first_of known.firsts name)
+added known name head = added_beside known name head (first_by_name known.firsts name)
 
 abbrev pub all_added : Agreements → List HeadTree → Agreements
 all_added known [] = known
@@ -55,7 +50,7 @@ agrees_first (Some first) head = agree first head
 
 -- a head agrees with all that its name stands for
 abbrev pub allowed : Agreements → HeadTree → Bool
-allowed known head = not (among known.conflicts head.name) && agrees_first (first_of known.firsts head.name) head
+allowed known head = not (among known.conflicts head.name) && agrees_first (first_by_name known.firsts head.name) head
 
 -- What others, and its own directives, ask of a section.
 
@@ -128,7 +123,7 @@ first_added known name (Some first) = added known name first
 abbrev pub others_added : Agreements → Text → Option SectionTable → Agreements
 others_added known name None = known
 others_added known name (Some other) =
-    if among other.heads.conflicts name then forbidden known name else first_added known name (first_of other.heads.firsts name)
+    if among other.heads.conflicts name then forbidden known name else first_added known name (first_by_name other.heads.firsts name)
 
 abbrev pub import_added : List SectionTable → (importer : ℕ) → Agreements → ImportLine → Agreements
 import_added tables importer known line =

@@ -1,22 +1,21 @@
 ghost use Rattle.std.specs.Prelude.{◌≡◌, OnOk};
 ghost use Rattle.std.specs.Option.{option_copied, option_map};
+ghost use Rattle.sc_base.specs.FirstByName.{first_by_name};
 ghost use Rattle.sc_interfaces.specs.Faces.{agree};
-ghost use Rattle.sc_interfaces.specs.Tables.{no_heads, forbidden, added, agrees_first, allowed, first_of};
+ghost use Rattle.sc_interfaces.specs.Tables.{no_heads, forbidden, added, agrees_first, allowed};
 
-use crate::first_heads::FirstHeads;
 use crate::heads::{agree, copied};
-use crate::name_set::NameSet;
 use sc_ast::HeadTree;
-use sc_base::{Name, OutOfMemory};
+use sc_base::{FirstByName, Name, NameTable, OutOfMemory};
 use std::alloc::Global;
 
 /// The heads that names stand for, as far as a later head has to agree with all of its name. Where two heads of a name
 /// disagree, no head agrees with both, so the first is enough.
 #[derive(Drop)]
 pub(crate) struct Agreements {
-    pub(crate) firsts: FirstHeads,
+    pub(crate) firsts: FirstByName<HeadTree>,
     /// Names with which no head agrees.
-    pub(crate) conflicts: NameSet,
+    pub(crate) conflicts: NameTable,
 }
 
 impl Agreements {
@@ -25,8 +24,8 @@ impl Agreements {
         ensures { result ≡ no_heads }
     {
         Agreements {
-            firsts: FirstHeads::new(alloc),
-            conflicts: NameSet::new(alloc),
+            firsts: FirstByName::new(alloc),
+            conflicts: NameTable::new(alloc),
         }
     }
 
@@ -48,7 +47,7 @@ impl Agreements {
 
     // Whether the head agrees with the first of the name, if there is one.
     fn agrees(&self, name: &Name, head: &HeadTree) -> Option<bool>
-        ensures { result ≡ option_map (λ first. agree first head.now) (first_of self.now.firsts name.now) }
+        ensures { result ≡ option_map (λ first. agree first head.now) (first_by_name self.now.firsts name.now) }
     {
         match self.firsts.get(name) {
             None => None,
@@ -60,7 +59,7 @@ impl Agreements {
     pub(crate) fn forbid(&mut self, name: Name) -> Result<(), OutOfMemory>
         ensures { OnOk result (self.new ≡ forbidden self.old name) }
     {
-        self.conflicts.insert(name)
+        self.conflicts.add(name)
     }
 
     /// Whether a head agrees with all that its name stands for.

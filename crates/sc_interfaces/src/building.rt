@@ -2,21 +2,24 @@
 
 ghost use Rattle.std.specs.Prelude.{◌≡◌, [], IfOk, OnOk, map, min, slice_get, take};
 ghost use Rattle.std.specs.Option.{option_and_then, option_copied, option_map};
+ghost use Rattle.sc_base.specs.FirstByName.{first_by_name};
 ghost use Rattle.sc_scope.specs.Interfaces.{interfaces_of, scalar_of};
-ghost use Rattle.sc_interfaces.specs.Offering.{IsWithinCounts, place_of, option_placed, all_placed, export_name, function_name, export_places, function_places, function_at, promised_by, export_by, offered_by, import_by, interface_by, interfaces_by, main_by};
+ghost use Rattle.sc_interfaces.specs.Offering.{IsWithinCounts, option_placed, all_placed, export_name, function_name, export_places, function_places, function_at, promised_by, export_by, offered_by, import_by, interface_by, interfaces_by, main_by};
 
 use crate::names::{is_environment_name, is_input_name, main_name};
-use crate::places::Places;
 use crate::tables::{SectionTable, offering_number, section_tables};
 use sc_ast::{
     BaseTree, Decl, ExportLine, FunctionParam, FunctionTree, ImportLine, SectionTree, TypeName,
 };
-use sc_base::{Name, OutOfMemory};
+use sc_base::{FirstByName, Name, OutOfMemory};
 use sc_event::{
     CompId, Import, Imports, Interface, InterfaceList, Interfaces, Params, Proto, Protos, Scalar,
 };
 use sqlite_items::Items;
 use std::alloc::Global;
+
+/// The place in a list at which each name came first.
+type Places = FirstByName<usize>;
 
 /// What the sections offer and use, as the interfaces of the text's program.
 pub fn interfaces(alloc: Global, sections: &[SectionTree]) -> Result<Interfaces, OutOfMemory>
@@ -78,7 +81,7 @@ fn exports(alloc: Global, decls: &[Decl], lines: &[ExportLine]) -> Result<Protos
 fn function_at<'a>(decls: &'a [Decl], places: &Places, name: &Name) -> Option<&'a FunctionTree>
     ensures { option_copied result ≡ function_at decls.now places.now name.now }
 {
-    match decls.get(places.get(name)?)? {
+    match decls.get(*places.get(name)?)? {
         Decl::Function(tree) => Some(tree),
         _ => None,
     }
@@ -181,9 +184,9 @@ fn offered(places: &[Places], line: &ImportLine, number: Option<usize>) -> Impor
 }
 
 fn export_place(places: &[Places], number: usize, name: &Name) -> Option<usize>
-    ensures { result ≡ option_and_then (λ found. place_of found name.now) (slice_get places.now number) }
+    ensures { result ≡ option_and_then (λ found. first_by_name found name.now) (slice_get places.now number) }
 {
-    places.get(number)?.get(name)
+    places.get(number)?.get(name).copied()
 }
 
 // The compartment of this number, or the last for a greater one.

@@ -2,10 +2,9 @@ ghost use Rattle.std.specs.Prelude.{◌≡◌, [], OnOk};
 ghost use Rattle.sc_scope.specs.Broken.{with_lines};
 ghost use Rattle.sc_interfaces.specs.Tables.{export_fits, exports_told};
 
-use crate::name_set::NameSet;
 use crate::names::{is_main_name, is_plain};
 use sc_ast::ExportLine;
-use sc_base::OutOfMemory;
+use sc_base::{NameTable, OutOfMemory};
 use sc_scope::BrokenLines;
 use std::alloc::Global;
 
@@ -13,21 +12,21 @@ use std::alloc::Global;
 #[tactic(auto, using(crate::proofs::Steps::turns))]
 pub(crate) fn exports_told(
     alloc: Global,
-    functions: &NameSet,
+    functions: &NameTable,
     exports: &[ExportLine],
     lines: &mut BrokenLines,
 ) -> Result<(), OutOfMemory>
     ensures { OnOk result (lines.new ≡ with_lines lines.old (exports_told functions.now [] exports.now)) }
 {
-    let mut before = NameSet::new(alloc);
+    let mut before = NameTable::new(alloc);
     for line in exports {
         lines.unless(export_fits(functions, &before, line), line.line);
-        before.insert(line.name)?;
+        before.add(line.name)?;
     }
     Ok(())
 }
 
-fn export_fits(functions: &NameSet, before: &NameSet, line: &ExportLine) -> bool
+fn export_fits(functions: &NameTable, before: &NameTable, line: &ExportLine) -> bool
     ensures { result ≡ export_fits functions.now before.now line.now }
 {
     functions.contains(&line.name)

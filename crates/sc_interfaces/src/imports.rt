@@ -5,18 +5,17 @@ ghost use Rattle.sc_interfaces.specs.Faces.{int_type, input_name, output_name};
 ghost use Rattle.sc_interfaces.specs.Tables.{import_fits, imports_told, is_offered_by, all_numbered, no_heads, imported_by, imports_added, import_added, others_added, first_added, environment_added, input_head, output_head};
 
 use crate::agreements::Agreements;
-use crate::name_set::NameSet;
 use crate::names::{is_environment_name, is_input_name, is_output_name, is_plain};
 use crate::tables::{SectionTable, offering_number, offering_table};
 use sc_ast::{BaseTree, HeadTree, Ident, ImportLine, ParamTree, ParamTrees, SectionTree, TypeName};
-use sc_base::{Name, OutOfMemory};
+use sc_base::{Name, NameTable, OutOfMemory};
 use sc_scope::BrokenLines;
 use std::alloc::Global;
 
 /// What a section imports: the names, and the heads that they stand for where they are offered.
 #[derive(Drop)]
 pub(crate) struct Imported {
-    pub(crate) names: NameSet,
+    pub(crate) names: NameTable,
     pub(crate) heads: Agreements,
 }
 
@@ -32,13 +31,13 @@ pub(crate) fn imports_told(
 ) -> Result<(), OutOfMemory>
     ensures { OnOk result (lines.new ≡ with_lines lines.old (imports_told tables.now importer table.now.functions table.now.protos [] imports.now)) }
 {
-    let mut before = NameSet::new(alloc);
+    let mut before = NameTable::new(alloc);
     for line in imports {
         lines.unless(
             import_fits(tables, importer, table, &before, line),
             line.line,
         );
-        before.insert(line.name)?;
+        before.add(line.name)?;
     }
     Ok(())
 }
@@ -47,7 +46,7 @@ fn import_fits(
     tables: &[SectionTable],
     importer: usize,
     table: &SectionTable,
-    before: &NameSet,
+    before: &NameTable,
     line: &ImportLine,
 ) -> bool
     ensures { result ≡ import_fits tables.now importer table.now.functions table.now.protos before.now line.now }
@@ -85,12 +84,12 @@ pub(crate) fn imports_of(
     })
 }
 
-fn imported_names(alloc: Global, imports: &[ImportLine]) -> Result<NameSet, OutOfMemory>
+fn imported_names(alloc: Global, imports: &[ImportLine]) -> Result<NameTable, OutOfMemory>
     ensures { IfOk result (λ names. names ≡ all_numbered [] (map (λ line. line.name) imports.now)) }
 {
-    let mut names = NameSet::new(alloc);
+    let mut names = NameTable::new(alloc);
     for line in imports {
-        names.insert(line.name)?;
+        names.add(line.name)?;
     }
     Ok(names)
 }

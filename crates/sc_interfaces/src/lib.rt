@@ -5,13 +5,10 @@ mod agreements;
 mod building;
 mod decls;
 mod exports;
-mod first_heads;
 mod heads;
 mod imports;
-mod name_set;
 mod names;
 mod phase;
-mod places;
 mod tables;
 
 pub use building::interfaces;

@@ -8,11 +8,10 @@ ghost use Rattle.sc_interfaces.specs.Tables.{name_fits, section_told};
 use crate::decls::decls_told;
 use crate::exports::exports_told;
 use crate::imports::{imports_of, imports_told};
-use crate::name_set::NameSet;
 use crate::names::{is_environment_name, main_name};
 use crate::tables::{SectionTable, section_tables};
 use sc_ast::SectionTree;
-use sc_base::{Name, OutOfMemory};
+use sc_base::{Name, NameTable, OutOfMemory};
 use sc_scope::BrokenLines;
 use std::alloc::Global;
 
@@ -23,7 +22,7 @@ pub fn broken_interface(alloc: Global, sections: &[SectionTree]) -> Result<Optio
 {
     let tables = section_tables(alloc, sections)?;
     let tables = tables.as_slice();
-    let mut before = NameSet::new(alloc);
+    let mut before = NameTable::new(alloc);
     let mut mains = false;
     let mut least = None;
     for number in 0..sections.len() {
@@ -31,7 +30,7 @@ pub fn broken_interface(alloc: Global, sections: &[SectionTree]) -> Result<Optio
         let table = &tables[number];
         least = next_least(alloc, tables, number, table, mains, &before, section, least)?;
         mains = main_found(mains, table);
-        before.insert(section.name)?;
+        before.add(section.name)?;
     }
     Ok(with_main(least, mains))
 }
@@ -59,7 +58,7 @@ fn next_least(
     number: usize,
     table: &SectionTable,
     mains: bool,
-    before: &NameSet,
+    before: &NameTable,
     section: &SectionTree,
     least: Option<u32>,
 ) -> Result<Option<u32>, OutOfMemory>
@@ -82,7 +81,7 @@ fn section_told(
     number: usize,
     table: &SectionTable,
     mains: bool,
-    before: &NameSet,
+    before: &NameTable,
     section: &SectionTree,
     lines: &mut BrokenLines,
 ) -> Result<(), OutOfMemory>
@@ -97,7 +96,7 @@ fn section_told(
     decls_told(alloc, table, &imported, mains, decls, lines)
 }
 
-fn name_fits(before: &NameSet, name: &Name) -> bool
+fn name_fits(before: &NameTable, name: &Name) -> bool
     ensures { result ≡ name_fits before.now name.now }
 {
     !before.contains(name) && !is_environment_name(name)

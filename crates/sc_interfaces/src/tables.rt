@@ -7,10 +7,9 @@ ghost use Rattle.sc_interfaces.specs.Tables.{all_numbered, all_added, no_heads, 
 
 use crate::agreements::Agreements;
 use crate::heads::prototype;
-use crate::name_set::NameSet;
 use crate::names::same_name;
 use sc_ast::{Decl, ExportLine, ImportLine, SectionTree};
-use sc_base::{Name, OutOfMemory};
+use sc_base::{Name, NameTable, OutOfMemory};
 use sqlite_items::Items;
 use std::alloc::Global;
 
@@ -18,9 +17,9 @@ use std::alloc::Global;
 #[derive(Drop)]
 pub(crate) struct SectionTable {
     pub(crate) name: Name,
-    pub(crate) functions: NameSet,
-    pub(crate) protos: NameSet,
-    pub(crate) exports: NameSet,
+    pub(crate) functions: NameTable,
+    pub(crate) protos: NameTable,
+    pub(crate) exports: NameTable,
     pub(crate) heads: Agreements,
 }
 
@@ -54,36 +53,36 @@ fn section_table(alloc: Global, section: &SectionTree) -> Result<SectionTable, O
     })
 }
 
-fn functions(alloc: Global, decls: &[Decl]) -> Result<NameSet, OutOfMemory>
+fn functions(alloc: Global, decls: &[Decl]) -> Result<NameTable, OutOfMemory>
     ensures { IfOk result (λ names. names ≡ all_numbered [] (function_names decls.now)) }
 {
-    let mut names = NameSet::new(alloc);
+    let mut names = NameTable::new(alloc);
     for decl in decls {
         if let Decl::Function(tree) = decl {
-            names.insert(tree.head.name.name())?;
+            names.add(tree.head.name.name())?;
         }
     }
     Ok(names)
 }
 
-fn protos(alloc: Global, decls: &[Decl]) -> Result<NameSet, OutOfMemory>
+fn protos(alloc: Global, decls: &[Decl]) -> Result<NameTable, OutOfMemory>
     ensures { IfOk result (λ names. names ≡ all_numbered [] (proto_names decls.now)) }
 {
-    let mut names = NameSet::new(alloc);
+    let mut names = NameTable::new(alloc);
     for decl in decls {
         if let Decl::Proto(head) = decl {
-            names.insert(head.name.name())?;
+            names.add(head.name.name())?;
         }
     }
     Ok(names)
 }
 
-fn exports(alloc: Global, exports: &[ExportLine]) -> Result<NameSet, OutOfMemory>
+fn exports(alloc: Global, exports: &[ExportLine]) -> Result<NameTable, OutOfMemory>
     ensures { IfOk result (λ names. names ≡ all_numbered [] (map (λ line. line.name) exports.now)) }
 {
-    let mut names = NameSet::new(alloc);
+    let mut names = NameTable::new(alloc);
     for line in exports {
-        names.insert(line.name)?;
+        names.add(line.name)?;
     }
     Ok(names)
 }

@@ -6,8 +6,8 @@ use Rattle.sc_interfaces.proofs.imports.imports_told.Goals as goal
 pub loop-line-preserved : goal.loop-line-preserved
 loop-line-preserved c =
     let table = c.args.table.now in
-    imports_turn c.args.tables.now c.args.importer table.functions table.protos c.loop-line.before c.insert.new.self c.args.imports.now c.loop-line.line-index c.line-item.result c.import_fits.result
-    c.loop-line.lines c.unless.new.self _ c.loop-line-test.true c.line-item.is c.import_fits.ensures c.unless.ensures c.in_ok-insert.ensures c.loop-line.invariant
+    imports_turn c.args.tables.now c.args.importer table.functions table.protos c.loop-line.before c.add.new.self c.args.imports.now c.loop-line.line-index c.line-item.result c.import_fits.result
+    c.loop-line.lines c.unless.new.self _ c.loop-line-test.true c.line-item.is c.import_fits.ensures c.unless.ensures c.in_ok-add.ensures c.loop-line.invariant
 
 pub returns : goal.returns
 returns c =
