@@ -20,7 +20,7 @@ use Rattle.sc_image.specs.WellFormed.{IsWellFormed}
 use Rattle.sc_image.specs.Layout.{stretch, most_globals, stack_size, data_start, stack_top, comp_of_data, Filled, data_with}
 use Rattle.sc_image.specs.State.{byte_at, start_memory, stack_tops}
 use Rattle.sc_image.proofs.AtStart.{start_is}
-use Rattle.sc_machine.specs.Regions.{HasFewGlobals, data_from, regions_of, filled_with}
+use Rattle.sc_machine.specs.Regions.{HasFewGlobals, all_data, regions_of, filled_with}
 
 -- One byte.
 
@@ -36,7 +36,8 @@ one_stored m a x h = sym (written-stored m a (x ∷ []) x (λ k below. byte_is x
 -- The compartments.
 
 pub all_few : (image : ImageParts) → IsWellFormed image → All HasFewGlobals image.comps
-all_few image formed = λ i d within. (formed.comps i (get_or image.comps i d) (slice_get-get_or image.comps i d within)).short_globals
+all_few image formed =
+    λ i d within. (formed.comps i (get_or image.comps i d) (slice_get-get_or image.comps i d within)).short_globals
 
 -- Regions one behind the other, from an address on.
 
@@ -44,7 +45,8 @@ abbrev Ordered : ℕ → List Region → Type 0
 Ordered low [] = Unit {0}
 Ordered low (region ∷ regions) = (low ≤ region.start) × Ordered (region.start + region.bytes) regions
 
-starts_from : (regions : List Region) (low i : ℕ) (d : Region) → Ordered low regions → i < length regions → low ≤ (get_or regions i d).start
+starts_from : (regions : List Region) (low i : ℕ) (d : Region) → Ordered low regions → i < length regions →
+    low ≤ (get_or regions i d).start
 starts_from [] low i d order within = absurd (omega (arith, within))
 starts_from (region ∷ regions) low zero d order within = order.0
 starts_from (region ∷ regions) low (suc i) d order within =
@@ -57,7 +59,8 @@ apart_by (region ∷ regions) low order zero (suc j) d before within a one other
     omega (arith, one.1, other.0, starts_from regions (region.start + region.bytes) j d order.1 (omega (arith, within)))
 apart_by (region ∷ regions) low order (suc i) zero d before within a one other = absurd (omega (arith, before))
 apart_by (region ∷ regions) low order (suc i) (suc j) d before within a one other =
-    apart_by regions (region.start + region.bytes) order.1 i j d (omega (arith, before)) (omega (arith, within)) a one other
+    apart_by regions (region.start + region.bytes) order.1 i j d (omega (arith, before))
+    (omega (arith, within)) a one other
 
 -- Those of the compartments.
 
@@ -68,35 +71,46 @@ module _ (comp : CompPart) (c : ℕ) where
   abbrev globals : Filled
   globals = record { region = record { start = stack_top c; bytes = length comp.globals }; bytes = comp.globals }
 
-ordered : (comps : List CompPart) (c low : ℕ) → All HasFewGlobals comps → low ≤ data_start c → Ordered low (regions_of (data_from c comps))
+ordered : (comps : List CompPart) (c low : ℕ) → All HasFewGlobals comps → low ≤ data_start c →
+    Ordered low (regions_of (all_data c comps))
 ordered [] c low few from = tt
 ordered (comp ∷ comps) c low few from =
-    let first : length comp.globals ≤ most_globals = All-head HasFewGlobals comp comps few in
-    (from, (omega arith, ordered comps (suc c) (stack_top c + length comp.globals) (All-tail HasFewGlobals comp comps few) (omega (arith, first))))
+    let first : length comp.globals ≤ most_globals = All-head HasFewGlobals comp comps few in (
+      from,
+      (
+        omega arith,
+        ordered comps (suc c) (stack_top c + length comp.globals)
+            (All-tail HasFewGlobals comp comps few) (omega (arith, first)),
+      ),
+    )
 
-pub regions_apart : (comps : List CompPart) → All HasFewGlobals comps → AreApart (regions_of (data_from 0 comps))
-regions_apart comps few = apart_by (regions_of (data_from 0 comps)) 0 (ordered comps 0 0 few (omega arith))
+pub regions_apart : (comps : List CompPart) → All HasFewGlobals comps → AreApart (regions_of (all_data 0 comps))
+regions_apart comps few = apart_by (regions_of (all_data 0 comps)) 0 (ordered comps 0 0 few (omega arith))
 
 abbrev IsBelow : Region → Type 0
 IsBelow region = region.start + region.bytes ≤ 2 ^ 32
 
-below_from : (comps : List CompPart) (c : ℕ) → c + length comps ≤ 32 → All HasFewGlobals comps → AreBelow (regions_of (data_from c comps))
+below_from : (comps : List CompPart) (c : ℕ) → c + length comps ≤ 32 → All HasFewGlobals comps →
+    AreBelow (regions_of (all_data c comps))
 below_from [] c count few = All-nil IsBelow
 below_from (comp ∷ comps) c count few =
     let first : length comp.globals ≤ most_globals = All-head HasFewGlobals comp comps few in
-    let rest = regions_of (data_from (suc c) comps) in
+    let rest = regions_of (all_data (suc c) comps) in
     All-cons IsBelow (stack comp c).region ((globals comp c).region ∷ rest) (omega (arith, count))
     (All-cons IsBelow (globals comp c).region rest (omega (arith, count, first))
     (below_from comps (suc c) (omega (arith, count)) (All-tail HasFewGlobals comp comps few)))
 
-pub regions_below : (comps : List CompPart) → length comps ≤ 32 → All HasFewGlobals comps → AreBelow (regions_of (data_from 0 comps))
+pub regions_below : (comps : List CompPart) → length comps ≤ 32 → All HasFewGlobals comps →
+    AreBelow (regions_of (all_data 0 comps))
 regions_below comps count few = below_from comps 0 (omega (arith, count)) few
 
 -- one stack more
-pub tops_more : (comps : List CompPart) (c i n : ℕ) → n ≡ c + i → i < length comps → stack_tops c (take (suc i) comps) ≡ stack_tops c (take i comps) ++ stack_top n ∷ []
+pub tops_more : (comps : List CompPart) (c i n : ℕ) → n ≡ c + i → i < length comps →
+    stack_tops c (take (suc i) comps) ≡ stack_tops c (take i comps) ++ stack_top n ∷ []
 tops_more [] c i n place h = absurd (omega arith)
 tops_more (x ∷ xs) c zero n place h = let first : c ≡ n = omega arith in ap (λ k. stack_top k ∷ []) first
-tops_more (x ∷ xs) c (suc i) n place h = ap (λ rest. stack_top c ∷ rest) (tops_more xs (suc c) i n (omega arith) (omega arith))
+tops_more (x ∷ xs) c (suc i) n place h =
+    ap (λ rest. stack_top c ∷ rest) (tops_more xs (suc c) i n (omega arith) (omega arith))
 
 pub length_tops : (c : ℕ) (comps : List CompPart) → length (stack_tops c comps) ≡ length comps
 length_tops c [] = refl
@@ -109,7 +123,8 @@ AreWithin [] = Unit {0}
 AreWithin (filled ∷ others) = (length filled.bytes ≤ filled.region.bytes) × AreWithin others
 
 written-inner : (m m' : Memory) (s : ℕ) (bs : List ℕ) (a : ℕ) → m' a ≡ m a → written m' s bs a ≡ written m s bs a
-written-inner m m' s bs a same = ap (λ o. if nat_le s a && nat_lt a (s + length bs) then Some (slice_index bs (a - s)) else o) same
+written-inner m m' s bs a same =
+    ap (λ o. if nat_le s a && nat_lt a (s + length bs) then Some (slice_index bs (a - s)) else o) same
 
 filled-inner : (all : List Filled) (m m' : Memory) (a : ℕ) → m' a ≡ m a → filled_with all m' a ≡ filled_with all m a
 filled-inner [] m m' a same = same
@@ -117,10 +132,12 @@ filled-inner (filled ∷ others) m m' a same =
     filled-inner others (written m filled.region.start filled.bytes) (written m' filled.region.start filled.bytes) a
     (written-inner m m' filled.region.start filled.bytes a same)
 
-kept_below : (all : List Filled) (m : Memory) (low a : ℕ) → Ordered low (regions_of all) → AreWithin all → a < low → filled_with all m a ≡ m a
+kept_below : (all : List Filled) (m : Memory) (low a : ℕ) → Ordered low (regions_of all) → AreWithin all → a < low →
+    filled_with all m a ≡ m a
 kept_below [] m low a order within under = refl
 kept_below (filled ∷ others) m low a order within under =
-    kept_below others (written m filled.region.start filled.bytes) (filled.region.start + filled.region.bytes) a order.1 within.1
+    kept_below others (written m filled.region.start filled.bytes)
+    (filled.region.start + filled.region.bytes) a order.1 within.1
     (omega (arith, order.0, under)) ∙
     written-apart m filled.region.start filled.bytes a (λ from upto. omega (arith, order.0, under, from))
 
@@ -134,7 +151,8 @@ module _ (filled : Filled) (others : List Filled) (within : length filled.bytes 
   past_bytes : IsIn filled.region a → filled.region.start + length filled.bytes ≤ a →
       IsHere (written zero_there filled.region.start filled.bytes)
   past_bytes inside past =
-      let none : get_or filled.bytes (a - filled.region.start) 0 ≡ 0 = get_or_past filled.bytes (a - filled.region.start) 0 (omega (arith, past)) in
+      let none : get_or filled.bytes (a - filled.region.start) 0 ≡ 0 =
+      get_or_past filled.bytes (a - filled.region.start) 0 (omega (arith, past)) in
       written-apart zero_there filled.region.start filled.bytes a (λ from upto. omega (arith, past, upto)) ∙
       rw (in_true filled.region a inside, none) refl
 
@@ -145,12 +163,15 @@ module _ (filled : Filled) (others : List Filled) (within : length filled.bytes 
       (past_bytes inside)
       (cases_lt a (filled.region.start + length filled.bytes))
 
-  past_first : (IsIn filled.region a → ⊥) → written zero_there filled.region.start filled.bytes a ≡ zeros (regions_of others) a
+  past_first : (IsIn filled.region a → ⊥) →
+      written zero_there filled.region.start filled.bytes a ≡ zeros (regions_of others) a
   past_first outside =
-      written-apart zero_there filled.region.start filled.bytes a (λ from upto. outside (from, omega (arith, upto, within))) ∙
+      written-apart zero_there filled.region.start filled.bytes a
+      (λ from upto. outside (from, omega (arith, upto, within))) ∙
       rw (in_false filled.region a outside) refl
 
-filled_is : (all : List Filled) (low a : ℕ) → Ordered low (regions_of all) → AreWithin all → filled_with all (zeros (regions_of all)) a ≡ byte_at all a
+filled_is : (all : List Filled) (low a : ℕ) → Ordered low (regions_of all) → AreWithin all →
+    filled_with all (zeros (regions_of all)) a ≡ byte_at all a
 filled_is [] low a order within = refl
 filled_is (filled ∷ others) low a order within =
     ⊎_elim
@@ -159,7 +180,8 @@ filled_is (filled ∷ others) low a order within =
     in_first filled others within.0 a inside ∙ sym (rw (in_true filled.region a inside) refl))
     (λ outside.
     filled-inner others (zeros (regions_of others)) _ a (past_first filled others within.0 a outside) ∙
-    filled_is others (filled.region.start + filled.region.bytes) a order.1 within.1 ∙ sym (rw (in_false filled.region a outside) refl))
+    filled_is others (filled.region.start + filled.region.bytes) a order.1 within.1 ∙
+    sym (rw (in_false filled.region a outside) refl))
     (in_cases filled.region a)
 
 -- So far of the compartments: one more of them.
@@ -169,18 +191,22 @@ written_none m a = λ i b. written-apart m a [] b (λ from upto. omega (arith, f
 
 -- its regions
 regions_more : (comps : List CompPart) (c i n : ℕ) (comp : CompPart) → n ≡ c + i → slice_get comps i ≡ Some comp →
-    regions_of (data_from c (take (suc i) comps)) ≡ (regions_of (data_from c (take i comps)) ++ (stack comp n).region ∷ []) ++ (globals comp n).region ∷ []
+    regions_of (all_data c (take (suc i) comps)) ≡
+    (regions_of (all_data c (take i comps)) ++ (stack comp n).region ∷ []) ++ (globals comp n).region ∷ []
 regions_more [] c i n comp place is = let never : ◌≡◌ {A = Option CompPart} None (Some comp) = is in cc never
 regions_more (x ∷ xs) c zero n comp place is =
     let first : c ≡ n = omega arith in
     let same : x ≡ comp = cc is in
     ap₂ (λ k (y : CompPart). (stack y k).region ∷ (globals y k).region ∷ []) first same
 regions_more (x ∷ xs) c (suc i) n comp place is =
-    ap (λ (rest : List Region). (stack x c).region ∷ (globals x c).region ∷ rest) (regions_more xs (suc c) i n comp (omega arith) is)
+    ap (λ (rest : List Region). (stack x c).region ∷ (globals x c).region ∷ rest)
+    (regions_more xs (suc c) i n comp (omega arith) is)
 
 -- its bytes
-filled_more : (comps : List CompPart) (c i n : ℕ) (m : Memory) (comp : CompPart) → n ≡ c + i → slice_get comps i ≡ Some comp →
-    filled_with (data_from c (take (suc i) comps)) m ≡ written (filled_with (data_from c (take i comps)) m) (stack_top n) comp.globals
+filled_more : (comps : List CompPart) (c i n : ℕ) (m : Memory) (comp : CompPart) → n ≡ c + i →
+    slice_get comps i ≡ Some comp →
+    filled_with (all_data c (take (suc i) comps)) m ≡ written (filled_with (all_data c (take i comps)) m)
+    (stack_top n) comp.globals
 filled_more [] c i n m comp place is = let never : ◌≡◌ {A = Option CompPart} None (Some comp) = is in cc never
 filled_more (x ∷ xs) c zero n m comp place is =
     let first : c ≡ n = omega arith in
@@ -199,71 +225,85 @@ some_kept : (all : List Filled) (m : Memory) (a : ℕ) → IsSome (m a) → IsSo
 some_kept [] m a h = h
 some_kept (filled ∷ others) m a h =
     some_kept others (written m filled.region.start filled.bytes) a
-    (some_by (nat_le filled.region.start a && nat_lt a (filled.region.start + length filled.bytes)) (slice_index filled.bytes (a - filled.region.start)) (m a) h)
+    (some_by (nat_le filled.region.start a && nat_lt a (filled.region.start + length filled.bytes))
+    (slice_index filled.bytes (a - filled.region.start)) (m a) h)
 
-zero_is : (comps : List CompPart) (c i n a : ℕ) (comp : CompPart) → n ≡ c + i → slice_get comps i ≡ Some comp → stack_top n ≤ a →
-    a < stack_top n + length comp.globals → IsSome (zeros (regions_of (data_from c comps)) a)
+zero_is : (comps : List CompPart) (c i n a : ℕ) (comp : CompPart) → n ≡ c + i → slice_get comps i ≡ Some comp →
+    stack_top n ≤ a →
+    a < stack_top n + length comp.globals → IsSome (zeros (regions_of (all_data c comps)) a)
 zero_is [] c i n a comp place is low high = let never : ◌≡◌ {A = Option CompPart} None (Some comp) = is in cc never
 zero_is (x ∷ xs) c zero n a comp place is low high =
     let first : n ≡ c = omega arith in
     let same : comp ≡ x = sym (cc is) in
     let upto : a < stack_top c + length x.globals =
-    subst (λ (y : CompPart). a < stack_top c + length y.globals) same (subst (λ k. a < stack_top k + length comp.globals) first high) in
-    let inside : is_in (globals x c).region a ≡ true = in_true (globals x c).region a (subst (λ k. stack_top k ≤ a) first low, upto) in
+    subst (λ (y : CompPart). a < stack_top c + length y.globals) same
+    (subst (λ k. a < stack_top k + length comp.globals) first high) in
+    let inside : is_in (globals x c).region a ≡ true =
+    in_true (globals x c).region a (subst (λ k. stack_top k ≤ a) first low, upto) in
     some_by (is_in (stack x c).region a) 0 _ (rw inside refl)
 zero_is (x ∷ xs) c (suc i) n a comp place is low high =
     some_by (is_in (stack x c).region a) 0 _
     (some_by (is_in (globals x c).region a) 0 _ (zero_is xs (suc c) i n a comp (omega arith) is low high))
 
 globals_there : (comps : List CompPart) (i k : ℕ) (comp : CompPart) → slice_get comps i ≡ Some comp →
-    HasBytes (filled_with (data_from 0 (take k comps)) (zeros (regions_of (data_from 0 comps)))) (stack_top i) (length comp.globals)
+    HasBytes (filled_with (all_data 0 (take k comps)) (zeros (regions_of (all_data 0 comps)))) (stack_top i)
+    (length comp.globals)
 globals_there comps i k comp is = λ j below.
-    some_kept (data_from 0 (take k comps)) (zeros (regions_of (data_from 0 comps))) (stack_top i + j)
+    some_kept (all_data 0 (take k comps)) (zeros (regions_of (all_data 0 comps))) (stack_top i + j)
     (zero_is comps 0 i i (stack_top i + j) comp (omega arith) is (omega arith) (omega (arith, below)))
 
 -- the steps of the loops that make them
-item_there : (comps : List CompPart) (i : ℕ) (comp : CompPart) → i < length comps → comp ≡ get_or comps i comp → slice_get comps i ≡ Some comp
+item_there : (comps : List CompPart) (i : ℕ) (comp : CompPart) → i < length comps → comp ≡ get_or comps i comp →
+    slice_get comps i ≡ Some comp
 item_there comps i comp h is = slice_get-get_or comps i comp h ∙ ap Some (sym is)
 
-pub next_regions : (comps : List CompPart) (i : ℕ) (comp : CompPart) (regions : List Region) (first second : Region) → i < length comps →
-    comp ≡ get_or comps i comp → regions ≡ regions_of (data_from 0 (take i comps)) → first ≡ (stack comp i).region →
-    second ≡ (globals comp i).region → (regions ++ first ∷ []) ++ second ∷ [] ≡ regions_of (data_from 0 (take (i + 1) comps))
+pub next_regions : (comps : List CompPart) (i : ℕ) (comp : CompPart) (regions : List Region)
+    (first second : Region) → i < length comps →
+    comp ≡ get_or comps i comp → regions ≡ regions_of (all_data 0 (take i comps)) → first ≡ (stack comp i).region →
+    second ≡ (globals comp i).region →
+    (regions ++ first ∷ []) ++ second ∷ [] ≡ regions_of (all_data 0 (take (i + 1) comps))
 next_regions comps i comp regions first second h item so_far one two =
     let more : i + 1 ≡ suc i = omega arith in
     rw (so_far, one, two, more) (sym (regions_more comps 0 i i comp (omega arith) (item_there comps i comp h item)))
 
-pub next_top : (comps : List CompPart) (i : ℕ) (tops : List ℕ) (top : ℕ) → i < length comps → tops ≡ stack_tops 0 (take i comps) → top ≡ stack_top i →
+pub next_top : (comps : List CompPart) (i : ℕ) (tops : List ℕ) (top : ℕ) → i < length comps →
+    tops ≡ stack_tops 0 (take i comps) → top ≡ stack_top i →
     tops ++ top ∷ [] ≡ stack_tops 0 (take (i + 1) comps)
 next_top comps i tops top h so_far is =
     let more : i + 1 ≡ suc i = omega arith in
     rw (so_far, is, more) (sym (tops_more comps 0 i i (omega arith) h))
 
 module _ (comps : List CompPart) (i : ℕ) (comp : CompPart) (h : i < length comps) (item : comp ≡ get_or comps i comp)
-    (first now : Memory) (top : ℕ) (bytes : List ℕ) (so_far : now ≡ filled_with (data_from 0 (take i comps)) first) (at : top ≡ stack_top i) (are : bytes ≡ comp.globals) where
-  pub place_there : first ≡ zeros (regions_of (data_from 0 comps)) → HasBytes now top (length bytes)
+    (first now : Memory) (top : ℕ) (bytes : List ℕ) (so_far : now ≡ filled_with (all_data 0 (take i comps)) first)
+    (at : top ≡ stack_top i) (are : bytes ≡ comp.globals) where
+  pub place_there : first ≡ zeros (regions_of (all_data 0 comps)) → HasBytes now top (length bytes)
   place_there zeroed = rw (so_far, zeroed, at, are) (globals_there comps i i comp (item_there comps i comp h item))
 
-  pub next_filled : (next : Memory) → next ≡ written now top bytes → next ≡ filled_with (data_from 0 (take (i + 1) comps)) first
+  pub next_filled : (next : Memory) → next ≡ written now top bytes →
+      next ≡ filled_with (all_data 0 (take (i + 1) comps)) first
   next_filled next is =
       let more : i + 1 ≡ suc i = omega arith in
-      is ∙ rw (so_far, at, are, more) (sym (filled_more comps 0 i i first comp (omega arith) (item_there comps i comp h item)))
+      is ∙ rw (so_far, at, are, more)
+      (sym (filled_more comps 0 i i first comp (omega arith) (item_there comps i comp h item)))
 
 -- All together are the memory of the start.
 
-within_all : (comps : List CompPart) (c : ℕ) → AreWithin (data_from c comps)
+within_all : (comps : List CompPart) (c : ℕ) → AreWithin (all_data c comps)
 within_all [] c = tt
 within_all (comp ∷ comps) c = (omega arith, (omega arith, within_all comps (suc c)))
 
 -- an address that isn't in a compartment's stretch
 elsewhere : (comp : CompPart) (comps : List CompPart) (c a : ℕ) → length comp.globals ≤ most_globals →
-    (data_start c ≤ a → a < data_start c + stretch → ⊥) → byte_at (data_from c (comp ∷ comps)) a ≡ byte_at (data_from (suc c) comps) a
+    (data_start c ≤ a → a < data_start c + stretch → ⊥) →
+    byte_at (all_data c (comp ∷ comps)) a ≡ byte_at (all_data (suc c) comps) a
 elsewhere comp comps c a few outside =
     rw (
       in_false (stack comp c).region a (λ inside. outside inside.0 (omega (arith, inside.1))),
       in_false (globals comp c).region a (λ inside. outside (omega (arith, inside.0)) (omega (arith, inside.1, few))),
     ) refl
 
-none_below : (comps : List CompPart) (c a : ℕ) → All HasFewGlobals comps → a < data_start c → byte_at (data_from c comps) a ≡ None
+none_below : (comps : List CompPart) (c a : ℕ) → All HasFewGlobals comps → a < data_start c →
+    byte_at (all_data c comps) a ≡ None
 none_below [] c a few under = refl
 none_below (comp ∷ comps) c a few under =
     elsewhere comp comps c a (All-head HasFewGlobals comp comps few) (λ from upto. omega (arith, under, from)) ∙
@@ -271,15 +311,17 @@ none_below (comp ∷ comps) c a few under =
 
 -- and one that is
 here : (comp : CompPart) (comps : List CompPart) (c a : ℕ) → All HasFewGlobals comps → a < data_start c + stretch →
-    byte_at (data_from c (comp ∷ comps)) a ≡ byte_at (data_with c comp.globals) a
+    byte_at (all_data c (comp ∷ comps)) a ≡ byte_at (data_with c comp.globals) a
 here comp comps c a few upto =
     ap (λ (rest : Option ℕ).
     if is_in (stack comp c).region a then Some (slice_index [] (a - data_start c))
     else if is_in (globals comp c).region a then Some (slice_index comp.globals (a - stack_top c)) else rest)
     (none_below comps (suc c) a few (omega (arith, upto)))
 
-at_comp : (comps : List CompPart) (c i n a : ℕ) → All HasFewGlobals comps → n ≡ c + i → data_start n ≤ a → a < data_start n + stretch →
-    byte_at (data_from c comps) a ≡ option_and_then (λ (comp : CompPart). byte_at (data_with n comp.globals) a) (slice_get comps i)
+at_comp : (comps : List CompPart) (c i n a : ℕ) → All HasFewGlobals comps → n ≡ c + i → data_start n ≤ a →
+    a < data_start n + stretch →
+    byte_at (all_data c comps) a ≡ option_and_then (λ (comp : CompPart). byte_at (data_with n comp.globals) a)
+    (slice_get comps i)
 at_comp [] c i n a few place from upto = refl
 at_comp (comp ∷ comps) c zero n a few place from upto =
     let first : c ≡ n = omega arith in
@@ -289,16 +331,19 @@ at_comp (comp ∷ comps) c (suc i) n a few place from upto =
     elsewhere comp comps c a (All-head HasFewGlobals comp comps few) (λ low high. omega (arith, place, from, high)) ∙
     at_comp comps (suc c) i n a (All-tail HasFewGlobals comp comps few) (omega (arith, place)) from upto
 
-all_is : (image : ImageParts) (a : ℕ) → All HasFewGlobals image.comps → byte_at (data_from 0 image.comps) a ≡ start_memory image a
+all_is : (image : ImageParts) (a : ℕ) → All HasFewGlobals image.comps →
+    byte_at (all_data 0 image.comps) a ≡ start_memory image a
 unfolding start_memory
 all_is image a few =
     ⊎_elim
     (λ low. none_below image.comps 0 a few low ∙ sym (start_is a image ∙ rw (lt-ltb a (data_start 0) low) refl))
-    (λ from. at_comp image.comps 0 (comp_of_data a) (comp_of_data a) a few (omega arith) (omega (arith, from)) (omega (arith, from)))
+    (λ from. at_comp image.comps 0 (comp_of_data a) (comp_of_data a) a few (omega arith) (omega (arith, from))
+    (omega (arith, from)))
     (cases_lt a (data_start 0))
 
 pub starts : (image : ImageParts) → IsWellFormed image →
-    filled_with (data_from 0 image.comps) (zeros (regions_of (data_from 0 image.comps))) ≡ start_memory image
+    filled_with (all_data 0 image.comps) (zeros (regions_of (all_data 0 image.comps))) ≡ start_memory image
 starts image formed = λ i a.
-    (filled_is (data_from 0 image.comps) 0 a (ordered image.comps 0 0 (all_few image formed) (omega arith)) (within_all image.comps 0) ∙
+    (filled_is (all_data 0 image.comps) 0 a (ordered image.comps 0 0 (all_few image formed) (omega arith))
+    (within_all image.comps 0) ∙
     all_is image a (all_few image formed)) i

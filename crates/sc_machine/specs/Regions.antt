@@ -1,4 +1,5 @@
--- The memory of a start, as the machine makes it: zeros in each region of data, and then the bytes that some begin with.
+-- The memory of a start, as the machine makes it: zeros in each region of data, and then the bytes that some begin
+-- with.
 use Rattle.std.specs.Prelude.{ℕ, suc, ◌≤◌, List, [], ◌∷◌, ◌++◌, length, map}
 use Rattle.sc_store.specs.declared.region.Region.{Region}
 use Rattle.sc_store.specs.Memory.{Memory}
@@ -10,9 +11,9 @@ abbrev pub HasFewGlobals : CompPart → Type 0
 HasFewGlobals comp = length comp.globals ≤ most_globals
 
 -- the data of the compartments from number c on
-abbrev pub data_from : ℕ → List CompPart → List Filled
-data_from c [] = []
-data_from c (comp ∷ comps) = data_with c comp.globals ++ data_from (suc c) comps
+abbrev pub all_data : ℕ → List CompPart → List Filled
+all_data c [] = []
+all_data c (comp ∷ comps) = data_with c comp.globals ++ all_data (suc c) comps
 
 abbrev pub regions_of : List Filled → List Region
 regions_of all = map (λ filled. filled.region) all

@@ -5,7 +5,7 @@ ghost use Rattle.sc_store.specs.Memory.{HasBytes, zeros};
 ghost use Rattle.sc_store.specs.Flat.{written};
 ghost use Rattle.sc_image.specs.State.{start, start_memory, stack_tops};
 ghost use Rattle.sc_machine.specs.Hart.{state_in, IsSound, HasRoom};
-ghost use Rattle.sc_machine.specs.Regions.{HasFewGlobals, data_from, regions_of, filled_with};
+ghost use Rattle.sc_machine.specs.Regions.{HasFewGlobals, all_data, regions_of, filled_with};
 
 use crate::hart::{Core, Hart};
 use sc_base::OutOfMemory;
@@ -68,7 +68,7 @@ pub(crate) fn start_memory<S: Store>(alloc: Global, image: &Image) -> Result<S, 
 fn regions(alloc: Global, comps: &[CompPart]) -> Result<Vec<Region>, AllocError>
     requires count { length comps.now ≤ 32 }
     requires few { All HasFewGlobals comps.now }
-    ensures { IfOk result (λ regions. regions.items ≡ regions_of (data_from 0 comps.now)) }
+    ensures { IfOk result (λ regions. regions.items ≡ regions_of (all_data 0 comps.now)) }
 {
     let mut regions = Vec::new(alloc);
     for (number, comp) in comps.iter().enumerate() {
@@ -88,8 +88,8 @@ fn regions(alloc: Global, comps: &[CompPart]) -> Result<Vec<Region>, AllocError>
 fn fill_all<S: Store>(memory: &mut S, comps: &[CompPart])
     requires count { length comps.now ≤ 32 }
     requires few { All HasFewGlobals comps.now }
-    requires zeros { S.bytes memory.old ≡ zeros (regions_of (data_from 0 comps.now)) }
-    ensures { S.bytes memory.new ≡ filled_with (data_from 0 comps.now) (S.bytes memory.old) }
+    requires zeros { S.bytes memory.old ≡ zeros (regions_of (all_data 0 comps.now)) }
+    ensures { S.bytes memory.new ≡ filled_with (all_data 0 comps.now) (S.bytes memory.old) }
 {
     for (number, comp) in comps.iter().enumerate() {
         fill(memory, stack_top(comp_id(number)), comp.globals.as_bytes());
