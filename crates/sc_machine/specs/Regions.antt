@@ -1,23 +1,24 @@
--- The memory of a start, as the machine makes it: zeros in a region for each compartment, and then the globals.
-use Rattle.std.specs.Prelude.{ℕ, suc, ◌+◌, ◌≤◌, List, [], ◌∷◌, length}
+-- The memory of a start, as the machine makes it: zeros in each region of data, and then the bytes that some begin
+-- with.
+use Rattle.std.specs.Prelude.{ℕ, suc, ◌≤◌, List, [], ◌∷◌, ◌++◌, length, map}
 use Rattle.sc_store.specs.declared.region.Region.{Region}
 use Rattle.sc_store.specs.Memory.{Memory}
 use Rattle.sc_store.specs.Flat.{written}
 use Rattle.sc_image.specs.declared.parts.CompPart.{CompPart}
-use Rattle.sc_image.specs.Layout.{most_globals, stack_size, data_start, stack_top}
+use Rattle.sc_image.specs.Layout.{most_globals, Filled, data_with}
 
 abbrev pub HasFewGlobals : CompPart → Type 0
 HasFewGlobals comp = length comp.globals ≤ most_globals
 
--- the data of a compartment of that number, and those of the compartments from number c on
-abbrev pub region_of : ℕ → CompPart → Region
-region_of c comp = record { start = data_start c; bytes = stack_size + length comp.globals }
+-- the data of the compartments from number c on
+abbrev pub all_data : ℕ → List CompPart → List Filled
+all_data c [] = []
+all_data c (comp ∷ comps) = data_with c comp.globals ++ all_data (suc c) comps
 
-abbrev pub regions_from : ℕ → List CompPart → List Region
-regions_from c [] = []
-regions_from c (comp ∷ comps) = region_of c comp ∷ regions_from (suc c) comps
+abbrev pub regions_of : List Filled → List Region
+regions_of all = map (λ filled. filled.region) all
 
--- a memory with the globals of the compartments from number c on
-abbrev pub filled_from : ℕ → List CompPart → Memory → Memory
-filled_from c [] memory = memory
-filled_from c (comp ∷ comps) memory = filled_from (suc c) comps (written memory (stack_top c) comp.globals)
+-- a memory with the bytes that these regions begin with
+abbrev pub filled_with : List Filled → Memory → Memory
+filled_with [] memory = memory
+filled_with (filled ∷ others) memory = filled_with others (written memory filled.region.start filled.bytes)

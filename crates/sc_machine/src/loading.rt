@@ -5,7 +5,7 @@ ghost use Rattle.sc_store.specs.Memory.{HasBytes, zeros};
 ghost use Rattle.sc_store.specs.Flat.{written};
 ghost use Rattle.sc_image.specs.State.{start, start_memory, stack_tops};
 ghost use Rattle.sc_machine.specs.Hart.{state_in, IsSound, HasRoom};
-ghost use Rattle.sc_machine.specs.Regions.{HasFewGlobals, regions_from, filled_from};
+ghost use Rattle.sc_machine.specs.Regions.{HasFewGlobals, all_data, regions_of, filled_with};
 
 use crate::hart::{Core, Hart};
 use sc_base::OutOfMemory;
@@ -64,28 +64,32 @@ pub(crate) fn start_memory<S: Store>(alloc: Global, image: &Image) -> Result<S, 
     Ok(memory)
 }
 
-/// The addresses of each compartment's data.
+/// The regions of each compartment's data: its stack and its globals.
 fn regions(alloc: Global, comps: &[CompPart]) -> Result<Vec<Region>, AllocError>
     requires count { length comps.now ≤ 32 }
     requires few { All HasFewGlobals comps.now }
-    ensures { IfOk result (λ regions. regions.items ≡ regions_from 0 comps.now) }
+    ensures { IfOk result (λ regions. regions.items ≡ regions_of (all_data 0 comps.now)) }
 {
     let mut regions = Vec::new(alloc);
     for (number, comp) in comps.iter().enumerate() {
         regions.push(Region {
             start: data_start(comp_id(number)),
-            bytes: STACK_SIZE + comp.globals.as_bytes().len() as u32,
+            bytes: STACK_SIZE,
+        })?;
+        regions.push(Region {
+            start: stack_top(comp_id(number)),
+            bytes: comp.globals.as_bytes().len() as u32,
         })?;
     }
     Ok(regions)
 }
 
-/// Puts each compartment's globals above its stack.
+/// Puts the bytes that each compartment's data begin with: its globals, since a stack begins with none.
 fn fill_all<S: Store>(memory: &mut S, comps: &[CompPart])
     requires count { length comps.now ≤ 32 }
     requires few { All HasFewGlobals comps.now }
-    requires zeros { S.bytes memory.old ≡ zeros (regions_from 0 comps.now) }
-    ensures { S.bytes memory.new ≡ filled_from 0 comps.now (S.bytes memory.old) }
+    requires zeros { S.bytes memory.old ≡ zeros (regions_of (all_data 0 comps.now)) }
+    ensures { S.bytes memory.new ≡ filled_with (all_data 0 comps.now) (S.bytes memory.old) }
 {
     for (number, comp) in comps.iter().enumerate() {
         fill(memory, stack_top(comp_id(number)), comp.globals.as_bytes());

@@ -1,6 +1,6 @@
 use Rattle.std.proofs.Common.{◌≡◌, take}
-use Rattle.sc_machine.specs.Regions.{filled_from}
+use Rattle.sc_machine.specs.Regions.{all_data, filled_with}
 use Rattle.sc_machine.proofs.loading.fill_all.Given as goal
 
 abbrev pub invariant-loop-number : goal.invariant-loop-number
-invariant-loop-number g l = g.S.Store.bytes l.memory ≡ filled_from 0 (take l.number l.comps) (g.S.Store.bytes l.fn.memory)
+invariant-loop-number g l = g.S.Store.bytes l.memory ≡ filled_with (all_data 0 (take l.number l.comps)) (g.S.Store.bytes l.fn.memory)

@@ -1,6 +1,6 @@
 use Rattle.std.proofs.Common.{◌≡◌, take}
-use Rattle.sc_machine.specs.Regions.{regions_from}
+use Rattle.sc_machine.specs.Regions.{all_data, regions_of}
 use Rattle.sc_machine.proofs.loading.regions.Given as goal
 
 abbrev pub invariant-loop-number : goal.invariant-loop-number
-invariant-loop-number l = l.regions.items ≡ regions_from 0 (take l.number l.comps)
+invariant-loop-number l = l.regions.items ≡ regions_of (all_data 0 (take l.number l.comps))

@@ -8,7 +8,7 @@ regions-requires-clause-few g c = rw (c.as_slice-comps.ensures, c.parts.ensures.
 pub zeroed-requires-clause-apart : goal.zeroed-requires-clause-apart
 zeroed-requires-clause-apart g c =
     rw (c.deref.ensures.value, c.in_ok-regions.ensures, c.as_slice-comps.ensures, c.parts.ensures.parts)
-    (regions_apart c.args.image.now.comps 0 (all_few c.args.image.now c.parts.ensures.well_formed))
+    (regions_apart c.args.image.now.comps (all_few c.args.image.now c.parts.ensures.well_formed))
 
 pub zeroed-requires-clause-below : goal.zeroed-requires-clause-below
 zeroed-requires-clause-below g c =
