@@ -146,7 +146,8 @@ module _ (d : ℕ) (Soft : Cause → Type 0) (Turns : Type 0) where
         record {
           computing = λ V line e e' h s s' a. subst (λ x. Below V (computed here line (e (s.memory here.comp)) s)
               (computed here line (e' (x.memory here.comp)) x)) (sym a.state)
-              (computed_below V here line (e (s.memory here.comp)) (e' (s.memory here.comp)) s (h (s.memory here.comp)));
+              (computed_below V here line (e (s.memory here.comp)) (e' (s.memory here.comp)) s
+              (h (s.memory here.comp)));
           passed = λ V cause line soft s s' a p g. passed (Blamed here.comp cause line) s refl soft
               (record {
                 events = subst (λ x. Front x.trace (last p).trace) a.state g.grown.events;

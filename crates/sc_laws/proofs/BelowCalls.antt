@@ -14,11 +14,11 @@ use Rattle.sc_core.specs.declared.expr.CallTarget.TheVariants.{Own, Cross, Input
 use Rattle.sc_core.specs.declared.run.RunEnd.TheVariants.{Blamed, TurnsOut}
 use Rattle.sc_core.specs.declared.value.Value.{Value}
 use Rattle.sc_core.specs.declared.value.Value.TheVariants.{Word}
-use Rattle.sc_core.specs.Words.{State, Here, Piece, Reached, Stopped, and_then, turn, tell}
+use Rattle.sc_core.specs.Words.{State, Here, Piece, Stopped, and_then, turn, tell}
 use Rattle.sc_core.specs.Calls.{Function, Library, Body, Step, function, begun, done, found, word_in, crossed, may_call, back_own, back_cross, run_in, call_own, call_cross, called, calls, run_step, within}
 use Rattle.sc_core.specs.Scripts.{Roles, rows_left, is_number, asks, acts, performs, scripted_step}
 use Rattle.sc_laws.specs.Growth.{Grown, Goes}
-use Rattle.sc_laws.proofs.Growing.{stays, earlier, back_goes, then_goes, BodyGoes, StepGoes, begun_goes, done_goes, own_goes, cross_goes, calls_go, performs_go, within_goes, asks_is, asks_go}
+use Rattle.sc_laws.proofs.Growing.{stays, earlier, back_goes, then_goes, BodyGoes, StepGoes, begun_goes, done_goes, own_goes, cross_goes, calls_go, performs_go, within_goes, asks_is, asks_go, then_then}
 use Rattle.sc_laws.specs.Agreement.{Meets}
 use Rattle.sc_laws.proofs.Libraries.{Anywhere, CallsTwins, FunctionTwins, LibraryTwins, function_twins, entered_same, may_same}
 use Rattle.sc_laws.proofs.Below.{richer, richer_piece, Below, along, Ahead, below_kept}
@@ -207,11 +207,6 @@ module _ (d : ℕ) (Soft : Cause → Type 0) (Turns : Type 0) (spent : (d ≡ 0)
             (function_twins (Ahead d Soft Turns n n') (Below d Soft Turns) Anywhere L M twins here.comp number) s
             _ _ (λ f g meets. (meets.does (calls L a) (calls M b) here tt (calls_below here.comp)).both s (richer d s)
             (record { state = refl; few = few; few' = few' }))
-
-        then_then : {U V W : Type 0} (o : Piece U) (k : U → State → Piece V) (l : V → State → Piece W) →
-            and_then (and_then o k) l ≡ and_then o (λ u s. and_then (k u s) l)
-        then_then (Reached v s) k l = refl
-        then_then (Stopped end s) k l = refl
 
         -- a row's call, and then the function again
         abbrev calls_again : Library → Body → (number : ℕ) (here : Here) (to index : ℕ) (args : List Value) → State →

@@ -156,9 +156,14 @@ module _ (t : List Event) (runs : Set → SourceRun) (count : ℕ)
 
         goes_on : (b : IsBlamedOutside count set (runs set) t) → Found (with b.comp set) most → Found set (suc most)
         goes_on b rest =
-            let link : Link = record { comp = b.comp; after = length (runs set).trace; cause = b.cause; line = b.line } in
-            let few_links : length rest.0 ≤ most = rest.2 in
-            (link ∷ rest.0, (record { blamed = b.blamed; front = b.front; after = refl }, rest.1), omega (arith, few_links))
+            let link : Link =
+            record { comp = b.comp; after = length (runs set).trace; cause = b.cause; line = b.line } in
+            let few_links : length rest.0 ≤ most = rest.2 in (
+              link ∷ rest.0,
+              (record { blamed = b.blamed; front = b.front; after = refl }, rest.1),
+              omega
+                  (arith, few_links),
+            )
 
 pub has_chain : (trace : List Event) (runs : Set → SourceRun) → HasChain trace runs
 has_chain trace runs count each =

@@ -49,10 +49,10 @@ module _ (Soft : Cause → Type 0) where
     pub negated : (unsigned : Bool) (a : ℕ) → Keeps ℕ (ar.negated unsigned a) (br.negated unsigned a)
 
   module _ (ar br : Arith) (arith : ArithKeeps ar br) where
-    word_keeps : (r r' : Result ℕ Cause) → Keeps ℕ r r' → Keeps Value (as_word r) (as_word r')
+    pub word_keeps : (r r' : Result ℕ Cause) → Keeps ℕ r r' → Keeps Value (as_word r) (as_word r')
     word_keeps r r' h = bind_keeps ℕ Value r r' _ _ h (λ w. alike refl)
 
-    on_words_keep : (unsigned : Bool) (o : BinaryOp) (v w : Value) →
+    pub on_words_keep : (unsigned : Bool) (o : BinaryOp) (v w : Value) →
         Keeps Value (on_words ar unsigned o v w) (on_words br unsigned o v w)
     on_words_keep unsigned o (Word a) (Word b) = word_keeps _ _ (arith.binary unsigned o a b)
     on_words_keep unsigned o (Word a) Null = alike refl
@@ -60,7 +60,7 @@ module _ (Soft : Cause → Type 0) where
     on_words_keep unsigned o Null w = alike refl
     on_words_keep unsigned o (Ptr p) w = alike refl
 
-    one_keeps : (unsigned : Bool) (o : UnaryOp) (v : Value) →
+    pub one_keeps : (unsigned : Bool) (o : UnaryOp) (v : Value) →
         Keeps Value (applied_one ar unsigned o v) (applied_one br unsigned o v)
     one_keeps unsigned unary.Minus (Word a) = word_keeps _ _ (arith.negated unsigned a)
     one_keeps unsigned unary.Minus Null = alike refl
@@ -70,7 +70,7 @@ module _ (Soft : Cause → Type 0) where
     one_keeps unsigned unary.BitNot v = alike refl
 
     module _ (structs : List TypedStruct) where
-      applied_keeps : (blocks : Blocks) (o : BinaryOp) (left right : Ty) (v w : Value) →
+      pub applied_keeps : (blocks : Blocks) (o : BinaryOp) (left right : Ty) (v w : Value) →
           Keeps Value (applied ar structs blocks o left right v w) (applied br structs blocks o left right v w)
       applied_keeps blocks o left right v w =
           if_keeps Value (is_pointer left) _ _ _ _ (if_keeps Value (is_pointer right) _ _ _ _ (alike refl) (alike refl))
@@ -82,7 +82,7 @@ module _ (Soft : Cause → Type 0) where
         pub way : (w : Want) (blocks : Blocks) → Keeps Value (a.way w blocks) (b.way w blocks)
 
       -- the same of types that are equal
-      at_types : (blocks : Blocks) (o : BinaryOp) (left left' right right' : Ty) (v w : Value) → left' ≡ left →
+      pub at_types : (blocks : Blocks) (o : BinaryOp) (left left' right right' : Ty) (v w : Value) → left' ≡ left →
           right' ≡ right →
           Keeps Value (applied ar structs blocks o left right v w) (applied br structs blocks o left' right' v w)
       at_types blocks o left left' right right' v w is is' =
@@ -90,11 +90,11 @@ module _ (Soft : Cause → Type 0) where
           w)) (sym is) (subst (λ t. Keeps Value (applied ar structs blocks o left right v w)
           (applied br structs blocks o left t v w)) (sym is') (applied_keeps blocks o left right v w))
 
-      choose_keeps : (v : Value) (r r' x x' : Result Value Cause) → Keeps Value r r' → Keeps Value x x' →
+      pub choose_keeps : (v : Value) (r r' x x' : Result Value Cause) → Keeps Value r r' → Keeps Value x x' →
           Keeps Value (choose v r x) (choose v r' x')
       choose_keeps v r r' x x' h k = if_keeps Value _ r r' x x' h k
 
-      binary_keeps : (o : BinaryOp) (a a' b b' : Meant) → Agrees a a' → Agrees b b' → (blocks : Blocks) →
+      pub binary_keeps : (o : BinaryOp) (a a' b b' : Meant) → Agrees a a' → Agrees b b' → (blocks : Blocks) →
           Keeps Value (binary ar structs o a b blocks) (binary br structs o a' b' blocks)
       binary_keeps op.AndAlso a a' b b' h k blocks =
           bind_keeps Value Value _ _ _ _ (h.way want.Value blocks)

@@ -358,13 +358,17 @@ module _ (main : ℕ) (t : List Event) (S' : ℕ → Bool) where
                 λ V W s s' o p k l one g g' goes goes' r h. record {
                   performs = λ along. then_performs V W s o k g goes
                       (λ v x grown stands y. any_piece W (k v x) (l v x) y
-                      (h v x x grown (subst (λ z. Grown z x) (sym one.same) grown) (record { same = refl; stands = stands }))) along
-                      (r.performs (in_line_before t (last o).trace (last (and_then o k)).trace (then_from o k goes).events along));
+                      (h v x x grown (subst (λ z. Grown z x) (sym one.same) grown)
+                      (record { same = refl; stands = stands }))) along
+                      (r.performs (in_line_before t (last o).trace (last (and_then o k)).trace
+                      (then_from o k goes).events along));
                 };
             turned = λ W k l goes goes' s s' one h. record {
               performs =
-                  λ along. turn_performs W k s one.stands s.turns refl (λ x less stands y. any_piece W (k tt x) (l tt x) y
-                  (h x x less (subst (λ z. x.turns < z.turns) (sym one.same) less) (record { same = refl; stands = stands })))
+                  λ along. turn_performs W k s one.stands s.turns refl (λ x less stands y. any_piece W (k tt x) (l tt x)
+                  y
+                  (h x x less (subst (λ z. x.turns < z.turns) (sym one.same) less)
+                  (record { same = refl; stands = stands })))
                   along;
             };
           }

@@ -687,7 +687,8 @@ module _ (L : Library) (main : ℕ) (t : List Event) (S S' : ℕ → Bool) (larg
             follows = λ along. follows.both v _ _ refl refl
                 (quiet_near st u u' (done comp f first u) (done comp f first u') refl refl refl refl refl refl
                 (near_blocks main t S' st u u' comp (ended first (length f.cells) (u.memory comp))
-                (ended first (length f.cells) (u'.memory comp)) (λ c. ap (ended first (length f.cells)) (near.memory comp c))
+                (ended first (length f.cells) (u'.memory comp)) (λ c. ap (ended first (length f.cells))
+                (near.memory comp c))
                 near).memory near);
           }))
 
@@ -900,14 +901,16 @@ module _ (L : Library) (main : ℕ) (t : List Event) (S S' : ℕ → Bool) (larg
                   let same_read : read_input comp u ≡ read =
                   ap (λ i. tell (In comp (next_input i)) (taken u)) h.near.inputs in
                   let by_test : Bool → Piece (Option Value) =
-                  λ b. if b then Reached (Some (Word (next_input u.inputs))) (read_input comp u) else Stopped TurnsOut u in
+                  λ b. if b then Reached (Some (Word (next_input u.inputs))) (read_input comp u) else Stopped TurnsOut
+                  u in
                   performing.here (Some (Word w)) (read_input comp s) refl
                   (record {
                     other = read;
                     near = near_tell main t S' st st (taken s) (taken u) (In comp w) more refl all
                         (taken_near st s u h.near);
                     is =
-                        h.is ∙ act.is ∙ ap (λ o. and_then o (λ v. goes_on)) (asks_is L second second_goes comp Input [] u)
+                        h.is ∙ act.is ∙ ap (λ o. and_then o (λ v. goes_on)) (asks_is L second second_goes comp Input []
+                        u)
                         ∙ ap (λ b. and_then (by_test b) (λ v. goes_on)) allowed ∙ ap goes_on same_read
                         ∙ rows_now read act.rest act.left;
                   })

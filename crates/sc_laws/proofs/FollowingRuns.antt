@@ -407,7 +407,8 @@ module _ (L : Library) (obedient : Obedient L) (globals : Memory) (inputs : List
           by_test false clear rest =
               let equal : shown set ≡ shown small =
               keeps_blames small set larger link.comp link.cause link.line chain.0.blamed chain.0.front clear in
-              absurd (blamed_below t (whole_run small) (shown small) link.comp link.cause link.line _ refl chain.0.blamed
+              absurd (blamed_below t (whole_run small) (shown small) link.comp link.cause link.line _ refl
+              chain.0.blamed
               (ap (λ r. r.trace) (sym equal) ∙ tells))
 
     is_enough : (links : List Link) (small : Set) → IsWithin small set → IsChain shown t small links →

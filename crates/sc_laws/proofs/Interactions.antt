@@ -11,7 +11,7 @@ use Rattle.sc_core.specs.Words.{State, Here, Piece, Reached, Stopped, and_then, 
 use Rattle.sc_core.proofs.Induction.{Each}
 use Rattle.sc_laws.specs.Growth.{Grown, Gone, Goes}
 use Rattle.sc_laws.specs.Interactions.{Interaction, Gives, Blames, Reads, Stores, Spends, Asks, Halts, played, Lasts, Doing, GoFrom, Plays, Alike, Match}
-use Rattle.sc_laws.proofs.Growing.{same, stays, no_turn, earlier, then_goes, turn_goes}
+use Rattle.sc_laws.proofs.Growing.{same, stays, no_turn, earlier, then_goes, turn_goes, then_then}
 use Rattle.sc_laws.proofs.Expressions.{Keeps, alike, blamed}
 
 -- ONE TREE AFTER ANOTHER
@@ -23,11 +23,6 @@ bind (Stores blocks go) next = Stores blocks (bind go next)
 bind (Spends go) next = Spends (bind go next)
 bind (Asks target args go) next = Asks target args (λ v. bind (go v) next)
 bind Halts next = Halts
-
-then_then : {U V W : Type 0} (o : Piece U) (k : U → State → Piece V) (l : V → State → Piece W) →
-    and_then (and_then o k) l ≡ and_then o (λ u s. and_then (k u s) l)
-then_then (Reached v s) k l = refl
-then_then (Stopped end s) k l = refl
 
 then_same : {V W : Type 0} (s : State) (o : Piece V) → Gone s o → (k l : V → State → Piece W) →
     ((v : V) (t : State) → Grown s t → k v t ≡ l v t) → and_then o k ≡ and_then o l

@@ -54,7 +54,8 @@ module _ (interfaces : Interfaces) where
         more : (is_allowed interfaces a x ≡ true) × (is_legal_from interfaces (stands_after a x) t ≡ true) →
             (is_legal_from interfaces (stands_after a x) t ≡ true → is_legal_from interfaces (stands_after a x)
             (t ++ e ∷ []) ≡ true) → is_legal_from interfaces (Some a) (x ∷ t ++ e ∷ []) ≡ true
-        more p rest = and_from (is_allowed interfaces a x) (is_legal_from interfaces (stands_after a x) (t ++ e ∷ [])) p.0
+        more p rest = and_from (is_allowed interfaces a x) (is_legal_from interfaces (stands_after a x) (t ++ e ∷ []))
+            p.0
             (rest p.1)
 
   legal_take : (n : ℕ) (at : Option Standing) (t : List Event) → is_legal_from interfaces at t ≡ true →
@@ -66,7 +67,8 @@ module _ (interfaces : Interfaces) where
       first (and_parts (is_allowed interfaces a x) (is_legal_from interfaces (stands_after a x) t) l)
       (λ k. legal_take n (stands_after a x) t k) where
         first : (is_allowed interfaces a x ≡ true) × (is_legal_from interfaces (stands_after a x) t ≡ true) →
-            (is_legal_from interfaces (stands_after a x) t ≡ true → is_legal_from interfaces (stands_after a x) (take n t)
+            (is_legal_from interfaces (stands_after a x) t ≡ true → is_legal_from interfaces (stands_after a x)
+            (take n t)
             ≡ true) → is_legal_from interfaces (Some a) (x ∷ take n t) ≡ true
         first p rest = and_from (is_allowed interfaces a x) (is_legal_from interfaces (stands_after a x) (take n t)) p.0
             (rest p.1)
@@ -271,7 +273,8 @@ module _ (interfaces : Interfaces) where
           by_action (act.Ret v) next = record { after = h }
           by_action (act.Out w) next =
               then_kept (standing st) (asks library body here.comp Output (Word w ∷ []) s)
-              (λ v s. performs library body rest number here s) (asks_at library same body legal_body st here.comp Output
+              (λ v s. performs library body rest number here s) (asks_at library same body legal_body st here.comp
+              Output
               (Word w ∷ []) s is h) (λ v s h. next s h)
           by_action (act.In w) next =
               then_kept (standing st) (asks library body here.comp Input [] s) (λ v s. performs library body rest number

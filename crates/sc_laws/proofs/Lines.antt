@@ -41,8 +41,7 @@ use Rattle.sc_core.proofs.Induction.{Each, everywhere, Inside, stmt_induction}
 use Rattle.sc_laws.specs.Agreement.{PiecesAgree, CallsAgree, FunctionsAgree, LibrariesAgree, OtherLinesAgree, RunsAgree}
 use Rattle.sc_laws.specs.Lines.{simple_lined, layer_lined, stmt_lined, local_lined, function_lined, section_lined, program_lined}
 use Rattle.sc_laws.proofs.Agreement.{itself, then_agree, agreeing_run_alike}
-use Rattle.sc_laws.proofs.Programs.{meets_at, lists_at}
-use Rattle.sc_laws.proofs.Programs.{Each as Pairs}
+use Rattle.sc_laws.proofs.Programs.{Pairs, meets_at, lists_at}
 
 -- WORDS
 computed_agree : {V : Type 0} (here : Here) (line other : ℕ) (r : Result V Cause) (s : State) →

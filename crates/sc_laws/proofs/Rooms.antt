@@ -34,7 +34,8 @@ room_append : (comp room : ℕ) (xs ys : List FrameChange) →
 room_append comp room [] ys = refl
 room_append comp room (Opened told c more ∷ xs) ys =
     by (c == comp) (room_append comp (room + more) xs ys) (room_append comp room xs ys) where
-      by : (b : Bool) → room_after comp (room + more) (xs ++ ys) ≡ room_after comp (room_after comp (room + more) xs) ys →
+      by : (b : Bool) → room_after comp (room + more) (xs ++ ys) ≡ room_after comp (room_after comp (room + more) xs)
+          ys →
           room_after comp room (xs ++ ys) ≡ room_after comp (room_after comp room xs) ys
           → (if b then room_after comp (room + more) (xs ++ ys) else room_after comp room (xs ++ ys))
           ≡ room_after comp (if b then room_after comp (room + more) xs else room_after comp room xs) ys
@@ -42,7 +43,8 @@ room_append comp room (Opened told c more ∷ xs) ys =
       by false h k = k
 room_append comp room (Closed told c less ∷ xs) ys =
     by (c == comp) (room_append comp (room - less) xs ys) (room_append comp room xs ys) where
-      by : (b : Bool) → room_after comp (room - less) (xs ++ ys) ≡ room_after comp (room_after comp (room - less) xs) ys →
+      by : (b : Bool) → room_after comp (room - less) (xs ++ ys) ≡ room_after comp (room_after comp (room - less) xs)
+          ys →
           room_after comp room (xs ++ ys) ≡ room_after comp (room_after comp room xs) ys
           → (if b then room_after comp (room - less) (xs ++ ys) else room_after comp room (xs ++ ys))
           ≡ room_after comp (if b then room_after comp (room - less) xs else room_after comp room xs) ys
@@ -277,7 +279,8 @@ module _ (library : Library) (body : Body) (notes : BodyNotes body) (rooms : Roo
   performs_note [] number here s h = record { after = h.told }
   performs_note (row ∷ rest) number here s h =
       by (performs_note rest number here) (is_number number (library.entered here.comp row.entry)) where
-        by : ((s : State) → Noted rooms s → Kept (noting rooms) (performs library body rest number here s)) → (b : Bool) →
+        by : ((s : State) → Noted rooms s → Kept (noting rooms) (performs library body rest number here s)) →
+            (b : Bool) →
             Kept (noting rooms) (if b then acts library body row.action (performs library body rest number here)
             (body number here) here.comp s else Stopped TurnsOut s)
         by next true = acts_note row.action (performs library body rest number here) (body number here) next

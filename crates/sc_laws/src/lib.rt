@@ -1,4 +1,4 @@
-//! Laws of the source meaning: what holds of every program, whatever it does.
+//! Laws of the meaning: what holds of every library of functions, whatever they are written in, and so of every program.
 #![tactic(auto)]
 
 mod laws;
