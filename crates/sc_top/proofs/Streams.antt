@@ -3,7 +3,8 @@ use Rattle.std.proofs.Common.{◌≡◌, ℕ, ◌+◌, ◌-◌, ◌≤◌, inl, 
 use Rattle.std.proofs.lemmas.List.{append-nil, take-append-drop, take_all, take_rest}
 use Rattle.std.proofs.Math.Seq.{take-add}
 use Rattle.sc_edge.specs.Edge.{Rose, Takes, Adds, IsAtEnd}
-use Rattle.sc_top.specs.Answer.{Fetches, Tells}
+use Rattle.sc_top.specs.Answer.{Tells}
+use Rattle.sc_top.specs.Fetching.{Fetches}
 
 -- a count that rose later has risen
 pub rose_since : (before then_ after : ℕ) → before ≤ then_ → Rose then_ after → Rose before after
@@ -46,11 +47,15 @@ more_taken most a b c f g h text more so_far taken within counted =
 -- at the end of the input all was read
 pub all_taken : (limit : ℕ) (a b c : Option (List ℕ)) (f g : ℕ) (text : List ℕ) → HasTaken (limit + 1) a b f g text → Takes b c [] → IsAtEnd c → Fetches limit a c text
 all_taken limit a b c f g text so_far taken ended =
-    record { taken = subst (Takes a c) (append-nil text) (Takes-more a b c text [] so_far.taken taken); ended = λ _. ended }
+    record {
+      taken = subst (Takes a c) (append-nil text) (Takes-more a b c text [] so_far.taken taken);
+      few = so_far.within;
+      ended = λ _. ended;
+    }
 
 -- past the limit nothing is said of the rest
 pub enough_taken : (limit : ℕ) (a b : Option (List ℕ)) (f g : ℕ) (text : List ℕ) → HasTaken (limit + 1) a b f g text → limit + 1 ≤ length text → Fetches limit a b text
-enough_taken limit a b f g text so_far long = record { taken = so_far.taken; ended = λ short. absurd (omega arith) }
+enough_taken limit a b f g text so_far long = record { taken = so_far.taken; few = so_far.within; ended = λ short. absurd (omega arith) }
 
 -- so many of the bytes were written
 pub record HasAdded (bytes : List ℕ) (written written' : Option (List ℕ)) (faults faults' count : ℕ) : Type 0 where
