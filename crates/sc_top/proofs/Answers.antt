@@ -1,9 +1,10 @@
 -- What an answer says, from what was read.
-use Rattle.std.proofs.Common.{◌≡◌, ℕ, ◌+◌, ◌≤◌, ◌⊎◌, inl, inr, List, [], ◌++◌, length, Option, None, Some, true, IsTrue, refl, sym, ap, ◌∙◌, subst, arith, length-append, ⊎_elim}
+use Rattle.std.proofs.Common.{◌≡◌, ℕ, ◌+◌, ◌≤◌, ◌⊎◌, inl, inr, List, [], ◌++◌, length, Option, None, Some, Result, true, IsTrue, refl, sym, ap, ◌∙◌, subst, arith, length-append, ⊎_elim}
 use Rattle.std.proofs.lemmas.Bool.{false≢true}
 use Rattle.std.proofs.lemmas.List.{append-nil}
 use Rattle.std.proofs.lemmas.Option.{none-some}
 use Rattle.std.specs.Option.{option_map}
+use Rattle.std.specs.Prelude.{IsErrOf}
 use Rattle.sc_lex.specs.declared.refusal.Refusal.{Refusal}
 use Rattle.sc_lex.specs.declared.refusal.Phase.{Phase}
 use Rattle.sc_lex.specs.declared.refusal.Phase.TheVariants.{Syntax}
@@ -16,8 +17,6 @@ use Rattle.sc_edge.specs.Edge.{Rose, Takes, Adds}
 use Rattle.sc_types.specs.Acceptance.{Accepts, Fails}
 use Rattle.sc_words.specs.declared.command.Command.{Command}
 use Rattle.sc_words.specs.declared.command.Command.TheVariants.{Check, Meaning, Compile, Run, Exec, Explain, Make}
-use Rattle.sc_words.specs.declared.fault.WordsFault.{WordsFault}
-use Rattle.sc_words.specs.declared.fault.WordsFault.TheVariants as words
 use Rattle.sc_top.specs.declared.failure.Failure.{Failure}
 use Rattle.sc_top.specs.declared.failure.Failure.TheVariants as failure
 use Rattle.sc_top.specs.declared.status.Status.{Status}
@@ -25,50 +24,14 @@ use Rattle.sc_top.specs.declared.status.Status.TheVariants as status
 use Rattle.sc_top.specs.declared.status.TooLarge.{TooLarge}
 use Rattle.sc_top.specs.Answer.{Traffic, IsWhole, IsLonger, IsInput, HasRead, HasWritten, HasBegun, Refuses, cause_in, FindsBad, IsUnfit, IsBeyond, GivesUp, Says, IsUndisturbed, IsWithinLimit, IsWithin, IsAnswer, IsGood, Tells, Answers, SameAnswer}
 use Rattle.sc_top.specs.Command.{limit_of}
-use Rattle.sc_top.specs.Failure.{of_words_fault, status_of, IsInputCause, IsOutputCause}
+use Rattle.sc_top.specs.Failure.{status_by}
 use Rattle.sc_top.specs.Output.{compiles, HasImage, IsTextOutput, IsOutput}
 use Rattle.sc_top.specs.Sizes.{too_large}
 use Rattle.sc_top.proofs.Lengths.{image_is_short}
 
--- What was answered, from the parts.
-
-pub words_say : (asked : Option Command) (fault : WordsFault) (c : Command) (t : Traffic) → (fault ≡ words.Usage → asked ≡ None) → asked ≡ Some c → Says c t (status_of (of_words_fault fault))
-words_say asked words.Usage c t usage is = none-some c (sym (usage refl) ∙ is)
-words_say asked words.OutOfMemory c t usage is = tt
-
-pub input_says : (c : Command) (t : Traffic) (f : Failure) → IsInputCause (limit_of c) t.left t.left_after t.read_faults t.read_faults_after f → Says c t (status_of f)
-input_says c t failure.Usage why = absurd why
-input_says c t (failure.Refused refusal) why = absurd why
-input_says c t (failure.TooLarge fault) why = absurd why
-input_says c t (failure.TooLong limit) why = why
-input_says c t (failure.BadImage cause) why = absurd why
-input_says c t failure.ReadFault why = why
-input_says c t failure.WriteFault why = absurd why
-input_says c t failure.OutOfMemory why = tt
-input_says c t failure.NotBuilt why = absurd why
-
-pub output_says : (c : Command) (t : Traffic) (bytes : List ℕ) (f : Failure) → IsInput (limit_of c) t.left t.left_after bytes → IsOutputCause c bytes f → Says c t (status_of f)
-output_says c t bytes failure.Usage input why = absurd why
-output_says c t bytes (failure.Refused refusal) input why = record { bytes = bytes; input = input; holds = why }
-output_says c t bytes (failure.TooLarge fault) input why = record { bytes = bytes; input = input; holds = why }
-output_says c t bytes (failure.TooLong limit) input why = absurd why
-output_says c t bytes (failure.BadImage cause) input why = record { bytes = bytes; input = input; holds = why }
-output_says c t bytes failure.ReadFault input why = absurd why
-output_says c t bytes failure.WriteFault input why = absurd why
-output_says c t bytes failure.OutOfMemory input why = tt
-output_says c t bytes failure.NotBuilt input why = record { bytes = bytes; input = input; holds = why }
-
-pub written_says : (c : Command) (t : Traffic) (bytes text : List ℕ) → IsInput (limit_of c) t.left t.left_after bytes → IsOutput c bytes text → Adds t.written t.written_after text → Says c t status.Done
-written_says c t bytes text input output added =
-    record { bytes = bytes; input = input; holds = record { text = text; output = output; whole = added } }
-
-pub begun_says : (c : Command) (t : Traffic) (bytes text : List ℕ) → IsInput (limit_of c) t.left t.left_after bytes → IsOutput c bytes text → Tells text t.written t.written_after t.write_faults t.write_faults_after → Rose t.write_faults t.write_faults_after → Says c t status.WriteFault
-begun_says c t bytes text input output told rose =
-    (rose, record { bytes = bytes; input = input; holds = record { text = text; front = told.front; output = output; begins = told.begins; part = told.part } })
-
--- the command that was asked for is the one that was read
-pub same_command : (asked : Option Command) (c d : Command) → asked ≡ Some d → asked ≡ Some c → d ≡ c
-same_command asked c d is as = let p : ◌≡◌ {A = Option Command} (Some d) (Some c) = sym is ∙ as in cc p
+-- words that are no command are answered so
+pub no_command_by : {A : Type 0} (r : Result A Failure) → IsErrOf r failure.Usage ⊎ IsErrOf r failure.OutOfMemory → (status_by r ≡ status.Usage) ⊎ (status_by r ≡ status.OutOfMemory)
+no_command_by r h = ⊎_elim (λ e. inl (ap status_by e)) (λ e. inr (ap status_by e)) h
 
 -- The one answer.
 
@@ -100,18 +63,18 @@ record Reads (c : Command) : Type 0 where
   pub bad : (bytes : List ℕ) (cause : ℕ) → FindsBad c bytes cause → ⊥
 
 reads_nothing : (c : Command) → limit_of c ≡ None → Reads c
-reads_nothing Check none = none-some 8388608 (sym none)
-reads_nothing (Meaning options) none = none-some 8388608 (sym none)
-reads_nothing Compile none = none-some 1048576 (sym none)
-reads_nothing (Run options) none = none-some 1048576 (sym none)
-reads_nothing (Explain options show) none = none-some 1048576 (sym none)
-reads_nothing (Exec options) none = none-some 67108864 (sym none)
+reads_nothing Check none = absurd (none-some 8388608 (sym none))
+reads_nothing (Meaning options) none = absurd (none-some 8388608 (sym none))
+reads_nothing Compile none = absurd (none-some 1048576 (sym none))
+reads_nothing (Run options) none = absurd (none-some 1048576 (sym none))
+reads_nothing (Explain options show) none = absurd (none-some 1048576 (sym none))
+reads_nothing (Exec options) none = absurd (none-some 67108864 (sym none))
 reads_nothing (Make options) none =
     record { output = λ bytes text o. o; refuses = λ bytes r h. h; unfit = λ bytes fault u. false≢true u.compiled; bad = λ bytes cause h. h }
 
 within_none : (limit : Option ℕ) (text : List ℕ) → limit ≡ None → IsWithinLimit limit text
 within_none None text none = tt
-within_none (Some limit) text none = none-some limit (sym none)
+within_none (Some limit) text none = absurd (none-some limit (sym none))
 
 -- what held of the bytes that were read holds of the text
 read_at : (c : Command) (text : List ℕ) (after : Option (List ℕ)) (bytes : List ℕ) (Q : List ℕ → Type 0) → IsInput (limit_of c) (Some text) after bytes → Q bytes
@@ -154,10 +117,10 @@ answered c t text s says is calm = go s says where
 
 -- a thin text is within the limit of each command that compiles
 pub thin_within : (c : Command) (text : List ℕ) (image : ImageParts) → IsTrue (compiles c) → HasImage text image → IsWithin c text
-thin_within Check text image compiled has = false≢true compiled
-thin_within (Meaning options) text image compiled has = false≢true compiled
-thin_within (Exec options) text image compiled has = false≢true compiled
-thin_within (Make options) text image compiled has = false≢true compiled
+thin_within Check text image compiled has = absurd (false≢true compiled)
+thin_within (Meaning options) text image compiled has = absurd (false≢true compiled)
+thin_within (Exec options) text image compiled has = absurd (false≢true compiled)
+thin_within (Make options) text image compiled has = absurd (false≢true compiled)
 thin_within Compile text image compiled has = let short = has.spelled.short in omega (arith, short)
 thin_within (Run options) text image compiled has = let short = has.spelled.short in omega (arith, short)
 thin_within (Explain options show) text image compiled has = let short = has.spelled.short in omega (arith, short)
@@ -198,19 +161,19 @@ record OfImage (c : Command) (bytes : List ℕ) : Type 0 where
   pub reads : limit_of c ≡ None → ⊥
 
 data Sort (c : Command) (bytes : List ℕ) : Type 0 where
-  text : OfText c bytes → Sort c bytes
-  image : OfImage c bytes → Sort c bytes
-  nothing : Reads c → (IsTrue (compiles c) → ⊥) → Sort c bytes
+  takes_text : OfText c bytes → Sort c bytes
+  takes_image : OfImage c bytes → Sort c bytes
+  takes_nothing : Reads c → (IsTrue (compiles c) → ⊥) → Sort c bytes
 
 sort : (c : Command) (bytes : List ℕ) → Sort c bytes
-sort Check bytes = text (record { output = λ out o. o; refuses = λ r f. f; good = λ cause b. b; reads = λ none. none-some 8388608 (sym none) })
-sort (Meaning options) bytes = text (record { output = λ out o. o; refuses = λ r f. f; good = λ cause b. b; reads = λ none. none-some 8388608 (sym none) })
-sort Compile bytes = text (record { output = λ out o. o; refuses = λ r f. f; good = λ cause b. b; reads = λ none. none-some 1048576 (sym none) })
-sort (Run options) bytes = text (record { output = λ out o. o; refuses = λ r f. f; good = λ cause b. b; reads = λ none. none-some 1048576 (sym none) })
-sort (Explain options show) bytes = text (record { output = λ out o. o; refuses = λ r f. f; good = λ cause b. b; reads = λ none. none-some 1048576 (sym none) })
+sort Check bytes = takes_text (record { output = λ out o. o; refuses = λ r f. f; good = λ cause b. b; reads = λ none. none-some 8388608 (sym none) })
+sort (Meaning options) bytes = takes_text (record { output = λ out o. o; refuses = λ r f. f; good = λ cause b. b; reads = λ none. none-some 8388608 (sym none) })
+sort Compile bytes = takes_text (record { output = λ out o. o; refuses = λ r f. f; good = λ cause b. b; reads = λ none. none-some 1048576 (sym none) })
+sort (Run options) bytes = takes_text (record { output = λ out o. o; refuses = λ r f. f; good = λ cause b. b; reads = λ none. none-some 1048576 (sym none) })
+sort (Explain options show) bytes = takes_text (record { output = λ out o. o; refuses = λ r f. f; good = λ cause b. b; reads = λ none. none-some 1048576 (sym none) })
 sort (Exec options) bytes =
-    image (record { output = λ out o. o.read; refuses = λ r f. f; bad = λ cause b. b; compiles = λ h. false≢true h; reads = λ none. none-some 67108864 (sym none) })
-sort (Make options) bytes = nothing (reads_nothing (Make options) refl) (λ h. false≢true h)
+    takes_image (record { output = λ out o. o.read; refuses = λ r f. f; bad = λ cause b. b; compiles = λ h. false≢true h; reads = λ none. none-some 67108864 (sym none) })
+sort (Make options) bytes = takes_nothing (reads_nothing (Make options) refl) (λ h. false≢true h)
 
 module _ (accepted_or_refused : (text : List ℕ) (program : ProgramTree) (phase : Phase) (line : ℕ) → Accepts text program → Fails text phase line → ⊥)
     (one_phase : (text : List ℕ) (phase other : Phase) (line later : ℕ) → Fails text phase line → Fails text other later → (phase ≡ other) × ((phase ≡ Syntax → ⊥) → line ≡ later))
@@ -244,66 +207,66 @@ module _ (accepted_or_refused : (text : List ℕ) (program : ProgramTree) (phase
   sound_output : (c : Command) (text out : List ℕ) → IsOutput c text out → Sound c text
   sound_output c text out o = go (sort c text) where
     go : Sort c text → Sound c text
-    go (text of) = let d = of.output out o in sound_text c _ of d.program d.image d.accepted d.compiled
-    go (image of) = sound_image c _ of (of.output out o)
-    go (nothing reads compiles) = absurd (reads.output _ out o)
+    go (takes_text of) = let d = of.output out o in sound_text c _ of d.program d.image d.accepted d.compiled
+    go (takes_image of) = sound_image c _ of (of.output out o)
+    go (takes_nothing reads plain) = absurd (reads.output _ out o)
 
   one_refusal : (c : Command) (text : List ℕ) (r q : Refusal) → Refuses c text r → Refuses c text q → SameAnswer (status.Refused r) (status.Refused q)
   one_refusal c text r q f g = go (sort c text) where
     go : Sort c text → SameAnswer (status.Refused r) (status.Refused q)
-    go (text of) = one_phase _ r.phase q.phase r.line q.line (of.refuses r f) (of.refuses q g)
-    go (image of) = absurd (of.refuses r f)
-    go (nothing reads compiles) = absurd (reads.refuses _ r f)
+    go (takes_text of) = one_phase _ r.phase q.phase r.line q.line (of.refuses r f) (of.refuses q g)
+    go (takes_image of) = absurd (of.refuses r f)
+    go (takes_nothing reads plain) = absurd (reads.refuses _ r f)
 
   one_cause : (c : Command) (bytes : List ℕ) (n m : ℕ) → FindsBad c bytes n → FindsBad c bytes m → n ≡ m
   one_cause c bytes n m a b = go (sort c bytes) where
     go : Sort c bytes → n ≡ m
-    go (text of) = absurd (of.good n a)
-    go (image of) = same_some (cause_in bytes) n m (of.bad n a) (of.bad m b)
-    go (nothing reads compiles) = absurd (reads.bad _ n a)
+    go (takes_text of) = absurd (of.good n a)
+    go (takes_image of) = same_some (cause_in bytes) n m (of.bad n a) (of.bad m b)
+    go (takes_nothing reads plain) = absurd (reads.bad _ n a)
 
   -- a refused text isn't accepted, and bytes that are taken for an image are no text
   refused_unfit : (c : Command) (text : List ℕ) (r : Refusal) (fault : TooLarge) → Refuses c text r → IsUnfit c text fault → ⊥
   refused_unfit c text r fault f u = go (sort c text) where
     go : Sort c text → ⊥
-    go (text of) = accepted_or_refused _ u.program r.phase r.line u.accepted (of.refuses r f)
-    go (image of) = of.refuses r f
-    go (nothing reads compiles) = reads.refuses _ r f
+    go (takes_text of) = accepted_or_refused _ u.program r.phase r.line u.accepted (of.refuses r f)
+    go (takes_image of) = of.refuses r f
+    go (takes_nothing reads plain) = reads.refuses _ r f
 
   refused_bad : (c : Command) (text : List ℕ) (r : Refusal) (cause : ℕ) → Refuses c text r → FindsBad c text cause → ⊥
   refused_bad c text r cause f b = go (sort c text) where
     go : Sort c text → ⊥
-    go (text of) = of.good cause b
-    go (image of) = of.refuses r f
-    go (nothing reads compiles) = reads.refuses _ r f
+    go (takes_text of) = of.good cause b
+    go (takes_image of) = of.refuses r f
+    go (takes_nothing reads plain) = reads.refuses _ r f
 
   refused_beyond : (c : Command) (text : List ℕ) (r : Refusal) → Refuses c text r → GivesUp c text → ⊥
   refused_beyond c text r f g = go (sort c text) where
     go : Sort c text → ⊥
-    go (text of) = ⊎_elim of.reads (λ b. accepted_or_refused _ b.program r.phase r.line b.accepted (of.refuses r f)) g
-    go (image of) = of.refuses r f
-    go (nothing reads compiles) = reads.refuses _ r f
+    go (takes_text of) = ⊎_elim of.reads (λ b. accepted_or_refused _ b.program r.phase r.line b.accepted (of.refuses r f)) g
+    go (takes_image of) = of.refuses r f
+    go (takes_nothing reads plain) = reads.refuses _ r f
 
   unfit_bad : (c : Command) (text : List ℕ) (fault : TooLarge) (cause : ℕ) → IsUnfit c text fault → FindsBad c text cause → ⊥
   unfit_bad c text fault cause u b = go (sort c text) where
     go : Sort c text → ⊥
-    go (text of) = of.good cause b
-    go (image of) = of.compiles u.compiled
-    go (nothing reads compiles) = compiles u.compiled
+    go (takes_text of) = of.good cause b
+    go (takes_image of) = of.compiles u.compiled
+    go (takes_nothing reads plain) = plain u.compiled
 
   unfit_beyond : (c : Command) (text : List ℕ) (fault : TooLarge) → IsUnfit c text fault → GivesUp c text → ⊥
   unfit_beyond c text fault u g = go (sort c text) where
     go : Sort c text → ⊥
-    go (text of) = ⊎_elim of.reads u.built g
-    go (image of) = of.compiles u.compiled
-    go (nothing reads compiles) = compiles u.compiled
+    go (takes_text of) = ⊎_elim of.reads u.built g
+    go (takes_image of) = of.compiles u.compiled
+    go (takes_nothing reads plain) = plain u.compiled
 
   bad_beyond : (c : Command) (text : List ℕ) (cause : ℕ) → FindsBad c text cause → GivesUp c text → ⊥
   bad_beyond c text cause b g = go (sort c text) where
     go : Sort c text → ⊥
-    go (text of) = of.good cause b
-    go (image of) = ⊎_elim of.reads (λ b. of.compiles b.compiled) g
-    go (nothing reads compiles) = reads.bad _ cause b
+    go (takes_text of) = of.good cause b
+    go (takes_image of) = ⊎_elim of.reads (λ b. of.compiles b.compiled) g
+    go (takes_nothing reads plain) = reads.bad _ cause b
 
   one_unfit : (c : Command) (text : List ℕ) (fault other : TooLarge) → IsUnfit c text fault → IsUnfit c text other → fault ≡ other
   one_unfit c text fault other u v =
@@ -404,7 +367,7 @@ module _ (accepted_or_refused : (text : List ℕ) (program : ProgramTree) (phase
       ⊎_elim (λ answer. inl (only_done c text s (good_is_sound c text good) within answer)) inr (answered c t text s says is calm)
 
   -- all that an answer says
-  pub answers_all : (asked : Option Command) (t : Traffic) (s : Status) → (asked ≡ None → (s ≡ status.Usage) ⊎ (s ≡ status.OutOfMemory)) → ((c : Command) → asked ≡ Some c → Says c t s) → Answers asked t s
+  answers_all : (asked : Option Command) (t : Traffic) (s : Status) → (asked ≡ None → (s ≡ status.Usage) ⊎ (s ≡ status.OutOfMemory)) → ((c : Command) → asked ≡ Some c → Says c t s) → Answers asked t s
   answers_all asked t s no_command says =
       record {
         no_command = no_command;
@@ -412,3 +375,8 @@ module _ (accepted_or_refused : (text : List ℕ) (program : ProgramTree) (phase
         answered = λ c bytes is left calm. answered c t bytes s (says c is) left calm;
         complete = λ c bytes is left calm within good. completed c t bytes s (says c is) left calm within good;
       }
+
+  -- the same of the call that gives the status
+  pub answers_by : {A : Type 0} (asked : Option Command) (t : Traffic) (r : Result A Failure) (s : Status) → s ≡ status_by r → (asked ≡ None → IsErrOf r failure.Usage ⊎ IsErrOf r failure.OutOfMemory) → ((c : Command) → asked ≡ Some c → Says c t (status_by r)) → Answers asked t s
+  answers_by asked t r s is no_command says =
+      subst (Answers asked t) (sym is) (answers_all asked t (status_by r) (λ none. no_command_by r (no_command none)) says)

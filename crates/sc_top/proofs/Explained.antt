@@ -1,5 +1,5 @@
 -- What holds of a thin text: its program, what its machine shows, and that its output is one.
-use Rattle.std.proofs.Common.{◌≡◌, ℕ, suc, ◌+◌, ◌<◌, ◌≤◌, List, [], ◌∷◌, ◌++◌, Option, Some, None, true, IsTrue, map, length, refl, sym, ap, ap₂, ◌∙◌, subst, arith, length-append}
+use Rattle.std.proofs.Common.{◌≡◌, ℕ, suc, ◌+◌, ◌<◌, ◌≤◌, inr, List, [], ◌∷◌, ◌++◌, Option, Some, None, true, false, IsTrue, map, length, refl, sym, ap, ap₂, ◌∙◌, subst, arith, length-append}
 use Rattle.std.specs.Prelude.{nat_lt, if◌then◌else◌}
 use Rattle.std.proofs.lemmas.Bool.{false≢true}
 use Rattle.std.proofs.lemmas.Bool.Decides.{nat_tests}
@@ -18,13 +18,18 @@ use Rattle.sc_image.specs.declared.parts.ImageParts.{ImageParts}
 use Rattle.sc_image.specs.Interfaces.{interfaces_of}
 use Rattle.sc_image.specs.Bytes.{image_bytes}
 use Rattle.sc_image.specs.RoundTrip.{BytesNameOneImage}
-use Rattle.sc_types.specs.Acceptance.{Accepts}
+use Rattle.sc_lex.specs.declared.refusal.Refusal.{Refusal}
+use Rattle.sc_types.specs.Acceptance.{Accepts, Fails}
 use Rattle.sc_words.specs.declared.command.Command.{Command}
 use Rattle.sc_words.specs.declared.command.Command.TheVariants as commands
 use Rattle.sc_words.specs.declared.command.RunOptions.{RunOptions}
 use Rattle.sc_top.specs.Names.{thin_interfaces}
 use Rattle.sc_top.specs.Output.{shown, machine_text, compiles, HasImage, output, IsAccounted, IsTextOutput, IsExecuted, IsOutput}
-use Rattle.sc_top.specs.Texts.{IsThinText, IsThinMeant}
+use Rattle.sc_top.specs.declared.failure.Failure.{Failure}
+use Rattle.sc_top.specs.declared.failure.Failure.TheVariants as failure
+use Rattle.sc_top.specs.Answer.{Refuses}
+use Rattle.sc_top.specs.Failure.{IsOutputCause}
+use Rattle.sc_top.specs.Texts.{IsThinText, IsThinReading, IsThinMeant}
 use Rattle.sc_top.specs.Thin.{IsThin}
 use Rattle.sc_top.specs.ThinMeaning.{IsThinProgram}
 
@@ -41,15 +46,32 @@ accounted options bytes program thin show is meant =
     let n = length (shown options (thin_image thin)).state.trace in
     ap (λ run. run.trace) (is.same.means (map word_of options.inputs) options.steps n) ∙ meant
 
+-- the image that stands where a command compiles none
+pub no_image : ImageParts
+no_image = thin_image (record { outputs = []; result = 0 })
+
 -- the output of a command that compiles nothing
-pub plain_output : (command : Command) (bytes text : List ℕ) (program : ProgramTree) (image : ImageParts) → (IsTrue (compiles command) → ⊥) → Accepts bytes program → text ≡ output command bytes program image → IsAccounted command program image → IsTextOutput command bytes text
-plain_output command bytes text program image plain accepted written accounted_ =
-    record { program = program; image = image; accepted = accepted; compiled = λ is. absurd (plain is); written = written; accounted = accounted_ }
+pub plain_output : (command : Command) (bytes text : List ℕ) (program : ProgramTree) → (IsTrue (compiles command) → ⊥) → Accepts bytes program → text ≡ output command bytes program no_image → IsAccounted command program no_image → IsTextOutput command bytes text
+plain_output command bytes text program plain accepted written accounted_ =
+    record { program = program; image = no_image; accepted = accepted; compiled = λ is. absurd (plain is); written = written; accounted = accounted_ }
 
 -- the output of a command that compiles, for a thin text
 pub thin_output : (command : Command) (bytes text : List ℕ) (program : ProgramTree) (thin : ThinProgram) → IsThinText bytes program thin → text ≡ output command bytes program (thin_image thin) → IsAccounted command program (thin_image thin) → IsTextOutput command bytes text
 thin_output command bytes text program thin is written accounted_ =
     record { program = program; image = thin_image thin; accepted = is.accepted; compiled = λ _. has_image bytes program thin is; written = written; accounted = accounted_ }
+
+-- why a text isn't read as a thin program is why a command that compiles has no output for it
+pub thin_cause : (command : Command) (bytes : List ℕ) (f : Failure) → IsTrue (compiles command) → ((r : Refusal) → Fails bytes r.phase r.line → Refuses command bytes r) → IsThinReading bytes f → IsOutputCause command bytes f
+thin_cause command bytes failure.Usage compiled refused why = why
+thin_cause command bytes (failure.Refused refusal) compiled refused why = refused refusal why
+thin_cause command bytes (failure.TooLarge fault) compiled refused why = absurd why
+thin_cause command bytes (failure.TooLong limit) compiled refused why = why
+thin_cause command bytes (failure.BadImage cause) compiled refused why = absurd why
+thin_cause command bytes failure.ReadFault compiled refused why = why
+thin_cause command bytes failure.WriteFault compiled refused why = why
+thin_cause command bytes failure.OutOfMemory compiled refused why = tt
+thin_cause command bytes failure.NotBuilt compiled refused why =
+    inr (record { compiled = compiled; program = why.program; accepted = why.accepted; imageless = λ image has. why.thick has.thin has.spelled })
 
 -- A thin program is known by what it means.
 
@@ -73,9 +95,9 @@ same_thin a b is =
     ap₂ (λ o r. record { outputs = o; result = r }) parts.0 parts.1
 
 one_thin : (program : ProgramTree) (a b : ThinProgram) → IsThinProgram program a → IsThinProgram program b → a ≡ b
-one_thin program a b is as =
+one_thin program a b is known =
     let n = suc (length (whole_run a).trace + length (whole_run b).trace) in
-    same_thin a b (sym (whole n a (omega arith)) ∙ (sym (is.means [] 0 n) ∙ (as.means [] 0 n ∙ whole n b (omega arith))))
+    same_thin a b (sym (whole n a (omega arith)) ∙ (sym (is.means [] 0 n) ∙ (known.means [] 0 n ∙ whole n b (omega arith))))
 
 module _ (thin_texts_are_accepted : (text : List ℕ) (thin : ThinProgram) → IsThin text thin → (program : ProgramTree) × Accepts text program × IsThinProgram program thin)
     (one_program : (text : List ℕ) (program other : ProgramTree) → Accepts text program → Accepts text other → program ≡ other) where
@@ -86,10 +108,10 @@ module _ (thin_texts_are_accepted : (text : List ℕ) (thin : ThinProgram) → I
       record { accepted = accepted; spelled = spelled; same = subst (λ p. IsThinProgram p thin) (one_program bytes found.0 program found.1 accepted) found.2 }
 
   one_image : (bytes : List ℕ) (program : ProgramTree) (one other : ImageParts) → Accepts bytes program → HasImage bytes one → HasImage bytes other → one ≡ other
-  one_image bytes program one other accepted is as =
+  one_image bytes program one other accepted is known =
       let here = thin_program bytes program is.thin accepted is.spelled in
-      let there = thin_program bytes program as.thin accepted as.spelled in
-      is.compiled ∙ (ap thin_image (one_thin program is.thin as.thin here.same there.same) ∙ sym as.compiled)
+      let there = thin_program bytes program known.thin accepted known.spelled in
+      is.compiled ∙ (ap thin_image (one_thin program is.thin known.thin here.same there.same) ∙ sym known.compiled)
 
   -- what is written depends on the image of a command that compiles alone
   same_output : (command : Command) (bytes : List ℕ) (program : ProgramTree) (one other : ImageParts) → (IsTrue (compiles command) → one ≡ other) → output command bytes program one ≡ output command bytes program other
@@ -102,22 +124,22 @@ module _ (thin_texts_are_accepted : (text : List ℕ) (thin : ThinProgram) → I
   same_output (commands.Make options) bytes program one other same = refl
 
   one_text : (command : Command) (bytes text other : List ℕ) → IsTextOutput command bytes text → IsTextOutput command bytes other → text ≡ other
-  one_text command bytes text other is as =
-      let program = one_program bytes is.program as.program is.accepted as.accepted in
-      let image : IsTrue (compiles command) → is.image ≡ as.image =
-          λ c. one_image bytes is.program is.image as.image is.accepted (is.compiled c) (as.compiled c) in
-      is.written ∙ (ap (λ p. output command bytes p is.image) program ∙ (same_output command bytes as.program is.image as.image image ∙ sym as.written))
+  one_text command bytes text other is known =
+      let program = one_program bytes is.program known.program is.accepted known.accepted in
+      let image : IsTrue (compiles command) → is.image ≡ known.image =
+      λ c. one_image bytes is.program is.image known.image is.accepted (is.compiled c) (known.compiled c) in
+      is.written ∙ (ap (λ p. output command bytes p is.image) program ∙ (same_output command bytes known.program is.image known.image image ∙ sym known.written))
 
   one_run : BytesNameOneImage → (options : RunOptions) (bytes text other : List ℕ) → IsExecuted options bytes text → IsExecuted options bytes other → text ≡ other
-  one_run one options bytes text other is as =
-      is.written ∙ (ap (λ i. machine_text (interfaces_of i) options i) (one is.read.image as.read.image is.read.well_formed as.read.well_formed (sym is.read.bytes_are ∙ as.read.bytes_are)) ∙ sym as.written)
+  one_run one options bytes text other is known =
+      is.written ∙ (ap (λ i. machine_text (interfaces_of i) options i) (one is.read.image known.read.image is.read.well_formed known.read.well_formed (sym is.read.bytes_are ∙ known.read.bytes_are)) ∙ sym known.written)
 
   -- a command has one output
   pub one_output : BytesNameOneImage → (command : Command) (bytes text other : List ℕ) → IsOutput command bytes text → IsOutput command bytes other → text ≡ other
-  one_output one commands.Check bytes text other is as = one_text commands.Check bytes text other is as
-  one_output one (commands.Meaning options) bytes text other is as = one_text (commands.Meaning options) bytes text other is as
-  one_output one commands.Compile bytes text other is as = one_text commands.Compile bytes text other is as
-  one_output one (commands.Run options) bytes text other is as = one_text (commands.Run options) bytes text other is as
-  one_output one (commands.Explain options show) bytes text other is as = one_text (commands.Explain options show) bytes text other is as
-  one_output one (commands.Exec options) bytes text other is as = one_run one options bytes text other is as
-  one_output one (commands.Make options) bytes text other is as = absurd is
+  one_output one commands.Check bytes text other is known = one_text commands.Check bytes text other is known
+  one_output one (commands.Meaning options) bytes text other is known = one_text (commands.Meaning options) bytes text other is known
+  one_output one commands.Compile bytes text other is known = one_text commands.Compile bytes text other is known
+  one_output one (commands.Run options) bytes text other is known = one_text (commands.Run options) bytes text other is known
+  one_output one (commands.Explain options show) bytes text other is known = one_text (commands.Explain options show) bytes text other is known
+  one_output one (commands.Exec options) bytes text other is known = one_run one options bytes text other is known
+  one_output one (commands.Make options) bytes text other is known = absurd is

@@ -10,3 +10,4 @@ pub mod Status
 pub mod Texts
 pub mod Thin
 pub mod ThinMeaning
+pub mod Writing

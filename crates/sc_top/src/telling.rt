@@ -1,7 +1,7 @@
-ghost use Rattle.std.specs.Prelude.{◌≡◌, ◌++◌, ◌≤◌, OnOk, OnErr, codes, decimal};
-ghost use Rattle.sc_edge.specs.Edge.{Adds};
+ghost use Rattle.std.specs.Prelude.{◌≡◌, ◌++◌, codes, decimal};
 ghost use Rattle.sc_top.specs.Answer.{Tells};
 ghost use Rattle.sc_top.specs.Status.{status_text, refusal_text, large_text, owner_text, bytes_of};
+ghost use Rattle.sc_top.specs.Writing.{Wrote};
 
 use crate::output::write_text;
 use crate::status::{fixed_text, kind_text, phase_word};
@@ -19,12 +19,11 @@ pub fn tell<E: Sink>(err: &mut E, status: &Status)
 }
 
 fn write_status<E: Sink>(err: &mut E, status: &Status) -> Result<(), Failed>
-    ensures ok { OnOk result (Adds (E.written err.old) (E.written err.new) (status_text status.now)) }
-    ensures err { OnErr result (Tells (status_text status.now) (E.written err.old) (E.written err.new) (E.faults err.old) (E.faults err.new)) }
+    ensures { Wrote (status_text status.now) result (E.written err.old) (E.written err.new) (E.faults err.old) (E.faults err.new) }
 {
     write_text(err, fixed_text(status))?;
     match status {
-        Status::Refused(refusal) => write_refusal(err, *refusal),
+        Status::Refused(refusal) => write_refusal(err, refusal),
         Status::TooLarge(fault) => write_large(err, fault),
         Status::TooLong { limit } => write_number(err, u64::from(*limit)),
         Status::BadImage { cause } => write_number(err, u64::from(*cause)),
@@ -33,10 +32,8 @@ fn write_status<E: Sink>(err: &mut E, status: &Status) -> Result<(), Failed>
 }
 
 // The word of a phase and a line, as the last things of a line.
-fn write_refusal<E: Sink>(err: &mut E, refusal: Refusal) -> Result<(), Failed>
-    ensures ok { OnOk result (Adds (E.written err.old) (E.written err.new) (refusal_text refusal)) }
-    ensures err { OnErr result (Tells (refusal_text refusal) (E.written err.old) (E.written err.new) (E.faults err.old) (E.faults err.new)) }
-    ensures faults { E.faults err.old ≤ E.faults err.new }
+fn write_refusal<E: Sink>(err: &mut E, refusal: &Refusal) -> Result<(), Failed>
+    ensures { Wrote (refusal_text refusal.now) result (E.written err.old) (E.written err.new) (E.faults err.old) (E.faults err.new) }
 {
     write_text(err, phase_word(refusal.phase))?;
     write_text(err, b" line ")?;
@@ -45,9 +42,7 @@ fn write_refusal<E: Sink>(err: &mut E, refusal: Refusal) -> Result<(), Failed>
 
 // What is too large, whose it is, and its bytes, as the last things of a line.
 fn write_large<E: Sink>(err: &mut E, fault: &TooLarge) -> Result<(), Failed>
-    ensures ok { OnOk result (Adds (E.written err.old) (E.written err.new) (large_text fault.now)) }
-    ensures err { OnErr result (Tells (large_text fault.now) (E.written err.old) (E.written err.new) (E.faults err.old) (E.faults err.new)) }
-    ensures faults { E.faults err.old ≤ E.faults err.new }
+    ensures { Wrote (large_text fault.now) result (E.written err.old) (E.written err.new) (E.faults err.old) (E.faults err.new) }
 {
     write_text(err, kind_text(fault))?;
     write_owner(err, fault)?;
@@ -66,9 +61,7 @@ fn bytes_of(fault: &TooLarge) -> u64
 
 // Whose it is.
 fn write_owner<E: Sink>(err: &mut E, fault: &TooLarge) -> Result<(), Failed>
-    ensures ok { OnOk result (Adds (E.written err.old) (E.written err.new) (owner_text fault.now)) }
-    ensures err { OnErr result (Tells (owner_text fault.now) (E.written err.old) (E.written err.new) (E.faults err.old) (E.faults err.new)) }
-    ensures faults { E.faults err.old ≤ E.faults err.new }
+    ensures { Wrote (owner_text fault.now) result (E.written err.old) (E.written err.new) (E.faults err.old) (E.faults err.new) }
 {
     match fault {
         TooLarge::Code { comp, .. } => write_name(err, comp),
@@ -82,9 +75,7 @@ fn write_owner<E: Sink>(err: &mut E, fault: &TooLarge) -> Result<(), Failed>
 
 // A name and a blank.
 fn write_name<E: Sink>(err: &mut E, name: &Name) -> Result<(), Failed>
-    ensures ok { OnOk result (Adds (E.written err.old) (E.written err.new) (name.now ++ codes " ")) }
-    ensures err { OnErr result (Tells (name.now ++ codes " ") (E.written err.old) (E.written err.new) (E.faults err.old) (E.faults err.new)) }
-    ensures faults { E.faults err.old ≤ E.faults err.new }
+    ensures { Wrote (name.now ++ codes " ") result (E.written err.old) (E.written err.new) (E.faults err.old) (E.faults err.new) }
 {
     write_text(err, name.as_bytes())?;
     write_text(err, b" ")
@@ -92,9 +83,7 @@ fn write_name<E: Sink>(err: &mut E, name: &Name) -> Result<(), Failed>
 
 // A number, as the last thing of a line.
 fn write_number<E: Sink>(err: &mut E, number: u64) -> Result<(), Failed>
-    ensures ok { OnOk result (Adds (E.written err.old) (E.written err.new) (decimal number ++ codes "\n")) }
-    ensures err { OnErr result (Tells (decimal number ++ codes "\n") (E.written err.old) (E.written err.new) (E.faults err.old) (E.faults err.new)) }
-    ensures faults { E.faults err.old ≤ E.faults err.new }
+    ensures { Wrote (decimal number ++ codes "\n") result (E.written err.old) (E.written err.new) (E.faults err.old) (E.faults err.new) }
 {
     let mut buffer = Buffer::new();
     write_text(err, buffer.format(number).as_bytes())?;

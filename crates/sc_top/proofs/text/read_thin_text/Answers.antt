@@ -1,11 +1,17 @@
-use Rattle.std.proofs.Common.{IsNone, refl, sym, ◌∙◌, subst}
-use Rattle.sc_types.specs.Acceptance.{Accepts}
+use Rattle.std.proofs.Common.{IfSome, IsNone, refl, sym, subst}
 use Rattle.sc_top.specs.Thin.{IsThin}
-use Rattle.sc_top.proofs.text.read_program.Goals as goal
+use Rattle.sc_top.proofs.Explained.{thin_program}
+use Rattle.sc_top.proofs.text.read_thin_text.Goals as goal
 
-pub returns-clause-not_built : goal.returns-clause-not_built
-returns-clause-not_built c = λ _. record {
-  program = c.in_ok-source.source.program;
-  accepted = subst (λ bytes. Accepts bytes c.in_ok-source.source.program) c.in_ok-source.ensures.bytes c.in_ok-source.ensures.source.accepted;
-  thick = λ thin is. c.in_ok-program.ensures.thick (subst IsNone (sym c.in-None.is) refl) thin (subst (λ text. IsThin text thin) (sym (c.bytes.ensures.bytes ∙ c.in_ok-source.ensures.bytes)) is);
-}
+pub returns-in-Some-clause-thin : goal.returns-in-Some-clause-thin
+returns-in-Some-clause-thin c =
+    thin_program c.thin_texts_are_accepted.ensures c.one_program.ensures c.args.bytes.now c.in_ok-source.source.program c.in-Some.thin
+    c.in_ok-source.ensures.accepted.1 (subst (λ found. IfSome found (IsThin c.args.bytes.now)) c.in-Some.is c.in_ok-thin.ensures.thin)
+
+pub returns-in-None-clause-cause : goal.returns-in-None-clause-cause
+returns-in-None-clause-cause c =
+    record {
+      program = c.in_ok-source.source.program;
+      accepted = c.in_ok-source.ensures.accepted.1;
+      thick = c.in_ok-thin.ensures.thick (subst IsNone (sym c.in-None.is) refl);
+    }
