@@ -1,5 +1,5 @@
 -- What an answer says, from what was read.
-use Rattle.std.proofs.Common.{◌≡◌, ℕ, ◌+◌, ◌≤◌, ◌⊎◌, inl, inr, List, [], ◌++◌, length, Option, None, Some, Result, true, IsTrue, refl, sym, ap, ◌∙◌, subst, arith, length-append, ⊎_elim}
+use Rattle.std.proofs.Common.{◌≡◌, ℕ, ◌+◌, ◌≤◌, ◌⊎◌, inl, inr, List, [], ◌++◌, length, Option, None, Some, Result, IsTrue, refl, sym, ap, ◌∙◌, subst, arith, length-append, ⊎_elim}
 use Rattle.std.proofs.lemmas.Bool.{false≢true}
 use Rattle.std.proofs.lemmas.List.{append-nil}
 use Rattle.std.proofs.lemmas.Option.{none-some}
@@ -13,7 +13,7 @@ use Rattle.sc_image.specs.declared.parts.ImageParts.{ImageParts}
 use Rattle.sc_image.specs.Reading.{cause_number, cause_of, bad}
 use Rattle.sc_image.specs.RoundTrip.{IsImage}
 use Rattle.sc_image.proofs.Images.{is_read_again}
-use Rattle.sc_edge.specs.Edge.{Rose, Takes, Adds}
+use Rattle.sc_edge.specs.Edge.{Takes}
 use Rattle.sc_types.specs.Acceptance.{Accepts, Fails}
 use Rattle.sc_words.specs.declared.command.Command.{Command}
 use Rattle.sc_words.specs.declared.command.Command.TheVariants.{Check, Meaning, Compile, Run, Exec, Explain, Make}
@@ -22,7 +22,7 @@ use Rattle.sc_top.specs.declared.failure.Failure.TheVariants as failure
 use Rattle.sc_top.specs.declared.status.Status.{Status}
 use Rattle.sc_top.specs.declared.status.Status.TheVariants as status
 use Rattle.sc_top.specs.declared.status.TooLarge.{TooLarge}
-use Rattle.sc_top.specs.Answer.{Traffic, IsWhole, IsLonger, IsInput, HasRead, HasWritten, HasBegun, Refuses, cause_in, FindsBad, IsUnfit, IsBeyond, GivesUp, Says, IsUndisturbed, IsWithinLimit, IsWithin, IsAnswer, IsGood, Tells, Answers, SameAnswer}
+use Rattle.sc_top.specs.Answer.{Traffic, IsWhole, IsInput, Refuses, cause_in, FindsBad, IsUnfit, GivesUp, Says, IsUndisturbed, IsWithinLimit, IsWithin, IsAnswer, IsGood, Answers, SameAnswer}
 use Rattle.sc_top.specs.Command.{limit_of}
 use Rattle.sc_top.specs.Failure.{status_by}
 use Rattle.sc_top.specs.Output.{compiles, HasImage, IsTextOutput, IsOutput}

@@ -1,22 +1,15 @@
 -- What holds of a thin text: its program, what its machine shows, and that its output is one.
-use Rattle.std.proofs.Common.{◌≡◌, ℕ, suc, ◌+◌, ◌<◌, ◌≤◌, inr, List, [], ◌∷◌, ◌++◌, Option, Some, None, true, false, IsTrue, map, length, refl, sym, ap, ap₂, ◌∙◌, subst, arith, length-append}
-use Rattle.std.specs.Prelude.{nat_lt, if◌then◌else◌}
-use Rattle.std.proofs.lemmas.Bool.{false≢true}
+use Rattle.std.proofs.Common.{◌≡◌, ℕ, suc, ◌+◌, ◌<◌, inr, List, [], ◌∷◌, ◌++◌, Option, false, IsTrue, map, length, refl, sym, ap, ap₂, ◌∙◌, subst, arith}
+use Rattle.std.specs.Prelude.{nat_lt}
 use Rattle.std.proofs.lemmas.Bool.Decides.{nat_tests}
-use Rattle.std.proofs.lemmas.List.{append_cancel_left, length-map}
 use Rattle.sc_word.specs.Word.{word_of}
-use Rattle.sc_event.specs.declared.event.Event.{Event}
 use Rattle.sc_event.specs.declared.event.Event.TheVariants.{Out, End}
 use Rattle.sc_core.specs.declared.program.ProgramTree.{ProgramTree}
-use Rattle.sc_core.specs.declared.run.SourceRun.{SourceRun}
-use Rattle.sc_core.specs.declared.run.RunEnd.TheVariants.{Ended, EventsOut}
 use Rattle.sc_core.specs.declared.thin.ThinProgram.{ThinProgram}
-use Rattle.sc_core.specs.Run.{stopped_at}
 use Rattle.sc_core.specs.Thin.{whole_run, thin_meaning}
 use Rattle.sc_compile.specs.Image.{thin_image}
 use Rattle.sc_image.specs.declared.parts.ImageParts.{ImageParts}
 use Rattle.sc_image.specs.Interfaces.{interfaces_of}
-use Rattle.sc_image.specs.Bytes.{image_bytes}
 use Rattle.sc_image.specs.RoundTrip.{BytesNameOneImage}
 use Rattle.sc_lex.specs.declared.refusal.Refusal.{Refusal}
 use Rattle.sc_types.specs.Acceptance.{Accepts, Fails}

@@ -1,5 +1,5 @@
 -- What each command writes for the program of a text and its image, or for an image.
-use Rattle.std.specs.Prelude.{◌≡◌, ℕ, Bool, true, false, IsTrue, List, [], ◌++◌, length, map, codes, Option, Some, None}
+use Rattle.std.specs.Prelude.{◌≡◌, ℕ, Bool, true, false, IsTrue, List, [], ◌++◌, length, map, codes, Some, None}
 use Rattle.sc_word.specs.Word.{word_of}
 use Rattle.sc_event.specs.declared.interface.Interfaces.{Interfaces}
 use Rattle.sc_core.specs.declared.run.SourceRun.{SourceRun}

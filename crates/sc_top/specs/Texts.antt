@@ -4,7 +4,7 @@ use Rattle.sc_core.specs.declared.program.ProgramTree.{ProgramTree}
 use Rattle.sc_core.specs.declared.thin.ThinProgram.{ThinProgram}
 use Rattle.sc_types.specs.Acceptance.{Accepts, Fails}
 use Rattle.sc_top.specs.declared.failure.Failure.{Failure}
-use Rattle.sc_top.specs.declared.failure.Failure.TheVariants.{Usage, Refused, TooLarge, TooLong, BadImage, ReadFault, WriteFault, OutOfMemory, NotBuilt}
+use Rattle.sc_top.specs.declared.failure.Failure.TheVariants.{Refused, OutOfMemory, NotBuilt}
 use Rattle.sc_core.specs.Thin.{thin_meaning}
 use Rattle.sc_compile.specs.Image.{thin_image}
 use Rattle.sc_words.specs.declared.command.RunOptions.{RunOptions}

@@ -1,5 +1,5 @@
-use Rattle.std.proofs.Common.{rules, ◌++◌, codes, decimal, refl, sym, ap, ◌∙◌, append_assoc}
-use Rattle.sc_top.specs.Status.{kind_text, owner_text, bytes_of}
+use Rattle.std.proofs.Common.{rules, ◌++◌, codes, decimal, refl, sym, ap}
+use Rattle.sc_top.specs.Status.{owner_text, bytes_of}
 use Rattle.sc_top.proofs.Streams.{cut_wrote, then_wrote}
 use Rattle.sc_top.proofs.telling.write_large.Goals as goal
 

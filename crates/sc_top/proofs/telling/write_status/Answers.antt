@@ -1,5 +1,5 @@
-use Rattle.std.proofs.Common.{rules, ◌≡◌, ◌++◌, codes, decimal, sym, ap, ap₂, ◌∙◌}
-use Rattle.sc_top.specs.Status.{own_text, status_text}
+use Rattle.std.proofs.Common.{rules, ◌++◌, codes, decimal, sym, ap, ap₂, ◌∙◌}
+use Rattle.sc_top.specs.Status.{own_text}
 use Rattle.sc_top.proofs.Streams.{cut_wrote, then_wrote}
 use Rattle.sc_top.proofs.telling.write_status.Goals as goal
 

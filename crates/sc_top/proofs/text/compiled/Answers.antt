@@ -1,6 +1,6 @@
 use Rattle.std.proofs.Common.{rules, refl}
 use Rattle.sc_words.specs.declared.command.Command.TheVariants.{Compile}
-use Rattle.sc_top.proofs.Explained.{thin_cause, thin_output}
+use Rattle.sc_top.proofs.Explained.{thin_cause}
 use Rattle.sc_top.proofs.text.compiled.Goals as goal
 
 pub returns-in_err-text-clause-cause : goal.returns-in_err-text-clause-cause
