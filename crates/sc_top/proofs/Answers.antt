@@ -1,13 +1,15 @@
 -- What an answer says, from what was read.
-use Rattle.std.proofs.Common.{◌≡◌, ℕ, ◌<◌, ◌≤◌, ◌⊎◌, inl, inr, List, [], ◌++◌, length, Option, None, Some, IsSomeAnd, refl, sym, ap, ◌∙◌, subst, arith, length-append}
+use Rattle.std.proofs.Common.{◌≡◌, ℕ, ◌+◌, ◌≤◌, ◌⊎◌, inl, inr, List, [], ◌++◌, length, Option, None, Some, Result, IsTrue, refl, sym, ap, ◌∙◌, subst, arith, length-append, ⊎_elim}
+use Rattle.std.proofs.lemmas.Bool.{false≢true}
 use Rattle.std.proofs.lemmas.List.{append-nil}
 use Rattle.std.proofs.lemmas.Option.{none-some}
 use Rattle.std.specs.Option.{option_map}
+use Rattle.std.specs.Prelude.{IsErrOf}
 use Rattle.sc_lex.specs.declared.refusal.Refusal.{Refusal}
 use Rattle.sc_lex.specs.declared.refusal.Phase.{Phase}
 use Rattle.sc_lex.specs.declared.refusal.Phase.TheVariants.{Syntax}
 use Rattle.sc_core.specs.declared.program.ProgramTree.{ProgramTree}
-use Rattle.sc_core.specs.declared.thin.ThinProgram.{ThinProgram}
+use Rattle.sc_image.specs.declared.parts.ImageParts.{ImageParts}
 use Rattle.sc_image.specs.Reading.{cause_number, cause_of, bad}
 use Rattle.sc_image.specs.RoundTrip.{IsImage}
 use Rattle.sc_image.proofs.Images.{is_read_again}
@@ -15,291 +17,366 @@ use Rattle.sc_edge.specs.Edge.{Takes}
 use Rattle.sc_types.specs.Acceptance.{Accepts, Fails}
 use Rattle.sc_words.specs.declared.command.Command.{Command}
 use Rattle.sc_words.specs.declared.command.Command.TheVariants.{Check, Meaning, Compile, Run, Exec, Explain, Make}
+use Rattle.sc_top.specs.declared.failure.Failure.{Failure}
+use Rattle.sc_top.specs.declared.failure.Failure.TheVariants as failure
 use Rattle.sc_top.specs.declared.status.Status.{Status}
 use Rattle.sc_top.specs.declared.status.Status.TheVariants as status
-use Rattle.sc_top.specs.Answer.{IsWhole, IsDone, Refuses, IsRefused, cause_in, FindsBad, IsBadInput, IsLonger, IsBeyond, GivesUp, IsNotBuilt, reads_nothing, beyond, IsOfAnyText, IsWithin, IsAnswer, SameAnswer}
+use Rattle.sc_top.specs.declared.status.TooLarge.{TooLarge}
+use Rattle.sc_top.specs.Answer.{Traffic, IsWhole, IsInput, Refuses, cause_in, FindsBad, IsUnfit, GivesUp, Says, IsUndisturbed, IsWithinLimit, IsWithin, IsAnswer, IsGood, Answers, SameAnswer}
 use Rattle.sc_top.specs.Command.{limit_of}
-use Rattle.sc_top.specs.Output.{IsOutput, IsThinText}
+use Rattle.sc_top.specs.Failure.{status_by}
+use Rattle.sc_top.specs.Output.{compiles, HasImage, IsTextOutput, IsOutput}
+use Rattle.sc_top.specs.Sizes.{too_large}
 use Rattle.sc_top.proofs.Lengths.{image_is_short}
 
+-- words that are no command are answered so
+pub no_command_by : {A : Type 0} (r : Result A Failure) → IsErrOf r failure.Usage ⊎ IsErrOf r failure.OutOfMemory → (status_by r ≡ status.Usage) ⊎ (status_by r ≡ status.OutOfMemory)
+no_command_by r h = ⊎_elim (λ e. inl (ap status_by e)) (λ e. inr (ap status_by e)) h
+
+-- The one answer.
+
 -- all that was left is the text
-all_left : (limit : ℕ) (text bytes : List ℕ) (left' : Option (List ℕ)) → IsWhole limit (Some text) left' bytes → bytes ≡ text
+all_left : (limit : ℕ) (text bytes : List ℕ) (after : Option (List ℕ)) → IsWhole limit (Some text) after bytes → bytes ≡ text
 all_left limit text bytes None w = absurd w.read
 all_left limit text bytes (Some rest) w =
     let taken : text ≡ bytes ++ rest = w.read in
     let nothing : rest ≡ [] = w.ended in
     sym (taken ∙ ap (λ r. bytes ++ r) nothing ∙ append-nil bytes)
 
-input_left : (limit : Option ℕ) (text bytes : List ℕ) (left' : Option (List ℕ)) → IsSomeAnd limit (λ l. IsWhole l (Some text) left' bytes) → bytes ≡ text
-input_left None text bytes left' input = absurd input
-input_left (Some limit) text bytes left' input = all_left limit text bytes left' input
-
-input_within : (limit : Option ℕ) (text bytes : List ℕ) (left' : Option (List ℕ)) → IsSomeAnd limit (λ l. IsWhole l (Some text) left' bytes) → IsSomeAnd limit (λ l. length text ≤ l)
-input_within None text bytes left' input = absurd input
-input_within (Some limit) text bytes left' input =
-    subst (λ t. length t ≤ limit) (all_left limit text bytes left' input) input.within
-
 -- what was read is a front of the text
-as_long : (text bytes : List ℕ) (left' : Option (List ℕ)) → Takes (Some text) left' bytes → length bytes ≤ length text
+as_long : (text bytes : List ℕ) (after : Option (List ℕ)) → Takes (Some text) after bytes → length bytes ≤ length text
 as_long text bytes None taken = absurd taken
 as_long text bytes (Some rest) taken = omega (arith, length-append bytes rest, ap length taken)
 
-not_built_answer : (c : Command) (text : List ℕ) (left' : Option (List ℕ)) → IsNotBuilt c (Some text) left' → IsAnswer c text status.NotBuilt
-not_built_answer c text left' (reads_nothing none same) = inl none
-not_built_answer c text left' (beyond bytes input gives) =
-    inr (input_within (limit_of c) text bytes left' input, subst (GivesUp c) (input_left (limit_of c) text bytes left' input) gives)
+-- what a command read is the whole text, and within its limit; or it reads nothing
+input_at : (limit : Option ℕ) (text bytes : List ℕ) (after : Option (List ℕ)) → IsInput limit (Some text) after bytes → ((bytes ≡ text) × IsWithinLimit limit text) ⊎ (limit ≡ None)
+input_at None text bytes after input = inr refl
+input_at (Some limit) text bytes after input =
+    let same = all_left limit text bytes after input in
+    inl (same, subst (λ t. length t ≤ limit) same input.within)
+
+-- a command that reads nothing
+record Reads (c : Command) : Type 0 where
+  pub output : (bytes text : List ℕ) → IsOutput c bytes text → ⊥
+  pub refuses : (bytes : List ℕ) (refusal : Refusal) → Refuses c bytes refusal → ⊥
+  pub unfit : (bytes : List ℕ) (fault : TooLarge) → IsUnfit c bytes fault → ⊥
+  pub bad : (bytes : List ℕ) (cause : ℕ) → FindsBad c bytes cause → ⊥
+
+reads_nothing : (c : Command) → limit_of c ≡ None → Reads c
+reads_nothing Check none = absurd (none-some 8388608 (sym none))
+reads_nothing (Meaning options) none = absurd (none-some 8388608 (sym none))
+reads_nothing Compile none = absurd (none-some 1048576 (sym none))
+reads_nothing (Run options) none = absurd (none-some 1048576 (sym none))
+reads_nothing (Explain options show) none = absurd (none-some 1048576 (sym none))
+reads_nothing (Exec options) none = absurd (none-some 67108864 (sym none))
+reads_nothing (Make options) none =
+    record { output = λ bytes text o. o; refuses = λ bytes r h. h; unfit = λ bytes fault u. false≢true u.compiled; bad = λ bytes cause h. h }
+
+within_none : (limit : Option ℕ) (text : List ℕ) → limit ≡ None → IsWithinLimit limit text
+within_none None text none = tt
+within_none (Some limit) text none = absurd (none-some limit (sym none))
+
+-- what held of the bytes that were read holds of the text
+read_at : (c : Command) (text : List ℕ) (after : Option (List ℕ)) (bytes : List ℕ) (Q : List ℕ → Type 0) → IsInput (limit_of c) (Some text) after bytes → Q bytes
+    → (limit_of c ≡ None → Q bytes → Q text) → IsWithin c text × Q text
+read_at c text after bytes Q input holds else_ =
+    ⊎_elim (λ at. (at.1, subst Q at.0 holds)) (λ none. (within_none (limit_of c) text none, else_ none holds)) (input_at (limit_of c) text bytes after input)
+
+gives_up_at : (c : Command) (text bytes : List ℕ) → limit_of c ≡ None → GivesUp c bytes → GivesUp c text
+gives_up_at c text bytes none h = inl none
 
 -- a status other than those of the outside is the text's answer
-answer_of : (c : Command) (text : List ℕ) (left' written written' : Option (List ℕ)) (read write : Type 0) (s : Status)
-    → (s ≡ status.Done → IsDone c (Some text) left' written written') → (s ≡ status.Usage → ⊥)
-    → ((refusal : Refusal) → s ≡ status.Refused refusal → IsRefused c (Some text) left' refusal)
-    → ((limit : ℕ) → s ≡ status.TooLong limit → (limit_of c ≡ Some limit) × IsLonger limit (Some text) left')
-    → ((cause : ℕ) → s ≡ status.BadImage cause → IsBadInput c (Some text) left' cause)
-    → (s ≡ status.NotBuilt → IsNotBuilt c (Some text) left') → (s ≡ status.ReadFault → read) → (s ≡ status.WriteFault → write)
-    → (read → ⊥) → (write → ⊥) → IsAnswer c text s ⊎ (s ≡ status.OutOfMemory)
-answer_of c text left' w w' r x status.Done done usage refused long bad_image not_built rf wf nr nw =
-    let d = done refl in
-    inl (input_within (limit_of c) text d.bytes left' d.input, (d.text, subst (λ t. IsOutput c t d.text) (input_left (limit_of c) text d.bytes left' d.input) d.output))
-answer_of c text left' w w' r x status.Usage done usage refused long bad_image not_built rf wf nr nw = absurd (usage refl)
-answer_of c text left' w w' r x (status.Refused refusal) done usage refused long bad_image not_built rf wf nr nw =
-    let d = refused refusal refl in
-    inl (input_within (limit_of c) text d.bytes left' d.input, subst (λ t. Refuses c t refusal) (input_left (limit_of c) text d.bytes left' d.input) d.fails)
-answer_of c text left' w w' r x (status.TooLong limit) done usage refused long bad_image not_built rf wf nr nw =
-    let d = long limit refl in
-    let bytes = d.1.long in
-    inl (d.0, omega (arith, bytes, as_long text d.1.bytes left' d.1.read))
-answer_of c text left' w w' r x (status.BadImage cause) done usage refused long bad_image not_built rf wf nr nw =
-    let d = bad_image cause refl in
-    inl (input_within (limit_of c) text d.bytes left' d.input, subst (λ t. FindsBad c t cause) (input_left (limit_of c) text d.bytes left' d.input) d.bad_for)
-answer_of c text left' w w' r x status.NotBuilt done usage refused long bad_image not_built rf wf nr nw = inl (not_built_answer c text left' (not_built refl))
-answer_of c text left' w w' r x status.ReadFault done usage refused long bad_image not_built rf wf nr nw = absurd (nr (rf refl))
-answer_of c text left' w w' r x status.WriteFault done usage refused long bad_image not_built rf wf nr nw = absurd (nw (wf refl))
-answer_of c text left' w w' r x status.OutOfMemory done usage refused long bad_image not_built rf wf nr nw = inr refl
+pub answered : (c : Command) (t : Traffic) (text : List ℕ) (s : Status) → Says c t s → t.left ≡ Some text → IsUndisturbed t → IsAnswer c text s ⊎ (s ≡ status.OutOfMemory)
+answered c t text s says is calm = go s says where
+  input_of : (bytes : List ℕ) → IsInput (limit_of c) t.left t.left_after bytes → IsInput (limit_of c) (Some text) t.left_after bytes
+  input_of bytes input = subst (λ l. IsInput (limit_of c) l t.left_after bytes) is input
 
--- the facts that tell an answer
-pub record Told (asked : Option Command) (left left' written written' : Option (List ℕ)) (read write : Type 0) (s : Status) : Type 0 where
-  pub done : s ≡ status.Done → IsSomeAnd asked (λ c. IsDone c left left' written written')
-  pub usage : s ≡ status.Usage → asked ≡ None
-  pub refused : (refusal : Refusal) → s ≡ status.Refused refusal → IsSomeAnd asked (λ c. IsRefused c left left' refusal)
-  pub too_long : (limit : ℕ) → s ≡ status.TooLong limit → IsSomeAnd asked (λ c. (limit_of c ≡ Some limit) × IsLonger limit left left')
-  pub bad_image : (cause : ℕ) → s ≡ status.BadImage cause → IsSomeAnd asked (λ c. IsBadInput c left left' cause)
-  pub not_built : s ≡ status.NotBuilt → IsSomeAnd asked (λ c. IsNotBuilt c left left')
-  pub read_fault : s ≡ status.ReadFault → read
-  pub write_fault : s ≡ status.WriteFault → write
+  go : (s : Status) → Says c t s → IsAnswer c text s ⊎ (s ≡ status.OutOfMemory)
+  go status.Done h =
+      inl (read_at c text t.left_after h.bytes (λ bytes. (out : List ℕ) × IsOutput c bytes out) (input_of h.bytes h.input) (h.holds.text, h.holds.output)
+      (λ none o. absurd ((reads_nothing c none).output h.bytes o.0 o.1)))
+  go status.Usage h = absurd h
+  go (status.Refused refusal) h =
+      inl (read_at c text t.left_after h.bytes (λ bytes. Refuses c bytes refusal) (input_of h.bytes h.input) h.holds
+      (λ none o. absurd ((reads_nothing c none).refuses h.bytes refusal o)))
+  go (status.TooLarge fault) h =
+      inl (read_at c text t.left_after h.bytes (λ bytes. IsUnfit c bytes fault) (input_of h.bytes h.input) h.holds
+      (λ none o. absurd ((reads_nothing c none).unfit h.bytes fault o)))
+  go (status.TooLong limit) h =
+      let read : Takes (Some text) t.left_after h.1.bytes = subst (λ l. Takes l t.left_after h.1.bytes) is h.1.read in
+      let long = h.1.long in
+      inl (h.0, omega (arith, long, as_long text h.1.bytes t.left_after read))
+  go (status.BadImage cause) h =
+      inl (read_at c text t.left_after h.bytes (λ bytes. FindsBad c bytes cause) (input_of h.bytes h.input) h.holds
+      (λ none o. absurd ((reads_nothing c none).bad h.bytes cause o)))
+  go status.NotBuilt h =
+      inl (read_at c text t.left_after h.bytes (GivesUp c) (input_of h.bytes h.input) h.holds (gives_up_at c text h.bytes))
+  go status.ReadFault h = absurd (calm.reads h)
+  go status.WriteFault h = absurd (calm.writes h.0)
+  go status.OutOfMemory h = inr refl
 
-told_of : (c : Command) (text : List ℕ) (left' written written' : Option (List ℕ)) (read write : Type 0) (s : Status) → Told (Some c) (Some text) left' written written' read write s
-    → (read → ⊥) → (write → ⊥) → IsAnswer c text s ⊎ (s ≡ status.OutOfMemory)
-told_of c text left' w w' r x s t = answer_of c text left' w w' r x s t.done (λ u. none-some c (sym (t.usage u))) t.refused t.too_long t.bad_image t.not_built t.read_fault t.write_fault
+-- a thin text is within the limit of each command that compiles
+pub thin_within : (c : Command) (text : List ℕ) (image : ImageParts) → IsTrue (compiles c) → HasImage text image → IsWithin c text
+thin_within Check text image compiled has = absurd (false≢true compiled)
+thin_within (Meaning options) text image compiled has = absurd (false≢true compiled)
+thin_within (Exec options) text image compiled has = absurd (false≢true compiled)
+thin_within (Make options) text image compiled has = absurd (false≢true compiled)
+thin_within Compile text image compiled has = let short = has.spelled.short in omega (arith, short)
+thin_within (Run options) text image compiled has = let short = has.spelled.short in omega (arith, short)
+thin_within (Explain options show) text image compiled has = let short = has.spelled.short in omega (arith, short)
 
-pub answered : (asked : Option Command) (left left' written written' : Option (List ℕ)) (read write : Type 0) (s : Status) → Told asked left left' written written' read write s
-    → (c : Command) (text : List ℕ) → asked ≡ Some c → left ≡ Some text → (read → ⊥) → (write → ⊥) → IsAnswer c text s ⊎ (s ≡ status.OutOfMemory)
-answered asked left left' w w' r x s t c text e h =
-    told_of c text left' w w' r x s (subst (λ l. Told (Some c) l left' w w' r x s) h (subst (λ a. Told a left left' w w' r x s) e t))
+pub image_within : (bytes : List ℕ) → IsImage bytes → length bytes ≤ 67108864
+image_within bytes is =
+    subst (λ (b : List ℕ). length b ≤ 67108864) (sym is.bytes_are) (image_is_short is.image is.well_formed)
 
-same_done : (s : Status) → SameAnswer s status.Done → s ≡ status.Done
-same_done status.Done same = same
-same_done status.Usage same = same
-same_done (status.Refused refusal) same = same
-same_done (status.TooLong limit) same = same
-same_done (status.BadImage cause) same = same
-same_done status.ReadFault same = same
-same_done status.WriteFault same = same
-same_done status.OutOfMemory same = same
-same_done status.NotBuilt same = same
-
--- a thin text is within the limit of each command that takes texts, and the bytes of an image are within that of `exec`
-pub within_limit : (c : Command) (bytes output : List ℕ) → IsOutput c bytes output → IsOfAnyText c ⊎ IsWithin c bytes
-within_limit Check bytes output o = inl tt
-within_limit (Meaning options) bytes output o = inl tt
-within_limit Compile bytes output o = inr (let short = o.2.thin.short in omega (arith, short))
-within_limit (Run options) bytes output o = inr (let short = o.2.thin.short in omega (arith, short))
-within_limit (Explain options show) bytes output o = inr (let short = o.2.thin.short in omega (arith, short))
-within_limit (Exec options) bytes output o =
-    inr (subst (λ (b : List ℕ). length b ≤ 67108864) (sym o.read.bytes_are) (image_is_short o.read.image o.read.well_formed))
-within_limit (Make options) bytes output o = absurd o
-
--- good input is answered, unless memory runs out or the outside fails
-pub completed : (asked : Option Command) (left left' written written' : Option (List ℕ)) (read write : Type 0) (s : Status) → Told asked left left' written written' read write s
-    → ((c : Command) (text : List ℕ) (s t : Status) → IsAnswer c text s → IsAnswer c text t → SameAnswer s t)
-    → IsSomeAnd asked (λ c. IsSomeAnd left (λ bytes. IsWithin c bytes × ((text : List ℕ) × IsOutput c bytes text))) → (read → ⊥) → (write → ⊥)
-    → (s ≡ status.Done) ⊎ (s ≡ status.OutOfMemory)
-completed None left left' w w' r x s t one good nr nw = absurd good
-completed (Some c) None left' w w' r x s t one good nr nw = absurd good
-completed (Some c) (Some text) left' w w' r x s t one good nr nw =
-    elim (told_of c text left' w w' r x s t nr nw) [
-      | inl answer ↦ inl (same_done s (one c text s status.Done answer good))
-      | inr none ↦ inr none
-    ]
-
--- the bytes of an image have no cause for being none, and other bytes have one cause
-executed_bad : (bytes : List ℕ) (cause : ℕ) → IsImage bytes → cause_in bytes ≡ Some cause → ⊥
-executed_bad bytes cause is b =
+-- the bytes of an image have no cause for being none
+image_bad : (bytes : List ℕ) (cause : ℕ) → IsImage bytes → cause_in bytes ≡ Some cause → ⊥
+image_bad bytes cause is b =
     let good : bad bytes ≡ None = ap (λ (t : List ℕ). bad t) is.bytes_are ∙ ap cause_of (is_read_again is.image is.well_formed) in
     none-some cause (ap (λ found. option_map cause_number found) (sym good) ∙ b)
-
-done_bad : (c : Command) (text output : List ℕ) (cause : ℕ) → IsOutput c text output → FindsBad c text cause → ⊥
-done_bad Check text output cause o b = b
-done_bad (Meaning options) text output cause o b = b
-done_bad Compile text output cause o b = b
-done_bad (Run options) text output cause o b = b
-done_bad (Explain options show) text output cause o b = b
-done_bad (Exec options) text output cause o b = executed_bad text cause o.read b
-done_bad (Make options) text output cause o b = b
 
 same_some : {A : Type 0} (option : Option A) (x y : A) → option ≡ Some x → option ≡ Some y → x ≡ y
 same_some option x y e f = let p : ◌≡◌ {A = Option _} (Some x) (Some y) = sym e ∙ f in cc p
 
-same_cause : (c : Command) (text : List ℕ) (n m : ℕ) → FindsBad c text n → FindsBad c text m → n ≡ m
-same_cause Check text n m a b = absurd a
-same_cause (Meaning options) text n m a b = absurd a
-same_cause Compile text n m a b = absurd a
-same_cause (Run options) text n m a b = absurd a
-same_cause (Explain options show) text n m a b = absurd a
-same_cause (Exec options) text n m a b = same_some (cause_in text) n m a b
-same_cause (Make options) text n m a b = absurd a
-
--- within the limit, bytes are not too long, and there is a limit
-not_both : (limit : Option ℕ) (n most : ℕ) → IsSomeAnd limit (λ l. n ≤ l) → (limit ≡ Some most) × (most < n) → ⊥
-not_both None n most low long = low
-not_both (Some l) n most low long =
+-- within the limit, bytes are not too long
+not_both : (limit : Option ℕ) (text : List ℕ) (most : ℕ) → IsWithinLimit limit text → (limit ≡ Some most) × (most + 1 ≤ length text) → ⊥
+not_both None text most low long = none-some most long.0
+not_both (Some l) text most low long =
     let same : l ≡ most = same_some (Some l) l most refl long.0 in
     let more = long.1 in omega (arith, low, same, more)
 
-some_limit : (limit : Option ℕ) (n : ℕ) → IsSomeAnd limit (λ l. n ≤ l) → limit ≡ None → ⊥
-some_limit None n low none = low
-some_limit (Some l) n low none = none-some l (sym none)
+-- what a command that takes a text says of it
+record OfText (c : Command) (text : List ℕ) : Type 0 where
+  pub output : (out : List ℕ) → IsOutput c text out → IsTextOutput c text out
+  pub refuses : (refusal : Refusal) → Refuses c text refusal → Fails text refusal.phase refusal.line
+  pub good : (cause : ℕ) → FindsBad c text cause → ⊥
+  pub reads : limit_of c ≡ None → ⊥
 
--- a text has one answer
-module _ (accepted_or_refused : (text : List ℕ) (program : ProgramTree) (phase : Phase) (line : ℕ) → Accepts text program → Fails text phase line → ⊥) (one_phase : (text : List ℕ) (phase other : Phase) (line later : ℕ) → Fails text phase line → Fails text other later → (phase ≡ other) × ((phase ≡ Syntax → ⊥) → line ≡ later)) where
-  thin_refused : (text : List ℕ) (refusal : Refusal) (program : ProgramTree) (thin : ThinProgram) → IsThinText text program thin → Fails text refusal.phase refusal.line → ⊥
-  thin_refused text refusal program thin t f = accepted_or_refused text program refusal.phase refusal.line t.accepted f
+-- what `exec` says of an image
+record OfImage (c : Command) (bytes : List ℕ) : Type 0 where
+  pub output : (out : List ℕ) → IsOutput c bytes out → IsImage bytes
+  pub refuses : (refusal : Refusal) → Refuses c bytes refusal → ⊥
+  pub bad : (cause : ℕ) → FindsBad c bytes cause → cause_in bytes ≡ Some cause
+  pub compiles : IsTrue (compiles c) → ⊥
+  pub reads : limit_of c ≡ None → ⊥
 
-  done_refused : (c : Command) (text output : List ℕ) (refusal : Refusal) → IsOutput c text output → Refuses c text refusal → ⊥
-  done_refused Check text output refusal o f = accepted_or_refused text o.0 refusal.phase refusal.line o.1 f
-  done_refused (Meaning options) text output refusal o f = accepted_or_refused text o.0 refusal.phase refusal.line o.1 f
-  done_refused Compile text output refusal o f = thin_refused text refusal o.0 o.1 o.2 f
-  done_refused (Run options) text output refusal o f = thin_refused text refusal o.0 o.1 o.2 f
-  done_refused (Explain options show) text output refusal o f = thin_refused text refusal o.0 o.1 o.2 f
-  done_refused (Exec options) text output refusal o f = f
-  done_refused (Make options) text output refusal o f = f
+data Sort (c : Command) (bytes : List ℕ) : Type 0 where
+  takes_text : OfText c bytes → Sort c bytes
+  takes_image : OfImage c bytes → Sort c bytes
+  takes_nothing : Reads c → (IsTrue (compiles c) → ⊥) → Sort c bytes
 
-  far_refused : (text : List ℕ) (refusal : Refusal) → IsBeyond text → Fails text refusal.phase refusal.line → ⊥
-  far_refused text refusal b f = accepted_or_refused text b.program refusal.phase refusal.line b.accepted f
+sort : (c : Command) (bytes : List ℕ) → Sort c bytes
+sort Check bytes = takes_text (record { output = λ out o. o; refuses = λ r f. f; good = λ cause b. b; reads = λ none. none-some 8388608 (sym none) })
+sort (Meaning options) bytes = takes_text (record { output = λ out o. o; refuses = λ r f. f; good = λ cause b. b; reads = λ none. none-some 8388608 (sym none) })
+sort Compile bytes = takes_text (record { output = λ out o. o; refuses = λ r f. f; good = λ cause b. b; reads = λ none. none-some 1048576 (sym none) })
+sort (Run options) bytes = takes_text (record { output = λ out o. o; refuses = λ r f. f; good = λ cause b. b; reads = λ none. none-some 1048576 (sym none) })
+sort (Explain options show) bytes = takes_text (record { output = λ out o. o; refuses = λ r f. f; good = λ cause b. b; reads = λ none. none-some 1048576 (sym none) })
+sort (Exec options) bytes =
+    takes_image (record { output = λ out o. o.read; refuses = λ r f. f; bad = λ cause b. b; compiles = λ h. false≢true h; reads = λ none. none-some 67108864 (sym none) })
+sort (Make options) bytes = takes_nothing (reads_nothing (Make options) refl) (λ h. false≢true h)
 
-  beyond_refused : (c : Command) (text : List ℕ) (refusal : Refusal) → GivesUp c text → Refuses c text refusal → ⊥
-  beyond_refused Check text refusal b f = b
-  beyond_refused (Meaning options) text refusal b f = b
-  beyond_refused Compile text refusal b f = far_refused text refusal b f
-  beyond_refused (Run options) text refusal b f = far_refused text refusal b f
-  beyond_refused (Explain options show) text refusal b f = far_refused text refusal b f
-  beyond_refused (Exec options) text refusal b f = f
-  beyond_refused (Make options) text refusal b f = f
+module _ (accepted_or_refused : (text : List ℕ) (program : ProgramTree) (phase : Phase) (line : ℕ) → Accepts text program → Fails text phase line → ⊥)
+    (one_phase : (text : List ℕ) (phase other : Phase) (line later : ℕ) → Fails text phase line → Fails text other later → (phase ≡ other) × ((phase ≡ Syntax → ⊥) → line ≡ later))
+    (one_program : (text : List ℕ) (program other : ProgramTree) → Accepts text program → Accepts text other → program ≡ other) where
+  -- good bytes have no cause
+  record Sound (c : Command) (text : List ℕ) : Type 0 where
+    pub refused : (refusal : Refusal) → Refuses c text refusal → ⊥
+    pub unfit : (fault : TooLarge) → IsUnfit c text fault → ⊥
+    pub bad : (cause : ℕ) → FindsBad c text cause → ⊥
+    pub beyond : GivesUp c text → ⊥
 
-  done_beyond : (c : Command) (text output : List ℕ) → IsOutput c text output → GivesUp c text → ⊥
-  done_beyond Check text output o b = b
-  done_beyond (Meaning options) text output o b = b
-  done_beyond Compile text output o b = b.thick o.1 o.2.thin
-  done_beyond (Run options) text output o b = b.thick o.1 o.2.thin
-  done_beyond (Explain options show) text output o b = b.thick o.1 o.2.thin
-  done_beyond (Exec options) text output o b = b
-  done_beyond (Make options) text output o b = o
+  sound_text : (c : Command) (text : List ℕ) (of : OfText c text) (program : ProgramTree) (image : ImageParts) → Accepts text program → (IsTrue (compiles c) → HasImage text image) → Sound c text
+  sound_text c text of program image accepted compiled =
+      record {
+        refused = λ r f. accepted_or_refused text program r.phase r.line accepted (of.refuses r f);
+        unfit = λ fault u. u.imageless image (compiled u.compiled);
+        bad = of.good;
+        beyond = λ g. ⊎_elim of.reads (λ b. b.imageless image (compiled b.compiled)) g;
+      }
 
-  one_refusal : (text : List ℕ) (r q : Refusal) → Fails text r.phase r.line → Fails text q.phase q.line → SameAnswer (status.Refused r) (status.Refused q)
-  one_refusal text r q f g = one_phase text r.phase q.phase r.line q.line f g
+  sound_image : (c : Command) (bytes : List ℕ) → OfImage c bytes → IsImage bytes → Sound c bytes
+  sound_image c bytes of is =
+      record {
+        refused = of.refuses;
+        unfit = λ fault u. of.compiles u.compiled;
+        bad = λ cause b. image_bad bytes cause is (of.bad cause b);
+        beyond = λ g. ⊎_elim of.reads (λ b. of.compiles b.compiled) g;
+      }
 
-  same_refusal : (c : Command) (text : List ℕ) (r q : Refusal) → Refuses c text r → Refuses c text q → SameAnswer (status.Refused r) (status.Refused q)
-  same_refusal Check text r q f g = one_refusal text r q f g
-  same_refusal (Meaning options) text r q f g = one_refusal text r q f g
-  same_refusal Compile text r q f g = one_refusal text r q f g
-  same_refusal (Run options) text r q f g = one_refusal text r q f g
-  same_refusal (Explain options show) text r q f g = one_refusal text r q f g
-  same_refusal (Exec options) text r q f g = absurd f
-  same_refusal (Make options) text r q f g = absurd f
+  -- where there is an output there is no cause
+  sound_output : (c : Command) (text out : List ℕ) → IsOutput c text out → Sound c text
+  sound_output c text out o = go (sort c text) where
+    go : Sort c text → Sound c text
+    go (takes_text of) = let d = of.output out o in sound_text c _ of d.program d.image d.accepted d.compiled
+    go (takes_image of) = sound_image c _ of (of.output out o)
+    go (takes_nothing reads plain) = absurd (reads.output _ out o)
 
-  bad_refused : (c : Command) (text : List ℕ) (cause : ℕ) (refusal : Refusal) → FindsBad c text cause → Refuses c text refusal → ⊥
-  bad_refused Check text cause refusal b f = b
-  bad_refused (Meaning options) text cause refusal b f = b
-  bad_refused Compile text cause refusal b f = b
-  bad_refused (Run options) text cause refusal b f = b
-  bad_refused (Explain options show) text cause refusal b f = b
-  bad_refused (Exec options) text cause refusal b f = f
-  bad_refused (Make options) text cause refusal b f = b
+  one_refusal : (c : Command) (text : List ℕ) (r q : Refusal) → Refuses c text r → Refuses c text q → SameAnswer (status.Refused r) (status.Refused q)
+  one_refusal c text r q f g = go (sort c text) where
+    go : Sort c text → SameAnswer (status.Refused r) (status.Refused q)
+    go (takes_text of) = one_phase _ r.phase q.phase r.line q.line (of.refuses r f) (of.refuses q g)
+    go (takes_image of) = absurd (of.refuses r f)
+    go (takes_nothing reads plain) = absurd (reads.refuses _ r f)
+
+  one_cause : (c : Command) (bytes : List ℕ) (n m : ℕ) → FindsBad c bytes n → FindsBad c bytes m → n ≡ m
+  one_cause c bytes n m a b = go (sort c bytes) where
+    go : Sort c bytes → n ≡ m
+    go (takes_text of) = absurd (of.good n a)
+    go (takes_image of) = same_some (cause_in bytes) n m (of.bad n a) (of.bad m b)
+    go (takes_nothing reads plain) = absurd (reads.bad _ n a)
+
+  -- a refused text isn't accepted, and bytes that are taken for an image are no text
+  refused_unfit : (c : Command) (text : List ℕ) (r : Refusal) (fault : TooLarge) → Refuses c text r → IsUnfit c text fault → ⊥
+  refused_unfit c text r fault f u = go (sort c text) where
+    go : Sort c text → ⊥
+    go (takes_text of) = accepted_or_refused _ u.program r.phase r.line u.accepted (of.refuses r f)
+    go (takes_image of) = of.refuses r f
+    go (takes_nothing reads plain) = reads.refuses _ r f
+
+  refused_bad : (c : Command) (text : List ℕ) (r : Refusal) (cause : ℕ) → Refuses c text r → FindsBad c text cause → ⊥
+  refused_bad c text r cause f b = go (sort c text) where
+    go : Sort c text → ⊥
+    go (takes_text of) = of.good cause b
+    go (takes_image of) = of.refuses r f
+    go (takes_nothing reads plain) = reads.refuses _ r f
+
+  refused_beyond : (c : Command) (text : List ℕ) (r : Refusal) → Refuses c text r → GivesUp c text → ⊥
+  refused_beyond c text r f g = go (sort c text) where
+    go : Sort c text → ⊥
+    go (takes_text of) = ⊎_elim of.reads (λ b. accepted_or_refused _ b.program r.phase r.line b.accepted (of.refuses r f)) g
+    go (takes_image of) = of.refuses r f
+    go (takes_nothing reads plain) = reads.refuses _ r f
+
+  unfit_bad : (c : Command) (text : List ℕ) (fault : TooLarge) (cause : ℕ) → IsUnfit c text fault → FindsBad c text cause → ⊥
+  unfit_bad c text fault cause u b = go (sort c text) where
+    go : Sort c text → ⊥
+    go (takes_text of) = of.good cause b
+    go (takes_image of) = of.compiles u.compiled
+    go (takes_nothing reads plain) = plain u.compiled
+
+  unfit_beyond : (c : Command) (text : List ℕ) (fault : TooLarge) → IsUnfit c text fault → GivesUp c text → ⊥
+  unfit_beyond c text fault u g = go (sort c text) where
+    go : Sort c text → ⊥
+    go (takes_text of) = ⊎_elim of.reads u.built g
+    go (takes_image of) = of.compiles u.compiled
+    go (takes_nothing reads plain) = plain u.compiled
 
   bad_beyond : (c : Command) (text : List ℕ) (cause : ℕ) → FindsBad c text cause → GivesUp c text → ⊥
-  bad_beyond Check text cause b g = b
-  bad_beyond (Meaning options) text cause b g = b
-  bad_beyond Compile text cause b g = b
-  bad_beyond (Run options) text cause b g = b
-  bad_beyond (Explain options show) text cause b g = b
-  bad_beyond (Exec options) text cause b g = g
-  bad_beyond (Make options) text cause b g = b
+  bad_beyond c text cause b g = go (sort c text) where
+    go : Sort c text → ⊥
+    go (takes_text of) = of.good cause b
+    go (takes_image of) = ⊎_elim of.reads (λ b. of.compiles b.compiled) g
+    go (takes_nothing reads plain) = reads.bad _ cause b
 
-  too_long : {C : Type 0} (c : Command) (text : List ℕ) (limit : ℕ) → IsWithin c text → (limit_of c ≡ Some limit) × (limit < length text) → C
-  too_long c text limit low long = absurd (not_both (limit_of c) (length text) limit low long)
+  one_unfit : (c : Command) (text : List ℕ) (fault other : TooLarge) → IsUnfit c text fault → IsUnfit c text other → fault ≡ other
+  one_unfit c text fault other u v =
+      let same = one_program text u.program v.program u.accepted v.accepted in
+      same_some (too_large v.program) fault other (subst (λ p. too_large p ≡ Some fault) same u.found) v.found
 
-  -- what is not built is neither read with this outcome, nor too long
-  unbuilt : {C : Type 0} (c : Command) (text : List ℕ) → IsWithin c text → (GivesUp c text → ⊥) → IsAnswer c text status.NotBuilt → C
-  unbuilt c text low other (inl none) = absurd (some_limit (limit_of c) (length text) low none)
-  unbuilt c text low other (inr gives) = absurd (other gives.1)
-
-  unbuilt_long : {C : Type 0} (c : Command) (text : List ℕ) (limit : ℕ) → (limit_of c ≡ Some limit) × (limit < length text) → IsAnswer c text status.NotBuilt → C
-  unbuilt_long c text limit long (inl none) = absurd (none-some limit (sym none ∙ long.0))
-  unbuilt_long c text limit long (inr gives) = too_long c text limit gives.0 long
-
+  -- bytes have one answer
   pub one_answer : (c : Command) (text : List ℕ) (s t : Status) → IsAnswer c text s → IsAnswer c text t → SameAnswer s t
   one_answer c text status.Done status.Done a b = refl
-  one_answer c text status.Done (status.Refused r) a b = absurd (done_refused c text a.1.0 r a.1.1 b.1)
-  one_answer c text status.Done (status.TooLong l) a b = too_long c text l a.0 b
-  one_answer c text status.Done status.NotBuilt a b = unbuilt c text a.0 (done_beyond c text a.1.0 a.1.1) b
-  one_answer c text (status.Refused r) status.Done a b = absurd (done_refused c text b.1.0 r b.1.1 a.1)
-  one_answer c text (status.Refused r) (status.Refused q) a b = same_refusal c text r q a.1 b.1
-  one_answer c text (status.Refused r) (status.TooLong l) a b = too_long c text l a.0 b
-  one_answer c text (status.Refused r) status.NotBuilt a b = unbuilt c text a.0 (λ g. beyond_refused c text r g a.1) b
-  one_answer c text (status.TooLong l) status.Done a b = too_long c text l b.0 a
-  one_answer c text (status.TooLong l) (status.Refused r) a b = too_long c text l b.0 a
-  one_answer c text (status.TooLong l) (status.TooLong m) a b = ap status.TooLong (same_some (limit_of c) l m a.0 b.0)
-  one_answer c text (status.TooLong l) status.NotBuilt a b = unbuilt_long c text l a b
-  one_answer c text status.NotBuilt status.Done a b = unbuilt c text b.0 (done_beyond c text b.1.0 b.1.1) a
-  one_answer c text status.NotBuilt (status.Refused r) a b = unbuilt c text b.0 (λ g. beyond_refused c text r g b.1) a
-  one_answer c text status.NotBuilt (status.TooLong l) a b = unbuilt_long c text l b a
-  one_answer c text status.NotBuilt status.NotBuilt a b = refl
-  one_answer c text (status.BadImage n) status.Done a b = absurd (done_bad c text b.1.0 n b.1.1 a.1)
-  one_answer c text (status.BadImage n) (status.Refused r) a b = absurd (bad_refused c text n r a.1 b.1)
-  one_answer c text (status.BadImage n) (status.TooLong l) a b = too_long c text l a.0 b
-  one_answer c text (status.BadImage n) (status.BadImage m) a b = ap status.BadImage (same_cause c text n m a.1 b.1)
-  one_answer c text (status.BadImage n) status.NotBuilt a b = unbuilt c text a.0 (bad_beyond c text n a.1) b
-  one_answer c text status.Done (status.BadImage n) a b = absurd (done_bad c text a.1.0 n a.1.1 b.1)
-  one_answer c text (status.Refused r) (status.BadImage n) a b = absurd (bad_refused c text n r b.1 a.1)
-  one_answer c text (status.TooLong l) (status.BadImage n) a b = too_long c text l b.0 a
-  one_answer c text status.NotBuilt (status.BadImage n) a b = unbuilt c text b.0 (bad_beyond c text n b.1) a
-  one_answer c text (status.BadImage n) status.Usage a b = absurd b
-  one_answer c text (status.BadImage n) status.ReadFault a b = absurd b
-  one_answer c text (status.BadImage n) status.WriteFault a b = absurd b
-  one_answer c text (status.BadImage n) status.OutOfMemory a b = absurd b
-  one_answer c text status.Usage other a b = absurd a
-  one_answer c text status.ReadFault other a b = absurd a
-  one_answer c text status.WriteFault other a b = absurd a
-  one_answer c text status.OutOfMemory other a b = absurd a
+  one_answer c text status.Done (status.Refused r) a b = absurd ((sound_output c text a.1.0 a.1.1).refused r b.1)
+  one_answer c text status.Done (status.TooLarge f) a b = absurd ((sound_output c text a.1.0 a.1.1).unfit f b.1)
+  one_answer c text status.Done (status.TooLong l) a b = absurd (not_both (limit_of c) text l a.0 b)
+  one_answer c text status.Done (status.BadImage n) a b = absurd ((sound_output c text a.1.0 a.1.1).bad n b.1)
+  one_answer c text status.Done status.NotBuilt a b = absurd ((sound_output c text a.1.0 a.1.1).beyond b.1)
   one_answer c text status.Done status.Usage a b = absurd b
   one_answer c text status.Done status.ReadFault a b = absurd b
   one_answer c text status.Done status.WriteFault a b = absurd b
   one_answer c text status.Done status.OutOfMemory a b = absurd b
+  one_answer c text (status.Refused r) status.Done a b = absurd ((sound_output c text b.1.0 b.1.1).refused r a.1)
+  one_answer c text (status.Refused r) (status.Refused q) a b = one_refusal c text r q a.1 b.1
+  one_answer c text (status.Refused r) (status.TooLarge f) a b = absurd (refused_unfit c text r f a.1 b.1)
+  one_answer c text (status.Refused r) (status.TooLong l) a b = absurd (not_both (limit_of c) text l a.0 b)
+  one_answer c text (status.Refused r) (status.BadImage n) a b = absurd (refused_bad c text r n a.1 b.1)
+  one_answer c text (status.Refused r) status.NotBuilt a b = absurd (refused_beyond c text r a.1 b.1)
   one_answer c text (status.Refused r) status.Usage a b = absurd b
   one_answer c text (status.Refused r) status.ReadFault a b = absurd b
   one_answer c text (status.Refused r) status.WriteFault a b = absurd b
   one_answer c text (status.Refused r) status.OutOfMemory a b = absurd b
+  one_answer c text (status.TooLarge f) status.Done a b = absurd ((sound_output c text b.1.0 b.1.1).unfit f a.1)
+  one_answer c text (status.TooLarge f) (status.Refused r) a b = absurd (refused_unfit c text r f b.1 a.1)
+  one_answer c text (status.TooLarge f) (status.TooLarge g) a b = ap status.TooLarge (one_unfit c text f g a.1 b.1)
+  one_answer c text (status.TooLarge f) (status.TooLong l) a b = absurd (not_both (limit_of c) text l a.0 b)
+  one_answer c text (status.TooLarge f) (status.BadImage n) a b = absurd (unfit_bad c text f n a.1 b.1)
+  one_answer c text (status.TooLarge f) status.NotBuilt a b = absurd (unfit_beyond c text f a.1 b.1)
+  one_answer c text (status.TooLarge f) status.Usage a b = absurd b
+  one_answer c text (status.TooLarge f) status.ReadFault a b = absurd b
+  one_answer c text (status.TooLarge f) status.WriteFault a b = absurd b
+  one_answer c text (status.TooLarge f) status.OutOfMemory a b = absurd b
+  one_answer c text (status.TooLong l) status.Done a b = absurd (not_both (limit_of c) text l b.0 a)
+  one_answer c text (status.TooLong l) (status.Refused r) a b = absurd (not_both (limit_of c) text l b.0 a)
+  one_answer c text (status.TooLong l) (status.TooLarge f) a b = absurd (not_both (limit_of c) text l b.0 a)
+  one_answer c text (status.TooLong l) (status.TooLong m) a b = ap status.TooLong (same_some (limit_of c) l m a.0 b.0)
+  one_answer c text (status.TooLong l) (status.BadImage n) a b = absurd (not_both (limit_of c) text l b.0 a)
+  one_answer c text (status.TooLong l) status.NotBuilt a b = absurd (not_both (limit_of c) text l b.0 a)
   one_answer c text (status.TooLong l) status.Usage a b = absurd b
   one_answer c text (status.TooLong l) status.ReadFault a b = absurd b
   one_answer c text (status.TooLong l) status.WriteFault a b = absurd b
   one_answer c text (status.TooLong l) status.OutOfMemory a b = absurd b
+  one_answer c text (status.BadImage n) status.Done a b = absurd ((sound_output c text b.1.0 b.1.1).bad n a.1)
+  one_answer c text (status.BadImage n) (status.Refused r) a b = absurd (refused_bad c text r n b.1 a.1)
+  one_answer c text (status.BadImage n) (status.TooLarge f) a b = absurd (unfit_bad c text f n b.1 a.1)
+  one_answer c text (status.BadImage n) (status.TooLong l) a b = absurd (not_both (limit_of c) text l a.0 b)
+  one_answer c text (status.BadImage n) (status.BadImage m) a b = ap status.BadImage (one_cause c text n m a.1 b.1)
+  one_answer c text (status.BadImage n) status.NotBuilt a b = absurd (bad_beyond c text n a.1 b.1)
+  one_answer c text (status.BadImage n) status.Usage a b = absurd b
+  one_answer c text (status.BadImage n) status.ReadFault a b = absurd b
+  one_answer c text (status.BadImage n) status.WriteFault a b = absurd b
+  one_answer c text (status.BadImage n) status.OutOfMemory a b = absurd b
+  one_answer c text status.NotBuilt status.Done a b = absurd ((sound_output c text b.1.0 b.1.1).beyond a.1)
+  one_answer c text status.NotBuilt (status.Refused r) a b = absurd (refused_beyond c text r b.1 a.1)
+  one_answer c text status.NotBuilt (status.TooLarge f) a b = absurd (unfit_beyond c text f b.1 a.1)
+  one_answer c text status.NotBuilt (status.TooLong l) a b = absurd (not_both (limit_of c) text l a.0 b)
+  one_answer c text status.NotBuilt (status.BadImage n) a b = absurd (bad_beyond c text n b.1 a.1)
+  one_answer c text status.NotBuilt status.NotBuilt a b = refl
   one_answer c text status.NotBuilt status.Usage a b = absurd b
   one_answer c text status.NotBuilt status.ReadFault a b = absurd b
   one_answer c text status.NotBuilt status.WriteFault a b = absurd b
   one_answer c text status.NotBuilt status.OutOfMemory a b = absurd b
+  one_answer c text status.Usage t a b = absurd a
+  one_answer c text status.ReadFault t a b = absurd a
+  one_answer c text status.WriteFault t a b = absurd a
+  one_answer c text status.OutOfMemory t a b = absurd a
 
--- what a command gives up on, once all was read
-pub not_built_of : (asked : Option Command) (c : Command) (found : Option ℕ) (limit : ℕ) (left left' : Option (List ℕ)) (bytes : List ℕ)
-    → asked ≡ Some c → found ≡ limit_of c → found ≡ Some limit → IsWhole limit left left' bytes → GivesUp c bytes → IsSomeAnd asked (λ d. IsNotBuilt d left left')
-not_built_of asked c found limit left left' bytes e f g whole gives =
-    subst (λ a. IsSomeAnd a (λ d. IsNotBuilt d left left')) (sym e)
-    (beyond bytes (subst (λ l. IsSomeAnd l (λ most. IsWhole most left left' bytes)) (sym (sym f ∙ g)) whole) gives)
+  -- good input has no answer but `Done`
+  good_is_sound : (c : Command) (text : List ℕ) → IsGood c text → Sound c text
+  good_is_sound Check text g = sound_text Check text (record { output = λ out o. o; refuses = λ r f. f; good = λ cause b. b; reads = λ none. none-some 8388608 (sym none) }) g.program g.image g.accepted g.compiled
+  good_is_sound (Meaning options) text g = sound_text (Meaning options) text (record { output = λ out o. o; refuses = λ r f. f; good = λ cause b. b; reads = λ none. none-some 8388608 (sym none) }) g.program g.image g.accepted g.compiled
+  good_is_sound Compile text g = sound_text Compile text (record { output = λ out o. o; refuses = λ r f. f; good = λ cause b. b; reads = λ none. none-some 1048576 (sym none) }) g.program g.image g.accepted g.compiled
+  good_is_sound (Run options) text g = sound_text (Run options) text (record { output = λ out o. o; refuses = λ r f. f; good = λ cause b. b; reads = λ none. none-some 1048576 (sym none) }) g.program g.image g.accepted g.compiled
+  good_is_sound (Explain options show) text g = sound_text (Explain options show) text (record { output = λ out o. o; refuses = λ r f. f; good = λ cause b. b; reads = λ none. none-some 1048576 (sym none) }) g.program g.image g.accepted g.compiled
+  good_is_sound (Exec options) text g = sound_image (Exec options) text (record { output = λ out o. o.read; refuses = λ r f. f; bad = λ cause b. b; compiles = λ h. false≢true h; reads = λ none. none-some 67108864 (sym none) }) g
+  good_is_sound (Make options) text g = absurd g
+
+  only_done : (c : Command) (text : List ℕ) (s : Status) → Sound c text → IsWithin c text → IsAnswer c text s → s ≡ status.Done
+  only_done c text status.Done sound within a = refl
+  only_done c text (status.Refused r) sound within a = absurd (sound.refused r a.1)
+  only_done c text (status.TooLarge f) sound within a = absurd (sound.unfit f a.1)
+  only_done c text (status.TooLong l) sound within a = absurd (not_both (limit_of c) text l within a)
+  only_done c text (status.BadImage n) sound within a = absurd (sound.bad n a.1)
+  only_done c text status.NotBuilt sound within a = absurd (sound.beyond a.1)
+  only_done c text status.Usage sound within a = absurd a
+  only_done c text status.ReadFault sound within a = absurd a
+  only_done c text status.WriteFault sound within a = absurd a
+  only_done c text status.OutOfMemory sound within a = absurd a
+
+  pub completed : (c : Command) (t : Traffic) (text : List ℕ) (s : Status) → Says c t s → t.left ≡ Some text → IsUndisturbed t → IsWithin c text → IsGood c text → (s ≡ status.Done) ⊎ (s ≡ status.OutOfMemory)
+  completed c t text s says is calm within good =
+      ⊎_elim (λ answer. inl (only_done c text s (good_is_sound c text good) within answer)) inr (answered c t text s says is calm)
+
+  -- all that an answer says
+  answers_all : (asked : Option Command) (t : Traffic) (s : Status) → (asked ≡ None → (s ≡ status.Usage) ⊎ (s ≡ status.OutOfMemory)) → ((c : Command) → asked ≡ Some c → Says c t s) → Answers asked t s
+  answers_all asked t s no_command says =
+      record {
+        no_command = no_command;
+        says = says;
+        answered = λ c bytes is left calm. answered c t bytes s (says c is) left calm;
+        complete = λ c bytes is left calm within good. completed c t bytes s (says c is) left calm within good;
+      }
+
+  -- the same of the call that gives the status
+  pub answers_by : {A : Type 0} (asked : Option Command) (t : Traffic) (r : Result A Failure) (s : Status) → s ≡ status_by r → (asked ≡ None → IsErrOf r failure.Usage ⊎ IsErrOf r failure.OutOfMemory) → ((c : Command) → asked ≡ Some c → Says c t (status_by r)) → Answers asked t s
+  answers_by asked t r s is no_command says =
+      subst (Answers asked t) (sym is) (answers_all asked t (status_by r) (λ none. no_command_by r (no_command none)) says)

@@ -67,12 +67,12 @@ pub shown_known : TracesAreLegal → (options : RunOptions) (image : ImageParts)
 shown_known legal options image formed =
     legal_is_known (interfaces_of image) (shown options image).state.trace (main_known image formed) (legal image (map word_of options.inputs) options.steps options.events formed (All-map IsWord word_of options.inputs (λ i d within. word_of-lt (get_or options.inputs i d))))
 
--- the run's text, from what was found of the image and of the run
-pub shown_text : {E : Type 0} (r : Result (List ℕ) E) (options : RunOptions) (image : ImageParts) (interfaces : Interfaces) (trace : List Event) (stop : Stop) → interfaces ≡ interfaces_of image →
-    trace ≡ (shown options image).state.trace → stop ≡ (shown options image).stop → IfOk r (λ text. text ≡ run_text interfaces trace stop) → IfOk r (λ text. text ≡ machine_text options image)
-shown_text (Ok text) options image interfaces trace stop names events why told = told ∙ rw (names, events, why) refl
-shown_text (Err fault) options image interfaces trace stop names events why told = tt
+-- the run's text, from what was found of the run
+pub shown_text : {E : Type 0} (r : Result (List ℕ) E) (names : Interfaces) (options : RunOptions) (image : ImageParts) (trace : List Event) (stop : Stop)
+    → trace ≡ (shown options image).state.trace → stop ≡ (shown options image).stop → IfOk r (λ text. text ≡ run_text names trace stop) → IfOk r (λ text. text ≡ machine_text names options image)
+shown_text (Ok text) names options image trace stop events why told = told ∙ rw (events, why) refl
+shown_text (Err fault) names options image trace stop events why told = tt
 
 -- an image that was read and run
-pub executed : (options : RunOptions) (bytes text : List ℕ) (image : ImageParts) → bytes ≡ image_bytes image → IsWellFormed image → text ≡ machine_text options image → IsExecuted options bytes text
-executed options bytes text image bytes_are formed told = record { read = record { image = image; well_formed = formed; bytes_are = bytes_are }; told = told }
+pub executed : (options : RunOptions) (bytes text : List ℕ) (image : ImageParts) → bytes ≡ image_bytes image → IsWellFormed image → text ≡ machine_text (interfaces_of image) options image → IsExecuted options bytes text
+executed options bytes text image bytes_are formed told = record { read = record { image = image; well_formed = formed; bytes_are = bytes_are }; written = told }

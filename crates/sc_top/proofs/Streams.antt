@@ -1,9 +1,11 @@
 -- What was read and written so far, in pieces.
-use Rattle.std.proofs.Common.{◌≡◌, ℕ, ◌+◌, ◌-◌, ◌≤◌, inl, inr, List, [], ◌++◌, length, take, drop, Option, None, Some, Result, Ok, Err, OnErr, refl, sym, ap, ◌∙◌, subst, arith, append_assoc, length-append, length-drop, ⊎_elim}
+use Rattle.std.proofs.Common.{◌≡◌, ℕ, ◌+◌, ◌-◌, ◌≤◌, inl, inr, List, [], ◌++◌, length, take, drop, Option, None, Some, Result, Ok, Err, OnOk, refl, sym, ap, ◌∙◌, subst, arith, append_assoc, length-append, length-drop, ⊎_elim}
 use Rattle.std.proofs.lemmas.List.{append-nil, take-append-drop, take_all, take_rest}
 use Rattle.std.proofs.Math.Seq.{take-add}
 use Rattle.sc_edge.specs.Edge.{Rose, Takes, Adds, IsAtEnd}
-use Rattle.sc_top.specs.Answer.{Fetches, Tells}
+use Rattle.sc_top.specs.Answer.{Tells}
+use Rattle.sc_top.specs.Fetching.{Fetches}
+use Rattle.sc_top.specs.Writing.{Wrote}
 
 -- a count that rose later has risen
 pub rose_since : (before then_ after : ℕ) → before ≤ then_ → Rose then_ after → Rose before after
@@ -46,11 +48,15 @@ more_taken most a b c f g h text more so_far taken within counted =
 -- at the end of the input all was read
 pub all_taken : (limit : ℕ) (a b c : Option (List ℕ)) (f g : ℕ) (text : List ℕ) → HasTaken (limit + 1) a b f g text → Takes b c [] → IsAtEnd c → Fetches limit a c text
 all_taken limit a b c f g text so_far taken ended =
-    record { taken = subst (Takes a c) (append-nil text) (Takes-more a b c text [] so_far.taken taken); ended = λ _. ended }
+    record {
+      taken = subst (Takes a c) (append-nil text) (Takes-more a b c text [] so_far.taken taken);
+      few = so_far.within;
+      ended = λ _. ended;
+    }
 
 -- past the limit nothing is said of the rest
 pub enough_taken : (limit : ℕ) (a b : Option (List ℕ)) (f g : ℕ) (text : List ℕ) → HasTaken (limit + 1) a b f g text → limit + 1 ≤ length text → Fetches limit a b text
-enough_taken limit a b f g text so_far long = record { taken = so_far.taken; ended = λ short. absurd (omega arith) }
+enough_taken limit a b f g text so_far long = record { taken = so_far.taken; few = so_far.within; ended = λ short. absurd (omega arith) }
 
 -- so many of the bytes were written
 pub record HasAdded (bytes : List ℕ) (written written' : Option (List ℕ)) (faults faults' count : ℕ) : Type 0 where
@@ -87,17 +93,8 @@ cut_short bytes a b c f g h count so_far same rose =
       whole = inr (rose_since f g h so_far.counted rose);
     }
 
--- a fact holds where there is an error
-pub on_err : {T E : Type 0} (r : Result T E) (P : Type 0) → P → OnErr r P
-on_err (Ok value) P holds = tt
-on_err (Err error) P holds = holds
-
-pub on_err_more : {T E : Type 0} (r : Result T E) (P Q : Type 0) → (P → Q) → OnErr r P → OnErr r Q
-on_err_more (Ok value) P Q on h = tt
-on_err_more (Err error) P Q on h = on h
-
 -- a text that was cut short is the front of a longer one
-pub first_cut : (a b : List ℕ) (w w' : Option (List ℕ)) (f f' : ℕ) → Tells a w w' f f' → Rose f f' → Tells (a ++ b) w w' f f'
+first_cut : (a b : List ℕ) (w w' : Option (List ℕ)) (f f' : ℕ) → Tells a w w' f f' → Rose f f' → Tells (a ++ b) w w' f f'
 first_cut a b w w' f f' t rose =
     record {
       front = t.front;
@@ -107,7 +104,7 @@ first_cut a b w w' f f' t rose =
     }
 
 -- behind a text that was written whole, the next is told
-pub then_told : (a b : List ℕ) (w u w' : Option (List ℕ)) (f g f' : ℕ) → Adds w u a → f ≤ g → Tells b u w' g f' → Tells (a ++ b) w w' f f'
+then_told : (a b : List ℕ) (w u w' : Option (List ℕ)) (f g f' : ℕ) → Adds w u a → f ≤ g → Tells b u w' g f' → Tells (a ++ b) w w' f f'
 then_told a b w u w' f g f' added low t =
     record {
       front = a ++ t.front;
@@ -115,6 +112,43 @@ then_told a b w u w' f g f' added low t =
       part = Adds-more w u w' a t.front added t.part;
       whole = ⊎_elim (λ same. inl (ap (λ x. a ++ x) same)) (λ rose. inr (rose_since f g f' low rose)) t.whole;
     }
+
+-- a text whose front was cut short, so that the call fails
+pub cut_wrote : {T E : Type 0} (text a b : List ℕ) (r : Result T E) (w w' : Option (List ℕ)) (f f' : ℕ) → text ≡ a ++ b → OnOk r ⊥ → Tells a w w' f f' → Rose f f' → f ≤ f' → Wrote text r w w' f f'
+cut_wrote text a b (Ok value) w w' f f' joined fails told rose low = absurd fails
+cut_wrote text a b (Err error) w w' f f' joined fails told rose low =
+    record { ok = tt; err = subst (λ t. Tells t w w' f f') (sym joined) (first_cut a b w w' f f' told rose); fault = rose; counted = low }
+
+-- a text whose front was written whole, and what is behind it by this call
+pub then_wrote : {T E : Type 0} (text a b : List ℕ) (r : Result T E) (w u w' : Option (List ℕ)) (f g f' : ℕ) → text ≡ a ++ b → Adds w u a → f ≤ g → Wrote b r u w' g f' → Wrote text r w w' f f'
+then_wrote text a b (Ok value) w u w' f g f' joined added low wrote =
+    let counted = wrote.counted in
+    record { ok = subst (Adds w w') (sym joined) (Adds-more w u w' a b added wrote.ok); err = tt; fault = tt; counted = omega (arith, counted, low) }
+then_wrote text a b (Err error) w u w' f g f' joined added low wrote =
+    let counted = wrote.counted in
+    record {
+      ok = tt;
+      err = subst (λ t. Tells t w w' f f') (sym joined) (then_told a b w u w' f g f' added low wrote.err);
+      fault = rose_since f g f' low wrote.fault;
+      counted = omega (arith, counted, low);
+    }
+
+-- a call that failed to write all the bytes
+pub part_wrote : {T E : Type 0} (bytes : List ℕ) (r : Result T E) (a b c : Option (List ℕ)) (f g h count : ℕ) → OnOk r ⊥ → HasAdded bytes a b f g count → c ≡ b → Rose g h → g ≤ h → Wrote bytes r a c f h
+part_wrote bytes (Ok value) a b c f g h count fails so_far same rose low = absurd fails
+part_wrote bytes (Err error) a b c f g h count fails so_far same rose low =
+    let counted = so_far.counted in
+    record {
+      ok = tt;
+      err = cut_short bytes a b c f g h count so_far same rose;
+      fault = rose_since f g h counted rose;
+      counted = omega (arith, counted, low);
+    }
+
+-- a text was told, whether or not the call failed
+pub told_by : {T E : Type 0} (text : List ℕ) (r : Result T E) (w w' : Option (List ℕ)) (f f' : ℕ) → Wrote text r w w' f f' → Tells text w w' f f'
+told_by text (Ok value) w w' f f' wrote = record { front = text; begins = record { rest = []; joined = sym (append-nil text) }; part = wrote.ok; whole = inl refl }
+told_by text (Err error) w w' f f' wrote = wrote.err
 
 pub ruleset reading = (nothing_taken, more_taken, all_taken, enough_taken, rose_since)
 

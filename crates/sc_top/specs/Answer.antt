@@ -1,25 +1,33 @@
 -- What an answer says of the bytes that were read and written.
-use Rattle.std.specs.Prelude.{◌≡◌, ◌≢◌, ◌<◌, ◌≤◌, ◌⊎◌, ℕ, List, ◌++◌, length, Option, Some, None, IsSomeAnd, option_and_then}
+use Rattle.std.specs.Prelude.{◌≡◌, ◌≢◌, ◌≤◌, ◌⊎◌, ◌+◌, ℕ, IsTrue, List, [], ◌++◌, length, Option, Some, None, option_and_then}
 use Rattle.std.specs.Option.{option_map}
 use Rattle.sc_lex.specs.declared.refusal.Refusal.{Refusal}
 use Rattle.sc_lex.specs.declared.refusal.Phase.TheVariants.{Syntax}
-use Rattle.sc_core.specs.declared.thin.ThinProgram.{ThinProgram}
 use Rattle.sc_core.specs.declared.program.ProgramTree.{ProgramTree}
+use Rattle.sc_image.specs.declared.parts.ImageParts.{ImageParts}
 use Rattle.sc_image.specs.Reading.{cause_number, bad}
+use Rattle.sc_image.specs.RoundTrip.{IsImage}
 use Rattle.sc_edge.specs.Edge.{Rose, Takes, Adds, IsAtEnd}
 use Rattle.sc_types.specs.Acceptance.{Accepts, Fails}
 use Rattle.sc_words.specs.declared.command.Command.{Command}
-use Rattle.sc_words.specs.declared.command.Command.TheVariants.{Check, Meaning, Exec, Make}
 use Rattle.sc_top.specs.declared.status.Status.{Status}
-use Rattle.sc_top.specs.declared.status.Status.TheVariants.{Done, Refused, TooLong, BadImage, ReadFault, OutOfMemory, NotBuilt}
-use Rattle.sc_top.specs.Command.{limit_of}
-use Rattle.sc_top.specs.Output.{IsOutput}
-use Rattle.sc_top.specs.Thin.{IsThin}
+use Rattle.sc_top.specs.declared.status.Status.TheVariants.{Done, Usage, Refused, TooLarge, TooLong, BadImage, ReadFault, WriteFault, OutOfMemory, NotBuilt}
+use Rattle.sc_top.specs.declared.status.TooLarge as large
+use Rattle.sc_top.specs.Command.{Intake, Text, Image, Nothing, intake, limit_of}
+use Rattle.sc_top.specs.Output.{compiles, HasImage, IsOutput}
+use Rattle.sc_top.specs.Sizes.{too_large}
 
--- these bytes were fetched, and they are all there are unless more than the limit came
-pub record Fetches (limit : ℕ) (before after : Option (List ℕ)) (bytes : List ℕ) : Type 0 where
-  pub taken : Takes before after bytes
-  pub ended : length bytes ≤ limit → IsAtEnd after
+-- what a call saw of the outside: the bytes that were left to read and those that were written, where these are told, and
+-- the counts of faults, each before the call and after it
+pub record Traffic : Type 0 where
+  pub left : Option (List ℕ)
+  pub left_after : Option (List ℕ)
+  pub read_faults : ℕ
+  pub read_faults_after : ℕ
+  pub written : Option (List ℕ)
+  pub written_after : Option (List ℕ)
+  pub write_faults : ℕ
+  pub write_faults_after : ℕ
 
 -- a text begins with this front
 pub record IsFront (front text : List ℕ) : Type 0 where
@@ -27,132 +35,163 @@ pub record IsFront (front text : List ℕ) : Type 0 where
   pub joined : text ≡ front ++ rest
 
 -- these bytes are all that was left, and no more than the limit
-pub record IsWhole (limit : ℕ) (left left' : Option (List ℕ)) (bytes : List ℕ) : Type 0 where
-  pub read : Takes left left' bytes
-  pub ended : IsAtEnd left'
+pub record IsWhole (limit : ℕ) (left left_after : Option (List ℕ)) (bytes : List ℕ) : Type 0 where
+  pub read : Takes left left_after bytes
+  pub ended : IsAtEnd left_after
   pub within : length bytes ≤ limit
 
--- these bytes are the whole input of a command that reads some
-abbrev pub IsInput : Command → (left left' : Option (List ℕ)) → List ℕ → Type 0
-IsInput command left left' bytes = IsSomeAnd (limit_of command) (λ limit. IsWhole limit left left' bytes)
-
--- the whole input was read, and the command's output for it was written
-pub record IsDone (command : Command) (left left' written written' : Option (List ℕ)) : Type 0 where
+-- more bytes came than the limit, of which one more was read and no other
+pub record IsLonger (limit : ℕ) (left left_after : Option (List ℕ)) : Type 0 where
   pub bytes : List ℕ
+  pub read : Takes left left_after bytes
+  pub long : length bytes ≡ limit + 1
+
+-- these bytes are the whole input, where a command reads so many at most; or it reads nothing
+abbrev pub IsInput : Option ℕ → (left left_after : Option (List ℕ)) → List ℕ → Type 0
+IsInput (Some limit) left left_after bytes = IsWhole limit left left_after bytes
+IsInput None left left_after bytes = (bytes ≡ []) × (left_after ≡ left)
+
+-- the whole input was read, and this holds of its bytes
+pub record HasRead (command : Command) (t : Traffic) (Q : List ℕ → Type 0) : Type 0 where
+  pub bytes : List ℕ
+  pub input : IsInput (limit_of command) t.left t.left_after bytes
+  pub holds : Q bytes
+
+-- the text was written whole
+pub record HasWritten (command : Command) (t : Traffic) (bytes : List ℕ) : Type 0 where
   pub text : List ℕ
-  pub input : IsInput command left left' bytes
   pub output : IsOutput command bytes text
-  pub whole : Adds written written' text
+  pub whole : Adds t.written t.written_after text
 
--- what was written before a write failed is a front of the command's output
-pub record IsCutShort (command : Command) (left left' written written' : Option (List ℕ)) : Type 0 where
-  pub bytes : List ℕ
+-- a front of the text was written
+pub record HasBegun (command : Command) (t : Traffic) (bytes : List ℕ) : Type 0 where
   pub text : List ℕ
   pub front : List ℕ
-  pub input : IsInput command left left' bytes
   pub output : IsOutput command bytes text
   pub begins : IsFront front text
-  pub part : Adds written written' front
+  pub part : Adds t.written t.written_after front
 
--- a command takes a text through the phases, which refuse it here; an image has none
+-- Causes: why a command has no output for its input.
+
+-- a text fails a phase, at a line
+abbrev pub FailsIn : Intake → List ℕ → Refusal → Type 0
+FailsIn (Text limit) bytes refusal = Fails bytes refusal.phase refusal.line
+FailsIn _ bytes refusal = ⊥
+
 abbrev pub Refuses : Command → List ℕ → Refusal → Type 0
-Refuses (Exec options) bytes refusal = ⊥
-Refuses (Make options) bytes refusal = ⊥
-Refuses _ bytes refusal = Fails bytes refusal.phase refusal.line
-
--- the whole text was read, and it fails a phase
-pub record IsRefused (command : Command) (left left' : Option (List ℕ)) (refusal : Refusal) : Type 0 where
-  pub bytes : List ℕ
-  pub input : IsInput command left left' bytes
-  pub fails : Refuses command bytes refusal
+Refuses command bytes refusal = FailsIn (intake command) bytes refusal
 
 -- the number of the cause for which the bytes are no image, if they are none
 abbrev pub cause_in : List ℕ → Option ℕ
 cause_in bytes = option_map cause_number (bad bytes)
 
--- a command takes the bytes for an image, and this is why they are none
+abbrev pub IsBadIn : Intake → List ℕ → (cause : ℕ) → Type 0
+IsBadIn (Image limit) bytes cause = cause_in bytes ≡ Some cause
+IsBadIn _ bytes cause = ⊥
+
 abbrev pub FindsBad : Command → List ℕ → (cause : ℕ) → Type 0
-FindsBad (Exec options) bytes cause = cause_in bytes ≡ Some cause
-FindsBad _ bytes cause = ⊥
+FindsBad command bytes cause = IsBadIn (intake command) bytes cause
 
--- all bytes were read, and they are no image
-pub record IsBadInput (command : Command) (left left' : Option (List ℕ)) (cause : ℕ) : Type 0 where
-  pub bytes : List ℕ
-  pub input : IsInput command left left' bytes
-  pub bad_for : FindsBad command bytes cause
-
--- more bytes came than the limit
-pub record IsLonger (limit : ℕ) (left left' : Option (List ℕ)) : Type 0 where
-  pub bytes : List ℕ
-  pub read : Takes left left' bytes
-  pub long : limit < length bytes
-
--- why the whole of the input wasn't read
-abbrev pub IsFetchFault : ℕ → Status → Type 0
-IsFetchFault limit status = (status ≡ TooLong limit) ⊎ (status ≡ ReadFault) ⊎ (status ≡ OutOfMemory)
-
--- a text is accepted, and isn't thin
-pub record IsBeyond (text : List ℕ) : Type 0 where
+-- the text is accepted, and would be compiled, which isn't built yet for it
+pub record IsBeyond (command : Command) (bytes : List ℕ) : Type 0 where
+  pub compiled : IsTrue (compiles command)
   pub program : ProgramTree
-  pub accepted : Accepts text program
-  pub thick : (thin : ThinProgram) → IsThin text thin → ⊥
+  pub accepted : Accepts bytes program
+  pub imageless : (image : ImageParts) → HasImage bytes image → ⊥
 
--- why a text has no output
-abbrev pub IsTextFault : Status → Type 0
-IsTextFault status = (status ≡ NotBuilt) ⊎ (status ≡ OutOfMemory) ⊎ ((refusal : Refusal) × (status ≡ Refused refusal))
+-- the text is accepted, and its program doesn't fit where it would be compiled, so that it has no image. So far each text
+-- without an image is beyond what is built
+pub record IsUnfit (command : Command) (bytes : List ℕ) (fault : large.TooLarge) : Type 0 where
+  pub compiled : IsTrue (compiles command)
+  pub program : ProgramTree
+  pub accepted : Accepts bytes program
+  pub found : too_large program ≡ Some fault
+  pub imageless : (image : ImageParts) → HasImage bytes image → ⊥
+  pub built : IsBeyond command bytes → ⊥
 
--- why bytes that are taken for an image have no output
-abbrev pub IsImageFault : Status → Type 0
-IsImageFault status = (status ≡ OutOfMemory) ⊎ ((cause : ℕ) × (status ≡ BadImage cause))
-
--- why a command has no output
-abbrev pub IsInputFault : Status → Type 0
-IsInputFault status = IsTextFault status ⊎ IsImageFault status
-
--- `check` and `meaning` are there for all texts, and the other commands of texts for thin ones alone; `make` isn't there yet
+-- the command isn't built yet, or isn't for this text
 abbrev pub GivesUp : Command → List ℕ → Type 0
-GivesUp Check bytes = ⊥
-GivesUp (Meaning options) bytes = ⊥
-GivesUp (Exec options) bytes = ⊥
-GivesUp (Make options) bytes = Unit {0}
-GivesUp _ bytes = IsBeyond bytes
+GivesUp command bytes = (limit_of command ≡ None) ⊎ IsBeyond command bytes
 
--- the whole text was read, and it is beyond the thin ones; or the command reads nothing
-pub data IsNotBuilt (command : Command) (left left' : Option (List ℕ)) : Type 0 where
-  reads_nothing : limit_of command ≡ None → left' ≡ left → IsNotBuilt command left left'
-  beyond : (bytes : List ℕ) → IsInput command left left' bytes → GivesUp command bytes → IsNotBuilt command left left'
+-- What each status says.
+
+-- with a command, what was read and written where it was answered so
+abbrev pub Says : Command → Traffic → Status → Type 0
+Says command t Done = HasRead command t (HasWritten command t)
+Says command t Usage = ⊥
+Says command t (Refused refusal) = HasRead command t (λ bytes. Refuses command bytes refusal)
+Says command t (TooLarge fault) = HasRead command t (λ bytes. IsUnfit command bytes fault)
+Says command t (TooLong limit) = (limit_of command ≡ Some limit) × IsLonger limit t.left t.left_after
+Says command t (BadImage cause) = HasRead command t (λ bytes. FindsBad command bytes cause)
+Says command t ReadFault = Rose t.read_faults t.read_faults_after
+Says command t WriteFault = Rose t.write_faults t.write_faults_after × HasRead command t (HasBegun command t)
+Says command t OutOfMemory = Unit {0}
+Says command t NotBuilt = HasRead command t (GivesUp command)
+
+-- no read and no write failed
+pub record IsUndisturbed (t : Traffic) : Type 0 where
+  pub reads : Rose t.read_faults t.read_faults_after → ⊥
+  pub writes : Rose t.write_faults t.write_faults_after → ⊥
+
+-- no more bytes than the command takes
+abbrev pub IsWithinLimit : Option ℕ → List ℕ → Type 0
+IsWithinLimit (Some limit) bytes = length bytes ≤ limit
+IsWithinLimit None bytes = Unit {0}
+
+abbrev pub IsWithin : Command → List ℕ → Type 0
+IsWithin command bytes = IsWithinLimit (limit_of command) bytes
+
+-- the answer to these bytes, unless memory runs out or the outside fails
+abbrev pub IsAnswer : Command → List ℕ → Status → Type 0
+IsAnswer command bytes Done = IsWithin command bytes × ((text : List ℕ) × IsOutput command bytes text)
+IsAnswer command bytes (Refused refusal) = IsWithin command bytes × Refuses command bytes refusal
+IsAnswer command bytes (TooLarge fault) = IsWithin command bytes × IsUnfit command bytes fault
+IsAnswer command bytes (TooLong limit) = (limit_of command ≡ Some limit) × (limit + 1 ≤ length bytes)
+IsAnswer command bytes (BadImage cause) = IsWithin command bytes × FindsBad command bytes cause
+IsAnswer command bytes NotBuilt = IsWithin command bytes × GivesUp command bytes
+IsAnswer command bytes _ = ⊥
+
+-- good input: a text that is accepted, and has an image where it is compiled; the bytes of an image
+pub record IsGoodText (command : Command) (bytes : List ℕ) : Type 0 where
+  pub program : ProgramTree
+  pub image : ImageParts
+  pub accepted : Accepts bytes program
+  pub compiled : IsTrue (compiles command) → HasImage bytes image
+
+abbrev pub IsGoodIn : Intake → Command → List ℕ → Type 0
+IsGoodIn (Text limit) command bytes = IsGoodText command bytes
+IsGoodIn (Image limit) command bytes = IsImage bytes
+IsGoodIn Nothing command bytes = ⊥
+
+abbrev pub IsGood : Command → List ℕ → Type 0
+IsGood command bytes = IsGoodIn (intake command) command bytes
 
 -- a text was written, whole or cut short by a fault
-pub record Tells (text : List ℕ) (written written' : Option (List ℕ)) (faults faults' : ℕ) : Type 0 where
+pub record Tells (text : List ℕ) (written written_after : Option (List ℕ)) (faults faults_after : ℕ) : Type 0 where
   pub front : List ℕ
   pub begins : IsFront front text
-  pub part : Adds written written' front
-  pub whole : (front ≡ text) ⊎ Rose faults faults'
+  pub part : Adds written written_after front
+  pub whole : (front ≡ text) ⊎ Rose faults faults_after
 
 -- the words are no command that reads
 abbrev pub IsSilent : Option Command → Type 0
 IsSilent asked = option_and_then limit_of asked ≡ None
 
--- no more bytes than the command takes
-abbrev pub IsWithin : Command → List ℕ → Type 0
-IsWithin command text = IsSomeAnd (limit_of command) (λ limit. length text ≤ limit)
-
--- the command takes every accepted text
-abbrev pub IsOfAnyText : Command → Type 0
-IsOfAnyText Check = Unit {0}
-IsOfAnyText (Meaning options) = Unit {0}
-IsOfAnyText _ = ⊥
-
--- the answer to these bytes, unless memory runs out or the outside fails
-abbrev pub IsAnswer : Command → List ℕ → Status → Type 0
-IsAnswer command text Done = IsWithin command text × ((output : List ℕ) × IsOutput command text output)
-IsAnswer command text (Refused refusal) = IsWithin command text × Refuses command text refusal
-IsAnswer command text (TooLong limit) = (limit_of command ≡ Some limit) × (limit < length text)
-IsAnswer command text (BadImage cause) = IsWithin command text × FindsBad command text cause
-IsAnswer command text NotBuilt = (limit_of command ≡ None) ⊎ (IsWithin command text × GivesUp command text)
-IsAnswer command text _ = ⊥
+-- what a call answered, asked for a command or none
+pub record Answers (asked : Option Command) (t : Traffic) (status : Status) : Type 0 where
+  -- words that are no command are answered so
+  pub no_command : asked ≡ None → (status ≡ Usage) ⊎ (status ≡ OutOfMemory)
+  -- with a command, the status says what was read and written
+  pub says : (command : Command) → asked ≡ Some command → Says command t status
+  -- bytes that the source tells have their one answer, unless memory runs out or the outside fails
+  pub answered : (command : Command) (bytes : List ℕ) → asked ≡ Some command → t.left ≡ Some bytes → IsUndisturbed t →
+      IsAnswer command bytes status ⊎ (status ≡ OutOfMemory)
+  -- and good input is answered `Done`
+  pub complete : (command : Command) (bytes : List ℕ) → asked ≡ Some command → t.left ≡ Some bytes → IsUndisturbed t →
+      IsWithin command bytes → IsGood command bytes → (status ≡ Done) ⊎ (status ≡ OutOfMemory)
 
 -- two answers are the same; which line of a section phase Syntax refuses isn't told
 abbrev pub SameAnswer : Status → Status → Type 0
-SameAnswer (Refused refusal) (Refused other) = (refusal.phase ≡ other.phase) × (refusal.phase ≢ Syntax → refusal.line ≡ other.line)
+SameAnswer (Refused refusal) (Refused other) =
+    (refusal.phase ≡ other.phase) × (refusal.phase ≢ Syntax → refusal.line ≡ other.line)
 SameAnswer status other = status ≡ other

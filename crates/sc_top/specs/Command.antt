@@ -1,14 +1,28 @@
--- How much a command reads.
+-- What a command reads.
 use Rattle.std.specs.Prelude.{ℕ, Option, Some, None}
 use Rattle.sc_words.specs.declared.command.Command.{Command}
 use Rattle.sc_words.specs.declared.command.Command.TheVariants.{Check, Meaning, Compile, Run, Exec, Explain, Make}
 
--- how many bytes a command reads at most; `make` reads nothing
+-- a text or an image of at most so many bytes, or nothing
+pub data Intake : Type 0 where
+  Text : (limit : ℕ) → Intake
+  Image : (limit : ℕ) → Intake
+  Nothing : Intake
+
+abbrev pub intake : Command → Intake
+intake Check = Text 8388608
+intake (Meaning options) = Text 8388608
+intake Compile = Text 1048576
+intake (Run options) = Text 1048576
+intake (Explain options show) = Text 1048576
+intake (Exec options) = Image 67108864
+intake (Make options) = Nothing
+
+abbrev pub limit_in : Intake → Option ℕ
+limit_in (Text limit) = Some limit
+limit_in (Image limit) = Some limit
+limit_in Nothing = None
+
+-- how many bytes a command reads at most, if it reads
 abbrev pub limit_of : Command → Option ℕ
-limit_of Check = Some 8388608
-limit_of (Meaning options) = Some 8388608
-limit_of Compile = Some 1048576
-limit_of (Run options) = Some 1048576
-limit_of (Exec options) = Some 67108864
-limit_of (Explain options show) = Some 1048576
-limit_of (Make options) = None
+limit_of command = limit_in (intake command)

@@ -1,8 +1,13 @@
 pub mod Answer
 pub mod Command
+pub mod Failure
+pub mod Fetching
 pub mod Names
 pub mod Output
+pub mod Sizes
 pub mod Statement
 pub mod Status
+pub mod Texts
 pub mod Thin
 pub mod ThinMeaning
+pub mod Writing

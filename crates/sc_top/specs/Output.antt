@@ -1,9 +1,9 @@
--- What each command writes for what it read.
-use Rattle.std.specs.Prelude.{◌≡◌, ℕ, List, ◌++◌, length, map, codes, Option, Some, None}
+-- What each command writes for the program of a text and its image, or for an image.
+use Rattle.std.specs.Prelude.{◌≡◌, ℕ, Bool, true, false, IsTrue, List, [], ◌++◌, length, map, codes, Some, None}
 use Rattle.sc_word.specs.Word.{word_of}
+use Rattle.sc_event.specs.declared.interface.Interfaces.{Interfaces}
 use Rattle.sc_core.specs.declared.run.SourceRun.{SourceRun}
 use Rattle.sc_core.specs.Meaning.{meaning}
-use Rattle.sc_core.specs.Thin.{thin_meaning}
 use Rattle.sc_core.specs.declared.thin.ThinProgram.{ThinProgram}
 use Rattle.sc_core.specs.declared.program.ProgramTree.{ProgramTree}
 use Rattle.sc_image.specs.declared.parts.ImageParts.{ImageParts}
@@ -25,68 +25,63 @@ use Rattle.sc_top.specs.Thin.{IsThin}
 abbrev pub meant : MeaningOptions → ProgramTree → SourceRun
 meant options program = meaning program (map word_of options.inputs) options.turns options.events
 
--- the same in words
-abbrev pub told : MeaningOptions → ProgramTree → List ℕ
-told options program = meaning_text program.interfaces (meant options program)
-
 -- what the machine shows on an image
 abbrev pub shown : RunOptions → ImageParts → Run
 shown options image = machine image (map word_of options.inputs) options.steps options.events
 
--- the same in words, with the image's own names
-abbrev pub machine_text : RunOptions → ImageParts → List ℕ
-machine_text options image =
-    run_text (interfaces_of image) (shown options image).state.trace (shown options image).stop
+-- the same in words, by these names
+abbrev pub machine_text : Interfaces → RunOptions → ImageParts → List ℕ
+machine_text names options image = run_text names (shown options image).state.trace (shown options image).stop
 
--- within so many events as the machine shows, and with as many turns as there were steps, the program's own meaning has just this trace
-abbrev pub IsMeant : RunOptions → ProgramTree → ThinProgram → Type 0
-IsMeant options program thin =
-    let trace = (shown options (thin_image thin)).state.trace in (meaning program (map word_of options.inputs) options.steps (length trace)).trace ≡ trace
+-- the image that a program of this text has: so far only a thin text has one
+pub record HasImage (bytes : List ℕ) (image : ImageParts) : Type 0 where
+  pub thin : ThinProgram
+  pub spelled : IsThin bytes thin
+  pub compiled : image ≡ thin_image thin
 
--- the same of the meaning that a thin program has by itself
-abbrev pub IsThinMeant : RunOptions → ThinProgram → Type 0
-IsThinMeant options thin =
-    let trace = (shown options (thin_image thin)).state.trace in (thin_meaning (length trace) thin).trace ≡ trace
+-- the commands that compile
+abbrev pub compiles : Command → Bool
+compiles commands.Compile = true
+compiles (commands.Run options) = true
+compiles (commands.Explain options show) = true
+compiles _ = false
 
--- the report tells what the machine shows, and that nothing has to be replaced. Of the chain, which is the text alone, any text is that one
-abbrev pub explained : RunOptions → (show : Option ℕ) → List ℕ → ThinProgram → List ℕ
-explained options None bytes thin = machine_text options (thin_image thin) ++ codes "chain 0\n"
-explained options (Some place) bytes thin = bytes
+-- what a command that takes a text writes for its bytes, its program and that one's image. Of the chain, which is the text
+-- alone, any text is that one
+abbrev pub output : Command → List ℕ → ProgramTree → ImageParts → List ℕ
+output commands.Check bytes program image = check_text program.interfaces
+output (commands.Meaning options) bytes program image = meaning_text program.interfaces (meant options program)
+output commands.Compile bytes program image = image_bytes image
+output (commands.Run options) bytes program image = machine_text program.interfaces options image
+output (commands.Explain options None) bytes program image = machine_text program.interfaces options image ++ codes "chain 0\n"
+output (commands.Explain options (Some place)) bytes program image = bytes
+output (commands.Exec options) bytes program image = []
+output (commands.Make options) bytes program image = []
 
--- the text accounts for what the machine shows: nothing has to be replaced in the program for its meaning to be that
-pub record IsExplained (options : RunOptions) (show : Option ℕ) (bytes : List ℕ) (program : ProgramTree) (thin : ThinProgram) (text : List ℕ) : Type 0 where
-  pub told : text ≡ explained options show bytes thin
-  pub chain : IsMeant options program thin
+-- what `explain` claims: within so many events as the machine shows, and with as many turns as there were steps, the
+-- program's own meaning has just this trace, so that nothing has to be replaced
+abbrev pub IsAccounted : Command → ProgramTree → ImageParts → Type 0
+IsAccounted (commands.Explain options show) program image =
+    let trace = (shown options image).state.trace in
+    (meaning program (map word_of options.inputs) options.steps (length trace)).trace ≡ trace
+IsAccounted _ program image = Unit {0}
 
--- the same by the meaning that the thin program has by itself
-pub record IsThinExplained (options : RunOptions) (show : Option ℕ) (bytes : List ℕ) (thin : ThinProgram) (text : List ℕ) : Type 0 where
-  pub told : text ≡ explained options show bytes thin
-  pub chain : IsThinMeant options thin
+-- the bytes are an accepted text, with an image where the command compiles, and this is the output for them
+pub record IsTextOutput (command : Command) (bytes text : List ℕ) : Type 0 where
+  pub program : ProgramTree
+  pub image : ImageParts
+  pub accepted : Accepts bytes program
+  pub compiled : IsTrue (compiles command) → HasImage bytes image
+  pub written : text ≡ output command bytes program image
+  pub accounted : IsAccounted command program image
 
--- the bytes are those of an image, and the text tells what the machine shows on it
+-- the bytes are those of an image, and the text tells what the machine shows on it, by the image's own names
 pub record IsExecuted (options : RunOptions) (bytes text : List ℕ) : Type 0 where
   pub read : IsImage bytes
-  pub told : text ≡ machine_text options read.image
+  pub written : text ≡ machine_text (interfaces_of read.image) options read.image
 
--- the bytes are accepted as a program, of which this holds
-abbrev pub IsOfProgram : List ℕ → (ProgramTree → Type 0) → Type 0
-IsOfProgram bytes Q = (program : ProgramTree) × Accepts bytes program × Q program
-
--- the bytes are accepted as this program, and they are the thin text of that one
-pub record IsThinText (bytes : List ℕ) (program : ProgramTree) (outputs_and_result : ThinProgram) : Type 0 where
-  pub accepted : Accepts bytes program
-  pub thin : IsThin bytes outputs_and_result
-
--- the bytes are accepted as a program and thin, and this holds of the program and the thin one
-abbrev pub IsOfThin : List ℕ → (ProgramTree → ThinProgram → Type 0) → Type 0
-IsOfThin bytes Q = (program : ProgramTree) × (thin : ThinProgram) × IsThinText bytes program thin × Q program thin
-
--- the text is the command's output for these bytes
+-- the text is the command's output for these bytes; `make` isn't there yet
 abbrev pub IsOutput : Command → List ℕ → List ℕ → Type 0
-IsOutput commands.Check bytes text = IsOfProgram bytes (λ program. text ≡ check_text program.interfaces)
-IsOutput (commands.Meaning options) bytes text = IsOfProgram bytes (λ program. text ≡ told options program)
-IsOutput commands.Compile bytes text = IsOfThin bytes (λ program thin. text ≡ image_bytes (thin_image thin))
-IsOutput (commands.Run options) bytes text = IsOfThin bytes (λ program thin. text ≡ machine_text options (thin_image thin))
 IsOutput (commands.Exec options) bytes text = IsExecuted options bytes text
-IsOutput (commands.Explain options show) bytes text = IsOfThin bytes (λ program thin. IsExplained options show bytes program thin text)
 IsOutput (commands.Make options) bytes text = ⊥
+IsOutput command bytes text = IsTextOutput command bytes text

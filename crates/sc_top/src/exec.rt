@@ -1,20 +1,24 @@
-ghost use Rattle.std.specs.Prelude.{◌≡◌, ℕ, Some, IfOk, IfErr, IsErrOf};
-ghost use Rattle.sc_top.specs.Answer.{cause_in, IsImageFault};
-ghost use Rattle.sc_top.specs.Output.{IsExecuted};
+ghost use Rattle.std.specs.Prelude.{◌≡◌, ℕ, Some, IfOk, IfErr};
+ghost use Rattle.sc_words.specs.declared.command.Command.TheVariants.{Exec};
+ghost use Rattle.sc_top.specs.Failure.{IsOutputCause};
+ghost use Rattle.sc_top.specs.Output.{IsOutput};
 
-use crate::Status;
+use crate::failure::Failure;
 use crate::machine::machine_text;
 use sc_base::Text;
-use sc_image::read_image;
+use sc_image::{image_interfaces, read_image, traces_are_legal};
 use sc_words::RunOptions;
 use std::alloc::Global;
 
 /// What the machine shows on the image that the bytes are.
-pub(crate) fn execute(alloc: Global, options: &RunOptions, bytes: &[u8]) -> Result<Text, Status>
-    ensures ok { IfOk result (IsExecuted options.now bytes.now) }
-    ensures bad { (cause : ℕ) → IsErrOf result (Status.BadImage cause) → cause_in bytes.now ≡ Some cause }
-    ensures causes { IfErr result IsImageFault }
+pub(crate) fn execute(alloc: Global, options: &RunOptions, bytes: &[u8]) -> Result<Text, Failure>
+    ensures ok { IfOk result (IsOutput (Exec options.now) bytes.now) }
+    ensures cause { IfErr result (IsOutputCause (Exec options.now) bytes.now) }
 {
     let image = read_image(alloc, bytes)?;
-    Ok(machine_text(alloc, options, image)?)
+    // Every image is well formed, so that its traces are legal.
+    let _parts = image.parts();
+    traces_are_legal();
+    let names = image_interfaces(alloc, &image)?;
+    Ok(machine_text(alloc, &names, options, image)?)
 }

@@ -1,11 +1,16 @@
-ghost use Rattle.std.specs.Prelude.{◌≡◌, ◌≤◌, ℕ, IfOk, IfErr, IsErrOf};
+ghost use Rattle.std.specs.Prelude.{◌≡◌, ◌≤◌, ℕ, IfOk, IfErr, IsErrOf, Some, None};
 ghost use Rattle.sc_edge.specs.Edge.{Rose};
 ghost use Rattle.sc_top.specs.declared.input.ReadFault.TheVariants as faults;
-ghost use Rattle.sc_top.specs.Answer.{Fetches, IsWhole, IsLonger, IsFetchFault};
+ghost use Rattle.sc_top.specs.Answer.{IsWhole, IsInput};
+ghost use Rattle.sc_top.specs.Command.{limit_of};
+ghost use Rattle.sc_top.specs.Failure.{IsInputCause};
+ghost use Rattle.sc_top.specs.Fetching.{Fetches};
 
-use crate::Status;
+use crate::command::limit;
+use crate::failure::Failure;
 use sc_base::{OutOfMemory, Text};
 use sc_edge::Source;
+use sc_words::Command;
 use std::alloc::Global;
 
 // As many bytes as one read asks for at most.
@@ -23,19 +28,6 @@ impl From<OutOfMemory> for ReadFault {
 
     fn from(_: OutOfMemory) -> ReadFault {
         ReadFault::Memory
-    }
-}
-
-impl From<ReadFault> for Status {
-    ghost use Rattle.sc_top.specs.Status.{status_of};
-
-    ghost from_gives = { λ fault status. status ≡ status_of fault };
-
-    fn from(fault: ReadFault) -> Status {
-        match fault {
-            ReadFault::Source => Status::ReadFault,
-            ReadFault::Memory => Status::OutOfMemory,
-        }
     }
 }
 
@@ -67,19 +59,31 @@ pub(crate) fn read_text<S: Source>(
 }
 
 /// Reads the whole of the input, which is refused where more bytes came than the limit.
-pub(crate) fn read_whole<S: Source>(
-    alloc: Global,
-    source: &mut S,
-    limit: u32,
-) -> Result<Text, Status>
+fn read_whole<S: Source>(alloc: Global, source: &mut S, limit: u32) -> Result<Text, Failure>
     ensures whole { IfOk result (IsWhole limit (S.left source.old) (S.left source.new)) }
-    ensures too_long { (other : ℕ) → IsErrOf result (Status.TooLong other) → (other ≡ limit) × IsLonger limit (S.left source.old) (S.left source.new) }
-    ensures read_fault { IsErrOf result Status.ReadFault → Rose (S.faults source.old) (S.faults source.new) }
-    ensures causes { IfErr result (IsFetchFault limit) }
+    ensures cause { IfErr result
+        (IsInputCause (Some limit) (S.left source.old) (S.left source.new) (S.faults source.old) (S.faults source.new)) }
 {
     let text = read_text(alloc, source, limit)?;
     if text.as_bytes().len() > limit as usize {
-        return Err(Status::TooLong { limit });
+        return Err(Failure::TooLong { limit });
     }
     Ok(text)
+}
+
+/// Reads the whole input of a command, which is empty where it reads nothing.
+pub(crate) fn read_input<S: Source>(
+    alloc: Global,
+    command: &Command,
+    source: &mut S,
+) -> Result<Text, Failure>
+    ensures input { IfOk result (IsInput (limit_of command.now) (S.left source.old) (S.left source.new)) }
+    ensures cause { IfErr result
+        (IsInputCause (limit_of command.now) (S.left source.old) (S.left source.new) (S.faults source.old) (S.faults source.new)) }
+    ensures unread { limit_of command.now ≡ None → source.new ≡ source.old }
+{
+    match limit(command) {
+        Some(limit) => read_whole(alloc, source, limit),
+        None => Ok(Text::new(alloc)),
+    }
 }

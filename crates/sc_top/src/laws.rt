@@ -1,20 +1,23 @@
 //! What holds of every text.
 
-ghost use Rattle.std.specs.Prelude.{◌⊎◌, ℕ, List};
+ghost use Rattle.std.specs.Prelude.{◌≡◌, ◌≤◌, ℕ, List, length, IsTrue};
 ghost use Rattle.sc_core.specs.declared.program.ProgramTree.{ProgramTree};
 ghost use Rattle.sc_core.specs.declared.thin.ThinProgram.{ThinProgram};
 ghost use Rattle.sc_ast.specs.declared.section.SectionTree.{SectionTree};
 ghost use Rattle.sc_read.specs.Reading.{Reads};
 ghost use Rattle.sc_words.specs.declared.command.Command.{Command};
 ghost use Rattle.sc_top.specs.declared.status.Status.{Status};
-ghost use Rattle.sc_top.specs.Answer.{IsOfAnyText, IsWithin, IsAnswer, SameAnswer};
-ghost use Rattle.sc_top.specs.Output.{IsOutput};
+ghost use Rattle.sc_image.specs.declared.parts.ImageParts.{ImageParts};
+ghost use Rattle.sc_image.specs.RoundTrip.{IsImage};
+ghost use Rattle.sc_top.specs.Answer.{IsWithin, IsAnswer, SameAnswer};
+ghost use Rattle.sc_top.specs.Output.{compiles, HasImage, IsOutput};
 ghost use Rattle.sc_top.specs.Thin.{IsThin};
 ghost use Rattle.sc_top.specs.ThinMeaning.{IsThinProgram};
 ghost use Rattle.sc_types.specs.Acceptance.{Accepts};
 
+use sc_image::one_image;
 use sc_print::{dense_sections_are_cut, lines_add_no_height, words_of_sections_spell_them};
-use sc_types::{accepted_or_refused, one_phase};
+use sc_types::{accepted_or_refused, one_phase, one_program};
 
 /// A thin text passes phases Lex and Syntax.
 pub fn thin_texts_are_read()
@@ -36,7 +39,8 @@ pub fn thin_texts_are_accepted()
 
 /// A thin text and an image are never longer than the commands take that read them alone.
 pub fn thin_texts_and_images_are_within()
-    ensures { (c : Command) (bytes text : List ℕ) → IsOutput c bytes text → IsOfAnyText c ⊎ IsWithin c bytes }
+    ensures texts { (c : Command) (text : List ℕ) (image : ImageParts) → IsTrue (compiles c) → HasImage text image → IsWithin c text }
+    ensures images { (bytes : List ℕ) → IsImage bytes → length bytes ≤ 67108864 }
 {}
 
 /// Bytes have one answer at most.
@@ -45,4 +49,14 @@ pub fn one_answer()
 {
     accepted_or_refused();
     one_phase();
+    one_program();
+}
+
+/// A command has one output at most for its input.
+pub fn one_output()
+    ensures { (c : Command) (bytes text other : List ℕ) → IsOutput c bytes text → IsOutput c bytes other → text ≡ other }
+{
+    thin_texts_are_accepted();
+    one_program();
+    one_image();
 }

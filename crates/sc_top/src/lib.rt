@@ -3,6 +3,7 @@
 
 mod command;
 mod exec;
+mod failure;
 mod input;
 mod laws;
 mod machine;
@@ -14,8 +15,9 @@ mod thin;
 mod top;
 
 pub use laws::{
-    one_answer, thin_texts_and_images_are_within, thin_texts_are_accepted, thin_texts_are_read,
+    one_answer, one_output, thin_texts_and_images_are_within, thin_texts_are_accepted,
+    thin_texts_are_read,
 };
-pub use status::Status;
+pub use status::{Status, TooLarge};
 pub use telling::tell;
 pub use top::secomp;

@@ -1,14 +1,36 @@
 ghost use Rattle.std.specs.Prelude.{◌≡◌};
-ghost use Rattle.sc_top.specs.Status.{status_number, phase_word, fixed_text, of_words_fault, of_text_fault, of_image_fault};
+ghost use Rattle.sc_top.specs.Status.{status_number, phase_word, kind_text, fixed_text};
+ghost use Rattle.sc_top.specs.Failure.{status_of};
 
-use sc_base::OutOfMemory;
-use sc_image::ImageFault;
+use crate::failure::Failure;
+use sc_base::Name;
 use sc_lex::{Phase, Refusal};
-use sc_types::TextFault;
-use sc_words::{WordsFault, usage};
+use sc_words::usage;
+
+/// What of a program is too large to be compiled, by the names of its compartment and function, and the bytes that it
+/// takes, or takes at most.
+#[derive(Clone, Copy)]
+pub enum TooLarge {
+    /// The code of a compartment's functions: more than 1,048,576 bytes.
+    Code {
+        comp: Name,
+        number: u64,
+    },
+    /// The globals of a compartment: more than 458,752 bytes.
+    Globals {
+        comp: Name,
+        number: u64,
+    },
+    /// The frame of a function: more than 32,768 bytes.
+    Frame {
+        comp: Name,
+        function: Name,
+        number: u64,
+    },
+}
 
 /// The program's answer.
-#[derive(Clone, Copy, Debug, PartialEq, Eq)]
+#[derive(Clone, Copy)]
 pub enum Status {
     /// The whole output was written.
     Done,
@@ -16,6 +38,8 @@ pub enum Status {
     Usage,
     /// The text fails a phase.
     Refused(Refusal),
+    /// The text is a program that is too large to be compiled.
+    TooLarge(TooLarge),
     /// More bytes came than the command takes.
     TooLong { limit: u32 },
     /// The bytes are no image: the number of the first thing that is wrong with them, 1 to 9 in the order of the file.
@@ -32,13 +56,14 @@ pub enum Status {
 
 impl Status {
     /// The exit status of the program.
-    pub fn number(self) -> u8
-        ensures { result ≡ status_number self }
+    pub fn number(&self) -> u8
+        ensures { result ≡ status_number self.now }
     {
         match self {
             Status::Done => 0,
             Status::Usage => 2,
             Status::Refused(_) => 3,
+            Status::TooLarge(_) => 4,
             Status::TooLong { .. } => 5,
             Status::BadImage { .. } => 6,
             Status::ReadFault => 7,
@@ -50,13 +75,14 @@ impl Status {
 }
 
 /// What is written of a status to standard error, or the part of it before what differs from text to text.
-pub(crate) fn fixed_text(status: Status) -> &'static [u8]
-    ensures { result.now ≡ fixed_text status }
+pub(crate) fn fixed_text(status: &Status) -> &'static [u8]
+    ensures { result.now ≡ fixed_text status.now }
 {
     match status {
         Status::Done => b"",
         Status::Usage => usage(),
         Status::Refused(_) => b"secomp: refused ",
+        Status::TooLarge(_) => b"secomp: too large ",
         Status::TooLong { .. } => b"secomp: too long ",
         Status::BadImage { .. } => b"secomp: bad image ",
         Status::ReadFault => b"secomp: read fault\n",
@@ -80,47 +106,31 @@ pub(crate) fn phase_word(phase: Phase) -> &'static [u8]
     }
 }
 
-impl From<OutOfMemory> for Status {
-    ghost use Rattle.sc_top.specs.declared.status.Status.TheVariants as status;
-
-    ghost from_gives = { λ _ s. s ≡ status.OutOfMemory };
-
-    fn from(_: OutOfMemory) -> Status {
-        Status::OutOfMemory
+/// What is too large, in a word.
+pub(crate) fn kind_text(fault: &TooLarge) -> &'static [u8]
+    ensures { result.now ≡ kind_text fault.now }
+{
+    match fault {
+        TooLarge::Code { .. } => b"code of ",
+        TooLarge::Globals { .. } => b"data of ",
+        TooLarge::Frame { .. } => b"frame of ",
     }
 }
 
-impl From<WordsFault> for Status {
-    ghost from_gives = { λ fault status. status ≡ of_words_fault fault };
+impl From<Failure> for Status {
+    ghost from_gives = { λ failure status. status ≡ status_of failure };
 
-    fn from(fault: WordsFault) -> Status {
-        match fault {
-            WordsFault::Usage => Status::Usage,
-            WordsFault::OutOfMemory => Status::OutOfMemory,
-        }
-    }
-}
-
-impl From<TextFault> for Status {
-    ghost from_gives = { λ fault status. status ≡ of_text_fault fault };
-
-    fn from(fault: TextFault) -> Status {
-        match fault {
-            TextFault::Refused(refusal) => Status::Refused(refusal),
-            TextFault::OutOfMemory => Status::OutOfMemory,
-        }
-    }
-}
-
-impl From<ImageFault> for Status {
-    ghost from_gives = { λ fault status. status ≡ of_image_fault fault };
-
-    fn from(fault: ImageFault) -> Status {
-        match fault {
-            ImageFault::Bad(bad) => Status::BadImage {
-                cause: bad.number(),
-            },
-            ImageFault::OutOfMemory => Status::OutOfMemory,
+    fn from(failure: Failure) -> Status {
+        match failure {
+            Failure::Usage => Status::Usage,
+            Failure::Refused(refusal) => Status::Refused(refusal),
+            Failure::TooLarge(fault) => Status::TooLarge(fault),
+            Failure::TooLong { limit } => Status::TooLong { limit },
+            Failure::BadImage { cause } => Status::BadImage { cause },
+            Failure::ReadFault => Status::ReadFault,
+            Failure::WriteFault => Status::WriteFault,
+            Failure::OutOfMemory => Status::OutOfMemory,
+            Failure::NotBuilt => Status::NotBuilt,
         }
     }
 }

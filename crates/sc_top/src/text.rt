@@ -1,14 +1,14 @@
 //! The commands that read texts.
 
-ghost use Rattle.std.specs.Prelude.{◌≡◌, ◌≤◌, length, IfOk, IfErr, IsErrOf};
-ghost use Rattle.sc_lex.specs.declared.refusal.Refusal.{Refusal};
-ghost use Rattle.sc_core.specs.declared.program.ProgramTree.{ProgramTree};
-ghost use Rattle.sc_types.specs.Acceptance.{Fails};
+ghost use Rattle.std.specs.Prelude.{◌≡◌, ◌≤◌, length, IfOk, IfErr};
+ghost use Rattle.sc_report.specs.Report.{meaning_text};
+ghost use Rattle.sc_types.specs.Acceptance.{Accepts};
 ghost use Rattle.sc_words.specs.declared.command.Command.TheVariants.{Check, Meaning, Compile, Run, Explain};
-ghost use Rattle.sc_top.specs.Answer.{IsBeyond, IsTextFault};
-ghost use Rattle.sc_top.specs.Output.{told, IsOutput, IsThinText, IsThinExplained};
+ghost use Rattle.sc_top.specs.Failure.{IsOutputCause};
+ghost use Rattle.sc_top.specs.Output.{meant, IsOutput};
+ghost use Rattle.sc_top.specs.Texts.{IsThinText, IsReading, IsThinReading};
 
-use crate::Status;
+use crate::failure::Failure;
 use crate::laws::thin_texts_are_accepted;
 use crate::machine::compiled_text;
 use crate::thin::read_thin;
@@ -22,25 +22,33 @@ use sc_types::{SourceText, one_program};
 use sc_words::{MeaningOptions, RunOptions};
 use std::alloc::Global;
 
-/// What the compartments of the text export and import.
-pub(crate) fn check(alloc: Global, bytes: &[u8]) -> Result<Text, Status>
-    ensures ok { IfOk result (IsOutput Check bytes.now) }
-    ensures refused { (refusal : Refusal) → IsErrOf result (Status.Refused refusal) → Fails bytes.now refusal.phase refusal.line }
-    ensures built { IsErrOf result Status.NotBuilt → ⊥ }
-    ensures causes { IfErr result IsTextFault }
+// The text as an accepted one.
+fn read_source(alloc: Global, bytes: &[u8]) -> Result<SourceText, Failure>
+    ensures accepted { IfOk result (λ source. (source.bytes ≡ bytes.now) × Accepts bytes.now source.program) }
+    ensures cause { IfErr result (IsReading bytes.now) }
 {
-    let source = SourceText::read(alloc, bytes)?;
+    Ok(SourceText::read(alloc, bytes)?)
+}
+
+/// What the compartments of the text export and import.
+pub(crate) fn check(alloc: Global, bytes: &[u8]) -> Result<Text, Failure>
+    ensures ok { IfOk result (IsOutput Check bytes.now) }
+    ensures cause { IfErr result (IsOutputCause Check bytes.now) }
+{
+    let source = read_source(alloc, bytes)?;
     Ok(sc_report::check_text(alloc, source.program().interfaces())?)
 }
 
 /// What the text means: its events and how it ends.
-pub(crate) fn meaning(alloc: Global, options: &MeaningOptions, bytes: &[u8]) -> Result<Text, Status>
+pub(crate) fn meaning(
+    alloc: Global,
+    options: &MeaningOptions,
+    bytes: &[u8],
+) -> Result<Text, Failure>
     ensures ok { IfOk result (IsOutput (Meaning options.now) bytes.now) }
-    ensures refused { (refusal : Refusal) → IsErrOf result (Status.Refused refusal) → Fails bytes.now refusal.phase refusal.line }
-    ensures built { IsErrOf result Status.NotBuilt → ⊥ }
-    ensures causes { IfErr result IsTextFault }
+    ensures cause { IfErr result (IsOutputCause (Meaning options.now) bytes.now) }
 {
-    let source = SourceText::read(alloc, bytes)?;
+    let source = read_source(alloc, bytes)?;
     Ok(meaning_text(alloc, options, source.program())?)
 }
 
@@ -49,7 +57,7 @@ fn meaning_text(
     options: &MeaningOptions,
     program: &Program,
 ) -> Result<Text, OutOfMemory>
-    ensures { IfOk result (λ text. text ≡ told options.now program.now) }
+    ensures { IfOk result (λ text. text ≡ meaning_text program.now.interfaces (meant options.now program.now)) }
 {
     // Every program is well typed, so that its main compartment is there, and what it shows is legal.
     let _tree = program.tree();
@@ -59,43 +67,47 @@ fn meaning_text(
     sc_report::meaning_text(alloc, program.interfaces(), &run)
 }
 
-// The program of an accepted text, which must be thin.
+// A thin text, and its thin program.
+#[derive(Drop)]
+struct ThinText {
+    source: SourceText,
+    thin: ThinProgram,
+}
+
+// The accepted text, which must be thin.
 #[tactic(auto, using(crate::proofs::Bodies::few_outputs))]
-fn read_program(alloc: Global, bytes: &[u8]) -> Result<ThinProgram, Status>
-    ensures thin { IfOk result (λ thin. (program : ProgramTree) × IsThinText bytes.now program thin) }
-    ensures few { IfOk result (λ thin. length thin.outputs ≤ 16384) }
-    ensures refused { (refusal : Refusal) → IsErrOf result (Status.Refused refusal) → Fails bytes.now refusal.phase refusal.line }
-    ensures not_built { IsErrOf result Status.NotBuilt → IsBeyond bytes.now }
-    ensures causes { IfErr result IsTextFault }
+fn read_thin_text(alloc: Global, bytes: &[u8]) -> Result<ThinText, Failure>
+    ensures thin { IfOk result (λ text. IsThinText bytes.now text.source.program text.thin) }
+    ensures few { IfOk result (λ text. length text.thin.outputs ≤ 16384) }
+    ensures cause { IfErr result (IsThinReading bytes.now) }
 {
-    let source = SourceText::read(alloc, bytes)?;
-    match read_thin(alloc, source.bytes())? {
-        Some(program) => Ok(program),
-        None => Err(Status::NotBuilt),
+    thin_texts_are_accepted();
+    one_program();
+    let source = read_source(alloc, bytes)?;
+    match read_thin(alloc, bytes)? {
+        Some(thin) => Ok(ThinText { source, thin }),
+        None => Err(Failure::NotBuilt),
     }
 }
 
 /// The image of the compiled text.
-pub(crate) fn compiled(alloc: Global, bytes: &[u8]) -> Result<Text, Status>
+pub(crate) fn compiled(alloc: Global, bytes: &[u8]) -> Result<Text, Failure>
     ensures ok { IfOk result (IsOutput Compile bytes.now) }
-    ensures refused { (refusal : Refusal) → IsErrOf result (Status.Refused refusal) → Fails bytes.now refusal.phase refusal.line }
-    ensures not_built { IsErrOf result Status.NotBuilt → IsBeyond bytes.now }
-    ensures causes { IfErr result IsTextFault }
+    ensures cause { IfErr result (IsOutputCause Compile bytes.now) }
 {
-    let program = read_program(alloc, bytes)?;
-    let image = compile(alloc, &program)?;
+    let text = read_thin_text(alloc, bytes)?;
+    let image = compile(alloc, &text.thin)?;
     Ok(write_image(alloc, &image)?)
 }
 
-/// What the machine shows on that image.
-pub(crate) fn run(alloc: Global, options: &RunOptions, bytes: &[u8]) -> Result<Text, Status>
+/// What the machine shows on that image, by the names of the text.
+pub(crate) fn run(alloc: Global, options: &RunOptions, bytes: &[u8]) -> Result<Text, Failure>
     ensures ok { IfOk result (IsOutput (Run options.now) bytes.now) }
-    ensures refused { (refusal : Refusal) → IsErrOf result (Status.Refused refusal) → Fails bytes.now refusal.phase refusal.line }
-    ensures not_built { IsErrOf result Status.NotBuilt → IsBeyond bytes.now }
-    ensures causes { IfErr result IsTextFault }
+    ensures cause { IfErr result (IsOutputCause (Run options.now) bytes.now) }
 {
-    let program = read_program(alloc, bytes)?;
-    Ok(compiled_text(alloc, options, &program)?)
+    let text = read_thin_text(alloc, bytes)?;
+    let names = text.source.program().interfaces();
+    Ok(compiled_text(alloc, names, options, &text.thin)?)
 }
 
 /// The same, and an account of it by source programs; or one of these programs.
@@ -104,33 +116,17 @@ pub(crate) fn explain(
     options: &RunOptions,
     show: Option<u32>,
     bytes: &[u8],
-) -> Result<Text, Status>
+) -> Result<Text, Failure>
     ensures ok { IfOk result (IsOutput (Explain options.now show) bytes.now) }
-    ensures refused { (refusal : Refusal) → IsErrOf result (Status.Refused refusal) → Fails bytes.now refusal.phase refusal.line }
-    ensures not_built { IsErrOf result Status.NotBuilt → IsBeyond bytes.now }
-    ensures causes { IfErr result IsTextFault }
+    ensures cause { IfErr result (IsOutputCause (Explain options.now show) bytes.now) }
 {
-    thin_texts_are_accepted();
-    one_program();
-    let program = read_program(alloc, bytes)?;
-    Ok(explanation(alloc, options, show, bytes, &program)?)
-}
-
-fn explanation(
-    alloc: Global,
-    options: &RunOptions,
-    show: Option<u32>,
-    bytes: &[u8],
-    program: &ThinProgram,
-) -> Result<Text, OutOfMemory>
-    requires { length program.now.outputs ≤ 16384 }
-    ensures { IfOk result (IsThinExplained options.now show bytes.now program.now) }
-{
-    let mut report = compiled_text(alloc, options, program)?;
+    let text = read_thin_text(alloc, bytes)?;
+    let names = text.source.program().interfaces();
+    let mut report = compiled_text(alloc, names, options, &text.thin)?;
     report.append(b"chain 0\n")?;
     match show {
         None => Ok(report),
-        Some(_) => copied(alloc, bytes),
+        Some(_) => Ok(copied(alloc, bytes)?),
     }
 }
 

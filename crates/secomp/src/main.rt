@@ -17,7 +17,7 @@ fn main(rt: HostRuntime) -> ExitCode {
             secomp(rt.alloc(), &words, &mut source, &mut out, &mut err)
         }
         Err(status) => {
-            tell(&mut err, status);
+            tell(&mut err, &status);
             status
         }
     };

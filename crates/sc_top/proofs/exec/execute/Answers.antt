@@ -1,6 +1,18 @@
-use Rattle.sc_top.proofs.Known.{executed}
+use Rattle.std.proofs.Common.{All, ap, sym, subst, ◌∙◌}
+use Rattle.sc_event.specs.declared.interface.Interfaces.{Interfaces}
+use Rattle.sc_event.specs.Lookup.{IsKnown}
+use Rattle.sc_top.specs.Output.{shown, machine_text}
+use Rattle.sc_top.proofs.Known.{shown_known, executed}
 use Rattle.sc_top.proofs.exec.execute.Goals as goal
+
+pub machine_text-requires : goal.machine_text-requires
+machine_text-requires c =
+    let image = c.in_ok-image.image in
+    subst (λ (names : Interfaces). All (IsKnown names) (shown c.args.options.now image).state.trace) (sym c.in_ok-names.ensures)
+    (shown_known c.traces_are_legal.ensures c.args.options.now image c.parts-parts.ensures.well_formed)
 
 pub returns-clause-ok : goal.returns-clause-ok
 returns-clause-ok c =
-    executed c.args.options.now c.args.bytes.now c.in_ok-machine_text.field-0 c.in_ok-image.image c.in_ok-image.ensures.image c.machine_text.ensures.well_formed c.in_ok-machine_text.ensures.text
+    let image = c.in_ok-image.image in
+    let told = c.in_ok-machine_text.ensures ∙ ap (λ (names : Interfaces). machine_text names c.args.options.now image) c.in_ok-names.ensures in
+    executed c.args.options.now c.args.bytes.now c.in_ok-machine_text.field-0 image c.in_ok-image.ensures.image c.parts-parts.ensures.well_formed told

@@ -1,20 +1,19 @@
-use Rattle.std.proofs.Common.{◌++◌, codes, decimal, subst}
-use Rattle.sc_edge.specs.Edge.{Adds}
-use Rattle.sc_top.specs.Status.{phase_word}
-use Rattle.sc_top.proofs.Streams.{on_err, on_err_more, first_cut, then_told}
+use Rattle.std.proofs.Common.{rules, ◌++◌, codes, decimal, refl, sym, ap}
+use Rattle.sc_top.proofs.Streams.{cut_wrote, then_wrote}
 use Rattle.sc_top.proofs.telling.write_refusal.Goals as goal
 
-pub returns-in_err-write_text-2-clause-err : goal.returns-in_err-write_text-2-clause-err
-returns-in_err-write_text-2-clause-err g c =
-    let first = subst (λ text. Adds (g.E.Sink.written c.args.err.now) (g.E.Sink.written c.write_text.new.sink) text) c.phase_word.ensures c.in_ok-write_text.ensures.ok in
-    let behind = first_cut (codes " line ") (decimal c.args.refusal.line ++ codes "\n") (g.E.Sink.written c.write_text.new.sink) (g.E.Sink.written c.write_text-2.new.sink) (g.E.Sink.faults c.write_text.new.sink) (g.E.Sink.faults c.write_text-2.new.sink) c.in_err-write_text-2.ensures.err c.in_err-write_text-2.ensures.fault in
-    on_err c.from_residual-in_err-write_text-2.result _
-    (then_told (phase_word c.args.refusal.phase) (codes " line " ++ (decimal c.args.refusal.line ++ codes "\n")) (g.E.Sink.written c.args.err.now) (g.E.Sink.written c.write_text.new.sink) (g.E.Sink.written c.write_text-2.new.sink) (g.E.Sink.faults c.args.err.now) (g.E.Sink.faults c.write_text.new.sink) (g.E.Sink.faults c.write_text-2.new.sink) first c.write_text.ensures.faults behind)
+pub returns-in_err-write_text-2 : goal.returns-in_err-write_text-2
+returns-in_err-write_text-2 g c =
+    let word = c.in_ok-write_text.ensures in
+    let between = c.in_err-write_text-2.ensures in
+    let line = decimal c.args.refusal.now.line ++ codes "\n" in
+    then_wrote _ c.phase_word.result.now _ c.from_residual-in_err-write_text-2.result _ _ _ _ _ _ (ap (λ w. w ++ (codes " line " ++ line)) (sym c.phase_word.ensures)) word.ok word.counted
+    (cut_wrote _ (codes " line ") line _ _ _ _ _ refl (search rules) between.err between.fault between.counted)
 
-pub returns-clause-err : goal.returns-clause-err
-returns-clause-err g c =
-    let first = subst (λ text. Adds (g.E.Sink.written c.args.err.now) (g.E.Sink.written c.write_text.new.sink) text) c.phase_word.ensures c.in_ok-write_text.ensures.ok in
-    on_err_more c.write_number.result _ _
-    (λ told. then_told (phase_word c.args.refusal.phase) (codes " line " ++ (decimal c.args.refusal.line ++ codes "\n")) (g.E.Sink.written c.args.err.now) (g.E.Sink.written c.write_text.new.sink) (g.E.Sink.written c.write_number.new.err) (g.E.Sink.faults c.args.err.now) (g.E.Sink.faults c.write_text.new.sink) (g.E.Sink.faults c.write_number.new.err) first c.write_text.ensures.faults
-    (then_told (codes " line ") (decimal c.args.refusal.line ++ codes "\n") (g.E.Sink.written c.write_text.new.sink) (g.E.Sink.written c.write_text-2.new.sink) (g.E.Sink.written c.write_number.new.err) (g.E.Sink.faults c.write_text.new.sink) (g.E.Sink.faults c.write_text-2.new.sink) (g.E.Sink.faults c.write_number.new.err) c.in_ok-write_text-2.ensures.ok c.write_text-2.ensures.faults told))
-    c.write_number.ensures.err
+pub returns : goal.returns
+returns g c =
+    let word = c.in_ok-write_text.ensures in
+    let between = c.in_ok-write_text-2.ensures in
+    let line = decimal c.args.refusal.now.line ++ codes "\n" in
+    then_wrote _ c.phase_word.result.now _ c.write_number.result _ _ _ _ _ _ (ap (λ w. w ++ (codes " line " ++ line)) (sym c.phase_word.ensures)) word.ok word.counted
+    (then_wrote _ (codes " line ") _ _ _ _ _ _ _ _ (ap (λ n. codes " line " ++ (decimal n ++ codes "\n")) (sym c.from.ensures)) between.ok between.counted c.write_number.ensures)

@@ -1,39 +1,29 @@
-use Rattle.std.proofs.Common.{◌≡◌, ◌++◌, codes, decimal, sym, ap, subst}
-use Rattle.sc_edge.specs.Edge.{Adds}
-use Rattle.sc_top.specs.Answer.{Tells}
-use Rattle.sc_top.specs.Status.{fixed_text, own_text, status_text, refusal_text}
-use Rattle.sc_top.proofs.Streams.{on_err, on_err_more, first_cut, then_told}
+use Rattle.std.proofs.Common.{rules, ◌++◌, codes, decimal, sym, ap, ap₂, ◌∙◌}
+use Rattle.sc_top.specs.Status.{own_text}
+use Rattle.sc_top.proofs.Streams.{cut_wrote, then_wrote}
 use Rattle.sc_top.proofs.telling.write_status.Goals as goal
 
-pub returns-in_err-write_text-clause-err : goal.returns-in_err-write_text-clause-err
-returns-in_err-write_text-clause-err g c =
-    on_err c.from_residual.result _
-    (first_cut (fixed_text c.args.status) (own_text c.args.status) (g.E.Sink.written c.args.err.now) (g.E.Sink.written c.write_text.new.sink) (g.E.Sink.faults c.args.err.now) (g.E.Sink.faults c.write_text.new.sink)
-    (subst (λ text. Tells text (g.E.Sink.written c.args.err.now) (g.E.Sink.written c.write_text.new.sink) (g.E.Sink.faults c.args.err.now) (g.E.Sink.faults c.write_text.new.sink)) c.fixed_text.ensures c.in_err-write_text.ensures.err) c.in_err-write_text.ensures.fault)
+pub returns-in_err-write_text : goal.returns-in_err-write_text
+returns-in_err-write_text g c =
+    let fixed = c.in_err-write_text.ensures in
+    cut_wrote _ c.fixed_text.result.now (own_text c.args.status.now) c.from_residual.result _ _ _ _ (ap (λ f. f ++ own_text c.args.status.now) (sym c.fixed_text.ensures)) (search rules) fixed.err fixed.fault fixed.counted
 
-pub returns-in-Refused-clause-err : goal.returns-in-Refused-clause-err
-returns-in-Refused-clause-err g c =
-    let text : fixed_text c.args.status ++ refusal_text c.in-Refused.refusal ≡ status_text c.args.status = ap (λ own. fixed_text c.args.status ++ own) (sym (ap own_text c.in-Refused.is)) in
-    let first = subst (λ text. Adds (g.E.Sink.written c.args.err.now) (g.E.Sink.written c.write_text.new.sink) text) c.fixed_text.ensures c.in_ok-write_text.ensures.ok in
-    on_err_more c.write_refusal.result _ _
-    (λ told. subst (λ t. Tells t (g.E.Sink.written c.args.err.now) (g.E.Sink.written c.write_refusal.new.err) (g.E.Sink.faults c.args.err.now) (g.E.Sink.faults c.write_refusal.new.err)) text
-    (then_told (fixed_text c.args.status) (refusal_text c.in-Refused.refusal) (g.E.Sink.written c.args.err.now) (g.E.Sink.written c.write_text.new.sink) (g.E.Sink.written c.write_refusal.new.err) (g.E.Sink.faults c.args.err.now) (g.E.Sink.faults c.write_text.new.sink) (g.E.Sink.faults c.write_refusal.new.err) first c.write_text.ensures.faults told))
-    c.write_refusal.ensures.err
+pub returns-in-Refused : goal.returns-in-Refused
+returns-in-Refused g c =
+    let fixed = c.in_ok-write_text.ensures in
+    then_wrote _ c.fixed_text.result.now _ c.write_refusal.result _ _ _ _ _ _ (ap₂ (λ f own. f ++ own) (sym c.fixed_text.ensures) (ap own_text c.in-Refused.is)) fixed.ok fixed.counted c.write_refusal.ensures
 
-pub returns-in-TooLong-clause-err : goal.returns-in-TooLong-clause-err
-returns-in-TooLong-clause-err g c =
-    let text : fixed_text c.args.status ++ (decimal c.in-TooLong.limit ++ codes "\n") ≡ status_text c.args.status = ap (λ own. fixed_text c.args.status ++ own) (sym (ap own_text c.in-TooLong.is)) in
-    let first = subst (λ text. Adds (g.E.Sink.written c.args.err.now) (g.E.Sink.written c.write_text.new.sink) text) c.fixed_text.ensures c.in_ok-write_text.ensures.ok in
-    on_err_more c.write_number.result _ _
-    (λ told. subst (λ t. Tells t (g.E.Sink.written c.args.err.now) (g.E.Sink.written c.write_number.new.err) (g.E.Sink.faults c.args.err.now) (g.E.Sink.faults c.write_number.new.err)) text
-    (then_told (fixed_text c.args.status) (decimal c.in-TooLong.limit ++ codes "\n") (g.E.Sink.written c.args.err.now) (g.E.Sink.written c.write_text.new.sink) (g.E.Sink.written c.write_number.new.err) (g.E.Sink.faults c.args.err.now) (g.E.Sink.faults c.write_text.new.sink) (g.E.Sink.faults c.write_number.new.err) first c.write_text.ensures.faults told))
-    c.write_number.ensures.err
+pub returns-in-TooLarge : goal.returns-in-TooLarge
+returns-in-TooLarge g c =
+    let fixed = c.in_ok-write_text.ensures in
+    then_wrote _ c.fixed_text.result.now _ c.write_large.result _ _ _ _ _ _ (ap₂ (λ f own. f ++ own) (sym c.fixed_text.ensures) (ap own_text c.in-TooLarge.is)) fixed.ok fixed.counted c.write_large.ensures
 
-pub returns-in-BadImage-clause-err : goal.returns-in-BadImage-clause-err
-returns-in-BadImage-clause-err g c =
-    let text : fixed_text c.args.status ++ (decimal c.in-BadImage.cause ++ codes "\n") ≡ status_text c.args.status = ap (λ own. fixed_text c.args.status ++ own) (sym (ap own_text c.in-BadImage.is)) in
-    let first = subst (λ text. Adds (g.E.Sink.written c.args.err.now) (g.E.Sink.written c.write_text.new.sink) text) c.fixed_text.ensures c.in_ok-write_text.ensures.ok in
-    on_err_more c.write_number-in-BadImage.result _ _
-    (λ told. subst (λ t. Tells t (g.E.Sink.written c.args.err.now) (g.E.Sink.written c.write_number-in-BadImage.new.err) (g.E.Sink.faults c.args.err.now) (g.E.Sink.faults c.write_number-in-BadImage.new.err)) text
-    (then_told (fixed_text c.args.status) (decimal c.in-BadImage.cause ++ codes "\n") (g.E.Sink.written c.args.err.now) (g.E.Sink.written c.write_text.new.sink) (g.E.Sink.written c.write_number-in-BadImage.new.err) (g.E.Sink.faults c.args.err.now) (g.E.Sink.faults c.write_text.new.sink) (g.E.Sink.faults c.write_number-in-BadImage.new.err) first c.write_text.ensures.faults told))
-    c.write_number-in-BadImage.ensures.err
+pub returns-in-TooLong : goal.returns-in-TooLong
+returns-in-TooLong g c =
+    let fixed = c.in_ok-write_text.ensures in
+    then_wrote _ c.fixed_text.result.now _ c.write_number.result _ _ _ _ _ _ (ap₂ (λ f own. f ++ own) (sym c.fixed_text.ensures) (ap own_text c.in-TooLong.is ∙ ap (λ n. decimal n ++ codes "\n") (sym c.from.ensures))) fixed.ok fixed.counted c.write_number.ensures
+
+pub returns-in-BadImage : goal.returns-in-BadImage
+returns-in-BadImage g c =
+    let fixed = c.in_ok-write_text.ensures in
+    then_wrote _ c.fixed_text.result.now _ c.write_number-in-BadImage.result _ _ _ _ _ _ (ap₂ (λ f own. f ++ own) (sym c.fixed_text.ensures) (ap own_text c.in-BadImage.is ∙ ap (λ n. decimal n ++ codes "\n") (sym c.from-in-BadImage.ensures))) fixed.ok fixed.counted c.write_number-in-BadImage.ensures

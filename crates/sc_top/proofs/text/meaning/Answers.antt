@@ -1,8 +1,14 @@
-use Rattle.std.proofs.Common.{◌∙◌, ap, subst}
-use Rattle.sc_types.specs.Acceptance.{Accepts}
-use Rattle.sc_top.specs.Output.{told}
+use Rattle.std.proofs.Common.{ap, ◌∙◌}
+use Rattle.std.proofs.lemmas.Bool.{false≢true}
+use Rattle.sc_core.specs.declared.program.ProgramTree.{ProgramTree}
+use Rattle.sc_report.specs.Report.{meaning_text}
+use Rattle.sc_words.specs.declared.command.Command.TheVariants.{Meaning}
+use Rattle.sc_top.specs.Output.{meant}
+use Rattle.sc_top.proofs.Explained.{plain_output}
 use Rattle.sc_top.proofs.text.meaning.Goals as goal
 
 pub returns-clause-ok : goal.returns-clause-ok
 returns-clause-ok c =
-    (c.in_ok-source.source.program, subst (λ bytes. Accepts bytes c.in_ok-source.source.program) c.in_ok-source.ensures.bytes c.in_ok-source.ensures.source.accepted, c.in_ok-meaning_text.ensures ∙ ap (told c.args.options.now) c.program.ensures.program)
+    let told = ap (λ (program : ProgramTree). meaning_text program.interfaces (meant c.args.options.now program)) c.program.ensures.program in
+    plain_output (Meaning c.args.options.now) c.args.bytes.now c.in_ok-meaning_text.field-0 c.in_ok-source.source.program (λ h. false≢true h)
+    c.in_ok-source.ensures.accepted.1 (c.in_ok-meaning_text.ensures ∙ told) tt

@@ -1,0 +1,67 @@
+-- Helping: how the faults of the parts are passed on, and which status tells a failure.
+use Rattle.std.specs.Prelude.{◌≡◌, ℕ, List, Result, Ok, Err, Option, Some}
+use Rattle.sc_image.specs.declared.fault.ImageFault.{ImageFault}
+use Rattle.sc_image.specs.declared.fault.ImageFault.TheVariants as image
+use Rattle.sc_image.specs.Reading.{cause_number}
+use Rattle.sc_lex.specs.declared.fault.TextFault.{TextFault}
+use Rattle.sc_lex.specs.declared.fault.TextFault.TheVariants as text
+use Rattle.sc_edge.specs.Edge.{Rose}
+use Rattle.sc_words.specs.declared.command.Command.{Command}
+use Rattle.sc_words.specs.declared.fault.WordsFault.{WordsFault}
+use Rattle.sc_words.specs.declared.fault.WordsFault.TheVariants as words
+use Rattle.sc_top.specs.declared.input.ReadFault as read
+use Rattle.sc_top.specs.declared.input.ReadFault.TheVariants as faults
+use Rattle.sc_top.specs.declared.failure.Failure.{Failure}
+use Rattle.sc_top.specs.declared.failure.Failure.TheVariants.{Usage, Refused, TooLarge, TooLong, BadImage, ReadFault, WriteFault, OutOfMemory, NotBuilt}
+use Rattle.sc_top.specs.declared.status.Status.{Status}
+use Rattle.sc_top.specs.declared.status.Status.TheVariants as status
+use Rattle.sc_top.specs.Answer.{IsLonger, Refuses, IsUnfit, FindsBad, GivesUp}
+
+abbrev pub of_words_fault : WordsFault → Failure
+of_words_fault words.Usage = Usage
+of_words_fault words.OutOfMemory = OutOfMemory
+
+abbrev pub of_read_fault : read.ReadFault → Failure
+of_read_fault faults.Source = ReadFault
+of_read_fault faults.Memory = OutOfMemory
+
+abbrev pub of_text_fault : TextFault → Failure
+of_text_fault (text.Refused refusal) = Refused refusal
+of_text_fault text.OutOfMemory = OutOfMemory
+
+abbrev pub of_image_fault : ImageFault → Failure
+of_image_fault (image.Bad cause) = BadImage (cause_number cause)
+of_image_fault image.OutOfMemory = OutOfMemory
+
+abbrev pub status_of : Failure → Status
+status_of Usage = status.Usage
+status_of (Refused refusal) = status.Refused refusal
+status_of (TooLarge fault) = status.TooLarge fault
+status_of (TooLong limit) = status.TooLong limit
+status_of (BadImage cause) = status.BadImage cause
+status_of ReadFault = status.ReadFault
+status_of WriteFault = status.WriteFault
+status_of OutOfMemory = status.OutOfMemory
+status_of NotBuilt = status.NotBuilt
+
+-- the status of a call that went well or failed
+abbrev pub status_by : {A : Type 0} → Result A Failure → Status
+status_by (Ok done) = status.Done
+status_by (Err failure) = status_of failure
+
+-- why the input wasn't read whole
+abbrev pub IsInputCause : Option ℕ → (left left_after : Option (List ℕ)) → (faults faults_after : ℕ) → Failure → Type 0
+IsInputCause limit left left_after faults faults_after (TooLong most) =
+    (limit ≡ Some most) × IsLonger most left left_after
+IsInputCause limit left left_after faults faults_after ReadFault = Rose faults faults_after
+IsInputCause limit left left_after faults faults_after OutOfMemory = Unit {0}
+IsInputCause limit left left_after faults faults_after _ = ⊥
+
+-- why a command has no output for these bytes
+abbrev pub IsOutputCause : Command → List ℕ → Failure → Type 0
+IsOutputCause command bytes (Refused refusal) = Refuses command bytes refusal
+IsOutputCause command bytes (TooLarge fault) = IsUnfit command bytes fault
+IsOutputCause command bytes (BadImage cause) = FindsBad command bytes cause
+IsOutputCause command bytes NotBuilt = GivesUp command bytes
+IsOutputCause command bytes OutOfMemory = Unit {0}
+IsOutputCause command bytes _ = ⊥
