@@ -80,3 +80,9 @@ pub record StaysSound (image : ImageParts) (before after : Hart) : Type 0 where
 -- there is a byte where there was one at the start, and nowhere else
 abbrev pub IsBacked : ImageParts → Memory → Type 0
 IsBacked image memory = (address : ℕ) → is_some (memory address) ≡ is_some (start_memory image address)
+
+-- a hart and a memory that a run of the image can go on from, with room for so many events in the whole trace
+pub record CanRun (image : ImageParts) (events : ℕ) (hart : Hart) (memory : Memory) : Type 0 where
+  pub room : HasRoom events hart
+  pub sound : IsSound image hart
+  pub backed : IsBacked image memory
