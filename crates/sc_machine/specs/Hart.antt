@@ -1,5 +1,5 @@
 -- What instructions change, as the state that it stands for.
-use Rattle.std.specs.Prelude.{◌≡◌, ◌+◌, ◌<◌, ◌≤◌, ℕ, All, length, is_some, vec_capacity, Result, Ok, Err}
+use Rattle.std.specs.Prelude.{◌≡◌, ◌+◌, ◌<◌, ◌≤◌, ℕ, All, length, is_some, vec_capacity, Result, Ok, Err, OnErr}
 use Rattle.sc_base.specs.declared.stop.TrapReason.{TrapReason}
 use Rattle.sc_store.specs.Memory.{Memory}
 use Rattle.sc_image.specs.declared.parts.ImageParts.{ImageParts}
@@ -76,6 +76,11 @@ pub record IsReady (site : Site) (hart : Hart) : Type 0 where
 pub record StaysSound (image : ImageParts) (before after : Hart) : Type 0 where
   pub sound : IsSound image after
   pub room : (events : ℕ) → HasRoom events before → HasRoom events after
+
+-- what an instruction leaves, by its answer: a trap changes nothing
+pub record LeavesSound {A : Type 0} (image : ImageParts) (result : Result A TrapReason) (before after : Hart) : Type 0 where
+  pub trap : OnErr result (after ≡ before)
+  pub stays : StaysSound image before after
 
 -- there is a byte where there was one at the start, and nowhere else
 abbrev pub IsBacked : ImageParts → Memory → Type 0
