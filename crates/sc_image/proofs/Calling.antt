@@ -9,9 +9,10 @@ use Rattle.rv_code.specs.Decoding.{decoded, jalr_in, load_in, store_in, op_imm_i
 use Rattle.sc_image.specs.declared.parts.ImageParts.{ImageParts}
 use Rattle.sc_image.specs.declared.parts.ImportPart.{ImportPart}
 use Rattle.sc_image.specs.Layout.{word_at, are_data}
-use Rattle.sc_image.specs.State.{a0, reg}
+use Rattle.sc_image.specs.State.{State, a0, reg}
 use Rattle.sc_image.specs.Step.{execute_by, step_by}
 use Rattle.sc_image.specs.Machine.{stopped, run, machine}
+use Rattle.sc_image.specs.Telling.{IsCall}
 
 -- A with this code, which may call the export f of B, or not; and B, which begins with f
 abbrev pair : (imports : List ImportPart) → (params : ℕ) (result : Bool) → (a b : List ℕ) → ImageParts
@@ -59,6 +60,10 @@ calls_and_returns : ((machine (at_entry f_of_b) [] 9 9).stop ≡ Trap BadCall 0x
     ((machine (at_entry f_of_b) [] 9 1).state.pc ≡ 0x01100000)
 unfolding run step_by stopped execute_by word_at decoded jalr_in system_in
 calls_and_returns = (refl, refl, refl, refl)
+
+-- where B begins there is a call for A
+is_call : (state : State) → state.active ≡ 0 → IsCall (at_entry f_of_b) state 1 0 0x01100000
+is_call state active = record { entry = refl; may = rw active refl }
 
 -- without the import
 calls_without_import : ((machine (at_entry []) [] 9 9).stop ≡ Trap NoImport 0x01000004) × ((machine (at_entry []) [] 9 9).state.trace ≡ [])

@@ -1,5 +1,5 @@
 -- What instructions change, as the state that it stands for.
-use Rattle.std.specs.Prelude.{◌≡◌, ◌+◌, ◌<◌, ◌≤◌, ℕ, All, length, is_some, vec_capacity, Result, Ok, Err}
+use Rattle.std.specs.Prelude.{◌≡◌, ◌+◌, ◌<◌, ◌≤◌, ℕ, All, length, is_some, vec_capacity, Result, Ok, Err, OnErr}
 use Rattle.sc_base.specs.declared.stop.TrapReason.{TrapReason}
 use Rattle.sc_store.specs.Memory.{Memory}
 use Rattle.sc_image.specs.declared.parts.ImageParts.{ImageParts}
@@ -77,6 +77,17 @@ pub record StaysSound (image : ImageParts) (before after : Hart) : Type 0 where
   pub sound : IsSound image after
   pub room : (events : ℕ) → HasRoom events before → HasRoom events after
 
+-- what an instruction leaves, by its answer: a trap changes nothing
+pub record LeavesSound {A : Type 0} (image : ImageParts) (result : Result A TrapReason) (before after : Hart) : Type 0 where
+  pub trap : OnErr result (after ≡ before)
+  pub stays : StaysSound image before after
+
 -- there is a byte where there was one at the start, and nowhere else
 abbrev pub IsBacked : ImageParts → Memory → Type 0
 IsBacked image memory = (address : ℕ) → is_some (memory address) ≡ is_some (start_memory image address)
+
+-- a hart and a memory that a run of the image can go on from, with room for so many events in the whole trace
+pub record CanRun (image : ImageParts) (events : ℕ) (hart : Hart) (memory : Memory) : Type 0 where
+  pub room : HasRoom events hart
+  pub sound : IsSound image hart
+  pub backed : IsBacked image memory

@@ -8,7 +8,7 @@ ghost use Rattle.sc_image.specs.State.{State};
 ghost use Rattle.sc_image.specs.Cross.{arguments, called};
 ghost use Rattle.sc_image.specs.Step.{Traps, export_called, calls};
 ghost use Rattle.sc_image.specs.WellFormed.{IsWellFormed};
-ghost use Rattle.sc_machine.specs.Hart.{state_in, outcome_of, IsReady, StaysSound};
+ghost use Rattle.sc_machine.specs.Hart.{state_in, outcome_of, IsReady, StaysSound, LeavesSound};
 ghost use Rattle.sc_machine.specs.Passing.{IsCallee, entered};
 
 use crate::hart::{Core, Hart};
@@ -43,8 +43,7 @@ pub(crate) fn call_out(
     requires pc { hart.old.core.pc + 4 < 2 ^ 32 }
     requires ready { IsReady here.now hart.old }
     ensures outcome { (memory : Memory) → outcome_of result (state_in memory hart.new) ≡ calls here.now.image (state_in memory hart.old) rd target }
-    ensures trap { OnErr result (hart.new ≡ hart.old) }
-    ensures stays { StaysSound here.now.image hart.old hart.new }
+    ensures leaves { LeavesSound here.now.image result hart.old hart.new }
 {
     if rd as usize != RA {
         return Err(TrapReason::BadJump);

@@ -6,7 +6,7 @@ ghost use Rattle.sc_store.specs.Memory.{Memory};
 ghost use Rattle.sc_image.specs.Calls.{may_input, may_output};
 ghost use Rattle.sc_image.specs.Cross.{input_at, input, output};
 ghost use Rattle.sc_image.specs.Step.{Goes, next, environment_call};
-ghost use Rattle.sc_machine.specs.Hart.{state_in, outcome_of, IsReady, StaysSound};
+ghost use Rattle.sc_machine.specs.Hart.{state_in, outcome_of, IsReady, StaysSound, LeavesSound};
 
 use crate::hart::Hart;
 use crate::here::Here;
@@ -22,8 +22,7 @@ pub(crate) fn environment_call(
     requires pc { hart.old.core.pc + 4 < 2 ^ 32 }
     requires ready { IsReady here.now hart.old }
     ensures outcome { (memory : Memory) → outcome_of result (state_in memory hart.new) ≡ environment_call here.now.image (map word_of inputs.now) (state_in memory hart.old) }
-    ensures trap { OnErr result (hart.new ≡ hart.old) }
-    ensures stays { StaysSound here.now.image hart.old hart.new }
+    ensures leaves { LeavesSound here.now.image result hart.old hart.new }
 {
     match hart.core.registers[A7] {
         INPUT if may_input(here) => {

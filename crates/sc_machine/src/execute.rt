@@ -3,7 +3,7 @@
 ghost use Rattle.std.specs.Prelude.{◌≡◌, ◌+◌, ◌^◌, ◌<◌, map, OnErr};
 ghost use Rattle.sc_word.specs.Word.{word_of};
 ghost use Rattle.sc_image.specs.Step.{execute, step};
-ghost use Rattle.sc_machine.specs.Hart.{state_in, outcome_of, IsBacked, IsReady, StaysSound};
+ghost use Rattle.sc_machine.specs.Hart.{state_in, outcome_of, IsBacked, IsReady, LeavesSound};
 
 use crate::arithmetic::{op, op_imm, shift, upper};
 use crate::environment::environment_call;
@@ -25,9 +25,8 @@ pub(crate) fn step<S: Store>(
     requires ready { IsReady here.now hart.old }
     requires backed { IsBacked here.now.image (S.bytes memory.old) }
     ensures outcome { outcome_of result (state_in (S.bytes memory.new) hart.new) ≡ step here.now.image (map word_of inputs.now) (state_in (S.bytes memory.old) hart.old) }
-    ensures trap { OnErr result (hart.new ≡ hart.old) }
+    ensures leaves { LeavesSound here.now.image result hart.old hart.new }
     ensures memory { OnErr result (S.bytes memory.new ≡ S.bytes memory.old) }
-    ensures stays { StaysSound here.now.image hart.old hart.new }
     ensures backed { IsBacked here.now.image (S.bytes memory.new) }
 {
     let Some(word) = here.word_at(hart.core.pc) else {
@@ -50,9 +49,8 @@ fn execute<S: Store>(
     requires backed { IsBacked here.now.image (S.bytes memory.old) }
     requires pc { hart.old.core.pc + 4 < 2 ^ 32 }
     ensures outcome { outcome_of result (state_in (S.bytes memory.new) hart.new) ≡ execute here.now.image (map word_of inputs.now) (state_in (S.bytes memory.old) hart.old) instr.now }
-    ensures trap { OnErr result (hart.new ≡ hart.old) }
+    ensures leaves { LeavesSound here.now.image result hart.old hart.new }
     ensures memory { OnErr result (S.bytes memory.new ≡ S.bytes memory.old) }
-    ensures stays { StaysSound here.now.image hart.old hart.new }
     ensures backed { IsBacked here.now.image (S.bytes memory.new) }
 {
     match *instr {

@@ -9,7 +9,7 @@ ghost use Rattle.sc_word.specs.Machine.{add_word};
 ghost use Rattle.sc_base.specs.declared.stop.TrapReason.TheVariants.{BadJump};
 ghost use Rattle.sc_image.specs.State.{State};
 ghost use Rattle.sc_image.specs.Step.{Traps, jump, calls, execute};
-ghost use Rattle.sc_machine.specs.Hart.{at, comp_in, state_in, outcome_of, IsReady, StaysSound};
+ghost use Rattle.sc_machine.specs.Hart.{at, comp_in, state_in, outcome_of, IsReady, LeavesSound};
 
 use crate::arithmetic::compares;
 use crate::calling::call_out;
@@ -42,8 +42,7 @@ fn jump(here: &Here<'_>, hart: &mut Hart, rd: u8, target: u32) -> Result<(), Tra
     requires ready { IsReady here.now hart.old }
     requires register { IsReg rd }
     ensures outcome { (memory : Memory) → outcome_of result (state_in memory hart.new) ≡ jump here.now.image (state_in memory hart.old) rd target (calls here.now.image (state_in memory hart.old) rd target) }
-    ensures trap { OnErr result (hart.new ≡ hart.old) }
-    ensures stays { StaysSound here.now.image hart.old hart.new }
+    ensures leaves { LeavesSound here.now.image result hart.old hart.new }
 {
     if target % 4 != 0 {
         return Err(TrapReason::Misaligned);
@@ -79,8 +78,7 @@ pub(crate) fn jal(
     requires pc { hart.old.core.pc + 4 < 2 ^ 32 }
     requires ready { IsReady here.now hart.old }
     ensures outcome { (inputs : List ℕ) (memory : Memory) → outcome_of result (state_in memory hart.new) ≡ execute here.now.image inputs (state_in memory hart.old) (Instr.Jal rd imm) }
-    ensures trap { OnErr result (hart.new ≡ hart.old) }
-    ensures stays { StaysSound here.now.image hart.old hart.new }
+    ensures leaves { LeavesSound here.now.image result hart.old hart.new }
 {
     let target = jump_target(&hart.core, imm);
     jump(here, hart, rd.number(), target)
@@ -117,8 +115,7 @@ pub(crate) fn jalr(
     requires pc { hart.old.core.pc + 4 < 2 ^ 32 }
     requires ready { IsReady here.now hart.old }
     ensures outcome { (inputs : List ℕ) (memory : Memory) → outcome_of result (state_in memory hart.new) ≡ execute here.now.image inputs (state_in memory hart.old) (Instr.Jalr rd rs1 imm) }
-    ensures trap { OnErr result (hart.new ≡ hart.old) }
-    ensures stays { StaysSound here.now.image hart.old hart.new }
+    ensures leaves { LeavesSound here.now.image result hart.old hart.new }
 {
     let target = hart.core.displaced(rs1, imm) / 2 * 2;
     if rd.number() != 0 || target != GATE {

@@ -41,11 +41,11 @@ impl<S: Store> Model for Machine<S> {
 
     ghost Value = { Progress S };
 
-    ghost use Rattle.sc_machine.specs.Hart.{IsSound, HasRoom, IsBacked};
+    ghost use Rattle.sc_machine.specs.Hart.{CanRun};
 
     ghost view = { λ m. record { image = m.program; inputs = map word_of m.inputs; events = m.events; registers = m.hart.core.registers; pc = m.hart.core.pc; active = m.hart.active; saved = m.hart.saved.items; cross = m.hart.cross.calls; input = m.hart.input; trace = m.hart.trace.items; store = m.memory; stop = m.stop } };
 
-    ghost invariant = { λ m. HasRoom m.events m.hart × IsSound m.program m.hart × IsBacked m.program (S.bytes m.memory) };
+    ghost invariant = { λ m. CanRun m.program m.events m.hart (S.bytes m.memory) };
 }
 
 /// A machine that can't be made.

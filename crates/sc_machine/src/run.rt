@@ -3,7 +3,7 @@
 ghost use Rattle.std.specs.Prelude.{◌≡◌, map};
 ghost use Rattle.sc_word.specs.Word.{word_of};
 ghost use Rattle.sc_image.specs.Machine.{Run, is_ended, stopped, run};
-ghost use Rattle.sc_machine.specs.Hart.{state_in, IsSound, HasRoom, IsBacked};
+ghost use Rattle.sc_machine.specs.Hart.{state_in, CanRun};
 
 use crate::execute::step;
 use crate::hart::Hart;
@@ -22,13 +22,9 @@ pub(crate) fn run<S: Store>(
     memory: &mut S,
     steps: u32,
 ) -> Stop
-    requires room { HasRoom events hart.old }
-    requires sound { IsSound program.now hart.old }
-    requires backed { IsBacked program.now (S.bytes memory.old) }
+    requires ready { CanRun program.now events hart.old (S.bytes memory.old) }
     ensures run { ◌≡◌ {A = Run} (record { state = state_in (S.bytes memory.new) hart.new; stop = result }) (run program.now (map word_of inputs.now) events steps (state_in (S.bytes memory.old) hart.old)) }
-    ensures room { HasRoom events hart.new }
-    ensures sound { IsSound program.now hart.new }
-    ensures backed { IsBacked program.now (S.bytes memory.new) }
+    ensures ready { CanRun program.now events hart.new (S.bytes memory.new) }
 {
     let mut here = Here::of(program, hart.active);
     for _ in 0..steps {

@@ -15,14 +15,14 @@ step-requires-clause-ready g c =
     let left : length c.loop.hart.trace.items < c.args.events = room_left _ _ (rw c.deref.ensures.value at (sym c.in_default.ensures)) in
     record {
       here = c.loop.invariant.comp;
-      sound = rw c.loop.invariant.image c.loop.invariant.sound;
-      room = record { trace = omega (arith, c.loop.invariant.room.trace); cross = omega (arith, c.loop.invariant.room.cross) };
+      sound = rw c.loop.invariant.image c.loop.invariant.ready.sound;
+      room = record { trace = omega (arith, c.loop.invariant.ready.room.trace); cross = omega (arith, c.loop.invariant.ready.room.cross) };
     }
 
 pub returns-in-Err-clause-run : goal.returns-in-Err-clause-run
 returns-in-Err-clause-run g c =
     let left : c.args.steps - c.loop.counter ≡ suc (c.args.steps - (c.loop.counter + 1)) = omega arith in
-    rw (c.in-Err.ensures.trap, c.in-Err.ensures.memory)
+    rw (c.in-Err.ensures.leaves.trap, c.in-Err.ensures.memory)
     (sym (trapped _ (map word_of c.args.inputs.now) _ (state_in (g.S.Store.bytes c.loop.memory) c.loop.hart) _ _ _ left (rw c.deref.ensures.value at (sym c.in_default.ensures)) (rw c.loop.invariant.image at c.in-Err.ensures.outcome)) ∙
     c.loop.invariant.same)
 
@@ -32,9 +32,11 @@ loop-preserved g c =
     record {
       image = c.follow.ensures.image ∙ c.loop.invariant.image;
       comp = c.follow.ensures.comp;
-      room = c.in_default-step.ensures.stays.room c.args.events c.loop.invariant.room;
-      sound = rw c.loop.invariant.image at c.in_default-step.ensures.stays.sound;
-      backed = rw c.loop.invariant.image at c.in_default-step.ensures.backed;
+      ready = record {
+        room = c.in_default-step.ensures.leaves.stays.room c.args.events c.loop.invariant.ready.room;
+        sound = rw c.loop.invariant.image at c.in_default-step.ensures.leaves.stays.sound;
+        backed = rw c.loop.invariant.image at c.in_default-step.ensures.backed;
+      };
       same =
           sym (gone _ (map word_of c.args.inputs.now) _ (state_in (g.S.Store.bytes c.loop.memory) c.loop.hart) _ _ _ left (rw c.deref.ensures.value at (sym c.in_default.ensures)) (rw c.loop.invariant.image at c.in_default-step.ensures.outcome)) ∙
           c.loop.invariant.same;

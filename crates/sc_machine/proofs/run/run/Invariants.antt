@@ -2,16 +2,14 @@ use Rattle.std.specs.Prelude.{map}
 use Rattle.sc_word.specs.Word.{word_of}
 use Rattle.std.proofs.Common.{◌≡◌, ◌-◌}
 use Rattle.sc_image.specs.Machine.{run}
-use Rattle.sc_machine.specs.Hart.{state_in, IsSound, HasRoom, IsBacked}
+use Rattle.sc_machine.specs.Hart.{state_in, CanRun}
 use Rattle.sc_machine.proofs.run.run.Given as goal
 
 abbrev pub invariant-loop : goal.invariant-loop
 invariant-loop g l = record {
   image : l.here.image ≡ l.program;
   comp : l.here.comp ≡ l.hart.active;
-  room : HasRoom l.events l.hart;
-  sound : IsSound l.program l.hart;
-  backed : IsBacked l.program (g.S.Store.bytes l.memory);
+  ready : CanRun l.program l.events l.hart (g.S.Store.bytes l.memory);
   same : run l.program (map word_of l.inputs) l.events (l.steps - l.counter) (state_in (g.S.Store.bytes l.memory) l.hart) ≡
       run l.program (map word_of l.inputs) l.events l.steps (state_in (g.S.Store.bytes l.fn.memory) l.fn.hart);
 }
