@@ -17,8 +17,8 @@ use Rattle.sc_top.specs.Command.{Intake, Text, Image, Nothing, intake, limit_of}
 use Rattle.sc_top.specs.Output.{compiles, HasImage, IsOutput}
 use Rattle.sc_top.specs.Sizes.{too_large}
 
--- what a call saw of the outside: the bytes that were left to read and those that were written, where these are told, and
--- the counts of faults, each before the call and after it
+-- what a call saw of the outside: the bytes that were left to read and those that were written, where these are told,
+-- and the counts of faults, each before the call and after it
 pub record Traffic : Type 0 where
   pub left : Option (List ℕ)
   pub left_after : Option (List ℕ)
@@ -99,8 +99,8 @@ pub record IsBeyond (command : Command) (bytes : List ℕ) : Type 0 where
   pub accepted : Accepts bytes program
   pub imageless : (image : ImageParts) → HasImage bytes image → ⊥
 
--- the text is accepted, and its program doesn't fit where it would be compiled, so that it has no image. So far each text
--- without an image is beyond what is built
+-- the text is accepted, and its program doesn't fit where it would be compiled, so that it has no image. So far each
+-- text without an image is beyond what is built
 pub record IsUnfit (command : Command) (bytes : List ℕ) (fault : large.TooLarge) : Type 0 where
   pub compiled : IsTrue (compiles command)
   pub program : ProgramTree

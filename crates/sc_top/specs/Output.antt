@@ -46,14 +46,15 @@ compiles (commands.Run options) = true
 compiles (commands.Explain options show) = true
 compiles _ = false
 
--- what a command that takes a text writes for its bytes, its program and that one's image. Of the chain, which is the text
--- alone, any text is that one
+-- what a command that takes a text writes for its bytes, its program and that one's image. Of the chain, which is the
+-- text alone, any text is that one
 abbrev pub output : Command → List ℕ → ProgramTree → ImageParts → List ℕ
 output commands.Check bytes program image = check_text program.interfaces
 output (commands.Meaning options) bytes program image = meaning_text program.interfaces (meant options program)
 output commands.Compile bytes program image = image_bytes image
 output (commands.Run options) bytes program image = machine_text program.interfaces options image
-output (commands.Explain options None) bytes program image = machine_text program.interfaces options image ++ codes "chain 0\n"
+output (commands.Explain options None) bytes program image =
+    machine_text program.interfaces options image ++ codes "chain 0\n"
 output (commands.Explain options (Some place)) bytes program image = bytes
 output (commands.Exec options) bytes program image = []
 output (commands.Make options) bytes program image = []

@@ -1,4 +1,5 @@
--- What of a program is too large to be compiled: first the globals of a section, then the frame of a function, then the code of a section.
+-- What of a program is too large to be compiled: first the globals of a section, then the frame of a function, then the
+-- code of a section.
 use Rattle.std.specs.Prelude.{ℕ, ◌*◌, nat_lt, List, [], ◌∷◌, ◌++◌, flat_map, map, Option, Some, None, if◌then◌else◌}
 use Rattle.sc_event.specs.declared.interface.Interface.{Interface}
 use Rattle.sc_core.specs.declared.section.TypedFunction.{TypedFunction}
@@ -45,9 +46,11 @@ code_bytes section = 96 * total (map nodes section.functions)
 abbrev pub large_globals : Named → List TooLarge
 large_globals n = above most_globals (global_bytes n.section) (Globals n.name (global_bytes n.section))
 
+abbrev pub large_frame : Named → TypedFunction → List TooLarge
+large_frame n f = above most_frame (frame_bytes n.section f) (Frame n.name f.name (frame_bytes n.section f))
+
 abbrev pub large_frames : Named → List TooLarge
-large_frames n =
-    flat_map (λ f. above most_frame (frame_bytes n.section f) (Frame n.name f.name (frame_bytes n.section f))) n.section.functions
+large_frames n = flat_map (large_frame n) n.section.functions
 
 abbrev pub large_code : Named → List TooLarge
 large_code n = above most_code (code_bytes n.section) (Code n.name (code_bytes n.section))

@@ -1,4 +1,4 @@
--- A number at the front of a text, alone and in a statement.
+-- Helping: a number at the front of a text, alone and in a statement.
 use Rattle.std.specs.Prelude.{◌≡◌, ◌≤◌, ℕ, List, ◌++◌, false, slice_index, decimal}
 use Rattle.std.specs.Char.{is_ascii_digit}
 

@@ -4,7 +4,8 @@ use Rattle.sc_edge.specs.Edge.{Rose, Adds}
 use Rattle.sc_top.specs.Answer.{Tells}
 
 -- it was written whole where there is no error, and else a fault cut it short
-pub record Wrote {T E : Type 0} (text : List ℕ) (result : Result T E) (written written_after : Option (List ℕ)) (faults faults_after : ℕ) : Type 0 where
+pub record Wrote {T E : Type 0} (text : List ℕ) (result : Result T E)
+    (written written_after : Option (List ℕ)) (faults faults_after : ℕ) : Type 0 where
   pub ok : OnOk result (Adds written written_after text)
   pub err : OnErr result (Tells text written written_after faults faults_after)
   pub fault : OnErr result (Rose faults faults_after)

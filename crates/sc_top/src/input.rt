@@ -62,7 +62,8 @@ pub(crate) fn read_text<S: Source>(
 fn read_whole<S: Source>(alloc: Global, source: &mut S, limit: u32) -> Result<Text, Failure>
     ensures whole { IfOk result (IsWhole limit (S.left source.old) (S.left source.new)) }
     ensures cause { IfErr result
-        (IsInputCause (Some limit) (S.left source.old) (S.left source.new) (S.faults source.old) (S.faults source.new)) }
+        (IsInputCause (Some limit) (S.left source.old) (S.left source.new)
+        (S.faults source.old) (S.faults source.new)) }
 {
     let text = read_text(alloc, source, limit)?;
     if text.as_bytes().len() > limit as usize {
@@ -79,7 +80,8 @@ pub(crate) fn read_input<S: Source>(
 ) -> Result<Text, Failure>
     ensures input { IfOk result (IsInput (limit_of command.now) (S.left source.old) (S.left source.new)) }
     ensures cause { IfErr result
-        (IsInputCause (limit_of command.now) (S.left source.old) (S.left source.new) (S.faults source.old) (S.faults source.new)) }
+        (IsInputCause (limit_of command.now) (S.left source.old) (S.left source.new)
+        (S.faults source.old) (S.faults source.new)) }
     ensures unread { limit_of command.now ≡ None → source.new ≡ source.old }
 {
     match limit(command) {

@@ -21,7 +21,8 @@ use sc_types::{accepted_or_refused, one_phase, one_program};
 
 /// A thin text passes phases Lex and Syntax.
 pub fn thin_texts_are_read()
-    ensures { (text : List ℕ) (program : ThinProgram) → IsThin text program → (trees : List SectionTree) × Reads text trees }
+    ensures { (text : List ℕ) (program : ThinProgram) → IsThin text program →
+        (trees : List SectionTree) × Reads text trees }
 {
     dense_sections_are_cut();
     words_of_sections_spell_them();
@@ -30,7 +31,8 @@ pub fn thin_texts_are_read()
 
 /// A thin text is accepted, as a program that means what its thin program means.
 pub fn thin_texts_are_accepted()
-    ensures { (text : List ℕ) (thin : ThinProgram) → IsThin text thin → (program : ProgramTree) × Accepts text program × IsThinProgram program thin }
+    ensures { (text : List ℕ) (thin : ThinProgram) → IsThin text thin →
+        (program : ProgramTree) × Accepts text program × IsThinProgram program thin }
 {
     dense_sections_are_cut();
     words_of_sections_spell_them();
@@ -39,13 +41,15 @@ pub fn thin_texts_are_accepted()
 
 /// A thin text and an image are never longer than the commands take that read them alone.
 pub fn thin_texts_and_images_are_within()
-    ensures texts { (c : Command) (text : List ℕ) (image : ImageParts) → IsTrue (compiles c) → HasImage text image → IsWithin c text }
+    ensures texts { (c : Command) (text : List ℕ) (image : ImageParts) →
+        IsTrue (compiles c) → HasImage text image → IsWithin c text }
     ensures images { (bytes : List ℕ) → IsImage bytes → length bytes ≤ 67108864 }
 {}
 
 /// Bytes have one answer at most.
 pub fn one_answer()
-    ensures { (c : Command) (text : List ℕ) (status other : Status) → IsAnswer c text status → IsAnswer c text other → SameAnswer status other }
+    ensures { (c : Command) (text : List ℕ) (status other : Status) →
+        IsAnswer c text status → IsAnswer c text other → SameAnswer status other }
 {
     accepted_or_refused();
     one_phase();
@@ -54,7 +58,8 @@ pub fn one_answer()
 
 /// A command has one output at most for its input.
 pub fn one_output()
-    ensures { (c : Command) (bytes text other : List ℕ) → IsOutput c bytes text → IsOutput c bytes other → text ≡ other }
+    ensures { (c : Command) (bytes text other : List ℕ) →
+        IsOutput c bytes text → IsOutput c bytes other → text ≡ other }
 {
     thin_texts_are_accepted();
     one_program();

@@ -13,13 +13,15 @@ use sc_lex::Refusal;
 
 /// Writes the text of a status, without memory. The status stands, whether or not it can be told.
 pub fn tell<E: Sink>(err: &mut E, status: &Status)
-    ensures { Tells (status_text status.now) (E.written err.old) (E.written err.new) (E.faults err.old) (E.faults err.new) }
+    ensures { Tells (status_text status.now) (E.written err.old) (E.written err.new)
+        (E.faults err.old) (E.faults err.new) }
 {
     let _ = write_status(err, status);
 }
 
 fn write_status<E: Sink>(err: &mut E, status: &Status) -> Result<(), Failed>
-    ensures { Wrote (status_text status.now) result (E.written err.old) (E.written err.new) (E.faults err.old) (E.faults err.new) }
+    ensures { Wrote (status_text status.now) result (E.written err.old) (E.written err.new)
+        (E.faults err.old) (E.faults err.new) }
 {
     write_text(err, fixed_text(status))?;
     match status {
@@ -33,7 +35,8 @@ fn write_status<E: Sink>(err: &mut E, status: &Status) -> Result<(), Failed>
 
 // The word of a phase and a line, as the last things of a line.
 fn write_refusal<E: Sink>(err: &mut E, refusal: &Refusal) -> Result<(), Failed>
-    ensures { Wrote (refusal_text refusal.now) result (E.written err.old) (E.written err.new) (E.faults err.old) (E.faults err.new) }
+    ensures { Wrote (refusal_text refusal.now) result (E.written err.old) (E.written err.new)
+        (E.faults err.old) (E.faults err.new) }
 {
     write_text(err, phase_word(refusal.phase))?;
     write_text(err, b" line ")?;
@@ -42,7 +45,8 @@ fn write_refusal<E: Sink>(err: &mut E, refusal: &Refusal) -> Result<(), Failed>
 
 // What is too large, whose it is, and its bytes, as the last things of a line.
 fn write_large<E: Sink>(err: &mut E, fault: &TooLarge) -> Result<(), Failed>
-    ensures { Wrote (large_text fault.now) result (E.written err.old) (E.written err.new) (E.faults err.old) (E.faults err.new) }
+    ensures { Wrote (large_text fault.now) result (E.written err.old) (E.written err.new)
+        (E.faults err.old) (E.faults err.new) }
 {
     write_text(err, kind_text(fault))?;
     write_owner(err, fault)?;
@@ -61,7 +65,8 @@ fn bytes_of(fault: &TooLarge) -> u64
 
 // Whose it is.
 fn write_owner<E: Sink>(err: &mut E, fault: &TooLarge) -> Result<(), Failed>
-    ensures { Wrote (owner_text fault.now) result (E.written err.old) (E.written err.new) (E.faults err.old) (E.faults err.new) }
+    ensures { Wrote (owner_text fault.now) result (E.written err.old) (E.written err.new)
+        (E.faults err.old) (E.faults err.new) }
 {
     match fault {
         TooLarge::Code { comp, .. } => write_name(err, comp),
@@ -75,7 +80,8 @@ fn write_owner<E: Sink>(err: &mut E, fault: &TooLarge) -> Result<(), Failed>
 
 // A name and a blank.
 fn write_name<E: Sink>(err: &mut E, name: &Name) -> Result<(), Failed>
-    ensures { Wrote (name.now ++ codes " ") result (E.written err.old) (E.written err.new) (E.faults err.old) (E.faults err.new) }
+    ensures { Wrote (name.now ++ codes " ") result (E.written err.old) (E.written err.new)
+        (E.faults err.old) (E.faults err.new) }
 {
     write_text(err, name.as_bytes())?;
     write_text(err, b" ")
@@ -83,7 +89,8 @@ fn write_name<E: Sink>(err: &mut E, name: &Name) -> Result<(), Failed>
 
 // A number, as the last thing of a line.
 fn write_number<E: Sink>(err: &mut E, number: u64) -> Result<(), Failed>
-    ensures { Wrote (decimal number ++ codes "\n") result (E.written err.old) (E.written err.new) (E.faults err.old) (E.faults err.new) }
+    ensures { Wrote (decimal number ++ codes "\n") result (E.written err.old) (E.written err.new)
+        (E.faults err.old) (E.faults err.new) }
 {
     let mut buffer = Buffer::new();
     write_text(err, buffer.format(number).as_bytes())?;

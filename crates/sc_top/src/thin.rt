@@ -63,7 +63,8 @@ fn statement<'a>(before: &[u8], after: &[u8], text: &'a [u8]) -> Option<(u32, &'
     requires marked { 0 < length after.now }
     requires ends { EndsNumber after.now }
     ensures found { IfSome result (λ x. IsStatement before.now after.now x.0 text.now x.1.now) }
-    ensures none { IsNone result → (word : ℕ) (behind : List ℕ) → IsStatement before.now after.now word text.now behind → ⊥ }
+    ensures none { IsNone result → (word : ℕ) (behind : List ℕ) →
+        IsStatement before.now after.now word text.now behind → ⊥ }
 {
     let (word, behind) = number(strip(before, text)?)?;
     Some((word, strip(after, behind)?))

@@ -41,12 +41,13 @@ pub fn secomp<S: Source, O: Sink, E: Sink>(
       write_faults_after = O.faults out.new;
     }) result }
 
-    // Words that are no command, or one that reads nothing, leave the source; nothing is written unless the whole output is
-    // there and taken at least in part.
+    // Words that are no command, or one that reads nothing, leave the source; nothing is written unless the whole output
+    // is there and taken at least in part.
     ensures unread { IsSilent (command (map string_bytes words.now)) → source.new ≡ source.old }
     ensures untouched { result ≢ Status.Done → result ≢ Status.WriteFault → out.new ≡ out.old }
 
-    ensures told { Tells (status_text result) (E.written err.old) (E.written err.new) (E.faults err.old) (E.faults err.new) }
+    ensures told { Tells (status_text result) (E.written err.old) (E.written err.new)
+        (E.faults err.old) (E.faults err.new) }
 {
     accepted_or_refused();
     one_phase();
@@ -71,7 +72,8 @@ fn answer<S: Source, O: Sink>(
     source: &mut S,
     out: &mut O,
 ) -> Result<(), Failure>
-    ensures no_command { command (map string_bytes words.now) ≡ None → IsErrOf result Failure.Usage ⊎ IsErrOf result Failure.OutOfMemory }
+    ensures no_command { command (map string_bytes words.now) ≡ None →
+        IsErrOf result Failure.Usage ⊎ IsErrOf result Failure.OutOfMemory }
     ensures unread { IsSilent (command (map string_bytes words.now)) → source.new ≡ source.old }
     ensures says { (c : Command) → command (map string_bytes words.now) ≡ Some c → Says c (record {
       left = S.left source.old;
@@ -83,7 +85,8 @@ fn answer<S: Source, O: Sink>(
       write_faults = O.faults out.old;
       write_faults_after = O.faults out.new;
     }) (status_by result) }
-    ensures untouched { (failure : Failure) → IsErrOf result failure → failure ≢ Failure.WriteFault → out.new ≡ out.old }
+    ensures untouched { (failure : Failure) → IsErrOf result failure → failure ≢ Failure.WriteFault →
+        out.new ≡ out.old }
 {
     let command = read_command(alloc, words)?;
     let bytes = read_input(alloc, &command, source)?;
