@@ -7,6 +7,7 @@ mod registers;
 mod stmt;
 #[cfg(test)]
 mod tests;
+mod weigh;
 
 pub use function::{ObjectCells, TacFn, TacFnTree, TacFns};
 pub use program::{Tac, TacSection, TacSections, TacTree};
