@@ -10,6 +10,9 @@ abbrev pub branch_step : TacStmt-F ℕ → ℕ
 branch_step (tac.If cond first second) = suc (total first + total second)
 branch_step stmt = total (map total (parts stmt))
 
+abbrev pub stmt_branches : TacStmt → ℕ
+stmt_branches = fold-TacStmt ℕ branch_step
+
 -- of statements in order
 abbrev pub branches : List TacStmt → ℕ
-branches stmts = total (map (fold-TacStmt ℕ branch_step) stmts)
+branches stmts = total (map stmt_branches stmts)

@@ -1,6 +1,7 @@
 //! Structured three-address code: between programs and the machine's instructions.
 #![tactic(auto)]
 
+mod branches;
 mod function;
 mod program;
 mod registers;
