@@ -1,3 +1,4 @@
+mod Bounds
 pub mod Induction
 pub mod Plans
 pub mod Refusals

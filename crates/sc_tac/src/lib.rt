@@ -1,12 +1,14 @@
 //! Structured three-address code: between programs and the machine's instructions.
 #![tactic(auto)]
 
+mod branches;
 mod function;
 mod program;
 mod registers;
 mod stmt;
 #[cfg(test)]
 mod tests;
+mod weigh;
 
 pub use function::{ObjectCells, TacFn, TacFnTree, TacFns};
 pub use program::{Tac, TacSection, TacSections, TacTree};
