@@ -17,6 +17,8 @@ mod names;
 #[cfg(test)]
 mod order;
 #[cfg(test)]
+mod parts;
+#[cfg(test)]
 mod results;
 #[cfg(test)]
 mod stuck;

@@ -2,16 +2,20 @@
 use Rattle.std.proofs.Common.{◌≡◌, refl, ap, ◌∙◌, ℕ, suc, Bool, true, false, ◌&&◌, ◌==◌, List, [], ◌∷◌, map, length, Option, None, Some, codes}
 use Rattle.std.specs.Prelude.{nat_le, slice_get}
 use Rattle.std.specs.List.{list_all}
+use Rattle.sc_base.specs.Rules.{all_hold}
 use Rattle.sc_event.specs.declared.interface.Interface.{Interface}
 use Rattle.sc_event.specs.declared.interface.Interfaces.{Interfaces}
 use Rattle.sc_core.specs.declared.ty.Ty.{Ty}
 use Rattle.sc_core.specs.declared.stmt.TypedStmt.{TypedStmt}
-use Rattle.sc_core.specs.declared.section.TypedParam.{TypedParam}
 use Rattle.sc_core.specs.declared.section.TypedSection.{TypedSection}
 use Rattle.sc_core.specs.Height.{stmt_height}
 use Rattle.sc_core.specs.Sizes.{total, nodes}
 use Rattle.sc_core.specs.Typing.{Scope, Callable, goes_into, init_fits, stmt_fits}
-use Rattle.sc_core.specs.WellTyped.{most_params, most_height, most_nodes, most_compartments, are_distinct, variable_fits, passed_fits, result_fits, structs_fit, global_fits, init_height, local_fits, scope_of, function_fits, callable_in, section_fits, interface_fits, sections_fit, main_fits, mains_in, is_well_typed}
+use Rattle.sc_core.specs.WellTyped.{most_params, most_height, most_nodes}
+use Rattle.sc_core.specs.WellTyped.{variable_fits, params_fit, result_fits, structs_fit, global_fits, init_height}
+use Rattle.sc_core.specs.WellTyped.{local_fits, scope_of, function_fits, callable_in, decl_count, section_fits}
+use Rattle.sc_core.specs.WellTyped.{interface_fits, sections_fit, is_well_typed, has_few_compartments}
+use Rattle.sc_core.specs.WellTyped.{has_distinct_names, has_main, has_one_main}
 use Rattle.sc_core.proofs.Shapes.{Shape, Lines, stmts}
 use Rattle.sc_core.proofs.Measures.{shape_height, height_is, lines_high, lines_high_are, judge, judge_is, lines_fit, lines_fit_are}
 use Rattle.sc_core.proofs.Plans.{Slot, Plan, Sheet, local, init_of, function, section, program, plan_nodes, plan_nodes_is}
@@ -47,12 +51,20 @@ module _ (scope : Scope) (callable : Callable) where
   abbrev quick_slots : List Slot → Bool
   quick_slots [] = true
   quick_slots (slot ∷ slots) =
-      (variable_fits scope.structs slot.ty && (quick_init slot.ty slot.init && nat_le (quick_height slot.init) most_height)) && quick_slots slots
+      all_hold (
+        variable_fits scope.structs slot.ty ∷
+        quick_init slot.ty slot.init ∷
+        nat_le (quick_height slot.init) most_height ∷ []
+      ) && quick_slots slots
 
   slots_are : (slots : List Slot) → list_all (local_fits scope) (map local slots) ≡ quick_slots slots
   slots_are [] = refl
   slots_are (slot ∷ slots) = λ i.
-      (variable_fits scope.structs slot.ty && (init_is slot.ty slot.init i && nat_le (high_is slot.init i) most_height)) && slots_are slots i
+      all_hold (
+        variable_fits scope.structs slot.ty ∷
+        init_is slot.ty slot.init i ∷
+        nat_le (high_is slot.init i) most_height ∷ []
+      ) && slots_are slots i
 
   body_is : (result : Option Ty) (body : Lines) → list_all {X = TypedStmt} (λ s. stmt_fits scope callable result s false) (stmts body) ≡ list_all {X = Bool → Bool} (λ s. s false) (lines_fit scope callable result body)
   body_is result body =
@@ -65,11 +77,26 @@ heights_is body =
 module _ (callable : Callable) (of : TypedSection) where
   abbrev quick_function : Plan → Bool
   quick_function plan =
-      nat_le (length (function plan).params) most_params && (list_all {X = TypedParam} (λ p. passed_fits of.structs p.ty) (function plan).params && (result_fits of.structs plan.result && (quick_slots (scope_of of (function plan)) callable plan.locals && (list_all {X = Bool → Bool} (λ s. s false) (lines_fit (scope_of of (function plan)) callable plan.result plan.body) && list_all (λ h. nat_le h most_height) (lines_high plan.body)))))
+      all_hold (
+        nat_le (length (function plan).params) most_params ∷
+        params_fit of.structs (function plan).params ∷
+        result_fits of.structs plan.result ∷
+        quick_slots (scope_of of (function plan)) callable plan.locals ∷
+        list_all {X = Bool → Bool} (λ s. s false)
+          (lines_fit (scope_of of (function plan)) callable plan.result plan.body) ∷
+        list_all (λ h. nat_le h most_height) (lines_high plan.body) ∷ []
+      )
 
   function_is : (plan : Plan) → function_fits callable of (function plan) ≡ quick_function plan
   function_is plan = λ i.
-      nat_le (length (function plan).params) most_params && (list_all {X = TypedParam} (λ p. passed_fits of.structs p.ty) (function plan).params && (result_fits of.structs plan.result && (slots_are (scope_of of (function plan)) callable plan.locals i && (body_is (scope_of of (function plan)) callable plan.result plan.body i && heights_is plan.body i))))
+      all_hold (
+        nat_le (length (function plan).params) most_params ∷
+        params_fit of.structs (function plan).params ∷
+        result_fits of.structs plan.result ∷
+        slots_are (scope_of of (function plan)) callable plan.locals i ∷
+        body_is (scope_of of (function plan)) callable plan.result plan.body i ∷
+        heights_is plan.body i ∷ []
+      )
 
   abbrev quick_functions : List Plan → Bool
   quick_functions [] = true
@@ -86,34 +113,66 @@ nodes_are (plan ∷ plans) = λ i. plan_nodes_is plan i ∷ nodes_are plans i
 module _ (interfaces : Interfaces) where
   abbrev quick_section : Interface → Sheet → Bool
   quick_section interface sheet =
-      structs_fit sheet.structs 0 sheet.structs && (list_all (global_fits sheet.structs) sheet.globals && (quick_functions (callable_in interfaces interface (section sheet)) (section sheet) sheet.plans && nat_le (total (map plan_nodes sheet.plans)) most_nodes))
+      all_hold (
+        structs_fit sheet.structs 0 sheet.structs ∷
+        list_all (global_fits sheet.structs) sheet.globals ∷
+        quick_functions (callable_in interfaces interface (section sheet)) (section sheet) sheet.plans ∷
+        nat_le (total (map plan_nodes sheet.plans)) most_nodes ∷
+        nat_le (decl_count (section sheet)) most_nodes ∷ []
+      )
 
   section_is : (comp : ℕ) (interface : Interface) (sheet : Sheet) → section_fits interfaces comp interface (section sheet) ≡ quick_section interface sheet
   section_is comp interface sheet = λ i.
-      structs_fit sheet.structs 0 sheet.structs && (list_all (global_fits sheet.structs) sheet.globals && (functions_are (callable_in interfaces interface (section sheet)) (section sheet) sheet.plans i && nat_le (total (nodes_are sheet.plans i)) most_nodes))
+      all_hold (
+        structs_fit sheet.structs 0 sheet.structs ∷
+        list_all (global_fits sheet.structs) sheet.globals ∷
+        functions_are (callable_in interfaces interface (section sheet)) (section sheet) sheet.plans i ∷
+        nat_le (total (nodes_are sheet.plans i)) most_nodes ∷
+        nat_le (decl_count (section sheet)) most_nodes ∷ []
+      )
 
   abbrev quick_sections : ℕ → List Interface → List Sheet → Bool
   quick_sections comp [] [] = true
   quick_sections comp [] (sheet ∷ sheets) = false
   quick_sections comp (interface ∷ comps) [] = false
   quick_sections comp (interface ∷ comps) (sheet ∷ sheets) =
-      quick_section interface sheet && (interface_fits interfaces comp interface (section sheet) && quick_sections (suc comp) comps sheets)
+      all_hold (
+        quick_section interface sheet ∷
+        interface_fits interfaces comp interface (section sheet) ∷
+        quick_sections (suc comp) comps sheets ∷ []
+      )
 
   sections_are : (comp : ℕ) (comps : List Interface) (sheets : List Sheet) → sections_fit interfaces comp comps (map section sheets) ≡ quick_sections comp comps sheets
   sections_are comp [] [] = refl
   sections_are comp [] (sheet ∷ sheets) = refl
   sections_are comp (interface ∷ comps) [] = refl
   sections_are comp (interface ∷ comps) (sheet ∷ sheets) = λ i.
-      section_is comp interface sheet i && (interface_fits interfaces comp interface (section sheet) && sections_are (suc comp) comps sheets i)
+      all_hold (
+        section_is comp interface sheet i ∷
+        interface_fits interfaces comp interface (section sheet) ∷
+        sections_are (suc comp) comps sheets i ∷ []
+      )
 
 -- whether a program is well typed, by its plan: what follows computes
 abbrev pub quick_typed : Interfaces → List Sheet → Bool
 quick_typed interfaces sheets =
-    nat_le (length (map section sheets)) most_compartments && (are_distinct (codes "Env" ∷ map {A = Interface} (λ i. i.name) interfaces.comps) && (quick_sections interfaces 0 interfaces.comps sheets && (main_fits (slice_get (map section sheets) interfaces.main) && mains_in (map section sheets) == 1)))
+    all_hold (
+      has_few_compartments (program interfaces sheets) ∷
+      has_distinct_names (program interfaces sheets) ∷
+      quick_sections interfaces 0 interfaces.comps sheets ∷
+      has_main (program interfaces sheets) ∷
+      has_one_main (program interfaces sheets) ∷ []
+    )
 
 pub typed_by_plan : (interfaces : Interfaces) (sheets : List Sheet) → is_well_typed (program interfaces sheets) ≡ quick_typed interfaces sheets
 typed_by_plan interfaces sheets = λ i.
-    nat_le (length (map section sheets)) most_compartments && (are_distinct (codes "Env" ∷ map {A = Interface} (λ i. i.name) interfaces.comps) && (sections_are interfaces 0 interfaces.comps sheets i && (main_fits (slice_get (map section sheets) interfaces.main) && mains_in (map section sheets) == 1)))
+    all_hold (
+      has_few_compartments (program interfaces sheets) ∷
+      has_distinct_names (program interfaces sheets) ∷
+      sections_are interfaces 0 interfaces.comps sheets i ∷
+      has_main (program interfaces sheets) ∷
+      has_one_main (program interfaces sheets) ∷ []
+    )
 
 pub seven_is_typed : is_well_typed (program alone seven) ≡ true
 seven_is_typed = typed_by_plan alone seven

@@ -1,6 +1,8 @@
 -- Which expressions and statements have their types (C11 6.5 to 6.8).
-use Rattle.std.specs.Prelude.{ℕ, zero, suc, ◌-◌, ◌^◌, Bool, true, false, not, ◌&&◌, ◌||◌, ◌==◌, nat_lt, nat_le, List, [], ◌∷◌, map, length, Option, None, Some, is_some, slice_get}
+use Rattle.std.specs.Prelude.{ℕ, zero, suc, ◌-◌, ◌^◌, Bool, true, false, not, ◌&&◌, ◌||◌, ◌==◌, nat_lt, nat_le}
+use Rattle.std.specs.Prelude.{List, [], ◌∷◌, map, length, Option, None, Some, is_some, slice_get}
 use Rattle.std.specs.List.{list_any, list_all}
+use Rattle.sc_base.specs.Rules.{all_hold}
 use Rattle.sc_event.specs.declared.interface.Interfaces.{Interfaces}
 use Rattle.sc_event.specs.declared.interface.Proto.{Proto}
 use Rattle.sc_event.specs.declared.interface.Scalar.{Scalar}
@@ -46,7 +48,8 @@ same_ty ty.Int ty.Int = true
 same_ty ty.Unsigned ty.Unsigned = true
 same_ty (ty.Struct m) (ty.Struct n) = m == n
 same_ty (ty.Pointer stars a) (ty.Pointer more b) = stars == more && same_base a b
-same_ty (ty.Array stars a length) (ty.Array more b count) = stars == more && (same_base a b && length == count)
+same_ty (ty.Array stars a length) (ty.Array more b count) =
+    all_hold ((stars == more) ∷ same_base a b ∷ (length == count) ∷ [])
 same_ty _ _ = false
 
 abbrev pub is_type : Option Ty → Ty → Bool
@@ -96,6 +99,13 @@ pub record Judged : Type 0 where
   pub place : Bool
   pub null : Bool
 
+-- a value that is no place, and no null pointer
+abbrev pub value_judged : Ty → Bool → Judged
+value_judged t holds = record { ty = t; fits = holds; place = false; null = false }
+
+abbrev pub place_judged : Ty → Bool → Judged
+place_judged t holds = record { ty = t; fits = holds; place = true; null = false }
+
 abbrev pub is_int : Judged → Bool
 is_int e = e.fits && is_integer e.ty
 
@@ -120,32 +130,32 @@ same_pointers a b = same_ty (decayed a.ty) (decayed b.ty)
 abbrev pub are_equatable : Judged → Judged → Bool
 are_equatable a b =
     both_ints a b ||
-    points a && (points b && (same_pointers a b && not (a.null && b.null)))
+    all_hold (points a ∷ points b ∷ same_pointers a b ∷ not (a.null && b.null) ∷ [])
 
 -- what `<` and the like compare (C11 6.5.8p2)
 abbrev pub are_ordered : Judged → Judged → Bool
 are_ordered a b =
     both_ints a b ||
-    is_address a && (is_address b && same_pointers a b)
+    all_hold (is_address a ∷ is_address b ∷ same_pointers a b ∷ [])
 
 -- a sum of two integers, or of a pointer and an integer (C11 6.5.6p2)
 abbrev pub sum_fits : Judged → Judged → Ty → Bool
 sum_fits a b t =
     both_ints a b && same_ty t (common a.ty b.ty) ||
-    is_address a && (is_int b && same_ty t (decayed a.ty)) ||
-    is_int a && (is_address b && same_ty t (decayed b.ty))
+    all_hold (is_address a ∷ is_int b ∷ same_ty t (decayed a.ty) ∷ []) ||
+    all_hold (is_int a ∷ is_address b ∷ same_ty t (decayed b.ty) ∷ [])
 
 -- a difference of two integers, of a pointer and an integer, or of two pointers (C11 6.5.6p3)
 abbrev pub difference_fits : Judged → Judged → Ty → Bool
 difference_fits a b t =
     both_ints a b && same_ty t (common a.ty b.ty) ||
-    is_address a && (is_int b && same_ty t (decayed a.ty)) ||
-    is_address a && (is_address b && (same_pointers a b && same_ty t ty.Int))
+    all_hold (is_address a ∷ is_int b ∷ same_ty t (decayed a.ty) ∷ []) ||
+    all_hold (is_address a ∷ is_address b ∷ same_pointers a b ∷ same_ty t ty.Int ∷ [])
 
 -- whether an operator gives this type (C11 6.5.5 to 6.5.14)
 abbrev pub binary_fits : BinaryOp → Judged → Judged → Ty → Bool
-binary_fits op.OrElse a b t = is_scalar a && (is_scalar b && same_ty t ty.Int)
-binary_fits op.AndAlso a b t = is_scalar a && (is_scalar b && same_ty t ty.Int)
+binary_fits op.OrElse a b t = all_hold (is_scalar a ∷ is_scalar b ∷ same_ty t ty.Int ∷ [])
+binary_fits op.AndAlso a b t = all_hold (is_scalar a ∷ is_scalar b ∷ same_ty t ty.Int ∷ [])
 binary_fits op.Equal a b t = are_equatable a b && same_ty t ty.Int
 binary_fits op.NotEqual a b t = are_equatable a b && same_ty t ty.Int
 binary_fits op.Less a b t = are_ordered a b && same_ty t ty.Int
@@ -192,15 +202,19 @@ member_of scope _ offset t = false
 module _ (scope : Scope) where
   -- an expression of this type, from its parts (C11 6.5.2, 6.5.3)
   abbrev pub term_judged : TypedKind-F (Ty → Judged) Judged → Ty → Judged
-  term_judged (term.Literal word) t = record { ty = t; fits = literal_fits word t; place = false; null = is_pointer t }
-  term_judged (term.Variable v) t = record { ty = t; fits = is_type (variable_ty scope v) t; place = true; null = false }
-  term_judged (term.Unary o a) t = record { ty = t; fits = unary_fits o a t; place = false; null = false }
-  term_judged (term.Binary o a b) t = record { ty = t; fits = binary_fits o a b t; place = false; null = false }
-  term_judged (term.Index a b) t = record { ty = t; fits = is_address a && (is_int b && is_type (target (decayed a.ty)) t); place = true; null = false }
-  term_judged (term.Member a offset) t = record { ty = t; fits = a.fits && (a.place && member_of scope (Some a.ty) offset t); place = true; null = false }
-  term_judged (term.Arrow a offset) t = record { ty = t; fits = is_address a && member_of scope (target (decayed a.ty)) offset t; place = true; null = false }
-  term_judged (term.Deref a) t = record { ty = t; fits = is_address a && is_type (target (decayed a.ty)) t; place = true; null = false }
-  term_judged (term.Address a) t = record { ty = t; fits = a.fits && (a.place && is_type (pointer_to a.ty) t); place = false; null = false }
+  term_judged (term.Literal word) t =
+      record { ty = t; fits = literal_fits word t; place = false; null = is_pointer t }
+  term_judged (term.Variable v) t = place_judged t (is_type (variable_ty scope v) t)
+  term_judged (term.Unary o a) t = value_judged t (unary_fits o a t)
+  term_judged (term.Binary o a b) t = value_judged t (binary_fits o a b t)
+  term_judged (term.Index a b) t =
+      place_judged t (all_hold (is_address a ∷ is_int b ∷ is_type (target (decayed a.ty)) t ∷ []))
+  term_judged (term.Member a offset) t =
+      place_judged t (all_hold (a.fits ∷ a.place ∷ member_of scope (Some a.ty) offset t ∷ []))
+  term_judged (term.Arrow a offset) t =
+      place_judged t (is_address a && member_of scope (target (decayed a.ty)) offset t)
+  term_judged (term.Deref a) t = place_judged t (is_address a && is_type (target (decayed a.ty)) t)
+  term_judged (term.Address a) t = value_judged t (all_hold (a.fits ∷ a.place ∷ is_type (pointer_to a.ty) t ∷ []))
 
   abbrev pub judged : TypedExpr → Judged
   judged = fold-TypedExpr (Ty → Judged) Judged term_judged (λ e. e.kind e.ty)
@@ -261,11 +275,14 @@ pub record Callable : Type 0 where
 abbrev pub target_signature : Callable → CallTarget → Option Signature
 target_signature callable (Own n) = slice_get callable.functions n
 target_signature callable (Cross comp index) =
-    allowed (list_any (same_import (import.Function comp index)) callable.imports) (option_signature proto_signature (export_at callable.interfaces comp index))
+    allowed (list_any (same_import (import.Function comp index)) callable.imports)
+      (option_signature proto_signature (export_at callable.interfaces comp index))
 target_signature callable Input =
-    allowed (list_any (same_import import.Input) callable.imports) (Some (record { params = []; result = Some ty.Int }))
+    allowed (list_any (same_import import.Input) callable.imports)
+      (Some (record { params = []; result = Some ty.Int }))
 target_signature callable Output =
-    allowed (list_any (same_import import.Output) callable.imports) (Some (record { params = ty.Int ∷ []; result = None }))
+    allowed (list_any (same_import import.Output) callable.imports)
+      (Some (record { params = ty.Int ∷ []; result = None }))
 
 -- the arguments go into the parameters (C11 6.5.2.2p2)
 abbrev pub args_fit : Option Signature → List Judged → Bool
@@ -300,7 +317,11 @@ module _ (callable : Callable) where
 
   abbrev pub assign_call_fits : Judged → CallTarget → List Judged → Bool
   assign_call_fits place target args =
-      is_target place && (call_fits target args && result_goes (target_signature callable target) place.ty)
+      all_hold (
+        is_target place ∷
+        call_fits target args ∷
+        result_goes (target_signature callable target) place.ty ∷ []
+      )
 
   abbrev pub returned_call_fits : Option Ty → CallTarget → List Judged → Bool
   returned_call_fits None target args = false
@@ -309,7 +330,8 @@ module _ (callable : Callable) where
 module _ (scope : Scope) (callable : Callable) (result : Option Ty) where
   abbrev pub simple_fits : TypedSimpleKind → Bool
   simple_fits (simple.Assign place e) = assign_fits (judged scope place) (judged scope e)
-  simple_fits (simple.AssignCall place c) = assign_call_fits callable (judged scope place) c.target (map (judged scope) c.args)
+  simple_fits (simple.AssignCall place c) =
+      assign_call_fits callable (judged scope place) c.target (map (judged scope) c.args)
   simple_fits (simple.Call c) = call_fits callable c.target (map (judged scope) c.args)
 
   abbrev pub part_fits : Option TypedSimple → Bool
@@ -320,14 +342,24 @@ module _ (scope : Scope) (callable : Callable) (result : Option Ty) where
   abbrev pub kind_fits : TypedStmtKind-F (Bool → Bool) (Bool → Bool) → Bool → Bool
   kind_fits layer.Empty looping = true
   kind_fits (layer.Assign place e) looping = assign_fits (judged scope place) (judged scope e)
-  kind_fits (layer.AssignCall place c) looping = assign_call_fits callable (judged scope place) c.target (map (judged scope) c.args)
+  kind_fits (layer.AssignCall place c) looping =
+      assign_call_fits callable (judged scope place) c.target (map (judged scope) c.args)
   kind_fits (layer.Call c) looping = call_fits callable c.target (map (judged scope) c.args)
   kind_fits (layer.If cond first second) looping =
-      is_scalar (judged scope cond) && (list_all {X = Bool → Bool} (λ s. s looping) first && list_all {X = Bool → Bool} (λ s. s looping) second)
+      all_hold (
+        is_scalar (judged scope cond) ∷
+        list_all {X = Bool → Bool} (λ s. s looping) first ∷
+        list_all {X = Bool → Bool} (λ s. s looping) second ∷ []
+      )
   kind_fits (layer.While cond body) looping =
       is_scalar (judged scope cond) && list_all {X = Bool → Bool} (λ s. s true) body
   kind_fits (layer.For first cond next body) looping =
-      part_fits first && (is_scalar (judged scope cond) && (part_fits next && list_all {X = Bool → Bool} (λ s. s true) body))
+      all_hold (
+        part_fits first ∷
+        is_scalar (judged scope cond) ∷
+        part_fits next ∷
+        list_all {X = Bool → Bool} (λ s. s true) body ∷ []
+      )
   kind_fits layer.Break looping = looping
   kind_fits layer.Continue looping = looping
   kind_fits layer.Return looping = not (is_some result)

@@ -1,6 +1,9 @@
 -- What every program keeps: its types, its names where they matter, its interfaces and its counts.
-use Rattle.std.specs.Prelude.{◌++◌, ℕ, zero, suc, ◌+◌, Bool, true, false, not, ◌&&◌, ◌==◌, nat_lt, nat_le, codes, bytes_eq, List, [], ◌∷◌, map, length, take, Option, None, Some, is_some, slice_get, IsTrue}
+use Rattle.std.specs.Prelude.{ℕ, zero, suc, ◌+◌, Bool, true, false, not, ◌&&◌, ◌==◌, nat_lt, nat_le, IsTrue}
+use Rattle.std.specs.Prelude.{List, [], ◌∷◌, ◌++◌, map, length, take, codes, bytes_eq, slice_get}
+use Rattle.std.specs.Prelude.{Option, None, Some, is_some}
 use Rattle.std.specs.List.{list_any, list_all}
+use Rattle.sc_base.specs.Rules.{all_hold}
 use Rattle.sc_event.specs.declared.interface.Interfaces.{Interfaces}
 use Rattle.sc_event.specs.declared.interface.Interface.{Interface}
 use Rattle.sc_event.specs.declared.interface.Proto.{Proto}
@@ -26,7 +29,8 @@ use Rattle.sc_core.specs.Types.{is_array, cells_of}
 use Rattle.sc_core.specs.Sizes.{nodes, total}
 use Rattle.sc_core.specs.Height.{expr_height, stmt_height}
 use Rattle.sc_core.specs.Meaning.{main_name}
-use Rattle.sc_core.specs.Typing.{Scope, Callable, Signature, signature_of, proto_signature, same_ty, body_fits, init_fits}
+use Rattle.sc_core.specs.Typing.{Scope, Callable, Signature, signature_of, proto_signature, same_ty}
+use Rattle.sc_core.specs.Typing.{body_fits, init_fits}
 
 -- the counts that a program may reach
 abbrev pub most_compartments : ℕ
@@ -67,16 +71,24 @@ type_within whole pointed (ty.Pointer stars base) = nat_le 1 stars && base_withi
 type_within whole pointed (ty.Array stars base length) = nat_le 1 length && starred_within whole pointed stars base
 type_within whole pointed _ = true
 
--- members stand one behind another, from an offset to the end
+-- members stand one behind another, from an offset to the end, and each has a type over the structs before
 abbrev pub members_fit : List TypedStruct → ℕ → ℕ → List TypedMember → ℕ → Bool
 members_fit structs k offset [] end = offset == end
 members_fit structs k offset (m ∷ members) end =
-    m.offset == offset && (type_within k (suc k) m.ty && members_fit structs k (offset + cells_of structs m.ty) members end)
+    all_hold (
+      (m.offset == offset) ∷
+      type_within k (suc k) m.ty ∷
+      members_fit structs k (offset + cells_of structs m.ty) members end ∷ []
+    )
 
--- a struct holds only structs that stand before it, and points to these and itself
+-- a struct has a member, holds only structs that stand before it, points to these and itself, and has few cells
 abbrev pub struct_fits : List TypedStruct → ℕ → TypedStruct → Bool
 struct_fits structs k s =
-    nat_le 1 (length s.members) && (members_fit structs k 0 s.members s.cells && nat_le s.cells most_cells)
+    all_hold (
+      nat_le 1 (length s.members) ∷
+      members_fit structs k 0 s.members s.cells ∷
+      nat_le s.cells most_cells ∷ []
+    )
 
 abbrev pub structs_fit : List TypedStruct → ℕ → List TypedStruct → Bool
 structs_fit structs k [] = true
@@ -100,7 +112,12 @@ global_fits structs g = variable_fits structs g.ty && words_fit g.ty g.init
 
 abbrev pub scope_of : TypedSection → TypedFunction → Scope
 scope_of section f =
-    record { structs = section.structs; globals = map {A = TypedGlobal} (λ g. g.ty) section.globals; params = map {A = TypedParam} (λ p. p.ty) f.params; locals = map {A = TypedLocal} (λ l. l.ty) f.locals }
+    record {
+      structs = section.structs;
+      globals = map {A = TypedGlobal} (λ g. g.ty) section.globals;
+      params = map {A = TypedParam} (λ p. p.ty) f.params;
+      locals = map {A = TypedLocal} (λ l. l.ty) f.locals;
+    }
 
 -- a type of a parameter or of a result is no array
 abbrev pub passed_fits : List TypedStruct → Ty → Bool
@@ -117,11 +134,29 @@ init_height (Some e) = expr_height e
 -- a local's type and its initialiser
 abbrev pub local_fits : Scope → TypedLocal → Bool
 local_fits scope l =
-    variable_fits scope.structs l.ty && (init_fits scope l.ty l.init && nat_le (init_height l.init) most_height)
+    all_hold (
+      variable_fits scope.structs l.ty ∷
+      init_fits scope l.ty l.init ∷
+      nat_le (init_height l.init) most_height ∷ []
+    )
+
+abbrev pub params_fit : List TypedStruct → List TypedParam → Bool
+params_fit structs params = list_all {X = TypedParam} (λ p. passed_fits structs p.ty) params
+
+-- no statement of a body is higher than the limit
+abbrev pub is_low : List TypedStmt → Bool
+is_low body = list_all {X = TypedStmt} (λ s. nat_le (stmt_height s) most_height) body
 
 abbrev pub function_fits : Callable → TypedSection → TypedFunction → Bool
 function_fits callable section f =
-    nat_le (length f.params) most_params && (list_all {X = TypedParam} (λ p. passed_fits section.structs p.ty) f.params && (result_fits section.structs f.result && (list_all (local_fits (scope_of section f)) f.locals && (body_fits (scope_of section f) callable f.result f.body && list_all {X = TypedStmt} (λ s. nat_le (stmt_height s) most_height) f.body))))
+    all_hold (
+      nat_le (length f.params) most_params ∷
+      params_fit section.structs f.params ∷
+      result_fits section.structs f.result ∷
+      list_all (local_fits (scope_of section f)) f.locals ∷
+      body_fits (scope_of section f) callable f.result f.body ∷
+      is_low f.body ∷ []
+    )
 
 abbrev pub same_types : List Ty → List Ty → Bool
 same_types [] [] = true
@@ -140,10 +175,20 @@ same_signature a b = same_types a.params b.params && same_results a.result b.res
 abbrev pub is_plain_name : List ℕ → Bool
 is_plain_name name = not (bytes_eq (take 3 name) (codes "bt_"))
 
+-- one of the functions has this name and these types
+abbrev pub is_defined_in : List TypedFunction → Proto → Bool
+is_defined_in functions proto =
+    list_any {X = TypedFunction}
+      (λ f. bytes_eq f.name proto.name && same_signature (signature_of f) (proto_signature proto)) functions
+
 -- an export is a function of its section with this head, and isn't `main`
 abbrev pub export_fits : List TypedFunction → Proto → Bool
 export_fits functions proto =
-    is_plain_name proto.name && (not (bytes_eq proto.name main_name) && list_any {X = TypedFunction} (λ f. bytes_eq f.name proto.name && same_signature (signature_of f) (proto_signature proto)) functions)
+    all_hold (
+      is_plain_name proto.name ∷
+      not (bytes_eq proto.name main_name) ∷
+      is_defined_in functions proto ∷ []
+    )
 
 -- an import is the environment's, or an export of another compartment
 abbrev pub import_fits : Interfaces → ℕ → Import → Bool
@@ -166,40 +211,97 @@ abbrev pub callable_in : Interfaces → Interface → TypedSection → Callable
 callable_in interfaces interface section =
     record { interfaces = interfaces; imports = interface.imports; functions = map signature_of section.functions }
 
+-- how many structs, globals and functions a section has
+abbrev pub decl_count : TypedSection → ℕ
+decl_count section = length section.structs + (length section.globals + length section.functions)
+
 abbrev pub section_fits : Interfaces → ℕ → Interface → TypedSection → Bool
 section_fits interfaces comp interface section =
-    structs_fit section.structs 0 section.structs && (list_all (global_fits section.structs) section.globals && (list_all (function_fits (callable_in interfaces interface section) section) section.functions && nat_le (total (map nodes section.functions)) most_nodes))
+    all_hold (
+      structs_fit section.structs 0 section.structs ∷
+      list_all (global_fits section.structs) section.globals ∷
+      list_all (function_fits (callable_in interfaces interface section) section) section.functions ∷
+      nat_le (total (map nodes section.functions)) most_nodes ∷
+      nat_le (decl_count section) most_nodes ∷ []
+    )
 
--- what a section imports and what it defines have names of their own, its exports have too, and exports and imports lead to functions
+-- the names by which a section's functions are called
+abbrev pub callable_names : Interfaces → Interface → TypedSection → List (List ℕ)
+callable_names interfaces interface section =
+    map (import_name interfaces) interface.imports ++ map {A = TypedFunction} (λ f. f.name) section.functions
+
+abbrev pub export_names : Interface → List (List ℕ)
+export_names interface = map {A = Proto} (λ p. p.name) interface.exports
+
+-- what a section imports and what it defines have names of their own, its exports have too, and exports and imports
+-- lead to functions
 abbrev pub interface_fits : Interfaces → ℕ → Interface → TypedSection → Bool
 interface_fits interfaces comp interface section =
-    are_distinct (map (import_name interfaces) interface.imports ++ map {A = TypedFunction} (λ f. f.name) section.functions) && (are_distinct (map {A = Proto} (λ p. p.name) interface.exports) && (list_all (export_fits section.functions) interface.exports && (list_all (import_fits interfaces comp) interface.imports && (nat_le (length interface.exports) most_exports && nat_le (length interface.imports) most_exports))))
+    all_hold (
+      are_distinct (callable_names interfaces interface section) ∷
+      are_distinct (export_names interface) ∷
+      list_all (export_fits section.functions) interface.exports ∷
+      list_all (import_fits interfaces comp) interface.imports ∷
+      nat_le (length interface.exports) most_exports ∷
+      nat_le (length interface.imports) most_exports ∷ []
+    )
 
 -- each compartment with its section, from this number on
 abbrev pub sections_fit : Interfaces → ℕ → List Interface → List TypedSection → Bool
 sections_fit interfaces comp [] [] = true
 sections_fit interfaces comp (interface ∷ comps) (section ∷ sections) =
-    section_fits interfaces comp interface section && (interface_fits interfaces comp interface section && sections_fit interfaces (suc comp) comps sections)
+    all_hold (
+      section_fits interfaces comp interface section ∷
+      interface_fits interfaces comp interface section ∷
+      sections_fit interfaces (suc comp) comps sections ∷ []
+    )
 sections_fit interfaces comp _ _ = false
 
 -- `int main(void)`
 abbrev pub is_main : TypedFunction → Bool
 is_main f = bytes_eq f.name main_name
 
+abbrev pub main_signature : Signature
+main_signature = record { params = []; result = Some ty.Int }
+
 abbrev pub main_fits : Option TypedSection → Bool
 main_fits None = false
 main_fits (Some section) =
-    list_any {X = TypedFunction} (λ f. is_main f && same_signature (signature_of f) (record { params = []; result = Some ty.Int })) section.functions
+    list_any {X = TypedFunction} (λ f. is_main f && same_signature (signature_of f) main_signature) section.functions
 
 -- the sections that define `main`
 abbrev pub mains_in : List TypedSection → ℕ
 mains_in [] = 0
 mains_in (section ∷ sections) = truth (list_any is_main section.functions) + mains_in sections
 
--- a whole program: one section for each of at most 32 compartments with names of their own, and one `main`, in the main compartment
+abbrev pub has_few_compartments : ProgramTree → Bool
+has_few_compartments program = nat_le (length program.sections) most_compartments
+
+-- compartments have names of their own, and none has that of the environment
+abbrev pub has_distinct_names : ProgramTree → Bool
+has_distinct_names program = are_distinct (codes "Env" ∷ map {A = Interface} (λ i. i.name) program.interfaces.comps)
+
+-- one section for each compartment, and each fits
+abbrev pub has_fitting_sections : ProgramTree → Bool
+has_fitting_sections program = sections_fit program.interfaces 0 program.interfaces.comps program.sections
+
+-- the main compartment has `int main(void)`
+abbrev pub has_main : ProgramTree → Bool
+has_main program = main_fits (slice_get program.sections program.interfaces.main)
+
+-- one section alone has a `main`
+abbrev pub has_one_main : ProgramTree → Bool
+has_one_main program = mains_in program.sections == 1
+
 abbrev pub is_well_typed : ProgramTree → Bool
 is_well_typed program =
-    nat_le (length program.sections) most_compartments && (are_distinct (codes "Env" ∷ map {A = Interface} (λ i. i.name) program.interfaces.comps) && (sections_fit program.interfaces 0 program.interfaces.comps program.sections && (main_fits (slice_get program.sections program.interfaces.main) && mains_in program.sections == 1)))
+    all_hold (
+      has_few_compartments program ∷
+      has_distinct_names program ∷
+      has_fitting_sections program ∷
+      has_main program ∷
+      has_one_main program ∷ []
+    )
 
 abbrev pub IsWellTyped : ProgramTree → Type 0
 IsWellTyped program = IsTrue (is_well_typed program)

@@ -2,6 +2,7 @@
 use Rattle.std.specs.Prelude.{ℕ, Bool, false, ◌&&◌, not, List, [], ◌∷◌, ◌++◌, map, Option, Some, None, is_some}
 use Rattle.std.specs.List.{concat}
 use Rattle.std.specs.Option.{option_map}
+use Rattle.sc_base.specs.Rules.{all_hold}
 use Rattle.sc_ast.specs.declared.expr.ExprTree.{ExprTree}
 use Rattle.sc_ast.specs.declared.expr.CallTree.{CallTree}
 use Rattle.sc_ast.specs.declared.stmt.SimpleKind.{SimpleKind}
@@ -100,7 +101,11 @@ module _ (visible : Visible) (callees : Callees) where
 
     abbrev pub assign_call_holds : ExprTree → CallTree → Bool
     assign_call_holds place call =
-        is_target (judge (typed visible place)) && (call_holds call && result_goes (callees.signature call.name) (typed visible place).ty)
+        all_hold (
+          is_target (judge (typed visible place)) ∷
+          call_holds call ∷
+          result_goes (callees.signature call.name) (typed visible place).ty ∷ []
+        )
 
     abbrev pub cond_holds : ExprTree → Bool
     cond_holds cond = is_scalar (judge (typed visible cond))

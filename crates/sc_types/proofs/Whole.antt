@@ -1,5 +1,5 @@
 -- A text that breaks no rule is a well-typed program.
-use Rattle.std.proofs.Common.{◌≡◌, refl, sym, ap, ◌∙◌, ℕ, zero, suc, ◌+◌, Bool, true, false, not, ◌&&◌, ◌||◌, ◌==◌, if◌then◌else◌, List, [], ◌∷◌, ◌++◌, map, length, Some, arith, subst, append_assoc}
+use Rattle.std.proofs.Common.{◌≡◌, refl, sym, ap, ◌∙◌, ℕ, zero, suc, ◌+◌, ◌≤◌, Bool, true, false, not, ◌&&◌, ◌||◌, ◌==◌, if◌then◌else◌, List, [], ◌∷◌, ◌++◌, map, length, Some, arith, subst, append_assoc}
 use Rattle.std.specs.Prelude.{slice_get, bytes_eq, nat_le, codes}
 use Rattle.std.specs.List.{concat, list_any}
 use Rattle.std.specs.Option.{option_map}
@@ -9,7 +9,9 @@ use Rattle.sc_event.specs.declared.interface.Interface.{Interface}
 use Rattle.sc_ast.specs.declared.section.FunctionTree.{FunctionTree}
 use Rattle.sc_ast.specs.declared.section.ExportLine.{ExportLine}
 use Rattle.sc_ast.specs.declared.section.ImportLine.{ImportLine}
-use Rattle.sc_ast.specs.declared.section.Decl.TheVariants.{Function}
+use Rattle.sc_ast.specs.declared.section.StructTree.{StructTree}
+use Rattle.sc_ast.specs.declared.section.Decl.{Decl}
+use Rattle.sc_ast.specs.declared.section.Decl.TheVariants.{Struct, Global, Proto, Function}
 use Rattle.sc_ast.specs.declared.section.SectionTree.{SectionTree}
 use Rattle.sc_ast.specs.Heads.{head_of}
 use Rattle.sc_ast.specs.Height.{section_height}
@@ -18,7 +20,7 @@ use Rattle.sc_core.specs.declared.section.TypedFunction.{TypedFunction}
 use Rattle.sc_core.specs.declared.section.TypedSection.{TypedSection}
 use Rattle.sc_core.specs.Value.{truth}
 use Rattle.sc_core.specs.Typing.{signature_of}
-use Rattle.sc_core.specs.WellTyped.{most_compartments, most_exports, most_nodes, are_distinct, same_signature, section_fits, interface_fits, sections_fit, is_main, main_fits, mains_in, is_well_typed, IsWellTyped}
+use Rattle.sc_core.specs.WellTyped.{most_compartments, most_exports, most_nodes, are_distinct, same_signature, decl_count, section_fits, interface_fits, sections_fit, is_main, main_fits, mains_in, is_well_typed, IsWellTyped}
 use Rattle.sc_scope.specs.Broken.{unless, line_of_text}
 use Rattle.sc_scope.specs.Declarations.{structs_in, globals_in, heads_in, functions_in}
 use Rattle.sc_scope.specs.Interfaces.{environment, interface_of, interfaces_from, interfaces_of, main_name, defines_main, main_from}
@@ -26,20 +28,20 @@ use Rattle.sc_scope.specs.Names as names
 use Rattle.sc_scope.specs.Names.{names_broken}
 use Rattle.sc_elab.specs.Statements.{Callees}
 use Rattle.sc_elab.specs.Sections as elab
-use Rattle.sc_elab.specs.Sections.{types_broken, program_of, callees_of, sections_from, structs, tags, signature_by, typed_function, typed_section}
+use Rattle.sc_elab.specs.Sections.{types_broken, program_of, callees_of, sections_from, structs, tags, signature_by, typed_function, typed_global, typed_section}
 use Rattle.sc_interfaces.specs.Faces as faces
 use Rattle.sc_interfaces.specs.Faces.{interface_broken, name_holds}
 use Rattle.sc_types.specs.Counts as counts
 use Rattle.sc_types.specs.Counts.{counts_broken}
 use Rattle.sc_types.specs.Acceptance.{AreLow}
 use Rattle.sc_types.proofs.Basics.{not_true, held, front_empty, back_empty, map_empty, Each, each_empty, each_passes, some_is, none_some}
-use Rattle.sc_types.proofs.Places.{Text}
-use Rattle.sc_types.proofs.Structs.{AllSmall, structs_all_fit}
+use Rattle.sc_types.proofs.Places.{Text, at_most, is_at_most}
+use Rattle.sc_types.proofs.Structs.{AllSmall, structs_all_fit, structs_length}
 use Rattle.sc_types.proofs.Lookups.{each_at, each_function, same_sym, FoundFunction, find_function}
 use Rattle.sc_types.proofs.Facts.{Fresh, fresh_distinct, DeclFacts, FaceFacts, face_facts, decls_hold}
 use Rattle.sc_types.proofs.Calls.{input_signature, get_map, any_at, own_signature}
 use Rattle.sc_types.proofs.Callees as called
-use Rattle.sc_types.proofs.Functions.{small_from, functions_are, globals_are, structs_known}
+use Rattle.sc_types.proofs.Functions.{map_length, small_from, functions_are, globals_are, structs_known}
 use Rattle.sc_types.proofs.Sections.{none_beyond, interface_is}
 use Rattle.sc_base.proofs.Lists.{get_behind}
 use Rattle.std.proofs.lemmas.List.{map-append}
@@ -48,6 +50,64 @@ use Rattle.sc_base.proofs.Bools.{and_first, and_rest}
 length_snoc : {A : Type 0} (xs : List A) (y : A) → length (xs ++ y ∷ []) ≡ suc (length xs)
 length_snoc [] y = refl
 length_snoc (x ∷ xs) y = ap suc (length_snoc xs y)
+
+-- The structs, globals and functions among declarations are no more than these.
+
+first_more : (a b c n : ℕ) → a + (b + c) ≤ n → suc a + (b + c) ≤ suc n
+first_more a b c n h = omega (arith, h)
+
+second_more : (a b c n : ℕ) → a + (b + c) ≤ n → a + (suc b + c) ≤ suc n
+second_more a b c n h = omega (arith, h)
+
+third_more : (a b c n : ℕ) → a + (b + c) ≤ n → a + (b + suc c) ≤ suc n
+third_more a b c n h = omega (arith, h)
+
+none_more : (a b c n : ℕ) → a + (b + c) ≤ n → a + (b + c) ≤ suc n
+none_more a b c n h = omega (arith, h)
+
+none_of_none : 0 + (0 + 0) ≤ 0
+none_of_none = omega arith
+
+kept_in : (decls : List Decl) →
+    length (structs_in decls) + (length (globals_in decls) + length (functions_in decls)) ≤ length decls
+kept_in [] = none_of_none
+kept_in (Struct tree ∷ decls) =
+    first_more (length (structs_in decls)) (length (globals_in decls)) (length (functions_in decls)) (length decls)
+    (kept_in decls)
+kept_in (Global tree ∷ decls) =
+    second_more (length (structs_in decls)) (length (globals_in decls)) (length (functions_in decls)) (length decls)
+    (kept_in decls)
+kept_in (Proto head ∷ decls) =
+    none_more (length (structs_in decls)) (length (globals_in decls)) (length (functions_in decls)) (length decls)
+    (kept_in decls)
+kept_in (Function tree ∷ decls) =
+    third_more (length (structs_in decls)) (length (globals_in decls)) (length (functions_in decls)) (length decls)
+    (kept_in decls)
+
+within_more : (a b c : ℕ) → a ≤ b → b ≤ c → a ≤ c
+within_more a b c h k = omega (arith, h, k)
+
+decl_count_is : (section : SectionTree) (callees : Callees) → decl_count (typed_section section callees) ≡
+    length (structs_in section.decls) + (length (globals_in section.decls) + length (functions_in section.decls))
+decl_count_is section callees = λ i.
+    structs_are i + (map_length (typed_global (tags section)) (globals_in section.decls) i +
+    map_length (typed_function section callees) (functions_in section.decls) i)
+  where
+    structs_are : length (structs section) ≡ length (structs_in section.decls)
+    structs_are =
+        structs_length (structs_in section.decls) ∙
+        map_length {A = StructTree} (λ tree. tree.name) (structs_in section.decls)
+
+few_kept : (section : SectionTree) (callees : Callees) → nat_le (length section.decls) most_nodes ≡ true →
+    nat_le (decl_count (typed_section section callees)) most_nodes ≡ true
+few_kept section callees few =
+    ap (λ n. nat_le n most_nodes) (decl_count_is section callees) ∙
+    at_most kept most_nodes
+    (within_more kept (length section.decls) most_nodes (kept_in section.decls)
+    (is_at_most (length section.decls) most_nodes few))
+  where
+    kept : ℕ
+    kept = length (structs_in section.decls) + (length (globals_in section.decls) + length (functions_in section.decls))
 
 -- What each section keeps.
 
@@ -132,9 +192,12 @@ module _ (sections : List SectionTree) where
       small : AllSmall (structs section) 0 (structs_in section.decls)
       small = small_from section 0 (structs_in section.decls) (front_empty _ _ behind_imports)
 
+      few_nodes : (nat_le (counts.section_nodes section callees) most_nodes && nat_le (length section.decls) most_nodes) ≡ true
+      few_nodes = held _ 1 (front_empty _ _ counted)
+
       section_is : section_fits (interfaces_of sections) number (interface_of sections number section) typed ≡ true
       section_is =
-          and_from _ _ (structs_all_fit (structs_in section.decls) (structs_known section callees [] section.decls names_at types_at) small) (and_from _ _ (globals_are section callees [] section.decls refl names_at types_at (front_empty _ _ behind_structs)) (and_from _ _ (functions_are section callees (called.callable sections (hold in_faces) number section there) (called.same_signature_called sections (hold in_faces) number section there) small [] section.decls refl names_at types_at (front_empty _ _ behind_globals) (back_empty (concat (map (counts.head_lines section) (heads_in section.decls))) _ behind_globals) low_at) (and_first _ _ (held _ 1 (front_empty _ _ counted)))))
+          and_from _ _ (structs_all_fit (structs_in section.decls) (structs_known section callees [] section.decls names_at types_at) small) (and_from _ _ (globals_are section callees [] section.decls refl names_at types_at (front_empty _ _ behind_structs)) (and_from _ _ (functions_are section callees (called.callable sections (hold in_faces) number section there) (called.same_signature_called sections (hold in_faces) number section there) small [] section.decls refl names_at types_at (front_empty _ _ behind_globals) (back_empty (concat (map (counts.head_lines section) (heads_in section.decls))) _ behind_globals) low_at) (and_from _ _ (and_first _ _ few_nodes) (few_kept section callees (and_rest (nat_le (counts.section_nodes section callees) most_nodes) _ few_nodes)))))
 
       faces_is : interface_fits (interfaces_of sections) number (interface_of sections number section) typed ≡ true
       faces_is = interface_is sections (hold in_faces) number section there names_at counted
