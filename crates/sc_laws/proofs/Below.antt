@@ -8,11 +8,10 @@ use Rattle.sc_core.specs.declared.run.RunEnd.TheVariants.{Ended, Blamed, TurnsOu
 use Rattle.sc_core.specs.Memory.{with_blocks}
 use Rattle.sc_core.specs.Words.{State, Here, Piece, Reached, Stopped, and_then, computed, turn_of, turn}
 use Rattle.sc_core.specs.Growth.{Front}
-use Rattle.sc_laws.specs.Growth.{Grown, last, Gone}
-use Rattle.sc_laws.proofs.Growing.{front_same, front_more, Goes, then_from}
-use Rattle.sc_laws.proofs.Twins.{Kept}
+use Rattle.sc_laws.specs.Growth.{Grown, last, Gone, Goes}
+use Rattle.sc_laws.proofs.Growing.{front_same, front_more, then_from}
+use Rattle.sc_laws.proofs.Twins.{Kept, KeptAt}
 use Rattle.sc_laws.proofs.Expressions.{Keeps, alike, blamed}
-use Rattle.sc_laws.proofs.Statements.{KeptAt}
 
 -- the state with so many more turns
 abbrev pub richer : ℕ → State → State
@@ -21,6 +20,18 @@ richer d s = record s { turns = s.turns + d }
 abbrev pub richer_piece : {V : Type 0} → ℕ → Piece V → Piece V
 richer_piece d (Reached v s) = Reached v (richer d s)
 richer_piece d (Stopped end s) = Stopped end (richer d s)
+
+-- what was told and noted before
+pub record Later (s t : State) : Type 0 where
+  pub events : Front s.trace t.trace
+  pub frames : Front s.frames t.frames
+
+pub later : (s t : State) → Grown s t → Later s t
+later s t g = record { events = g.events; frames = g.frames }
+
+later_more : (s t u : State) → Later s t → Grown t u → Later s u
+later_more s t u h g =
+    record { events = front_more s.trace t.trace u.trace h.events g.events; frames = front_more s.frames t.frames u.frames h.frames g.frames }
 
 -- by how many turns the second is richer, for which causes it goes on where the first is blamed, and whether it does where the first has no turn
 module _ (d : ℕ) (Soft : Cause → Type 0) (Turns : Type 0) where
@@ -31,10 +42,10 @@ module _ (d : ℕ) (Soft : Cause → Type 0) (Turns : Type 0) where
   Passes TurnsOut = Turns
   Passes EventsOut = ⊥
 
-  -- the second comes to the same, or its events go on from those with which the first stopped
+  -- the second comes to the same, or its events and its frames go on from those with which the first stopped
   pub data Below (V : Type 0) (o p : Piece V) : Type 0 where
     along : p ≡ richer_piece d o → Below V o p
-    passed : (end : RunEnd) (s : State) → o ≡ Stopped end s → Passes end → Front s.trace (last p).trace → Below V o p
+    passed : (end : RunEnd) (s : State) → o ≡ Stopped end s → Passes end → Later s (last p) → Below V o p
 
   -- states of functions in which at most so many calls are still made
   pub record Ahead (n n' : ℕ) (s s' : State) : Type 0 where
@@ -55,9 +66,9 @@ module _ (d : ℕ) (Soft : Cause → Type 0) (Turns : Type 0) where
         at_most x y z p q = omega (arith, p, q)
     on_along V W s s' (Stopped end t) p k l a g g' is h = along (ap (λ x. and_then x l) is)
 
-    on_passed : (V W : Type 0) (o p : Piece V) (k l : V → State → Piece W) (end : RunEnd) (t : State) → o ≡ Stopped end t → Passes end → Front t.trace (last p).trace → ((v : V) → Goes (l v)) → Below W (and_then o k) (and_then p l)
+    on_passed : (V W : Type 0) (o p : Piece V) (k l : V → State → Piece W) (end : RunEnd) (t : State) → o ≡ Stopped end t → Passes end → Later t (last p) → ((v : V) → Goes (l v)) → Below W (and_then o k) (and_then p l)
     on_passed V W o p k l end t is passes front goes =
-        passed end t (ap (λ x. and_then x k) is) passes (front_more t.trace (last p).trace (last (and_then p l)).trace front (then_from p l goes).events)
+        passed end t (ap (λ x. and_then x k) is) passes (later_more t (last p) (last (and_then p l)) front (then_from p l goes))
 
     after : (V W : Type 0) (s s' : State) (o p : Piece V) (k l : V → State → Piece W) → Ahead n n' s s' → Gone s o → Gone s' p → ((v : V) → Goes (k v)) → ((v : V) → Goes (l v)) → Below V o p → After V W s s' k l → Below W (and_then o k) (and_then p l)
     after V W s s' o p k l a g g' goes goes' (along is) h = on_along V W s s' o p k l a g g' is h
@@ -74,7 +85,9 @@ module _ (d : ℕ) (Soft : Cause → Type 0) (Turns : Type 0) where
     turn_at W k l goes s zero (suc m') is is' few few' h = passes spent where
       passes : (d ≡ 0) ⊎ Turns → Below W (Stopped TurnsOut s) (l tt (record s { turns = m' }))
       passes (inl none) = absurd (omega (arith, is', none))
-      passes (inr turns) = passed TurnsOut s refl turns (goes tt (record s { turns = m' })).grown.events
+      passes (inr turns) = passed TurnsOut s refl turns (on (goes tt (record s { turns = m' })).grown) where
+        on : Grown (record s { turns = m' }) (last (l tt (record s { turns = m' }))) → Later s (last (l tt (record s { turns = m' })))
+        on g = record { events = g.events; frames = g.frames }
 
     turned : (W : Type 0) (k l : Unit {0} → State → Piece W) → ((v : Unit {0}) → Goes (k v)) → ((v : Unit {0}) → Goes (l v)) → (s s' : State) → Ahead n n' s s'
         → ((t t' : State) → t.turns < s.turns → t'.turns < s'.turns → Ahead n n' t t' → Below W (k tt t) (l tt t')) → Below W (and_then (turn s) k) (and_then (turn s') l)
@@ -93,10 +106,10 @@ module _ (d : ℕ) (Soft : Cause → Type 0) (Turns : Type 0) where
       itself (Err cause) = refl
     computed_below V here line r r' s (blamed cause soft is) =
         passed (Blamed here.comp cause line) s (ap (λ x. computed here line x s) is) soft (stays r') where
-          stays : (r : Result V Cause) → Front s.trace (last (computed here line r (richer d s))).trace
-          stays (Ok v) = front_same s.trace
-          stays (Err cause) = front_same s.trace
+          stays : (r : Result V Cause) → Later s (last (computed here line r (richer d s)))
+          stays (Ok v) = record { events = front_same s.trace; frames = front_same s.frames }
+          stays (Err cause) = record { events = front_same s.trace; frames = front_same s.frames }
 
     pub below_at : (here : Here) → KeptAt (Ahead n n') Below Soft here
     below_at here =
-        record { computing = λ V line e e' h s s' a. subst (λ x. Below V (computed here line (e (s.memory here.comp)) s) (computed here line (e' (x.memory here.comp)) x)) (sym a.state) (computed_below V here line (e (s.memory here.comp)) (e' (s.memory here.comp)) s (h (s.memory here.comp))); stored = λ blocks s s' a. record { state = ap {A = State} {B = State} (λ x. record x { memory = with_blocks here.comp blocks x.memory }) a.state; few = a.few; few' = a.few' } }
+        record { computing = λ V line e e' h s s' a. subst (λ x. Below V (computed here line (e (s.memory here.comp)) s) (computed here line (e' (x.memory here.comp)) x)) (sym a.state) (computed_below V here line (e (s.memory here.comp)) (e' (s.memory here.comp)) s (h (s.memory here.comp))); passed = λ V cause line soft s s' a p g. passed (Blamed here.comp cause line) s refl soft (record { events = subst (λ x. Front x.trace (last p).trace) a.state g.grown.events; frames = subst (λ x. Front x.frames (last p).frames) a.state g.grown.frames }); stored = λ blocks s s' a. record { state = ap {A = State} {B = State} (λ x. record x { memory = with_blocks here.comp blocks x.memory }) a.state; few = a.few; few' = a.few' } }

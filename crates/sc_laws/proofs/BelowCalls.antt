@@ -17,8 +17,8 @@ use Rattle.sc_core.specs.declared.value.Value.TheVariants.{Word}
 use Rattle.sc_core.specs.Words.{State, Here, Piece, Reached, Stopped, and_then, turn, tell}
 use Rattle.sc_core.specs.Calls.{Function, Library, Body, Step, function, begun, done, found, word_in, crossed, may_call, back_own, back_cross, run_in, call_own, call_cross, called, calls, run_step, within}
 use Rattle.sc_core.specs.Scripts.{Roles, rows_left, is_number, asks, acts, performs, scripted_step}
-use Rattle.sc_laws.specs.Growth.{Grown}
-use Rattle.sc_laws.proofs.Growing.{Goes, stays, earlier, back_goes, then_goes, BodyGoes, StepGoes, begun_goes, done_goes, own_goes, cross_goes, calls_go, performs_go, within_goes, asks_is, asks_go}
+use Rattle.sc_laws.specs.Growth.{Grown, Goes}
+use Rattle.sc_laws.proofs.Growing.{stays, earlier, back_goes, then_goes, BodyGoes, StepGoes, begun_goes, done_goes, own_goes, cross_goes, calls_go, performs_go, within_goes, asks_is, asks_go}
 use Rattle.sc_laws.specs.Agreement.{Meets}
 use Rattle.sc_laws.proofs.Libraries.{Anywhere, CallsTwins, FunctionTwins, LibraryTwins, function_twins, entered_same, may_same}
 use Rattle.sc_laws.proofs.Below.{richer, richer_piece, Below, along, Ahead, below_kept}

@@ -6,6 +6,7 @@ use Rattle.sc_event.specs.declared.row.Action.{Action}
 use Rattle.sc_event.specs.declared.row.Action.TheVariants as act
 use Rattle.sc_event.specs.declared.row.Entry.TheVariants.{Main, Export}
 use Rattle.sc_event.specs.declared.event.Event.TheVariants.{Call}
+use Rattle.sc_core.specs.declared.cause.Cause.{Cause}
 use Rattle.sc_core.specs.declared.cause.Cause.TheVariants.{BadType}
 use Rattle.sc_core.specs.declared.expr.CallTarget.{CallTarget}
 use Rattle.sc_core.specs.declared.expr.CallTarget.TheVariants.{Own, Cross, Input, Output}
@@ -18,12 +19,14 @@ use Rattle.sc_core.specs.Memory.{Memory}
 use Rattle.sc_core.specs.Run.{reaches, stopped_at}
 use Rattle.sc_core.specs.Words.{State, Here, Piece, Reached, Stopped, turn, turn_of, tell}
 use Rattle.sc_core.specs.Calls.{Library, Body, function, begun, done, word_in, crossed, may_call, back_own, back_cross, run_in, call_own, call_cross, called, calls, run_step, within}
-use Rattle.sc_core.specs.Scripts.{Roles, roles_in, rows_left, is_number, asks, acts, performs, scripted_step}
-use Rattle.sc_core.specs.Meaning.{library_of, globals_of, first_state, run_to, run_by}
+use Rattle.sc_core.specs.Scripts.{Roles, rows_left, is_number, asks, acts, performs, scripted_step}
+use Rattle.sc_core.specs.Meaning.{first_state, run_to, run_by}
 use Rattle.sc_laws.specs.Chains.{Set}
-use Rattle.sc_laws.specs.Laws.{NobodyWhoPerformsIsBlamed}
-use Rattle.sc_laws.proofs.Keeping.{Property, Kept, IsKept, then_kept, found_kept, AreOpen}
-use Rattle.sc_laws.proofs.Opening.{library_is_open}
+use Rattle.sc_laws.specs.Runs.{roles_run}
+use Rattle.sc_laws.proofs.Growing.{BodyGoes, calls_go, within_goes}
+use Rattle.sc_laws.specs.Interactions.{Obedient}
+use Rattle.sc_laws.proofs.Matching.{scripted_goes_on}
+use Rattle.sc_laws.proofs.Keeping.{Property, Kept, IsKept, then_kept, found_kept, function_keeps}
 
 module _ (set : Set) where
   -- an end that blames nobody of the set
@@ -45,7 +48,7 @@ module _ (set : Set) where
 
   is_kept : (here : Here) → set here.comp ≡ false → IsKept sparing here
   is_kept here clear =
-      record { memory = λ s blocks h. tt; turned = λ s h. turned s.turns s; blamed = λ s cause line h. clear; out = λ s h. tt }
+      record { memory = λ s blocks h. tt; turned = λ s h. turned s.turns s; blamed = λ s cause line h. clear }
 
   module _ (library : Library) (body : Body) (spares : BodySpares body) where
     run_spares : (comp number : ℕ) (args : List Value) (back : Option Value → State → Piece (Option Value)) → ((v : Option Value) (s : State) → Kept sparing (back v s)) → (s : State) → Kept sparing (run_in library body comp number args back s)
@@ -79,10 +82,10 @@ module _ (set : Set) where
       by true = called_spares comp target args s
       by false = record { after = tt }
 
-    run_step_spares : AreOpen library → (number : ℕ) (here : Here) (s : State) → set here.comp ≡ false → Kept sparing (run_step library body number here s)
-    run_step_spares are number here s clear =
+    run_step_spares : Obedient library → BodyGoes body → (number : ℕ) (here : Here) (s : State) → set here.comp ≡ false → Kept sparing (run_step library body number here s)
+    run_step_spares obedient goes number here s clear =
         found_kept sparing (function library here.comp number) s (λ f s. f.does (calls library body) here s) tt (λ f is.
-        (are.function_keeps here.comp number f is).keeps sparing here (is_kept here clear) (calls library body) (λ target args s h. calls_spare here.comp clear target args s) s tt)
+        function_keeps library obedient here.comp number f is sparing here (is_kept here clear) (calls library body) (calls_go library body goes) (λ target args s h. calls_spare here.comp clear target args s) s tt)
 
     acts_spare : (action : Action) (next again : State → Piece (Option Value)) → ((s : State) → Kept sparing (next s)) → ((s : State) → Kept sparing (again s)) → (comp : ℕ) (s : State) → Kept sparing (acts library body action next again comp s)
     acts_spare (act.Call to index args) next again n a comp s =
@@ -101,19 +104,19 @@ module _ (set : Set) where
       by next true = acts_spare row.action (performs library body rest number here) (body number here) next (spares number here) here.comp s
       by next false = record { after = tt }
 
-  module _ (library : Library) (are : AreOpen library) (rows : ℕ → List Row) where
+  module _ (library : Library) (obedient : Obedient library) (rows : ℕ → List Row) where
     abbrev roles : Roles
     roles = record { scripted = set; rows = rows }
 
-    step_spares : (body : Body) → BodySpares body → BodySpares (scripted_step library roles (run_step library) body)
-    step_spares body spares number here s = by (set here.comp) refl where
+    step_spares : (body : Body) → BodyGoes body → BodySpares body → BodySpares (scripted_step library roles (run_step library) body)
+    step_spares body goes spares number here s = by (set here.comp) refl where
       by : (b : Bool) → set here.comp ≡ b → Kept sparing (if b then performs library body (rows_left roles here.comp s.trace) number here s else run_step library body number here s)
       by true is = performs_spare library body spares (rows_left roles here.comp s.trace) number here s
-      by false is = run_step_spares library body spares are number here s is
+      by false is = run_step_spares library body spares obedient goes number here s is
 
     within_spares : (n : ℕ) → BodySpares (within (scripted_step library roles (run_step library)) n)
     within_spares zero number here s = record { after = tt }
-    within_spares (suc n) number here s = step_spares (within (scripted_step library roles (run_step library)) n) (within_spares n) number here s
+    within_spares (suc n) number here s = step_spares (within (scripted_step library roles (run_step library)) n) (within_goes (scripted_step library roles (run_step library)) (scripted_goes_on library obedient roles) n) (within_spares n) number here s
 
     run_to_spares : (main : ℕ) (piece : Piece (Option Value)) → Kept sparing piece → Spares (run_to main piece).shown.end
     run_to_spares main (Reached v s) h = tt
@@ -130,7 +133,7 @@ module _ (set : Set) where
     by true = tt
     by false = h
 
-pub nobody_who_performs_is_blamed : NobodyWhoPerformsIsBlamed
-nobody_who_performs_is_blamed arith program set trace inputs turns events comp cause line ends =
-    subst (Spares set) ends (stopped_spares set events (run_by (library_of arith program) (scripted_step (library_of arith program) (roles_in program.interfaces.main set trace) (run_step (library_of arith program))) (globals_of program.sections) inputs turns).shown
-    (run_by_spares set (library_of arith program) (library_is_open arith program) (roles_in program.interfaces.main set trace).rows (globals_of program.sections) inputs turns))
+pub nobody_is_blamed : (library : Library) → Obedient library → (globals : Memory) (inputs : List ℕ) (turns events : ℕ) (roles : Roles) →
+    (comp : ℕ) (cause : Cause) (line : ℕ) → (stopped_at events (roles_run library globals inputs turns roles).shown).end ≡ Blamed comp cause line → roles.scripted comp ≡ false
+nobody_is_blamed library obedient globals inputs turns events roles comp cause line ends =
+    subst (Spares roles.scripted) ends (stopped_spares roles.scripted events (roles_run library globals inputs turns roles).shown (run_by_spares roles.scripted library obedient roles.rows globals inputs turns))

@@ -4,17 +4,19 @@ use Rattle.std.specs.Prelude.{◌⊎◌, ◌||◌, ◌==◌, nat_le, take}
 use Rattle.std.proofs.lemmas.Bool.{eqb-true, eq-eqb, leb-false, cases_eq, ne_eqb}
 use Rattle.sc_event.specs.declared.event.Event.{Event}
 use Rattle.sc_core.specs.declared.cause.Cause.{Cause}
-use Rattle.sc_core.specs.declared.program.ProgramTree.{ProgramTree}
 use Rattle.sc_core.specs.declared.run.RunEnd.{RunEnd}
 use Rattle.sc_core.specs.declared.run.RunEnd.TheVariants.{Blamed, TurnsOut, EventsOut}
 use Rattle.sc_core.specs.declared.run.SourceRun.{SourceRun}
 use Rattle.sc_core.specs.Run.{reaches, stopped_at}
-use Rattle.sc_core.specs.Value.{Arith}
-use Rattle.sc_core.specs.Meaning.{scripted_run_of}
-use Rattle.sc_laws.specs.Chains.{Set, IsWithin, nobody, with, Link, IsBlamedOutside, performed, IsChain, IsRising, AreFresh, PassesBlame, turnless, longer}
-use Rattle.sc_laws.specs.Laws.{ChainsRise, ChainExists}
-use Rattle.sc_laws.proofs.Blames.{nobody_who_performs_is_blamed}
-use Rattle.sc_laws.proofs.FollowingRuns.{blame_is_passed}
+use Rattle.sc_core.specs.Memory.{Memory}
+use Rattle.sc_core.specs.Calls.{Library}
+use Rattle.sc_core.specs.Scripts.{roles_in}
+use Rattle.sc_laws.specs.Chains.{Set, IsWithin, nobody, with, Link, IsBlamedOutside, IsChain, IsRising, AreFresh, PassesBlame, turnless, longer}
+use Rattle.sc_laws.specs.Laws.{ChainRises, HasChain}
+use Rattle.sc_laws.specs.Interactions.{Obedient}
+use Rattle.sc_laws.specs.Runs.{roles_run, performed_by}
+use Rattle.sc_laws.proofs.Blames.{nobody_is_blamed}
+use Rattle.sc_laws.proofs.FollowingRuns.{passes_blames}
 
 -- a run that is blamed has fewer events than were allowed
 early : (n : ℕ) (x : SourceRun) (comp : ℕ) (cause : Cause) (line : ℕ) → (stopped_at n x).end ≡ Blamed comp cause line → length (stopped_at n x).trace < n
@@ -36,12 +38,12 @@ within_with set comp c is = ap (λ b. (c == comp) || b) is ∙ or_true (c == com
 with_has : (set : Set) (comp : ℕ) → with comp set comp ≡ true
 with_has set comp = ap (λ b. b || set comp) (eq-eqb comp comp refl)
 
-module _ (arithmetic : Arith) (program : ProgramTree) (inputs : List ℕ) (turns : ℕ) (t : List Event) where
+module _ (L : Library) (obedient : Obedient L) (globals : Memory) (inputs : List ℕ) (turns : ℕ) (t : List Event) where
   abbrev shown : Set → SourceRun
-  shown set = performed arithmetic program inputs turns t set
+  shown set = performed_by L globals inputs turns t set
 
   blamed_early : (set : Set) (comp : ℕ) (cause : Cause) (line : ℕ) → (shown set).end ≡ Blamed comp cause line → length (shown set).trace < length t
-  blamed_early set comp cause line ends = early (length t) (scripted_run_of arithmetic program inputs turns set t).shown comp cause line ends
+  blamed_early set comp cause line ends = early (length t) (roles_run L globals inputs turns (roles_in L.interfaces.main set t)).shown comp cause line ends
 
   -- where the next run is blamed it has told more
   told_more : (run other : SourceRun) (comp : ℕ) (cause : Cause) (line : ℕ) → other.end ≡ Blamed comp cause line → PassesBlame run other → length run.trace < length other.trace
@@ -50,7 +52,7 @@ module _ (arithmetic : Arith) (program : ProgramTree) (inputs : List ℕ) (turns
       omega (arith, ap length front.is, length-append (run.trace ++ event ∷ []) front.more, length-append run.trace (event ∷ []))
 
   rises : (set : Set) (least : ℕ) (links : List Link) → ((comp : ℕ) (cause : Cause) (line : ℕ) → (shown set).end ≡ Blamed comp cause line → least ≤ length (shown set).trace)
-      → IsChain arithmetic program inputs turns t set links → IsRising least (length t) links
+      → IsChain (performed_by L globals inputs turns t) t set links → IsRising least (length t) links
   rises set least [] h chain = tt
   rises set least (link ∷ links) h chain =
       let here = chain.0 in
@@ -61,18 +63,17 @@ module _ (arithmetic : Arith) (program : ProgramTree) (inputs : List ℕ) (turns
         omega (arith, high, same),
         rises (with link.comp set) (suc link.after) links (λ comp cause line ends.
             let more : length (shown set).trace < length (shown (with link.comp set)).trace = told_more (shown set) (shown (with link.comp set)) comp cause line ends
-            (blame_is_passed arithmetic program inputs turns t set (with link.comp set) (within_with set link.comp) link.comp link.cause link.line here.blamed here.front (with_has set link.comp)) in
+            (passes_blames L obedient globals inputs turns t set (with link.comp set) (within_with set link.comp) link.comp link.cause link.line here.blamed here.front (with_has set link.comp)) in
             omega (arith, more, same)) chain.1,
       )
 
-  are_fresh : (set : Set) (links : List Link) → IsChain arithmetic program inputs turns t set links → AreFresh set links
+  are_fresh : (set : Set) (links : List Link) → IsChain (performed_by L globals inputs turns t) t set links → AreFresh set links
   are_fresh set [] chain = tt
   are_fresh set (link ∷ links) chain =
-      (nobody_who_performs_is_blamed arithmetic program set t inputs turns (length t) link.comp link.cause link.line chain.0.blamed, are_fresh (with link.comp set) links chain.1)
+      (nobody_is_blamed L obedient globals inputs turns (length t) (roles_in L.interfaces.main set t) link.comp link.cause link.line chain.0.blamed, are_fresh (with link.comp set) links chain.1)
 
-pub chains_rise : ChainsRise
-chains_rise arithmetic program inputs turns t links chain =
-    (rises arithmetic program inputs turns t nobody 0 links (λ comp cause line ends. omega arith) chain, are_fresh arithmetic program inputs turns t nobody links chain)
+  pub chain_rises : ChainRises t shown
+  chain_rises links chain = (rises nobody 0 links (λ comp cause line ends. omega arith) chain, are_fresh nobody links chain)
 
 -- how many compartments below a number are not of a set
 missing : Set → ℕ → ℕ
@@ -111,25 +112,25 @@ unfolding missing
 nobody_missing zero = refl
 nobody_missing (suc n) = let rest = nobody_missing n in omega (arith, rest)
 
-module _ (arithmetic : Arith) (program : ProgramTree) (inputs : List ℕ) (turns count : ℕ) (t : List Event)
-    (each : (set : Set) → ((performed arithmetic program inputs turns t set).trace ≡ t) ⊎ IsBlamedOutside count set (performed arithmetic program inputs turns t set) t) where
+module _ (t : List Event) (runs : Set → SourceRun) (count : ℕ)
+    (each : (set : Set) → ((runs set).trace ≡ t) ⊎ IsBlamedOutside count set (runs set) t) where
   abbrev Found : Set → ℕ → Type 0
-  Found set most = (links : List Link) × IsChain arithmetic program inputs turns t set links × (length links ≤ most)
+  Found set most = (links : List Link) × IsChain runs t set links × (length links ≤ most)
 
   found : (most : ℕ) (set : Set) → missing set count ≤ most → Found set most
   found zero set few = ⊎_elim (λ tells. ([], tells, omega arith)) (λ b.
       let counts = below_counts set b.comp count b.outside b.compartment in absurd (omega (arith, few, counts))) (each set)
   found (suc most) set few = ⊎_elim (λ tells. ([], tells, omega arith)) (λ b. goes_on b (found most (with b.comp set) (fewer b))) (each set) where
-    fewer : (b : IsBlamedOutside count set (performed arithmetic program inputs turns t set) t) → missing (with b.comp set) count ≤ most
+    fewer : (b : IsBlamedOutside count set (runs set) t) → missing (with b.comp set) count ≤ most
     fewer b = let counts = below_counts set b.comp count b.outside b.compartment in omega (arith, few, counts)
 
-    goes_on : (b : IsBlamedOutside count set (performed arithmetic program inputs turns t set) t) → Found (with b.comp set) most → Found set (suc most)
+    goes_on : (b : IsBlamedOutside count set (runs set) t) → Found (with b.comp set) most → Found set (suc most)
     goes_on b rest =
-        let link : Link = record { comp = b.comp; after = length (performed arithmetic program inputs turns t set).trace; cause = b.cause; line = b.line } in
+        let link : Link = record { comp = b.comp; after = length (runs set).trace; cause = b.cause; line = b.line } in
         let few_links : length rest.0 ≤ most = rest.2 in
         (link ∷ rest.0, (record { blamed = b.blamed; front = b.front; after = refl }, rest.1), omega (arith, few_links))
 
-pub chain_exists : ChainExists
-chain_exists arithmetic program inputs turns count t each =
-    let result = found arithmetic program inputs turns count t each count nobody (omega (arith, nobody_missing count)) in
+pub has_chain : (trace : List Event) (runs : Set → SourceRun) → HasChain trace runs
+has_chain trace runs count each =
+    let result = found trace runs count each count nobody (omega (arith, nobody_missing count)) in
     (result.0, result.1, result.2)

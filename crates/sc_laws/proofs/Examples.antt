@@ -12,7 +12,7 @@ use Rattle.sc_core.proofs.Programs.{two_stores_interfaces, two_stores, reentry_i
 use Rattle.sc_core.proofs.Rows.{scripted_by_plan, two_stores_trace, reentry_trace}
 use Rattle.sc_laws.specs.Chains.{Set, nobody, with, Link, performed, IsChain, Includes}
 use Rattle.sc_core.specs.Growth.{Front}
-use Rattle.sc_laws.proofs.FollowingRuns.{chain_is_least}
+use Rattle.sc_laws.proofs.ProgramLaws.{chain_is_least}
 
 -- a run that was blamed along a trace, which goes on with these events
 link_of : (run other : SourceRun) (more : List Event) → run ≡ other → Front run.trace (other.trace ++ more)
@@ -39,7 +39,7 @@ both_store : performed c_arith stores [] 5 two_stores_trace (with 2 (with 1 nobo
 both_store =
     scripted_by_plan two_stores_interfaces two_stores (with 2 (with 1 nobody)) two_stores_trace [] 5 7
 
-pub stores_chain : IsChain c_arith stores [] 5 two_stores_trace nobody (first_link ∷ second_link ∷ [])
+pub stores_chain : IsChain (performed c_arith stores [] 5 two_stores_trace) two_stores_trace nobody (first_link ∷ second_link ∷ [])
 stores_chain = (
   record {
     blamed = ap (λ run. run.end) nobody_stores;
@@ -59,7 +59,7 @@ stores_chain = (
 -- no run tells the trace in which one of the two performs nothing
 pub stores_need_both : (set : Set) → (performed c_arith stores [] 5 two_stores_trace set).trace ≡ two_stores_trace → (set 1 ≡ true) × (set 2 ≡ true)
 stores_need_both set tells =
-    (let all : Includes set (first_link ∷ second_link ∷ []) = (chain_is_least c_arith stores [] 5 two_stores_trace (first_link ∷ second_link ∷ []) set stores_chain).0 tells in (all.0, all.1.0))
+    (let all : Includes set (first_link ∷ second_link ∷ []) = (chain_is_least.programs c_arith stores [] 5 two_stores_trace (first_link ∷ second_link ∷ []) set stores_chain).0 tells in (all.0, all.1.0))
 
 -- RE-ENTRY: the compartment that is blamed is entered again while it performs
 abbrev entered_again : Link
@@ -71,7 +71,7 @@ nobody_reenters = scripted_by_plan reentry_interfaces reentry nobody reentry_tra
 first_reenters : performed c_arith (program reentry_interfaces reentry) [] 5 reentry_trace (with 1 nobody) ≡ record { trace = reentry_trace; end = Ended }
 first_reenters = scripted_by_plan reentry_interfaces reentry (with 1 nobody) reentry_trace [] 5 8
 
-pub reentry_chain : IsChain c_arith (program reentry_interfaces reentry) [] 5 reentry_trace nobody (entered_again ∷ [])
+pub reentry_chain : IsChain (performed c_arith (program reentry_interfaces reentry) [] 5 reentry_trace) reentry_trace nobody (entered_again ∷ [])
 reentry_chain = (
   record {
     blamed = ap (λ run. run.end) nobody_reenters;
@@ -84,4 +84,4 @@ reentry_chain = (
 -- any set with that compartment tells the trace, whoever else performs
 pub reentry_suffices : (set : Set) → set 1 ≡ true → (performed c_arith (program reentry_interfaces reentry) [] 5 reentry_trace set).trace ≡ reentry_trace
 reentry_suffices set has =
-    (chain_is_least c_arith (program reentry_interfaces reentry) [] 5 reentry_trace (entered_again ∷ []) set reentry_chain).1 (has, tt)
+    (chain_is_least.programs c_arith (program reentry_interfaces reentry) [] 5 reentry_trace (entered_again ∷ []) set reentry_chain).1 (has, tt)

@@ -22,7 +22,7 @@ use Rattle.sc_core.specs.Types.{is_unsigned, is_pointer}
 use Rattle.sc_core.specs.Words.{Here, choose}
 use Rattle.sc_core.specs.Tree.{Ways, Meant, at_place, is_unsigned_op, values, at_pointer, applied, binary, term_step, meant_step, meant, ways}
 use Rattle.sc_core.proofs.Layers.{typed, term_of, expr_at}
-use Rattle.sc_laws.proofs.Induction.{InTerm, expr_induction}
+use Rattle.sc_core.proofs.Induction.{Under, expr_induction}
 
 -- causes that are blamed in the first arithmetic alone
 module _ (Soft : Cause → Type 0) where
@@ -104,7 +104,7 @@ module _ (Soft : Cause → Type 0) where
         abbrev meant_by : Arith → Ty → TypedKind-F TypedKind TypedExpr → Meant
         meant_by arith ty k = record { ty = ty; way = term_of _ _ (term_step arith structs here params) meant_step k ty }
 
-        term_keeps : (ty : Ty) (k : TypedKind-F TypedKind TypedExpr) → InTerm Both k → (w : Want) (blocks : Blocks) → Keeps Value ((meant_by ar ty k).way w blocks) ((meant_by br ty k).way w blocks)
+        term_keeps : (ty : Ty) (k : TypedKind-F TypedKind TypedExpr) → Under Both k → (w : Want) (blocks : Blocks) → Keeps Value ((meant_by ar ty k).way w blocks) ((meant_by br ty k).way w blocks)
         term_keeps ty (term.Literal word) h w blocks = alike refl
         term_keeps ty (term.Variable v) h w blocks = alike refl
         term_keeps ty (term.Unary o a) h w blocks =

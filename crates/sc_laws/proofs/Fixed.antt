@@ -3,13 +3,13 @@ use Rattle.std.proofs.Common.{◌≡◌, ℕ, suc, ◌+◌, ◌<◌, refl, sym, 
 use Rattle.sc_core.specs.declared.run.RunEnd.{RunEnd}
 use Rattle.sc_core.specs.declared.run.RunEnd.TheVariants.{Ended, Blamed, TurnsOut, EventsOut}
 use Rattle.sc_core.specs.Words.{State, Here, Piece, Reached, Stopped}
-use Rattle.sc_core.specs.Calls.{Step, run_step, within}
-use Rattle.sc_core.specs.Scripts.{scripted_step}
-use Rattle.sc_core.specs.Meaning.{library_of}
+use Rattle.sc_core.specs.Calls.{Library, Step, run_step, within}
+use Rattle.sc_core.specs.Scripts.{Roles, scripted_step}
 use Rattle.sc_laws.specs.Steady.{now}
-use Rattle.sc_laws.specs.Laws.{IsFixed, FixedPoint}
+use Rattle.sc_laws.specs.Laws.{IsFixed, IsSteady, HasFixedPoint}
 use Rattle.sc_laws.proofs.Growing.{BodyGoes, StepGoes, within_goes}
-use Rattle.sc_laws.proofs.Programs.{Never, itself_keeps, run_goes_on, scripted_goes_on}
+use Rattle.sc_laws.specs.Interactions.{Never, Obedient}
+use Rattle.sc_laws.proofs.Matching.{run_goes_on, scripted_goes_on}
 use Rattle.sc_laws.proofs.Below.{richer, richer_piece, Passes, Below, along, passed}
 use Rattle.sc_laws.proofs.BelowCalls.{BodiesBelow, StepsBelow, within_below}
 use Rattle.sc_laws.proofs.Runs.{run_steps, scripted_steps}
@@ -46,11 +46,27 @@ module _ (step : Step) (goes : StepGoes step) (steps : StepsBelow 0 Never ⊥ (i
       let inner : BodiesBelow 0 Never ⊥ (inl refl) s.turns (s.turns + 0) (within step s.turns) (now step) = λ number here t few few'. within_below 0 Never ⊥ (inl refl) step step goes goes steps s.turns (suc (t.turns + 0)) number here t few (omega arith) in
       sym (only_same (step (within step s.turns) number here s) (step (now step) number here (richer 0 s)) (steps s.turns (s.turns + 0) (within step s.turns) (now step) (within_goes step goes s.turns) now_goes inner number here s (omega arith) (omega arith))) ∙ ap (step (now step) number here) (no_richer s)
 
-pub fixed_point : FixedPoint
-fixed_point =
-    record {
-      run = λ arithmetic program. fixed (run_step (library_of arithmetic program)) (run_goes_on arithmetic program) (run_steps 0 Never ⊥ (inl refl) arithmetic arithmetic (itself_keeps Never arithmetic) program);
-      scripted = λ arithmetic program roles. fixed (scripted_step (library_of arithmetic program) roles (run_step (library_of arithmetic program))) (scripted_goes_on arithmetic program roles) (scripted_steps 0 Never ⊥ (inl refl) arithmetic arithmetic (itself_keeps Never arithmetic) program roles);
-      run_steady = λ arithmetic program. any_depth (run_step (library_of arithmetic program)) (run_goes_on arithmetic program) (run_steps 0 Never ⊥ (inl refl) arithmetic arithmetic (itself_keeps Never arithmetic) program);
-      scripted_steady = λ arithmetic program roles. any_depth (scripted_step (library_of arithmetic program) roles (run_step (library_of arithmetic program))) (scripted_goes_on arithmetic program roles) (scripted_steps 0 Never ⊥ (inl refl) arithmetic arithmetic (itself_keeps Never arithmetic) program roles);
-    }
+module _ (library : Library) (obedient : Obedient library) where
+  steady_steps : StepsBelow 0 Never ⊥ (inl refl) (run_step library) (run_step library)
+  steady_steps = run_steps 0 Never ⊥ (inl refl) library library obedient
+
+  steady_scripts : (roles : Roles) → StepsBelow 0 Never ⊥ (inl refl) (scripted_step library roles (run_step library)) (scripted_step library roles (run_step library))
+  steady_scripts = scripted_steps 0 Never ⊥ (inl refl) library library obedient
+
+  pub run_fixed : IsFixed (run_step library)
+  run_fixed = fixed (run_step library) (run_goes_on library obedient) steady_steps
+
+  pub scripted_fixed : (roles : Roles) → IsFixed (scripted_step library roles (run_step library))
+  scripted_fixed roles =
+      fixed (scripted_step library roles (run_step library)) (scripted_goes_on library obedient roles) (steady_scripts roles)
+
+  pub run_steady : IsSteady (run_step library)
+  run_steady = any_depth (run_step library) (run_goes_on library obedient) steady_steps
+
+  pub scripted_steady : (roles : Roles) → IsSteady (scripted_step library roles (run_step library))
+  scripted_steady roles =
+      any_depth (scripted_step library roles (run_step library)) (scripted_goes_on library obedient roles) (steady_scripts roles)
+
+  pub has_fixed_point : HasFixedPoint library
+  has_fixed_point =
+      record { run = run_fixed; scripted = scripted_fixed; run_steady = run_steady; scripted_steady = scripted_steady }

@@ -11,12 +11,11 @@ use Rattle.sc_core.specs.declared.value.Value.{Value}
 use Rattle.sc_core.specs.Memory.{Blocks, with_blocks}
 use Rattle.sc_core.specs.Words.{State, Here, Piece, Reached, Stopped, and_then, computed, turn_of, tell}
 use Rattle.sc_core.specs.Growth.{Front}
-use Rattle.sc_laws.specs.Growth.{Grown, last, Gone}
-use Rattle.sc_laws.proofs.Growing.{front_same, front_more, same, more, Goes, then_from, then_goes, turn_of_goes}
-use Rattle.sc_laws.proofs.Twins.{Kept}
+use Rattle.sc_laws.specs.Growth.{Grown, last, Gone, Goes}
+use Rattle.sc_laws.proofs.Growing.{front_same, front_more, same, more, then_from, then_goes, turn_of_goes}
+use Rattle.sc_laws.proofs.Twins.{Kept, KeptAt}
 use Rattle.sc_laws.proofs.Expressions.{Keeps, alike, blamed}
-use Rattle.sc_laws.proofs.Programs.{Never}
-use Rattle.sc_laws.proofs.Statements.{KeptAt}
+use Rattle.sc_laws.specs.Interactions.{Never}
 use Rattle.sc_laws.proofs.Rows.{stands_last, InLine, in_line_before}
 
 -- MEMORY
@@ -103,10 +102,6 @@ module _ (main : ℕ) (t : List Event) (S' : ℕ → Bool) where
   near_left st s s' c x performs n =
       record { trace = n.trace; front = n.front; turns = n.turns; inputs = n.inputs; stands = n.stands; memory = λ d clear. n.memory d clear ∙ sym (blocks_there c d x s.memory (λ is. both_ways (S' d) clear (ap S' is ∙ performs))) }
 
-  pub near_right : (st : Standing) (s s' : State) (c : ℕ) (x : Blocks) → S' c ≡ true → Abreast st s s' → Abreast st s (record s' { memory = with_blocks c x s'.memory })
-  near_right st s s' c x performs n =
-      record { trace = n.trace; front = n.front; turns = n.turns; inputs = n.inputs; stands = n.stands; memory = λ d clear. blocks_there c d x s'.memory (λ is. both_ways (S' d) clear (ap S' is ∙ performs)) ∙ n.memory d clear }
-
   pub near_tell : (st after : Standing) (s s' : State) (e : Event) (more : List Event) → stands_after st e ≡ Some after → t ≡ s.trace ++ e ∷ more → Abreast st s s' → Abreast after (tell e s) (tell e s')
   near_tell st after s s' e more moves is n =
       record { trace = ap (λ u. u ++ e ∷ []) n.trace; front = record { more = more; is = is ∙ sym (append_assoc s.trace (e ∷ []) more) }; turns = n.turns; inputs = n.inputs; memory = n.memory; stands = stands_last (at_start main) s.trace e st n.stands ∙ moves }
@@ -175,7 +170,7 @@ module _ (main : ℕ) (t : List Event) (S' : ℕ → Bool) where
     -- calls of a compartment that performs in neither run
     pub follow_at : (here : Here) → S' here.comp ≡ false → KeptAt (Abreast st) (Keeping st) Never here
     follow_at here clear =
-        record { computing = λ V line e e' h s s' n. subst (λ x. Keeping st V (computed here line (e (s.memory here.comp)) s) (computed here line (e' x) s')) (sym (n.memory here.comp clear)) (equal V line (e (s.memory here.comp)) (e' (s.memory here.comp)) s s' n (h (s.memory here.comp))); stored = λ blocks s s' n. near_blocks st s s' here.comp blocks blocks (λ c. refl) n } where
+        record { computing = λ V line e e' h s s' n. subst (λ x. Keeping st V (computed here line (e (s.memory here.comp)) s) (computed here line (e' x) s')) (sym (n.memory here.comp clear)) (equal V line (e (s.memory here.comp)) (e' (s.memory here.comp)) s s' n (h (s.memory here.comp))); passed = λ V cause line soft s s' n p g. absurd soft; stored = λ blocks s s' n. near_blocks st s s' here.comp blocks blocks (λ c. refl) n } where
           equal : (V : Type 0) (line : ℕ) (r r' : Result V Cause) (s s' : State) → Abreast st s s' → Keeps Never V r r' → Keeping st V (computed here line r s) (computed here line r' s')
           equal V line r r' s s' n (alike is) = subst (λ x. Keeping st V (computed here line r s) (computed here line x s')) (sym is) (computed_follow V here clear line r s s' n)
           equal V line r r' s s' n (blamed cause never is) = absurd never
@@ -235,4 +230,4 @@ module _ (main : ℕ) (t : List Event) (S' : ℕ → Bool) where
       -- calls of a compartment that performs in the second run alone
       pub perform_at : ((s : State) → Stands s → MovesOrReturns s.trace left) → (at : Here) → S' at.comp ≡ true → KeptAt OneSided Perform Never at
       perform_at by at set =
-          record { computing = λ V line e e' h s s' one. record { performs = λ along. computed_performs V at set by line (e (s.memory at.comp)) s one.stands }; stored = λ blocks s s' one. record { same = ap {A = State} {B = State} (λ z. record z { memory = with_blocks at.comp blocks z.memory }) one.same; stands = stands_stored at.comp blocks s set one.stands } }
+          record { computing = λ V line e e' h s s' one. record { performs = λ along. computed_performs V at set by line (e (s.memory at.comp)) s one.stands }; passed = λ V cause line soft s s' one p g. absurd soft; stored = λ blocks s s' one. record { same = ap {A = State} {B = State} (λ z. record z { memory = with_blocks at.comp blocks z.memory }) one.same; stands = stands_stored at.comp blocks s set one.stands } }

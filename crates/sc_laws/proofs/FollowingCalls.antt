@@ -26,10 +26,10 @@ use Rattle.sc_event.specs.declared.interface.Proto.{Proto}
 use Rattle.sc_event.specs.declared.interface.Scalar.{Scalar}
 use Rattle.sc_core.specs.Scripts.{roles_in, rows_left, is_number, acts, performs, scripted_step, asks}
 use Rattle.sc_core.specs.Growth.{Front}
-use Rattle.sc_laws.specs.Growth.{last, Gone}
+use Rattle.sc_laws.specs.Growth.{last, Gone, Goes}
 use Rattle.sc_laws.specs.Steady.{now}
 use Rattle.sc_laws.specs.Laws.{IsFixed}
-use Rattle.sc_laws.proofs.Growing.{front_same, front_more, more, Goes, reached, stays, no_turn, earlier, then_from, then_goes, BodyGoes, done_goes, own_goes, cross_goes, back_goes, calls_go, performs_go, LibraryGoes, run_step_goes, scripted_goes, asks_is, asks_go, run_goes}
+use Rattle.sc_laws.proofs.Growing.{front_same, front_more, more, reached, stays, no_turn, earlier, then_from, then_goes, BodyGoes, done_goes, own_goes, cross_goes, back_goes, calls_go, performs_go, LibraryGoes, run_step_goes, scripted_goes, asks_is, asks_go, run_goes}
 use Rattle.sc_laws.specs.Agreement.{Meets}
 use Rattle.sc_laws.proofs.Libraries.{CallsTwins, FunctionTwins, LibraryTwins, function_twins}
 use Rattle.sc_laws.proofs.Rows.{InLine, in_line_before, NextIs, over, next_told_is, Next, row_of_next, rows_behind}

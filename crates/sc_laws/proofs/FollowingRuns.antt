@@ -8,27 +8,26 @@ use Rattle.sc_event.specs.declared.event.Event.TheVariants as event
 use Rattle.sc_event.specs.declared.row.Entry.TheVariants.{Main}
 use Rattle.sc_event.specs.Standing.{Standing, at_start, stands_behind}
 use Rattle.sc_core.specs.declared.cause.Cause.{Cause}
-use Rattle.sc_core.specs.declared.program.ProgramTree.{ProgramTree}
 use Rattle.sc_core.specs.declared.run.RunEnd.{RunEnd}
 use Rattle.sc_core.specs.declared.run.RunEnd.TheVariants.{Ended, Blamed, EventsOut, TurnsOut}
 use Rattle.sc_core.specs.declared.run.SourceRun.{SourceRun}
 use Rattle.sc_core.specs.declared.value.Value.{Value}
 use Rattle.sc_core.specs.Memory.{Memory}
-use Rattle.sc_core.specs.Value.{Arith}
 use Rattle.sc_core.specs.Run.{reaches, stopped_at}
 use Rattle.sc_core.specs.Words.{State, Piece, Reached, Stopped, and_then}
-use Rattle.sc_core.specs.Calls.{Function, Library, Step, function, begun, done, found, call_own, run_step, within}
-use Rattle.sc_core.specs.Scripts.{roles_in, scripted_step}
-use Rattle.sc_core.specs.Meaning.{library_of, globals_of, exit_word, run_to, run_by, first_state}
-use Rattle.sc_laws.specs.Chains.{Set, IsWithin, nobody, with, Link, performed, IsChain, Includes, PassesBlame, turnless, longer}
+use Rattle.sc_core.specs.Calls.{Function, Library, Step, function, begun, done, found, call_own, within}
+use Rattle.sc_core.specs.Scripts.{roles_in}
+use Rattle.sc_core.specs.Meaning.{exit_word, run_to, run_by, first_state}
+use Rattle.sc_laws.specs.Chains.{Set, IsWithin, nobody, with, Link, IsChain, Includes, PassesBlame, turnless, longer}
 use Rattle.sc_core.specs.Growth.{Front}
 use Rattle.sc_laws.specs.Growth.{last, IsStop, StopsSo}
 use Rattle.sc_laws.specs.Steady.{now}
-use Rattle.sc_laws.specs.Laws.{IsFixed, MoreMayPerform, BlameIsPassed, BlameRemains, ChainIsLeast}
+use Rattle.sc_laws.specs.Laws.{IsFixed, TellsWithMore, KeepsBlames, PassesBlames, LeastIsChain}
+use Rattle.sc_laws.specs.Runs.{roles_run, performed_by}
 use Rattle.sc_laws.proofs.Growing.{front_same, front_more, BodyGoes, within_goes}
-use Rattle.sc_laws.proofs.Libraries.{program_twins}
-use Rattle.sc_laws.proofs.Programs.{Never, itself_keeps, scripted_goes_on, library_goes}
-use Rattle.sc_laws.proofs.Fixed.{fixed_point}
+use Rattle.sc_laws.specs.Interactions.{Never, Obedient}
+use Rattle.sc_laws.proofs.Matching.{library_twins, scripted_goes_on, library_goes}
+use Rattle.sc_laws.proofs.Fixed.{scripted_fixed}
 use Rattle.sc_laws.proofs.Runs.{front_long, trace_is, take_fronts, take_all}
 use Rattle.sc_laws.proofs.Rows.{InLine, in_line_before, NextIs, over, next_told_is}
 use Rattle.sc_laws.proofs.Rows.{told as next_told}
@@ -90,12 +89,9 @@ module _ (t : List Event) (S' : Set) where
         ends_so (ended_whole (run_to main o).shown (ap (λ y. (run_to main y).shown.end) is)) (ap (λ y. (run_to main y).shown) is' ∙ ap (λ z. record { trace = z ++ event.End main (exit_word v) ∷ []; end = Ended }) near.trace ∙ sym (ap (λ y. (run_to main y).shown) is))
     both_end st o p stop (follows.stop end u is by) = stops_so end u o p is stop by
 
-module _ (arithmetic : Arith) (program : ProgramTree) (t : List Event) (S S' : Set) (larger : IsWithin S S') where
-  abbrev L : Library
-  L = library_of arithmetic program
-
+module _ (L : Library) (obedient : Obedient L) (t : List Event) (S S' : Set) (larger : IsWithin S S') where
   abbrev main : ℕ
-  main = program.interfaces.main
+  main = L.interfaces.main
 
   abbrev step : Step
   step = first_step L main t S S' larger
@@ -104,15 +100,17 @@ module _ (arithmetic : Arith) (program : ProgramTree) (t : List Event) (S S' : S
   step' = second_step L main t S S' larger
 
   step_fixed : IsFixed step'
-  step_fixed = fixed_point.scripted arithmetic program (roles_in main S' t)
+  step_fixed = scripted_fixed L obedient (roles_in main S' t)
 
   later_goes : BodyGoes (now step')
   later_goes number here s =
-      within_goes step' (scripted_goes_on arithmetic program (roles_in main S' t)) (suc s.turns) number here s
+      within_goes step' (scripted_goes_on L obedient (roles_in main S' t)) (suc s.turns) number here s
 
   bodies : (n : ℕ) → Bodies L main t S S' larger step_fixed later_goes (within step n)
   bodies =
-      all_bodies L main t S S' larger step_fixed later_goes (library_goes arithmetic program) (λ st. program_twins (Abreast main t S' st) (Keeping main t S' st) (λ h. S' h.comp ≡ false) Never (follow_kept main t S' st) (follow_at main t S' st) arithmetic arithmetic (itself_keeps Never arithmetic) program) (λ st left rest goes passes. program_twins (OneSided main t S' st left rest goes) (Perform main t S' st left rest goes) (λ h. S' h.comp ≡ true) Never (perform_kept main t S' st left rest goes) (perform_at main t S' st left rest goes passes) arithmetic arithmetic (itself_keeps Never arithmetic) program)
+      all_bodies L main t S S' larger step_fixed later_goes (library_goes L obedient)
+      (λ st. library_twins Never (Abreast main t S' st) (Keeping main t S' st) (λ h. S' h.comp ≡ false) (follow_kept main t S' st) (follow_at main t S' st) L L obedient)
+      (λ st left rest goes passes. library_twins Never (OneSided main t S' st left rest goes) (Perform main t S' st left rest goes) (λ h. S' h.comp ≡ true) (perform_kept main t S' st left rest goes) (perform_at main t S' st left rest goes passes) L L obedient)
 
   module _ (globals : Memory) (inputs : List ℕ) (turns : ℕ) where
     abbrev beginning : State
@@ -258,42 +256,47 @@ module _ (t : List Event) (x y : SourceRun) where
   blamed_below comp cause line false is ends tells =
       (let few : length x.trace < length t = blamed_early comp cause line ends is in let long : length x.trace ≡ length t = ap length tells in omega (arith, few, long))
 
-pub more_may_perform : MoreMayPerform
-more_may_perform arithmetic program inputs turns t small large larger tells =
-    tells_too t _ _ large (run_follows arithmetic program t small large larger (globals_of program.sections) inputs turns) tells
-
-pub blame_remains : BlameRemains
-blame_remains arithmetic program inputs turns t small large larger comp cause line ends front clear =
-    stays_so t (run_by (library_of arithmetic program) (scripted_step (library_of arithmetic program) (roles_in program.interfaces.main small t) (run_step (library_of arithmetic program))) (globals_of program.sections) inputs turns).shown (run_by (library_of arithmetic program) (scripted_step (library_of arithmetic program) (roles_in program.interfaces.main large t) (run_step (library_of arithmetic program))) (globals_of program.sections) inputs turns).shown large (run_follows arithmetic program t small large larger (globals_of program.sections) inputs turns) comp cause line clear _ refl ends front
-
-pub blame_is_passed : BlameIsPassed
-blame_is_passed arithmetic program inputs turns t small large larger comp cause line ends front set =
-    passes_so t (run_by (library_of arithmetic program) (scripted_step (library_of arithmetic program) (roles_in program.interfaces.main small t) (run_step (library_of arithmetic program))) (globals_of program.sections) inputs turns).shown (run_by (library_of arithmetic program) (scripted_step (library_of arithmetic program) (roles_in program.interfaces.main large t) (run_step (library_of arithmetic program))) (globals_of program.sections) inputs turns).shown large (run_follows arithmetic program t small large larger (globals_of program.sections) inputs turns) comp cause line set _ refl ends front
-
 with_link : (set small : Set) (comp : ℕ) → IsWithin small set → set comp ≡ true → IsWithin (with comp small) set
 with_link set small comp larger has c is = by_test (c == comp) refl is where
   by_test : (b : Bool) → (c == comp) ≡ b → (b || small c) ≡ true → set c ≡ true
   by_test true same is = subst (λ d. set d ≡ true) (sym (eqb-true c comp same)) has
   by_test false same is = larger c is
 
-module _ (arithmetic : Arith) (program : ProgramTree) (inputs : List ℕ) (turns : ℕ) (t : List Event) (set : Set) where
+module _ (L : Library) (obedient : Obedient L) (globals : Memory) (inputs : List ℕ) (turns : ℕ) (t : List Event) where
   abbrev shown : Set → SourceRun
-  shown = performed arithmetic program inputs turns t
+  shown = performed_by L globals inputs turns t
 
-  is_needed : (links : List Link) (small : Set) → IsWithin small set → IsChain arithmetic program inputs turns t small links → (shown set).trace ≡ t → Includes set links
-  is_needed [] small larger chain tells = tt
-  is_needed (link ∷ links) small larger chain tells = by_test (set link.comp) refl (λ has. is_needed links (with link.comp small) (with_link set small link.comp larger has) chain.1 tells) where
-    by_test : (b : Bool) → set link.comp ≡ b → (set link.comp ≡ true → Includes set links) → (set link.comp ≡ true) × Includes set links
-    by_test true has rest = (has, rest has)
-    by_test false clear rest =
-        let equal : shown set ≡ shown small = blame_remains arithmetic program inputs turns t small set larger link.comp link.cause link.line chain.0.blamed chain.0.front clear in
-        absurd (blamed_below t (run_by (library_of arithmetic program) (scripted_step (library_of arithmetic program) (roles_in program.interfaces.main small t) (run_step (library_of arithmetic program))) (globals_of program.sections) inputs turns).shown (shown small) link.comp link.cause link.line _ refl chain.0.blamed (ap (λ r. r.trace) (sym equal) ∙ tells))
+  -- the same, not stopped yet
+  abbrev whole_run : Set → SourceRun
+  whole_run set = (roles_run L globals inputs turns (roles_in L.interfaces.main set t)).shown
 
-  is_enough : (links : List Link) (small : Set) → IsWithin small set → IsChain arithmetic program inputs turns t small links → Includes set links → (shown set).trace ≡ t
-  is_enough [] small larger chain all = more_may_perform arithmetic program inputs turns t small set larger chain
-  is_enough (link ∷ links) small larger chain all =
-      is_enough links (with link.comp small) (with_link set small link.comp larger all.0) chain.1 all.1
+  pub tells_with_more : TellsWithMore t shown
+  tells_with_more small large larger tells =
+      tells_too t _ _ large (run_follows L obedient t small large larger globals inputs turns) tells
 
-pub chain_is_least : ChainIsLeast
-chain_is_least arithmetic program inputs turns t links set chain =
-    (is_needed arithmetic program inputs turns t set links nobody (λ c is. absurd (cc)) chain, is_enough arithmetic program inputs turns t set links nobody (λ c is. absurd (cc)) chain)
+  pub keeps_blames : KeepsBlames t shown
+  keeps_blames small large larger comp cause line ends front clear =
+      stays_so t (whole_run small) (whole_run large) large (run_follows L obedient t small large larger globals inputs turns) comp cause line clear _ refl ends front
+
+  pub passes_blames : PassesBlames t shown
+  passes_blames small large larger comp cause line ends front set =
+      passes_so t (whole_run small) (whole_run large) large (run_follows L obedient t small large larger globals inputs turns) comp cause line set _ refl ends front
+
+  module _ (set : Set) where
+    is_needed : (links : List Link) (small : Set) → IsWithin small set → IsChain shown t small links → (shown set).trace ≡ t → Includes set links
+    is_needed [] small larger chain tells = tt
+    is_needed (link ∷ links) small larger chain tells = by_test (set link.comp) refl (λ has. is_needed links (with link.comp small) (with_link set small link.comp larger has) chain.1 tells) where
+      by_test : (b : Bool) → set link.comp ≡ b → (set link.comp ≡ true → Includes set links) → (set link.comp ≡ true) × Includes set links
+      by_test true has rest = (has, rest has)
+      by_test false clear rest =
+          let equal : shown set ≡ shown small = keeps_blames small set larger link.comp link.cause link.line chain.0.blamed chain.0.front clear in
+          absurd (blamed_below t (whole_run small) (shown small) link.comp link.cause link.line _ refl chain.0.blamed (ap (λ r. r.trace) (sym equal) ∙ tells))
+
+    is_enough : (links : List Link) (small : Set) → IsWithin small set → IsChain shown t small links → Includes set links → (shown set).trace ≡ t
+    is_enough [] small larger chain all = tells_with_more small set larger chain
+    is_enough (link ∷ links) small larger chain all =
+        is_enough links (with link.comp small) (with_link set small link.comp larger all.0) chain.1 all.1
+
+  pub least_is_chain : LeastIsChain t shown
+  least_is_chain links set chain =
+      (is_needed set links nobody (λ c is. absurd (cc)) chain, is_enough set links nobody (λ c is. absurd (cc)) chain)

@@ -1,5 +1,5 @@
 -- Each word of the meaning only goes on: events are appended, and no turns come back.
-use Rattle.std.proofs.Common.{◌≡◌, ℕ, zero, suc, ◌≤◌, List, [], ◌∷◌, ◌++◌, map, length, Option, Some, None, Result, Ok, Err, refl, sym, ap, ◌∙◌, arith, append_assoc}
+use Rattle.std.proofs.Common.{◌≡◌, ℕ, zero, suc, ◌≤◌, List, [], ◌∷◌, ◌++◌, map, length, Option, Some, None, refl, sym, ap, ◌∙◌, arith, append_assoc}
 use Rattle.std.specs.Prelude.{Bool, true, false, if◌then◌else◌}
 use Rattle.std.proofs.lemmas.List.{append-nil}
 use Rattle.sc_event.specs.declared.event.Event.{Event}
@@ -14,15 +14,14 @@ use Rattle.sc_event.specs.declared.row.Action.TheVariants as act
 use Rattle.sc_core.specs.declared.expr.CallTarget.{CallTarget}
 use Rattle.sc_core.specs.declared.expr.CallTarget.TheVariants.{Own, Cross, Input, Output}
 use Rattle.sc_core.specs.declared.value.Value.TheVariants.{Word}
-use Rattle.sc_core.specs.declared.cause.Cause.{Cause}
 use Rattle.sc_core.specs.declared.cause.Cause.TheVariants.{BadType}
 use Rattle.sc_core.specs.declared.run.RunEnd.TheVariants.{Blamed, TurnsOut}
 use Rattle.sc_core.specs.declared.value.Value.{Value}
-use Rattle.sc_core.specs.Words.{Opened, Closed, State, Here, Piece, Reached, Stopped, and_then, computed, turn_of, turn, tell, Left, Exit, Route, On, Out, Does, take, follow, in_loop, rounds, Calls}
+use Rattle.sc_core.specs.Words.{Opened, Closed, State, Here, Piece, Reached, Stopped, and_then, turn_of, turn, tell, Calls}
 use Rattle.sc_core.specs.Calls.{Function, Library, Body, Step, function, begun, done, found, word_in, crossing, crossed, first_word, option_value, next_input, read_input, may_call, back_own, back_cross, run_in, call_own, call_cross, called, calls, run_step, within}
 use Rattle.sc_core.specs.Scripts.{Roles, rows_left, is_number, asks, acts, performs, scripted_step}
 use Rattle.sc_core.specs.Growth.{Front}
-use Rattle.sc_laws.specs.Growth.{Grown, last, Gone}
+use Rattle.sc_laws.specs.Growth.{Grown, last, Gone, Goes}
 
 pub front_same : {A : Type 0} (xs : List A) → Front xs xs
 front_same xs = record { more = []; is = sym (append-nil xs) }
@@ -37,10 +36,6 @@ same s = record { events = front_same s.trace; frames = front_same s.frames; tur
 pub more : (s t u : State) → Grown s t → Grown t u → Grown s u
 more s t u a b =
     record { events = front_more s.trace t.trace u.trace a.events b.events; frames = front_more s.frames t.frames u.frames a.frames b.frames; turns = (let p : t.turns ≤ s.turns = a.turns in let q : u.turns ≤ t.turns = b.turns in omega (arith, p, q)) }
-
--- what is done from a state only goes on
-abbrev pub Goes : {V : Type 0} → (State → Piece V) → Type 0
-Goes f = (s : State) → Gone s (f s)
 
 pub reached : {V : Type 0} (v : V) (s t : State) → Grown s t → Gone s (Reached v t)
 reached v s t g = record { grown = g; stop = tt }
@@ -63,10 +58,6 @@ pub then_goes : {V W : Type 0} (s : State) (o : Piece V) (k : V → State → Pi
 then_goes s (Reached v t) k g h = earlier s t (k v t) g.grown (h v t)
 then_goes s (Stopped end t) k g h = record { grown = g.grown; stop = g.stop }
 
-pub computed_goes : {V : Type 0} (here : Here) (line : ℕ) (r : Result V Cause) (s : State) → Gone s (computed here line r s)
-computed_goes here line (Ok v) s = stays v s
-computed_goes here line (Err cause) s = record { grown = same s; stop = tt }
-
 pub turn_of_goes : (n : ℕ) (s : State) → n ≡ s.turns → Gone s (turn_of n s)
 turn_of_goes zero s is = no_turn s
 turn_of_goes (suc n) s is =
@@ -77,19 +68,6 @@ turn_goes s = turn_of_goes s.turns s refl
 
 pub told : (event : Event) (s : State) → Grown s (tell event s)
 told event s = record { events = record { more = event ∷ []; is = refl }; frames = front_same s.frames; turns = omega arith }
-
-pub take_goes : {A : Type 0} (route : Route) (go : Does A) → ((a : A) → Goes (go a)) → (a : A) → Goes (take route go a)
-take_goes On go h a s = h a s
-take_goes (Out exit) go h a s = stays (record { exit = exit; carried = a }) s
-
-pub follow_goes : {A : Type 0} (route : Exit → Route) (s : State) (o : Piece (Left A)) (go : Does A) → Gone s o → ((a : A) → Goes (go a)) → Gone s (follow route o go)
-follow_goes route s o go g h =
-    then_goes s o (λ left t. take (route left.exit) go left.carried t) g (λ left. take_goes (route left.exit) go h left.carried)
-
-pub rounds_goes : {A : Type 0} (head body next : Does A) → ((a : A) → Goes (head a)) → ((a : A) → Goes (body a)) → ((a : A) → Goes (next a)) → (n : ℕ) (a : A) → Goes (rounds n head body next a)
-rounds_goes head body next h b x zero a s = no_turn s
-rounds_goes head body next h b x (suc n) a s =
-    follow_goes in_loop s (head a s) _ (h a s) (λ a s. then_goes s (turn s) _ (turn_goes s) (λ u t. follow_goes in_loop t (body a t) _ (b a t) (λ a s. follow_goes in_loop s (next a s) _ (x a s) (rounds_goes head body next h b x n))))
 
 -- calls, and functions as calls see them
 abbrev pub CallsGo : Calls → Type 0

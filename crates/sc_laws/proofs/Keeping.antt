@@ -1,32 +1,20 @@
--- To show that every piece of a run keeps a property of states, show it of what changes memory, of turns and of calls.
-use Rattle.std.proofs.Common.{◌≡◌, refl, sym, subst, ℕ, zero, suc, Bool, true, false, List, [], ◌∷◌, map, length, Option, None, Some, Result, Ok, Err, if◌then◌else◌, ◌==◌, ◌&&◌}
-use Rattle.std.specs.Prelude.{bytes_eq, is_some}
+-- To show that the functions of a library keep a property of states, show it of what changes memory, of turns and of calls.
+use Rattle.std.proofs.Common.{◌≡◌, refl, sym, ap, subst, ℕ, zero, suc, ◌<◌, List, Option, None, Some, Result, Ok, Err, arith}
 use Rattle.sc_core.specs.declared.cause.Cause.{Cause}
 use Rattle.sc_core.specs.declared.expr.CallTarget.{CallTarget}
-use Rattle.sc_core.specs.declared.expr.TypedExpr.{TypedExpr}
 use Rattle.sc_core.specs.declared.run.RunEnd.{RunEnd}
 use Rattle.sc_core.specs.declared.run.RunEnd.TheVariants.{Ended, Blamed, TurnsOut, EventsOut}
-use Rattle.sc_core.specs.declared.section.TypedStruct.{TypedStruct}
-use Rattle.sc_core.specs.declared.section.TypedLocal.{TypedLocal}
-use Rattle.sc_core.specs.declared.section.TypedFunction.{TypedFunction}
-use Rattle.sc_core.specs.declared.stmt.TypedStmt.{TypedStmt}
-use Rattle.sc_core.specs.declared.stmt.TypedStmtKind.{TypedStmtKind, TypedStmtKind-F}
-use Rattle.sc_core.specs.declared.stmt.TypedStmtKind.TheOpen as layer
-use Rattle.sc_core.specs.declared.stmt.TypedSimple.{TypedSimple}
-use Rattle.sc_core.specs.declared.stmt.TypedSimpleKind.{TypedSimpleKind}
-use Rattle.sc_core.specs.declared.stmt.TypedSimpleKind.TheVariants as simple
 use Rattle.sc_core.specs.declared.value.Value.{Value}
-use Rattle.sc_core.specs.declared.value.Want.{Want}
-use Rattle.sc_core.specs.declared.value.Want.TheVariants as want
-use Rattle.sc_core.specs.Memory.{Blocks, with_blocks, store}
-use Rattle.sc_core.specs.Value.{Arith, is_true}
-use Rattle.sc_core.specs.Words.{State, Here, Piece, Reached, Stopped, and_then, computed, turn, Exit, Next, Break, Continue, Return, Left, Does, leave, stored, Route, On, Out, in_order, in_loop, take, follow, all_do, rounds, loop, choose, Calls}
-use Rattle.sc_core.specs.declared.expr.VarRef.TheVariants.{Local}
-use Rattle.sc_core.specs.Tree.{Ways, Acts, at_place, variable_at, values, given, store_at, assign, test, store_result, call, assign_call, call_alone, ways, simple_does, part_does, kind_step, stmt_step, stmt_does, block_does}
+use Rattle.sc_core.specs.Memory.{Blocks, with_blocks}
+use Rattle.sc_core.specs.Words.{State, Here, Piece, Reached, Stopped, and_then, computed, turn_of, turn, Calls}
 use Rattle.sc_core.specs.Calls.{Function, Library, function, found}
-use Rattle.sc_core.specs.Meaning.{main_name, at_brace, closed, init_does, inits_do, body_does, function_of}
-use Rattle.sc_core.proofs.Layers.{stmt_at, layer_of}
-use Rattle.sc_core.proofs.Induction.{Each, everywhere, Inside, stmt_induction}
+use Rattle.sc_laws.specs.Agreement.{Meets}
+use Rattle.sc_laws.specs.Growth.{Grown, Gone}
+use Rattle.sc_laws.proofs.Growing.{CallsGo}
+use Rattle.sc_laws.proofs.Twins.{Kept as RelationKept, KeptAt}
+use Rattle.sc_laws.specs.Interactions.{Never, Obedient}
+use Rattle.sc_laws.proofs.Libraries.{FunctionTwins, LibraryTwins}
+use Rattle.sc_laws.proofs.Matching.{library_twins}
 
 -- what is kept: of the states at which a run goes on, and of those at which it stops
 pub record Property : Type 1 where
@@ -47,163 +35,67 @@ pub record IsKept (K : Property) (here : Here) : Type 0 where
   pub memory : (s : State) (blocks : Blocks) → K.Goes s → K.Goes (record s { memory = with_blocks here.comp blocks s.memory })
   pub turned : (s : State) → K.Goes s → Kept K (turn s)
   pub blamed : (s : State) (cause : Cause) (line : ℕ) → K.Goes s → K.Ends (Blamed here.comp cause line) s
-  pub out : (s : State) → K.Goes s → K.Ends TurnsOut s
 
 pub then_kept : (K : Property) {V W : Type 0} (piece : Piece V) (go : V → State → Piece W) → Kept K piece → ((v : V) (s : State) → K.Goes s → Kept K (go v s)) → Kept K (and_then piece go)
 then_kept K (Reached v s) go h k = k v s h.after
 then_kept K (Stopped end s) go h k = record { after = h.after }
 
-abbrev pub DoesKeep : (K : Property) {A : Type 0} → Does A → Type 0
-DoesKeep K {A} does = (a : A) (s : State) → K.Goes s → Kept K (does a s)
+-- calls from a compartment keep the property
+abbrev pub CallsKeep : Property → ℕ → Calls → Type 0
+CallsKeep K from calls =
+    (target : CallTarget) (args : List Value) (s : State) → K.Goes s → Kept K (calls from target args s)
 
-module _ (K : Property) (here : Here) (kept : IsKept K here) where
-  pub computed_kept : {V : Type 0} (line : ℕ) (r : Result V Cause) (s : State) → K.Goes s → Kept K (computed here line r s)
-  computed_kept line (Ok v) s h = record { after = h }
-  computed_kept line (Err cause) s h = record { after = kept.blamed s cause line h }
+-- A property is kept as a relation of a state to itself.
+module _ (K : Property) where
+  record One (s t : State) : Type 0 where
+    pub goes : K.Goes s
+    pub is : t ≡ s
 
-  pub leave_kept : {A : Type 0} (exit : Exit) → DoesKeep K {A = A} (leave exit)
-  leave_kept exit a s h = record { after = h }
+  abbrev Pieces : (V : Type 0) → Piece V → Piece V → Type 0
+  Pieces V o p = Kept K {V = V} o
 
-  pub take_kept : {A : Type 0} (route : Route) (go : Does A) → DoesKeep K go → DoesKeep K (take route go)
-  take_kept On go k a s h = k a s h
-  take_kept (Out exit) go k a s h = record { after = h }
+  then_grown : (V W : Type 0) (s : State) (o : Piece V) (k : V → State → Piece W) → Gone s o → Kept K o → ((v : V) (t : State) → Grown s t → K.Goes t → Kept K (k v t)) → Kept K (and_then o k)
+  then_grown V W s (Reached v t) k g h n = n v t g.grown h.after
+  then_grown V W s (Stopped end t) k g h n = record { after = h.after }
 
-  pub follow_kept : {A : Type 0} (route : Exit → Route) (piece : Piece (Left A)) (go : Does A) → Kept K piece → DoesKeep K go → Kept K (follow route piece go)
-  follow_kept route piece go h k =
-      then_kept K piece (λ left s. take (route left.exit) go left.carried s) h (λ left s g. take_kept (route left.exit) go k left.carried s g)
+  turn_kept : (W : Type 0) (k : Unit {0} → State → Piece W) (s : State) (m : ℕ) → m ≡ s.turns → Kept K (turn_of m s) → ((t : State) → t.turns < s.turns → K.Goes t → Kept K (k tt t)) → Kept K (and_then (turn_of m s) k)
+  turn_kept W k s zero is h n = record { after = h.after }
+  turn_kept W k s (suc m) is h n = n (record s { turns = m }) (omega (arith, is)) h.after
 
-  pub all_kept : {A : Type 0} (does : List (Does A)) → Each (λ d. DoesKeep K d) does → DoesKeep K (all_do does)
-  all_kept [] each a s h = record { after = h }
-  all_kept (d ∷ does) each a s h = follow_kept in_order (d a s) (all_do does) (each.0 a s h) (all_kept does each.1)
+  module _ (here : Here) (kept : IsKept K here) where
+    one_kept : RelationKept One Pieces
+    one_kept = record {
+      reached = λ V v s t one. record { after = one.goes };
+      after = λ V W s t o p k l one g g' goes goes' h n. then_grown V W s o k g h (λ v x up at. n v x x up (subst (λ y. Grown y x) (sym one.is) up) (record { goes = at; is = refl }));
+      turned = λ W k l goes goes' s t one n. turn_kept W k s s.turns refl (kept.turned s one.goes) (λ x less at. n x x less (subst (λ y. x.turns < y.turns) (sym one.is) less) (record { goes = at; is = refl }));
+    }
 
-  pub rounds_kept : {A : Type 0} (n : ℕ) (head body next : Does A) → DoesKeep K head → DoesKeep K body → DoesKeep K next → DoesKeep K (rounds n head body next)
-  rounds_kept zero head body next kh kb kn a s h = record { after = kept.out s h }
-  rounds_kept (suc n) head body next kh kb kn a s h =
-      follow_kept in_loop (head a s) (λ a s. and_then (turn s) (λ _ s. follow in_loop (body a s) (λ a s. follow in_loop (next a s) (rounds n head body next)))) (kh a s h) (λ b t g. then_kept K (turn t) (λ _ s. follow in_loop (body b s) (λ a s. follow in_loop (next a s) (rounds n head body next))) (kept.turned t g) (λ u t g. follow_kept in_loop (body b t) (λ a s. follow in_loop (next a s) (rounds n head body next)) (kb b t g) (λ c t g. follow_kept in_loop (next c t) (rounds n head body next) (kn c t g) (rounds_kept n head body next kh kb kn))))
+    computed_kept : (V : Type 0) (at : Here) → IsKept K at → (line : ℕ) (r : Result V Cause) (s : State) → K.Goes s → Kept K (computed at line r s)
+    computed_kept V at is line (Ok v) s h = record { after = h }
+    computed_kept V at is line (Err cause) s h = record { after = is.blamed s cause line h }
 
-  pub loop_kept : {A : Type 0} (head body next : Does A) → DoesKeep K head → DoesKeep K body → DoesKeep K next → DoesKeep K (loop head body next)
-  loop_kept head body next kh kb kn a s h = rounds_kept (suc s.turns) head body next kh kb kn a s h
+    one_at : (at : Here) → IsKept K at → KeptAt One Pieces Never at
+    one_at at is = record {
+      computing = λ V line e e' h s t one. computed_kept V at is line (e (s.memory at.comp)) s one.goes;
+      passed = λ V cause line soft s t one p g. absurd soft;
+      stored = λ blocks s t one. record { goes = is.memory s blocks one.goes; is = ap {A = State} {B = State} (λ z. record z { memory = with_blocks at.comp blocks z.memory }) one.is };
+    }
 
-  pub choose_kept : {V : Type 0} (v : Value) (p q : Piece V) → Kept K p → Kept K q → Kept K (choose v p q)
-  choose_kept v p q h k = by_truth (is_true v) h k where
-    by_truth : (b : Bool) → Kept K p → Kept K q → Kept K (if b then p else q)
-    by_truth true h k = h
-    by_truth false h k = k
+    -- a function whose pieces keep what its calls keep
+    keeps_here : (f g : Option Function) → Meets (FunctionTwins One Pieces (IsKept K)) f g → (h : Function) → f ≡ Some h → (by : Calls) → CallsGo by → CallsKeep K here.comp by → (s : State) → K.Goes s → Kept K (h.does by here s)
+    keeps_here None None meets h is by goes keeps s at = absurd (cc)
+    keeps_here None (Some g) meets h is by goes keeps s at = absurd meets
+    keeps_here (Some f) None meets h is by goes keeps s at = absurd meets
+    keeps_here (Some f) (Some g) meets h is by goes keeps s at =
+        let equal : f ≡ h = cc in
+        subst {A = Function} (λ x. Kept K (x.does by here s)) equal
+        ((meets.does by by here kept (λ target args. record { first = goes here.comp target args; second = goes here.comp target args; both = λ s t one. keeps target args s one.goes })).both s s (record { goes = at; is = refl }))
 
-  pub given_kept : (want : Want) (e : Ways) (line : ℕ) (s : State) → K.Goes s → Kept K (given here want e line s)
-  given_kept want e line s h = computed_kept line (e want (s.memory here.comp)) s h
-
-  pub stored_kept : (q v : Value) (line : ℕ) → DoesKeep K (stored {A = Unit {0}} here q v line)
-  stored_kept q v line a s h =
-      then_kept K (computed here line (store (s.memory here.comp) q v) s) (λ blocks s. leave Next a (record s { memory = with_blocks here.comp blocks s.memory })) (computed_kept line (store (s.memory here.comp) q v) s h) (λ blocks s h. record { after = kept.memory s blocks h })
-
-  pub store_at_kept : (place : Ways) (v : Value) (line : ℕ) → DoesKeep K (store_at here place v line)
-  store_at_kept place v line a s h =
-      then_kept K (given here want.Place place line s) (λ q s. stored here q v line a s) (given_kept want.Place place line s h) (λ q s h. stored_kept q v line a s h)
-
-  pub assign_kept : (place e : Ways) (line : ℕ) → DoesKeep K (assign here place e line)
-  assign_kept place e line a s h =
-      then_kept K (given here want.Value e line s) (λ v s. store_at here place v line a s) (given_kept want.Value e line s h) (λ v s h. store_at_kept place v line a s h)
-
-  pub test_kept : (cond : Ways) (line : ℕ) → DoesKeep K (test here cond line)
-  test_kept cond line a s h =
-      then_kept K (given here want.Value cond line s) (λ v s. choose v (leave Next a s) (leave Break a s)) (given_kept want.Value cond line s h) (λ v s h. choose_kept v (leave Next a s) (leave Break a s) (record { after = h }) (record { after = h }))
-
-  pub store_result_kept : (place : Ways) (v : Option Value) (line : ℕ) → DoesKeep K (store_result here place v line)
-  store_result_kept place None line a s h = record { after = h }
-  store_result_kept place (Some v) line a s h = store_at_kept place v line a s h
-
-  -- calls from this compartment keep the property
-  abbrev pub CallsKeep : Calls → Type 0
-  CallsKeep calls = (target : CallTarget) (args : List Value) (s : State) → K.Goes s → Kept K (calls here.comp target args s)
-
-  module _ (calls : Calls) (by : CallsKeep calls) where
-    pub call_kept : (target : CallTarget) (args : List Ways) (line : ℕ) (s : State) → K.Goes s → Kept K (call here calls target args line s)
-    call_kept target args line s h =
-        then_kept K (computed here line (values args (s.memory here.comp)) s) (λ vs s. calls here.comp target vs s) (computed_kept line (values args (s.memory here.comp)) s h) (λ vs s h. by target vs s h)
-
-    pub assign_call_kept : (place : Ways) (target : CallTarget) (args : List Ways) (line : ℕ) → DoesKeep K (assign_call here calls place target args line)
-    assign_call_kept place target args line a s h =
-        then_kept K (call here calls target args line s) (λ result s. store_result here place result line a s) (call_kept target args line s h) (λ result s h. store_result_kept place result line a s h)
-
-    pub call_alone_kept : (target : CallTarget) (args : List Ways) (line : ℕ) → DoesKeep K (call_alone here calls target args line)
-    call_alone_kept target args line a s h =
-        then_kept K (call here calls target args line s) (λ result s. leave Next a s) (call_kept target args line s h) (λ result s h. record { after = h })
-
-    module _ (arith : Arith) (structs : List TypedStruct) (params : ℕ) where
-      abbrev way : TypedExpr → Ways
-      way e = ways arith structs here params e
-
-      pub simple_kept : (k : TypedSimpleKind) (line : ℕ) → DoesKeep K (simple_does arith structs here params calls k line)
-      simple_kept (simple.Assign place e) line = assign_kept (way place) (way e) line
-      simple_kept (simple.AssignCall place c) line = assign_call_kept (way place) c.target (map way c.args) line
-      simple_kept (simple.Call c) line = call_alone_kept c.target (map way c.args) line
-
-      pub part_kept : (part : Option TypedSimple) → DoesKeep K (part_does arith structs here params calls part)
-      part_kept None = leave_kept Next
-      part_kept (Some s) = simple_kept s.kind s.line
-
-      abbrev pub does_at : TypedStmt → Acts
-      does_at stmt = stmt_does arith structs here params calls stmt
-
-      -- the statements of a list, each of which keeps the property
-      pub block_each : (stmts : List TypedStmt) → Each (λ s. DoesKeep K (does_at s)) stmts → Each (λ d. DoesKeep K d) (map does_at stmts)
-      block_each [] each = tt
-      block_each (s ∷ stmts) each = (each.0, block_each stmts each.1)
-
-      pub layer_kept : (line : ℕ) (k : TypedStmtKind-F TypedStmtKind TypedStmt) → Inside (λ s. DoesKeep K (does_at s)) k → DoesKeep K (layer_of _ _ (kind_step arith structs here params calls) stmt_step k line)
-      layer_kept line layer.Empty h = leave_kept Next
-      layer_kept line (layer.Assign place e) h = assign_kept (way place) (way e) line
-      layer_kept line (layer.AssignCall place c) h = assign_call_kept (way place) c.target (map way c.args) line
-      layer_kept line (layer.Call c) h = call_alone_kept c.target (map way c.args) line
-      layer_kept line (layer.If cond first second) h = λ a s g.
-          then_kept K (given here want.Value (way cond) line s) (λ v s. choose v (all_do (map does_at first) a s) (all_do (map does_at second) a s)) (given_kept want.Value (way cond) line s g) (λ v s g. choose_kept v (all_do (map does_at first) a s) (all_do (map does_at second) a s) (all_kept (map does_at first) (block_each first h.0) a s g) (all_kept (map does_at second) (block_each second h.1) a s g))
-      layer_kept line (layer.While cond body) h =
-          loop_kept (test here (way cond) line) (all_do (map does_at body)) (leave Next) (test_kept (way cond) line) (all_kept (map does_at body) (block_each body h)) (leave_kept Next)
-      layer_kept line (layer.For first cond next body) h = λ a s g.
-          follow_kept in_order (part_does arith structs here params calls first a s) (loop (test here (way cond) line) (all_do (map does_at body)) (part_does arith structs here params calls next)) (part_kept first a s g) (loop_kept (test here (way cond) line) (all_do (map does_at body)) (part_does arith structs here params calls next) (test_kept (way cond) line) (all_kept (map does_at body) (block_each body h)) (part_kept next))
-      layer_kept line layer.Break h = leave_kept Break
-      layer_kept line layer.Continue h = leave_kept Continue
-      layer_kept line layer.Return h = leave_kept (Return None)
-      layer_kept line (layer.ReturnValue e) h = λ a s g.
-          then_kept K (given here want.Value (way e) line s) (λ v s. leave (Return (Some v)) a s) (given_kept want.Value (way e) line s g) (λ v s g. record { after = g })
-      layer_kept line (layer.ReturnCall c) h = λ a s g.
-          then_kept K (call here calls c.target (map way c.args) line s) (λ result s. leave (Return result) a s) (call_kept c.target (map way c.args) line s g) (λ result s g. record { after = g })
-
-      pub stmt_kept : (stmt : TypedStmt) → DoesKeep K (does_at stmt)
-      stmt_kept =
-          stmt_induction (λ s. DoesKeep K (does_at s)) (λ line k h. subst (λ d. DoesKeep K d) (sym (stmt_at _ _ (kind_step arith structs here params calls) stmt_step line k)) (layer_kept line k h))
-
-      pub block_kept : (stmts : List TypedStmt) → DoesKeep K (block_does arith structs here params calls stmts)
-      block_kept stmts = all_kept (map does_at stmts) (block_each stmts (everywhere (λ s. DoesKeep K (does_at s)) stmt_kept stmts))
-
-      pub init_kept : (k : ℕ) (local : TypedLocal) (init : Option TypedExpr) → DoesKeep K (init_does arith structs here params k local init)
-      init_kept k local None = leave_kept Next
-      init_kept k local (Some e) = assign_kept (at_place local.ty (λ blocks. Ok (variable_at here params (Local k)))) (way e) local.line
-
-      pub inits_kept : (k : ℕ) (locals : List TypedLocal) → Each (λ d. DoesKeep K d) (inits_do arith structs here params k locals)
-      inits_kept k [] = tt
-      inits_kept k (local ∷ locals) = (init_kept k local local.init, inits_kept (suc k) locals)
-
-      pub body_kept : (f : TypedFunction) → DoesKeep K (body_does arith structs here params calls f)
-      body_kept f a s h =
-          follow_kept in_order (all_do (inits_do arith structs here params 0 f.locals) a s) (block_does arith structs here params calls f.body) (all_kept (inits_do arith structs here params 0 f.locals) (inits_kept 0 f.locals) a s h) (block_kept f.body)
-
-    pub brace_kept : (has_result is_main : Bool) (line : ℕ) (s : State) → K.Goes s → Kept K (at_brace has_result is_main line here s)
-    brace_kept true true line s h = record { after = h }
-    brace_kept true false line s h = record { after = kept.blamed s _ line h }
-    brace_kept false is_main line s h = record { after = h }
-
-    pub closed_kept : (exit : Exit) (has_result is_main : Bool) (line : ℕ) (s : State) → K.Goes s → Kept K (closed exit has_result is_main line here s)
-    closed_kept Next has_result is_main line s h = brace_kept has_result is_main line s h
-    closed_kept Break has_result is_main line s h = brace_kept has_result is_main line s h
-    closed_kept Continue has_result is_main line s h = brace_kept has_result is_main line s h
-    closed_kept (Return v) has_result is_main line s h = record { after = h }
-
-    -- A typed function keeps what its calls keep.
-    pub function_kept : (arith : Arith) (main : ℕ) (structs : List TypedStruct) (f : TypedFunction) (s : State) → K.Goes s → Kept K ((function_of arith main structs f).does calls here s)
-    function_kept arith main structs f s h =
-        then_kept K (body_does arith structs here (length f.params) calls f tt s) (λ left s. closed left.exit (is_some f.result) (here.comp == main && bytes_eq f.name main_name) f.close_line here s) (body_kept arith structs (length f.params) f tt s h) (λ left s h. closed_kept left.exit (is_some f.result) (here.comp == main && bytes_eq f.name main_name) f.close_line s h)
+-- a function of a library keeps what its calls keep
+pub function_keeps : (library : Library) → Obedient library → (comp number : ℕ) (f : Function) → function library comp number ≡ Some f → (K : Property) (here : Here) → IsKept K here → (by : Calls) → CallsGo by → CallsKeep K here.comp by → (s : State) → K.Goes s → Kept K (f.does by here s)
+function_keeps library obedient comp number f is K here kept by goes keeps s at =
+    let twins : LibraryTwins (One K) (Pieces K) (IsKept K) library library = library_twins Never (One K) (Pieces K) (IsKept K) (one_kept K here kept) (one_at K here kept) library library obedient in
+    keeps_here K here kept (function library comp number) (function library comp number) (twins.functions comp number) f is by goes keeps s at
 
 -- how a piece of a run can stop: `Ended` is told of a whole run alone, and `EventsOut` of one that is stopped
 abbrev pub IsHalt : RunEnd → Type 0
@@ -216,11 +108,3 @@ IsHalt EventsOut = ⊥
 pub found_kept : (K : Property) {V W : Type 0} (option : Option V) (s : State) (go : V → State → Piece W) → K.Ends TurnsOut s → ((v : V) → option ≡ Some v → Kept K (go v s)) → Kept K (and_then (found option s) go)
 found_kept K None s go h k = record { after = h }
 found_kept K (Some v) s go h k = k v refl
-
--- a function whose pieces keep what its calls keep
-pub record IsOpen (f : Function) : Type 1 where
-  pub keeps : (K : Property) (here : Here) (kept : IsKept K here) (by : Calls) → CallsKeep K here kept by → (s : State) → K.Goes s → Kept K (f.does by here s)
-
--- each function of a library is so
-pub record AreOpen (library : Library) : Type 1 where
-  pub function_keeps : (comp number : ℕ) (f : Function) → function library comp number ≡ Some f → IsOpen f

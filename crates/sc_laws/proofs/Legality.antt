@@ -22,16 +22,18 @@ use Rattle.sc_core.specs.declared.run.RunEnd.{RunEnd}
 use Rattle.sc_core.specs.declared.run.RunEnd.TheVariants.{Blamed, TurnsOut}
 use Rattle.sc_core.specs.declared.value.Value.{Value}
 use Rattle.sc_core.specs.declared.value.Value.TheVariants.{Word}
-use Rattle.sc_laws.specs.Laws.{TracesAreLegal}
 use Rattle.sc_core.specs.Memory.{Memory}
 use Rattle.sc_core.specs.Run.{stopped_at}
 use Rattle.sc_core.specs.Words.{State, Here, Piece, Reached, Stopped, and_then, turn, turn_of, tell}
 use Rattle.sc_core.specs.Calls.{Library, Body, Step, function, begun, done, found, word_in, crossed, word_back, crossing, next_input, first_word, may_call, back_own, back_cross, run_in, call_own, call_cross, called, calls, run_step, within}
-use Rattle.sc_core.specs.Scripts.{Roles, roles_in, rows_left, is_number, asks, acts, performs, scripted_step}
-use Rattle.sc_core.specs.Meaning.{library_of, globals_of, first_state, exit_word, run_to, run_by}
-use Rattle.sc_laws.proofs.Keeping.{Property, Kept, IsKept, then_kept, IsHalt, found_kept, AreOpen}
-use Rattle.sc_laws.proofs.Opening.{library_is_open}
-use Rattle.sc_laws.proofs.Cuts.{cut_trace}
+use Rattle.sc_core.specs.Scripts.{Roles, rows_left, is_number, asks, acts, performs, scripted_step}
+use Rattle.sc_core.specs.Meaning.{first_state, exit_word, run_to, run_by}
+use Rattle.sc_laws.proofs.Growing.{BodyGoes, StepGoes, calls_go, within_goes}
+use Rattle.sc_laws.specs.Interactions.{Obedient}
+use Rattle.sc_laws.specs.Runs.{library_run, roles_run}
+use Rattle.sc_laws.proofs.Matching.{run_goes_on, scripted_goes_on}
+use Rattle.sc_laws.proofs.Keeping.{Property, Kept, IsKept, then_kept, IsHalt, found_kept, function_keeps}
+use Rattle.sc_laws.proofs.Runs.{trace_is}
 
 module _ (interfaces : Interfaces) where
   behind_more : (at : Option Standing) (t : List Event) (st : Standing) (e : Event) → stands_behind at t ≡ Some st → stands_behind at (t ++ e ∷ []) ≡ stands_after st e
@@ -73,7 +75,7 @@ module _ (interfaces : Interfaces) where
 
   is_kept : (st : Standing) (here : Here) → IsKept (standing st) here
   is_kept st here =
-      record { memory = λ s blocks h. record { stands = h.stands; is_legal = h.is_legal }; turned = λ s h. turned_at st s.turns s h; blamed = λ s cause line h. (h.is_legal, tt); out = λ s h. (h.is_legal, tt) }
+      record { memory = λ s blocks h. record { stands = h.stands; is_legal = h.is_legal }; turned = λ s h. turned_at st s.turns s h; blamed = λ s cause line h. (h.is_legal, tt) }
 
   -- a piece that stands elsewhere, and back
   then_at : {X Y : Type 0} (inner outer : Standing) (piece : Piece X) (go : X → State → Piece Y) → Kept (standing inner) piece → ((v : X) (s : State) → IsAt s.trace inner → Kept (standing outer) (go v s)) → Kept (standing outer) (and_then piece go)
@@ -181,13 +183,13 @@ module _ (interfaces : Interfaces) where
       by_test true = calls_at st comp target args s is h
       by_test false = record { after = (h.is_legal, tt) }
 
-  module _ (library : Library) (same : library.interfaces ≡ interfaces) (are_open : AreOpen library) where
+  module _ (library : Library) (same : library.interfaces ≡ interfaces) (obedient : Obedient library) where
     abbrev StepLegal : Step → Type 0
-    StepLegal step = (body : Body) → BodyLegal body → BodyLegal (step body)
+    StepLegal step = (body : Body) → BodyGoes body → BodyLegal body → BodyLegal (step body)
 
     pub run_step_legal : StepLegal (run_step library)
-    run_step_legal body legal_body number here s st is h =
-        found_kept (standing st) (function library here.comp number) s (λ f s. f.does (calls library body) here s) (h.is_legal, tt) (λ f found_f. (are_open.function_keeps here.comp number f found_f).keeps (standing st) here (is_kept st here) (calls library body) (λ target args s h. calls_at library same body legal_body st here.comp target args s is h) s h)
+    run_step_legal body goes legal_body number here s st is h =
+        found_kept (standing st) (function library here.comp number) s (λ f s. f.does (calls library body) here s) (h.is_legal, tt) (λ f found_f. function_keeps library obedient here.comp number f found_f (standing st) here (is_kept st here) (calls library body) (calls_go library body goes) (λ target args s h. calls_at library same body legal_body st here.comp target args s is h) s h)
 
     -- a function that performs rows
     performs_legal : (body : Body) → BodyLegal body → (rows : List Row) → BodyLegal (performs library body rows)
@@ -208,14 +210,14 @@ module _ (interfaces : Interfaces) where
       by_test false next = record { after = (h.is_legal, tt) }
 
     pub scripted_legal : (roles : Roles) → StepLegal (scripted_step library roles (run_step library))
-    scripted_legal roles body legal_body number here s st is h = by_role (roles.scripted here.comp) where
+    scripted_legal roles body goes legal_body number here s st is h = by_role (roles.scripted here.comp) where
       by_role : (b : Bool) → Kept (standing st) (if b then performs library body (rows_left roles here.comp s.trace) number here s else run_step library body number here s)
       by_role true = performs_legal body legal_body (rows_left roles here.comp s.trace) number here s st is h
-      by_role false = run_step_legal body legal_body number here s st is h
+      by_role false = run_step_legal body goes legal_body number here s st is h
 
-    within_legal : (step : Step) → StepLegal step → (n : ℕ) → BodyLegal (within step n)
-    within_legal step legal_step zero number here s st is h = record { after = (h.is_legal, tt) }
-    within_legal step legal_step (suc n) number here s st is h = legal_step (within step n) (within_legal step legal_step n) number here s st is h
+    within_legal : (step : Step) → StepGoes step → StepLegal step → (n : ℕ) → BodyLegal (within step n)
+    within_legal step step_goes legal_step zero number here s st is h = record { after = (h.is_legal, tt) }
+    within_legal step step_goes legal_step (suc n) number here s st is h = legal_step (within step n) (within_goes step step_goes n) (within_legal step step_goes legal_step n) number here s st is h
 
     abbrev begins : Standing
     begins = record { active = record { comp = interfaces.main; entry = Main }; waiting = [] }
@@ -225,15 +227,18 @@ module _ (interfaces : Interfaces) where
         legal_more (at_start interfaces.main) s.trace begins (End interfaces.main (exit_word v)) h.after.stands h.after.is_legal (and_from (interfaces.main == interfaces.main) true (eq-eqb interfaces.main interfaces.main refl) refl)
     piece_legal (Stopped end s) h = h.after.0
 
-    run_legal : (step : Step) → StepLegal step → (globals : Memory) (inputs : List ℕ) (turns : ℕ) → legal interfaces (run_by library step globals inputs turns).shown.trace ≡ true
-    run_legal step legal_step globals inputs turns =
-        subst (λ c. legal interfaces (run_to c.main (and_then (found (library.entered c.main Main) (first_state globals inputs turns)) (λ number s. call_own library (within step (suc turns)) c.main number [] s))).shown.trace ≡ true) (sym same) (piece_legal (and_then (found (library.entered interfaces.main Main) (first_state globals inputs turns)) (λ number s. call_own library (within step (suc turns)) interfaces.main number [] s)) (found_kept (standing begins) (library.entered interfaces.main Main) (first_state globals inputs turns) (λ number s. call_own library (within step (suc turns)) interfaces.main number [] s) (refl, tt) (λ number found_number. own_at library same (within step (suc turns)) (within_legal step legal_step (suc turns)) begins interfaces.main number [] (first_state globals inputs turns) refl (record { stands = refl; is_legal = refl }))))
+    run_legal : (step : Step) → StepGoes step → StepLegal step → (globals : Memory) (inputs : List ℕ) (turns : ℕ) → legal interfaces (run_by library step globals inputs turns).shown.trace ≡ true
+    run_legal step step_goes legal_step globals inputs turns =
+        subst (λ c. legal interfaces (run_to c.main (and_then (found (library.entered c.main Main) (first_state globals inputs turns)) (λ number s. call_own library (within step (suc turns)) c.main number [] s))).shown.trace ≡ true) (sym same) (piece_legal (and_then (found (library.entered interfaces.main Main) (first_state globals inputs turns)) (λ number s. call_own library (within step (suc turns)) interfaces.main number [] s)) (found_kept (standing begins) (library.entered interfaces.main Main) (first_state globals inputs turns) (λ number s. call_own library (within step (suc turns)) interfaces.main number [] s) (refl, tt) (λ number found_number. own_at library same (within step (suc turns)) (within_legal step step_goes legal_step (suc turns)) begins interfaces.main number [] (first_state globals inputs turns) refl (record { stands = refl; is_legal = refl }))))
 
-pub traces_are_legal : TracesAreLegal
-traces_are_legal =
-    record {
-      meaning = λ arith program inputs turns events. stopped_legal program.interfaces events _ _ (run_legal program.interfaces (library_of arith program) refl (library_is_open arith program) (run_step (library_of arith program)) (run_step_legal program.interfaces (library_of arith program) refl (library_is_open arith program)) (globals_of program.sections) inputs turns);
-      scripted = λ arith program set trace inputs turns events. stopped_legal program.interfaces events _ _ (run_legal program.interfaces (library_of arith program) refl (library_is_open arith program) (scripted_step (library_of arith program) (roles_in program.interfaces.main set trace) (run_step (library_of arith program))) (scripted_legal program.interfaces (library_of arith program) refl (library_is_open arith program) (roles_in program.interfaces.main set trace)) (globals_of program.sections) inputs turns);
-    } where
-      stopped_legal : (interfaces : Interfaces) (n : ℕ) (t : List Event) (end : RunEnd) → legal interfaces t ≡ true → legal interfaces (stopped_at n (record { trace = t; end = end })).trace ≡ true
-      stopped_legal interfaces n t end h = ap (legal interfaces) (cut_trace n t end) ∙ legal_take interfaces n (at_start interfaces.main) t h
+stopped_legal : (interfaces : Interfaces) (n : ℕ) (t : List Event) (end : RunEnd) → legal interfaces t ≡ true → legal interfaces (stopped_at n (record { trace = t; end = end })).trace ≡ true
+stopped_legal interfaces n t end h = ap (legal interfaces) (trace_is n (record { trace = t; end = end })) ∙ legal_take interfaces n (at_start interfaces.main) t h
+
+module _ (library : Library) (obedient : Obedient library) (globals : Memory) (inputs : List ℕ) (turns events : ℕ) where
+  pub runs_legal : legal library.interfaces (stopped_at events (library_run library globals inputs turns).shown).trace ≡ true
+  runs_legal =
+      stopped_legal library.interfaces events _ _ (run_legal library.interfaces library refl obedient (run_step library) (run_goes_on library obedient) (run_step_legal library.interfaces library refl obedient) globals inputs turns)
+
+  pub scripts_legal : (roles : Roles) → legal library.interfaces (stopped_at events (roles_run library globals inputs turns roles).shown).trace ≡ true
+  scripts_legal roles =
+      stopped_legal library.interfaces events _ _ (run_legal library.interfaces library refl obedient (scripted_step library roles (run_step library)) (scripted_goes_on library obedient roles) (scripted_legal library.interfaces library refl obedient roles) globals inputs turns)

@@ -1,40 +1,17 @@
--- The functions of a program under two arithmetics, each related to itself.
-use Rattle.std.proofs.Common.{◌≡◌, ℕ, zero, suc, List, [], ◌∷◌, map, length, Option, Some, None, refl, ap, ◌∙◌}
-use Rattle.std.specs.Prelude.{◌&&◌, ◌==◌, slice_get, slice_index_or, is_some, bytes_eq}
+-- Two libraries side by side, function by function.
+use Rattle.std.proofs.Common.{◌≡◌, ℕ, List, length, Option, Some, None, refl, ap, ◌∙◌}
+use Rattle.std.specs.Prelude.{◌&&◌, ◌==◌, is_some}
 use Rattle.std.specs.List.{list_all}
 use Rattle.sc_event.specs.declared.row.Entry.{Entry}
 use Rattle.sc_event.specs.declared.row.Entry.TheVariants.{Export}
-use Rattle.sc_core.specs.declared.cause.Cause.{Cause}
 use Rattle.sc_core.specs.declared.expr.CallTarget.{CallTarget}
 use Rattle.sc_core.specs.declared.expr.CallTarget.TheVariants.{Own, Cross, Input, Output}
-use Rattle.sc_core.specs.declared.section.TypedStruct.{TypedStruct}
-use Rattle.sc_core.specs.declared.section.TypedFunction.{TypedFunction}
-use Rattle.sc_core.specs.declared.section.TypedSection.{TypedSection}
-use Rattle.sc_core.specs.declared.program.ProgramTree.{ProgramTree}
 use Rattle.sc_core.specs.declared.value.Value.{Value}
-use Rattle.sc_core.specs.Value.{Arith}
 use Rattle.sc_core.specs.Words.{State, Here, Piece, Calls}
-use Rattle.sc_core.specs.Calls.{Function, Library, functions_of, function, leads, is_word, may_call}
+use Rattle.sc_core.specs.Calls.{Function, Library, function, leads, is_word, may_call}
 use Rattle.sc_event.specs.Legal.{is_input, is_output, is_function, imports, takes}
-use Rattle.sc_core.specs.Meaning.{main_name, function_of, functions_in, library_of}
 use Rattle.sc_laws.specs.Agreement.{Meets}
-use Rattle.sc_laws.proofs.Twins.{Each, Twins, Kept, then_twins}
-use Rattle.sc_laws.proofs.Expressions.{ArithKeeps}
-use Rattle.sc_laws.proofs.Statements.{KeptAt, body_twins, closed_twins}
-
-pub meets_at : {A : Type 0} (Q : A → A → Type 0) (xs ys : List A) (i : ℕ) → Each Q xs ys → Meets Q (slice_get xs i) (slice_get ys i)
-meets_at Q [] [] i h = tt
-meets_at Q [] (y ∷ ys) i h = absurd h
-meets_at Q (x ∷ xs) [] i h = absurd h
-meets_at Q (x ∷ xs) (y ∷ ys) zero h = h.0
-meets_at Q (x ∷ xs) (y ∷ ys) (suc i) h = meets_at Q xs ys i h.1
-
-lists_at : {A : Type 0} (Q : A → A → Type 0) (xss yss : List (List A)) (i : ℕ) → Each (Each Q) xss yss → Each Q (slice_index_or xss i []) (slice_index_or yss i [])
-lists_at Q [] [] i h = tt
-lists_at Q [] (y ∷ ys) i h = absurd h
-lists_at Q (x ∷ xs) [] i h = absurd h
-lists_at Q (x ∷ xs) (y ∷ ys) zero h = h.0
-lists_at Q (x ∷ xs) (y ∷ ys) (suc i) h = lists_at Q xs ys i h.1
+use Rattle.sc_laws.proofs.Twins.{Twins}
 
 -- a call of any compartment
 abbrev pub Anywhere : Here → Type 0
@@ -54,13 +31,12 @@ module _ (P : State → State → Type 0) (R : (V : Type 0) → Piece V → Piec
 
   pub record LibraryTwins (L M : Library) : Type 0 where
     pub interfaces : M.interfaces ≡ L.interfaces
-    pub functions : Each (Each FunctionTwins) L.functions M.functions
+    pub functions : (comp number : ℕ) → Meets FunctionTwins (function L comp number) (function M comp number)
     pub entered : (comp : ℕ) (entry : Entry) → M.entered comp entry ≡ L.entered comp entry
 
   module _ (L M : Library) (twins : LibraryTwins L M) where
     pub function_twins : (comp number : ℕ) → Meets FunctionTwins (function L comp number) (function M comp number)
-    function_twins comp number =
-        meets_at FunctionTwins (functions_of L comp) (functions_of M comp) number (lists_at FunctionTwins L.functions M.functions comp twins.functions)
+    function_twins = twins.functions
 
     pub entered_same : (comp : ℕ) (entry : Entry) → M.entered comp entry ≡ L.entered comp entry
     entered_same = twins.entered
@@ -84,20 +60,3 @@ module _ (P : State → State → Type 0) (R : (V : Type 0) → Piece V → Piec
         (ap (leads M to) (twins.entered to (Export index)) ∙ leads_same to (L.entered to (Export index)))
     may_same from Input args = ap (λ i. imports i from is_input) twins.interfaces
     may_same from Output args = ap (λ i. imports i from is_output && (length args == 1 && list_all is_word args)) twins.interfaces
-
-  module _ (Soft : Cause → Type 0) (kept : Kept P R) (at : (here : Here) → Good here → KeptAt P R Soft here) (ar br : Arith) (arith : ArithKeeps Soft ar br) where
-    of_function : (main : ℕ) (structs : List TypedStruct) (f : TypedFunction) → FunctionTwins (function_of ar main structs f) (function_of br main structs f)
-    of_function main structs f =
-        record { cells = refl; room = refl; does = λ C D here good made. then_twins P R kept _ (Option Value) _ _ _ _ (body_twins P R Soft kept here (at here good) C D made ar br arith structs (length f.params) f tt) (λ left. closed_twins P R Soft kept here (at here good) C D made ar br arith structs (length f.params) left.exit (is_some f.result) (here.comp == main && bytes_eq f.name main_name) f.close_line) }
-
-    of_functions : (main : ℕ) (structs : List TypedStruct) (fs : List TypedFunction) → Each FunctionTwins (map (function_of ar main structs) fs) (map (function_of br main structs) fs)
-    of_functions main structs [] = tt
-    of_functions main structs (f ∷ fs) = (of_function main structs f, of_functions main structs fs)
-
-    of_sections : (main : ℕ) (sections : List TypedSection) → Each (Each FunctionTwins) (map (functions_in ar main) sections) (map (functions_in br main) sections)
-    of_sections main [] = tt
-    of_sections main (section ∷ sections) =
-        (of_functions main section.structs section.functions, of_sections main sections)
-
-    pub program_twins : (program : ProgramTree) → LibraryTwins (library_of ar program) (library_of br program)
-    program_twins program = record { interfaces = refl; functions = of_sections program.interfaces.main program.sections; entered = λ comp entry. refl }

@@ -8,65 +8,81 @@ use Rattle.sc_core.specs.declared.program.ProgramTree.{ProgramTree}
 use Rattle.sc_core.specs.declared.run.RunEnd.{RunEnd}
 use Rattle.sc_core.specs.declared.run.RunEnd.TheVariants.{Ended, Blamed, TurnsOut, EventsOut}
 use Rattle.sc_core.specs.declared.run.SourceRun.{SourceRun}
-use Rattle.sc_core.specs.Value.{Arith, c_arith, wrapping}
+use Rattle.sc_core.specs.Memory.{Memory}
+use Rattle.sc_core.specs.Value.{c_arith, wrapping}
 use Rattle.sc_laws.specs.Ends.{IsFinal, IsArithmetic}
 use Rattle.sc_laws.proofs.Wrapping.{binary_fits, negated_fits}
 use Rattle.sc_core.specs.Run.{reaches, stopped_at}
-use Rattle.sc_core.specs.Calls.{Step, run_step}
-use Rattle.sc_core.specs.Scripts.{Roles, roles_in, scripted_step}
-use Rattle.sc_core.specs.Meaning.{library_of, globals_of, run_by}
+use Rattle.sc_core.specs.Calls.{Library, Step, run_step}
+use Rattle.sc_core.specs.Scripts.{Roles, scripted_step}
+use Rattle.sc_core.specs.Meaning.{Run, deepest, depth_in, library_of, run_by}
 use Rattle.sc_core.specs.Growth.{Front}
-use Rattle.sc_laws.specs.Steady.{Extends, ExtendedByMore, AgreesUntilBlame, same, blamed}
-use Rattle.sc_laws.specs.Laws.{MoreGoesOn, WrappingAgrees}
-use Rattle.sc_laws.proofs.Growing.{front_same, StepGoes}
+use Rattle.sc_laws.specs.Steady.{Extends, ExtendedByMore, AgreesUntilBlame, same, blamed, RunsUntilBlame, same_run, blamed_run, AgreesInRoom}
+use Rattle.sc_laws.specs.Runs.{library_run, roles_run}
+use Rattle.sc_laws.proofs.Growing.{front_same, StepGoes, run_step_goes, scripted_goes}
 use Rattle.sc_laws.proofs.Expressions.{ArithKeeps}
-use Rattle.sc_laws.proofs.Programs.{Never, itself_keeps, scripted_goes_on}
+use Rattle.sc_laws.specs.Interactions.{Never, LibrariesMatch, Obedient}
+use Rattle.sc_laws.proofs.Matching.{first_goes, second_goes, run_goes_on, scripted_goes_on}
+use Rattle.sc_laws.proofs.Programs.{program_matches}
 use Rattle.sc_laws.proofs.Below.{Passes}
 use Rattle.sc_laws.proofs.BelowCalls.{StepsBelow}
-use Rattle.sc_laws.proofs.Runs.{take_fronts, take_all, front_long, unreached, still_unreached, trace_is, RunsBelow, same_run, goes_past, scripted_steps, runs_below}
+use Rattle.sc_laws.proofs.Runs.{take_fronts, take_all, front_long, unreached, still_unreached, trace_is, RunsBelow, run_steps, scripted_steps, runs_below}
+use Rattle.sc_laws.proofs.Runs.{RunsBelow as goes}
+use Rattle.sc_laws.proofs.Rooms.{deepest_more}
 
 -- MORE TURNS AND EVENTS
-module _ (d : ℕ) (x y : SourceRun) (events more_events : ℕ) (le : events ≤ more_events) where
-  front_events : RunsBelow d Never (Unit {0}) x y → Front x.trace y.trace
-  front_events (same_run is) = subst (λ z. Front x.trace z.trace) (sym is) (front_same x.trace)
-  front_events (goes_past end is stop passes front ended) = front
+module _ (d : ℕ) (one other : Run) (events more_events : ℕ) (le : events ≤ more_events) where
+  abbrev shorter : SourceRun
+  shorter = one.shown
 
-  final_at : (b : Bool) → reaches events x x.end ≡ b → IsFinal (if b then record { trace = take events x.trace; end = EventsOut } else x).end → RunsBelow d Never (Unit {0}) x y → stopped_at more_events y ≡ (if b then record { trace = take events x.trace; end = EventsOut } else x)
+  abbrev longer : SourceRun
+  longer = other.shown
+
+  front_events : RunsBelow d Never (Unit {0}) one other → Front shorter.trace longer.trace
+  front_events (goes.same_run is) = subst (λ z. Front shorter.trace z.shown.trace) (sym is) (front_same shorter.trace)
+  front_events (goes.goes_past end is stop passes front ended frames) = front
+
+  final_at : (b : Bool) → reaches events shorter shorter.end ≡ b → IsFinal (if b then record { trace = take events shorter.trace; end = EventsOut } else shorter).end → RunsBelow d Never (Unit {0}) one other → stopped_at more_events longer ≡ (if b then record { trace = take events shorter.trace; end = EventsOut } else shorter)
   final_at true is final below = absurd final
-  final_at false is final (same_run equal) =
-      ap (stopped_at more_events) equal ∙ ap (λ b. if b then record { trace = take more_events x.trace; end = EventsOut } else x) (still_unreached events more_events x x.end le is)
-  final_at false is final (goes_past end ends stop passes front ended) = absurd (no_end end passes (subst IsFinal ends final)) where
+  final_at false is final (goes.same_run equal) =
+      ap (λ z. stopped_at more_events z.shown) equal ∙ ap (λ b. if b then record { trace = take more_events shorter.trace; end = EventsOut } else shorter) (still_unreached events more_events shorter shorter.end le is)
+  final_at false is final (goes.goes_past end ends stop passes front ended frames) = absurd (no_end end passes (subst IsFinal ends final)) where
     no_end : (end : RunEnd) → Passes d Never (Unit {0}) end → IsFinal end → ⊥
     no_end Ended passes final = passes
     no_end (Blamed comp cause line) passes final = passes
     no_end TurnsOut passes final = final
     no_end EventsOut passes final = final
 
-  extends : RunsBelow d Never (Unit {0}) x y → Extends (stopped_at events x) (stopped_at more_events y)
+  extends : RunsBelow d Never (Unit {0}) one other → Extends (stopped_at events shorter) (stopped_at more_events longer)
   extends below =
-      record { trace = subst (λ t. Front t (stopped_at more_events y).trace) (sym (trace_is events x)) (subst (Front (take events x.trace)) (sym (trace_is more_events y)) (take_fronts events more_events x.trace y.trace le (front_events below))); final = λ final. final_at (reaches events x x.end) refl final below }
+      record { trace = subst (λ t. Front t (stopped_at more_events longer).trace) (sym (trace_is events shorter)) (subst (Front (take events shorter.trace)) (sym (trace_is more_events longer)) (take_fronts events more_events shorter.trace longer.trace le (front_events below))); final = λ final. final_at (reaches events shorter shorter.end) refl final below }
 
-module _ (arithmetic : Arith) (program : ProgramTree) (inputs : List ℕ) where
-  more_of : (step : Step) → StepGoes step → ((d : ℕ) → StepsBelow d Never (Unit {0}) (inr tt) step step) → ExtendedByMore (λ turns events. stopped_at events (run_by (library_of arithmetic program) step (globals_of program.sections) inputs turns).shown)
+module _ (library : Library) (obedient : Obedient library) (globals : Memory) (inputs : List ℕ) where
+  more_of : (step : Step) → StepGoes step → ((d : ℕ) → StepsBelow d Never (Unit {0}) (inr tt) step step) → ExtendedByMore (λ turns events. stopped_at events (run_by library step globals inputs turns).shown)
   more_of step goes steps turns more_turns events more_events le_turns le_events =
       let d : ℕ = more_turns - turns in
       let sum : turns + d ≡ more_turns = omega (arith, le_turns) in
-      subst (λ n. Extends (stopped_at events (run_by (library_of arithmetic program) step (globals_of program.sections) inputs turns).shown) (stopped_at more_events (run_by (library_of arithmetic program) step (globals_of program.sections) inputs n).shown)) sum (extends d _ _ events more_events le_events (runs_below d Never (Unit {0}) (inr tt) arithmetic arithmetic (itself_keeps Never arithmetic) program step step goes goes (steps d) (globals_of program.sections) inputs turns))
+      subst (λ n. Extends (stopped_at events (run_by library step globals inputs turns).shown) (stopped_at more_events (run_by library step globals inputs n).shown)) sum (extends d _ _ events more_events le_events (runs_below d Never (Unit {0}) (inr tt) library library obedient step step goes goes (steps d) globals inputs turns))
 
-  more_scripted : (roles : Roles) → ExtendedByMore (λ turns events. stopped_at events (run_by (library_of arithmetic program) (scripted_step (library_of arithmetic program) roles (run_step (library_of arithmetic program))) (globals_of program.sections) inputs turns).shown)
+  pub more_runs : ExtendedByMore (λ turns events. stopped_at events (library_run library globals inputs turns).shown)
+  more_runs = more_of (run_step library) (run_goes_on library obedient) (λ d. run_steps d Never (Unit {0}) (inr tt) library library obedient)
+
+  pub more_scripted : (roles : Roles) → ExtendedByMore (λ turns events. stopped_at events (roles_run library globals inputs turns roles).shown)
   more_scripted roles =
-      more_of (scripted_step (library_of arithmetic program) roles (run_step (library_of arithmetic program))) (scripted_goes_on arithmetic program roles) (λ d. scripted_steps d Never (Unit {0}) (inr tt) arithmetic arithmetic (itself_keeps Never arithmetic) program roles)
-
-pub more_goes_on : MoreGoesOn
-more_goes_on arithmetic program set trace inputs =
-    more_scripted arithmetic program inputs (roles_in program.interfaces.main set trace)
+      more_of (scripted_step library roles (run_step library)) (scripted_goes_on library obedient roles) (λ d. scripted_steps d Never (Unit {0}) (inr tt) library library obedient roles)
 
 -- ARITHMETIC
 pub wrapping_keeps : ArithKeeps IsArithmetic c_arith wrapping
 wrapping_keeps = record { binary = λ unsigned o a b. binary_fits unsigned o a b; negated = λ unsigned a. negated_fits unsigned a }
 
 -- two runs with as many turns, of which the first may be blamed for arithmetic
-module _ (x y : SourceRun) (events : ℕ) where
+module _ (one other : Run) (events : ℕ) where
+  abbrev x : SourceRun
+  x = one.shown
+
+  abbrev y : SourceRun
+  y = other.shown
+
   reached_too : (end : RunEnd) → Front x.trace y.trace → (end ≡ Ended → length x.trace < length y.trace) → events ≤ length x.trace → reaches events y end ≡ true
   reached_too Ended front ended le =
       (let longer : length x.trace < length y.trace = ended refl in lt-ltb events (length y.trace) (omega (arith, le, longer)))
@@ -89,21 +105,54 @@ module _ (x y : SourceRun) (events : ℕ) where
   blamed_at comp cause line ends soft front ended false is =
       blamed comp cause line ends soft (subst (Front x.trace) (sym (trace_is events y)) (subst (λ t. Front t (take events y.trace)) (take_all events x.trace (unreached events x x.end is)) (take_fronts events events x.trace y.trace (omega arith) front)))
 
-  agrees : RunsBelow 0 IsArithmetic ⊥ x y → AgreesUntilBlame (stopped_at events x) (stopped_at events y)
-  agrees (same_run is) = same (ap (stopped_at events) is)
-  agrees (goes_past Ended ends stop passes front ended) = absurd passes
-  agrees (goes_past (Blamed comp cause line) ends stop passes front ended) =
+  agrees : RunsBelow 0 IsArithmetic ⊥ one other → AgreesUntilBlame (stopped_at events x) (stopped_at events y)
+  agrees (goes.same_run is) = same (ap (λ z. stopped_at events z.shown) is)
+  agrees (goes.goes_past Ended ends stop passes front ended frames) = absurd passes
+  agrees (goes.goes_past (Blamed comp cause line) ends stop passes front ended frames) =
       blamed_at comp cause line ends passes front ended (reaches events x x.end) refl
-  agrees (goes_past TurnsOut ends stop passes front ended) = absurd passes
-  agrees (goes_past EventsOut ends stop passes front ended) = absurd passes
+  agrees (goes.goes_past TurnsOut ends stop passes front ended frames) = absurd passes
+  agrees (goes.goes_past EventsOut ends stop passes front ended frames) = absurd passes
 
-module _ (program : ProgramTree) (inputs : List ℕ) (turns events : ℕ) where
-  agree_of : (step step' : Step) → StepGoes step → StepGoes step' → StepsBelow 0 IsArithmetic ⊥ (inl refl) step step' → AgreesUntilBlame (stopped_at events (run_by (library_of c_arith program) step (globals_of program.sections) inputs turns).shown) (stopped_at events (run_by (library_of wrapping program) step' (globals_of program.sections) inputs turns).shown)
-  agree_of step step' goes goes' steps =
+module _ (one other : Run) where
+  whole_agrees : RunsBelow 0 IsArithmetic ⊥ one other → RunsUntilBlame one other
+  whole_agrees (goes.same_run is) = same_run is
+  whole_agrees (goes.goes_past Ended ends stop passes front ended frames) = absurd passes
+  whole_agrees (goes.goes_past (Blamed comp cause line) ends stop passes front ended frames) =
+      blamed_run comp cause line ends passes front frames
+  whole_agrees (goes.goes_past TurnsOut ends stop passes front ended frames) = absurd passes
+  whole_agrees (goes.goes_past EventsOut ends stop passes front ended frames) = absurd passes
+
+  no_deeper : RunsUntilBlame one other → (events comp : ℕ) → depth_in one events comp ≤ depth_in other events comp
+  no_deeper (same_run is) events comp = subst (λ z. depth_in one events comp ≤ depth_in z events comp) (sym is) (omega arith)
+  no_deeper (blamed_run c cause line ends soft front frames) events comp =
+      subst (λ z. depth_in one events comp ≤ deepest events comp 0 z) (sym frames.is) (deepest_more events comp 0 one.frames frames.more)
+
+  pub in_room : RunsBelow 0 IsArithmetic ⊥ one other → AgreesInRoom one other
+  in_room below = record {
+    whole = whole_agrees below;
+    shown = λ events. agrees one other events below;
+    depth = no_deeper (whole_agrees below);
+  }
+
+module _ (L M : Library) (match : LibrariesMatch IsArithmetic L M) (globals : Memory) (inputs : List ℕ) (turns : ℕ) where
+  below_of : (step step' : Step) → StepGoes step → StepGoes step' → StepsBelow 0 IsArithmetic ⊥ (inl refl) step step' → RunsBelow 0 IsArithmetic ⊥ (run_by L step globals inputs turns) (run_by M step' globals inputs turns)
+  below_of step step' goes goes' steps =
       let none : turns + 0 ≡ turns = omega arith in
-      subst (λ n. AgreesUntilBlame (stopped_at events (run_by (library_of c_arith program) step (globals_of program.sections) inputs turns).shown) (stopped_at events (run_by (library_of wrapping program) step' (globals_of program.sections) inputs n).shown)) none (agrees _ _ events (runs_below 0 IsArithmetic ⊥ (inl refl) c_arith wrapping wrapping_keeps program step step' goes goes' steps (globals_of program.sections) inputs turns))
+      subst (λ n. RunsBelow 0 IsArithmetic ⊥ (run_by L step globals inputs turns) (run_by M step' globals inputs n)) none (runs_below 0 IsArithmetic ⊥ (inl refl) L M match step step' goes goes' steps globals inputs turns)
 
-pub wrapping_agrees : WrappingAgrees
-wrapping_agrees program set trace inputs turns events =
-    let roles : Roles = roles_in program.interfaces.main set trace in
-    agree_of program inputs turns events (scripted_step (library_of c_arith program) roles (run_step (library_of c_arith program))) (scripted_step (library_of wrapping program) roles (run_step (library_of wrapping program))) (scripted_goes_on c_arith program roles) (scripted_goes_on wrapping program roles) (scripted_steps 0 IsArithmetic ⊥ (inl refl) c_arith wrapping wrapping_keeps program roles)
+  run_goes : StepGoes (run_step L)
+  run_goes body goes = run_step_goes L body goes (first_goes IsArithmetic L M match)
+
+  run_goes' : StepGoes (run_step M)
+  run_goes' body goes = run_step_goes M body goes (second_goes IsArithmetic L M match)
+
+  pub runs_agree : AgreesInRoom (library_run L globals inputs turns) (library_run M globals inputs turns)
+  runs_agree =
+      in_room _ _ (below_of (run_step L) (run_step M) run_goes run_goes' (run_steps 0 IsArithmetic ⊥ (inl refl) L M match))
+
+  pub scripts_agree : (roles : Roles) → AgreesInRoom (roles_run L globals inputs turns roles) (roles_run M globals inputs turns roles)
+  scripts_agree roles =
+      in_room _ _ (below_of (scripted_step L roles (run_step L)) (scripted_step M roles (run_step M)) (scripted_goes L roles (run_step L) run_goes) (scripted_goes M roles (run_step M) run_goes') (scripted_steps 0 IsArithmetic ⊥ (inl refl) L M match roles))
+
+pub wrapping_matches : (program : ProgramTree) → LibrariesMatch IsArithmetic (library_of c_arith program) (library_of wrapping program)
+wrapping_matches program = program_matches IsArithmetic c_arith wrapping wrapping_keeps program

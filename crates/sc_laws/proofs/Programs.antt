@@ -1,65 +1,71 @@
--- The functions of a program only go on.
-use Rattle.std.proofs.Common.{◌≡◌, ℕ, Option, Some, None, refl, subst}
+-- A program under two arithmetics, of which the second gives what the first does or the first blames: what its functions do matches.
+use Rattle.std.proofs.Common.{ℕ, zero, suc, List, [], ◌∷◌, map, length, refl}
+use Rattle.std.specs.Prelude.{◌&&◌, ◌==◌, slice_get, slice_index_or, is_some, bytes_eq}
 use Rattle.sc_core.specs.declared.cause.Cause.{Cause}
+use Rattle.sc_core.specs.declared.section.TypedStruct.{TypedStruct}
+use Rattle.sc_core.specs.declared.section.TypedFunction.{TypedFunction}
+use Rattle.sc_core.specs.declared.section.TypedSection.{TypedSection}
 use Rattle.sc_core.specs.declared.program.ProgramTree.{ProgramTree}
 use Rattle.sc_core.specs.Value.{Arith}
-use Rattle.sc_core.specs.Words.{State, Here, Piece, Calls}
-use Rattle.sc_core.specs.Calls.{Function, function, run_step}
-use Rattle.sc_core.specs.Scripts.{Roles, scripted_step}
-use Rattle.sc_core.specs.Meaning.{library_of}
-use Rattle.sc_laws.specs.Laws.{OnlyGoesOn}
-use Rattle.sc_laws.proofs.Growing.{Goes, CallsGo, FunctionGoes, LibraryGoes, StepGoes, run_step_goes, scripted_goes, within_goes}
-use Rattle.sc_laws.proofs.Twins.{Kept}
-use Rattle.sc_laws.proofs.Expressions.{alike, ArithKeeps}
-use Rattle.sc_laws.proofs.Statements.{KeptAt}
+use Rattle.sc_core.specs.Calls.{functions_of}
+use Rattle.sc_core.specs.Meaning.{main_name, closed, function_of, functions_in, library_of}
 use Rattle.sc_laws.specs.Agreement.{Meets}
-use Rattle.sc_laws.proofs.Libraries.{Anywhere, CallsTwins, FunctionTwins, function_twins, program_twins}
+use Rattle.sc_laws.specs.Interactions.{FunctionsMatch, LibrariesMatch, Never, Obedient}
+use Rattle.sc_laws.proofs.Expressions.{alike, ArithKeeps}
+use Rattle.sc_laws.proofs.Interactions.{match_then}
+use Rattle.sc_laws.proofs.Statements.{body_matches, closed_matches}
+
+-- a list of doings, each related to the one at its place
+abbrev pub Each : {A B : Type 0} → (A → B → Type 0) → List A → List B → Type 0
+Each Q [] [] = Unit {0}
+Each Q [] (y ∷ ys) = ⊥
+Each Q (x ∷ xs) [] = ⊥
+Each Q (x ∷ xs) (y ∷ ys) = Q x y × Each Q xs ys
+
+pub meets_at : {A : Type 0} (Q : A → A → Type 0) (xs ys : List A) (i : ℕ) → Each Q xs ys → Meets Q (slice_get xs i) (slice_get ys i)
+meets_at Q [] [] i h = tt
+meets_at Q [] (y ∷ ys) i h = absurd h
+meets_at Q (x ∷ xs) [] i h = absurd h
+meets_at Q (x ∷ xs) (y ∷ ys) zero h = h.0
+meets_at Q (x ∷ xs) (y ∷ ys) (suc i) h = meets_at Q xs ys i h.1
+
+lists_at : {A : Type 0} (Q : A → A → Type 0) (xss yss : List (List A)) (i : ℕ) → Each (Each Q) xss yss → Each Q (slice_index_or xss i []) (slice_index_or yss i [])
+lists_at Q [] [] i h = tt
+lists_at Q [] (y ∷ ys) i h = absurd h
+lists_at Q (x ∷ xs) [] i h = absurd h
+lists_at Q (x ∷ xs) (y ∷ ys) zero h = h.0
+lists_at Q (x ∷ xs) (y ∷ ys) (suc i) h = lists_at Q xs ys i h.1
+
+module _ (Soft : Cause → Type 0) (ar br : Arith) (arith : ArithKeeps Soft ar br) where
+  of_function : (main : ℕ) (structs : List TypedStruct) (f : TypedFunction) → FunctionsMatch Soft (function_of ar main structs f) (function_of br main structs f)
+  of_function main structs f = record {
+    cells = refl;
+    room = refl;
+    does = λ here.
+        match_then Soft here _ _ (λ left by s. closed left.exit (is_some f.result) (here.comp == main && bytes_eq f.name main_name) f.close_line here s) (λ left by s. closed left.exit (is_some f.result) (here.comp == main && bytes_eq f.name main_name) f.close_line here s)
+        (body_matches Soft here ar br arith structs (length f.params) f tt) (λ left. closed_matches Soft here left.exit (is_some f.result) (here.comp == main && bytes_eq f.name main_name) f.close_line);
+  }
+
+  of_functions : (main : ℕ) (structs : List TypedStruct) (fs : List TypedFunction) → Each (FunctionsMatch Soft) (map (function_of ar main structs) fs) (map (function_of br main structs) fs)
+  of_functions main structs [] = tt
+  of_functions main structs (f ∷ fs) = (of_function main structs f, of_functions main structs fs)
+
+  of_sections : (main : ℕ) (sections : List TypedSection) → Each (Each (FunctionsMatch Soft)) (map (functions_in ar main) sections) (map (functions_in br main) sections)
+  of_sections main [] = tt
+  of_sections main (section ∷ sections) =
+      (of_functions main section.structs section.functions, of_sections main sections)
+
+  pub program_matches : (program : ProgramTree) → LibrariesMatch Soft (library_of ar program) (library_of br program)
+  program_matches program = record {
+    interfaces = refl;
+    functions = λ comp number. meets_at (FunctionsMatch Soft) (functions_of (library_of ar program) comp) (functions_of (library_of br program) comp) number
+        (lists_at (FunctionsMatch Soft) (library_of ar program).functions (library_of br program).functions comp (of_sections program.interfaces.main program.sections));
+    entered = λ comp entry. refl;
+  }
 
 -- an arithmetic keeps what it gives itself
 pub itself_keeps : (Soft : Cause → Type 0) (arith : Arith) → ArithKeeps Soft arith arith
 itself_keeps Soft arith = record { binary = λ unsigned o a b. alike refl; negated = λ unsigned a. alike refl }
 
--- no cause
-abbrev pub Never : Cause → Type 0
-Never cause = ⊥
-
--- the relation that says nothing
-abbrev Any : State → State → Type 0
-Any s s' = Unit {0}
-
-abbrev AnyPieces : (V : Type 0) → Piece V → Piece V → Type 0
-AnyPieces V o p = Unit {0}
-
-any_kept : Kept Any AnyPieces
-any_kept =
-    record { reached = λ V v s s' h. tt; after = λ V W s s' o p k l q g g' h h' r x. tt; turned = λ W k l g g' s s' q h. tt }
-
-any_at : (here : Here) → Anywhere here → KeptAt Any AnyPieces Never here
-any_at here good = record { computing = λ V line e e' h s s' q. tt; stored = λ blocks s s' q. tt }
-
-any_calls : (from : ℕ) (C : Calls) → CallsGo C → CallsTwins Any AnyPieces Anywhere from C C
-any_calls from C h target args =
-    record { first = h from target args; second = h from target args; both = λ s s' q. tt }
-
-goes_here : (f g : Option Function) → Meets (FunctionTwins Any AnyPieces Anywhere) f g → (h : Function) → f ≡ Some h → FunctionGoes h
-goes_here None None meets h is = absurd (cc)
-goes_here None (Some g) meets h is = absurd meets
-goes_here (Some f) None meets h is = absurd meets
-goes_here (Some f) (Some g) meets h is = λ C go here.
-    (let same : f ≡ h = cc in subst {A = Function} (λ x. Goes (x.does C here)) same) (meets.does C C here tt (any_calls here.comp C go)).first
-
-pub library_goes : (arith : Arith) (program : ProgramTree) → LibraryGoes (library_of arith program)
-library_goes arith program comp number =
-    goes_here (function (library_of arith program) comp number) (function (library_of arith program) comp number) (function_twins Any AnyPieces Anywhere (library_of arith program) (library_of arith program) (program_twins Any AnyPieces Anywhere Never any_kept any_at arith arith (itself_keeps Never arith) program) comp number)
-
-pub run_goes_on : (arith : Arith) (program : ProgramTree) → StepGoes (run_step (library_of arith program))
-run_goes_on arith program body goes =
-    run_step_goes (library_of arith program) body goes (library_goes arith program)
-
-pub scripted_goes_on : (arith : Arith) (program : ProgramTree) (roles : Roles) → StepGoes (scripted_step (library_of arith program) roles (run_step (library_of arith program)))
-scripted_goes_on arith program roles =
-    scripted_goes (library_of arith program) roles (run_step (library_of arith program)) (run_goes_on arith program)
-
-pub only_goes_on : OnlyGoesOn
-only_goes_on arith program n number here =
-    within_goes (run_step (library_of arith program)) (run_goes_on arith program) n number here
+pub program_obeys : (arith : Arith) (program : ProgramTree) → Obedient (library_of arith program)
+program_obeys arith program = program_matches Never arith arith (itself_keeps Never arith) program

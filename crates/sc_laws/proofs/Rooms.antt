@@ -9,16 +9,23 @@ use Rattle.sc_event.specs.Lookup.{export_at}
 use Rattle.sc_core.specs.declared.cause.Cause.TheVariants.{BadType}
 use Rattle.sc_core.specs.declared.expr.CallTarget.{CallTarget}
 use Rattle.sc_core.specs.declared.expr.CallTarget.TheVariants.{Own, Cross, Input, Output}
-use Rattle.sc_core.specs.declared.run.RunEnd.TheVariants.{Blamed}
+use Rattle.sc_core.specs.declared.run.RunEnd.TheVariants.{Blamed, TurnsOut}
 use Rattle.sc_core.specs.declared.value.Value.{Value}
+use Rattle.sc_core.specs.declared.value.Value.TheVariants.{Word}
+use Rattle.sc_event.specs.declared.row.Row.{Row}
+use Rattle.sc_event.specs.declared.row.Action.{Action}
+use Rattle.sc_event.specs.declared.row.Action.TheVariants as act
+use Rattle.sc_core.specs.Scripts.{Roles, rows_left, is_number, asks, acts, performs, scripted_step}
 use Rattle.sc_core.specs.Memory.{Memory}
 use Rattle.sc_core.specs.Words.{FrameChange, Opened, Closed, State, Here, Piece, Reached, Stopped, and_then, turn, turn_of, tell}
-use Rattle.sc_core.specs.Calls.{Function, Library, Body, function, begun, done, word_in, crossed, crossing, first_word, next_input, may_call, back_own, back_cross, run_in, call_own, call_cross, called, calls, run_step, within}
-use Rattle.sc_core.specs.Meaning.{deepest, library_of, globals_of, first_state, run_to, run_by}
-use Rattle.sc_laws.specs.Laws.{DeepestIsReached, RoomsAreKept}
+use Rattle.sc_core.specs.Calls.{Function, Library, Body, Step, function, begun, done, word_in, crossed, crossing, first_word, next_input, may_call, back_own, back_cross, run_in, call_own, call_cross, called, calls, run_step, within}
+use Rattle.sc_core.specs.Meaning.{deepest, first_state, run_to, run_by}
+use Rattle.sc_laws.specs.Laws.{DeepestIsReached, AreTold, LeavesRooms, KeepsRooms}
 use Rattle.sc_laws.specs.Rooms.{room_after, open_room, AllBefore}
-use Rattle.sc_laws.proofs.Keeping.{Property, Kept, IsKept, then_kept, found_kept, AreOpen}
-use Rattle.sc_laws.proofs.Opening.{library_is_open}
+use Rattle.sc_laws.proofs.Growing.{BodyGoes, StepGoes, calls_go, within_goes}
+use Rattle.sc_laws.specs.Interactions.{Obedient}
+use Rattle.sc_laws.proofs.Matching.{run_goes_on, scripted_goes_on}
+use Rattle.sc_laws.proofs.Keeping.{Property, Kept, IsKept, then_kept, found_kept, function_keeps}
 
 -- LISTS OF CHANGES
 
@@ -74,6 +81,22 @@ deepest_from events comp room (Closed told c less ∷ xs) ys h =
       by true false is h k = cc
       by false before is h k = k
 
+-- more changes get no less deep
+pub deepest_more : (events comp room : ℕ) (xs ys : List FrameChange) → deepest events comp room xs ≤ deepest events comp room (xs ++ ys)
+deepest_more events comp room [] ys = deepest_first events comp room ys
+deepest_more events comp room (Opened told c more ∷ xs) ys =
+    by (c == comp && nat_lt told events) (deepest_more events comp (room + more) xs ys) (deepest_more events comp room xs ys) where
+      by : (b : Bool) → deepest events comp (room + more) xs ≤ deepest events comp (room + more) (xs ++ ys) → deepest events comp room xs ≤ deepest events comp room (xs ++ ys)
+          → (if b then max room (deepest events comp (room + more) xs) else deepest events comp room xs) ≤ (if b then max room (deepest events comp (room + more) (xs ++ ys)) else deepest events comp room (xs ++ ys))
+      by true h k = omega (arith, h)
+      by false h k = k
+deepest_more events comp room (Closed told c less ∷ xs) ys =
+    by (c == comp && nat_lt told events) (deepest_more events comp (room - less) xs ys) (deepest_more events comp room xs ys) where
+      by : (b : Bool) → deepest events comp (room - less) xs ≤ deepest events comp (room - less) (xs ++ ys) → deepest events comp room xs ≤ deepest events comp room (xs ++ ys)
+          → (if b then max room (deepest events comp (room - less) xs) else deepest events comp room xs) ≤ (if b then max room (deepest events comp (room - less) (xs ++ ys)) else deepest events comp room (xs ++ ys))
+      by true h k = omega (arith, h)
+      by false h k = k
+
 pub deepest_is_reached : DeepestIsReached
 deepest_is_reached events comp before after h = deepest_from events comp 0 before after h
 
@@ -96,7 +119,7 @@ turned rooms (suc n) s h = record { after = record { told = h.told; open_ = h.op
 
 is_kept : (rooms : Rooms) (here : Here) → IsKept (noting rooms) here
 is_kept rooms here =
-    record { memory = λ s blocks h. record { told = h.told; open_ = h.open_ }; turned = λ s h. turned rooms s.turns s h; blamed = λ s cause line h. h.told; out = λ s h. h.told }
+    record { memory = λ s blocks h. record { told = h.told; open_ = h.open_ }; turned = λ s h. turned rooms s.turns s h; blamed = λ s cause line h. h.told }
 
 told_noted : (rooms : Rooms) (e : Event) (s : State) → Noted rooms s → Noted rooms (tell e s)
 told_noted rooms e s h =
@@ -164,33 +187,72 @@ module _ (library : Library) (body : Body) (notes : BodyNotes body) (rooms : Roo
     by true = called_notes from target args s h
     by false = record { after = h.told }
 
-module _ (library : Library) (are : AreOpen library) where
-  run_step_notes : (body : Body) → BodyNotes body → BodyNotes (run_step library body)
-  run_step_notes body notes rooms number here s h =
+-- scripts
+module _ (library : Library) (body : Body) (notes : BodyNotes body) (rooms : Rooms) where
+  asks_note : (comp : ℕ) (target : CallTarget) (args : List Value) (s : State) → Noted rooms s → Kept (noting rooms) (asks library body comp target args s)
+  asks_note comp target args s h = by (may_call library comp target args) where
+    by : (b : Bool) → Kept (noting rooms) (if b then calls library body comp target args s else Stopped TurnsOut s)
+    by true = calls_note library body notes rooms comp target args s h
+    by false = record { after = h.told }
+
+  acts_note : (action : Action) (next again : State → Piece (Option Value)) → ((s : State) → Noted rooms s → Kept (noting rooms) (next s)) → ((s : State) → Noted rooms s → Kept (noting rooms) (again s))
+      → (comp : ℕ) (s : State) → Noted rooms s → Kept (noting rooms) (acts library body action next again comp s)
+  acts_note (act.Call to index args) next again n a comp s h =
+      then_kept (noting rooms) (asks library body comp (Cross to index) (map (λ w. Word w) args) s) _ (asks_note comp (Cross to index) (map (λ w. Word w) args) s h) (λ v s h. a s h)
+  acts_note (act.Ret v) next again n a comp s h = record { after = h }
+  acts_note (act.Out w) next again n a comp s h =
+      then_kept (noting rooms) (asks library body comp Output (Word w ∷ []) s) _ (asks_note comp Output (Word w ∷ []) s h) (λ v s h. n s h)
+  acts_note (act.In w) next again n a comp s h =
+      then_kept (noting rooms) (asks library body comp Input [] s) _ (asks_note comp Input [] s h) (λ v s h. n s h)
+  acts_note (act.End w) next again n a comp s h = record { after = h }
+
+  performs_note : (rows : List Row) (number : ℕ) (here : Here) (s : State) → Noted rooms s → Kept (noting rooms) (performs library body rows number here s)
+  performs_note [] number here s h = record { after = h.told }
+  performs_note (row ∷ rest) number here s h = by (performs_note rest number here) (is_number number (library.entered here.comp row.entry)) where
+    by : ((s : State) → Noted rooms s → Kept (noting rooms) (performs library body rest number here s)) → (b : Bool) → Kept (noting rooms) (if b then acts library body row.action (performs library body rest number here) (body number here) here.comp s else Stopped TurnsOut s)
+    by next true = acts_note row.action (performs library body rest number here) (body number here) next (λ s h. notes rooms number here s h) here.comp s h
+    by next false = record { after = h.told }
+
+abbrev StepNotes : Step → Type 0
+StepNotes step = (body : Body) → BodyGoes body → BodyNotes body → BodyNotes (step body)
+
+module _ (library : Library) (obedient : Obedient library) where
+  run_step_notes : (body : Body) → BodyGoes body → BodyNotes body → BodyNotes (run_step library body)
+  run_step_notes body goes notes rooms number here s h =
       found_kept (noting rooms) (function library here.comp number) s (λ f s. f.does (calls library body) here s) h.told (λ f is.
-      (are.function_keeps here.comp number f is).keeps (noting rooms) here (is_kept rooms here) (calls library body) (λ target args s h. calls_note library body notes rooms here.comp target args s h) s h)
+      function_keeps library obedient here.comp number f is (noting rooms) here (is_kept rooms here) (calls library body) (calls_go library body goes) (λ target args s h. calls_note library body notes rooms here.comp target args s h) s h)
 
-  within_notes : (n : ℕ) → BodyNotes (within (run_step library) n)
-  within_notes zero rooms number here s h = record { after = h.told }
-  within_notes (suc n) rooms number here s h = run_step_notes (within (run_step library) n) (within_notes n) rooms number here s h
+  scripted_notes : (roles : Roles) → StepNotes (scripted_step library roles (run_step library))
+  scripted_notes roles body goes notes rooms number here s h = by (roles.scripted here.comp) where
+    by : (b : Bool) → Kept (noting rooms) (if b then performs library body (rows_left roles here.comp s.trace) number here s else run_step library body number here s)
+    by true = performs_note library body notes rooms (rows_left roles here.comp s.trace) number here s h
+    by false = run_step_notes body goes notes rooms number here s h
 
-  run_to_notes : (main : ℕ) (piece : Piece (Option Value)) → Kept (noting (λ c. 0)) piece → AllBefore (suc (length (run_to main piece).shown.trace)) (run_to main piece).frames
-  run_to_notes main (Reached v s) h = (told_noted (λ c. 0) _ s h.after).told
-  run_to_notes main (Stopped end s) h = h.after
+  module _ (step : Step) (goes : StepGoes step) (notes : StepNotes step) where
+    within_notes : (n : ℕ) → BodyNotes (within step n)
+    within_notes zero rooms number here s h = record { after = h.told }
+    within_notes (suc n) rooms number here s h = notes (within step n) (within_goes step goes n) (within_notes n) rooms number here s h
 
-  run_by_notes : (globals : Memory) (inputs : List ℕ) (turns : ℕ) → AllBefore (suc (length (run_by library (run_step library) globals inputs turns).shown.trace)) (run_by library (run_step library) globals inputs turns).frames
-  run_by_notes globals inputs turns =
-      run_to_notes library.interfaces.main _ (found_kept (noting (λ c. 0)) (library.entered library.interfaces.main Main) (first_state globals inputs turns) _ tt (λ number is.
-      own_notes library (within (run_step library) (suc turns)) (within_notes (suc turns)) (λ c. 0) library.interfaces.main number [] (first_state globals inputs turns) (record { told = tt; open_ = λ c. refl })))
+    run_to_notes : (main : ℕ) (piece : Piece (Option Value)) → Kept (noting (λ c. 0)) piece → AreTold (run_to main piece)
+    run_to_notes main (Reached v s) h = (told_noted (λ c. 0) _ s h.after).told
+    run_to_notes main (Stopped end s) h = h.after
 
-reached_noted : (rooms : Rooms) (piece : Piece (Option Value)) (v : Option Value) (t : State) → piece ≡ Reached v t → Kept (noting rooms) piece → Noted rooms t
-reached_noted rooms piece v t is h = (subst (λ p. Kept (noting rooms) p) is h).after
+    run_by_notes : (globals : Memory) (inputs : List ℕ) (turns : ℕ) → AreTold (run_by library step globals inputs turns)
+    run_by_notes globals inputs turns =
+        run_to_notes library.interfaces.main _ (found_kept (noting (λ c. 0)) (library.entered library.interfaces.main Main) (first_state globals inputs turns) _ tt (λ number is.
+        own_notes library (within step (suc turns)) (within_notes (suc turns)) (λ c. 0) library.interfaces.main number [] (first_state globals inputs turns) (record { told = tt; open_ = λ c. refl })))
 
-pub rooms_are_kept : RoomsAreKept
-rooms_are_kept = record {
-  told = λ arithmetic program inputs turns. run_by_notes (library_of arithmetic program) (library_is_open arithmetic program) (globals_of program.sections) inputs turns;
-  returns = λ arithmetic program n comp number args v s t told is.
-      (reached_noted (λ c. open_room c s) (call_own (library_of arithmetic program) (within (run_step (library_of arithmetic program)) n) comp number args s) v t is
-      (own_notes (library_of arithmetic program) (within (run_step (library_of arithmetic program)) n) (within_notes (library_of arithmetic program) (library_is_open arithmetic program) n) (λ c. open_room c s) comp number args s
-      (record { told = told; open_ = λ c. refl }))).open_;
-}
+    leaves_rooms : LeavesRooms library step
+    leaves_rooms n comp number args v s t told is =
+        (reached_noted (λ c. open_room c s) (call_own library (within step n) comp number args s) v t is
+        (own_notes library (within step n) (within_notes n) (λ c. open_room c s) comp number args s (record { told = told; open_ = λ c. refl }))).open_ where
+          reached_noted : (rooms : Rooms) (piece : Piece (Option Value)) (v : Option Value) (t : State) → piece ≡ Reached v t → Kept (noting rooms) piece → Noted rooms t
+          reached_noted rooms piece v t is h = (subst (λ p. Kept (noting rooms) p) is h).after
+
+  pub keeps_rooms : KeepsRooms library
+  keeps_rooms = record {
+    told = run_by_notes (run_step library) (run_goes_on library obedient) run_step_notes;
+    scripted_told = λ globals inputs turns roles. run_by_notes (scripted_step library roles (run_step library)) (scripted_goes_on library obedient roles) (scripted_notes roles) globals inputs turns;
+    returns = leaves_rooms (run_step library) (run_goes_on library obedient) run_step_notes;
+    scripted_returns = λ roles. leaves_rooms (scripted_step library roles (run_step library)) (scripted_goes_on library obedient roles) (scripted_notes roles);
+  }

@@ -1,27 +1,26 @@
--- Whole runs: steps of a program under two arithmetics, and what they come to when they are stopped at a number of events.
+-- Whole runs: steps of two libraries, and what they come to when they are stopped at a number of events.
 use Rattle.std.proofs.Common.{◌≡◌, ℕ, zero, suc, ◌+◌, ◌<◌, ◌≤◌, List, [], ◌∷◌, ◌++◌, length, take, Option, Some, None, refl, sym, ap, ◌∙◌, subst, arith, length-append}
 use Rattle.std.specs.Prelude.{Bool, true, false, if◌then◌else◌, ◌⊎◌}
 use Rattle.sc_event.specs.declared.event.Event.{Event}
 use Rattle.sc_event.specs.declared.event.Event.TheVariants.{End}
 use Rattle.sc_event.specs.declared.row.Entry.TheVariants.{Main}
 use Rattle.sc_core.specs.declared.cause.Cause.{Cause}
-use Rattle.sc_core.specs.declared.program.ProgramTree.{ProgramTree}
 use Rattle.sc_core.specs.declared.run.RunEnd.{RunEnd}
 use Rattle.sc_core.specs.declared.run.RunEnd.TheVariants.{Ended, Blamed, TurnsOut, EventsOut}
 use Rattle.sc_core.specs.declared.run.SourceRun.{SourceRun}
 use Rattle.sc_core.specs.declared.value.Value.{Value}
 use Rattle.sc_core.specs.Memory.{Memory}
-use Rattle.sc_core.specs.Value.{Arith}
 use Rattle.sc_core.specs.Run.{reaches, stopped_at}
 use Rattle.sc_core.specs.Words.{State, Piece, Reached, Stopped, and_then}
 use Rattle.sc_core.specs.Calls.{Library, Step, found, call_own, run_step, within}
 use Rattle.sc_core.specs.Scripts.{Roles, scripted_step}
-use Rattle.sc_core.specs.Meaning.{library_of, exit_word, run_to, run_by, first_state}
+use Rattle.sc_core.specs.Meaning.{Run, exit_word, run_to, run_by, first_state}
 use Rattle.sc_core.specs.Growth.{Front}
 use Rattle.sc_laws.specs.Growth.{last, IsStop, StopsSo, Gone}
 use Rattle.sc_laws.proofs.Growing.{front_more, StepGoes, then_goes, found_goes, own_goes, within_goes}
-use Rattle.sc_laws.proofs.Expressions.{ArithKeeps}
-use Rattle.sc_laws.proofs.Libraries.{Anywhere, program_twins, entered_same}
+use Rattle.sc_laws.specs.Interactions.{LibrariesMatch}
+use Rattle.sc_laws.proofs.Libraries.{Anywhere}
+use Rattle.sc_laws.proofs.Matching.{library_twins}
 use Rattle.sc_laws.proofs.Below.{richer, richer_piece, Passes, Below, along, passed, Ahead, below_kept, below_at}
 use Rattle.sc_laws.proofs.BelowCalls.{StepsBelow, LibrariesBelow, run_step_below, scripted_below, own_below, within_below}
 use Rattle.std.proofs.lemmas.Bool.{ltb-false, leb-false, le-ltb, lt-leb}
@@ -78,12 +77,12 @@ still_unreached events more_events run EventsOut le is =
 
 -- THE SAME RUN, OR ONE THAT GOES ON
 module _ (d : ℕ) (Soft : Cause → Type 0) (Turns : Type 0) where
-  -- the second run is the first, or goes on where that stopped; where it comes to an end it has more events
-  pub data RunsBelow (x y : SourceRun) : Type 0 where
+  -- the second run is the first, or goes on where that stopped, in its frames too; where it comes to an end it has more events
+  pub data RunsBelow (x y : Run) : Type 0 where
     same_run : y ≡ x → RunsBelow x y
-    goes_past : (end : RunEnd) → x.end ≡ end → IsStop end → Passes d Soft Turns end → Front x.trace y.trace → (y.end ≡ Ended → length x.trace < length y.trace) → RunsBelow x y
+    goes_past : (end : RunEnd) → x.shown.end ≡ end → IsStop end → Passes d Soft Turns end → Front x.shown.trace y.shown.trace → (y.shown.end ≡ Ended → length x.shown.trace < length y.shown.trace) → Front x.frames y.frames → RunsBelow x y
 
-  run_to_same : (main : ℕ) (o : Piece (Option Value)) → (run_to main (richer_piece d o)).shown ≡ (run_to main o).shown
+  run_to_same : (main : ℕ) (o : Piece (Option Value)) → run_to main (richer_piece d o) ≡ run_to main o
   run_to_same main (Reached v s) = refl
   run_to_same main (Stopped end s) = refl
 
@@ -97,23 +96,24 @@ module _ (d : ℕ) (Soft : Cause → Type 0) (Turns : Type 0) where
   past main trace (Stopped TurnsOut s) stop front = (front, λ is. absurd (cc))
   past main trace (Stopped EventsOut s) stop front = absurd stop
 
-  pub run_to_below : (main : ℕ) (o p : Piece (Option Value)) → StopsSo o → StopsSo p → Below d Soft Turns (Option Value) o p → RunsBelow (run_to main o).shown (run_to main p).shown
-  run_to_below main o p stop stop' (along is) = same_run (ap (λ x. (run_to main x).shown) is ∙ run_to_same main o)
-  run_to_below main o p stop stop' (passed end s is passes front) =
+  -- the frames of a run are those of its last state
+  frames_are : (main : ℕ) (p : Piece (Option Value)) → (run_to main p).frames ≡ (last p).frames
+  frames_are main (Reached v s) = refl
+  frames_are main (Stopped end s) = refl
+
+  pub run_to_below : (main : ℕ) (o p : Piece (Option Value)) → StopsSo o → StopsSo p → Below d Soft Turns (Option Value) o p → RunsBelow (run_to main o) (run_to main p)
+  run_to_below main o p stop stop' (along is) = same_run (ap (run_to main) is ∙ run_to_same main o)
+  run_to_below main o p stop stop' (passed end s is passes on) =
       let ends : (run_to main o).shown.trace ≡ s.trace = ap (λ x. (run_to main x).shown.trace) is in
-      let more = past main (run_to main o).shown.trace p stop' (subst (λ x. Front x (last p).trace) (sym ends) front) in
+      let more = past main (run_to main o).shown.trace p stop' (subst (λ x. Front x (last p).trace) (sym ends) on.events) in
+      let frames : (run_to main o).frames ≡ s.frames = ap (λ x. (run_to main x).frames) is in
       goes_past end (ap (λ x. (run_to main x).shown.end) is) (subst StopsSo is stop) passes more.0 more.1
+      (subst (λ x. Front x (run_to main p).frames) (sym frames) (subst (Front s.frames) (sym (frames_are main p)) on.frames))
 
-  module _ (spent : (d ≡ 0) ⊎ Turns) (ar br : Arith) (arithmetic : ArithKeeps Soft ar br) (program : ProgramTree) where
-    abbrev L : Library
-    L = library_of ar program
-
-    abbrev M : Library
-    M = library_of br program
-
+  module _ (spent : (d ≡ 0) ⊎ Turns) (L M : Library) (match : LibrariesMatch Soft L M) where
     pub libraries : (n n' : ℕ) → LibrariesBelow d Soft Turns spent n n' L M
     libraries n n' =
-        program_twins (Ahead d Soft Turns n n') (Below d Soft Turns) Anywhere Soft (below_kept d Soft Turns n n' spent) (λ here good. below_at d Soft Turns n n' spent here) ar br arithmetic program
+        library_twins Soft (Ahead d Soft Turns n n') (Below d Soft Turns) Anywhere (below_kept d Soft Turns n n' spent) (λ here good. below_at d Soft Turns n n' spent here) L M match
 
     pub run_steps : StepsBelow d Soft Turns spent (run_step L) (run_step M)
     run_steps n n' a b goes goes' h = run_step_below d Soft Turns spent n n' a b goes goes' h L M (libraries n n')
@@ -124,23 +124,29 @@ module _ (d : ℕ) (Soft : Cause → Type 0) (Turns : Type 0) where
 
     module _ (step step' : Step) (goes : StepGoes step) (goes' : StepGoes step') (steps : StepsBelow d Soft Turns spent step step') (globals : Memory) (inputs : List ℕ) (turns : ℕ) where
       abbrev main : ℕ
-      main = program.interfaces.main
+      main = L.interfaces.main
 
       abbrev start : State
       start = first_state globals inputs turns
 
-      abbrev first_call : Library → Step → ℕ → ℕ → State → Piece (Option Value)
-      first_call library step turns number s = call_own library (within step (suc turns)) main number [] s
+      abbrev first_call : Library → Step → ℕ → ℕ → ℕ → State → Piece (Option Value)
+      first_call library step turns main number s = call_own library (within step (suc turns)) main number [] s
 
-      begin_below : (number : Option ℕ) → Below d Soft Turns (Option Value) (and_then (found number start) (first_call L step turns)) (and_then (found number (richer d start)) (first_call M step' (turns + d)))
+      -- what the second comes to, where `main` is of this compartment
+      abbrev second_comes : ℕ → Option ℕ → Piece (Option Value)
+      second_comes main number = and_then (found number (richer d start)) (first_call M step' (turns + d) main)
+
+      begin_below : (number : Option ℕ) → Below d Soft Turns (Option Value) (and_then (found number start) (first_call L step turns main)) (second_comes main number)
       begin_below None = along refl
       begin_below (Some number) =
           own_below d Soft Turns spent (suc turns) (suc (turns + d)) (within step (suc turns)) (within step' (suc (turns + d))) (within_goes step goes (suc turns)) (within_goes step' goes' (suc (turns + d))) (within_below d Soft Turns spent step step' goes goes' steps (suc turns) (suc (turns + d))) L M (libraries (suc turns) (suc (turns + d))) main number [] start (omega arith) (omega arith)
 
-      begin_goes : (library : Library) (step : Step) → StepGoes step → (turns : ℕ) (number : Option ℕ) (s : State) → Gone s (and_then (found number s) (first_call library step turns))
-      begin_goes library step goes turns number s =
-          then_goes s (found number s) (first_call library step turns) (found_goes number s) (λ number. own_goes library (within step (suc turns)) (within_goes step goes (suc turns)) main number [])
+      begin_goes : (library : Library) (step : Step) → StepGoes step → (turns main : ℕ) (number : Option ℕ) (s : State) → Gone s (and_then (found number s) (first_call library step turns main))
+      begin_goes library step goes turns main number s =
+          then_goes s (found number s) (first_call library step turns main) (found_goes number s) (λ number. own_goes library (within step (suc turns)) (within_goes step goes (suc turns)) main number [])
 
-      pub runs_below : RunsBelow (run_by L step globals inputs turns).shown (run_by M step' globals inputs (turns + d)).shown
+      pub runs_below : RunsBelow (run_by L step globals inputs turns) (run_by M step' globals inputs (turns + d))
       runs_below =
-          run_to_below main (and_then (found (L.entered main Main) start) (first_call L step turns)) (and_then (found (M.entered main Main) (richer d start)) (first_call M step' (turns + d))) (begin_goes L step goes turns (L.entered main Main) start).stop (begin_goes M step' goes' (turns + d) (M.entered main Main) (richer d start)).stop (subst (λ x. Below d Soft Turns (Option Value) (and_then (found (L.entered main Main) start) (first_call L step turns)) (and_then (found x (richer d start)) (first_call M step' (turns + d)))) (sym (entered_same (Ahead d Soft Turns (suc turns) (suc (turns + d))) (Below d Soft Turns) Anywhere L M (libraries (suc turns) (suc (turns + d))) main Main)) (begin_below (L.entered main Main)))
+          subst (λ i. RunsBelow (run_by L step globals inputs turns) (run_to i.main (second_comes i.main (M.entered i.main Main)))) (sym (libraries (suc turns) (suc (turns + d))).interfaces)
+          (run_to_below main (and_then (found (L.entered main Main) start) (first_call L step turns main)) (second_comes main (M.entered main Main)) (begin_goes L step goes turns main (L.entered main Main) start).stop (begin_goes M step' goes' (turns + d) main (M.entered main Main) (richer d start)).stop
+          (subst (λ x. Below d Soft Turns (Option Value) (and_then (found (L.entered main Main) start) (first_call L step turns main)) (second_comes main x)) (sym ((libraries (suc turns) (suc (turns + d))).entered main Main)) (begin_below (L.entered main Main))))

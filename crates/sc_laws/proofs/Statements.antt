@@ -1,5 +1,5 @@
--- What statements do in two runs is related, where what calls do is, and where the relation keeps what is computed and what is stored.
-use Rattle.std.proofs.Common.{ℕ, suc, List, [], ◌∷◌, map, Option, Some, None, Result, Ok, Err, refl, sym, subst}
+-- What statements do is a tree, and under two arithmetics the trees are alike.
+use Rattle.std.proofs.Common.{◌≡◌, ℕ, suc, List, [], ◌∷◌, map, Option, Some, None, Ok, Err, refl, sym, subst}
 use Rattle.std.specs.Prelude.{Bool, true, false}
 use Rattle.sc_core.specs.declared.cause.Cause.{Cause}
 use Rattle.sc_core.specs.declared.cause.Cause.TheVariants.{NoReturn}
@@ -20,157 +20,159 @@ use Rattle.sc_core.specs.declared.value.Value.{Value}
 use Rattle.sc_core.specs.declared.value.Value.TheVariants.{Word}
 use Rattle.sc_core.specs.declared.value.Want.{Want}
 use Rattle.sc_core.specs.declared.value.Want.TheVariants as want
-use Rattle.sc_core.specs.Memory.{Blocks, store, with_blocks}
+use Rattle.sc_core.specs.Memory.{Blocks}
 use Rattle.sc_core.specs.Value.{Arith}
-use Rattle.sc_core.specs.Words.{State, Here, Piece, computed, Left, Exit, Next, Break, Continue, Return, leave, in_order, loop, choose, Calls}
+use Rattle.sc_core.specs.Words.{Here, Exit, Next, Break, Continue, Return, leave, stored, in_order, all_do, loop, choose, Calls}
 use Rattle.sc_core.specs.Tree.{Ways, Acts, variable_at, at_place, values, given, store_at, assign, test, store_result, call, assign_call, call_alone, ways, simple_does, part_does, kind_step, stmt_step, stmt_does, block_does}
 use Rattle.sc_core.specs.Meaning.{at_brace, closed, init_does, inits_do, body_does}
 use Rattle.sc_core.proofs.Layers.{on_line, layer_of, stmt_at}
-use Rattle.sc_laws.specs.Growth.{Grown}
-use Rattle.sc_laws.proofs.Growing.{same, reached, computed_goes}
-use Rattle.sc_laws.proofs.Twins.{Each, Twins, Kept, reached_twins, then_twins, if_twins, DoTwins, leave_twins, follow_twins, all_twins, loop_twins}
-use Rattle.sc_laws.proofs.Induction.{Every, everywhere, Inside, stmt_induction}
+use Rattle.sc_laws.specs.Interactions.{Doing, Match}
+use Rattle.sc_laws.proofs.Interactions.{MatchWith, match_reached, match_then, match_computed, match_store, match_call, match_if, match_leave, match_follow, match_all, match_loop}
+use Rattle.sc_core.proofs.Induction.{Each, everywhere, Inside, stmt_induction}
 use Rattle.sc_laws.proofs.Expressions.{Keeps, alike, ArithKeeps, ways_keep, values_keep}
 
-module _ (P : State → State → Type 0) (R : (V : Type 0) → Piece V → Piece V → Type 0) (Soft : Cause → Type 0) where
-  -- what a relation must keep in the calls of a compartment: what is computed in its blocks, and that it stores
-  pub record KeptAt (here : Here) : Type 1 where
-    pub computing : (V : Type 0) (line : ℕ) (e e' : Blocks → Result V Cause) → ((blocks : Blocks) → Keeps Soft V (e blocks) (e' blocks)) → (s s' : State) → P s s'
-        → R V (computed here line (e (s.memory here.comp)) s) (computed here line (e' (s'.memory here.comp)) s')
-    pub stored : (blocks : Blocks) (s s' : State) → P s s' → P (record s { memory = with_blocks here.comp blocks s.memory }) (record s' { memory = with_blocks here.comp blocks s'.memory })
+module _ (Soft : Cause → Type 0) (here : Here) where
+  -- statements, by what calls do
+  abbrev ActsMatch : (Calls → Acts) → (Calls → Acts) → Type 0
+  ActsMatch f g = MatchWith Soft here {A = Unit {0}} f g
 
-  module _ (kept : Kept P R) (here : Here) (at : KeptAt here) where
-    pub computed_twins : (V : Type 0) (line : ℕ) (e e' : Blocks → Result V Cause) → ((blocks : Blocks) → Keeps Soft V (e blocks) (e' blocks)) → Twins P R V (λ s. computed here line (e (s.memory here.comp)) s) (λ s. computed here line (e' (s.memory here.comp)) s)
-    computed_twins V line e e' h =
-        record { first = λ s. computed_goes here line (e (s.memory here.comp)) s; second = λ s. computed_goes here line (e' (s.memory here.comp)) s; both = λ s s' p. at.computing V line e e' h s s' p }
+  abbrev WaysMatch : Ways → Ways → Type 0
+  WaysMatch f g = (w : Want) (blocks : Blocks) → Keeps Soft Value (f w blocks) (g w blocks)
 
-    stored_twins : (a : Unit {0}) (blocks : Blocks) → Twins P R (Left (Unit {0})) (λ s. leave Next a (record s { memory = with_blocks here.comp blocks s.memory })) (λ s. leave Next a (record s { memory = with_blocks here.comp blocks s.memory }))
-    stored_twins a blocks =
-        record { first = λ s. reached _ s _ (unseen s blocks); second = λ s. reached _ s _ (unseen s blocks); both = λ s s' p. (leave_twins P R kept (Unit {0}) Next a).both _ _ (at.stored blocks s s' p) } where
-          unseen : (s : State) (blocks : Blocks) → Grown s (record s { memory = with_blocks here.comp blocks s.memory })
-          unseen s blocks = record { events = (same s).events; frames = (same s).frames; turns = (same s).turns }
+  leave_matches : (exit : Exit) → ActsMatch (λ by. leave exit) (λ by. leave exit)
+  leave_matches exit = match_leave Soft here exit
 
-    abbrev ActTwins : Acts → Acts → Type 0
-    ActTwins f g = DoTwins P R kept (Unit {0}) f g
+  given_matches : (w : Want) (e e' : Ways) → WaysMatch e e' → (line : ℕ) → Match Soft here (λ by. given here w e line) (λ by. given here w e' line)
+  given_matches w e e' h line = match_computed Soft here line (e w) (e' w) (h w)
 
-    abbrev WayTwins : Ways → Ways → Type 0
-    WayTwins f g = (w : Want) (blocks : Blocks) → Keeps Soft Value (f w blocks) (g w blocks)
+  store_at_matches : (place place' : Ways) → WaysMatch place place' → (v : Value) (line : ℕ) → ActsMatch (λ by. store_at here place v line) (λ by. store_at here place' v line)
+  store_at_matches place place' h v line a =
+      match_then Soft here _ _ (λ q by. stored here q v line a) (λ q by. stored here q v line a) (given_matches want.Place place place' h line) (λ q. match_store Soft here q v line a)
 
-    given_twins : (w : Want) (e e' : Ways) → WayTwins e e' → (line : ℕ) → Twins P R Value (given here w e line) (given here w e' line)
-    given_twins w e e' h line = computed_twins Value line (e w) (e' w) (h w)
+  assign_matches : (place place' e e' : Ways) → WaysMatch place place' → WaysMatch e e' → (line : ℕ) → ActsMatch (λ by. assign here place e line) (λ by. assign here place' e' line)
+  assign_matches place place' e e' h k line a =
+      match_then Soft here _ _ (λ v by. store_at here place v line a) (λ v by. store_at here place' v line a) (given_matches want.Value e e' k line) (λ v. store_at_matches place place' h v line a)
 
-    store_at_twins : (place place' : Ways) → WayTwins place place' → (v : Value) (line : ℕ) → ActTwins (store_at here place v line) (store_at here place' v line)
-    store_at_twins place place' h v line a =
-        then_twins P R kept Value (Left (Unit {0})) _ _ _ _ (given_twins want.Place place place' h line) (λ q. then_twins P R kept Blocks (Left (Unit {0})) _ _ _ _ (computed_twins Blocks line (λ blocks. store blocks q v) (λ blocks. store blocks q v) (λ blocks. alike refl)) (stored_twins a))
+  choose_matches : {V : Type 0} (v : Value) (f g f' g' : Doing V) → Match Soft here f g → Match Soft here f' g' → Match Soft here (λ by s. choose v (f by s) (f' by s)) (λ by s. choose v (g by s) (g' by s))
+  choose_matches v f g f' g' h k = match_if Soft here _ f g f' g' h k
 
-    assign_twins : (place place' e e' : Ways) → WayTwins place place' → WayTwins e e' → (line : ℕ) → ActTwins (assign here place e line) (assign here place' e' line)
-    assign_twins place place' e e' h k line a =
-        then_twins P R kept Value (Left (Unit {0})) _ _ _ _ (given_twins want.Value e e' k line) (λ v. store_at_twins place place' h v line a)
+  test_matches : (cond cond' : Ways) → WaysMatch cond cond' → (line : ℕ) → ActsMatch (λ by. test here cond line) (λ by. test here cond' line)
+  test_matches cond cond' h line a =
+      match_then Soft here _ _ (λ v by s. choose v (leave Next a s) (leave Break a s)) (λ v by s. choose v (leave Next a s) (leave Break a s)) (given_matches want.Value cond cond' h line) (λ v.
+      choose_matches v (λ by. leave Next a) (λ by. leave Next a) (λ by. leave Break a) (λ by. leave Break a) (leave_matches Next a) (leave_matches Break a))
 
-    choose_twins : (v : Value) (f g f' g' : State → Piece (Left (Unit {0}))) → Twins P R (Left (Unit {0})) f g → Twins P R (Left (Unit {0})) f' g' → Twins P R (Left (Unit {0})) (λ s. choose v (f s) (f' s)) (λ s. choose v (g s) (g' s))
-    choose_twins v f g f' g' h k = if_twins P R kept (Left (Unit {0})) _ f g f' g' h k
+  store_result_matches : (place place' : Ways) → WaysMatch place place' → (result : Option Value) (line : ℕ) → ActsMatch (λ by. store_result here place result line) (λ by. store_result here place' result line)
+  store_result_matches place place' h None line = leave_matches Next
+  store_result_matches place place' h (Some v) line = store_at_matches place place' h v line
 
-    test_twins : (cond cond' : Ways) → WayTwins cond cond' → (line : ℕ) → ActTwins (test here cond line) (test here cond' line)
-    test_twins cond cond' h line a =
-        then_twins P R kept Value (Left (Unit {0})) _ _ _ _ (given_twins want.Value cond cond' h line) (λ v. choose_twins v (leave Next a) (leave Next a) (leave Break a) (leave Break a) (leave_twins P R kept (Unit {0}) Next a) (leave_twins P R kept (Unit {0}) Break a))
+  call_matches : (target : CallTarget) (args args' : List Ways) → ((blocks : Blocks) → Keeps Soft (List Value) (values args blocks) (values args' blocks)) → (line : ℕ) → Match Soft here (λ by. call here by target args line) (λ by. call here by target args' line)
+  call_matches target args args' h line =
+      match_then Soft here _ _ (λ vs by. by here.comp target vs) (λ vs by. by here.comp target vs) (match_computed Soft here line (values args) (values args') h) (λ vs. match_call Soft here target vs)
 
-    store_result_twins : (place place' : Ways) → WayTwins place place' → (result : Option Value) (line : ℕ) → ActTwins (store_result here place result line) (store_result here place' result line)
-    store_result_twins place place' h None line = leave_twins P R kept (Unit {0}) Next
-    store_result_twins place place' h (Some v) line = store_at_twins place place' h v line
+  module _ (ar br : Arith) (arith : ArithKeeps Soft ar br) (structs : List TypedStruct) (params : ℕ) where
+    way_matches : (e : TypedExpr) → WaysMatch (ways ar structs here params e) (ways br structs here params e)
+    way_matches e = ways_keep Soft ar br arith structs here params e
 
-    module _ (C D : Calls) (made : (target : CallTarget) (args : List Value) → Twins P R (Option Value) (C here.comp target args) (D here.comp target args)) where
-      call_twins : (target : CallTarget) (args args' : List Ways) → ((blocks : Blocks) → Keeps Soft (List Value) (values args blocks) (values args' blocks)) → (line : ℕ) → Twins P R (Option Value) (call here C target args line) (call here D target args' line)
-      call_twins target args args' h line =
-          then_twins P R kept (List Value) (Option Value) _ _ _ _ (computed_twins (List Value) line (values args) (values args') h) (λ vs. made target vs)
+    -- arguments and a call with them
+    abbrev args_by : Arith → TypedCall → List Ways
+    args_by arith c = map (ways arith structs here params) c.args
 
-      module _ (ar br : Arith) (arith : ArithKeeps Soft ar br) (structs : List TypedStruct) (params : ℕ) where
-        way_twins : (e : TypedExpr) → WayTwins (ways ar structs here params e) (ways br structs here params e)
-        way_twins e = ways_keep Soft ar br arith structs here params e
+    called_matches : (c : TypedCall) (line : ℕ) → Match Soft here (λ by. call here by c.target (args_by ar c) line) (λ by. call here by c.target (args_by br c) line)
+    called_matches c line =
+        call_matches c.target (args_by ar c) (args_by br c) (values_keep Soft ar br arith structs here params c.args) line
 
-        called_twins : (c : TypedCall) (line : ℕ) → Twins P R (Option Value) (call here C c.target (map (ways ar structs here params) c.args) line) (call here D c.target (map (ways br structs here params) c.args) line)
-        called_twins c line =
-            call_twins c.target (map (ways ar structs here params) c.args) (map (ways br structs here params) c.args) (values_keep Soft ar br arith structs here params c.args) line
+    assign_call_matches : (place : TypedExpr) (c : TypedCall) (line : ℕ) → ActsMatch (λ by. assign_call here by (ways ar structs here params place) c.target (args_by ar c) line) (λ by. assign_call here by (ways br structs here params place) c.target (args_by br c) line)
+    assign_call_matches place c line a =
+        match_then Soft here _ _ (λ result by. store_result here (ways ar structs here params place) result line a) (λ result by. store_result here (ways br structs here params place) result line a)
+        (called_matches c line) (λ result. store_result_matches _ _ (way_matches place) result line a)
 
-        assign_call_twins : (place : TypedExpr) (c : TypedCall) (line : ℕ) → ActTwins (assign_call here C (ways ar structs here params place) c.target (map (ways ar structs here params) c.args) line) (assign_call here D (ways br structs here params place) c.target (map (ways br structs here params) c.args) line)
-        assign_call_twins place c line a =
-            then_twins P R kept (Option Value) (Left (Unit {0})) _ _ _ _ (called_twins c line) (λ result. store_result_twins _ _ (way_twins place) result line a)
+    call_alone_matches : (c : TypedCall) (line : ℕ) → ActsMatch (λ by. call_alone here by c.target (args_by ar c) line) (λ by. call_alone here by c.target (args_by br c) line)
+    call_alone_matches c line a =
+        match_then Soft here _ _ (λ result by. leave Next a) (λ result by. leave Next a) (called_matches c line) (λ result. leave_matches Next a)
 
-        call_alone_twins : (c : TypedCall) (line : ℕ) → ActTwins (call_alone here C c.target (map (ways ar structs here params) c.args) line) (call_alone here D c.target (map (ways br structs here params) c.args) line)
-        call_alone_twins c line a =
-            then_twins P R kept (Option Value) (Left (Unit {0})) _ _ _ _ (called_twins c line) (λ result. leave_twins P R kept (Unit {0}) Next a)
+    simple_matches : (k : TypedSimpleKind) (line : ℕ) → ActsMatch (λ by. simple_does ar structs here params by k line) (λ by. simple_does br structs here params by k line)
+    simple_matches (simple.Assign place e) line = assign_matches _ _ _ _ (way_matches place) (way_matches e) line
+    simple_matches (simple.AssignCall place c) line = assign_call_matches place c line
+    simple_matches (simple.Call c) line = call_alone_matches c line
 
-        simple_twins : (k : TypedSimpleKind) (line : ℕ) → ActTwins (simple_does ar structs here params C k line) (simple_does br structs here params D k line)
-        simple_twins (simple.Assign place e) line = assign_twins _ _ _ _ (way_twins place) (way_twins e) line
-        simple_twins (simple.AssignCall place c) line = assign_call_twins place c line
-        simple_twins (simple.Call c) line = call_alone_twins c line
+    part_matches : (part : Option TypedSimple) → ActsMatch (λ by. part_does ar structs here params by part) (λ by. part_does br structs here params by part)
+    part_matches None = leave_matches Next
+    part_matches (Some s) = simple_matches s.kind s.line
 
-        part_twins : (part : Option TypedSimple) → ActTwins (part_does ar structs here params C part) (part_does br structs here params D part)
-        part_twins None = leave_twins P R kept (Unit {0}) Next
-        part_twins (Some s) = simple_twins s.kind s.line
+    abbrev Both : TypedStmt → Type 0
+    Both stmt = ActsMatch (λ by. stmt_does ar structs here params by stmt) (λ by. stmt_does br structs here params by stmt)
 
-        abbrev Both : TypedStmt → Type 0
-        Both stmt = ActTwins (stmt_does ar structs here params C stmt) (stmt_does br structs here params D stmt)
+    inner : (block : List TypedStmt) → Each Both block → ActsMatch (λ by. block_does ar structs here params by block) (λ by. block_does br structs here params by block)
+    inner block h =
+        match_all Soft here (λ stmt by. stmt_does ar structs here params by stmt) (λ stmt by. stmt_does br structs here params by stmt) block h
 
-        both_each : (block : List TypedStmt) → Every Both block → Each ActTwins (map (stmt_does ar structs here params C) block) (map (stmt_does br structs here params D) block)
-        both_each [] h = tt
-        both_each (stmt ∷ rest) h = (h.0, both_each rest h.1)
+    abbrev layered : Arith → TypedStmtKind-F TypedStmtKind TypedStmt → ℕ → Calls → Acts
+    layered arith k line by = layer_of _ _ (kind_step arith structs here params by) stmt_step k line
 
-        inner : (block : List TypedStmt) → Every Both block → ActTwins (block_does ar structs here params C block) (block_does br structs here params D block)
-        inner block h = all_twins P R kept (Unit {0}) _ _ (both_each block h)
+    abbrev tested : Arith → TypedExpr → ℕ → Calls → Acts
+    tested arith cond line by = test here (ways arith structs here params cond) line
 
-        abbrev layered : Arith → Calls → TypedStmtKind-F TypedStmtKind TypedStmt → ℕ → Acts
-        layered arith by k = layer_of _ _ (kind_step arith structs here params by) stmt_step k
+    looped : (cond : TypedExpr) (line : ℕ) (block : List TypedStmt) → Each Both block → (f g : Calls → Acts) → ActsMatch f g → ActsMatch (λ by. loop (test here (ways ar structs here params cond) line) (block_does ar structs here params by block) (f by)) (λ by. loop (test here (ways br structs here params cond) line) (block_does br structs here params by block) (g by))
+    looped cond line block h f g next =
+        match_loop Soft here (tested ar cond line) (tested br cond line) (λ by. block_does ar structs here params by block) (λ by. block_does br structs here params by block) f g (test_matches _ _ (way_matches cond) line) (inner block h) next
 
-        looped : (cond : TypedExpr) (line : ℕ) (block : List TypedStmt) → Every Both block → (f g : Acts) → ActTwins f g → ActTwins (loop (test here (ways ar structs here params cond) line) (block_does ar structs here params C block) f) (loop (test here (ways br structs here params cond) line) (block_does br structs here params D block) g)
-        looped cond line block h f g next =
-            loop_twins P R kept (Unit {0}) _ _ _ _ f g (test_twins _ _ (way_twins cond) line) (inner block h) next
+    layer_matches : (line : ℕ) (k : TypedStmtKind-F TypedStmtKind TypedStmt) → Inside Both k → ActsMatch (layered ar k line) (layered br k line)
+    layer_matches line layer.Empty h a = leave_matches Next a
+    layer_matches line (layer.Assign place e) h a = assign_matches _ _ _ _ (way_matches place) (way_matches e) line a
+    layer_matches line (layer.AssignCall place c) h a = assign_call_matches place c line a
+    layer_matches line (layer.Call c) h a = call_alone_matches c line a
+    layer_matches line (layer.If cond x y) h a =
+        match_then Soft here _ _
+        (λ v by s. choose v (block_does ar structs here params by x a s) (block_does ar structs here params by y a s)) (λ v by s. choose v (block_does br structs here params by x a s) (block_does br structs here params by y a s))
+        (given_matches want.Value _ _ (way_matches cond) line) (λ v. choose_matches v _ _ _ _ (inner x h.0 a) (inner y h.1 a))
+    layer_matches line (layer.While cond x) h a = looped cond line x h (λ by. leave Next) (λ by. leave Next) (leave_matches Next) a
+    layer_matches line (layer.For first cond next x) h a =
+        match_follow Soft here in_order (λ by. part_does ar structs here params by first a) (λ by. part_does br structs here params by first a) _ _ (part_matches first a)
+        (looped cond line x h (λ by. part_does ar structs here params by next) (λ by. part_does br structs here params by next) (part_matches next))
+    layer_matches line layer.Break h a = leave_matches Break a
+    layer_matches line layer.Continue h a = leave_matches Continue a
+    layer_matches line layer.Return h a = leave_matches (Return None) a
+    layer_matches line (layer.ReturnValue e) h a =
+        match_then Soft here _ _ (λ v by. leave (Return (Some v)) a) (λ v by. leave (Return (Some v)) a) (given_matches want.Value _ _ (way_matches e) line) (λ v. leave_matches (Return (Some v)) a)
+    layer_matches line (layer.ReturnCall c) h a =
+        match_then Soft here _ _ (λ result by. leave (Return result) a) (λ result by. leave (Return result) a) (called_matches c line) (λ result. leave_matches (Return result) a)
 
-        layer_twins : (line : ℕ) (k : TypedStmtKind-F TypedStmtKind TypedStmt) → Inside Both k → ActTwins (layered ar C k line) (layered br D k line)
-        layer_twins line layer.Empty h a = (leave_twins P R kept (Unit {0}) Next) a
-        layer_twins line (layer.Assign place e) h a = (assign_twins _ _ _ _ (way_twins place) (way_twins e) line) a
-        layer_twins line (layer.AssignCall place c) h a = (assign_call_twins place c line) a
-        layer_twins line (layer.Call c) h a = (call_alone_twins c line) a
-        layer_twins line (layer.If cond x y) h a =
-            then_twins P R kept Value (Left (Unit {0})) _ _ _ _ (given_twins want.Value _ _ (way_twins cond) line) (λ v. choose_twins v _ _ _ _ (inner x h.0 a) (inner y h.1 a))
-        layer_twins line (layer.While cond x) h a = (looped cond line x h (leave Next) (leave Next) (leave_twins P R kept (Unit {0}) Next)) a
-        layer_twins line (layer.For first cond next x) h a =
-            follow_twins P R kept (Unit {0}) in_order _ _ _ _ (part_twins first a) (looped cond line x h _ _ (part_twins next))
-        layer_twins line layer.Break h a = (leave_twins P R kept (Unit {0}) Break) a
-        layer_twins line layer.Continue h a = (leave_twins P R kept (Unit {0}) Continue) a
-        layer_twins line layer.Return h a = (leave_twins P R kept (Unit {0}) (Return None)) a
-        layer_twins line (layer.ReturnValue e) h a =
-            then_twins P R kept Value (Left (Unit {0})) _ _ _ _ (given_twins want.Value _ _ (way_twins e) line) (λ v. leave_twins P R kept (Unit {0}) (Return (Some v)) a)
-        layer_twins line (layer.ReturnCall c) h a =
-            then_twins P R kept (Option Value) (Left (Unit {0})) _ _ _ _ (called_twins c line) (λ result. leave_twins P R kept (Unit {0}) (Return result) a)
+    -- a statement does what its layer does
+    layer_is : (arith : Arith) (line : ℕ) (k : TypedStmtKind-F TypedStmtKind TypedStmt) → layered arith k line ≡ (λ by. stmt_does arith structs here params by (on_line line k))
+    layer_is arith line k = λ i by. sym (stmt_at _ _ (kind_step arith structs here params by) stmt_step line k) i
 
-        stmt_twins : (stmt : TypedStmt) → Both stmt
-        stmt_twins =
-            stmt_induction Both (λ line k h. subst (λ x. ActTwins x (stmt_does br structs here params D (on_line line k))) (sym (stmt_at _ _ (kind_step ar structs here params C) stmt_step line k)) (subst (ActTwins (layered ar C k line)) (sym (stmt_at _ _ (kind_step br structs here params D) stmt_step line k)) (layer_twins line k h)))
+    stmt_matches : (stmt : TypedStmt) → Both stmt
+    stmt_matches =
+        stmt_induction Both (λ line k h. subst (λ x. ActsMatch x (λ by. stmt_does br structs here params by (on_line line k))) (layer_is ar line k) (subst (ActsMatch (layered ar k line)) (layer_is br line k) (layer_matches line k h)))
 
-        block_twins : (block : List TypedStmt) → ActTwins (block_does ar structs here params C block) (block_does br structs here params D block)
-        block_twins block = inner block (everywhere Both stmt_twins block)
+    block_matches : (block : List TypedStmt) → ActsMatch (λ by. block_does ar structs here params by block) (λ by. block_does br structs here params by block)
+    block_matches block = inner block (everywhere Both stmt_matches block)
 
-        init_twins : (k : ℕ) (local : TypedLocal) (init : Option TypedExpr) → ActTwins (init_does ar structs here params k local init) (init_does br structs here params k local init)
-        init_twins k local None = leave_twins P R kept (Unit {0}) Next
-        init_twins k local (Some e) =
-            let place : Ways = at_place local.ty (λ blocks. Ok (variable_at here params (Local k))) in
-            assign_twins place place _ _ (λ w blocks. alike refl) (way_twins e) local.line
+    init_matches : (k : ℕ) (local : TypedLocal) (init : Option TypedExpr) → ActsMatch (λ by. init_does ar structs here params k local init) (λ by. init_does br structs here params k local init)
+    init_matches k local None = leave_matches Next
+    init_matches k local (Some e) =
+        let place : Ways = at_place local.ty (λ blocks. Ok (variable_at here params (Local k))) in
+        assign_matches place place _ _ (λ w blocks. alike refl) (way_matches e) local.line
 
-        inits_twins : (k : ℕ) (locals : List TypedLocal) → Each ActTwins (inits_do ar structs here params k locals) (inits_do br structs here params k locals)
-        inits_twins k [] = tt
-        inits_twins k (local ∷ locals) = (init_twins k local local.init, inits_twins (suc k) locals)
+    inits_match : (k : ℕ) (locals : List TypedLocal) → ActsMatch (λ by. all_do (inits_do ar structs here params k locals)) (λ by. all_do (inits_do br structs here params k locals))
+    inits_match k [] a = leave_matches Next a
+    inits_match k (local ∷ locals) a =
+        match_follow Soft here in_order (λ by. init_does ar structs here params k local local.init a) (λ by. init_does br structs here params k local local.init a)
+        (λ by. all_do (inits_do ar structs here params (suc k) locals)) (λ by. all_do (inits_do br structs here params (suc k) locals)) (init_matches k local local.init a) (inits_match (suc k) locals)
 
-        pub body_twins : (f : TypedFunction) → ActTwins (body_does ar structs here params C f) (body_does br structs here params D f)
-        body_twins f a =
-            follow_twins P R kept (Unit {0}) in_order _ _ _ _ (all_twins P R kept (Unit {0}) _ _ (inits_twins 0 f.locals) a) (block_twins f.body)
+    pub body_matches : (f : TypedFunction) → ActsMatch (λ by. body_does ar structs here params by f) (λ by. body_does br structs here params by f)
+    body_matches f a =
+        match_follow Soft here in_order (λ by. all_do (inits_do ar structs here params 0 f.locals) a) (λ by. all_do (inits_do br structs here params 0 f.locals) a)
+        (λ by. block_does ar structs here params by f.body) (λ by. block_does br structs here params by f.body) (inits_match 0 f.locals a) (block_matches f.body)
 
-        brace_twins : (has_result is_main : Bool) (line : ℕ) → Twins P R (Option Value) (at_brace has_result is_main line here) (at_brace has_result is_main line here)
-        brace_twins true true line = reached_twins P R kept (Option Value) (Some (Word 0))
-        brace_twins true false line = computed_twins (Option Value) line (λ blocks. Err NoReturn) (λ blocks. Err NoReturn) (λ blocks. alike refl)
-        brace_twins false is_main line = reached_twins P R kept (Option Value) None
+  brace_matches : (has_result is_main : Bool) (line : ℕ) → Match Soft here (λ by. at_brace has_result is_main line here) (λ by. at_brace has_result is_main line here)
+  brace_matches true true line = match_reached Soft here (Some (Word 0))
+  brace_matches true false line =
+      match_computed Soft here {V = Option Value} line (λ blocks. Err NoReturn) (λ blocks. Err NoReturn) (λ blocks. alike refl)
+  brace_matches false is_main line = match_reached Soft here None
 
-        pub closed_twins : (exit : Exit) (has_result is_main : Bool) (line : ℕ) → Twins P R (Option Value) (closed exit has_result is_main line here) (closed exit has_result is_main line here)
-        closed_twins Next has_result is_main line = brace_twins has_result is_main line
-        closed_twins Break has_result is_main line = brace_twins has_result is_main line
-        closed_twins Continue has_result is_main line = brace_twins has_result is_main line
-        closed_twins (Return v) has_result is_main line = reached_twins P R kept (Option Value) v
+  pub closed_matches : (exit : Exit) (has_result is_main : Bool) (line : ℕ) → Match Soft here (λ by. closed exit has_result is_main line here) (λ by. closed exit has_result is_main line here)
+  closed_matches Next has_result is_main line = brace_matches has_result is_main line
+  closed_matches Break has_result is_main line = brace_matches has_result is_main line
+  closed_matches Continue has_result is_main line = brace_matches has_result is_main line
+  closed_matches (Return v) has_result is_main line = match_reached Soft here v

@@ -50,16 +50,17 @@ pub record IsBlamedOutside (count : ℕ) (set : Set) (run : SourceRun) (trace : 
   pub blamed : run.end ≡ Blamed comp cause line
   pub front : Front run.trace trace
 
-module _ (arith : Arith) (program : ProgramTree) (inputs : List ℕ) (turns : ℕ) (trace : List Event) where
-  -- the run in which a set performs, stopped where it has as many events as the trace
-  abbrev pub performed : Set → SourceRun
-  performed set = scripted_by arith program set trace inputs turns (length trace)
+-- the run in which a set performs its part of a trace, stopped where it has as many events as the trace
+abbrev pub performed : Arith → ProgramTree → List ℕ → ℕ → List Event → Set → SourceRun
+performed arith program inputs turns trace set = scripted_by arith program set trace inputs turns (length trace)
 
+-- by the runs in which sets perform
+module _ (runs : Set → SourceRun) (trace : List Event) where
   -- from this set on, each next run keeps to the trace until it is blamed, and then the blamed compartment performs too;
   -- the last run tells the trace
   abbrev pub IsChain : Set → List Link → Type 0
-  IsChain set [] = (performed set).trace ≡ trace
-  IsChain set (link ∷ links) = IsLink (performed set) trace link × IsChain (with link.comp set) links
+  IsChain set [] = (runs set).trace ≡ trace
+  IsChain set (link ∷ links) = IsLink (runs set) trace link × IsChain (with link.comp set) links
 
 -- the blames come after ever more events, at least so many before the first, and after fewer than this
 abbrev pub IsRising : (least count : ℕ) → List Link → Type 0

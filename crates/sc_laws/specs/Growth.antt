@@ -32,3 +32,7 @@ StopsSo (Stopped end s) = IsStop end
 pub record Gone {V : Type 0} (s : State) (o : Piece V) : Type 0 where
   pub grown : Grown s (last o)
   pub stop : StopsSo o
+
+-- what is done from a state only goes on
+abbrev pub Goes : {V : Type 0} → (State → Piece V) → Type 0
+Goes f = (s : State) → Gone s (f s)

@@ -1,26 +1,42 @@
--- Laws of the meaning.
+-- Laws of the meaning: of every library whose functions are trees of what they do, and so of every program.
 use Rattle.std.specs.Prelude.{◌≡◌, ◌⊎◌, ℕ, suc, ◌<◌, ◌≤◌, ◌++◌, true, false, List, length, Option}
 use Rattle.sc_event.specs.declared.event.Event.{Event}
 use Rattle.sc_core.specs.declared.cause.Cause.{Cause}
 use Rattle.sc_core.specs.declared.program.ProgramTree.{ProgramTree}
 use Rattle.sc_core.specs.declared.run.RunEnd.TheVariants.{Blamed}
-use Rattle.sc_core.specs.Value.{Arith}
+use Rattle.sc_core.specs.declared.run.SourceRun.{SourceRun}
+use Rattle.sc_core.specs.Value.{Arith, c_arith, wrapping}
 use Rattle.sc_core.specs.declared.value.Value.{Value}
+use Rattle.sc_core.specs.Memory.{Memory}
+use Rattle.sc_core.specs.Run.{stopped_at}
 use Rattle.sc_core.specs.Words.{FrameChange, State, Here, Reached}
-use Rattle.sc_core.specs.Calls.{Step, call_own, run_step, within}
-use Rattle.sc_core.specs.Scripts.{Roles, scripted_step}
-use Rattle.sc_core.specs.Meaning.{deepest, library_of, run_of, meaning_by, meaning, wrapped, scripted_by, scripted_meaning, scripted_wrapped}
+use Rattle.sc_core.specs.Calls.{Library, Step, call_own, run_step, within}
+use Rattle.sc_core.specs.Scripts.{Roles, roles_in, scripted_step}
+use Rattle.sc_core.specs.Meaning.{Run, deepest, library_of, run_of, scripted_run_of, meaning_by, meaning, wrapped, scripted_by, scripted_meaning, scripted_wrapped}
 use Rattle.sc_event.specs.Legal.{legal}
 use Rattle.sc_laws.specs.Chains.{Set, IsWithin, nobody, Link, IsBlamedOutside, performed, IsChain, IsRising, AreFresh, Includes, PassesBlame}
 use Rattle.sc_core.specs.Growth.{Front}
+use Rattle.sc_laws.specs.Ends.{IsArithmetic}
 use Rattle.sc_laws.specs.Growth.{Gone}
+use Rattle.sc_laws.specs.Interactions.{LibrariesMatch, Obedient}
 use Rattle.sc_laws.specs.Rooms.{room_after, open_room, AllBefore}
-use Rattle.sc_laws.specs.Steady.{now, ExtendedByMore, AgreesUntilBlame}
+use Rattle.sc_laws.specs.Runs.{library_run, roles_run, performed_by}
+use Rattle.sc_laws.specs.Steady.{now, ExtendedByMore, AgreesInRoom}
 
--- whatever a function of a program does, however many calls may be open in it, it goes on from the state in which it begins
-abbrev pub OnlyGoesOn : Type 0
-OnlyGoesOn = (arith : Arith) (program : ProgramTree) (open_calls number : ℕ) (here : Here) (s : State)
-    → Gone s (within (run_step (library_of arith program)) open_calls number here s)
+-- THE FUNCTIONS OF PROGRAMS
+-- what they do is such trees, and in the arithmetic that wraps the same but for blames for arithmetic
+pub record ProgramsObey : Type 0 where
+  pub itself : (arith : Arith) (program : ProgramTree) → Obedient (library_of arith program)
+  pub wraps : (program : ProgramTree) → LibrariesMatch IsArithmetic (library_of c_arith program) (library_of wrapping program)
+
+-- whatever a function does, however many calls may be open in it, it goes on from the state in which it begins
+abbrev pub GoesOn : Step → Type 0
+GoesOn step = (open_calls number : ℕ) (here : Here) (s : State) → Gone s (within step open_calls number here s)
+
+pub record OnlyGoesOn : Type 0 where
+  pub libraries : (library : Library) → Obedient library → GoesOn (run_step library)
+  pub scripts : (library : Library) → Obedient library → (roles : Roles) → GoesOn (scripted_step library roles (run_step library))
+  pub programs : (arith : Arith) (program : ProgramTree) → GoesOn (run_step (library_of arith program))
 
 -- what functions do is what they do by what functions do
 abbrev pub IsFixed : Step → Type 0
@@ -30,93 +46,151 @@ IsFixed step = (number : ℕ) (here : Here) (s : State) → now step number here
 abbrev pub IsSteady : Step → Type 0
 IsSteady step = (open_calls more_calls number : ℕ) (here : Here) (s : State) → s.turns < open_calls → s.turns < more_calls → within step more_calls number here s ≡ within step open_calls number here s
 
--- so it is of the functions of a program, and where some compartments perform scripts
+-- so it is of the functions of a library, and where some compartments perform scripts
+pub record HasFixedPoint (library : Library) : Type 0 where
+  pub run : IsFixed (run_step library)
+  pub scripted : (roles : Roles) → IsFixed (scripted_step library roles (run_step library))
+  pub run_steady : IsSteady (run_step library)
+  pub scripted_steady : (roles : Roles) → IsSteady (scripted_step library roles (run_step library))
+
 pub record FixedPoint : Type 0 where
-  pub run : (arith : Arith) (program : ProgramTree) → IsFixed (run_step (library_of arith program))
-  pub scripted : (arith : Arith) (program : ProgramTree) (roles : Roles) → IsFixed (scripted_step (library_of arith program) roles (run_step (library_of arith program)))
-  pub run_steady : (arith : Arith) (program : ProgramTree) → IsSteady (run_step (library_of arith program))
-  pub scripted_steady : (arith : Arith) (program : ProgramTree) (roles : Roles) → IsSteady (scripted_step (library_of arith program) roles (run_step (library_of arith program)))
+  pub libraries : (library : Library) → Obedient library → HasFixedPoint library
+  pub programs : (arith : Arith) (program : ProgramTree) → HasFixedPoint (library_of arith program)
 
--- more turns and more events extend a run in which some compartments perform a script
-abbrev pub MoreGoesOn : Type 0
-MoreGoesOn = (arith : Arith) (program : ProgramTree) (set : Set) (trace : List Event) (inputs : List ℕ) → ExtendedByMore (scripted_by arith program set trace inputs)
-
--- the arithmetic that wraps gives the same run up to the first blame for arithmetic, where some compartments perform a script
-abbrev pub WrappingAgrees : Type 0
-WrappingAgrees = (program : ProgramTree) (set : Set) (trace : List Event) (inputs : List ℕ) (turns events : ℕ) → AgreesUntilBlame (scripted_meaning program set trace inputs turns events) (scripted_wrapped program set trace inputs turns events)
-
--- where more compartments perform their parts of a trace that the run tells, it tells the trace too
-abbrev pub MoreMayPerform : Type 0
-MoreMayPerform = (arith : Arith) (program : ProgramTree) (inputs : List ℕ) (turns : ℕ) (trace : List Event) (small large : Set) → IsWithin small large
-    → (performed arith program inputs turns trace small).trace ≡ trace → (performed arith program inputs turns trace large).trace ≡ trace
-
--- a blame that comes while the run keeps to the trace comes in the same run where more compartments perform, unless the blamed one does
-abbrev pub BlameRemains : Type 0
-BlameRemains = (arith : Arith) (program : ProgramTree) (inputs : List ℕ) (turns : ℕ) (trace : List Event) (small large : Set) → IsWithin small large
-    → (comp : ℕ) (cause : Cause) (line : ℕ) → (performed arith program inputs turns trace small).end ≡ Blamed comp cause line → Front (performed arith program inputs turns trace small).trace trace → large comp ≡ false
-    → performed arith program inputs turns trace large ≡ performed arith program inputs turns trace small
-
--- where the blamed compartment performs too, the run passes that point, unless it wants a turn or a row right there
-abbrev pub BlameIsPassed : Type 0
-BlameIsPassed = (arith : Arith) (program : ProgramTree) (inputs : List ℕ) (turns : ℕ) (trace : List Event) (small large : Set) → IsWithin small large
-    → (comp : ℕ) (cause : Cause) (line : ℕ) → (performed arith program inputs turns trace small).end ≡ Blamed comp cause line → Front (performed arith program inputs turns trace small).trace trace → large comp ≡ true
-    → PassesBlame (performed arith program inputs turns trace small) (performed arith program inputs turns trace large)
-
--- of all sets those give the trace that have every compartment of the chain: the compartments of the chain are the least
-abbrev pub ChainIsLeast : Type 0
-ChainIsLeast = (arith : Arith) (program : ProgramTree) (inputs : List ℕ) (turns : ℕ) (trace : List Event) (links : List Link) (set : Set) → IsChain arith program inputs turns trace nobody links
-    → ((performed arith program inputs turns trace set).trace ≡ trace → Includes set links) × (Includes set links → (performed arith program inputs turns trace set).trace ≡ trace)
-
--- what a run shows is allowed by the interfaces, also where compartments perform, whatever their scripts are
-pub record TracesAreLegal : Type 0 where
-  pub meaning : (arith : Arith) (program : ProgramTree) (inputs : List ℕ) (turns events : ℕ) →
-      legal program.interfaces (meaning_by arith program inputs turns events).trace ≡ true
-  pub scripted : (arith : Arith) (program : ProgramTree) (set : Set) (trace : List Event) (inputs : List ℕ) (turns events : ℕ) →
-      legal program.interfaces (scripted_by arith program set trace inputs turns events).trace ≡ true
-
+-- WHOLE RUNS
 -- where no compartment performs, the scripted meaning is the meaning
 pub record EmptySetIsMeaning : Type 0 where
+  pub libraries : (library : Library) (globals : Memory) (trace : List Event) (inputs : List ℕ) (turns : ℕ) →
+      roles_run library globals inputs turns (roles_in library.interfaces.main nobody trace) ≡ library_run library globals inputs turns
   pub meaning : (program : ProgramTree) (trace : List Event) (inputs : List ℕ) (turns events : ℕ) →
       scripted_meaning program nobody trace inputs turns events ≡ meaning program inputs turns events
   pub wrapped : (program : ProgramTree) (trace : List Event) (inputs : List ℕ) (turns events : ℕ) →
       scripted_wrapped program nobody trace inputs turns events ≡ wrapped program inputs turns events
 
--- so with more turns or more events the meaning goes on, and the wrapping one agrees with it up to the first blame for arithmetic
-abbrev pub MeaningGoesOn : Type 0
-MeaningGoesOn = (arith : Arith) (program : ProgramTree) (inputs : List ℕ) → ExtendedByMore (meaning_by arith program inputs)
+-- more turns and more events extend a run in which some compartments perform a script
+pub record MoreGoesOn : Type 0 where
+  pub libraries : (library : Library) → Obedient library → (globals : Memory) (inputs : List ℕ) (roles : Roles) →
+      ExtendedByMore (λ turns events. stopped_at events (roles_run library globals inputs turns roles).shown)
+  pub programs : (arith : Arith) (program : ProgramTree) (set : Set) (trace : List Event) (inputs : List ℕ) →
+      ExtendedByMore (scripted_by arith program set trace inputs)
 
-abbrev pub WrappedAgrees : Type 0
-WrappedAgrees = (program : ProgramTree) (inputs : List ℕ) (turns events : ℕ) →
-    AgreesUntilBlame (meaning program inputs turns events) (wrapped program inputs turns events)
+-- and so the meaning goes on
+pub record MeaningGoesOn : Type 0 where
+  pub libraries : (library : Library) → Obedient library → (globals : Memory) (inputs : List ℕ) →
+      ExtendedByMore (λ turns events. stopped_at events (library_run library globals inputs turns).shown)
+  pub programs : (arith : Arith) (program : ProgramTree) (inputs : List ℕ) → ExtendedByMore (meaning_by arith program inputs)
 
--- no compartment that performs is blamed, whatever trace it performs its part of
-abbrev pub NobodyWhoPerformsIsBlamed : Type 0
-NobodyWhoPerformsIsBlamed = (arith : Arith) (program : ProgramTree) (set : Set) (trace : List Event) (inputs : List ℕ) (turns events : ℕ) →
-    (comp : ℕ) (cause : Cause) (line : ℕ) → (scripted_by arith program set trace inputs turns events).end ≡ Blamed comp cause line → set comp ≡ false
+-- the arithmetic that wraps gives the same run up to the first blame for arithmetic, where some compartments perform a script,
+-- and no compartment gets less deep
+pub record WrappingAgrees : Type 0 where
+  pub libraries : (library other : Library) → LibrariesMatch IsArithmetic library other → (globals : Memory) (inputs : List ℕ) (turns : ℕ) (roles : Roles) →
+      AgreesInRoom (roles_run library globals inputs turns roles) (roles_run other globals inputs turns roles)
+  pub programs : (program : ProgramTree) (set : Set) (trace : List Event) (inputs : List ℕ) (turns : ℕ) →
+      AgreesInRoom (scripted_run_of c_arith program inputs turns set trace) (scripted_run_of wrapping program inputs turns set trace)
 
--- the links of a chain come after ever more events of the trace, all before its end, and their compartments differ
+-- and so the wrapping meaning agrees with the meaning
+pub record WrappedAgrees : Type 0 where
+  pub libraries : (library other : Library) → LibrariesMatch IsArithmetic library other → (globals : Memory) (inputs : List ℕ) (turns : ℕ) →
+      AgreesInRoom (library_run library globals inputs turns) (library_run other globals inputs turns)
+  pub programs : (program : ProgramTree) (inputs : List ℕ) (turns : ℕ) →
+      AgreesInRoom (run_of c_arith program inputs turns) (run_of wrapping program inputs turns)
+
+-- what a run shows is allowed by the interfaces, also where compartments perform, whatever their scripts are
+pub record TracesAreLegal : Type 0 where
+  pub libraries : (library : Library) → Obedient library → (globals : Memory) (inputs : List ℕ) (turns events : ℕ) →
+      legal library.interfaces (stopped_at events (library_run library globals inputs turns).shown).trace ≡ true
+  pub scripts : (library : Library) → Obedient library → (globals : Memory) (inputs : List ℕ) (turns events : ℕ) (roles : Roles) →
+      legal library.interfaces (stopped_at events (roles_run library globals inputs turns roles).shown).trace ≡ true
+  pub meaning : (arith : Arith) (program : ProgramTree) (inputs : List ℕ) (turns events : ℕ) →
+      legal program.interfaces (meaning_by arith program inputs turns events).trace ≡ true
+  pub scripted : (arith : Arith) (program : ProgramTree) (set : Set) (trace : List Event) (inputs : List ℕ) (turns events : ℕ) →
+      legal program.interfaces (scripted_by arith program set trace inputs turns events).trace ≡ true
+
+-- no compartment that performs is blamed, whatever rows it performs
+pub record NobodyWhoPerformsIsBlamed : Type 0 where
+  pub libraries : (library : Library) → Obedient library → (globals : Memory) (inputs : List ℕ) (turns events : ℕ) (roles : Roles) →
+      (comp : ℕ) (cause : Cause) (line : ℕ) → (stopped_at events (roles_run library globals inputs turns roles).shown).end ≡ Blamed comp cause line → roles.scripted comp ≡ false
+  pub programs : (arith : Arith) (program : ProgramTree) (set : Set) (trace : List Event) (inputs : List ℕ) (turns events : ℕ) →
+      (comp : ℕ) (cause : Cause) (line : ℕ) → (scripted_by arith program set trace inputs turns events).end ≡ Blamed comp cause line → set comp ≡ false
+
+-- SETS THAT PERFORM THEIR PARTS OF A TRACE
+-- what holds of the runs in which sets perform: of every library that obeys, and so of every program
+pub record HoldsOfSets (law : List Event → (Set → SourceRun) → Type 0) : Type 0 where
+  pub libraries : (library : Library) → Obedient library → (globals : Memory) (inputs : List ℕ) (turns : ℕ) (trace : List Event) →
+      law trace (performed_by library globals inputs turns trace)
+  pub programs : (arith : Arith) (program : ProgramTree) (inputs : List ℕ) (turns : ℕ) (trace : List Event) →
+      law trace (performed arith program inputs turns trace)
+
+module _ (trace : List Event) (runs : Set → SourceRun) where
+  -- where more compartments perform their parts of a trace that the run tells, it tells the trace too
+  abbrev pub TellsWithMore : Type 0
+  TellsWithMore = (small large : Set) → IsWithin small large → (runs small).trace ≡ trace → (runs large).trace ≡ trace
+
+  -- a blame that comes while the run keeps to the trace comes in the same run where more compartments perform, unless the blamed one does
+  abbrev pub KeepsBlames : Type 0
+  KeepsBlames = (small large : Set) → IsWithin small large → (comp : ℕ) (cause : Cause) (line : ℕ) →
+      (runs small).end ≡ Blamed comp cause line → Front (runs small).trace trace → large comp ≡ false → runs large ≡ runs small
+
+  -- where the blamed compartment performs too, the run passes that point, unless it wants a turn or a row right there
+  abbrev pub PassesBlames : Type 0
+  PassesBlames = (small large : Set) → IsWithin small large → (comp : ℕ) (cause : Cause) (line : ℕ) →
+      (runs small).end ≡ Blamed comp cause line → Front (runs small).trace trace → large comp ≡ true → PassesBlame (runs small) (runs large)
+
+  -- of all sets those give the trace that have every compartment of the chain: the compartments of the chain are the least
+  abbrev pub LeastIsChain : Type 0
+  LeastIsChain = (links : List Link) (set : Set) → IsChain runs trace nobody links →
+      ((runs set).trace ≡ trace → Includes set links) × (Includes set links → (runs set).trace ≡ trace)
+
+  -- the links of a chain come after ever more events of the trace, all before its end, and their compartments differ
+  abbrev pub ChainRises : Type 0
+  ChainRises = (links : List Link) → IsChain runs trace nobody links → IsRising 0 (length trace) links × AreFresh nobody links
+
+  -- where every set tells the trace or is blamed outside of itself, there is a chain, of at most as many links as compartments
+  abbrev pub HasChain : Type 0
+  HasChain = (count : ℕ) → ((set : Set) → ((runs set).trace ≡ trace) ⊎ IsBlamedOutside count set (runs set) trace) →
+      (links : List Link) × IsChain runs trace nobody links × (length links ≤ count)
+
+abbrev pub MoreMayPerform : Type 0
+MoreMayPerform = HoldsOfSets TellsWithMore
+
+abbrev pub BlameRemains : Type 0
+BlameRemains = HoldsOfSets KeepsBlames
+
+abbrev pub BlameIsPassed : Type 0
+BlameIsPassed = HoldsOfSets PassesBlames
+
+abbrev pub ChainIsLeast : Type 0
+ChainIsLeast = HoldsOfSets LeastIsChain
+
 abbrev pub ChainsRise : Type 0
-ChainsRise = (arith : Arith) (program : ProgramTree) (inputs : List ℕ) (turns : ℕ) (trace : List Event) (links : List Link) →
-    IsChain arith program inputs turns trace nobody links → IsRising 0 (length trace) links × AreFresh nobody links
+ChainsRise = HoldsOfSets ChainRises
 
--- where every set tells the trace or is blamed outside of itself, there is a chain, of at most as many links as compartments
 abbrev pub ChainExists : Type 0
-ChainExists = (arith : Arith) (program : ProgramTree) (inputs : List ℕ) (turns count : ℕ) (trace : List Event) →
-    ((set : Set) → ((performed arith program inputs turns trace set).trace ≡ trace)
-    ⊎ IsBlamedOutside count set (performed arith program inputs turns trace set) trace) →
-    (links : List Link) × IsChain arith program inputs turns trace nobody links × (length links ≤ count)
+ChainExists = HoldsOfSets HasChain
 
+-- ROOM
 -- the deepest room is at least the room that is open at any moment before the cut
 abbrev pub DeepestIsReached : Type 0
 DeepestIsReached = (events comp : ℕ) (before after : List FrameChange) → AllBefore events before →
     room_after comp 0 before ≤ deepest events comp 0 (before ++ after)
 
--- what a call of a function of a program notes: each change is of a moment within the trace, and a call that returns leaves the
--- room of every compartment as it was
+-- each change of frames is of a moment within the trace
+abbrev pub AreTold : Run → Type 0
+AreTold run = AllBefore (suc (length run.shown.trace)) run.frames
+
+-- a call that returns leaves the room of every compartment as it was
+abbrev pub LeavesRooms : Library → Step → Type 0
+LeavesRooms library step = (open_calls comp number : ℕ) (args : List Value) (v : Option Value) (s t : State) →
+    AllBefore (suc (length s.trace)) s.frames → call_own library (within step open_calls) comp number args s ≡ Reached v t →
+    (c : ℕ) → open_room c t ≡ open_room c s
+
+-- so it is of the functions of a library, and where some compartments perform
+pub record KeepsRooms (library : Library) : Type 0 where
+  pub told : (globals : Memory) (inputs : List ℕ) (turns : ℕ) → AreTold (library_run library globals inputs turns)
+  pub scripted_told : (globals : Memory) (inputs : List ℕ) (turns : ℕ) (roles : Roles) → AreTold (roles_run library globals inputs turns roles)
+  pub returns : LeavesRooms library (run_step library)
+  pub scripted_returns : (roles : Roles) → LeavesRooms library (scripted_step library roles (run_step library))
+
 pub record RoomsAreKept : Type 0 where
-  pub told : (arith : Arith) (program : ProgramTree) (inputs : List ℕ) (turns : ℕ) →
-      AllBefore (suc (length (run_of arith program inputs turns).shown.trace)) (run_of arith program inputs turns).frames
-  pub returns : (arith : Arith) (program : ProgramTree) (open_calls comp number : ℕ) (args : List Value) (v : Option Value) (s t : State) →
-      AllBefore (suc (length s.trace)) s.frames →
-      call_own (library_of arith program) (within (run_step (library_of arith program)) open_calls) comp number args s ≡ Reached v t →
-      (c : ℕ) → open_room c t ≡ open_room c s
+  pub libraries : (library : Library) → Obedient library → KeepsRooms library
+  pub programs : (arith : Arith) (program : ProgramTree) → KeepsRooms (library_of arith program)

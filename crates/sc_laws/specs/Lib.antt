@@ -2,6 +2,9 @@ pub mod Agreement
 pub mod Chains
 pub mod Ends
 pub mod Growth
+pub mod Interactions
 pub mod Laws
 pub mod Rooms
+pub mod Runs
 pub mod Steady
+pub mod Turns

@@ -3,7 +3,9 @@ use Rattle.std.specs.Prelude.{◌≡◌, ℕ, suc, ◌≤◌}
 use Rattle.sc_core.specs.declared.cause.Cause.{Cause}
 use Rattle.sc_core.specs.declared.run.RunEnd.TheVariants.{Blamed}
 use Rattle.sc_core.specs.declared.run.SourceRun.{SourceRun}
+use Rattle.sc_core.specs.Run.{stopped_at}
 use Rattle.sc_core.specs.Calls.{Body, Step, within}
+use Rattle.sc_core.specs.Meaning.{Run, depth_in}
 use Rattle.sc_laws.specs.Ends.{IsFinal, IsArithmetic}
 use Rattle.sc_core.specs.Growth.{Front}
 
@@ -24,3 +26,15 @@ ExtendedByMore run = (turns more_turns events more_events : ℕ) → turns ≤ m
 pub data AgreesUntilBlame (run other : SourceRun) : Type 0 where
   same : other ≡ run → AgreesUntilBlame run other
   blamed : (comp : ℕ) (cause : Cause) (line : ℕ) → run.end ≡ Blamed comp cause line → IsArithmetic cause → Front run.trace other.trace → AgreesUntilBlame run other
+
+-- the same of whole runs: the second is the first, or the first was blamed for arithmetic, and the second goes on in its events and its frames
+pub data RunsUntilBlame (run other : Run) : Type 0 where
+  same_run : other ≡ run → RunsUntilBlame run other
+  blamed_run : (comp : ℕ) (cause : Cause) (line : ℕ) → run.shown.end ≡ Blamed comp cause line → IsArithmetic cause →
+      Front run.shown.trace other.shown.trace → Front run.frames other.frames → RunsUntilBlame run other
+
+-- so they agree wherever they are stopped, and no compartment gets deeper in the first
+pub record AgreesInRoom (run other : Run) : Type 0 where
+  pub whole : RunsUntilBlame run other
+  pub shown : (events : ℕ) → AgreesUntilBlame (stopped_at events run.shown) (stopped_at events other.shown)
+  pub depth : (events comp : ℕ) → depth_in run events comp ≤ depth_in other events comp

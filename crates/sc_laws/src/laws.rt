@@ -1,7 +1,14 @@
 // Laws of the meaning, each the contract of a function with nothing to do.
 
-ghost use Rattle.sc_laws.specs.Laws.{ChainExists, ChainsRise, BlameIsPassed, BlameRemains, FixedPoint, ChainIsLeast, DeepestIsReached, MoreGoesOn, MoreMayPerform, OnlyGoesOn, RoomsAreKept, WrappingAgrees, EmptySetIsMeaning, MeaningGoesOn, NobodyWhoPerformsIsBlamed, TracesAreLegal, WrappedAgrees};
+ghost use Rattle.sc_laws.specs.Laws.{ChainExists, ChainsRise, BlameIsPassed, BlameRemains, FixedPoint, ChainIsLeast, DeepestIsReached, MoreGoesOn, MoreMayPerform, OnlyGoesOn, ProgramsObey, RoomsAreKept, WrappingAgrees, EmptySetIsMeaning, MeaningGoesOn, NobodyWhoPerformsIsBlamed, TracesAreLegal, WrappedAgrees};
+ghost use Rattle.sc_laws.specs.Turns.{TurnsOutMeansTurns};
 ghost use Rattle.sc_laws.specs.Agreement.{AgreeingRunAlike};
+
+/// What the functions of a program do is a tree: what is given or blamed, what the blocks of the compartment decide, and what comes
+/// after new blocks, after a turn and after a call. Libraries of such functions have all laws.
+pub fn programs_obey()
+    ensures { ProgramsObey }
+{}
 
 /// Whatever a function does, events are appended to those that were told, no turn comes back, and it stops the run for
 /// a blame or for want of turns alone.
@@ -91,6 +98,11 @@ pub fn deepest_is_reached()
 /// Each change of frames is of a moment within the trace, and a call that returns leaves the open room as it was.
 pub fn rooms_are_kept()
     ensures { RoomsAreKept }
+{}
+
+/// A run that ends for want of turns has none left, where `main` is there.
+pub fn turns_out_means_turns()
+    ensures { TurnsOutMeansTurns }
 {}
 
 /// Two libraries whose functions agree, one by one, up to the lines of blames show the same up to that line and take the

@@ -1,4 +1,4 @@
-use Rattle.sc_laws.proofs.FollowingRuns.{blame_is_passed}
+use Rattle.sc_laws.proofs.ProgramLaws.{blame_is_passed}
 use Rattle.sc_laws.proofs.laws.blame_is_passed.Goals as goal
 
 pub returns : goal.returns

@@ -1,4 +1,4 @@
-use Rattle.sc_laws.proofs.FollowingRuns.{blame_remains}
+use Rattle.sc_laws.proofs.ProgramLaws.{blame_remains}
 use Rattle.sc_laws.proofs.laws.blame_remains.Goals as goal
 
 pub returns : goal.returns

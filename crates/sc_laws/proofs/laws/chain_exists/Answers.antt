@@ -1,4 +1,4 @@
-use Rattle.sc_laws.proofs.Chaining.{chain_exists}
+use Rattle.sc_laws.proofs.ProgramLaws.{chain_exists}
 use Rattle.sc_laws.proofs.laws.chain_exists.Goals as goal
 
 pub returns : goal.returns

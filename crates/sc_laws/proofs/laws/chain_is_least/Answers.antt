@@ -1,4 +1,4 @@
-use Rattle.sc_laws.proofs.FollowingRuns.{chain_is_least}
+use Rattle.sc_laws.proofs.ProgramLaws.{chain_is_least}
 use Rattle.sc_laws.proofs.laws.chain_is_least.Goals as goal
 
 pub returns : goal.returns

@@ -1,4 +1,4 @@
-use Rattle.sc_laws.proofs.Chaining.{chains_rise}
+use Rattle.sc_laws.proofs.ProgramLaws.{chains_rise}
 use Rattle.sc_laws.proofs.laws.chains_rise.Goals as goal
 
 pub returns : goal.returns

@@ -1,4 +1,4 @@
-use Rattle.sc_laws.proofs.Sets.{empty_set}
+use Rattle.sc_laws.proofs.ProgramLaws.{empty_set}
 use Rattle.sc_laws.proofs.laws.empty_set_is_meaning.Goals as goal
 
 pub returns : goal.returns

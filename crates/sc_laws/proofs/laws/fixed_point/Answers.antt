@@ -1,4 +1,4 @@
-use Rattle.sc_laws.proofs.Fixed.{fixed_point}
+use Rattle.sc_laws.proofs.ProgramLaws.{fixed_point}
 use Rattle.sc_laws.proofs.laws.fixed_point.Goals as goal
 
 pub returns : goal.returns

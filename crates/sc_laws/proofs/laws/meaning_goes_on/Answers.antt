@@ -1,4 +1,4 @@
-use Rattle.sc_laws.proofs.Sets.{meaning_goes_on}
+use Rattle.sc_laws.proofs.ProgramLaws.{meaning_goes_on}
 use Rattle.sc_laws.proofs.laws.meaning_goes_on.Goals as goal
 
 pub returns : goal.returns

@@ -1,4 +1,4 @@
-use Rattle.sc_laws.proofs.More.{more_goes_on}
+use Rattle.sc_laws.proofs.ProgramLaws.{more_goes_on}
 use Rattle.sc_laws.proofs.laws.more_goes_on.Goals as goal
 
 pub returns : goal.returns

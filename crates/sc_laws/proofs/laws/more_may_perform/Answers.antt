@@ -1,4 +1,4 @@
-use Rattle.sc_laws.proofs.FollowingRuns.{more_may_perform}
+use Rattle.sc_laws.proofs.ProgramLaws.{more_may_perform}
 use Rattle.sc_laws.proofs.laws.more_may_perform.Goals as goal
 
 pub returns : goal.returns

@@ -1,4 +1,4 @@
-use Rattle.sc_laws.proofs.Rooms.{rooms_are_kept}
+use Rattle.sc_laws.proofs.ProgramLaws.{rooms_are_kept}
 use Rattle.sc_laws.proofs.laws.rooms_are_kept.Goals as goal
 
 pub returns : goal.returns

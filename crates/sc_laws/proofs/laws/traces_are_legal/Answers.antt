@@ -1,4 +1,4 @@
-use Rattle.sc_laws.proofs.Legality.{traces_are_legal}
+use Rattle.sc_laws.proofs.ProgramLaws.{traces_are_legal}
 use Rattle.sc_laws.proofs.laws.traces_are_legal.Goals as goal
 
 pub returns : goal.returns

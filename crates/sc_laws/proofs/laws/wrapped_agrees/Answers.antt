@@ -1,4 +1,4 @@
-use Rattle.sc_laws.proofs.Sets.{wrapped_agrees}
+use Rattle.sc_laws.proofs.ProgramLaws.{wrapped_agrees}
 use Rattle.sc_laws.proofs.laws.wrapped_agrees.Goals as goal
 
 pub returns : goal.returns

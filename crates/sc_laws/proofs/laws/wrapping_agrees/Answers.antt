@@ -1,4 +1,4 @@
-use Rattle.sc_laws.proofs.More.{wrapping_agrees}
+use Rattle.sc_laws.proofs.ProgramLaws.{wrapping_agrees}
 use Rattle.sc_laws.proofs.laws.wrapping_agrees.Goals as goal
 
 pub returns : goal.returns

@@ -1,0 +1,123 @@
+-- The laws: of every library that obeys, and so of every program.
+use Rattle.std.proofs.Common.{ℕ, List, refl}
+use Rattle.sc_event.specs.declared.event.Event.{Event}
+use Rattle.sc_core.specs.declared.run.SourceRun.{SourceRun}
+use Rattle.sc_core.specs.Memory.{Memory}
+use Rattle.sc_core.specs.Value.{c_arith, wrapping}
+use Rattle.sc_core.specs.Calls.{Library, run_step}
+use Rattle.sc_core.specs.Scripts.{roles_in, scripted_step}
+use Rattle.sc_core.specs.Meaning.{library_of, globals_of}
+use Rattle.sc_laws.specs.Chains.{Set}
+use Rattle.sc_laws.specs.Interactions.{Obedient}
+use Rattle.sc_laws.specs.Runs.{performed_by}
+use Rattle.sc_laws.specs.Laws.{ProgramsObey, OnlyGoesOn, FixedPoint, EmptySetIsMeaning, MoreGoesOn, MeaningGoesOn, WrappingAgrees, WrappedAgrees, TracesAreLegal, NobodyWhoPerformsIsBlamed, HoldsOfSets, MoreMayPerform, BlameRemains, BlameIsPassed, ChainIsLeast, ChainsRise, ChainExists, RoomsAreKept}
+use Rattle.sc_laws.proofs.Growing.{within_goes}
+use Rattle.sc_laws.proofs.Matching.{run_goes_on, scripted_goes_on}
+use Rattle.sc_laws.proofs.Programs.{program_obeys}
+use Rattle.sc_laws.proofs.Fixed.{has_fixed_point}
+use Rattle.sc_laws.proofs.More.{more_runs, more_scripted, runs_agree, scripts_agree, wrapping_matches}
+use Rattle.sc_laws.proofs.Legality.{runs_legal, scripts_legal}
+use Rattle.sc_laws.proofs.Blames.{nobody_is_blamed}
+use Rattle.sc_laws.proofs.FollowingRuns.{tells_with_more, keeps_blames, passes_blames, least_is_chain}
+use Rattle.sc_laws.proofs.Chaining.{chain_rises, has_chain}
+use Rattle.sc_laws.proofs.Rooms.{keeps_rooms}
+use Rattle.sc_laws.specs.Turns.{TurnsOutMeansTurns}
+use Rattle.sc_laws.proofs.Turns.{spends_turns}
+
+pub programs_obey : ProgramsObey
+programs_obey = record { itself = program_obeys; wraps = wrapping_matches }
+
+pub only_goes_on : OnlyGoesOn
+only_goes_on = record {
+  libraries = λ library obedient n number here. within_goes (run_step library) (run_goes_on library obedient) n number here;
+  scripts = λ library obedient roles n number here. within_goes (scripted_step library roles (run_step library)) (scripted_goes_on library obedient roles) n number here;
+  programs = λ arith program n number here. within_goes (run_step (library_of arith program)) (run_goes_on (library_of arith program) (program_obeys arith program)) n number here;
+}
+
+pub fixed_point : FixedPoint
+fixed_point = record {
+  libraries = has_fixed_point;
+  programs = λ arith program. has_fixed_point (library_of arith program) (program_obeys arith program);
+}
+
+pub empty_set : EmptySetIsMeaning
+empty_set = record {
+  libraries = λ library globals trace inputs turns. refl;
+  meaning = λ program trace inputs turns events. refl;
+  wrapped = λ program trace inputs turns events. refl;
+}
+
+pub more_goes_on : MoreGoesOn
+more_goes_on = record {
+  libraries = more_scripted;
+  programs = λ arith program set trace inputs. more_scripted (library_of arith program) (program_obeys arith program) (globals_of program.sections) inputs (roles_in program.interfaces.main set trace);
+}
+
+pub meaning_goes_on : MeaningGoesOn
+meaning_goes_on = record {
+  libraries = more_runs;
+  programs = λ arith program inputs. more_runs (library_of arith program) (program_obeys arith program) (globals_of program.sections) inputs;
+}
+
+pub wrapping_agrees : WrappingAgrees
+wrapping_agrees = record {
+  libraries = scripts_agree;
+  programs = λ program set trace inputs turns. scripts_agree (library_of c_arith program) (library_of wrapping program) (wrapping_matches program) (globals_of program.sections) inputs turns (roles_in program.interfaces.main set trace);
+}
+
+pub wrapped_agrees : WrappedAgrees
+wrapped_agrees = record {
+  libraries = runs_agree;
+  programs = λ program inputs turns. runs_agree (library_of c_arith program) (library_of wrapping program) (wrapping_matches program) (globals_of program.sections) inputs turns;
+}
+
+pub traces_are_legal : TracesAreLegal
+traces_are_legal = record {
+  libraries = runs_legal;
+  scripts = scripts_legal;
+  meaning = λ arith program inputs turns events. runs_legal (library_of arith program) (program_obeys arith program) (globals_of program.sections) inputs turns events;
+  scripted = λ arith program set trace inputs turns events. scripts_legal (library_of arith program) (program_obeys arith program) (globals_of program.sections) inputs turns events (roles_in program.interfaces.main set trace);
+}
+
+pub nobody_who_performs_is_blamed : NobodyWhoPerformsIsBlamed
+nobody_who_performs_is_blamed = record {
+  libraries = nobody_is_blamed;
+  programs = λ arith program set trace inputs turns events. nobody_is_blamed (library_of arith program) (program_obeys arith program) (globals_of program.sections) inputs turns events (roles_in program.interfaces.main set trace);
+}
+
+-- what holds of libraries that obey holds of programs
+of_sets : (law : List Event → (Set → SourceRun) → Type 0) → ((library : Library) → Obedient library → (globals : Memory) (inputs : List ℕ) (turns : ℕ) (trace : List Event) → law trace (performed_by library globals inputs turns trace)) → HoldsOfSets law
+of_sets law holds = record {
+  libraries = holds;
+  programs = λ arith program inputs turns trace. holds (library_of arith program) (program_obeys arith program) (globals_of program.sections) inputs turns trace;
+}
+
+pub more_may_perform : MoreMayPerform
+more_may_perform = of_sets _ tells_with_more
+
+pub blame_remains : BlameRemains
+blame_remains = of_sets _ keeps_blames
+
+pub blame_is_passed : BlameIsPassed
+blame_is_passed = of_sets _ passes_blames
+
+pub chain_is_least : ChainIsLeast
+chain_is_least = of_sets _ least_is_chain
+
+pub chains_rise : ChainsRise
+chains_rise = of_sets _ chain_rises
+
+pub chain_exists : ChainExists
+chain_exists = of_sets _ (λ library obedient globals inputs turns trace. has_chain trace (performed_by library globals inputs turns trace))
+
+pub rooms_are_kept : RoomsAreKept
+rooms_are_kept = record {
+  libraries = keeps_rooms;
+  programs = λ arith program. keeps_rooms (library_of arith program) (program_obeys arith program);
+}
+
+pub turns_out_means_turns : TurnsOutMeansTurns
+turns_out_means_turns = record {
+  libraries = spends_turns;
+  programs = λ arith program. spends_turns (library_of arith program) (program_obeys arith program);
+}

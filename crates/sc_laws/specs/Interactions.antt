@@ -1,0 +1,96 @@
+-- What functions may do, whatever they are written in, so that the laws hold of them. It is told as a tree: what is given or blamed, what the
+-- blocks of the compartment decide, and what comes after new blocks, after a turn and after a call.
+use Rattle.std.specs.Prelude.{◌≡◌, ◌⊎◌, ℕ, zero, suc, ◌<◌, List, Option}
+use Rattle.sc_event.specs.declared.row.Entry.{Entry}
+use Rattle.sc_core.specs.declared.cause.Cause.{Cause}
+use Rattle.sc_core.specs.declared.expr.CallTarget.{CallTarget}
+use Rattle.sc_core.specs.declared.run.RunEnd.TheVariants.{Blamed, TurnsOut}
+use Rattle.sc_core.specs.declared.value.Value.{Value}
+use Rattle.sc_core.specs.Memory.{Blocks}
+use Rattle.sc_core.specs.Words.{State, Here, Piece, Reached, Stopped, and_then, turn, with_memory, Calls}
+use Rattle.sc_core.specs.Calls.{Function, Library, function}
+use Rattle.sc_laws.specs.Agreement.{Meets}
+use Rattle.sc_laws.specs.Growth.{Goes}
+
+pub data Interaction (V : Type 0) : Type 0 where
+  Gives : V → Interaction V
+  Blames : Cause → ℕ → Interaction V
+  Reads : (Blocks → Interaction V) → Interaction V
+  Stores : Blocks → Interaction V → Interaction V
+  Spends : Interaction V → Interaction V
+  Asks : CallTarget → List Value → (Option Value → Interaction V) → Interaction V
+  Halts : Interaction V
+
+-- what it comes to, where calls do this
+abbrev pub played : {V : Type 0} → Interaction V → Calls → Here → State → Piece V
+played (Gives v) by here s = Reached v s
+played (Blames cause line) by here s = Stopped (Blamed here.comp cause line) s
+played (Reads go) by here s = played (go (s.memory here.comp)) by here s
+played (Stores blocks go) by here s = played go by here (with_memory here.comp blocks s)
+played (Spends go) by here s = and_then (turn s) (λ _ s. played go by here s)
+played (Asks target args go) by here s = and_then (by here.comp target args s) (λ v s. played (go v) by here s)
+played Halts by here s = Stopped TurnsOut s
+
+-- so many turns are spent before it halts
+abbrev pub Lasts : {V : Type 0} → ℕ → Interaction V → Type 0
+Lasts zero tree = Unit {0}
+Lasts (suc n) (Gives v) = Unit {0}
+Lasts (suc n) (Blames cause line) = Unit {0}
+Lasts (suc n) (Reads go) = (blocks : Blocks) → Lasts (suc n) (go blocks)
+Lasts (suc n) (Stores blocks go) = Lasts (suc n) go
+Lasts (suc n) (Spends go) = Lasts n go
+Lasts (suc n) (Asks target args go) = (v : Option Value) → Lasts (suc n) (go v)
+Lasts (suc n) Halts = ⊥
+
+-- what is done, by what calls do
+abbrev pub Doing : Type 0 → Type 0
+Doing V = Calls → State → Piece V
+
+-- calls of a compartment only go on
+abbrev pub GoFrom : ℕ → Calls → Type 0
+GoFrom comp by = (target : CallTarget) (args : List Value) → Goes (by comp target args)
+
+-- with fewer turns than a number this is done as the tree of that number says
+pub record Plays {V : Type 0} (here : Here) (does : Doing V) (tree : ℕ → Interaction V) : Type 0 where
+  pub lasts : (n : ℕ) → Lasts n (tree n)
+  pub is : (n : ℕ) (by : Calls) → GoFrom here.comp by → (s : State) → s.turns < n → does by s ≡ played (tree n) by here s
+
+-- no cause
+abbrev pub Never : Cause → Type 0
+Never cause = ⊥
+
+-- causes that are blamed in the first of two alone
+module _ (Soft : Cause → Type 0) where
+  -- two trees that differ where the first is so blamed alone
+  abbrev pub Alike : {V : Type 0} → Interaction V → Interaction V → Type 0
+  Alike (Gives v) other = other ≡ Gives v
+  Alike (Blames cause line) other = Soft cause ⊎ (other ≡ Blames cause line)
+  Alike {V} (Reads go) other = (go' : Blocks → Interaction V) × (other ≡ Reads go') × ((blocks : Blocks) → Alike (go blocks) (go' blocks))
+  Alike {V} (Stores blocks go) other = (go' : Interaction V) × (other ≡ Stores blocks go') × Alike go go'
+  Alike {V} (Spends go) other = (go' : Interaction V) × (other ≡ Spends go') × Alike go go'
+  Alike {V} (Asks target args go) other =
+      (go' : Option Value → Interaction V) × (other ≡ Asks target args go') × ((v : Option Value) → Alike (go v) (go' v))
+  Alike Halts other = other ≡ Halts
+
+  -- two doings that are trees, which are alike
+  pub record Match {V : Type 0} (here : Here) (does other : Doing V) : Type 0 where
+    pub tree : ℕ → Interaction V
+    pub twin : ℕ → Interaction V
+    pub first : Plays here does tree
+    pub second : Plays here other twin
+    pub alike : (n : ℕ) → Alike (tree n) (twin n)
+
+  -- functions that callers can't tell apart, and what they do matches
+  pub record FunctionsMatch (f g : Function) : Type 0 where
+    pub cells : g.cells ≡ f.cells
+    pub room : g.room ≡ f.room
+    pub does : (here : Here) → Match here (λ by. f.does by here) (λ by. g.does by here)
+
+  pub record LibrariesMatch (L M : Library) : Type 0 where
+    pub interfaces : M.interfaces ≡ L.interfaces
+    pub functions : (comp number : ℕ) → Meets FunctionsMatch (function L comp number) (function M comp number)
+    pub entered : (comp : ℕ) (entry : Entry) → M.entered comp entry ≡ L.entered comp entry
+
+-- each function of a library is such a tree
+abbrev pub Obedient : Library → Type 0
+Obedient library = LibrariesMatch Never library library

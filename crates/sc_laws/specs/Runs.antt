@@ -1,0 +1,22 @@
+-- Runs of a library, whatever its functions are written in.
+use Rattle.std.specs.Prelude.{ℕ, Bool, List, length}
+use Rattle.sc_event.specs.declared.event.Event.{Event}
+use Rattle.sc_core.specs.declared.run.SourceRun.{SourceRun}
+use Rattle.sc_core.specs.Memory.{Memory}
+use Rattle.sc_core.specs.Run.{stopped_at}
+use Rattle.sc_core.specs.Calls.{Library, run_step}
+use Rattle.sc_core.specs.Scripts.{Roles, roles_in, scripted_step}
+use Rattle.sc_core.specs.Meaning.{Run, run_by}
+
+-- the globals of each compartment, the inputs, and the turns
+module _ (library : Library) (globals : Memory) (inputs : List ℕ) (turns : ℕ) where
+  abbrev pub library_run : Run
+  library_run = run_by library (run_step library) globals inputs turns
+
+  -- the run in which some compartments perform
+  abbrev pub roles_run : Roles → Run
+  roles_run roles = run_by library (scripted_step library roles (run_step library)) globals inputs turns
+
+  -- the run in which a set performs its part of a trace, stopped where it has as many events as the trace
+  abbrev pub performed_by : List Event → (ℕ → Bool) → SourceRun
+  performed_by trace set = stopped_at (length trace) (roles_run (roles_in library.interfaces.main set trace)).shown
