@@ -1,4 +1,5 @@
 pub mod Induction
+pub mod Matching
 pub mod Plans
 pub mod Refusals
 pub mod Runs

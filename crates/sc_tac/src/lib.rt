@@ -2,11 +2,13 @@
 #![tactic(auto)]
 
 mod function;
+mod laws;
 mod program;
 mod registers;
 mod stmt;
 
 pub use function::{ObjectCells, TacFn, TacFnTree, TacFns};
+pub use laws::{code_obeys, wrapped_code_agrees};
 pub use program::{Tac, TacSection, TacSections, TacTree};
 pub use registers::reg_count;
 pub use stmt::{Constant, TacOp, TacStmt, TacStmts, Temps};
