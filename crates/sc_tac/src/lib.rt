@@ -6,6 +6,8 @@ mod laws;
 mod program;
 mod registers;
 mod stmt;
+#[cfg(test)]
+mod tests;
 
 pub use function::{ObjectCells, TacFn, TacFnTree, TacFns};
 pub use laws::{code_obeys, wrapped_code_agrees};
