@@ -14,6 +14,7 @@ pub mod Interactions
 pub mod Keeping
 pub mod Legality
 pub mod Libraries
+pub mod Lines
 pub mod Matching
 pub mod More
 pub mod ProgramLaws

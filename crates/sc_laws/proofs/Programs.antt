@@ -29,7 +29,7 @@ meets_at Q (x ∷ xs) [] i h = absurd h
 meets_at Q (x ∷ xs) (y ∷ ys) zero h = h.0
 meets_at Q (x ∷ xs) (y ∷ ys) (suc i) h = meets_at Q xs ys i h.1
 
-lists_at : {A : Type 0} (Q : A → A → Type 0) (xss yss : List (List A)) (i : ℕ) → Each (Each Q) xss yss → Each Q (slice_index_or xss i []) (slice_index_or yss i [])
+pub lists_at : {A : Type 0} (Q : A → A → Type 0) (xss yss : List (List A)) (i : ℕ) → Each (Each Q) xss yss → Each Q (slice_index_or xss i []) (slice_index_or yss i [])
 lists_at Q [] [] i h = tt
 lists_at Q [] (y ∷ ys) i h = absurd h
 lists_at Q (x ∷ xs) [] i h = absurd h

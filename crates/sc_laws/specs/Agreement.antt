@@ -2,15 +2,18 @@
 use Rattle.std.specs.Prelude.{◌≡◌, ℕ, List, Option, None, Some}
 use Rattle.sc_event.specs.declared.row.Entry.{Entry}
 use Rattle.sc_core.specs.declared.expr.CallTarget.{CallTarget}
+use Rattle.sc_core.specs.declared.program.ProgramTree.{ProgramTree}
 use Rattle.sc_core.specs.declared.run.RunEnd.{RunEnd}
 use Rattle.sc_core.specs.declared.run.RunEnd.TheVariants.{Ended, Blamed, TurnsOut, EventsOut}
 use Rattle.sc_core.specs.declared.run.SourceRun.{SourceRun}
 use Rattle.sc_core.specs.declared.value.Value.{Value}
 use Rattle.sc_core.specs.Words.{State, Here, Piece, Reached, Stopped, Calls}
 use Rattle.sc_core.specs.Memory.{Memory}
+use Rattle.sc_core.specs.Value.{Arith}
 use Rattle.sc_core.specs.Calls.{Function, Library, Body, function, run_step}
 use Rattle.sc_core.specs.Scripts.{Roles, scripted_step}
-use Rattle.sc_core.specs.Meaning.{Run, run_by}
+use Rattle.sc_core.specs.Meaning.{Run, library_of, run_by, run_of}
+use Rattle.sc_laws.specs.Lines.{program_lined}
 use Rattle.sc_core.specs.Run.{stopped_at}
 
 -- two things, where they are there: either both are, and are so related, or neither is
@@ -73,3 +76,10 @@ pub record AgreeingRunAlike : Type 0 where
   pub scripted : (L M : Library) → LibrariesAgree L M → (roles : Roles) (globals : Memory) (inputs : List ℕ) (turns : ℕ) →
       RunsAgree (run_by L (scripted_step L roles (run_step L)) globals inputs turns)
       (run_by M (scripted_step M roles (run_step M)) globals inputs turns)
+
+-- a program whose trees stand on other lines has a library that agrees, and so it shows the same but for the lines of blames
+pub record OtherLinesAgree : Type 0 where
+  pub libraries : (arith : Arith) (line_of : ℕ → ℕ) (program : ProgramTree) →
+      LibrariesAgree (library_of arith program) (library_of arith (program_lined line_of program))
+  pub runs : (arith : Arith) (line_of : ℕ → ℕ) (program : ProgramTree) (inputs : List ℕ) (turns : ℕ) →
+      RunsAgree (run_of arith program inputs turns) (run_of arith (program_lined line_of program) inputs turns)

@@ -4,6 +4,7 @@ pub mod Ends
 pub mod Growth
 pub mod Interactions
 pub mod Laws
+pub mod Lines
 pub mod Rooms
 pub mod Runs
 pub mod Steady

@@ -2,7 +2,7 @@
 
 ghost use Rattle.sc_laws.specs.Laws.{ChainExists, ChainsRise, BlameIsPassed, BlameRemains, FixedPoint, ChainIsLeast, DeepestIsReached, MoreGoesOn, MoreMayPerform, OnlyGoesOn, ProgramsObey, RoomsAreKept, WrappingAgrees, EmptySetIsMeaning, MeaningGoesOn, NobodyWhoPerformsIsBlamed, TracesAreLegal, WrappedAgrees};
 ghost use Rattle.sc_laws.specs.Turns.{TurnsOutMeansTurns};
-ghost use Rattle.sc_laws.specs.Agreement.{AgreeingRunAlike};
+ghost use Rattle.sc_laws.specs.Agreement.{AgreeingRunAlike, OtherLinesAgree};
 
 /// What the functions of a program do is a tree: what is given or blamed, what the blocks of the compartment decide, and what comes
 /// after new blocks, after a turn and after a call. Libraries of such functions have all laws.
@@ -109,4 +109,9 @@ pub fn turns_out_means_turns()
 /// same room, whatever their functions carry and whichever compartments perform.
 pub fn agreeing_run_alike()
     ensures { AgreeingRunAlike }
+{}
+
+/// A program whose trees stand on other lines has a library that agrees with its own up to the lines of blames.
+pub fn other_lines_agree()
+    ensures { OtherLinesAgree }
 {}
