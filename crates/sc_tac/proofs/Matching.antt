@@ -1,6 +1,6 @@
 -- Code under two arithmetics, of which the second gives what the first does or the first blames: what its functions do matches.
-use Rattle.std.proofs.Common.{◌≡◌, refl, sym, subst, ℕ, zero, suc, ◌+◌, List, [], ◌∷◌, map, Option, Some, None, Result, Ok, Err}
-use Rattle.std.specs.Prelude.{slice_get, slice_index_or, true, false, Bool}
+use Rattle.std.proofs.Common.{◌≡◌, refl, sym, subst, ℕ, zero, suc, ◌+◌, List, [], ◌∷◌, map, Option, Some, None, Result}
+use Rattle.std.specs.Prelude.{slice_index_or, true, false, Bool}
 use Rattle.sc_base.specs.declared.op.BinaryOp.{BinaryOp}
 use Rattle.sc_base.specs.declared.op.UnaryOp.{UnaryOp}
 use Rattle.sc_base.specs.declared.op.UnaryOp.TheVariants as unary
@@ -13,11 +13,11 @@ use Rattle.sc_core.specs.declared.value.Value.TheVariants.{Word, Null, Ptr}
 use Rattle.sc_core.specs.Memory.{Blocks, load}
 use Rattle.sc_core.specs.Value.{Arith, c_arith, wrapping, as_word, on_words, applied_one}
 use Rattle.sc_core.specs.Words.{Here, Reached, and_then, Next, Break, Continue, Return, leave, stored, choose, Calls}
-use Rattle.sc_core.specs.Calls.{Library, functions_of}
+use Rattle.sc_core.specs.Calls.{functions_of}
 use Rattle.sc_core.specs.Scripts.{roles_in}
 use Rattle.sc_core.specs.Meaning.{closed}
 use Rattle.sc_laws.specs.Ends.{IsArithmetic}
-use Rattle.sc_laws.specs.Interactions.{Doing, FunctionsMatch, LibrariesMatch, Match, Never}
+use Rattle.sc_laws.specs.Interactions.{FunctionsMatch, LibrariesMatch, Match, Never}
 use Rattle.sc_laws.proofs.Expressions.{ArithKeeps, Keeps, alike, bind_keeps}
 use Rattle.sc_laws.proofs.Interactions.{MatchWith, match_reached, match_then, match_computed, match_store, match_call, match_if, match_leave, match_all, match_loop}
 use Rattle.sc_laws.proofs.Programs.{Each as Pairs, meets_at, itself_keeps}
@@ -29,7 +29,7 @@ use Rattle.sc_tac.specs.declared.program.TacSection.{TacSection}
 use Rattle.sc_tac.specs.declared.program.TacTree.{TacTree}
 use Rattle.sc_tac.specs.declared.stmt.TacOp.{TacOp}
 use Rattle.sc_tac.specs.declared.stmt.TacOp.TheVariants as tacop
-use Rattle.sc_tac.specs.declared.stmt.TacStmt.{TacStmt, TacStmt-F, fold-TacStmt, fold-roll-TacStmt, map-TacStmt, roll-TacStmt}
+use Rattle.sc_tac.specs.declared.stmt.TacStmt.{TacStmt, TacStmt-F, fold-roll-TacStmt, map-TacStmt, roll-TacStmt}
 use Rattle.sc_tac.specs.declared.stmt.TacStmt.TheOpen as tac
 use Rattle.sc_tac.specs.Code.{Temps, Codes, given, constant_value, is_unsigned, operated, start_of, received, known, read, second, read_all, gets, op_does, store_does, call_does, return_does, code_step, stmt_does, code_does, no_temps, code_function, code_functions, code_library, code_globals}
 use Rattle.sc_tac.specs.Laws.{CodeObeys, WrappedCodeAgrees}
