@@ -24,7 +24,8 @@ one_event comp number at event later = split (performer event == comp)
     row = record { entry = at.active.entry; number = number; action = action_of event }
 
     split : (mine : Bool) →
-        (if mine then row ∷ rows_from comp (suc number) (stands_after at event) later else rows_from comp number (stands_after at event) later) ≡
+        (if mine then row ∷ rows_from comp (suc number) (stands_after at event) later
+        else rows_from comp number (stands_after at event) later) ≡
         (if mine then row ∷ [] else []) ++
         rows_from comp (number + length {A = Row} (if mine then row ∷ [] else [])) (stands_after at event) later
     split true = let next : suc number ≡ number + 1 = omega arith in
@@ -48,8 +49,10 @@ module _ (main comp : ℕ) (trace : List Event) where
   abbrev pub IsPartAt : List Row → Option Standing → ℕ → Type 0
   IsPartAt script at place = script ++ rows_from comp (length script) at (drop place trace) ≡ part main comp trace
 
-  pub passed : (script next : List Row) (at : Standing) (place : ℕ) (event : Event) → IsPartAt script (Some at) place →
-      drop place trace ≡ event ∷ drop (place + 1) trace → next ≡ script ++ row_of comp (length script) at.active.entry event →
+  pub passed : (script next : List Row) (at : Standing) (place : ℕ) (event : Event) →
+      IsPartAt script (Some at) place →
+      drop place trace ≡ event ∷ drop (place + 1) trace →
+      next ≡ script ++ row_of comp (length script) at.active.entry event →
       IsPartAt next (stands_after at event) (place + 1)
   passed script next at place event so_far here is =
       let row : List Row = row_of comp (length script) at.active.entry event in
@@ -61,7 +64,9 @@ module _ (main comp : ℕ) (trace : List Event) where
       ap (λ rest. script ++ rows_from comp (length script) (Some at) rest) (sym here) ∙ so_far
 
   -- where the run has ended, the rows so far are all
-  pub ended : (script : List Row) (at : Option Standing) (place : ℕ) → at ≡ None → IsPartAt script at place → script ≡ part main comp trace
+  pub ended : (script : List Row) (at : Option Standing) (place : ℕ) → at ≡ None → IsPartAt script at place →
+      script ≡ part main comp trace
   ended script at place none so_far =
-      sym (append-nil script) ∙ ap (λ rest. script ++ rest) (sym (none_behind comp (length script) (drop place trace))) ∙
+      sym (append-nil script) ∙
+      ap (λ rest. script ++ rest) (sym (none_behind comp (length script) (drop place trace))) ∙
       ap (λ at. script ++ rows_from comp (length script) at (drop place trace)) (sym none) ∙ so_far

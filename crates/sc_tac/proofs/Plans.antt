@@ -79,11 +79,13 @@ has_none_is stray x = ap (λ tests. not (some_hold tests)) (rows_are Bool stray 
 
 abbrev pub shape_assigned_first : ℕ → Shape → Bool
 shape_assigned_first t x =
-    not (row_first (rows Reading (reading_step t) x) nothing_ahead) && row_fresh (rows Reading (reading_step t) x) nothing_ahead
+    not (row_first (rows Reading (reading_step t) x) nothing_ahead) &&
+    row_fresh (rows Reading (reading_step t) x) nothing_ahead
 
 pub assigned_first_is : (t : ℕ) (x : Shape) → is_assigned_first t (stmts x) ≡ shape_assigned_first t x
 assigned_first_is t x =
-    ap (λ readings. not (row_first readings nothing_ahead) && row_fresh readings nothing_ahead) (rows_are Reading (reading_step t) x)
+    ap (λ readings. not (row_first readings nothing_ahead) && row_fresh readings nothing_ahead)
+    (rows_are Reading (reading_step t) x)
 
 abbrev pub shape_all_assigned : ℕ → Shape → Bool
 shape_all_assigned zero x = true
@@ -97,17 +99,30 @@ all_assigned_is (suc t) x = λ i. assigned_first_is t x i && all_assigned_is t x
 module _ (arith : Arith) where
   abbrev pub quick : Plan → Function
   quick plan =
-      record { cells = plan.objects; room = frame_bound plan.objects plan.nodes; does = λ by here s. and_then (all_do (rows Codes (code_step arith here by) plan.body) no_temps s) (λ left s. closed left.exit plan.result (same_entry Main plan.entry) 0 here s) }
+      record {
+        cells = plan.objects;
+        room = frame_bound plan.objects plan.nodes;
+        does = λ by here s.
+            and_then (all_do (rows Codes (code_step arith here by) plan.body) no_temps s) (λ left s.
+            closed left.exit plan.result (same_entry Main plan.entry) 0 here s);
+      }
 
   function_is : (plan : Plan) → code_function arith (function plan) ≡ quick plan
   function_is plan = λ i.
-      record { cells = plan.objects; room = frame_bound plan.objects plan.nodes; does = λ by here s. and_then (all_do (rows_are Codes (code_step arith here by) plan.body i) no_temps s) (λ left s. closed left.exit plan.result (same_entry Main plan.entry) 0 here s) }
+      record {
+        cells = plan.objects;
+        room = frame_bound plan.objects plan.nodes;
+        does = λ by here s.
+            and_then (all_do (rows_are Codes (code_step arith here by) plan.body i) no_temps s) (λ left s.
+            closed left.exit plan.result (same_entry Main plan.entry) 0 here s);
+      }
 
   functions_are : (plans : List Plan) → map (code_function arith) (map function plans) ≡ map quick plans
   functions_are [] = refl
   functions_are (plan ∷ plans) = λ i. function_is plan i ∷ functions_are plans i
 
-  sections_are : (sheets : List Sheet) → map (code_functions arith) (map section sheets) ≡ map (λ sheet. map quick sheet.plans) sheets
+  sections_are : (sheets : List Sheet) → map (code_functions arith) (map section sheets) ≡
+      map (λ sheet. map quick sheet.plans) sheets
   sections_are [] = refl
   sections_are (sheet ∷ sheets) = λ i. functions_are sheet.plans i ∷ sections_are sheets i
 
@@ -121,21 +136,33 @@ module _ (arith : Arith) (interfaces : Interfaces) (sheets : List Sheet) where
 
   library_is : code_library arith (program interfaces sheets) ≡ quick_library
   library_is = λ i.
-      record { interfaces = interfaces; functions = sections_are arith sheets i; entered = (code_library arith (program interfaces sheets)).entered }
+      record {
+        interfaces = interfaces;
+        functions = sections_are arith sheets i;
+        entered = (code_library arith (program interfaces sheets)).entered;
+      }
 
   module _ (inputs : List ℕ) (turns events : ℕ) where
     abbrev pub quick_meaning : SourceRun
     quick_meaning =
-        stopped_at events (run_by quick_library (run_step quick_library) (code_globals (map section sheets)) inputs turns).shown
+        stopped_at events
+        (run_by quick_library (run_step quick_library) (code_globals (map section sheets)) inputs turns).shown
 
     pub meaning_is : code_meaning_by arith (program interfaces sheets) inputs turns events ≡ quick_meaning
     meaning_is =
-        ap (λ library. stopped_at events (run_by library (run_step library) (code_globals (map section sheets)) inputs turns).shown) library_is
+        ap (λ library. stopped_at events
+        (run_by library (run_step library) (code_globals (map section sheets)) inputs turns).shown) library_is
 
     abbrev pub quick_scripted : (ℕ → Bool) → List Event → SourceRun
     quick_scripted set trace =
-        stopped_at events (run_by quick_library (scripted_step quick_library (roles_in interfaces.main set trace) (run_step quick_library)) (code_globals (map section sheets)) inputs turns).shown
+        stopped_at events
+        (run_by quick_library
+        (scripted_step quick_library (roles_in interfaces.main set trace) (run_step quick_library))
+        (code_globals (map section sheets)) inputs turns).shown
 
-    pub scripted_is : (set : ℕ → Bool) (trace : List Event) → scripted_code_by arith (program interfaces sheets) set trace inputs turns events ≡ quick_scripted set trace
+    pub scripted_is : (set : ℕ → Bool) (trace : List Event) →
+        scripted_code_by arith (program interfaces sheets) set trace inputs turns events ≡ quick_scripted set trace
     scripted_is set trace =
-        ap (λ library. stopped_at events (run_by library (scripted_step library (roles_in interfaces.main set trace) (run_step library)) (code_globals (map section sheets)) inputs turns).shown) library_is
+        ap (λ library. stopped_at events
+        (run_by library (scripted_step library (roles_in interfaces.main set trace) (run_step library))
+        (code_globals (map section sheets)) inputs turns).shown) library_is

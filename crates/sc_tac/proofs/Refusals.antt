@@ -37,13 +37,16 @@ the_loop_is_allowed = record {
 pub a_foreign_temporary : everywhere (names_own_temps 1) (stmts (word 1 0 Done)) ≡ false
 a_foreign_temporary = everywhere_is (names_own_temps 1) (word 1 0 Done)
 
-pub a_foreign_object : everywhere (names_own_object 1) (stmts (Fork 0 Done (Line (tac.ObjectPlace 1 1) Done) Done)) ≡ false
+pub a_foreign_object : everywhere (names_own_object 1) (stmts (Fork 0 Done (Line (tac.ObjectPlace 1 1) Done) Done)) ≡
+    false
 a_foreign_object = everywhere_is (names_own_object 1) (Fork 0 Done (Line (tac.ObjectPlace 1 1) Done) Done)
 
-pub one_operand_for_a_sum : everywhere has_operands (stmts (Line (tac.Op 1 (tacop.Binary op.Add scalar.Int) 0 None) Done)) ≡ false
+pub one_operand_for_a_sum : everywhere has_operands
+    (stmts (Line (tac.Op 1 (tacop.Binary op.Add scalar.Int) 0 None) Done)) ≡ false
 one_operand_for_a_sum = everywhere_is has_operands (Line (tac.Op 1 (tacop.Binary op.Add scalar.Int) 0 None) Done)
 
-pub nine_arguments : everywhere passes_few (stmts (Line (tac.CallOwn None 0 (0 ∷ 0 ∷ 0 ∷ 0 ∷ 0 ∷ 0 ∷ 0 ∷ 0 ∷ 0 ∷ [])) Done)) ≡ false
+pub nine_arguments : everywhere passes_few
+    (stmts (Line (tac.CallOwn None 0 (0 ∷ 0 ∷ 0 ∷ 0 ∷ 0 ∷ 0 ∷ 0 ∷ 0 ∷ 0 ∷ [])) Done)) ≡ false
 nine_arguments = everywhere_is passes_few (Line (tac.CallOwn None 0 (0 ∷ 0 ∷ 0 ∷ 0 ∷ 0 ∷ 0 ∷ 0 ∷ 0 ∷ 0 ∷ [])) Done)
 
 pub a_value_of_no_result : everywhere (returns_result false) (stmts (give 0)) ≡ false
@@ -71,10 +74,12 @@ read_at_once = assigned_first_is 0 (give 0)
 pub assigned_on_one_path : is_assigned_first 1 (stmts (word 0 1 (Fork 0 (word 1 2 Done) Done (give 1)))) ≡ false
 assigned_on_one_path = assigned_first_is 1 (word 0 1 (Fork 0 (word 1 2 Done) Done (give 1)))
 
-pub assigned_on_both_paths : is_assigned_first 1 (stmts (word 0 1 (Fork 0 (word 1 2 Done) (word 1 3 Done) (give 1)))) ≡ true
+pub assigned_on_both_paths : is_assigned_first 1
+    (stmts (word 0 1 (Fork 0 (word 1 2 Done) (word 1 3 Done) (give 1)))) ≡ true
 assigned_on_both_paths = assigned_first_is 1 (word 0 1 (Fork 0 (word 1 2 Done) (word 1 3 Done) (give 1)))
 
-pub assigned_where_control_stays : is_assigned_first 1 (stmts (word 0 1 (Fork 0 (word 1 2 Done) (give 0) (give 1)))) ≡ true
+pub assigned_where_control_stays : is_assigned_first 1
+    (stmts (word 0 1 (Fork 0 (word 1 2 Done) (give 0) (give 1)))) ≡ true
 assigned_where_control_stays = assigned_first_is 1 (word 0 1 (Fork 0 (word 1 2 Done) (give 0) (give 1)))
 
 -- before a loop is too early for a read in it, and so is an earlier part of the loop
@@ -88,7 +93,8 @@ pub assigned_in_the_body : is_assigned_first 0 (stmts (Cycle Done (word 0 1 Done
 assigned_in_the_body = assigned_first_is 0 (Cycle Done (word 0 1 Done) (output 0 Done) Done)
 
 -- a read behind the loop, which the body may leave before the head assigns
-pub read_behind_the_loop : is_assigned_first 0 (stmts (Cycle (word 0 1 Done) (Line tac.Break Done) Done (output 0 Done))) ≡ false
+pub read_behind_the_loop : is_assigned_first 0
+    (stmts (Cycle (word 0 1 Done) (Line tac.Break Done) Done (output 0 Done))) ≡ false
 read_behind_the_loop = assigned_first_is 0 (Cycle (word 0 1 Done) (Line tac.Break Done) Done (output 0 Done))
 
 -- a parameter of three cells gets no word
@@ -105,35 +111,67 @@ pub too_many_temporaries : (IsFunction (function (main_with 30 [] 20 Done))) →
 too_many_temporaries kept = let few : 30 ≤ 20 = kept.few_temps in omega (arith, few)
 
 -- what a program's statements name
-pub a_foreign_global : everywhere (names_own_global alone 0 (section (record { globals = int_global ∷ []; plans = [] }))) (stmts (Line (tac.GlobalPlace 0 1) Done)) ≡ false
-a_foreign_global = everywhere_is (names_own_global alone 0 (section (record { globals = int_global ∷ []; plans = [] }))) (Line (tac.GlobalPlace 0 1) Done)
+pub a_foreign_global : everywhere
+    (names_own_global alone 0 (section (record { globals = int_global ∷ []; plans = [] })))
+    (stmts (Line (tac.GlobalPlace 0 1) Done)) ≡ false
+a_foreign_global =
+    everywhere_is (names_own_global alone 0 (section (record { globals = int_global ∷ []; plans = [] })))
+    (Line (tac.GlobalPlace 0 1) Done)
 
 -- a section of one function with a result and two parameters, one of which has three cells
 abbrev wide : Sheet
 wide = record {
   globals = [];
   plans =
-      record { comp = 0; entry = None; params = 2; result = false; temps = 0; objects = 1 ∷ 3 ∷ []; nodes = 3; body = Done } ∷
-      record { comp = 0; entry = None; params = 1; result = false; temps = 0; objects = 1 ∷ []; nodes = 2; body = Done } ∷ [];
+      record {
+        comp = 0;
+        entry = None;
+        params = 2;
+        result = false;
+        temps = 0;
+        objects = 1 ∷ 3 ∷ [];
+        nodes = 3;
+        body =
+            Done;
+      } ∷
+      record {
+        comp = 0;
+        entry = None;
+        params = 1;
+        result = false;
+        temps = 0;
+        objects = 1 ∷ [];
+        nodes = 2;
+        body =
+            Done;
+      } ∷ [];
 }
 
-pub a_struct_argument : everywhere (calls_own alone 0 (section wide)) (stmts (Line (tac.CallOwn None 0 (0 ∷ 0 ∷ [])) Done)) ≡ false
+pub a_struct_argument : everywhere (calls_own alone 0 (section wide))
+    (stmts (Line (tac.CallOwn None 0 (0 ∷ 0 ∷ [])) Done)) ≡ false
 a_struct_argument = everywhere_is (calls_own alone 0 (section wide)) (Line (tac.CallOwn None 0 (0 ∷ 0 ∷ [])) Done)
 
-pub a_missing_argument : everywhere (calls_own alone 0 (section wide)) (stmts (Line (tac.CallOwn None 1 []) Done)) ≡ false
+pub a_missing_argument : everywhere (calls_own alone 0 (section wide)) (stmts (Line (tac.CallOwn None 1 []) Done)) ≡
+    false
 a_missing_argument = everywhere_is (calls_own alone 0 (section wide)) (Line (tac.CallOwn None 1 []) Done)
 
-pub a_result_of_none : everywhere (calls_own alone 0 (section wide)) (stmts (Line (tac.CallOwn (Some 0) 1 (0 ∷ [])) Done)) ≡ false
+pub a_result_of_none : everywhere (calls_own alone 0 (section wide))
+    (stmts (Line (tac.CallOwn (Some 0) 1 (0 ∷ [])) Done)) ≡ false
 a_result_of_none = everywhere_is (calls_own alone 0 (section wide)) (Line (tac.CallOwn (Some 0) 1 (0 ∷ [])) Done)
 
-pub a_missing_function : everywhere (calls_own alone 0 (section wide)) (stmts (Line (tac.CallOwn None 2 []) Done)) ≡ false
+pub a_missing_function : everywhere (calls_own alone 0 (section wide)) (stmts (Line (tac.CallOwn None 2 []) Done)) ≡
+    false
 a_missing_function = everywhere_is (calls_own alone 0 (section wide)) (Line (tac.CallOwn None 2 []) Done)
 
-pub two_arguments_for_one : everywhere (calls_exports across_interfaces 0 (section wide)) (stmts (Line (tac.CallCross None 1 0 (0 ∷ 0 ∷ [])) Done)) ≡ false
-two_arguments_for_one = everywhere_is (calls_exports across_interfaces 0 (section wide)) (Line (tac.CallCross None 1 0 (0 ∷ 0 ∷ [])) Done)
+pub two_arguments_for_one : everywhere (calls_exports across_interfaces 0 (section wide))
+    (stmts (Line (tac.CallCross None 1 0 (0 ∷ 0 ∷ [])) Done)) ≡ false
+two_arguments_for_one =
+    everywhere_is (calls_exports across_interfaces 0 (section wide)) (Line (tac.CallCross None 1 0 (0 ∷ 0 ∷ [])) Done)
 
-pub what_is_not_imported : everywhere (calls_imports across_interfaces 0 (section wide)) (stmts (Line (tac.Input (Some 0)) Done)) ≡ false
-what_is_not_imported = everywhere_is (calls_imports across_interfaces 0 (section wide)) (Line (tac.Input (Some 0)) Done)
+pub what_is_not_imported : everywhere (calls_imports across_interfaces 0 (section wide))
+    (stmts (Line (tac.Input (Some 0)) Done)) ≡ false
+what_is_not_imported =
+    everywhere_is (calls_imports across_interfaces 0 (section wide)) (Line (tac.Input (Some 0)) Done)
 
 pub an_export_without_function : is_entered (Export 0) 1 true (section wide) ≡ false
 an_export_without_function = refl
@@ -145,7 +183,8 @@ pub another_main : entry_known across_interfaces 1 (Some Main) ≡ false
 another_main = refl
 
 -- a test of the two functions of the call across
-within : (test other : TacStmt-F Bool → Bool) → shape_passes test asking ≡ true → shape_passes other answering ≡ true →
+within : (test other : TacStmt-F Bool → Bool) → shape_passes test asking ≡ true →
+    shape_passes other answering ≡ true →
     IsTrue ((everywhere test (stmts asking) && true) && ((everywhere other (stmts answering) && true) && true))
 within test other a b =
     λ i. ((everywhere_is test asking ∙ a) i && true) && (((everywhere_is other answering ∙ b) i && true) && true)
@@ -155,10 +194,18 @@ pub the_call_is_allowed : IsProgram (program across_interfaces across)
 the_call_is_allowed = record {
   sections = refl;
   numbers = refl;
-  globals = within (names_own_global across_interfaces 0 (section caller)) (names_own_global across_interfaces 1 (section callee)) refl refl;
-  own_calls = within (calls_own across_interfaces 0 (section caller)) (calls_own across_interfaces 1 (section callee)) refl refl;
-  cross_calls = within (calls_exports across_interfaces 0 (section caller)) (calls_exports across_interfaces 1 (section callee)) refl refl;
-  imported = within (calls_imports across_interfaces 0 (section caller)) (calls_imports across_interfaces 1 (section callee)) refl refl;
+  globals =
+      within (names_own_global across_interfaces 0 (section caller))
+      (names_own_global across_interfaces 1 (section callee)) refl refl;
+  own_calls =
+      within (calls_own across_interfaces 0 (section caller)) (calls_own across_interfaces 1 (section callee)) refl
+      refl;
+  cross_calls =
+      within (calls_exports across_interfaces 0 (section caller))
+      (calls_exports across_interfaces 1 (section callee)) refl refl;
+  imported =
+      within (calls_imports across_interfaces 0 (section caller))
+      (calls_imports across_interfaces 1 (section callee)) refl refl;
   exported = refl;
   main_there = refl;
   entries = refl;

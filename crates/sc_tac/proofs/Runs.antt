@@ -47,7 +47,16 @@ alone = record {
 
 abbrev pub main_with : ℕ → List ℕ → ℕ → Shape → Plan
 main_with temps objects nodes body =
-    record { comp = 0; entry = Some Main; params = 0; result = true; temps = temps; objects = objects; nodes = nodes; body = body }
+    record {
+      comp = 0;
+      entry = Some Main;
+      params = 0;
+      result = true;
+      temps = temps;
+      objects = objects;
+      nodes = nodes;
+      body = body;
+    }
 
 abbrev pub one_function : Plan → List Sheet
 one_function plan = record { globals = []; plans = plan ∷ [] } ∷ []
@@ -56,16 +65,20 @@ one_function plan = record { globals = []; plans = plan ∷ [] } ∷ []
 abbrev pub sum : ℕ → ℕ → Plan
 sum a b = main_with 3 [] 5 (word 0 a (word 1 b (int_op op.Add 2 0 1 (output 2 (give 0)))))
 
-pub adds : code_meaning (program alone (one_function (sum 2 3))) [] 0 10 ≡ record { trace = Out 0 5 ∷ End 0 2 ∷ []; end = Ended }
+pub adds : code_meaning (program alone (one_function (sum 2 3))) [] 0 10 ≡
+    record { trace = Out 0 5 ∷ End 0 2 ∷ []; end = Ended }
 adds = meaning_is c_arith alone (one_function (sum 2 3)) [] 0 10
 
-pub overflow_is_blamed : code_meaning (program alone (one_function (sum 2147483647 1))) [] 0 10 ≡ record { trace = []; end = Blamed 0 Overflow 0 }
+pub overflow_is_blamed : code_meaning (program alone (one_function (sum 2147483647 1))) [] 0 10 ≡
+    record { trace = []; end = Blamed 0 Overflow 0 }
 overflow_is_blamed = meaning_is c_arith alone (one_function (sum 2147483647 1)) [] 0 10
 
-pub overflow_wraps : code_wrapped (program alone (one_function (sum 2147483647 1))) [] 0 10 ≡ record { trace = Out 0 2147483648 ∷ End 0 2147483647 ∷ []; end = Ended }
+pub overflow_wraps : code_wrapped (program alone (one_function (sum 2147483647 1))) [] 0 10 ≡
+    record { trace = Out 0 2147483648 ∷ End 0 2147483647 ∷ []; end = Ended }
 overflow_wraps = meaning_is wrapping alone (one_function (sum 2147483647 1)) [] 0 10
 
-pub stops_at_its_events : code_meaning (program alone (one_function (sum 2 3))) [] 0 1 ≡ record { trace = Out 0 5 ∷ []; end = EventsOut }
+pub stops_at_its_events : code_meaning (program alone (one_function (sum 2 3))) [] 0 1 ≡
+    record { trace = Out 0 5 ∷ []; end = EventsOut }
 stops_at_its_events = meaning_is c_arith alone (one_function (sum 2 3)) [] 0 1
 
 -- `for (i = 0; i < 4; i = i + 1) { if (i == 2) continue; output(i); } return 7;`
@@ -73,17 +86,20 @@ abbrev pub skips_two : Shape
 skips_two =
     word 0 0 (put_into 0 1 0 (
     Cycle (fetched 2 0 (word 3 4 (int_op op.Less 4 2 3 (Fork 4 Done (Line tac.Break Done) Done))))
-    (fetched 5 0 (word 6 2 (int_op op.Equal 7 5 6 (Fork 7 (Line tac.Continue Done) Done (fetched 8 0 (output 8 Done))))))
+    (fetched 5 0
+    (word 6 2 (int_op op.Equal 7 5 6 (Fork 7 (Line tac.Continue Done) Done (fetched 8 0 (output 8 Done))))))
     (fetched 9 0 (word 10 1 (int_op op.Add 11 9 10 (put_into 0 12 11 Done))))
     (word 13 7 (give 13))))
 
 abbrev pub skipping : List Sheet
 skipping = one_function (main_with 14 (1 ∷ []) 20 skips_two)
 
-pub continue_goes_to_next : code_meaning (program alone skipping) [] 4 10 ≡ record { trace = Out 0 0 ∷ Out 0 1 ∷ Out 0 3 ∷ End 0 7 ∷ []; end = Ended }
+pub continue_goes_to_next : code_meaning (program alone skipping) [] 4 10 ≡
+    record { trace = Out 0 0 ∷ Out 0 1 ∷ Out 0 3 ∷ End 0 7 ∷ []; end = Ended }
 continue_goes_to_next = meaning_is c_arith alone skipping [] 4 10
 
-pub each_round_takes_a_turn : code_meaning (program alone skipping) [] 3 10 ≡ record { trace = Out 0 0 ∷ Out 0 1 ∷ []; end = TurnsOut }
+pub each_round_takes_a_turn : code_meaning (program alone skipping) [] 3 10 ≡
+    record { trace = Out 0 0 ∷ Out 0 1 ∷ []; end = TurnsOut }
 each_round_takes_a_turn = meaning_is c_arith alone skipping [] 3 10
 
 -- `int f(int a) { a = a + x; return a; }` with a global `x`, and `x = input(); r = f(5); output(r); return 0;`
@@ -103,25 +119,31 @@ calling =
             temps = 6;
             objects = 1 ∷ [];
             nodes = 9;
-            body = fetched 0 0 (Line (tac.GlobalPlace 1 0) (Line (tac.Load 2 1 false) (int_op op.Add 3 0 2 (put_into 0 4 3 (fetched 5 0 (give 5))))));
+            body = fetched 0 0
+                (Line (tac.GlobalPlace 1 0)
+                (Line (tac.Load 2 1 false) (int_op op.Add 3 0 2 (put_into 0 4 3 (fetched 5 0 (give 5))))));
           } ∷
           main_with 7 (1 ∷ []) 12 (
           Line (tac.Input (Some 0)) (Line (tac.GlobalPlace 1 0) (Line (tac.Store 1 0) (
-          word 2 5 (Line (tac.CallOwn (Some 3) 0 (2 ∷ [])) (put_into 0 4 3 (fetched 5 0 (output 5 (word 6 0 (give 6))))))))))
+          word 2 5
+          (Line (tac.CallOwn (Some 3) 0 (2 ∷ [])) (put_into 0 4 3 (fetched 5 0 (output 5 (word 6 0 (give 6))))))))))
           ∷ [];
     } ∷ []
 
-pub calls_its_function : code_meaning (program alone calling) (37 ∷ []) 1 10 ≡ record { trace = In 0 37 ∷ Out 0 42 ∷ End 0 0 ∷ []; end = Ended }
+pub calls_its_function : code_meaning (program alone calling) (37 ∷ []) 1 10 ≡
+    record { trace = In 0 37 ∷ Out 0 42 ∷ End 0 0 ∷ []; end = Ended }
 calls_its_function = meaning_is c_arith alone calling (37 ∷ []) 1 10
 
-pub a_call_takes_a_turn : code_meaning (program alone calling) (37 ∷ []) 0 10 ≡ record { trace = In 0 37 ∷ []; end = TurnsOut }
+pub a_call_takes_a_turn : code_meaning (program alone calling) (37 ∷ []) 0 10 ≡
+    record { trace = In 0 37 ∷ []; end = TurnsOut }
 a_call_takes_a_turn = meaning_is c_arith alone calling (37 ∷ []) 0 10
 
 -- `int x; return x;`
 abbrev pub uninitialised : List Sheet
 uninitialised = one_function (main_with 1 (1 ∷ []) 4 (fetched 0 0 (give 0)))
 
-pub uninitialised_is_blamed : code_meaning (program alone uninitialised) [] 0 10 ≡ record { trace = []; end = Blamed 0 Indeterminate 0 }
+pub uninitialised_is_blamed : code_meaning (program alone uninitialised) [] 0 10 ≡
+    record { trace = []; end = Blamed 0 Indeterminate 0 }
 uninitialised_is_blamed = meaning_is c_arith alone uninitialised [] 0 10
 
 -- `int x[2]; x[2] = 1;` and the closing brace
@@ -131,7 +153,8 @@ past_the_end =
     word 0 1 (Line (tac.ObjectPlace 1 0) (word 2 2 (
     Line (tac.Op 3 (tacop.PointerMove false 1 scalar.Int) 1 (Some 2)) (Line (tac.Store 3 0) Done))))))
 
-pub past_the_end_is_blamed : code_meaning (program alone past_the_end) [] 0 10 ≡ record { trace = []; end = Blamed 0 OutOfBounds 0 }
+pub past_the_end_is_blamed : code_meaning (program alone past_the_end) [] 0 10 ≡
+    record { trace = []; end = Blamed 0 OutOfBounds 0 }
 past_the_end_is_blamed = meaning_is c_arith alone past_the_end [] 0 10
 
 -- the closing brace gives 0 in `main` alone
@@ -140,14 +163,24 @@ braces body =
     record {
       globals = [];
       plans =
-          record { comp = 0; entry = None; params = 0; result = true; temps = 0; objects = []; nodes = 1; body = Done } ∷
+          record {
+            comp = 0;
+            entry = None;
+            params = 0;
+            result = true;
+            temps = 0;
+            objects = [];
+            nodes = 1;
+            body = Done;
+          } ∷
           main_with 1 [] 3 body ∷ [];
     } ∷ []
 
 pub main_gives_0 : code_meaning (program alone (braces Done)) [] 0 10 ≡ record { trace = End 0 0 ∷ []; end = Ended }
 main_gives_0 = meaning_is c_arith alone (braces Done) [] 0 10
 
-pub others_are_blamed : code_meaning (program alone (braces (Line (tac.CallOwn (Some 0) 0 []) Done))) [] 1 10 ≡ record { trace = []; end = Blamed 0 NoReturn 0 }
+pub others_are_blamed : code_meaning (program alone (braces (Line (tac.CallOwn (Some 0) 0 []) Done))) [] 1 10 ≡
+    record { trace = []; end = Blamed 0 NoReturn 0 }
 others_are_blamed = meaning_is c_arith alone (braces (Line (tac.CallOwn (Some 0) 0 []) Done)) [] 1 10
 
 -- `Main` calls `put` of `Net`, which gives what it was handed
@@ -176,18 +209,29 @@ abbrev pub callee : Sheet
 callee = record {
   globals = [];
   plans =
-      record { comp = 1; entry = Some (Export 0); params = 1; result = true; temps = 1; objects = 1 ∷ []; nodes = 4; body = answering } ∷ [];
+      record {
+        comp = 1;
+        entry = Some (Export 0);
+        params = 1;
+        result = true;
+        temps = 1;
+        objects = 1 ∷ [];
+        nodes = 4;
+        body = answering;
+      } ∷ [];
 }
 
 abbrev pub across : List Sheet
 across = caller ∷ callee ∷ []
 
-pub calls_across : code_meaning (program across_interfaces across) [] 1 10 ≡ record { trace = Call 0 1 0 (9 ∷ []) ∷ Ret 1 0 (Some 9) ∷ Out 0 9 ∷ End 0 0 ∷ []; end = Ended }
+pub calls_across : code_meaning (program across_interfaces across) [] 1 10 ≡
+    record { trace = Call 0 1 0 (9 ∷ []) ∷ Ret 1 0 (Some 9) ∷ Out 0 9 ∷ End 0 0 ∷ []; end = Ended }
 calls_across = meaning_is c_arith across_interfaces across [] 1 10
 
 -- `Net` performs a script in which it gives 8
 abbrev pub told : List Event
 told = Call 0 1 0 (9 ∷ []) ∷ Ret 1 0 (Some 8) ∷ Out 0 8 ∷ End 0 0 ∷ []
 
-pub performs_its_part : scripted_code_meaning (program across_interfaces across) (λ comp. comp == 1) told [] 1 10 ≡ record { trace = told; end = Ended }
+pub performs_its_part : scripted_code_meaning (program across_interfaces across) (λ comp. comp == 1) told [] 1 10 ≡
+    record { trace = told; end = Ended }
 performs_its_part = scripted_is c_arith across_interfaces across [] 1 10 (λ comp. comp == 1) told

@@ -27,7 +27,8 @@ module _ (R : Type 0) (step : TacStmt-F R → R) where
   rows (Fork cond a b rest) = step (tac.If cond (rows a) (rows b)) ∷ rows rest
   rows (Cycle head body next rest) = step (tac.Loop (rows head) (rows body) (rows next)) ∷ rows rest
 
-  no_elements : (xs : List ⊥) → map (fold-TacStmt R step) (map (λ none. absurd none) xs) ≡ map {B = R} (λ none. absurd none) xs
+  no_elements : (xs : List ⊥) → map (fold-TacStmt R step) (map (λ none. absurd none) xs) ≡
+      map {B = R} (λ none. absurd none) xs
   no_elements [] = refl
   no_elements (none ∷ xs) = absurd none
 
@@ -55,7 +56,8 @@ module _ (R : Type 0) (step : TacStmt-F R → R) where
   rows_are (Line layer rest) = λ i.
       (fold-roll-TacStmt R step (leaf layer) ∙ ap step (folded_leaf layer)) i ∷ rows_are rest i
   rows_are (Fork cond a b rest) = λ i.
-      (fold-roll-TacStmt R step (tac.If cond (stmts a) (stmts b)) ∙ (λ j. step (tac.If cond (rows_are a j) (rows_are b j)))) i ∷ rows_are rest i
+      (fold-roll-TacStmt R step (tac.If cond (stmts a) (stmts b)) ∙
+      (λ j. step (tac.If cond (rows_are a j) (rows_are b j)))) i ∷ rows_are rest i
   rows_are (Cycle head body next rest) = λ i.
       (fold-roll-TacStmt R step (tac.Loop (stmts head) (stmts body) (stmts next)) ∙
       (λ j. step (tac.Loop (rows_are head j) (rows_are body j) (rows_are next j)))) i ∷ rows_are rest i

@@ -51,7 +51,10 @@ fn a_function(rt: HostRuntime) {
 // One compartment without imports.
 #[tactic(auto, unfolding(sc_base::specs::Identifier::is_name))]
 fn alone(alloc: Global) -> Result<Interfaces, OutOfMemory>
-    ensures { IfOk result (λ interfaces. interfaces ≡ record { comps = record { name = codes "Main"; exports = []; imports = [] } ∷ []; main = 0 }) }
+    ensures { IfOk result (λ interfaces. interfaces ≡ record {
+      comps = record { name = codes "Main"; exports = []; imports = [] } ∷ [];
+      main = 0;
+    }) }
 {
     let mut comps = InterfaceList::new(alloc);
     comps.push(Interface {
@@ -69,7 +72,17 @@ fn main_section(alloc: Global) -> Result<TacSection, OutOfMemory>
     ensures { IfOk result (λ section. section ≡ record {
       structs = [];
       globals = [];
-      functions = record { comp = 0; name = codes "main"; entry = Some Main; params = 0; result = true; temps = 0; objects = []; nodes = 1; body = [] } ∷ [];
+      functions = record {
+        comp = 0;
+        name = codes "main";
+        entry = Some Main;
+        params = 0;
+        result = true;
+        temps = 0;
+        objects = [];
+        nodes = 1;
+        body = [];
+      } ∷ [];
     }) }
 {
     let mut functions = TacFns::new(alloc);
