@@ -12,7 +12,8 @@ use Rattle.sc_tac.specs.Code.{code_library, code_run, scripted_code_run}
 -- blames for arithmetic
 pub record CodeObeys : Type 0 where
   pub itself : (arith : Arith) (program : TacTree) → Obedient (code_library arith program)
-  pub wraps : (program : TacTree) → LibrariesMatch IsArithmetic (code_library c_arith program) (code_library wrapping program)
+  pub wraps : (program : TacTree) →
+      LibrariesMatch IsArithmetic (code_library c_arith program) (code_library wrapping program)
 
 -- the arithmetic that wraps gives the same run up to the first blame for arithmetic, also where some compartments perform,
 -- and no compartment gets less deep
@@ -20,4 +21,5 @@ pub record WrappedCodeAgrees : Type 0 where
   pub meaning : (program : TacTree) (inputs : List ℕ) (turns : ℕ) →
       AgreesInRoom (code_run c_arith program inputs turns) (code_run wrapping program inputs turns)
   pub scripted : (program : TacTree) (set : ℕ → Bool) (trace : List Event) (inputs : List ℕ) (turns : ℕ) →
-      AgreesInRoom (scripted_code_run c_arith program inputs turns set trace) (scripted_code_run wrapping program inputs turns set trace)
+      AgreesInRoom (scripted_code_run c_arith program inputs turns set trace)
+      (scripted_code_run wrapping program inputs turns set trace)
