@@ -59,36 +59,46 @@ both_there (Some f) (Some g) h = refl
 module _ (L M : Library) (agree : LibrariesAgree L M) where
   leads_same : (comp : ℕ) (number : Option ℕ) → leads L comp number ≡ leads M comp number
   leads_same comp None = refl
-  leads_same comp (Some number) = both_there (function L comp number) (function M comp number) (agree.functions comp number)
+  leads_same comp (Some number) =
+      both_there (function L comp number) (function M comp number) (agree.functions comp number)
 
   -- the same calls may be made
-  may_same : (from : ℕ) (target : CallTarget) (args : List Value) → may_call L from target args ≡ may_call M from target args
+  may_same : (from : ℕ) (target : CallTarget) (args : List Value) →
+      may_call L from target args ≡ may_call M from target args
   may_same from (Own number) args =
       both_there (function L from number) (function M from number) (agree.functions from number)
   may_same from (Cross to index) args =
-      ap (λ i. imports i from (is_function to index) && (takes i to index (length args) && (list_all is_word args && leads L to (L.entered to (Export index))))) agree.interfaces
-      ∙ ap (λ b. imports M.interfaces from (is_function to index) && (takes M.interfaces to index (length args) && (list_all is_word args && b)))
+      ap (λ i. imports i from (is_function to index) && (takes i to index (length args)
+      && (list_all is_word args && leads L to (L.entered to (Export index))))) agree.interfaces
+      ∙ ap (λ b. imports M.interfaces from (is_function to index) && (takes M.interfaces to index (length args)
+      && (list_all is_word args && b)))
       (leads_same to (L.entered to (Export index)) ∙ ap (leads M to) (agree.entered to (Export index)))
   may_same from Input args = ap (λ i. imports i from is_input) agree.interfaces
-  may_same from Output args = ap (λ i. imports i from is_output && (length args == 1 && list_all is_word args)) agree.interfaces
+  may_same from Output args = ap (λ i. imports i from is_output && (length args == 1 && list_all is_word args))
+      agree.interfaces
 
   module _ (body other : Body) (bodies : BodiesAgree body other) where
     runs_there : (comp number : ℕ) (args : List Value) (back back' : Option Value → State → Piece (Option Value)) →
-        ((v : Option Value) (s : State) → PiecesAgree (back v s) (back' v s)) → (s : State) (f g : Option Function) → Meets FunctionsAgree f g →
+        ((v : Option Value) (s : State) → PiecesAgree (back v s) (back' v s)) → (s : State) (f g : Option Function) →
+        Meets FunctionsAgree f g →
         PiecesAgree
-        (and_then (found f s) (λ f s. and_then (body number (record { comp = comp; first = length (s.memory comp) }) (begun comp f args s)) (λ v t. back v (done comp f (length (s.memory comp)) t))))
-        (and_then (found g s) (λ g s. and_then (other number (record { comp = comp; first = length (s.memory comp) }) (begun comp g args s)) (λ v t. back' v (done comp g (length (s.memory comp)) t))))
+        (and_then (found f s) (λ f s. and_then (body number (record { comp = comp; first = length (s.memory comp) })
+        (begun comp f args s)) (λ v t. back v (done comp f (length (s.memory comp)) t))))
+        (and_then (found g s) (λ g s. and_then (other number (record { comp = comp; first = length (s.memory comp) })
+        (begun comp g args s)) (λ v t. back' v (done comp g (length (s.memory comp)) t))))
     runs_there comp number args back back' b s None None h = itself _
     runs_there comp number args back back' b s None (Some g) h = absurd h
     runs_there comp number args back back' b s (Some f) None h = absurd h
     runs_there comp number args back back' b s (Some f) (Some g) h =
-        rw (h.cells, h.room) (then_agree _ _ _ _ (bodies number (record { comp = comp; first = length (s.memory comp) }) (begun comp g args s)) (λ v t. b v (done comp g (length (s.memory comp)) t)))
+        rw (h.cells, h.room) (then_agree _ _ _ _ (bodies number (record { comp = comp; first = length (s.memory comp) })
+        (begun comp g args s)) (λ v t. b v (done comp g (length (s.memory comp)) t)))
 
     runs_in : (comp number : ℕ) (args : List Value) (back back' : Option Value → State → Piece (Option Value)) →
         ((v : Option Value) (s : State) → PiecesAgree (back v s) (back' v s)) → (s : State) →
         PiecesAgree (run_in L body comp number args back s) (run_in M other comp number args back' s)
     runs_in comp number args back back' b s =
-        runs_there comp number args back back' b s (function L comp number) (function M comp number) (agree.functions comp number)
+        runs_there comp number args back back' b s (function L comp number) (function M comp number)
+        (agree.functions comp number)
 
     pub own_agree : (comp number : ℕ) (args : List Value) (s : State) →
         PiecesAgree (call_own L body comp number args s) (call_own M other comp number args s)
@@ -102,21 +112,26 @@ module _ (L M : Library) (agree : LibrariesAgree L M) where
     pub cross_agree : (from to index : ℕ) (args : List Value) (s : State) →
         PiecesAgree (call_cross L body from to index args s) (call_cross M other from to index args s)
     cross_agree from to index args s =
-        then_agree _ _ _ _ (found_agree (L.entered to (Export index)) (M.entered to (Export index)) s (agree.entered to (Export index))) (λ number s.
-        runs_in to number (crossed args) (back_cross L.interfaces from to index) (back_cross M.interfaces from to index) (back_agree from to index) (tell (Call from to index (map word_in args)) s))
+        then_agree _ _ _ _ (found_agree (L.entered to (Export index)) (M.entered to (Export index)) s
+        (agree.entered to (Export index))) (λ number s.
+        runs_in to number (crossed args) (back_cross L.interfaces from to index) (back_cross M.interfaces from to index)
+        (back_agree from to index) (tell (Call from to index (map word_in args)) s))
 
     called_agree : CallsAgree (called L body) (called M other)
     called_agree from (Own number) args s = then_agree _ _ _ _ (itself (turn s)) (λ _ s. own_agree from number args s)
-    called_agree from (Cross to index) args s = then_agree _ _ _ _ (itself (turn s)) (λ _ s. cross_agree from to index args s)
+    called_agree from (Cross to index) args s =
+        then_agree _ _ _ _ (itself (turn s)) (λ _ s. cross_agree from to index args s)
     called_agree from Input args s = itself _
     called_agree from Output args s = itself _
 
     pub calls_agree : CallsAgree (calls L body) (calls M other)
     calls_agree from target args s =
-        if_agree (may_call L from target args) (may_call M from target args) _ _ _ _ (may_same from target args) (called_agree from target args s) (itself _)
+        if_agree (may_call L from target args) (may_call M from target args) _ _ _ _ (may_same from target args)
+        (called_agree from target args s) (itself _)
 
     does_there : (here : Here) (s : State) (f g : Option Function) → Meets FunctionsAgree f g →
-        PiecesAgree (and_then (found f s) (λ f s. f.does (calls L body) here s)) (and_then (found g s) (λ g s. g.does (calls M other) here s))
+        PiecesAgree (and_then (found f s) (λ f s. f.does (calls L body) here s))
+        (and_then (found g s) (λ g s. g.does (calls M other) here s))
     does_there here s None None h = itself _
     does_there here s None (Some g) h = absurd h
     does_there here s (Some f) None h = absurd h
@@ -130,7 +145,8 @@ module _ (L M : Library) (agree : LibrariesAgree L M) where
     asks_agree : (comp : ℕ) (target : CallTarget) (args : List Value) (s : State) →
         PiecesAgree (asks L body comp target args s) (asks M other comp target args s)
     asks_agree comp target args s =
-        if_agree (may_call L comp target args) (may_call M comp target args) _ _ _ _ (may_same comp target args) (calls_agree comp target args s) (itself _)
+        if_agree (may_call L comp target args) (may_call M comp target args) _ _ _ _ (may_same comp target args)
+        (calls_agree comp target args s) (itself _)
 
     acts_agree : (action : Action) (next next' again again' : State → Piece (Option Value)) (comp : ℕ) (s : State) →
         ((s : State) → PiecesAgree (next s) (next' s)) → ((s : State) → PiecesAgree (again s) (again' s)) →
@@ -140,15 +156,18 @@ module _ (L M : Library) (agree : LibrariesAgree L M) where
     acts_agree (act.Ret v) next next' again again' comp s n a = itself _
     acts_agree (act.Out w) next next' again again' comp s n a =
         then_agree _ _ _ _ (asks_agree comp Output (Word w ∷ []) s) (λ v s. n s)
-    acts_agree (act.In w) next next' again again' comp s n a = then_agree _ _ _ _ (asks_agree comp Input [] s) (λ v s. n s)
+    acts_agree (act.In w) next next' again again' comp s n a =
+        then_agree _ _ _ _ (asks_agree comp Input [] s) (λ v s. n s)
     acts_agree (act.End w) next next' again again' comp s n a = itself _
 
     pub performs_agree : (rows : List Row) → BodiesAgree (performs L body rows) (performs M other rows)
     performs_agree [] number here s = itself _
     performs_agree (row ∷ rest) number here s =
-        if_agree (is_number number (L.entered here.comp row.entry)) (is_number number (M.entered here.comp row.entry)) _ _ _ _
+        if_agree (is_number number (L.entered here.comp row.entry)) (is_number number (M.entered here.comp row.entry))
+        _ _ _ _
         (ap (is_number number) (agree.entered here.comp row.entry))
-        (acts_agree row.action _ _ _ _ here.comp s (λ s. performs_agree rest number here s) (λ s. bodies number here s)) (itself _)
+        (acts_agree row.action _ _ _ _ here.comp s (λ s. performs_agree rest number here s) (λ s. bodies number here s))
+        (itself _)
 
   -- functions that agree where what they call does
   abbrev pub StepsAgree : Step → Step → Type 0
@@ -156,24 +175,29 @@ module _ (L M : Library) (agree : LibrariesAgree L M) where
 
   pub within_agree : (step to : Step) → StepsAgree step to → (n : ℕ) → BodiesAgree (within step n) (within to n)
   within_agree step to k zero number here s = itself _
-  within_agree step to k (suc n) number here s = k (within step n) (within to n) (within_agree step to k n) number here s
+  within_agree step to k (suc n) number here s =
+      k (within step n) (within to n) (within_agree step to k n) number here s
 
   pub scripted_agree : (roles : Roles) (step to : Step) → StepsAgree step to →
       StepsAgree (scripted_step L roles step) (scripted_step M roles to)
   scripted_agree roles step to k body other bodies number here s =
       if_agree (roles.scripted here.comp) (roles.scripted here.comp) _ _ _ _ refl
-      (performs_agree body other bodies (rows_left roles here.comp s.trace) number here s) (k body other bodies number here s)
+      (performs_agree body other bodies (rows_left roles here.comp s.trace) number here s)
+      (k body other bodies number here s)
 
   pub start_agree : (step to : Step) → StepsAgree step to → (main turns : ℕ) (s : State) →
-      PiecesAgree (and_then (found (L.entered main Main) s) (λ number s. call_own L (within step (suc turns)) main number [] s))
+      PiecesAgree (and_then (found (L.entered main Main) s) (λ number s. call_own L (within step (suc turns)) main
+      number [] s))
       (and_then (found (M.entered main Main) s) (λ number s. call_own M (within to (suc turns)) main number [] s))
   start_agree step to k main turns s =
-      then_agree _ _ _ _ (found_agree (L.entered main Main) (M.entered main Main) s (agree.entered main Main)) (λ number s.
+      then_agree _ _ _ _ (found_agree (L.entered main Main) (M.entered main Main) s (agree.entered main Main))
+      (λ number s.
       own_agree (within step (suc turns)) (within to (suc turns)) (within_agree step to k (suc turns)) main number [] s)
 
 -- whole runs
 
-same_reach : (events : ℕ) (run other : SourceRun) (end end' : RunEnd) → run.trace ≡ other.trace → without_line end ≡ without_line end' →
+same_reach : (events : ℕ) (run other : SourceRun) (end end' : RunEnd) → run.trace ≡ other.trace →
+    without_line end ≡ without_line end' →
     reaches events run end ≡ reaches events other end'
 same_reach events run other Ended Ended is h = ap (λ t. nat_lt events (length t)) is
 same_reach events run other Ended (Blamed c x l) is h = absurd (cc)
@@ -199,10 +223,17 @@ if_shown true false run other run' other' is h k = absurd (cc)
 if_shown false true run other run' other' is h k = absurd (cc)
 if_shown false false run other run' other' is h k = k
 
-pub stopped_agree : (events : ℕ) (run other : SourceRun) → ShownAgree run other → ShownAgree (stopped_at events run) (stopped_at events other)
+pub stopped_agree : (events : ℕ) (run other : SourceRun) → ShownAgree run other →
+    ShownAgree (stopped_at events run) (stopped_at events other)
 stopped_agree events run other h =
-    if_shown (reaches events run run.end) (reaches events other other.end) (record { trace = take events run.trace; end = EventsOut }) (record { trace = take events other.trace; end = EventsOut }) run other
-    (same_reach events run other run.end other.end h.trace h.end) (record { trace = ap (take events) h.trace; end = refl }) h
+    if_shown (reaches events run run.end) (reaches events other other.end) (record {
+      trace = take events run.trace;
+      end = EventsOut;
+    }) (record { trace = take events other.trace; end = EventsOut }) run other
+    (same_reach events run other run.end other.end h.trace h.end) (record {
+      trace = ap (take events) h.trace;
+      end = refl;
+    }) h
 
 twice : (end : RunEnd) → without_line (without_line end) ≡ without_line end
 twice Ended = refl
@@ -211,7 +242,8 @@ twice TurnsOut = refl
 twice EventsOut = refl
 
 -- what a run shows, without the line, is told by its piece without the line
-trace_of : (main : ℕ) (o : Piece (Option Value)) → (run_to main (piece_without_line o)).shown.trace ≡ (run_to main o).shown.trace
+trace_of : (main : ℕ) (o : Piece (Option Value)) →
+    (run_to main (piece_without_line o)).shown.trace ≡ (run_to main o).shown.trace
 trace_of main (Reached v s) = refl
 trace_of main (Stopped end s) = refl
 
@@ -224,7 +256,8 @@ frames_of : (main : ℕ) (o : Piece (Option Value)) → (run_to main (piece_with
 frames_of main (Reached v s) = refl
 frames_of main (Stopped end s) = refl
 
-whole_agree : (main : ℕ) (o p : Piece (Option Value)) → PiecesAgree o p → ShownAgree (run_to main o).shown (run_to main p).shown
+whole_agree : (main : ℕ) (o p : Piece (Option Value)) → PiecesAgree o p →
+    ShownAgree (run_to main o).shown (run_to main p).shown
 whole_agree main o p h = record {
   trace = sym (trace_of main o) ∙ ap (λ x. (run_to main x).shown.trace) h.same ∙ trace_of main p;
   end = sym (end_of main o) ∙ ap (λ x. without_line (run_to main x).shown.end) h.same ∙ end_of main p;
@@ -237,14 +270,20 @@ run_agree main o p h = record {
   frames = sym (frames_of main o) ∙ ap (λ x. (run_to main x).frames) h.same ∙ frames_of main p;
 }
 
-pub runs_agree : (L M : Library) (agree : LibrariesAgree L M) (step to : Step) → StepsAgree L M agree step to → (globals : Memory) (inputs : List ℕ) (turns : ℕ) →
+pub runs_agree : (L M : Library) (agree : LibrariesAgree L M) (step to : Step) → StepsAgree L M agree step to →
+    (globals : Memory) (inputs : List ℕ) (turns : ℕ) →
     RunsAgree (run_by L step globals inputs turns) (run_by M to globals inputs turns)
 runs_agree L M agree step to k globals inputs turns =
-    subst (λ i. RunsAgree (run_by L step globals inputs turns) (run_to i.main (and_then (found (M.entered i.main Main) (first_state globals inputs turns)) (λ number s. call_own M (within to (suc turns)) i.main number [] s)))) agree.interfaces
-    (run_agree L.interfaces.main _ _ (start_agree L M agree step to k L.interfaces.main turns (first_state globals inputs turns)))
+    subst (λ i. RunsAgree (run_by L step globals inputs turns)
+    (run_to i.main (and_then (found (M.entered i.main Main) (first_state globals inputs turns))
+    (λ number s. call_own M (within to (suc turns)) i.main number [] s)))) agree.interfaces
+    (run_agree L.interfaces.main _ _ (start_agree L M agree step to k L.interfaces.main turns
+    (first_state globals inputs turns)))
 
 pub agreeing_run_alike : AgreeingRunAlike
 agreeing_run_alike = record {
   meaning = λ L M agree. runs_agree L M agree (run_step L) (run_step M) (step_agree L M agree);
-  scripted = λ L M agree roles. runs_agree L M agree (scripted_step L roles (run_step L)) (scripted_step M roles (run_step M)) (scripted_agree L M agree roles (run_step L) (run_step M) (step_agree L M agree));
+  scripted = λ L M agree roles. runs_agree L M agree (scripted_step L roles (run_step L))
+      (scripted_step M roles (run_step M)) (scripted_agree L M agree roles (run_step L) (run_step M)
+      (step_agree L M agree));
 }

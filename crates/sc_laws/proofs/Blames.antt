@@ -51,81 +51,115 @@ module _ (set : Set) where
       record { memory = λ s blocks h. tt; turned = λ s h. turned s.turns s; blamed = λ s cause line h. clear }
 
   module _ (library : Library) (body : Body) (spares : BodySpares body) where
-    run_spares : (comp number : ℕ) (args : List Value) (back : Option Value → State → Piece (Option Value)) → ((v : Option Value) (s : State) → Kept sparing (back v s)) → (s : State) → Kept sparing (run_in library body comp number args back s)
+    run_spares : (comp number : ℕ) (args : List Value) (back : Option Value → State → Piece (Option Value)) →
+        ((v : Option Value) (s : State) → Kept sparing (back v s)) → (s : State) →
+        Kept sparing (run_in library body comp number args back s)
     run_spares comp number args back b s =
         found_kept sparing (function library comp number) s _ tt (λ f is.
         then_kept sparing (body number (record { comp = comp; first = length (s.memory comp) }) (begun comp f args s)) _
-        (spares number (record { comp = comp; first = length (s.memory comp) }) (begun comp f args s)) (λ v t h. b v (done comp f (length (s.memory comp)) t)))
+        (spares number (record { comp = comp; first = length (s.memory comp) }) (begun comp f args s))
+        (λ v t h. b v (done comp f (length (s.memory comp)) t)))
 
-    cross_spares : (from to index : ℕ) (args : List Value) (s : State) → Kept sparing (call_cross library body from to index args s)
+    cross_spares : (from to index : ℕ) (args : List Value) (s : State) →
+        Kept sparing (call_cross library body from to index args s)
     cross_spares from to index args s =
         found_kept sparing (library.entered to (Export index)) s _ tt (λ number is.
-        run_spares to number (crossed args) (back_cross library.interfaces from to index) (λ v s. record { after = tt }) (tell (Call from to index (map word_in args)) s))
+        run_spares to number (crossed args) (back_cross library.interfaces from to index) (λ v s. record { after = tt })
+        (tell (Call from to index (map word_in args)) s))
 
-    called_spares : (from : ℕ) (target : CallTarget) (args : List Value) (s : State) → Kept sparing (called library body from target args s)
+    called_spares : (from : ℕ) (target : CallTarget) (args : List Value) (s : State) →
+        Kept sparing (called library body from target args s)
     called_spares from (Own number) args s =
-        then_kept sparing (turn s) (λ _ s. call_own library body from number args s) (turned s.turns s) (λ _ s h. run_spares from number args back_own (λ v s. record { after = tt }) s)
+        then_kept sparing (turn s) (λ _ s. call_own library body from number args s) (turned s.turns s)
+        (λ _ s h. run_spares from number args back_own (λ v s. record { after = tt }) s)
     called_spares from (Cross to index) args s =
-        then_kept sparing (turn s) (λ _ s. call_cross library body from to index args s) (turned s.turns s) (λ _ s h. cross_spares from to index args s)
+        then_kept sparing (turn s) (λ _ s. call_cross library body from to index args s) (turned s.turns s)
+        (λ _ s h. cross_spares from to index args s)
     called_spares from Input args s = record { after = tt }
     called_spares from Output args s = record { after = tt }
 
-    calls_spare : (from : ℕ) → set from ≡ false → (target : CallTarget) (args : List Value) (s : State) → Kept sparing (calls library body from target args s)
+    calls_spare : (from : ℕ) → set from ≡ false → (target : CallTarget) (args : List Value) (s : State) →
+        Kept sparing (calls library body from target args s)
     calls_spare from clear target args s = by (may_call library from target args) where
-      by : (b : Bool) → Kept sparing (if b then called library body from target args s else Stopped (Blamed from BadType 0) s)
+      by : (b : Bool) →
+          Kept sparing (if b then called library body from target args s else Stopped (Blamed from BadType 0) s)
       by true = called_spares from target args s
       by false = record { after = clear }
 
-    asks_spare : (comp : ℕ) (target : CallTarget) (args : List Value) (s : State) → Kept sparing (asks library body comp target args s)
+    asks_spare : (comp : ℕ) (target : CallTarget) (args : List Value) (s : State) →
+        Kept sparing (asks library body comp target args s)
     asks_spare comp target args s = by (may_call library comp target args) where
-      by : (b : Bool) → Kept sparing (if b then (if b then called library body comp target args s else Stopped (Blamed comp BadType 0) s) else Stopped TurnsOut s)
+      by : (b : Bool) →
+          Kept sparing (if b then (if b then called library body comp target args s else Stopped (Blamed comp BadType 0)
+          s) else Stopped TurnsOut s)
       by true = called_spares comp target args s
       by false = record { after = tt }
 
-    run_step_spares : Obedient library → BodyGoes body → (number : ℕ) (here : Here) (s : State) → set here.comp ≡ false → Kept sparing (run_step library body number here s)
+    run_step_spares : Obedient library → BodyGoes body → (number : ℕ) (here : Here) (s : State) →
+        set here.comp ≡ false → Kept sparing (run_step library body number here s)
     run_step_spares obedient goes number here s clear =
         found_kept sparing (function library here.comp number) s (λ f s. f.does (calls library body) here s) tt (λ f is.
-        function_keeps library obedient here.comp number f is sparing here (is_kept here clear) (calls library body) (calls_go library body goes) (λ target args s h. calls_spare here.comp clear target args s) s tt)
+        function_keeps library obedient here.comp number f is sparing here (is_kept here clear) (calls library body)
+        (calls_go library body goes) (λ target args s h. calls_spare here.comp clear target args s) s tt)
 
-    acts_spare : (action : Action) (next again : State → Piece (Option Value)) → ((s : State) → Kept sparing (next s)) → ((s : State) → Kept sparing (again s)) → (comp : ℕ) (s : State) → Kept sparing (acts library body action next again comp s)
+    acts_spare : (action : Action) (next again : State → Piece (Option Value)) → ((s : State) → Kept sparing (next s)) →
+        ((s : State) → Kept sparing (again s)) → (comp : ℕ) (s : State) →
+        Kept sparing (acts library body action next again comp s)
     acts_spare (act.Call to index args) next again n a comp s =
-        then_kept sparing (asks library body comp (Cross to index) (map (λ w. Word w) args) s) _ (asks_spare comp (Cross to index) (map (λ w. Word w) args) s) (λ v s h. a s)
+        then_kept sparing (asks library body comp (Cross to index) (map (λ w. Word w) args) s)
+        _ (asks_spare comp (Cross to index) (map (λ w. Word w) args) s) (λ v s h. a s)
     acts_spare (act.Ret v) next again n a comp s = record { after = tt }
     acts_spare (act.Out w) next again n a comp s =
-        then_kept sparing (asks library body comp Output (Word w ∷ []) s) _ (asks_spare comp Output (Word w ∷ []) s) (λ v s h. n s)
+        then_kept sparing (asks library body comp Output (Word w ∷ []) s) _ (asks_spare comp Output (Word w ∷ []) s)
+        (λ v s h. n s)
     acts_spare (act.In w) next again n a comp s =
         then_kept sparing (asks library body comp Input [] s) _ (asks_spare comp Input [] s) (λ v s h. n s)
     acts_spare (act.End w) next again n a comp s = record { after = tt }
 
     performs_spare : (rows : List Row) → BodySpares (performs library body rows)
     performs_spare [] number here s = record { after = tt }
-    performs_spare (row ∷ rest) number here s = by (performs_spare rest number here) (is_number number (library.entered here.comp row.entry)) where
-      by : ((s : State) → Kept sparing (performs library body rest number here s)) → (b : Bool) → Kept sparing (if b then acts library body row.action (performs library body rest number here) (body number here) here.comp s else Stopped TurnsOut s)
-      by next true = acts_spare row.action (performs library body rest number here) (body number here) next (spares number here) here.comp s
-      by next false = record { after = tt }
+    performs_spare (row ∷ rest) number here s =
+        by (performs_spare rest number here) (is_number number (library.entered here.comp row.entry)) where
+          by : ((s : State) → Kept sparing (performs library body rest number here s)) → (b : Bool) →
+              Kept sparing (if b then acts library body row.action (performs library body rest number here)
+              (body number here) here.comp s else Stopped TurnsOut s)
+          by next true = acts_spare row.action (performs library body rest number here) (body number here) next
+              (spares number here) here.comp s
+          by next false = record { after = tt }
 
   module _ (library : Library) (obedient : Obedient library) (rows : ℕ → List Row) where
     abbrev roles : Roles
     roles = record { scripted = set; rows = rows }
 
-    step_spares : (body : Body) → BodyGoes body → BodySpares body → BodySpares (scripted_step library roles (run_step library) body)
+    step_spares : (body : Body) → BodyGoes body → BodySpares body →
+        BodySpares (scripted_step library roles (run_step library) body)
     step_spares body goes spares number here s = by (set here.comp) refl where
-      by : (b : Bool) → set here.comp ≡ b → Kept sparing (if b then performs library body (rows_left roles here.comp s.trace) number here s else run_step library body number here s)
+      by : (b : Bool) → set here.comp ≡ b →
+          Kept sparing (if b then performs library body (rows_left roles here.comp s.trace) number here s else run_step
+          library body number here s)
       by true is = performs_spare library body spares (rows_left roles here.comp s.trace) number here s
       by false is = run_step_spares library body spares obedient goes number here s is
 
     within_spares : (n : ℕ) → BodySpares (within (scripted_step library roles (run_step library)) n)
     within_spares zero number here s = record { after = tt }
-    within_spares (suc n) number here s = step_spares (within (scripted_step library roles (run_step library)) n) (within_goes (scripted_step library roles (run_step library)) (scripted_goes_on library obedient roles) n) (within_spares n) number here s
+    within_spares (suc n) number here s =
+        step_spares (within (scripted_step library roles (run_step library)) n)
+        (within_goes (scripted_step library roles (run_step library)) (scripted_goes_on library obedient roles) n)
+        (within_spares n) number here s
 
-    run_to_spares : (main : ℕ) (piece : Piece (Option Value)) → Kept sparing piece → Spares (run_to main piece).shown.end
+    run_to_spares : (main : ℕ) (piece : Piece (Option Value)) → Kept sparing piece →
+        Spares (run_to main piece).shown.end
     run_to_spares main (Reached v s) h = tt
     run_to_spares main (Stopped end s) h = h.after
 
-    run_by_spares : (globals : Memory) (inputs : List ℕ) (turns : ℕ) → Spares (run_by library (scripted_step library roles (run_step library)) globals inputs turns).shown.end
+    run_by_spares : (globals : Memory) (inputs : List ℕ) (turns : ℕ) →
+        Spares (run_by library (scripted_step library roles (run_step library)) globals inputs turns).shown.end
     run_by_spares globals inputs turns =
-        run_to_spares library.interfaces.main _ (found_kept sparing (library.entered library.interfaces.main Main) (first_state globals inputs turns) _ tt (λ number is.
-        run_spares library (within (scripted_step library roles (run_step library)) (suc turns)) (within_spares (suc turns)) library.interfaces.main number [] back_own (λ v s. record { after = tt }) (first_state globals inputs turns)))
+        run_to_spares library.interfaces.main _ (found_kept sparing (library.entered library.interfaces.main Main)
+        (first_state globals inputs turns) _ tt (λ number is.
+        run_spares library (within (scripted_step library roles (run_step library)) (suc turns))
+        (within_spares (suc turns)) library.interfaces.main number [] back_own (λ v s. record { after = tt })
+        (first_state globals inputs turns)))
 
   stopped_spares : (events : ℕ) (run : SourceRun) → Spares run.end → Spares (stopped_at events run).end
   stopped_spares events run h = by (reaches events run run.end) where
@@ -133,7 +167,10 @@ module _ (set : Set) where
     by true = tt
     by false = h
 
-pub nobody_is_blamed : (library : Library) → Obedient library → (globals : Memory) (inputs : List ℕ) (turns events : ℕ) (roles : Roles) →
-    (comp : ℕ) (cause : Cause) (line : ℕ) → (stopped_at events (roles_run library globals inputs turns roles).shown).end ≡ Blamed comp cause line → roles.scripted comp ≡ false
+pub nobody_is_blamed : (library : Library) → Obedient library →
+    (globals : Memory) (inputs : List ℕ) (turns events : ℕ) (roles : Roles) →
+    (comp : ℕ) (cause : Cause) (line : ℕ) → (stopped_at events (roles_run library globals inputs turns roles).shown).end
+    ≡ Blamed comp cause line → roles.scripted comp ≡ false
 nobody_is_blamed library obedient globals inputs turns events roles comp cause line ends =
-    subst (Spares roles.scripted) ends (stopped_spares roles.scripted events (roles_run library globals inputs turns roles).shown (run_by_spares roles.scripted library obedient roles.rows globals inputs turns))
+    subst (Spares roles.scripted) ends (stopped_spares roles.scripted events (roles_run library globals inputs turns
+    roles).shown (run_by_spares roles.scripted library obedient roles.rows globals inputs turns))

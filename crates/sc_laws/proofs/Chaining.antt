@@ -19,13 +19,16 @@ use Rattle.sc_laws.proofs.Blames.{nobody_is_blamed}
 use Rattle.sc_laws.proofs.FollowingRuns.{passes_blames}
 
 -- a run that is blamed has fewer events than were allowed
-early : (n : ℕ) (x : SourceRun) (comp : ℕ) (cause : Cause) (line : ℕ) → (stopped_at n x).end ≡ Blamed comp cause line → length (stopped_at n x).trace < n
+early : (n : ℕ) (x : SourceRun) (comp : ℕ) (cause : Cause) (line : ℕ) → (stopped_at n x).end ≡ Blamed comp cause line →
+    length (stopped_at n x).trace < n
 early n x comp cause line ends = by (reaches n x x.end) refl ends where
   few : (end : RunEnd) → end ≡ Blamed comp cause line → reaches n x end ≡ false → length x.trace < n
   few end is stays =
-      let test : nat_le n (length x.trace) ≡ false = ap (reaches n x) (sym is) ∙ stays in leb-false n (length x.trace) test
+      let test : nat_le n (length x.trace) ≡ false =
+      ap (reaches n x) (sym is) ∙ stays in leb-false n (length x.trace) test
 
-  by : (b : Bool) → reaches n x x.end ≡ b → (if b then record { trace = take n x.trace; end = EventsOut } else x).end ≡ Blamed comp cause line → length (if b then record { trace = take n x.trace; end = EventsOut } else x).trace < n
+  by : (b : Bool) → reaches n x x.end ≡ b → (if b then record { trace = take n x.trace; end = EventsOut } else x).end
+      ≡ Blamed comp cause line → length (if b then record { trace = take n x.trace; end = EventsOut } else x).trace < n
   by true is ends = cc
   by false is ends = few x.end ends is
 
@@ -42,16 +45,27 @@ module _ (L : Library) (obedient : Obedient L) (globals : Memory) (inputs : List
   abbrev shown : Set → SourceRun
   shown set = performed_by L globals inputs turns t set
 
-  blamed_early : (set : Set) (comp : ℕ) (cause : Cause) (line : ℕ) → (shown set).end ≡ Blamed comp cause line → length (shown set).trace < length t
-  blamed_early set comp cause line ends = early (length t) (roles_run L globals inputs turns (roles_in L.interfaces.main set t)).shown comp cause line ends
+  blamed_early : (set : Set) (comp : ℕ) (cause : Cause) (line : ℕ) → (shown set).end ≡ Blamed comp cause line →
+      length (shown set).trace < length t
+  blamed_early set comp cause line ends =
+      early (length t) (roles_run L globals inputs turns (roles_in L.interfaces.main set t)).shown comp cause line ends
 
   -- where the next run is blamed it has told more
-  told_more : (run other : SourceRun) (comp : ℕ) (cause : Cause) (line : ℕ) → other.end ≡ Blamed comp cause line → PassesBlame run other → length run.trace < length other.trace
+  told_more : (run other : SourceRun) (comp : ℕ) (cause : Cause) (line : ℕ) → other.end ≡ Blamed comp cause line →
+      PassesBlame run other → length run.trace < length other.trace
   told_more run other comp cause line ends (turnless is) = let wants : other.end ≡ TurnsOut = ap (λ r. r.end) is in cc
   told_more run other comp cause line ends (longer event front) =
-      omega (arith, ap length front.is, length-append (run.trace ++ event ∷ []) front.more, length-append run.trace (event ∷ []))
+      omega (
+        arith,
+        ap length front.is,
+        length-append (run.trace ++ event ∷ []) front.more,
+        length-append run.trace
+            (event ∷ []),
+      )
 
-  rises : (set : Set) (least : ℕ) (links : List Link) → ((comp : ℕ) (cause : Cause) (line : ℕ) → (shown set).end ≡ Blamed comp cause line → least ≤ length (shown set).trace)
+  rises : (set : Set) (least : ℕ) (links : List Link) →
+      ((comp : ℕ) (cause : Cause) (line : ℕ) → (shown set).end ≡ Blamed comp cause line →
+      least ≤ length (shown set).trace)
       → IsChain (performed_by L globals inputs turns t) t set links → IsRising least (length t) links
   rises set least [] h chain = tt
   rises set least (link ∷ links) h chain =
@@ -62,18 +76,25 @@ module _ (L : Library) (obedient : Obedient L) (globals : Memory) (inputs : List
         omega (arith, low, same),
         omega (arith, high, same),
         rises (with link.comp set) (suc link.after) links (λ comp cause line ends.
-            let more : length (shown set).trace < length (shown (with link.comp set)).trace = told_more (shown set) (shown (with link.comp set)) comp cause line ends
-            (passes_blames L obedient globals inputs turns t set (with link.comp set) (within_with set link.comp) link.comp link.cause link.line here.blamed here.front (with_has set link.comp)) in
+            let more : length (shown set).trace < length (shown (with link.comp set)).trace =
+            told_more (shown set) (shown (with link.comp set)) comp cause line ends
+            (passes_blames L obedient globals inputs turns t set (with link.comp set) (within_with set link.comp)
+            link.comp link.cause link.line here.blamed here.front (with_has set link.comp)) in
             omega (arith, more, same)) chain.1,
       )
 
-  are_fresh : (set : Set) (links : List Link) → IsChain (performed_by L globals inputs turns t) t set links → AreFresh set links
+  are_fresh : (set : Set) (links : List Link) → IsChain (performed_by L globals inputs turns t) t set links →
+      AreFresh set links
   are_fresh set [] chain = tt
-  are_fresh set (link ∷ links) chain =
-      (nobody_is_blamed L obedient globals inputs turns (length t) (roles_in L.interfaces.main set t) link.comp link.cause link.line chain.0.blamed, are_fresh (with link.comp set) links chain.1)
+  are_fresh set (link ∷ links) chain = (
+    nobody_is_blamed L obedient globals inputs turns (length t) (roles_in L.interfaces.main set t) link.comp
+        link.cause link.line chain.0.blamed,
+    are_fresh (with link.comp set) links chain.1,
+  )
 
   pub chain_rises : ChainRises t shown
-  chain_rises links chain = (rises nobody 0 links (λ comp cause line ends. omega arith) chain, are_fresh nobody links chain)
+  chain_rises links chain =
+      (rises nobody 0 links (λ comp cause line ends. omega arith) chain, are_fresh nobody links chain)
 
 -- how many compartments below a number are not of a set
 missing : Set → ℕ → ℕ
@@ -85,27 +106,33 @@ above_counts : (set : Set) (comp n : ℕ) → n ≤ comp → missing (with comp 
 unfolding missing
 above_counts set comp zero le = refl
 above_counts set comp (suc n) le =
-    ap₂ (λ b m. (if b || set n then 0 else 1) + m) (ne_eqb n comp (λ is. absurd (omega (arith, le, is)))) (above_counts set comp n (omega (arith, le)))
+    ap₂ (λ b m. (if b || set n then 0 else 1) + m) (ne_eqb n comp (λ is. absurd (omega (arith, le, is))))
+    (above_counts set comp n (omega (arith, le)))
 
 -- one below it that isn't of the set counts once
 still_apart : (n comp : ℕ) → (n == comp) ≡ false → comp < suc n → comp < n
-still_apart n comp differs lt = ⊎_elim (λ is. cc (sym differs ∙ eq-eqb n comp is)) (λ no. omega (arith, lt, no)) (cases_eq n comp)
+still_apart n comp differs lt = ⊎_elim (λ is. cc (sym differs ∙ eq-eqb n comp is)) (λ no. omega (arith, lt, no))
+    (cases_eq n comp)
 
 below_counts : (set : Set) (comp n : ℕ) → set comp ≡ false → comp < n → suc (missing (with comp set) n) ≡ missing set n
 unfolding missing
 below_counts set comp zero clear lt = absurd (omega (arith, lt))
 below_counts set comp (suc n) clear lt = by (below_counts set comp n clear) (n == comp) refl where
-  by : (comp < n → suc (missing (with comp set) n) ≡ missing set n) → (b : Bool) → (n == comp) ≡ b → suc ((if (n == comp) || set n then 0 else 1) + missing (with comp set) n) ≡ (if set n then 0 else 1) + missing set n
+  by : (comp < n → suc (missing (with comp set) n) ≡ missing set n) → (b : Bool) → (n == comp) ≡ b →
+      suc ((if (n == comp) || set n then 0 else 1) + missing (with comp set) n) ≡ (if set n then 0 else 1) + missing set
+      n
   by before true is =
       let same : n ≡ comp = eqb-true n comp is in
       let here : set n ≡ false = ap set same ∙ clear in
       let counts : missing (with comp set) n ≡ missing set n = above_counts set comp n (omega (arith, same)) in
       ap (λ b. suc ((if b || set n then 0 else 1) + missing (with comp set) n)) is
-      ∙ ((let one : suc (0 + missing (with comp set) n) ≡ 1 + missing set n = omega (arith, counts) in one) ∙ ap (λ b. (if b then 0 else 1) + missing set n) (sym here))
+      ∙ ((let one : suc (0 + missing (with comp set) n) ≡ 1 + missing set n = omega (arith, counts) in one)
+      ∙ ap (λ b. (if b then 0 else 1) + missing set n) (sym here))
   by before false is =
       let counts : suc (missing (with comp set) n) ≡ missing set n = before (still_apart n comp is lt) in
       ap (λ b. suc ((if b || set n then 0 else 1) + missing (with comp set) n)) is
-      ∙ (let one : ℕ = if set n then 0 else 1 in let moved : suc (one + missing (with comp set) n) ≡ one + missing set n = omega (arith, counts) in moved)
+      ∙ (let one : ℕ = if set n then 0 else 1 in let moved : suc (one + missing (with comp set) n)
+      ≡ one + missing set n = omega (arith, counts) in moved)
 
 nobody_missing : (n : ℕ) → missing nobody n ≡ n
 unfolding missing
@@ -119,16 +146,24 @@ module _ (t : List Event) (runs : Set → SourceRun) (count : ℕ)
 
   found : (most : ℕ) (set : Set) → missing set count ≤ most → Found set most
   found zero set few = ⊎_elim (λ tells. ([], tells, omega arith)) (λ b.
-      let counts = below_counts set b.comp count b.outside b.compartment in absurd (omega (arith, few, counts))) (each set)
-  found (suc most) set few = ⊎_elim (λ tells. ([], tells, omega arith)) (λ b. goes_on b (found most (with b.comp set) (fewer b))) (each set) where
-    fewer : (b : IsBlamedOutside count set (runs set) t) → missing (with b.comp set) count ≤ most
-    fewer b = let counts = below_counts set b.comp count b.outside b.compartment in omega (arith, few, counts)
+      let counts = below_counts set b.comp count b.outside b.compartment in absurd (omega (arith, few, counts)))
+      (each set)
+  found (suc most) set few =
+      ⊎_elim (λ tells. ([], tells, omega arith)) (λ b. goes_on b (found most (with b.comp set) (fewer b)))
+      (each set) where
+        fewer : (b : IsBlamedOutside count set (runs set) t) → missing (with b.comp set) count ≤ most
+        fewer b = let counts = below_counts set b.comp count b.outside b.compartment in omega (arith, few, counts)
 
-    goes_on : (b : IsBlamedOutside count set (runs set) t) → Found (with b.comp set) most → Found set (suc most)
-    goes_on b rest =
-        let link : Link = record { comp = b.comp; after = length (runs set).trace; cause = b.cause; line = b.line } in
-        let few_links : length rest.0 ≤ most = rest.2 in
-        (link ∷ rest.0, (record { blamed = b.blamed; front = b.front; after = refl }, rest.1), omega (arith, few_links))
+        goes_on : (b : IsBlamedOutside count set (runs set) t) → Found (with b.comp set) most → Found set (suc most)
+        goes_on b rest =
+            let link : Link =
+            record { comp = b.comp; after = length (runs set).trace; cause = b.cause; line = b.line } in
+            let few_links : length rest.0 ≤ most = rest.2 in (
+              link ∷ rest.0,
+              (record { blamed = b.blamed; front = b.front; after = refl }, rest.1),
+              omega
+                  (arith, few_links),
+            )
 
 pub has_chain : (trace : List Event) (runs : Set → SourceRun) → HasChain trace runs
 has_chain trace runs count each =

@@ -1,4 +1,5 @@
--- Two runs along one trace, of which the second has more compartments that perform their parts of it: the relation of their pieces.
+-- Two runs along one trace, of which the second has more compartments that perform their parts of it: the relation of
+-- their pieces.
 use Rattle.std.proofs.Common.{◌≡◌, ℕ, zero, suc, ◌<◌, ◌≤◌, List, [], ◌∷◌, ◌++◌, Option, Some, Result, Ok, Err, refl, sym, ap, ◌∙◌, subst, arith, ⊎_elim, append_assoc}
 use Rattle.std.specs.Prelude.{Bool, true, false, if◌then◌else◌}
 use Rattle.std.proofs.lemmas.Bool.{eq-eqb, ne_eqb, cases_eq, both_ways}
@@ -41,7 +42,8 @@ module _ (main : ℕ) (t : List Event) (S' : ℕ → Bool) where
   Agreed V Ended s p = Unit {0}
   Agreed V TurnsOut s p = Unit {0}
   Agreed V EventsOut s p = Unit {0}
-  Agreed V (Blamed comp cause line) s p = S' comp ≡ false → (s' : State) × (p ≡ Stopped (Blamed comp cause line) s') × (s'.trace ≡ s.trace)
+  Agreed V (Blamed comp cause line) s p = S' comp ≡ false → (s' : State) × (p ≡ Stopped (Blamed comp cause line) s')
+      × (s'.trace ≡ s.trace)
 
   -- the second run tells an event more, or wants a turn or a row for it
   pub data MovesOn (V : Type 0) (u : List Event) (p : Piece V) : Type 0 where
@@ -78,7 +80,8 @@ module _ (main : ℕ) (t : List Event) (S' : ℕ → Bool) where
   if_blamed EventsOut V W f h = tt
   if_blamed (Blamed comp cause line) V W f h = λ set. f (h set)
 
-  pub beyond_in : (end : RunEnd) (s : State) (p : Piece (Option Value)) → Beyond (Option Value) end s p → BeyondIn end s p
+  pub beyond_in : (end : RunEnd) (s : State) (p : Piece (Option Value)) → Beyond (Option Value) end s p →
+      BeyondIn end s p
   beyond_in end s p by =
       record { front = by.front; agreed = by.agreed; passed = if_blamed end _ _ passes by.passed }
 
@@ -93,89 +96,198 @@ module _ (main : ℕ) (t : List Event) (S' : ℕ → Bool) where
     pub follows : InLine t (last o).trace → KeepsUp st V o p
 
   -- STATES
-  pub near_blocks : (st : Standing) (s s' : State) (c : ℕ) (x x' : Blocks) → (S' c ≡ false → x' ≡ x) → Abreast st s s' → Abreast st (record s { memory = with_blocks c x s.memory }) (record s' { memory = with_blocks c x' s'.memory })
+  pub near_blocks : (st : Standing) (s s' : State) (c : ℕ) (x x' : Blocks) → (S' c ≡ false → x' ≡ x) → Abreast st s s' →
+      Abreast st (record s { memory = with_blocks c x s.memory }) (record s' { memory = with_blocks c x' s'.memory })
   near_blocks st s s' c x x' same n =
-      record { trace = n.trace; front = n.front; turns = n.turns; inputs = n.inputs; stands = n.stands; memory = λ d clear. ⊎_elim (λ is. blocks_here c d x' s'.memory is ∙ same (subst (λ k. S' k ≡ false) is clear) ∙ sym (blocks_here c d x s.memory is)) (λ differs. blocks_there c d x' s'.memory differs ∙ n.memory d clear ∙ sym (blocks_there c d x s.memory differs)) (cases_eq d c) }
+      record {
+        trace = n.trace;
+        front = n.front;
+        turns = n.turns;
+        inputs = n.inputs;
+        stands = n.stands;
+        memory = λ d clear. ⊎_elim (λ is. blocks_here c d x' s'.memory is ∙ same (subst (λ k. S' k ≡ false) is clear)
+            ∙ sym (blocks_here c d x s.memory is)) (λ differs. blocks_there c d x' s'.memory differs ∙ n.memory d clear
+            ∙ sym (blocks_there c d x s.memory differs)) (cases_eq d c);
+      }
 
   -- blocks of a compartment that performs in the second run change in the first alone
-  pub near_left : (st : Standing) (s s' : State) (c : ℕ) (x : Blocks) → S' c ≡ true → Abreast st s s' → Abreast st (record s { memory = with_blocks c x s.memory }) s'
+  pub near_left : (st : Standing) (s s' : State) (c : ℕ) (x : Blocks) → S' c ≡ true → Abreast st s s' →
+      Abreast st (record s { memory = with_blocks c x s.memory }) s'
   near_left st s s' c x performs n =
-      record { trace = n.trace; front = n.front; turns = n.turns; inputs = n.inputs; stands = n.stands; memory = λ d clear. n.memory d clear ∙ sym (blocks_there c d x s.memory (λ is. both_ways (S' d) clear (ap S' is ∙ performs))) }
+      record {
+        trace = n.trace;
+        front = n.front;
+        turns = n.turns;
+        inputs = n.inputs;
+        stands = n.stands;
+        memory =
+            λ d clear. n.memory d clear
+            ∙ sym (blocks_there c d x s.memory (λ is. both_ways (S' d) clear (ap S' is ∙ performs)));
+      }
 
-  pub near_tell : (st after : Standing) (s s' : State) (e : Event) (more : List Event) → stands_after st e ≡ Some after → t ≡ s.trace ++ e ∷ more → Abreast st s s' → Abreast after (tell e s) (tell e s')
+  pub near_tell : (st after : Standing) (s s' : State) (e : Event) (more : List Event) →
+      stands_after st e ≡ Some after → t ≡ s.trace ++ e ∷ more → Abreast st s s' → Abreast after (tell e s) (tell e s')
   near_tell st after s s' e more moves is n =
-      record { trace = ap (λ u. u ++ e ∷ []) n.trace; front = record { more = more; is = is ∙ sym (append_assoc s.trace (e ∷ []) more) }; turns = n.turns; inputs = n.inputs; memory = n.memory; stands = stands_last (at_start main) s.trace e st n.stands ∙ moves }
+      record {
+        trace = ap (λ u. u ++ e ∷ []) n.trace;
+        front = record {
+          more = more;
+          is = is
+              ∙ sym (append_assoc s.trace (e ∷ []) more);
+        };
+        turns = n.turns;
+        inputs = n.inputs;
+        memory = n.memory;
+        stands =
+            stands_last (at_start main) s.trace e st n.stands ∙ moves;
+      }
 
   -- a piece that goes on from the place where the trace ends has told all of it
   pub whole : (u v : List Event) → t ≡ u → Front u v → Front t v
   whole u v is front = subst (λ x. Front x v) (sym is) front
 
   -- THE WORDS IN BOTH RUNS
-  agreed_then : (V W : Type 0) (end : RunEnd) (s : State) (p : Piece V) (l : V → State → Piece W) → Agreed V end s p → Agreed W end s (and_then p l)
+  agreed_then : (V W : Type 0) (end : RunEnd) (s : State) (p : Piece V) (l : V → State → Piece W) → Agreed V end s p →
+      Agreed W end s (and_then p l)
   agreed_then V W Ended s p l h = tt
   agreed_then V W TurnsOut s p l h = tt
   agreed_then V W EventsOut s p l h = tt
   agreed_then V W (Blamed comp cause line) s p l h = λ clear.
       (let x = h clear in (x.0, ap (λ y. and_then y l) x.1, x.2))
 
-  passed_then : (V W : Type 0) (u : List Event) (p : Piece V) (l : V → State → Piece W) → ((v : V) → Goes (l v)) → MovesOn V u p → MovesOn W u (and_then p l)
+  passed_then : (V W : Type 0) (u : List Event) (p : Piece V) (l : V → State → Piece W) → ((v : V) → Goes (l v)) →
+      MovesOn V u p → MovesOn W u (and_then p l)
   passed_then V W u p l goes (no_turn s' is same) = no_turn s' (ap (λ y. and_then y l) is) same
   passed_then V W u p l goes (longer e front) =
       longer e (front_more (u ++ e ∷ []) (last p).trace (last (and_then p l)).trace front (then_from p l goes).events)
 
-  pub beyond_then : (V W : Type 0) (end : RunEnd) (s : State) (p : Piece V) (l : V → State → Piece W) → ((v : V) → Goes (l v)) → Beyond V end s p → Beyond W end s (and_then p l)
+  pub beyond_then : (V W : Type 0) (end : RunEnd) (s : State) (p : Piece V) (l : V → State → Piece W) →
+      ((v : V) → Goes (l v)) → Beyond V end s p → Beyond W end s (and_then p l)
   beyond_then V W end s p l goes by =
-      record { front = front_more s.trace (last p).trace (last (and_then p l)).trace by.front (then_from p l goes).events; agreed = agreed_then V W end s p l by.agreed; passed = if_blamed end _ _ (passed_then V W s.trace p l goes) by.passed }
+      record {
+        front = front_more s.trace (last p).trace (last (and_then p l)).trace by.front
+            (then_from p l goes).events;
+        agreed = agreed_then V W end s p l by.agreed;
+        passed =
+            if_blamed end _ _ (passed_then V W s.trace p l goes) by.passed;
+      }
 
   -- what performs returns, and its return is told
-  passed_back : (W : Type 0) (u : List Event) (p : Piece (Option Value)) (l : Option Value → State → Piece W) → ((v : Option Value) → Goes (l v)) → ((v : Option Value) (x : State) → (e : Event) × Front (x.trace ++ e ∷ []) (last (l v x)).trace) → MovesOrReturns u p → MovesOn W u (and_then p l)
+  passed_back : (W : Type 0) (u : List Event) (p : Piece (Option Value)) (l : Option Value → State → Piece W) →
+      ((v : Option Value) → Goes (l v)) →
+      ((v : Option Value) (x : State) → (e : Event) × Front (x.trace ++ e ∷ []) (last (l v x)).trace) →
+      MovesOrReturns u p → MovesOn W u (and_then p l)
   passed_back W u p l goes tells (passes h) = passed_then (Option Value) W u p l goes h
   passed_back W u p l goes tells (hands_back v s' is same) =
-      (let e : Event = (tells v s').0 in longer e (subst (λ y. Front (u ++ e ∷ []) (last (and_then y l)).trace) (sym is) (subst (λ x. Front (x ++ e ∷ []) (last (l v s')).trace) same (tells v s').1)))
+      (let e : Event = (tells v s').0 in longer e (subst (λ y. Front (u ++ e ∷ []) (last (and_then y l)).trace) (sym is)
+      (subst (λ x. Front (x ++ e ∷ []) (last (l v s')).trace) same (tells v s').1)))
 
-  pub beyond_back : (W : Type 0) (end : RunEnd) (s : State) (p : Piece (Option Value)) (l : Option Value → State → Piece W) → ((v : Option Value) → Goes (l v)) → ((v : Option Value) (x : State) → (e : Event) × Front (x.trace ++ e ∷ []) (last (l v x)).trace) → BeyondIn end s p → Beyond W end s (and_then p l)
+  pub beyond_back : (W : Type 0) (end : RunEnd) (s : State) (p : Piece (Option Value)) (l : Option Value → State →
+      Piece W) → ((v : Option Value) → Goes (l v)) → ((v : Option Value) (x : State) →
+      (e : Event) × Front (x.trace ++ e ∷ []) (last (l v x)).trace) → BeyondIn end s p → Beyond W end s (and_then p l)
   beyond_back W end s p l goes tells by =
-      record { front = front_more s.trace (last p).trace (last (and_then p l)).trace by.front (then_from p l goes).events; agreed = agreed_then (Option Value) W end s p l by.agreed; passed = if_blamed end _ _ (passed_back W s.trace p l goes tells) by.passed }
+      record {
+        front = front_more s.trace (last p).trace (last (and_then p l)).trace by.front
+            (then_from p l goes).events;
+        agreed = agreed_then (Option Value) W end s p l by.agreed;
+        passed =
+            if_blamed end _ _ (passed_back W s.trace p l goes tells) by.passed;
+      }
 
   module _ (st : Standing) where
-    then_follows : (V W : Type 0) (s s' : State) (o p : Piece V) (k l : V → State → Piece W) → Gone s o → Gone s' p → ((v : V) → Goes (k v)) → ((v : V) → Goes (l v)) → ((v : V) (x x' : State) → Grown s x → Grown s' x' → Abreast st x x' → Keeping st W (k v x) (l v x'))
+    then_follows : (V W : Type 0) (s s' : State) (o p : Piece V) (k l : V → State → Piece W) → Gone s o → Gone s' p →
+        ((v : V) → Goes (k v)) → ((v : V) → Goes (l v)) →
+        ((v : V) (x x' : State) → Grown s x → Grown s' x' → Abreast st x x' → Keeping st W (k v x) (l v x'))
         → InLine t (last (and_then o k)).trace → KeepsUp st V o p → KeepsUp st W (and_then o k) (and_then p l)
     then_follows V W s s' o p k l g g' goes goes' h along (done a b) =
-        done (front_more t (last o).trace (last (and_then o k)).trace a (then_from o k goes).events) (front_more t (last p).trace (last (and_then p l)).trace b (then_from p l goes').events)
+        done (front_more t (last o).trace (last (and_then o k)).trace a (then_from o k goes).events)
+        (front_more t (last p).trace (last (and_then p l)).trace b (then_from p l goes').events)
     then_follows V W s s' o p k l g g' goes goes' h along (both v x x' is is' near) =
         let grown : Grown s x = subst (λ y. Grown s (last y)) is g.grown in
         let grown' : Grown s' x' = subst (λ y. Grown s' (last y)) is' g'.grown in
-        let next : KeepsUp st W (k v x) (l v x') = (h v x x' grown grown' near).follows (subst (λ y. InLine t (last (and_then y k)).trace) is along) in
-        subst (λ y. KeepsUp st W (and_then y k) (and_then p l)) (sym is) (subst (λ y. KeepsUp st W (k v x) (and_then y l)) (sym is') next)
+        let next : KeepsUp st W (k v x) (l v x') =
+        (h v x x' grown grown' near).follows (subst (λ y. InLine t (last (and_then y k)).trace) is along) in
+        subst (λ y. KeepsUp st W (and_then y k) (and_then p l)) (sym is)
+        (subst (λ y. KeepsUp st W (k v x) (and_then y l)) (sym is') next)
     then_follows V W s s' o p k l g g' goes goes' h along (stop end x is by) =
         stop end x (ap (λ y. and_then y k) is) (beyond_then V W end x p l goes' by)
 
-    turn_follows : (W : Type 0) (k l : Unit {0} → State → Piece W) → ((v : Unit {0}) → Goes (l v)) → (s s' : State) → Abreast st s s' → (m m' : ℕ) → m ≡ s.turns → m' ≡ s'.turns
-        → ((x x' : State) → x.turns < s.turns → x'.turns < s'.turns → Abreast st x x' → Keeping st W (k tt x) (l tt x')) → Keeping st W (and_then (turn_of m s) k) (and_then (turn_of m' s') l)
+    turn_follows : (W : Type 0) (k l : Unit {0} → State → Piece W) → ((v : Unit {0}) → Goes (l v)) → (s s' : State) →
+        Abreast st s s' → (m m' : ℕ) → m ≡ s.turns → m' ≡ s'.turns
+        → ((x x' : State) → x.turns < s.turns → x'.turns < s'.turns → Abreast st x x' →
+        Keeping st W (k tt x) (l tt x')) → Keeping st W (and_then (turn_of m s) k) (and_then (turn_of m' s') l)
     turn_follows W k l goes s s' n zero m' is is' h =
-        record { follows = λ along. stop TurnsOut s refl (record { front = subst (λ u. Front u (last (and_then (turn_of m' s') l)).trace) n.trace (then_goes s' (turn_of m' s') l (turn_of_goes m' s' is') goes).grown.events; agreed = tt; passed = tt }) }
-    turn_follows W k l goes s s' n (suc m) zero is is' h = (let le : s.turns ≤ s'.turns = n.turns in absurd (omega (arith, le, is, is')))
+        record {
+          follows = λ along. stop TurnsOut s refl
+              (record {
+                front = subst (λ u. Front u (last (and_then (turn_of m' s') l)).trace) n.trace
+                    (then_goes s' (turn_of m' s') l (turn_of_goes m' s' is') goes).grown.events;
+                agreed = tt;
+                passed = tt;
+              });
+        }
+    turn_follows W k l goes s s' n (suc m) zero is is' h =
+        (let le : s.turns ≤ s'.turns = n.turns in absurd (omega (arith, le, is, is')))
     turn_follows W k l goes s s' n (suc m) (suc m') is is' h =
-        (let le : s.turns ≤ s'.turns = n.turns in h (record s { turns = m }) (record s' { turns = m' }) (omega (arith, is)) (omega (arith, is')) (record { trace = n.trace; front = n.front; turns = omega (arith, le, is, is'); inputs = n.inputs; memory = n.memory; stands = n.stands }))
+        (let le : s.turns ≤ s'.turns = n.turns in h (record s { turns = m }) (record s' { turns = m' })
+        (omega (arith, is)) (omega (arith, is')) (record {
+          trace = n.trace;
+          front = n.front;
+          turns = omega (arith, le, is, is');
+          inputs = n.inputs;
+          memory = n.memory;
+          stands = n.stands;
+        }))
 
     pub follow_kept : Kept (Abreast st) (Keeping st)
     follow_kept =
-        record { reached = λ V v s s' n. record { follows = λ along. both v s s' refl refl n }; after = λ V W s s' o p k l n g g' goes goes' r h. record { follows = λ along. then_follows V W s s' o p k l g g' goes goes' h along (r.follows (in_line_before t (last o).trace (last (and_then o k)).trace (then_from o k goes).events along)) }; turned = λ W k l goes goes' s s' n h. turn_follows W k l goes' s s' n s.turns s'.turns refl refl h }
+        record {
+          reached = λ V v s s' n. record { follows = λ along. both v s s' refl refl n };
+          after =
+              λ V W s s' o p k l n g g' goes goes' r h. record {
+                follows = λ along. then_follows V W s s' o p k l g g' goes
+                    goes' h along (r.follows (in_line_before t (last o).trace (last (and_then o k)).trace
+                    (then_from o k goes).events along));
+              };
+          turned = λ W k l goes goes' s s' n h. turn_follows W k l goes' s s' n
+              s.turns s'.turns refl refl h;
+        }
 
-    computed_follow : (V : Type 0) (here : Here) → S' here.comp ≡ false → (line : ℕ) (r : Result V Cause) (s s' : State) → Abreast st s s' → Keeping st V (computed here line r s) (computed here line r s')
+    computed_follow : (V : Type 0) (here : Here) → S' here.comp ≡ false →
+        (line : ℕ) (r : Result V Cause) (s s' : State) → Abreast st s s' →
+        Keeping st V (computed here line r s) (computed here line r s')
     computed_follow V here clear line (Ok v) s s' n = record { follows = λ along. both v s s' refl refl n }
     computed_follow V here clear line (Err cause) s s' n =
-        record { follows = λ along. stop (Blamed here.comp cause line) s refl (record { front = subst (Front s.trace) (sym n.trace) (front_same s.trace); agreed = λ clear. (s', refl, n.trace); passed = λ set. absurd (both_ways (S' here.comp) clear set) }) }
+        record {
+          follows = λ along. stop (Blamed here.comp cause line) s refl
+              (record {
+                front = subst (Front s.trace) (sym n.trace) (front_same s.trace);
+                agreed = λ clear. (s', refl, n.trace);
+                passed = λ set. absurd (both_ways (S' here.comp) clear set);
+              });
+        }
 
     -- calls of a compartment that performs in neither run
     pub follow_at : (here : Here) → S' here.comp ≡ false → KeptAt (Abreast st) (Keeping st) Never here
     follow_at here clear =
-        record { computing = λ V line e e' h s s' n. subst (λ x. Keeping st V (computed here line (e (s.memory here.comp)) s) (computed here line (e' x) s')) (sym (n.memory here.comp clear)) (equal V line (e (s.memory here.comp)) (e' (s.memory here.comp)) s s' n (h (s.memory here.comp))); passed = λ V cause line soft s s' n p g. absurd soft; stored = λ blocks s s' n. near_blocks st s s' here.comp blocks blocks (λ c. refl) n } where
-          equal : (V : Type 0) (line : ℕ) (r r' : Result V Cause) (s s' : State) → Abreast st s s' → Keeps Never V r r' → Keeping st V (computed here line r s) (computed here line r' s')
-          equal V line r r' s s' n (alike is) = subst (λ x. Keeping st V (computed here line r s) (computed here line x s')) (sym is) (computed_follow V here clear line r s s' n)
+        record {
+          computing = λ V line e e' h s s' n. subst
+              (λ x. Keeping st V (computed here line (e (s.memory here.comp)) s) (computed here line (e' x) s'))
+              (sym (n.memory here.comp clear)) (equal V line (e (s.memory here.comp)) (e' (s.memory here.comp)) s s' n
+              (h (s.memory here.comp)));
+          passed = λ V cause line soft s s' n p g. absurd soft;
+          stored =
+              λ blocks s s' n. near_blocks st s s' here.comp blocks blocks (λ c. refl) n;
+        } where
+          equal : (V : Type 0) (line : ℕ) (r r' : Result V Cause) (s s' : State) → Abreast st s s' →
+              Keeps Never V r r' → Keeping st V (computed here line r s) (computed here line r' s')
+          equal V line r r' s s' n (alike is) =
+              subst (λ x. Keeping st V (computed here line r s) (computed here line x s')) (sym is)
+              (computed_follow V here clear line r s s' n)
           equal V line r r' s s' n (blamed cause never is) = absurd never
 
-    -- A FUNCTION THAT RUNS IN THE FIRST AND PERFORMS IN THE SECOND: what is left of it there, and what it does from a state on
+    -- A FUNCTION THAT RUNS IN THE FIRST AND PERFORMS IN THE SECOND: what is left of it there, and what it does from a
+    -- state on
     module _ (left : Piece (Option Value)) (rest : State → Piece (Option Value)) (rest_goes : Goes rest) where
       -- where the first run stands, the second performs what is left
       pub record Stands (s : State) : Type 0 where
@@ -198,36 +310,101 @@ module _ (main : ℕ) (t : List Event) (S' : ℕ → Bool) where
       -- what is left goes on from where the first run stands
       pub left_goes : (s : State) → Stands s → Front s.trace (last left).trace
       left_goes s x =
-          subst (λ u. Front u (last left).trace) x.near.trace (subst (λ y. Front x.other.trace (last y).trace) (sym x.is) (rest_goes x.other).grown.events)
+          subst (λ u. Front u (last left).trace) x.near.trace (subst (λ y. Front x.other.trace (last y).trace)
+          (sym x.is) (rest_goes x.other).grown.events)
 
-      then_performs : (V W : Type 0) (s : State) (o : Piece V) (k : V → State → Piece W) → Gone s o → ((v : V) → Goes (k v)) → ((v : V) (x : State) → Grown s x → Stands x → (y : Piece W) → Perform W (k v x) y) → InLine t (last (and_then o k)).trace → Performs V o → Performs W (and_then o k)
+      then_performs : (V W : Type 0) (s : State) (o : Piece V) (k : V → State → Piece W) → Gone s o →
+          ((v : V) → Goes (k v)) → ((v : V) (x : State) → Grown s x → Stands x → (y : Piece W) → Perform W (k v x) y) →
+          InLine t (last (and_then o k)).trace → Performs V o → Performs W (and_then o k)
       then_performs V W s o k g goes h along (done a b) =
           done (front_more t (last o).trace (last (and_then o k)).trace a (then_from o k goes).events) b
       then_performs V W s o k g goes h along (here v x is stands) =
-          subst (λ y. Performs W (and_then y k)) (sym is) ((h v x (subst (λ y. Grown s (last y)) is g.grown) stands (k v x)).performs (subst (λ y. InLine t (last (and_then y k)).trace) is along))
+          subst (λ y. Performs W (and_then y k)) (sym is)
+          ((h v x (subst (λ y. Grown s (last y)) is g.grown) stands (k v x)).performs
+          (subst (λ y. InLine t (last (and_then y k)).trace) is along))
       then_performs V W s o k g goes h along (stop end x is by) = stop end x (ap (λ y. and_then y k) is) by
 
       any_piece : (W : Type 0) (o p q : Piece W) → Perform W o p → Perform W o q
       any_piece W o p q h = record { performs = h.performs }
 
-      turn_performs : (W : Type 0) (k : Unit {0} → State → Piece W) → (s : State) → Stands s → (m : ℕ) → m ≡ s.turns → ((x : State) → x.turns < s.turns → Stands x → (y : Piece W) → Perform W (k tt x) y) → InLine t (last (and_then (turn_of m s) k)).trace → Performs W (and_then (turn_of m s) k)
-      turn_performs W k s x zero is h along = stop TurnsOut s refl (record { front = left_goes s x; agreed = tt; passed = tt })
+      turn_performs : (W : Type 0) (k : Unit {0} → State → Piece W) → (s : State) → Stands s → (m : ℕ) → m ≡ s.turns →
+          ((x : State) → x.turns < s.turns → Stands x → (y : Piece W) → Perform W (k tt x) y) →
+          InLine t (last (and_then (turn_of m s) k)).trace → Performs W (and_then (turn_of m s) k)
+      turn_performs W k s x zero is h along =
+          stop TurnsOut s refl (record { front = left_goes s x; agreed = tt; passed = tt })
       turn_performs W k s x (suc m) is h along =
-          (let le : s.turns ≤ x.other.turns = x.near.turns in (h (record s { turns = m }) (omega (arith, is)) (record { other = x.other; is = x.is; near = record { trace = x.near.trace; front = x.near.front; turns = omega (arith, le, is); inputs = x.near.inputs; memory = x.near.memory; stands = x.near.stands } }) (k tt (record s { turns = m }))).performs along)
+          (let le : s.turns ≤ x.other.turns = x.near.turns in
+          (h (record s { turns = m }) (omega (arith, is)) (record {
+            other = x.other;
+            is = x.is;
+            near = record {
+              trace = x.near.trace;
+              front = x.near.front;
+              turns = omega (arith, le, is);
+              inputs = x.near.inputs;
+              memory = x.near.memory;
+              stands = x.near.stands;
+            };
+          }) (k tt (record s {
+            turns =
+                m;
+          }))).performs along)
 
       pub perform_kept : Kept OneSided Perform
       perform_kept =
-          record { reached = λ V v s s' one. record { performs = λ along. here v s refl one.stands }; after = λ V W s s' o p k l one g g' goes goes' r h. record { performs = λ along. then_performs V W s o k g goes (λ v x grown stands y. any_piece W (k v x) (l v x) y (h v x x grown (subst (λ z. Grown z x) (sym one.same) grown) (record { same = refl; stands = stands }))) along (r.performs (in_line_before t (last o).trace (last (and_then o k)).trace (then_from o k goes).events along)) }; turned = λ W k l goes goes' s s' one h. record { performs = λ along. turn_performs W k s one.stands s.turns refl (λ x less stands y. any_piece W (k tt x) (l tt x) y (h x x less (subst (λ z. x.turns < z.turns) (sym one.same) less) (record { same = refl; stands = stands }))) along } }
+          record {
+            reached = λ V v s s' one. record { performs = λ along. here v s refl one.stands };
+            after =
+                λ V W s s' o p k l one g g' goes goes' r h. record {
+                  performs = λ along. then_performs V W s o k g goes
+                      (λ v x grown stands y. any_piece W (k v x) (l v x) y
+                      (h v x x grown (subst (λ z. Grown z x) (sym one.same) grown)
+                      (record { same = refl; stands = stands }))) along
+                      (r.performs (in_line_before t (last o).trace (last (and_then o k)).trace
+                      (then_from o k goes).events along));
+                };
+            turned = λ W k l goes goes' s s' one h. record {
+              performs =
+                  λ along. turn_performs W k s one.stands s.turns refl (λ x less stands y. any_piece W (k tt x) (l tt x)
+                  y
+                  (h x x less (subst (λ z. x.turns < z.turns) (sym one.same) less)
+                  (record { same = refl; stands = stands })))
+                  along;
+            };
+          }
 
-      computed_performs : (V : Type 0) (at : Here) → S' at.comp ≡ true → ((s : State) → Stands s → MovesOrReturns s.trace left) → (line : ℕ) (r : Result V Cause) (s : State) → Stands s → Performs V (computed at line r s)
+      computed_performs : (V : Type 0) (at : Here) → S' at.comp ≡ true →
+          ((s : State) → Stands s → MovesOrReturns s.trace left) → (line : ℕ) (r : Result V Cause) (s : State) →
+          Stands s → Performs V (computed at line r s)
       computed_performs V at set by line (Ok v) s x = here v s refl x
       computed_performs V at set by line (Err cause) s x =
-          stop (Blamed at.comp cause line) s refl (record { front = left_goes s x; agreed = λ clear. absurd (both_ways (S' at.comp) clear set); passed = λ yes. by s x })
+          stop (Blamed at.comp cause line) s refl
+          (record {
+            front = left_goes s x;
+            agreed = λ clear. absurd (both_ways (S' at.comp) clear set);
+            passed = λ yes. by s x;
+          })
 
-      pub stands_stored : (c : ℕ) (x : Blocks) (s : State) → S' c ≡ true → Stands s → Stands (record s { memory = with_blocks c x s.memory })
-      stands_stored c x s set at = record { other = at.other; is = at.is; near = near_left st s at.other c x set at.near }
+      pub stands_stored : (c : ℕ) (x : Blocks) (s : State) → S' c ≡ true → Stands s →
+          Stands (record s { memory = with_blocks c x s.memory })
+      stands_stored c x s set at =
+          record { other = at.other; is = at.is; near = near_left st s at.other c x set at.near }
 
       -- calls of a compartment that performs in the second run alone
-      pub perform_at : ((s : State) → Stands s → MovesOrReturns s.trace left) → (at : Here) → S' at.comp ≡ true → KeptAt OneSided Perform Never at
+      pub perform_at : ((s : State) → Stands s → MovesOrReturns s.trace left) → (at : Here) → S' at.comp ≡ true →
+          KeptAt OneSided Perform Never at
       perform_at by at set =
-          record { computing = λ V line e e' h s s' one. record { performs = λ along. computed_performs V at set by line (e (s.memory at.comp)) s one.stands }; passed = λ V cause line soft s s' one p g. absurd soft; stored = λ blocks s s' one. record { same = ap {A = State} {B = State} (λ z. record z { memory = with_blocks at.comp blocks z.memory }) one.same; stands = stands_stored at.comp blocks s set one.stands } }
+          record {
+            computing = λ V line e e' h s s' one. record {
+              performs = λ along. computed_performs V at set by line
+                  (e (s.memory at.comp)) s one.stands;
+            };
+            passed = λ V cause line soft s s' one p g. absurd soft;
+            stored =
+                λ blocks s s' one. record {
+                  same = ap {A = State} {B = State}
+                      (λ z. record z { memory = with_blocks at.comp blocks z.memory }) one.same;
+                  stands =
+                      stands_stored at.comp blocks s set one.stands;
+                };
+          }

@@ -41,52 +41,85 @@ shown_front main (Reached v s) = record { more = event.End main (exit_word v) �
 shown_front main (Stopped end s) = front_same s.trace
 
 module _ (t : List Event) (S' : Set) where
-  -- the second run tells the whole trace; or it ends as the first; or it goes on where that stopped, by whether the blamed compartment performs
+  -- the second run tells the whole trace; or it ends as the first; or it goes on where that stopped, by whether the
+  -- blamed compartment performs
   pub data RunsFollow (x y : SourceRun) : Type 0 where
     tells_all : Front t x.trace → Front t y.trace → RunsFollow x y
     ends_so : ((comp : ℕ) (cause : Cause) (line : ℕ) → x.end ≡ Blamed comp cause line → ⊥) → y ≡ x → RunsFollow x y
-    goes_by : (end : RunEnd) → x.end ≡ end → IsStop end → Front x.trace y.trace → ((comp : ℕ) (cause : Cause) (line : ℕ) → end ≡ Blamed comp cause line → S' comp ≡ false → y ≡ x) → ((comp : ℕ) (cause : Cause) (line : ℕ) → end ≡ Blamed comp cause line → S' comp ≡ true → PassesBlame x y) → RunsFollow x y
+    goes_by : (end : RunEnd) → x.end ≡ end → IsStop end → Front x.trace y.trace →
+        ((comp : ℕ) (cause : Cause) (line : ℕ) → end ≡ Blamed comp cause line → S' comp ≡ false → y ≡ x) →
+        ((comp : ℕ) (cause : Cause) (line : ℕ) → end ≡ Blamed comp cause line → S' comp ≡ true → PassesBlame x y) →
+        RunsFollow x y
 
   module _ (main : ℕ) where
-    stays_blamed : (end : RunEnd) (u : State) (p : Piece (Option Value)) → Agreed main t S' (Option Value) end u p → (comp : ℕ) (cause : Cause) (line : ℕ) → end ≡ Blamed comp cause line → S' comp ≡ false → (run_to main p).shown ≡ record { trace = u.trace; end = end }
+    stays_blamed : (end : RunEnd) (u : State) (p : Piece (Option Value)) → Agreed main t S' (Option Value) end u p →
+        (comp : ℕ) (cause : Cause) (line : ℕ) → end ≡ Blamed comp cause line → S' comp ≡ false →
+        (run_to main p).shown ≡ record { trace = u.trace; end = end }
     stays_blamed end u p by comp cause line is clear =
-        let blame : Agreed main t S' (Option Value) (Blamed comp cause line) u p = subst (λ e. Agreed main t S' (Option Value) e u p) is by in
+        let blame : Agreed main t S' (Option Value) (Blamed comp cause line) u p =
+        subst (λ e. Agreed main t S' (Option Value) e u p) is by in
         let x = blame clear in
         ap (λ y. (run_to main y).shown) x.1 ∙ (λ i. record { trace = x.2 i; end = sym is i })
 
-    passes_on : (x : SourceRun) (u : List Event) (p : Piece (Option Value)) → x.trace ≡ u → MovesOn main t S' (Option Value) u p → PassesBlame x (run_to main p).shown
+    passes_on : (x : SourceRun) (u : List Event) (p : Piece (Option Value)) → x.trace ≡ u →
+        MovesOn main t S' (Option Value) u p → PassesBlame x (run_to main p).shown
     passes_on x u p same (passed.no_turn s' is told) =
         turnless (ap (λ y. (run_to main y).shown) is ∙ ap (λ z. record { trace = z; end = TurnsOut }) (told ∙ sym same))
     passes_on x u p same (passed.longer e front) =
-        longer e (subst (λ z. Front (z ++ e ∷ []) (run_to main p).shown.trace) (sym same) (front_more (u ++ e ∷ []) (last p).trace (run_to main p).shown.trace front (shown_front main p)))
+        longer e (subst (λ z. Front (z ++ e ∷ []) (run_to main p).shown.trace) (sym same)
+        (front_more (u ++ e ∷ []) (last p).trace (run_to main p).shown.trace front (shown_front main p)))
 
-    passes_in : (x : SourceRun) (u : List Event) (p : Piece (Option Value)) → x.trace ≡ u → MovesOrReturns main t S' u p → PassesBlame x (run_to main p).shown
+    passes_in : (x : SourceRun) (u : List Event) (p : Piece (Option Value)) → x.trace ≡ u →
+        MovesOrReturns main t S' u p → PassesBlame x (run_to main p).shown
     passes_in x u p same (passing.passes h) = passes_on x u p same h
     passes_in x u p same (passing.hands_back v s' is told) =
-        longer (event.End main (exit_word v)) (record { more = []; is = ap (λ y. (run_to main y).shown.trace) is ∙ ap (λ z. z ++ event.End main (exit_word v) ∷ []) (told ∙ sym same) ∙ sym (append-nil (x.trace ++ event.End main (exit_word v) ∷ [])) })
+        longer (event.End main (exit_word v)) (record {
+          more = [];
+          is = ap (λ y. (run_to main y).shown.trace) is
+              ∙ ap (λ z. z ++ event.End main (exit_word v) ∷ []) (told ∙ sym same)
+              ∙ sym (append-nil (x.trace ++ event.End main (exit_word v) ∷ []));
+        })
 
     -- where the first piece stopped
-    stops_by : (end : RunEnd) (u : State) (o p : Piece (Option Value)) → o ≡ Stopped end u → StopsSo o → Front u.trace (last p).trace → Agreed main t S' (Option Value) end u p → ((x : SourceRun) → x.trace ≡ u.trace → (comp : ℕ) (cause : Cause) (line : ℕ) → end ≡ Blamed comp cause line → S' comp ≡ true → PassesBlame x (run_to main p).shown) → RunsFollow (run_to main o).shown (run_to main p).shown
+    stops_by : (end : RunEnd) (u : State) (o p : Piece (Option Value)) → o ≡ Stopped end u → StopsSo o →
+        Front u.trace (last p).trace → Agreed main t S' (Option Value) end u p →
+        ((x : SourceRun) → x.trace ≡ u.trace → (comp : ℕ) (cause : Cause) (line : ℕ) → end ≡ Blamed comp cause line →
+        S' comp ≡ true → PassesBlame x (run_to main p).shown) → RunsFollow (run_to main o).shown (run_to main p).shown
     stops_by end u o p is stop front agreed passed =
-        let shown : (run_to main o).shown ≡ record { trace = u.trace; end = end } = ap (λ y. (run_to main y).shown) is in
-        goes_by end (ap (λ y. (run_to main y).shown.end) is) (subst StopsSo is stop) (subst (λ r. Front r.trace (run_to main p).shown.trace) (sym shown) (front_more u.trace (last p).trace (run_to main p).shown.trace front (shown_front main p))) (λ comp cause line blame clear. stays_blamed end u p agreed comp cause line blame clear ∙ sym shown) (passed (run_to main o).shown (ap (λ r. r.trace) shown))
+        let shown : (run_to main o).shown ≡ record { trace = u.trace; end = end } =
+        ap (λ y. (run_to main y).shown) is in
+        goes_by end (ap (λ y. (run_to main y).shown.end) is) (subst StopsSo is stop)
+        (subst (λ r. Front r.trace (run_to main p).shown.trace) (sym shown) (front_more u.trace (last p).trace
+        (run_to main p).shown.trace front (shown_front main p))) (λ comp cause line blame clear. stays_blamed end u p
+        agreed comp cause line blame clear ∙ sym shown) (passed (run_to main o).shown (ap (λ r. r.trace) shown))
 
-    stops_so : (end : RunEnd) (u : State) (o p : Piece (Option Value)) → o ≡ Stopped end u → StopsSo o → Beyond main t S' (Option Value) end u p → RunsFollow (run_to main o).shown (run_to main p).shown
+    stops_so : (end : RunEnd) (u : State) (o p : Piece (Option Value)) → o ≡ Stopped end u → StopsSo o →
+        Beyond main t S' (Option Value) end u p → RunsFollow (run_to main o).shown (run_to main p).shown
     stops_so end u o p is stop by =
-        stops_by end u o p is stop by.front by.agreed (λ x same comp cause line blame set. passes_on x u.trace p same (subst (λ e. IfBlamed main t S' e (MovesOn main t S' (Option Value) u.trace p)) blame by.passed set))
+        stops_by end u o p is stop by.front by.agreed (λ x same comp cause line blame set. passes_on x u.trace p same
+        (subst (λ e. IfBlamed main t S' e (MovesOn main t S' (Option Value) u.trace p)) blame by.passed set))
 
-    stops_in : (end : RunEnd) (u : State) (o p : Piece (Option Value)) → o ≡ Stopped end u → StopsSo o → BeyondIn main t S' end u p → RunsFollow (run_to main o).shown (run_to main p).shown
+    stops_in : (end : RunEnd) (u : State) (o p : Piece (Option Value)) → o ≡ Stopped end u → StopsSo o →
+        BeyondIn main t S' end u p → RunsFollow (run_to main o).shown (run_to main p).shown
     stops_in end u o p is stop by =
-        stops_by end u o p is stop by.front by.agreed (λ x same comp cause line blame set. passes_in x u.trace p same (subst (λ e. IfBlamed main t S' e (MovesOrReturns main t S' u.trace p)) blame by.passed set))
+        stops_by end u o p is stop by.front by.agreed (λ x same comp cause line blame set. passes_in x u.trace p same
+        (subst (λ e. IfBlamed main t S' e (MovesOrReturns main t S' u.trace p)) blame by.passed set))
 
-    ended_whole : (x : SourceRun) → x.end ≡ Ended → (comp : ℕ) (cause : Cause) (line : ℕ) → x.end ≡ Blamed comp cause line → ⊥
-    ended_whole x ended comp cause line blame = (let clash : Ended ≡ Blamed comp cause line = sym ended ∙ blame in absurd (cc))
+    ended_whole : (x : SourceRun) → x.end ≡ Ended → (comp : ℕ) (cause : Cause) (line : ℕ) →
+        x.end ≡ Blamed comp cause line → ⊥
+    ended_whole x ended comp cause line blame =
+        (let clash : Ended ≡ Blamed comp cause line = sym ended ∙ blame in absurd (cc))
 
-    both_end : (st : Standing) (o p : Piece (Option Value)) → StopsSo o → KeepsUp main t S' st (Option Value) o p → RunsFollow (run_to main o).shown (run_to main p).shown
+    both_end : (st : Standing) (o p : Piece (Option Value)) → StopsSo o → KeepsUp main t S' st (Option Value) o p →
+        RunsFollow (run_to main o).shown (run_to main p).shown
     both_end st o p stop (follows.done a b) =
-        tells_all (front_more t (last o).trace (run_to main o).shown.trace a (shown_front main o)) (front_more t (last p).trace (run_to main p).shown.trace b (shown_front main p))
+        tells_all (front_more t (last o).trace (run_to main o).shown.trace a (shown_front main o))
+        (front_more t (last p).trace (run_to main p).shown.trace b (shown_front main p))
     both_end st o p stop (follows.both v u u' is is' near) =
-        ends_so (ended_whole (run_to main o).shown (ap (λ y. (run_to main y).shown.end) is)) (ap (λ y. (run_to main y).shown) is' ∙ ap (λ z. record { trace = z ++ event.End main (exit_word v) ∷ []; end = Ended }) near.trace ∙ sym (ap (λ y. (run_to main y).shown) is))
+        ends_so (ended_whole (run_to main o).shown (ap (λ y. (run_to main y).shown.end) is))
+        (ap (λ y. (run_to main y).shown) is'
+        ∙ ap (λ z. record { trace = z ++ event.End main (exit_word v) ∷ []; end = Ended }) near.trace
+        ∙ sym (ap (λ y. (run_to main y).shown) is))
     both_end st o p stop (follows.stop end u is by) = stops_so end u o p is stop by
 
 module _ (L : Library) (obedient : Obedient L) (t : List Event) (S S' : Set) (larger : IsWithin S S') where
@@ -109,8 +142,11 @@ module _ (L : Library) (obedient : Obedient L) (t : List Event) (S S' : Set) (la
   bodies : (n : ℕ) → Bodies L main t S S' larger step_fixed later_goes (within step n)
   bodies =
       all_bodies L main t S S' larger step_fixed later_goes (library_goes L obedient)
-      (λ st. library_twins Never (Abreast main t S' st) (Keeping main t S' st) (λ h. S' h.comp ≡ false) (follow_kept main t S' st) (follow_at main t S' st) L L obedient)
-      (λ st left rest goes passes. library_twins Never (OneSided main t S' st left rest goes) (Perform main t S' st left rest goes) (λ h. S' h.comp ≡ true) (perform_kept main t S' st left rest goes) (perform_at main t S' st left rest goes passes) L L obedient)
+      (λ st. library_twins Never (Abreast main t S' st) (Keeping main t S' st) (λ h. S' h.comp ≡ false)
+      (follow_kept main t S' st) (follow_at main t S' st) L L obedient)
+      (λ st left rest goes passes. library_twins Never (OneSided main t S' st left rest goes)
+      (Perform main t S' st left rest goes) (λ h. S' h.comp ≡ true) (perform_kept main t S' st left rest goes)
+      (perform_at main t S' st left rest goes passes) L L obedient)
 
   module _ (globals : Memory) (inputs : List ℕ) (turns : ℕ) where
     abbrev beginning : State
@@ -121,7 +157,14 @@ module _ (L : Library) (obedient : Obedient L) (t : List Event) (S S' : Set) (la
 
     begins_near : (f : Function) → N L main t S S' larger st (begun main f [] beginning) (begun main f [] beginning)
     begins_near f =
-        record { trace = refl; front = record { more = t; is = refl }; turns = omega arith; inputs = refl; memory = λ c clear. refl; stands = refl }
+        record {
+          trace = refl;
+          front = record { more = t; is = refl };
+          turns = omega arith;
+          inputs = refl;
+          memory = λ c clear. refl;
+          stands = refl;
+        }
 
     module _ (number : ℕ) (is_number : L.entered main Main ≡ Some number) (f : Function) where
       abbrev first : ℕ
@@ -144,44 +187,90 @@ module _ (L : Library) (obedient : Obedient L) (t : List Event) (S S' : Set) (la
       ended_shows (Reached v s) = refl
       ended_shows (Stopped end s) = refl
 
-      held_end : Performs main t S' st p (λ u. now step' number (at main first) u) (later_goes number (at main first)) (Option Value) o → StopsSo o → S' main ≡ true → InLine t (run_to main o).shown.trace → RunsFollow t S' (run_to main o).shown (run_to main p).shown
+      held_end : Performs main t S' st p (λ u. now step' number (at main first) u) (later_goes number (at main first))
+          (Option Value) o → StopsSo o → S' main ≡ true → InLine t (run_to main o).shown.trace →
+          RunsFollow t S' (run_to main o).shown (run_to main p).shown
       held_end (performing.done a b) stop set along =
-          tells_all (front_more t (last o).trace (run_to main o).shown.trace a (shown_front main o)) (front_more t (last p).trace (run_to main p).shown.trace b (shown_front main p))
+          tells_all (front_more t (last o).trace (run_to main o).shown.trace a (shown_front main o))
+          (front_more t (last p).trace (run_to main p).shown.trace b (shown_front main p))
       held_end (performing.here v u is stands) stop set along =
-          subst (λ r. RunsFollow t S' r (run_to main p).shown) (sym (ap (λ y. (run_to main y).shown) is)) (by_next (next_told_is t u.trace (event.End main (exit_word v)) stands.near.front (subst (λ y. InLine t (run_to main y).shown.trace) is along))) where
-            by_next : NextIs t u.trace (event.End main (exit_word v)) → RunsFollow t S' (run_to main (Reached v u)).shown (run_to main p).shown
+          subst (λ r. RunsFollow t S' r (run_to main p).shown) (sym (ap (λ y. (run_to main y).shown) is))
+          (by_next (next_told_is t u.trace (event.End main (exit_word v)) stands.near.front
+          (subst (λ y. InLine t (run_to main y).shown.trace) is along))) where
+            by_next : NextIs t u.trace (event.End main (exit_word v)) →
+                RunsFollow t S' (run_to main (Reached v u)).shown (run_to main p).shown
             by_next (over all) =
-                tells_all (whole main t S' u.trace (u.trace ++ event.End main (exit_word v) ∷ []) all (record { more = event.End main (exit_word v) ∷ []; is = refl })) (whole main t S' u.trace (run_to main p).shown.trace all (front_more u.trace (last p).trace (run_to main p).shown.trace (left_goes main t S' st p (λ u. now step' number (at main first) u) (later_goes number (at main first)) u stands) (shown_front main p)))
+                tells_all (whole main t S' u.trace (u.trace ++ event.End main (exit_word v) ∷ []) all
+                (record { more = event.End main (exit_word v) ∷ []; is = refl }))
+                (whole main t S' u.trace (run_to main p).shown.trace all (front_more u.trace (last p).trace
+                (run_to main p).shown.trace (left_goes main t S' st p (λ u. now step' number (at main first) u)
+                (later_goes number (at main first)) u stands) (shown_front main p)))
             by_next (next_told more all) =
                 let u' : State = stands.other in
-                let now_told : Telling L main t S S' larger step_fixed later_goes number main first (event.End main (exit_word v)) u' = performs_next L main t S S' larger step_fixed later_goes number main first st u' (event.End main (exit_word v)) more set is_number refl (all ∙ ap (λ x. x ++ event.End main (exit_word v) ∷ more) (sym stands.near.trace)) (ap (stands_behind (at_start main)) stands.near.trace ∙ stands.near.stands) in
-                ends_so (λ comp cause line blame. absurd (cc)) (ap (λ y. (run_to main y).shown) (stands.is ∙ now_told.is) ∙ ap (λ z. record { trace = z ++ event.End main (exit_word v) ∷ []; end = Ended }) stands.near.trace)
+                let now_told : Telling L main t S S' larger step_fixed later_goes number main first
+                (event.End main (exit_word v)) u' =
+                performs_next L main t S S' larger step_fixed later_goes number main first st u'
+                (event.End main (exit_word v)) more set is_number refl (all
+                ∙ ap (λ x. x ++ event.End main (exit_word v) ∷ more) (sym stands.near.trace))
+                (ap (stands_behind (at_start main)) stands.near.trace ∙ stands.near.stands) in
+                ends_so (λ comp cause line blame. absurd (cc)) (ap (λ y. (run_to main y).shown) (stands.is
+                ∙ now_told.is) ∙ ap (λ z. record { trace = z ++ event.End main (exit_word v) ∷ []; end = Ended })
+                stands.near.trace)
       held_end (performing.stop end u is by) stop set along = stops_in t S' main end u o p is stop by
 
       -- by whether `main` performs in both runs, in the second, or in neither
-      main_follows : (b b' : Bool) → S main ≡ b → S' main ≡ b' → InLine t (run_to main o).shown.trace → RunsFollow t S' (run_to main o).shown (run_to main p).shown
+      main_follows : (b b' : Bool) → S main ≡ b → S' main ≡ b' → InLine t (run_to main o).shown.trace →
+          RunsFollow t S' (run_to main o).shown (run_to main p).shown
       main_follows true b' set set' along =
-          both_end t S' main st o p ((bodies (suc turns)).goes number (at main first) start).stop (((bodies (suc turns)).given number main first first st start start set (begins_near f)).follows (in_line_before t (last o).trace (run_to main o).shown.trace (shown_front main o) along))
+          both_end t S' main st o p ((bodies (suc turns)).goes number (at main first) start).stop
+          (((bodies (suc turns)).given number main first first st start start set (begins_near f)).follows
+          (in_line_before t (last o).trace (run_to main o).shown.trace (shown_front main o) along))
       main_follows false true clear set' along =
-          held_end (((bodies (suc turns)).held number main first number first st p start clear set' is_number (record { other = start; near = begins_near f; is = refl })).performs (in_line_before t (last o).trace (run_to main o).shown.trace (shown_front main o) along)) ((bodies (suc turns)).goes number (at main first) start).stop set' along
+          held_end (((bodies (suc turns)).held number main first number first st p start clear set' is_number
+          (record { other = start; near = begins_near f; is = refl })).performs (in_line_before t (last o).trace
+          (run_to main o).shown.trace (shown_front main o) along)) ((bodies (suc turns)).goes number (at main first)
+          start).stop set' along
       main_follows false false clear clear' along =
-          both_end t S' main st o p ((bodies (suc turns)).goes number (at main first) start).stop (((bodies (suc turns)).plain number (at main first) st start start clear' (begins_near f)).follows (in_line_before t (last o).trace (run_to main o).shown.trace (shown_front main o) along))
+          both_end t S' main st o p ((bodies (suc turns)).goes number (at main first) start).stop
+          (((bodies (suc turns)).plain number (at main first) st start start clear' (begins_near f)).follows
+          (in_line_before t (last o).trace (run_to main o).shown.trace (shown_front main o) along))
 
-      main_runs : InLine t (run_to main (and_then o ends)).shown.trace → RunsFollow t S' (run_to main (and_then o ends)).shown (run_to main (and_then p ends)).shown
+      main_runs : InLine t (run_to main (and_then o ends)).shown.trace →
+          RunsFollow t S' (run_to main (and_then o ends)).shown (run_to main (and_then p ends)).shown
       main_runs along =
-          subst (λ r. RunsFollow t S' r (run_to main (and_then p ends)).shown) (sym (ended_shows o)) (subst (RunsFollow t S' (run_to main o).shown) (sym (ended_shows p)) (main_follows (S main) (S' main) refl refl (subst (λ r. InLine t r.trace) (ended_shows o) along)))
+          subst (λ r. RunsFollow t S' r (run_to main (and_then p ends)).shown) (sym (ended_shows o))
+          (subst (RunsFollow t S' (run_to main o).shown) (sym (ended_shows p))
+          (main_follows (S main) (S' main) refl refl (subst (λ r. InLine t r.trace) (ended_shows o) along)))
 
-    function_runs : (number : ℕ) → L.entered main Main ≡ Some number → (f : Option Function) → InLine t (run_to main (and_then (found f beginning) (λ f s. and_then (within step (suc turns) number (at main (length (s.memory main))) (begun main f [] s)) (λ v u. Reached v (done main f (length (s.memory main)) u))))).shown.trace
-        → RunsFollow t S' (run_to main (and_then (found f beginning) (λ f s. and_then (within step (suc turns) number (at main (length (s.memory main))) (begun main f [] s)) (λ v u. Reached v (done main f (length (s.memory main)) u))))).shown (run_to main (and_then (found f beginning) (λ f s. and_then (within step' (suc turns) number (at main (length (s.memory main))) (begun main f [] s)) (λ v u. Reached v (done main f (length (s.memory main)) u))))).shown
+    function_runs : (number : ℕ) → L.entered main Main ≡ Some number → (f : Option Function) →
+        InLine t (run_to main
+        (and_then (found f beginning)
+        (λ f s. and_then (within step (suc turns) number (at main (length (s.memory main))) (begun main f [] s))
+        (λ v u. Reached v (done main f (length (s.memory main)) u))))).shown.trace
+        → RunsFollow t S'
+        (run_to main
+        (and_then (found f beginning)
+        (λ f s. and_then (within step (suc turns) number (at main (length (s.memory main))) (begun main f [] s))
+        (λ v u. Reached v (done main f (length (s.memory main)) u))))).shown
+        (run_to main
+        (and_then (found f beginning)
+        (λ f s. and_then (within step' (suc turns) number (at main (length (s.memory main))) (begun main f [] s))
+        (λ v u. Reached v (done main f (length (s.memory main)) u))))).shown
     function_runs number is None along = ends_so (λ comp cause line blame. absurd (cc)) refl
     function_runs number is (Some f) along = main_runs number is f along
 
-    number_runs : (number : Option ℕ) → L.entered main Main ≡ number → InLine t (run_to main (and_then (found number beginning) (λ number s. call_own L (within step (suc turns)) main number [] s))).shown.trace
-        → RunsFollow t S' (run_to main (and_then (found number beginning) (λ number s. call_own L (within step (suc turns)) main number [] s))).shown (run_to main (and_then (found number beginning) (λ number s. call_own L (within step' (suc turns)) main number [] s))).shown
+    number_runs : (number : Option ℕ) → L.entered main Main ≡ number →
+        InLine t (run_to main (and_then (found number beginning) (λ number s. call_own L (within step (suc turns)) main
+        number [] s))).shown.trace
+        → RunsFollow t S'
+        (run_to main (and_then (found number beginning) (λ number s. call_own L (within step (suc turns)) main number []
+        s))).shown (run_to main (and_then (found number beginning) (λ number s. call_own L (within step' (suc turns))
+        main number [] s))).shown
     number_runs None is along = ends_so (λ comp cause line blame. absurd (cc)) refl
     number_runs (Some number) is along = function_runs number is (function L main number) along
 
-    run_follows : InLine t (run_by L step globals inputs turns).shown.trace → RunsFollow t S' (run_by L step globals inputs turns).shown (run_by L step' globals inputs turns).shown
+    run_follows : InLine t (run_by L step globals inputs turns).shown.trace →
+        RunsFollow t S' (run_by L step globals inputs turns).shown (run_by L step' globals inputs turns).shown
     run_follows along = number_runs (L.entered main Main) refl along
 
 -- LISTS
@@ -202,7 +291,8 @@ module _ (t : List Event) (x y : SourceRun) where
   shows : Front t y.trace → (stopped_at (length t) y).trace ≡ t
   shows front = trace_is (length t) y ∙ ap (take (length t)) front.is ∙ take_front t front.more
 
-  tells_too : (S' : Set) → (InLine t x.trace → RunsFollow t S' x y) → (stopped_at (length t) x).trace ≡ t → (stopped_at (length t) y).trace ≡ t
+  tells_too : (S' : Set) → (InLine t x.trace → RunsFollow t S' x y) → (stopped_at (length t) x).trace ≡ t →
+      (stopped_at (length t) y).trace ≡ t
   tells_too S' h tells = by_run (h (inr front)) where
     front : Front t x.trace
     front = subst (λ u. Front u x.trace) (sym (trace_is (length t) x) ∙ tells) (front_taken (length t) x.trace)
@@ -213,25 +303,36 @@ module _ (t : List Event) (x y : SourceRun) where
     by_run (goes_by end ends stop on same passes) = shows (front_more t x.trace y.trace front on)
 
   -- a run that was blamed before it had so many events
-  blamed_early : (comp : ℕ) (cause : Cause) (line : ℕ) → x.end ≡ Blamed comp cause line → reaches (length t) x x.end ≡ false → length x.trace < length t
+  blamed_early : (comp : ℕ) (cause : Cause) (line : ℕ) → x.end ≡ Blamed comp cause line →
+      reaches (length t) x x.end ≡ false → length x.trace < length t
   blamed_early comp cause line ends is =
       leb-false (length t) (length x.trace) (ap (reaches (length t) x) (sym ends) ∙ is)
 
-  stays_so : (S' : Set) → (InLine t x.trace → RunsFollow t S' x y) → (comp : ℕ) (cause : Cause) (line : ℕ) → S' comp ≡ false → (b : Bool) → reaches (length t) x x.end ≡ b → (if b then record { trace = take (length t) x.trace; end = EventsOut } else x).end ≡ Blamed comp cause line → Front (if b then record { trace = take (length t) x.trace; end = EventsOut } else x).trace t
+  stays_so : (S' : Set) → (InLine t x.trace → RunsFollow t S' x y) → (comp : ℕ) (cause : Cause) (line : ℕ) →
+      S' comp ≡ false → (b : Bool) → reaches (length t) x x.end ≡ b →
+      (if b then record { trace = take (length t) x.trace; end = EventsOut } else x).end ≡ Blamed comp cause line →
+      Front (if b then record { trace = take (length t) x.trace; end = EventsOut } else x).trace t
       → stopped_at (length t) y ≡ (if b then record { trace = take (length t) x.trace; end = EventsOut } else x)
   stays_so S' h comp cause line clear true is ends front = absurd (cc)
   stays_so S' h comp cause line clear false is ends front = by_run (h (inl front)) where
     same : y ≡ x → stopped_at (length t) y ≡ x
-    same equal = ap (stopped_at (length t)) equal ∙ ap (λ b. if b then record { trace = take (length t) x.trace; end = EventsOut } else x) is
+    same equal =
+        ap (stopped_at (length t)) equal
+        ∙ ap (λ b. if b then record { trace = take (length t) x.trace; end = EventsOut } else x) is
 
     by_run : RunsFollow t S' x y → stopped_at (length t) y ≡ x
     by_run (tells_all a b) =
-        (let few : length x.trace < length t = blamed_early comp cause line ends is in let many : length t ≤ length x.trace = front_long t x.trace a in absurd (omega (arith, few, many)))
+        (let few : length x.trace < length t = blamed_early comp cause line ends is in
+        let many : length t ≤ length x.trace = front_long t x.trace a in absurd (omega (arith, few, many)))
     by_run (ends_so no_blame equal) = same equal
     by_run (goes_by end ends' stop on stays passes) = same (stays comp cause line (sym ends' ∙ ends) clear)
 
-  passes_so : (S' : Set) → (InLine t x.trace → RunsFollow t S' x y) → (comp : ℕ) (cause : Cause) (line : ℕ) → S' comp ≡ true → (b : Bool) → reaches (length t) x x.end ≡ b → (if b then record { trace = take (length t) x.trace; end = EventsOut } else x).end ≡ Blamed comp cause line → Front (if b then record { trace = take (length t) x.trace; end = EventsOut } else x).trace t
-      → PassesBlame (if b then record { trace = take (length t) x.trace; end = EventsOut } else x) (stopped_at (length t) y)
+  passes_so : (S' : Set) → (InLine t x.trace → RunsFollow t S' x y) → (comp : ℕ) (cause : Cause) (line : ℕ) →
+      S' comp ≡ true → (b : Bool) → reaches (length t) x x.end ≡ b →
+      (if b then record { trace = take (length t) x.trace; end = EventsOut } else x).end ≡ Blamed comp cause line →
+      Front (if b then record { trace = take (length t) x.trace; end = EventsOut } else x).trace t
+      → PassesBlame (if b then record { trace = take (length t) x.trace; end = EventsOut } else x)
+      (stopped_at (length t) y)
   passes_so S' h comp cause line set true is ends front = absurd (cc)
   passes_so S' h comp cause line set false is ends front = by_run (h (inl front)) where
     few : length x.trace < length t
@@ -239,10 +340,16 @@ module _ (t : List Event) (x y : SourceRun) where
 
     stopped_on : PassesBlame x y → PassesBlame x (stopped_at (length t) y)
     stopped_on (turnless equal) =
-        turnless (ap (stopped_at (length t)) equal ∙ ap (λ b. if b then record { trace = take (length t) x.trace; end = EventsOut } else record { trace = x.trace; end = TurnsOut }) (lt-leb (length t) (length x.trace) few))
+        turnless (ap (stopped_at (length t)) equal
+        ∙ ap (λ b. if b then record { trace = take (length t) x.trace; end = EventsOut } else record {
+          trace = x.trace;
+          end = TurnsOut;
+        }) (lt-leb (length t) (length x.trace) few))
     stopped_on (longer e on) =
         let one : length (x.trace ++ e ∷ []) ≡ length x.trace + 1 = length-append x.trace (e ∷ []) in
-        longer e (subst (λ u. Front (x.trace ++ e ∷ []) u) (sym (trace_is (length t) y)) (subst (λ u. Front u (take (length t) y.trace)) (take_all (length t) (x.trace ++ e ∷ []) (omega (arith, one, few))) (take_fronts (length t) (length t) (x.trace ++ e ∷ []) y.trace (omega arith) on)))
+        longer e (subst (λ u. Front (x.trace ++ e ∷ []) u) (sym (trace_is (length t) y))
+        (subst (λ u. Front u (take (length t) y.trace)) (take_all (length t) (x.trace ++ e ∷ [])
+        (omega (arith, one, few))) (take_fronts (length t) (length t) (x.trace ++ e ∷ []) y.trace (omega arith) on)))
 
     by_run : RunsFollow t S' x y → PassesBlame x (stopped_at (length t) y)
     by_run (tells_all a b) =
@@ -251,10 +358,13 @@ module _ (t : List Event) (x y : SourceRun) where
     by_run (goes_by end ends' stop on stays passes) = stopped_on (passes comp cause line (sym ends' ∙ ends) set)
 
   -- a run that was blamed has not told the whole trace
-  blamed_below : (comp : ℕ) (cause : Cause) (line : ℕ) → (b : Bool) → reaches (length t) x x.end ≡ b → (if b then record { trace = take (length t) x.trace; end = EventsOut } else x).end ≡ Blamed comp cause line → (if b then record { trace = take (length t) x.trace; end = EventsOut } else x).trace ≡ t → ⊥
+  blamed_below : (comp : ℕ) (cause : Cause) (line : ℕ) → (b : Bool) → reaches (length t) x x.end ≡ b →
+      (if b then record { trace = take (length t) x.trace; end = EventsOut } else x).end ≡ Blamed comp cause line →
+      (if b then record { trace = take (length t) x.trace; end = EventsOut } else x).trace ≡ t → ⊥
   blamed_below comp cause line true is ends tells = cc
   blamed_below comp cause line false is ends tells =
-      (let few : length x.trace < length t = blamed_early comp cause line ends is in let long : length x.trace ≡ length t = ap length tells in omega (arith, few, long))
+      (let few : length x.trace < length t = blamed_early comp cause line ends is in let long : length x.trace
+      ≡ length t = ap length tells in omega (arith, few, long))
 
 with_link : (set small : Set) (comp : ℕ) → IsWithin small set → set comp ≡ true → IsWithin (with comp small) set
 with_link set small comp larger has c is = by_test (c == comp) refl is where
@@ -276,23 +386,33 @@ module _ (L : Library) (obedient : Obedient L) (globals : Memory) (inputs : List
 
   pub keeps_blames : KeepsBlames t shown
   keeps_blames small large larger comp cause line ends front clear =
-      stays_so t (whole_run small) (whole_run large) large (run_follows L obedient t small large larger globals inputs turns) comp cause line clear _ refl ends front
+      stays_so t (whole_run small) (whole_run large) large (run_follows L obedient t small large larger globals inputs
+      turns) comp cause line clear _ refl ends front
 
   pub passes_blames : PassesBlames t shown
   passes_blames small large larger comp cause line ends front set =
-      passes_so t (whole_run small) (whole_run large) large (run_follows L obedient t small large larger globals inputs turns) comp cause line set _ refl ends front
+      passes_so t (whole_run small) (whole_run large) large (run_follows L obedient t small large larger globals inputs
+      turns) comp cause line set _ refl ends front
 
   module _ (set : Set) where
-    is_needed : (links : List Link) (small : Set) → IsWithin small set → IsChain shown t small links → (shown set).trace ≡ t → Includes set links
+    is_needed : (links : List Link) (small : Set) → IsWithin small set → IsChain shown t small links →
+        (shown set).trace ≡ t → Includes set links
     is_needed [] small larger chain tells = tt
-    is_needed (link ∷ links) small larger chain tells = by_test (set link.comp) refl (λ has. is_needed links (with link.comp small) (with_link set small link.comp larger has) chain.1 tells) where
-      by_test : (b : Bool) → set link.comp ≡ b → (set link.comp ≡ true → Includes set links) → (set link.comp ≡ true) × Includes set links
-      by_test true has rest = (has, rest has)
-      by_test false clear rest =
-          let equal : shown set ≡ shown small = keeps_blames small set larger link.comp link.cause link.line chain.0.blamed chain.0.front clear in
-          absurd (blamed_below t (whole_run small) (shown small) link.comp link.cause link.line _ refl chain.0.blamed (ap (λ r. r.trace) (sym equal) ∙ tells))
+    is_needed (link ∷ links) small larger chain tells =
+        by_test (set link.comp) refl (λ has. is_needed links (with link.comp small)
+        (with_link set small link.comp larger has) chain.1 tells) where
+          by_test : (b : Bool) → set link.comp ≡ b → (set link.comp ≡ true → Includes set links) →
+              (set link.comp ≡ true) × Includes set links
+          by_test true has rest = (has, rest has)
+          by_test false clear rest =
+              let equal : shown set ≡ shown small =
+              keeps_blames small set larger link.comp link.cause link.line chain.0.blamed chain.0.front clear in
+              absurd (blamed_below t (whole_run small) (shown small) link.comp link.cause link.line _ refl
+              chain.0.blamed
+              (ap (λ r. r.trace) (sym equal) ∙ tells))
 
-    is_enough : (links : List Link) (small : Set) → IsWithin small set → IsChain shown t small links → Includes set links → (shown set).trace ≡ t
+    is_enough : (links : List Link) (small : Set) → IsWithin small set → IsChain shown t small links →
+        Includes set links → (shown set).trace ≡ t
     is_enough [] small larger chain all = tells_with_more small set larger chain
     is_enough (link ∷ links) small larger chain all =
         is_enough links (with link.comp small) (with_link set small link.comp larger all.0) chain.1 all.1

@@ -35,7 +35,13 @@ same s = record { events = front_same s.trace; frames = front_same s.frames; tur
 
 pub more : (s t u : State) → Grown s t → Grown t u → Grown s u
 more s t u a b =
-    record { events = front_more s.trace t.trace u.trace a.events b.events; frames = front_more s.frames t.frames u.frames a.frames b.frames; turns = (let p : t.turns ≤ s.turns = a.turns in let q : u.turns ≤ t.turns = b.turns in omega (arith, p, q)) }
+    record {
+      events = front_more s.trace t.trace u.trace a.events b.events;
+      frames = front_more s.frames t.frames
+          u.frames a.frames b.frames;
+      turns =
+          (let p : t.turns ≤ s.turns = a.turns in let q : u.turns ≤ t.turns = b.turns in omega (arith, p, q));
+    }
 
 pub reached : {V : Type 0} (v : V) (s t : State) → Grown s t → Gone s (Reached v t)
 reached v s t g = record { grown = g; stop = tt }
@@ -50,24 +56,40 @@ no_turn s = record { grown = same s; stop = tt }
 pub earlier : {V : Type 0} (s t : State) (o : Piece V) → Grown s t → Gone t o → Gone s o
 earlier s t o g h = record { grown = more s t (last o) g h.grown; stop = h.stop }
 
-pub then_from : {V W : Type 0} (o : Piece V) (k : V → State → Piece W) → ((v : V) → Goes (k v)) → Grown (last o) (last (and_then o k))
+-- pieces in a row
+pub then_then : {U V W : Type 0} (o : Piece U) (k : U → State → Piece V) (l : V → State → Piece W) →
+    and_then (and_then o k) l ≡ and_then o (λ u s. and_then (k u s) l)
+then_then (Reached v s) k l = refl
+then_then (Stopped end s) k l = refl
+
+pub then_from : {V W : Type 0} (o : Piece V) (k : V → State → Piece W) → ((v : V) → Goes (k v)) →
+    Grown (last o) (last (and_then o k))
 then_from (Reached v s) k h = (h v s).grown
 then_from (Stopped end s) k h = same s
 
-pub then_goes : {V W : Type 0} (s : State) (o : Piece V) (k : V → State → Piece W) → Gone s o → ((v : V) → Goes (k v)) → Gone s (and_then o k)
+pub then_goes : {V W : Type 0} (s : State) (o : Piece V) (k : V → State → Piece W) → Gone s o → ((v : V) → Goes (k v)) →
+    Gone s (and_then o k)
 then_goes s (Reached v t) k g h = earlier s t (k v t) g.grown (h v t)
 then_goes s (Stopped end t) k g h = record { grown = g.grown; stop = g.stop }
 
 pub turn_of_goes : (n : ℕ) (s : State) → n ≡ s.turns → Gone s (turn_of n s)
 turn_of_goes zero s is = no_turn s
 turn_of_goes (suc n) s is =
-    reached tt s (record s { turns = n }) (record { events = front_same s.trace; frames = front_same s.frames; turns = omega (arith, is) })
+    reached tt s (record s { turns = n }) (record {
+      events = front_same s.trace;
+      frames = front_same s.frames;
+      turns = omega (arith, is);
+    })
 
 pub turn_goes : (s : State) → Gone s (turn s)
 turn_goes s = turn_of_goes s.turns s refl
 
 pub told : (event : Event) (s : State) → Grown s (tell event s)
-told event s = record { events = record { more = event ∷ []; is = refl }; frames = front_same s.frames; turns = omega arith }
+told event s = record {
+  events = record { more = event ∷ []; is = refl };
+  frames = front_same s.frames;
+  turns = omega arith;
+}
 
 -- calls, and functions as calls see them
 abbrev pub CallsGo : Calls → Type 0
@@ -89,33 +111,56 @@ found_goes (Some v) s = stays v s
 
 pub begun_goes : (comp : ℕ) (f : Function) (args : List Value) (s : State) → Grown s (begun comp f args s)
 begun_goes comp f args s =
-    record { events = front_same s.trace; frames = record { more = Opened (length s.trace) comp f.room ∷ []; is = refl }; turns = omega arith }
+    record {
+      events = front_same s.trace;
+      frames = record {
+        more = Opened (length s.trace) comp f.room ∷ [];
+        is = refl;
+      };
+      turns = omega arith;
+    }
 
 pub done_goes : (comp : ℕ) (f : Function) (first : ℕ) (s : State) → Grown s (done comp f first s)
 done_goes comp f first s =
-    record { events = front_same s.trace; frames = record { more = Closed (length s.trace) comp f.room ∷ []; is = refl }; turns = omega arith }
+    record {
+      events = front_same s.trace;
+      frames = record {
+        more = Closed (length s.trace) comp f.room ∷ [];
+        is = refl;
+      };
+      turns = omega arith;
+    }
 
 pub read_goes : (comp : ℕ) (s : State) → Grown s (read_input comp s)
 read_goes comp s =
-    record { events = record { more = In comp (next_input s.inputs) ∷ []; is = refl }; frames = front_same s.frames; turns = omega arith }
+    record {
+      events = record { more = In comp (next_input s.inputs) ∷ []; is = refl };
+      frames = front_same s.frames;
+      turns = omega arith;
+    }
 
 pub if_goes : {V : Type 0} (s : State) (b : Bool) (o p : Piece V) → Gone s o → Gone s p → Gone s (if b then o else p)
 if_goes s true o p h k = h
 if_goes s false o p h k = k
 
-pub back_goes : (interfaces : Interfaces) (from to index : ℕ) (v : Option Value) → Goes (back_cross interfaces from to index v)
+pub back_goes : (interfaces : Interfaces) (from to index : ℕ) (v : Option Value) →
+    Goes (back_cross interfaces from to index v)
 back_goes interfaces from to index v s =
-    reached (option_value (crossing (export_at interfaces to index) v)) s (tell (Ret to from (crossing (export_at interfaces to index) v)) s) (told (Ret to from (crossing (export_at interfaces to index) v)) s)
+    reached (option_value (crossing (export_at interfaces to index) v)) s
+    (tell (Ret to from (crossing (export_at interfaces to index) v)) s)
+    (told (Ret to from (crossing (export_at interfaces to index) v)) s)
 
 module _ (library : Library) (body : Body) (goes : BodyGoes body) where
   -- what follows once the function is found
-  pub run_goes : (comp number : ℕ) (args : List Value) (back : Option Value → State → Piece (Option Value)) → ((v : Option Value) → Goes (back v)) → Goes (run_in library body comp number args back)
+  pub run_goes : (comp number : ℕ) (args : List Value) (back : Option Value → State → Piece (Option Value)) →
+      ((v : Option Value) → Goes (back v)) → Goes (run_in library body comp number args back)
   run_goes comp number args back k s =
       then_goes s (found (function library comp number) s) _ (found_goes (function library comp number) s) (λ f s.
       let first : ℕ = length (s.memory comp) in
       let here : Here = record { comp = comp; first = first } in
       let start : State = begun comp f args s in
-      then_goes s (body number here start) _ (earlier s start (body number here start) (begun_goes comp f args s) (goes number here start)) (λ v t.
+      then_goes s (body number here start) _ (earlier s start (body number here start) (begun_goes comp f args s)
+      (goes number here start)) (λ v t.
       let end : State = done comp f first t in earlier t end (back v end) (done_goes comp f first t) (k v end)))
 
   pub own_goes : (comp number : ℕ) (args : List Value) → Goes (call_own library body comp number args)
@@ -123,42 +168,53 @@ module _ (library : Library) (body : Body) (goes : BodyGoes body) where
 
   pub cross_goes : (from to index : ℕ) (args : List Value) → Goes (call_cross library body from to index args)
   cross_goes from to index args s =
-      then_goes s (found (library.entered to (Export index)) s) _ (found_goes (library.entered to (Export index)) s) (λ number s.
+      then_goes s (found (library.entered to (Export index)) s) _ (found_goes (library.entered to (Export index)) s)
+      (λ number s.
       let event : Event = Call from to index (map word_in args) in
-      earlier s (tell event s) _ (told event s) (run_goes to number (crossed args) (back_cross library.interfaces from to index) (back_goes library.interfaces from to index) (tell event s)))
+      earlier s (tell event s) _ (told event s) (run_goes to number (crossed args)
+      (back_cross library.interfaces from to index) (back_goes library.interfaces from to index) (tell event s)))
 
   pub called_go : CallsGo (called library body)
   called_go from (Own number) args s = then_goes s (turn s) _ (turn_goes s) (λ u. own_goes from number args)
   called_go from (Cross to index) args s = then_goes s (turn s) _ (turn_goes s) (λ u. cross_goes from to index args)
   called_go from Input args s = reached _ s (read_input from s) (read_goes from s)
-  called_go from Output args s = reached _ s (tell (Out' from (first_word args)) s) (told (Out' from (first_word args)) s)
+  called_go from Output args s =
+      reached _ s (tell (Out' from (first_word args)) s) (told (Out' from (first_word args)) s)
 
   pub calls_go : CallsGo (calls library body)
   calls_go from target args s =
-      if_goes s (may_call library from target args) (called library body from target args s) (Stopped (Blamed from BadType 0) s) (called_go from target args s) (record { grown = same s; stop = tt })
+      if_goes s (may_call library from target args) (called library body from target args s)
+      (Stopped (Blamed from BadType 0) s) (called_go from target args s) (record { grown = same s; stop = tt })
 
   -- a call that a script asks for is made where it may be
   pub asks_is : (comp : ℕ) (target : CallTarget) (args : List Value) (s : State) →
-      asks library body comp target args s ≡ (if may_call library comp target args then called library body comp target args s else Stopped TurnsOut s)
+      asks library body comp target args s ≡ (if may_call library comp target args then called library body comp target
+      args s else Stopped TurnsOut s)
   asks_is comp target args s = by (may_call library comp target args) where
-    by : (b : Bool) → (if b then (if b then called library body comp target args s else Stopped (Blamed comp BadType 0) s) else Stopped TurnsOut s) ≡ (if b then called library body comp target args s else Stopped TurnsOut s)
+    by : (b : Bool) →
+        (if b then (if b then called library body comp target args s else Stopped (Blamed comp BadType 0)
+        s) else Stopped TurnsOut s) ≡ (if b then called library body comp target args s else Stopped TurnsOut s)
     by true = refl
     by false = refl
 
   pub asks_go : (comp : ℕ) (target : CallTarget) (args : List Value) → Goes (asks library body comp target args)
   asks_go comp target args s =
-      if_goes s (may_call library comp target args) (calls library body comp target args s) (Stopped TurnsOut s) (calls_go comp target args s) (no_turn s)
+      if_goes s (may_call library comp target args) (calls library body comp target args s) (Stopped TurnsOut s)
+      (calls_go comp target args s) (no_turn s)
 
   pub run_step_goes : LibraryGoes library → BodyGoes (run_step library body)
   run_step_goes h number here s =
       known (function library here.comp number) (h here.comp number) where
-        known : (f : Option Function) → ((g : Function) → f ≡ Some g → FunctionGoes g) → Gone s (and_then (found f s) (λ f s. f.does (calls library body) here s))
+        known : (f : Option Function) → ((g : Function) → f ≡ Some g → FunctionGoes g) →
+            Gone s (and_then (found f s) (λ f s. f.does (calls library body) here s))
         known None h = no_turn s
         known (Some f) h = h f refl (calls library body) calls_go here s
 
-  pub acts_go : (action : Action) (next again : State → Piece (Option Value)) → Goes next → Goes again → (comp : ℕ) → Goes (acts library body action next again comp)
+  pub acts_go : (action : Action) (next again : State → Piece (Option Value)) → Goes next → Goes again → (comp : ℕ) →
+      Goes (acts library body action next again comp)
   acts_go (act.Call to index args) next again h k comp s =
-      then_goes s (asks library body comp (Cross to index) (map (λ w. Word w) args) s) _ (asks_go comp (Cross to index) (map (λ w. Word w) args) s) (λ v. k)
+      then_goes s (asks library body comp (Cross to index) (map (λ w. Word w) args) s) _ (asks_go comp (Cross to index)
+      (map (λ w. Word w) args) s) (λ v. k)
   acts_go (act.Ret v) next again h k comp s = stays (option_value v) s
   acts_go (act.Out w) next again h k comp s =
       then_goes s (asks library body comp Output (Word w ∷ []) s) _ (asks_go comp Output (Word w ∷ []) s) (λ v. h)
@@ -169,16 +225,21 @@ module _ (library : Library) (body : Body) (goes : BodyGoes body) where
   pub performs_go : (rows : List Row) → BodyGoes (performs library body rows)
   performs_go [] number here s = no_turn s
   performs_go (row ∷ rest) number here s =
-      if_goes s (is_number number (library.entered here.comp row.entry)) _ _ (acts_go row.action (performs library body rest number here) (body number here) (performs_go rest number here) (goes number here) here.comp s) (no_turn s)
+      if_goes s (is_number number (library.entered here.comp row.entry))
+      _ _ (acts_go row.action (performs library body rest number here) (body number here) (performs_go rest number here)
+      (goes number here) here.comp s) (no_turn s)
 
 -- functions in which calls go on only go on
 abbrev pub StepGoes : Step → Type 0
 StepGoes step = (body : Body) → BodyGoes body → BodyGoes (step body)
 
-pub scripted_goes : (library : Library) (roles : Roles) (step : Step) → StepGoes step → StepGoes (scripted_step library roles step)
+pub scripted_goes : (library : Library) (roles : Roles) (step : Step) → StepGoes step →
+    StepGoes (scripted_step library roles step)
 scripted_goes library roles step h body goes number here s =
     by_role (roles.scripted here.comp) where
-      by_role : (b : Bool) → Gone s (if b then performs library body (rows_left roles here.comp s.trace) number here s else step body number here s)
+      by_role : (b : Bool) →
+          Gone s (if b then performs library body (rows_left roles here.comp s.trace) number here s else step body
+          number here s)
       by_role true = performs_go library body goes (rows_left roles here.comp s.trace) number here s
       by_role false = h body goes number here s
 

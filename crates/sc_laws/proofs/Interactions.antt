@@ -1,4 +1,5 @@
--- What the words of the meaning make of doings that are trees are trees. For every language whose functions are told in these words: each lemma
+-- What the words of the meaning make of doings that are trees are trees. For every language whose functions are told in
+-- these words: each lemma
 -- `match_` is of one word, and together they show that a library obeys.
 use Rattle.std.proofs.Common.{◌≡◌, refl, sym, ap, ◌∙◌, subst, ℕ, zero, suc, ◌<◌, ◌≤◌, List, [], ◌∷◌, map, Result, Ok, Err, arith, inl, inr}
 use Rattle.std.specs.Prelude.{Bool, true, false, if◌then◌else◌}
@@ -10,7 +11,7 @@ use Rattle.sc_core.specs.Words.{State, Here, Piece, Reached, Stopped, and_then, 
 use Rattle.sc_core.proofs.Induction.{Each}
 use Rattle.sc_laws.specs.Growth.{Grown, Gone, Goes}
 use Rattle.sc_laws.specs.Interactions.{Interaction, Gives, Blames, Reads, Stores, Spends, Asks, Halts, played, Lasts, Doing, GoFrom, Plays, Alike, Match}
-use Rattle.sc_laws.proofs.Growing.{same, stays, no_turn, earlier, then_goes, turn_goes}
+use Rattle.sc_laws.proofs.Growing.{same, stays, no_turn, earlier, then_goes, turn_goes, then_then}
 use Rattle.sc_laws.proofs.Expressions.{Keeps, alike, blamed}
 
 -- ONE TREE AFTER ANOTHER
@@ -23,15 +24,13 @@ bind (Spends go) next = Spends (bind go next)
 bind (Asks target args go) next = Asks target args (λ v. bind (go v) next)
 bind Halts next = Halts
 
-then_then : {U V W : Type 0} (o : Piece U) (k : U → State → Piece V) (l : V → State → Piece W) → and_then (and_then o k) l ≡ and_then o (λ u s. and_then (k u s) l)
-then_then (Reached v s) k l = refl
-then_then (Stopped end s) k l = refl
-
-then_same : {V W : Type 0} (s : State) (o : Piece V) → Gone s o → (k l : V → State → Piece W) → ((v : V) (t : State) → Grown s t → k v t ≡ l v t) → and_then o k ≡ and_then o l
+then_same : {V W : Type 0} (s : State) (o : Piece V) → Gone s o → (k l : V → State → Piece W) →
+    ((v : V) (t : State) → Grown s t → k v t ≡ l v t) → and_then o k ≡ and_then o l
 then_same s (Reached v t) g k l h = h v t g.grown
 then_same s (Stopped end t) g k l h = refl
 
-turn_same : {W : Type 0} (m : ℕ) (s : State) (k l : State → Piece W) → m ≡ s.turns → ((t : State) → t.turns < s.turns → k t ≡ l t) → and_then (turn_of m s) (λ _. k) ≡ and_then (turn_of m s) (λ _. l)
+turn_same : {W : Type 0} (m : ℕ) (s : State) (k l : State → Piece W) → m ≡ s.turns →
+    ((t : State) → t.turns < s.turns → k t ≡ l t) → and_then (turn_of m s) (λ _. k) ≡ and_then (turn_of m s) (λ _. l)
 turn_same zero s k l is h = refl
 turn_same (suc m) s k l is h = h (record s { turns = m }) (omega (arith, is))
 
@@ -39,28 +38,36 @@ then_reached : {V : Type 0} (o : Piece V) → o ≡ and_then o (λ v s. Reached 
 then_reached (Reached v s) = refl
 then_reached (Stopped end s) = refl
 
-pub played_bind : {V W : Type 0} (tree : Interaction V) (next : V → Interaction W) (by : Calls) (here : Here) (s : State) → played (bind tree next) by here s ≡ and_then (played tree by here s) (λ v t. played (next v) by here t)
+pub played_bind : {V W : Type 0} (tree : Interaction V) (next : V → Interaction W) (by : Calls) (here : Here)
+    (s : State) → played (bind tree next) by here s ≡ and_then (played tree by here s)
+    (λ v t. played (next v) by here t)
 played_bind (Gives v) next by here s = refl
 played_bind (Blames cause line) next by here s = refl
 played_bind (Reads go) next by here s = played_bind (go (s.memory here.comp)) next by here s
 played_bind (Stores blocks go) next by here s = played_bind go next by here (with_memory here.comp blocks s)
 played_bind (Spends go) next by here s =
-    (λ i. and_then (turn s) (λ _ t. played_bind go next by here t i)) ∙ sym (then_then (turn s) (λ _ t. played go by here t) (λ v t. played (next v) by here t))
+    (λ i. and_then (turn s) (λ _ t. played_bind go next by here t i))
+    ∙ sym (then_then (turn s) (λ _ t. played go by here t) (λ v t. played (next v) by here t))
 played_bind (Asks target args go) next by here s =
-    (λ i. and_then (by here.comp target args s) (λ v t. played_bind (go v) next by here t i)) ∙ sym (then_then (by here.comp target args s) (λ v t. played (go v) by here t) (λ v t. played (next v) by here t))
+    (λ i. and_then (by here.comp target args s) (λ v t. played_bind (go v) next by here t i))
+    ∙ sym (then_then (by here.comp target args s) (λ v t. played (go v) by here t) (λ v t. played (next v) by here t))
 played_bind Halts next by here s = refl
 
-pub played_goes : {V : Type 0} (tree : Interaction V) (by : Calls) (here : Here) → GoFrom here.comp by → Goes (played tree by here)
+pub played_goes : {V : Type 0} (tree : Interaction V) (by : Calls) (here : Here) → GoFrom here.comp by →
+    Goes (played tree by here)
 played_goes (Gives v) by here go s = stays v s
 played_goes (Blames cause line) by here go s = record { grown = same s; stop = tt }
 played_goes (Reads next) by here go s = played_goes (next (s.memory here.comp)) by here go s
 played_goes (Stores blocks next) by here go s =
-    earlier s (with_memory here.comp blocks s) (played next by here (with_memory here.comp blocks s)) (unseen s) (played_goes next by here go (with_memory here.comp blocks s)) where
+    earlier s (with_memory here.comp blocks s) (played next by here (with_memory here.comp blocks s)) (unseen s)
+    (played_goes next by here go (with_memory here.comp blocks s)) where
       unseen : (s : State) → Grown s (with_memory here.comp blocks s)
       unseen s = record { events = (same s).events; frames = (same s).frames; turns = (same s).turns }
-played_goes (Spends next) by here go s = then_goes s (turn s) (λ _. played next by here) (turn_goes s) (λ u. played_goes next by here go)
+played_goes (Spends next) by here go s =
+    then_goes s (turn s) (λ _. played next by here) (turn_goes s) (λ u. played_goes next by here go)
 played_goes (Asks target args next) by here go s =
-    then_goes s (by here.comp target args s) (λ v. played (next v) by here) (go target args s) (λ v. played_goes (next v) by here go)
+    then_goes s (by here.comp target args s) (λ v. played (next v) by here) (go target args s)
+    (λ v. played_goes (next v) by here go)
 played_goes Halts by here go s = no_turn s
 
 -- what lasts longer lasts
@@ -75,13 +82,15 @@ lasts_most (suc n) (suc m) (Spends go) le h = lasts_most n m go (omega (arith, l
 lasts_most (suc n) (suc m) (Asks target args go) le h = λ v. lasts_most (suc n) (suc m) (go v) le (h v)
 lasts_most (suc n) (suc m) Halts le h = absurd h
 
-pub lasts_bind : {V W : Type 0} (n : ℕ) (tree : Interaction V) (next : V → Interaction W) → Lasts n tree → ((v : V) → Lasts n (next v)) → Lasts n (bind tree next)
+pub lasts_bind : {V W : Type 0} (n : ℕ) (tree : Interaction V) (next : V → Interaction W) → Lasts n tree →
+    ((v : V) → Lasts n (next v)) → Lasts n (bind tree next)
 lasts_bind zero tree next h k = tt
 lasts_bind (suc n) (Gives v) next h k = k v
 lasts_bind (suc n) (Blames cause line) next h k = tt
 lasts_bind (suc n) (Reads go) next h k = λ blocks. lasts_bind (suc n) (go blocks) next (h blocks) k
 lasts_bind (suc n) (Stores blocks go) next h k = lasts_bind (suc n) go next h k
-lasts_bind (suc n) (Spends go) next h k = lasts_bind n go next h (λ v. lasts_most (suc n) n (next v) (omega arith) (k v))
+lasts_bind (suc n) (Spends go) next h k =
+    lasts_bind n go next h (λ v. lasts_most (suc n) n (next v) (omega arith) (k v))
 lasts_bind (suc n) (Asks target args go) next h k = λ v. lasts_bind (suc n) (go v) next (h v) k
 lasts_bind (suc n) Halts next h k = absurd h
 
@@ -90,34 +99,48 @@ abbrev pub on_route : {A : Type 0} → Route → (A → Interaction (Left A)) �
 on_route On go a = go a
 on_route (Out exit) go a = Gives (record { exit = exit; carried = a })
 
-abbrev pub trail : {A : Type 0} → (Exit → Route) → Interaction (Left A) → (A → Interaction (Left A)) → Interaction (Left A)
+abbrev pub trail : {A : Type 0} → (Exit → Route) → Interaction (Left A) → (A → Interaction (Left A)) →
+    Interaction (Left A)
 trail route tree go = bind tree (λ left. on_route (route left.exit) go left.carried)
 
 -- the rounds of a loop
-abbrev pub round_trees : {A : Type 0} → ℕ → (A → Interaction (Left A)) → (A → Interaction (Left A)) → (A → Interaction (Left A)) → A → Interaction (Left A)
+abbrev pub round_trees : {A : Type 0} → ℕ → (A → Interaction (Left A)) → (A → Interaction (Left A)) →
+    (A → Interaction (Left A)) → A → Interaction (Left A)
 round_trees zero head body next a = Halts
 round_trees (suc n) head body next a =
-    trail in_loop (head a) (λ a. Spends (trail in_loop (body a) (λ a. trail in_loop (next a) (round_trees n head body next))))
+    trail in_loop (head a)
+    (λ a. Spends (trail in_loop (body a) (λ a. trail in_loop (next a) (round_trees n head body next))))
 
 module _ {A : Type 0} (here : Here) where
-  lasts_route : (n : ℕ) (route : Route) (go : A → Interaction (Left A)) → ((a : A) → Lasts n (go a)) → (a : A) → Lasts n (on_route route go a)
+  lasts_route : (n : ℕ) (route : Route) (go : A → Interaction (Left A)) → ((a : A) → Lasts n (go a)) → (a : A) →
+      Lasts n (on_route route go a)
   lasts_route n On go h a = h a
   lasts_route zero (Out exit) go h a = tt
   lasts_route (suc n) (Out exit) go h a = tt
 
-  lasts_trail : (n : ℕ) (route : Exit → Route) (tree : Interaction (Left A)) (go : A → Interaction (Left A)) → Lasts n tree → ((a : A) → Lasts n (go a)) → Lasts n (trail route tree go)
+  lasts_trail : (n : ℕ) (route : Exit → Route) (tree : Interaction (Left A)) (go : A → Interaction (Left A)) →
+      Lasts n tree → ((a : A) → Lasts n (go a)) → Lasts n (trail route tree go)
   lasts_trail n route tree go h k =
-      lasts_bind n tree (λ left. on_route (route left.exit) go left.carried) h (λ left. lasts_route n (route left.exit) go k left.carried)
+      lasts_bind n tree (λ left. on_route (route left.exit) go left.carried) h (λ left. lasts_route n (route left.exit)
+      go k left.carried)
 
   module _ (by : Calls) (goes : GoFrom here.comp by) where
-    take_same : (route : Route) (s : State) (f : Does A) (g : A → Interaction (Left A)) → ((a : A) (t : State) → Grown s t → f a t ≡ played (g a) by here t) → (a : A) (t : State) → Grown s t → take route f a t ≡ played (on_route route g a) by here t
+    take_same : (route : Route) (s : State) (f : Does A) (g : A → Interaction (Left A)) →
+        ((a : A) (t : State) → Grown s t → f a t ≡ played (g a) by here t) → (a : A) (t : State) → Grown s t →
+        take route f a t ≡ played (on_route route g a) by here t
     take_same On s f g h a t up = h a t up
     take_same (Out exit) s f g h a t up = refl
 
-    follow_same : (route : Exit → Route) (s : State) (o : Piece (Left A)) (tree : Interaction (Left A)) (f : Does A) (g : A → Interaction (Left A)) → o ≡ played tree by here s → ((a : A) (t : State) → Grown s t → f a t ≡ played (g a) by here t) → follow route o f ≡ played (trail route tree g) by here s
+    follow_same : (route : Exit → Route) (s : State) (o : Piece (Left A)) (tree : Interaction (Left A)) (f : Does A)
+        (g : A → Interaction (Left A)) → o ≡ played tree by here s →
+        ((a : A) (t : State) → Grown s t → f a t ≡ played (g a) by here t) →
+        follow route o f ≡ played (trail route tree g) by here s
     follow_same route s o tree f g is h =
         ap (λ x. follow route x f) is
-        ∙ then_same s (played tree by here s) (played_goes tree by here goes s) (λ left t. take (route left.exit) f left.carried t) (λ left t. played (on_route (route left.exit) g left.carried) by here t) (λ left t up. take_same (route left.exit) s f g h left.carried t up)
+        ∙ then_same s (played tree by here s) (played_goes tree by here goes s)
+        (λ left t. take (route left.exit) f left.carried t)
+        (λ left t. played (on_route (route left.exit) g left.carried) by here t)
+        (λ left t up. take_same (route left.exit) s f g h left.carried t up)
         ∙ sym (played_bind tree (λ left. on_route (route left.exit) g left.carried) by here s)
 
 -- PLAYS
@@ -127,12 +150,15 @@ plays_reached here v = record { lasts = lasts; is = λ n by goes s few. refl } w
   lasts zero = tt
   lasts (suc n) = tt
 
-pub plays_then : {V W : Type 0} (here : Here) (f : Doing V) (k : V → Doing W) (tree : ℕ → Interaction V) (next : V → ℕ → Interaction W) → Plays here f tree → ((v : V) → Plays here (k v) (next v)) → Plays here (λ by s. and_then (f by s) (λ v t. k v by t)) (λ n. bind (tree n) (λ v. next v n))
+pub plays_then : {V W : Type 0} (here : Here) (f : Doing V) (k : V → Doing W) (tree : ℕ → Interaction V) (next : V → ℕ →
+    Interaction W) → Plays here f tree → ((v : V) → Plays here (k v) (next v)) →
+    Plays here (λ by s. and_then (f by s) (λ v t. k v by t)) (λ n. bind (tree n) (λ v. next v n))
 plays_then here f k tree next h x = record {
   lasts = λ n. lasts_bind n (tree n) (λ v. next v n) (h.lasts n) (λ v. (x v).lasts n);
   is = λ n by goes s few.
       ap (λ o. and_then o (λ v t. k v by t)) (h.is n by goes s few)
-      ∙ then_same s (played (tree n) by here s) (played_goes (tree n) by here goes s) (λ v t. k v by t) (λ v t. played (next v n) by here t) (λ v t up. (x v).is n by goes t (omega (arith, few, up.turns)))
+      ∙ then_same s (played (tree n) by here s) (played_goes (tree n) by here goes s) (λ v t. k v by t)
+      (λ v t. played (next v n) by here t) (λ v t up. (x v).is n by goes t (omega (arith, few, up.turns)))
       ∙ sym (played_bind (tree n) (λ v. next v n) by here s);
 }
 
@@ -140,32 +166,38 @@ abbrev of_result : {V : Type 0} → ℕ → Result V Cause → Interaction V
 of_result line (Ok v) = Gives v
 of_result line (Err cause) = Blames cause line
 
-pub plays_computed : {V : Type 0} (here : Here) (line : ℕ) (e : Blocks → Result V Cause) → Plays here (λ by s. computed here line (e (s.memory here.comp)) s) (λ n. Reads (λ blocks. of_result line (e blocks)))
-plays_computed {V} here line e = record { lasts = lasts; is = λ n by goes s few. is (e (s.memory here.comp)) by s } where
-  lasts_result : (n : ℕ) (r : Result V Cause) → Lasts n (of_result line r)
-  lasts_result zero r = tt
-  lasts_result (suc n) (Ok v) = tt
-  lasts_result (suc n) (Err cause) = tt
+pub plays_computed : {V : Type 0} (here : Here) (line : ℕ) (e : Blocks → Result V Cause) →
+    Plays here (λ by s. computed here line (e (s.memory here.comp)) s)
+    (λ n. Reads (λ blocks. of_result line (e blocks)))
+plays_computed {V} here line e =
+    record { lasts = lasts; is = λ n by goes s few. is (e (s.memory here.comp)) by s } where
+      lasts_result : (n : ℕ) (r : Result V Cause) → Lasts n (of_result line r)
+      lasts_result zero r = tt
+      lasts_result (suc n) (Ok v) = tt
+      lasts_result (suc n) (Err cause) = tt
 
-  lasts : (n : ℕ) → Lasts n (Reads (λ blocks. of_result line (e blocks)))
-  lasts zero = tt
-  lasts (suc n) = λ blocks. lasts_result (suc n) (e blocks)
+      lasts : (n : ℕ) → Lasts n (Reads (λ blocks. of_result line (e blocks)))
+      lasts zero = tt
+      lasts (suc n) = λ blocks. lasts_result (suc n) (e blocks)
 
-  is : (r : Result V Cause) (by : Calls) (s : State) → computed here line r s ≡ played (of_result line r) by here s
-  is (Ok v) by s = refl
-  is (Err cause) by s = refl
+      is : (r : Result V Cause) (by : Calls) (s : State) → computed here line r s ≡ played (of_result line r) by here s
+      is (Ok v) by s = refl
+      is (Err cause) by s = refl
 
-pub plays_stored : {V : Type 0} (here : Here) (v : V) (blocks : Blocks) → Plays here (λ by s. Reached v (with_memory here.comp blocks s)) (λ n. Stores blocks (Gives v))
+pub plays_stored : {V : Type 0} (here : Here) (v : V) (blocks : Blocks) →
+    Plays here (λ by s. Reached v (with_memory here.comp blocks s)) (λ n. Stores blocks (Gives v))
 plays_stored {V} here v blocks = record { lasts = lasts; is = λ n by goes s few. refl } where
   lasts : (n : ℕ) → Lasts n (Stores blocks (Gives v))
   lasts zero = tt
   lasts (suc n) = tt
 
-pub plays_call : (here : Here) (target : CallTarget) (args : List Value) → Plays here (λ by. by here.comp target args) (λ n. Asks target args (λ v. Gives v))
-plays_call here target args = record { lasts = lasts; is = λ n by goes s few. then_reached (by here.comp target args s) } where
-  lasts : (n : ℕ) → Lasts n (Asks target args (λ v. Gives v))
-  lasts zero = tt
-  lasts (suc n) = λ v. tt
+pub plays_call : (here : Here) (target : CallTarget) (args : List Value) →
+    Plays here (λ by. by here.comp target args) (λ n. Asks target args (λ v. Gives v))
+plays_call here target args =
+    record { lasts = lasts; is = λ n by goes s few. then_reached (by here.comp target args s) } where
+      lasts : (n : ℕ) → Lasts n (Asks target args (λ v. Gives v))
+      lasts zero = tt
+      lasts (suc n) = λ v. tt
 
 -- doings with what a run carries
 abbrev pub DoingWith : Type 0 → Type 0
@@ -175,15 +207,21 @@ module _ {A : Type 0} (here : Here) where
   abbrev pub PlaysWith : DoingWith A → (A → ℕ → Interaction (Left A)) → Type 0
   PlaysWith f tree = (a : A) → Plays here (λ by. f by a) (tree a)
 
-  plays_take : (route : Route) (f : DoingWith A) (tree : A → ℕ → Interaction (Left A)) → PlaysWith f tree → PlaysWith (λ by. take route (f by)) (λ a n. on_route route (λ a. tree a n) a)
+  plays_take : (route : Route) (f : DoingWith A) (tree : A → ℕ → Interaction (Left A)) → PlaysWith f tree →
+      PlaysWith (λ by. take route (f by)) (λ a n. on_route route (λ a. tree a n) a)
   plays_take On f tree h a = h a
   plays_take (Out exit) f tree h a = plays_reached here (record { exit = exit; carried = a })
 
-  pub plays_follow : (route : Exit → Route) (f : Doing (Left A)) (k : DoingWith A) (tree : ℕ → Interaction (Left A)) (next : A → ℕ → Interaction (Left A)) → Plays here f tree → PlaysWith k next → Plays here (λ by s. follow route (f by s) (k by)) (λ n. trail route (tree n) (λ a. next a n))
+  pub plays_follow : (route : Exit → Route) (f : Doing (Left A)) (k : DoingWith A) (tree : ℕ → Interaction (Left A))
+      (next : A → ℕ → Interaction (Left A)) → Plays here f tree → PlaysWith k next →
+      Plays here (λ by s. follow route (f by s) (k by)) (λ n. trail route (tree n) (λ a. next a n))
   plays_follow route f k tree next h x =
-      plays_then here f (λ left by t. take (route left.exit) (k by) left.carried t) tree (λ left n. on_route (route left.exit) (λ a. next a n) left.carried) h (λ left. plays_take (route left.exit) k next x left.carried)
+      plays_then here f (λ left by t. take (route left.exit) (k by) left.carried t) tree
+      (λ left n. on_route (route left.exit) (λ a. next a n) left.carried) h (λ left. plays_take (route left.exit) k next
+      x left.carried)
 
-  module _ (f f2 f3 : DoingWith A) (head body next : A → ℕ → Interaction (Left A)) (h : PlaysWith f head) (b : PlaysWith f2 body) (x : PlaysWith f3 next) (most : ℕ) where
+  module _ (f f2 f3 : DoingWith A) (head body next : A → ℕ → Interaction (Left A)) (h : PlaysWith f head)
+      (b : PlaysWith f2 body) (x : PlaysWith f3 next) (most : ℕ) where
     abbrev trees : ℕ → A → Interaction (Left A)
     trees n = round_trees n (λ a. head a most) (λ a. body a most) (λ a. next a most)
 
@@ -191,21 +229,35 @@ module _ {A : Type 0} (here : Here) where
     lasts_rounds zero le a = tt
     lasts_rounds (suc n) le a =
         let rest : (a : A) → Lasts n (trees n a) = lasts_rounds n (omega (arith, le)) in
-        lasts_trail here (suc n) in_loop (head a most) _ (lasts_most most (suc n) (head a most) le ((h a).lasts most)) (λ a.
-        lasts_trail here n in_loop (body a most) _ (lasts_most most n (body a most) (omega (arith, le)) ((b a).lasts most)) (λ a.
-        lasts_trail here n in_loop (next a most) _ (lasts_most most n (next a most) (omega (arith, le)) ((x a).lasts most)) rest))
+        lasts_trail here (suc n) in_loop (head a most) _ (lasts_most most (suc n) (head a most) le ((h a).lasts most))
+        (λ a.
+        lasts_trail here n in_loop (body a most) _ (lasts_most most n (body a most) (omega (arith, le))
+        ((b a).lasts most)) (λ a.
+        lasts_trail here n in_loop (next a most) _ (lasts_most most n (next a most) (omega (arith, le))
+        ((x a).lasts most)) rest))
 
-    rounds_are : (by : Calls) → GoFrom here.comp by → (n m : ℕ) (a : A) (s : State) → s.turns < n → s.turns < m → s.turns < most → rounds n (f by) (f2 by) (f3 by) a s ≡ played (trees m a) by here s
+    rounds_are : (by : Calls) → GoFrom here.comp by → (n m : ℕ) (a : A) (s : State) → s.turns < n → s.turns < m →
+        s.turns < most → rounds n (f by) (f2 by) (f3 by) a s ≡ played (trees m a) by here s
     rounds_are by goes zero m a s few few' small = absurd (omega (arith, few))
     rounds_are by goes (suc n) zero a s few few' small = absurd (omega (arith, few'))
     rounds_are by goes (suc n) (suc m) a s few few' small =
         follow_same here by goes in_loop s (f by a s) (head a most) _ _ ((h a).is most by goes s small) (λ a t up.
-        turn_same t.turns t (λ t. follow in_loop (f2 by a t) (λ a s. follow in_loop (f3 by a s) (rounds n (f by) (f2 by) (f3 by)))) (λ t. played (trail in_loop (body a most) (λ a. trail in_loop (next a most) (trees m))) by here t) refl (λ w less.
-        follow_same here by goes in_loop w (f2 by a w) (body a most) _ _ ((b a).is most by goes w (omega (arith, small, up.turns, less))) (λ a u up2.
-        follow_same here by goes in_loop u (f3 by a u) (next a most) _ _ ((x a).is most by goes u (omega (arith, small, up.turns, less, up2.turns))) (λ a z up3.
-        rounds_are by goes n m a z (omega (arith, few, up.turns, less, up2.turns, up3.turns)) (omega (arith, few', up.turns, less, up2.turns, up3.turns)) (omega (arith, small, up.turns, less, up2.turns, up3.turns))))))
+        turn_same t.turns t (λ t. follow in_loop (f2 by a t) (λ a s. follow in_loop (f3 by a s)
+        (rounds n (f by) (f2 by) (f3 by))))
+        (λ t. played (trail in_loop (body a most) (λ a. trail in_loop (next a most) (trees m))) by here t) refl
+        (λ w less.
+        follow_same here by goes in_loop w (f2 by a w) (body a most) _ _ ((b a).is most by goes w
+        (omega (arith, small, up.turns, less))) (λ a u up2.
+        follow_same here by goes in_loop u (f3 by a u) (next a most) _ _ ((x a).is most by goes u
+        (omega (arith, small, up.turns, less, up2.turns))) (λ a z up3.
+        rounds_are by goes n m a z (omega (arith, few, up.turns, less, up2.turns, up3.turns))
+        (omega (arith, few', up.turns, less, up2.turns, up3.turns))
+        (omega (arith, small, up.turns, less, up2.turns, up3.turns))))))
 
-  pub plays_loop : (f f2 f3 : DoingWith A) (head body next : A → ℕ → Interaction (Left A)) → PlaysWith f head → PlaysWith f2 body → PlaysWith f3 next → PlaysWith (λ by. loop (f by) (f2 by) (f3 by)) (λ a n. round_trees n (λ a. head a n) (λ a. body a n) (λ a. next a n) a)
+  pub plays_loop : (f f2 f3 : DoingWith A) (head body next : A → ℕ → Interaction (Left A)) → PlaysWith f head →
+      PlaysWith f2 body → PlaysWith f3 next →
+      PlaysWith (λ by. loop (f by) (f2 by) (f3 by)) (λ a n. round_trees n (λ a. head a n) (λ a. body a n)
+      (λ a. next a n) a)
   plays_loop f f2 f3 head body next h b x a = record {
     lasts = λ n. lasts_rounds f f2 f3 head body next h b x n n (omega arith) a;
     is = λ n by goes s few. rounds_are f f2 f3 head body next h b x n by goes (suc s.turns) n a s (omega arith) few few;
@@ -213,35 +265,52 @@ module _ {A : Type 0} (here : Here) where
 
 -- TREES THAT ARE ALIKE
 module _ (Soft : Cause → Type 0) where
-  pub alike_bind : {V W : Type 0} (tree twin : Interaction V) (next next' : V → Interaction W) → Alike Soft tree twin → ((v : V) → Alike Soft (next v) (next' v)) → Alike Soft (bind tree next) (bind twin next')
+  pub alike_bind : {V W : Type 0} (tree twin : Interaction V) (next next' : V → Interaction W) → Alike Soft tree twin →
+      ((v : V) → Alike Soft (next v) (next' v)) → Alike Soft (bind tree next) (bind twin next')
   alike_bind (Gives v) twin next next' is k = subst (λ x. Alike Soft (next v) (bind x next')) (sym is) (k v)
   alike_bind (Blames cause line) twin next next' (inl soft) k = inl soft
   alike_bind (Blames cause line) twin next next' (inr is) k = inr (ap (λ x. bind x next') is)
-  alike_bind (Reads go) twin next next' h k =
-      ((λ blocks. bind (h.0 blocks) next'), ap (λ x. bind x next') h.1, λ blocks. alike_bind (go blocks) (h.0 blocks) next next' (h.2 blocks) k)
-  alike_bind (Stores blocks go) twin next next' h k = (bind h.0 next', ap (λ x. bind x next') h.1, alike_bind go h.0 next next' h.2 k)
-  alike_bind (Spends go) twin next next' h k = (bind h.0 next', ap (λ x. bind x next') h.1, alike_bind go h.0 next next' h.2 k)
+  alike_bind (Reads go) twin next next' h k = (
+    (λ blocks. bind (h.0 blocks) next'),
+    ap (λ x. bind x next') h.1,
+    λ blocks. alike_bind (go blocks) (h.0 blocks)
+        next next' (h.2 blocks) k,
+  )
+  alike_bind (Stores blocks go) twin next next' h k =
+      (bind h.0 next', ap (λ x. bind x next') h.1, alike_bind go h.0 next next' h.2 k)
+  alike_bind (Spends go) twin next next' h k =
+      (bind h.0 next', ap (λ x. bind x next') h.1, alike_bind go h.0 next next' h.2 k)
   alike_bind (Asks target args go) twin next next' h k =
       ((λ v. bind (h.0 v) next'), ap (λ x. bind x next') h.1, λ v. alike_bind (go v) (h.0 v) next next' (h.2 v) k)
   alike_bind Halts twin next next' is k = ap (λ x. bind x next') is
 
-  alike_result : {V : Type 0} (line : ℕ) (r r' : Result V Cause) → Keeps Soft V r r' → Alike Soft (of_result line r) (of_result line r')
-  alike_result {V} line r r' (alike is) = subst (λ x. Alike Soft (of_result line r) (of_result line x)) (sym is) (itself r) where
-    itself : (r : Result V Cause) → Alike Soft (of_result line r) (of_result line r)
-    itself (Ok v) = refl
-    itself (Err cause) = inr refl
-  alike_result {V} line r r' (blamed cause soft is) = subst (λ x. Alike Soft (of_result line x) (of_result line r')) (sym is) (inl soft)
+  alike_result : {V : Type 0} (line : ℕ) (r r' : Result V Cause) → Keeps Soft V r r' →
+      Alike Soft (of_result line r) (of_result line r')
+  alike_result {V} line r r' (alike is) =
+      subst (λ x. Alike Soft (of_result line r) (of_result line x)) (sym is) (itself r) where
+        itself : (r : Result V Cause) → Alike Soft (of_result line r) (of_result line r)
+        itself (Ok v) = refl
+        itself (Err cause) = inr refl
+  alike_result {V} line r r' (blamed cause soft is) =
+      subst (λ x. Alike Soft (of_result line x) (of_result line r')) (sym is) (inl soft)
 
   module _ {A : Type 0} where
-    alike_route : (route : Route) (go go' : A → Interaction (Left A)) → ((a : A) → Alike Soft (go a) (go' a)) → (a : A) → Alike Soft (on_route route go a) (on_route route go' a)
+    alike_route : (route : Route) (go go' : A → Interaction (Left A)) → ((a : A) → Alike Soft (go a) (go' a)) →
+        (a : A) → Alike Soft (on_route route go a) (on_route route go' a)
     alike_route On go go' h a = h a
     alike_route (Out exit) go go' h a = refl
 
-    alike_trail : (route : Exit → Route) (tree twin : Interaction (Left A)) (go go' : A → Interaction (Left A)) → Alike Soft tree twin → ((a : A) → Alike Soft (go a) (go' a)) → Alike Soft (trail route tree go) (trail route twin go')
+    alike_trail : (route : Exit → Route) (tree twin : Interaction (Left A)) (go go' : A → Interaction (Left A)) →
+        Alike Soft tree twin → ((a : A) → Alike Soft (go a) (go' a)) →
+        Alike Soft (trail route tree go) (trail route twin go')
     alike_trail route tree twin go go' h k =
-        alike_bind tree twin (λ left. on_route (route left.exit) go left.carried) (λ left. on_route (route left.exit) go' left.carried) h (λ left. alike_route (route left.exit) go go' k left.carried)
+        alike_bind tree twin (λ left. on_route (route left.exit) go left.carried)
+        (λ left. on_route (route left.exit) go' left.carried) h (λ left. alike_route (route left.exit) go go' k
+        left.carried)
 
-    alike_rounds : (n : ℕ) (f g f2 g2 f3 g3 : A → Interaction (Left A)) → ((a : A) → Alike Soft (f a) (g a)) → ((a : A) → Alike Soft (f2 a) (g2 a)) → ((a : A) → Alike Soft (f3 a) (g3 a)) → (a : A) → Alike Soft (round_trees n f f2 f3 a) (round_trees n g g2 g3 a)
+    alike_rounds : (n : ℕ) (f g f2 g2 f3 g3 : A → Interaction (Left A)) → ((a : A) → Alike Soft (f a) (g a)) →
+        ((a : A) → Alike Soft (f2 a) (g2 a)) → ((a : A) → Alike Soft (f3 a) (g3 a)) → (a : A) →
+        Alike Soft (round_trees n f f2 f3 a) (round_trees n g g2 g3 a)
     alike_rounds zero f g f2 g2 f3 g3 h b x a = refl
     alike_rounds (suc n) f g f2 g2 f3 g3 h b x a =
         alike_trail in_loop (f a) (g a) _ _ (h a) (λ a. (
@@ -262,7 +331,9 @@ module _ (Soft : Cause → Type 0) where
       alike = λ n. refl;
     }
 
-    pub match_then : {V W : Type 0} (f g : Doing V) (k l : V → Doing W) → Match Soft here f g → ((v : V) → Match Soft here (k v) (l v)) → Match Soft here (λ by s. and_then (f by s) (λ v t. k v by t)) (λ by s. and_then (g by s) (λ v t. l v by t))
+    pub match_then : {V W : Type 0} (f g : Doing V) (k l : V → Doing W) → Match Soft here f g →
+        ((v : V) → Match Soft here (k v) (l v)) →
+        Match Soft here (λ by s. and_then (f by s) (λ v t. k v by t)) (λ by s. and_then (g by s) (λ v t. l v by t))
     match_then f g k l h x = record {
       tree = λ n. bind (h.tree n) (λ v. (x v).tree n);
       twin = λ n. bind (h.twin n) (λ v. (x v).twin n);
@@ -272,16 +343,27 @@ module _ (Soft : Cause → Type 0) where
     }
 
     -- what is computed from the blocks of the compartment, or blame
-    pub match_computed : {V : Type 0} (line : ℕ) (e e' : Blocks → Result V Cause) → ((blocks : Blocks) → Keeps Soft V (e blocks) (e' blocks)) → Match Soft here (λ by s. computed here line (e (s.memory here.comp)) s) (λ by s. computed here line (e' (s.memory here.comp)) s)
+    pub match_computed : {V : Type 0} (line : ℕ) (e e' : Blocks → Result V Cause) →
+        ((blocks : Blocks) → Keeps Soft V (e blocks) (e' blocks)) →
+        Match Soft here (λ by s. computed here line (e (s.memory here.comp)) s)
+        (λ by s. computed here line (e' (s.memory here.comp)) s)
     match_computed line e e' h = record {
       tree = λ n. Reads (λ blocks. of_result line (e blocks));
       twin = λ n. Reads (λ blocks. of_result line (e' blocks));
       first = plays_computed here line e;
       second = plays_computed here line e';
-      alike = λ n. ((λ blocks. of_result line (e' blocks)), refl, λ blocks. alike_result line (e blocks) (e' blocks) (h blocks));
+      alike =
+          λ n. (
+            (λ blocks. of_result line (e' blocks)),
+            refl,
+            λ blocks. alike_result line (e blocks) (e' blocks)
+                (h blocks),
+          );
     }
 
-    pub match_stored : {V : Type 0} (v : V) (blocks : Blocks) → Match Soft here (λ by s. Reached v (with_memory here.comp blocks s)) (λ by s. Reached v (with_memory here.comp blocks s))
+    pub match_stored : {V : Type 0} (v : V) (blocks : Blocks) →
+        Match Soft here (λ by s. Reached v (with_memory here.comp blocks s))
+        (λ by s. Reached v (with_memory here.comp blocks s))
     match_stored v blocks = record {
       tree = λ n. Stores blocks (Gives v);
       twin = λ n. Stores blocks (Gives v);
@@ -290,7 +372,8 @@ module _ (Soft : Cause → Type 0) where
       alike = λ n. (Gives v, refl, refl);
     }
 
-    pub match_call : (target : CallTarget) (args : List Value) → Match Soft here (λ by. by here.comp target args) (λ by. by here.comp target args)
+    pub match_call : (target : CallTarget) (args : List Value) →
+        Match Soft here (λ by. by here.comp target args) (λ by. by here.comp target args)
     match_call target args = record {
       tree = λ n. Asks target args (λ v. Gives v);
       twin = λ n. Asks target args (λ v. Gives v);
@@ -299,7 +382,8 @@ module _ (Soft : Cause → Type 0) where
       alike = λ n. ((λ v. Gives v), refl, λ v. refl);
     }
 
-    pub match_if : {V : Type 0} (b : Bool) (f g f' g' : Doing V) → Match Soft here f g → Match Soft here f' g' → Match Soft here (λ by s. if b then f by s else f' by s) (λ by s. if b then g by s else g' by s)
+    pub match_if : {V : Type 0} (b : Bool) (f g f' g' : Doing V) → Match Soft here f g → Match Soft here f' g' →
+        Match Soft here (λ by s. if b then f by s else f' by s) (λ by s. if b then g by s else g' by s)
     match_if true f g f' g' h k = h
     match_if false f g f' g' h k = k
 
@@ -310,7 +394,8 @@ module _ (Soft : Cause → Type 0) where
       pub match_leave : (exit : Exit) → MatchWith (λ by. leave exit) (λ by. leave exit)
       match_leave exit a = match_reached (record { exit = exit; carried = a })
 
-      pub match_follow : (route : Exit → Route) (f g : Doing (Left A)) (k l : DoingWith A) → Match Soft here f g → MatchWith k l → Match Soft here (λ by s. follow route (f by s) (k by)) (λ by s. follow route (g by s) (l by))
+      pub match_follow : (route : Exit → Route) (f g : Doing (Left A)) (k l : DoingWith A) → Match Soft here f g →
+          MatchWith k l → Match Soft here (λ by s. follow route (f by s) (k by)) (λ by s. follow route (g by s) (l by))
       match_follow route f g k l h x = record {
         tree = λ n. trail route (h.tree n) (λ a. (x a).tree n);
         twin = λ n. trail route (h.twin n) (λ a. (x a).twin n);
@@ -322,20 +407,27 @@ module _ (Soft : Cause → Type 0) where
       -- a value at a place
       pub match_store : (q v : Value) (line : ℕ) → MatchWith (λ by. stored here q v line) (λ by. stored here q v line)
       match_store q v line a =
-          match_then _ _ (λ blocks by t. leave Next a (with_memory here.comp blocks t)) (λ blocks by t. leave Next a (with_memory here.comp blocks t))
-          (match_computed line (λ blocks. store blocks q v) (λ blocks. store blocks q v) (λ blocks. alike refl)) (λ blocks. match_stored (record { exit = Next; carried = a }) blocks)
+          match_then _ _ (λ blocks by t. leave Next a (with_memory here.comp blocks t))
+          (λ blocks by t. leave Next a (with_memory here.comp blocks t))
+          (match_computed line (λ blocks. store blocks q v) (λ blocks. store blocks q v) (λ blocks. alike refl))
+          (λ blocks. match_stored (record { exit = Next; carried = a }) blocks)
 
       -- what each of a list does, in order
-      pub match_all : {X : Type 0} (f g : X → DoingWith A) (xs : List X) → Each (λ x. MatchWith (f x) (g x)) xs → MatchWith (λ by. all_do (map (λ x. f x by) xs)) (λ by. all_do (map (λ x. g x by) xs))
+      pub match_all : {X : Type 0} (f g : X → DoingWith A) (xs : List X) → Each (λ x. MatchWith (f x) (g x)) xs →
+          MatchWith (λ by. all_do (map (λ x. f x by) xs)) (λ by. all_do (map (λ x. g x by) xs))
       match_all f g [] h a = match_leave Next a
       match_all f g (x ∷ xs) h a =
-          match_follow in_order (λ by. f x by a) (λ by. g x by a) (λ by. all_do (map (λ x. f x by) xs)) (λ by. all_do (map (λ x. g x by) xs)) (h.0 a) (match_all f g xs h.1)
+          match_follow in_order (λ by. f x by a) (λ by. g x by a) (λ by. all_do (map (λ x. f x by) xs))
+          (λ by. all_do (map (λ x. g x by) xs)) (h.0 a) (match_all f g xs h.1)
 
-      pub match_loop : (f g f2 g2 f3 g3 : DoingWith A) → MatchWith f g → MatchWith f2 g2 → MatchWith f3 g3 → MatchWith (λ by. loop (f by) (f2 by) (f3 by)) (λ by. loop (g by) (g2 by) (g3 by))
+      pub match_loop : (f g f2 g2 f3 g3 : DoingWith A) → MatchWith f g → MatchWith f2 g2 → MatchWith f3 g3 →
+          MatchWith (λ by. loop (f by) (f2 by) (f3 by)) (λ by. loop (g by) (g2 by) (g3 by))
       match_loop f g f2 g2 f3 g3 h b x a = record {
         tree = λ n. round_trees n (λ a. (h a).tree n) (λ a. (b a).tree n) (λ a. (x a).tree n) a;
         twin = λ n. round_trees n (λ a. (h a).twin n) (λ a. (b a).twin n) (λ a. (x a).twin n) a;
-        first = plays_loop here f f2 f3 (λ a. (h a).tree) (λ a. (b a).tree) (λ a. (x a).tree) (λ a. (h a).first) (λ a. (b a).first) (λ a. (x a).first) a;
-        second = plays_loop here g g2 g3 (λ a. (h a).twin) (λ a. (b a).twin) (λ a. (x a).twin) (λ a. (h a).second) (λ a. (b a).second) (λ a. (x a).second) a;
+        first = plays_loop here f f2 f3 (λ a. (h a).tree) (λ a. (b a).tree) (λ a. (x a).tree) (λ a. (h a).first)
+            (λ a. (b a).first) (λ a. (x a).first) a;
+        second = plays_loop here g g2 g3 (λ a. (h a).twin) (λ a. (b a).twin) (λ a. (x a).twin) (λ a. (h a).second)
+            (λ a. (b a).second) (λ a. (x a).second) a;
         alike = λ n. alike_rounds n _ _ _ _ _ _ (λ a. (h a).alike n) (λ a. (b a).alike n) (λ a. (x a).alike n) a;
       }

@@ -21,13 +21,15 @@ Anywhere here = Unit {0}
 module _ (P : State → State → Type 0) (R : (V : Type 0) → Piece V → Piece V → Type 0) (Good : Here → Type 0) where
   -- what is called from a compartment
   abbrev pub CallsTwins : ℕ → Calls → Calls → Type 0
-  CallsTwins from C D = (target : CallTarget) (args : List Value) → Twins P R (Option Value) (C from target args) (D from target args)
+  CallsTwins from C D = (target : CallTarget) (args : List Value) →
+      Twins P R (Option Value) (C from target args) (D from target args)
 
   -- functions that callers can't tell apart, and that do related things where their calls do
   pub record FunctionTwins (f g : Function) : Type 0 where
     pub cells : g.cells ≡ f.cells
     pub room : g.room ≡ f.room
-    pub does : (C D : Calls) (here : Here) → Good here → CallsTwins here.comp C D → Twins P R (Option Value) (f.does C here) (g.does D here)
+    pub does : (C D : Calls) (here : Here) → Good here → CallsTwins here.comp C D →
+        Twins P R (Option Value) (f.does C here) (g.does D here)
 
   pub record LibraryTwins (L M : Library) : Type 0 where
     pub interfaces : M.interfaces ≡ L.interfaces
@@ -49,14 +51,20 @@ module _ (P : State → State → Type 0) (R : (V : Type 0) → Piece V → Piec
 
     leads_same : (comp : ℕ) (number : Option ℕ) → leads M comp number ≡ leads L comp number
     leads_same comp None = refl
-    leads_same comp (Some number) = some_same (function L comp number) (function M comp number) (function_twins comp number)
+    leads_same comp (Some number) =
+        some_same (function L comp number) (function M comp number) (function_twins comp number)
 
     -- the same calls may be made
-    pub may_same : (from : ℕ) (target : CallTarget) (args : List Value) → may_call M from target args ≡ may_call L from target args
-    may_same from (Own number) args = some_same (function L from number) (function M from number) (function_twins from number)
+    pub may_same : (from : ℕ) (target : CallTarget) (args : List Value) →
+        may_call M from target args ≡ may_call L from target args
+    may_same from (Own number) args =
+        some_same (function L from number) (function M from number) (function_twins from number)
     may_same from (Cross to index) args =
-        ap (λ i. imports i from (is_function to index) && (takes i to index (length args) && (list_all is_word args && leads M to (M.entered to (Export index))))) twins.interfaces
-        ∙ ap (λ b. imports L.interfaces from (is_function to index) && (takes L.interfaces to index (length args) && (list_all is_word args && b)))
+        ap (λ i. imports i from (is_function to index) && (takes i to index (length args)
+        && (list_all is_word args && leads M to (M.entered to (Export index))))) twins.interfaces
+        ∙ ap (λ b. imports L.interfaces from (is_function to index) && (takes L.interfaces to index (length args)
+        && (list_all is_word args && b)))
         (ap (leads M to) (twins.entered to (Export index)) ∙ leads_same to (L.entered to (Export index)))
     may_same from Input args = ap (λ i. imports i from is_input) twins.interfaces
-    may_same from Output args = ap (λ i. imports i from is_output && (length args == 1 && list_all is_word args)) twins.interfaces
+    may_same from Output args = ap (λ i. imports i from is_output && (length args == 1 && list_all is_word args))
+        twins.interfaces

@@ -41,15 +41,16 @@ use Rattle.sc_core.proofs.Induction.{Each, everywhere, Inside, stmt_induction}
 use Rattle.sc_laws.specs.Agreement.{PiecesAgree, CallsAgree, FunctionsAgree, LibrariesAgree, OtherLinesAgree, RunsAgree}
 use Rattle.sc_laws.specs.Lines.{simple_lined, layer_lined, stmt_lined, local_lined, function_lined, section_lined, program_lined}
 use Rattle.sc_laws.proofs.Agreement.{itself, then_agree, agreeing_run_alike}
-use Rattle.sc_laws.proofs.Programs.{meets_at, lists_at}
-use Rattle.sc_laws.proofs.Programs.{Each as Pairs}
+use Rattle.sc_laws.proofs.Programs.{Pairs, meets_at, lists_at}
 
 -- WORDS
-computed_agree : {V : Type 0} (here : Here) (line other : ℕ) (r : Result V Cause) (s : State) → PiecesAgree (computed here line r s) (computed here other r s)
+computed_agree : {V : Type 0} (here : Here) (line other : ℕ) (r : Result V Cause) (s : State) →
+    PiecesAgree (computed here line r s) (computed here other r s)
 computed_agree here line other (Ok v) s = itself _
 computed_agree here line other (Err cause) s = record { same = refl }
 
-choose_agree : {V : Type 0} (v : Value) (o p o' p' : Piece V) → PiecesAgree o p → PiecesAgree o' p' → PiecesAgree (choose v o o') (choose v p p')
+choose_agree : {V : Type 0} (v : Value) (o p o' p' : Piece V) → PiecesAgree o p → PiecesAgree o' p' →
+    PiecesAgree (choose v o o') (choose v p p')
 choose_agree {V} v o p o' p' h k = by (is_true v) where
   by : (b : Bool) → PiecesAgree (if b then o else o') (if b then p else p')
   by true = h
@@ -63,10 +64,12 @@ take_agree : {A : Type 0} (route : Route) (f g : Does A) → DoesAgree f g → D
 take_agree On f g h a s = h a s
 take_agree (Out exit) f g h a s = itself _
 
-follow_agree : {A : Type 0} (route : Exit → Route) (o p : Piece (Left A)) (f g : Does A) → PiecesAgree o p → DoesAgree f g → PiecesAgree (follow route o f) (follow route p g)
+follow_agree : {A : Type 0} (route : Exit → Route) (o p : Piece (Left A)) (f g : Does A) → PiecesAgree o p →
+    DoesAgree f g → PiecesAgree (follow route o f) (follow route p g)
 follow_agree route o p f g h k = then_agree o p _ _ h (λ left s. take_agree (route left.exit) f g k left.carried s)
 
-rounds_agree : {A : Type 0} (n : ℕ) (f g f2 g2 f3 g3 : Does A) → DoesAgree f g → DoesAgree f2 g2 → DoesAgree f3 g3 → DoesAgree (rounds n f f2 f3) (rounds n g g2 g3)
+rounds_agree : {A : Type 0} (n : ℕ) (f g f2 g2 f3 g3 : Does A) → DoesAgree f g → DoesAgree f2 g2 → DoesAgree f3 g3 →
+    DoesAgree (rounds n f f2 f3) (rounds n g g2 g3)
 rounds_agree zero f g f2 g2 f3 g3 h b x a s = itself _
 rounds_agree (suc n) f g f2 g2 f3 g3 h b x a s =
     follow_agree in_loop (f a s) (g a s) _ _ (h a s) (λ a s.
@@ -85,16 +88,19 @@ module _ (line_of : ℕ → ℕ) where
   -- a layer whose statements stand on other lines
   abbrev inner_lined : TypedStmtKind-F TypedStmtKind TypedStmt → TypedStmtKind-F TypedStmtKind TypedStmt
   inner_lined k =
-      layer_lined line_of (map-TypedStmtKind _ _ _ _ (fold-TypedStmtKind TypedStmtKind TypedStmt kind_lined moved) (fold-TypedStmt TypedStmtKind TypedStmt kind_lined moved) k)
+      layer_lined line_of (map-TypedStmtKind _ _ _ _ (fold-TypedStmtKind TypedStmtKind TypedStmt kind_lined moved)
+      (fold-TypedStmt TypedStmtKind TypedStmt kind_lined moved) k)
 
-  lined_at : (line : ℕ) (k : TypedStmtKind-F TypedStmtKind TypedStmt) → stmt_lined line_of (on_line line k) ≡ on_line (line_of line) (inner_lined k)
+  lined_at : (line : ℕ) (k : TypedStmtKind-F TypedStmtKind TypedStmt) →
+      stmt_lined line_of (on_line line k) ≡ on_line (line_of line) (inner_lined k)
   lined_at line k = stmt_at TypedStmtKind TypedStmt kind_lined moved line k
 
   -- it has as many nodes
   abbrev SameNodes : TypedStmt → Type 0
   SameNodes stmt = stmt_nodes (stmt_lined line_of stmt) ≡ stmt_nodes stmt
 
-  list_nodes : (block : List TypedStmt) → Each SameNodes block → map stmt_nodes (map (stmt_lined line_of) block) ≡ map stmt_nodes block
+  list_nodes : (block : List TypedStmt) → Each SameNodes block → map stmt_nodes (map (stmt_lined line_of) block)
+      ≡ map stmt_nodes block
   list_nodes [] h = refl
   list_nodes (stmt ∷ rest) h = ap₂ (λ n ns. n ∷ ns) h.0 (list_nodes rest h.1)
 
@@ -105,7 +111,8 @@ module _ (line_of : ℕ → ℕ) where
   abbrev nodes_of : TypedStmtKind-F TypedStmtKind TypedStmt → ℕ
   nodes_of = layer_of ℕ ℕ kind_nodes (λ s. s.kind)
 
-  layer_nodes : (k : TypedStmtKind-F TypedStmtKind TypedStmt) → Inside SameNodes k → nodes_of (inner_lined k) ≡ nodes_of k
+  layer_nodes : (k : TypedStmtKind-F TypedStmtKind TypedStmt) → Inside SameNodes k →
+      nodes_of (inner_lined k) ≡ nodes_of k
   layer_nodes layer.Empty h = refl
   layer_nodes (layer.Assign place value) h = refl
   layer_nodes (layer.AssignCall place call) h = refl
@@ -114,7 +121,8 @@ module _ (line_of : ℕ → ℕ) where
       ap₂ (λ m n. suc (expr_nodes cond + total m + total n)) (list_nodes first h.0) (list_nodes second h.1)
   layer_nodes (layer.While cond body) h = ap (λ n. suc (expr_nodes cond + total n)) (list_nodes body h)
   layer_nodes (layer.For first cond next body) h =
-      ap₂ (λ m n. suc (m + expr_nodes cond + n + total (map stmt_nodes (map (stmt_lined line_of) body)))) (same_part first) (same_part next)
+      ap₂ (λ m n. suc (m + expr_nodes cond + n + total (map stmt_nodes (map (stmt_lined line_of) body))))
+      (same_part first) (same_part next)
       ∙ ap (λ n. suc (part_nodes first + expr_nodes cond + part_nodes next + total n)) (list_nodes body h)
   layer_nodes layer.Break h = refl
   layer_nodes layer.Continue h = refl
@@ -124,34 +132,42 @@ module _ (line_of : ℕ → ℕ) where
 
   same_nodes : (stmt : TypedStmt) → SameNodes stmt
   same_nodes =
-      stmt_induction SameNodes (λ line k h. ap stmt_nodes (lined_at line k) ∙ stmt_at ℕ ℕ kind_nodes (λ s. s.kind) (line_of line) (inner_lined k) ∙ layer_nodes k h ∙ sym (stmt_at ℕ ℕ kind_nodes (λ s. s.kind) line k))
+      stmt_induction SameNodes (λ line k h. ap stmt_nodes (lined_at line k) ∙ stmt_at ℕ ℕ kind_nodes (λ s. s.kind)
+      (line_of line) (inner_lined k) ∙ layer_nodes k h ∙ sym (stmt_at ℕ ℕ kind_nodes (λ s. s.kind) line k))
 
   same_locals : (locals : List TypedLocal) → map local_nodes (map (local_lined line_of) locals) ≡ map local_nodes locals
   same_locals [] = refl
   same_locals (local ∷ rest) = ap (λ ns. local_nodes local ∷ ns) (same_locals rest)
 
-  same_cells : (structs : List TypedStruct) (locals : List TypedLocal) → map {A = TypedLocal} (λ l. cells_of structs l.ty) (map (local_lined line_of) locals) ≡ map {A = TypedLocal} (λ l. cells_of structs l.ty) locals
+  same_cells : (structs : List TypedStruct) (locals : List TypedLocal) →
+      map {A = TypedLocal} (λ l. cells_of structs l.ty) (map (local_lined line_of) locals) ≡ map {A = TypedLocal}
+      (λ l. cells_of structs l.ty) locals
   same_cells structs [] = refl
   same_cells structs (local ∷ rest) = ap (λ ns. cells_of structs local.ty ∷ ns) (same_cells structs rest)
 
   function_nodes : (f : TypedFunction) → nodes (function_lined line_of f) ≡ nodes f
   function_nodes f =
-      ap₂ (λ m n. suc (length f.params) + total m + total n) (same_locals f.locals) (list_nodes f.body (everywhere SameNodes same_nodes f.body))
+      ap₂ (λ m n. suc (length f.params) + total m + total n) (same_locals f.locals)
+      (list_nodes f.body (everywhere SameNodes same_nodes f.body))
 
-  function_cells : (structs : List TypedStruct) (f : TypedFunction) → variables structs (function_lined line_of f) ≡ variables structs f
+  function_cells : (structs : List TypedStruct) (f : TypedFunction) →
+      variables structs (function_lined line_of f) ≡ variables structs f
   function_cells structs f =
       ap (λ ns. map {A = TypedParam} (λ p. cells_of structs p.ty) f.params ++ ns) (same_cells structs f.locals)
 
 -- STATEMENTS
 module _ (here : Here) where
-  stored_agree : (q v : Value) (line other : ℕ) → DoesAgree {A = Unit {0}} (stored here q v line) (stored here q v other)
+  stored_agree : (q v : Value) (line other : ℕ) →
+      DoesAgree {A = Unit {0}} (stored here q v line) (stored here q v other)
   stored_agree q v line other a s =
       then_agree _ _ _ _ (computed_agree here line other (store (s.memory here.comp) q v) s) (λ blocks s. itself _)
 
-  given_agree : (w : Want) (e : Ways) (line other : ℕ) (s : State) → PiecesAgree (given here w e line s) (given here w e other s)
+  given_agree : (w : Want) (e : Ways) (line other : ℕ) (s : State) →
+      PiecesAgree (given here w e line s) (given here w e other s)
   given_agree w e line other s = computed_agree here line other (e w (s.memory here.comp)) s
 
-  store_at_agree : (place : Ways) (v : Value) (line other : ℕ) → DoesAgree (store_at here place v line) (store_at here place v other)
+  store_at_agree : (place : Ways) (v : Value) (line other : ℕ) →
+      DoesAgree (store_at here place v line) (store_at here place v other)
   store_at_agree place v line other a s =
       then_agree _ _ _ _ (given_agree want.Place place line other s) (λ q s. stored_agree q v line other a s)
 
@@ -162,98 +178,138 @@ module _ (here : Here) where
   test_agree : (e : Ways) (line other : ℕ) → DoesAgree (test here e line) (test here e other)
   test_agree e line other a s = then_agree _ _ _ _ (given_agree want.Value e line other s) (λ v s. itself _)
 
-  store_result_agree : (place : Ways) (result : Option Value) (line other : ℕ) → DoesAgree (store_result here place result line) (store_result here place result other)
+  store_result_agree : (place : Ways) (result : Option Value) (line other : ℕ) →
+      DoesAgree (store_result here place result line) (store_result here place result other)
   store_result_agree place None line other a s = itself _
   store_result_agree place (Some v) line other a s = store_at_agree place v line other a s
 
   module _ (C D : Calls) (calls : CallsAgree C D) where
-    call_agree : (target : CallTarget) (args : List Ways) (line other : ℕ) (s : State) → PiecesAgree (call here C target args line s) (call here D target args other s)
+    call_agree : (target : CallTarget) (args : List Ways) (line other : ℕ) (s : State) →
+        PiecesAgree (call here C target args line s) (call here D target args other s)
     call_agree target args line other s =
-        then_agree _ _ _ _ (computed_agree here line other (values args (s.memory here.comp)) s) (λ vs s. calls here.comp target vs s)
+        then_agree _ _ _ _ (computed_agree here line other (values args (s.memory here.comp)) s)
+        (λ vs s. calls here.comp target vs s)
 
-    assign_call_agree : (place : Ways) (target : CallTarget) (args : List Ways) (line other : ℕ) → DoesAgree (assign_call here C place target args line) (assign_call here D place target args other)
+    assign_call_agree : (place : Ways) (target : CallTarget) (args : List Ways) (line other : ℕ) →
+        DoesAgree (assign_call here C place target args line) (assign_call here D place target args other)
     assign_call_agree place target args line other a s =
-        then_agree _ _ _ _ (call_agree target args line other s) (λ result s. store_result_agree place result line other a s)
+        then_agree _ _ _ _ (call_agree target args line other s) (λ result s. store_result_agree place result line other
+        a s)
 
-    call_alone_agree : (target : CallTarget) (args : List Ways) (line other : ℕ) → DoesAgree (call_alone here C target args line) (call_alone here D target args other)
+    call_alone_agree : (target : CallTarget) (args : List Ways) (line other : ℕ) →
+        DoesAgree (call_alone here C target args line) (call_alone here D target args other)
     call_alone_agree target args line other a s =
         then_agree _ _ _ _ (call_agree target args line other s) (λ result s. itself _)
 
     module _ (arith : Arith) (structs : List TypedStruct) (params : ℕ) (line_of : ℕ → ℕ) where
-      simple_agree : (k : TypedSimpleKind) (line other : ℕ) → DoesAgree (simple_does arith structs here params C k line) (simple_does arith structs here params D k other)
+      simple_agree : (k : TypedSimpleKind) (line other : ℕ) →
+          DoesAgree (simple_does arith structs here params C k line) (simple_does arith structs here params D k other)
       simple_agree (simple.Assign place e) line other =
           assign_agree (ways arith structs here params place) (ways arith structs here params e) line other
       simple_agree (simple.AssignCall place c) line other =
-          assign_call_agree (ways arith structs here params place) c.target (map (ways arith structs here params) c.args) line other
+          assign_call_agree (ways arith structs here params place) c.target
+          (map (ways arith structs here params) c.args) line other
       simple_agree (simple.Call c) line other =
           call_alone_agree c.target (map (ways arith structs here params) c.args) line other
 
-      part_agree : (part : Option TypedSimple) → DoesAgree (part_does arith structs here params C part) (part_does arith structs here params D (option_map (simple_lined line_of) part))
+      part_agree : (part : Option TypedSimple) →
+          DoesAgree (part_does arith structs here params C part) (part_does arith structs here params D
+          (option_map (simple_lined line_of) part))
       part_agree None a s = itself _
       part_agree (Some p) a s = simple_agree p.kind p.line (line_of p.line) a s
 
       abbrev Agrees : TypedStmt → Type 0
-      Agrees stmt = DoesAgree (stmt_does arith structs here params C stmt) (stmt_does arith structs here params D (stmt_lined line_of stmt))
+      Agrees stmt =
+          DoesAgree (stmt_does arith structs here params C stmt) (stmt_does arith structs here params D
+          (stmt_lined line_of stmt))
 
-      block_agree : (block : List TypedStmt) → Each Agrees block → DoesAgree (block_does arith structs here params C block) (block_does arith structs here params D (map (stmt_lined line_of) block))
+      block_agree : (block : List TypedStmt) → Each Agrees block →
+          DoesAgree (block_does arith structs here params C block) (block_does arith structs here params D
+          (map (stmt_lined line_of) block))
       block_agree [] h a s = itself _
       block_agree (stmt ∷ rest) h a s =
           follow_agree in_order _ _ _ _ (h.0 a s) (block_agree rest h.1)
 
-      loop_agree : (cond : Ways) (line other : ℕ) (f g f3 g3 : Acts) → DoesAgree f g → DoesAgree f3 g3 → DoesAgree (loop (test here cond line) f f3) (loop (test here cond other) g g3)
+      loop_agree : (cond : Ways) (line other : ℕ) (f g f3 g3 : Acts) → DoesAgree f g → DoesAgree f3 g3 →
+          DoesAgree (loop (test here cond line) f f3) (loop (test here cond other) g g3)
       loop_agree cond line other f g f3 g3 b x a s =
-          rounds_agree (suc s.turns) (test here cond line) (test here cond other) f g f3 g3 (test_agree cond line other) b x a s
+          rounds_agree (suc s.turns) (test here cond line) (test here cond other) f g f3 g3 (test_agree cond line other)
+          b x a s
 
       abbrev layered : Calls → TypedStmtKind-F TypedStmtKind TypedStmt → ℕ → Acts
       layered by = layer_of _ _ (kind_step arith structs here params by) stmt_step
 
-      layer_agree : (line : ℕ) (k : TypedStmtKind-F TypedStmtKind TypedStmt) → Inside Agrees k → DoesAgree (layered C k line) (layered D (inner_lined line_of k) (line_of line))
+      layer_agree : (line : ℕ) (k : TypedStmtKind-F TypedStmtKind TypedStmt) → Inside Agrees k →
+          DoesAgree (layered C k line) (layered D (inner_lined line_of k) (line_of line))
       layer_agree line layer.Empty h a s = itself _
       layer_agree line (layer.Assign place e) h a s =
           assign_agree (ways arith structs here params place) (ways arith structs here params e) line (line_of line) a s
       layer_agree line (layer.AssignCall place c) h a s =
-          assign_call_agree (ways arith structs here params place) c.target (map (ways arith structs here params) c.args) line (line_of line) a s
+          assign_call_agree (ways arith structs here params place) c.target
+          (map (ways arith structs here params) c.args) line (line_of line) a s
       layer_agree line (layer.Call c) h a s =
           call_alone_agree c.target (map (ways arith structs here params) c.args) line (line_of line) a s
       layer_agree line (layer.If cond x y) h a s =
-          then_agree _ _ _ _ (given_agree want.Value (ways arith structs here params cond) line (line_of line) s) (λ v s. choose_agree v _ _ _ _ (block_agree x h.0 a s) (block_agree y h.1 a s))
+          then_agree _ _ _ _ (given_agree want.Value (ways arith structs here params cond) line (line_of line) s)
+          (λ v s. choose_agree v _ _ _ _ (block_agree x h.0 a s) (block_agree y h.1 a s))
       layer_agree line (layer.While cond x) h a s =
-          loop_agree (ways arith structs here params cond) line (line_of line) _ _ (leave Next) (leave Next) (block_agree x h) (λ a s. itself _) a s
+          loop_agree (ways arith structs here params cond) line (line_of line) _ _ (leave Next) (leave Next)
+          (block_agree x h) (λ a s. itself _) a s
       layer_agree line (layer.For first cond next x) h a s =
-          follow_agree in_order _ _ _ _ (part_agree first a s) (loop_agree (ways arith structs here params cond) line (line_of line) _ _ (part_does arith structs here params C next) (part_does arith structs here params D (option_map (simple_lined line_of) next)) (block_agree x h) (part_agree next))
+          follow_agree in_order _ _ _ _ (part_agree first a s) (loop_agree (ways arith structs here params cond) line
+          (line_of line) _ _ (part_does arith structs here params C next) (part_does arith structs here params D
+          (option_map (simple_lined line_of) next)) (block_agree x h) (part_agree next))
       layer_agree line layer.Break h a s = itself _
       layer_agree line layer.Continue h a s = itself _
       layer_agree line layer.Return h a s = itself _
       layer_agree line (layer.ReturnValue e) h a s =
-          then_agree _ _ _ _ (given_agree want.Value (ways arith structs here params e) line (line_of line) s) (λ v s. itself _)
+          then_agree _ _ _ _ (given_agree want.Value (ways arith structs here params e) line (line_of line) s)
+          (λ v s. itself _)
       layer_agree line (layer.ReturnCall c) h a s =
-          then_agree _ _ _ _ (call_agree c.target (map (ways arith structs here params) c.args) line (line_of line) s) (λ result s. itself _)
+          then_agree _ _ _ _ (call_agree c.target (map (ways arith structs here params) c.args) line (line_of line) s)
+          (λ result s. itself _)
 
       stmt_agree : (stmt : TypedStmt) → Agrees stmt
       stmt_agree =
-          stmt_induction Agrees (λ line k h. subst (λ x. DoesAgree x (stmt_does arith structs here params D (stmt_lined line_of (on_line line k)))) (sym (stmt_at _ _ (kind_step arith structs here params C) stmt_step line k))
-          (subst (DoesAgree (layered C k line)) (sym (ap (stmt_does arith structs here params D) (lined_at line_of line k) ∙ stmt_at _ _ (kind_step arith structs here params D) stmt_step (line_of line) (inner_lined line_of k))) (layer_agree line k h)))
+          stmt_induction Agrees
+          (λ line k h. subst
+          (λ x. DoesAgree x (stmt_does arith structs here params D (stmt_lined line_of (on_line line k))))
+          (sym (stmt_at _ _ (kind_step arith structs here params C) stmt_step line k))
+          (subst (DoesAgree (layered C k line))
+          (sym (ap (stmt_does arith structs here params D) (lined_at line_of line k)
+          ∙ stmt_at _ _ (kind_step arith structs here params D) stmt_step (line_of line) (inner_lined line_of k)))
+          (layer_agree line k h)))
 
-      init_agree : (k : ℕ) (local : TypedLocal) (init : Option TypedExpr) → DoesAgree (init_does arith structs here params k local init) (init_does arith structs here params k (local_lined line_of local) init)
+      init_agree : (k : ℕ) (local : TypedLocal) (init : Option TypedExpr) →
+          DoesAgree (init_does arith structs here params k local init) (init_does arith structs here params k
+          (local_lined line_of local) init)
       init_agree k local None a s = itself _
       init_agree k local (Some e) a s =
-          assign_agree (at_place local.ty (λ blocks. Ok (variable_at here params (Local k)))) (ways arith structs here params e) local.line (line_of local.line) a s
+          assign_agree (at_place local.ty (λ blocks. Ok (variable_at here params (Local k))))
+          (ways arith structs here params e) local.line (line_of local.line) a s
 
-      inits_agree : (k : ℕ) (locals : List TypedLocal) → DoesAgree (all_do (inits_do arith structs here params k locals)) (all_do (inits_do arith structs here params k (map (local_lined line_of) locals)))
+      inits_agree : (k : ℕ) (locals : List TypedLocal) →
+          DoesAgree (all_do (inits_do arith structs here params k locals))
+          (all_do (inits_do arith structs here params k (map (local_lined line_of) locals)))
       inits_agree k [] a s = itself _
       inits_agree k (local ∷ rest) a s =
           follow_agree in_order _ _ _ _ (init_agree k local local.init a s) (inits_agree (suc k) rest)
 
-      body_agree : (f : TypedFunction) → DoesAgree (body_does arith structs here params C f) (body_does arith structs here params D (function_lined line_of f))
+      body_agree : (f : TypedFunction) →
+          DoesAgree (body_does arith structs here params C f) (body_does arith structs here params D
+          (function_lined line_of f))
       body_agree f a s =
-          follow_agree in_order _ _ _ _ (inits_agree 0 f.locals a s) (block_agree f.body (everywhere Agrees stmt_agree f.body))
+          follow_agree in_order _ _ _ _ (inits_agree 0 f.locals a s)
+          (block_agree f.body (everywhere Agrees stmt_agree f.body))
 
-  brace_agree : (has_result is_main : Bool) (line other : ℕ) (s : State) → PiecesAgree (at_brace has_result is_main line here s) (at_brace has_result is_main other here s)
+  brace_agree : (has_result is_main : Bool) (line other : ℕ) (s : State) →
+      PiecesAgree (at_brace has_result is_main line here s) (at_brace has_result is_main other here s)
   brace_agree true true line other s = itself _
   brace_agree true false line other s = record { same = refl }
   brace_agree false is_main line other s = itself _
 
-  closed_agree : (exit : Exit) (has_result is_main : Bool) (line other : ℕ) (s : State) → PiecesAgree (closed exit has_result is_main line here s) (closed exit has_result is_main other here s)
+  closed_agree : (exit : Exit) (has_result is_main : Bool) (line other : ℕ) (s : State) →
+      PiecesAgree (closed exit has_result is_main line here s) (closed exit has_result is_main other here s)
   closed_agree Next has_result is_main line other s = brace_agree has_result is_main line other s
   closed_agree Break has_result is_main line other s = brace_agree has_result is_main line other s
   closed_agree Continue has_result is_main line other s = brace_agree has_result is_main line other s
@@ -261,65 +317,90 @@ module _ (here : Here) where
 
 -- FUNCTIONS AND LIBRARIES
 module _ (arith : Arith) (line_of : ℕ → ℕ) where
-  function_agrees : (main : ℕ) (structs : List TypedStruct) (f : TypedFunction) → FunctionsAgree (function_of arith main structs f) (function_of arith main structs (function_lined line_of f))
+  function_agrees : (main : ℕ) (structs : List TypedStruct) (f : TypedFunction) →
+      FunctionsAgree (function_of arith main structs f) (function_of arith main structs (function_lined line_of f))
   function_agrees main structs f = record {
     cells = sym (function_cells line_of structs f);
     room = ap₂ frame_bound (sym (function_cells line_of structs f)) (sym (function_nodes line_of f));
     does = λ C D calls here s.
         then_agree _ _ _ _ (body_agree here C D calls arith structs (length f.params) line_of f tt s) (λ left s.
-        closed_agree here left.exit (is_some f.result) (here.comp == main && bytes_eq f.name main_name) f.close_line (line_of f.close_line) s);
+        closed_agree here left.exit (is_some f.result) (here.comp == main && bytes_eq f.name main_name) f.close_line
+        (line_of f.close_line) s);
   }
 
-  functions_agree : (main : ℕ) (structs : List TypedStruct) (fs : List TypedFunction) → Pairs FunctionsAgree (map (function_of arith main structs) fs) (map (function_of arith main structs) (map (function_lined line_of) fs))
+  functions_agree : (main : ℕ) (structs : List TypedStruct) (fs : List TypedFunction) →
+      Pairs FunctionsAgree (map (function_of arith main structs) fs) (map (function_of arith main structs)
+      (map (function_lined line_of) fs))
   functions_agree main structs [] = tt
   functions_agree main structs (f ∷ fs) = (function_agrees main structs f, functions_agree main structs fs)
 
-  sections_agree : (main : ℕ) (sections : List TypedSection) → Pairs (Pairs FunctionsAgree) (map (functions_in arith main) sections) (map (functions_in arith main) (map (section_lined line_of) sections))
+  sections_agree : (main : ℕ) (sections : List TypedSection) →
+      Pairs (Pairs FunctionsAgree) (map (functions_in arith main) sections)
+      (map (functions_in arith main) (map (section_lined line_of) sections))
   sections_agree main [] = tt
   sections_agree main (section ∷ rest) =
       (functions_agree main section.structs section.functions, sections_agree main rest)
 
   -- names lead to the same places
-  same_prefix : (name : List ℕ) (fs : List TypedFunction) → position_or_len {X = TypedFunction} (λ f. bytes_eq f.name name) (map (function_lined line_of) fs) ≡ position_or_len {X = TypedFunction} (λ f. bytes_eq f.name name) fs
+  same_prefix : (name : List ℕ) (fs : List TypedFunction) →
+      position_or_len {X = TypedFunction} (λ f. bytes_eq f.name name) (map (function_lined line_of) fs)
+      ≡ position_or_len {X = TypedFunction} (λ f. bytes_eq f.name name) fs
   same_prefix name [] = refl
   same_prefix name (f ∷ fs) = ap (λ n. if not (bytes_eq f.name name) then 1 + n else 0) (same_prefix name fs)
 
-  same_place : (name : List ℕ) (section : Option TypedSection) → place_named name (option_map (section_lined line_of) section) ≡ place_named name section
+  same_place : (name : List ℕ) (section : Option TypedSection) →
+      place_named name (option_map (section_lined line_of) section) ≡ place_named name section
   same_place name None = refl
   same_place name (Some section) =
-      ap₂ (λ n count. cond (nat_lt n count) (Some n) None) (same_prefix name section.functions) (length-map section.functions (function_lined line_of))
+      ap₂ (λ n count. cond (nat_lt n count) (Some n) None) (same_prefix name section.functions)
+      (length-map section.functions (function_lined line_of))
 
-  same_export : (proto : Option Proto) (section : Option TypedSection) → place_of_export proto (option_map (section_lined line_of) section) ≡ place_of_export proto section
+  same_export : (proto : Option Proto) (section : Option TypedSection) →
+      place_of_export proto (option_map (section_lined line_of) section) ≡ place_of_export proto section
   same_export None section = refl
   same_export (Some proto) section = same_place proto.name section
 
-  same_entry : (program : ProgramTree) (comp : ℕ) (entry : Entry) → entry_in program comp entry ≡ entry_in (program_lined line_of program) comp entry
+  same_entry : (program : ProgramTree) (comp : ℕ) (entry : Entry) →
+      entry_in program comp entry ≡ entry_in (program_lined line_of program) comp entry
   same_entry program comp Main =
-      sym (ap (place_named main_name) (slice_get-map (section_lined line_of) program.sections comp) ∙ same_place main_name (slice_get program.sections comp))
+      sym (ap (place_named main_name) (slice_get-map (section_lined line_of) program.sections comp)
+      ∙ same_place main_name (slice_get program.sections comp))
   same_entry program comp (Export index) =
-      sym (ap (place_of_export (export_at program.interfaces comp index)) (slice_get-map (section_lined line_of) program.sections comp) ∙ same_export (export_at program.interfaces comp index) (slice_get program.sections comp))
+      sym (ap (place_of_export (export_at program.interfaces comp index)) (slice_get-map (section_lined line_of)
+      program.sections comp) ∙ same_export (export_at program.interfaces comp index) (slice_get program.sections comp))
 
-libraries_agree : (arith : Arith) (line_of : ℕ → ℕ) (program : ProgramTree) → LibrariesAgree (library_of arith program) (library_of arith (program_lined line_of program))
+libraries_agree : (arith : Arith) (line_of : ℕ → ℕ) (program : ProgramTree) →
+    LibrariesAgree (library_of arith program) (library_of arith (program_lined line_of program))
 libraries_agree arith line_of program = record {
   interfaces = refl;
-  functions = λ comp number. meets_at FunctionsAgree (functions_of (library_of arith program) comp) (functions_of (library_of arith (program_lined line_of program)) comp) number
-      (lists_at FunctionsAgree (library_of arith program).functions (library_of arith (program_lined line_of program)).functions comp (sections_agree arith line_of program.interfaces.main program.sections));
+  functions = λ comp number. meets_at FunctionsAgree (functions_of (library_of arith program) comp)
+      (functions_of (library_of arith (program_lined line_of program)) comp) number
+      (lists_at FunctionsAgree (library_of arith program).functions
+      (library_of arith (program_lined line_of program)).functions comp
+      (sections_agree arith line_of program.interfaces.main program.sections));
   entered = same_entry arith line_of program;
 }
 
 -- the globals have no lines
-same_blocks : (line_of : ℕ → ℕ) (section : Option TypedSection) → first_blocks section ≡ first_blocks (option_map (section_lined line_of) section)
+same_blocks : (line_of : ℕ → ℕ) (section : Option TypedSection) →
+    first_blocks section ≡ first_blocks (option_map (section_lined line_of) section)
 same_blocks line_of None = refl
 same_blocks line_of (Some section) = refl
 
-same_globals : (line_of : ℕ → ℕ) (sections : List TypedSection) (comp : ℕ) → globals_of sections comp ≡ globals_of (map (section_lined line_of) sections) comp
+same_globals : (line_of : ℕ → ℕ) (sections : List TypedSection) (comp : ℕ) →
+    globals_of sections comp ≡ globals_of (map (section_lined line_of) sections) comp
 same_globals line_of sections comp =
-    same_blocks line_of (slice_get sections comp) ∙ sym (ap first_blocks (slice_get-map (section_lined line_of) sections comp))
+    same_blocks line_of (slice_get sections comp)
+    ∙ sym (ap first_blocks (slice_get-map (section_lined line_of) sections comp))
 
 pub other_lines_agree : OtherLinesAgree
 other_lines_agree = record {
   libraries = libraries_agree;
   runs = λ arith line_of program inputs turns.
-      subst (λ globals. RunsAgree (run_of arith program inputs turns) (run_by (library_of arith (program_lined line_of program)) (run_step (library_of arith (program_lined line_of program))) globals inputs turns)) (λ i comp. same_globals line_of program.sections comp i)
-      (agreeing_run_alike.meaning (library_of arith program) (library_of arith (program_lined line_of program)) (libraries_agree arith line_of program) (globals_of program.sections) inputs turns);
+      subst (λ globals. RunsAgree (run_of arith program inputs turns)
+      (run_by (library_of arith (program_lined line_of program))
+      (run_step (library_of arith (program_lined line_of program))) globals inputs turns))
+      (λ i comp. same_globals line_of program.sections comp i)
+      (agreeing_run_alike.meaning (library_of arith program) (library_of arith (program_lined line_of program))
+      (libraries_agree arith line_of program) (globals_of program.sections) inputs turns);
 }

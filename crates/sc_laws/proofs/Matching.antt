@@ -16,7 +16,8 @@ use Rattle.sc_laws.proofs.Expressions.{alike}
 use Rattle.sc_laws.proofs.Libraries.{CallsTwins, FunctionTwins, LibraryTwins}
 use Rattle.sc_laws.proofs.Interactions.{played_goes}
 
-module _ (Soft : Cause → Type 0) (P : State → State → Type 0) (R : (V : Type 0) → Piece V → Piece V → Type 0) (Good : Here → Type 0) (kept : Kept P R) (at : (here : Here) → Good here → KeptAt P R Soft here) where
+module _ (Soft : Cause → Type 0) (P : State → State → Type 0) (R : (V : Type 0) → Piece V → Piece V → Type 0)
+    (Good : Here → Type 0) (kept : Kept P R) (at : (here : Here) → Good here → KeptAt P R Soft here) where
   module _ (C D : Calls) (here : Here) (good : Good here) (made : CallsTwins P R Good here.comp C D) where
     first_go : GoFrom here.comp C
     first_go target args = (made target args).first
@@ -25,50 +26,71 @@ module _ (Soft : Cause → Type 0) (P : State → State → Type 0) (R : (V : Ty
     second_go target args = (made target args).second
 
     -- trees that are alike come to related pieces
-    played_related : {V : Type 0} (n : ℕ) (tree twin : Interaction V) → Lasts n tree → Alike Soft tree twin → (s s' : State) → s.turns < n → P s s' → R V (played tree C here s) (played twin D here s')
+    played_related : {V : Type 0} (n : ℕ) (tree twin : Interaction V) → Lasts n tree → Alike Soft tree twin →
+        (s s' : State) → s.turns < n → P s s' → R V (played tree C here s) (played twin D here s')
     played_related zero tree twin lasts like s s' few p = absurd (omega (arith, few))
     played_related {V} (suc n) (Gives v) twin lasts is s s' few p =
         subst (λ x. R V (Reached v s) (played x D here s')) (sym is) (kept.reached V v s s' p)
     played_related {V} (suc n) (Blames cause line) twin lasts (inl soft) s s' few p =
         (at here good).passed V cause line soft s s' p (played twin D here s') (played_goes twin D here second_go s')
     played_related {V} (suc n) (Blames cause line) twin lasts (inr is) s s' few p =
-        subst (λ x. R V (Stopped (Blamed here.comp cause line) s) (played x D here s')) (sym is) ((at here good).computing V line (λ blocks. Err cause) (λ blocks. Err cause) (λ blocks. alike refl) s s' p)
+        subst (λ x. R V (Stopped (Blamed here.comp cause line) s) (played x D here s')) (sym is)
+        ((at here good).computing V line (λ blocks. Err cause) (λ blocks. Err cause) (λ blocks. alike refl) s s' p)
     played_related {V} (suc n) (Reads go) twin lasts like s s' few p =
         subst (λ x. R V (played (go (s.memory here.comp)) C here s) (played x D here s')) (sym like.1)
-        (kept.after Blocks V s s' (Reached (s.memory here.comp) s) (Reached (s'.memory here.comp) s') (λ blocks. played (go blocks) C here) (λ blocks. played (like.0 blocks) D here) p (stays (s.memory here.comp) s) (stays (s'.memory here.comp) s')
-        (λ blocks. played_goes (go blocks) C here first_go) (λ blocks. played_goes (like.0 blocks) D here second_go) ((at here good).computing Blocks 0 (λ blocks. Ok blocks) (λ blocks. Ok blocks) (λ blocks. alike refl) s s' p) (λ blocks t t' up up' q.
-        played_related (suc n) (go blocks) (like.0 blocks) (lasts blocks) (like.2 blocks) t t' (omega (arith, few, up.turns)) q))
+        (kept.after Blocks V s s' (Reached (s.memory here.comp) s) (Reached (s'.memory here.comp) s')
+        (λ blocks. played (go blocks) C here) (λ blocks. played (like.0 blocks) D here) p (stays (s.memory here.comp) s)
+        (stays (s'.memory here.comp) s')
+        (λ blocks. played_goes (go blocks) C here first_go) (λ blocks. played_goes (like.0 blocks) D here second_go)
+        ((at here good).computing Blocks 0 (λ blocks. Ok blocks) (λ blocks. Ok blocks) (λ blocks. alike refl) s s' p)
+        (λ blocks t t' up up' q.
+        played_related (suc n) (go blocks) (like.0 blocks) (lasts blocks) (like.2 blocks) t t'
+        (omega (arith, few, up.turns)) q))
     played_related {V} (suc n) (Stores blocks go) twin lasts like s s' few p =
         subst (λ x. R V (played go C here (with_memory here.comp blocks s)) (played x D here s')) (sym like.1)
-        (played_related (suc n) go like.0 lasts like.2 (with_memory here.comp blocks s) (with_memory here.comp blocks s') few ((at here good).stored blocks s s' p))
+        (played_related (suc n) go like.0 lasts like.2 (with_memory here.comp blocks s)
+        (with_memory here.comp blocks s') few ((at here good).stored blocks s s' p))
     played_related {V} (suc n) (Spends go) twin lasts like s s' few p =
         subst (λ x. R V (and_then (turn s) (λ _. played go C here)) (played x D here s')) (sym like.1)
-        (kept.turned V (λ _. played go C here) (λ _. played like.0 D here) (λ _. played_goes go C here first_go) (λ _. played_goes like.0 D here second_go) s s' p (λ t t' less less' q.
+        (kept.turned V (λ _. played go C here) (λ _. played like.0 D here) (λ _. played_goes go C here first_go)
+        (λ _. played_goes like.0 D here second_go) s s' p (λ t t' less less' q.
         played_related n go like.0 lasts like.2 t t' (omega (arith, few, less)) q))
     played_related {V} (suc n) (Asks target args go) twin lasts like s s' few p =
-        subst (λ x. R V (and_then (C here.comp target args s) (λ v. played (go v) C here)) (played x D here s')) (sym like.1)
-        (kept.after (Option Value) V s s' (C here.comp target args s) (D here.comp target args s') (λ v. played (go v) C here) (λ v. played (like.0 v) D here) p ((made target args).first s) ((made target args).second s')
-        (λ v. played_goes (go v) C here first_go) (λ v. played_goes (like.0 v) D here second_go) ((made target args).both s s' p) (λ v t t' up up' q.
+        subst (λ x. R V (and_then (C here.comp target args s) (λ v. played (go v) C here)) (played x D here s'))
+        (sym like.1)
+        (kept.after (Option Value) V s s' (C here.comp target args s) (D here.comp target args s')
+        (λ v. played (go v) C here) (λ v. played (like.0 v) D here) p ((made target args).first s)
+        ((made target args).second s')
+        (λ v. played_goes (go v) C here first_go) (λ v. played_goes (like.0 v) D here second_go)
+        ((made target args).both s s' p) (λ v t t' up up' q.
         played_related (suc n) (go v) (like.0 v) (lasts v) (like.2 v) t t' (omega (arith, few, up.turns)) q))
     played_related (suc n) Halts twin lasts like s s' few p = absurd lasts
 
   function_twins : (f g : Function) → FunctionsMatch Soft f g → FunctionTwins P R Good f g
   function_twins f g match = record { cells = match.cells; room = match.room; does = does } where
-    does : (C D : Calls) (here : Here) → Good here → CallsTwins P R Good here.comp C D → Twins P R (Option Value) (f.does C here) (g.does D here)
+    does : (C D : Calls) (here : Here) → Good here → CallsTwins P R Good here.comp C D →
+        Twins P R (Option Value) (f.does C here) (g.does D here)
     does C D here good made =
         let m = match.does here in
         let go : GoFrom here.comp C = first_go C D here good made in
         let go' : GoFrom here.comp D = second_go C D here good made in
-        let first_is : (n : ℕ) (s : State) → s.turns < n → f.does C here s ≡ played (m.tree n) C here s = λ n s few. m.first.is n C go s few in
-        let second_is : (n : ℕ) (s : State) → s.turns < n → g.does D here s ≡ played (m.twin n) D here s = λ n s few. m.second.is n D go' s few in
+        let first_is : (n : ℕ) (s : State) → s.turns < n → f.does C here s ≡ played (m.tree n) C here s =
+        λ n s few. m.first.is n C go s few in
+        let second_is : (n : ℕ) (s : State) → s.turns < n → g.does D here s ≡ played (m.twin n) D here s =
+        λ n s few. m.second.is n D go' s few in
         record {
-          first = λ s. subst (Gone s) (sym (first_is (suc s.turns) s (omega arith))) (played_goes (m.tree (suc s.turns)) C here go s);
-          second = λ s. subst (Gone s) (sym (second_is (suc s.turns) s (omega arith))) (played_goes (m.twin (suc s.turns)) D here go' s);
+          first =
+              λ s. subst (Gone s) (sym (first_is (suc s.turns) s (omega arith)))
+              (played_goes (m.tree (suc s.turns)) C here go s);
+          second =
+              λ s. subst (Gone s) (sym (second_is (suc s.turns) s (omega arith)))
+              (played_goes (m.twin (suc s.turns)) D here go' s);
           both = λ s s' p. (
               let n : ℕ = suc (s.turns + s'.turns) in
               subst (λ x. R (Option Value) x (g.does D here s')) (sym (first_is n s (omega arith)))
               (subst (R (Option Value) (played (m.tree n) C here s)) (sym (second_is n s' (omega arith)))
-              (played_related C D here good made n (m.tree n) (m.twin n) (m.first.lasts n) (m.alike n) s s' (omega arith) p))
+              (played_related C D here good made n (m.tree n) (m.twin n) (m.first.lasts n) (m.alike n) s s'
+              (omega arith) p))
               );
         }
 
@@ -81,29 +103,34 @@ module _ (Soft : Cause → Type 0) (P : State → State → Type 0) (R : (V : Ty
   pub library_twins : (L M : Library) → LibrariesMatch Soft L M → LibraryTwins P R Good L M
   library_twins L M match = record {
     interfaces = match.interfaces;
-    functions = λ comp number. both_there (function L comp number) (function M comp number) (match.functions comp number);
+    functions = λ comp number. both_there (function L comp number) (function M comp number)
+        (match.functions comp number);
     entered = match.entered;
   }
 
 -- WHAT MATCHES ONLY GOES ON
 module _ (Soft : Cause → Type 0) where
-  tree_goes : {V : Type 0} (here : Here) (does : Doing V) (tree : ℕ → Interaction V) → Plays here does tree → (by : Calls) → GoFrom here.comp by → Goes (does by)
+  tree_goes : {V : Type 0} (here : Here) (does : Doing V) (tree : ℕ → Interaction V) → Plays here does tree →
+      (by : Calls) → GoFrom here.comp by → Goes (does by)
   tree_goes here does tree plays by go s =
-      subst (Gone s) (sym (plays.is (suc s.turns) by go s (omega arith))) (played_goes (tree (suc s.turns)) by here go s)
+      subst (Gone s) (sym (plays.is (suc s.turns) by go s (omega arith))) (played_goes (tree (suc s.turns)) by here go
+      s)
 
   goes_here : (f g : Option Function) → Meets (FunctionsMatch Soft) f g → (h : Function) → f ≡ Some h → FunctionGoes h
   goes_here None None meets h is = absurd (cc)
   goes_here None (Some g) meets h is = absurd meets
   goes_here (Some f) None meets h is = absurd meets
   goes_here (Some f) (Some g) meets h is = λ by go here.
-      (let equal : f ≡ h = cc in subst {A = Function} (λ x. Goes (x.does by here)) equal) (tree_goes here (λ by. f.does by here) (meets.does here).tree (meets.does here).first by (go here.comp))
+      (let equal : f ≡ h = cc in subst {A = Function} (λ x. Goes (x.does by here)) equal)
+      (tree_goes here (λ by. f.does by here) (meets.does here).tree (meets.does here).first by (go here.comp))
 
   goes_there : (f g : Option Function) → Meets (FunctionsMatch Soft) f g → (h : Function) → g ≡ Some h → FunctionGoes h
   goes_there None None meets h is = absurd (cc)
   goes_there None (Some g) meets h is = absurd meets
   goes_there (Some f) None meets h is = absurd meets
   goes_there (Some f) (Some g) meets h is = λ by go here.
-      (let equal : g ≡ h = cc in subst {A = Function} (λ x. Goes (x.does by here)) equal) (tree_goes here (λ by. g.does by here) (meets.does here).twin (meets.does here).second by (go here.comp))
+      (let equal : g ≡ h = cc in subst {A = Function} (λ x. Goes (x.does by here)) equal)
+      (tree_goes here (λ by. g.does by here) (meets.does here).twin (meets.does here).second by (go here.comp))
 
   module _ (L M : Library) (match : LibrariesMatch Soft L M) where
     pub first_goes : LibraryGoes L

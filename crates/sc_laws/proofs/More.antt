@@ -42,38 +42,62 @@ module _ (d : ℕ) (one other : Run) (events more_events : ℕ) (le : events ≤
   front_events (goes.same_run is) = subst (λ z. Front shorter.trace z.shown.trace) (sym is) (front_same shorter.trace)
   front_events (goes.goes_past end is stop passes front ended frames) = front
 
-  final_at : (b : Bool) → reaches events shorter shorter.end ≡ b → IsFinal (if b then record { trace = take events shorter.trace; end = EventsOut } else shorter).end → RunsBelow d Never (Unit {0}) one other → stopped_at more_events longer ≡ (if b then record { trace = take events shorter.trace; end = EventsOut } else shorter)
+  final_at : (b : Bool) → reaches events shorter shorter.end ≡ b →
+      IsFinal (if b then record { trace = take events shorter.trace; end = EventsOut } else shorter).end →
+      RunsBelow d Never (Unit {0}) one other →
+      stopped_at more_events longer ≡ (if b then record {
+        trace = take events shorter.trace;
+        end = EventsOut;
+      } else shorter)
   final_at true is final below = absurd final
   final_at false is final (goes.same_run equal) =
-      ap (λ z. stopped_at more_events z.shown) equal ∙ ap (λ b. if b then record { trace = take more_events shorter.trace; end = EventsOut } else shorter) (still_unreached events more_events shorter shorter.end le is)
-  final_at false is final (goes.goes_past end ends stop passes front ended frames) = absurd (no_end end passes (subst IsFinal ends final)) where
-    no_end : (end : RunEnd) → Passes d Never (Unit {0}) end → IsFinal end → ⊥
-    no_end Ended passes final = passes
-    no_end (Blamed comp cause line) passes final = passes
-    no_end TurnsOut passes final = final
-    no_end EventsOut passes final = final
+      ap (λ z. stopped_at more_events z.shown) equal
+      ∙ ap (λ b. if b then record { trace = take more_events shorter.trace; end = EventsOut } else shorter)
+      (still_unreached events more_events shorter shorter.end le is)
+  final_at false is final (goes.goes_past end ends stop passes front ended frames) =
+      absurd (no_end end passes (subst IsFinal ends final)) where
+        no_end : (end : RunEnd) → Passes d Never (Unit {0}) end → IsFinal end → ⊥
+        no_end Ended passes final = passes
+        no_end (Blamed comp cause line) passes final = passes
+        no_end TurnsOut passes final = final
+        no_end EventsOut passes final = final
 
   extends : RunsBelow d Never (Unit {0}) one other → Extends (stopped_at events shorter) (stopped_at more_events longer)
   extends below =
-      record { trace = subst (λ t. Front t (stopped_at more_events longer).trace) (sym (trace_is events shorter)) (subst (Front (take events shorter.trace)) (sym (trace_is more_events longer)) (take_fronts events more_events shorter.trace longer.trace le (front_events below))); final = λ final. final_at (reaches events shorter shorter.end) refl final below }
+      record {
+        trace = subst (λ t. Front t (stopped_at more_events longer).trace) (sym (trace_is events shorter))
+            (subst (Front (take events shorter.trace)) (sym (trace_is more_events longer))
+            (take_fronts events more_events shorter.trace longer.trace le (front_events below)));
+        final =
+            λ final. final_at (reaches events shorter shorter.end) refl final below;
+      }
 
 module _ (library : Library) (obedient : Obedient library) (globals : Memory) (inputs : List ℕ) where
-  more_of : (step : Step) → StepGoes step → ((d : ℕ) → StepsBelow d Never (Unit {0}) (inr tt) step step) → ExtendedByMore (λ turns events. stopped_at events (run_by library step globals inputs turns).shown)
+  more_of : (step : Step) → StepGoes step → ((d : ℕ) → StepsBelow d Never (Unit {0}) (inr tt) step step) →
+      ExtendedByMore (λ turns events. stopped_at events (run_by library step globals inputs turns).shown)
   more_of step goes steps turns more_turns events more_events le_turns le_events =
       let d : ℕ = more_turns - turns in
       let sum : turns + d ≡ more_turns = omega (arith, le_turns) in
-      subst (λ n. Extends (stopped_at events (run_by library step globals inputs turns).shown) (stopped_at more_events (run_by library step globals inputs n).shown)) sum (extends d _ _ events more_events le_events (runs_below d Never (Unit {0}) (inr tt) library library obedient step step goes goes (steps d) globals inputs turns))
+      subst (λ n. Extends (stopped_at events (run_by library step globals inputs turns).shown)
+      (stopped_at more_events (run_by library step globals inputs n).shown)) sum
+      (extends d _ _ events more_events le_events (runs_below d Never (Unit {0}) (inr tt) library library obedient step
+      step goes goes (steps d) globals inputs turns))
 
   pub more_runs : ExtendedByMore (λ turns events. stopped_at events (library_run library globals inputs turns).shown)
-  more_runs = more_of (run_step library) (run_goes_on library obedient) (λ d. run_steps d Never (Unit {0}) (inr tt) library library obedient)
+  more_runs =
+      more_of (run_step library) (run_goes_on library obedient) (λ d. run_steps d Never (Unit {0}) (inr tt) library
+      library obedient)
 
-  pub more_scripted : (roles : Roles) → ExtendedByMore (λ turns events. stopped_at events (roles_run library globals inputs turns roles).shown)
+  pub more_scripted : (roles : Roles) →
+      ExtendedByMore (λ turns events. stopped_at events (roles_run library globals inputs turns roles).shown)
   more_scripted roles =
-      more_of (scripted_step library roles (run_step library)) (scripted_goes_on library obedient roles) (λ d. scripted_steps d Never (Unit {0}) (inr tt) library library obedient roles)
+      more_of (scripted_step library roles (run_step library)) (scripted_goes_on library obedient roles)
+      (λ d. scripted_steps d Never (Unit {0}) (inr tt) library library obedient roles)
 
 -- ARITHMETIC
 pub wrapping_keeps : ArithKeeps IsArithmetic c_arith wrapping
-wrapping_keeps = record { binary = λ unsigned o a b. binary_fits unsigned o a b; negated = λ unsigned a. negated_fits unsigned a }
+wrapping_keeps =
+    record { binary = λ unsigned o a b. binary_fits unsigned o a b; negated = λ unsigned a. negated_fits unsigned a }
 
 -- two runs with as many turns, of which the first may be blamed for arithmetic
 module _ (one other : Run) (events : ℕ) where
@@ -83,27 +107,38 @@ module _ (one other : Run) (events : ℕ) where
   abbrev y : SourceRun
   y = other.shown
 
-  reached_too : (end : RunEnd) → Front x.trace y.trace → (end ≡ Ended → length x.trace < length y.trace) → events ≤ length x.trace → reaches events y end ≡ true
+  reached_too : (end : RunEnd) → Front x.trace y.trace → (end ≡ Ended → length x.trace < length y.trace) →
+      events ≤ length x.trace → reaches events y end ≡ true
   reached_too Ended front ended le =
-      (let longer : length x.trace < length y.trace = ended refl in lt-ltb events (length y.trace) (omega (arith, le, longer)))
+      (let longer : length x.trace < length y.trace = ended refl in lt-ltb events (length y.trace)
+      (omega (arith, le, longer)))
   reached_too (Blamed comp cause line) front ended le =
-      (let long : length x.trace ≤ length y.trace = front_long x.trace y.trace front in le-leb events (length y.trace) (omega (arith, le, long)))
+      (let long : length x.trace ≤ length y.trace = front_long x.trace y.trace front in le-leb events (length y.trace)
+      (omega (arith, le, long)))
   reached_too TurnsOut front ended le =
-      (let long : length x.trace ≤ length y.trace = front_long x.trace y.trace front in le-leb events (length y.trace) (omega (arith, le, long)))
+      (let long : length x.trace ≤ length y.trace = front_long x.trace y.trace front in le-leb events (length y.trace)
+      (omega (arith, le, long)))
   reached_too EventsOut front ended le =
-      (let long : length x.trace ≤ length y.trace = front_long x.trace y.trace front in le-leb events (length y.trace) (omega (arith, le, long)))
+      (let long : length x.trace ≤ length y.trace = front_long x.trace y.trace front in le-leb events (length y.trace)
+      (omega (arith, le, long)))
 
   took_same : Front x.trace y.trace → events ≤ length x.trace → take events y.trace ≡ take events x.trace
   took_same front le = ap (take events) front.is ∙ take-append-le events x.trace front.more le
 
-  blamed_at : (comp : ℕ) (cause : Cause) (line : ℕ) → x.end ≡ Blamed comp cause line → IsArithmetic cause → Front x.trace y.trace → (y.end ≡ Ended → length x.trace < length y.trace) → (b : Bool) → reaches events x x.end ≡ b → AgreesUntilBlame (if b then record { trace = take events x.trace; end = EventsOut } else x) (stopped_at events y)
+  blamed_at : (comp : ℕ) (cause : Cause) (line : ℕ) → x.end ≡ Blamed comp cause line → IsArithmetic cause →
+      Front x.trace y.trace → (y.end ≡ Ended → length x.trace < length y.trace) → (b : Bool) →
+      reaches events x x.end ≡ b →
+      AgreesUntilBlame (if b then record { trace = take events x.trace; end = EventsOut } else x) (stopped_at events y)
   blamed_at comp cause line ends soft front ended true is =
       let le : events ≤ length x.trace = leb_true events (length x.trace) (ap (reaches events x) (sym ends) ∙ is) in
-      same (ap (λ b. if b then record { trace = take events y.trace; end = EventsOut } else y) (reached_too y.end front ended le) ∙ ap (λ t. record { trace = t; end = EventsOut }) (took_same front le)) where
+      same (ap (λ b. if b then record { trace = take events y.trace; end = EventsOut } else y)
+      (reached_too y.end front ended le) ∙ ap (λ t. record { trace = t; end = EventsOut }) (took_same front le)) where
         leb_true : (a b : ℕ) → nat_le a b ≡ true → a ≤ b
         leb_true a b is = leb-true a b is
   blamed_at comp cause line ends soft front ended false is =
-      blamed comp cause line ends soft (subst (Front x.trace) (sym (trace_is events y)) (subst (λ t. Front t (take events y.trace)) (take_all events x.trace (unreached events x x.end is)) (take_fronts events events x.trace y.trace (omega arith) front)))
+      blamed comp cause line ends soft (subst (Front x.trace) (sym (trace_is events y))
+      (subst (λ t. Front t (take events y.trace)) (take_all events x.trace (unreached events x x.end is))
+      (take_fronts events events x.trace y.trace (omega arith) front)))
 
   agrees : RunsBelow 0 IsArithmetic ⊥ one other → AgreesUntilBlame (stopped_at events x) (stopped_at events y)
   agrees (goes.same_run is) = same (ap (λ z. stopped_at events z.shown) is)
@@ -123,9 +158,11 @@ module _ (one other : Run) where
   whole_agrees (goes.goes_past EventsOut ends stop passes front ended frames) = absurd passes
 
   no_deeper : RunsUntilBlame one other → (events comp : ℕ) → depth_in one events comp ≤ depth_in other events comp
-  no_deeper (same_run is) events comp = subst (λ z. depth_in one events comp ≤ depth_in z events comp) (sym is) (omega arith)
+  no_deeper (same_run is) events comp =
+      subst (λ z. depth_in one events comp ≤ depth_in z events comp) (sym is) (omega arith)
   no_deeper (blamed_run c cause line ends soft front frames) events comp =
-      subst (λ z. depth_in one events comp ≤ deepest events comp 0 z) (sym frames.is) (deepest_more events comp 0 one.frames frames.more)
+      subst (λ z. depth_in one events comp ≤ deepest events comp 0 z) (sym frames.is)
+      (deepest_more events comp 0 one.frames frames.more)
 
   pub in_room : RunsBelow 0 IsArithmetic ⊥ one other → AgreesInRoom one other
   in_room below = record {
@@ -134,11 +171,14 @@ module _ (one other : Run) where
     depth = no_deeper (whole_agrees below);
   }
 
-module _ (L M : Library) (match : LibrariesMatch IsArithmetic L M) (globals : Memory) (inputs : List ℕ) (turns : ℕ) where
-  below_of : (step step' : Step) → StepGoes step → StepGoes step' → StepsBelow 0 IsArithmetic ⊥ (inl refl) step step' → RunsBelow 0 IsArithmetic ⊥ (run_by L step globals inputs turns) (run_by M step' globals inputs turns)
+module _ (L M : Library) (match : LibrariesMatch IsArithmetic L M) (globals : Memory) (inputs : List ℕ)
+    (turns : ℕ) where
+  below_of : (step step' : Step) → StepGoes step → StepGoes step' → StepsBelow 0 IsArithmetic ⊥ (inl refl) step step' →
+      RunsBelow 0 IsArithmetic ⊥ (run_by L step globals inputs turns) (run_by M step' globals inputs turns)
   below_of step step' goes goes' steps =
       let none : turns + 0 ≡ turns = omega arith in
-      subst (λ n. RunsBelow 0 IsArithmetic ⊥ (run_by L step globals inputs turns) (run_by M step' globals inputs n)) none (runs_below 0 IsArithmetic ⊥ (inl refl) L M match step step' goes goes' steps globals inputs turns)
+      subst (λ n. RunsBelow 0 IsArithmetic ⊥ (run_by L step globals inputs turns) (run_by M step' globals inputs n))
+      none (runs_below 0 IsArithmetic ⊥ (inl refl) L M match step step' goes goes' steps globals inputs turns)
 
   run_goes : StepGoes (run_step L)
   run_goes body goes = run_step_goes L body goes (first_goes IsArithmetic L M match)
@@ -148,11 +188,16 @@ module _ (L M : Library) (match : LibrariesMatch IsArithmetic L M) (globals : Me
 
   pub runs_agree : AgreesInRoom (library_run L globals inputs turns) (library_run M globals inputs turns)
   runs_agree =
-      in_room _ _ (below_of (run_step L) (run_step M) run_goes run_goes' (run_steps 0 IsArithmetic ⊥ (inl refl) L M match))
+      in_room _ _ (below_of (run_step L) (run_step M) run_goes run_goes' (run_steps 0 IsArithmetic ⊥ (inl refl) L M
+      match))
 
-  pub scripts_agree : (roles : Roles) → AgreesInRoom (roles_run L globals inputs turns roles) (roles_run M globals inputs turns roles)
+  pub scripts_agree : (roles : Roles) →
+      AgreesInRoom (roles_run L globals inputs turns roles) (roles_run M globals inputs turns roles)
   scripts_agree roles =
-      in_room _ _ (below_of (scripted_step L roles (run_step L)) (scripted_step M roles (run_step M)) (scripted_goes L roles (run_step L) run_goes) (scripted_goes M roles (run_step M) run_goes') (scripted_steps 0 IsArithmetic ⊥ (inl refl) L M match roles))
+      in_room _ _ (below_of (scripted_step L roles (run_step L)) (scripted_step M roles (run_step M))
+      (scripted_goes L roles (run_step L) run_goes) (scripted_goes M roles (run_step M) run_goes')
+      (scripted_steps 0 IsArithmetic ⊥ (inl refl) L M match roles))
 
-pub wrapping_matches : (program : ProgramTree) → LibrariesMatch IsArithmetic (library_of c_arith program) (library_of wrapping program)
+pub wrapping_matches : (program : ProgramTree) →
+    LibrariesMatch IsArithmetic (library_of c_arith program) (library_of wrapping program)
 wrapping_matches program = program_matches IsArithmetic c_arith wrapping wrapping_keeps program

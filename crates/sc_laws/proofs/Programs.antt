@@ -1,4 +1,5 @@
--- A program under two arithmetics, of which the second gives what the first does or the first blames: what its functions do matches.
+-- A program under two arithmetics, of which the second gives what the first does or the first blames: what its
+-- functions do matches.
 use Rattle.std.proofs.Common.{ℕ, zero, suc, List, [], ◌∷◌, map, length, refl}
 use Rattle.std.specs.Prelude.{◌&&◌, ◌==◌, slice_get, slice_index_or, is_some, bytes_eq}
 use Rattle.sc_core.specs.declared.cause.Cause.{Cause}
@@ -16,20 +17,22 @@ use Rattle.sc_laws.proofs.Interactions.{match_then}
 use Rattle.sc_laws.proofs.Statements.{body_matches, closed_matches}
 
 -- a list of doings, each related to the one at its place
-abbrev pub Each : {A B : Type 0} → (A → B → Type 0) → List A → List B → Type 0
-Each Q [] [] = Unit {0}
-Each Q [] (y ∷ ys) = ⊥
-Each Q (x ∷ xs) [] = ⊥
-Each Q (x ∷ xs) (y ∷ ys) = Q x y × Each Q xs ys
+abbrev pub Pairs : {A B : Type 0} → (A → B → Type 0) → List A → List B → Type 0
+Pairs Q [] [] = Unit {0}
+Pairs Q [] (y ∷ ys) = ⊥
+Pairs Q (x ∷ xs) [] = ⊥
+Pairs Q (x ∷ xs) (y ∷ ys) = Q x y × Pairs Q xs ys
 
-pub meets_at : {A : Type 0} (Q : A → A → Type 0) (xs ys : List A) (i : ℕ) → Each Q xs ys → Meets Q (slice_get xs i) (slice_get ys i)
+pub meets_at : {A : Type 0} (Q : A → A → Type 0) (xs ys : List A) (i : ℕ) → Pairs Q xs ys →
+    Meets Q (slice_get xs i) (slice_get ys i)
 meets_at Q [] [] i h = tt
 meets_at Q [] (y ∷ ys) i h = absurd h
 meets_at Q (x ∷ xs) [] i h = absurd h
 meets_at Q (x ∷ xs) (y ∷ ys) zero h = h.0
 meets_at Q (x ∷ xs) (y ∷ ys) (suc i) h = meets_at Q xs ys i h.1
 
-pub lists_at : {A : Type 0} (Q : A → A → Type 0) (xss yss : List (List A)) (i : ℕ) → Each (Each Q) xss yss → Each Q (slice_index_or xss i []) (slice_index_or yss i [])
+pub lists_at : {A : Type 0} (Q : A → A → Type 0) (xss yss : List (List A)) (i : ℕ) → Pairs (Pairs Q) xss yss →
+    Pairs Q (slice_index_or xss i []) (slice_index_or yss i [])
 lists_at Q [] [] i h = tt
 lists_at Q [] (y ∷ ys) i h = absurd h
 lists_at Q (x ∷ xs) [] i h = absurd h
@@ -37,20 +40,27 @@ lists_at Q (x ∷ xs) (y ∷ ys) zero h = h.0
 lists_at Q (x ∷ xs) (y ∷ ys) (suc i) h = lists_at Q xs ys i h.1
 
 module _ (Soft : Cause → Type 0) (ar br : Arith) (arith : ArithKeeps Soft ar br) where
-  of_function : (main : ℕ) (structs : List TypedStruct) (f : TypedFunction) → FunctionsMatch Soft (function_of ar main structs f) (function_of br main structs f)
+  of_function : (main : ℕ) (structs : List TypedStruct) (f : TypedFunction) →
+      FunctionsMatch Soft (function_of ar main structs f) (function_of br main structs f)
   of_function main structs f = record {
     cells = refl;
     room = refl;
     does = λ here.
-        match_then Soft here _ _ (λ left by s. closed left.exit (is_some f.result) (here.comp == main && bytes_eq f.name main_name) f.close_line here s) (λ left by s. closed left.exit (is_some f.result) (here.comp == main && bytes_eq f.name main_name) f.close_line here s)
-        (body_matches Soft here ar br arith structs (length f.params) f tt) (λ left. closed_matches Soft here left.exit (is_some f.result) (here.comp == main && bytes_eq f.name main_name) f.close_line);
+        match_then Soft here _ _ (λ left by s. closed left.exit (is_some f.result)
+        (here.comp == main && bytes_eq f.name main_name) f.close_line here s)
+        (λ left by s. closed left.exit (is_some f.result) (here.comp == main && bytes_eq f.name main_name) f.close_line
+        here s)
+        (body_matches Soft here ar br arith structs (length f.params) f tt) (λ left. closed_matches Soft here left.exit
+        (is_some f.result) (here.comp == main && bytes_eq f.name main_name) f.close_line);
   }
 
-  of_functions : (main : ℕ) (structs : List TypedStruct) (fs : List TypedFunction) → Each (FunctionsMatch Soft) (map (function_of ar main structs) fs) (map (function_of br main structs) fs)
+  of_functions : (main : ℕ) (structs : List TypedStruct) (fs : List TypedFunction) →
+      Pairs (FunctionsMatch Soft) (map (function_of ar main structs) fs) (map (function_of br main structs) fs)
   of_functions main structs [] = tt
   of_functions main structs (f ∷ fs) = (of_function main structs f, of_functions main structs fs)
 
-  of_sections : (main : ℕ) (sections : List TypedSection) → Each (Each (FunctionsMatch Soft)) (map (functions_in ar main) sections) (map (functions_in br main) sections)
+  of_sections : (main : ℕ) (sections : List TypedSection) →
+      Pairs (Pairs (FunctionsMatch Soft)) (map (functions_in ar main) sections) (map (functions_in br main) sections)
   of_sections main [] = tt
   of_sections main (section ∷ sections) =
       (of_functions main section.structs section.functions, of_sections main sections)
@@ -58,8 +68,10 @@ module _ (Soft : Cause → Type 0) (ar br : Arith) (arith : ArithKeeps Soft ar b
   pub program_matches : (program : ProgramTree) → LibrariesMatch Soft (library_of ar program) (library_of br program)
   program_matches program = record {
     interfaces = refl;
-    functions = λ comp number. meets_at (FunctionsMatch Soft) (functions_of (library_of ar program) comp) (functions_of (library_of br program) comp) number
-        (lists_at (FunctionsMatch Soft) (library_of ar program).functions (library_of br program).functions comp (of_sections program.interfaces.main program.sections));
+    functions = λ comp number. meets_at (FunctionsMatch Soft) (functions_of (library_of ar program) comp)
+        (functions_of (library_of br program) comp) number
+        (lists_at (FunctionsMatch Soft) (library_of ar program).functions (library_of br program).functions comp
+        (of_sections program.interfaces.main program.sections));
     entered = λ comp entry. refl;
   }
 

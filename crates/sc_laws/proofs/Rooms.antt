@@ -29,18 +29,27 @@ use Rattle.sc_laws.proofs.Keeping.{Property, Kept, IsKept, then_kept, found_kept
 
 -- LISTS OF CHANGES
 
-room_append : (comp room : ℕ) (xs ys : List FrameChange) → room_after comp room (xs ++ ys) ≡ room_after comp (room_after comp room xs) ys
+room_append : (comp room : ℕ) (xs ys : List FrameChange) →
+    room_after comp room (xs ++ ys) ≡ room_after comp (room_after comp room xs) ys
 room_append comp room [] ys = refl
-room_append comp room (Opened told c more ∷ xs) ys = by (c == comp) (room_append comp (room + more) xs ys) (room_append comp room xs ys) where
-  by : (b : Bool) → room_after comp (room + more) (xs ++ ys) ≡ room_after comp (room_after comp (room + more) xs) ys → room_after comp room (xs ++ ys) ≡ room_after comp (room_after comp room xs) ys
-      → (if b then room_after comp (room + more) (xs ++ ys) else room_after comp room (xs ++ ys)) ≡ room_after comp (if b then room_after comp (room + more) xs else room_after comp room xs) ys
-  by true h k = h
-  by false h k = k
-room_append comp room (Closed told c less ∷ xs) ys = by (c == comp) (room_append comp (room - less) xs ys) (room_append comp room xs ys) where
-  by : (b : Bool) → room_after comp (room - less) (xs ++ ys) ≡ room_after comp (room_after comp (room - less) xs) ys → room_after comp room (xs ++ ys) ≡ room_after comp (room_after comp room xs) ys
-      → (if b then room_after comp (room - less) (xs ++ ys) else room_after comp room (xs ++ ys)) ≡ room_after comp (if b then room_after comp (room - less) xs else room_after comp room xs) ys
-  by true h k = h
-  by false h k = k
+room_append comp room (Opened told c more ∷ xs) ys =
+    by (c == comp) (room_append comp (room + more) xs ys) (room_append comp room xs ys) where
+      by : (b : Bool) → room_after comp (room + more) (xs ++ ys) ≡ room_after comp (room_after comp (room + more) xs)
+          ys →
+          room_after comp room (xs ++ ys) ≡ room_after comp (room_after comp room xs) ys
+          → (if b then room_after comp (room + more) (xs ++ ys) else room_after comp room (xs ++ ys))
+          ≡ room_after comp (if b then room_after comp (room + more) xs else room_after comp room xs) ys
+      by true h k = h
+      by false h k = k
+room_append comp room (Closed told c less ∷ xs) ys =
+    by (c == comp) (room_append comp (room - less) xs ys) (room_append comp room xs ys) where
+      by : (b : Bool) → room_after comp (room - less) (xs ++ ys) ≡ room_after comp (room_after comp (room - less) xs)
+          ys →
+          room_after comp room (xs ++ ys) ≡ room_after comp (room_after comp room xs) ys
+          → (if b then room_after comp (room - less) (xs ++ ys) else room_after comp room (xs ++ ys))
+          ≡ room_after comp (if b then room_after comp (room - less) xs else room_after comp room xs) ys
+      by true h k = h
+      by false h k = k
 
 before_append : (n : ℕ) (xs ys : List FrameChange) → AllBefore n xs → AllBefore n ys → AllBefore n (xs ++ ys)
 before_append n [] ys h k = k
@@ -49,51 +58,71 @@ before_append n (Closed told c less ∷ xs) ys h k = (h.0, before_append n xs ys
 
 before_more : (n m : ℕ) → n ≤ m → (xs : List FrameChange) → AllBefore n xs → AllBefore m xs
 before_more n m le [] h = tt
-before_more n m le (Opened told c more ∷ xs) h = let first = h.0 in (omega (arith, le, first), before_more n m le xs h.1)
-before_more n m le (Closed told c less ∷ xs) h = let first = h.0 in (omega (arith, le, first), before_more n m le xs h.1)
+before_more n m le (Opened told c more ∷ xs) h = let first =
+    h.0 in (omega (arith, le, first), before_more n m le xs h.1)
+before_more n m le (Closed told c less ∷ xs) h = let first =
+    h.0 in (omega (arith, le, first), before_more n m le xs h.1)
 
 -- the deepest room is at least the first
 deepest_first : (events comp room : ℕ) (ys : List FrameChange) → room ≤ deepest events comp room ys
 deepest_first events comp room [] = omega arith
-deepest_first events comp room (Opened told c more ∷ ys) = by (c == comp && nat_lt told events) (deepest_first events comp room ys) where
-  by : (b : Bool) → room ≤ deepest events comp room ys → room ≤ (if b then max room (deepest events comp (room + more) ys) else deepest events comp room ys)
-  by true h = omega arith
-  by false h = h
-deepest_first events comp room (Closed told c less ∷ ys) = by (c == comp && nat_lt told events) (deepest_first events comp room ys) where
-  by : (b : Bool) → room ≤ deepest events comp room ys → room ≤ (if b then max room (deepest events comp (room - less) ys) else deepest events comp room ys)
-  by true h = omega arith
-  by false h = h
+deepest_first events comp room (Opened told c more ∷ ys) =
+    by (c == comp && nat_lt told events) (deepest_first events comp room ys) where
+      by : (b : Bool) → room ≤ deepest events comp room ys →
+          room ≤ (if b then max room (deepest events comp (room + more) ys) else deepest events comp room ys)
+      by true h = omega arith
+      by false h = h
+deepest_first events comp room (Closed told c less ∷ ys) =
+    by (c == comp && nat_lt told events) (deepest_first events comp room ys) where
+      by : (b : Bool) → room ≤ deepest events comp room ys →
+          room ≤ (if b then max room (deepest events comp (room - less) ys) else deepest events comp room ys)
+      by true h = omega arith
+      by false h = h
 
-deepest_from : (events comp room : ℕ) (xs ys : List FrameChange) → AllBefore events xs → room_after comp room xs ≤ deepest events comp room (xs ++ ys)
+deepest_from : (events comp room : ℕ) (xs ys : List FrameChange) → AllBefore events xs →
+    room_after comp room xs ≤ deepest events comp room (xs ++ ys)
 deepest_from events comp room [] ys h = deepest_first events comp room ys
 deepest_from events comp room (Opened told c more ∷ xs) ys h =
-    by (c == comp) (nat_lt told events) (lt-ltb told events h.0) (deepest_from events comp (room + more) xs ys h.1) (deepest_from events comp room xs ys h.1) where
-      by : (b before : Bool) → before ≡ true → room_after comp (room + more) xs ≤ deepest events comp (room + more) (xs ++ ys) → room_after comp room xs ≤ deepest events comp room (xs ++ ys)
-          → (if b then room_after comp (room + more) xs else room_after comp room xs) ≤ (if b && before then max room (deepest events comp (room + more) (xs ++ ys)) else deepest events comp room (xs ++ ys))
+    by (c == comp) (nat_lt told events) (lt-ltb told events h.0) (deepest_from events comp (room + more) xs ys h.1)
+    (deepest_from events comp room xs ys h.1) where
+      by : (b before : Bool) → before ≡ true → room_after comp (room + more) xs ≤ deepest events comp (room + more)
+          (xs ++ ys) → room_after comp room xs ≤ deepest events comp room (xs ++ ys)
+          → (if b then room_after comp (room + more) xs else room_after comp room xs) ≤ (if b && before then max room
+          (deepest events comp (room + more) (xs ++ ys)) else deepest events comp room (xs ++ ys))
       by true true is h k = omega (arith, h)
       by true false is h k = cc
       by false before is h k = k
 deepest_from events comp room (Closed told c less ∷ xs) ys h =
-    by (c == comp) (nat_lt told events) (lt-ltb told events h.0) (deepest_from events comp (room - less) xs ys h.1) (deepest_from events comp room xs ys h.1) where
-      by : (b before : Bool) → before ≡ true → room_after comp (room - less) xs ≤ deepest events comp (room - less) (xs ++ ys) → room_after comp room xs ≤ deepest events comp room (xs ++ ys)
-          → (if b then room_after comp (room - less) xs else room_after comp room xs) ≤ (if b && before then max room (deepest events comp (room - less) (xs ++ ys)) else deepest events comp room (xs ++ ys))
+    by (c == comp) (nat_lt told events) (lt-ltb told events h.0) (deepest_from events comp (room - less) xs ys h.1)
+    (deepest_from events comp room xs ys h.1) where
+      by : (b before : Bool) → before ≡ true → room_after comp (room - less) xs ≤ deepest events comp (room - less)
+          (xs ++ ys) → room_after comp room xs ≤ deepest events comp room (xs ++ ys)
+          → (if b then room_after comp (room - less) xs else room_after comp room xs) ≤ (if b && before then max room
+          (deepest events comp (room - less) (xs ++ ys)) else deepest events comp room (xs ++ ys))
       by true true is h k = omega (arith, h)
       by true false is h k = cc
       by false before is h k = k
 
 -- more changes get no less deep
-pub deepest_more : (events comp room : ℕ) (xs ys : List FrameChange) → deepest events comp room xs ≤ deepest events comp room (xs ++ ys)
+pub deepest_more : (events comp room : ℕ) (xs ys : List FrameChange) →
+    deepest events comp room xs ≤ deepest events comp room (xs ++ ys)
 deepest_more events comp room [] ys = deepest_first events comp room ys
 deepest_more events comp room (Opened told c more ∷ xs) ys =
-    by (c == comp && nat_lt told events) (deepest_more events comp (room + more) xs ys) (deepest_more events comp room xs ys) where
-      by : (b : Bool) → deepest events comp (room + more) xs ≤ deepest events comp (room + more) (xs ++ ys) → deepest events comp room xs ≤ deepest events comp room (xs ++ ys)
-          → (if b then max room (deepest events comp (room + more) xs) else deepest events comp room xs) ≤ (if b then max room (deepest events comp (room + more) (xs ++ ys)) else deepest events comp room (xs ++ ys))
+    by (c == comp && nat_lt told events) (deepest_more events comp (room + more) xs ys)
+    (deepest_more events comp room xs ys) where
+      by : (b : Bool) → deepest events comp (room + more) xs ≤ deepest events comp (room + more) (xs ++ ys) →
+          deepest events comp room xs ≤ deepest events comp room (xs ++ ys)
+          → (if b then max room (deepest events comp (room + more) xs) else deepest events comp room xs)
+          ≤ (if b then max room (deepest events comp (room + more) (xs ++ ys)) else deepest events comp room (xs ++ ys))
       by true h k = omega (arith, h)
       by false h k = k
 deepest_more events comp room (Closed told c less ∷ xs) ys =
-    by (c == comp && nat_lt told events) (deepest_more events comp (room - less) xs ys) (deepest_more events comp room xs ys) where
-      by : (b : Bool) → deepest events comp (room - less) xs ≤ deepest events comp (room - less) (xs ++ ys) → deepest events comp room xs ≤ deepest events comp room (xs ++ ys)
-          → (if b then max room (deepest events comp (room - less) xs) else deepest events comp room xs) ≤ (if b then max room (deepest events comp (room - less) (xs ++ ys)) else deepest events comp room (xs ++ ys))
+    by (c == comp && nat_lt told events) (deepest_more events comp (room - less) xs ys)
+    (deepest_more events comp room xs ys) where
+      by : (b : Bool) → deepest events comp (room - less) xs ≤ deepest events comp (room - less) (xs ++ ys) →
+          deepest events comp room xs ≤ deepest events comp room (xs ++ ys)
+          → (if b then max room (deepest events comp (room - less) xs) else deepest events comp room xs)
+          ≤ (if b then max room (deepest events comp (room - less) (xs ++ ys)) else deepest events comp room (xs ++ ys))
       by true h k = omega (arith, h)
       by false h k = k
 
@@ -119,99 +148,144 @@ turned rooms (suc n) s h = record { after = record { told = h.told; open_ = h.op
 
 is_kept : (rooms : Rooms) (here : Here) → IsKept (noting rooms) here
 is_kept rooms here =
-    record { memory = λ s blocks h. record { told = h.told; open_ = h.open_ }; turned = λ s h. turned rooms s.turns s h; blamed = λ s cause line h. h.told }
+    record {
+      memory = λ s blocks h. record { told = h.told; open_ = h.open_ };
+      turned = λ s h. turned rooms s.turns s h;
+      blamed = λ s cause line h. h.told;
+    }
 
 told_noted : (rooms : Rooms) (e : Event) (s : State) → Noted rooms s → Noted rooms (tell e s)
 told_noted rooms e s h =
-    record { told = before_more (suc (length s.trace)) (suc (length (s.trace ++ e ∷ []))) (omega (arith, length-append s.trace (e ∷ []))) s.frames h.told; open_ = h.open_ }
+    record {
+      told = before_more (suc (length s.trace)) (suc (length (s.trace ++ e ∷ [])))
+          (omega (arith, length-append s.trace (e ∷ []))) s.frames h.told;
+      open_ = h.open_;
+    }
 
 -- the rooms where a frame of a compartment is open besides
 abbrev wider : ℕ → ℕ → Rooms → Rooms
 wider comp room rooms c = if comp == c then rooms c + room else rooms c
 
-begun_noted : (rooms : Rooms) (comp : ℕ) (f : Function) (args : List Value) (s : State) → Noted rooms s → Noted (wider comp f.room rooms) (begun comp f args s)
+begun_noted : (rooms : Rooms) (comp : ℕ) (f : Function) (args : List Value) (s : State) → Noted rooms s →
+    Noted (wider comp f.room rooms) (begun comp f args s)
 begun_noted rooms comp f args s h = record {
-  told = before_append (suc (length s.trace)) s.frames (Opened (length s.trace) comp f.room ∷ []) h.told (omega arith, tt);
-  open_ = λ c. room_append c 0 s.frames (Opened (length s.trace) comp f.room ∷ []) ∙ ap (λ room. if comp == c then room + f.room else room) (h.open_ c);
+  told = before_append (suc (length s.trace)) s.frames (Opened (length s.trace) comp f.room ∷ []) h.told
+      (omega arith, tt);
+  open_ = λ c. room_append c 0 s.frames (Opened (length s.trace) comp f.room ∷ [])
+      ∙ ap (λ room. if comp == c then room + f.room else room) (h.open_ c);
 }
 
-done_noted : (rooms : Rooms) (comp : ℕ) (f : Function) (first : ℕ) (s : State) → Noted (wider comp f.room rooms) s → Noted rooms (done comp f first s)
+done_noted : (rooms : Rooms) (comp : ℕ) (f : Function) (first : ℕ) (s : State) → Noted (wider comp f.room rooms) s →
+    Noted rooms (done comp f first s)
 done_noted rooms comp f first s h = record {
-  told = before_append (suc (length s.trace)) s.frames (Closed (length s.trace) comp f.room ∷ []) h.told (omega arith, tt);
-  open_ = λ c. room_append c 0 s.frames (Closed (length s.trace) comp f.room ∷ []) ∙ (ap (λ room. if comp == c then room - f.room else room) (h.open_ c) ∙ narrower (comp == c) (rooms c) f.room);
+  told = before_append (suc (length s.trace)) s.frames (Closed (length s.trace) comp f.room ∷ []) h.told
+      (omega arith, tt);
+  open_ = λ c. room_append c 0 s.frames (Closed (length s.trace) comp f.room ∷ [])
+      ∙ (ap (λ room. if comp == c then room - f.room else room) (h.open_ c) ∙ narrower (comp == c) (rooms c) f.room);
 } where
-  narrower : (b : Bool) (room more : ℕ) → (if b then (if b then room + more else room) - more else (if b then room + more else room)) ≡ room
+  narrower : (b : Bool) (room more : ℕ) →
+      (if b then (if b then room + more else room) - more else (if b then room + more else room)) ≡ room
   narrower true room more = omega arith
   narrower false room more = refl
 
 -- RUNS
 
 -- a piece at wider rooms, and back
-then_back : {X Y : Type 0} (inner outer : Rooms) (piece : Piece X) (go : X → State → Piece Y) → Kept (noting inner) piece → ((v : X) (s : State) → Noted inner s → Kept (noting outer) (go v s)) → Kept (noting outer) (and_then piece go)
+then_back : {X Y : Type 0} (inner outer : Rooms) (piece : Piece X) (go : X → State → Piece Y) →
+    Kept (noting inner) piece → ((v : X) (s : State) → Noted inner s → Kept (noting outer) (go v s)) →
+    Kept (noting outer) (and_then piece go)
 then_back inner outer (Reached v s) go h k = k v s h.after
 then_back inner outer (Stopped end s) go h k = record { after = h.after }
 
 abbrev BodyNotes : Body → Type 0
-BodyNotes body = (rooms : Rooms) (number : ℕ) (here : Here) (s : State) → Noted rooms s → Kept (noting rooms) (body number here s)
+BodyNotes body = (rooms : Rooms) (number : ℕ) (here : Here) (s : State) → Noted rooms s →
+    Kept (noting rooms) (body number here s)
 
 module _ (library : Library) (body : Body) (notes : BodyNotes body) (rooms : Rooms) where
-  run_notes : (comp number : ℕ) (args : List Value) (back : Option Value → State → Piece (Option Value)) → ((v : Option Value) (s : State) → Noted rooms s → Kept (noting rooms) (back v s)) → (s : State) → Noted rooms s → Kept (noting rooms) (run_in library body comp number args back s)
+  run_notes : (comp number : ℕ) (args : List Value) (back : Option Value → State → Piece (Option Value)) →
+      ((v : Option Value) (s : State) → Noted rooms s → Kept (noting rooms) (back v s)) → (s : State) → Noted rooms s →
+      Kept (noting rooms) (run_in library body comp number args back s)
   run_notes comp number args back b s h =
       found_kept (noting rooms) (function library comp number) s _ h.told (λ f is.
-      then_back (wider comp f.room rooms) rooms (body number (record { comp = comp; first = length (s.memory comp) }) (begun comp f args s)) _
-      (notes (wider comp f.room rooms) number (record { comp = comp; first = length (s.memory comp) }) (begun comp f args s) (begun_noted rooms comp f args s h))
+      then_back (wider comp f.room rooms) rooms (body number (record { comp = comp; first = length (s.memory comp) })
+      (begun comp f args s)) _
+      (notes (wider comp f.room rooms) number (record { comp = comp; first = length (s.memory comp) })
+      (begun comp f args s) (begun_noted rooms comp f args s h))
       (λ v t g. b v (done comp f (length (s.memory comp)) t) (done_noted rooms comp f (length (s.memory comp)) t g)))
 
-  own_notes : (comp number : ℕ) (args : List Value) (s : State) → Noted rooms s → Kept (noting rooms) (call_own library body comp number args s)
+  own_notes : (comp number : ℕ) (args : List Value) (s : State) → Noted rooms s →
+      Kept (noting rooms) (call_own library body comp number args s)
   own_notes comp number args s h = run_notes comp number args back_own (λ v s h. record { after = h }) s h
 
-  cross_notes : (from to index : ℕ) (args : List Value) (s : State) → Noted rooms s → Kept (noting rooms) (call_cross library body from to index args s)
+  cross_notes : (from to index : ℕ) (args : List Value) (s : State) → Noted rooms s →
+      Kept (noting rooms) (call_cross library body from to index args s)
   cross_notes from to index args s h =
       found_kept (noting rooms) (library.entered to (Export index)) s _ h.told (λ number is.
       run_notes to number (crossed args) (back_cross library.interfaces from to index)
-      (λ v s h. record { after = told_noted rooms (Ret to from (crossing (export_at library.interfaces to index) v)) s h })
+      (λ v s h. record {
+        after = told_noted rooms (Ret to from (crossing (export_at library.interfaces to index) v)) s h;
+      })
       (tell (Call from to index (map word_in args)) s) (told_noted rooms (Call from to index (map word_in args)) s h))
 
-  called_notes : (from : ℕ) (target : CallTarget) (args : List Value) (s : State) → Noted rooms s → Kept (noting rooms) (called library body from target args s)
+  called_notes : (from : ℕ) (target : CallTarget) (args : List Value) (s : State) → Noted rooms s →
+      Kept (noting rooms) (called library body from target args s)
   called_notes from (Own number) args s h =
-      then_kept (noting rooms) (turn s) (λ _ s. call_own library body from number args s) (turned rooms s.turns s h) (λ _ s h. own_notes from number args s h)
+      then_kept (noting rooms) (turn s) (λ _ s. call_own library body from number args s) (turned rooms s.turns s h)
+      (λ _ s h. own_notes from number args s h)
   called_notes from (Cross to index) args s h =
-      then_kept (noting rooms) (turn s) (λ _ s. call_cross library body from to index args s) (turned rooms s.turns s h) (λ _ s h. cross_notes from to index args s h)
+      then_kept (noting rooms) (turn s) (λ _ s. call_cross library body from to index args s) (turned rooms s.turns s h)
+      (λ _ s h. cross_notes from to index args s h)
   called_notes from Input args s h =
-      record { after = let told = told_noted rooms (In from (next_input s.inputs)) s h in record { told = told.told; open_ = told.open_ } }
+      record {
+        after = let told = told_noted rooms (In from (next_input s.inputs)) s h in
+            record { told = told.told; open_ = told.open_ };
+      }
   called_notes from Output args s h = record { after = told_noted rooms (Out from (first_word args)) s h }
 
-  calls_note : (from : ℕ) (target : CallTarget) (args : List Value) (s : State) → Noted rooms s → Kept (noting rooms) (calls library body from target args s)
+  calls_note : (from : ℕ) (target : CallTarget) (args : List Value) (s : State) → Noted rooms s →
+      Kept (noting rooms) (calls library body from target args s)
   calls_note from target args s h = by (may_call library from target args) where
-    by : (b : Bool) → Kept (noting rooms) (if b then called library body from target args s else Stopped (Blamed from BadType 0) s)
+    by : (b : Bool) →
+        Kept (noting rooms) (if b then called library body from target args s else Stopped (Blamed from BadType 0) s)
     by true = called_notes from target args s h
     by false = record { after = h.told }
 
 -- scripts
 module _ (library : Library) (body : Body) (notes : BodyNotes body) (rooms : Rooms) where
-  asks_note : (comp : ℕ) (target : CallTarget) (args : List Value) (s : State) → Noted rooms s → Kept (noting rooms) (asks library body comp target args s)
+  asks_note : (comp : ℕ) (target : CallTarget) (args : List Value) (s : State) → Noted rooms s →
+      Kept (noting rooms) (asks library body comp target args s)
   asks_note comp target args s h = by (may_call library comp target args) where
     by : (b : Bool) → Kept (noting rooms) (if b then calls library body comp target args s else Stopped TurnsOut s)
     by true = calls_note library body notes rooms comp target args s h
     by false = record { after = h.told }
 
-  acts_note : (action : Action) (next again : State → Piece (Option Value)) → ((s : State) → Noted rooms s → Kept (noting rooms) (next s)) → ((s : State) → Noted rooms s → Kept (noting rooms) (again s))
+  acts_note : (action : Action) (next again : State → Piece (Option Value)) →
+      ((s : State) → Noted rooms s → Kept (noting rooms) (next s)) →
+      ((s : State) → Noted rooms s → Kept (noting rooms) (again s))
       → (comp : ℕ) (s : State) → Noted rooms s → Kept (noting rooms) (acts library body action next again comp s)
   acts_note (act.Call to index args) next again n a comp s h =
-      then_kept (noting rooms) (asks library body comp (Cross to index) (map (λ w. Word w) args) s) _ (asks_note comp (Cross to index) (map (λ w. Word w) args) s h) (λ v s h. a s h)
+      then_kept (noting rooms) (asks library body comp (Cross to index) (map (λ w. Word w) args) s)
+      _ (asks_note comp (Cross to index) (map (λ w. Word w) args) s h) (λ v s h. a s h)
   acts_note (act.Ret v) next again n a comp s h = record { after = h }
   acts_note (act.Out w) next again n a comp s h =
-      then_kept (noting rooms) (asks library body comp Output (Word w ∷ []) s) _ (asks_note comp Output (Word w ∷ []) s h) (λ v s h. n s h)
+      then_kept (noting rooms) (asks library body comp Output (Word w ∷ []) s) _ (asks_note comp Output (Word w ∷ []) s
+      h) (λ v s h. n s h)
   acts_note (act.In w) next again n a comp s h =
       then_kept (noting rooms) (asks library body comp Input [] s) _ (asks_note comp Input [] s h) (λ v s h. n s h)
   acts_note (act.End w) next again n a comp s h = record { after = h }
 
-  performs_note : (rows : List Row) (number : ℕ) (here : Here) (s : State) → Noted rooms s → Kept (noting rooms) (performs library body rows number here s)
+  performs_note : (rows : List Row) (number : ℕ) (here : Here) (s : State) → Noted rooms s →
+      Kept (noting rooms) (performs library body rows number here s)
   performs_note [] number here s h = record { after = h.told }
-  performs_note (row ∷ rest) number here s h = by (performs_note rest number here) (is_number number (library.entered here.comp row.entry)) where
-    by : ((s : State) → Noted rooms s → Kept (noting rooms) (performs library body rest number here s)) → (b : Bool) → Kept (noting rooms) (if b then acts library body row.action (performs library body rest number here) (body number here) here.comp s else Stopped TurnsOut s)
-    by next true = acts_note row.action (performs library body rest number here) (body number here) next (λ s h. notes rooms number here s h) here.comp s h
-    by next false = record { after = h.told }
+  performs_note (row ∷ rest) number here s h =
+      by (performs_note rest number here) (is_number number (library.entered here.comp row.entry)) where
+        by : ((s : State) → Noted rooms s → Kept (noting rooms) (performs library body rest number here s)) →
+            (b : Bool) →
+            Kept (noting rooms) (if b then acts library body row.action (performs library body rest number here)
+            (body number here) here.comp s else Stopped TurnsOut s)
+        by next true = acts_note row.action (performs library body rest number here) (body number here) next
+            (λ s h. notes rooms number here s h) here.comp s h
+        by next false = record { after = h.told }
 
 abbrev StepNotes : Step → Type 0
 StepNotes step = (body : Body) → BodyGoes body → BodyNotes body → BodyNotes (step body)
@@ -219,40 +293,54 @@ StepNotes step = (body : Body) → BodyGoes body → BodyNotes body → BodyNote
 module _ (library : Library) (obedient : Obedient library) where
   run_step_notes : (body : Body) → BodyGoes body → BodyNotes body → BodyNotes (run_step library body)
   run_step_notes body goes notes rooms number here s h =
-      found_kept (noting rooms) (function library here.comp number) s (λ f s. f.does (calls library body) here s) h.told (λ f is.
-      function_keeps library obedient here.comp number f is (noting rooms) here (is_kept rooms here) (calls library body) (calls_go library body goes) (λ target args s h. calls_note library body notes rooms here.comp target args s h) s h)
+      found_kept (noting rooms) (function library here.comp number) s (λ f s. f.does (calls library body) here s) h.told
+      (λ f is.
+      function_keeps library obedient here.comp number f is (noting rooms) here (is_kept rooms here)
+      (calls library body) (calls_go library body goes) (λ target args s h. calls_note library body notes rooms
+      here.comp target args s h) s h)
 
   scripted_notes : (roles : Roles) → StepNotes (scripted_step library roles (run_step library))
   scripted_notes roles body goes notes rooms number here s h = by (roles.scripted here.comp) where
-    by : (b : Bool) → Kept (noting rooms) (if b then performs library body (rows_left roles here.comp s.trace) number here s else run_step library body number here s)
+    by : (b : Bool) →
+        Kept (noting rooms) (if b then performs library body (rows_left roles here.comp s.trace) number here
+        s else run_step library body number here s)
     by true = performs_note library body notes rooms (rows_left roles here.comp s.trace) number here s h
     by false = run_step_notes body goes notes rooms number here s h
 
   module _ (step : Step) (goes : StepGoes step) (notes : StepNotes step) where
     within_notes : (n : ℕ) → BodyNotes (within step n)
     within_notes zero rooms number here s h = record { after = h.told }
-    within_notes (suc n) rooms number here s h = notes (within step n) (within_goes step goes n) (within_notes n) rooms number here s h
+    within_notes (suc n) rooms number here s h =
+        notes (within step n) (within_goes step goes n) (within_notes n) rooms number here s h
 
-    run_to_notes : (main : ℕ) (piece : Piece (Option Value)) → Kept (noting (λ c. 0)) piece → AreTold (run_to main piece)
+    run_to_notes : (main : ℕ) (piece : Piece (Option Value)) → Kept (noting (λ c. 0)) piece →
+        AreTold (run_to main piece)
     run_to_notes main (Reached v s) h = (told_noted (λ c. 0) _ s h.after).told
     run_to_notes main (Stopped end s) h = h.after
 
     run_by_notes : (globals : Memory) (inputs : List ℕ) (turns : ℕ) → AreTold (run_by library step globals inputs turns)
     run_by_notes globals inputs turns =
-        run_to_notes library.interfaces.main _ (found_kept (noting (λ c. 0)) (library.entered library.interfaces.main Main) (first_state globals inputs turns) _ tt (λ number is.
-        own_notes library (within step (suc turns)) (within_notes (suc turns)) (λ c. 0) library.interfaces.main number [] (first_state globals inputs turns) (record { told = tt; open_ = λ c. refl })))
+        run_to_notes library.interfaces.main _ (found_kept (noting (λ c. 0)) (library.entered library.interfaces.main
+        Main) (first_state globals inputs turns) _ tt (λ number is.
+        own_notes library (within step (suc turns)) (within_notes (suc turns)) (λ c. 0) library.interfaces.main number
+        [] (first_state globals inputs turns) (record { told = tt; open_ = λ c. refl })))
 
     leaves_rooms : LeavesRooms library step
     leaves_rooms n comp number args v s t told is =
         (reached_noted (λ c. open_room c s) (call_own library (within step n) comp number args s) v t is
-        (own_notes library (within step n) (within_notes n) (λ c. open_room c s) comp number args s (record { told = told; open_ = λ c. refl }))).open_ where
-          reached_noted : (rooms : Rooms) (piece : Piece (Option Value)) (v : Option Value) (t : State) → piece ≡ Reached v t → Kept (noting rooms) piece → Noted rooms t
+        (own_notes library (within step n) (within_notes n) (λ c. open_room c s) comp number args s
+        (record { told = told; open_ = λ c. refl }))).open_ where
+          reached_noted : (rooms : Rooms) (piece : Piece (Option Value)) (v : Option Value) (t : State) →
+              piece ≡ Reached v t → Kept (noting rooms) piece → Noted rooms t
           reached_noted rooms piece v t is h = (subst (λ p. Kept (noting rooms) p) is h).after
 
   pub keeps_rooms : KeepsRooms library
   keeps_rooms = record {
     told = run_by_notes (run_step library) (run_goes_on library obedient) run_step_notes;
-    scripted_told = λ globals inputs turns roles. run_by_notes (scripted_step library roles (run_step library)) (scripted_goes_on library obedient roles) (scripted_notes roles) globals inputs turns;
+    scripted_told = λ globals inputs turns roles. run_by_notes (scripted_step library roles (run_step library))
+        (scripted_goes_on library obedient roles) (scripted_notes roles) globals inputs turns;
     returns = leaves_rooms (run_step library) (run_goes_on library obedient) run_step_notes;
-    scripted_returns = λ roles. leaves_rooms (scripted_step library roles (run_step library)) (scripted_goes_on library obedient roles) (scripted_notes roles);
+    scripted_returns =
+        λ roles. leaves_rooms (scripted_step library roles (run_step library)) (scripted_goes_on library obedient roles)
+        (scripted_notes roles);
   }

@@ -10,22 +10,30 @@ use Rattle.sc_core.specs.Growth.{Front}
 use Rattle.sc_laws.proofs.Growing.{front_more}
 
 -- STANDING
-pub stands_last : (at : Option Standing) (u : List Event) (e : Event) (st : Standing) → stands_behind at u ≡ Some st → stands_behind at (u ++ e ∷ []) ≡ stands_after st e
+pub stands_last : (at : Option Standing) (u : List Event) (e : Event) (st : Standing) → stands_behind at u ≡ Some st →
+    stands_behind at (u ++ e ∷ []) ≡ stands_after st e
 stands_last None [] e st is = absurd (cc)
 stands_last None (f ∷ u) e st is = absurd (cc)
 stands_last (Some x) [] e st is = (let same : x ≡ st = cc in ap (λ y. stands_after y e) same)
 stands_last (Some x) (f ∷ u) e st is = stands_last (stands_after x f) u e st is
 
 -- ROWS
-counted : (c : ℕ) (f : Event) (u : List Event) (b : Bool) → (performer f == c) ≡ b → count_of c (f ∷ u) ≡ (if b then suc (count_of c u) else count_of c u)
-counted c f u true is = ap (λ b. length (if b then f ∷ filter (λ event. performer event == c) u else filter (λ event. performer event == c) u)) is
-counted c f u false is = ap (λ b. length (if b then f ∷ filter (λ event. performer event == c) u else filter (λ event. performer event == c) u)) is
+counted : (c : ℕ) (f : Event) (u : List Event) (b : Bool) → (performer f == c) ≡ b →
+    count_of c (f ∷ u) ≡ (if b then suc (count_of c u) else count_of c u)
+counted c f u true is =
+    ap (λ b. length (if b then f ∷ filter (λ event. performer event == c) u else filter (λ event. performer event == c)
+    u)) is
+counted c f u false is =
+    ap (λ b. length (if b then f ∷ filter (λ event. performer event == c) u else filter (λ event. performer event == c)
+    u)) is
 
-one_more : (c : ℕ) (f e : Event) (u : List Event) (b : Bool) → (performer f == c) ≡ b → count_of c (u ++ e ∷ []) ≡ suc (count_of c u) → count_of c (f ∷ (u ++ e ∷ [])) ≡ suc (count_of c (f ∷ u))
+one_more : (c : ℕ) (f e : Event) (u : List Event) (b : Bool) → (performer f == c) ≡ b →
+    count_of c (u ++ e ∷ []) ≡ suc (count_of c u) → count_of c (f ∷ (u ++ e ∷ [])) ≡ suc (count_of c (f ∷ u))
 one_more c f e u true is more = counted c f (u ++ e ∷ []) true is ∙ ap suc more ∙ ap suc (sym (counted c f u true is))
 one_more c f e u false is more = counted c f (u ++ e ∷ []) false is ∙ more ∙ ap suc (sym (counted c f u false is))
 
-pub counts_its_own : (c : ℕ) (u : List Event) (e : Event) → performer e ≡ c → count_of c (u ++ e ∷ []) ≡ suc (count_of c u)
+pub counts_its_own : (c : ℕ) (u : List Event) (e : Event) → performer e ≡ c →
+    count_of c (u ++ e ∷ []) ≡ suc (count_of c u)
 counts_its_own c [] e own = counted c e [] true (eq-eqb (performer e) c own)
 counts_its_own c (f ∷ u) e own = one_more c f e u (performer f == c) refl (counts_its_own c u e own)
 
@@ -38,33 +46,60 @@ pub record Next (rows : List Row) (st : Standing) (e : Event) : Type 0 where
 -- the rows from an event on
 abbrev from_here : (c number : ℕ) → Standing → Event → List Event → Bool → List Row
 from_here c number x f later b =
-    if b then record { entry = x.active.entry; number = number; action = action_of f } ∷ rows_from c (suc number) (stands_after x f) later else rows_from c number (stands_after x f) later
+    if b then record { entry = x.active.entry; number = number; action = action_of f } ∷ rows_from c (suc number)
+    (stands_after x f) later else rows_from c number (stands_after x f) later
 
-next_behind : (c number : ℕ) (x st : Standing) (f e : Event) (u later : List Event) (b : Bool) → (performer f == c) ≡ b → Next (drop (count_of c u) (rows_from c (suc number) (stands_after x f) later)) st e → Next (drop (count_of c u) (rows_from c number (stands_after x f) later)) st e
+next_behind : (c number : ℕ) (x st : Standing) (f e : Event) (u later : List Event) (b : Bool) →
+    (performer f == c) ≡ b → Next (drop (count_of c u) (rows_from c (suc number) (stands_after x f) later)) st e →
+    Next (drop (count_of c u) (rows_from c number (stands_after x f) later)) st e
     → Next (drop (count_of c (f ∷ u)) (from_here c number x f later (performer f == c))) st e
 next_behind c number x st f e u later true is h k =
-    record { number = h.number; rest = h.rest; is = ap (λ n. drop n (from_here c number x f later (performer f == c))) (counted c f u true is) ∙ ap (λ b. drop (suc (count_of c u)) (from_here c number x f later b)) is ∙ h.is }
+    record {
+      number = h.number;
+      rest = h.rest;
+      is = ap (λ n. drop n (from_here c number x f later (performer f == c)))
+          (counted c f u true is) ∙ ap (λ b. drop (suc (count_of c u)) (from_here c number x f later b)) is ∙ h.is;
+    }
 next_behind c number x st f e u later false is h k =
-    record { number = k.number; rest = k.rest; is = ap (λ n. drop n (from_here c number x f later (performer f == c))) (counted c f u false is) ∙ ap (λ b. drop (count_of c u) (from_here c number x f later b)) is ∙ k.is }
+    record {
+      number = k.number;
+      rest = k.rest;
+      is = ap (λ n. drop n (from_here c number x f later (performer f == c)))
+          (counted c f u false is) ∙ ap (λ b. drop (count_of c u) (from_here c number x f later b)) is ∙ k.is;
+    }
 
-next_from : (c number : ℕ) (at : Option Standing) (u : List Event) (e : Event) (more : List Event) (st : Standing) → stands_behind at u ≡ Some st → performer e ≡ c → Next (drop (count_of c u) (rows_from c number at (u ++ e ∷ more))) st e
+next_from : (c number : ℕ) (at : Option Standing) (u : List Event) (e : Event) (more : List Event) (st : Standing) →
+    stands_behind at u ≡ Some st → performer e ≡ c →
+    Next (drop (count_of c u) (rows_from c number at (u ++ e ∷ more))) st e
 next_from c number None [] e more st is own = absurd (cc)
 next_from c number None (f ∷ u) e more st is own = absurd (cc)
 next_from c number (Some x) [] e more st is own =
     let same : x ≡ st = cc in
-    record { number = number; rest = rows_from c (suc number) (stands_after x e) more; is = ap (from_here c number x e more) (eq-eqb (performer e) c own) ∙ ap (λ y. record { entry = y.active.entry; number = number; action = action_of e } ∷ rows_from c (suc number) (stands_after x e) more) same }
+    record {
+      number = number;
+      rest = rows_from c (suc number) (stands_after x e) more;
+      is = ap (from_here c number x e more) (eq-eqb (performer e) c own)
+          ∙ ap (λ y. record { entry = y.active.entry; number = number; action = action_of e } ∷ rows_from c (suc number)
+          (stands_after x e) more) same;
+    }
 next_from c number (Some x) (f ∷ u) e more st is own =
-    next_behind c number x st f e u (u ++ e ∷ more) (performer f == c) refl (next_from c (suc number) (stands_after x f) u e more st is own) (next_from c number (stands_after x f) u e more st is own)
+    next_behind c number x st f e u (u ++ e ∷ more) (performer f == c) refl (next_from c (suc number) (stands_after x f)
+    u e more st is own) (next_from c number (stands_after x f) u e more st is own)
 
 -- the next row of a compartment that performs the next event of a trace
-pub row_of_next : (main c : ℕ) (t u : List Event) (e : Event) (more : List Event) (st : Standing) → t ≡ u ++ e ∷ more → stands_behind (at_start main) u ≡ Some st → performer e ≡ c → Next (drop (count_of c u) (part main c t)) st e
+pub row_of_next : (main c : ℕ) (t u : List Event) (e : Event) (more : List Event) (st : Standing) → t ≡ u ++ e ∷ more →
+    stands_behind (at_start main) u ≡ Some st → performer e ≡ c → Next (drop (count_of c u) (part main c t)) st e
 row_of_next main c t u e more st is stands own =
-    subst (λ z. Next (drop (count_of c u) (part main c z)) st e) (sym is) (next_from c 0 (at_start main) u e more st stands own)
+    subst (λ z. Next (drop (count_of c u) (part main c z)) st e) (sym is) (next_from c 0 (at_start main) u e more st
+    stands own)
 
 -- once it is told, the rows behind it are left
-pub rows_behind : (main c : ℕ) (t u : List Event) (e : Event) (st : Standing) → performer e ≡ c → (next : Next (drop (count_of c u) (part main c t)) st e) → drop (count_of c (u ++ e ∷ [])) (part main c t) ≡ next.rest
+pub rows_behind : (main c : ℕ) (t u : List Event) (e : Event) (st : Standing) → performer e ≡ c →
+    (next : Next (drop (count_of c u) (part main c t)) st e) → drop (count_of c (u ++ e ∷ [])) (part main c t)
+    ≡ next.rest
 rows_behind main c t u e st own next =
-    ap (λ n. drop n (part main c t)) (counts_its_own c u e own) ∙ one_less (count_of c u) (part main c t) ∙ ap (drop 1) next.is where
+    ap (λ n. drop n (part main c t)) (counts_its_own c u e own) ∙ one_less (count_of c u) (part main c t)
+    ∙ ap (drop 1) next.is where
       one_less : {A : Type 0} (n : ℕ) (xs : List A) → drop (suc n) xs ≡ drop 1 (drop n xs)
       one_less zero [] = refl
       one_less zero (x ∷ xs) = refl

@@ -35,7 +35,8 @@ take_front (suc n) (suc m) (x ∷ xs) more le =
     record { more = rest.more; is = ap (λ ys. x ∷ ys) rest.is }
 
 pub take_fronts : {A : Type 0} (n m : ℕ) (xs ys : List A) → n ≤ m → Front xs ys → Front (take n xs) (take m ys)
-take_fronts n m xs ys le front = subst (λ z. Front (take n xs) (take m z)) (sym front.is) (take_front n m xs front.more le)
+take_fronts n m xs ys le front =
+    subst (λ z. Front (take n xs) (take m z)) (sym front.is) (take_front n m xs front.more le)
 
 pub take_all : {A : Type 0} (n : ℕ) (xs : List A) → length xs ≤ n → take n xs ≡ xs
 take_all zero [] le = refl
@@ -52,7 +53,8 @@ front_long xs ys front =
 at_most : {n m : ℕ} → n < m → n ≤ m
 at_most less = omega (arith, less)
 
-pub unreached : (events : ℕ) (run : SourceRun) (end : RunEnd) → reaches events run end ≡ false → length run.trace ≤ events
+pub unreached : (events : ℕ) (run : SourceRun) (end : RunEnd) → reaches events run end ≡ false →
+    length run.trace ≤ events
 unreached events run Ended below = ltb-false events (length run.trace) below
 unreached events run (Blamed comp cause line) below = at_most (leb-false events (length run.trace) below)
 unreached events run TurnsOut below = at_most (leb-false events (length run.trace) below)
@@ -60,37 +62,52 @@ unreached events run EventsOut below = at_most (leb-false events (length run.tra
 
 pub trace_is : (events : ℕ) (run : SourceRun) → (stopped_at events run).trace ≡ take events run.trace
 trace_is events run = by_test (reaches events run run.end) refl where
-  by_test : (b : Bool) → reaches events run run.end ≡ b → (if b then record { trace = take events run.trace; end = EventsOut } else run).trace ≡ take events run.trace
+  by_test : (b : Bool) → reaches events run run.end ≡ b →
+      (if b then record { trace = take events run.trace; end = EventsOut } else run).trace ≡ take events run.trace
   by_test true is = refl
   by_test false is = sym (take_all events run.trace (unreached events run run.end is))
 
 -- a run that reaches fewer events reaches more no sooner
-pub still_unreached : (events more_events : ℕ) (run : SourceRun) (end : RunEnd) → events ≤ more_events → reaches events run end ≡ false → reaches more_events run end ≡ false
+pub still_unreached : (events more_events : ℕ) (run : SourceRun) (end : RunEnd) → events ≤ more_events →
+    reaches events run end ≡ false → reaches more_events run end ≡ false
 still_unreached events more_events run Ended le is =
-    (let few : length run.trace ≤ events = ltb-false events (length run.trace) is in le-ltb more_events (length run.trace) (omega (arith, few, le)))
+    (let few : length run.trace ≤ events = ltb-false events (length run.trace) is in
+    le-ltb more_events (length run.trace) (omega (arith, few, le)))
 still_unreached events more_events run (Blamed comp cause line) le is =
-    (let few : length run.trace < events = leb-false events (length run.trace) is in lt-leb more_events (length run.trace) (omega (arith, few, le)))
+    (let few : length run.trace < events = leb-false events (length run.trace) is in
+    lt-leb more_events (length run.trace) (omega (arith, few, le)))
 still_unreached events more_events run TurnsOut le is =
-    (let few : length run.trace < events = leb-false events (length run.trace) is in lt-leb more_events (length run.trace) (omega (arith, few, le)))
+    (let few : length run.trace < events = leb-false events (length run.trace) is in
+    lt-leb more_events (length run.trace) (omega (arith, few, le)))
 still_unreached events more_events run EventsOut le is =
-    (let few : length run.trace < events = leb-false events (length run.trace) is in lt-leb more_events (length run.trace) (omega (arith, few, le)))
+    (let few : length run.trace < events = leb-false events (length run.trace) is in
+    lt-leb more_events (length run.trace) (omega (arith, few, le)))
 
 -- THE SAME RUN, OR ONE THAT GOES ON
 module _ (d : ℕ) (Soft : Cause → Type 0) (Turns : Type 0) where
-  -- the second run is the first, or goes on where that stopped, in its frames too; where it comes to an end it has more events
+  -- the second run is the first, or goes on where that stopped, in its frames too; where it comes to an end it has more
+  -- events
   pub data RunsBelow (x y : Run) : Type 0 where
     same_run : y ≡ x → RunsBelow x y
-    goes_past : (end : RunEnd) → x.shown.end ≡ end → IsStop end → Passes d Soft Turns end → Front x.shown.trace y.shown.trace → (y.shown.end ≡ Ended → length x.shown.trace < length y.shown.trace) → Front x.frames y.frames → RunsBelow x y
+    goes_past : (end : RunEnd) → x.shown.end ≡ end → IsStop end → Passes d Soft Turns end →
+        Front x.shown.trace y.shown.trace → (y.shown.end ≡ Ended → length x.shown.trace < length y.shown.trace) →
+        Front x.frames y.frames → RunsBelow x y
 
   run_to_same : (main : ℕ) (o : Piece (Option Value)) → run_to main (richer_piece d o) ≡ run_to main o
   run_to_same main (Reached v s) = refl
   run_to_same main (Stopped end s) = refl
 
-  past : (main : ℕ) (trace : List Event) (p : Piece (Option Value)) → StopsSo p → Front trace (last p).trace → Front trace (run_to main p).shown.trace × ((run_to main p).shown.end ≡ Ended → length trace < length (run_to main p).shown.trace)
+  past : (main : ℕ) (trace : List Event) (p : Piece (Option Value)) → StopsSo p → Front trace (last p).trace →
+      Front trace (run_to main p).shown.trace × ((run_to main p).shown.end ≡ Ended →
+      length trace < length (run_to main p).shown.trace)
   past main trace (Reached v s) stop front =
       let long : length trace ≤ length s.trace = front_long trace s.trace front in
-      let one : length (s.trace ++ End main (exit_word v) ∷ []) ≡ length s.trace + 1 = length-append s.trace (End main (exit_word v) ∷ []) in
-      (front_more trace s.trace (s.trace ++ End main (exit_word v) ∷ []) front (record { more = End main (exit_word v) ∷ []; is = refl }), λ is. omega (arith, long, one))
+      let one : length (s.trace ++ End main (exit_word v) ∷ []) ≡ length s.trace + 1 =
+      length-append s.trace (End main (exit_word v) ∷ []) in (
+        front_more trace s.trace (s.trace ++ End main (exit_word v) ∷ []) front
+            (record { more = End main (exit_word v) ∷ []; is = refl }),
+        λ is. omega (arith, long, one),
+      )
   past main trace (Stopped Ended s) stop front = absurd stop
   past main trace (Stopped (Blamed comp cause line) s) stop front = (front, λ is. absurd (cc))
   past main trace (Stopped TurnsOut s) stop front = (front, λ is. absurd (cc))
@@ -101,28 +118,35 @@ module _ (d : ℕ) (Soft : Cause → Type 0) (Turns : Type 0) where
   frames_are main (Reached v s) = refl
   frames_are main (Stopped end s) = refl
 
-  pub run_to_below : (main : ℕ) (o p : Piece (Option Value)) → StopsSo o → StopsSo p → Below d Soft Turns (Option Value) o p → RunsBelow (run_to main o) (run_to main p)
+  pub run_to_below : (main : ℕ) (o p : Piece (Option Value)) → StopsSo o → StopsSo p →
+      Below d Soft Turns (Option Value) o p → RunsBelow (run_to main o) (run_to main p)
   run_to_below main o p stop stop' (along is) = same_run (ap (run_to main) is ∙ run_to_same main o)
   run_to_below main o p stop stop' (passed end s is passes on) =
       let ends : (run_to main o).shown.trace ≡ s.trace = ap (λ x. (run_to main x).shown.trace) is in
-      let more = past main (run_to main o).shown.trace p stop' (subst (λ x. Front x (last p).trace) (sym ends) on.events) in
+      let more =
+      past main (run_to main o).shown.trace p stop' (subst (λ x. Front x (last p).trace) (sym ends) on.events) in
       let frames : (run_to main o).frames ≡ s.frames = ap (λ x. (run_to main x).frames) is in
       goes_past end (ap (λ x. (run_to main x).shown.end) is) (subst StopsSo is stop) passes more.0 more.1
-      (subst (λ x. Front x (run_to main p).frames) (sym frames) (subst (Front s.frames) (sym (frames_are main p)) on.frames))
+      (subst (λ x. Front x (run_to main p).frames) (sym frames) (subst (Front s.frames) (sym (frames_are main p))
+      on.frames))
 
   module _ (spent : (d ≡ 0) ⊎ Turns) (L M : Library) (match : LibrariesMatch Soft L M) where
     pub libraries : (n n' : ℕ) → LibrariesBelow d Soft Turns spent n n' L M
     libraries n n' =
-        library_twins Soft (Ahead d Soft Turns n n') (Below d Soft Turns) Anywhere (below_kept d Soft Turns n n' spent) (λ here good. below_at d Soft Turns n n' spent here) L M match
+        library_twins Soft (Ahead d Soft Turns n n') (Below d Soft Turns) Anywhere (below_kept d Soft Turns n n' spent)
+        (λ here good. below_at d Soft Turns n n' spent here) L M match
 
     pub run_steps : StepsBelow d Soft Turns spent (run_step L) (run_step M)
     run_steps n n' a b goes goes' h = run_step_below d Soft Turns spent n n' a b goes goes' h L M (libraries n n')
 
-    pub scripted_steps : (roles : Roles) → StepsBelow d Soft Turns spent (scripted_step L roles (run_step L)) (scripted_step M roles (run_step M))
+    pub scripted_steps : (roles : Roles) → StepsBelow d Soft Turns spent (scripted_step L roles (run_step L))
+        (scripted_step M roles (run_step M))
     scripted_steps roles n n' a b goes goes' h =
-        scripted_below d Soft Turns spent n n' a b goes goes' h L M (libraries n n') roles (run_step L) (run_step M) (run_steps n n' a b goes goes' h)
+        scripted_below d Soft Turns spent n n' a b goes goes' h L M (libraries n n') roles (run_step L) (run_step M)
+        (run_steps n n' a b goes goes' h)
 
-    module _ (step step' : Step) (goes : StepGoes step) (goes' : StepGoes step') (steps : StepsBelow d Soft Turns spent step step') (globals : Memory) (inputs : List ℕ) (turns : ℕ) where
+    module _ (step step' : Step) (goes : StepGoes step) (goes' : StepGoes step') (steps : StepsBelow d Soft Turns spent
+        step step') (globals : Memory) (inputs : List ℕ) (turns : ℕ) where
       abbrev main : ℕ
       main = L.interfaces.main
 
@@ -136,17 +160,32 @@ module _ (d : ℕ) (Soft : Cause → Type 0) (Turns : Type 0) where
       abbrev second_comes : ℕ → Option ℕ → Piece (Option Value)
       second_comes main number = and_then (found number (richer d start)) (first_call M step' (turns + d) main)
 
-      begin_below : (number : Option ℕ) → Below d Soft Turns (Option Value) (and_then (found number start) (first_call L step turns main)) (second_comes main number)
+      begin_below : (number : Option ℕ) →
+          Below d Soft Turns (Option Value) (and_then (found number start) (first_call L step turns main))
+          (second_comes main number)
       begin_below None = along refl
       begin_below (Some number) =
-          own_below d Soft Turns spent (suc turns) (suc (turns + d)) (within step (suc turns)) (within step' (suc (turns + d))) (within_goes step goes (suc turns)) (within_goes step' goes' (suc (turns + d))) (within_below d Soft Turns spent step step' goes goes' steps (suc turns) (suc (turns + d))) L M (libraries (suc turns) (suc (turns + d))) main number [] start (omega arith) (omega arith)
+          own_below d Soft Turns spent (suc turns) (suc (turns + d)) (within step (suc turns))
+          (within step' (suc (turns + d))) (within_goes step goes (suc turns))
+          (within_goes step' goes' (suc (turns + d))) (within_below d Soft Turns spent step step' goes goes' steps
+          (suc turns) (suc (turns + d))) L M (libraries (suc turns) (suc (turns + d))) main number [] start
+          (omega arith) (omega arith)
 
-      begin_goes : (library : Library) (step : Step) → StepGoes step → (turns main : ℕ) (number : Option ℕ) (s : State) → Gone s (and_then (found number s) (first_call library step turns main))
+      begin_goes : (library : Library) (step : Step) → StepGoes step →
+          (turns main : ℕ) (number : Option ℕ) (s : State) →
+          Gone s (and_then (found number s) (first_call library step turns main))
       begin_goes library step goes turns main number s =
-          then_goes s (found number s) (first_call library step turns main) (found_goes number s) (λ number. own_goes library (within step (suc turns)) (within_goes step goes (suc turns)) main number [])
+          then_goes s (found number s) (first_call library step turns main) (found_goes number s)
+          (λ number. own_goes library (within step (suc turns)) (within_goes step goes (suc turns)) main number [])
 
       pub runs_below : RunsBelow (run_by L step globals inputs turns) (run_by M step' globals inputs (turns + d))
       runs_below =
-          subst (λ i. RunsBelow (run_by L step globals inputs turns) (run_to i.main (second_comes i.main (M.entered i.main Main)))) (sym (libraries (suc turns) (suc (turns + d))).interfaces)
-          (run_to_below main (and_then (found (L.entered main Main) start) (first_call L step turns main)) (second_comes main (M.entered main Main)) (begin_goes L step goes turns main (L.entered main Main) start).stop (begin_goes M step' goes' (turns + d) main (M.entered main Main) (richer d start)).stop
-          (subst (λ x. Below d Soft Turns (Option Value) (and_then (found (L.entered main Main) start) (first_call L step turns main)) (second_comes main x)) (sym ((libraries (suc turns) (suc (turns + d))).entered main Main)) (begin_below (L.entered main Main))))
+          subst (λ i. RunsBelow (run_by L step globals inputs turns)
+          (run_to i.main (second_comes i.main (M.entered i.main Main))))
+          (sym (libraries (suc turns) (suc (turns + d))).interfaces)
+          (run_to_below main (and_then (found (L.entered main Main) start) (first_call L step turns main))
+          (second_comes main (M.entered main Main)) (begin_goes L step goes turns main (L.entered main Main) start).stop
+          (begin_goes M step' goes' (turns + d) main (M.entered main Main) (richer d start)).stop
+          (subst (λ x. Below d Soft Turns (Option Value) (and_then (found (L.entered main Main) start)
+          (first_call L step turns main)) (second_comes main x))
+          (sym ((libraries (suc turns) (suc (turns + d))).entered main Main)) (begin_below (L.entered main Main))))

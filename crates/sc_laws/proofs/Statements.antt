@@ -42,32 +42,45 @@ module _ (Soft : Cause → Type 0) (here : Here) where
   leave_matches : (exit : Exit) → ActsMatch (λ by. leave exit) (λ by. leave exit)
   leave_matches exit = match_leave Soft here exit
 
-  given_matches : (w : Want) (e e' : Ways) → WaysMatch e e' → (line : ℕ) → Match Soft here (λ by. given here w e line) (λ by. given here w e' line)
+  given_matches : (w : Want) (e e' : Ways) → WaysMatch e e' → (line : ℕ) →
+      Match Soft here (λ by. given here w e line) (λ by. given here w e' line)
   given_matches w e e' h line = match_computed Soft here line (e w) (e' w) (h w)
 
-  store_at_matches : (place place' : Ways) → WaysMatch place place' → (v : Value) (line : ℕ) → ActsMatch (λ by. store_at here place v line) (λ by. store_at here place' v line)
+  store_at_matches : (place place' : Ways) → WaysMatch place place' → (v : Value) (line : ℕ) →
+      ActsMatch (λ by. store_at here place v line) (λ by. store_at here place' v line)
   store_at_matches place place' h v line a =
-      match_then Soft here _ _ (λ q by. stored here q v line a) (λ q by. stored here q v line a) (given_matches want.Place place place' h line) (λ q. match_store Soft here q v line a)
+      match_then Soft here _ _ (λ q by. stored here q v line a) (λ q by. stored here q v line a)
+      (given_matches want.Place place place' h line) (λ q. match_store Soft here q v line a)
 
-  assign_matches : (place place' e e' : Ways) → WaysMatch place place' → WaysMatch e e' → (line : ℕ) → ActsMatch (λ by. assign here place e line) (λ by. assign here place' e' line)
+  assign_matches : (place place' e e' : Ways) → WaysMatch place place' → WaysMatch e e' → (line : ℕ) →
+      ActsMatch (λ by. assign here place e line) (λ by. assign here place' e' line)
   assign_matches place place' e e' h k line a =
-      match_then Soft here _ _ (λ v by. store_at here place v line a) (λ v by. store_at here place' v line a) (given_matches want.Value e e' k line) (λ v. store_at_matches place place' h v line a)
+      match_then Soft here _ _ (λ v by. store_at here place v line a) (λ v by. store_at here place' v line a)
+      (given_matches want.Value e e' k line) (λ v. store_at_matches place place' h v line a)
 
-  choose_matches : {V : Type 0} (v : Value) (f g f' g' : Doing V) → Match Soft here f g → Match Soft here f' g' → Match Soft here (λ by s. choose v (f by s) (f' by s)) (λ by s. choose v (g by s) (g' by s))
+  choose_matches : {V : Type 0} (v : Value) (f g f' g' : Doing V) → Match Soft here f g → Match Soft here f' g' →
+      Match Soft here (λ by s. choose v (f by s) (f' by s)) (λ by s. choose v (g by s) (g' by s))
   choose_matches v f g f' g' h k = match_if Soft here _ f g f' g' h k
 
-  test_matches : (cond cond' : Ways) → WaysMatch cond cond' → (line : ℕ) → ActsMatch (λ by. test here cond line) (λ by. test here cond' line)
+  test_matches : (cond cond' : Ways) → WaysMatch cond cond' → (line : ℕ) →
+      ActsMatch (λ by. test here cond line) (λ by. test here cond' line)
   test_matches cond cond' h line a =
-      match_then Soft here _ _ (λ v by s. choose v (leave Next a s) (leave Break a s)) (λ v by s. choose v (leave Next a s) (leave Break a s)) (given_matches want.Value cond cond' h line) (λ v.
-      choose_matches v (λ by. leave Next a) (λ by. leave Next a) (λ by. leave Break a) (λ by. leave Break a) (leave_matches Next a) (leave_matches Break a))
+      match_then Soft here _ _ (λ v by s. choose v (leave Next a s) (leave Break a s))
+      (λ v by s. choose v (leave Next a s) (leave Break a s)) (given_matches want.Value cond cond' h line) (λ v.
+      choose_matches v (λ by. leave Next a) (λ by. leave Next a) (λ by. leave Break a) (λ by. leave Break a)
+      (leave_matches Next a) (leave_matches Break a))
 
-  store_result_matches : (place place' : Ways) → WaysMatch place place' → (result : Option Value) (line : ℕ) → ActsMatch (λ by. store_result here place result line) (λ by. store_result here place' result line)
+  store_result_matches : (place place' : Ways) → WaysMatch place place' → (result : Option Value) (line : ℕ) →
+      ActsMatch (λ by. store_result here place result line) (λ by. store_result here place' result line)
   store_result_matches place place' h None line = leave_matches Next
   store_result_matches place place' h (Some v) line = store_at_matches place place' h v line
 
-  call_matches : (target : CallTarget) (args args' : List Ways) → ((blocks : Blocks) → Keeps Soft (List Value) (values args blocks) (values args' blocks)) → (line : ℕ) → Match Soft here (λ by. call here by target args line) (λ by. call here by target args' line)
+  call_matches : (target : CallTarget) (args args' : List Ways) →
+      ((blocks : Blocks) → Keeps Soft (List Value) (values args blocks) (values args' blocks)) → (line : ℕ) →
+      Match Soft here (λ by. call here by target args line) (λ by. call here by target args' line)
   call_matches target args args' h line =
-      match_then Soft here _ _ (λ vs by. by here.comp target vs) (λ vs by. by here.comp target vs) (match_computed Soft here line (values args) (values args') h) (λ vs. match_call Soft here target vs)
+      match_then Soft here _ _ (λ vs by. by here.comp target vs) (λ vs by. by here.comp target vs)
+      (match_computed Soft here line (values args) (values args') h) (λ vs. match_call Soft here target vs)
 
   module _ (ar br : Arith) (arith : ArithKeeps Soft ar br) (structs : List TypedStruct) (params : ℕ) where
     way_matches : (e : TypedExpr) → WaysMatch (ways ar structs here params e) (ways br structs here params e)
@@ -77,34 +90,47 @@ module _ (Soft : Cause → Type 0) (here : Here) where
     abbrev args_by : Arith → TypedCall → List Ways
     args_by arith c = map (ways arith structs here params) c.args
 
-    called_matches : (c : TypedCall) (line : ℕ) → Match Soft here (λ by. call here by c.target (args_by ar c) line) (λ by. call here by c.target (args_by br c) line)
+    called_matches : (c : TypedCall) (line : ℕ) → Match Soft here (λ by. call here by c.target (args_by ar c) line)
+        (λ by. call here by c.target (args_by br c) line)
     called_matches c line =
-        call_matches c.target (args_by ar c) (args_by br c) (values_keep Soft ar br arith structs here params c.args) line
+        call_matches c.target (args_by ar c) (args_by br c) (values_keep Soft ar br arith structs here params c.args)
+        line
 
-    assign_call_matches : (place : TypedExpr) (c : TypedCall) (line : ℕ) → ActsMatch (λ by. assign_call here by (ways ar structs here params place) c.target (args_by ar c) line) (λ by. assign_call here by (ways br structs here params place) c.target (args_by br c) line)
+    assign_call_matches : (place : TypedExpr) (c : TypedCall) (line : ℕ) →
+        ActsMatch (λ by. assign_call here by (ways ar structs here params place) c.target (args_by ar c) line)
+        (λ by. assign_call here by (ways br structs here params place) c.target (args_by br c) line)
     assign_call_matches place c line a =
-        match_then Soft here _ _ (λ result by. store_result here (ways ar structs here params place) result line a) (λ result by. store_result here (ways br structs here params place) result line a)
+        match_then Soft here _ _ (λ result by. store_result here (ways ar structs here params place) result line a)
+        (λ result by. store_result here (ways br structs here params place) result line a)
         (called_matches c line) (λ result. store_result_matches _ _ (way_matches place) result line a)
 
-    call_alone_matches : (c : TypedCall) (line : ℕ) → ActsMatch (λ by. call_alone here by c.target (args_by ar c) line) (λ by. call_alone here by c.target (args_by br c) line)
+    call_alone_matches : (c : TypedCall) (line : ℕ) → ActsMatch (λ by. call_alone here by c.target (args_by ar c) line)
+        (λ by. call_alone here by c.target (args_by br c) line)
     call_alone_matches c line a =
-        match_then Soft here _ _ (λ result by. leave Next a) (λ result by. leave Next a) (called_matches c line) (λ result. leave_matches Next a)
+        match_then Soft here _ _ (λ result by. leave Next a) (λ result by. leave Next a) (called_matches c line)
+        (λ result. leave_matches Next a)
 
-    simple_matches : (k : TypedSimpleKind) (line : ℕ) → ActsMatch (λ by. simple_does ar structs here params by k line) (λ by. simple_does br structs here params by k line)
+    simple_matches : (k : TypedSimpleKind) (line : ℕ) →
+        ActsMatch (λ by. simple_does ar structs here params by k line) (λ by. simple_does br structs here params by k
+        line)
     simple_matches (simple.Assign place e) line = assign_matches _ _ _ _ (way_matches place) (way_matches e) line
     simple_matches (simple.AssignCall place c) line = assign_call_matches place c line
     simple_matches (simple.Call c) line = call_alone_matches c line
 
-    part_matches : (part : Option TypedSimple) → ActsMatch (λ by. part_does ar structs here params by part) (λ by. part_does br structs here params by part)
+    part_matches : (part : Option TypedSimple) →
+        ActsMatch (λ by. part_does ar structs here params by part) (λ by. part_does br structs here params by part)
     part_matches None = leave_matches Next
     part_matches (Some s) = simple_matches s.kind s.line
 
     abbrev Both : TypedStmt → Type 0
-    Both stmt = ActsMatch (λ by. stmt_does ar structs here params by stmt) (λ by. stmt_does br structs here params by stmt)
+    Both stmt =
+        ActsMatch (λ by. stmt_does ar structs here params by stmt) (λ by. stmt_does br structs here params by stmt)
 
-    inner : (block : List TypedStmt) → Each Both block → ActsMatch (λ by. block_does ar structs here params by block) (λ by. block_does br structs here params by block)
+    inner : (block : List TypedStmt) → Each Both block →
+        ActsMatch (λ by. block_does ar structs here params by block) (λ by. block_does br structs here params by block)
     inner block h =
-        match_all Soft here (λ stmt by. stmt_does ar structs here params by stmt) (λ stmt by. stmt_does br structs here params by stmt) block h
+        match_all Soft here (λ stmt by. stmt_does ar structs here params by stmt)
+        (λ stmt by. stmt_does br structs here params by stmt) block h
 
     abbrev layered : Arith → TypedStmtKind-F TypedStmtKind TypedStmt → ℕ → Calls → Acts
     layered arith k line by = layer_of _ _ (kind_step arith structs here params by) stmt_step k line
@@ -112,66 +138,98 @@ module _ (Soft : Cause → Type 0) (here : Here) where
     abbrev tested : Arith → TypedExpr → ℕ → Calls → Acts
     tested arith cond line by = test here (ways arith structs here params cond) line
 
-    looped : (cond : TypedExpr) (line : ℕ) (block : List TypedStmt) → Each Both block → (f g : Calls → Acts) → ActsMatch f g → ActsMatch (λ by. loop (test here (ways ar structs here params cond) line) (block_does ar structs here params by block) (f by)) (λ by. loop (test here (ways br structs here params cond) line) (block_does br structs here params by block) (g by))
+    looped : (cond : TypedExpr) (line : ℕ) (block : List TypedStmt) → Each Both block → (f g : Calls → Acts) →
+        ActsMatch f g →
+        ActsMatch (λ by. loop (test here (ways ar structs here params cond) line)
+        (block_does ar structs here params by block) (f by))
+        (λ by. loop (test here (ways br structs here params cond) line) (block_does br structs here params by block)
+        (g by))
     looped cond line block h f g next =
-        match_loop Soft here (tested ar cond line) (tested br cond line) (λ by. block_does ar structs here params by block) (λ by. block_does br structs here params by block) f g (test_matches _ _ (way_matches cond) line) (inner block h) next
+        match_loop Soft here (tested ar cond line) (tested br cond line) (λ by. block_does ar structs here params by
+        block) (λ by. block_does br structs here params by block) f g (test_matches _ _ (way_matches cond) line)
+        (inner block h) next
 
-    layer_matches : (line : ℕ) (k : TypedStmtKind-F TypedStmtKind TypedStmt) → Inside Both k → ActsMatch (layered ar k line) (layered br k line)
+    layer_matches : (line : ℕ) (k : TypedStmtKind-F TypedStmtKind TypedStmt) → Inside Both k →
+        ActsMatch (layered ar k line) (layered br k line)
     layer_matches line layer.Empty h a = leave_matches Next a
     layer_matches line (layer.Assign place e) h a = assign_matches _ _ _ _ (way_matches place) (way_matches e) line a
     layer_matches line (layer.AssignCall place c) h a = assign_call_matches place c line a
     layer_matches line (layer.Call c) h a = call_alone_matches c line a
     layer_matches line (layer.If cond x y) h a =
         match_then Soft here _ _
-        (λ v by s. choose v (block_does ar structs here params by x a s) (block_does ar structs here params by y a s)) (λ v by s. choose v (block_does br structs here params by x a s) (block_does br structs here params by y a s))
-        (given_matches want.Value _ _ (way_matches cond) line) (λ v. choose_matches v _ _ _ _ (inner x h.0 a) (inner y h.1 a))
-    layer_matches line (layer.While cond x) h a = looped cond line x h (λ by. leave Next) (λ by. leave Next) (leave_matches Next) a
+        (λ v by s. choose v (block_does ar structs here params by x a s) (block_does ar structs here params by y a s))
+        (λ v by s. choose v (block_does br structs here params by x a s) (block_does br structs here params by y a s))
+        (given_matches want.Value _ _ (way_matches cond) line) (λ v. choose_matches v _ _ _ _ (inner x h.0 a)
+        (inner y h.1 a))
+    layer_matches line (layer.While cond x) h a =
+        looped cond line x h (λ by. leave Next) (λ by. leave Next) (leave_matches Next) a
     layer_matches line (layer.For first cond next x) h a =
-        match_follow Soft here in_order (λ by. part_does ar structs here params by first a) (λ by. part_does br structs here params by first a) _ _ (part_matches first a)
-        (looped cond line x h (λ by. part_does ar structs here params by next) (λ by. part_does br structs here params by next) (part_matches next))
+        match_follow Soft here in_order (λ by. part_does ar structs here params by first a)
+        (λ by. part_does br structs here params by first a) _ _ (part_matches first a)
+        (looped cond line x h (λ by. part_does ar structs here params by next) (λ by. part_does br structs here params
+        by next) (part_matches next))
     layer_matches line layer.Break h a = leave_matches Break a
     layer_matches line layer.Continue h a = leave_matches Continue a
     layer_matches line layer.Return h a = leave_matches (Return None) a
     layer_matches line (layer.ReturnValue e) h a =
-        match_then Soft here _ _ (λ v by. leave (Return (Some v)) a) (λ v by. leave (Return (Some v)) a) (given_matches want.Value _ _ (way_matches e) line) (λ v. leave_matches (Return (Some v)) a)
+        match_then Soft here _ _ (λ v by. leave (Return (Some v)) a) (λ v by. leave (Return (Some v)) a)
+        (given_matches want.Value _ _ (way_matches e) line) (λ v. leave_matches (Return (Some v)) a)
     layer_matches line (layer.ReturnCall c) h a =
-        match_then Soft here _ _ (λ result by. leave (Return result) a) (λ result by. leave (Return result) a) (called_matches c line) (λ result. leave_matches (Return result) a)
+        match_then Soft here _ _ (λ result by. leave (Return result) a) (λ result by. leave (Return result) a)
+        (called_matches c line) (λ result. leave_matches (Return result) a)
 
     -- a statement does what its layer does
-    layer_is : (arith : Arith) (line : ℕ) (k : TypedStmtKind-F TypedStmtKind TypedStmt) → layered arith k line ≡ (λ by. stmt_does arith structs here params by (on_line line k))
+    layer_is : (arith : Arith) (line : ℕ) (k : TypedStmtKind-F TypedStmtKind TypedStmt) →
+        layered arith k line ≡ (λ by. stmt_does arith structs here params by (on_line line k))
     layer_is arith line k = λ i by. sym (stmt_at _ _ (kind_step arith structs here params by) stmt_step line k) i
 
     stmt_matches : (stmt : TypedStmt) → Both stmt
     stmt_matches =
-        stmt_induction Both (λ line k h. subst (λ x. ActsMatch x (λ by. stmt_does br structs here params by (on_line line k))) (layer_is ar line k) (subst (ActsMatch (layered ar k line)) (layer_is br line k) (layer_matches line k h)))
+        stmt_induction Both
+        (λ line k h. subst (λ x. ActsMatch x (λ by. stmt_does br structs here params by (on_line line k)))
+        (layer_is ar line k) (subst (ActsMatch (layered ar k line)) (layer_is br line k) (layer_matches line k h)))
 
-    block_matches : (block : List TypedStmt) → ActsMatch (λ by. block_does ar structs here params by block) (λ by. block_does br structs here params by block)
+    block_matches : (block : List TypedStmt) →
+        ActsMatch (λ by. block_does ar structs here params by block) (λ by. block_does br structs here params by block)
     block_matches block = inner block (everywhere Both stmt_matches block)
 
-    init_matches : (k : ℕ) (local : TypedLocal) (init : Option TypedExpr) → ActsMatch (λ by. init_does ar structs here params k local init) (λ by. init_does br structs here params k local init)
+    init_matches : (k : ℕ) (local : TypedLocal) (init : Option TypedExpr) →
+        ActsMatch (λ by. init_does ar structs here params k local init) (λ by. init_does br structs here params k local
+        init)
     init_matches k local None = leave_matches Next
     init_matches k local (Some e) =
         let place : Ways = at_place local.ty (λ blocks. Ok (variable_at here params (Local k))) in
         assign_matches place place _ _ (λ w blocks. alike refl) (way_matches e) local.line
 
-    inits_match : (k : ℕ) (locals : List TypedLocal) → ActsMatch (λ by. all_do (inits_do ar structs here params k locals)) (λ by. all_do (inits_do br structs here params k locals))
+    inits_match : (k : ℕ) (locals : List TypedLocal) →
+        ActsMatch (λ by. all_do (inits_do ar structs here params k locals))
+        (λ by. all_do (inits_do br structs here params k locals))
     inits_match k [] a = leave_matches Next a
     inits_match k (local ∷ locals) a =
-        match_follow Soft here in_order (λ by. init_does ar structs here params k local local.init a) (λ by. init_does br structs here params k local local.init a)
-        (λ by. all_do (inits_do ar structs here params (suc k) locals)) (λ by. all_do (inits_do br structs here params (suc k) locals)) (init_matches k local local.init a) (inits_match (suc k) locals)
+        match_follow Soft here in_order (λ by. init_does ar structs here params k local local.init a)
+        (λ by. init_does br structs here params k local local.init a)
+        (λ by. all_do (inits_do ar structs here params (suc k) locals))
+        (λ by. all_do (inits_do br structs here params (suc k) locals)) (init_matches k local local.init a)
+        (inits_match (suc k) locals)
 
-    pub body_matches : (f : TypedFunction) → ActsMatch (λ by. body_does ar structs here params by f) (λ by. body_does br structs here params by f)
+    pub body_matches : (f : TypedFunction) →
+        ActsMatch (λ by. body_does ar structs here params by f) (λ by. body_does br structs here params by f)
     body_matches f a =
-        match_follow Soft here in_order (λ by. all_do (inits_do ar structs here params 0 f.locals) a) (λ by. all_do (inits_do br structs here params 0 f.locals) a)
-        (λ by. block_does ar structs here params by f.body) (λ by. block_does br structs here params by f.body) (inits_match 0 f.locals a) (block_matches f.body)
+        match_follow Soft here in_order (λ by. all_do (inits_do ar structs here params 0 f.locals) a)
+        (λ by. all_do (inits_do br structs here params 0 f.locals) a)
+        (λ by. block_does ar structs here params by f.body) (λ by. block_does br structs here params by f.body)
+        (inits_match 0 f.locals a) (block_matches f.body)
 
-  brace_matches : (has_result is_main : Bool) (line : ℕ) → Match Soft here (λ by. at_brace has_result is_main line here) (λ by. at_brace has_result is_main line here)
+  brace_matches : (has_result is_main : Bool) (line : ℕ) →
+      Match Soft here (λ by. at_brace has_result is_main line here) (λ by. at_brace has_result is_main line here)
   brace_matches true true line = match_reached Soft here (Some (Word 0))
   brace_matches true false line =
-      match_computed Soft here {V = Option Value} line (λ blocks. Err NoReturn) (λ blocks. Err NoReturn) (λ blocks. alike refl)
+      match_computed Soft here {V = Option Value} line (λ blocks. Err NoReturn) (λ blocks. Err NoReturn)
+      (λ blocks. alike refl)
   brace_matches false is_main line = match_reached Soft here None
 
-  pub closed_matches : (exit : Exit) (has_result is_main : Bool) (line : ℕ) → Match Soft here (λ by. closed exit has_result is_main line here) (λ by. closed exit has_result is_main line here)
+  pub closed_matches : (exit : Exit) (has_result is_main : Bool) (line : ℕ) →
+      Match Soft here (λ by. closed exit has_result is_main line here) (λ by. closed exit has_result is_main line here)
   closed_matches Next has_result is_main line = brace_matches has_result is_main line
   closed_matches Break has_result is_main line = brace_matches has_result is_main line
   closed_matches Continue has_result is_main line = brace_matches has_result is_main line

@@ -39,48 +39,64 @@ turned n (suc m) s is few = record { after = omega (arith, is, few) }
 
 is_kept : (n : ℕ) (here : Here) → IsKept (fewer n) here
 is_kept n here =
-    record { memory = λ s blocks few. few; turned = λ s few. turned n s.turns s refl few; blamed = λ s cause line few. tt }
+    record {
+      memory = λ s blocks few. few;
+      turned = λ s few. turned n s.turns s refl few;
+      blamed = λ s cause line few. tt;
+    }
 
 more_turns : {V : Type 0} (n : ℕ) (o : Piece V) → Kept (fewer n) o → Kept (fewer (suc n)) o
 more_turns n (Reached v s) h = (let few : s.turns < n = h.after in record { after = omega (arith, few) })
 more_turns n (Stopped end s) h = record { after = h.after }
 
 -- a turn, and then what has one turn less
-after_turn : {V : Type 0} (n m : ℕ) (s : State) (k : State → Piece V) → m ≡ s.turns → s.turns < suc n → ((t : State) → t.turns < n → Kept (fewer (suc n)) (k t)) → Kept (fewer (suc n)) (and_then (turn_of m s) (λ _. k))
+after_turn : {V : Type 0} (n m : ℕ) (s : State) (k : State → Piece V) → m ≡ s.turns → s.turns < suc n →
+    ((t : State) → t.turns < n → Kept (fewer (suc n)) (k t)) → Kept (fewer (suc n)) (and_then (turn_of m s) (λ _. k))
 after_turn n zero s k is few h = record { after = sym is }
 after_turn n (suc m) s k is few h = h (record s { turns = m }) (omega (arith, is, few))
 
 -- what is looked up and there
-there : {V W : Type 0} (n : ℕ) (o : Option V) (s : State) (go : V → State → Piece W) → is_some o ≡ true → ((v : V) → o ≡ Some v → Kept (fewer n) (go v s)) → Kept (fewer n) (and_then (found o s) go)
+there : {V W : Type 0} (n : ℕ) (o : Option V) (s : State) (go : V → State → Piece W) → is_some o ≡ true →
+    ((v : V) → o ≡ Some v → Kept (fewer n) (go v s)) → Kept (fewer n) (and_then (found o s) go)
 there n None s go is h = absurd (cc)
 there n (Some v) s go is h = h v refl
 
 module _ (library : Library) where
   abbrev BodySpends : ℕ → Body → Type 0
-  BodySpends n body = (number : ℕ) (here : Here) (s : State) → is_some (function library here.comp number) ≡ true → s.turns < n → Kept (fewer n) (body number here s)
+  BodySpends n body = (number : ℕ) (here : Here) (s : State) → is_some (function library here.comp number) ≡ true →
+      s.turns < n → Kept (fewer n) (body number here s)
 
   module _ (n : ℕ) (body : Body) (spends : BodySpends n body) where
-    run_spends : (comp number : ℕ) (args : List Value) (back : Option Value → State → Piece (Option Value)) → is_some (function library comp number) ≡ true
-        → ((v : Option Value) (s : State) → s.turns < n → Kept (fewer n) (back v s)) → (s : State) → s.turns < n → Kept (fewer n) (run_in library body comp number args back s)
+    run_spends : (comp number : ℕ) (args : List Value) (back : Option Value → State → Piece (Option Value)) →
+        is_some (function library comp number) ≡ true
+        → ((v : Option Value) (s : State) → s.turns < n → Kept (fewer n) (back v s)) → (s : State) → s.turns < n →
+        Kept (fewer n) (run_in library body comp number args back s)
     run_spends comp number args back is b s few =
         there n (function library comp number) s _ is (λ f found_f.
-        then_kept (fewer n) (body number (record { comp = comp; first = length (s.memory comp) }) (begun comp f args s)) _
-        (spends number (record { comp = comp; first = length (s.memory comp) }) (begun comp f args s) is few) (λ v t few. b v (done comp f (length (s.memory comp)) t) few))
+        then_kept (fewer n) (body number (record { comp = comp; first = length (s.memory comp) }) (begun comp f args s))
+        _
+        (spends number (record { comp = comp; first = length (s.memory comp) }) (begun comp f args s) is few)
+        (λ v t few. b v (done comp f (length (s.memory comp)) t) few))
 
-    own_spends : (comp number : ℕ) (args : List Value) → is_some (function library comp number) ≡ true → (s : State) → s.turns < n → Kept (fewer n) (call_own library body comp number args s)
+    own_spends : (comp number : ℕ) (args : List Value) → is_some (function library comp number) ≡ true → (s : State) →
+        s.turns < n → Kept (fewer n) (call_own library body comp number args s)
     own_spends comp number args is = run_spends comp number args back_own is (λ v s few. record { after = few })
 
     led_somewhere : (comp : ℕ) (number : Option ℕ) → leads library comp number ≡ true → is_some number ≡ true
     led_somewhere comp None is = is
     led_somewhere comp (Some number) is = refl
 
-    led_there : (comp number : ℕ) (o : Option ℕ) → leads library comp o ≡ true → o ≡ Some number → is_some (function library comp number) ≡ true
+    led_there : (comp number : ℕ) (o : Option ℕ) → leads library comp o ≡ true → o ≡ Some number →
+        is_some (function library comp number) ≡ true
     led_there comp number o is same = sym (ap (leads library comp) same) ∙ is
 
-    cross_spends : (from to index : ℕ) (args : List Value) → leads library to (library.entered to (Export index)) ≡ true → (s : State) → s.turns < n → Kept (fewer n) (call_cross library body from to index args s)
+    cross_spends : (from to index : ℕ) (args : List Value) → leads library to (library.entered to (Export index))
+        ≡ true → (s : State) → s.turns < n → Kept (fewer n) (call_cross library body from to index args s)
     cross_spends from to index args is s few =
-        there n (library.entered to (Export index)) s _ (led_somewhere to (library.entered to (Export index)) is) (λ number same.
-        run_spends to number (crossed args) (back_cross library.interfaces from to index) (led_there to number (library.entered to (Export index)) is same) (λ v s few. record { after = few })
+        there n (library.entered to (Export index)) s _ (led_somewhere to (library.entered to (Export index)) is)
+        (λ number same.
+        run_spends to number (crossed args) (back_cross library.interfaces from to index)
+        (led_there to number (library.entered to (Export index)) is same) (λ v s few. record { after = few })
         (tell (Call from to index (map word_in args)) s) few)
 
     -- what is there, of a call that may be made
@@ -90,7 +106,8 @@ module _ (library : Library) where
     IsThere from Input = Unit {0}
     IsThere from Output = Unit {0}
 
-    is_there : (from : ℕ) (target : CallTarget) (args : List Value) → may_call library from target args ≡ true → IsThere from target
+    is_there : (from : ℕ) (target : CallTarget) (args : List Value) → may_call library from target args ≡ true →
+        IsThere from target
     is_there from (Own number) args may = may
     is_there from (Cross to index) args may =
         let first = and_parts (imports library.interfaces from (is_function to index)) _ may in
@@ -99,17 +116,23 @@ module _ (library : Library) where
     is_there from Input args may = tt
     is_there from Output args may = tt
 
-    called_spends : (from : ℕ) (target : CallTarget) (args : List Value) (s : State) → IsThere from target → s.turns < suc n → Kept (fewer (suc n)) (called library body from target args s)
+    called_spends : (from : ℕ) (target : CallTarget) (args : List Value) (s : State) → IsThere from target →
+        s.turns < suc n → Kept (fewer (suc n)) (called library body from target args s)
     called_spends from (Own number) args s is few =
-        after_turn n s.turns s (call_own library body from number args) refl few (λ t few. more_turns n (call_own library body from number args t) (own_spends from number args is t few))
+        after_turn n s.turns s (call_own library body from number args) refl few
+        (λ t few. more_turns n (call_own library body from number args t) (own_spends from number args is t few))
     called_spends from (Cross to index) args s is few =
-        after_turn n s.turns s (call_cross library body from to index args) refl few (λ t few. more_turns n (call_cross library body from to index args t) (cross_spends from to index args is t few))
+        after_turn n s.turns s (call_cross library body from to index args) refl few
+        (λ t few. more_turns n (call_cross library body from to index args t)
+        (cross_spends from to index args is t few))
     called_spends from Input args s is few = record { after = few }
     called_spends from Output args s is few = record { after = few }
 
-    calls_spend : (from : ℕ) (target : CallTarget) (args : List Value) (s : State) → s.turns < suc n → Kept (fewer (suc n)) (calls library body from target args s)
+    calls_spend : (from : ℕ) (target : CallTarget) (args : List Value) (s : State) → s.turns < suc n →
+        Kept (fewer (suc n)) (calls library body from target args s)
     calls_spend from target args s few = by (may_call library from target args) refl where
-      by : (b : Bool) → may_call library from target args ≡ b → Kept (fewer (suc n)) (if b then called library body from target args s else Stopped (Blamed from BadType 0) s)
+      by : (b : Bool) → may_call library from target args ≡ b →
+          Kept (fewer (suc n)) (if b then called library body from target args s else Stopped (Blamed from BadType 0) s)
       by true may = called_spends from target args s (is_there from target args may) few
       by false may = record { after = tt }
 
@@ -117,12 +140,15 @@ module _ (library : Library) where
     step_spends : (n : ℕ) (body : Body) → BodyGoes body → BodySpends n body → BodySpends (suc n) (run_step library body)
     step_spends n body goes spends number here s is few =
         there (suc n) (function library here.comp number) s (λ f s. f.does (calls library body) here s) is (λ f found_f.
-        function_keeps library obedient here.comp number f found_f (fewer (suc n)) here (is_kept (suc n) here) (calls library body) (calls_go library body goes) (λ target args s few. calls_spend n body spends here.comp target args s few) s few)
+        function_keeps library obedient here.comp number f found_f (fewer (suc n)) here (is_kept (suc n) here)
+        (calls library body) (calls_go library body goes) (λ target args s few. calls_spend n body spends here.comp
+        target args s few) s few)
 
     within_spends : (n : ℕ) → BodySpends n (within (run_step library) n)
     within_spends zero number here s is few = absurd (omega (arith, few))
     within_spends (suc n) number here s is few =
-        step_spends n (within (run_step library) n) (within_goes (run_step library) (run_goes_on library obedient) n) (within_spends n) number here s is few
+        step_spends n (within (run_step library) n) (within_goes (run_step library) (run_goes_on library obedient) n)
+        (within_spends n) number here s is few
 
     is_spent : {V : Type 0} (n : ℕ) (o : Piece V) → Kept (fewer n) o → IsSpent o
     is_spent {V} n o h s is = (subst (λ x. Kept (fewer n) x) is h).after
@@ -130,13 +156,20 @@ module _ (library : Library) where
     abbrev main : ℕ
     main = library.interfaces.main
 
-    main_spends : (globals : Memory) (inputs : List ℕ) (turns : ℕ) → leads library main (library.entered main Main) ≡ true → Kept (fewer (suc turns)) (main_call library globals inputs turns)
+    main_spends : (globals : Memory) (inputs : List ℕ) (turns : ℕ) → leads library main (library.entered main Main)
+        ≡ true → Kept (fewer (suc turns)) (main_call library globals inputs turns)
     main_spends globals inputs turns is =
         let body : Body = within (run_step library) (suc turns) in
-        there (suc turns) (library.entered main Main) (first_state globals inputs turns) _ (led_somewhere (suc turns) body (within_spends (suc turns)) main (library.entered main Main) is) (λ number same.
-        own_spends (suc turns) body (within_spends (suc turns)) main number [] (led_there (suc turns) body (within_spends (suc turns)) main number (library.entered main Main) is same) (first_state globals inputs turns) (omega arith))
+        there (suc turns) (library.entered main Main) (first_state globals inputs turns)
+        _ (led_somewhere (suc turns) body (within_spends (suc turns)) main (library.entered main Main) is)
+        (λ number same.
+        own_spends (suc turns) body (within_spends (suc turns)) main number []
+        (led_there (suc turns) body (within_spends (suc turns)) main number (library.entered main Main) is same)
+        (first_state globals inputs turns) (omega arith))
 
-    stops : (globals : Memory) (inputs : List ℕ) (turns : ℕ) (o : Piece (Option Value)) → main_call library globals inputs turns ≡ o → Kept (fewer (suc turns)) o → (run_to main o).shown.end ≡ TurnsOut → StopsSpent library globals inputs turns
+    stops : (globals : Memory) (inputs : List ℕ) (turns : ℕ) (o : Piece (Option Value)) →
+        main_call library globals inputs turns ≡ o → Kept (fewer (suc turns)) o → (run_to main o).shown.end ≡ TurnsOut →
+        StopsSpent library globals inputs turns
     stops globals inputs turns (Reached v s) is h ends = absurd (cc)
     stops globals inputs turns (Stopped Ended s) is h ends = absurd (cc)
     stops globals inputs turns (Stopped (Blamed comp cause line) s) is h ends = absurd (cc)
@@ -145,6 +178,8 @@ module _ (library : Library) where
 
     pub spends_turns : SpendsTurns library
     spends_turns = record {
-      functions = λ number here s is. is_spent (suc s.turns) (within (run_step library) (suc s.turns) number here s) (within_spends (suc s.turns) number here s is (omega arith));
-      runs = λ globals inputs turns is ends. stops globals inputs turns (main_call library globals inputs turns) refl (main_spends globals inputs turns is) ends;
+      functions = λ number here s is. is_spent (suc s.turns) (within (run_step library) (suc s.turns) number here s)
+          (within_spends (suc s.turns) number here s is (omega arith));
+      runs = λ globals inputs turns is ends. stops globals inputs turns (main_call library globals inputs turns) refl
+          (main_spends globals inputs turns is) ends;
     }

@@ -23,12 +23,14 @@ fault_fits f w = blamed (cause_of f) (fault_passes f) refl
 
 checked_fits : (z : ℤ) → Keeps IsArithmetic ℕ (or_cause (checked z)) (Ok (word_of z))
 checked_fits z = by_fit (fits_signed z) where
-  by_fit : (b : Bool) → Keeps IsArithmetic ℕ (or_cause (if b then Ok (word_of z) else Err fault.Overflow)) (Ok (word_of z))
+  by_fit : (b : Bool) → Keeps IsArithmetic ℕ (or_cause (if b then Ok (word_of z) else Err fault.Overflow))
+      (Ok (word_of z))
   by_fit true = alike refl
   by_fit false = fault_fits fault.Overflow (word_of z)
 
 -- where a test fails there is a fault, else what is computed fits
-guard_fits : (b : Bool) (f : WordFault) (r : Result ℕ WordFault) (w v : ℕ) → Keeps IsArithmetic ℕ (or_cause r) (Ok v) → Keeps IsArithmetic ℕ (or_cause (if b then Err f else r)) (Ok (if b then w else v))
+guard_fits : (b : Bool) (f : WordFault) (r : Result ℕ WordFault) (w v : ℕ) → Keeps IsArithmetic ℕ (or_cause r) (Ok v) →
+    Keeps IsArithmetic ℕ (or_cause (if b then Err f else r)) (Ok (if b then w else v))
 guard_fits true f r w v h = fault_fits f w
 guard_fits false f r w v h = h
 
@@ -37,28 +39,42 @@ rem_fits true w = alike refl
 rem_fits false w = fault_fits fault.Overflow w
 
 -- a shift whose count is below 32 is by that count
-shift_fits : (b : ℕ) (test : Bool) → nat_le 32 b ≡ test → (r : ℕ → Result ℕ WordFault) (w : ℕ → ℕ) → ((n : ℕ) → Keeps IsArithmetic ℕ (or_cause (r n)) (Ok (w n))) → Keeps IsArithmetic ℕ (or_cause (if test then Err fault.BadShift else r b)) (Ok (w (b % 32)))
+shift_fits : (b : ℕ) (test : Bool) → nat_le 32 b ≡ test → (r : ℕ → Result ℕ WordFault) (w : ℕ → ℕ) →
+    ((n : ℕ) → Keeps IsArithmetic ℕ (or_cause (r n)) (Ok (w n))) →
+    Keeps IsArithmetic ℕ (or_cause (if test then Err fault.BadShift else r b)) (Ok (w (b % 32)))
 shift_fits b true is r w h = fault_fits fault.BadShift (w (b % 32))
-shift_fits b false is r w h = subst (λ n. Keeps IsArithmetic ℕ (or_cause (r b)) (Ok (w n))) (small b (leb-false 32 b is)) (h b) where
-  small : (b : ℕ) → b < 32 → b ≡ b % 32
-  small b h = omega (arith, h)
+shift_fits b false is r w h =
+    subst (λ n. Keeps IsArithmetic ℕ (or_cause (r b)) (Ok (w n))) (small b (leb-false 32 b is)) (h b) where
+      small : (b : ℕ) → b < 32 → b ≡ b % 32
+      small b h = omega (arith, h)
 
-negative_fits : (b : Bool) (z : ℤ) → Keeps IsArithmetic ℕ (or_cause (if b then Err fault.Overflow else checked z)) (Ok (word_of z))
+negative_fits : (b : Bool) (z : ℤ) → Keeps IsArithmetic ℕ (or_cause (if b then Err fault.Overflow else checked z))
+    (Ok (word_of z))
 negative_fits true z = fault_fits fault.Overflow (word_of z)
 negative_fits false z = checked_fits z
 
-pub binary_fits : (unsigned : Bool) (o : BinaryOp) (a b : ℕ) → Keeps IsArithmetic ℕ (c_binary unsigned o a b) (Ok (on_all_words unsigned o a b))
+pub binary_fits : (unsigned : Bool) (o : BinaryOp) (a b : ℕ) →
+    Keeps IsArithmetic ℕ (c_binary unsigned o a b) (Ok (on_all_words unsigned o a b))
 binary_fits false op.Add a b = checked_fits (signed_of a +ℤ signed_of b)
 binary_fits false op.Sub a b = checked_fits (signed_of a -ℤ signed_of b)
 binary_fits false op.Mul a b = checked_fits (signed_of a *ℤ signed_of b)
-binary_fits false op.Div a b = guard_fits (b == 0) fault.ZeroDivisor _ _ _ (checked_fits (int_div (signed_of a) (signed_of b)))
+binary_fits false op.Div a b =
+    guard_fits (b == 0) fault.ZeroDivisor _ _ _ (checked_fits (int_div (signed_of a) (signed_of b)))
 binary_fits true op.Div a b = guard_fits (b == 0) fault.ZeroDivisor (Ok (a / b)) _ (a / b) (alike refl)
-binary_fits false op.Rem a b = guard_fits (b == 0) fault.ZeroDivisor _ a _ (rem_fits (fits_signed (int_div (signed_of a) (signed_of b))) (word_of (int_rem (signed_of a) (signed_of b))))
+binary_fits false op.Rem a b =
+    guard_fits (b == 0) fault.ZeroDivisor _ a _ (rem_fits (fits_signed (int_div (signed_of a) (signed_of b)))
+    (word_of (int_rem (signed_of a) (signed_of b))))
 binary_fits true op.Rem a b = guard_fits (b == 0) fault.ZeroDivisor (Ok (a % b)) a (a % b) (alike refl)
-binary_fits false op.ShiftLeft a b = shift_fits b (nat_le 32 b) refl (λ n. if int_lt (signed_of a) (pos 0) then Err fault.Overflow else checked (signed_of a *ℤ pos (2 ^ n))) (λ n. word_of (signed_of a *ℤ pos (2 ^ n))) (λ n. negative_fits (int_lt (signed_of a) (pos 0)) (signed_of a *ℤ pos (2 ^ n)))
-binary_fits true op.ShiftLeft a b = shift_fits b (nat_le 32 b) refl (λ n. Ok ((a * 2 ^ n) % 2 ^ 32)) (λ n. (a * 2 ^ n) % 2 ^ 32) (λ n. alike refl)
-binary_fits false op.ShiftRight a b = shift_fits b (nat_le 32 b) refl (λ n. Ok (word_of (int_shr (signed_of a) n))) (λ n. word_of (int_shr (signed_of a) n)) (λ n. alike refl)
-binary_fits true op.ShiftRight a b = shift_fits b (nat_le 32 b) refl (λ n. Ok (a / 2 ^ n)) (λ n. a / 2 ^ n) (λ n. alike refl)
+binary_fits false op.ShiftLeft a b =
+    shift_fits b (nat_le 32 b) refl (λ n. if int_lt (signed_of a) (pos 0) then Err fault.Overflow else checked
+    (signed_of a *ℤ pos (2 ^ n))) (λ n. word_of (signed_of a *ℤ pos (2 ^ n)))
+    (λ n. negative_fits (int_lt (signed_of a) (pos 0)) (signed_of a *ℤ pos (2 ^ n)))
+binary_fits true op.ShiftLeft a b =
+    shift_fits b (nat_le 32 b) refl (λ n. Ok ((a * 2 ^ n) % 2 ^ 32)) (λ n. (a * 2 ^ n) % 2 ^ 32) (λ n. alike refl)
+binary_fits false op.ShiftRight a b = shift_fits b (nat_le 32 b) refl (λ n. Ok (word_of (int_shr (signed_of a) n)))
+    (λ n. word_of (int_shr (signed_of a) n)) (λ n. alike refl)
+binary_fits true op.ShiftRight a b =
+    shift_fits b (nat_le 32 b) refl (λ n. Ok (a / 2 ^ n)) (λ n. a / 2 ^ n) (λ n. alike refl)
 binary_fits true op.Add a b = alike refl
 binary_fits true op.Sub a b = alike refl
 binary_fits true op.Mul a b = alike refl
@@ -85,6 +101,7 @@ binary_fits false op.OrElse a b = alike refl
 binary_fits true op.AndAlso a b = alike refl
 binary_fits false op.AndAlso a b = alike refl
 
-pub negated_fits : (unsigned : Bool) (a : ℕ) → Keeps IsArithmetic ℕ (c_negated unsigned a) (Ok (negated_word unsigned a))
+pub negated_fits : (unsigned : Bool) (a : ℕ) →
+    Keeps IsArithmetic ℕ (c_negated unsigned a) (Ok (negated_word unsigned a))
 negated_fits true a = alike refl
 negated_fits false a = checked_fits (neg_ℤ (signed_of a))

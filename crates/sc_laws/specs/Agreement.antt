@@ -69,15 +69,18 @@ pub record RunsAgree (run other : Run) : Type 0 where
   pub whole : ShownAgree run.shown other.shown
   pub frames : run.frames ≡ other.frames
 
--- libraries that agree function by function show the same in the same room: in their meaning, and whoever performs whatever script
+-- libraries that agree function by function show the same in the same room: in their meaning, and whoever performs
+-- whatever script
 pub record AgreeingRunAlike : Type 0 where
   pub meaning : (L M : Library) → LibrariesAgree L M → (globals : Memory) (inputs : List ℕ) (turns : ℕ) →
       RunsAgree (run_by L (run_step L) globals inputs turns) (run_by M (run_step M) globals inputs turns)
-  pub scripted : (L M : Library) → LibrariesAgree L M → (roles : Roles) (globals : Memory) (inputs : List ℕ) (turns : ℕ) →
+  pub scripted : (L M : Library) → LibrariesAgree L M →
+      (roles : Roles) (globals : Memory) (inputs : List ℕ) (turns : ℕ) →
       RunsAgree (run_by L (scripted_step L roles (run_step L)) globals inputs turns)
       (run_by M (scripted_step M roles (run_step M)) globals inputs turns)
 
--- a program whose trees stand on other lines has a library that agrees, and so it shows the same but for the lines of blames
+-- a program whose trees stand on other lines has a library that agrees, and so it shows the same but for the lines of
+-- blames
 pub record OtherLinesAgree : Type 0 where
   pub libraries : (arith : Arith) (line_of : ℕ → ℕ) (program : ProgramTree) →
       LibrariesAgree (library_of arith program) (library_of arith (program_lined line_of program))

@@ -56,8 +56,8 @@ performed arith program inputs turns trace set = scripted_by arith program set t
 
 -- by the runs in which sets perform
 module _ (runs : Set → SourceRun) (trace : List Event) where
-  -- from this set on, each next run keeps to the trace until it is blamed, and then the blamed compartment performs too;
-  -- the last run tells the trace
+  -- from this set on, each next run keeps to the trace until it is blamed, and then the blamed compartment performs
+  -- too; the last run tells the trace
   abbrev pub IsChain : Set → List Link → Type 0
   IsChain set [] = (runs set).trace ≡ trace
   IsChain set (link ∷ links) = IsLink (runs set) trace link × IsChain (with link.comp set) links
@@ -65,7 +65,8 @@ module _ (runs : Set → SourceRun) (trace : List Event) where
 -- the blames come after ever more events, at least so many before the first, and after fewer than this
 abbrev pub IsRising : (least count : ℕ) → List Link → Type 0
 IsRising least count [] = Unit {0}
-IsRising least count (link ∷ links) = (least ≤ link.after) × (link.after < count) × IsRising (suc link.after) count links
+IsRising least count (link ∷ links) =
+    (least ≤ link.after) × (link.after < count) × IsRising (suc link.after) count links
 
 -- no compartment is of the set, and none is blamed twice
 abbrev pub AreFresh : Set → List Link → Type 0

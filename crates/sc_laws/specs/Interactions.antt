@@ -1,5 +1,6 @@
--- What functions may do, whatever they are written in, so that the laws hold of them. It is told as a tree: what is given or blamed, what the
--- blocks of the compartment decide, and what comes after new blocks, after a turn and after a call.
+-- What functions may do, whatever they are written in, so that the laws hold of them. It is told as a tree: what is
+-- given or blamed, what the blocks of the compartment decide, and what comes after new blocks, after a turn and after a
+-- call.
 use Rattle.std.specs.Prelude.{◌≡◌, ◌⊎◌, ℕ, zero, suc, ◌<◌, List, Option}
 use Rattle.sc_event.specs.declared.row.Entry.{Entry}
 use Rattle.sc_core.specs.declared.cause.Cause.{Cause}
@@ -53,7 +54,8 @@ GoFrom comp by = (target : CallTarget) (args : List Value) → Goes (by comp tar
 -- with fewer turns than a number this is done as the tree of that number says
 pub record Plays {V : Type 0} (here : Here) (does : Doing V) (tree : ℕ → Interaction V) : Type 0 where
   pub lasts : (n : ℕ) → Lasts n (tree n)
-  pub is : (n : ℕ) (by : Calls) → GoFrom here.comp by → (s : State) → s.turns < n → does by s ≡ played (tree n) by here s
+  pub is : (n : ℕ) (by : Calls) → GoFrom here.comp by → (s : State) → s.turns < n →
+      does by s ≡ played (tree n) by here s
 
 -- no cause
 abbrev pub Never : Cause → Type 0
@@ -65,11 +67,13 @@ module _ (Soft : Cause → Type 0) where
   abbrev pub Alike : {V : Type 0} → Interaction V → Interaction V → Type 0
   Alike (Gives v) other = other ≡ Gives v
   Alike (Blames cause line) other = Soft cause ⊎ (other ≡ Blames cause line)
-  Alike {V} (Reads go) other = (go' : Blocks → Interaction V) × (other ≡ Reads go') × ((blocks : Blocks) → Alike (go blocks) (go' blocks))
+  Alike {V} (Reads go) other =
+      (go' : Blocks → Interaction V) × (other ≡ Reads go') × ((blocks : Blocks) → Alike (go blocks) (go' blocks))
   Alike {V} (Stores blocks go) other = (go' : Interaction V) × (other ≡ Stores blocks go') × Alike go go'
   Alike {V} (Spends go) other = (go' : Interaction V) × (other ≡ Spends go') × Alike go go'
   Alike {V} (Asks target args go) other =
-      (go' : Option Value → Interaction V) × (other ≡ Asks target args go') × ((v : Option Value) → Alike (go v) (go' v))
+      (go' : Option Value → Interaction V) × (other ≡ Asks target args go')
+      × ((v : Option Value) → Alike (go v) (go' v))
   Alike Halts other = other ≡ Halts
 
   -- two doings that are trees, which are alike

@@ -27,7 +27,8 @@ use Rattle.sc_laws.specs.Steady.{now, ExtendedByMore, AgreesInRoom}
 -- what they do is such trees, and in the arithmetic that wraps the same but for blames for arithmetic
 pub record ProgramsObey : Type 0 where
   pub itself : (arith : Arith) (program : ProgramTree) → Obedient (library_of arith program)
-  pub wraps : (program : ProgramTree) → LibrariesMatch IsArithmetic (library_of c_arith program) (library_of wrapping program)
+  pub wraps : (program : ProgramTree) →
+      LibrariesMatch IsArithmetic (library_of c_arith program) (library_of wrapping program)
 
 -- whatever a function does, however many calls may be open in it, it goes on from the state in which it begins
 abbrev pub GoesOn : Step → Type 0
@@ -35,7 +36,8 @@ GoesOn step = (open_calls number : ℕ) (here : Here) (s : State) → Gone s (wi
 
 pub record OnlyGoesOn : Type 0 where
   pub libraries : (library : Library) → Obedient library → GoesOn (run_step library)
-  pub scripts : (library : Library) → Obedient library → (roles : Roles) → GoesOn (scripted_step library roles (run_step library))
+  pub scripts : (library : Library) → Obedient library → (roles : Roles) →
+      GoesOn (scripted_step library roles (run_step library))
   pub programs : (arith : Arith) (program : ProgramTree) → GoesOn (run_step (library_of arith program))
 
 -- what functions do is what they do by what functions do
@@ -44,7 +46,8 @@ IsFixed step = (number : ℕ) (here : Here) (s : State) → now step number here
 
 -- any bound on open calls above the turns is as good as any other
 abbrev pub IsSteady : Step → Type 0
-IsSteady step = (open_calls more_calls number : ℕ) (here : Here) (s : State) → s.turns < open_calls → s.turns < more_calls → within step more_calls number here s ≡ within step open_calls number here s
+IsSteady step = (open_calls more_calls number : ℕ) (here : Here) (s : State) → s.turns < open_calls →
+    s.turns < more_calls → within step more_calls number here s ≡ within step open_calls number here s
 
 -- so it is of the functions of a library, and where some compartments perform scripts
 pub record HasFixedPoint (library : Library) : Type 0 where
@@ -61,7 +64,8 @@ pub record FixedPoint : Type 0 where
 -- where no compartment performs, the scripted meaning is the meaning
 pub record EmptySetIsMeaning : Type 0 where
   pub libraries : (library : Library) (globals : Memory) (trace : List Event) (inputs : List ℕ) (turns : ℕ) →
-      roles_run library globals inputs turns (roles_in library.interfaces.main nobody trace) ≡ library_run library globals inputs turns
+      roles_run library globals inputs turns (roles_in library.interfaces.main nobody trace)
+      ≡ library_run library globals inputs turns
   pub meaning : (program : ProgramTree) (trace : List Event) (inputs : List ℕ) (turns events : ℕ) →
       scripted_meaning program nobody trace inputs turns events ≡ meaning program inputs turns events
   pub wrapped : (program : ProgramTree) (trace : List Event) (inputs : List ℕ) (turns events : ℕ) →
@@ -78,19 +82,23 @@ pub record MoreGoesOn : Type 0 where
 pub record MeaningGoesOn : Type 0 where
   pub libraries : (library : Library) → Obedient library → (globals : Memory) (inputs : List ℕ) →
       ExtendedByMore (λ turns events. stopped_at events (library_run library globals inputs turns).shown)
-  pub programs : (arith : Arith) (program : ProgramTree) (inputs : List ℕ) → ExtendedByMore (meaning_by arith program inputs)
+  pub programs : (arith : Arith) (program : ProgramTree) (inputs : List ℕ) →
+      ExtendedByMore (meaning_by arith program inputs)
 
--- the arithmetic that wraps gives the same run up to the first blame for arithmetic, where some compartments perform a script,
--- and no compartment gets less deep
+-- the arithmetic that wraps gives the same run up to the first blame for arithmetic, where some compartments perform a
+-- script, and no compartment gets less deep
 pub record WrappingAgrees : Type 0 where
-  pub libraries : (library other : Library) → LibrariesMatch IsArithmetic library other → (globals : Memory) (inputs : List ℕ) (turns : ℕ) (roles : Roles) →
+  pub libraries : (library other : Library) → LibrariesMatch IsArithmetic library other →
+      (globals : Memory) (inputs : List ℕ) (turns : ℕ) (roles : Roles) →
       AgreesInRoom (roles_run library globals inputs turns roles) (roles_run other globals inputs turns roles)
   pub programs : (program : ProgramTree) (set : Set) (trace : List Event) (inputs : List ℕ) (turns : ℕ) →
-      AgreesInRoom (scripted_run_of c_arith program inputs turns set trace) (scripted_run_of wrapping program inputs turns set trace)
+      AgreesInRoom (scripted_run_of c_arith program inputs turns set trace)
+      (scripted_run_of wrapping program inputs turns set trace)
 
 -- and so the wrapping meaning agrees with the meaning
 pub record WrappedAgrees : Type 0 where
-  pub libraries : (library other : Library) → LibrariesMatch IsArithmetic library other → (globals : Memory) (inputs : List ℕ) (turns : ℕ) →
+  pub libraries : (library other : Library) → LibrariesMatch IsArithmetic library other →
+      (globals : Memory) (inputs : List ℕ) (turns : ℕ) →
       AgreesInRoom (library_run library globals inputs turns) (library_run other globals inputs turns)
   pub programs : (program : ProgramTree) (inputs : List ℕ) (turns : ℕ) →
       AgreesInRoom (run_of c_arith program inputs turns) (run_of wrapping program inputs turns)
@@ -99,24 +107,32 @@ pub record WrappedAgrees : Type 0 where
 pub record TracesAreLegal : Type 0 where
   pub libraries : (library : Library) → Obedient library → (globals : Memory) (inputs : List ℕ) (turns events : ℕ) →
       legal library.interfaces (stopped_at events (library_run library globals inputs turns).shown).trace ≡ true
-  pub scripts : (library : Library) → Obedient library → (globals : Memory) (inputs : List ℕ) (turns events : ℕ) (roles : Roles) →
+  pub scripts : (library : Library) → Obedient library →
+      (globals : Memory) (inputs : List ℕ) (turns events : ℕ) (roles : Roles) →
       legal library.interfaces (stopped_at events (roles_run library globals inputs turns roles).shown).trace ≡ true
   pub meaning : (arith : Arith) (program : ProgramTree) (inputs : List ℕ) (turns events : ℕ) →
       legal program.interfaces (meaning_by arith program inputs turns events).trace ≡ true
-  pub scripted : (arith : Arith) (program : ProgramTree) (set : Set) (trace : List Event) (inputs : List ℕ) (turns events : ℕ) →
+  pub scripted : (arith : Arith) (program : ProgramTree) (set : Set) (trace : List Event) (inputs : List ℕ)
+      (turns events : ℕ) →
       legal program.interfaces (scripted_by arith program set trace inputs turns events).trace ≡ true
 
 -- no compartment that performs is blamed, whatever rows it performs
 pub record NobodyWhoPerformsIsBlamed : Type 0 where
-  pub libraries : (library : Library) → Obedient library → (globals : Memory) (inputs : List ℕ) (turns events : ℕ) (roles : Roles) →
-      (comp : ℕ) (cause : Cause) (line : ℕ) → (stopped_at events (roles_run library globals inputs turns roles).shown).end ≡ Blamed comp cause line → roles.scripted comp ≡ false
-  pub programs : (arith : Arith) (program : ProgramTree) (set : Set) (trace : List Event) (inputs : List ℕ) (turns events : ℕ) →
-      (comp : ℕ) (cause : Cause) (line : ℕ) → (scripted_by arith program set trace inputs turns events).end ≡ Blamed comp cause line → set comp ≡ false
+  pub libraries : (library : Library) → Obedient library →
+      (globals : Memory) (inputs : List ℕ) (turns events : ℕ) (roles : Roles) →
+      (comp : ℕ) (cause : Cause) (line : ℕ) →
+      (stopped_at events (roles_run library globals inputs turns roles).shown).end ≡ Blamed comp cause line →
+      roles.scripted comp ≡ false
+  pub programs : (arith : Arith) (program : ProgramTree) (set : Set) (trace : List Event) (inputs : List ℕ)
+      (turns events : ℕ) →
+      (comp : ℕ) (cause : Cause) (line : ℕ) →
+      (scripted_by arith program set trace inputs turns events).end ≡ Blamed comp cause line → set comp ≡ false
 
 -- SETS THAT PERFORM THEIR PARTS OF A TRACE
 -- what holds of the runs in which sets perform: of every library that obeys, and so of every program
 pub record HoldsOfSets (law : List Event → (Set → SourceRun) → Type 0) : Type 0 where
-  pub libraries : (library : Library) → Obedient library → (globals : Memory) (inputs : List ℕ) (turns : ℕ) (trace : List Event) →
+  pub libraries : (library : Library) → Obedient library →
+      (globals : Memory) (inputs : List ℕ) (turns : ℕ) (trace : List Event) →
       law trace (performed_by library globals inputs turns trace)
   pub programs : (arith : Arith) (program : ProgramTree) (inputs : List ℕ) (turns : ℕ) (trace : List Event) →
       law trace (performed arith program inputs turns trace)
@@ -126,26 +142,32 @@ module _ (trace : List Event) (runs : Set → SourceRun) where
   abbrev pub TellsWithMore : Type 0
   TellsWithMore = (small large : Set) → IsWithin small large → (runs small).trace ≡ trace → (runs large).trace ≡ trace
 
-  -- a blame that comes while the run keeps to the trace comes in the same run where more compartments perform, unless the blamed one does
+  -- a blame that comes while the run keeps to the trace comes in the same run where more compartments perform, unless
+  -- the blamed one does
   abbrev pub KeepsBlames : Type 0
   KeepsBlames = (small large : Set) → IsWithin small large → (comp : ℕ) (cause : Cause) (line : ℕ) →
-      (runs small).end ≡ Blamed comp cause line → Front (runs small).trace trace → large comp ≡ false → runs large ≡ runs small
+      (runs small).end ≡ Blamed comp cause line → Front (runs small).trace trace → large comp ≡ false →
+      runs large ≡ runs small
 
   -- where the blamed compartment performs too, the run passes that point, unless it wants a turn or a row right there
   abbrev pub PassesBlames : Type 0
   PassesBlames = (small large : Set) → IsWithin small large → (comp : ℕ) (cause : Cause) (line : ℕ) →
-      (runs small).end ≡ Blamed comp cause line → Front (runs small).trace trace → large comp ≡ true → PassesBlame (runs small) (runs large)
+      (runs small).end ≡ Blamed comp cause line → Front (runs small).trace trace → large comp ≡ true →
+      PassesBlame (runs small) (runs large)
 
-  -- of all sets those give the trace that have every compartment of the chain: the compartments of the chain are the least
+  -- of all sets those give the trace that have every compartment of the chain: the compartments of the chain are the
+  -- least
   abbrev pub LeastIsChain : Type 0
   LeastIsChain = (links : List Link) (set : Set) → IsChain runs trace nobody links →
       ((runs set).trace ≡ trace → Includes set links) × (Includes set links → (runs set).trace ≡ trace)
 
   -- the links of a chain come after ever more events of the trace, all before its end, and their compartments differ
   abbrev pub ChainRises : Type 0
-  ChainRises = (links : List Link) → IsChain runs trace nobody links → IsRising 0 (length trace) links × AreFresh nobody links
+  ChainRises = (links : List Link) → IsChain runs trace nobody links →
+      IsRising 0 (length trace) links × AreFresh nobody links
 
-  -- where every set tells the trace or is blamed outside of itself, there is a chain, of at most as many links as compartments
+  -- where every set tells the trace or is blamed outside of itself, there is a chain, of at most as many links as
+  -- compartments
   abbrev pub HasChain : Type 0
   HasChain = (count : ℕ) → ((set : Set) → ((runs set).trace ≡ trace) ⊎ IsBlamedOutside count set (runs set) trace) →
       (links : List Link) × IsChain runs trace nobody links × (length links ≤ count)
@@ -181,13 +203,15 @@ AreTold run = AllBefore (suc (length run.shown.trace)) run.frames
 -- a call that returns leaves the room of every compartment as it was
 abbrev pub LeavesRooms : Library → Step → Type 0
 LeavesRooms library step = (open_calls comp number : ℕ) (args : List Value) (v : Option Value) (s t : State) →
-    AllBefore (suc (length s.trace)) s.frames → call_own library (within step open_calls) comp number args s ≡ Reached v t →
+    AllBefore (suc (length s.trace)) s.frames →
+    call_own library (within step open_calls) comp number args s ≡ Reached v t →
     (c : ℕ) → open_room c t ≡ open_room c s
 
 -- so it is of the functions of a library, and where some compartments perform
 pub record KeepsRooms (library : Library) : Type 0 where
   pub told : (globals : Memory) (inputs : List ℕ) (turns : ℕ) → AreTold (library_run library globals inputs turns)
-  pub scripted_told : (globals : Memory) (inputs : List ℕ) (turns : ℕ) (roles : Roles) → AreTold (roles_run library globals inputs turns roles)
+  pub scripted_told : (globals : Memory) (inputs : List ℕ) (turns : ℕ) (roles : Roles) →
+      AreTold (roles_run library globals inputs turns roles)
   pub returns : LeavesRooms library (run_step library)
   pub scripted_returns : (roles : Roles) → LeavesRooms library (scripted_step library roles (run_step library))
 

@@ -33,7 +33,8 @@ module _ (line_of : ℕ → ℕ) where
 
   abbrev pub stmt_lined : TypedStmt → TypedStmt
   stmt_lined =
-      fold-TypedStmt TypedStmtKind TypedStmt (λ k. roll-TypedStmtKind (layer_lined k)) (λ s. record { line = line_of s.line; kind = s.kind })
+      fold-TypedStmt TypedStmtKind TypedStmt (λ k. roll-TypedStmtKind (layer_lined k))
+      (λ s. record { line = line_of s.line; kind = s.kind })
 
   abbrev pub local_lined : TypedLocal → TypedLocal
   local_lined local = record local { line = line_of local.line }

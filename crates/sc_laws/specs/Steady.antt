@@ -20,14 +20,17 @@ pub record Extends (run longer : SourceRun) : Type 0 where
 
 -- runs, by turns and events, that are extended by those with more turns and more events
 abbrev pub ExtendedByMore : (ℕ → ℕ → SourceRun) → Type 0
-ExtendedByMore run = (turns more_turns events more_events : ℕ) → turns ≤ more_turns → events ≤ more_events → Extends (run turns events) (run more_turns more_events)
+ExtendedByMore run = (turns more_turns events more_events : ℕ) → turns ≤ more_turns → events ≤ more_events →
+    Extends (run turns events) (run more_turns more_events)
 
 -- the second run is the first, or the first was blamed for arithmetic and the second goes on from there
 pub data AgreesUntilBlame (run other : SourceRun) : Type 0 where
   same : other ≡ run → AgreesUntilBlame run other
-  blamed : (comp : ℕ) (cause : Cause) (line : ℕ) → run.end ≡ Blamed comp cause line → IsArithmetic cause → Front run.trace other.trace → AgreesUntilBlame run other
+  blamed : (comp : ℕ) (cause : Cause) (line : ℕ) → run.end ≡ Blamed comp cause line → IsArithmetic cause →
+      Front run.trace other.trace → AgreesUntilBlame run other
 
--- the same of whole runs: the second is the first, or the first was blamed for arithmetic, and the second goes on in its events and its frames
+-- the same of whole runs: the second is the first, or the first was blamed for arithmetic, and the second goes on in
+-- its events and its frames
 pub data RunsUntilBlame (run other : Run) : Type 0 where
   same_run : other ≡ run → RunsUntilBlame run other
   blamed_run : (comp : ℕ) (cause : Cause) (line : ℕ) → run.shown.end ≡ Blamed comp cause line → IsArithmetic cause →

@@ -20,7 +20,8 @@ IsSpent piece = (s : State) → piece ≡ Stopped TurnsOut s → s.turns ≡ 0
 -- the first call of `main`, of which the run shows what it comes to
 abbrev pub main_call : Library → Memory → List ℕ → ℕ → Piece (Option Value)
 main_call library globals inputs turns =
-    and_then (found (library.entered library.interfaces.main Main) (first_state globals inputs turns)) (λ number s. call_own library (within (run_step library) (suc turns)) library.interfaces.main number [] s)
+    and_then (found (library.entered library.interfaces.main Main) (first_state globals inputs turns))
+    (λ number s. call_own library (within (run_step library) (suc turns)) library.interfaces.main number [] s)
 
 -- a state without a turn in which the first call of `main` stopped
 pub record StopsSpent (library : Library) (globals : Memory) (inputs : List ℕ) (turns : ℕ) : Type 0 where
@@ -30,7 +31,8 @@ pub record StopsSpent (library : Library) (globals : Memory) (inputs : List ℕ)
 
 -- a function that is there is out of turns where no turn is left, and so is a run of a `main` that is there
 pub record SpendsTurns (library : Library) : Type 0 where
-  pub functions : (number : ℕ) (here : Here) (s : State) → is_some (function library here.comp number) ≡ true → IsSpent (now (run_step library) number here s)
+  pub functions : (number : ℕ) (here : Here) (s : State) → is_some (function library here.comp number) ≡ true →
+      IsSpent (now (run_step library) number here s)
   pub runs : (globals : Memory) (inputs : List ℕ) (turns : ℕ) →
       leads library library.interfaces.main (library.entered library.interfaces.main Main) ≡ true →
       (library_run library globals inputs turns).shown.end ≡ TurnsOut → StopsSpent library globals inputs turns

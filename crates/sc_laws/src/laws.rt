@@ -4,8 +4,8 @@ ghost use Rattle.sc_laws.specs.Laws.{ChainExists, ChainsRise, BlameIsPassed, Bla
 ghost use Rattle.sc_laws.specs.Turns.{TurnsOutMeansTurns};
 ghost use Rattle.sc_laws.specs.Agreement.{AgreeingRunAlike, OtherLinesAgree};
 
-/// What the functions of a program do is a tree: what is given or blamed, what the blocks of the compartment decide, and what comes
-/// after new blocks, after a turn and after a call. Libraries of such functions have all laws.
+/// What the functions of a program do is a tree: what is given or blamed, what the blocks of the compartment decide, and
+/// what comes after new blocks, after a turn and after a call. Libraries of such functions have all laws.
 pub fn programs_obey()
     ensures { ProgramsObey }
 {}
