@@ -1,3 +1,4 @@
+mod Bounds
 pub mod Induction
 pub mod Matching
 pub mod Plans

@@ -1,26 +1,22 @@
 -- Code under two arithmetics, of which the second gives what the first does or the first blames: its functions match.
-use Rattle.std.proofs.Common.{◌≡◌, refl, sym, subst, ℕ, zero, suc, ◌+◌, List, [], ◌∷◌, map, Option, Some, None, Result}
-use Rattle.std.specs.Prelude.{slice_index_or, true, false, Bool}
-use Rattle.sc_base.specs.declared.op.BinaryOp.{BinaryOp}
-use Rattle.sc_base.specs.declared.op.UnaryOp.{UnaryOp}
-use Rattle.sc_base.specs.declared.op.UnaryOp.TheVariants as unary
+use Rattle.std.proofs.Common.{◌≡◌, refl, sym, subst, ℕ, ◌+◌, List, [], ◌∷◌, map, Option, Some, None, Result}
+use Rattle.std.specs.Prelude.{true, false}
 use Rattle.sc_event.specs.declared.row.Entry.TheVariants.{Main}
 use Rattle.sc_core.specs.declared.cause.Cause.{Cause}
 use Rattle.sc_core.specs.declared.expr.CallTarget.{CallTarget}
 use Rattle.sc_core.specs.declared.expr.CallTarget.TheVariants.{Own, Cross, Input, Output}
 use Rattle.sc_core.specs.declared.value.Value.{Value}
-use Rattle.sc_core.specs.declared.value.Value.TheVariants.{Word, Null, Ptr}
 use Rattle.sc_core.specs.Memory.{Blocks, load}
-use Rattle.sc_core.specs.Value.{Arith, c_arith, wrapping, as_word, on_words, applied_one}
+use Rattle.sc_core.specs.Value.{Arith, c_arith, wrapping}
 use Rattle.sc_core.specs.Words.{Here, Reached, and_then, Next, Break, Continue, Return, leave, stored, choose, Calls}
 use Rattle.sc_core.specs.Calls.{functions_of}
 use Rattle.sc_core.specs.Scripts.{roles_in}
 use Rattle.sc_core.specs.Meaning.{closed}
 use Rattle.sc_laws.specs.Ends.{IsArithmetic}
 use Rattle.sc_laws.specs.Interactions.{FunctionsMatch, LibrariesMatch, Match, Never}
-use Rattle.sc_laws.proofs.Expressions.{ArithKeeps, Keeps, alike, bind_keeps}
+use Rattle.sc_laws.proofs.Expressions.{ArithKeeps, Keeps, alike, on_words_keep, one_keeps}
 use Rattle.sc_laws.proofs.Interactions.{MatchWith, match_reached, match_then, match_computed, match_store, match_call, match_if, match_leave, match_all, match_loop}
-use Rattle.sc_laws.proofs.Programs.{Each as Pairs, meets_at, itself_keeps}
+use Rattle.sc_laws.proofs.Programs.{Pairs, meets_at, lists_at, itself_keeps}
 use Rattle.sc_laws.proofs.ProgramLaws.{wrapped_agrees, wrapping_agrees}
 use Rattle.sc_laws.proofs.Statements.{closed_matches}
 use Rattle.sc_laws.proofs.Wrapping.{binary_fits, negated_fits}
@@ -36,15 +32,6 @@ use Rattle.sc_tac.specs.Laws.{CodeObeys, WrappedCodeAgrees}
 use Rattle.sc_tac.specs.Programs.{same_entry}
 use Rattle.sc_core.proofs.Induction.{Each, everywhere}
 use Rattle.sc_tac.proofs.Induction.{Inside, stmt_induction}
-
--- the functions of a section, beside those of the other
-functions_at : {A : Type 0} (Q : A → A → Type 0) (xss yss : List (List A)) (comp : ℕ) → Pairs (Pairs Q) xss yss →
-    Pairs Q (slice_index_or xss comp []) (slice_index_or yss comp [])
-functions_at Q [] [] comp h = tt
-functions_at Q [] (ys ∷ yss) comp h = absurd h
-functions_at Q (xs ∷ xss) [] comp h = absurd h
-functions_at Q (xs ∷ xss) (ys ∷ yss) zero h = h.0
-functions_at Q (xs ∷ xss) (ys ∷ yss) (suc comp) h = functions_at Q xss yss comp h.1
 
 module _ (Soft : Cause → Type 0) (here : Here) where
   abbrev CodesMatch : (Calls → Codes) → (Calls → Codes) → Type 0
@@ -110,30 +97,12 @@ module _ (Soft : Cause → Type 0) (here : Here) where
       match_leave Soft here (Return (Some v)) temps)
 
 module _ (Soft : Cause → Type 0) (ar br : Arith) (arith : ArithKeeps Soft ar br) where
-  word_keeps : (r r' : Result ℕ Cause) → Keeps Soft ℕ r r' → Keeps Soft Value (as_word r) (as_word r')
-  word_keeps r r' h = bind_keeps Soft ℕ Value r r' _ _ h (λ w. alike refl)
-
-  binary_keeps : (unsigned : Bool) (o : BinaryOp) (v w : Value) →
-      Keeps Soft Value (on_words ar unsigned o v w) (on_words br unsigned o v w)
-  binary_keeps unsigned o (Word a) (Word b) = word_keeps _ _ (arith.binary unsigned o a b)
-  binary_keeps unsigned o (Word a) Null = alike refl
-  binary_keeps unsigned o (Word a) (Ptr p) = alike refl
-  binary_keeps unsigned o Null w = alike refl
-  binary_keeps unsigned o (Ptr p) w = alike refl
-
-  unary_keeps : (unsigned : Bool) (o : UnaryOp) (v : Value) →
-      Keeps Soft Value (applied_one ar unsigned o v) (applied_one br unsigned o v)
-  unary_keeps unsigned unary.Minus (Word a) = word_keeps _ _ (arith.negated unsigned a)
-  unary_keeps unsigned unary.Minus Null = alike refl
-  unary_keeps unsigned unary.Minus (Ptr p) = alike refl
-  unary_keeps unsigned unary.Plus v = alike refl
-  unary_keeps unsigned unary.Not v = alike refl
-  unary_keeps unsigned unary.BitNot v = alike refl
-
   operated_keeps : (o : TacOp) (v w : Value) (blocks : Blocks) →
       Keeps Soft Value (operated ar blocks o v w) (operated br blocks o v w)
-  operated_keeps (tacop.Unary o scalar) v w blocks = unary_keeps (is_unsigned scalar) o v
-  operated_keeps (tacop.Binary o scalar) v w blocks = binary_keeps (is_unsigned scalar) o v w
+  operated_keeps (tacop.Unary o scalar) v w blocks =
+      one_keeps Soft ar br arith (is_unsigned scalar) o v
+  operated_keeps (tacop.Binary o scalar) v w blocks =
+      on_words_keep Soft ar br arith (is_unsigned scalar) o v w
   operated_keeps tacop.PointerNot v w blocks = alike refl
   operated_keeps (tacop.PointerMove true cells index) v w blocks = alike refl
   operated_keeps (tacop.PointerMove false cells index) v w blocks = alike refl
@@ -255,7 +224,7 @@ module _ (Soft : Cause → Type 0) (ar br : Arith) (arith : ArithKeeps Soft ar b
     functions =
         λ comp number. meets_at (FunctionsMatch Soft) (functions_of (code_library ar program) comp)
         (functions_of (code_library br program) comp) number
-        (functions_at (FunctionsMatch Soft) (code_library ar program).functions (code_library br program).functions
+        (lists_at (FunctionsMatch Soft) (code_library ar program).functions (code_library br program).functions
         comp (of_sections program.sections));
     entered = λ comp entry. refl;
   }

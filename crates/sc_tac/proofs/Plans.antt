@@ -17,6 +17,7 @@ use Rattle.sc_tac.specs.declared.function.TacFnTree.{TacFnTree}
 use Rattle.sc_tac.specs.declared.program.TacSection.{TacSection}
 use Rattle.sc_tac.specs.declared.program.TacTree.{TacTree}
 use Rattle.sc_tac.specs.declared.stmt.TacStmt.{TacStmt-F}
+use Rattle.sc_tac.specs.Branches.{branch_step, branches}
 use Rattle.sc_tac.specs.Code.{Codes, no_temps, code_step, code_function, code_functions, code_library, code_globals, code_meaning_by, scripted_code_by}
 use Rattle.sc_tac.specs.Flow.{Reading, reading_step, row_first, row_fresh, nothing_ahead, is_assigned_first, all_assigned_first}
 use Rattle.sc_tac.specs.Functions.{some_hold, has_none}
@@ -58,12 +59,18 @@ section sheet = record { structs = []; globals = sheet.globals; functions = map 
 abbrev pub program : Interfaces → List Sheet → TacTree
 program interfaces sheets = record { interfaces = interfaces; sections = map section sheets }
 
--- the weight, the tests and the paths of a shape
+-- the weight, the branches, the tests and the paths of a shape
 abbrev pub shape_weight : Shape → ℕ
 shape_weight x = total (rows ℕ weight_step x)
 
 pub weight_is : (x : Shape) → weight (stmts x) ≡ shape_weight x
 weight_is x = ap total (rows_are ℕ weight_step x)
+
+abbrev pub shape_branches : Shape → ℕ
+shape_branches x = total (rows ℕ branch_step x)
+
+pub branches_are : (x : Shape) → branches (stmts x) ≡ shape_branches x
+branches_are x = ap total (rows_are ℕ branch_step x)
 
 abbrev pub shape_passes : (TacStmt-F Bool → Bool) → Shape → Bool
 shape_passes test x = all_hold (rows Bool (with_parts test) x)

@@ -17,8 +17,10 @@ use Rattle.sc_tac.specs.declared.stmt.Constant.TheVariants as constant
 use Rattle.sc_tac.specs.declared.stmt.TacOp.TheVariants as tacop
 use Rattle.sc_tac.specs.declared.stmt.TacStmt.TheOpen as tac
 use Rattle.sc_tac.specs.Code.{code_meaning, code_wrapped, scripted_code_meaning}
-use Rattle.sc_tac.proofs.Shapes.{Shape, Done, Line, Fork, Cycle}
-use Rattle.sc_tac.proofs.Plans.{Plan, Sheet, program, meaning_is, scripted_is}
+use Rattle.sc_tac.specs.Branches.{branches}
+use Rattle.sc_tac.specs.Weights.{weight}
+use Rattle.sc_tac.proofs.Shapes.{Shape, Done, Line, Fork, Cycle, stmts}
+use Rattle.sc_tac.proofs.Plans.{Plan, Sheet, branches_are, program, meaning_is, scripted_is, weight_is}
 
 abbrev pub word : ℕ → ℕ → Shape → Shape
 word dest w rest = Line (tac.Const dest (constant.Word w)) rest
@@ -90,6 +92,12 @@ skips_two =
     (word 6 2 (int_op op.Equal 7 5 6 (Fork 7 (Line tac.Continue Done) Done (fetched 8 0 (output 8 Done))))))
     (fetched 9 0 (word 10 1 (int_op op.Add 11 9 10 (put_into 0 12 11 Done))))
     (word 13 7 (give 13))))
+
+pub its_weight : weight (stmts skips_two) ≡ 174
+its_weight = weight_is skips_two
+
+pub its_branches : branches (stmts skips_two) ≡ 2
+its_branches = branches_are skips_two
 
 abbrev pub skipping : List Sheet
 skipping = one_function (main_with 14 (1 ∷ []) 20 skips_two)

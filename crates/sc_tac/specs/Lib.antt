@@ -1,3 +1,4 @@
+pub mod Branches
 pub mod Code
 pub mod Flow
 pub mod Functions

@@ -1,6 +1,7 @@
 //! Structured three-address code: between programs and the machine's instructions.
 #![tactic(auto)]
 
+mod branches;
 mod function;
 mod laws;
 mod program;
@@ -8,6 +9,7 @@ mod registers;
 mod stmt;
 #[cfg(test)]
 mod tests;
+mod weigh;
 
 pub use function::{ObjectCells, TacFn, TacFnTree, TacFns};
 pub use laws::{code_obeys, wrapped_code_agrees};

@@ -45,6 +45,8 @@ fn a_function(rt: HostRuntime) {
     let main = main_function(rt.alloc());
     assert!(rt; main.tree().entry == Some(Entry::Main));
     assert_eq!(rt; main.tree().nodes, 1);
+    assert_eq!(rt; main.weight(), 10);
+    assert_eq!(rt; main.branches(), 0);
     assert_eq!(rt; reg_count(), 18);
 }
 

@@ -1,0 +1,7 @@
+use Rattle.std.proofs.Common.{◌≡◌, ◌+◌, drop}
+use Rattle.sc_tac.specs.Branches.{branches}
+use Rattle.sc_tac.proofs.branches.+branches.Given as goal
+
+-- what is summed and what is left to sum is the sum of all
+abbrev pub invariant-branches-loop-stmt : goal.invariant-branches-loop-stmt
+invariant-branches-loop-stmt l = l.sum + branches (drop l.stmt-index l.stmt-items) ≡ branches l.stmts
