@@ -1,5 +1,5 @@
 -- Worked code that the rules allow, and code that each of them refuses.
-use Rattle.std.proofs.Common.{◌≡◌, ◌<◌, ◌≤◌, refl, sym, subst, ◌∙◌, arith, ◌+◌, ◌*◌, Bool, true, false, ◌&&◌, [], ◌∷◌, None, Some, IsTrue}
+use Rattle.std.proofs.Common.{ℕ, List, ◌≡◌, ◌<◌, ◌≤◌, refl, sym, subst, ◌∙◌, arith, ◌+◌, ◌*◌, Bool, true, false, ◌&&◌, [], ◌∷◌, None, Some, IsTrue}
 use Rattle.sc_base.specs.declared.op.BinaryOp.TheVariants as op
 use Rattle.sc_event.specs.declared.interface.Scalar.TheVariants as scalar
 use Rattle.sc_event.specs.declared.row.Entry.TheVariants.{Main, Export}
@@ -12,7 +12,7 @@ use Rattle.sc_tac.specs.Parts.{everywhere}
 use Rattle.sc_tac.specs.Programs.{IsProgram, names_own_global, calls_own, calls_exports, calls_imports, is_entered, entry_known}
 use Rattle.sc_tac.specs.Weights.{entry_weight, weight}
 use Rattle.sc_tac.proofs.Shapes.{Done, Line, Fork, Cycle, stmts}
-use Rattle.sc_tac.proofs.Plans.{Sheet, function, section, program, weight_is, shape_passes, everywhere_is, has_none_is, assigned_first_is, all_assigned_is}
+use Rattle.sc_tac.proofs.Plans.{Plan, Sheet, function, section, program, weight_is, shape_passes, everywhere_is, has_none_is, assigned_first_is, all_assigned_is}
 use Rattle.sc_tac.proofs.Runs.{word, output, give, alone, main_with, skips_two, int_global, across_interfaces, asking, answering, caller, callee, across}
 
 -- the loop with a `continue` keeps every rule
@@ -110,6 +110,29 @@ heavy_code kept =
 pub too_many_temporaries : (IsFunction (function (main_with 30 [] 20 Done))) → ⊥
 too_many_temporaries kept = let few : 30 ≤ 20 = kept.few_temps in omega (arith, few)
 
+-- a function without code of so many parameters, variables and nodes
+abbrev hollow : ℕ → List ℕ → ℕ → Plan
+hollow params objects nodes =
+    record {
+      comp = 0;
+      entry = None;
+      params = params;
+      result = false;
+      temps = 0;
+      objects = objects;
+      nodes = nodes;
+      body = Done;
+    }
+
+pub too_many_parameters : IsFunction (function (hollow 9 (1 ∷ 1 ∷ 1 ∷ 1 ∷ 1 ∷ 1 ∷ 1 ∷ 1 ∷ 1 ∷ []) 10)) → ⊥
+too_many_parameters kept = let few : 9 ≤ 8 = kept.few_params in omega (arith, few)
+
+pub a_parameter_without_variable : IsFunction (function (hollow 2 (1 ∷ []) 3)) → ⊥
+a_parameter_without_variable kept = let stored : 2 ≤ 1 = kept.params_stored in omega (arith, stored)
+
+pub too_many_nodes : IsFunction (function (hollow 0 [] 16777217)) → ⊥
+too_many_nodes kept = let few : 16777217 ≤ 16777216 = kept.few_nodes in omega (arith, few)
+
 -- what a program's statements name
 pub a_foreign_global : everywhere
     (names_own_global alone 0 (section (record { globals = int_global ∷ []; plans = [] })))
@@ -181,6 +204,16 @@ an_entry_of_no_export = refl
 
 pub another_main : entry_known across_interfaces 1 (Some Main) ≡ false
 another_main = refl
+
+-- the function of another compartment, no function that is `main`, and a compartment without section
+pub a_foreign_compartment : IsProgram (program across_interfaces (callee ∷ callee ∷ [])) → ⊥
+a_foreign_compartment kept = let own : false ≡ true = kept.numbers in absurd (cc)
+
+pub no_main : IsProgram (program alone (wide ∷ [])) → ⊥
+no_main kept = let there : false ≡ true = kept.main_there in absurd (cc)
+
+pub a_missing_section : IsProgram (program across_interfaces (caller ∷ [])) → ⊥
+a_missing_section kept = let same : 1 ≡ 2 = kept.sections in omega (arith, same)
 
 -- a test of the two functions of the call across
 within : (test other : TacStmt-F Bool → Bool) → shape_passes test asking ≡ true →
