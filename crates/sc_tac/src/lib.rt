@@ -7,8 +7,6 @@ mod laws;
 mod program;
 mod registers;
 mod stmt;
-#[cfg(test)]
-mod tests;
 mod weigh;
 
 pub use function::{ObjectCells, TacFn, TacFnTree, TacFns};

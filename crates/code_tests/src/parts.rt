@@ -1,5 +1,5 @@
-use crate::part;
 use sc_event::{Action, Args, CompId, Entry, Event, Row};
+use sc_script::part;
 use std::alloc::Global;
 use std::test::Fail;
 

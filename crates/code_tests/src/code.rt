@@ -2,13 +2,13 @@ ghost use Rattle.std.specs.Prelude.{◌≡◌, [], ◌∷◌, Some, codes, true,
 ghost use Rattle.sc_event.specs.declared.row.Entry.TheVariants.{Main};
 ghost use Rattle.sc_event.specs.declared.interface.Interfaces.{Interfaces};
 
-use crate::{
-    ObjectCells, Tac, TacFn, TacFnTree, TacFns, TacSection, TacSections, TacStmts, TacTree,
-    reg_count,
-};
 use sc_base::{Name, OutOfMemory};
 use sc_core::{TypedGlobals, TypedStructs};
 use sc_event::{CompId, Entry, Imports, Interface, InterfaceList, Interfaces, Protos};
+use sc_tac::{
+    ObjectCells, Tac, TacFn, TacFnTree, TacFns, TacSection, TacSections, TacStmts, TacTree,
+    reg_count,
+};
 use std::alloc::Global;
 use std::test::Fail;
 

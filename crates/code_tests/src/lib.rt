@@ -1,0 +1,7 @@
+//! Three-address code, and what a compartment does in a trace. This crate has tests alone.
+#![tactic(auto)]
+
+#[cfg(test)]
+mod code;
+#[cfg(test)]
+mod parts;
