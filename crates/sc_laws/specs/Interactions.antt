@@ -51,7 +51,8 @@ Doing V = Calls → State → Piece V
 abbrev pub GoFrom : ℕ → Calls → Type 0
 GoFrom comp by = (target : CallTarget) (args : List Value) → Goes (by comp target args)
 
--- with fewer turns than a number this is done as the tree of that number says
+-- with fewer turns than a number this is done as the tree of that number says: a loop takes a turn each round, so it has
+-- no more rounds than that
 pub record Plays {V : Type 0} (here : Here) (does : Doing V) (tree : ℕ → Interaction V) : Type 0 where
   pub lasts : (n : ℕ) → Lasts n (tree n)
   pub is : (n : ℕ) (by : Calls) → GoFrom here.comp by → (s : State) → s.turns < n →
@@ -90,6 +91,7 @@ module _ (Soft : Cause → Type 0) where
     pub room : g.room ≡ f.room
     pub does : (here : Here) → Match here (λ by. f.does by here) (λ by. g.does by here)
 
+  -- libraries whose functions match, one by one
   pub record LibrariesMatch (L M : Library) : Type 0 where
     pub interfaces : M.interfaces ≡ L.interfaces
     pub functions : (comp number : ℕ) → Meets FunctionsMatch (function L comp number) (function M comp number)
