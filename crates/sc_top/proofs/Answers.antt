@@ -22,7 +22,7 @@ use Rattle.sc_top.specs.declared.failure.Failure.TheVariants as failure
 use Rattle.sc_top.specs.declared.status.Status.{Status}
 use Rattle.sc_top.specs.declared.status.Status.TheVariants as status
 use Rattle.sc_top.specs.declared.status.TooLarge.{TooLarge}
-use Rattle.sc_top.specs.Answer.{Traffic, IsWhole, IsInput, Refuses, cause_in, FindsBad, IsUnfit, GivesUp, Says, IsUndisturbed, IsWithinLimit, IsWithin, IsAnswer, IsGood, Answers, SameAnswer}
+use Rattle.sc_top.specs.Answer.{Traffic, IsWhole, IsInput, Refuses, cause_in, FindsBad, IsUnfit, GivesUp, Says, IsUndisturbed, IsWithinLimit, IsWithin, IsAnswer, IsGoodText, IsGood, Answers, SameAnswer}
 use Rattle.sc_top.specs.Command.{limit_of}
 use Rattle.sc_top.specs.Failure.{status_by}
 use Rattle.sc_top.specs.Output.{compiles, HasImage, IsTextOutput, IsOutput}
@@ -30,13 +30,15 @@ use Rattle.sc_top.specs.Sizes.{too_large}
 use Rattle.sc_top.proofs.Lengths.{image_is_short}
 
 -- words that are no command are answered so
-pub no_command_by : {A : Type 0} (r : Result A Failure) → IsErrOf r failure.Usage ⊎ IsErrOf r failure.OutOfMemory → (status_by r ≡ status.Usage) ⊎ (status_by r ≡ status.OutOfMemory)
+pub no_command_by : {A : Type 0} (r : Result A Failure) → IsErrOf r failure.Usage ⊎ IsErrOf r failure.OutOfMemory →
+    (status_by r ≡ status.Usage) ⊎ (status_by r ≡ status.OutOfMemory)
 no_command_by r h = ⊎_elim (λ e. inl (ap status_by e)) (λ e. inr (ap status_by e)) h
 
 -- The one answer.
 
 -- all that was left is the text
-all_left : (limit : ℕ) (text bytes : List ℕ) (after : Option (List ℕ)) → IsWhole limit (Some text) after bytes → bytes ≡ text
+all_left : (limit : ℕ) (text bytes : List ℕ) (after : Option (List ℕ)) → IsWhole limit (Some text) after bytes →
+    bytes ≡ text
 all_left limit text bytes None w = absurd w.read
 all_left limit text bytes (Some rest) w =
     let taken : text ≡ bytes ++ rest = w.read in
@@ -49,7 +51,8 @@ as_long text bytes None taken = absurd taken
 as_long text bytes (Some rest) taken = omega (arith, length-append bytes rest, ap length taken)
 
 -- what a command read is the whole text, and within its limit; or it reads nothing
-input_at : (limit : Option ℕ) (text bytes : List ℕ) (after : Option (List ℕ)) → IsInput limit (Some text) after bytes → ((bytes ≡ text) × IsWithinLimit limit text) ⊎ (limit ≡ None)
+input_at : (limit : Option ℕ) (text bytes : List ℕ) (after : Option (List ℕ)) → IsInput limit (Some text) after bytes →
+    ((bytes ≡ text) × IsWithinLimit limit text) ⊎ (limit ≡ None)
 input_at None text bytes after input = inr refl
 input_at (Some limit) text bytes after input =
     let same = all_left limit text bytes after input in
@@ -70,30 +73,40 @@ reads_nothing (Run options) none = absurd (none-some 1048576 (sym none))
 reads_nothing (Explain options show) none = absurd (none-some 1048576 (sym none))
 reads_nothing (Exec options) none = absurd (none-some 67108864 (sym none))
 reads_nothing (Make options) none =
-    record { output = λ bytes text o. o; refuses = λ bytes r h. h; unfit = λ bytes fault u. false≢true u.compiled; bad = λ bytes cause h. h }
+    record {
+      output = λ bytes text o. o;
+      refuses = λ bytes r h. h;
+      unfit = λ bytes fault u. false≢true u.compiled;
+      bad = λ bytes cause h. h;
+    }
 
 within_none : (limit : Option ℕ) (text : List ℕ) → limit ≡ None → IsWithinLimit limit text
 within_none None text none = tt
 within_none (Some limit) text none = absurd (none-some limit (sym none))
 
 -- what held of the bytes that were read holds of the text
-read_at : (c : Command) (text : List ℕ) (after : Option (List ℕ)) (bytes : List ℕ) (Q : List ℕ → Type 0) → IsInput (limit_of c) (Some text) after bytes → Q bytes
+read_at : (c : Command) (text : List ℕ) (after : Option (List ℕ)) (bytes : List ℕ) (Q : List ℕ → Type 0) →
+    IsInput (limit_of c) (Some text) after bytes → Q bytes
     → (limit_of c ≡ None → Q bytes → Q text) → IsWithin c text × Q text
 read_at c text after bytes Q input holds else_ =
-    ⊎_elim (λ at. (at.1, subst Q at.0 holds)) (λ none. (within_none (limit_of c) text none, else_ none holds)) (input_at (limit_of c) text bytes after input)
+    ⊎_elim (λ at. (at.1, subst Q at.0 holds)) (λ none. (within_none (limit_of c) text none, else_ none holds))
+    (input_at (limit_of c) text bytes after input)
 
 gives_up_at : (c : Command) (text bytes : List ℕ) → limit_of c ≡ None → GivesUp c bytes → GivesUp c text
 gives_up_at c text bytes none h = inl none
 
 -- a status other than those of the outside is the text's answer
-pub answered : (c : Command) (t : Traffic) (text : List ℕ) (s : Status) → Says c t s → t.left ≡ Some text → IsUndisturbed t → IsAnswer c text s ⊎ (s ≡ status.OutOfMemory)
+pub answered : (c : Command) (t : Traffic) (text : List ℕ) (s : Status) → Says c t s → t.left ≡ Some text →
+    IsUndisturbed t → IsAnswer c text s ⊎ (s ≡ status.OutOfMemory)
 answered c t text s says is calm = go s says where
-  input_of : (bytes : List ℕ) → IsInput (limit_of c) t.left t.left_after bytes → IsInput (limit_of c) (Some text) t.left_after bytes
+  input_of : (bytes : List ℕ) → IsInput (limit_of c) t.left t.left_after bytes →
+      IsInput (limit_of c) (Some text) t.left_after bytes
   input_of bytes input = subst (λ l. IsInput (limit_of c) l t.left_after bytes) is input
 
   go : (s : Status) → Says c t s → IsAnswer c text s ⊎ (s ≡ status.OutOfMemory)
   go status.Done h =
-      inl (read_at c text t.left_after h.bytes (λ bytes. (out : List ℕ) × IsOutput c bytes out) (input_of h.bytes h.input) (h.holds.text, h.holds.output)
+      inl (read_at c text t.left_after h.bytes (λ bytes. (out : List ℕ) × IsOutput c bytes out)
+      (input_of h.bytes h.input) (h.holds.text, h.holds.output)
       (λ none o. absurd ((reads_nothing c none).output h.bytes o.0 o.1)))
   go status.Usage h = absurd h
   go (status.Refused refusal) h =
@@ -110,13 +123,15 @@ answered c t text s says is calm = go s says where
       inl (read_at c text t.left_after h.bytes (λ bytes. FindsBad c bytes cause) (input_of h.bytes h.input) h.holds
       (λ none o. absurd ((reads_nothing c none).bad h.bytes cause o)))
   go status.NotBuilt h =
-      inl (read_at c text t.left_after h.bytes (GivesUp c) (input_of h.bytes h.input) h.holds (gives_up_at c text h.bytes))
+      inl (read_at c text t.left_after h.bytes (GivesUp c) (input_of h.bytes h.input) h.holds
+      (gives_up_at c text h.bytes))
   go status.ReadFault h = absurd (calm.reads h)
   go status.WriteFault h = absurd (calm.writes h.0)
   go status.OutOfMemory h = inr refl
 
 -- a thin text is within the limit of each command that compiles
-pub thin_within : (c : Command) (text : List ℕ) (image : ImageParts) → IsTrue (compiles c) → HasImage text image → IsWithin c text
+pub thin_within : (c : Command) (text : List ℕ) (image : ImageParts) → IsTrue (compiles c) → HasImage text image →
+    IsWithin c text
 thin_within Check text image compiled has = absurd (false≢true compiled)
 thin_within (Meaning options) text image compiled has = absurd (false≢true compiled)
 thin_within (Exec options) text image compiled has = absurd (false≢true compiled)
@@ -132,14 +147,16 @@ image_within bytes is =
 -- the bytes of an image have no cause for being none
 image_bad : (bytes : List ℕ) (cause : ℕ) → IsImage bytes → cause_in bytes ≡ Some cause → ⊥
 image_bad bytes cause is b =
-    let good : bad bytes ≡ None = ap (λ (t : List ℕ). bad t) is.bytes_are ∙ ap cause_of (is_read_again is.image is.well_formed) in
+    let good : bad bytes ≡ None = ap (λ (t : List ℕ). bad t) is.bytes_are ∙ ap cause_of
+    (is_read_again is.image is.well_formed) in
     none-some cause (ap (λ found. option_map cause_number found) (sym good) ∙ b)
 
 same_some : {A : Type 0} (option : Option A) (x y : A) → option ≡ Some x → option ≡ Some y → x ≡ y
 same_some option x y e f = let p : ◌≡◌ {A = Option _} (Some x) (Some y) = sym e ∙ f in cc p
 
 -- within the limit, bytes are not too long
-not_both : (limit : Option ℕ) (text : List ℕ) (most : ℕ) → IsWithinLimit limit text → (limit ≡ Some most) × (most + 1 ≤ length text) → ⊥
+not_both : (limit : Option ℕ) (text : List ℕ) (most : ℕ) → IsWithinLimit limit text →
+    (limit ≡ Some most) × (most + 1 ≤ length text) → ⊥
 not_both None text most low long = none-some most long.0
 not_both (Some l) text most low long =
     let same : l ≡ most = same_some (Some l) l most refl long.0 in
@@ -151,6 +168,7 @@ record OfText (c : Command) (text : List ℕ) : Type 0 where
   pub refuses : (refusal : Refusal) → Refuses c text refusal → Fails text refusal.phase refusal.line
   pub good : (cause : ℕ) → FindsBad c text cause → ⊥
   pub reads : limit_of c ≡ None → ⊥
+  pub proper : IsGood c text → IsGoodText c text
 
 -- what `exec` says of an image
 record OfImage (c : Command) (bytes : List ℕ) : Type 0 where
@@ -159,25 +177,50 @@ record OfImage (c : Command) (bytes : List ℕ) : Type 0 where
   pub bad : (cause : ℕ) → FindsBad c bytes cause → cause_in bytes ≡ Some cause
   pub compiles : IsTrue (compiles c) → ⊥
   pub reads : limit_of c ≡ None → ⊥
+  pub proper : IsGood c bytes → IsImage bytes
 
 data Sort (c : Command) (bytes : List ℕ) : Type 0 where
   takes_text : OfText c bytes → Sort c bytes
   takes_image : OfImage c bytes → Sort c bytes
-  takes_nothing : Reads c → (IsTrue (compiles c) → ⊥) → Sort c bytes
+  takes_nothing : Reads c → (IsTrue (compiles c) → ⊥) → (IsGood c bytes → ⊥) → Sort c bytes
+
+text_sort : (c : Command) (text : List ℕ) → ((out : List ℕ) → IsOutput c text out → IsTextOutput c text out) →
+    ((r : Refusal) → Refuses c text r → Fails text r.phase r.line) → ((cause : ℕ) → FindsBad c text cause → ⊥) →
+    (limit_of c ≡ None → ⊥) → (IsGood c text → IsGoodText c text) → Sort c text
+text_sort c text output refuses good reads proper =
+    takes_text (record { output = output; refuses = refuses; good = good; reads = reads; proper = proper })
 
 sort : (c : Command) (bytes : List ℕ) → Sort c bytes
-sort Check bytes = takes_text (record { output = λ out o. o; refuses = λ r f. f; good = λ cause b. b; reads = λ none. none-some 8388608 (sym none) })
-sort (Meaning options) bytes = takes_text (record { output = λ out o. o; refuses = λ r f. f; good = λ cause b. b; reads = λ none. none-some 8388608 (sym none) })
-sort Compile bytes = takes_text (record { output = λ out o. o; refuses = λ r f. f; good = λ cause b. b; reads = λ none. none-some 1048576 (sym none) })
-sort (Run options) bytes = takes_text (record { output = λ out o. o; refuses = λ r f. f; good = λ cause b. b; reads = λ none. none-some 1048576 (sym none) })
-sort (Explain options show) bytes = takes_text (record { output = λ out o. o; refuses = λ r f. f; good = λ cause b. b; reads = λ none. none-some 1048576 (sym none) })
+sort Check bytes =
+    text_sort Check bytes (λ out o. o) (λ r f. f) (λ cause b. b) (λ none. none-some 8388608 (sym none)) (λ g. g)
+sort (Meaning options) bytes =
+    text_sort (Meaning options) bytes (λ out o. o) (λ r f. f) (λ cause b. b) (λ none. none-some 8388608 (sym none))
+    (λ g. g)
+sort Compile bytes =
+    text_sort Compile bytes (λ out o. o) (λ r f. f) (λ cause b. b) (λ none. none-some 1048576 (sym none)) (λ g. g)
+sort (Run options) bytes =
+    text_sort (Run options) bytes (λ out o. o) (λ r f. f) (λ cause b. b) (λ none. none-some 1048576 (sym none)) (λ g. g)
+sort (Explain options show) bytes =
+    text_sort (Explain options show) bytes (λ out o. o) (λ r f. f) (λ cause b. b)
+    (λ none. none-some 1048576 (sym none)) (λ g. g)
 sort (Exec options) bytes =
-    takes_image (record { output = λ out o. o.read; refuses = λ r f. f; bad = λ cause b. b; compiles = λ h. false≢true h; reads = λ none. none-some 67108864 (sym none) })
-sort (Make options) bytes = takes_nothing (reads_nothing (Make options) refl) (λ h. false≢true h)
+    takes_image (record {
+      output = λ out o. o.read;
+      refuses = λ r f. f;
+      bad = λ cause b. b;
+      compiles = λ h. false≢true h;
+      reads = λ none. none-some 67108864 (sym none);
+      proper = λ g. g;
+    })
+sort (Make options) bytes = takes_nothing (reads_nothing (Make options) refl) (λ h. false≢true h) (λ g. g)
 
-module _ (accepted_or_refused : (text : List ℕ) (program : ProgramTree) (phase : Phase) (line : ℕ) → Accepts text program → Fails text phase line → ⊥)
-    (one_phase : (text : List ℕ) (phase other : Phase) (line later : ℕ) → Fails text phase line → Fails text other later → (phase ≡ other) × ((phase ≡ Syntax → ⊥) → line ≡ later))
-    (one_program : (text : List ℕ) (program other : ProgramTree) → Accepts text program → Accepts text other → program ≡ other) where
+module _
+    (accepted_or_refused : (text : List ℕ) (program : ProgramTree) (phase : Phase) (line : ℕ) →
+    Accepts text program → Fails text phase line → ⊥)
+    (one_phase : (text : List ℕ) (phase other : Phase) (line later : ℕ) → Fails text phase line →
+    Fails text other later → (phase ≡ other) × ((phase ≡ Syntax → ⊥) → line ≡ later))
+    (one_program : (text : List ℕ) (program other : ProgramTree) →
+    Accepts text program → Accepts text other → program ≡ other) where
   -- good bytes have no cause
   record Sound (c : Command) (text : List ℕ) : Type 0 where
     pub refused : (refusal : Refusal) → Refuses c text refusal → ⊥
@@ -185,7 +228,8 @@ module _ (accepted_or_refused : (text : List ℕ) (program : ProgramTree) (phase
     pub bad : (cause : ℕ) → FindsBad c text cause → ⊥
     pub beyond : GivesUp c text → ⊥
 
-  sound_text : (c : Command) (text : List ℕ) (of : OfText c text) (program : ProgramTree) (image : ImageParts) → Accepts text program → (IsTrue (compiles c) → HasImage text image) → Sound c text
+  sound_text : (c : Command) (text : List ℕ) (of : OfText c text) (program : ProgramTree) (image : ImageParts) →
+      Accepts text program → (IsTrue (compiles c) → HasImage text image) → Sound c text
   sound_text c text of program image accepted compiled =
       record {
         refused = λ r f. accepted_or_refused text program r.phase r.line accepted (of.refuses r f);
@@ -209,66 +253,71 @@ module _ (accepted_or_refused : (text : List ℕ) (program : ProgramTree) (phase
     go : Sort c text → Sound c text
     go (takes_text of) = let d = of.output out o in sound_text c _ of d.program d.image d.accepted d.compiled
     go (takes_image of) = sound_image c _ of (of.output out o)
-    go (takes_nothing reads plain) = absurd (reads.output _ out o)
+    go (takes_nothing reads plain bare) = absurd (reads.output _ out o)
 
-  one_refusal : (c : Command) (text : List ℕ) (r q : Refusal) → Refuses c text r → Refuses c text q → SameAnswer (status.Refused r) (status.Refused q)
+  one_refusal : (c : Command) (text : List ℕ) (r q : Refusal) → Refuses c text r → Refuses c text q →
+      SameAnswer (status.Refused r) (status.Refused q)
   one_refusal c text r q f g = go (sort c text) where
     go : Sort c text → SameAnswer (status.Refused r) (status.Refused q)
     go (takes_text of) = one_phase _ r.phase q.phase r.line q.line (of.refuses r f) (of.refuses q g)
     go (takes_image of) = absurd (of.refuses r f)
-    go (takes_nothing reads plain) = absurd (reads.refuses _ r f)
+    go (takes_nothing reads plain bare) = absurd (reads.refuses _ r f)
 
   one_cause : (c : Command) (bytes : List ℕ) (n m : ℕ) → FindsBad c bytes n → FindsBad c bytes m → n ≡ m
   one_cause c bytes n m a b = go (sort c bytes) where
     go : Sort c bytes → n ≡ m
     go (takes_text of) = absurd (of.good n a)
     go (takes_image of) = same_some (cause_in bytes) n m (of.bad n a) (of.bad m b)
-    go (takes_nothing reads plain) = absurd (reads.bad _ n a)
+    go (takes_nothing reads plain bare) = absurd (reads.bad _ n a)
 
   -- a refused text isn't accepted, and bytes that are taken for an image are no text
-  refused_unfit : (c : Command) (text : List ℕ) (r : Refusal) (fault : TooLarge) → Refuses c text r → IsUnfit c text fault → ⊥
+  refused_unfit : (c : Command) (text : List ℕ) (r : Refusal) (fault : TooLarge) → Refuses c text r →
+      IsUnfit c text fault → ⊥
   refused_unfit c text r fault f u = go (sort c text) where
     go : Sort c text → ⊥
     go (takes_text of) = accepted_or_refused _ u.program r.phase r.line u.accepted (of.refuses r f)
     go (takes_image of) = of.refuses r f
-    go (takes_nothing reads plain) = reads.refuses _ r f
+    go (takes_nothing reads plain bare) = reads.refuses _ r f
 
   refused_bad : (c : Command) (text : List ℕ) (r : Refusal) (cause : ℕ) → Refuses c text r → FindsBad c text cause → ⊥
   refused_bad c text r cause f b = go (sort c text) where
     go : Sort c text → ⊥
     go (takes_text of) = of.good cause b
     go (takes_image of) = of.refuses r f
-    go (takes_nothing reads plain) = reads.refuses _ r f
+    go (takes_nothing reads plain bare) = reads.refuses _ r f
 
   refused_beyond : (c : Command) (text : List ℕ) (r : Refusal) → Refuses c text r → GivesUp c text → ⊥
   refused_beyond c text r f g = go (sort c text) where
     go : Sort c text → ⊥
-    go (takes_text of) = ⊎_elim of.reads (λ b. accepted_or_refused _ b.program r.phase r.line b.accepted (of.refuses r f)) g
+    go (takes_text of) =
+        ⊎_elim of.reads (λ b. accepted_or_refused _ b.program r.phase r.line b.accepted (of.refuses r f)) g
     go (takes_image of) = of.refuses r f
-    go (takes_nothing reads plain) = reads.refuses _ r f
+    go (takes_nothing reads plain bare) = reads.refuses _ r f
 
-  unfit_bad : (c : Command) (text : List ℕ) (fault : TooLarge) (cause : ℕ) → IsUnfit c text fault → FindsBad c text cause → ⊥
+  unfit_bad : (c : Command) (text : List ℕ) (fault : TooLarge) (cause : ℕ) → IsUnfit c text fault →
+      FindsBad c text cause → ⊥
   unfit_bad c text fault cause u b = go (sort c text) where
     go : Sort c text → ⊥
     go (takes_text of) = of.good cause b
     go (takes_image of) = of.compiles u.compiled
-    go (takes_nothing reads plain) = plain u.compiled
+    go (takes_nothing reads plain bare) = plain u.compiled
 
   unfit_beyond : (c : Command) (text : List ℕ) (fault : TooLarge) → IsUnfit c text fault → GivesUp c text → ⊥
   unfit_beyond c text fault u g = go (sort c text) where
     go : Sort c text → ⊥
     go (takes_text of) = ⊎_elim of.reads u.built g
     go (takes_image of) = of.compiles u.compiled
-    go (takes_nothing reads plain) = plain u.compiled
+    go (takes_nothing reads plain bare) = plain u.compiled
 
   bad_beyond : (c : Command) (text : List ℕ) (cause : ℕ) → FindsBad c text cause → GivesUp c text → ⊥
   bad_beyond c text cause b g = go (sort c text) where
     go : Sort c text → ⊥
     go (takes_text of) = of.good cause b
     go (takes_image of) = ⊎_elim of.reads (λ b. of.compiles b.compiled) g
-    go (takes_nothing reads plain) = reads.bad _ cause b
+    go (takes_nothing reads plain bare) = reads.bad _ cause b
 
-  one_unfit : (c : Command) (text : List ℕ) (fault other : TooLarge) → IsUnfit c text fault → IsUnfit c text other → fault ≡ other
+  one_unfit : (c : Command) (text : List ℕ) (fault other : TooLarge) → IsUnfit c text fault → IsUnfit c text other →
+      fault ≡ other
   one_unfit c text fault other u v =
       let same = one_program text u.program v.program u.accepted v.accepted in
       same_some (too_large v.program) fault other (subst (λ p. too_large p ≡ Some fault) same u.found) v.found
@@ -342,15 +391,14 @@ module _ (accepted_or_refused : (text : List ℕ) (program : ProgramTree) (phase
 
   -- good input has no answer but `Done`
   good_is_sound : (c : Command) (text : List ℕ) → IsGood c text → Sound c text
-  good_is_sound Check text g = sound_text Check text (record { output = λ out o. o; refuses = λ r f. f; good = λ cause b. b; reads = λ none. none-some 8388608 (sym none) }) g.program g.image g.accepted g.compiled
-  good_is_sound (Meaning options) text g = sound_text (Meaning options) text (record { output = λ out o. o; refuses = λ r f. f; good = λ cause b. b; reads = λ none. none-some 8388608 (sym none) }) g.program g.image g.accepted g.compiled
-  good_is_sound Compile text g = sound_text Compile text (record { output = λ out o. o; refuses = λ r f. f; good = λ cause b. b; reads = λ none. none-some 1048576 (sym none) }) g.program g.image g.accepted g.compiled
-  good_is_sound (Run options) text g = sound_text (Run options) text (record { output = λ out o. o; refuses = λ r f. f; good = λ cause b. b; reads = λ none. none-some 1048576 (sym none) }) g.program g.image g.accepted g.compiled
-  good_is_sound (Explain options show) text g = sound_text (Explain options show) text (record { output = λ out o. o; refuses = λ r f. f; good = λ cause b. b; reads = λ none. none-some 1048576 (sym none) }) g.program g.image g.accepted g.compiled
-  good_is_sound (Exec options) text g = sound_image (Exec options) text (record { output = λ out o. o.read; refuses = λ r f. f; bad = λ cause b. b; compiles = λ h. false≢true h; reads = λ none. none-some 67108864 (sym none) }) g
-  good_is_sound (Make options) text g = absurd g
+  good_is_sound c text g = go (sort c text) where
+    go : Sort c text → Sound c text
+    go (takes_text of) = let d = of.proper g in sound_text c _ of d.program d.image d.accepted d.compiled
+    go (takes_image of) = sound_image c _ of (of.proper g)
+    go (takes_nothing reads plain bare) = absurd (bare g)
 
-  only_done : (c : Command) (text : List ℕ) (s : Status) → Sound c text → IsWithin c text → IsAnswer c text s → s ≡ status.Done
+  only_done : (c : Command) (text : List ℕ) (s : Status) → Sound c text → IsWithin c text → IsAnswer c text s →
+      s ≡ status.Done
   only_done c text status.Done sound within a = refl
   only_done c text (status.Refused r) sound within a = absurd (sound.refused r a.1)
   only_done c text (status.TooLarge f) sound within a = absurd (sound.unfit f a.1)
@@ -362,12 +410,16 @@ module _ (accepted_or_refused : (text : List ℕ) (program : ProgramTree) (phase
   only_done c text status.WriteFault sound within a = absurd a
   only_done c text status.OutOfMemory sound within a = absurd a
 
-  pub completed : (c : Command) (t : Traffic) (text : List ℕ) (s : Status) → Says c t s → t.left ≡ Some text → IsUndisturbed t → IsWithin c text → IsGood c text → (s ≡ status.Done) ⊎ (s ≡ status.OutOfMemory)
+  pub completed : (c : Command) (t : Traffic) (text : List ℕ) (s : Status) → Says c t s → t.left ≡ Some text →
+      IsUndisturbed t → IsWithin c text → IsGood c text → (s ≡ status.Done) ⊎ (s ≡ status.OutOfMemory)
   completed c t text s says is calm within good =
-      ⊎_elim (λ answer. inl (only_done c text s (good_is_sound c text good) within answer)) inr (answered c t text s says is calm)
+      ⊎_elim (λ answer. inl (only_done c text s (good_is_sound c text good) within answer)) inr
+      (answered c t text s says is calm)
 
   -- all that an answer says
-  answers_all : (asked : Option Command) (t : Traffic) (s : Status) → (asked ≡ None → (s ≡ status.Usage) ⊎ (s ≡ status.OutOfMemory)) → ((c : Command) → asked ≡ Some c → Says c t s) → Answers asked t s
+  answers_all : (asked : Option Command) (t : Traffic) (s : Status) →
+      (asked ≡ None → (s ≡ status.Usage) ⊎ (s ≡ status.OutOfMemory)) → ((c : Command) → asked ≡ Some c → Says c t s) →
+      Answers asked t s
   answers_all asked t s no_command says =
       record {
         no_command = no_command;
@@ -377,6 +429,9 @@ module _ (accepted_or_refused : (text : List ℕ) (program : ProgramTree) (phase
       }
 
   -- the same of the call that gives the status
-  pub answers_by : {A : Type 0} (asked : Option Command) (t : Traffic) (r : Result A Failure) (s : Status) → s ≡ status_by r → (asked ≡ None → IsErrOf r failure.Usage ⊎ IsErrOf r failure.OutOfMemory) → ((c : Command) → asked ≡ Some c → Says c t (status_by r)) → Answers asked t s
+  pub answers_by : {A : Type 0} (asked : Option Command) (t : Traffic) (r : Result A Failure) (s : Status) →
+      s ≡ status_by r → (asked ≡ None → IsErrOf r failure.Usage ⊎ IsErrOf r failure.OutOfMemory) →
+      ((c : Command) → asked ≡ Some c → Says c t (status_by r)) → Answers asked t s
   answers_by asked t r s is no_command says =
-      subst (Answers asked t) (sym is) (answers_all asked t (status_by r) (λ none. no_command_by r (no_command none)) says)
+      subst (Answers asked t) (sym is)
+      (answers_all asked t (status_by r) (λ none. no_command_by r (no_command none)) says)

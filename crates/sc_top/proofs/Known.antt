@@ -32,47 +32,63 @@ within (x ∷ xs) zero lt = refl
 within (x ∷ xs) (suc n) lt = within xs n (omega arith)
 
 -- the main compartment is one of the image
-main_known : (image : ImageParts) → IsWellFormed image → IsSome (comp_at (interfaces_of image) (interfaces_of image).main)
+main_known : (image : ImageParts) → IsWellFormed image →
+    IsSome (comp_at (interfaces_of image) (interfaces_of image).main)
 main_known image formed =
-    within (interfaces_of image).comps image.main (subst (λ n. image.main < n) (sym (length-map image.comps interface_of)) formed.main)
+    within (interfaces_of image).comps image.main
+    (subst (λ n. image.main < n) (sym (length-map image.comps interface_of)) formed.main)
 
 -- a program has as many compartments as sections, and its main compartment is one of them
-as_many : (interfaces : Interfaces) (comp : ℕ) (comps : List Interface) (sections : List TypedSection) → IsTrue (sections_fit interfaces comp comps sections) → length comps ≡ length sections
+as_many : (interfaces : Interfaces) (comp : ℕ) (comps : List Interface) (sections : List TypedSection) →
+    IsTrue (sections_fit interfaces comp comps sections) → length comps ≡ length sections
 as_many interfaces comp [] [] fit = refl
 as_many interfaces comp [] (section ∷ sections) fit = absurd (false≢true fit)
 as_many interfaces comp (i ∷ comps) [] fit = absurd (false≢true fit)
 as_many interfaces comp (i ∷ comps) (section ∷ sections) fit =
     ap suc (as_many interfaces (suc comp) comps sections (and_parts _ _ (and_parts _ _ fit).1).1)
 
-main_there : (sections : List TypedSection) (main : ℕ) → IsTrue (main_fits (slice_get sections main)) → main < length sections
+main_there : (sections : List TypedSection) (main : ℕ) → IsTrue (main_fits (slice_get sections main)) →
+    main < length sections
 main_there [] main fit = absurd (false≢true fit)
 main_there (section ∷ sections) zero fit = omega arith
 main_there (section ∷ sections) (suc main) fit = let less = main_there sections main fit in omega (arith, less)
 
-program_main : (program : ProgramTree) → IsWellTyped program → IsSome (comp_at program.interfaces program.interfaces.main)
+program_main : (program : ProgramTree) → IsWellTyped program →
+    IsSome (comp_at program.interfaces program.interfaces.main)
 program_main program typed =
     let behind = (and_parts _ _ (and_parts _ _ typed).1).1 in
     let fit = (and_parts _ _ behind).0 in
     let main = (and_parts _ _ (and_parts _ _ behind).1).0 in
     within program.interfaces.comps program.interfaces.main
-    (subst (λ n. program.interfaces.main < n) (sym (as_many program.interfaces 0 program.interfaces.comps program.sections fit)) (main_there program.sections program.interfaces.main main))
+    (subst (λ n. program.interfaces.main < n)
+    (sym (as_many program.interfaces 0 program.interfaces.comps program.sections fit))
+    (main_there program.sections program.interfaces.main main))
 
 -- what a program shows is known by its names: such traces are legal
-pub meant_known : SourceTracesAreLegal → (options : MeaningOptions) (program : ProgramTree) → IsWellTyped program → All (IsKnown program.interfaces) (meant options program).trace
+pub meant_known : SourceTracesAreLegal → (options : MeaningOptions) (program : ProgramTree) → IsWellTyped program →
+    All (IsKnown program.interfaces) (meant options program).trace
 meant_known legal options program typed =
-    legal_is_known program.interfaces (meant options program).trace (program_main program typed) (legal.meaning c_arith program (map word_of options.inputs) options.turns options.events)
+    legal_is_known program.interfaces (meant options program).trace (program_main program typed)
+    (legal.meaning c_arith program (map word_of options.inputs) options.turns options.events)
 
 -- what the machine shows on an image is known by the image's names: such traces are legal
-pub shown_known : TracesAreLegal → (options : RunOptions) (image : ImageParts) → IsWellFormed image → All (IsKnown (interfaces_of image)) (shown options image).state.trace
+pub shown_known : TracesAreLegal → (options : RunOptions) (image : ImageParts) → IsWellFormed image →
+    All (IsKnown (interfaces_of image)) (shown options image).state.trace
 shown_known legal options image formed =
-    legal_is_known (interfaces_of image) (shown options image).state.trace (main_known image formed) (legal image (map word_of options.inputs) options.steps options.events formed (All-map IsWord word_of options.inputs (λ i d within. word_of-lt (get_or options.inputs i d))))
+    legal_is_known (interfaces_of image) (shown options image).state.trace (main_known image formed)
+    (legal image (map word_of options.inputs) options.steps options.events formed
+    (All-map IsWord word_of options.inputs (λ i d within. word_of-lt (get_or options.inputs i d))))
 
 -- the run's text, from what was found of the run
-pub shown_text : {E : Type 0} (r : Result (List ℕ) E) (names : Interfaces) (options : RunOptions) (image : ImageParts) (trace : List Event) (stop : Stop)
-    → trace ≡ (shown options image).state.trace → stop ≡ (shown options image).stop → IfOk r (λ text. text ≡ run_text names trace stop) → IfOk r (λ text. text ≡ machine_text names options image)
+pub shown_text : {E : Type 0} (r : Result (List ℕ) E) (names : Interfaces) (options : RunOptions) (image : ImageParts)
+    (trace : List Event) (stop : Stop) →
+    trace ≡ (shown options image).state.trace → stop ≡ (shown options image).stop →
+    IfOk r (λ text. text ≡ run_text names trace stop) → IfOk r (λ text. text ≡ machine_text names options image)
 shown_text (Ok text) names options image trace stop events why told = told ∙ rw (events, why) refl
 shown_text (Err fault) names options image trace stop events why told = tt
 
 -- an image that was read and run
-pub executed : (options : RunOptions) (bytes text : List ℕ) (image : ImageParts) → bytes ≡ image_bytes image → IsWellFormed image → text ≡ machine_text (interfaces_of image) options image → IsExecuted options bytes text
-executed options bytes text image bytes_are formed told = record { read = record { image = image; well_formed = formed; bytes_are = bytes_are }; written = told }
+pub executed : (options : RunOptions) (bytes text : List ℕ) (image : ImageParts) → bytes ≡ image_bytes image →
+    IsWellFormed image → text ≡ machine_text (interfaces_of image) options image → IsExecuted options bytes text
+executed options bytes text image bytes_are formed told =
+    record { read = record { image = image; well_formed = formed; bytes_are = bytes_are }; written = told }

@@ -40,13 +40,19 @@ pub record HasTaken (most : ℕ) (left left' : Option (List ℕ)) (faults faults
 pub nothing_taken : (most : ℕ) (left : Option (List ℕ)) (faults : ℕ) → HasTaken most left left faults faults []
 nothing_taken most left faults = record { taken = Takes-none left; within = omega arith; counted = omega arith }
 
-pub more_taken : (most : ℕ) (a b c : Option (List ℕ)) (f g h : ℕ) (text more : List ℕ) → HasTaken most a b f g text → Takes b c more → length text + length more ≤ most → g ≤ h → HasTaken most a c f h (text ++ more)
+pub more_taken : (most : ℕ) (a b c : Option (List ℕ)) (f g h : ℕ) (text more : List ℕ) → HasTaken most a b f g text →
+    Takes b c more → length text + length more ≤ most → g ≤ h → HasTaken most a c f h (text ++ more)
 more_taken most a b c f g h text more so_far taken within counted =
     let before = so_far.counted in
-    record { taken = Takes-more a b c text more so_far.taken taken; within = rw length-append within; counted = omega arith }
+    record {
+      taken = Takes-more a b c text more so_far.taken taken;
+      within = rw length-append within;
+      counted = omega arith;
+    }
 
 -- at the end of the input all was read
-pub all_taken : (limit : ℕ) (a b c : Option (List ℕ)) (f g : ℕ) (text : List ℕ) → HasTaken (limit + 1) a b f g text → Takes b c [] → IsAtEnd c → Fetches limit a c text
+pub all_taken : (limit : ℕ) (a b c : Option (List ℕ)) (f g : ℕ) (text : List ℕ) → HasTaken (limit + 1) a b f g text →
+    Takes b c [] → IsAtEnd c → Fetches limit a c text
 all_taken limit a b c f g text so_far taken ended =
     record {
       taken = subst (Takes a c) (append-nil text) (Takes-more a b c text [] so_far.taken taken);
@@ -55,8 +61,10 @@ all_taken limit a b c f g text so_far taken ended =
     }
 
 -- past the limit nothing is said of the rest
-pub enough_taken : (limit : ℕ) (a b : Option (List ℕ)) (f g : ℕ) (text : List ℕ) → HasTaken (limit + 1) a b f g text → limit + 1 ≤ length text → Fetches limit a b text
-enough_taken limit a b f g text so_far long = record { taken = so_far.taken; few = so_far.within; ended = λ short. absurd (omega arith) }
+pub enough_taken : (limit : ℕ) (a b : Option (List ℕ)) (f g : ℕ) (text : List ℕ) → HasTaken (limit + 1) a b f g text →
+    limit + 1 ≤ length text → Fetches limit a b text
+enough_taken limit a b f g text so_far long =
+    record { taken = so_far.taken; few = so_far.within; ended = λ short. absurd (omega arith) }
 
 -- so many of the bytes were written
 pub record HasAdded (bytes : List ℕ) (written written' : Option (List ℕ)) (faults faults' count : ℕ) : Type 0 where
@@ -64,10 +72,13 @@ pub record HasAdded (bytes : List ℕ) (written written' : Option (List ℕ)) (f
   pub added : Adds written written' (take count bytes)
   pub counted : faults ≤ faults'
 
-pub nothing_added : (bytes : List ℕ) (written : Option (List ℕ)) (faults : ℕ) → HasAdded bytes written written faults faults 0
+pub nothing_added : (bytes : List ℕ) (written : Option (List ℕ)) (faults : ℕ) →
+    HasAdded bytes written written faults faults 0
 nothing_added bytes written faults = record { within = omega arith; added = Adds-none written; counted = omega arith }
 
-pub more_added : (bytes : List ℕ) (a b c : Option (List ℕ)) (f g h count more : ℕ) → HasAdded bytes a b f g count → Adds b c (take more (take (length bytes - count) (drop count bytes))) → more ≤ length (take (length bytes - count) (drop count bytes)) → g ≤ h → HasAdded bytes a c f h (count + more)
+pub more_added : (bytes : List ℕ) (a b c : Option (List ℕ)) (f g h count more : ℕ) → HasAdded bytes a b f g count →
+    Adds b c (take more (take (length bytes - count) (drop count bytes))) →
+    more ≤ length (take (length bytes - count) (drop count bytes)) → g ≤ h → HasAdded bytes a c f h (count + more)
 more_added bytes a b c f g h count more so_far added within counted =
     let before = so_far.counted in
     let room = so_far.within in
@@ -80,11 +91,13 @@ more_added bytes a b c f g h count more so_far added within counted =
       counted = omega arith;
     }
 
-pub all_added : (bytes : List ℕ) (a b : Option (List ℕ)) (f g count : ℕ) → HasAdded bytes a b f g count → length bytes ≤ count → Adds a b bytes
+pub all_added : (bytes : List ℕ) (a b : Option (List ℕ)) (f g count : ℕ) → HasAdded bytes a b f g count →
+    length bytes ≤ count → Adds a b bytes
 all_added bytes a b f g count so_far whole = subst (Adds a b) (take_all count bytes whole) so_far.added
 
 -- where a write fails, what came before it is a front of the bytes
-pub cut_short : (bytes : List ℕ) (a b c : Option (List ℕ)) (f g h count : ℕ) → HasAdded bytes a b f g count → c ≡ b → Rose g h → Tells bytes a c f h
+pub cut_short : (bytes : List ℕ) (a b c : Option (List ℕ)) (f g h count : ℕ) → HasAdded bytes a b f g count → c ≡ b →
+    Rose g h → Tells bytes a c f h
 cut_short bytes a b c f g h count so_far same rose =
     record {
       front = take count bytes;
@@ -94,36 +107,56 @@ cut_short bytes a b c f g h count so_far same rose =
     }
 
 -- a text that was cut short is the front of a longer one
-first_cut : (a b : List ℕ) (w w' : Option (List ℕ)) (f f' : ℕ) → Tells a w w' f f' → Rose f f' → Tells (a ++ b) w w' f f'
+first_cut : (a b : List ℕ) (w w' : Option (List ℕ)) (f f' : ℕ) → Tells a w w' f f' → Rose f f' →
+    Tells (a ++ b) w w' f f'
 first_cut a b w w' f f' t rose =
     record {
       front = t.front;
-      begins = record { rest = t.begins.rest ++ b; joined = ap (λ x. x ++ b) t.begins.joined ∙ append_assoc t.front t.begins.rest b };
+      begins = record {
+        rest = t.begins.rest ++ b;
+        joined = ap (λ x. x ++ b) t.begins.joined ∙ append_assoc t.front t.begins.rest b;
+      };
       part = t.part;
       whole = inr rose;
     }
 
 -- behind a text that was written whole, the next is told
-then_told : (a b : List ℕ) (w u w' : Option (List ℕ)) (f g f' : ℕ) → Adds w u a → f ≤ g → Tells b u w' g f' → Tells (a ++ b) w w' f f'
+then_told : (a b : List ℕ) (w u w' : Option (List ℕ)) (f g f' : ℕ) → Adds w u a → f ≤ g → Tells b u w' g f' →
+    Tells (a ++ b) w w' f f'
 then_told a b w u w' f g f' added low t =
     record {
       front = a ++ t.front;
-      begins = record { rest = t.begins.rest; joined = ap (λ x. a ++ x) t.begins.joined ∙ sym (append_assoc a t.front t.begins.rest) };
+      begins = record {
+        rest = t.begins.rest;
+        joined = ap (λ x. a ++ x) t.begins.joined ∙ sym (append_assoc a t.front t.begins.rest);
+      };
       part = Adds-more w u w' a t.front added t.part;
       whole = ⊎_elim (λ same. inl (ap (λ x. a ++ x) same)) (λ rose. inr (rose_since f g f' low rose)) t.whole;
     }
 
 -- a text whose front was cut short, so that the call fails
-pub cut_wrote : {T E : Type 0} (text a b : List ℕ) (r : Result T E) (w w' : Option (List ℕ)) (f f' : ℕ) → text ≡ a ++ b → OnOk r ⊥ → Tells a w w' f f' → Rose f f' → f ≤ f' → Wrote text r w w' f f'
+pub cut_wrote : {T E : Type 0} (text a b : List ℕ) (r : Result T E) (w w' : Option (List ℕ)) (f f' : ℕ) →
+    text ≡ a ++ b → OnOk r ⊥ → Tells a w w' f f' → Rose f f' → f ≤ f' → Wrote text r w w' f f'
 cut_wrote text a b (Ok value) w w' f f' joined fails told rose low = absurd fails
 cut_wrote text a b (Err error) w w' f f' joined fails told rose low =
-    record { ok = tt; err = subst (λ t. Tells t w w' f f') (sym joined) (first_cut a b w w' f f' told rose); fault = rose; counted = low }
+    record {
+      ok = tt;
+      err = subst (λ t. Tells t w w' f f') (sym joined) (first_cut a b w w' f f' told rose);
+      fault = rose;
+      counted = low;
+    }
 
 -- a text whose front was written whole, and what is behind it by this call
-pub then_wrote : {T E : Type 0} (text a b : List ℕ) (r : Result T E) (w u w' : Option (List ℕ)) (f g f' : ℕ) → text ≡ a ++ b → Adds w u a → f ≤ g → Wrote b r u w' g f' → Wrote text r w w' f f'
+pub then_wrote : {T E : Type 0} (text a b : List ℕ) (r : Result T E) (w u w' : Option (List ℕ)) (f g f' : ℕ) →
+    text ≡ a ++ b → Adds w u a → f ≤ g → Wrote b r u w' g f' → Wrote text r w w' f f'
 then_wrote text a b (Ok value) w u w' f g f' joined added low wrote =
     let counted = wrote.counted in
-    record { ok = subst (Adds w w') (sym joined) (Adds-more w u w' a b added wrote.ok); err = tt; fault = tt; counted = omega (arith, counted, low) }
+    record {
+      ok = subst (Adds w w') (sym joined) (Adds-more w u w' a b added wrote.ok);
+      err = tt;
+      fault = tt;
+      counted = omega (arith, counted, low);
+    }
 then_wrote text a b (Err error) w u w' f g f' joined added low wrote =
     let counted = wrote.counted in
     record {
@@ -134,7 +167,8 @@ then_wrote text a b (Err error) w u w' f g f' joined added low wrote =
     }
 
 -- a call that failed to write all the bytes
-pub part_wrote : {T E : Type 0} (bytes : List ℕ) (r : Result T E) (a b c : Option (List ℕ)) (f g h count : ℕ) → OnOk r ⊥ → HasAdded bytes a b f g count → c ≡ b → Rose g h → g ≤ h → Wrote bytes r a c f h
+pub part_wrote : {T E : Type 0} (bytes : List ℕ) (r : Result T E) (a b c : Option (List ℕ)) (f g h count : ℕ) →
+    OnOk r ⊥ → HasAdded bytes a b f g count → c ≡ b → Rose g h → g ≤ h → Wrote bytes r a c f h
 part_wrote bytes (Ok value) a b c f g h count fails so_far same rose low = absurd fails
 part_wrote bytes (Err error) a b c f g h count fails so_far same rose low =
     let counted = so_far.counted in
@@ -146,8 +180,15 @@ part_wrote bytes (Err error) a b c f g h count fails so_far same rose low =
     }
 
 -- a text was told, whether or not the call failed
-pub told_by : {T E : Type 0} (text : List ℕ) (r : Result T E) (w w' : Option (List ℕ)) (f f' : ℕ) → Wrote text r w w' f f' → Tells text w w' f f'
-told_by text (Ok value) w w' f f' wrote = record { front = text; begins = record { rest = []; joined = sym (append-nil text) }; part = wrote.ok; whole = inl refl }
+pub told_by : {T E : Type 0} (text : List ℕ) (r : Result T E) (w w' : Option (List ℕ)) (f f' : ℕ) →
+    Wrote text r w w' f f' → Tells text w w' f f'
+told_by text (Ok value) w w' f f' wrote =
+    record {
+      front = text;
+      begins = record { rest = []; joined = sym (append-nil text) };
+      part = wrote.ok;
+      whole = inl refl;
+    }
 told_by text (Err error) w w' f f' wrote = wrote.err
 
 pub ruleset reading = (nothing_taken, more_taken, all_taken, enough_taken, rose_since)

@@ -52,24 +52,24 @@ IsInput (Some limit) left left_after bytes = IsWhole limit left left_after bytes
 IsInput None left left_after bytes = (bytes ≡ []) × (left_after ≡ left)
 
 -- the whole input was read, and this holds of its bytes
-pub record HasRead (command : Command) (t : Traffic) (Q : List ℕ → Type 0) : Type 0 where
+pub record HasRead (command : Command) (traffic : Traffic) (Q : List ℕ → Type 0) : Type 0 where
   pub bytes : List ℕ
-  pub input : IsInput (limit_of command) t.left t.left_after bytes
+  pub input : IsInput (limit_of command) traffic.left traffic.left_after bytes
   pub holds : Q bytes
 
 -- the text was written whole
-pub record HasWritten (command : Command) (t : Traffic) (bytes : List ℕ) : Type 0 where
+pub record HasWritten (command : Command) (traffic : Traffic) (bytes : List ℕ) : Type 0 where
   pub text : List ℕ
   pub output : IsOutput command bytes text
-  pub whole : Adds t.written t.written_after text
+  pub whole : Adds traffic.written traffic.written_after text
 
 -- a front of the text was written
-pub record HasBegun (command : Command) (t : Traffic) (bytes : List ℕ) : Type 0 where
+pub record HasBegun (command : Command) (traffic : Traffic) (bytes : List ℕ) : Type 0 where
   pub text : List ℕ
   pub front : List ℕ
   pub output : IsOutput command bytes text
   pub begins : IsFront front text
-  pub part : Adds t.written t.written_after front
+  pub part : Adds traffic.written traffic.written_after front
 
 -- Causes: why a command has no output for its input.
 
@@ -117,21 +117,22 @@ GivesUp command bytes = (limit_of command ≡ None) ⊎ IsBeyond command bytes
 
 -- with a command, what was read and written where it was answered so
 abbrev pub Says : Command → Traffic → Status → Type 0
-Says command t Done = HasRead command t (HasWritten command t)
-Says command t Usage = ⊥
-Says command t (Refused refusal) = HasRead command t (λ bytes. Refuses command bytes refusal)
-Says command t (TooLarge fault) = HasRead command t (λ bytes. IsUnfit command bytes fault)
-Says command t (TooLong limit) = (limit_of command ≡ Some limit) × IsLonger limit t.left t.left_after
-Says command t (BadImage cause) = HasRead command t (λ bytes. FindsBad command bytes cause)
-Says command t ReadFault = Rose t.read_faults t.read_faults_after
-Says command t WriteFault = Rose t.write_faults t.write_faults_after × HasRead command t (HasBegun command t)
-Says command t OutOfMemory = Unit {0}
-Says command t NotBuilt = HasRead command t (GivesUp command)
+Says command traffic Done = HasRead command traffic (HasWritten command traffic)
+Says command traffic Usage = ⊥
+Says command traffic (Refused refusal) = HasRead command traffic (λ bytes. Refuses command bytes refusal)
+Says command traffic (TooLarge fault) = HasRead command traffic (λ bytes. IsUnfit command bytes fault)
+Says command traffic (TooLong limit) = (limit_of command ≡ Some limit) × IsLonger limit traffic.left traffic.left_after
+Says command traffic (BadImage cause) = HasRead command traffic (λ bytes. FindsBad command bytes cause)
+Says command traffic ReadFault = Rose traffic.read_faults traffic.read_faults_after
+Says command traffic WriteFault =
+    Rose traffic.write_faults traffic.write_faults_after × HasRead command traffic (HasBegun command traffic)
+Says command traffic OutOfMemory = Unit {0}
+Says command traffic NotBuilt = HasRead command traffic (GivesUp command)
 
 -- no read and no write failed
-pub record IsUndisturbed (t : Traffic) : Type 0 where
-  pub reads : Rose t.read_faults t.read_faults_after → ⊥
-  pub writes : Rose t.write_faults t.write_faults_after → ⊥
+pub record IsUndisturbed (traffic : Traffic) : Type 0 where
+  pub reads : Rose traffic.read_faults traffic.read_faults_after → ⊥
+  pub writes : Rose traffic.write_faults traffic.write_faults_after → ⊥
 
 -- no more bytes than the command takes
 abbrev pub IsWithinLimit : Option ℕ → List ℕ → Type 0
@@ -178,16 +179,18 @@ abbrev pub IsSilent : Option Command → Type 0
 IsSilent asked = option_and_then limit_of asked ≡ None
 
 -- what a call answered, asked for a command or none
-pub record Answers (asked : Option Command) (t : Traffic) (status : Status) : Type 0 where
+pub record Answers (asked : Option Command) (traffic : Traffic) (status : Status) : Type 0 where
   -- words that are no command are answered so
   pub no_command : asked ≡ None → (status ≡ Usage) ⊎ (status ≡ OutOfMemory)
   -- with a command, the status says what was read and written
-  pub says : (command : Command) → asked ≡ Some command → Says command t status
+  pub says : (command : Command) → asked ≡ Some command → Says command traffic status
   -- bytes that the source tells have their one answer, unless memory runs out or the outside fails
-  pub answered : (command : Command) (bytes : List ℕ) → asked ≡ Some command → t.left ≡ Some bytes → IsUndisturbed t →
+  pub answered : (command : Command) (bytes : List ℕ) → asked ≡ Some command → traffic.left ≡ Some bytes →
+      IsUndisturbed traffic →
       IsAnswer command bytes status ⊎ (status ≡ OutOfMemory)
   -- and good input is answered `Done`
-  pub complete : (command : Command) (bytes : List ℕ) → asked ≡ Some command → t.left ≡ Some bytes → IsUndisturbed t →
+  pub complete : (command : Command) (bytes : List ℕ) → asked ≡ Some command → traffic.left ≡ Some bytes →
+      IsUndisturbed traffic →
       IsWithin command bytes → IsGood command bytes → (status ≡ Done) ⊎ (status ≡ OutOfMemory)
 
 -- two answers are the same; which line of a section phase Syntax refuses isn't told

@@ -8,11 +8,14 @@ use Rattle.sc_top.proofs.exec.execute.Goals as goal
 pub machine_text-requires : goal.machine_text-requires
 machine_text-requires c =
     let image = c.in_ok-image.image in
-    subst (λ (names : Interfaces). All (IsKnown names) (shown c.args.options.now image).state.trace) (sym c.in_ok-names.ensures)
+    subst (λ (names : Interfaces). All (IsKnown names) (shown c.args.options.now image).state.trace)
+    (sym c.in_ok-names.ensures)
     (shown_known c.traces_are_legal.ensures c.args.options.now image c.parts-parts.ensures.well_formed)
 
 pub returns-clause-ok : goal.returns-clause-ok
 returns-clause-ok c =
     let image = c.in_ok-image.image in
-    let told = c.in_ok-machine_text.ensures ∙ ap (λ (names : Interfaces). machine_text names c.args.options.now image) c.in_ok-names.ensures in
-    executed c.args.options.now c.args.bytes.now c.in_ok-machine_text.field-0 image c.in_ok-image.ensures.image c.parts-parts.ensures.well_formed told
+    let told = c.in_ok-machine_text.ensures ∙
+    ap (λ (names : Interfaces). machine_text names c.args.options.now image) c.in_ok-names.ensures in
+    executed c.args.options.now c.args.bytes.now c.in_ok-machine_text.field-0 image c.in_ok-image.ensures.image
+    c.parts-parts.ensures.well_formed told

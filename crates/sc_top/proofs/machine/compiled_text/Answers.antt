@@ -17,5 +17,6 @@ machine_text-requires c =
 
 pub returns-clause-text : goal.returns-clause-text
 returns-clause-text c =
-    subst (λ (image : ImageParts). IfOk c.machine_text.result (λ text. text ≡ machine_text c.args.names.now c.args.options.now image))
+    subst (λ (image : ImageParts). IfOk c.machine_text.result
+    (λ text. text ≡ machine_text c.args.names.now c.args.options.now image))
     c.in_ok-image.ensures.image c.machine_text.ensures

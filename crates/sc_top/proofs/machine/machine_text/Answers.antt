@@ -16,4 +16,5 @@ returns c =
     search (rules, c.trace.ensures, c.run-stop.ensures, c.load.ensures, c.map_err.ensures, c.in_ok-machine.ensures, c.in_ok-machine.was) in
     let stop : c.run-stop.result ≡ (shown c.args.options.now c.args.image).stop =
     search (rules, c.trace.ensures, c.run-stop.ensures, c.load.ensures, c.map_err.ensures, c.in_ok-machine.ensures, c.in_ok-machine.was) in
-    shown_text c.run_text.result c.args.names.now c.args.options.now c.args.image c.trace.result.now c.run-stop.result trace stop c.run_text.ensures
+    shown_text c.run_text.result c.args.names.now c.args.options.now c.args.image c.trace.result.now c.run-stop.result
+    trace stop c.run_text.ensures

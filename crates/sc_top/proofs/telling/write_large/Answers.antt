@@ -8,7 +8,8 @@ returns-in_err-write_owner g c =
     let kind = c.in_ok-write_text.ensures in
     let owner = c.in_err-write_owner.ensures in
     let number = decimal (bytes_of c.args.fault.now) ++ codes "\n" in
-    then_wrote _ c.kind_text.result.now _ c.from_residual-in_err-write_owner.result _ _ _ _ _ _ (ap (λ k. k ++ (owner_text c.args.fault.now ++ number)) (sym c.kind_text.ensures)) kind.ok kind.counted
+    then_wrote _ c.kind_text.result.now _ c.from_residual-in_err-write_owner.result _ _ _ _ _ _
+    (ap (λ k. k ++ (owner_text c.args.fault.now ++ number)) (sym c.kind_text.ensures)) kind.ok kind.counted
     (cut_wrote _ _ number _ _ _ _ _ refl (search rules) owner.err owner.fault owner.counted)
 
 pub returns : goal.returns
@@ -16,5 +17,8 @@ returns g c =
     let kind = c.in_ok-write_text.ensures in
     let owner = c.in_ok-write_owner.ensures in
     let number = decimal (bytes_of c.args.fault.now) ++ codes "\n" in
-    then_wrote _ c.kind_text.result.now _ c.write_number.result _ _ _ _ _ _ (ap (λ k. k ++ (owner_text c.args.fault.now ++ number)) (sym c.kind_text.ensures)) kind.ok kind.counted
-    (then_wrote _ (owner_text c.args.fault.now) _ _ _ _ _ _ _ _ (ap (λ n. owner_text c.args.fault.now ++ (decimal n ++ codes "\n")) (sym c.bytes_of.ensures)) owner.ok owner.counted c.write_number.ensures)
+    then_wrote _ c.kind_text.result.now _ c.write_number.result _ _ _ _ _ _
+    (ap (λ k. k ++ (owner_text c.args.fault.now ++ number)) (sym c.kind_text.ensures)) kind.ok kind.counted
+    (then_wrote _ (owner_text c.args.fault.now) _ _ _ _ _ _ _ _
+    (ap (λ n. owner_text c.args.fault.now ++ (decimal n ++ codes "\n"))
+    (sym c.bytes_of.ensures)) owner.ok owner.counted c.write_number.ensures)

@@ -5,8 +5,10 @@ use Rattle.sc_top.proofs.text.read_thin_text.Goals as goal
 
 pub returns-in-Some-clause-thin : goal.returns-in-Some-clause-thin
 returns-in-Some-clause-thin c =
-    thin_program c.thin_texts_are_accepted.ensures c.one_program.ensures c.args.bytes.now c.in_ok-source.source.program c.in-Some.thin
-    c.in_ok-source.ensures.accepted.1 (subst (λ found. IfSome found (IsThin c.args.bytes.now)) c.in-Some.is c.in_ok-thin.ensures.thin)
+    thin_program c.thin_texts_are_accepted.ensures c.one_program.ensures c.args.bytes.now c.in_ok-source.source.program
+    c.in-Some.thin
+    c.in_ok-source.ensures.accepted.1
+    (subst (λ found. IfSome found (IsThin c.args.bytes.now)) c.in-Some.is c.in_ok-thin.ensures.thin)
 
 pub returns-in-None-clause-cause : goal.returns-in-None-clause-cause
 returns-in-None-clause-cause c =

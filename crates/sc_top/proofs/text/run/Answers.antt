@@ -15,7 +15,9 @@ returns-in_err-text-clause-cause c =
 pub returns-clause-ok : goal.returns-clause-ok
 returns-clause-ok c =
     let text = c.in_ok-text.text in
-    let named = c.interfaces-names.ensures ∙ ap (λ (program : ProgramTree). program.interfaces) c.program.ensures.program in
+    let named = c.interfaces-names.ensures ∙
+    ap (λ (program : ProgramTree). program.interfaces) c.program.ensures.program in
     let told = ap (λ (names : Interfaces). machine_text names c.args.options.now (thin_image text.thin)) named in
-    thin_output (Run c.args.options.now) c.args.bytes.now c.in_ok-compiled_text.field-0 text.source.program text.thin c.in_ok-text.ensures.thin
+    thin_output (Run c.args.options.now) c.args.bytes.now c.in_ok-compiled_text.field-0 text.source.program text.thin
+    c.in_ok-text.ensures.thin
     (c.in_ok-compiled_text.ensures.text ∙ told) tt
