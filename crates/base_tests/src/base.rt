@@ -1,4 +1,4 @@
-use sc_base::{Name, NameTable, OutOfMemory, Text, is_reserved};
+use sc_base::{FirstByName, Name, NameList, NameTable, OutOfMemory, Text, is_reserved};
 use std::test::Fail;
 
 #[test]
@@ -29,6 +29,36 @@ fn names_are_numbered(rt: HostRuntime) -> Result<(), Fail> {
     assert!(rt; table.insert(first)?.is_none());
     assert!(rt; table.number_of(&second) == Some(1));
     assert!(rt; table.number_of(&third).is_none());
+    Ok(())
+}
+
+#[test]
+fn a_name_may_stand_twice_in_a_list(rt: HostRuntime) -> Result<(), Fail> {
+    let first = Name::new(b"first").ok_or("no name")?;
+    let second = Name::new(b"second").ok_or("no name")?;
+    let third = Name::new(b"third").ok_or("no name")?;
+    let mut list = NameList::new(rt.alloc());
+    list.push(first)?;
+    list.push(first)?;
+    list.push(second)?;
+    assert!(rt; list.number_of(&first) == Some(0));
+    assert!(rt; list.number_of(&second) == Some(2));
+    assert!(rt; !list.contains(&third));
+    Ok(())
+}
+
+#[test]
+fn a_name_keeps_its_first_value(rt: HostRuntime) -> Result<(), Fail> {
+    let first = Name::new(b"first").ok_or("no name")?;
+    let second = Name::new(b"second").ok_or("no name")?;
+    let third = Name::new(b"third").ok_or("no name")?;
+    let mut values = FirstByName::new(rt.alloc());
+    values.insert(first, 7_u32)?;
+    values.insert(second, 8)?;
+    values.insert(first, 9)?;
+    assert!(rt; values.get(&first).copied() == Some(7));
+    assert!(rt; values.get(&second).copied() == Some(8));
+    assert!(rt; values.get(&third).is_none());
     Ok(())
 }
 
