@@ -1,11 +1,12 @@
 -- What an import leads to is a function that may be called.
 use Rattle.std.proofs.Common.{◌≡◌, ℕ, ◌-◌, ◌*◌, ◌/◌, ◌%◌, ◌<◌, ◌≤◌, Bool, true, false, ◌&&◌, nat_eq, nat_le, if◌then◌else◌, List, length, map, get_or, Option, None, Some, refl, sym, ◌∙◌, ap, subst, arith, ⊎_elim, nat_lt}
-use Rattle.std.specs.Prelude.{◌==◌, position, IsSome}
+use Rattle.std.specs.Prelude.{◌==◌, IsSome}
 use Rattle.std.specs.List.{slice_get, position_or_len}
 use Rattle.std.proofs.lemmas.Bool.{eq-eqb, eqb-true, lt-ltb, leb-true, cases_lt}
 use Rattle.std.proofs.lemmas.List.{length-map, get_or-map}
 use Rattle.std.proofs.lemmas.Option.{slice_get_within, get_or_from_slice_get}
 use Rattle.std.proofs.lemmas.List.Sums.{passes_at_first, fails_before_first}
+use Rattle.sc_base.proofs.Lists.{position_of_only}
 use Rattle.sc_image.specs.declared.parts.ImageParts.{ImageParts}
 use Rattle.sc_image.specs.declared.parts.CompPart.{CompPart}
 use Rattle.sc_image.specs.declared.parts.ExportPart.{ExportPart}
@@ -16,21 +17,6 @@ use Rattle.sc_image.specs.Calls.{may_call}
 use Rattle.sc_machine.specs.Passing.{IsCallee}
 
 -- The first export at an entry is the one whose entry it is, since no two have the same.
-
-not_both : (b : Bool) → b ≡ true → b ≡ false → ⊥
-not_both b holds fails = let never : true ≡ false = sym holds ∙ fails in cc never
-
-first_is : {A : Type 0} (p : A → Bool) (xs : List A) (k : ℕ) (d : A) → k < length xs → p (get_or xs k d) ≡ true →
-    ((j : ℕ) → j < length xs → p (get_or xs j d) ≡ true → j ≡ k) → position p xs ≡ Some k
-first_is p xs k d within at only =
-    let not_later : position_or_len p xs ≤ k =
-    ⊎_elim (λ late. absurd (not_both (p (get_or xs k d)) at (fails_before_first p xs k d late))) (λ early. early) (cases_lt k (position_or_len p xs)) in
-    let there : position_or_len p xs < length xs = omega (arith, not_later, within) in
-    let same : position_or_len p xs ≡ k = only (position_or_len p xs) there (passes_at_first p xs d there) in
-    rw same (within_is k (length xs) within)
-  where
-    within_is : (n m : ℕ) → n < m → (if nat_lt n m then Some n else None) ≡ Some n
-    within_is n m h = rw (lt-ltb n m h) refl
 
 -- no two exports have one entry
 one_entry : (exports : List ExportPart) → IsDistinct (map (λ export. export.entry) exports) → (j k : ℕ) (d : ExportPart) → j < length exports → k < length exports →
@@ -81,7 +67,7 @@ imported image caller import comp export formed may at found =
       comp = home_of image import.comp export.entry short keeps.entry;
       within = slice_get_within image.comps import.comp comp at;
       index = rw at
-          (first_is (λ (e : ExportPart). e.entry == export.entry) comp.exports import.index export within (eq-eqb _ _ entry_is)
+          (position_of_only (λ (e : ExportPart). e.entry == export.entry) comp.exports import.index export within (eq-eqb _ _ entry_is)
           (λ j inside same. one_entry comp.exports rules.export_entries j import.index export inside within (eqb-true _ _ same ∙ sym entry_is)));
       params = rw (at, found) refl;
       few = keeps.params;
