@@ -8,7 +8,6 @@ use Rattle.std.specs.Str.Parse.{ParsesSigned, ParsesUnsigned, digits_value}
 use Rattle.std.proofs.lemmas.Bool.{and_parts}
 use Rattle.std.proofs.lemmas.Str.Parse.{IsNumeralModel, numerals_by_value, parse_plain, parse_signed_minus, parse_signed_plain, tells_all_ascii_digits}
 use Rattle.sc_words.specs.Numbers.{first_piece, in_front, integer, integer_list, integers, is_comma, number_within, onto_first, pieces, pieces_behind, when_within}
-use Rattle.std.proofs.lemmas.Bool.{and_parts}
 
 -- ---- numbers
 
