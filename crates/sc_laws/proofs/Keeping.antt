@@ -3,12 +3,11 @@
 use Rattle.std.proofs.Common.{◌≡◌, refl, sym, ap, subst, ℕ, zero, suc, ◌<◌, List, Option, None, Some, Result, Ok, Err, arith}
 use Rattle.sc_core.specs.declared.cause.Cause.{Cause}
 use Rattle.sc_core.specs.declared.expr.CallTarget.{CallTarget}
-use Rattle.sc_core.specs.declared.run.RunEnd.{RunEnd}
-use Rattle.sc_core.specs.declared.run.RunEnd.TheVariants.{Ended, Blamed, TurnsOut, EventsOut}
+use Rattle.sc_core.specs.declared.run.RunEnd.TheVariants.{Blamed}
 use Rattle.sc_core.specs.declared.value.Value.{Value}
 use Rattle.sc_core.specs.Memory.{Blocks, with_blocks}
 use Rattle.sc_core.specs.Words.{State, Here, Piece, Reached, Stopped, and_then, computed, turn_of, turn, Calls}
-use Rattle.sc_core.specs.Calls.{Function, Library, function, found}
+use Rattle.sc_core.specs.Calls.{Function, Library, function}
 use Rattle.sc_core.proofs.Keeping.{Property, Kept}
 use Rattle.sc_laws.specs.Agreement.{Meets}
 use Rattle.sc_laws.specs.Growth.{Grown, Gone}
