@@ -4,7 +4,6 @@ use Rattle.std.specs.Prelude.{bytes_eq, is_some}
 use Rattle.sc_core.specs.declared.cause.Cause.{Cause}
 use Rattle.sc_core.specs.declared.expr.CallTarget.{CallTarget}
 use Rattle.sc_core.specs.declared.expr.TypedExpr.{TypedExpr}
-use Rattle.sc_core.specs.declared.run.RunEnd.{RunEnd}
 use Rattle.sc_core.specs.declared.run.RunEnd.TheVariants.{Blamed, TurnsOut}
 use Rattle.sc_core.specs.declared.section.TypedStruct.{TypedStruct}
 use Rattle.sc_core.specs.declared.section.TypedLocal.{TypedLocal}
@@ -20,7 +19,7 @@ use Rattle.sc_core.specs.declared.value.Want.{Want}
 use Rattle.sc_core.specs.declared.value.Want.TheVariants as want
 use Rattle.sc_core.specs.Memory.{Blocks, with_blocks, store}
 use Rattle.sc_core.specs.Value.{Arith, is_true}
-use Rattle.sc_core.specs.Words.{State, Here, Piece, Reached, Stopped, and_then, computed, turn, Exit, Next, Break, Continue, Return, Left, Does, leave, Route, On, Out, in_order, in_loop, take, follow, all_do, rounds, loop, choose, Calls, stored, with_memory}
+use Rattle.sc_core.specs.Words.{State, Here, Piece, and_then, computed, turn, Exit, Next, Break, Continue, Return, Left, Does, leave, Route, On, Out, in_order, in_loop, take, follow, all_do, rounds, loop, choose, Calls, stored, with_memory}
 use Rattle.sc_core.specs.declared.expr.VarRef.TheVariants.{Local}
 use Rattle.sc_core.specs.Tree.{Ways, Acts, at_place, variable_at, values, given, store_at, assign, test, store_result, call, assign_call, call_alone, ways, simple_does, part_does, kind_step, stmt_step, stmt_does, block_does}
 use Rattle.sc_core.specs.Meaning.{main_name, at_brace, closed, init_does, inits_do, body_does, function_of}
