@@ -1,6 +1,7 @@
 pub mod Accounts
 pub mod Causes
 pub mod Induction
+pub mod Keeping
 pub mod Layers
 pub mod Measures
 pub mod Plans

@@ -26,7 +26,8 @@ use Rattle.sc_laws.specs.Runs.{roles_run}
 use Rattle.sc_laws.proofs.Growing.{BodyGoes, calls_go, within_goes}
 use Rattle.sc_laws.specs.Interactions.{Obedient}
 use Rattle.sc_laws.proofs.Matching.{scripted_goes_on}
-use Rattle.sc_laws.proofs.Keeping.{Property, Kept, IsKept, then_kept, found_kept, function_keeps}
+use Rattle.sc_core.proofs.Keeping.{Property, Kept, then_kept, found_kept}
+use Rattle.sc_laws.proofs.Keeping.{IsKept, function_keeps}
 
 module _ (set : Set) where
   -- an end that blames nobody of the set

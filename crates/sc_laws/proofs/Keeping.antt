@@ -3,12 +3,12 @@
 use Rattle.std.proofs.Common.{◌≡◌, refl, sym, ap, subst, ℕ, zero, suc, ◌<◌, List, Option, None, Some, Result, Ok, Err, arith}
 use Rattle.sc_core.specs.declared.cause.Cause.{Cause}
 use Rattle.sc_core.specs.declared.expr.CallTarget.{CallTarget}
-use Rattle.sc_core.specs.declared.run.RunEnd.{RunEnd}
-use Rattle.sc_core.specs.declared.run.RunEnd.TheVariants.{Ended, Blamed, TurnsOut, EventsOut}
+use Rattle.sc_core.specs.declared.run.RunEnd.TheVariants.{Blamed}
 use Rattle.sc_core.specs.declared.value.Value.{Value}
 use Rattle.sc_core.specs.Memory.{Blocks, with_blocks}
 use Rattle.sc_core.specs.Words.{State, Here, Piece, Reached, Stopped, and_then, computed, turn_of, turn, Calls}
-use Rattle.sc_core.specs.Calls.{Function, Library, function, found}
+use Rattle.sc_core.specs.Calls.{Function, Library, function}
+use Rattle.sc_core.proofs.Keeping.{Property, Kept}
 use Rattle.sc_laws.specs.Agreement.{Meets}
 use Rattle.sc_laws.specs.Growth.{Grown, Gone}
 use Rattle.sc_laws.proofs.Growing.{CallsGo}
@@ -17,31 +17,12 @@ use Rattle.sc_laws.specs.Interactions.{Never, Obedient}
 use Rattle.sc_laws.proofs.Libraries.{FunctionTwins, LibraryTwins}
 use Rattle.sc_laws.proofs.Matching.{library_twins}
 
--- what is kept: of the states at which a run goes on, and of those at which it stops
-pub record Property : Type 1 where
-  pub Goes : State → Type 0
-  pub Ends : RunEnd → State → Type 0
-
-module _ (K : Property) where
-  abbrev pub After : {V : Type 0} → Piece V → Type 0
-  After (Reached v s) = K.Goes s
-  After (Stopped end s) = K.Ends end s
-
--- a piece of a run keeps the property
-pub record Kept (K : Property) {V : Type 0} (piece : Piece V) : Type 0 where
-  pub after : After K piece
-
 -- what is to be shown of a property, for the functions of a compartment
 pub record IsKept (K : Property) (here : Here) : Type 0 where
   pub memory : (s : State) (blocks : Blocks) → K.Goes s →
       K.Goes (record s { memory = with_blocks here.comp blocks s.memory })
   pub turned : (s : State) → K.Goes s → Kept K (turn s)
   pub blamed : (s : State) (cause : Cause) (line : ℕ) → K.Goes s → K.Ends (Blamed here.comp cause line) s
-
-pub then_kept : (K : Property) {V W : Type 0} (piece : Piece V) (go : V → State → Piece W) → Kept K piece →
-    ((v : V) (s : State) → K.Goes s → Kept K (go v s)) → Kept K (and_then piece go)
-then_kept K (Reached v s) go h k = k v s h.after
-then_kept K (Stopped end s) go h k = record { after = h.after }
 
 -- calls from a compartment keep the property
 abbrev pub CallsKeep : Property → ℕ → Calls → Type 0
@@ -123,16 +104,3 @@ function_keeps library obedient comp number f is K here kept by goes keeps s at 
     obedient in
     keeps_here K here kept (function library comp number) (function library comp number) (twins.functions comp number) f
     is by goes keeps s at
-
--- how a piece of a run can stop: `Ended` is told of a whole run alone, and `EventsOut` of one that is stopped
-abbrev pub IsHalt : RunEnd → Type 0
-IsHalt Ended = ⊥
-IsHalt (Blamed comp cause line) = Unit {0}
-IsHalt TurnsOut = Unit {0}
-IsHalt EventsOut = ⊥
-
--- what is looked up is there, or the run stops
-pub found_kept : (K : Property) {V W : Type 0} (option : Option V) (s : State) (go : V → State → Piece W) →
-    K.Ends TurnsOut s → ((v : V) → option ≡ Some v → Kept K (go v s)) → Kept K (and_then (found option s) go)
-found_kept K None s go h k = record { after = h }
-found_kept K (Some v) s go h k = k v refl

@@ -32,7 +32,8 @@ use Rattle.sc_laws.proofs.Growing.{BodyGoes, StepGoes, calls_go, within_goes}
 use Rattle.sc_laws.specs.Interactions.{Obedient}
 use Rattle.sc_laws.specs.Runs.{library_run, roles_run}
 use Rattle.sc_laws.proofs.Matching.{run_goes_on, scripted_goes_on}
-use Rattle.sc_laws.proofs.Keeping.{Property, Kept, IsKept, then_kept, IsHalt, found_kept, function_keeps}
+use Rattle.sc_core.proofs.Keeping.{Property, Kept, then_kept, IsHalt, found_kept}
+use Rattle.sc_laws.proofs.Keeping.{IsKept, function_keeps}
 use Rattle.sc_laws.proofs.Runs.{trace_is}
 
 module _ (interfaces : Interfaces) where

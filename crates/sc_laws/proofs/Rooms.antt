@@ -25,7 +25,8 @@ use Rattle.sc_laws.specs.Rooms.{room_after, open_room, AllBefore}
 use Rattle.sc_laws.proofs.Growing.{BodyGoes, StepGoes, calls_go, within_goes}
 use Rattle.sc_laws.specs.Interactions.{Obedient}
 use Rattle.sc_laws.proofs.Matching.{run_goes_on, scripted_goes_on}
-use Rattle.sc_laws.proofs.Keeping.{Property, Kept, IsKept, then_kept, found_kept, function_keeps}
+use Rattle.sc_core.proofs.Keeping.{Property, Kept, then_kept, found_kept}
+use Rattle.sc_laws.proofs.Keeping.{IsKept, function_keeps}
 
 -- LISTS OF CHANGES
 

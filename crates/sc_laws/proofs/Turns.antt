@@ -20,7 +20,8 @@ use Rattle.sc_laws.specs.Interactions.{Obedient}
 use Rattle.sc_laws.specs.Turns.{IsSpent, main_call, StopsSpent, SpendsTurns}
 use Rattle.sc_laws.proofs.Growing.{BodyGoes, calls_go, within_goes}
 use Rattle.sc_laws.proofs.Matching.{run_goes_on}
-use Rattle.sc_laws.proofs.Keeping.{Property, Kept, IsKept, then_kept, function_keeps}
+use Rattle.sc_core.proofs.Keeping.{Property, Kept, then_kept}
+use Rattle.sc_laws.proofs.Keeping.{IsKept, function_keeps}
 
 -- an end for want of turns comes without any
 abbrev Spent : RunEnd → State → Type 0

@@ -1,5 +1,6 @@
 -- A run only goes on: it adds events to its trace, gives no turn, and stops by a blame or without turns.
-use Rattle.std.proofs.Common.{◌≡◌, refl, sym, ap, ◌∙◌, ℕ, zero, suc, ◌≤◌, ◌++◌, List, [], ◌∷◌, map, length, Option, None, Some, Bool, true, false, if◌then◌else◌, append_assoc, arith}
+use Rattle.sc_core.proofs.Keeping.{IsHalt, Kept, Property, found_kept, then_kept}
+use Rattle.std.proofs.Common.{◌≡◌, refl, sym, ap, ◌∙◌, ℕ, zero, suc, ◌≤◌, ◌++◌, List, [], ◌∷◌, map, length, Option, Some, Bool, true, false, if◌then◌else◌, append_assoc, arith}
 use Rattle.std.proofs.lemmas.List.{append-nil}
 use Rattle.sc_event.specs.declared.event.Event.{Event}
 use Rattle.sc_event.specs.declared.event.Event.TheVariants.{Call}
@@ -7,13 +8,12 @@ use Rattle.sc_event.specs.declared.row.Entry.TheVariants.{Export}
 use Rattle.sc_core.specs.declared.cause.Cause.TheVariants.{BadType}
 use Rattle.sc_core.specs.declared.expr.CallTarget.{CallTarget}
 use Rattle.sc_core.specs.declared.expr.CallTarget.TheVariants.{Own, Cross, Input, Output}
-use Rattle.sc_core.specs.declared.run.RunEnd.{RunEnd}
-use Rattle.sc_core.specs.declared.run.RunEnd.TheVariants.{Ended, Blamed, TurnsOut, EventsOut}
+use Rattle.sc_core.specs.declared.run.RunEnd.TheVariants.{Blamed}
 use Rattle.sc_core.specs.declared.value.Value.{Value}
 use Rattle.sc_core.specs.Growth.{Front}
 use Rattle.sc_core.specs.Words.{State, Here, Piece, Stopped, and_then, turn, turn_of, tell, Calls}
-use Rattle.sc_core.specs.Calls.{Function, Library, Body, function, begun, done, found, word_in, crossed, may_call, back_own, back_cross, run_in, call_own, call_cross, called, calls, run_step, within}
-use Rattle.sc_run.proofs.Keeping.{Property, Kept, IsKept, then_kept, CallsKeep}
+use Rattle.sc_core.specs.Calls.{Function, Library, Body, function, begun, done, word_in, crossed, may_call, back_own, back_cross, run_in, call_own, call_cross, called, calls, run_step, within}
+use Rattle.sc_run.proofs.Keeping.{IsKept, CallsKeep}
 
 grown_trans : {t u w : List Event} → Front t u → Front u w → Front t w
 grown_trans {t} {u} {w} a b =
@@ -24,13 +24,6 @@ grown_refl t = record { more = []; is = sym (append-nil t) }
 
 pub grown_tell : {t : List Event} (u : List Event) (e : Event) → Front t u → Front t (u ++ e ∷ [])
 grown_tell u e h = grown_trans h (record { more = e ∷ []; is = refl })
-
--- how a piece of a run can stop: `Ended` is told of a whole run alone, and `EventsOut` of one that is stopped
-abbrev pub IsHalt : RunEnd → Type 0
-IsHalt Ended = ⊥
-IsHalt (Blamed comp cause line) = Unit {0}
-IsHalt TurnsOut = Unit {0}
-IsHalt EventsOut = ⊥
 
 -- the trace begins with this one, and no more than n turns are left
 pub record IsAfter (t : List Event) (n : ℕ) (s : State) : Type 0 where
@@ -54,11 +47,6 @@ is_going t n here = record {
   blamed = λ s cause line h. (h.grown, tt);
   out = λ s h. (h.grown, tt);
 }
-
--- what is looked up is there, or the run stops
-found_kept : (K : Property) {V W : Type 0} (option : Option V) (s : State) (go : V → State → Piece W) → K.Ends TurnsOut s → ((v : V) → option ≡ Some v → Kept K (go v s)) → Kept K (and_then (found option s) go)
-found_kept K None s go h k = record { after = h }
-found_kept K (Some v) s go h k = k v refl
 
 -- a function whose pieces keep what its calls keep
 pub record IsOpen (f : Function) : Type 1 where

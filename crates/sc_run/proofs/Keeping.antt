@@ -4,7 +4,6 @@ use Rattle.std.specs.Prelude.{bytes_eq, is_some}
 use Rattle.sc_core.specs.declared.cause.Cause.{Cause}
 use Rattle.sc_core.specs.declared.expr.CallTarget.{CallTarget}
 use Rattle.sc_core.specs.declared.expr.TypedExpr.{TypedExpr}
-use Rattle.sc_core.specs.declared.run.RunEnd.{RunEnd}
 use Rattle.sc_core.specs.declared.run.RunEnd.TheVariants.{Blamed, TurnsOut}
 use Rattle.sc_core.specs.declared.section.TypedStruct.{TypedStruct}
 use Rattle.sc_core.specs.declared.section.TypedLocal.{TypedLocal}
@@ -20,26 +19,13 @@ use Rattle.sc_core.specs.declared.value.Want.{Want}
 use Rattle.sc_core.specs.declared.value.Want.TheVariants as want
 use Rattle.sc_core.specs.Memory.{Blocks, with_blocks, store}
 use Rattle.sc_core.specs.Value.{Arith, is_true}
-use Rattle.sc_core.specs.Words.{State, Here, Piece, Reached, Stopped, and_then, computed, turn, Exit, Next, Break, Continue, Return, Left, Does, leave, Route, On, Out, in_order, in_loop, take, follow, all_do, rounds, loop, choose, Calls, stored, with_memory}
+use Rattle.sc_core.specs.Words.{State, Here, Piece, and_then, computed, turn, Exit, Next, Break, Continue, Return, Left, Does, leave, Route, On, Out, in_order, in_loop, take, follow, all_do, rounds, loop, choose, Calls, stored, with_memory}
 use Rattle.sc_core.specs.declared.expr.VarRef.TheVariants.{Local}
 use Rattle.sc_core.specs.Tree.{Ways, Acts, at_place, variable_at, values, given, store_at, assign, test, store_result, call, assign_call, call_alone, ways, simple_does, part_does, kind_step, stmt_step, stmt_does, block_does}
 use Rattle.sc_core.specs.Meaning.{main_name, at_brace, closed, init_does, inits_do, body_does, function_of}
+use Rattle.sc_core.proofs.Keeping.{Property, Kept, then_kept}
 use Rattle.sc_core.proofs.Layers.{stmt_at, layer_of}
 use Rattle.sc_core.proofs.Induction.{Each, everywhere, Inside, stmt_induction}
-
--- what is kept: of the states at which a run goes on, and of those at which it stops
-pub record Property : Type 1 where
-  pub Goes : State → Type 0
-  pub Ends : RunEnd → State → Type 0
-
-module _ (K : Property) where
-  abbrev pub After : {V : Type 0} → Piece V → Type 0
-  After (Reached v s) = K.Goes s
-  After (Stopped end s) = K.Ends end s
-
--- a piece of a run keeps the property
-pub record Kept (K : Property) {V : Type 0} (piece : Piece V) : Type 0 where
-  pub after : After K piece
 
 -- what is to be shown of a property, for the functions of a compartment
 pub record IsKept (K : Property) (here : Here) : Type 0 where
@@ -47,10 +33,6 @@ pub record IsKept (K : Property) (here : Here) : Type 0 where
   pub turned : (s : State) → K.Goes s → Kept K (turn s)
   pub blamed : (s : State) (cause : Cause) (line : ℕ) → K.Goes s → K.Ends (Blamed here.comp cause line) s
   pub out : (s : State) → K.Goes s → K.Ends TurnsOut s
-
-pub then_kept : (K : Property) {V W : Type 0} (piece : Piece V) (go : V → State → Piece W) → Kept K piece → ((v : V) (s : State) → K.Goes s → Kept K (go v s)) → Kept K (and_then piece go)
-then_kept K (Reached v s) go h k = k v s h.after
-then_kept K (Stopped end s) go h k = record { after = h.after }
 
 abbrev pub DoesKeep : (K : Property) {A : Type 0} → Does A → Type 0
 DoesKeep K {A} does = (a : A) (s : State) → K.Goes s → Kept K (does a s)

@@ -1,4 +1,5 @@
 -- A run that stands somewhere only adds events, so it may be stopped at a number of events.
+use Rattle.sc_core.proofs.Keeping.{Kept, then_kept, IsHalt}
 use Rattle.std.proofs.Common.{◌≡◌, refl, sym, ap, ◌∙◌, subst, ℕ, suc, ◌≤◌, ◌<◌, ◌++◌, if◌then◌else◌, List, [], ◌∷◌, length, take, reverse, Option, None, Some, length-append, arith}
 use Rattle.std.specs.Prelude.{is_some, bytes_eq, ◌==◌, ◌&&◌}
 use Rattle.std.specs.Option.{option_copied}
@@ -18,8 +19,8 @@ use Rattle.sc_core.specs.Value.{c_arith}
 use Rattle.sc_core.specs.Words.{State, Piece, Reached, Stopped, and_then, Left, in_order, in_loop, follow}
 use Rattle.sc_core.specs.Calls.{back_own, done}
 use Rattle.sc_core.specs.Meaning.{main_name, run_to, exit_word}
-use Rattle.sc_run.proofs.Keeping.{Kept, then_kept, DoesKeep, CallsKeep, follow_kept, loop_kept, test_kept, block_kept, part_kept, closed_kept, store_result_kept}
-use Rattle.sc_run.proofs.Going.{going, is_going, IsHalt, IsAfter, grown_refl, grown_tell, after_tell}
+use Rattle.sc_run.proofs.Keeping.{DoesKeep, CallsKeep, follow_kept, loop_kept, test_kept, block_kept, part_kept, closed_kept, store_result_kept}
+use Rattle.sc_run.proofs.Going.{going, is_going, IsAfter, grown_refl, grown_tell, after_tell}
 use Rattle.sc_run.proofs.Looping.{calls_keep}
 use Rattle.sc_value.specs.Where.{here_of}
 use Rattle.sc_run.specs.declared.work.Frame.{Frame}

@@ -1,7 +1,8 @@
 -- A loop is a round and then the loop again.
+use Rattle.sc_core.proofs.Keeping.{Property, Kept}
 use Rattle.std.proofs.Common.{◌≡◌, refl, ℕ, zero, suc, ◌≤◌, ◌<◌, [], arith}
 use Rattle.sc_core.specs.Words.{State, Piece, Reached, Stopped, and_then, turn, turn_of, Left, Does, Route, On, Out, Exit, in_loop, take, follow, rounds, loop}
-use Rattle.sc_run.proofs.Keeping.{Property, Kept, DoesKeep}
+use Rattle.sc_run.proofs.Keeping.{DoesKeep}
 use Rattle.sc_run.proofs.Going.{IsAfter, going}
 
 -- any trace begins with the empty one

@@ -1,0 +1,38 @@
+-- Properties of states that pieces of a run keep.
+use Rattle.std.proofs.Common.{◌≡◌, refl, Option, None, Some}
+use Rattle.sc_core.specs.declared.run.RunEnd.{RunEnd}
+use Rattle.sc_core.specs.declared.run.RunEnd.TheVariants.{Ended, Blamed, TurnsOut, EventsOut}
+use Rattle.sc_core.specs.Words.{State, Piece, Reached, Stopped, and_then}
+use Rattle.sc_core.specs.Calls.{found}
+
+-- what is kept: of the states at which a run goes on, and of those at which it stops
+pub record Property : Type 1 where
+  pub Goes : State → Type 0
+  pub Ends : RunEnd → State → Type 0
+
+module _ (K : Property) where
+  abbrev pub After : {V : Type 0} → Piece V → Type 0
+  After (Reached v s) = K.Goes s
+  After (Stopped end s) = K.Ends end s
+
+-- a piece of a run keeps the property
+pub record Kept (K : Property) {V : Type 0} (piece : Piece V) : Type 0 where
+  pub after : After K piece
+
+pub then_kept : (K : Property) {V W : Type 0} (piece : Piece V) (go : V → State → Piece W) → Kept K piece →
+    ((v : V) (s : State) → K.Goes s → Kept K (go v s)) → Kept K (and_then piece go)
+then_kept K (Reached v s) go h k = k v s h.after
+then_kept K (Stopped end s) go h k = record { after = h.after }
+
+-- what is looked up is there, or the run stops
+pub found_kept : (K : Property) {V W : Type 0} (option : Option V) (s : State) (go : V → State → Piece W) →
+    K.Ends TurnsOut s → ((v : V) → option ≡ Some v → Kept K (go v s)) → Kept K (and_then (found option s) go)
+found_kept K None s go h k = record { after = h }
+found_kept K (Some v) s go h k = k v refl
+
+-- how a piece of a run can stop: `Ended` is told of a whole run alone, and `EventsOut` of one that is stopped
+abbrev pub IsHalt : RunEnd → Type 0
+IsHalt Ended = ⊥
+IsHalt (Blamed comp cause line) = Unit {0}
+IsHalt TurnsOut = Unit {0}
+IsHalt EventsOut = ⊥
