@@ -62,8 +62,8 @@ second_more a b c n h = omega (arith, h)
 third_more : (a b c n : ℕ) → a + (b + c) ≤ n → a + (b + suc c) ≤ suc n
 third_more a b c n h = omega (arith, h)
 
-none_more : (a b c n : ℕ) → a + (b + c) ≤ n → a + (b + c) ≤ suc n
-none_more a b c n h = omega (arith, h)
+no_more : (a b c n : ℕ) → a + (b + c) ≤ n → a + (b + c) ≤ suc n
+no_more a b c n h = omega (arith, h)
 
 none_of_none : 0 + (0 + 0) ≤ 0
 none_of_none = omega arith
@@ -78,7 +78,7 @@ kept_in (Global tree ∷ decls) =
     second_more (length (structs_in decls)) (length (globals_in decls)) (length (functions_in decls)) (length decls)
     (kept_in decls)
 kept_in (Proto head ∷ decls) =
-    none_more (length (structs_in decls)) (length (globals_in decls)) (length (functions_in decls)) (length decls)
+    no_more (length (structs_in decls)) (length (globals_in decls)) (length (functions_in decls)) (length decls)
     (kept_in decls)
 kept_in (Function tree ∷ decls) =
     third_more (length (structs_in decls)) (length (globals_in decls)) (length (functions_in decls)) (length decls)
