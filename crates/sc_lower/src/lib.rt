@@ -1,0 +1,2 @@
+//! From typed programs to three-address code: what is emitted, and that it means the same.
+#![tactic(auto)]
