@@ -43,6 +43,10 @@ pub record Lowered : Type 0 where
   pub ty : Ty
   pub form : Forms
 
+-- an expression on its own: its type, and its code at that type
+abbrev pub lowered_step : TypedExpr-F (Ty → Forms) Lowered → Lowered
+lowered_step e = record { ty = e.ty; form = e.kind e.ty }
+
 -- SHAPES
 -- a statement that assigns a temporary and reads none
 abbrev pub alone : (ℕ → TacStmt) → Lows
@@ -158,9 +162,6 @@ module _ (structs : List TypedStruct) where
     term_step (term.Arrow a offset) ty = at_place ty (member offset (a.form want.Value))
     term_step (term.Deref a) ty = at_place ty (a.form want.Value)
     term_step (term.Address a) ty = no_place (a.form want.Place)
-
-    abbrev pub lowered_step : TypedExpr-F (Ty → Forms) Lowered → Lowered
-    lowered_step e = record { ty = e.ty; form = e.kind e.ty }
 
     abbrev pub lowered : TypedExpr → Lowered
     lowered = fold-TypedExpr (Ty → Forms) Lowered term_step lowered_step

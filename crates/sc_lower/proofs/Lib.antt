@@ -1,0 +1,3 @@
+pub mod Expressions
+pub mod Gives
+pub mod Operators
