@@ -1,3 +1,5 @@
 pub mod Expressions
 pub mod Gives
+pub mod Matching
 pub mod Operators
+pub mod Statements
