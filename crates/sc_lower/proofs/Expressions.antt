@@ -46,7 +46,7 @@ module _ (arith : Arith) (here : Here) (calls : Calls) where
         Gives arith here calls n (l n).at t s (r (s.memory here.comp)) (run arith here calls (l n).code t s)
 
   -- what a statement gives that reads no temporary, one, or two
-  abbrev FromNone : (ℕ → TacStmt) → (Blocks → Result Value Cause) → Type 0
+  abbrev pub FromNone : (ℕ → TacStmt) → (Blocks → Result Value Cause) → Type 0
   FromNone make r = (n : ℕ) (t : Temps) (s : State) →
       Gives arith here calls n n t s (r (s.memory here.comp)) (run arith here calls (make n ∷ []) t s)
 
@@ -66,7 +66,7 @@ module _ (arith : Arith) (here : Here) (calls : Calls) where
       Gives arith here calls n d t s (g v r) (run arith here calls (make d x code ∷ []) t s)
 
   -- SHAPES
-  alone_computes : (make : ℕ → TacStmt) (r : Blocks → Result Value Cause) → FromNone make r → Computes (alone make) r
+  pub alone_computes : (make : ℕ → TacStmt) (r : Blocks → Result Value Cause) → FromNone make r → Computes (alone make) r
   alone_computes make r h = record { above = λ n. omega numbers; below = λ n. omega numbers; gives = h }
 
   loaded_gives : (ty : Ty) (w : Want) (n at : ℕ) (v : Value) (t : Temps) (s : State) → n ≤ at → t at ≡ Some v →
@@ -85,7 +85,7 @@ module _ (arith : Arith) (here : Here) (calls : Calls) where
         ∙ read_then arith here calls at v t s (λ q s. gets here at (load (s.memory here.comp) (is_pointer ty) q) t s) e)
         (gets_gives arith here calls n at t s (load (s.memory here.comp) (is_pointer ty) v) le)
 
-  place_computes : (ty : Ty) (w : Want) (l : Lows) (r : Blocks → Result Value Cause) → Computes l r →
+  pub place_computes : (ty : Ty) (w : Want) (l : Lows) (r : Blocks → Result Value Cause) → Computes l r →
       Computes (at_place ty l w) (place_way ty r w)
   place_computes ty w l r h = record {
     above = h.above;
@@ -201,7 +201,7 @@ module _ (arith : Arith) (here : Here) (calls : Calls) where
       ∙ read_then arith here calls x v t s (λ v s. choose v (run arith here calls (Const d (constant.Word 1) ∷ []) t s) (run arith here calls code t s)) e)
       (if_gives arith here calls n d t s (is_true v) (Ok (Word 1)) r _ _ (const_gives n d (constant.Word 1) t s le) g)
 
-  place_gives : (params : ℕ) (v : VarRef) → FromNone (place_code params v) (λ blocks. Ok (variable_at here params v))
+  pub place_gives : (params : ℕ) (v : VarRef) → FromNone (place_code params v) (λ blocks. Ok (variable_at here params v))
   place_gives params (Global g) n t s =
       gives_along arith here calls n n t s (Ok (variable_at here params (Global g))) _ _ (run_one arith here calls (tac.GlobalPlace n g) (GlobalPlace n g) t s (rolls-GlobalPlace n g)) (gets_gives arith here calls n n t s (Ok (start_of g)) (omega numbers))
   place_gives params (Param p) n t s =
