@@ -1,3 +1,4 @@
 pub mod Expressions
+pub mod Lowering
 pub mod Programs
 pub mod Statements
