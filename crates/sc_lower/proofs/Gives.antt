@@ -1,5 +1,5 @@
 -- What a stretch of code gives: a value in a temporary, or a blame.
-use Rattle.std.proofs.Common.{◌≡◌, ℕ, zero, suc, ◌+◌, ◌<◌, ◌≤◌, Bool, true, false, List, [], ◌∷◌, ◌++◌, map, Option, Some, None, Result, Ok, Err, refl, sym, ap, ◌∙◌, subst, arith as numbers}
+use Rattle.std.proofs.Common.{◌≡◌, ℕ, ◌<◌, ◌≤◌, Bool, true, false, List, [], ◌∷◌, ◌++◌, Some, None, Result, Ok, Err, refl, sym, ap, ◌∙◌, subst, arith as numbers}
 use Rattle.std.specs.Prelude.{if◌then◌else◌}
 use Rattle.std.proofs.lemmas.Grind.{common_steps}
 use Rattle.sc_core.specs.declared.cause.Cause.{Cause}
@@ -65,7 +65,8 @@ module _ (arith : Arith) (here : Here) (calls : Calls) where
   Gives n at t s (Err cause) o = o ≡ Stopped (Blamed here.comp cause 0) s
   Gives n at t s (Ok v) o = Got n at t s v o
 
-  pub run_append : (xs ys : List TacStmt) (t : Temps) (s : State) → run (xs ++ ys) t s ≡ follow in_order (run xs t s) (run ys)
+  pub run_append : (xs ys : List TacStmt) (t : Temps) (s : State) →
+      run (xs ++ ys) t s ≡ follow in_order (run xs t s) (run ys)
   run_append [] ys t s = refl
   run_append (x ∷ xs) ys t s =
       ap (follow in_order (stmt_does arith here calls x t s)) (λ i u w. run_append xs ys u w i)
@@ -101,7 +102,8 @@ module _ (arith : Arith) (here : Here) (calls : Calls) where
       ((v : Value) (u : Temps) → u at ≡ Some v → Keeps n t u → Gives n at' t s (f v) (run ys u s)) →
       Gives n at' t s (bind r f) (run (xs ++ ys) t s)
   seq n at at' t s r f xs ys g h =
-      gives_along n at' t s (bind r f) _ _ (run_append xs ys t s) (gives_then n at at' t s r f (run xs t s) (run ys) g h)
+      gives_along n at' t s (bind r f) _ _ (run_append xs ys t s) (gives_then n at at' t s r f (run xs t s) (run ys) g
+      h)
 
   -- what is above n is above m, if t has kept what is below m
   pub weaken : (m n at : ℕ) (t u : Temps) (s : State) (r : Result Value Cause) (o : Piece (Left Temps)) → m ≤ n →
@@ -111,13 +113,16 @@ module _ (arith : Arith) (here : Here) (calls : Calls) where
       record { temps = g.temps; comes = g.comes; holds = g.holds; keeps = λ i lt. g.keeps i (omega numbers) ∙ k i lt }
 
   -- a temporary is assigned
-  pub gets_gives : (n d : ℕ) (t : Temps) (s : State) (r : Result Value Cause) → n ≤ d → Gives n d t s r (gets here d r t s)
+  pub gets_gives : (n d : ℕ) (t : Temps) (s : State) (r : Result Value Cause) → n ≤ d →
+      Gives n d t s r (gets here d r t s)
   gets_gives n d t s (Err cause) le = refl
   gets_gives n d t s (Ok v) le =
-      record { temps = given d v t; comes = refl; holds = given_same d v t; keeps = λ i lt. given_other d v t i (omega numbers) }
+      record { temps = given d v t; comes = refl; holds = given_same d v t; keeps = λ i lt. given_other d v t i
+      (omega numbers) }
 
   -- a temporary is read
-  pub read_then : {V : Type 0} (x : ℕ) (v : Value) (t : Temps) (s : State) (go : Value → State → Piece V) → t x ≡ Some v →
+  pub read_then : {V : Type 0} (x : ℕ) (v : Value) (t : Temps) (s : State) (go : Value → State → Piece V) →
+      t x ≡ Some v →
       and_then (read here x t s) go ≡ go v s
   read_then x v t s go e = ap (λ o. and_then (computed here 0 (known o) s) go) e
 

@@ -1,11 +1,10 @@
 -- Operators of code compute what those of trees do.
-use Rattle.std.proofs.Common.{◌≡◌, ℕ, Bool, true, false, List, Result, Ok, refl, ap}
+use Rattle.std.proofs.Common.{◌≡◌, ℕ, Bool, true, false, List, Ok, refl, ap}
 use Rattle.std.specs.Prelude.{not, if◌then◌else◌}
 use Rattle.sc_base.specs.declared.op.UnaryOp.{UnaryOp}
 use Rattle.sc_base.specs.declared.op.UnaryOp.TheVariants as unary
 use Rattle.sc_base.specs.declared.op.BinaryOp.{BinaryOp}
 use Rattle.sc_base.specs.declared.op.BinaryOp.TheVariants as op
-use Rattle.sc_core.specs.declared.cause.Cause.{Cause}
 use Rattle.sc_core.specs.declared.section.TypedStruct.{TypedStruct}
 use Rattle.sc_core.specs.declared.ty.Ty.{Ty}
 use Rattle.sc_core.specs.declared.value.Value.{Value}
@@ -26,9 +25,11 @@ not_twice true = refl
 not_twice false = refl
 
 module _ (arith : Arith) where
-  pub not_is : (ty : Ty) (blocks : Blocks) (v w : Value) → operated arith blocks (not_op ty) v w ≡ Ok (of_bool (not (is_true v)))
+  pub not_is : (ty : Ty) (blocks : Blocks) (v w : Value) →
+      operated arith blocks (not_op ty) v w ≡ Ok (of_bool (not (is_true v)))
   not_is ty blocks v w = by (is_pointer ty) where
-    by : (b : Bool) → operated arith blocks (if b then tacop.PointerNot else tacop.Unary unary.Not (scalar_of ty)) v w ≡ Ok (of_bool (not (is_true v)))
+    by : (b : Bool) → operated arith blocks (if b then tacop.PointerNot else tacop.Unary unary.Not (scalar_of ty)) v w
+        ≡ Ok (of_bool (not (is_true v)))
     by true = refl
     by false = refl
 

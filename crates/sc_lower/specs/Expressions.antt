@@ -157,7 +157,8 @@ module _ (structs : List TypedStruct) where
         no_place (from_one (a.form want.Value) (λ dest x. Op dest (unary_op o a.ty) x None))
     term_step (term.Binary o a b) ty = no_place (binary o a b)
     term_step (term.Index a b) ty =
-        at_place ty (from_two (a.form want.Value) (b.form want.Value) (λ dest x y. Op dest (move_op op.Add a.ty b.ty) x (Some y)))
+        at_place ty (from_two (a.form want.Value) (b.form want.Value) (λ dest x y. Op dest (move_op op.Add a.ty b.ty) x
+        (Some y)))
     term_step (term.Member a offset) ty = at_place ty (member offset (a.form want.Place))
     term_step (term.Arrow a offset) ty = at_place ty (member offset (a.form want.Value))
     term_step (term.Deref a) ty = at_place ty (a.form want.Value)

@@ -9,9 +9,9 @@ use Rattle.sc_laws.specs.Agreement.{RunsAgree}
 use Rattle.sc_tac.specs.Code.{code_run, scripted_code_run, code_depth_by, scripted_code_depth_by}
 use Rattle.sc_lower.specs.Programs.{lowered_program}
 
--- The code of a well-typed program runs as the program does, in each arithmetic: its traces, its ends and the compartments
--- that are blamed are the same wherever a run is stopped, also where compartments perform their parts of a trace. Code
--- has no lines, so these may differ.
+-- The code of a well-typed program runs as the program does, in each arithmetic: its traces, its ends and the
+-- compartments that are blamed are the same wherever a run is stopped, also where compartments perform their parts of a
+-- trace. Code has no lines, so these may differ.
 pub record KeepsMeaning : Type 0 where
   pub meaning : (arith : Arith) (program : ProgramTree) → IsWellTyped program → (inputs : List ℕ) (turns : ℕ) →
       RunsAgree (run_of arith program inputs turns) (code_run arith (lowered_program program) inputs turns)

@@ -47,7 +47,8 @@ module _ (interfaces : Interfaces) (comp : ℕ) where
   -- the export of a function's name
   abbrev pub export_called : List ℕ → Option Entry
   export_called name =
-      option_map Export (position {X = Proto} (λ proto. bytes_eq name proto.name) (exports_of (comp_at interfaces comp)))
+      option_map Export (position {X = Proto} (λ proto. bytes_eq name proto.name)
+      (exports_of (comp_at interfaces comp)))
 
   -- how a function of this name is entered: as `main` of the main compartment, as an export, or not from outside
   abbrev pub entry_of : List ℕ → Option Entry
