@@ -4,5 +4,7 @@ pub mod Gives
 pub mod Hollow
 pub mod Matching
 pub mod Operators
+pub mod Plans
+pub mod Shapes
 pub mod Statements
 pub mod Whole
