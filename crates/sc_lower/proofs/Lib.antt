@@ -8,3 +8,4 @@ pub mod Plans
 pub mod Shapes
 pub mod Statements
 pub mod Whole
+pub mod Rows

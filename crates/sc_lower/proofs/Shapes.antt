@@ -1,6 +1,5 @@
 -- The code of trees by shapes, on which it computes.
-use Rattle.std.proofs.Common.{◌≡◌, refl, ap, ◌∙◌, ℕ, List, [], ◌∷◌, map, Option, None, Some}
-use Rattle.sc_core.specs.declared.expr.CallTarget.{CallTarget}
+use Rattle.std.proofs.Common.{◌≡◌, refl, ap, ◌∙◌, ℕ, List, [], ◌∷◌, map, None}
 use Rattle.sc_core.specs.declared.expr.TypedKind.TheOpen as term
 use Rattle.sc_core.specs.declared.stmt.TypedStmtKind.TheOpen as layer
 use Rattle.sc_core.specs.declared.section.TypedStruct.{TypedStruct}
@@ -67,7 +66,8 @@ module _ (structs : List TypedStruct) (params : ℕ) where
   lines_code (CallLine line target args rest) = call_alone target (map form args) ∷ lines_code rest
   lines_code (IfLine line cond x y rest) =
       after (form cond want.Value) (fork (in_turn (lines_code x)) (in_turn (lines_code y))) ∷ lines_code rest
-  lines_code (WhileLine line cond x rest) = cycle (test (form cond)) (in_turn (lines_code x)) (just []) ∷ lines_code rest
+  lines_code (WhileLine line cond x rest) =
+      cycle (test (form cond)) (in_turn (lines_code x)) (just []) ∷ lines_code rest
   lines_code (ForLine line p e cond q f x rest) =
       both (assign (form p) (form e)) (cycle (test (form cond)) (in_turn (lines_code x)) (assign (form q) (form f))) ∷
       lines_code rest
@@ -79,16 +79,19 @@ module _ (structs : List TypedStruct) (params : ℕ) where
 
   pub lines_are : (x : Lines) → map (stmt_code structs params) (stmts x) ≡ lines_code x
   lines_are NoLine = refl
-  lines_are (EmptyLine line rest) = λ i. stmt_at _ _ (kind_step structs params) (λ s. s.kind) line layer.Empty i ∷ lines_are rest i
+  lines_are (EmptyLine line rest) =
+      λ i. stmt_at _ _ (kind_step structs params) (λ s. s.kind) line layer.Empty i ∷ lines_are rest i
   lines_are (AssignLine line place e rest) = λ i.
-      (stmt_at _ _ (kind_step structs params) (λ s. s.kind) line (layer.Assign (expr place) (expr e)) ∙ (λ j. assign (form_is place j) (form_is e j))) i ∷
+      (stmt_at _ _ (kind_step structs params) (λ s. s.kind) line (layer.Assign (expr place) (expr e))
+      ∙ (λ j. assign (form_is place j) (form_is e j))) i ∷
       lines_are rest i
   lines_are (AssignCallLine line place target args rest) = λ i.
       (stmt_at _ _ (kind_step structs params) (λ s. s.kind) line (layer.AssignCall (expr place) (call_of target args))
       ∙ (λ j. call_for target (forms_are args j) (store_at (form_is place j)))) i ∷
       lines_are rest i
   lines_are (CallLine line target args rest) = λ i.
-      (stmt_at _ _ (kind_step structs params) (λ s. s.kind) line (layer.Call (call_of target args)) ∙ (λ j. call_alone target (forms_are args j))) i ∷ lines_are rest i
+      (stmt_at _ _ (kind_step structs params) (λ s. s.kind) line (layer.Call (call_of target args))
+      ∙ (λ j. call_alone target (forms_are args j))) i ∷ lines_are rest i
   lines_are (IfLine line cond x y rest) = λ i.
       (stmt_at _ _ (kind_step structs params) (λ s. s.kind) line (layer.If (expr cond) (stmts x) (stmts y))
       ∙ (λ j. after (form_is cond j want.Value) (fork (in_turn (lines_are x j)) (in_turn (lines_are y j))))) i ∷
@@ -98,15 +101,22 @@ module _ (structs : List TypedStruct) (params : ℕ) where
       ∙ (λ j. cycle (test (form_is cond j)) (in_turn (lines_are x j)) (just []))) i ∷
       lines_are rest i
   lines_are (ForLine line p e cond q f x rest) = λ i.
-      (stmt_at _ _ (kind_step structs params) (λ s. s.kind) line (layer.For (part line p e) (expr cond) (part line q f) (stmts x))
-      ∙ (λ j. both (assign (form_is p j) (form_is e j)) (cycle (test (form_is cond j)) (in_turn (lines_are x j)) (assign (form_is q j) (form_is f j))))) i ∷
+      (stmt_at _ _ (kind_step structs params) (λ s. s.kind) line (layer.For (part line p e) (expr cond) (part line q f)
+      (stmts x))
+      ∙ (λ j. both (assign (form_is p j) (form_is e j)) (cycle (test (form_is cond j)) (in_turn (lines_are x j))
+      (assign (form_is q j) (form_is f j))))) i ∷
       lines_are rest i
-  lines_are (BreakLine line rest) = λ i. stmt_at _ _ (kind_step structs params) (λ s. s.kind) line layer.Break i ∷ lines_are rest i
-  lines_are (ContinueLine line rest) = λ i. stmt_at _ _ (kind_step structs params) (λ s. s.kind) line layer.Continue i ∷ lines_are rest i
-  lines_are (ReturnLine line rest) = λ i. stmt_at _ _ (kind_step structs params) (λ s. s.kind) line layer.Return i ∷ lines_are rest i
+  lines_are (BreakLine line rest) =
+      λ i. stmt_at _ _ (kind_step structs params) (λ s. s.kind) line layer.Break i ∷ lines_are rest i
+  lines_are (ContinueLine line rest) =
+      λ i. stmt_at _ _ (kind_step structs params) (λ s. s.kind) line layer.Continue i ∷ lines_are rest i
+  lines_are (ReturnLine line rest) =
+      λ i. stmt_at _ _ (kind_step structs params) (λ s. s.kind) line layer.Return i ∷ lines_are rest i
   lines_are (ReturnValueLine line e rest) = λ i.
-      (stmt_at _ _ (kind_step structs params) (λ s. s.kind) line (layer.ReturnValue (expr e)) ∙ (λ j. after (form_is e j want.Value) return_value)) i ∷
+      (stmt_at _ _ (kind_step structs params) (λ s. s.kind) line (layer.ReturnValue (expr e))
+      ∙ (λ j. after (form_is e j want.Value) return_value)) i ∷
       lines_are rest i
   lines_are (ReturnCallLine line target args rest) = λ i.
-      (stmt_at _ _ (kind_step structs params) (λ s. s.kind) line (layer.ReturnCall (call_of target args)) ∙ (λ j. call_for target (forms_are args j) return_value)) i ∷
+      (stmt_at _ _ (kind_step structs params) (λ s. s.kind) line (layer.ReturnCall (call_of target args))
+      ∙ (λ j. call_for target (forms_are args j) return_value)) i ∷
       lines_are rest i
