@@ -1,3 +1,4 @@
+pub mod Bounds
 pub mod Entries
 pub mod Expressions
 pub mod Gives
@@ -5,7 +6,7 @@ pub mod Hollow
 pub mod Matching
 pub mod Operators
 pub mod Plans
+pub mod Rows
 pub mod Shapes
 pub mod Statements
 pub mod Whole
-pub mod Rows
