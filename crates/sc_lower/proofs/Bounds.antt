@@ -43,7 +43,7 @@ use Rattle.sc_lower.specs.Statements.{Part, Parts, just, after, both, in_turn, M
 use Rattle.sc_lower.specs.Programs.{init_code, inits_code, body_code}
 
 -- WEIGHTS
-weight_append : (xs ys : List TacStmt) → weight (xs ++ ys) ≡ weight xs + weight ys
+pub weight_append : (xs ys : List TacStmt) → weight (xs ++ ys) ≡ weight xs + weight ys
 weight_append [] ys = omega numbers
 weight_append (x ∷ xs) ys =
     let rest = weight_append xs ys in
@@ -52,16 +52,16 @@ weight_append (x ∷ xs) ys =
     by a b c d h = omega (numbers, h)
 
 -- one statement
-weight_one : (k : TacStmt-F TacStmt) (c : TacStmt) → roll-TacStmt k ≡ c → weight (c ∷ []) ≡ weight_step (map-TacStmt _ _ stmt_weight k)
+pub weight_one : (k : TacStmt-F TacStmt) (c : TacStmt) → roll-TacStmt k ≡ c → weight (c ∷ []) ≡ weight_step (map-TacStmt _ _ stmt_weight k)
 weight_one k c is =
     ap (λ x. stmt_weight x + 0) (sym is) ∙ ap (λ n. n + 0) (fold-roll-TacStmt ℕ weight_step k) ∙ zero_behind (weight_step (map-TacStmt _ _ stmt_weight k)) where
     zero_behind : (n : ℕ) → n + 0 ≡ n
     zero_behind n = omega numbers
 
-abbrev AtMost : TacStmt → ℕ → Type 0
+abbrev pub AtMost : TacStmt → ℕ → Type 0
 AtMost c n = weight (c ∷ []) ≤ n
 
-at_most : (c : TacStmt) (n m : ℕ) → weight (c ∷ []) ≡ n → n ≤ m → AtMost c m
+pub at_most : (c : TacStmt) (n m : ℕ) → weight (c ∷ []) ≡ n → n ≤ m → AtMost c m
 at_most c n m is le = subst (λ x. x ≤ m) (sym is) le
 
 const_weight : (d : ℕ) (c : Constant) → AtMost (emit.Const d c) 5
@@ -70,7 +70,7 @@ const_weight d c = at_most (emit.Const d c) 5 5 (weight_one (tac.Const d c) (emi
 load_weight : (d x : ℕ) (b : Bool) → AtMost (emit.Load d x b) 7
 load_weight d x b = at_most (emit.Load d x b) 7 7 (weight_one (tac.Load d x b) (emit.Load d x b) (emit.rolls-Load d x b)) (omega numbers)
 
-place_weight : (params : ℕ) (v : VarRef) (d : ℕ) → AtMost (place_code params v d) 6
+pub place_weight : (params : ℕ) (v : VarRef) (d : ℕ) → AtMost (place_code params v d) 6
 place_weight params (Global g) d = at_most (emit.GlobalPlace d g) 6 6 (weight_one (tac.GlobalPlace d g) (emit.GlobalPlace d g) (emit.rolls-GlobalPlace d g)) (omega numbers)
 place_weight params (Param p) d = at_most (emit.ObjectPlace d p) 6 6 (weight_one (tac.ObjectPlace d p) (emit.ObjectPlace d p) (emit.rolls-ObjectPlace d p)) (omega numbers)
 place_weight params (Local l) d = at_most (emit.ObjectPlace d (params + l)) 6 6 (weight_one (tac.ObjectPlace d (params + l)) (emit.ObjectPlace d (params + l)) (emit.rolls-ObjectPlace d (params + l))) (omega numbers)
@@ -124,7 +124,7 @@ loaded_weight ty want.Value at = by (is_array ty) where
   by true = omega numbers
   by false = load_weight at at (is_pointer ty)
 
-place_rises : (ty : Ty) (w : Want) (l : Lows) (k : ℕ) → RisesPlace l k → Rises (at_place ty l w) k
+pub place_rises : (ty : Ty) (w : Want) (l : Lows) (k : ℕ) → RisesPlace l k → Rises (at_place ty l w) k
 place_rises ty w l k h = record {
   above = h.above;
   below = h.below;
@@ -183,7 +183,7 @@ truth_weight t d x =
     by : (u v : ℕ) → u ≤ 7 → v ≤ 7 → u + v ≤ 14
     by u v h g = omega (numbers, h, g)
 
-if_weight : (c : ℕ) (x y : List TacStmt) → weight (emit.If c x y ∷ []) ≡ 6 + weight x + weight y
+pub if_weight : (c : ℕ) (x y : List TacStmt) → weight (emit.If c x y ∷ []) ≡ 6 + weight x + weight y
 if_weight c x y = weight_one (tac.If c x y) (emit.If c x y) (emit.rolls-If c x y)
 
 and_weight : (d x : ℕ) (code : List TacStmt) → weight (and_code d x code ∷ []) ≤ 11 + weight code
@@ -198,7 +198,7 @@ or_weight d x code =
     by : (u v : ℕ) → v ≤ 5 → 6 + v + u ≤ 11 + u
     by u v h = omega (numbers, h)
 
-alone_rises : (make : ℕ → TacStmt) → ((d : ℕ) → AtMost (make d) 6) → RisesPlace (alone make) 1
+pub alone_rises : (make : ℕ → TacStmt) → ((d : ℕ) → AtMost (make d) 6) → RisesPlace (alone make) 1
 alone_rises make most = record {
   above = λ n. omega numbers;
   below = λ n. omega numbers;

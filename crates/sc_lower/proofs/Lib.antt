@@ -8,5 +8,6 @@ pub mod Operators
 pub mod Plans
 pub mod Rows
 pub mod Shapes
+pub mod Sizes
 pub mod Statements
 pub mod Whole
