@@ -10,4 +10,5 @@ pub mod Rows
 pub mod Shapes
 pub mod Sizes
 pub mod Statements
+pub mod Tests
 pub mod Whole
