@@ -5,6 +5,7 @@ pub mod Gives
 pub mod Hollow
 pub mod Matching
 pub mod Operators
+pub mod Passing
 pub mod Plans
 pub mod Rows
 pub mod Shapes
