@@ -11,5 +11,6 @@ pub mod Rows
 pub mod Shapes
 pub mod Sizes
 pub mod Statements
+pub mod Strays
 pub mod Tests
 pub mod Whole

@@ -48,6 +48,13 @@ result_there o signature place is h = by signature.result (subst (λ o. result_g
   by None h = absurd (false≢true h)
   by (Some t) h = refl
 
+-- the locals of a function from a place on have their types, and their initialisers too
+abbrev pub InitsFit : Scope → ℕ → List TypedLocal → Type 0
+InitsFit scope k [] = Unit {0}
+InitsFit scope k (local ∷ locals) =
+    (is_type (variable_ty scope (Local k)) local.ty ≡ true) × (init_fits scope local.ty local.init ≡ true)
+    × InitsFit scope (suc k) locals
+
 -- a test that is passed by what statements emit
 pub record PassedByAll (temps : ℕ) (scope : Scope) (callable : Callable) (result : Option Ty) (test : TacStmt-F Bool → Bool) : Type 0 where
   pub exprs : PassedBy temps scope test
@@ -294,11 +301,6 @@ module _ (temps : ℕ) (scope : Scope) (callable : Callable) (result : Option Ty
   body_block (stmt ∷ rest) h =
       both_clean (stmt_code structs params stmt) (block_code structs params rest) (stmt_clean stmt false (and_first (stmt_fits scope callable result stmt false) _ h)) (body_block rest (and_rest (stmt_fits scope callable result stmt false) _ h))
 
-  -- the locals of a function from a place on, with their initialisers
-  abbrev pub InitsFit : ℕ → List TypedLocal → Type 0
-  InitsFit k [] = Unit {0}
-  InitsFit k (local ∷ locals) = (is_type (variable_ty scope (Local k)) local.ty ≡ true) × (init_fits scope local.ty local.init ≡ true) × InitsFit (suc k) locals
-
   init_clean : (k : ℕ) (local : TypedLocal) (init : Option TypedExpr) → is_type (variable_ty scope (Local k)) local.ty ≡ true → init_fits scope local.ty init ≡ true → CleanPart (init_code structs params k local init)
   init_clean k local None own h = just_clean [] refl
   init_clean k local (Some e) own h =
@@ -306,11 +308,11 @@ module _ (temps : ℕ) (scope : Scope) (callable : Callable) (result : Option Ty
       (place_clean temps scope test passed.exprs local.ty want.Place (alone (place_code params (Local k))) (alone_clean temps scope test passed.exprs (place_code params (Local k)) (place_passes temps scope test passed.exprs (Local k) local.ty own)))
       (clean e (and_first (judged scope e).fits _ h))
 
-  inits_clean : (k : ℕ) (locals : List TypedLocal) → InitsFit k locals → CleanPart (in_turn (inits_code structs params k locals))
+  inits_clean : (k : ℕ) (locals : List TypedLocal) → InitsFit scope k locals → CleanPart (in_turn (inits_code structs params k locals))
   inits_clean k [] h = just_clean [] refl
   inits_clean k (local ∷ locals) h = both_clean (init_code structs params k local local.init) (in_turn (inits_code structs params (suc k) locals)) (init_clean k local local.init h.0 h.1) (inits_clean (suc k) locals h.2)
 
   -- all of a body
-  pub body_passes : (locals : List TypedLocal) (body : List TypedStmt) → InitsFit 0 locals → body_fits scope callable result body ≡ true →
+  pub body_passes : (locals : List TypedLocal) (body : List TypedStmt) → InitsFit scope 0 locals → body_fits scope callable result body ≡ true →
       CleanPart (both (in_turn (inits_code structs params 0 locals)) (block_code structs params body))
   body_passes locals body inits fits = both_clean _ _ (inits_clean 0 locals inits) (body_block body fits)
