@@ -1,3 +1,4 @@
+pub mod Assigned
 pub mod Bounds
 pub mod Entries
 pub mod Expressions
