@@ -2,6 +2,7 @@ pub mod Assigned
 pub mod Bounds
 pub mod Entries
 pub mod Expressions
+pub mod Flowing
 pub mod Gives
 pub mod Hollow
 pub mod Matching

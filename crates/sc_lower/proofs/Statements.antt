@@ -48,7 +48,7 @@ abbrev pub promises : Option Signature → Bool
 promises None = false
 promises (Some signature) = is_some signature.result
 
-goes_promised : (signature : Option Signature) (place : Ty) → result_goes signature place ≡ true →
+pub goes_promised : (signature : Option Signature) (place : Ty) → result_goes signature place ≡ true →
     promises signature ≡ true
 goes_promised None place h = absurd (false≢true h)
 goes_promised (Some signature) place h = by signature.result h where
@@ -62,7 +62,7 @@ allowed_args true signature es h = h
 allowed_args false signature es h = absurd (false≢true h)
 
 -- a call stands in the code as it is: `input` takes nothing, and `output` one value and gives none
-abbrev Shaped : CallTarget → Option ℕ → List ℕ → Type 0
+abbrev pub Shaped : CallTarget → Option ℕ → List ℕ → Type 0
 Shaped (target.Own function) dest at = Unit {0}
 Shaped (target.Cross comp index) dest at = Unit {0}
 Shaped target.Input dest at = at ≡ []
@@ -82,7 +82,7 @@ module _ (scope : Scope) where
   one_taken forms t (e ∷ f ∷ es) n h = absurd (false≢true (and_rest (goes_into t (judged scope e)) _ h))
 
   module _ (callable : Callable) (forms : TypedExpr → Forms) where
-    shaped : (to : CallTarget) (es : List TypedExpr) (n : ℕ) (dest : Option ℕ) →
+    pub shaped : (to : CallTarget) (es : List TypedExpr) (n : ℕ) (dest : Option ℕ) →
         call_fits callable to (map (judged scope) es) ≡ true →
         (to ≡ target.Output → dest ≡ None) → Shaped to dest (many (map forms es) n).at
     shaped (target.Own function) es n dest h o = tt
@@ -99,7 +99,7 @@ module _ (scope : Scope) where
     nothing_promised true h = false≢true h
     nothing_promised false h = false≢true h
 
-    not_output : (to : CallTarget) → promises (target_signature callable to) ≡ true → (dest : Option ℕ) →
+    pub not_output : (to : CallTarget) → promises (target_signature callable to) ≡ true → (dest : Option ℕ) →
         to ≡ target.Output → dest ≡ None
     not_output to h dest is =
         absurd (nothing_promised (list_any (same_import import.Output) callable.imports)
