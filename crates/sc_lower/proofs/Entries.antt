@@ -227,7 +227,7 @@ module _ (program : ProgramTree) (typed : is_well_typed program ≡ true) where
   pub sections_so : sections_fit faces 0 faces.comps sections ≡ true
   sections_so = and_first (sections_fit faces 0 faces.comps sections) _ behind_names
 
-  mains_so : (main_fits (slice_get sections faces.main) && mains_in sections == 1) ≡ true
+  pub mains_so : (main_fits (slice_get sections faces.main) && mains_in sections == 1) ≡ true
   mains_so = and_rest (sections_fit faces 0 faces.comps sections) _ behind_names
 
   one_main : mains_in sections ≡ 1

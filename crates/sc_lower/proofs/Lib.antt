@@ -10,6 +10,7 @@ pub mod Operators
 pub mod Passing
 pub mod Plans
 pub mod Rows
+pub mod Rules
 pub mod Shapes
 pub mod Sizes
 pub mod Statements
