@@ -77,8 +77,8 @@ mains_one (x ∷ xs) zero a is h =
     subst (λ n. 1 ≤ n + mains_in xs) (sym one) (omega numbers)
 mains_one (x ∷ xs) (suc i) a is h =
     more (truth (list_any is_main x.functions)) (mains_in xs) (mains_one xs i a is h) where
-  more : (t m : ℕ) → 1 ≤ m → 1 ≤ t + m
-  more t m h = omega (numbers, h)
+      more : (t m : ℕ) → 1 ≤ m → 1 ≤ t + m
+      more t m h = omega (numbers, h)
 
 too_many : (t m : ℕ) → t ≡ 1 → 1 ≤ m → t + m ≡ 1 → ⊥
 too_many t m one le sum = omega (numbers, one, le, sum)
@@ -158,40 +158,40 @@ export_is name [] index h = refl
 export_is name (p ∷ ps) index h =
     by (λ i. export_is name ps i (and_rest (not (list_any (bytes_eq p.name) (map name_of ps))) _ h))
     (bytes_eq name p.name) refl index where
-  along : (index : ℕ) → same_entry (Export index) (option_map Export (position (λ p. bytes_eq name p.name) (p ∷ ps)))
-      ≡ same_entry (Export index)
-      (option_map Export (cond (bytes_eq name p.name) (Some 0)
-      (option_map suc (position (λ p. bytes_eq name p.name) ps))))
-  along index =
-      ap (λ o. same_entry (Export index) (option_map Export o)) (position-cons (λ (p : Proto). bytes_eq name p.name) p
-      ps)
+      along : (index : ℕ) → same_entry (Export index) (option_map Export (position (λ p. bytes_eq name p.name) (p ∷ ps)))
+          ≡ same_entry (Export index)
+          (option_map Export (cond (bytes_eq name p.name) (Some 0)
+          (option_map suc (position (λ p. bytes_eq name p.name) ps))))
+      along index =
+          ap (λ o. same_entry (Export index) (option_map Export o)) (position-cons (λ (p : Proto). bytes_eq name p.name) p
+          ps)
 
-  by : ((i : ℕ) → same_entry (Export i) (option_map Export (position (λ p. bytes_eq name p.name) ps))
-      ≡ called_so name (slice_get ps i)) → (b : Bool) → bytes_eq name p.name ≡ b → (index : ℕ) →
-      same_entry (Export index) (option_map Export (position (λ p. bytes_eq name p.name) (p ∷ ps)))
-      ≡ called_so name (slice_get (p ∷ ps) index)
-  by later true is zero =
-      along 0 ∙ ap
-      (λ b. same_entry (Export 0)
-      (option_map Export (cond b (Some 0) (option_map suc (position (λ p. bytes_eq name p.name) ps))))) is ∙ sym is
-  by later true is (suc i) =
-      along (suc i)
-      ∙ ap (λ b. same_entry (Export (suc i))
-      (option_map Export (cond b (Some 0) (option_map suc (position (λ p. bytes_eq name p.name) ps))))) is
-      ∙ eqb-suc-zero i
-      ∙ sym (none_called name ps i (subst (λ n. list_any (bytes_eq n) (map name_of ps) ≡ false)
-      (sym (same_text name p.name is)) (not_true (list_any (bytes_eq p.name) (map name_of ps))
-      (and_first (not (list_any (bytes_eq p.name) (map name_of ps))) _ h))))
-  by later false is zero =
-      along 0 ∙ ap
-      (λ b. same_entry (Export 0)
-      (option_map Export (cond b (Some 0) (option_map suc (position (λ p. bytes_eq name p.name) ps))))) is
-      ∙ none_first (position (λ p. bytes_eq name p.name) ps) ∙ sym is
-  by later false is (suc i) =
-      along (suc i)
-      ∙ ap (λ b. same_entry (Export (suc i))
-      (option_map Export (cond b (Some 0) (option_map suc (position (λ p. bytes_eq name p.name) ps))))) is
-      ∙ one_further i (position (λ p. bytes_eq name p.name) ps) ∙ later i
+      by : ((i : ℕ) → same_entry (Export i) (option_map Export (position (λ p. bytes_eq name p.name) ps))
+          ≡ called_so name (slice_get ps i)) → (b : Bool) → bytes_eq name p.name ≡ b → (index : ℕ) →
+          same_entry (Export index) (option_map Export (position (λ p. bytes_eq name p.name) (p ∷ ps)))
+          ≡ called_so name (slice_get (p ∷ ps) index)
+      by later true is zero =
+          along 0 ∙ ap
+          (λ b. same_entry (Export 0)
+          (option_map Export (cond b (Some 0) (option_map suc (position (λ p. bytes_eq name p.name) ps))))) is ∙ sym is
+      by later true is (suc i) =
+          along (suc i)
+          ∙ ap (λ b. same_entry (Export (suc i))
+          (option_map Export (cond b (Some 0) (option_map suc (position (λ p. bytes_eq name p.name) ps))))) is
+          ∙ eqb-suc-zero i
+          ∙ sym (none_called name ps i (subst (λ n. list_any (bytes_eq n) (map name_of ps) ≡ false)
+          (sym (same_text name p.name is)) (not_true (list_any (bytes_eq p.name) (map name_of ps))
+          (and_first (not (list_any (bytes_eq p.name) (map name_of ps))) _ h))))
+      by later false is zero =
+          along 0 ∙ ap
+          (λ b. same_entry (Export 0)
+          (option_map Export (cond b (Some 0) (option_map suc (position (λ p. bytes_eq name p.name) ps))))) is
+          ∙ none_first (position (λ p. bytes_eq name p.name) ps) ∙ sym is
+      by later false is (suc i) =
+          along (suc i)
+          ∙ ap (λ b. same_entry (Export (suc i))
+          (option_map Export (cond b (Some 0) (option_map suc (position (λ p. bytes_eq name p.name) ps))))) is
+          ∙ one_further i (position (λ p. bytes_eq name p.name) ps) ∙ later i
 
 -- `main` is no export
 main_not_called : (functions : List TypedFunction) (ps : List Proto) (index : ℕ) (name : List ℕ) →
@@ -238,11 +238,11 @@ module _ (program : ProgramTree) (typed : is_well_typed program ≡ true) where
       list_any is_main section.functions ≡ true → comp ≡ faces.main
   main_there comp section is h =
       by (slice_get sections faces.main) refl (and_first (main_fits (slice_get sections faces.main)) _ mains_so) where
-    by : (o : Option TypedSection) → slice_get sections faces.main ≡ o → main_fits o ≡ true → comp ≡ faces.main
-    by None at fits = absurd (false≢true fits)
-    by (Some own) at fits =
-        mains_apart sections comp faces.main section own is h at (any_along {A = TypedFunction} _ is_main
-        (λ f k. and_first (is_main f) _ k) own.functions fits) one_main
+        by : (o : Option TypedSection) → slice_get sections faces.main ≡ o → main_fits o ≡ true → comp ≡ faces.main
+        by None at fits = absurd (false≢true fits)
+        by (Some own) at fits =
+            mains_apart sections comp faces.main section own is h at (any_along {A = TypedFunction} _ is_main
+            (λ f k. and_first (is_main f) _ k) own.functions fits) one_main
 
   module _ (comp : ℕ) (section : TypedSection) (is : slice_get sections comp ≡ Some section) where
     place : ForSection faces faces.comps comp section
@@ -270,15 +270,15 @@ module _ (program : ProgramTree) (typed : is_well_typed program ≡ true) where
         by (comp == faces.main && bytes_eq name main_name) refl
         ∙ sym (ap (λ (o : Option Interface). called_so name (option_and_then (λ found. slice_get found.exports index)
         o)) place.is) where
-        by : (b : Bool) → (comp == faces.main && bytes_eq name main_name) ≡ b →
-            same_entry (Export index) (if b then Some Main else export_called faces comp name)
-            ≡ called_so name (slice_get exports index)
-        by true own =
-            sym (main_not_called section.functions exports index name exports_so (and_rest (comp == faces.main) _ own))
-        by false own =
-            ap (λ (o : Option Interface). same_entry (Export index)
-            (option_map Export (position {X = Proto} (λ proto. bytes_eq name proto.name) (exports_of o)))) place.is
-            ∙ export_is name exports index export_names
+          by : (b : Bool) → (comp == faces.main && bytes_eq name main_name) ≡ b →
+              same_entry (Export index) (if b then Some Main else export_called faces comp name)
+              ≡ called_so name (slice_get exports index)
+          by true own =
+              sym (main_not_called section.functions exports index name exports_so (and_rest (comp == faces.main) _ own))
+          by false own =
+              ap (λ (o : Option Interface). same_entry (Export index)
+              (option_map Export (position {X = Proto} (λ proto. bytes_eq name proto.name) (exports_of o)))) place.is
+              ∙ export_is name exports index export_names
 
     abbrev entered : Entry → TypedFunction → Bool
     entered entry f = same_entry entry (entry_of faces comp f.name)
@@ -311,10 +311,10 @@ module _ (program : ProgramTree) (typed : is_well_typed program ≡ true) where
     export_placed index o at =
         by o ∙ sym (ap (λ p. position p section.functions) (λ i f. (export_of index f.name ∙ ap (called_so f.name) at)
         i)) where
-        by : (o : Option Proto) →
-            place_of_export o (Some section) ≡ position (λ (f : TypedFunction). called_so f.name o) section.functions
-        by None = sym (position_never (λ f. false) section.functions (never section.functions))
-        by (Some proto) = refl
+          by : (o : Option Proto) →
+              place_of_export o (Some section) ≡ position (λ (f : TypedFunction). called_so f.name o) section.functions
+          by None = sym (position_never (λ f. false) section.functions (never section.functions))
+          by (Some proto) = refl
 
     in_section : (entry : Entry) → position (entered entry) section.functions ≡ function_entered entry
         (Some (lowered_section faces comp section))
@@ -333,21 +333,21 @@ module _ (program : ProgramTree) (typed : is_well_typed program ≡ true) where
   nothing_entered Main comp is = ap (place_named main_name) is
   nothing_entered (Export index) comp is = ap (place_of_export (export_at faces comp index)) is
       ∙ by (export_at faces comp index) where
-    by : (o : Option Proto) → place_of_export o None ≡ None
-    by None = refl
-    by (Some proto) = refl
+        by : (o : Option Proto) → place_of_export o None ≡ None
+        by None = refl
+        by (Some proto) = refl
 
   -- an entry leads to the same function
   pub entered_same : (comp : ℕ) (entry : Entry) →
       entry_in program comp entry ≡ function_entered entry (slice_get (lowered_sections faces 0 sections) comp)
   entered_same comp entry =
       by (slice_get sections comp) refl ∙ sym (ap (function_entered entry) (first_at faces sections comp)) where
-    by : (o : Option TypedSection) → slice_get sections comp ≡ o →
-        entry_in program comp entry ≡ function_entered entry (option_map (lowered_section faces comp)
-        (slice_get sections comp))
-    by None is =
-        nothing_entered entry comp is
-        ∙ sym (ap (λ o. function_entered entry (option_map (lowered_section faces comp) o)) is)
-    by (Some section) is =
-        section_entered comp section is entry
-        ∙ sym (ap (λ o. function_entered entry (option_map (lowered_section faces comp) o)) is)
+        by : (o : Option TypedSection) → slice_get sections comp ≡ o →
+            entry_in program comp entry ≡ function_entered entry (option_map (lowered_section faces comp)
+            (slice_get sections comp))
+        by None is =
+            nothing_entered entry comp is
+            ∙ sym (ap (λ o. function_entered entry (option_map (lowered_section faces comp) o)) is)
+        by (Some section) is =
+            section_entered comp section is entry
+            ∙ sym (ap (λ o. function_entered entry (option_map (lowered_section faces comp) o)) is)

@@ -77,6 +77,7 @@ module _ (arith : Arith) (here : Here) (calls : Calls) where
   loaded_gives ty want.Value n at v t s le e = by (is_array ty) where
     p : Bool
     p = is_pointer ty
+
     by : (b : Bool) →
         Gives arith here calls n at t s (if b then Ok v else load (s.memory here.comp) (is_pointer ty) v)
         (run arith here calls (if b then [] else Load at at (is_pointer ty) ∷ []) t s)
@@ -94,11 +95,11 @@ module _ (arith : Arith) (here : Here) (calls : Calls) where
     above = h.above;
     below = h.below;
     gives = λ n t s.
-      let x : Low = l n in
-      seq arith here calls n x.at x.at t s (r (s.memory here.comp)) (λ q. wanted ty q w (s.memory here.comp)) x.code
-      (loaded ty w x.at) (h.gives n t s)
-      (λ v u e k. weaken arith here calls n n x.at t u s (wanted ty v w (s.memory here.comp)) _ (omega numbers) k
-      (loaded_gives ty w n x.at v u s (h.above n) e));
+        let x : Low = l n in
+        seq arith here calls n x.at x.at t s (r (s.memory here.comp)) (λ q. wanted ty q w (s.memory here.comp)) x.code
+        (loaded ty w x.at) (h.gives n t s)
+        (λ v u e k. weaken arith here calls n n x.at t u s (wanted ty v w (s.memory here.comp)) _ (omega numbers) k
+        (loaded_gives ty w n x.at v u s (h.above n) e));
   }
 
   one_computes : (a : Lows) (make : ℕ → ℕ → TacStmt) (r : Blocks → Result Value Cause) (g : Blocks → Value →
@@ -109,12 +110,12 @@ module _ (arith : Arith) (here : Here) (calls : Calls) where
     above = λ n. omega (numbers, ha.above n, ha.below n);
     below = λ n. omega numbers;
     gives = λ n t s.
-      let x : Low = a n in
-      let up : n ≤ x.next = omega (numbers, ha.above n, ha.below n) in
-      seq arith here calls n x.at x.next t s (r (s.memory here.comp)) (g (s.memory here.comp)) x.code
-      (make x.next x.at ∷ []) (ha.gives n t s)
-      (λ v u e k. weaken arith here calls n n x.next t u s (g (s.memory here.comp) v) _ (omega numbers) k
-      (one n x.next x.at v u s up e));
+        let x : Low = a n in
+        let up : n ≤ x.next = omega (numbers, ha.above n, ha.below n) in
+        seq arith here calls n x.at x.next t s (r (s.memory here.comp)) (g (s.memory here.comp)) x.code
+        (make x.next x.at ∷ []) (ha.gives n t s)
+        (λ v u e k. weaken arith here calls n n x.next t u s (g (s.memory here.comp) v) _ (omega numbers) k
+        (one n x.next x.at v u s up e));
   }
 
   two_compute : (a b : Lows) (make : ℕ → ℕ → ℕ → TacStmt) (ra rb : Blocks → Result Value Cause) (g : Blocks → Value →
@@ -125,16 +126,16 @@ module _ (arith : Arith) (here : Here) (calls : Calls) where
     above = λ n. omega (numbers, ha.above n, ha.below n, hb.above (a n).next, hb.below (a n).next);
     below = λ n. omega numbers;
     gives = λ n t s.
-      let m = s.memory here.comp in
-      let x : Low = a n in let y : Low = b x.next in
-      let up : n ≤ x.next = omega (numbers, ha.above n, ha.below n) in
-      let far : x.next ≤ y.next = omega (numbers, hb.above x.next, hb.below x.next) in
-      seq arith here calls n x.at y.next t s (ra m) (λ v. bind (rb m) (g m v)) x.code _ (ha.gives n t s)
-      (λ v u e k. weaken arith here calls n n y.next t u s (bind (rb m) (g m v)) _ (omega numbers) k
+        let m = s.memory here.comp in
+        let x : Low = a n in let y : Low = b x.next in
+        let up : n ≤ x.next = omega (numbers, ha.above n, ha.below n) in
+        let far : x.next ≤ y.next = omega (numbers, hb.above x.next, hb.below x.next) in
+        seq arith here calls n x.at y.next t s (ra m) (λ v. bind (rb m) (g m v)) x.code _ (ha.gives n t s)
+        (λ v u e k. weaken arith here calls n n y.next t u s (bind (rb m) (g m v)) _ (omega numbers) k
         (weaken arith here calls n x.next y.next u u s (bind (rb m) (g m v)) _ up (λ i lt. refl)
-          (seq arith here calls x.next y.at y.next u s (rb m) (g m v) y.code _ (hb.gives x.next u s)
-            (λ w q d kk. weaken arith here calls x.next x.next y.next u q s (g m v w) _ (omega numbers) kk
-              (one x.next y.next x.at y.at v w q s far (kk x.at (ha.below n) ∙ e) d)))));
+        (seq arith here calls x.next y.at y.next u s (rb m) (g m v) y.code _ (hb.gives x.next u s)
+        (λ w q d kk. weaken arith here calls x.next x.next y.next u q s (g m v w) _ (omega numbers) kk
+        (one x.next y.next x.at y.at v w q s far (kk x.at (ha.below n) ∙ e) d)))));
   }
 
   first_computes : (a b : Lows) (last : ℕ → ℕ → List TacStmt) (make : ℕ → ℕ → List TacStmt → TacStmt) (ra rb : Blocks →
@@ -146,17 +147,17 @@ module _ (arith : Arith) (here : Here) (calls : Calls) where
     above = λ n. omega (numbers, ha.above n, ha.below n, hb.above (a n).next, hb.below (a n).next);
     below = λ n. omega numbers;
     gives = λ n t s.
-      let m = s.memory here.comp in
-      let x : Low = a n in let y : Low = b x.next in
-      let up : n ≤ x.next = omega (numbers, ha.above n, ha.below n) in
-      let far : x.next ≤ y.next = omega (numbers, hb.above x.next, hb.below x.next) in
-      seq arith here calls n x.at y.next t s (ra m) (λ v. g v (bind (rb m) h)) x.code _ (ha.gives n t s)
-      (λ v u e k. weaken arith here calls n n y.next t u s (g v (bind (rb m) h)) _ (omega numbers) k
+        let m = s.memory here.comp in
+        let x : Low = a n in let y : Low = b x.next in
+        let up : n ≤ x.next = omega (numbers, ha.above n, ha.below n) in
+        let far : x.next ≤ y.next = omega (numbers, hb.above x.next, hb.below x.next) in
+        seq arith here calls n x.at y.next t s (ra m) (λ v. g v (bind (rb m) h)) x.code _ (ha.gives n t s)
+        (λ v u e k. weaken arith here calls n n y.next t u s (g v (bind (rb m) h)) _ (omega numbers) k
         (weaken arith here calls n x.next y.next u u s (g v (bind (rb m) h)) _ up (λ i lt. refl)
-          (one x.next y.next x.at v (bind (rb m) h) _ u s far e
-            (seq arith here calls x.next y.at y.next u s (rb m) h y.code _ (hb.gives x.next u s)
-              (λ w q d kk. weaken arith here calls x.next x.next y.next u q s (h w) _ (omega numbers) kk
-                (end x.next y.next y.at w q s far d))))));
+        (one x.next y.next x.at v (bind (rb m) h) _ u s far e
+        (seq arith here calls x.next y.at y.next u s (rb m) h y.code _ (hb.gives x.next u s)
+        (λ w q d kk. weaken arith here calls x.next x.next y.next u q s (h w) _ (omega numbers) kk
+        (end x.next y.next y.at w q s far d))))));
   }
 
   -- STATEMENTS

@@ -117,8 +117,13 @@ module _ (arith : Arith) (here : Here) (calls : Calls) where
       Gives n d t s r (gets here d r t s)
   gets_gives n d t s (Err cause) le = refl
   gets_gives n d t s (Ok v) le =
-      record { temps = given d v t; comes = refl; holds = given_same d v t; keeps = λ i lt. given_other d v t i
-      (omega numbers) }
+      record {
+        temps = given d v t;
+        comes = refl;
+        holds = given_same d v t;
+        keeps = λ i lt. given_other d v t i
+            (omega numbers);
+      }
 
   -- a temporary is read
   pub read_then : {V : Type 0} (x : ℕ) (v : Value) (t : Temps) (s : State) (go : Value → State → Piece V) →

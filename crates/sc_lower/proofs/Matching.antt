@@ -85,9 +85,9 @@ back_from result (Stopped end s) (Reached w u) h good =
 back_from result (Stopped end s) (Stopped other u) h good =
     let both : ◌≡◌ {A = Piece (Option Value)} (Stopped (without_line end) s) (Stopped (without_line other) u) =
     h.same in
-    let where_ : s ≡ u = cc both in
+    let there : s ≡ u = cc both in
     let same : without_line end ≡ without_line other = cc both in
-    record { other = other; is = ap (Stopped other) (sym where_); same = same }
+    record { other = other; is = ap (Stopped other) (sym there); same = same }
 
 pub back_agrees : (result : Bool) (o p : Piece (Option Value)) → BackMatches result o p → PiecesAgree o p
 back_agrees result (Reached v s) p m = record { same = sym (ap piece_without_line m.is) }

@@ -139,7 +139,10 @@ module _ (arith : Arith) (interfaces : Interfaces) where
         ap (λ functions. stopped_at events (run_by (library functions) (run_step (library functions))
         (code_globals (lowered_sections interfaces 0 (map section sheets))) inputs turns).shown)
         (quick_sections_are 0 sheets xs h) where
-        library : List (List Function) → Library
-        library functions =
-            record { interfaces = interfaces; functions = functions;
-            entered = (code_library arith (lowered_program (program interfaces sheets))).entered }
+          library : List (List Function) → Library
+          library functions =
+              record {
+                interfaces = interfaces;
+                functions = functions;
+                entered = (code_library arith (lowered_program (program interfaces sheets))).entered;
+              }

@@ -77,8 +77,11 @@ pub signs_emit : AllEmit signs ((signs_code ∷ []) ∷ [])
 unfolding roll-TacStmt denote.Hole.Carrier.roll
 signs_emit = ((refl, tt), tt)
 
-pub signs_mean : BothMean alone signs [] 0 10 (record { trace = Out 0 4294967289 ∷ Out 0 0 ∷ Out 0 4294967288 ∷ End 0
-    3 ∷ []; end = Ended })
+pub signs_mean : BothMean alone signs [] 0 10 (record {
+  trace = Out 0 4294967289 ∷ Out 0 0 ∷ Out 0 4294967288 ∷ End 0
+      3 ∷ [];
+  end = Ended;
+})
 signs_mean =
     (lowered_is c_arith alone signs ((signs_code ∷ []) ∷ []) signs_emit [] 0 10, by_plan alone signs [] 0 10)
 
@@ -152,8 +155,10 @@ pub loops_emit : AllEmit loops ((loops_code ∷ []) ∷ [])
 unfolding roll-TacStmt denote.Hole.Carrier.roll
 loops_emit = ((refl, tt), tt)
 
-pub loops_mean : BothMean alone loops [] 5 10 (record { trace = Out 0 0 ∷ Out 0 1 ∷ Out 0 3 ∷ End 0 4 ∷ [];
-    end = Ended })
+pub loops_mean : BothMean alone loops [] 5 10 (record {
+  trace = Out 0 0 ∷ Out 0 1 ∷ Out 0 3 ∷ End 0 4 ∷ [];
+  end = Ended;
+})
 loops_mean =
     (lowered_is c_arith alone loops ((loops_code ∷ []) ∷ []) loops_emit [] 5 10, by_plan alone loops [] 5 10)
 
@@ -210,16 +215,21 @@ pointers_emit = ((refl, tt), tt)
 
 pub pointers_mean : BothMean alone pointers [] 0 10
     (record { trace = Out 0 9 ∷ Out 0 1 ∷ Out 0 1 ∷ Out 0 1 ∷ Out 0 0 ∷ End 0 0 ∷ []; end = Ended })
-pointers_mean =
-    (lowered_is c_arith alone pointers ((pointers_code ∷ []) ∷ []) pointers_emit [] 0 10, by_plan alone pointers [] 0
-    10)
+pointers_mean = (
+  lowered_is c_arith alone pointers ((pointers_code ∷ []) ∷ []) pointers_emit [] 0 10,
+  by_plan alone pointers [] 0
+      10,
+)
 
 -- `struct s { int m; int n; };`
 abbrev pub pair : TypedStruct
 pair = record {
   name = codes "s";
-  members = record { name = codes "m"; ty = ty.Int; offset = 0 } ∷ record { name = codes "n"; ty = ty.Int;
-      offset = 1 } ∷ [];
+  members = record { name = codes "m"; ty = ty.Int; offset = 0 } ∷ record {
+    name = codes "n";
+    ty = ty.Int;
+    offset = 1;
+  } ∷ [];
   cells = 2;
 }
 
@@ -288,11 +298,15 @@ pub helpers_emit : AllEmit helpers (helpers_code ∷ [])
 unfolding roll-TacStmt denote.Hole.Carrier.roll
 helpers_emit = ((refl, (refl, (refl, (refl, tt)))), tt)
 
-pub helpers_mean : BothMean alone helpers (21 ∷ []) 3 10 (record { trace = In 0 21 ∷ Out 0 42 ∷ End 0 42 ∷ [];
-    end = Ended })
-helpers_mean =
-    (lowered_is c_arith alone helpers (helpers_code ∷ []) helpers_emit (21 ∷ []) 3 10, by_plan alone helpers (21 ∷ []) 3
-    10)
+pub helpers_mean : BothMean alone helpers (21 ∷ []) 3 10 (record {
+  trace = In 0 21 ∷ Out 0 42 ∷ End 0 42 ∷ [];
+  end = Ended;
+})
+helpers_mean = (
+  lowered_is c_arith alone helpers (helpers_code ∷ []) helpers_emit (21 ∷ []) 3 10,
+  by_plan alone helpers (21 ∷ []) 3
+      10,
+)
 
 -- `int x; x = put(9); output(x); return 0;` and, in another compartment, `int put(int a) { return a; }`
 abbrev pub across : List Sheet
@@ -314,9 +328,11 @@ across_emit = ((refl, tt), ((refl, tt), tt))
 
 pub across_mean : BothMean across_interfaces across [] 1 10
     (record { trace = Call 0 1 0 (9 ∷ []) ∷ Ret 1 0 (Some 9) ∷ Out 0 9 ∷ End 0 0 ∷ []; end = Ended })
-across_mean =
-    (lowered_is c_arith across_interfaces across across_code across_emit [] 1 10, by_plan across_interfaces across [] 1
-    10)
+across_mean = (
+  lowered_is c_arith across_interfaces across across_code across_emit [] 1 10,
+  by_plan across_interfaces across [] 1
+      10,
+)
 
 -- `return 2147483647 + 1;` is blamed, on its line or on none, and wraps
 abbrev pub too_large : List Sheet
@@ -329,8 +345,10 @@ pub too_large_emit : AllEmit too_large ((too_large_code ∷ []) ∷ [])
 unfolding roll-TacStmt denote.Hole.Carrier.roll
 too_large_emit = ((refl, tt), tt)
 
-pub too_large_is_blamed : code_meaning (lowered_program (program alone too_large)) [] 0 10 ≡ record { trace = [];
-    end = Blamed 0 Overflow 0 }
+pub too_large_is_blamed : code_meaning (lowered_program (program alone too_large)) [] 0 10 ≡ record {
+  trace = [];
+  end = Blamed 0 Overflow 0;
+}
 too_large_is_blamed = lowered_is c_arith alone too_large ((too_large_code ∷ []) ∷ []) too_large_emit [] 0 10
 
 pub too_large_was_blamed : meaning (program alone too_large) [] 0 10 ≡ record { trace = []; end = Blamed 0 Overflow 3 }

@@ -90,9 +90,11 @@ module _ (scope : Scope) where
     shaped target.Input es n dest h o =
         none_taken forms es n (allowed_args (list_any (same_import import.Input) callable.imports)
         (record { params = []; result = Some ty.Int }) (map (judged scope) es) h)
-    shaped target.Output es n dest h o =
-        (one_taken forms ty.Int es n (allowed_args (list_any (same_import import.Output) callable.imports)
-        (record { params = ty.Int ∷ []; result = None }) (map (judged scope) es) h), o refl)
+    shaped target.Output es n dest h o = (
+      one_taken forms ty.Int es n (allowed_args (list_any (same_import import.Output) callable.imports)
+          (record { params = ty.Int ∷ []; result = None }) (map (judged scope) es) h),
+      o refl,
+    )
 
     nothing_promised : (b : Bool) → promises (allowed b (Some (record { params = ty.Int ∷ []; result = None })))
         ≡ true → ⊥

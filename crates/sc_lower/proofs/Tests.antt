@@ -1,7 +1,6 @@
 -- The statements of lowered code pass each test that the statements which are emitted pass.
-use Rattle.std.proofs.Common.{◌≡◌, ℕ, zero, suc, ◌+◌, ◌<◌, ◌≤◌, Bool, true, false, List, [], ◌∷◌, ◌++◌, map, length, Option, Some, None, refl, sym, ap, ◌∙◌, subst, arith as numbers}
-use Rattle.std.specs.Prelude.{not, ◌&&◌, ◌||◌, is_some, if◌then◌else◌, slice_get}
-use Rattle.std.specs.List.{list_any, list_all}
+use Rattle.std.proofs.Common.{◌≡◌, ℕ, zero, suc, ◌+◌, ◌<◌, ◌≤◌, Bool, true, false, List, [], ◌∷◌, ◌++◌, length, Option, Some, None, refl, sym, ap, ◌∙◌, subst, arith as numbers}
+use Rattle.std.specs.Prelude.{◌&&◌, ◌||◌, if◌then◌else◌, slice_get}
 use Rattle.std.proofs.lemmas.Bool.{false≢true, and_from}
 use Rattle.sc_base.proofs.Bools.{and_first, and_rest}
 use Rattle.sc_base.specs.declared.op.BinaryOp.{BinaryOp}
@@ -23,8 +22,8 @@ use Rattle.sc_core.specs.declared.value.Want.{Want}
 use Rattle.sc_core.specs.declared.value.Want.TheVariants as want
 use Rattle.sc_core.specs.Types.{is_array, is_pointer, target_cells}
 use Rattle.sc_core.specs.Tree.{is_unsigned_op}
-use Rattle.sc_core.specs.Typing.{Scope, Judged, judged, is_type, variable_ty, is_int, points, is_address, is_scalar, both_ints, are_equatable, are_ordered, same_pointers, same_ty, common, decayed, sum_fits, difference_fits, binary_fits, unary_fits, term_judged, member_of, target as pointed, pointer_to}
-use Rattle.sc_core.proofs.Layers.{typed, expr_at, term_of}
+use Rattle.sc_core.specs.Typing.{Scope, Judged, judged, is_type, variable_ty, is_int, points, is_address, is_scalar, both_ints, are_equatable, are_ordered, same_pointers, same_ty, common, decayed, sum_fits, difference_fits, binary_fits, unary_fits, term_judged}
+use Rattle.sc_core.proofs.Layers.{expr_at, term_of}
 use Rattle.sc_core.proofs.Induction.{Under, expr_induction}
 use Rattle.sc_kinds.proofs.Values.{either, address_fits}
 use Rattle.sc_tac.specs.declared.stmt.Constant.{Constant}
@@ -34,10 +33,9 @@ use Rattle.sc_tac.specs.declared.stmt.TacStmt.{TacStmt, TacStmt-F, fold-TacStmt,
 use Rattle.sc_tac.specs.declared.stmt.TacStmt.TheOpen as tac
 use Rattle.sc_tac.specs.declared.stmt.TacStmt.TheVariants as emit
 use Rattle.sc_tac.specs.Functions.{takes_two}
-use Rattle.sc_tac.specs.Parts.{all_hold, parts, with_parts, everywhere}
-use Rattle.sc_lower.specs.Expressions.{Low, Lows, Lowered, Forms, alone, from_one, from_two, from_first, loaded, at_place, scalar_in, scalar_of, constant_of, place_code, not_op, unary_op, between_op, truth_code, and_code, or_code, move_op, binary_code, binary, member, term_step, lowered_step, lowered, forms}
+use Rattle.sc_tac.specs.Parts.{with_parts, everywhere}
+use Rattle.sc_lower.specs.Expressions.{Low, Lows, Lowered, alone, from_one, from_two, from_first, loaded, at_place, scalar_in, scalar_of, constant_of, place_code, not_op, unary_op, between_op, truth_code, and_code, or_code, move_op, binary_code, binary, member, term_step, lowered_step, lowered}
 use Rattle.sc_lower.specs.Statements.{first_of}
-use Rattle.sc_lower.proofs.Bounds.{Rises, expr_rises}
 
 -- a call as it stands in the code
 abbrev pub call_layer : CallTarget → Option ℕ → List ℕ → TacStmt-F Bool
@@ -63,35 +61,54 @@ ints_fit : (a b : Judged) → both_ints a b ≡ true → Fit a b
 ints_fit a b h = (int_fits a (and_first (is_int a) _ h), int_fits b (and_rest (is_int a) _ h))
 
 equatable_fit : (a b : Judged) → are_equatable a b ≡ true → Fit a b
-equatable_fit a b h = either (both_ints a b) _ h (ints_fit a b) (λ k. (points_fits a (and_first (points a) _ k), points_fits b (and_first (points b) _ (and_rest (points a) _ k))))
+equatable_fit a b h =
+    either (both_ints a b) _ h (ints_fit a b)
+    (λ k. (points_fits a (and_first (points a) _ k), points_fits b (and_first (points b) _ (and_rest (points a) _ k))))
 
 ordered_fit : (a b : Judged) → are_ordered a b ≡ true → Fit a b
-ordered_fit a b h = either (both_ints a b) _ h (ints_fit a b) (λ k. (address_fits a (and_first (is_address a) _ k), address_fits b (and_first (is_address b) _ (and_rest (is_address a) _ k))))
+ordered_fit a b h =
+    either (both_ints a b) _ h (ints_fit a b) (λ k. (
+      address_fits a (and_first (is_address a) _ k),
+      address_fits b
+          (and_first (is_address b) _ (and_rest (is_address a) _ k)),
+    ))
 
 -- an address and an integer, or an integer and an address
 moved_fit : (a b : Judged) (c : Bool) → (is_address a && (is_int b && c)) ≡ true → Fit a b
-moved_fit a b c h = (address_fits a (and_first (is_address a) _ h), int_fits b (and_first (is_int b) _ (and_rest (is_address a) _ h)))
+moved_fit a b c h =
+    (address_fits a (and_first (is_address a) _ h), int_fits b (and_first (is_int b) _ (and_rest (is_address a) _ h)))
 
 after_fit : (a b : Judged) (c : Bool) → (is_int a && (is_address b && c)) ≡ true → Fit a b
-after_fit a b c h = (int_fits a (and_first (is_int a) _ h), address_fits b (and_first (is_address b) _ (and_rest (is_int a) _ h)))
+after_fit a b c h =
+    (int_fits a (and_first (is_int a) _ h), address_fits b (and_first (is_address b) _ (and_rest (is_int a) _ h)))
 
 apart_fit : (a b : Judged) (c : Bool) → (is_address a && (is_address b && c)) ≡ true → Fit a b
-apart_fit a b c h = (address_fits a (and_first (is_address a) _ h), address_fits b (and_first (is_address b) _ (and_rest (is_address a) _ h)))
+apart_fit a b c h = (
+  address_fits a (and_first (is_address a) _ h),
+  address_fits b
+      (and_first (is_address b) _ (and_rest (is_address a) _ h)),
+)
 
 scalars_fit : (a b : Judged) (c : Bool) → (is_scalar a && (is_scalar b && c)) ≡ true → Fit a b
-scalars_fit a b c h = (scalar_fits a (and_first (is_scalar a) _ h), scalar_fits b (and_first (is_scalar b) _ (and_rest (is_scalar a) _ h)))
+scalars_fit a b c h = (
+  scalar_fits a (and_first (is_scalar a) _ h),
+  scalar_fits b
+      (and_first (is_scalar b) _ (and_rest (is_scalar a) _ h)),
+)
 
 sum_fit : (a b : Judged) (t : Ty) → sum_fits a b t ≡ true → Fit a b
 sum_fit a b t h =
     let A : Bool = both_ints a b && same_ty t (common a.ty b.ty) in
     let B : Bool = is_address a && (is_int b && same_ty t (decayed a.ty)) in
-    either (A || B) (is_int a && (is_address b && same_ty t (decayed b.ty))) h (λ k. either A B k (λ k. ints_fit a b (and_first (both_ints a b) _ k)) (moved_fit a b _)) (after_fit a b _)
+    either (A || B) (is_int a && (is_address b && same_ty t (decayed b.ty))) h
+    (λ k. either A B k (λ k. ints_fit a b (and_first (both_ints a b) _ k)) (moved_fit a b _)) (after_fit a b _)
 
 difference_fit : (a b : Judged) (t : Ty) → difference_fits a b t ≡ true → Fit a b
 difference_fit a b t h =
     let A : Bool = both_ints a b && same_ty t (common a.ty b.ty) in
     let B : Bool = is_address a && (is_int b && same_ty t (decayed a.ty)) in
-    either (A || B) (is_address a && (is_address b && (same_pointers a b && same_ty t ty.Int))) h (λ k. either A B k (λ k. ints_fit a b (and_first (both_ints a b) _ k)) (moved_fit a b _)) (apart_fit a b _)
+    either (A || B) (is_address a && (is_address b && (same_pointers a b && same_ty t ty.Int))) h
+    (λ k. either A B k (λ k. ints_fit a b (and_first (both_ints a b) _ k)) (moved_fit a b _)) (apart_fit a b _)
 
 both_fit : (o : BinaryOp) (a b : Judged) (t : Ty) → binary_fits o a b t ≡ true → Fit a b
 both_fit op.OrElse a b t h = scalars_fit a b _ h
@@ -126,18 +143,22 @@ typed_at (x ∷ xs) (suc i) t h = omega (numbers, typed_at xs i t h)
 
 -- EVERYWHERE
 module _ (test : TacStmt-F Bool → Bool) where
-  pub all_append : (xs ys : List TacStmt) → everywhere test xs ≡ true → everywhere test ys ≡ true → everywhere test (xs ++ ys) ≡ true
+  pub all_append : (xs ys : List TacStmt) → everywhere test xs ≡ true → everywhere test ys ≡ true →
+      everywhere test (xs ++ ys) ≡ true
   all_append [] ys h k = k
   all_append (x ∷ xs) ys h k =
-      and_from _ _ (and_first (fold-TacStmt Bool (with_parts test) x) _ h) (all_append xs ys (and_rest (fold-TacStmt Bool (with_parts test) x) _ h) k)
+      and_from _ _ (and_first (fold-TacStmt Bool (with_parts test) x) _ h)
+      (all_append xs ys (and_rest (fold-TacStmt Bool (with_parts test) x) _ h) k)
 
   -- one statement
   pub all_one : (k : TacStmt-F TacStmt) (c : TacStmt) → roll-TacStmt k ≡ c →
       with_parts test (map-TacStmt _ _ (fold-TacStmt Bool (with_parts test)) k) ≡ true → everywhere test (c ∷ []) ≡ true
   all_one k c is h =
-      and_from _ true (ap (fold-TacStmt Bool (with_parts test)) (sym is) ∙ fold-roll-TacStmt Bool (with_parts test) k ∙ h) refl
+      and_from _ true (ap (fold-TacStmt Bool (with_parts test)) (sym is) ∙ fold-roll-TacStmt Bool (with_parts test) k
+      ∙ h) refl
 
-  pub all_behind : (c : TacStmt) (ys : List TacStmt) → everywhere test (c ∷ []) ≡ true → everywhere test ys ≡ true → everywhere test (c ∷ ys) ≡ true
+  pub all_behind : (c : TacStmt) (ys : List TacStmt) → everywhere test (c ∷ []) ≡ true → everywhere test ys ≡ true →
+      everywhere test (c ∷ ys) ≡ true
   all_behind c ys h k = all_append (c ∷ []) ys h k
 
 -- a number, if there is one, and numbers below another
@@ -153,7 +174,8 @@ AllBelow temps (t ∷ ts) = (t < temps) × AllBelow temps ts
 pub record PassedBy (temps : ℕ) (scope : Scope) (test : TacStmt-F Bool → Bool) : Type 0 where
   pub constant : (d : ℕ) (c : Constant) → d < temps → test (tac.Const d c) ≡ true
   pub one : (d : ℕ) (o : TacOp) (x : ℕ) → takes_two o ≡ false → d < temps → x < temps → test (tac.Op d o x None) ≡ true
-  pub two : (d : ℕ) (o : TacOp) (x y : ℕ) → takes_two o ≡ true → d < temps → x < temps → y < temps → test (tac.Op d o x (Some y)) ≡ true
+  pub two : (d : ℕ) (o : TacOp) (x y : ℕ) → takes_two o ≡ true → d < temps → x < temps → y < temps →
+      test (tac.Op d o x (Some y)) ≡ true
   pub object : (d i : ℕ) → d < temps → i < length scope.params + length scope.locals → test (tac.ObjectPlace d i) ≡ true
   pub global : (d g : ℕ) → d < temps → g < length scope.globals → test (tac.GlobalPlace d g) ≡ true
   pub load : (d x : ℕ) (b : Bool) → d < temps → x < temps → test (tac.Load d x b) ≡ true
@@ -166,42 +188,61 @@ module _ (temps : ℕ) (scope : Scope) (test : TacStmt-F Bool → Bool) (passed 
     pub passes : (n : ℕ) → (l n).next ≤ temps → everywhere test (l n).code ≡ true
 
   const_passes : (d : ℕ) (c : Constant) → d < temps → everywhere test (emit.Const d c ∷ []) ≡ true
-  const_passes d c lt = all_one test (tac.Const d c) (emit.Const d c) (emit.rolls-Const d c) (and_from _ true (passed.constant d c lt) refl)
+  const_passes d c lt =
+      all_one test (tac.Const d c) (emit.Const d c) (emit.rolls-Const d c) (and_from _ true (passed.constant d c lt)
+      refl)
 
-  pub one_passes : (d : ℕ) (o : TacOp) (x : ℕ) → takes_two o ≡ false → d < temps → x < temps → everywhere test (emit.Op d o x None ∷ []) ≡ true
-  one_passes d o x two ld lx = all_one test (tac.Op d o x None) (emit.Op d o x None) (emit.rolls-Op d o x None) (and_from _ true (passed.one d o x two ld lx) refl)
+  pub one_passes : (d : ℕ) (o : TacOp) (x : ℕ) → takes_two o ≡ false → d < temps → x < temps →
+      everywhere test (emit.Op d o x None ∷ []) ≡ true
+  one_passes d o x two ld lx = all_one test (tac.Op d o x None) (emit.Op d o x None) (emit.rolls-Op d o x None)
+      (and_from _ true (passed.one d o x two ld lx) refl)
 
-  two_passes : (d : ℕ) (o : TacOp) (x y : ℕ) → takes_two o ≡ true → d < temps → x < temps → y < temps → everywhere test (emit.Op d o x (Some y) ∷ []) ≡ true
-  two_passes d o x y two ld lx ly = all_one test (tac.Op d o x (Some y)) (emit.Op d o x (Some y)) (emit.rolls-Op d o x (Some y)) (and_from _ true (passed.two d o x y two ld lx ly) refl)
+  two_passes : (d : ℕ) (o : TacOp) (x y : ℕ) → takes_two o ≡ true → d < temps → x < temps → y < temps →
+      everywhere test (emit.Op d o x (Some y) ∷ []) ≡ true
+  two_passes d o x y two ld lx ly =
+      all_one test (tac.Op d o x (Some y)) (emit.Op d o x (Some y)) (emit.rolls-Op d o x (Some y))
+      (and_from _ true (passed.two d o x y two ld lx ly) refl)
 
-  pub fork_passes : (c : ℕ) (x y : List TacStmt) → c < temps → everywhere test x ≡ true → everywhere test y ≡ true → everywhere test (emit.If c x y ∷ []) ≡ true
-  fork_passes c x y lt hx hy = all_one test (tac.If c x y) (emit.If c x y) (emit.rolls-If c x y) (and_from _ _ (passed.fork c _ _ lt) (and_from _ _ hx (and_from _ true hy refl)))
+  pub fork_passes : (c : ℕ) (x y : List TacStmt) → c < temps → everywhere test x ≡ true → everywhere test y ≡ true →
+      everywhere test (emit.If c x y ∷ []) ≡ true
+  fork_passes c x y lt hx hy =
+      all_one test (tac.If c x y) (emit.If c x y) (emit.rolls-If c x y) (and_from _ _ (passed.fork c _ _ lt)
+      (and_from _ _ hx (and_from _ true hy refl)))
 
-  pub alone_clean : (make : ℕ → TacStmt) → ((d : ℕ) → d < temps → everywhere test (make d ∷ []) ≡ true) → Clean (alone make)
-  alone_clean make h = record { above = λ n. omega numbers; below = λ n. omega numbers; passes = λ n le. h n (omega (numbers, le)) }
+  pub alone_clean : (make : ℕ → TacStmt) → ((d : ℕ) → d < temps → everywhere test (make d ∷ []) ≡ true) →
+      Clean (alone make)
+  alone_clean make h =
+      record { above = λ n. omega numbers; below = λ n. omega numbers; passes = λ n le. h n (omega (numbers, le)) }
 
   loaded_passes : (t : Ty) (w : Want) (at : ℕ) → at < temps → everywhere test (loaded t w at) ≡ true
   loaded_passes t want.Place at lt = refl
   loaded_passes t want.Value at lt = by (is_array t) where
     by : (b : Bool) → everywhere test (if b then [] else emit.Load at at (is_pointer t) ∷ []) ≡ true
     by true = refl
-    by false = all_one test (tac.Load at at (is_pointer t)) (emit.Load at at (is_pointer t)) (emit.rolls-Load at at (is_pointer t)) (and_from _ true (passed.load at at (is_pointer t) lt lt) refl)
+    by false = all_one test (tac.Load at at (is_pointer t)) (emit.Load at at (is_pointer t))
+        (emit.rolls-Load at at (is_pointer t)) (and_from _ true (passed.load at at (is_pointer t) lt lt) refl)
 
   pub place_clean : (t : Ty) (w : Want) (l : Lows) → Clean l → Clean (at_place t l w)
   place_clean t w l h = record {
     above = h.above;
     below = h.below;
-    passes = λ n le. all_append test (l n).code (loaded t w (l n).at) (h.passes n le) (loaded_passes t w (l n).at (omega (numbers, h.below n, le)));
+    passes =
+        λ n le. all_append test (l n).code (loaded t w (l n).at) (h.passes n le)
+        (loaded_passes t w (l n).at (omega (numbers, h.below n, le)));
   }
 
-  from_one_clean : (a : Lows) (make : ℕ → ℕ → TacStmt) → ((d x : ℕ) → d < temps → x < temps → everywhere test (make d x ∷ []) ≡ true) → Clean a → Clean (from_one a make)
+  from_one_clean : (a : Lows) (make : ℕ → ℕ → TacStmt) →
+      ((d x : ℕ) → d < temps → x < temps → everywhere test (make d x ∷ []) ≡ true) → Clean a → Clean (from_one a make)
   from_one_clean a make h ha = record {
     above = λ n. omega (numbers, ha.above n, ha.below n);
     below = λ n. omega numbers;
-    passes = λ n le. all_append test (a n).code (make (a n).next (a n).at ∷ []) (ha.passes n (omega (numbers, le))) (h (a n).next (a n).at (omega (numbers, le)) (omega (numbers, le, ha.below n)));
+    passes = λ n le. all_append test (a n).code (make (a n).next (a n).at ∷ []) (ha.passes n (omega (numbers, le)))
+        (h (a n).next (a n).at (omega (numbers, le)) (omega (numbers, le, ha.below n)));
   }
 
-  from_two_clean : (a b : Lows) (make : ℕ → ℕ → ℕ → TacStmt) → ((d x y : ℕ) → d < temps → x < temps → y < temps → everywhere test (make d x y ∷ []) ≡ true) → Clean a → Clean b → Clean (from_two a b make)
+  from_two_clean : (a b : Lows) (make : ℕ → ℕ → ℕ → TacStmt) →
+      ((d x y : ℕ) → d < temps → x < temps → y < temps → everywhere test (make d x y ∷ []) ≡ true) → Clean a → Clean b →
+      Clean (from_two a b make)
   from_two_clean a b make h ha hb = record {
     above = λ n. omega (numbers, ha.above n, ha.below n, hb.above (a n).next, hb.below (a n).next);
     below = λ n. omega numbers;
@@ -209,12 +250,15 @@ module _ (temps : ℕ) (scope : Scope) (test : TacStmt-F Bool → Bool) (passed 
         let y : Low = b (a n).next in
         let far : (a n).next ≤ y.next = omega (numbers, hb.above (a n).next, hb.below (a n).next) in
         all_append test (a n).code (y.code ++ make y.next (a n).at y.at ∷ []) (ha.passes n (omega (numbers, le, far)))
-        (all_append test y.code (make y.next (a n).at y.at ∷ []) (hb.passes (a n).next (omega (numbers, le))) (h y.next (a n).at y.at (omega (numbers, le)) (omega (numbers, le, far, ha.below n)) (omega (numbers, le, hb.below (a n).next))));
+        (all_append test y.code (make y.next (a n).at y.at ∷ []) (hb.passes (a n).next (omega (numbers, le)))
+        (h y.next (a n).at y.at (omega (numbers, le)) (omega (numbers, le, far, ha.below n))
+        (omega (numbers, le, hb.below (a n).next))));
   }
 
   from_first_clean : (a b : Lows) (last : ℕ → ℕ → List TacStmt) (make : ℕ → ℕ → List TacStmt → TacStmt) →
       ((d x : ℕ) → d < temps → x < temps → everywhere test (last d x) ≡ true) →
-      ((d x : ℕ) (code : List TacStmt) → d < temps → x < temps → everywhere test code ≡ true → everywhere test (make d x code ∷ []) ≡ true) →
+      ((d x : ℕ) (code : List TacStmt) → d < temps → x < temps → everywhere test code ≡ true →
+      everywhere test (make d x code ∷ []) ≡ true) →
       Clean a → Clean b → Clean (from_first a b last make)
   from_first_clean a b last make end h ha hb = record {
     above = λ n. omega (numbers, ha.above n, ha.below n, hb.above (a n).next, hb.below (a n).next);
@@ -222,9 +266,11 @@ module _ (temps : ℕ) (scope : Scope) (test : TacStmt-F Bool → Bool) (passed 
     passes = λ n le.
         let y : Low = b (a n).next in
         let far : (a n).next ≤ y.next = omega (numbers, hb.above (a n).next, hb.below (a n).next) in
-        all_append test (a n).code (make y.next (a n).at (y.code ++ last y.next y.at) ∷ []) (ha.passes n (omega (numbers, le, far)))
+        all_append test (a n).code (make y.next (a n).at (y.code ++ last y.next y.at) ∷ [])
+        (ha.passes n (omega (numbers, le, far)))
         (h y.next (a n).at (y.code ++ last y.next y.at) (omega (numbers, le)) (omega (numbers, le, far, ha.below n))
-        (all_append test y.code (last y.next y.at) (hb.passes (a n).next (omega (numbers, le))) (end y.next y.at (omega (numbers, le)) (omega (numbers, le, hb.below (a n).next)))));
+        (all_append test y.code (last y.next y.at) (hb.passes (a n).next (omega (numbers, le)))
+        (end y.next y.at (omega (numbers, le)) (omega (numbers, le, hb.below (a n).next)))));
   }
 
   not_takes_one : (t : Ty) → takes_two (not_op t) ≡ false
@@ -261,39 +307,60 @@ module _ (temps : ℕ) (scope : Scope) (test : TacStmt-F Bool → Bool) (passed 
 
   truth_passes : (t : Ty) (d x : ℕ) → d < temps → x < temps → everywhere test (truth_code t d x) ≡ true
   truth_passes t d x ld lx =
-      all_behind test (emit.Op d (not_op t) x None) (emit.Op d (tacop.Unary unary.Not Int) d None ∷ []) (one_passes d (not_op t) x (not_takes_one t) ld lx) (one_passes d (tacop.Unary unary.Not Int) d refl ld ld)
+      all_behind test (emit.Op d (not_op t) x None) (emit.Op d (tacop.Unary unary.Not Int) d None ∷ [])
+      (one_passes d (not_op t) x (not_takes_one t) ld lx) (one_passes d (tacop.Unary unary.Not Int) d refl ld ld)
 
-  and_passes : (d x : ℕ) (code : List TacStmt) → d < temps → x < temps → everywhere test code ≡ true → everywhere test (and_code d x code ∷ []) ≡ true
+  and_passes : (d x : ℕ) (code : List TacStmt) → d < temps → x < temps → everywhere test code ≡ true →
+      everywhere test (and_code d x code ∷ []) ≡ true
   and_passes d x code ld lx h = fork_passes x code _ lx h (const_passes d _ ld)
 
-  or_passes : (d x : ℕ) (code : List TacStmt) → d < temps → x < temps → everywhere test code ≡ true → everywhere test (or_code d x code ∷ []) ≡ true
+  or_passes : (d x : ℕ) (code : List TacStmt) → d < temps → x < temps → everywhere test code ≡ true →
+      everywhere test (or_code d x code ∷ []) ≡ true
   or_passes d x code ld lx h = fork_passes x _ code lx (const_passes d _ ld) h
 
-  pub place_passes : (v : VarRef) (t : Ty) → is_type (variable_ty scope v) t ≡ true → (d : ℕ) → d < temps → everywhere test (place_code (length scope.params) v d ∷ []) ≡ true
-  place_passes (Global g) t h d lt = all_one test (tac.GlobalPlace d g) (emit.GlobalPlace d g) (emit.rolls-GlobalPlace d g) (and_from _ true (passed.global d g lt (typed_at scope.globals g t h)) refl)
-  place_passes (Param p) t h d lt = all_one test (tac.ObjectPlace d p) (emit.ObjectPlace d p) (emit.rolls-ObjectPlace d p) (and_from _ true (passed.object d p lt (by (typed_at scope.params p t h))) refl) where
-    by : p < length scope.params → p < length scope.params + length scope.locals
-    by h = omega (numbers, h)
-  place_passes (Local l) t h d lt = all_one test (tac.ObjectPlace d (length scope.params + l)) (emit.ObjectPlace d (length scope.params + l)) (emit.rolls-ObjectPlace d (length scope.params + l)) (and_from _ true (passed.object d (length scope.params + l) lt (by (typed_at scope.locals l t h))) refl) where
-    by : l < length scope.locals → length scope.params + l < length scope.params + length scope.locals
-    by h = omega (numbers, h)
+  pub place_passes : (v : VarRef) (t : Ty) → is_type (variable_ty scope v) t ≡ true → (d : ℕ) → d < temps →
+      everywhere test (place_code (length scope.params) v d ∷ []) ≡ true
+  place_passes (Global g) t h d lt =
+      all_one test (tac.GlobalPlace d g) (emit.GlobalPlace d g) (emit.rolls-GlobalPlace d g)
+      (and_from _ true (passed.global d g lt (typed_at scope.globals g t h)) refl)
+  place_passes (Param p) t h d lt =
+      all_one test (tac.ObjectPlace d p) (emit.ObjectPlace d p) (emit.rolls-ObjectPlace d p)
+      (and_from _ true (passed.object d p lt (by (typed_at scope.params p t h))) refl) where
+        by : p < length scope.params → p < length scope.params + length scope.locals
+        by h = omega (numbers, h)
+  place_passes (Local l) t h d lt =
+      all_one test (tac.ObjectPlace d (length scope.params + l)) (emit.ObjectPlace d (length scope.params + l))
+      (emit.rolls-ObjectPlace d (length scope.params + l))
+      (and_from _ true (passed.object d (length scope.params + l) lt (by (typed_at scope.locals l t h))) refl) where
+        by : l < length scope.locals → length scope.params + l < length scope.params + length scope.locals
+        by h = omega (numbers, h)
 
   module _ (structs : List TypedStruct) where
-    binary_passes : (o : BinaryOp) (left right : Ty) (d x y : ℕ) → d < temps → x < temps → y < temps → everywhere test (binary_code structs o left right d x y ∷ []) ≡ true
+    binary_passes : (o : BinaryOp) (left right : Ty) (d x y : ℕ) → d < temps → x < temps → y < temps →
+        everywhere test (binary_code structs o left right d x y ∷ []) ≡ true
     binary_passes o left right d x y ld lx ly = by (is_pointer left) (is_pointer right) where
       by : (b c : Bool) →
-          everywhere test ((if b then (if c then emit.Op d (between_op o (target_cells structs left)) x (Some y) else emit.Op d (move_op structs o left right) x (Some y)) else (if c then emit.Op d (move_op structs o right left) y (Some x) else emit.Op d (tacop.Binary o (scalar_in (is_unsigned_op o left right))) x (Some y))) ∷ []) ≡ true
-      by true true = two_passes d (between_op o (target_cells structs left)) x y (between_takes_two o (target_cells structs left)) ld lx ly
+          everywhere test
+          ((if b then (if c then emit.Op d (between_op o (target_cells structs left)) x (Some y) else emit.Op d
+          (move_op structs o left right) x (Some y)) else (if c then emit.Op d (move_op structs o right left) y
+          (Some x) else emit.Op d (tacop.Binary o (scalar_in (is_unsigned_op o left right))) x (Some y))) ∷ []) ≡ true
+      by true true =
+          two_passes d (between_op o (target_cells structs left)) x y (between_takes_two o (target_cells structs left))
+          ld lx ly
       by true false = two_passes d (move_op structs o left right) x y refl ld lx ly
       by false true = two_passes d (move_op structs o right left) y x refl ld ly lx
       by false false = two_passes d (tacop.Binary o (scalar_in (is_unsigned_op o left right))) x y refl ld lx ly
 
-    plain_clean : (o : BinaryOp) (a b : Lowered) → Clean (a.form want.Value) → Clean (b.form want.Value) → Clean (from_two (a.form want.Value) (b.form want.Value) (binary_code structs o a.ty b.ty))
+    plain_clean : (o : BinaryOp) (a b : Lowered) → Clean (a.form want.Value) → Clean (b.form want.Value) →
+        Clean (from_two (a.form want.Value) (b.form want.Value) (binary_code structs o a.ty b.ty))
     plain_clean o a b ha hb = from_two_clean _ _ _ (binary_passes o a.ty b.ty) ha hb
 
-    binary_clean : (o : BinaryOp) (a b : Lowered) → Clean (a.form want.Value) → Clean (b.form want.Value) → Clean (binary structs o a b)
-    binary_clean op.OrElse a b ha hb = from_first_clean _ _ (truth_code b.ty) or_code (truth_passes b.ty) or_passes ha hb
-    binary_clean op.AndAlso a b ha hb = from_first_clean _ _ (truth_code b.ty) and_code (truth_passes b.ty) and_passes ha hb
+    binary_clean : (o : BinaryOp) (a b : Lowered) → Clean (a.form want.Value) → Clean (b.form want.Value) →
+        Clean (binary structs o a b)
+    binary_clean op.OrElse a b ha hb =
+        from_first_clean _ _ (truth_code b.ty) or_code (truth_passes b.ty) or_passes ha hb
+    binary_clean op.AndAlso a b ha hb =
+        from_first_clean _ _ (truth_code b.ty) and_code (truth_passes b.ty) and_passes ha hb
     binary_clean op.BitOr a b ha hb = plain_clean op.BitOr a b ha hb
     binary_clean op.BitXor a b ha hb = plain_clean op.BitXor a b ha hb
     binary_clean op.BitAnd a b ha hb = plain_clean op.BitAnd a b ha hb
@@ -317,21 +384,36 @@ module _ (temps : ℕ) (scope : Scope) (test : TacStmt-F Bool → Bool) (passed 
     abbrev P : TypedExpr → Type 0
     P e = (judged scope e).fits ≡ true → (w : Want) → Clean ((lowered structs (length scope.params) e).form w)
 
-    level : (t : Ty) (k : TypedKind-F TypedKind TypedExpr) → Under P k → (term_of _ _ (term_judged scope) (λ e. e.kind e.ty) k t).fits ≡ true → (w : Want) →
+    level : (t : Ty) (k : TypedKind-F TypedKind TypedExpr) → Under P k →
+        (term_of _ _ (term_judged scope) (λ e. e.kind e.ty) k t).fits ≡ true → (w : Want) →
         Clean (term_of _ _ (term_step structs (length scope.params)) lowered_step k t w)
     level t (term.Literal word) h fits w = alone_clean _ (λ d lt. const_passes d (constant_of t word) lt)
-    level t (term.Variable v) h fits w = place_clean t w _ (alone_clean (place_code (length scope.params) v) (place_passes v t fits))
-    level t (term.Unary o a) h fits w = from_one_clean _ _ (λ d x ld lx. one_passes d (unary_op o (lowered structs (length scope.params) a).ty) x (unary_takes_one o (lowered structs (length scope.params) a).ty) ld lx) (h (unary_fit o (judged scope a) t fits) want.Value)
+    level t (term.Variable v) h fits w =
+        place_clean t w _ (alone_clean (place_code (length scope.params) v) (place_passes v t fits))
+    level t (term.Unary o a) h fits w =
+        from_one_clean _ _ (λ d x ld lx. one_passes d (unary_op o (lowered structs (length scope.params) a).ty) x
+        (unary_takes_one o (lowered structs (length scope.params) a).ty) ld lx) (h (unary_fit o (judged scope a) t fits)
+        want.Value)
     level t (term.Binary o a b) h fits w =
         let both = both_fit o (judged scope a) (judged scope b) t fits in
         binary_clean o _ _ (h.0 both.0 want.Value) (h.1 both.1 want.Value)
     level t (term.Index a b) h fits w =
-        place_clean t w _ (from_two_clean _ _ _ (λ d x y ld lx ly. two_passes d (move_op structs op.Add (lowered structs (length scope.params) a).ty (lowered structs (length scope.params) b).ty) x y refl ld lx ly)
+        place_clean t w
+        _ (from_two_clean _ _ _ (λ d x y ld lx ly. two_passes d
+        (move_op structs op.Add (lowered structs (length scope.params) a).ty (lowered structs (length scope.params)
+        b).ty) x y refl ld lx ly)
         (h.0 (address_fits (judged scope a) (and_first (is_address (judged scope a)) _ fits)) want.Value)
-        (h.1 (int_fits (judged scope b) (and_first (is_int (judged scope b)) _ (and_rest (is_address (judged scope a)) _ fits))) want.Value))
-    level t (term.Member a offset) h fits w = place_clean t w _ (member_clean offset _ (h (and_first (judged scope a).fits _ fits) want.Place))
-    level t (term.Arrow a offset) h fits w = place_clean t w _ (member_clean offset _ (h (address_fits (judged scope a) (and_first (is_address (judged scope a)) _ fits)) want.Value))
-    level t (term.Deref a) h fits w = place_clean t w _ (h (address_fits (judged scope a) (and_first (is_address (judged scope a)) _ fits)) want.Value)
+        (h.1 (int_fits (judged scope b) (and_first (is_int (judged scope b)) _ (and_rest (is_address (judged scope a))
+        _ fits))) want.Value))
+    level t (term.Member a offset) h fits w =
+        place_clean t w _ (member_clean offset _ (h (and_first (judged scope a).fits _ fits) want.Place))
+    level t (term.Arrow a offset) h fits w =
+        place_clean t w
+        _ (member_clean offset _ (h (address_fits (judged scope a) (and_first (is_address (judged scope a)) _ fits))
+        want.Value))
+    level t (term.Deref a) h fits w =
+        place_clean t w _ (h (address_fits (judged scope a) (and_first (is_address (judged scope a)) _ fits))
+        want.Value)
     level t (term.Address a) h fits w = h (and_first (judged scope a).fits _ fits) want.Place
 
     pub expr_clean : (e : TypedExpr) → P e

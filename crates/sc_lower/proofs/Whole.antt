@@ -126,8 +126,11 @@ module _ (arith : Arith) (program : ProgramTree) (typed : is_well_typed program 
   sections_alike k (x ∷ xs) = λ i. functions_alike k x.structs x.functions i ∷ sections_alike (suc k) xs i
 
   alike : hollow L ≡ hollow M
-  alike = λ i. record { interfaces = faces; functions = sections_alike 0 program.sections i;
-      entered = λ comp entry. entered_same program typed comp entry i }
+  alike = λ i. record {
+    interfaces = faces;
+    functions = sections_alike 0 program.sections i;
+    entered = λ comp entry. entered_same program typed comp entry i;
+  }
 
   -- FUNCTIONS
   -- a function of the program, in its tree and in its code
@@ -211,23 +214,23 @@ module _ (arith : Arith) (program : ProgramTree) (typed : is_well_typed program 
       own_answers n args s =
           subst (λ o. Lasting (λ v. answers (promises o) v ≡ true) (called L body comp (Own n) args s))
           (sym (slice_get-map signature_of section.functions n)) (by (slice_get section.functions n) refl) where
-          by : (o : Option TypedFunction) → slice_get section.functions n ≡ o →
-              Lasting (λ v. answers (promises (option_map signature_of o)) v ≡ true) (called L body comp (Own n) args s)
-          by None item = lasting_any (λ v. answers false v ≡ true) (called L body comp (Own n) args s) (λ v. refl)
-          by (Some f) item =
-              lasting_then (λ v. answers (is_some f.result) v ≡ true) (turn s) (λ _ s. call_own L body comp n args s)
-              (λ _ s.
-              lasting_then (λ v. answers (is_some f.result) v ≡ true) (found (function L comp n) s)
-              (λ g s. and_then (body n (record { comp = comp; first = length (s.memory comp) }) (begun comp g args s))
-              (λ v t. back_own v (done comp g (length (s.memory comp)) t))) (λ g s.
-              behind (λ v. answers (is_some f.result) v ≡ true)
-              (body n (record { comp = comp; first = length (s.memory comp) }) (begun comp g args s))
-              (λ v t. done comp g (length (s.memory comp)) t) (gives comp n section f is item plain
-              (length (s.memory comp)) (begun comp g args s)))) where
-              behind : (G : Option Value → Type 0) (o : Piece (Option Value)) (k : Option Value → State → State) →
-                  Lasting G o → Lasting G (and_then o (λ v t. Reached v (k v t)))
-              behind G (Reached v s) k h = h
-              behind G (Stopped end s) k h = tt
+            by : (o : Option TypedFunction) → slice_get section.functions n ≡ o →
+                Lasting (λ v. answers (promises (option_map signature_of o)) v ≡ true) (called L body comp (Own n) args s)
+            by None item = lasting_any (λ v. answers false v ≡ true) (called L body comp (Own n) args s) (λ v. refl)
+            by (Some f) item =
+                lasting_then (λ v. answers (is_some f.result) v ≡ true) (turn s) (λ _ s. call_own L body comp n args s)
+                (λ _ s.
+                lasting_then (λ v. answers (is_some f.result) v ≡ true) (found (function L comp n) s)
+                (λ g s. and_then (body n (record { comp = comp; first = length (s.memory comp) }) (begun comp g args s))
+                (λ v t. back_own v (done comp g (length (s.memory comp)) t))) (λ g s.
+                behind (λ v. answers (is_some f.result) v ≡ true)
+                (body n (record { comp = comp; first = length (s.memory comp) }) (begun comp g args s))
+                (λ v t. done comp g (length (s.memory comp)) t) (gives comp n section f is item plain
+                (length (s.memory comp)) (begun comp g args s)))) where
+                  behind : (G : Option Value → Type 0) (o : Piece (Option Value)) (k : Option Value → State → State) →
+                      Lasting G o → Lasting G (and_then o (λ v t. Reached v (k v t)))
+                  behind G (Reached v s) k h = h
+                  behind G (Stopped end s) k h = tt
 
       called_answers : (to : CallTarget) (args : List Value) (s : State) →
           Lasting (λ v. answers (promises (target_signature callable to)) v ≡ true) (called L body comp to args s)
@@ -329,8 +332,11 @@ module _ (arith : Arith) (program : ProgramTree) (typed : is_well_typed program 
 
     within_both : (n : ℕ) → Bodies (within tree_step n) (within code_step n)
     within_both zero =
-        record { agree = λ number here s. itself (Stopped TurnsOut s); gives = λ comp n section f is item plain first s.
-        tt }
+        record {
+          agree = λ number here s. itself (Stopped TurnsOut s);
+          gives = λ comp n section f is item plain first s.
+              tt;
+        }
     within_both (suc n) = record {
       agree = step_agrees (within tree_step n) (within code_step n) (within_both n);
       gives = step_gives (within tree_step n) (within code_step n) (within_both n);
@@ -340,10 +346,10 @@ module _ (arith : Arith) (program : ProgramTree) (typed : is_well_typed program 
     globals_same =
         λ i comp. (by comp (slice_get program.sections comp)
         ∙ sym (ap code_blocks (first_at faces program.sections comp))) i where
-      by : (comp : ℕ) (o : Option TypedSection) →
-          first_blocks o ≡ code_blocks (option_map (lowered_section faces comp) o)
-      by comp None = refl
-      by comp (Some section) = refl
+          by : (comp : ℕ) (o : Option TypedSection) →
+              first_blocks o ≡ code_blocks (option_map (lowered_section faces comp) o)
+          by comp None = refl
+          by comp (Some section) = refl
 
     start_found : (o p : Option ℕ) (turns : ℕ) (s : State) → o ≡ p →
         PiecesAgree (and_then (found o s) (λ number s. call_own L (within tree_step (suc turns)) faces.main number []

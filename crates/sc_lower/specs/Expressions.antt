@@ -128,16 +128,24 @@ module _ (structs : List TypedStruct) where
   abbrev pub move_op : BinaryOp → (pointer index : Ty) → TacOp
   move_op o pointer index = tacop.PointerMove (is_sub o) (target_cells structs pointer) (scalar_of index)
 
-  -- an operator between two values of these types; a pointer stands first
+  -- an operator after a pointer
+  abbrev pub pointer_code : BinaryOp → Ty → Ty → (dest x y : ℕ) → TacStmt
+  pointer_code o left right dest x y =
+      if is_pointer right
+      then Op dest (between_op o (target_cells structs left)) x (Some y)
+      else Op dest (move_op o left right) x (Some y)
+
+  -- an operator after an integer; in a sum with a pointer the pointer comes first
+  abbrev pub integer_code : BinaryOp → Ty → Ty → (dest x y : ℕ) → TacStmt
+  integer_code o left right dest x y =
+      if is_pointer right
+      then Op dest (move_op o right left) y (Some x)
+      else Op dest (tacop.Binary o (scalar_in (is_unsigned_op o left right))) x (Some y)
+
+  -- an operator between two values of these types
   abbrev pub binary_code : BinaryOp → Ty → Ty → (dest x y : ℕ) → TacStmt
   binary_code o left right dest x y =
-      if is_pointer left
-      then (if is_pointer right
-        then Op dest (between_op o (target_cells structs left)) x (Some y)
-        else Op dest (move_op o left right) x (Some y))
-      else (if is_pointer right
-        then Op dest (move_op o right left) y (Some x)
-        else Op dest (tacop.Binary o (scalar_in (is_unsigned_op o left right))) x (Some y))
+      if is_pointer left then pointer_code o left right dest x y else integer_code o left right dest x y
 
   abbrev pub binary : BinaryOp → Lowered → Lowered → Lows
   binary op.AndAlso a b = from_first (a.form want.Value) (b.form want.Value) (truth_code b.ty) and_code

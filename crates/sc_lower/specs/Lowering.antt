@@ -1,13 +1,16 @@
 -- What lowering keeps.
-use Rattle.std.specs.Prelude.{◌≡◌, ℕ, Bool, List}
+use Rattle.std.specs.Prelude.{◌≡◌, ℕ, Bool, List, Some, slice_get}
 use Rattle.sc_event.specs.declared.event.Event.{Event}
 use Rattle.sc_core.specs.declared.program.ProgramTree.{ProgramTree}
+use Rattle.sc_core.specs.declared.section.TypedFunction.{TypedFunction}
+use Rattle.sc_core.specs.declared.section.TypedSection.{TypedSection}
 use Rattle.sc_core.specs.Value.{Arith}
 use Rattle.sc_core.specs.WellTyped.{IsWellTyped}
 use Rattle.sc_core.specs.Meaning.{run_of, scripted_run_of, depth_by, scripted_depth_by}
 use Rattle.sc_laws.specs.Agreement.{RunsAgree}
 use Rattle.sc_tac.specs.Code.{code_run, scripted_code_run, code_depth_by, scripted_code_depth_by}
-use Rattle.sc_lower.specs.Programs.{lowered_program}
+use Rattle.sc_tac.specs.Functions.{IsFunction}
+use Rattle.sc_lower.specs.Programs.{lowered_function, lowered_program}
 
 -- The code of a well-typed program runs as the program does, in each arithmetic: its traces, its ends and the
 -- compartments that are blamed are the same wherever a run is stopped, also where compartments perform their parts of a
@@ -28,3 +31,12 @@ pub record KeepsMeaning : Type 0 where
       (set : ℕ → Bool) (trace : List Event) (inputs : List ℕ) (turns events comp : ℕ) →
       scripted_depth_by arith program set trace inputs turns events comp
       ≡ scripted_code_depth_by arith (lowered_program program) set trace inputs turns events comp
+
+-- The code of each function of a well-typed program keeps what functions of three-address code keep: its temporaries
+-- and variables are its own and assigned before they are read, there are at most as many temporaries as nodes, and it
+-- weighs less than 24 for each node.
+pub record KeepsRules : Type 0 where
+  pub functions : (program : ProgramTree) → IsWellTyped program →
+      (comp : ℕ) (section : TypedSection) → slice_get program.sections comp ≡ Some section →
+      (number : ℕ) (f : TypedFunction) → slice_get section.functions number ≡ Some f →
+      IsFunction (lowered_function program.interfaces comp section.structs f)
