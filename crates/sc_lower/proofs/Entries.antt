@@ -116,11 +116,11 @@ main_is interfaces comp name = by (comp == interfaces.main && bytes_eq name main
   by true = refl
   by false = no_main (position {X = Proto} (λ proto. bytes_eq name proto.name) (exports_of (comp_at interfaces comp)))
 
-abbrev name_of : Proto → List ℕ
+abbrev pub name_of : Proto → List ℕ
 name_of proto = proto.name
 
 -- an export of this name
-abbrev called_so : List ℕ → Option Proto → Bool
+abbrev pub called_so : List ℕ → Option Proto → Bool
 called_so name None = false
 called_so name (Some proto) = bytes_eq name proto.name
 
@@ -234,7 +234,7 @@ module _ (program : ProgramTree) (typed : is_well_typed program ≡ true) where
   one_main = eqb-true (mains_in sections) 1 (and_rest (main_fits (slice_get sections faces.main)) _ mains_so)
 
   -- a section that defines `main` is the main one
-  main_there : (comp : ℕ) (section : TypedSection) → slice_get sections comp ≡ Some section →
+  pub main_there : (comp : ℕ) (section : TypedSection) → slice_get sections comp ≡ Some section →
       list_any is_main section.functions ≡ true → comp ≡ faces.main
   main_there comp section is h =
       by (slice_get sections faces.main) refl (and_first (main_fits (slice_get sections faces.main)) _ mains_so) where
@@ -245,26 +245,26 @@ module _ (program : ProgramTree) (typed : is_well_typed program ≡ true) where
             (λ f k. and_first (is_main f) _ k) own.functions fits) one_main
 
   module _ (comp : ℕ) (section : TypedSection) (is : slice_get sections comp ≡ Some section) where
-    place : ForSection faces faces.comps comp section
+    pub place : ForSection faces faces.comps comp section
     place = for_section faces 0 faces.comps sections sections_so comp section is
 
     abbrev exports : List Proto
     exports = place.interface.exports
 
-    export_names : are_distinct (map name_of exports) ≡ true
+    pub export_names : are_distinct (map name_of exports) ≡ true
     export_names =
         and_first (are_distinct (map name_of exports))
         _ (and_rest (are_distinct (map (import_name faces) place.interface.imports ++ map {A = TypedFunction}
         (λ f. f.name) section.functions)) _ place.placed.faces)
 
-    exports_so : list_all (export_fits section.functions) exports ≡ true
+    pub exports_so : list_all (export_fits section.functions) exports ≡ true
     exports_so =
         and_first (list_all (export_fits section.functions) exports) _ (and_rest (are_distinct (map name_of exports))
         _ (and_rest (are_distinct (map (import_name faces) place.interface.imports ++ map {A = TypedFunction}
         (λ f. f.name) section.functions)) _ place.placed.faces))
 
     -- a function is entered by an export exactly where it is called so
-    export_of : (index : ℕ) (name : List ℕ) → same_entry (Export index) (entry_of faces comp name)
+    pub export_of : (index : ℕ) (name : List ℕ) → same_entry (Export index) (entry_of faces comp name)
         ≡ called_so name (export_at faces comp index)
     export_of index name =
         by (comp == faces.main && bytes_eq name main_name) refl

@@ -9,8 +9,10 @@ pub mod Matching
 pub mod Operators
 pub mod Passing
 pub mod Plans
+pub mod Programs
 pub mod Rows
 pub mod Rules
+pub mod Sections
 pub mod Shapes
 pub mod Sizes
 pub mod Statements

@@ -66,6 +66,7 @@ pub record PassedByAll (temps : ℕ) (scope : Scope) (callable : Callable) (resu
   pub continues : test tac.Continue ≡ true
   pub called : (to : CallTarget) (signature : Signature) (dest : Option ℕ) (at : List ℕ) →
       target_signature callable to ≡ Some signature →
+      (es : List TypedExpr) → all_go_into signature.params (map (judged scope) es) ≡ true →
       length at ≡ length signature.params → (is_some dest ≡ true → is_some signature.result ≡ true) → Below temps dest →
       AllBelow temps at →
       test (call_layer to dest at) ≡ true
@@ -189,7 +190,7 @@ module _ (temps : ℕ) (scope : Scope) (callable : Callable) (result : Option Ty
       All (call_code c.target dest (many (map form c.args) n).at ∷ [])
   call_passes c s dest n results lt le =
       call_one c.target dest (many (map form c.args) n).at
-      (passed.called c.target s.signature dest (many (map form c.args) n).at s.is (many_length c.args n
+      (passed.called c.target s.signature dest (many (map form c.args) n).at s.is c.args s.fit (many_length c.args n
       ∙ goes_length s.signature.params c.args s.fit) results lt ((many_clean s.signature.params c.args n s.fit).below
       le))
 

@@ -38,7 +38,6 @@ use Rattle.sc_tac.specs.declared.stmt.TacStmt.{TacStmt-F}
 use Rattle.sc_tac.specs.Functions.{names_own_temps, names_own_object, takes_two, has_operands, passes_few, returns_result, passes_words, enters_by_words, stray_break, stray_continue, has_none, IsFunction}
 use Rattle.sc_tac.specs.Flow.{all_assigned_first}
 use Rattle.sc_tac.specs.Parts.{one_or_none, everywhere}
-use Rattle.sc_lower.specs.Lowering.{KeepsRules}
 use Rattle.sc_lower.specs.Statements.{Part, both, in_turn, block_code, first_of as first_temp}
 use Rattle.sc_lower.specs.Programs.{inits_code, body_code, exports_of, export_called, entry_of, lowered_function}
 use Rattle.sc_lower.proofs.Entries.{sections_so, mains_so}
@@ -49,7 +48,7 @@ use Rattle.sc_lower.proofs.Strays.{breaks_in_loops, continues_in_bodies}
 use Rattle.sc_lower.proofs.Tests.{call_layer, Below, AllBelow, PassedBy}
 
 -- TESTS
-beq_same : (a b : Bool) → a ≡ b → beq a b ≡ true
+pub beq_same : (a b : Bool) → a ≡ b → beq a b ≡ true
 beq_same true true h = refl
 beq_same true false h = absurd (cc)
 beq_same false true h = absurd (cc)
@@ -153,7 +152,7 @@ output_takes_one b signature h =
     let same : record { params = ty.Int ∷ []; result = None } ≡ signature = cc is in
     sym (ap (λ (s : Signature). length s.params) same)
 
-types_length : (a b : List Ty) → same_types a b ≡ true → length a ≡ length b
+pub types_length : (a b : List Ty) → same_types a b ≡ true → length a ≡ length b
 types_length [] [] h = refl
 types_length [] (y ∷ b) h = absurd (false≢true h)
 types_length (x ∷ a) [] h = absurd (false≢true h)
@@ -223,8 +222,9 @@ module _ (program : ProgramTree) (typed : is_well_typed program ≡ true) where
   faces = program.interfaces
 
   -- what a function of a section fits
-  record Fitting (callable : Callable) (section : TypedSection) (f : TypedFunction) : Type 0 where
+  pub record Fitting (callable : Callable) (section : TypedSection) (f : TypedFunction) : Type 0 where
     pub few : length f.params ≤ most_params
+    pub passed : list_all {X = TypedParam} (λ p. passed_fits section.structs p.ty) f.params ≡ true
     pub locals : list_all (local_fits (scope_of section f)) f.locals ≡ true
     pub body : body_fits (scope_of section f) callable f.result f.body ≡ true
 
@@ -237,6 +237,7 @@ module _ (program : ProgramTree) (typed : is_well_typed program ≡ true) where
       _ (and_rest (list_all {X = TypedParam} (λ p. passed_fits section.structs p.ty) f.params) _ behind) in
       record {
         few = leb-true (length f.params) most_params (and_first (nat_le (length f.params) most_params) _ h);
+        passed = and_first (list_all {X = TypedParam} (λ p. passed_fits section.structs p.ty) f.params) _ behind;
         locals = and_first (list_all (local_fits (scope_of section f)) f.locals) _ later;
         body =
             and_first (body_fits (scope_of section f) callable f.result f.body)
@@ -250,7 +251,7 @@ module _ (program : ProgramTree) (typed : is_well_typed program ≡ true) where
       _ (and_rest (list_all (global_fits section.structs) section.globals)
       _ (and_rest (structs_fit section.structs 0 section.structs) _ placed.fits))
 
-  function_at : (interface : Interface) (section : TypedSection) → Placed faces interface section →
+  pub function_at : (interface : Interface) (section : TypedSection) → Placed faces interface section →
       (n : ℕ) (f : TypedFunction) → slice_get section.functions n ≡ Some f →
       Fitting (callable_in faces interface section) section f
   function_at interface section placed n f item =
@@ -258,12 +259,12 @@ module _ (program : ProgramTree) (typed : is_well_typed program ≡ true) where
       (all_at (function_fits (callable_in faces interface section) section) section.functions
       (functions_fit interface section placed) n f item)
 
-  abbrev names : Interface → TypedSection → Bool
+  abbrev pub names : Interface → TypedSection → Bool
   names interface section =
       are_distinct (map (import_name faces) interface.imports ++ map {A = TypedFunction} (λ f. f.name)
       section.functions)
 
-  exports_fit : (interface : Interface) (section : TypedSection) → Placed faces interface section →
+  pub exports_fit : (interface : Interface) (section : TypedSection) → Placed faces interface section →
       list_all (export_fits section.functions) interface.exports ≡ true
   exports_fit interface section placed =
       and_first (list_all (export_fits section.functions) interface.exports)
@@ -271,7 +272,7 @@ module _ (program : ProgramTree) (typed : is_well_typed program ≡ true) where
       _ placed.faces))
 
   -- an export has a function with its head
-  any_headed : (functions : List TypedFunction) (proto : Proto) → export_fits functions proto ≡ true →
+  pub any_headed : (functions : List TypedFunction) (proto : Proto) → export_fits functions proto ≡ true →
       list_any {X = TypedFunction} (λ f. bytes_eq f.name proto.name && same_signature (signature_of f)
       (proto_signature proto)) functions ≡ true
   any_headed functions proto h =
@@ -313,11 +314,17 @@ module _ (program : ProgramTree) (typed : is_well_typed program ≡ true) where
       found.item.exports (exports_fit found.item place.section place.placed) index proto found.gives)
 
   module _ (comp : ℕ) (section : TypedSection) (is : slice_get program.sections comp ≡ Some section) where
-    place : ForSection faces faces.comps comp section
+    pub place : ForSection faces faces.comps comp section
     place = for_section faces 0 faces.comps program.sections (sections_so program typed) comp section is
 
-    abbrev callable : Callable
+    abbrev pub callable : Callable
     callable = callable_in faces place.interface section
+
+    -- the names of its functions differ
+    pub distinct_names : are_distinct (map {A = TypedFunction} (λ f. f.name) section.functions) ≡ true
+    distinct_names =
+        own_names_differ (map (import_name faces) place.interface.imports) section.functions
+        (and_first (names place.interface section) _ place.placed.faces)
 
     -- calls take at most 8 arguments
     own_few : (o : Option TypedFunction) (n : ℕ) (signature : Signature) → slice_get section.functions n ≡ o →
@@ -384,7 +391,7 @@ module _ (program : ProgramTree) (typed : is_well_typed program ≡ true) where
     call_objects objects target.Output dest at = refl
 
     module _ (n : ℕ) (f : TypedFunction) (item : slice_get section.functions n ≡ Some f) where
-      abbrev scope : Scope
+      abbrev pub scope : Scope
       scope = scope_of section f
 
       fits : Fitting callable section f
@@ -407,7 +414,7 @@ module _ (program : ProgramTree) (typed : is_well_typed program ≡ true) where
       code_with params =
           both (in_turn (inits_code section.structs params 0 f.locals)) (block_code section.structs params f.body) 0
 
-      abbrev temps : ℕ
+      abbrev pub temps : ℕ
       temps = (body_code section.structs f 0).next
 
       within : (code_with (length scope.params)).next ≤ temps
@@ -415,7 +422,7 @@ module _ (program : ProgramTree) (typed : is_well_typed program ≡ true) where
         itself : (n : ℕ) → n ≤ n
         itself n = omega numbers
 
-      all : (test : TacStmt-F Bool → Bool) → PassedByAll temps scope callable f.result test →
+      pub all : (test : TacStmt-F Bool → Bool) → PassedByAll temps scope callable f.result test →
           everywhere test (body_code section.structs f 0).code ≡ true
       all test passed =
           subst (λ p. everywhere test (code_with p).code ≡ true) params_same
@@ -436,7 +443,7 @@ module _ (program : ProgramTree) (typed : is_well_typed program ≡ true) where
         cycle = λ a b c. refl;
         breaks = refl;
         continues = refl;
-        called = λ to signature dest at is count results below every. call_own_temps temps to signature dest at is count
+        called = λ to signature dest at is es goes count results below every. call_own_temps temps to signature dest at is count
             below every;
         returned = λ v there below. own_option temps v below;
       })
@@ -450,7 +457,7 @@ module _ (program : ProgramTree) (typed : is_well_typed program ≡ true) where
         breaks = refl;
         continues = refl;
         called =
-            λ to signature dest at is count results below every. call_objects (length (variables section.structs f)) to
+            λ to signature dest at is es goes count results below every. call_objects (length (variables section.structs f)) to
             dest at;
         returned = λ v there below. refl;
       })
@@ -462,7 +469,7 @@ module _ (program : ProgramTree) (typed : is_well_typed program ≡ true) where
         cycle = λ a b c. refl;
         breaks = refl;
         continues = refl;
-        called = λ to signature dest at is count results below every. call_operands to dest at;
+        called = λ to signature dest at is es goes count results below every. call_operands to dest at;
         returned = λ v there below. refl;
       })
 
@@ -473,7 +480,7 @@ module _ (program : ProgramTree) (typed : is_well_typed program ≡ true) where
         cycle = λ a b c. refl;
         breaks = refl;
         continues = refl;
-        called = λ to signature dest at is count results below every. call_few to signature dest at is count;
+        called = λ to signature dest at is es goes count results below every. call_few to signature dest at is count;
         returned = λ v there below. refl;
       })
 
@@ -484,7 +491,7 @@ module _ (program : ProgramTree) (typed : is_well_typed program ≡ true) where
         cycle = λ a b c. refl;
         breaks = refl;
         continues = refl;
-        called = λ to signature dest at is count results below every. call_returns (is_some f.result) to dest at;
+        called = λ to signature dest at is es goes count results below every. call_returns (is_some f.result) to dest at;
         returned = λ v there below. beq_same (is_some v) (is_some f.result) there;
       })
 
@@ -494,10 +501,6 @@ module _ (program : ProgramTree) (typed : is_well_typed program ≡ true) where
 
       abbrev others : List ℕ
       others = map {A = TypedLocal} (λ l. cells_of section.structs l.ty) f.locals
-
-      distinct : are_distinct (map {A = TypedFunction} (λ f. f.name) section.functions) ≡ true
-      distinct = own_names_differ (map (import_name faces) place.interface.imports) section.functions
-          (and_first (names place.interface section) _ place.placed.faces)
 
       main_enters : (comp == faces.main) ≡ true → bytes_eq f.name main_name ≡ true →
           passes_words (length f.params) (parameters ++ others) ≡ true
@@ -510,7 +513,7 @@ module _ (program : ProgramTree) (typed : is_well_typed program ≡ true) where
           _ (mains_so program typed)) in
           let same =
           named_so main_name (λ f. same_signature (signature_of f) (record { params = []; result = Some ty.Int }))
-          section.functions distinct any n f item called in
+          section.functions distinct_names any n f item called in
           words_pass section.structs f.params [] others (and_first (same_types (signature_of f).params []) _ same)
 
       export_enters : (o : Option ℕ) →
@@ -523,7 +526,7 @@ module _ (program : ProgramTree) (typed : is_well_typed program ≡ true) where
           any_headed section.functions found.item (all_at (export_fits section.functions) place.interface.exports
           (exports_fit place.interface section place.placed) i found.item found.is) in
           let same = named_so found.item.name (λ f. same_signature (signature_of f) (proto_signature found.item))
-          section.functions distinct headed n f item found.passes in
+          section.functions distinct_names headed n f item found.passes in
           words_pass section.structs f.params found.item.params others
           (and_first (same_types (signature_of f).params (proto_signature found.item).params) _ same)
 
@@ -578,8 +581,3 @@ module _ (program : ProgramTree) (typed : is_well_typed program ≡ true) where
         assigned_first = subst (λ p. all_assigned_first temps (code_with p).code ≡ true) params_same
             (all_assigned scope callable f.result section.structs f.locals f.body inits fits.body temps);
       }
-
-pub keeps_rules : KeepsRules
-keeps_rules = record {
-  functions = λ program typed comp section is number f item. function_kept program typed comp section is number f item;
-}

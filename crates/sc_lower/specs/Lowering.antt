@@ -10,6 +10,7 @@ use Rattle.sc_core.specs.Meaning.{run_of, scripted_run_of, depth_by, scripted_de
 use Rattle.sc_laws.specs.Agreement.{RunsAgree}
 use Rattle.sc_tac.specs.Code.{code_run, scripted_code_run, code_depth_by, scripted_code_depth_by}
 use Rattle.sc_tac.specs.Functions.{IsFunction}
+use Rattle.sc_tac.specs.Programs.{IsProgram}
 use Rattle.sc_lower.specs.Programs.{lowered_function, lowered_program}
 
 -- The code of a well-typed program runs as the program does, in each arithmetic: its traces, its ends and the
@@ -32,11 +33,12 @@ pub record KeepsMeaning : Type 0 where
       scripted_depth_by arith program set trace inputs turns events comp
       ≡ scripted_code_depth_by arith (lowered_program program) set trace inputs turns events comp
 
--- The code of each function of a well-typed program keeps what functions of three-address code keep: its temporaries
--- and variables are its own and assigned before they are read, there are at most as many temporaries as nodes, and it
--- weighs less than 24 for each node.
+-- The code of a well-typed program keeps what three-address code keeps. Of each function: its temporaries and variables
+-- are its own, each temporary is assigned before it is read, there are at most as many as nodes, and the code weighs less
+-- than 24 for each node. Of the program: its entries, its calls and the globals that it names.
 pub record KeepsRules : Type 0 where
   pub functions : (program : ProgramTree) → IsWellTyped program →
       (comp : ℕ) (section : TypedSection) → slice_get program.sections comp ≡ Some section →
       (number : ℕ) (f : TypedFunction) → slice_get section.functions number ≡ Some f →
       IsFunction (lowered_function program.interfaces comp section.structs f)
+  pub programs : (program : ProgramTree) → IsWellTyped program → IsProgram (lowered_program program)

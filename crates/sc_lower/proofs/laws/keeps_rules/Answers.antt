@@ -1,4 +1,4 @@
-use Rattle.sc_lower.proofs.Rules.{keeps_rules}
+use Rattle.sc_lower.proofs.Programs.{keeps_rules}
 use Rattle.sc_lower.proofs.laws.keeps_rules.Goals as goal
 
 pub returns : goal.returns
