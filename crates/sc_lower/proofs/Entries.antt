@@ -158,12 +158,14 @@ export_is name [] index h = refl
 export_is name (p ∷ ps) index h =
     by (λ i. export_is name ps i (and_rest (not (list_any (bytes_eq p.name) (map name_of ps))) _ h))
     (bytes_eq name p.name) refl index where
-      along : (index : ℕ) → same_entry (Export index) (option_map Export (position (λ p. bytes_eq name p.name) (p ∷ ps)))
+      along : (index : ℕ) →
+          same_entry (Export index) (option_map Export (position (λ p. bytes_eq name p.name) (p ∷ ps)))
           ≡ same_entry (Export index)
           (option_map Export (cond (bytes_eq name p.name) (Some 0)
           (option_map suc (position (λ p. bytes_eq name p.name) ps))))
       along index =
-          ap (λ o. same_entry (Export index) (option_map Export o)) (position-cons (λ (p : Proto). bytes_eq name p.name) p
+          ap (λ o. same_entry (Export index) (option_map Export o)) (position-cons (λ (p : Proto). bytes_eq name p.name)
+          p
           ps)
 
       by : ((i : ℕ) → same_entry (Export i) (option_map Export (position (λ p. bytes_eq name p.name) ps))
@@ -274,7 +276,8 @@ module _ (program : ProgramTree) (typed : is_well_typed program ≡ true) where
               same_entry (Export index) (if b then Some Main else export_called faces comp name)
               ≡ called_so name (slice_get exports index)
           by true own =
-              sym (main_not_called section.functions exports index name exports_so (and_rest (comp == faces.main) _ own))
+              sym (main_not_called section.functions exports index name exports_so
+              (and_rest (comp == faces.main) _ own))
           by false own =
               ap (λ (o : Option Interface). same_entry (Export index)
               (option_map Export (position {X = Proto} (λ proto. bytes_eq name proto.name) (exports_of o)))) place.is

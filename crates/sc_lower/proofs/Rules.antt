@@ -443,7 +443,8 @@ module _ (program : ProgramTree) (typed : is_well_typed program ≡ true) where
         cycle = λ a b c. refl;
         breaks = refl;
         continues = refl;
-        called = λ to signature dest at is es goes count results below every. call_own_temps temps to signature dest at is count
+        called = λ to signature dest at is es goes count results below every. call_own_temps temps to signature dest at
+            is count
             below every;
         returned = λ v there below. own_option temps v below;
       })
@@ -457,7 +458,8 @@ module _ (program : ProgramTree) (typed : is_well_typed program ≡ true) where
         breaks = refl;
         continues = refl;
         called =
-            λ to signature dest at is es goes count results below every. call_objects (length (variables section.structs f)) to
+            λ to signature dest at is es goes count results below every. call_objects
+            (length (variables section.structs f)) to
             dest at;
         returned = λ v there below. refl;
       })
@@ -491,7 +493,8 @@ module _ (program : ProgramTree) (typed : is_well_typed program ≡ true) where
         cycle = λ a b c. refl;
         breaks = refl;
         continues = refl;
-        called = λ to signature dest at is es goes count results below every. call_returns (is_some f.result) to dest at;
+        called = λ to signature dest at is es goes count results below every. call_returns (is_some f.result) to dest
+            at;
         returned = λ v there below. beq_same (is_some v) (is_some f.result) there;
       })
 

@@ -215,7 +215,8 @@ module _ (arith : Arith) (program : ProgramTree) (typed : is_well_typed program 
           subst (λ o. Lasting (λ v. answers (promises o) v ≡ true) (called L body comp (Own n) args s))
           (sym (slice_get-map signature_of section.functions n)) (by (slice_get section.functions n) refl) where
             by : (o : Option TypedFunction) → slice_get section.functions n ≡ o →
-                Lasting (λ v. answers (promises (option_map signature_of o)) v ≡ true) (called L body comp (Own n) args s)
+                Lasting (λ v. answers (promises (option_map signature_of o)) v ≡ true)
+                (called L body comp (Own n) args s)
             by None item = lasting_any (λ v. answers false v ≡ true) (called L body comp (Own n) args s) (λ v. refl)
             by (Some f) item =
                 lasting_then (λ v. answers (is_some f.result) v ≡ true) (turn s) (λ _ s. call_own L body comp n args s)

@@ -34,8 +34,8 @@ pub record KeepsMeaning : Type 0 where
       ≡ scripted_code_depth_by arith (lowered_program program) set trace inputs turns events comp
 
 -- The code of a well-typed program keeps what three-address code keeps. Of each function: its temporaries and variables
--- are its own, each temporary is assigned before it is read, there are at most as many as nodes, and the code weighs less
--- than 24 for each node. Of the program: its entries, its calls and the globals that it names.
+-- are its own, each temporary is assigned before it is read, there are at most as many as nodes, and the code weighs
+-- less than 24 for each node. Of the program: its entries, its calls and the globals that it names.
 pub record KeepsRules : Type 0 where
   pub functions : (program : ProgramTree) → IsWellTyped program →
       (comp : ℕ) (section : TypedSection) → slice_get program.sections comp ≡ Some section →
