@@ -1,5 +1,6 @@
 pub mod Assigned
 pub mod Bounds
+pub mod Branches
 pub mod Entries
 pub mod Expressions
 pub mod Flowing

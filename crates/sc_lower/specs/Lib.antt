@@ -1,3 +1,4 @@
+pub mod Branches
 pub mod Expressions
 pub mod Lowering
 pub mod Programs

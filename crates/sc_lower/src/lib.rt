@@ -3,4 +3,4 @@
 
 mod laws;
 
-pub use laws::{keeps_meaning, keeps_rules};
+pub use laws::{keeps_branches, keeps_meaning, keeps_rules};
