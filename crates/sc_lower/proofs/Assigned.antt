@@ -181,12 +181,13 @@ further : {A B C : Type 0} → A ⊎ B → (B → C) → A ⊎ C
 further (inl a) f = inl a
 further (inr b) f = inr (f b)
 
+pub or_second : (c b : Bool) → b ≡ true → (c || b) ≡ true
+or_second true b h = refl
+or_second false b h = h
+
 pub into : (x t : ℕ) (b : Bool) → (t ≡ x) ⊎ (b ≡ true) → (x == t || b) ≡ true
 into x t b (inl e) = ap (λ c. c || b) (eq-eqb x t (sym e))
-into x t b (inr h) = or_second (x == t) b h where
-  or_second : (c b : Bool) → b ≡ true → (c || b) ≡ true
-  or_second true b h = refl
-  or_second false b h = h
+into x t b (inr h) = or_second (x == t) b h
 
 pub out_of : (x t : ℕ) (b : Bool) → (x == t || b) ≡ true → (t ≡ x) ⊎ (b ≡ true)
 out_of x t b h = either (x == t) b h (λ k. inl (is_it x t k)) (λ k. inr k)

@@ -146,7 +146,7 @@ one_further : (i : ℕ) (o : Option ℕ) → same_entry (Export (suc i)) (option
 one_further i None = refl
 one_further i (Some j) = eqb-suc-suc i j
 
-not_true : (b : Bool) → not b ≡ true → b ≡ false
+pub not_true : (b : Bool) → not b ≡ true → b ≡ false
 not_true true h = absurd (false≢true h)
 not_true false h = refl
 

@@ -19,7 +19,7 @@ use Rattle.sc_core.specs.declared.stmt.TypedSimpleKind.{TypedSimpleKind}
 use Rattle.sc_core.specs.declared.stmt.TypedSimpleKind.TheVariants as simple
 use Rattle.sc_core.specs.declared.ty.Ty.{Ty}
 use Rattle.sc_core.specs.declared.value.Want.TheVariants as want
-use Rattle.sc_core.specs.Typing.{Scope, Judged, judged, is_type, variable_ty, goes_into, all_go_into, Callable, target_signature, result_goes, is_target, is_scalar, returned_fits, call_fits, assign_fits, assign_call_fits, returned_call_fits, simple_fits, part_fits, kind_fits, stmt_fits, body_fits, init_fits}
+use Rattle.sc_core.specs.Typing.{Scope, judged, is_type, variable_ty, goes_into, all_go_into, Callable, target_signature, result_goes, is_target, is_scalar, call_fits, assign_fits, assign_call_fits, returned_call_fits, simple_fits, part_fits, kind_fits, stmt_fits, body_fits, init_fits}
 use Rattle.sc_core.proofs.Layers.{layer_of, stmt_at}
 use Rattle.sc_core.proofs.Induction.{Each, Inside, stmt_induction}
 use Rattle.sc_tac.specs.declared.stmt.TacStmt.{TacStmt}
@@ -30,18 +30,14 @@ use Rattle.sc_lower.specs.Expressions.{Low, Lows, Forms, alone, at_place, place_
 use Rattle.sc_lower.specs.Statements.{Part, Parts, just, after, both, in_turn, Many, many, store_at, assign, first_of, call_code, call_alone, call_for, return_value, fork, test as tests, cycle, simple_code, part_code, kind_step, stmt_code, block_code}
 use Rattle.sc_lower.specs.Programs.{init_code, inits_code}
 use Rattle.sc_lower.proofs.Tests.{scalar_fits, all_append}
-use Rattle.sc_lower.proofs.Passing.{signed, InitsFit}
+use Rattle.sc_lower.proofs.Passing.{returned_value, signed, InitsFit}
 use Rattle.sc_lower.proofs.Statements.{Shaped, shaped, not_output, goes_promised}
-use Rattle.sc_lower.proofs.Strays.{is_straight, Straight, expr_straight, local_straight}
-use Rattle.sc_lower.proofs.Assigned.{first, fresh, first_append, fresh_append, first_one, fresh_one, straight_fresh, plain_reads, only_reads, no_reads, one_read, two_read, Settled, into, out_of, if_reads, expr_settled, local_settled}
+use Rattle.sc_lower.proofs.Strays.{value_straight, target_straight, is_straight, Straight, local_straight}
+use Rattle.sc_lower.proofs.Assigned.{or_second, first, fresh, first_append, fresh_append, first_one, fresh_one, straight_fresh, plain_reads, only_reads, no_reads, one_read, two_read, Settled, into, out_of, if_reads, expr_settled, local_settled}
 
 never : (c : Bool) → (c ≡ true → false ≡ true) → c ≡ false
 never true h = sym (h refl)
 never false h = refl
-
-or_second : (c b : Bool) → b ≡ true → (c || b) ≡ true
-or_second true b h = refl
-or_second false b h = h
 
 or_first : (c b : Bool) → c ≡ true → (c || b) ≡ true
 or_first true b h = refl
@@ -295,13 +291,6 @@ module _ (scope : Scope) (callable : Callable) (result : Option Ty) (structs : L
   abbrev form : TypedExpr → Forms
   form = forms structs params
 
-  value_straight : (e : TypedExpr) → (judged scope e).fits ≡ true → (n : ℕ) → Straight (form e want.Value n).code
-  value_straight e h n = expr_straight scope structs e h want.Value n
-
-  target_straight : (place : TypedExpr) → is_target (judged scope place) ≡ true → (n : ℕ) →
-      Straight (form place want.Place n).code
-  target_straight place h n = expr_straight scope structs place (and_first (judged scope place).fits _ h) want.Place n
-
   -- arguments
   record ManySteady (es : List TypedExpr) (n : ℕ) : Type 0 where
     pub keeps : (t : ℕ) (b : Bool) (ahead : Ahead) →
@@ -324,7 +313,8 @@ module _ (scope : Scope) (callable : Callable) (result : Option Ty) (structs : L
             (behind k)) f)) (sym (first_append t x.code rest.code ahead) ∙ g);
         straight =
             all_append is_straight x.code rest.code
-            (value_straight e (and_first (judged scope e).fits _ (and_first (goes_into ty (judged scope e)) _ h)) n)
+            (value_straight scope structs e
+            (and_first (judged scope e).fits _ (and_first (goes_into ty (judged scope e)) _ h)) n)
             hr.straight;
       }
 
@@ -381,9 +371,10 @@ module _ (scope : Scope) (callable : Callable) (result : Option Ty) (structs : L
       Steady (assign (form place) (form e))
   assigned_steady place e h =
       assign_steady (form place) (form e) (expr_settled structs params place want.Place)
-      (target_straight place (and_first (is_target (judged scope place)) _ h))
+      (target_straight scope structs place (and_first (is_target (judged scope place)) _ h))
       (expr_settled structs params e want.Value)
-      (value_straight e (and_first (judged scope e).fits _ (and_rest (is_target (judged scope place)) _ h)))
+      (value_straight scope structs e (and_first (judged scope e).fits _ (and_rest (is_target (judged scope place))
+      _ h)))
 
   assign_call_steady : (place : TypedExpr) (c : TypedCall) →
       assign_call_fits callable (judged scope place) c.target (map (judged scope) c.args) ≡ true →
@@ -394,7 +385,7 @@ module _ (scope : Scope) (callable : Callable) (result : Option Ty) (structs : L
       (and_first (call_fits callable c.target (map (judged scope) c.args)) _ inner)
       (and_rest (call_fits callable c.target (map (judged scope) c.args)) _ inner)
       (store_steady (form place) (expr_settled structs params place want.Place)
-      (target_straight place (and_first (is_target (judged scope place)) _ h)))
+      (target_straight scope structs place (and_first (is_target (judged scope place)) _ h)))
 
   simple_steady : (k : TypedSimpleKind) → simple_fits scope callable result k ≡ true →
       Steady (simple_code structs params k)
@@ -409,11 +400,7 @@ module _ (scope : Scope) (callable : Callable) (result : Option Ty) (structs : L
 
   test_steady : (cond : TypedExpr) → (judged scope cond).fits ≡ true → Steady (tests (form cond))
   test_steady cond h = after_steady (form cond want.Value) (λ at. just (emit.If at [] (emit.Break ∷ []) ∷ []))
-      (expr_settled structs params cond want.Value) (value_straight cond h) test_with
-
-  returned_value : (r : Option Ty) (e : Judged) → returned_fits r e ≡ true → e.fits ≡ true
-  returned_value None e h = absurd (false≢true h)
-  returned_value (Some t) e h = and_first e.fits _ h
+      (expr_settled structs params cond want.Value) (value_straight scope structs cond h) test_with
 
   return_call_steady : (r : Option Ty) (c : TypedCall) →
       returned_call_fits callable r c.target (map (judged scope) c.args) ≡ true →
@@ -447,7 +434,8 @@ module _ (scope : Scope) (callable : Callable) (result : Option Ty) (structs : L
       let inner = and_rest (is_scalar (judged scope cond)) _ fits in
       after_steady (form cond want.Value) (fork (block_code structs params x) (block_code structs params y))
       (expr_settled structs params cond want.Value)
-      (value_straight cond (scalar_fits (judged scope cond) (and_first (is_scalar (judged scope cond)) _ fits)))
+      (value_straight scope structs cond (scalar_fits (judged scope cond) (and_first (is_scalar (judged scope cond))
+      _ fits)))
       (fork_steady (block_code structs params x) (block_code structs params y)
       (block_steady x looping
       (and_first (list_all {X = Bool → Bool} (λ s. s looping) (map (stmt_fits scope callable result) x)) _ inner) h.0)
@@ -471,7 +459,7 @@ module _ (scope : Scope) (callable : Callable) (result : Option Ty) (structs : L
   level line layer.Return h looping fits = nothing_returned
   level line (layer.ReturnValue e) h looping fits =
       after_steady (form e want.Value) return_value (expr_settled structs params e want.Value)
-      (value_straight e (returned_value result (judged scope e) fits)) return_steady
+      (value_straight scope structs e (returned_value result (judged scope e) fits)) return_steady
   level line (layer.ReturnCall c) h looping fits = return_call_steady result c fits
 
   stmt_steady : (stmt : TypedStmt) → Q stmt
@@ -494,7 +482,7 @@ module _ (scope : Scope) (callable : Callable) (result : Option Ty) (structs : L
   init_steady k local (Some e) own h =
       assign_steady (at_place local.ty (alone (place_code params (Local k)))) (form e) (local_settled params k local.ty)
       (local_straight scope structs k local.ty own want.Place) (expr_settled structs params e want.Value)
-      (value_straight e (and_first (judged scope e).fits _ h))
+      (value_straight scope structs e (and_first (judged scope e).fits _ h))
 
   inits_steady : (k : ℕ) (locals : List TypedLocal) → InitsFit scope k locals →
       Steady (in_turn (inits_code structs params k locals))

@@ -41,6 +41,11 @@ pub signed : (o : Option Signature) (args : List Judged) → args_fit o args ≡
 signed None args h = absurd (false≢true h)
 signed (Some signature) args h = record { signature = signature; is = refl; fit = h }
 
+-- a value that is returned fits
+pub returned_value : (r : Option Ty) (e : Judged) → returned_fits r e ≡ true → e.fits ≡ true
+returned_value None e h = absurd (false≢true h)
+returned_value (Some t) e h = and_first e.fits _ h
+
 -- a result that goes into a place is there
 result_there : (o : Option Signature) (signature : Signature) (place : Ty) → o ≡ Some signature →
     result_goes o place ≡ true → is_some signature.result ≡ true
@@ -298,10 +303,6 @@ module _ (temps : ℕ) (scope : Scope) (callable : Callable) (result : Option Ty
   returned_some : (r : Option Ty) (e : Judged) → returned_fits r e ≡ true → is_some r ≡ true
   returned_some None e h = absurd (false≢true h)
   returned_some (Some t) e h = refl
-
-  returned_value : (r : Option Ty) (e : Judged) → returned_fits r e ≡ true → e.fits ≡ true
-  returned_value None e h = absurd (false≢true h)
-  returned_value (Some t) e h = and_first e.fits _ h
 
   return_call_clean : (r : Option Ty) → r ≡ result → (c : TypedCall) →
       returned_call_fits callable r c.target (map (judged scope) c.args) ≡ true →

@@ -29,7 +29,7 @@ use Rattle.sc_tac.specs.declared.program.TacSection.{TacSection}
 use Rattle.sc_tac.specs.Programs.{same_entry, count, is_entered, are_entered, exports_entered, main_entered, entry_known, numbered, IsProgram}
 use Rattle.sc_lower.specs.Lowering.{KeepsRules}
 use Rattle.sc_lower.specs.Programs.{exports_of, export_called, entry_of, lowered_function, lowered_section, lowered_sections, lowered_program}
-use Rattle.sc_lower.proofs.Entries.{first_at, main_is, called_so, export_of, sections_so, mains_so}
+use Rattle.sc_lower.proofs.Entries.{not_true, first_at, main_is, called_so, export_of, sections_so, mains_so}
 use Rattle.sc_lower.proofs.Rules.{place as place_of, types_length, any_headed, exports_fit, distinct_names, beq_same, function_kept}
 use Rattle.sc_lower.proofs.Sections.{all_made, result_same, globals_named, own_called, exports_called, imports_called}
 
@@ -46,10 +46,6 @@ count_none p (x ∷ xs) h = by (p x) h (count_none p xs) where
   by false h later = zero_first (count p xs) (later h) where
     zero_first : (n : ℕ) → n ≡ 0 → 0 + n ≡ 0
     zero_first n h = omega (numbers, h)
-
-not_so : (b : Bool) → not b ≡ true → b ≡ false
-not_so true h = absurd (false≢true h)
-not_so false h = refl
 
 abbrev name_of : TypedFunction → List ℕ
 name_of f = f.name
@@ -89,7 +85,7 @@ named_once name (f ∷ fs) distinct h =
           one_first (count {X = TypedFunction} (λ f. bytes_eq f.name name) fs)
           (count_none {A = TypedFunction} (λ f. bytes_eq f.name name) fs
           (named_none name fs (subst (λ n. list_any (bytes_eq n) (map name_of fs) ≡ false) (same_text f.name name is)
-          (not_so (list_any (bytes_eq f.name) (map name_of fs))
+          (not_true (list_any (bytes_eq f.name) (map name_of fs))
           (and_first (not (list_any (bytes_eq f.name) (map name_of fs))) _ distinct)))))
       by false is h later = zero_first (count {X = TypedFunction} (λ f. bytes_eq f.name name) fs) (later h)
 

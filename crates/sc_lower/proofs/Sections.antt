@@ -34,6 +34,7 @@ use Rattle.sc_tac.specs.declared.program.TacSection.{TacSection}
 use Rattle.sc_tac.specs.Functions.{passes_words}
 use Rattle.sc_tac.specs.Programs.{takes_result, own_call_fits, cross_call_fits, names_own_global, calls_own, calls_exports, calls_imports, in_section}
 use Rattle.sc_lower.specs.Programs.{lowered_function, lowered_section}
+use Rattle.sc_lower.proofs.Entries.{not_true}
 use Rattle.sc_lower.proofs.Rules.{found_allowed, function_at, place as place_of, callable, all}
 use Rattle.sc_lower.proofs.Tests.{call_layer, PassedBy}
 
@@ -52,10 +53,6 @@ one_cell structs (ty.Struct n) v h a = absurd (false≢true h)
 one_cell structs (ty.Pointer stars b) v h a = refl
 one_cell structs (ty.Array stars b length) v h a = absurd (false≢true (sym a))
 
-not_so : (b : Bool) → not b ≡ true → b ≡ false
-not_so true h = absurd (false≢true h)
-not_so false h = refl
-
 words_go : (structs : List TypedStruct) (params : List TypedParam) (es : List Judged) (rest : List ℕ) →
     all_go_into (map {A = TypedParam} (λ p. p.ty) params) es ≡ true →
     list_all {X = TypedParam} (λ p. passed_fits structs p.ty) params ≡ true →
@@ -66,7 +63,7 @@ words_go structs (p ∷ params) (e ∷ es) rest h k =
     let goes = and_rest e.fits _ (and_first (goes_into p.ty e) _ h) in
     let passed = and_first (passed_fits structs p.ty) _ k in
     and_from _ _ (one_cell structs p.ty (decayed e.ty) goes
-    (not_so (is_array p.ty) (and_first (not (is_array p.ty)) _ passed)))
+    (not_true (is_array p.ty) (and_first (not (is_array p.ty)) _ passed)))
     (words_go structs params es rest (and_rest (goes_into p.ty e) _ h) (and_rest (passed_fits structs p.ty) _ k))
 
 takes : (dest : Option ℕ) (result : Bool) → (is_some dest ≡ true → result ≡ true) → takes_result dest result ≡ true

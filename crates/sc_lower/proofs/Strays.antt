@@ -20,7 +20,7 @@ use Rattle.sc_core.specs.declared.stmt.TypedSimpleKind.TheVariants as simple
 use Rattle.sc_core.specs.declared.ty.Ty.{Ty}
 use Rattle.sc_core.specs.declared.value.Want.{Want}
 use Rattle.sc_core.specs.declared.value.Want.TheVariants as want
-use Rattle.sc_core.specs.Typing.{Scope, Judged, judged, is_type, variable_ty, goes_into, all_go_into, Callable, target_signature, is_target, is_scalar, returned_fits, call_fits, assign_fits, assign_call_fits, returned_call_fits, simple_fits, part_fits, kind_fits, stmt_fits, body_fits, init_fits}
+use Rattle.sc_core.specs.Typing.{Scope, Judged, judged, is_type, variable_ty, goes_into, all_go_into, Callable, target_signature, is_target, is_scalar, call_fits, assign_fits, assign_call_fits, returned_call_fits, simple_fits, part_fits, kind_fits, stmt_fits, body_fits, init_fits}
 use Rattle.sc_core.proofs.Layers.{layer_of, stmt_at}
 use Rattle.sc_core.proofs.Induction.{Each, Inside, stmt_induction}
 use Rattle.sc_tac.specs.declared.stmt.TacStmt.{TacStmt, TacStmt-F, fold-TacStmt, map-TacStmt, roll-TacStmt, fold-roll-TacStmt}
@@ -33,7 +33,7 @@ use Rattle.sc_lower.specs.Expressions.{Lows, Forms, alone, at_place, place_code,
 use Rattle.sc_lower.specs.Statements.{Part, Parts, just, after, both, in_turn, Many, many, store_at, assign, first_of, call_code, call_alone, call_for, return_value, fork, test as tests, cycle, simple_code, part_code, kind_step, stmt_code, block_code}
 use Rattle.sc_lower.specs.Programs.{init_code, inits_code}
 use Rattle.sc_lower.proofs.Tests.{scalar_fits, PassedBy, alone_clean, place_clean, place_passes, expr_clean}
-use Rattle.sc_lower.proofs.Passing.{signed, InitsFit}
+use Rattle.sc_lower.proofs.Passing.{returned_value, signed, InitsFit}
 
 -- STRAIGHT CODE
 -- it neither loops nor leaves a loop
@@ -63,6 +63,14 @@ module _ (scope : Scope) (structs : List TypedStruct) where
   expr_straight e h w n =
       let t : ℕ = (forms structs (length scope.params) e w n).next in
       (expr_clean t scope is_straight (straight_passed t scope) structs e h w).passes n (omega numbers)
+
+  pub value_straight : (e : TypedExpr) → (judged scope e).fits ≡ true → (n : ℕ) →
+      Straight (forms structs (length scope.params) e want.Value n).code
+  value_straight e h n = expr_straight e h want.Value n
+
+  pub target_straight : (place : TypedExpr) → is_target (judged scope place) ≡ true → (n : ℕ) →
+      Straight (forms structs (length scope.params) place want.Place n).code
+  target_straight place h n = expr_straight place (and_first (judged scope place).fits _ h) want.Place n
 
   pub local_straight : (k : ℕ) (t : Ty) → is_type (variable_ty scope (Local k)) t ≡ true → (w : Want) (n : ℕ) →
       Straight (at_place t (alone (place_code (length scope.params) (Local k))) w n).code
@@ -278,18 +286,13 @@ module _ (stray : TacStmt-F Bool → Bool) (strays : Strays stray) where
         (none_behind (call_code c.target (Some x.next) x.at) (make x.next (suc x.next)).code
         (call_none c.target (Some x.next) x.at) (k x.next (suc x.next)))
 
-    value_straight : (e : TypedExpr) → (judged scope e).fits ≡ true → (n : ℕ) → Straight (form e want.Value n).code
-    value_straight e h n = expr_straight scope structs e h want.Value n
-
-    target_straight : (place : TypedExpr) → is_target (judged scope place) ≡ true → (n : ℕ) →
-        Straight (form place want.Place n).code
-    target_straight place h n = expr_straight scope structs place (and_first (judged scope place).fits _ h) want.Place n
-
     assigned_none : (place e : TypedExpr) → assign_fits (judged scope place) (judged scope e) ≡ true →
         NonePart (assign (form place) (form e))
     assigned_none place e h =
-        assign_none (form place) (form e) (target_straight place (and_first (is_target (judged scope place)) _ h))
-        (value_straight e (and_first (judged scope e).fits _ (and_rest (is_target (judged scope place)) _ h)))
+        assign_none (form place) (form e) (target_straight scope structs place
+        (and_first (is_target (judged scope place)) _ h))
+        (value_straight scope structs e (and_first (judged scope e).fits _ (and_rest (is_target (judged scope place))
+        _ h)))
 
     assign_call_none : (place : TypedExpr) (c : TypedCall) →
         assign_call_fits callable (judged scope place) c.target (map (judged scope) c.args) ≡ true →
@@ -297,7 +300,7 @@ module _ (stray : TacStmt-F Bool → Bool) (strays : Strays stray) where
     assign_call_none place c h =
         call_for_none c (store_at (form place)) (and_first (call_fits callable c.target (map (judged scope) c.args))
         _ (and_rest (is_target (judged scope place)) _ h))
-        (store_none (form place) (target_straight place (and_first (is_target (judged scope place)) _ h)))
+        (store_none (form place) (target_straight scope structs place (and_first (is_target (judged scope place)) _ h)))
 
     simple_none : (k : TypedSimpleKind) → simple_fits scope callable result k ≡ true →
         NonePart (simple_code structs params k)
@@ -314,7 +317,8 @@ module _ (stray : TacStmt-F Bool → Bool) (strays : Strays stray) where
     test_none : (cond : TypedExpr) → (judged scope cond).fits ≡ true → stray tac.Break ≡ false →
         NonePart (tests (form cond))
     test_none cond h b =
-        after_none (form cond want.Value) (λ at. just (emit.If at [] (emit.Break ∷ []) ∷ [])) (value_straight cond h)
+        after_none (form cond want.Value) (λ at. just (emit.If at [] (emit.Break ∷ []) ∷ []))
+        (value_straight scope structs cond h)
         (λ at n.
         none_one (tac.If at [] (emit.Break ∷ [])) (emit.If at [] (emit.Break ∷ []))
         (emit.rolls-If at [] (emit.Break ∷ []))
@@ -326,10 +330,6 @@ module _ (stray : TacStmt-F Bool → Bool) (strays : Strays stray) where
         let x : Part = tests (form cond) n in let y : Part = body x.next in let z : Part = next y.next in
         none_one (tac.Loop x.code y.code z.code) (emit.Loop x.code y.code z.code) (emit.rolls-Loop x.code y.code z.code)
         (strays.cycle _ _ _ (λ b. test_none cond h b n) (k y.next))
-
-    returned_value : (r : Option Ty) (e : Judged) → returned_fits r e ≡ true → e.fits ≡ true
-    returned_value None e h = absurd (false≢true h)
-    returned_value (Some t) e h = and_first e.fits _ h
 
     returned_call : (r : Option Ty) (to : CallTarget) (args : List Judged) →
         returned_call_fits callable r to args ≡ true → call_fits callable to args ≡ true
@@ -359,7 +359,8 @@ module _ (stray : TacStmt-F Bool → Bool) (strays : Strays stray) where
     level line (layer.If cond x y) h fits m =
         let inner = and_rest (is_scalar (judged scope cond)) _ fits in
         after_none (form cond want.Value) (fork (block_code structs params x) (block_code structs params y))
-        (value_straight cond (scalar_fits (judged scope cond) (and_first (is_scalar (judged scope cond)) _ fits)))
+        (value_straight scope structs cond (scalar_fits (judged scope cond) (and_first (is_scalar (judged scope cond))
+        _ fits)))
         (λ at n.
         let p : Part = block_code structs params x n in
         let q : Part = block_code structs params y p.next in
@@ -385,7 +386,8 @@ module _ (stray : TacStmt-F Bool → Bool) (strays : Strays stray) where
     level line layer.Continue h fits n = absurd (false≢true fits)
     level line layer.Return h fits n = return_none None
     level line (layer.ReturnValue e) h fits n =
-        after_none (form e want.Value) return_value (value_straight e (returned_value result (judged scope e) fits))
+        after_none (form e want.Value) return_value
+        (value_straight scope structs e (returned_value result (judged scope e) fits))
         (λ at n. return_none (Some at)) n
     level line (layer.ReturnCall c) h fits n =
         call_for_none c return_value (returned_call result c.target (map (judged scope) c.args) fits)
@@ -412,7 +414,7 @@ module _ (stray : TacStmt-F Bool → Bool) (strays : Strays stray) where
     init_none k local (Some e) own h n =
         assign_none (at_place local.ty (alone (place_code params (Local k)))) (form e)
         (local_straight scope structs k local.ty own want.Place)
-        (value_straight e (and_first (judged scope e).fits _ h)) n
+        (value_straight scope structs e (and_first (judged scope e).fits _ h)) n
 
     inits_none : (k : ℕ) (locals : List TypedLocal) → InitsFit scope k locals →
         NonePart (in_turn (inits_code structs params k locals))

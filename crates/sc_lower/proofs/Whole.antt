@@ -30,6 +30,8 @@ use Rattle.sc_core.specs.Scripts.{Roles, roles_in, rows_left, performs, scripted
 use Rattle.sc_core.specs.Meaning.{main_name, closed, body_does, function_of, functions_in, library_of, first_blocks, globals_of, first_state, run_by, run_of, scripted_run_of, deepest}
 use Rattle.sc_core.specs.Typing.{Callable, result_ty, signature_of, proto_signature, same_import, option_signature, allowed, target_signature, body_fits}
 use Rattle.sc_core.specs.WellTyped.{most_params, scope_of, passed_fits, result_fits, local_fits, function_fits, callable_in, structs_fit, global_fits, is_well_typed}
+use Rattle.sc_kinds.proofs.Pieces.{Lasting}
+use Rattle.sc_kinds.proofs.Results.{reached_good}
 use Rattle.sc_kinds.proofs.Sections.{ForSection, for_section, index_map, all_at}
 use Rattle.sc_laws.specs.Agreement.{PiecesAgree, BodiesAgree, RunsAgree}
 use Rattle.sc_laws.proofs.Agreement.{itself, then_agree, run_agree}
@@ -41,11 +43,6 @@ use Rattle.sc_lower.proofs.Entries.{first_at, main_is, sections_so, entered_same
 use Rattle.sc_lower.proofs.Hollow.{shell, hollow, calls_alike, own_alike, performs_alike}
 use Rattle.sc_lower.proofs.Matching.{answers, some_answers, BackMatches, back_from, back_agrees, back_answers, close_matches}
 use Rattle.sc_lower.proofs.Statements.{promises, CallsMatch, body_matches}
-
--- what is reached, if anything is, is good
-abbrev Lasting : {V : Type 0} → (V → Type 0) → Piece V → Type 0
-Lasting Good (Reached v s) = Good v
-Lasting Good (Stopped end s) = Unit {0}
 
 lasting_then : {V W : Type 0} (G : W → Type 0) (o : Piece V) (k : V → State → Piece W) →
     ((v : V) (s : State) → Lasting G (k v s)) → Lasting G (and_then o k)
@@ -65,9 +62,6 @@ lasting_where : {V : Type 0} (G : V → Type 0) (o : Piece V) → ((v : V) (s : 
     Lasting G o
 lasting_where G (Reached v s) h = h v s refl
 lasting_where G (Stopped end s) h = tt
-
-reached_good : {V : Type 0} (G : V → Type 0) (o : Piece V) (v : V) (s : State) → Lasting G o → o ≡ Reached v s → G v
-reached_good G o v s h is = subst (Lasting G) is h
 
 -- what crosses is a value where one is promised
 crosses : (result : Option Scalar) (v : Option Value) →
@@ -254,8 +248,9 @@ module _ (arith : Arith) (program : ProgramTree) (typed : is_well_typed program 
           let G : Option Value → Type 0 = λ v. answers (promises (target_signature callable to)) v ≡ true in
           back_from (promises (target_signature callable to)) (calls L body comp to vs s) (calls M other comp to vs s)
           (calls_alike L M alike body other bodies comp to vs s) (λ v t at.
-          reached_good G (calls L body comp to vs s) v t (lasting_if G (may_call L comp to vs)
-          (called L body comp to vs s) (Stopped (Blamed comp BadType 0) s) (called_answers to vs s) tt) at)
+          reached_good G (calls L body comp to vs s) v t at
+          (lasting_if G (may_call L comp to vs)
+          (called L body comp to vs s) (Stopped (Blamed comp BadType 0) s) (called_answers to vs s) tt))
 
       function_body : (n : ℕ) (f : TypedFunction) → slice_get section.functions n ≡ Some f →
           body_fits (scope_of section f) callable f.result f.body ≡ true
