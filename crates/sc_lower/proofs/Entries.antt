@@ -1,0 +1,356 @@
+-- An entry leads to the same function in the code of a well-typed program.
+use Rattle.std.proofs.Common.{◌≡◌, ℕ, zero, suc, ◌+◌, ◌≤◌, List, [], ◌∷◌, ◌++◌, map, length, cond, Option, Some, None, refl, sym, ap, ◌∙◌, subst, arith as numbers}
+use Rattle.std.specs.Prelude.{Bool, true, false, not, ◌&&◌, ◌||◌, ◌==◌, if◌then◌else◌, codes, bytes_eq, slice_get, position, nat_le}
+use Rattle.std.specs.List.{list_any, list_all}
+use Rattle.std.specs.Option.{option_map, option_and_then}
+use Rattle.std.proofs.lemmas.Bool.{false≢true, eqb-true, eq-eqb}
+use Rattle.std.proofs.Math.Dec.{eqb-suc-zero, eqb-zero-suc, eqb-suc-suc}
+use Rattle.sc_base.proofs.Bools.{and_first, and_rest}
+use Rattle.sc_base.proofs.Lists.{position-cons}
+use Rattle.sc_base.proofs.Texts.{same_text, bytes_eq_self}
+use Rattle.sc_event.specs.declared.interface.Interface.{Interface}
+use Rattle.sc_event.specs.declared.interface.Interfaces.{Interfaces}
+use Rattle.sc_event.specs.declared.interface.Proto.{Proto}
+use Rattle.sc_event.specs.declared.row.Entry.{Entry}
+use Rattle.sc_event.specs.declared.row.Entry.TheVariants.{Main, Export}
+use Rattle.sc_event.specs.Lookup.{comp_at, export_at}
+use Rattle.sc_core.specs.declared.program.ProgramTree.{ProgramTree}
+use Rattle.sc_core.specs.declared.section.TypedFunction.{TypedFunction}
+use Rattle.sc_core.specs.declared.section.TypedSection.{TypedSection}
+use Rattle.sc_core.specs.Value.{truth}
+use Rattle.sc_core.specs.Meaning.{main_name, place_named, place_of_export, entry_in}
+use Rattle.sc_core.specs.WellTyped.{most_compartments, are_distinct, is_plain_name, export_fits, import_name, sections_fit, is_main, main_fits, mains_in, is_well_typed}
+use Rattle.sc_kinds.proofs.Sections.{ForSection, for_section, all_at, any_along}
+use Rattle.sc_tac.specs.declared.function.TacFnTree.{TacFnTree}
+use Rattle.sc_tac.specs.Code.{function_entered}
+use Rattle.sc_tac.specs.Programs.{same_entry}
+use Rattle.sc_lower.specs.Programs.{exports_of, export_called, entry_of, lowered_function, lowered_section, lowered_sections}
+
+-- POSITIONS
+position_map : {A B : Type 0} (g : A → B) (p : B → Bool) (xs : List A) →
+    position p (map g xs) ≡ position (λ x. p (g x)) xs
+position_map g p [] = refl
+position_map g p (x ∷ xs) =
+    position-cons p (g x) (map g xs) ∙ ap (λ o. cond (p (g x)) (Some 0) (option_map suc o)) (position_map g p xs)
+    ∙ sym (position-cons (λ x. p (g x)) x xs)
+
+position_never : {A : Type 0} (p : A → Bool) (xs : List A) → list_any p xs ≡ false → position p xs ≡ None
+position_never p [] h = refl
+position_never p (x ∷ xs) h = by (position_never p xs) (p x) refl where
+  by : (list_any p xs ≡ false → position p xs ≡ None) → (b : Bool) → p x ≡ b → position p (x ∷ xs) ≡ None
+  by later true is = absurd (false≢true (sym h ∙ ap (λ b. b || list_any p xs) is))
+  by later false is =
+      position-cons p x xs ∙ ap (λ b. cond b (Some 0) (option_map suc (position p xs))) is
+      ∙ ap (option_map suc) (later (sym (ap (λ b. b || list_any p xs) is) ∙ h))
+
+never : {A : Type 0} (xs : List A) → list_any (λ x. false) xs ≡ false
+never [] = refl
+never (x ∷ xs) = never xs
+
+-- SECTIONS BY NUMBERS
+pub lowered_at : (interfaces : Interfaces) (k : ℕ) (sections : List TypedSection) (comp : ℕ) →
+    slice_get (lowered_sections interfaces k sections) comp ≡ option_map (lowered_section interfaces (k + comp))
+    (slice_get sections comp)
+lowered_at interfaces k [] comp = refl
+lowered_at interfaces k (x ∷ xs) zero =
+    let same : k ≡ k + 0 = omega numbers in ap (λ n. Some (lowered_section interfaces n x)) same
+lowered_at interfaces k (x ∷ xs) (suc comp) =
+    let same : suc k + comp ≡ k + suc comp = omega numbers in
+    lowered_at interfaces (suc k) xs comp ∙ ap (λ n. option_map (lowered_section interfaces n) (slice_get xs comp)) same
+
+pub first_at : (interfaces : Interfaces) (sections : List TypedSection) (comp : ℕ) →
+    slice_get (lowered_sections interfaces 0 sections) comp ≡ option_map (lowered_section interfaces comp)
+    (slice_get sections comp)
+first_at interfaces sections comp =
+    let same : 0 + comp ≡ comp = omega numbers in
+    lowered_at interfaces 0 sections comp
+    ∙ ap (λ n. option_map (lowered_section interfaces n) (slice_get sections comp)) same
+
+-- MAINS
+mains_one : (sections : List TypedSection) (i : ℕ) (a : TypedSection) → slice_get sections i ≡ Some a →
+    list_any is_main a.functions ≡ true → 1 ≤ mains_in sections
+mains_one [] i a is h = absurd (cc)
+mains_one (x ∷ xs) zero a is h =
+    let same : x ≡ a = cc in
+    let one : truth (list_any is_main x.functions) ≡ 1 = ap (λ y. truth (list_any is_main y.functions)) same
+    ∙ ap truth h in
+    subst (λ n. 1 ≤ n + mains_in xs) (sym one) (omega numbers)
+mains_one (x ∷ xs) (suc i) a is h =
+    more (truth (list_any is_main x.functions)) (mains_in xs) (mains_one xs i a is h) where
+      more : (t m : ℕ) → 1 ≤ m → 1 ≤ t + m
+      more t m h = omega (numbers, h)
+
+too_many : (t m : ℕ) → t ≡ 1 → 1 ≤ m → t + m ≡ 1 → ⊥
+too_many t m one le sum = omega (numbers, one, le, sum)
+
+last_one : (t m : ℕ) → 1 ≤ m → t + m ≡ 1 → m ≡ 1
+last_one t m le sum = omega (numbers, le, sum)
+
+-- one section alone has `main`
+mains_apart : (sections : List TypedSection) (i j : ℕ) (a b : TypedSection) → slice_get sections i ≡ Some a →
+    list_any is_main a.functions ≡ true → slice_get sections j ≡ Some b → list_any is_main b.functions ≡ true →
+    mains_in sections ≡ 1 → i ≡ j
+mains_apart [] i j a b is h at k one = absurd (cc)
+mains_apart (x ∷ xs) zero zero a b is h at k one = refl
+mains_apart (x ∷ xs) zero (suc j) a b is h at k one =
+    let same : x ≡ a = cc in
+    absurd (too_many (truth (list_any is_main x.functions)) (mains_in xs)
+    (ap (λ y. truth (list_any is_main y.functions)) same ∙ ap truth h) (mains_one xs j b at k) one)
+mains_apart (x ∷ xs) (suc i) zero a b is h at k one =
+    let same : x ≡ b = cc in
+    absurd (too_many (truth (list_any is_main x.functions)) (mains_in xs)
+    (ap (λ y. truth (list_any is_main y.functions)) same ∙ ap truth k) (mains_one xs i a is h) one)
+mains_apart (x ∷ xs) (suc i) (suc j) a b is h at k one =
+    ap suc (mains_apart xs i j a b is h at k (last_one (truth (list_any is_main x.functions)) (mains_in xs)
+    (mains_one xs i a is h) one))
+
+-- ENTRIES OF NAMES
+no_main : (o : Option ℕ) → same_entry Main (option_map Export o) ≡ false
+no_main None = refl
+no_main (Some i) = refl
+
+pub main_is : (interfaces : Interfaces) (comp : ℕ) (name : List ℕ) →
+    same_entry Main (entry_of interfaces comp name) ≡ (comp == interfaces.main && bytes_eq name main_name)
+main_is interfaces comp name = by (comp == interfaces.main && bytes_eq name main_name) where
+  by : (b : Bool) → same_entry Main (if b then Some Main else export_called interfaces comp name) ≡ b
+  by true = refl
+  by false = no_main (position {X = Proto} (λ proto. bytes_eq name proto.name) (exports_of (comp_at interfaces comp)))
+
+abbrev pub name_of : Proto → List ℕ
+name_of proto = proto.name
+
+-- an export of this name
+abbrev pub called_so : List ℕ → Option Proto → Bool
+called_so name None = false
+called_so name (Some proto) = bytes_eq name proto.name
+
+none_called : (name : List ℕ) (ps : List Proto) (i : ℕ) → list_any (bytes_eq name) (map name_of ps) ≡ false →
+    called_so name (slice_get ps i) ≡ false
+none_called name [] i h = refl
+none_called name (p ∷ ps) zero h = by (bytes_eq name p.name) h where
+  by : (b : Bool) → (b || list_any (bytes_eq name) (map name_of ps)) ≡ false → b ≡ false
+  by true h = absurd (false≢true (sym h))
+  by false h = refl
+none_called name (p ∷ ps) (suc i) h = none_called name ps i (by (bytes_eq name p.name) h) where
+  by : (b : Bool) → (b || list_any (bytes_eq name) (map name_of ps)) ≡ false →
+      list_any (bytes_eq name) (map name_of ps) ≡ false
+  by true h = absurd (false≢true (sym h))
+  by false h = h
+
+none_first : (o : Option ℕ) → same_entry (Export 0) (option_map Export (option_map suc o)) ≡ false
+none_first None = refl
+none_first (Some i) = eqb-zero-suc i
+
+one_further : (i : ℕ) (o : Option ℕ) → same_entry (Export (suc i)) (option_map Export (option_map suc o))
+    ≡ same_entry (Export i) (option_map Export o)
+one_further i None = refl
+one_further i (Some j) = eqb-suc-suc i j
+
+pub not_true : (b : Bool) → not b ≡ true → b ≡ false
+not_true true h = absurd (false≢true h)
+not_true false h = refl
+
+-- where names differ, the first export of a name is the one
+export_is : (name : List ℕ) (ps : List Proto) (index : ℕ) → are_distinct (map name_of ps) ≡ true →
+    same_entry (Export index) (option_map Export (position (λ p. bytes_eq name p.name) ps))
+    ≡ called_so name (slice_get ps index)
+export_is name [] index h = refl
+export_is name (p ∷ ps) index h =
+    by (λ i. export_is name ps i (and_rest (not (list_any (bytes_eq p.name) (map name_of ps))) _ h))
+    (bytes_eq name p.name) refl index where
+      along : (index : ℕ) →
+          same_entry (Export index) (option_map Export (position (λ p. bytes_eq name p.name) (p ∷ ps)))
+          ≡ same_entry (Export index)
+          (option_map Export (cond (bytes_eq name p.name) (Some 0)
+          (option_map suc (position (λ p. bytes_eq name p.name) ps))))
+      along index =
+          ap (λ o. same_entry (Export index) (option_map Export o)) (position-cons (λ (p : Proto). bytes_eq name p.name)
+          p
+          ps)
+
+      by : ((i : ℕ) → same_entry (Export i) (option_map Export (position (λ p. bytes_eq name p.name) ps))
+          ≡ called_so name (slice_get ps i)) → (b : Bool) → bytes_eq name p.name ≡ b → (index : ℕ) →
+          same_entry (Export index) (option_map Export (position (λ p. bytes_eq name p.name) (p ∷ ps)))
+          ≡ called_so name (slice_get (p ∷ ps) index)
+      by later true is zero =
+          along 0 ∙ ap
+          (λ b. same_entry (Export 0)
+          (option_map Export (cond b (Some 0) (option_map suc (position (λ p. bytes_eq name p.name) ps))))) is ∙ sym is
+      by later true is (suc i) =
+          along (suc i)
+          ∙ ap (λ b. same_entry (Export (suc i))
+          (option_map Export (cond b (Some 0) (option_map suc (position (λ p. bytes_eq name p.name) ps))))) is
+          ∙ eqb-suc-zero i
+          ∙ sym (none_called name ps i (subst (λ n. list_any (bytes_eq n) (map name_of ps) ≡ false)
+          (sym (same_text name p.name is)) (not_true (list_any (bytes_eq p.name) (map name_of ps))
+          (and_first (not (list_any (bytes_eq p.name) (map name_of ps))) _ h))))
+      by later false is zero =
+          along 0 ∙ ap
+          (λ b. same_entry (Export 0)
+          (option_map Export (cond b (Some 0) (option_map suc (position (λ p. bytes_eq name p.name) ps))))) is
+          ∙ none_first (position (λ p. bytes_eq name p.name) ps) ∙ sym is
+      by later false is (suc i) =
+          along (suc i)
+          ∙ ap (λ b. same_entry (Export (suc i))
+          (option_map Export (cond b (Some 0) (option_map suc (position (λ p. bytes_eq name p.name) ps))))) is
+          ∙ one_further i (position (λ p. bytes_eq name p.name) ps) ∙ later i
+
+-- `main` is no export
+main_not_called : (functions : List TypedFunction) (ps : List Proto) (index : ℕ) (name : List ℕ) →
+    list_all (export_fits functions) ps ≡ true → bytes_eq name main_name ≡ true →
+    called_so name (slice_get ps index) ≡ false
+main_not_called functions ps index name fits is = by (slice_get ps index) refl where
+  plain : (proto : Proto) → export_fits functions proto ≡ true → (b : Bool) → bytes_eq name proto.name ≡ b → b ≡ false
+  plain proto h true called =
+      let same : proto.name ≡ main_name = sym (same_text name proto.name called) ∙ same_text name main_name is in
+      let self : bytes_eq proto.name main_name ≡ true =
+      subst (λ x. bytes_eq proto.name x ≡ true) same (bytes_eq_self proto.name) in
+      absurd (false≢true (sym (ap not self) ∙ and_first (not (bytes_eq proto.name main_name))
+      _ (and_rest (is_plain_name proto.name) _ h)))
+  plain proto h false called = refl
+
+  by : (o : Option Proto) → slice_get ps index ≡ o → called_so name o ≡ false
+  by None at = refl
+  by (Some proto) at = plain proto (all_at (export_fits functions) ps fits index proto at) (bytes_eq name proto.name)
+      refl
+
+module _ (program : ProgramTree) (typed : is_well_typed program ≡ true) where
+  abbrev faces : Interfaces
+  faces = program.interfaces
+
+  abbrev sections : List TypedSection
+  sections = program.sections
+
+  behind_names : (sections_fit faces 0 faces.comps sections && (main_fits (slice_get sections faces.main) && mains_in
+      sections == 1)) ≡ true
+  behind_names = and_rest (are_distinct (codes "Env" ∷ map {A = Interface} (λ i. i.name) faces.comps))
+      _ (and_rest (nat_le (length sections) most_compartments) _ typed)
+
+  pub sections_so : sections_fit faces 0 faces.comps sections ≡ true
+  sections_so = and_first (sections_fit faces 0 faces.comps sections) _ behind_names
+
+  pub mains_so : (main_fits (slice_get sections faces.main) && mains_in sections == 1) ≡ true
+  mains_so = and_rest (sections_fit faces 0 faces.comps sections) _ behind_names
+
+  one_main : mains_in sections ≡ 1
+  one_main = eqb-true (mains_in sections) 1 (and_rest (main_fits (slice_get sections faces.main)) _ mains_so)
+
+  -- a section that defines `main` is the main one
+  pub main_there : (comp : ℕ) (section : TypedSection) → slice_get sections comp ≡ Some section →
+      list_any is_main section.functions ≡ true → comp ≡ faces.main
+  main_there comp section is h =
+      by (slice_get sections faces.main) refl (and_first (main_fits (slice_get sections faces.main)) _ mains_so) where
+        by : (o : Option TypedSection) → slice_get sections faces.main ≡ o → main_fits o ≡ true → comp ≡ faces.main
+        by None at fits = absurd (false≢true fits)
+        by (Some own) at fits =
+            mains_apart sections comp faces.main section own is h at (any_along {A = TypedFunction} _ is_main
+            (λ f k. and_first (is_main f) _ k) own.functions fits) one_main
+
+  module _ (comp : ℕ) (section : TypedSection) (is : slice_get sections comp ≡ Some section) where
+    pub place : ForSection faces faces.comps comp section
+    place = for_section faces 0 faces.comps sections sections_so comp section is
+
+    abbrev exports : List Proto
+    exports = place.interface.exports
+
+    pub export_names : are_distinct (map name_of exports) ≡ true
+    export_names =
+        and_first (are_distinct (map name_of exports))
+        _ (and_rest (are_distinct (map (import_name faces) place.interface.imports ++ map {A = TypedFunction}
+        (λ f. f.name) section.functions)) _ place.placed.faces)
+
+    pub exports_so : list_all (export_fits section.functions) exports ≡ true
+    exports_so =
+        and_first (list_all (export_fits section.functions) exports) _ (and_rest (are_distinct (map name_of exports))
+        _ (and_rest (are_distinct (map (import_name faces) place.interface.imports ++ map {A = TypedFunction}
+        (λ f. f.name) section.functions)) _ place.placed.faces))
+
+    -- a function is entered by an export exactly where it is called so
+    pub export_of : (index : ℕ) (name : List ℕ) → same_entry (Export index) (entry_of faces comp name)
+        ≡ called_so name (export_at faces comp index)
+    export_of index name =
+        by (comp == faces.main && bytes_eq name main_name) refl
+        ∙ sym (ap (λ (o : Option Interface). called_so name (option_and_then (λ found. slice_get found.exports index)
+        o)) place.is) where
+          by : (b : Bool) → (comp == faces.main && bytes_eq name main_name) ≡ b →
+              same_entry (Export index) (if b then Some Main else export_called faces comp name)
+              ≡ called_so name (slice_get exports index)
+          by true own =
+              sym (main_not_called section.functions exports index name exports_so
+              (and_rest (comp == faces.main) _ own))
+          by false own =
+              ap (λ (o : Option Interface). same_entry (Export index)
+              (option_map Export (position {X = Proto} (λ proto. bytes_eq name proto.name) (exports_of o)))) place.is
+              ∙ export_is name exports index export_names
+
+    abbrev entered : Entry → TypedFunction → Bool
+    entered entry f = same_entry entry (entry_of faces comp f.name)
+
+    main_placed : position (λ (f : TypedFunction). bytes_eq f.name main_name) section.functions
+        ≡ position (entered Main) section.functions
+    main_placed = by (comp == faces.main) refl where
+      along : (b : Bool) → (comp == faces.main) ≡ b →
+          position (entered Main) section.functions ≡ position (λ (f : TypedFunction). b && bytes_eq f.name main_name)
+          section.functions
+      along b own =
+          ap (λ p. position p section.functions) (λ i f. (main_is faces comp f.name
+          ∙ ap (λ b. b && bytes_eq f.name main_name) own) i)
+
+      nowhere : (b : Bool) → list_any is_main section.functions ≡ b → (comp == faces.main) ≡ false →
+          list_any is_main section.functions ≡ false
+      nowhere true h other = absurd (false≢true (sym other ∙ eq-eqb comp faces.main (main_there comp section is h)))
+      nowhere false h other = h
+
+      by : (b : Bool) → (comp == faces.main) ≡ b →
+          position (λ (f : TypedFunction). bytes_eq f.name main_name) section.functions ≡ position (entered Main)
+          section.functions
+      by true own = sym (along true own)
+      by false own =
+          position_never is_main section.functions (nowhere (list_any is_main section.functions) refl own)
+          ∙ sym (along false own ∙ position_never (λ f. false) section.functions (never section.functions))
+
+    export_placed : (index : ℕ) (o : Option Proto) → export_at faces comp index ≡ o →
+        place_of_export o (Some section) ≡ position (entered (Export index)) section.functions
+    export_placed index o at =
+        by o ∙ sym (ap (λ p. position p section.functions) (λ i f. (export_of index f.name ∙ ap (called_so f.name) at)
+        i)) where
+          by : (o : Option Proto) →
+              place_of_export o (Some section) ≡ position (λ (f : TypedFunction). called_so f.name o) section.functions
+          by None = sym (position_never (λ f. false) section.functions (never section.functions))
+          by (Some proto) = refl
+
+    in_section : (entry : Entry) → position (entered entry) section.functions ≡ function_entered entry
+        (Some (lowered_section faces comp section))
+    in_section entry =
+        sym (position_map (lowered_function faces comp section.structs) (λ (f : TacFnTree). same_entry entry f.entry)
+        section.functions)
+
+    section_entered : (entry : Entry) →
+        entry_in program comp entry ≡ function_entered entry (Some (lowered_section faces comp section))
+    section_entered Main = ap (place_named main_name) is ∙ main_placed ∙ in_section Main
+    section_entered (Export index) =
+        ap (place_of_export (export_at faces comp index)) is ∙ export_placed index (export_at faces comp index) refl
+        ∙ in_section (Export index)
+
+  nothing_entered : (entry : Entry) (comp : ℕ) → slice_get sections comp ≡ None → entry_in program comp entry ≡ None
+  nothing_entered Main comp is = ap (place_named main_name) is
+  nothing_entered (Export index) comp is = ap (place_of_export (export_at faces comp index)) is
+      ∙ by (export_at faces comp index) where
+        by : (o : Option Proto) → place_of_export o None ≡ None
+        by None = refl
+        by (Some proto) = refl
+
+  -- an entry leads to the same function
+  pub entered_same : (comp : ℕ) (entry : Entry) →
+      entry_in program comp entry ≡ function_entered entry (slice_get (lowered_sections faces 0 sections) comp)
+  entered_same comp entry =
+      by (slice_get sections comp) refl ∙ sym (ap (function_entered entry) (first_at faces sections comp)) where
+        by : (o : Option TypedSection) → slice_get sections comp ≡ o →
+            entry_in program comp entry ≡ function_entered entry (option_map (lowered_section faces comp)
+            (slice_get sections comp))
+        by None is =
+            nothing_entered entry comp is
+            ∙ sym (ap (λ o. function_entered entry (option_map (lowered_section faces comp) o)) is)
+        by (Some section) is =
+            section_entered comp section is entry
+            ∙ sym (ap (λ o. function_entered entry (option_map (lowered_section faces comp) o)) is)

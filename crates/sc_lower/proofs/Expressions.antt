@@ -1,0 +1,381 @@
+-- The code of expressions gives their places and values.
+use Rattle.std.proofs.Common.{◌≡◌, ℕ, ◌+◌, ◌<◌, ◌≤◌, Bool, true, false, List, [], ◌∷◌, Some, None, Result, Ok, refl, sym, ap, ◌∙◌, subst, arith as numbers}
+use Rattle.std.specs.Prelude.{not, pos, if◌then◌else◌}
+use Rattle.sc_base.specs.declared.op.BinaryOp.{BinaryOp}
+use Rattle.sc_base.specs.declared.op.BinaryOp.TheVariants as op
+use Rattle.sc_base.specs.declared.op.UnaryOp.{UnaryOp}
+use Rattle.sc_base.specs.declared.op.UnaryOp.TheVariants as unary
+use Rattle.sc_event.specs.declared.interface.Scalar.TheVariants.{Int}
+use Rattle.sc_core.specs.declared.cause.Cause.{Cause}
+use Rattle.sc_core.specs.declared.ty.Ty.{Ty}
+use Rattle.sc_core.specs.declared.expr.TypedExpr.{TypedExpr}
+use Rattle.sc_core.specs.declared.expr.TypedKind.{TypedKind, TypedKind-F}
+use Rattle.sc_core.specs.declared.expr.TypedKind.TheOpen as term
+use Rattle.sc_core.specs.declared.expr.VarRef.{VarRef}
+use Rattle.sc_core.specs.declared.expr.VarRef.TheVariants.{Global, Param, Local}
+use Rattle.sc_core.specs.declared.section.TypedStruct.{TypedStruct}
+use Rattle.sc_core.specs.declared.value.Value.{Value}
+use Rattle.sc_core.specs.declared.value.Value.TheVariants.{Word, Null}
+use Rattle.sc_core.specs.declared.value.Want.{Want}
+use Rattle.sc_core.specs.declared.value.Want.TheVariants as want
+use Rattle.sc_core.specs.Memory.{Blocks, bind, load}
+use Rattle.sc_core.specs.Value.{Arith, is_true, of_bool, moved, between, on_words, applied_one}
+use Rattle.sc_core.specs.Types.{is_unsigned, is_array, is_pointer, target_cells}
+use Rattle.sc_core.specs.Words.{State, Here, choose, Calls}
+use Rattle.sc_core.specs.Tree.{Meant, wanted, at_place as place_way, variable_at, literal, at_pointer, applied, is_unsigned_op, binary as binary_way, term_step as term_way, meant_step, meant}
+use Rattle.sc_core.proofs.Layers.{typed, expr_at, term_of}
+use Rattle.sc_core.proofs.Induction.{Under, expr_induction}
+use Rattle.sc_tac.specs.declared.stmt.TacOp.{TacOp}
+use Rattle.sc_tac.specs.declared.stmt.TacOp.TheVariants as tacop
+use Rattle.sc_tac.specs.declared.stmt.TacStmt.{TacStmt}
+use Rattle.sc_tac.specs.declared.stmt.TacStmt.TheOpen as tac
+use Rattle.sc_tac.specs.declared.stmt.TacStmt.TheVariants.{Const, Op, ObjectPlace, GlobalPlace, Load, If, rolls-Const, rolls-Op, rolls-ObjectPlace, rolls-GlobalPlace, rolls-Load, rolls-If}
+use Rattle.sc_tac.specs.declared.stmt.Constant.{Constant}
+use Rattle.sc_tac.specs.declared.stmt.Constant.TheVariants as constant
+use Rattle.sc_tac.specs.Code.{Temps, constant_value, start_of, gets, operated}
+use Rattle.sc_lower.specs.Expressions.{Low, Lows, Lowered, alone, from_one, from_two, from_first, loaded, at_place, scalar_in, constant_of, place_code, not_op, unary_op, between_op, truth_code, and_code, or_code, move_op, binary_code, binary, member, term_step, lowered_step, lowered}
+use Rattle.sc_lower.proofs.Gives.{run, Gives, run_one, gives_along, seq, weaken, gets_gives, read_then, op_two, op_one, if_gives}
+use Rattle.sc_lower.proofs.Operators.{not_twice, not_is, unary_is, words_is, between_is, move_is}
+
+module _ (arith : Arith) (here : Here) (calls : Calls) where
+  -- the code gives the result, in a temporary that was free and lies below the next one
+  pub record Computes (l : Lows) (r : Blocks → Result Value Cause) : Type 0 where
+    pub above : (n : ℕ) → n ≤ (l n).at
+    pub below : (n : ℕ) → (l n).at < (l n).next
+    pub gives : (n : ℕ) (t : Temps) (s : State) →
+        Gives arith here calls n (l n).at t s (r (s.memory here.comp)) (run arith here calls (l n).code t s)
+
+  -- what a statement gives that reads no temporary, one, or two
+  abbrev pub FromNone : (ℕ → TacStmt) → (Blocks → Result Value Cause) → Type 0
+  FromNone make r = (n : ℕ) (t : Temps) (s : State) →
+      Gives arith here calls n n t s (r (s.memory here.comp)) (run arith here calls (make n ∷ []) t s)
+
+  abbrev FromOne : (ℕ → ℕ → List TacStmt) → (Blocks → Value → Result Value Cause) → Type 0
+  FromOne make g = (n d x : ℕ) (v : Value) (t : Temps) (s : State) → n ≤ d → t x ≡ Some v →
+      Gives arith here calls n d t s (g (s.memory here.comp) v) (run arith here calls (make d x) t s)
+
+  abbrev FromTwo : (ℕ → ℕ → ℕ → TacStmt) → (Blocks → Value → Value → Result Value Cause) → Type 0
+  FromTwo make g = (n d x y : ℕ) (v w : Value) (t : Temps) (s : State) → n ≤ d → t x ≡ Some v → t y ≡ Some w →
+      Gives arith here calls n d t s (g (s.memory here.comp) v w) (run arith here calls (make d x y ∷ []) t s)
+
+  -- what it gives from a value and from what code gives that it runs
+  abbrev FromFirst : (ℕ → ℕ → List TacStmt → TacStmt) → (Value → Result Value Cause → Result Value Cause) → Type 0
+  FromFirst make g =
+      (n d x : ℕ) (v : Value) (r : Result Value Cause) (code : List TacStmt) (t : Temps) (s : State) → n ≤ d →
+      t x ≡ Some v →
+      Gives arith here calls n d t s r (run arith here calls code t s) →
+      Gives arith here calls n d t s (g v r) (run arith here calls (make d x code ∷ []) t s)
+
+  -- SHAPES
+  pub alone_computes : (make : ℕ → TacStmt) (r : Blocks → Result Value Cause) → FromNone make r →
+      Computes (alone make) r
+  alone_computes make r h = record { above = λ n. omega numbers; below = λ n. omega numbers; gives = h }
+
+  loaded_gives : (ty : Ty) (w : Want) (n at : ℕ) (v : Value) (t : Temps) (s : State) → n ≤ at → t at ≡ Some v →
+      Gives arith here calls n at t s (wanted ty v w (s.memory here.comp)) (run arith here calls (loaded ty w at) t s)
+  loaded_gives ty want.Place n at v t s le e = record { temps = t; comes = refl; holds = e; keeps = λ i lt. refl }
+  loaded_gives ty want.Value n at v t s le e = by (is_array ty) where
+    p : Bool
+    p = is_pointer ty
+
+    by : (b : Bool) →
+        Gives arith here calls n at t s (if b then Ok v else load (s.memory here.comp) (is_pointer ty) v)
+        (run arith here calls (if b then [] else Load at at (is_pointer ty) ∷ []) t s)
+    by true = record { temps = t; comes = refl; holds = e; keeps = λ i lt. refl }
+    by false =
+        gives_along arith here calls n at t s (load (s.memory here.comp) (is_pointer ty) v) _ _
+        (run_one arith here calls (tac.Load at at (is_pointer ty)) (Load at at (is_pointer ty)) t s
+        (rolls-Load at at (is_pointer ty))
+        ∙ read_then arith here calls at v t s (λ q s. gets here at (load (s.memory here.comp) (is_pointer ty) q) t s) e)
+        (gets_gives arith here calls n at t s (load (s.memory here.comp) (is_pointer ty) v) le)
+
+  pub place_computes : (ty : Ty) (w : Want) (l : Lows) (r : Blocks → Result Value Cause) → Computes l r →
+      Computes (at_place ty l w) (place_way ty r w)
+  place_computes ty w l r h = record {
+    above = h.above;
+    below = h.below;
+    gives = λ n t s.
+        let x : Low = l n in
+        seq arith here calls n x.at x.at t s (r (s.memory here.comp)) (λ q. wanted ty q w (s.memory here.comp)) x.code
+        (loaded ty w x.at) (h.gives n t s)
+        (λ v u e k. weaken arith here calls n n x.at t u s (wanted ty v w (s.memory here.comp)) _ (omega numbers) k
+        (loaded_gives ty w n x.at v u s (h.above n) e));
+  }
+
+  one_computes : (a : Lows) (make : ℕ → ℕ → TacStmt) (r : Blocks → Result Value Cause) (g : Blocks → Value →
+      Result Value Cause) →
+      FromOne (λ d x. make d x ∷ []) g → Computes a r →
+      Computes (from_one a make) (λ blocks. bind (r blocks) (g blocks))
+  one_computes a make r g one ha = record {
+    above = λ n. omega (numbers, ha.above n, ha.below n);
+    below = λ n. omega numbers;
+    gives = λ n t s.
+        let x : Low = a n in
+        let up : n ≤ x.next = omega (numbers, ha.above n, ha.below n) in
+        seq arith here calls n x.at x.next t s (r (s.memory here.comp)) (g (s.memory here.comp)) x.code
+        (make x.next x.at ∷ []) (ha.gives n t s)
+        (λ v u e k. weaken arith here calls n n x.next t u s (g (s.memory here.comp) v) _ (omega numbers) k
+        (one n x.next x.at v u s up e));
+  }
+
+  two_compute : (a b : Lows) (make : ℕ → ℕ → ℕ → TacStmt) (ra rb : Blocks → Result Value Cause) (g : Blocks → Value →
+      Value → Result Value Cause) →
+      FromTwo make g → Computes a ra → Computes b rb →
+      Computes (from_two a b make) (λ blocks. bind (ra blocks) (λ v. bind (rb blocks) (g blocks v)))
+  two_compute a b make ra rb g one ha hb = record {
+    above = λ n. omega (numbers, ha.above n, ha.below n, hb.above (a n).next, hb.below (a n).next);
+    below = λ n. omega numbers;
+    gives = λ n t s.
+        let m = s.memory here.comp in
+        let x : Low = a n in let y : Low = b x.next in
+        let up : n ≤ x.next = omega (numbers, ha.above n, ha.below n) in
+        let far : x.next ≤ y.next = omega (numbers, hb.above x.next, hb.below x.next) in
+        seq arith here calls n x.at y.next t s (ra m) (λ v. bind (rb m) (g m v)) x.code _ (ha.gives n t s)
+        (λ v u e k. weaken arith here calls n n y.next t u s (bind (rb m) (g m v)) _ (omega numbers) k
+        (weaken arith here calls n x.next y.next u u s (bind (rb m) (g m v)) _ up (λ i lt. refl)
+        (seq arith here calls x.next y.at y.next u s (rb m) (g m v) y.code _ (hb.gives x.next u s)
+        (λ w q d kk. weaken arith here calls x.next x.next y.next u q s (g m v w) _ (omega numbers) kk
+        (one x.next y.next x.at y.at v w q s far (kk x.at (ha.below n) ∙ e) d)))));
+  }
+
+  first_computes : (a b : Lows) (last : ℕ → ℕ → List TacStmt) (make : ℕ → ℕ → List TacStmt → TacStmt) (ra rb : Blocks →
+      Result Value Cause)
+      (h : Value → Result Value Cause) (g : Value → Result Value Cause → Result Value Cause) →
+      FromOne last (λ blocks. h) → FromFirst make g → Computes a ra → Computes b rb →
+      Computes (from_first a b last make) (λ blocks. bind (ra blocks) (λ v. g v (bind (rb blocks) h)))
+  first_computes a b last make ra rb h g end one ha hb = record {
+    above = λ n. omega (numbers, ha.above n, ha.below n, hb.above (a n).next, hb.below (a n).next);
+    below = λ n. omega numbers;
+    gives = λ n t s.
+        let m = s.memory here.comp in
+        let x : Low = a n in let y : Low = b x.next in
+        let up : n ≤ x.next = omega (numbers, ha.above n, ha.below n) in
+        let far : x.next ≤ y.next = omega (numbers, hb.above x.next, hb.below x.next) in
+        seq arith here calls n x.at y.next t s (ra m) (λ v. g v (bind (rb m) h)) x.code _ (ha.gives n t s)
+        (λ v u e k. weaken arith here calls n n y.next t u s (g v (bind (rb m) h)) _ (omega numbers) k
+        (weaken arith here calls n x.next y.next u u s (g v (bind (rb m) h)) _ up (λ i lt. refl)
+        (one x.next y.next x.at v (bind (rb m) h) _ u s far e
+        (seq arith here calls x.next y.at y.next u s (rb m) h y.code _ (hb.gives x.next u s)
+        (λ w q d kk. weaken arith here calls x.next x.next y.next u q s (h w) _ (omega numbers) kk
+        (end x.next y.next y.at w q s far d))))));
+  }
+
+  -- STATEMENTS
+  const_gives : (n d : ℕ) (c : Constant) (t : Temps) (s : State) → n ≤ d →
+      Gives arith here calls n d t s (Ok (constant_value c)) (run arith here calls (Const d c ∷ []) t s)
+  const_gives n d c t s le =
+      gives_along arith here calls n d t s (Ok (constant_value c)) _ _ (run_one arith here calls (tac.Const d c)
+      (Const d c) t s (rolls-Const d c)) (gets_gives arith here calls n d t s (Ok (constant_value c)) le)
+
+  op_gives : (o : TacOp) (g : Blocks → Value → Value → Result Value Cause) →
+      ((blocks : Blocks) (v w : Value) → operated arith blocks o v w ≡ g blocks v w) →
+      FromTwo (λ d x y. Op d o x (Some y)) g
+  op_gives o g is n d x y v w t s le e f =
+      let m = s.memory here.comp in
+      gives_along arith here calls n d t s (g m v w) (gets here d (g m v w) t s) _
+      (run_one arith here calls (tac.Op d o x (Some y)) (Op d o x (Some y)) t s (rolls-Op d o x (Some y))
+      ∙ op_two arith here calls d x y o v w t s e f ∙ ap (λ r. gets here d r t s) (is m v w))
+      (gets_gives arith here calls n d t s (g m v w) le)
+
+  op_swapped : (o : TacOp) (g : Blocks → Value → Value → Result Value Cause) →
+      ((blocks : Blocks) (v w : Value) → operated arith blocks o v w ≡ g blocks v w) →
+      FromTwo (λ d x y. Op d o y (Some x)) (λ blocks v w. g blocks w v)
+  op_swapped o g is n d x y v w t s le e f = op_gives o g is n d y x w v t s le f e
+
+  op_alone : (o : TacOp) (g : Blocks → Value → Result Value Cause) →
+      ((blocks : Blocks) (v : Value) → operated arith blocks o v v ≡ g blocks v) → FromOne (λ d x. Op d o x None ∷ []) g
+  op_alone o g is n d x v t s le e =
+      let m = s.memory here.comp in
+      gives_along arith here calls n d t s (g m v) (gets here d (g m v) t s) _
+      (run_one arith here calls (tac.Op d o x None) (Op d o x None) t s (rolls-Op d o x None)
+      ∙ op_one arith here calls d x o v t s e ∙ ap (λ r. gets here d r t s) (is m v))
+      (gets_gives arith here calls n d t s (g m v) le)
+
+  abbrev negation : Value → Result Value Cause
+  negation v = Ok (of_bool (not (is_true v)))
+
+  truth_gives : (ty : Ty) → FromOne (truth_code ty) (λ blocks v. Ok (of_bool (is_true v)))
+  truth_gives ty n d x v t s le e =
+      subst (λ z. Gives arith here calls n d t s (Ok z) (run arith here calls (truth_code ty d x) t s))
+      (not_twice (is_true v))
+      (seq arith here calls n d d t s (negation v) negation (Op d (not_op ty) x None ∷ [])
+      (Op d (tacop.Unary unary.Not Int) d None ∷ [])
+      (op_alone (not_op ty) (λ blocks. negation) (λ blocks v. not_is arith ty blocks v v) n d x v t s le e)
+      (λ w u f k. weaken arith here calls n n d t u s (negation w) _ (omega numbers) k
+      (op_alone (tacop.Unary unary.Not Int) (λ blocks. negation) (λ blocks v. refl) n d d w u s le f)))
+
+  and_gives : FromFirst and_code (λ v r. choose v r (Ok (Word 0)))
+  and_gives n d x v r code t s le e g =
+      gives_along arith here calls n d t s (choose v r (Ok (Word 0))) _ _
+      (run_one arith here calls (tac.If x code (Const d (constant.Word 0) ∷ []))
+      (If x code (Const d (constant.Word 0) ∷ [])) t s (rolls-If x code (Const d (constant.Word 0) ∷ []))
+      ∙ read_then arith here calls x v t s (λ v s. choose v (run arith here calls code t s)
+      (run arith here calls (Const d (constant.Word 0) ∷ []) t s)) e)
+      (if_gives arith here calls n d t s (is_true v) r (Ok (Word 0)) _ _ g (const_gives n d (constant.Word 0) t s le))
+
+  or_gives : FromFirst or_code (λ v r. choose v (Ok (Word 1)) r)
+  or_gives n d x v r code t s le e g =
+      gives_along arith here calls n d t s (choose v (Ok (Word 1)) r) _ _
+      (run_one arith here calls (tac.If x (Const d (constant.Word 1) ∷ []) code) (If x (Const d (constant.Word 1) ∷ [])
+      code) t s (rolls-If x (Const d (constant.Word 1) ∷ []) code)
+      ∙ read_then arith here calls x v t s (λ v s. choose v (run arith here calls (Const d (constant.Word 1) ∷ []) t s)
+      (run arith here calls code t s)) e)
+      (if_gives arith here calls n d t s (is_true v) (Ok (Word 1)) r _ _ (const_gives n d (constant.Word 1) t s le) g)
+
+  pub place_gives : (params : ℕ) (v : VarRef) →
+      FromNone (place_code params v) (λ blocks. Ok (variable_at here params v))
+  place_gives params (Global g) n t s =
+      gives_along arith here calls n n t s (Ok (variable_at here params (Global g))) _ _ (run_one arith here calls
+      (tac.GlobalPlace n g) (GlobalPlace n g) t s (rolls-GlobalPlace n g)) (gets_gives arith here calls n n t s
+      (Ok (start_of g)) (omega numbers))
+  place_gives params (Param p) n t s =
+      gives_along arith here calls n n t s (Ok (variable_at here params (Param p))) _ _ (run_one arith here calls
+      (tac.ObjectPlace n p) (ObjectPlace n p) t s (rolls-ObjectPlace n p)) (gets_gives arith here calls n n t s
+      (Ok (start_of (here.first + p))) (omega numbers))
+  place_gives params (Local l) n t s =
+      let same : here.first + (params + l) ≡ here.first + params + l = omega numbers in
+      subst (λ z. Gives arith here calls n n t s (Ok (start_of z))
+      (run arith here calls (ObjectPlace n (params + l) ∷ []) t s)) same
+      (gives_along arith here calls n n t s (Ok (start_of (here.first + (params + l)))) _ _ (run_one arith here calls
+      (tac.ObjectPlace n (params + l)) (ObjectPlace n (params + l)) t s (rolls-ObjectPlace n (params + l)))
+      (gets_gives arith here calls n n t s (Ok (start_of (here.first + (params + l)))) (omega numbers)))
+
+  literal_is : (ty : Ty) (word : ℕ) → constant_value (constant_of ty word) ≡ literal ty word
+  literal_is ty word = by (is_pointer ty) where
+    by : (b : Bool) → constant_value (if b then constant.Null else constant.Word word) ≡ (if b then Null else Word word)
+    by true = refl
+    by false = refl
+
+  literal_gives : (ty : Ty) (word : ℕ) → FromNone (λ d. Const d (constant_of ty word)) (λ blocks. Ok (literal ty word))
+  literal_gives ty word n t s =
+      subst (λ z. Gives arith here calls n n t s (Ok z) (run arith here calls (Const n (constant_of ty word) ∷ []) t s))
+      (literal_is ty word)
+      (const_gives n n (constant_of ty word) t s (omega numbers))
+
+  module _ (structs : List TypedStruct) where
+    binary_gives : (o : BinaryOp) (left right : Ty) →
+        FromTwo (binary_code structs o left right) (λ blocks. applied arith structs blocks o left right)
+    binary_gives o left right = by (is_pointer left) (is_pointer right) where
+      by : (b c : Bool) →
+          FromTwo (λ d x y. if b then (if c then Op d (between_op o (target_cells structs left)) x (Some y) else Op d
+          (move_op structs o left right) x (Some y)) else (if c then Op d (move_op structs o right left) y
+          (Some x) else Op d (tacop.Binary o (scalar_in (is_unsigned_op o left right))) x (Some y)))
+          (λ blocks v w. if b then (if c then between blocks o (target_cells structs left) v w else at_pointer structs
+          blocks o left right v w) else (if c then at_pointer structs blocks o right left w v else on_words arith
+          (is_unsigned_op o left right) o v w))
+      by true true =
+          op_gives (between_op o (target_cells structs left)) (λ blocks. between blocks o (target_cells structs left))
+          (λ blocks v w. between_is arith o (target_cells structs left) blocks v w)
+      by true false = op_gives (move_op structs o left right) (λ blocks. at_pointer structs blocks o left right)
+          (λ blocks v w. move_is arith structs o left right blocks v w)
+      by false true = op_swapped (move_op structs o right left) (λ blocks. at_pointer structs blocks o right left)
+          (λ blocks v w. move_is arith structs o right left blocks v w)
+      by false false =
+          op_gives (tacop.Binary o (scalar_in (is_unsigned_op o left right)))
+          (λ blocks. on_words arith (is_unsigned_op o left right) o)
+          (λ blocks v w. words_is arith o (is_unsigned_op o left right) blocks v w)
+
+    -- an expression's code and what it means: they have one type, and each form computes
+    pub record Fits (l : Lowered) (m : Meant) : Type 0 where
+      pub ty : l.ty ≡ m.ty
+      pub form : (w : Want) → Computes (l.form w) (m.way w)
+
+    plain_computes : (o : BinaryOp) (la lb : Lowered) (ma mb : Meant) → Fits la ma → Fits lb mb →
+        Computes (from_two (la.form want.Value) (lb.form want.Value) (binary_code structs o la.ty lb.ty))
+        (λ blocks. bind (ma.way want.Value blocks) (λ v. bind (mb.way want.Value blocks)
+        (applied arith structs blocks o ma.ty mb.ty v)))
+    plain_computes o la lb ma mb ha hb =
+        two_compute (la.form want.Value) (lb.form want.Value) (binary_code structs o la.ty lb.ty) (ma.way want.Value)
+        (mb.way want.Value) (λ blocks. applied arith structs blocks o ma.ty mb.ty)
+        (subst (λ ty. FromTwo (binary_code structs o la.ty lb.ty) (λ blocks. applied arith structs blocks o ty mb.ty))
+        ha.ty (subst (λ ty. FromTwo (binary_code structs o la.ty lb.ty) (λ blocks. applied arith structs blocks o la.ty
+        ty)) hb.ty (binary_gives o la.ty lb.ty)))
+        (ha.form want.Value) (hb.form want.Value)
+
+    binary_computes : (o : BinaryOp) (la lb : Lowered) (ma mb : Meant) → Fits la ma → Fits lb mb →
+        Computes (binary structs o la lb) (binary_way arith structs o ma mb)
+    binary_computes op.OrElse la lb ma mb ha hb =
+        first_computes (la.form want.Value) (lb.form want.Value) (truth_code lb.ty) or_code (ma.way want.Value)
+        (mb.way want.Value) (λ w. Ok (of_bool (is_true w))) (λ v r. choose v (Ok (Word 1)) r) (truth_gives lb.ty)
+        or_gives (ha.form want.Value) (hb.form want.Value)
+    binary_computes op.AndAlso la lb ma mb ha hb =
+        first_computes (la.form want.Value) (lb.form want.Value) (truth_code lb.ty) and_code (ma.way want.Value)
+        (mb.way want.Value) (λ w. Ok (of_bool (is_true w))) (λ v r. choose v r (Ok (Word 0))) (truth_gives lb.ty)
+        and_gives (ha.form want.Value) (hb.form want.Value)
+    binary_computes op.BitOr la lb ma mb ha hb = plain_computes op.BitOr la lb ma mb ha hb
+    binary_computes op.BitXor la lb ma mb ha hb = plain_computes op.BitXor la lb ma mb ha hb
+    binary_computes op.BitAnd la lb ma mb ha hb = plain_computes op.BitAnd la lb ma mb ha hb
+    binary_computes op.Equal la lb ma mb ha hb = plain_computes op.Equal la lb ma mb ha hb
+    binary_computes op.NotEqual la lb ma mb ha hb = plain_computes op.NotEqual la lb ma mb ha hb
+    binary_computes op.Less la lb ma mb ha hb = plain_computes op.Less la lb ma mb ha hb
+    binary_computes op.Greater la lb ma mb ha hb = plain_computes op.Greater la lb ma mb ha hb
+    binary_computes op.LessEqual la lb ma mb ha hb = plain_computes op.LessEqual la lb ma mb ha hb
+    binary_computes op.GreaterEqual la lb ma mb ha hb = plain_computes op.GreaterEqual la lb ma mb ha hb
+    binary_computes op.ShiftLeft la lb ma mb ha hb = plain_computes op.ShiftLeft la lb ma mb ha hb
+    binary_computes op.ShiftRight la lb ma mb ha hb = plain_computes op.ShiftRight la lb ma mb ha hb
+    binary_computes op.Add la lb ma mb ha hb = plain_computes op.Add la lb ma mb ha hb
+    binary_computes op.Sub la lb ma mb ha hb = plain_computes op.Sub la lb ma mb ha hb
+    binary_computes op.Mul la lb ma mb ha hb = plain_computes op.Mul la lb ma mb ha hb
+    binary_computes op.Div la lb ma mb ha hb = plain_computes op.Div la lb ma mb ha hb
+    binary_computes op.Rem la lb ma mb ha hb = plain_computes op.Rem la lb ma mb ha hb
+
+    unary_computes : (o : UnaryOp) (l : Lowered) (m : Meant) → Fits l m →
+        Computes (from_one (l.form want.Value) (λ d x. Op d (unary_op o l.ty) x None))
+        (λ blocks. bind (m.way want.Value blocks) (applied_one arith (is_unsigned m.ty) o))
+    unary_computes o l m h =
+        one_computes (l.form want.Value) (λ d x. Op d (unary_op o l.ty) x None) (m.way want.Value)
+        (λ blocks. applied_one arith (is_unsigned m.ty) o)
+        (subst (λ ty. FromOne (λ d x. Op d (unary_op o l.ty) x None ∷ []) (λ blocks. applied_one arith (is_unsigned ty)
+        o)) h.ty (op_alone (unary_op o l.ty) (λ blocks. applied_one arith (is_unsigned l.ty) o)
+        (λ blocks v. unary_is arith o l.ty blocks v v)))
+        (h.form want.Value)
+
+    index_computes : (la lb : Lowered) (ma mb : Meant) → Fits la ma → Fits lb mb →
+        Computes (from_two (la.form want.Value) (lb.form want.Value) (λ d x y. Op d (move_op structs op.Add la.ty lb.ty)
+        x (Some y)))
+        (λ blocks. bind (ma.way want.Value blocks) (λ v. bind (mb.way want.Value blocks)
+        (at_pointer structs blocks op.Add ma.ty mb.ty v)))
+    index_computes la lb ma mb ha hb =
+        two_compute (la.form want.Value) (lb.form want.Value) (λ d x y. Op d (move_op structs op.Add la.ty lb.ty) x
+        (Some y)) (ma.way want.Value) (mb.way want.Value) (λ blocks. at_pointer structs blocks op.Add ma.ty mb.ty)
+        (subst (λ ty. FromTwo (λ d x y. Op d (move_op structs op.Add la.ty lb.ty) x (Some y))
+        (λ blocks. at_pointer structs blocks op.Add ty mb.ty)) ha.ty
+        (subst (λ ty. FromTwo (λ d x y. Op d (move_op structs op.Add la.ty lb.ty) x (Some y))
+        (λ blocks. at_pointer structs blocks op.Add la.ty ty)) hb.ty (op_gives (move_op structs op.Add la.ty lb.ty)
+        (λ blocks. at_pointer structs blocks op.Add la.ty lb.ty) (λ blocks v w. move_is arith structs op.Add la.ty lb.ty
+        blocks v w))))
+        (ha.form want.Value) (hb.form want.Value)
+
+    member_computes : (offset : ℕ) (l : Lows) (r : Blocks → Result Value Cause) → Computes l r →
+        Computes (member structs offset l) (λ blocks. bind (r blocks) (moved blocks (pos offset)))
+    member_computes offset l r h =
+        one_computes l (λ d x. Op d (tacop.PointerMember offset) x None) r (λ blocks. moved blocks (pos offset))
+        (op_alone (tacop.PointerMember offset) (λ blocks. moved blocks (pos offset)) (λ blocks v. refl)) h
+
+    module _ (params : ℕ) where
+      abbrev P : TypedExpr → Type 0
+      P e = Fits (lowered structs params e) (meant arith structs here params e)
+
+      level : (ty : Ty) (k : TypedKind-F TypedKind TypedExpr) → Under P k → (w : Want) →
+          Computes (term_of _ _ (term_step structs params) lowered_step k ty w)
+          (term_of _ _ (term_way arith structs here params) meant_step k ty w)
+      level ty (term.Literal word) h w = alone_computes _ _ (literal_gives ty word)
+      level ty (term.Variable v) h w =
+          place_computes ty w _ _ (alone_computes (place_code params v) (λ blocks. Ok (variable_at here params v))
+          (place_gives params v))
+      level ty (term.Unary o a) h w = unary_computes o _ _ h
+      level ty (term.Binary o a b) h w = binary_computes o _ _ _ _ h.0 h.1
+      level ty (term.Index a b) h w = place_computes ty w _ _ (index_computes _ _ _ _ h.0 h.1)
+      level ty (term.Member a offset) h w = place_computes ty w _ _ (member_computes offset _ _ (h.form want.Place))
+      level ty (term.Arrow a offset) h w = place_computes ty w _ _ (member_computes offset _ _ (h.form want.Value))
+      level ty (term.Deref a) h w = place_computes ty w _ _ (h.form want.Value)
+      level ty (term.Address a) h w = h.form want.Place
+
+      pub expr_fits : (e : TypedExpr) → P e
+      expr_fits = expr_induction P (λ ty k h.
+          subst (Fits (lowered structs params (typed ty k)))
+          (sym (expr_at _ _ (term_way arith structs here params) meant_step ty k))
+          (subst (λ l. Fits l
+          (meant_step (record { ty = ty; kind = term_of _ _ (term_way arith structs here params) meant_step k })))
+          (sym (expr_at _ _ (term_step structs params) lowered_step ty k))
+          (record { ty = refl; form = level ty k h })))

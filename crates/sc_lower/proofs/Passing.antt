@@ -1,0 +1,407 @@
+-- The statements of a function's code pass each test that the statements which are emitted pass.
+use Rattle.std.proofs.Common.{◌≡◌, ℕ, suc, ◌<◌, ◌≤◌, Bool, true, false, List, [], ◌∷◌, map, length, Option, Some, None, refl, sym, ap, ◌∙◌, subst, arith as numbers}
+use Rattle.std.specs.Prelude.{not, is_some}
+use Rattle.std.specs.List.{list_all}
+use Rattle.std.proofs.lemmas.Bool.{false≢true, and_from}
+use Rattle.sc_base.proofs.Bools.{and_first, and_rest}
+use Rattle.sc_core.specs.declared.expr.CallTarget.{CallTarget}
+use Rattle.sc_core.specs.declared.expr.CallTarget.TheVariants as target
+use Rattle.sc_core.specs.declared.expr.TypedCall.{TypedCall}
+use Rattle.sc_core.specs.declared.expr.TypedExpr.{TypedExpr}
+use Rattle.sc_core.specs.declared.expr.VarRef.TheVariants.{Local}
+use Rattle.sc_core.specs.declared.section.TypedLocal.{TypedLocal}
+use Rattle.sc_core.specs.declared.section.TypedStruct.{TypedStruct}
+use Rattle.sc_core.specs.declared.stmt.TypedStmt.{TypedStmt}
+use Rattle.sc_core.specs.declared.stmt.TypedStmtKind.{TypedStmtKind, TypedStmtKind-F}
+use Rattle.sc_core.specs.declared.stmt.TypedStmtKind.TheOpen as layer
+use Rattle.sc_core.specs.declared.stmt.TypedSimple.{TypedSimple}
+use Rattle.sc_core.specs.declared.stmt.TypedSimpleKind.{TypedSimpleKind}
+use Rattle.sc_core.specs.declared.stmt.TypedSimpleKind.TheVariants as simple
+use Rattle.sc_core.specs.declared.ty.Ty.{Ty}
+use Rattle.sc_core.specs.declared.value.Want.TheVariants as want
+use Rattle.sc_core.specs.Typing.{Scope, Judged, judged, is_type, variable_ty, goes_into, all_go_into, Signature, Callable, target_signature, args_fit, option_goes, result_goes, is_target, is_scalar, returned_fits, call_fits, assign_fits, assign_call_fits, returned_call_fits, simple_fits, part_fits, kind_fits, stmt_fits, body_fits, init_fits}
+use Rattle.sc_core.proofs.Layers.{layer_of, stmt_at}
+use Rattle.sc_core.proofs.Induction.{Each, Inside, stmt_induction}
+use Rattle.sc_tac.specs.declared.stmt.TacStmt.{TacStmt, TacStmt-F}
+use Rattle.sc_tac.specs.declared.stmt.TacStmt.TheOpen as tac
+use Rattle.sc_tac.specs.declared.stmt.TacStmt.TheVariants as emit
+use Rattle.sc_tac.specs.Parts.{everywhere}
+use Rattle.sc_lower.specs.Expressions.{Low, Lows, Forms, alone, at_place, place_code, forms}
+use Rattle.sc_lower.specs.Statements.{Part, Parts, just, after, both, in_turn, Many, many, store_at, assign, first_of, call_code, call_alone, call_for, return_value, fork, test as tests, cycle, simple_code, part_code, kind_step, stmt_code, block_code}
+use Rattle.sc_lower.specs.Programs.{init_code, inits_code}
+use Rattle.sc_lower.proofs.Tests.{call_layer, scalar_fits, all_append, all_one, all_behind, Below, AllBelow, PassedBy, Clean, alone_clean, place_clean, place_passes, fork_passes, expr_clean}
+
+-- the signature of a call that fits
+pub record Signed (o : Option Signature) (args : List Judged) : Type 0 where
+  pub signature : Signature
+  pub is : o ≡ Some signature
+  pub fit : all_go_into signature.params args ≡ true
+
+pub signed : (o : Option Signature) (args : List Judged) → args_fit o args ≡ true → Signed o args
+signed None args h = absurd (false≢true h)
+signed (Some signature) args h = record { signature = signature; is = refl; fit = h }
+
+-- a value that is returned fits
+pub returned_value : (r : Option Ty) (e : Judged) → returned_fits r e ≡ true → e.fits ≡ true
+returned_value None e h = absurd (false≢true h)
+returned_value (Some t) e h = and_first e.fits _ h
+
+-- a result that goes into a place is there
+result_there : (o : Option Signature) (signature : Signature) (place : Ty) → o ≡ Some signature →
+    result_goes o place ≡ true → is_some signature.result ≡ true
+result_there o signature place is h = by signature.result (subst (λ o. result_goes o place ≡ true) is h) where
+  by : (result : Option Ty) → option_goes result place ≡ true → is_some result ≡ true
+  by None h = absurd (false≢true h)
+  by (Some t) h = refl
+
+-- the locals of a function from a place on have their types, and their initialisers too
+abbrev pub InitsFit : Scope → ℕ → List TypedLocal → Type 0
+InitsFit scope k [] = Unit {0}
+InitsFit scope k (local ∷ locals) =
+    (is_type (variable_ty scope (Local k)) local.ty ≡ true) × (init_fits scope local.ty local.init ≡ true)
+    × InitsFit scope (suc k) locals
+
+-- a test that is passed by what statements emit
+pub record PassedByAll (temps : ℕ) (scope : Scope) (callable : Callable) (result : Option Ty) (test : TacStmt-F Bool →
+    Bool) : Type 0 where
+  pub exprs : PassedBy temps scope test
+  pub store : (q v : ℕ) → q < temps → v < temps → test (tac.Store q v) ≡ true
+  pub cycle : (a b c : List Bool) → test (tac.Loop a b c) ≡ true
+  pub breaks : test tac.Break ≡ true
+  pub continues : test tac.Continue ≡ true
+  pub called : (to : CallTarget) (signature : Signature) (dest : Option ℕ) (at : List ℕ) →
+      target_signature callable to ≡ Some signature →
+      (es : List TypedExpr) → all_go_into signature.params (map (judged scope) es) ≡ true →
+      length at ≡ length signature.params → (is_some dest ≡ true → is_some signature.result ≡ true) → Below temps dest →
+      AllBelow temps at →
+      test (call_layer to dest at) ≡ true
+  pub returned : (v : Option ℕ) → is_some v ≡ is_some result → Below temps v → test (tac.Return v) ≡ true
+
+module _ (temps : ℕ) (scope : Scope) (callable : Callable) (result : Option Ty) (test : TacStmt-F Bool → Bool)
+    (passed : PassedByAll temps scope callable result test) (structs : List TypedStruct) where
+  abbrev params : ℕ
+  params = length scope.params
+
+  abbrev form : TypedExpr → Forms
+  form = forms structs params
+
+  abbrev All : List TacStmt → Type 0
+  All xs = everywhere test xs ≡ true
+
+  abbrev Cleans : Lows → Type 0
+  Cleans = Clean temps scope test passed.exprs
+
+  clean : (e : TypedExpr) → (judged scope e).fits ≡ true → Cleans (form e want.Value)
+  clean e h = expr_clean temps scope test passed.exprs structs e h want.Value
+
+  clean_place : (e : TypedExpr) → (judged scope e).fits ≡ true → Cleans (form e want.Place)
+  clean_place e h = expr_clean temps scope test passed.exprs structs e h want.Place
+
+  pub record CleanPart (p : Parts) : Type 0 where
+    pub up : (n : ℕ) → n ≤ (p n).next
+    pub passes : (n : ℕ) → (p n).next ≤ temps → All (p n).code
+
+  just_clean : (code : List TacStmt) → All code → CleanPart (just code)
+  just_clean code h = record { up = λ n. omega numbers; passes = λ n le. h }
+
+  -- what is made of a value that lies in a temporary
+  record CleanWith (make : ℕ → Parts) : Type 0 where
+    pub up : (at n : ℕ) → n ≤ (make at n).next
+    pub passes : (at n : ℕ) → at < temps → (make at n).next ≤ temps → All (make at n).code
+
+  after_clean : (a : Lows) (make : ℕ → Parts) → Cleans a → CleanWith make → CleanPart (after a make)
+  after_clean a make ha h = record {
+    up = λ n. omega (numbers, ha.above n, ha.below n, h.up (a n).at (a n).next);
+    passes = λ n le.
+        let far = h.up (a n).at (a n).next in
+        all_append test (a n).code (make (a n).at (a n).next).code (ha.passes n (omega (numbers, le, far)))
+        (h.passes (a n).at (a n).next (omega (numbers, le, far, ha.below n)) le);
+  }
+
+  both_clean : (p q : Parts) → CleanPart p → CleanPart q → CleanPart (both p q)
+  both_clean p q hp hq = record {
+    up = λ n. omega (numbers, hp.up n, hq.up (p n).next);
+    passes =
+        λ n le. all_append test (p n).code (q (p n).next).code (hp.passes n (omega (numbers, le, hq.up (p n).next)))
+        (hq.passes (p n).next le);
+  }
+
+  just_with : (make : ℕ → List TacStmt) → ((at : ℕ) → at < temps → All (make at)) → CleanWith (λ at. just (make at))
+  just_with make h = record { up = λ at n. omega numbers; passes = λ at n lt le. h at lt }
+
+  store_with : (f : Forms) → Cleans (f want.Place) → CleanWith (store_at f)
+  store_with f hf = record {
+    up = λ at n. omega (numbers, hf.above n, hf.below n);
+    passes = λ at n lt le.
+        let q : ℕ = (f want.Place n).at in
+        all_append test (f want.Place n).code (emit.Store q at ∷ []) (hf.passes n le)
+        (all_one test (tac.Store q at) (emit.Store q at) (emit.rolls-Store q at)
+        (and_from _ true (passed.store q at (omega (numbers, hf.below n, le)) lt) refl));
+  }
+
+  assign_clean : (f e : Forms) → Cleans (f want.Place) → Cleans (e want.Value) → CleanPart (assign f e)
+  assign_clean f e hf he = after_clean (e want.Value) (store_at f) he (store_with f hf)
+
+  -- ARGUMENTS
+  goes_length : (types : List Ty) (es : List TypedExpr) → all_go_into types (map (judged scope) es) ≡ true →
+      length es ≡ length types
+  goes_length [] [] h = refl
+  goes_length [] (e ∷ es) h = absurd (false≢true h)
+  goes_length (t ∷ types) [] h = absurd (false≢true h)
+  goes_length (t ∷ types) (e ∷ es) h = ap suc (goes_length types es (and_rest (goes_into t (judged scope e)) _ h))
+
+  many_length : (es : List TypedExpr) (n : ℕ) → length (many (map form es) n).at ≡ length es
+  many_length [] n = refl
+  many_length (e ∷ es) n = ap suc (many_length es (form e want.Value n).next)
+
+  record ManyClean (es : List TypedExpr) (n : ℕ) : Type 0 where
+    pub up : n ≤ (many (map form es) n).next
+    pub passes : (many (map form es) n).next ≤ temps → All (many (map form es) n).code
+    pub below : (many (map form es) n).next ≤ temps → AllBelow temps (many (map form es) n).at
+
+  many_clean : (types : List Ty) (es : List TypedExpr) (n : ℕ) → all_go_into types (map (judged scope) es) ≡ true →
+      ManyClean es n
+  many_clean types [] n h = record { up = omega numbers; passes = λ le. refl; below = λ le. tt }
+  many_clean [] (e ∷ es) n h = absurd (false≢true h)
+  many_clean (t ∷ types) (e ∷ es) n h =
+      let x : Low = form e want.Value n in
+      let c = clean e (and_first (judged scope e).fits _ (and_first (goes_into t (judged scope e)) _ h)) in
+      let rest = many_clean types es x.next (and_rest (goes_into t (judged scope e)) _ h) in
+      record {
+        up = omega (numbers, c.above n, c.below n, rest.up);
+        passes =
+            λ le. all_append test x.code (many (map form es) x.next).code (c.passes n (omega (numbers, le, rest.up)))
+            (rest.passes le);
+        below = λ le. (omega (numbers, le, rest.up, c.below n), rest.below le);
+      }
+
+  call_one : (to : CallTarget) (dest : Option ℕ) (at : List ℕ) → test (call_layer to dest at) ≡ true →
+      All (call_code to dest at ∷ [])
+  call_one (target.Own function) dest at h = all_one test (tac.CallOwn dest function at) (emit.CallOwn dest function at)
+      (emit.rolls-CallOwn dest function at) (and_from _ true h refl)
+  call_one (target.Cross comp index) dest at h =
+      all_one test (tac.CallCross dest comp index at) (emit.CallCross dest comp index at)
+      (emit.rolls-CallCross dest comp index at) (and_from _ true h refl)
+  call_one target.Input dest at h =
+      all_one test (tac.Input dest) (emit.Input dest) (emit.rolls-Input dest) (and_from _ true h refl)
+  call_one target.Output dest at h =
+      all_one test (tac.Output (first_of at)) (emit.Output (first_of at)) (emit.rolls-Output (first_of at))
+      (and_from _ true h refl)
+
+  call_passes : (c : TypedCall) (s : Signed (target_signature callable c.target) (map (judged scope) c.args))
+      (dest : Option ℕ) (n : ℕ) →
+      (is_some dest ≡ true → is_some s.signature.result ≡ true) → Below temps dest →
+      (many (map form c.args) n).next ≤ temps →
+      All (call_code c.target dest (many (map form c.args) n).at ∷ [])
+  call_passes c s dest n results lt le =
+      call_one c.target dest (many (map form c.args) n).at
+      (passed.called c.target s.signature dest (many (map form c.args) n).at s.is c.args s.fit (many_length c.args n
+      ∙ goes_length s.signature.params c.args s.fit) results lt ((many_clean s.signature.params c.args n s.fit).below
+      le))
+
+  call_alone_clean : (c : TypedCall) → call_fits callable c.target (map (judged scope) c.args) ≡ true →
+      CleanPart (call_alone c.target (map form c.args))
+  call_alone_clean c h =
+      let s = signed (target_signature callable c.target) (map (judged scope) c.args) h in
+      record {
+        up = λ n. (many_clean s.signature.params c.args n s.fit).up;
+        passes =
+            λ n le. all_append test (many (map form c.args) n).code
+            (call_code c.target None (many (map form c.args) n).at ∷ [])
+            ((many_clean s.signature.params c.args n s.fit).passes le)
+            (call_passes c s None n (λ some. absurd (false≢true some)) tt le);
+      }
+
+  call_for_clean : (c : TypedCall) (place : Ty) (make : ℕ → Parts) →
+      call_fits callable c.target (map (judged scope) c.args) ≡ true →
+      result_goes (target_signature callable c.target) place ≡ true → CleanWith make →
+      CleanPart (call_for c.target (map form c.args) make)
+  call_for_clean c place make h goes hm =
+      let s = signed (target_signature callable c.target) (map (judged scope) c.args) h in
+      let there = result_there (target_signature callable c.target) s.signature place s.is goes in
+      record {
+        up =
+            λ n. omega (
+              numbers,
+              (many_clean s.signature.params c.args n s.fit).up,
+              hm.up
+                  (many (map form c.args) n).next (suc (many (map form c.args) n).next),
+            );
+        passes = λ n le.
+            let x : Many = many (map form c.args) n in
+            let far = hm.up x.next (suc x.next) in
+            all_append test x.code (call_code c.target (Some x.next) x.at ∷ (make x.next (suc x.next)).code)
+            ((many_clean s.signature.params c.args n s.fit).passes (omega (numbers, le, far)))
+            (all_behind test (call_code c.target (Some x.next) x.at) (make x.next (suc x.next)).code
+            (call_passes c s (Some x.next) n (λ some. there) (omega (numbers, le, far)) (omega (numbers, le, far)))
+            (hm.passes x.next (suc x.next) (omega (numbers, le, far)) le));
+      }
+
+  -- CONTROL
+  return_with : is_some result ≡ true → CleanWith return_value
+  return_with h =
+      just_with (λ v. emit.Return (Some v) ∷ []) (λ v lt. all_one test (tac.Return (Some v)) (emit.Return (Some v))
+      (emit.rolls-Return (Some v)) (and_from _ true (passed.returned (Some v) (sym h) lt) refl))
+
+  fork_with : (p q : Parts) → CleanPart p → CleanPart q → CleanWith (fork p q)
+  fork_with p q hp hq = record {
+    up = λ at n. omega (numbers, hp.up n, hq.up (p n).next);
+    passes = λ at n lt le. fork_passes temps scope test passed.exprs at (p n).code (q (p n).next).code lt
+        (hp.passes n (omega (numbers, le, hq.up (p n).next))) (hq.passes (p n).next le);
+  }
+
+  break_passes : All (emit.Break ∷ [])
+  break_passes = all_one test tac.Break emit.Break emit.rolls-Break (and_from _ true passed.breaks refl)
+
+  test_clean : (cond : TypedExpr) → (judged scope cond).fits ≡ true → CleanPart (tests (form cond))
+  test_clean cond h =
+      after_clean (form cond want.Value) _ (clean cond h) (just_with (λ v. emit.If v [] (emit.Break ∷ []) ∷ [])
+      (λ v lt. fork_passes temps scope test passed.exprs v [] (emit.Break ∷ []) lt refl break_passes))
+
+  cycle_clean : (p q r : Parts) → CleanPart p → CleanPart q → CleanPart r → CleanPart (cycle p q r)
+  cycle_clean p q r hp hq hr = record {
+    up = λ n. omega (numbers, hp.up n, hq.up (p n).next, hr.up (q (p n).next).next);
+    passes = λ n le.
+        let x : Part = p n in let y : Part = q x.next in let z : Part = r y.next in
+        all_one test (tac.Loop x.code y.code z.code) (emit.Loop x.code y.code z.code)
+        (emit.rolls-Loop x.code y.code z.code)
+        (and_from _ _ (passed.cycle _ _ _) (and_from _ _ (hp.passes n (omega (numbers, le, hq.up x.next, hr.up y.next)))
+        (and_from _ _ (hq.passes x.next (omega (numbers, le, hr.up y.next))) (and_from _ true (hr.passes y.next le)
+        refl))));
+  }
+
+  target_clean : (place : TypedExpr) → is_target (judged scope place) ≡ true → Cleans (form place want.Place)
+  target_clean place h = clean_place place (and_first (judged scope place).fits _ h)
+
+  assign_fits_clean : (place e : TypedExpr) → assign_fits (judged scope place) (judged scope e) ≡ true →
+      CleanPart (assign (form place) (form e))
+  assign_fits_clean place e h =
+      assign_clean (form place) (form e) (target_clean place (and_first (is_target (judged scope place)) _ h))
+      (clean e (and_first (judged scope e).fits _ (and_rest (is_target (judged scope place)) _ h)))
+
+  assign_call_clean : (place : TypedExpr) (c : TypedCall) →
+      assign_call_fits callable (judged scope place) c.target (map (judged scope) c.args) ≡ true →
+      CleanPart (call_for c.target (map form c.args) (store_at (form place)))
+  assign_call_clean place c h =
+      let inner = and_rest (is_target (judged scope place)) _ h in
+      call_for_clean c (judged scope place).ty (store_at (form place))
+      (and_first (call_fits callable c.target (map (judged scope) c.args)) _ inner)
+      (and_rest (call_fits callable c.target (map (judged scope) c.args)) _ inner)
+      (store_with (form place) (target_clean place (and_first (is_target (judged scope place)) _ h)))
+
+  simple_clean : (k : TypedSimpleKind) → simple_fits scope callable result k ≡ true →
+      CleanPart (simple_code structs params k)
+  simple_clean (simple.Assign place e) h = assign_fits_clean place e h
+  simple_clean (simple.AssignCall place c) h = assign_call_clean place c h
+  simple_clean (simple.Call c) h = call_alone_clean c h
+
+  part_clean : (part : Option TypedSimple) → part_fits scope callable result part ≡ true →
+      CleanPart (part_code structs params part)
+  part_clean None h = just_clean [] refl
+  part_clean (Some s) h = simple_clean s.kind h
+
+  returned_some : (r : Option Ty) (e : Judged) → returned_fits r e ≡ true → is_some r ≡ true
+  returned_some None e h = absurd (false≢true h)
+  returned_some (Some t) e h = refl
+
+  return_call_clean : (r : Option Ty) → r ≡ result → (c : TypedCall) →
+      returned_call_fits callable r c.target (map (judged scope) c.args) ≡ true →
+      CleanPart (call_for c.target (map form c.args) return_value)
+  return_call_clean None own c h = absurd (false≢true h)
+  return_call_clean (Some t) own c h =
+      call_for_clean c t return_value (and_first (call_fits callable c.target (map (judged scope) c.args)) _ h)
+      (and_rest (call_fits callable c.target (map (judged scope) c.args)) _ h) (return_with (sym (ap is_some own)))
+
+  nothing : (r : Option Ty) → not (is_some r) ≡ true → false ≡ is_some r
+  nothing None h = refl
+  nothing (Some t) h = absurd (false≢true h)
+
+  abbrev Q : TypedStmt → Type 0
+  Q stmt = (looping : Bool) → stmt_fits scope callable result stmt looping ≡ true →
+      CleanPart (stmt_code structs params stmt)
+
+  block_clean : (block : List TypedStmt) (looping : Bool) →
+      list_all {X = Bool → Bool} (λ s. s looping) (map (stmt_fits scope callable result) block) ≡ true → Each Q block →
+      CleanPart (block_code structs params block)
+  block_clean [] looping h every = just_clean [] refl
+  block_clean (stmt ∷ rest) looping h every =
+      both_clean (stmt_code structs params stmt) (block_code structs params rest)
+      (every.0 looping (and_first (stmt_fits scope callable result stmt looping) _ h))
+      (block_clean rest looping (and_rest (stmt_fits scope callable result stmt looping) _ h) every.1)
+
+  abbrev layer_fits : TypedStmtKind-F TypedStmtKind TypedStmt → Bool → Bool
+  layer_fits k = layer_of _ _ (kind_fits scope callable result) (λ s. s.kind) k
+
+  level : (line : ℕ) (k : TypedStmtKind-F TypedStmtKind TypedStmt) → Inside Q k → (looping : Bool) →
+      layer_fits k looping ≡ true → CleanPart (layer_of _ _ (kind_step structs params) (λ s. s.kind) k)
+  level line layer.Empty h looping fits = just_clean [] refl
+  level line (layer.Assign place e) h looping fits = assign_fits_clean place e fits
+  level line (layer.AssignCall place c) h looping fits = assign_call_clean place c fits
+  level line (layer.Call c) h looping fits = call_alone_clean c fits
+  level line (layer.If cond x y) h looping fits =
+      let inner = and_rest (is_scalar (judged scope cond)) _ fits in
+      after_clean (form cond want.Value)
+      _ (clean cond (scalar_fits (judged scope cond) (and_first (is_scalar (judged scope cond)) _ fits)))
+      (fork_with (block_code structs params x) (block_code structs params y)
+      (block_clean x looping
+      (and_first (list_all {X = Bool → Bool} (λ s. s looping) (map (stmt_fits scope callable result) x)) _ inner) h.0)
+      (block_clean y looping
+      (and_rest (list_all {X = Bool → Bool} (λ s. s looping) (map (stmt_fits scope callable result) x)) _ inner) h.1))
+  level line (layer.While cond x) h looping fits =
+      cycle_clean _ _ _ (test_clean cond (scalar_fits (judged scope cond) (and_first (is_scalar (judged scope cond))
+      _ fits))) (block_clean x true (and_rest (is_scalar (judged scope cond)) _ fits) h) (just_clean [] refl)
+  level line (layer.For first cond next x) h looping fits =
+      let behind = and_rest (part_fits scope callable result first) _ fits in
+      let last = and_rest (is_scalar (judged scope cond)) _ behind in
+      both_clean _ _ (part_clean first (and_first (part_fits scope callable result first) _ fits))
+      (cycle_clean _ _ _ (test_clean cond (scalar_fits (judged scope cond) (and_first (is_scalar (judged scope cond))
+      _ behind))) (block_clean x true (and_rest (part_fits scope callable result next) _ last) h)
+      (part_clean next (and_first (part_fits scope callable result next) _ last)))
+  level line layer.Break h looping fits = just_clean (emit.Break ∷ []) break_passes
+  level line layer.Continue h looping fits =
+      just_clean (emit.Continue ∷ []) (all_one test tac.Continue emit.Continue emit.rolls-Continue
+      (and_from _ true passed.continues refl))
+  level line layer.Return h looping fits =
+      just_clean (emit.Return None ∷ []) (all_one test (tac.Return None) (emit.Return None) (emit.rolls-Return None)
+      (and_from _ true (passed.returned None (nothing result fits) tt) refl))
+  level line (layer.ReturnValue e) h looping fits =
+      after_clean (form e want.Value) return_value (clean e (returned_value result (judged scope e) fits))
+      (return_with (returned_some result (judged scope e) fits))
+  level line (layer.ReturnCall c) h looping fits = return_call_clean result refl c fits
+
+  stmt_clean : (stmt : TypedStmt) → Q stmt
+  stmt_clean = stmt_induction Q (λ line k h looping fits.
+      subst CleanPart (sym (stmt_at _ _ (kind_step structs params) (λ s. s.kind) line k))
+      (level line k h looping (subst (λ x. x looping ≡ true) (stmt_at _ _ (kind_fits scope callable result)
+      (λ s. s.kind) line k) fits)))
+
+  body_block : (block : List TypedStmt) → body_fits scope callable result block ≡ true →
+      CleanPart (block_code structs params block)
+  body_block [] h = just_clean [] refl
+  body_block (stmt ∷ rest) h =
+      both_clean (stmt_code structs params stmt) (block_code structs params rest)
+      (stmt_clean stmt false (and_first (stmt_fits scope callable result stmt false) _ h))
+      (body_block rest (and_rest (stmt_fits scope callable result stmt false) _ h))
+
+  init_clean : (k : ℕ) (local : TypedLocal) (init : Option TypedExpr) → is_type (variable_ty scope (Local k)) local.ty
+      ≡ true → init_fits scope local.ty init ≡ true → CleanPart (init_code structs params k local init)
+  init_clean k local None own h = just_clean [] refl
+  init_clean k local (Some e) own h =
+      assign_clean (at_place local.ty (alone (place_code params (Local k)))) (form e)
+      (place_clean temps scope test passed.exprs local.ty want.Place (alone (place_code params (Local k)))
+      (alone_clean temps scope test passed.exprs (place_code params (Local k))
+      (place_passes temps scope test passed.exprs (Local k) local.ty own)))
+      (clean e (and_first (judged scope e).fits _ h))
+
+  inits_clean : (k : ℕ) (locals : List TypedLocal) → InitsFit scope k locals →
+      CleanPart (in_turn (inits_code structs params k locals))
+  inits_clean k [] h = just_clean [] refl
+  inits_clean k (local ∷ locals) h =
+      both_clean (init_code structs params k local local.init) (in_turn (inits_code structs params (suc k) locals))
+      (init_clean k local local.init h.0 h.1) (inits_clean (suc k) locals h.2)
+
+  -- all of a body
+  pub body_passes : (locals : List TypedLocal) (body : List TypedStmt) → InitsFit scope 0 locals →
+      body_fits scope callable result body ≡ true →
+      CleanPart (both (in_turn (inits_code structs params 0 locals)) (block_code structs params body))
+  body_passes locals body inits fits = both_clean _ _ (inits_clean 0 locals inits) (body_block body fits)

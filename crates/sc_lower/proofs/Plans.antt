@@ -1,0 +1,148 @@
+-- The code of programs by plans: what it means is the run of a library that computes, where its code is known.
+use Rattle.std.proofs.Common.{◌≡◌, refl, ap, ◌∙◌, ℕ, suc, List, [], ◌∷◌, map, length, Option, None, Some}
+use Rattle.std.specs.Prelude.{is_some}
+use Rattle.sc_event.specs.declared.interface.Interfaces.{Interfaces}
+use Rattle.sc_event.specs.declared.row.Entry.TheVariants.{Main}
+use Rattle.sc_core.specs.declared.expr.VarRef.TheVariants.{Local}
+use Rattle.sc_core.specs.declared.run.SourceRun.{SourceRun}
+use Rattle.sc_core.specs.declared.section.TypedStruct.{TypedStruct}
+use Rattle.sc_core.specs.Run.{stopped_at}
+use Rattle.sc_core.specs.Sizes.{frame_bound}
+use Rattle.sc_core.specs.Types.{variables}
+use Rattle.sc_core.specs.Value.{Arith}
+use Rattle.sc_core.specs.Words.{and_then, all_do}
+use Rattle.sc_core.specs.Calls.{Function, Library, run_step}
+use Rattle.sc_core.specs.Meaning.{closed, run_by}
+use Rattle.sc_core.proofs.Plans.{Slot, Plan, Sheet, local, function, section, program, init_of, plan_nodes, plan_nodes_is}
+use Rattle.sc_core.proofs.Shapes.{Shape}
+use Rattle.sc_tac.specs.declared.stmt.TacStmt.{TacStmt}
+use Rattle.sc_tac.specs.Code.{Codes, no_temps, code_step, stmt_does, code_function, code_functions, code_library, code_globals, code_meaning_by}
+use Rattle.sc_tac.specs.Programs.{same_entry}
+use Rattle.sc_tac.proofs.Shapes.{rows, rows_are, stmts as tac_stmts, Shape as TacShape}
+use Rattle.sc_lower.specs.Expressions.{alone, at_place, place_code}
+use Rattle.sc_lower.specs.Programs.{init_code, inits_code, body_code, entry_of, lowered_function, lowered_sections, lowered_program}
+use Rattle.sc_lower.specs.Statements.{Parts, just, both, in_turn, assign}
+use Rattle.sc_lower.proofs.Shapes.{form, form_is, lines_code, lines_are}
+
+module _ (structs : List TypedStruct) (params : ℕ) where
+  abbrev pub slot_code : ℕ → Slot → Option Shape → Parts
+  slot_code k slot None = just []
+  slot_code k slot (Some a) = assign (at_place slot.ty (alone (place_code params (Local k)))) (form structs params a)
+
+  abbrev pub slots_code : ℕ → List Slot → List Parts
+  slots_code k [] = []
+  slots_code k (slot ∷ slots) = slot_code k slot slot.init ∷ slots_code (suc k) slots
+
+  slot_is : (k : ℕ) (slot : Slot) (init : Option Shape) → init_code structs params k (local slot) (init_of init)
+      ≡ slot_code k slot init
+  slot_is k slot None = refl
+  slot_is k slot (Some a) =
+      ap (assign (at_place slot.ty (alone (place_code params (Local k))))) (form_is structs params a)
+
+  slots_are : (k : ℕ) (slots : List Slot) → inits_code structs params k (map local slots) ≡ slots_code k slots
+  slots_are k [] = refl
+  slots_are k (slot ∷ slots) = λ i. slot_is k slot slot.init i ∷ slots_are (suc k) slots i
+
+abbrev pub plan_code : List TypedStruct → Plan → List TacStmt
+plan_code structs plan =
+    (both (in_turn (slots_code structs (length (function plan).params) 0 plan.locals))
+    (in_turn (lines_code structs (length (function plan).params) plan.body)) 0).code
+
+pub code_is : (structs : List TypedStruct) (plan : Plan) →
+    (body_code structs (function plan) 0).code ≡ plan_code structs plan
+code_is structs plan = λ i.
+    (both (in_turn (slots_are structs (length (function plan).params) 0 plan.locals i))
+    (in_turn (lines_are structs (length (function plan).params) plan.body i)) 0).code
+
+-- the code of each function, by shapes
+abbrev pub Emits : List TypedStruct → List Plan → List TacShape → Type 0
+Emits structs [] [] = Unit {0}
+Emits structs [] (x ∷ xs) = ⊥
+Emits structs (plan ∷ plans) [] = ⊥
+Emits structs (plan ∷ plans) (x ∷ xs) = (plan_code structs plan ≡ tac_stmts x) × Emits structs plans xs
+
+abbrev pub AllEmit : List Sheet → List (List TacShape) → Type 0
+AllEmit [] [] = Unit {0}
+AllEmit [] (x ∷ xs) = ⊥
+AllEmit (sheet ∷ sheets) [] = ⊥
+AllEmit (sheet ∷ sheets) (x ∷ xs) = Emits sheet.structs sheet.plans x × AllEmit sheets xs
+
+module _ (arith : Arith) (interfaces : Interfaces) where
+  abbrev pub quick : ℕ → List TypedStruct → Plan → TacShape → Function
+  quick comp structs plan x = record {
+    cells = variables structs (function plan);
+    room = frame_bound (variables structs (function plan)) (plan_nodes plan);
+    does = λ by here s.
+        and_then (all_do (rows Codes (code_step arith here by) x) no_temps s) (λ left s.
+        closed left.exit (is_some plan.result) (same_entry Main (entry_of interfaces comp plan.name)) 0 here s);
+  }
+
+  quick_is : (comp : ℕ) (structs : List TypedStruct) (plan : Plan) (x : TacShape) →
+      plan_code structs plan ≡ tac_stmts x →
+      code_function arith (lowered_function interfaces comp structs (function plan)) ≡ quick comp structs plan x
+  quick_is comp structs plan x is = λ i. record {
+    cells = variables structs (function plan);
+    room = frame_bound (variables structs (function plan)) (plan_nodes_is plan i);
+    does = λ by here s.
+        and_then (all_do ((ap (map (stmt_does arith here by)) (code_is structs plan ∙ is)
+        ∙ rows_are Codes (code_step arith here by) x) i) no_temps s) (λ left s.
+        closed left.exit (is_some plan.result) (same_entry Main (entry_of interfaces comp plan.name)) 0 here s);
+  }
+
+  abbrev pub quicks : ℕ → List TypedStruct → List Plan → List TacShape → List Function
+  quicks comp structs [] xs = []
+  quicks comp structs (plan ∷ plans) [] = []
+  quicks comp structs (plan ∷ plans) (x ∷ xs) = quick comp structs plan x ∷ quicks comp structs plans xs
+
+  quicks_are : (comp : ℕ) (structs : List TypedStruct) (plans : List Plan) (xs : List TacShape) →
+      Emits structs plans xs →
+      map (code_function arith) (map (lowered_function interfaces comp structs) (map function plans))
+      ≡ quicks comp structs plans xs
+  quicks_are comp structs [] [] h = refl
+  quicks_are comp structs [] (x ∷ xs) h = absurd h
+  quicks_are comp structs (plan ∷ plans) [] h = absurd h
+  quicks_are comp structs (plan ∷ plans) (x ∷ xs) h =
+      λ i. quick_is comp structs plan x h.0 i ∷ quicks_are comp structs plans xs h.1 i
+
+  abbrev pub quick_sections : ℕ → List Sheet → List (List TacShape) → List (List Function)
+  quick_sections comp [] xs = []
+  quick_sections comp (sheet ∷ sheets) [] = []
+  quick_sections comp (sheet ∷ sheets) (x ∷ xs) =
+      quicks comp sheet.structs sheet.plans x ∷ quick_sections (suc comp) sheets xs
+
+  quick_sections_are : (comp : ℕ) (sheets : List Sheet) (xs : List (List TacShape)) → AllEmit sheets xs →
+      map (code_functions arith) (lowered_sections interfaces comp (map section sheets)) ≡ quick_sections comp sheets xs
+  quick_sections_are comp [] [] h = refl
+  quick_sections_are comp [] (x ∷ xs) h = absurd h
+  quick_sections_are comp (sheet ∷ sheets) [] h = absurd h
+  quick_sections_are comp (sheet ∷ sheets) (x ∷ xs) h = λ i.
+      quicks_are comp sheet.structs sheet.plans x h.0 i ∷ quick_sections_are (suc comp) sheets xs h.1 i
+
+  module _ (sheets : List Sheet) (xs : List (List TacShape)) where
+    abbrev pub quick_library : Library
+    quick_library = record {
+      interfaces = interfaces;
+      functions = quick_sections 0 sheets xs;
+      entered = (code_library arith (lowered_program (program interfaces sheets))).entered;
+    }
+
+    abbrev pub quick_meaning : (inputs : List ℕ) (turns events : ℕ) → SourceRun
+    quick_meaning inputs turns events =
+        stopped_at events (run_by quick_library (run_step quick_library)
+        (code_globals (lowered_sections interfaces 0 (map section sheets))) inputs turns).shown
+
+    -- what lowered code means, where it is this
+    pub lowered_is : AllEmit sheets xs → (inputs : List ℕ) (turns events : ℕ) →
+        code_meaning_by arith (lowered_program (program interfaces sheets)) inputs turns events
+        ≡ quick_meaning inputs turns events
+    lowered_is h inputs turns events =
+        ap (λ functions. stopped_at events (run_by (library functions) (run_step (library functions))
+        (code_globals (lowered_sections interfaces 0 (map section sheets))) inputs turns).shown)
+        (quick_sections_are 0 sheets xs h) where
+          library : List (List Function) → Library
+          library functions =
+              record {
+                interfaces = interfaces;
+                functions = functions;
+                entered = (code_library arith (lowered_program (program interfaces sheets))).entered;
+              }

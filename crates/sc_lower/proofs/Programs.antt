@@ -1,0 +1,287 @@
+-- The code of a well-typed program keeps the rules of programs.
+use Rattle.std.proofs.Common.{◌≡◌, ℕ, suc, ◌+◌, Bool, true, false, List, [], ◌∷◌, map, length, Option, Some, None, refl, sym, ap, ◌∙◌, subst, arith as numbers}
+use Rattle.std.specs.Prelude.{not, ◌&&◌, ◌||◌, ◌==◌, if◌then◌else◌, bytes_eq, is_some, slice_get, position}
+use Rattle.std.specs.Bool.{beq}
+use Rattle.std.specs.List.{list_any, list_all}
+use Rattle.std.specs.Option.{option_map, option_and_then}
+use Rattle.std.proofs.lemmas.Bool.{false≢true, and_from, eq-eqb}
+use Rattle.std.proofs.lemmas.List.{length-map}
+use Rattle.sc_base.proofs.Bools.{and_first, and_rest}
+use Rattle.sc_base.proofs.Texts.{same_text, same_either_way}
+use Rattle.sc_event.specs.declared.interface.Interface.{Interface}
+use Rattle.sc_event.specs.declared.interface.Interfaces.{Interfaces}
+use Rattle.sc_event.specs.declared.interface.Proto.{Proto}
+use Rattle.sc_event.specs.declared.row.Entry.{Entry}
+use Rattle.sc_event.specs.declared.row.Entry.TheVariants.{Main, Export}
+use Rattle.sc_event.specs.Lookup.{comp_at, export_at}
+use Rattle.sc_core.specs.declared.program.ProgramTree.{ProgramTree}
+use Rattle.sc_core.specs.declared.section.TypedFunction.{TypedFunction}
+use Rattle.sc_core.specs.declared.section.TypedSection.{TypedSection}
+use Rattle.sc_core.specs.declared.ty.Ty.{Ty}
+use Rattle.sc_core.specs.declared.ty.Ty.TheVariants as ty
+use Rattle.sc_core.specs.Value.{truth}
+use Rattle.sc_core.specs.Meaning.{main_name}
+use Rattle.sc_core.specs.Typing.{scalar_ty, result_ty, signature_of, proto_signature}
+use Rattle.sc_core.specs.WellTyped.{are_distinct, same_types, same_results, same_signature, is_main, main_fits, section_fits, interface_fits, sections_fit, export_fits, is_well_typed}
+use Rattle.sc_kinds.proofs.Sections.{any_along, found_passes, named_so}
+use Rattle.sc_tac.specs.declared.function.TacFnTree.{TacFnTree}
+use Rattle.sc_tac.specs.declared.program.TacSection.{TacSection}
+use Rattle.sc_tac.specs.Programs.{same_entry, count, is_entered, are_entered, exports_entered, main_entered, entry_known, numbered, IsProgram}
+use Rattle.sc_lower.specs.Lowering.{KeepsRules}
+use Rattle.sc_lower.specs.Programs.{exports_of, export_called, entry_of, lowered_function, lowered_section, lowered_sections, lowered_program}
+use Rattle.sc_lower.proofs.Entries.{not_true, first_at, main_is, called_so, export_of, sections_so, mains_so}
+use Rattle.sc_lower.proofs.Rules.{place as place_of, types_length, any_headed, exports_fit, distinct_names, beq_same, function_kept}
+use Rattle.sc_lower.proofs.Sections.{all_made, result_same, globals_named, own_called, exports_called, imports_called}
+
+-- COUNTS
+count_made : {A B : Type 0} (p : B → Bool) (g : A → B) (xs : List A) → count p (map g xs) ≡ count (λ x. p (g x)) xs
+count_made p g [] = refl
+count_made p g (x ∷ xs) = ap (λ n. truth (p (g x)) + n) (count_made p g xs)
+
+count_none : {A : Type 0} (p : A → Bool) (xs : List A) → list_any p xs ≡ false → count p xs ≡ 0
+count_none p [] h = refl
+count_none p (x ∷ xs) h = by (p x) h (count_none p xs) where
+  by : (b : Bool) → (b || list_any p xs) ≡ false → (list_any p xs ≡ false → count p xs ≡ 0) → truth b + count p xs ≡ 0
+  by true h later = absurd (false≢true (sym h))
+  by false h later = zero_first (count p xs) (later h) where
+    zero_first : (n : ℕ) → n ≡ 0 → 0 + n ≡ 0
+    zero_first n h = omega (numbers, h)
+
+abbrev name_of : TypedFunction → List ℕ
+name_of f = f.name
+
+named_none : (name : List ℕ) (fs : List TypedFunction) → list_any (bytes_eq name) (map name_of fs) ≡ false →
+    list_any {X = TypedFunction} (λ f. bytes_eq f.name name) fs ≡ false
+named_none name [] h = refl
+named_none name (f ∷ fs) h =
+    ap (λ b. b || list_any {X = TypedFunction} (λ f. bytes_eq f.name name) fs) (same_either_way f.name name)
+    ∙ by (bytes_eq name f.name) h (named_none name fs) where
+      by : (b : Bool) → (b || list_any (bytes_eq name) (map name_of fs)) ≡ false →
+          (list_any (bytes_eq name) (map name_of fs) ≡ false →
+          list_any {X = TypedFunction} (λ f. bytes_eq f.name name) fs ≡ false) →
+          (b || list_any {X = TypedFunction} (λ f. bytes_eq f.name name) fs) ≡ false
+      by true h later = absurd (false≢true (sym h))
+      by false h later = later h
+
+-- where names differ, one function has a name
+named_once : (name : List ℕ) (fs : List TypedFunction) → are_distinct (map name_of fs) ≡ true →
+    list_any {X = TypedFunction} (λ f. bytes_eq f.name name) fs ≡ true →
+    count {X = TypedFunction} (λ f. bytes_eq f.name name) fs ≡ 1
+named_once name [] distinct h = absurd (false≢true h)
+named_once name (f ∷ fs) distinct h =
+    by (bytes_eq f.name name) refl h (named_once name fs (and_rest (not (list_any (bytes_eq f.name) (map name_of fs)))
+    _ distinct)) where
+      one_first : (n : ℕ) → n ≡ 0 → 1 + n ≡ 1
+      one_first n h = omega (numbers, h)
+
+      zero_first : (n : ℕ) → n ≡ 1 → 0 + n ≡ 1
+      zero_first n h = omega (numbers, h)
+
+      by : (b : Bool) → bytes_eq f.name name ≡ b → (b || list_any {X = TypedFunction} (λ f. bytes_eq f.name name) fs)
+          ≡ true → (list_any {X = TypedFunction} (λ f. bytes_eq f.name name) fs ≡ true →
+          count {X = TypedFunction} (λ f. bytes_eq f.name name) fs ≡ 1) →
+          truth b + count {X = TypedFunction} (λ f. bytes_eq f.name name) fs ≡ 1
+      by true is h later =
+          one_first (count {X = TypedFunction} (λ f. bytes_eq f.name name) fs)
+          (count_none {A = TypedFunction} (λ f. bytes_eq f.name name) fs
+          (named_none name fs (subst (λ n. list_any (bytes_eq n) (map name_of fs) ≡ false) (same_text f.name name is)
+          (not_true (list_any (bytes_eq f.name) (map name_of fs))
+          (and_first (not (list_any (bytes_eq f.name) (map name_of fs))) _ distinct)))))
+      by false is h later = zero_first (count {X = TypedFunction} (λ f. bytes_eq f.name name) fs) (later h)
+
+results_there : (a b : Option Ty) → same_results a b ≡ true → is_some a ≡ is_some b
+results_there None None h = refl
+results_there None (Some t) h = absurd (false≢true h)
+results_there (Some t) None h = absurd (false≢true h)
+results_there (Some t) (Some u) h = refl
+
+module _ (program : ProgramTree) (typed : is_well_typed program ≡ true) where
+  abbrev faces : Interfaces
+  faces = program.interfaces
+
+  -- a test of each section of the code
+  numbered_all : (test : ℕ → TacSection → Bool) (k : ℕ) (sections : List TypedSection) →
+      ((i : ℕ) (section : TypedSection) → slice_get sections i ≡ Some section →
+      test (k + i) (lowered_section faces (k + i) section) ≡ true) →
+      numbered test k (lowered_sections faces k sections) ≡ true
+  numbered_all test k [] h = refl
+  numbered_all test k (x ∷ xs) h =
+      let here : k + 0 ≡ k = omega numbers in
+      and_from (test k (lowered_section faces k x)) _ (subst (λ n. test n (lowered_section faces n x) ≡ true) here
+      (h 0 x refl))
+      (numbered_all test (suc k) xs (λ i section at. subst (λ n. test n (lowered_section faces n section) ≡ true)
+      (next k i) (h (suc i) section at))) where
+        next : (k i : ℕ) → k + suc i ≡ suc k + i
+        next k i = omega numbers
+
+  each_section : (test : ℕ → TacSection → Bool) →
+      ((comp : ℕ) (section : TypedSection) → slice_get program.sections comp ≡ Some section →
+      test comp (lowered_section faces comp section) ≡ true) →
+      numbered test 0 (lowered_sections faces 0 program.sections) ≡ true
+  each_section test h =
+      numbered_all test 0 program.sections (λ i section at. subst (λ n. test n (lowered_section faces n section) ≡ true)
+      (first i) (h i section at)) where
+        first : (i : ℕ) → i ≡ 0 + i
+        first i = omega numbers
+
+  lowered_length : (k : ℕ) (sections : List TypedSection) → length (lowered_sections faces k sections) ≡ length sections
+  lowered_length k [] = refl
+  lowered_length k (x ∷ xs) = ap suc (lowered_length (suc k) xs)
+
+  fit_length : (k : ℕ) (comps : List Interface) (sections : List TypedSection) →
+      sections_fit faces k comps sections ≡ true → length sections ≡ length comps
+  fit_length k [] [] h = refl
+  fit_length k [] (y ∷ ys) h = absurd (false≢true h)
+  fit_length k (x ∷ xs) [] h = absurd (false≢true h)
+  fit_length k (x ∷ xs) (y ∷ ys) h =
+      ap suc (fit_length (suc k) xs ys (and_rest (interface_fits faces k x y) _ (and_rest (section_fits faces k x y)
+      _ h)))
+
+  module _ (comp : ℕ) (section : TypedSection) (is : slice_get program.sections comp ≡ Some section) where
+    abbrev lowered : TacSection
+    lowered = lowered_section faces comp section
+
+    abbrev interface : Interface
+    interface = (place_of program typed comp section is).interface
+
+    distinct : are_distinct (map name_of section.functions) ≡ true
+    distinct = distinct_names program typed comp section is
+
+    -- an entry by which functions of one name are entered
+    entered : (entry : Entry) (name : List ℕ) (params : ℕ) (result : Bool) →
+        ((f : TypedFunction) → same_entry entry (entry_of faces comp f.name) ≡ bytes_eq f.name name) →
+        list_any {X = TypedFunction} (λ f. bytes_eq f.name name) section.functions ≡ true →
+        ((n : ℕ) (f : TypedFunction) → slice_get section.functions n ≡ Some f → bytes_eq f.name name ≡ true →
+        (length f.params == params && beq (is_some f.result) result) ≡ true) →
+        is_entered entry params result lowered ≡ true
+    entered entry name params result so any head =
+        and_from _ _ (eq-eqb _ 1 (count_made (λ (f : TacFnTree). same_entry entry f.entry)
+        (lowered_function faces comp section.structs) section.functions ∙ ap (λ p. count p section.functions)
+        (λ i f. so f i) ∙ named_once name section.functions distinct any))
+        (all_made _ (lowered_function faces comp section.structs) section.functions
+        (λ n f item. by (same_entry entry (entry_of faces comp f.name)) (length f.params == params && beq
+        (is_some f.result) result) (λ k. head n f item (sym (so f) ∙ k)))) where
+          by : (b c : Bool) → (b ≡ true → c ≡ true) → (not b || c) ≡ true
+          by true c h = h refl
+          by false c h = refl
+
+    headed : (f : TypedFunction) (types : List Ty) (result : Option Ty) →
+        same_signature (signature_of f) (record { params = types; result = result }) ≡ true →
+        (length f.params == length types && beq (is_some f.result) (is_some result)) ≡ true
+    headed f types result h =
+        and_from _ _ (eq-eqb (length f.params) (length types) (sym (length-map f.params (λ p. p.ty))
+        ∙ types_length (signature_of f).params types (and_first (same_types (signature_of f).params types) _ h)))
+        (beq_same (is_some f.result) (is_some result)
+        (results_there f.result result (and_rest (same_types (signature_of f).params types) _ h)))
+
+    -- an export
+    export_entered : (index : ℕ) (proto : Proto) → export_at faces comp index ≡ Some proto →
+        export_fits section.functions proto ≡ true →
+        is_entered (Export index) (length proto.params) (is_some proto.result) lowered ≡ true
+    export_entered index proto at fits =
+        let any = any_headed program typed section.functions proto fits in
+        entered (Export index) proto.name (length proto.params) (is_some proto.result)
+        (λ f. export_of program typed comp section is index f.name ∙ ap (called_so f.name) at)
+        (any_along {A = TypedFunction} (λ f. bytes_eq f.name proto.name && same_signature (signature_of f)
+        (proto_signature proto)) (λ f. bytes_eq f.name proto.name) (λ f k. and_first (bytes_eq f.name proto.name) _ k)
+        section.functions any)
+        (λ n f item called.
+        let same =
+        headed f (map scalar_ty proto.params) (result_ty proto.result)
+        (named_so proto.name (λ f. same_signature (signature_of f) (proto_signature proto)) section.functions distinct
+        any n f item called) in
+        subst (λ m. (length f.params == m && beq (is_some f.result) (is_some proto.result)) ≡ true)
+        (length-map proto.params scalar_ty)
+        (subst (λ b. (length f.params == length (map scalar_ty proto.params) && beq (is_some f.result) b) ≡ true)
+        (result_same proto.result) same))
+
+    exports_at : (k : ℕ) (protos : List Proto) →
+        ((i : ℕ) (proto : Proto) → slice_get protos i ≡ Some proto → export_at faces comp (k + i) ≡ Some proto) →
+        list_all (export_fits section.functions) protos ≡ true → are_entered k protos lowered ≡ true
+    exports_at k [] at fits = refl
+    exports_at k (proto ∷ protos) at fits =
+        let here : k + 0 ≡ k = omega numbers in
+        and_from _ _ (export_entered k proto (ap (export_at faces comp) (sym here) ∙ at 0 proto refl)
+        (and_first (export_fits section.functions proto) _ fits))
+        (exports_at (suc k) protos (λ i p is. ap (export_at faces comp) (next k i) ∙ at (suc i) p is)
+        (and_rest (export_fits section.functions proto) _ fits)) where
+          next : (k i : ℕ) → suc k + i ≡ k + suc i
+          next k i = omega numbers
+
+    all_entered : exports_entered (comp_at faces comp) lowered ≡ true
+    all_entered =
+        ap (λ o. exports_entered o lowered) (place_of program typed comp section is).is
+        ∙ exports_at 0 interface.exports (λ i proto at. by i proto at) (exports_fit program typed interface section
+        (place_of program typed comp section is).placed) where
+          by : (i : ℕ) (proto : Proto) → slice_get interface.exports i ≡ Some proto →
+              export_at faces comp (0 + i) ≡ Some proto
+          by i proto at =
+              let same : 0 + i ≡ i = omega numbers in
+              ap (export_at faces comp) same
+              ∙ ap (λ (o : Option Interface). option_and_then (λ found. slice_get found.exports i) o)
+              (place_of program typed comp section is).is ∙ at
+
+    -- `main`
+    is_main_entered : comp ≡ faces.main → main_fits (Some section) ≡ true → is_entered Main 0 true lowered ≡ true
+    is_main_entered here any =
+        entered Main main_name 0 true
+        (λ f. main_is faces comp f.name ∙ ap (λ b. b && bytes_eq f.name main_name) (eq-eqb comp faces.main here))
+        (any_along {A = TypedFunction} (λ f. is_main f && same_signature (signature_of f)
+        (record { params = []; result = Some ty.Int })) is_main (λ f k. and_first (is_main f) _ k) section.functions
+        any)
+        (λ n f item called. headed f [] (Some ty.Int)
+        (named_so main_name (λ f. same_signature (signature_of f) (record { params = []; result = Some ty.Int }))
+        section.functions distinct any n f item called))
+
+    -- entries
+    export_known : (name : List ℕ) (o : Option ℕ) →
+        position {X = Proto} (λ proto. bytes_eq name proto.name) interface.exports ≡ o →
+        entry_known faces comp (option_map Export o) ≡ true
+    export_known name None at = refl
+    export_known name (Some i) at =
+        ap (λ (o : Option Interface). is_some (option_and_then (λ found. slice_get found.exports i) o))
+        (place_of program typed comp section is).is
+        ∙ ap is_some (found_passes (λ (proto : Proto). bytes_eq name proto.name) interface.exports i at).is
+
+    known : (name : List ℕ) → entry_known faces comp (entry_of faces comp name) ≡ true
+    known name = by (comp == faces.main && bytes_eq name main_name) refl where
+      by : (b : Bool) → (comp == faces.main && bytes_eq name main_name) ≡ b →
+          entry_known faces comp (if b then Some Main else export_called faces comp name) ≡ true
+      by true own = and_first (comp == faces.main) _ own
+      by false own =
+          ap (λ (o : Option Interface). entry_known faces comp
+          (option_map Export (position {X = Proto} (λ proto. bytes_eq name proto.name) (exports_of o))))
+          (place_of program typed comp section is).is
+          ∙ export_known name (position {X = Proto} (λ proto. bytes_eq name proto.name) interface.exports) refl
+
+  main_so : main_entered (slice_get (lowered_sections faces 0 program.sections) faces.main) ≡ true
+  main_so = ap main_entered (first_at faces program.sections faces.main) ∙ by (slice_get program.sections faces.main)
+      refl (and_first (main_fits (slice_get program.sections faces.main)) _ (mains_so program typed)) where
+        by : (o : Option TypedSection) → slice_get program.sections faces.main ≡ o → main_fits o ≡ true →
+            main_entered (option_map (lowered_section faces faces.main) o) ≡ true
+        by None at h = absurd (false≢true h)
+        by (Some section) at h = is_main_entered faces.main section at refl h
+
+  pub program_kept : IsProgram (lowered_program program)
+  program_kept = record {
+    sections = lowered_length 0 program.sections ∙ fit_length 0 faces.comps program.sections
+        (sections_so program typed);
+    numbers =
+        each_section _ (λ comp section is. all_made _ (lowered_function faces comp section.structs) section.functions
+        (λ n f item. eq-eqb comp comp refl));
+    globals = each_section _ (λ comp section is. globals_named program typed comp section is);
+    own_calls = each_section _ (λ comp section is. own_called program typed comp section is);
+    cross_calls = each_section _ (λ comp section is. exports_called program typed comp section is);
+    imported = each_section _ (λ comp section is. imports_called program typed comp section is);
+    exported = each_section _ (λ comp section is. all_entered comp section is);
+    main_there = main_so;
+    entries =
+        each_section _ (λ comp section is. all_made _ (lowered_function faces comp section.structs) section.functions
+        (λ n f item. known comp section is f.name));
+  }
+
+pub keeps_rules : KeepsRules
+keeps_rules = record {
+  functions = λ program typed comp section is number f item. function_kept program typed comp section is number f item;
+  programs = λ program typed. program_kept program typed;
+}

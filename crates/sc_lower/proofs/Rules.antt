@@ -1,0 +1,586 @@
+-- The code of a function of a well-typed program keeps the rules of functions.
+use Rattle.std.proofs.Common.{◌≡◌, ℕ, zero, suc, ◌+◌, ◌<◌, ◌≤◌, Bool, true, false, List, [], ◌∷◌, ◌++◌, map, length, Option, Some, None, refl, sym, ap, ◌∙◌, subst, arith as numbers}
+use Rattle.std.specs.Prelude.{not, ◌&&◌, ◌==◌, if◌then◌else◌, nat_le, nat_lt, bytes_eq, is_some, slice_get, position}
+use Rattle.std.specs.Bool.{beq}
+use Rattle.std.specs.List.{list_any, list_all}
+use Rattle.std.specs.Option.{option_map, option_and_then}
+use Rattle.std.proofs.lemmas.Bool.{false≢true, and_from, eqb-true, eq-eqb, leb-true, lt-ltb, le-leb}
+use Rattle.std.proofs.lemmas.List.{length-append, length-map}
+use Rattle.std.proofs.lemmas.Option.{slice_get-map}
+use Rattle.sc_base.proofs.Bools.{and_first, and_rest}
+use Rattle.sc_event.specs.declared.interface.Import.TheVariants as import
+use Rattle.sc_event.specs.declared.interface.Interface.{Interface}
+use Rattle.sc_event.specs.declared.interface.Interfaces.{Interfaces}
+use Rattle.sc_event.specs.declared.interface.Proto.{Proto}
+use Rattle.sc_event.specs.declared.interface.Scalar.{Scalar}
+use Rattle.sc_event.specs.declared.interface.Scalar.TheVariants as scalar
+use Rattle.sc_event.specs.declared.row.Entry.TheVariants.{Main, Export}
+use Rattle.sc_event.specs.Lookup.{comp_at, export_at}
+use Rattle.sc_core.specs.declared.expr.CallTarget.{CallTarget}
+use Rattle.sc_core.specs.declared.expr.CallTarget.TheVariants as target
+use Rattle.sc_core.specs.declared.program.ProgramTree.{ProgramTree}
+use Rattle.sc_core.specs.declared.section.TypedFunction.{TypedFunction}
+use Rattle.sc_core.specs.declared.section.TypedLocal.{TypedLocal}
+use Rattle.sc_core.specs.declared.section.TypedParam.{TypedParam}
+use Rattle.sc_core.specs.declared.section.TypedSection.{TypedSection}
+use Rattle.sc_core.specs.declared.section.TypedStruct.{TypedStruct}
+use Rattle.sc_core.specs.declared.ty.BaseTy.{BaseTy}
+use Rattle.sc_core.specs.declared.ty.BaseTy.TheVariants as base
+use Rattle.sc_core.specs.declared.ty.Ty.{Ty}
+use Rattle.sc_core.specs.declared.ty.Ty.TheVariants as ty
+use Rattle.sc_core.specs.Meaning.{main_name}
+use Rattle.sc_core.specs.Sizes.{total, nodes}
+use Rattle.sc_core.specs.Types.{cells_of, variables}
+use Rattle.sc_core.specs.Typing.{Scope, is_type, same_ty, same_base, scalar_ty, Signature, Callable, signature_of, proto_signature, same_import, option_signature, allowed, target_signature, init_fits, body_fits}
+use Rattle.sc_core.specs.WellTyped.{most_params, most_nodes, are_distinct, scope_of, variable_fits, passed_fits, result_fits, local_fits, function_fits, same_types, same_signature, is_plain_name, export_fits, import_name, callable_in, structs_fit, global_fits, main_fits, is_well_typed}
+use Rattle.sc_kinds.proofs.Sections.{Placed, ForSection, for_section, for_interface, all_at, first_of, found_passes, named_so, own_names_differ}
+use Rattle.sc_tac.specs.declared.stmt.TacStmt.{TacStmt-F}
+use Rattle.sc_tac.specs.Functions.{names_own_temps, names_own_object, takes_two, has_operands, passes_few, returns_result, passes_words, enters_by_words, stray_break, stray_continue, has_none, IsFunction}
+use Rattle.sc_tac.specs.Flow.{all_assigned_first}
+use Rattle.sc_tac.specs.Parts.{one_or_none, everywhere}
+use Rattle.sc_lower.specs.Statements.{Part, both, in_turn, block_code, first_of as first_temp}
+use Rattle.sc_lower.specs.Programs.{inits_code, body_code, exports_of, export_called, entry_of, lowered_function}
+use Rattle.sc_lower.proofs.Entries.{sections_so, mains_so}
+use Rattle.sc_lower.proofs.Flowing.{all_assigned}
+use Rattle.sc_lower.proofs.Passing.{InitsFit, PassedByAll, body_passes}
+use Rattle.sc_lower.proofs.Sizes.{few_temps, light}
+use Rattle.sc_lower.proofs.Strays.{breaks_in_loops, continues_in_bodies}
+use Rattle.sc_lower.proofs.Tests.{call_layer, Below, AllBelow, PassedBy}
+
+-- TESTS
+pub beq_same : (a b : Bool) → a ≡ b → beq a b ≡ true
+beq_same true true h = refl
+beq_same true false h = absurd (cc)
+beq_same false true h = absurd (cc)
+beq_same false false h = refl
+
+-- a statement without operators of its own has as many operands as these take
+operands_passed : (temps : ℕ) (scope : Scope) → PassedBy temps scope has_operands
+operands_passed temps scope = record {
+  constant = λ d c lt. refl;
+  one = λ d o x two ld lx. beq_same false (takes_two o) (sym two);
+  two = λ d o x y two ld lx ly. beq_same true (takes_two o) (sym two);
+  object = λ d i lt li. refl;
+  global = λ d g lt lg. refl;
+  load = λ d x b ld lx. refl;
+  fork = λ c a b lt. refl;
+}
+
+few_passed : (temps : ℕ) (scope : Scope) → PassedBy temps scope passes_few
+few_passed temps scope = record {
+  constant = λ d c lt. refl;
+  one = λ d o x two ld lx. refl;
+  two = λ d o x y two ld lx ly. refl;
+  object = λ d i lt li. refl;
+  global = λ d g lt lg. refl;
+  load = λ d x b ld lx. refl;
+  fork = λ c a b lt. refl;
+}
+
+returns_passed : (temps : ℕ) (scope : Scope) (result : Bool) → PassedBy temps scope (returns_result result)
+returns_passed temps scope result = record {
+  constant = λ d c lt. refl;
+  one = λ d o x two ld lx. refl;
+  two = λ d o x y two ld lx ly. refl;
+  object = λ d i lt li. refl;
+  global = λ d g lt lg. refl;
+  load = λ d x b ld lx. refl;
+  fork = λ c a b lt. refl;
+}
+
+objects_passed : (temps : ℕ) (scope : Scope) (objects : ℕ) → objects ≡ length scope.params + length scope.locals →
+    PassedBy temps scope (names_own_object objects)
+objects_passed temps scope objects same = record {
+  constant = λ d c lt. refl;
+  one = λ d o x two ld lx. refl;
+  two = λ d o x y two ld lx ly. refl;
+  object = λ d i lt li. lt-ltb i objects (subst (λ m. i < m) (sym same) li);
+  global = λ d g lt lg. refl;
+  load = λ d x b ld lx. refl;
+  fork = λ c a b lt. refl;
+}
+
+module _ (temps : ℕ) where
+  abbrev own : ℕ → Bool
+  own t = nat_lt t temps
+
+  own_one : (t : ℕ) → t < temps → list_all own (t ∷ []) ≡ true
+  own_one t lt = and_from (own t) true (lt-ltb t temps lt) refl
+
+  own_two : (t u : ℕ) → t < temps → u < temps → list_all own (t ∷ u ∷ []) ≡ true
+  own_two t u lt lu = and_from (own t) _ (lt-ltb t temps lt) (own_one u lu)
+
+  own_all : (ts : List ℕ) → AllBelow temps ts → list_all own ts ≡ true
+  own_all [] h = refl
+  own_all (t ∷ ts) h = and_from (own t) _ (lt-ltb t temps h.0) (own_all ts h.1)
+
+  own_behind : (dest : Option ℕ) (ts : List ℕ) → Below temps dest → AllBelow temps ts →
+      list_all own (one_or_none dest ++ ts) ≡ true
+  own_behind None ts h k = own_all ts k
+  own_behind (Some d) ts h k = and_from (own d) _ (lt-ltb d temps h) (own_all ts k)
+
+  own_option : (v : Option ℕ) → Below temps v → list_all own (one_or_none v) ≡ true
+  own_option None h = refl
+  own_option (Some v) h = own_one v h
+
+  own_first : (ts : List ℕ) → length ts ≡ 1 → AllBelow temps ts → list_all own (first_temp ts ∷ []) ≡ true
+  own_first [] one h = absurd (cc)
+  own_first (t ∷ ts) one h = own_one t h.0
+
+  temps_passed : (scope : Scope) → PassedBy temps scope (names_own_temps temps)
+  temps_passed scope = record {
+    constant = λ d c lt. own_one d lt;
+    one = λ d o x two ld lx. own_two d x ld lx;
+    two = λ d o x y two ld lx ly. and_from (own d) _ (lt-ltb d temps ld) (own_two x y lx ly);
+    object = λ d i lt li. own_one d lt;
+    global = λ d g lt lg. own_one d lt;
+    load = λ d x b ld lx. own_two d x ld lx;
+    fork = λ c a b lt. own_one c lt;
+  }
+
+-- SIGNATURES
+pub found_allowed : (b : Bool) (o : Option Signature) (signature : Signature) → allowed b o ≡ Some signature →
+    o ≡ Some signature
+found_allowed true o signature h = h
+found_allowed false o signature h = absurd (cc)
+
+output_takes_one : (b : Bool) (signature : Signature) →
+    allowed b (Some (record { params = ty.Int ∷ []; result = None })) ≡ Some signature → length signature.params ≡ 1
+output_takes_one b signature h =
+    let is : ◌≡◌ {A = Option Signature} (Some (record { params = ty.Int ∷ []; result = None })) (Some signature) =
+    found_allowed b (Some (record { params = ty.Int ∷ []; result = None })) signature h in
+    let same : record { params = ty.Int ∷ []; result = None } ≡ signature = cc is in
+    sym (ap (λ (s : Signature). length s.params) same)
+
+pub types_length : (a b : List Ty) → same_types a b ≡ true → length a ≡ length b
+types_length [] [] h = refl
+types_length [] (y ∷ b) h = absurd (false≢true h)
+types_length (x ∷ a) [] h = absurd (false≢true h)
+types_length (x ∷ a) (y ∷ b) h = ap suc (types_length a b (and_rest (same_ty x y) _ h))
+
+same_base_self : (b : BaseTy) → same_base b b ≡ true
+same_base_self base.Int = refl
+same_base_self base.Unsigned = refl
+same_base_self (base.Struct n) = eq-eqb n n refl
+
+pub same_ty_self : (t : Ty) → same_ty t t ≡ true
+same_ty_self ty.Int = refl
+same_ty_self ty.Unsigned = refl
+same_ty_self (ty.Struct n) = eq-eqb n n refl
+same_ty_self (ty.Pointer stars b) = and_from _ _ (eq-eqb stars stars refl) (same_base_self b)
+same_ty_self (ty.Array stars b length) =
+    and_from _ _ (eq-eqb stars stars refl) (and_from _ _ (same_base_self b) (eq-eqb length length refl))
+
+-- LOCALS
+inits_fit : (scope : Scope) (k : ℕ) (locals : List TypedLocal) →
+    ((i : ℕ) (l : TypedLocal) → slice_get locals i ≡ Some l → slice_get scope.locals (k + i) ≡ Some l.ty) →
+    list_all (local_fits scope) locals ≡ true → InitsFit scope k locals
+inits_fit scope k [] at h = tt
+inits_fit scope k (l ∷ ls) at h =
+    let here : k + 0 ≡ k = omega numbers in
+    let first = and_first (local_fits scope l) _ h in (
+      ap (λ o. is_type o l.ty) (sym (ap (slice_get scope.locals) here) ∙ at 0 l refl) ∙ same_ty_self l.ty,
+      and_first (init_fits scope l.ty l.init) _ (and_rest (variable_fits scope.structs l.ty) _ first),
+      inits_fit scope (suc k) ls (λ i m is. ap (slice_get scope.locals) (next k i) ∙ at (suc i) m is)
+          (and_rest (local_fits scope l) _ h),
+    ) where
+      next : (k i : ℕ) → suc k + i ≡ k + suc i
+      next k i = omega numbers
+
+total_at : {A : Type 0} (f : A → ℕ) (xs : List A) (i : ℕ) (x : A) → slice_get xs i ≡ Some x → f x ≤ total (map f xs)
+total_at f [] i x is = absurd (cc)
+total_at f (y ∷ ys) zero x is = let same : y ≡ x =
+    cc in subst (λ z. f z ≤ f y + total (map f ys)) same (by (f y) (total (map f ys))) where
+      by : (a b : ℕ) → a ≤ a + b
+      by a b = omega numbers
+total_at f (y ∷ ys) (suc i) x is = by (f y) (total (map f ys)) (f x) (total_at f ys i x is) where
+  by : (a b c : ℕ) → c ≤ b → c ≤ a + b
+  by a b c h = omega (numbers, h)
+
+-- words enter from outside
+scalar_cells : (structs : List TypedStruct) (t : Ty) (s : Scalar) → same_ty t (scalar_ty s) ≡ true →
+    (cells_of structs t == 1) ≡ true
+scalar_cells structs ty.Int s h = refl
+scalar_cells structs ty.Unsigned s h = refl
+scalar_cells structs (ty.Struct n) scalar.Int h = absurd (false≢true h)
+scalar_cells structs (ty.Struct n) scalar.Unsigned h = absurd (false≢true h)
+scalar_cells structs (ty.Pointer stars b) s h = refl
+scalar_cells structs (ty.Array stars b length) scalar.Int h = absurd (false≢true h)
+scalar_cells structs (ty.Array stars b length) scalar.Unsigned h = absurd (false≢true h)
+
+words_pass : (structs : List TypedStruct) (params : List TypedParam) (scalars : List Scalar) (rest : List ℕ) →
+    same_types (map {A = TypedParam} (λ p. p.ty) params) (map scalar_ty scalars) ≡ true →
+    passes_words (length params) (map {A = TypedParam} (λ p. cells_of structs p.ty) params ++ rest) ≡ true
+words_pass structs [] scalars rest h = refl
+words_pass structs (p ∷ params) [] rest h = absurd (false≢true h)
+words_pass structs (p ∷ params) (s ∷ scalars) rest h =
+    and_from _ _ (scalar_cells structs p.ty s (and_first (same_ty p.ty (scalar_ty s)) _ h))
+    (words_pass structs params scalars rest (and_rest (same_ty p.ty (scalar_ty s)) _ h))
+
+module _ (program : ProgramTree) (typed : is_well_typed program ≡ true) where
+  abbrev faces : Interfaces
+  faces = program.interfaces
+
+  -- what a function of a section fits
+  pub record Fitting (callable : Callable) (section : TypedSection) (f : TypedFunction) : Type 0 where
+    pub few : length f.params ≤ most_params
+    pub passed : list_all {X = TypedParam} (λ p. passed_fits section.structs p.ty) f.params ≡ true
+    pub locals : list_all (local_fits (scope_of section f)) f.locals ≡ true
+    pub body : body_fits (scope_of section f) callable f.result f.body ≡ true
+
+  fitting : (callable : Callable) (section : TypedSection) (f : TypedFunction) →
+      function_fits callable section f ≡ true → Fitting callable section f
+  fitting callable section f h =
+      let behind = and_rest (nat_le (length f.params) most_params) _ h in
+      let later =
+      and_rest (result_fits section.structs f.result)
+      _ (and_rest (list_all {X = TypedParam} (λ p. passed_fits section.structs p.ty) f.params) _ behind) in
+      record {
+        few = leb-true (length f.params) most_params (and_first (nat_le (length f.params) most_params) _ h);
+        passed = and_first (list_all {X = TypedParam} (λ p. passed_fits section.structs p.ty) f.params) _ behind;
+        locals = and_first (list_all (local_fits (scope_of section f)) f.locals) _ later;
+        body =
+            and_first (body_fits (scope_of section f) callable f.result f.body)
+            _ (and_rest (list_all (local_fits (scope_of section f)) f.locals) _ later);
+      }
+
+  functions_fit : (interface : Interface) (section : TypedSection) → Placed faces interface section →
+      list_all (function_fits (callable_in faces interface section) section) section.functions ≡ true
+  functions_fit interface section placed =
+      and_first (list_all (function_fits (callable_in faces interface section) section) section.functions)
+      _ (and_rest (list_all (global_fits section.structs) section.globals)
+      _ (and_rest (structs_fit section.structs 0 section.structs) _ placed.fits))
+
+  pub function_at : (interface : Interface) (section : TypedSection) → Placed faces interface section →
+      (n : ℕ) (f : TypedFunction) → slice_get section.functions n ≡ Some f →
+      Fitting (callable_in faces interface section) section f
+  function_at interface section placed n f item =
+      fitting (callable_in faces interface section) section f
+      (all_at (function_fits (callable_in faces interface section) section) section.functions
+      (functions_fit interface section placed) n f item)
+
+  abbrev pub names : Interface → TypedSection → Bool
+  names interface section =
+      are_distinct (map (import_name faces) interface.imports ++ map {A = TypedFunction} (λ f. f.name)
+      section.functions)
+
+  pub exports_fit : (interface : Interface) (section : TypedSection) → Placed faces interface section →
+      list_all (export_fits section.functions) interface.exports ≡ true
+  exports_fit interface section placed =
+      and_first (list_all (export_fits section.functions) interface.exports)
+      _ (and_rest (are_distinct (map {A = Proto} (λ p. p.name) interface.exports)) _ (and_rest (names interface section)
+      _ placed.faces))
+
+  -- an export has a function with its head
+  pub any_headed : (functions : List TypedFunction) (proto : Proto) → export_fits functions proto ≡ true →
+      list_any {X = TypedFunction} (λ f. bytes_eq f.name proto.name && same_signature (signature_of f)
+      (proto_signature proto)) functions ≡ true
+  any_headed functions proto h =
+      and_rest (not (bytes_eq proto.name main_name)) _ (and_rest (is_plain_name proto.name) _ h)
+
+  proto_few : (interface : Interface) (section : TypedSection) → Placed faces interface section → (proto : Proto) →
+      export_fits section.functions proto ≡ true → length proto.params ≤ most_params
+  proto_few interface section placed proto h =
+      let test : TypedFunction → Bool =
+      λ f. bytes_eq f.name proto.name && same_signature (signature_of f) (proto_signature proto) in
+      let one = first_of test section.functions (any_headed section.functions proto h) in
+      let passing = found_passes test section.functions one.number one.found in
+      let same = and_first (same_types (signature_of passing.item).params (proto_signature proto).params)
+      _ (and_rest (bytes_eq passing.item.name proto.name) _ passing.passes) in
+      let count : length proto.params ≡ length passing.item.params =
+      sym (length-map proto.params scalar_ty)
+      ∙ sym (types_length (signature_of passing.item).params (proto_signature proto).params same)
+      ∙ length-map passing.item.params (λ p. p.ty) in
+      subst (λ m. m ≤ most_params) (sym count) (function_at interface section placed one.number passing.item
+      passing.is).few
+
+  record Behind {A B : Type 0} (f : A → Option B) (o : Option A) (y : B) : Type 0 where
+    pub item : A
+    pub is : o ≡ Some item
+    pub gives : f item ≡ Some y
+
+  behind : {A B : Type 0} (f : A → Option B) (o : Option A) (y : B) → option_and_then f o ≡ Some y → Behind f o y
+  behind f None y h = absurd (cc)
+  behind f (Some x) y h = record { item = x; is = refl; gives = h }
+
+  export_few : (to index : ℕ) (proto : Proto) → export_at faces to index ≡ Some proto →
+      length proto.params ≤ most_params
+  export_few to index proto h =
+      let found : Behind {A = Interface} (λ i. slice_get i.exports index) (comp_at faces to) proto =
+      behind (λ i. slice_get i.exports index) (comp_at faces to) proto h in
+      let place = for_interface faces 0 faces.comps program.sections (sections_so program typed) to found.item
+      found.is in
+      proto_few found.item place.section place.placed proto (all_at (export_fits place.section.functions)
+      found.item.exports (exports_fit found.item place.section place.placed) index proto found.gives)
+
+  module _ (comp : ℕ) (section : TypedSection) (is : slice_get program.sections comp ≡ Some section) where
+    pub place : ForSection faces faces.comps comp section
+    place = for_section faces 0 faces.comps program.sections (sections_so program typed) comp section is
+
+    abbrev pub callable : Callable
+    callable = callable_in faces place.interface section
+
+    -- the names of its functions differ
+    pub distinct_names : are_distinct (map {A = TypedFunction} (λ f. f.name) section.functions) ≡ true
+    distinct_names =
+        own_names_differ (map (import_name faces) place.interface.imports) section.functions
+        (and_first (names place.interface section) _ place.placed.faces)
+
+    -- calls take at most 8 arguments
+    own_few : (o : Option TypedFunction) (n : ℕ) (signature : Signature) → slice_get section.functions n ≡ o →
+        option_map signature_of o ≡ Some signature → length signature.params ≤ most_params
+    own_few None n signature at h = absurd (cc)
+    own_few (Some f) n signature at h =
+        let same : signature_of f ≡ signature = cc in
+        subst (λ m. m ≤ most_params) (sym (length-map f.params (λ p. p.ty)) ∙ ap (λ (s : Signature). length s.params)
+        same) (function_at place.interface section place.placed n f at).few
+
+    cross_few : (o : Option Proto) (to index : ℕ) (signature : Signature) → export_at faces to index ≡ o →
+        option_signature proto_signature o ≡ Some signature → length signature.params ≤ most_params
+    cross_few None to index signature at h = absurd (cc)
+    cross_few (Some proto) to index signature at h =
+        let same : proto_signature proto ≡ signature = cc in
+        subst (λ m. m ≤ most_params) (sym (length-map proto.params scalar_ty) ∙ ap (λ (s : Signature). length s.params)
+        same) (export_few to index proto at)
+
+    call_few : (to : CallTarget) (signature : Signature) (dest : Option ℕ) (at : List ℕ) →
+        target_signature callable to ≡ Some signature → length at ≡ length signature.params →
+        passes_few (call_layer to dest at) ≡ true
+    call_few (target.Own n) signature dest at h count =
+        le-leb (length at) most_params (subst (λ m. m ≤ most_params) (sym count)
+        (own_few (slice_get section.functions n) n signature refl (sym (slice_get-map signature_of section.functions n)
+        ∙ h)))
+    call_few (target.Cross to index) signature dest at h count =
+        le-leb (length at) most_params (subst (λ m. m ≤ most_params) (sym count)
+        (cross_few (export_at faces to index) to index signature refl
+        (found_allowed (list_any (same_import (import.Function to index)) place.interface.imports)
+        (option_signature proto_signature (export_at faces to index)) signature h)))
+    call_few target.Input signature dest at h count = refl
+    call_few target.Output signature dest at h count = refl
+
+    call_own_temps : (temps : ℕ) (to : CallTarget) (signature : Signature) (dest : Option ℕ) (at : List ℕ) →
+        target_signature callable to ≡ Some signature → length at ≡ length signature.params → Below temps dest →
+        AllBelow temps at →
+        names_own_temps temps (call_layer to dest at) ≡ true
+    call_own_temps temps (target.Own n) signature dest at h count below all = own_behind temps dest at below all
+    call_own_temps temps (target.Cross to index) signature dest at h count below all =
+        own_behind temps dest at below all
+    call_own_temps temps target.Input signature dest at h count below all = own_behind temps dest [] below tt
+    call_own_temps temps target.Output signature dest at h count below all =
+        own_first temps at (count ∙ output_takes_one (list_any (same_import import.Output) place.interface.imports)
+        signature h) all
+
+    call_operands : (to : CallTarget) (dest : Option ℕ) (at : List ℕ) → has_operands (call_layer to dest at) ≡ true
+    call_operands (target.Own n) dest at = refl
+    call_operands (target.Cross to index) dest at = refl
+    call_operands target.Input dest at = refl
+    call_operands target.Output dest at = refl
+
+    call_returns : (result : Bool) (to : CallTarget) (dest : Option ℕ) (at : List ℕ) →
+        returns_result result (call_layer to dest at) ≡ true
+    call_returns result (target.Own n) dest at = refl
+    call_returns result (target.Cross to index) dest at = refl
+    call_returns result target.Input dest at = refl
+    call_returns result target.Output dest at = refl
+
+    call_objects : (objects : ℕ) (to : CallTarget) (dest : Option ℕ) (at : List ℕ) →
+        names_own_object objects (call_layer to dest at) ≡ true
+    call_objects objects (target.Own n) dest at = refl
+    call_objects objects (target.Cross to index) dest at = refl
+    call_objects objects target.Input dest at = refl
+    call_objects objects target.Output dest at = refl
+
+    module _ (n : ℕ) (f : TypedFunction) (item : slice_get section.functions n ≡ Some f) where
+      abbrev pub scope : Scope
+      scope = scope_of section f
+
+      fits : Fitting callable section f
+      fits = function_at place.interface section place.placed n f item
+
+      inits : InitsFit scope 0 f.locals
+      inits = inits_fit scope 0 f.locals (λ i l at. by i l at) fits.locals where
+        by : (i : ℕ) (l : TypedLocal) → slice_get f.locals i ≡ Some l →
+            slice_get (map {A = TypedLocal} (λ l. l.ty) f.locals) (0 + i) ≡ Some l.ty
+        by i l at =
+            let same : 0 + i ≡ i = omega numbers in
+            ap (slice_get (map {A = TypedLocal} (λ l. l.ty) f.locals)) same ∙ slice_get-map (λ l. l.ty) f.locals i
+            ∙ ap (option_map (λ l. l.ty)) at
+
+      params_same : length scope.params ≡ length f.params
+      params_same = length-map f.params (λ p. p.ty)
+
+      -- the code of the body, where so many parameters stand before the locals
+      abbrev code_with : ℕ → Part
+      code_with params =
+          both (in_turn (inits_code section.structs params 0 f.locals)) (block_code section.structs params f.body) 0
+
+      abbrev pub temps : ℕ
+      temps = (body_code section.structs f 0).next
+
+      within : (code_with (length scope.params)).next ≤ temps
+      within = subst (λ p. (code_with p).next ≤ temps) (sym params_same) (itself temps) where
+        itself : (n : ℕ) → n ≤ n
+        itself n = omega numbers
+
+      pub all : (test : TacStmt-F Bool → Bool) → PassedByAll temps scope callable f.result test →
+          everywhere test (body_code section.structs f 0).code ≡ true
+      all test passed =
+          subst (λ p. everywhere test (code_with p).code ≡ true) params_same
+          ((body_passes temps scope callable f.result test passed section.structs f.locals f.body inits
+          fits.body).passes 0 within)
+
+      objects_same : length (variables section.structs f) ≡ length scope.params + length scope.locals
+      objects_same =
+          length-append (map {A = TypedParam} (λ p. cells_of section.structs p.ty) f.params)
+          (map {A = TypedLocal} (λ l. cells_of section.structs l.ty) f.locals)
+          ∙ (λ i. (length-map f.params (λ p. cells_of section.structs p.ty) ∙ sym (length-map f.params (λ p. p.ty)))
+          i + (length-map f.locals (λ l. cells_of section.structs l.ty) ∙ sym (length-map f.locals (λ l. l.ty))) i)
+
+      own_temps : everywhere (names_own_temps temps) (body_code section.structs f 0).code ≡ true
+      own_temps = all (names_own_temps temps) (record {
+        exprs = temps_passed temps scope;
+        store = λ q v lq lv. own_two temps q v lq lv;
+        cycle = λ a b c. refl;
+        breaks = refl;
+        continues = refl;
+        called = λ to signature dest at is es goes count results below every. call_own_temps temps to signature dest at
+            is count
+            below every;
+        returned = λ v there below. own_option temps v below;
+      })
+
+      own_objects : everywhere (names_own_object (length (variables section.structs f)))
+          (body_code section.structs f 0).code ≡ true
+      own_objects = all (names_own_object (length (variables section.structs f))) (record {
+        exprs = objects_passed temps scope (length (variables section.structs f)) objects_same;
+        store = λ q v lq lv. refl;
+        cycle = λ a b c. refl;
+        breaks = refl;
+        continues = refl;
+        called =
+            λ to signature dest at is es goes count results below every. call_objects
+            (length (variables section.structs f)) to
+            dest at;
+        returned = λ v there below. refl;
+      })
+
+      operands : everywhere has_operands (body_code section.structs f 0).code ≡ true
+      operands = all has_operands (record {
+        exprs = operands_passed temps scope;
+        store = λ q v lq lv. refl;
+        cycle = λ a b c. refl;
+        breaks = refl;
+        continues = refl;
+        called = λ to signature dest at is es goes count results below every. call_operands to dest at;
+        returned = λ v there below. refl;
+      })
+
+      few_arguments : everywhere passes_few (body_code section.structs f 0).code ≡ true
+      few_arguments = all passes_few (record {
+        exprs = few_passed temps scope;
+        store = λ q v lq lv. refl;
+        cycle = λ a b c. refl;
+        breaks = refl;
+        continues = refl;
+        called = λ to signature dest at is es goes count results below every. call_few to signature dest at is count;
+        returned = λ v there below. refl;
+      })
+
+      results_returned : everywhere (returns_result (is_some f.result)) (body_code section.structs f 0).code ≡ true
+      results_returned = all (returns_result (is_some f.result)) (record {
+        exprs = returns_passed temps scope (is_some f.result);
+        store = λ q v lq lv. refl;
+        cycle = λ a b c. refl;
+        breaks = refl;
+        continues = refl;
+        called = λ to signature dest at is es goes count results below every. call_returns (is_some f.result) to dest
+            at;
+        returned = λ v there below. beq_same (is_some v) (is_some f.result) there;
+      })
+
+      -- words enter
+      abbrev parameters : List ℕ
+      parameters = map {A = TypedParam} (λ p. cells_of section.structs p.ty) f.params
+
+      abbrev others : List ℕ
+      others = map {A = TypedLocal} (λ l. cells_of section.structs l.ty) f.locals
+
+      main_enters : (comp == faces.main) ≡ true → bytes_eq f.name main_name ≡ true →
+          passes_words (length f.params) (parameters ++ others) ≡ true
+      main_enters here called =
+          let own : comp ≡ faces.main = eqb-true comp faces.main here in
+          let there : slice_get program.sections faces.main ≡ Some section =
+          subst (λ c. slice_get program.sections c ≡ Some section) own is in
+          let any : main_fits (Some section) ≡ true =
+          subst (λ o. main_fits o ≡ true) there (and_first (main_fits (slice_get program.sections faces.main))
+          _ (mains_so program typed)) in
+          let same =
+          named_so main_name (λ f. same_signature (signature_of f) (record { params = []; result = Some ty.Int }))
+          section.functions distinct_names any n f item called in
+          words_pass section.structs f.params [] others (and_first (same_types (signature_of f).params []) _ same)
+
+      export_enters : (o : Option ℕ) →
+          position {X = Proto} (λ proto. bytes_eq f.name proto.name) place.interface.exports ≡ o →
+          enters_by_words (option_map Export o) (length f.params) (parameters ++ others) ≡ true
+      export_enters None at = refl
+      export_enters (Some i) at =
+          let found = found_passes (λ (proto : Proto). bytes_eq f.name proto.name) place.interface.exports i at in
+          let headed =
+          any_headed section.functions found.item (all_at (export_fits section.functions) place.interface.exports
+          (exports_fit place.interface section place.placed) i found.item found.is) in
+          let same = named_so found.item.name (λ f. same_signature (signature_of f) (proto_signature found.item))
+          section.functions distinct_names headed n f item found.passes in
+          words_pass section.structs f.params found.item.params others
+          (and_first (same_types (signature_of f).params (proto_signature found.item).params) _ same)
+
+      words_enter : enters_by_words (entry_of faces comp f.name) (length f.params) (variables section.structs f) ≡ true
+      words_enter = by (comp == faces.main && bytes_eq f.name main_name) refl where
+        by : (b : Bool) → (comp == faces.main && bytes_eq f.name main_name) ≡ b →
+            enters_by_words (if b then Some Main else export_called faces comp f.name) (length f.params)
+            (parameters ++ others) ≡ true
+        by true own = main_enters (and_first (comp == faces.main) _ own) (and_rest (comp == faces.main) _ own)
+        by false own =
+            ap (λ (o : Option Interface). enters_by_words
+            (option_map Export (position {X = Proto} (λ proto. bytes_eq f.name proto.name) (exports_of o)))
+            (length f.params) (parameters ++ others)) place.is
+            ∙ export_enters (position {X = Proto} (λ proto. bytes_eq f.name proto.name) place.interface.exports) refl
+
+      few_nodes : nodes f ≤ most_nodes
+      few_nodes =
+          let functions = list_all (function_fits callable section) section.functions in
+          let small =
+          and_rest functions _ (and_rest (list_all (global_fits section.structs) section.globals)
+          _ (and_rest (structs_fit section.structs 0 section.structs) _ place.placed.fits)) in
+          by (nodes f) (total (map nodes section.functions)) (total_at nodes section.functions n f item)
+          (leb-true (total (map nodes section.functions)) most_nodes small) where
+            by : (a b : ℕ) → a ≤ b → b ≤ most_nodes → a ≤ most_nodes
+            by a b h k = omega (numbers, h, k)
+
+      params_stored : length f.params ≤ length (variables section.structs f)
+      params_stored =
+          subst (λ m. length f.params ≤ m) (sym objects_same) (by (length f.params) (length scope.params)
+          (length scope.locals) params_same) where
+            by : (a b c : ℕ) → b ≡ a → a ≤ b + c
+            by a b c h = omega (numbers, h)
+
+      pub function_kept : IsFunction (lowered_function faces comp section.structs f)
+      function_kept = record {
+        few_params = fits.few;
+        few_nodes = few_nodes;
+        few_temps = few_temps section.structs f;
+        light = light section.structs f;
+        params_stored = params_stored;
+        words_enter = words_enter;
+        own_temps = own_temps;
+        own_objects = own_objects;
+        operands = operands;
+        few_arguments = few_arguments;
+        results_returned = results_returned;
+        breaks_in_loops =
+            subst (λ p. has_none stray_break (code_with p).code ≡ true) params_same
+            (breaks_in_loops scope callable f.result section.structs f.locals f.body inits fits.body);
+        continues_in_bodies = subst (λ p. has_none stray_continue (code_with p).code ≡ true) params_same
+            (continues_in_bodies scope callable f.result section.structs f.locals f.body inits fits.body);
+        assigned_first = subst (λ p. all_assigned_first temps (code_with p).code ≡ true) params_same
+            (all_assigned scope callable f.result section.structs f.locals f.body inits fits.body temps);
+      }

@@ -1,0 +1,302 @@
+-- The code of a well-typed program keeps the rules of programs.
+use Rattle.std.proofs.Common.{◌≡◌, ℕ, suc, ◌<◌, Bool, true, false, List, [], ◌∷◌, ◌++◌, map, length, Option, Some, None, refl, sym, ap, ◌∙◌, subst}
+use Rattle.std.specs.Prelude.{not, ◌==◌, is_some, slice_get}
+use Rattle.std.specs.List.{list_any, list_all}
+use Rattle.std.specs.Option.{option_map, option_map_or}
+use Rattle.std.proofs.lemmas.Bool.{false≢true, and_from, eqb-true, eq-eqb, lt-ltb}
+use Rattle.std.proofs.lemmas.List.{length-map}
+use Rattle.std.proofs.lemmas.Option.{slice_get-map}
+use Rattle.sc_base.proofs.Bools.{and_first, and_rest}
+use Rattle.sc_event.specs.declared.interface.Import.{Import}
+use Rattle.sc_event.specs.declared.interface.Import.TheVariants as import
+use Rattle.sc_event.specs.declared.interface.Interface.{Interface}
+use Rattle.sc_event.specs.declared.interface.Interfaces.{Interfaces}
+use Rattle.sc_event.specs.declared.interface.Proto.{Proto}
+use Rattle.sc_event.specs.declared.interface.Scalar.{Scalar}
+use Rattle.sc_event.specs.Legal.{imports, is_input, is_output, is_function}
+use Rattle.sc_event.specs.Lookup.{export_at}
+use Rattle.sc_core.specs.declared.expr.CallTarget.{CallTarget}
+use Rattle.sc_core.specs.declared.expr.CallTarget.TheVariants as target
+use Rattle.sc_core.specs.declared.expr.TypedExpr.{TypedExpr}
+use Rattle.sc_core.specs.declared.program.ProgramTree.{ProgramTree}
+use Rattle.sc_core.specs.declared.section.TypedFunction.{TypedFunction}
+use Rattle.sc_core.specs.declared.section.TypedLocal.{TypedLocal}
+use Rattle.sc_core.specs.declared.section.TypedParam.{TypedParam}
+use Rattle.sc_core.specs.declared.section.TypedSection.{TypedSection}
+use Rattle.sc_core.specs.declared.section.TypedStruct.{TypedStruct}
+use Rattle.sc_core.specs.declared.ty.Ty.{Ty}
+use Rattle.sc_core.specs.declared.ty.Ty.TheVariants as ty
+use Rattle.sc_core.specs.Types.{is_array, cells_of}
+use Rattle.sc_core.specs.Typing.{Scope, Judged, judged, decayed, type_goes, goes_into, all_go_into, Signature, Callable, result_ty, scalar_ty, signature_of, proto_signature, same_import, option_signature, allowed, target_signature}
+use Rattle.sc_core.specs.WellTyped.{passed_fits, scope_of, is_well_typed}
+use Rattle.sc_kinds.proofs.Sections.{any_along}
+use Rattle.sc_tac.specs.declared.program.TacSection.{TacSection}
+use Rattle.sc_tac.specs.Functions.{passes_words}
+use Rattle.sc_tac.specs.Programs.{takes_result, own_call_fits, cross_call_fits, names_own_global, calls_own, calls_exports, calls_imports, in_section}
+use Rattle.sc_lower.specs.Programs.{lowered_function, lowered_section}
+use Rattle.sc_lower.proofs.Entries.{not_true}
+use Rattle.sc_lower.proofs.Rules.{found_allowed, function_at, place as place_of, callable, all}
+use Rattle.sc_lower.proofs.Tests.{call_layer, PassedBy}
+
+-- a test of each item of a list that is made from another
+pub all_made : {A B : Type 0} (p : B → Bool) (g : A → B) (xs : List A) →
+    ((i : ℕ) (x : A) → slice_get xs i ≡ Some x → p (g x) ≡ true) → list_all p (map g xs) ≡ true
+all_made p g [] h = refl
+all_made p g (x ∷ xs) h = and_from (p (g x)) _ (h 0 x refl) (all_made p g xs (λ i y at. h (suc i) y at))
+
+-- PARAMETERS TAKE WORDS
+one_cell : (structs : List TypedStruct) (t : Ty) (v : Ty) → type_goes t v ≡ true → is_array t ≡ false →
+    (cells_of structs t == 1) ≡ true
+one_cell structs ty.Int v h a = refl
+one_cell structs ty.Unsigned v h a = refl
+one_cell structs (ty.Struct n) v h a = absurd (false≢true h)
+one_cell structs (ty.Pointer stars b) v h a = refl
+one_cell structs (ty.Array stars b length) v h a = absurd (false≢true (sym a))
+
+words_go : (structs : List TypedStruct) (params : List TypedParam) (es : List Judged) (rest : List ℕ) →
+    all_go_into (map {A = TypedParam} (λ p. p.ty) params) es ≡ true →
+    list_all {X = TypedParam} (λ p. passed_fits structs p.ty) params ≡ true →
+    passes_words (length params) (map {A = TypedParam} (λ p. cells_of structs p.ty) params ++ rest) ≡ true
+words_go structs [] es rest h k = refl
+words_go structs (p ∷ params) [] rest h k = absurd (false≢true h)
+words_go structs (p ∷ params) (e ∷ es) rest h k =
+    let goes = and_rest e.fits _ (and_first (goes_into p.ty e) _ h) in
+    let passed = and_first (passed_fits structs p.ty) _ k in
+    and_from _ _ (one_cell structs p.ty (decayed e.ty) goes
+    (not_true (is_array p.ty) (and_first (not (is_array p.ty)) _ passed)))
+    (words_go structs params es rest (and_rest (goes_into p.ty e) _ h) (and_rest (passed_fits structs p.ty) _ k))
+
+takes : (dest : Option ℕ) (result : Bool) → (is_some dest ≡ true → result ≡ true) → takes_result dest result ≡ true
+takes None result h = refl
+takes (Some d) result h = h refl
+
+pub result_same : (r : Option Scalar) → is_some (result_ty r) ≡ is_some r
+result_same None = refl
+result_same (Some s) = refl
+
+-- IMPORTS
+function_imported : (to index : ℕ) (x : Import) → same_import (import.Function to index) x ≡ true →
+    is_function to index x ≡ true
+function_imported to index import.Input h = h
+function_imported to index import.Output h = h
+function_imported to index (import.Function owner number) h =
+    and_from (owner == to) (number == index)
+    (eq-eqb owner to (sym (eqb-true to owner (and_first (to == owner) _ h))))
+    (eq-eqb number index (sym (eqb-true index number (and_rest (to == owner) _ h))))
+
+input_imported : (x : Import) → same_import import.Input x ≡ true → is_input x ≡ true
+input_imported import.Input h = refl
+input_imported import.Output h = h
+input_imported (import.Function owner number) h = h
+
+output_imported : (x : Import) → same_import import.Output x ≡ true → is_output x ≡ true
+output_imported import.Input h = h
+output_imported import.Output h = refl
+output_imported (import.Function owner number) h = h
+
+is_allowed : (b : Bool) (o : Option Signature) (signature : Signature) → allowed b o ≡ Some signature → b ≡ true
+is_allowed true o signature h = refl
+is_allowed false o signature h = absurd (cc)
+
+module _ (program : ProgramTree) (typed : is_well_typed program ≡ true) (comp : ℕ) (section : TypedSection)
+    (is : slice_get program.sections comp ≡ Some section) where
+  abbrev faces : Interfaces
+  faces = program.interfaces
+
+  abbrev lowered : TacSection
+  lowered = lowered_section faces comp section
+
+  abbrev may : Callable
+  may = callable program typed comp section is
+
+  abbrev interface : Interface
+  interface = (place_of program typed comp section is).interface
+
+  -- globals
+  globals_passed : (temps : ℕ) (f : TypedFunction) →
+      PassedBy temps (scope_of section f) (names_own_global faces comp lowered)
+  globals_passed temps f = record {
+    constant = λ d c lt. refl;
+    one = λ d o x two ld lx. refl;
+    two = λ d o x y two ld lx ly. refl;
+    object = λ d i lt li. refl;
+    global =
+        λ d g lt lg. lt-ltb g (length section.globals) (subst (λ m. g < m) (length-map section.globals (λ g. g.ty)) lg);
+    load = λ d x b ld lx. refl;
+    fork = λ c a b lt. refl;
+  }
+
+  own_passed : (temps : ℕ) (f : TypedFunction) → PassedBy temps (scope_of section f) (calls_own faces comp lowered)
+  own_passed temps f = record {
+    constant = λ d c lt. refl;
+    one = λ d o x two ld lx. refl;
+    two = λ d o x y two ld lx ly. refl;
+    object = λ d i lt li. refl;
+    global = λ d g lt lg. refl;
+    load = λ d x b ld lx. refl;
+    fork = λ c a b lt. refl;
+  }
+
+  exports_passed : (temps : ℕ) (f : TypedFunction) →
+      PassedBy temps (scope_of section f) (calls_exports faces comp lowered)
+  exports_passed temps f = record {
+    constant = λ d c lt. refl;
+    one = λ d o x two ld lx. refl;
+    two = λ d o x y two ld lx ly. refl;
+    object = λ d i lt li. refl;
+    global = λ d g lt lg. refl;
+    load = λ d x b ld lx. refl;
+    fork = λ c a b lt. refl;
+  }
+
+  imports_passed : (temps : ℕ) (f : TypedFunction) →
+      PassedBy temps (scope_of section f) (calls_imports faces comp lowered)
+  imports_passed temps f = record {
+    constant = λ d c lt. refl;
+    one = λ d o x two ld lx. refl;
+    two = λ d o x y two ld lx ly. refl;
+    object = λ d i lt li. refl;
+    global = λ d g lt lg. refl;
+    load = λ d x b ld lx. refl;
+    fork = λ c a b lt. refl;
+  }
+
+  call_globals : (to : CallTarget) (dest : Option ℕ) (at : List ℕ) →
+      names_own_global faces comp lowered (call_layer to dest at) ≡ true
+  call_globals (target.Own n) dest at = refl
+  call_globals (target.Cross to index) dest at = refl
+  call_globals target.Input dest at = refl
+  call_globals target.Output dest at = refl
+
+  -- a call of a function of the section
+  own_fits : (scope : Scope) (o : Option TypedFunction) (n : ℕ) (signature : Signature) (dest : Option ℕ) (at : List ℕ)
+      (es : List TypedExpr) → slice_get section.functions n ≡ o → option_map signature_of o ≡ Some signature →
+      all_go_into signature.params (map (judged scope) es) ≡ true → length at ≡ length signature.params →
+      (is_some dest ≡ true → is_some signature.result ≡ true) →
+      own_call_fits (option_map (lowered_function faces comp section.structs) o) dest (length at) ≡ true
+  own_fits scope None n signature dest at es item h goes count results = absurd (cc)
+  own_fits scope (Some g) n signature dest at es item h goes count results =
+      let same : signature_of g ≡ signature = cc in
+      let own : all_go_into (map {A = TypedParam} (λ p. p.ty) g.params) (map (judged scope) es) ≡ true =
+      subst (λ (s : Signature). all_go_into s.params (map (judged scope) es) ≡ true) (sym same) goes in
+      let length_same : length at ≡ length g.params = count ∙ sym (ap (λ (s : Signature). length s.params) same)
+      ∙ length-map g.params (λ p. p.ty) in
+      and_from _ _ (eq-eqb (length g.params) (length at) (sym length_same))
+      (and_from _ _
+      (words_go section.structs g.params (map (judged scope) es)
+      (map {A = TypedLocal} (λ l. cells_of section.structs l.ty) g.locals) own
+      (function_at program typed interface section (place_of program typed comp section is).placed n g item).passed)
+      (takes dest (is_some g.result) (λ k. ap (λ (s : Signature). is_some s.result) same ∙ results k)))
+
+  call_own_fits : (scope : Scope) (to : CallTarget) (signature : Signature) (dest : Option ℕ) (at : List ℕ)
+      (es : List TypedExpr) → target_signature may to ≡ Some signature →
+      all_go_into signature.params (map (judged scope) es) ≡ true → length at ≡ length signature.params →
+      (is_some dest ≡ true → is_some signature.result ≡ true) →
+      calls_own faces comp lowered (call_layer to dest at) ≡ true
+  call_own_fits scope (target.Own n) signature dest at es h goes count results =
+      ap (λ o. own_call_fits o dest (length at)) (slice_get-map (lowered_function faces comp section.structs)
+      section.functions n)
+      ∙ own_fits scope (slice_get section.functions n) n signature dest at es refl
+      (sym (slice_get-map signature_of section.functions n) ∙ h) goes count results
+  call_own_fits scope (target.Cross to index) signature dest at es h goes count results = refl
+  call_own_fits scope target.Input signature dest at es h goes count results = refl
+  call_own_fits scope target.Output signature dest at es h goes count results = refl
+
+  -- a call of an export
+  cross_fits : (o : Option Proto) (signature : Signature) (dest : Option ℕ) (at : List ℕ) →
+      option_signature proto_signature o ≡ Some signature → length at ≡ length signature.params →
+      (is_some dest ≡ true → is_some signature.result ≡ true) → cross_call_fits o dest (length at) ≡ true
+  cross_fits None signature dest at h count results = absurd (cc)
+  cross_fits (Some proto) signature dest at h count results =
+      let same : proto_signature proto ≡ signature = cc in
+      let length_same : length at ≡ length proto.params = count ∙ sym (ap (λ (s : Signature). length s.params) same)
+      ∙ length-map proto.params scalar_ty in
+      and_from _ _ (eq-eqb (length proto.params) (length at) (sym length_same))
+      (takes dest (is_some proto.result) (λ k. sym (result_same proto.result) ∙ ap (λ (s : Signature). is_some s.result)
+      same ∙ results k))
+
+  call_exports_fit : (to : CallTarget) (signature : Signature) (dest : Option ℕ) (at : List ℕ) →
+      target_signature may to ≡ Some signature → length at ≡ length signature.params →
+      (is_some dest ≡ true → is_some signature.result ≡ true) → calls_exports faces comp lowered (call_layer to dest at)
+      ≡ true
+  call_exports_fit (target.Own n) signature dest at h count results = refl
+  call_exports_fit (target.Cross to index) signature dest at h count results =
+      cross_fits (export_at faces to index) signature dest at
+      (found_allowed (list_any (same_import (import.Function to index)) interface.imports)
+      (option_signature proto_signature (export_at faces to index)) signature h) count results
+  call_exports_fit target.Input signature dest at h count results = refl
+  call_exports_fit target.Output signature dest at h count results = refl
+
+  -- only what is imported is called
+  imports_so : (p q : Import → Bool) → ((x : Import) → p x ≡ true → q x ≡ true) → list_any p interface.imports ≡ true →
+      imports faces comp q ≡ true
+  imports_so p q on h =
+      ap (λ (o : Option Interface). list_any q (option_map_or (λ found. found.imports) o []))
+      (place_of program typed comp section is).is ∙ any_along p q on interface.imports h
+
+  call_imports_fit : (to : CallTarget) (signature : Signature) (dest : Option ℕ) (at : List ℕ) →
+      target_signature may to ≡ Some signature → calls_imports faces comp lowered (call_layer to dest at) ≡ true
+  call_imports_fit (target.Own n) signature dest at h = refl
+  call_imports_fit (target.Cross to index) signature dest at h =
+      imports_so (same_import (import.Function to index)) (is_function to index) (function_imported to index)
+      (is_allowed (list_any (same_import (import.Function to index)) interface.imports)
+      (option_signature proto_signature (export_at faces to index)) signature h)
+  call_imports_fit target.Input signature dest at h =
+      imports_so (same_import import.Input) is_input input_imported
+      (is_allowed (list_any (same_import import.Input) interface.imports)
+      (Some (record { params = []; result = Some ty.Int })) signature h)
+  call_imports_fit target.Output signature dest at h =
+      imports_so (same_import import.Output) is_output output_imported
+      (is_allowed (list_any (same_import import.Output) interface.imports)
+      (Some (record { params = ty.Int ∷ []; result = None })) signature h)
+
+  -- the statements of a section
+  pub globals_named : in_section (names_own_global faces comp lowered) lowered ≡ true
+  globals_named = all_made _ (lowered_function faces comp section.structs) section.functions (λ n f item.
+      all program typed comp section is n f item (names_own_global faces comp lowered) (record {
+        exprs = globals_passed _ f;
+        store = λ q v lq lv. refl;
+        cycle = λ a b c. refl;
+        breaks = refl;
+        continues = refl;
+        called = λ to signature dest at is es goes count results below every. call_globals to dest at;
+        returned = λ v there below. refl;
+      }))
+
+  pub own_called : in_section (calls_own faces comp lowered) lowered ≡ true
+  own_called = all_made _ (lowered_function faces comp section.structs) section.functions (λ n f item.
+      all program typed comp section is n f item (calls_own faces comp lowered) (record {
+        exprs = own_passed _ f;
+        store = λ q v lq lv. refl;
+        cycle = λ a b c. refl;
+        breaks = refl;
+        continues = refl;
+        called = λ to signature dest at h es goes count results below every. call_own_fits (scope_of section f) to
+            signature dest at es h goes count results;
+        returned = λ v there below. refl;
+      }))
+
+  pub exports_called : in_section (calls_exports faces comp lowered) lowered ≡ true
+  exports_called = all_made _ (lowered_function faces comp section.structs) section.functions (λ n f item.
+      all program typed comp section is n f item (calls_exports faces comp lowered) (record {
+        exprs = exports_passed _ f;
+        store = λ q v lq lv. refl;
+        cycle = λ a b c. refl;
+        breaks = refl;
+        continues = refl;
+        called = λ to signature dest at h es goes count results below every. call_exports_fit to signature dest at h
+            count results;
+        returned = λ v there below. refl;
+      }))
+
+  pub imports_called : in_section (calls_imports faces comp lowered) lowered ≡ true
+  imports_called = all_made _ (lowered_function faces comp section.structs) section.functions (λ n f item.
+      all program typed comp section is n f item (calls_imports faces comp lowered) (record {
+        exprs = imports_passed _ f;
+        store = λ q v lq lv. refl;
+        cycle = λ a b c. refl;
+        breaks = refl;
+        continues = refl;
+        called = λ to signature dest at h es goes count results below every. call_imports_fit to signature dest at h;
+        returned = λ v there below. refl;
+      }))

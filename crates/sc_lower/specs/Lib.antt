@@ -1,0 +1,5 @@
+pub mod Branches
+pub mod Expressions
+pub mod Lowering
+pub mod Programs
+pub mod Statements

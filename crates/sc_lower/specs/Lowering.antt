@@ -1,0 +1,44 @@
+-- What lowering keeps.
+use Rattle.std.specs.Prelude.{◌≡◌, ℕ, Bool, List, Some, slice_get}
+use Rattle.sc_event.specs.declared.event.Event.{Event}
+use Rattle.sc_core.specs.declared.program.ProgramTree.{ProgramTree}
+use Rattle.sc_core.specs.declared.section.TypedFunction.{TypedFunction}
+use Rattle.sc_core.specs.declared.section.TypedSection.{TypedSection}
+use Rattle.sc_core.specs.Value.{Arith}
+use Rattle.sc_core.specs.WellTyped.{IsWellTyped}
+use Rattle.sc_core.specs.Meaning.{run_of, scripted_run_of, depth_by, scripted_depth_by}
+use Rattle.sc_laws.specs.Agreement.{RunsAgree}
+use Rattle.sc_tac.specs.Code.{code_run, scripted_code_run, code_depth_by, scripted_code_depth_by}
+use Rattle.sc_tac.specs.Functions.{IsFunction}
+use Rattle.sc_tac.specs.Programs.{IsProgram}
+use Rattle.sc_lower.specs.Programs.{lowered_function, lowered_program}
+
+-- The code of a well-typed program runs as the program does, in each arithmetic: its traces, its ends and the
+-- compartments that are blamed are the same wherever a run is stopped, also where compartments perform their parts of a
+-- trace. Code has no lines, so these may differ.
+pub record KeepsMeaning : Type 0 where
+  pub meaning : (arith : Arith) (program : ProgramTree) → IsWellTyped program → (inputs : List ℕ) (turns : ℕ) →
+      RunsAgree (run_of arith program inputs turns) (code_run arith (lowered_program program) inputs turns)
+  pub scripted : (arith : Arith) (program : ProgramTree) → IsWellTyped program → (inputs : List ℕ) (turns : ℕ)
+      (set : ℕ → Bool) (trace : List Event) →
+      RunsAgree (scripted_run_of arith program inputs turns set trace)
+      (scripted_code_run arith (lowered_program program) inputs turns set trace)
+  -- the frames take the same room
+  pub depth : (arith : Arith) (program : ProgramTree) → IsWellTyped program →
+      (inputs : List ℕ) (turns events comp : ℕ) →
+      depth_by arith program inputs turns events comp
+      ≡ code_depth_by arith (lowered_program program) inputs turns events comp
+  pub scripted_depth : (arith : Arith) (program : ProgramTree) → IsWellTyped program →
+      (set : ℕ → Bool) (trace : List Event) (inputs : List ℕ) (turns events comp : ℕ) →
+      scripted_depth_by arith program set trace inputs turns events comp
+      ≡ scripted_code_depth_by arith (lowered_program program) set trace inputs turns events comp
+
+-- The code of a well-typed program keeps what three-address code keeps. Of each function: its temporaries and variables
+-- are its own, each temporary is assigned before it is read, there are at most as many as nodes, and the code weighs
+-- less than 24 for each node. Of the program: its entries, its calls and the globals that it names.
+pub record KeepsRules : Type 0 where
+  pub functions : (program : ProgramTree) → IsWellTyped program →
+      (comp : ℕ) (section : TypedSection) → slice_get program.sections comp ≡ Some section →
+      (number : ℕ) (f : TypedFunction) → slice_get section.functions number ≡ Some f →
+      IsFunction (lowered_function program.interfaces comp section.structs f)
+  pub programs : (program : ProgramTree) → IsWellTyped program → IsProgram (lowered_program program)

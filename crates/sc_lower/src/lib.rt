@@ -1,0 +1,6 @@
+//! From typed programs to three-address code: what is emitted, and that it means the same.
+#![tactic(auto)]
+
+mod laws;
+
+pub use laws::{keeps_branches, keeps_meaning, keeps_rules};
