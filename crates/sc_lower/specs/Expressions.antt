@@ -152,6 +152,11 @@ module _ (structs : List TypedStruct) where
   binary op.OrElse a b = from_first (a.form want.Value) (b.form want.Value) (truth_code b.ty) or_code
   binary o a b = from_two (a.form want.Value) (b.form want.Value) (binary_code o a.ty b.ty)
 
+  -- the place of an element (C11 6.5.2.1)
+  abbrev pub element : Lowered → Lowered → Lows
+  element a b =
+      from_two (a.form want.Value) (b.form want.Value) (λ dest x y. Op dest (move_op op.Add a.ty b.ty) x (Some y))
+
   -- the place of a member, from the place or the pointer of its struct
   abbrev pub member : ℕ → Lows → Lows
   member offset a = from_one a (λ dest x. Op dest (tacop.PointerMember offset) x None)
@@ -164,9 +169,7 @@ module _ (structs : List TypedStruct) where
     term_step (term.Unary o a) ty =
         no_place (from_one (a.form want.Value) (λ dest x. Op dest (unary_op o a.ty) x None))
     term_step (term.Binary o a b) ty = no_place (binary o a b)
-    term_step (term.Index a b) ty =
-        at_place ty (from_two (a.form want.Value) (b.form want.Value) (λ dest x y. Op dest (move_op op.Add a.ty b.ty) x
-        (Some y)))
+    term_step (term.Index a b) ty = at_place ty (element a b)
     term_step (term.Member a offset) ty = at_place ty (member offset (a.form want.Place))
     term_step (term.Arrow a offset) ty = at_place ty (member offset (a.form want.Value))
     term_step (term.Deref a) ty = at_place ty (a.form want.Value)
