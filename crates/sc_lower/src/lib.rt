@@ -1,6 +1,10 @@
 //! From typed programs to three-address code: what is emitted, and that it means the same.
 #![tactic(auto)]
 
+mod cells;
+mod code;
+mod expr;
 mod laws;
+mod selection;
 
 pub use laws::{keeps_branches, keeps_meaning, keeps_rules};

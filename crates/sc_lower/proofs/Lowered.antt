@@ -1,0 +1,39 @@
+-- The code of an expression, by what it is made of.
+use Rattle.std.proofs.Common.{◌≡◌, ℕ, List, Result, refl, sym, ap, ◌∙◌, subst, IfOk}
+use Rattle.sc_base.specs.declared.op.BinaryOp.{BinaryOp}
+use Rattle.sc_core.specs.declared.ty.Ty.{Ty}
+use Rattle.sc_core.specs.declared.expr.TypedExpr.{TypedExpr, fold-roll-TypedExpr}
+use Rattle.sc_core.specs.declared.expr.TypedKind.{TypedKind}
+use Rattle.sc_core.specs.declared.expr.TypedKind.TheOpen as term
+use Rattle.sc_core.specs.declared.expr.TypedKind.TheVariants as kind
+use Rattle.sc_core.specs.declared.section.TypedStruct.{TypedStruct}
+use Rattle.sc_core.specs.declared.value.Want.{Want}
+use Rattle.sc_core.specs.declared.value.Want.TheVariants as want
+use Rattle.sc_core.proofs.Layers.{expr_at}
+use Rattle.sc_lower.specs.declared.code.Code.{Code}
+use Rattle.sc_lower.specs.Expressions.{Low, Lowered, lowered_step, term_step, lowered, forms, binary}
+use Rattle.sc_lower.specs.Results.{code_of, IsOperands}
+
+module _ (structs : List TypedStruct) (params : ℕ) where
+  ty_at : (e : TypedExpr) → (lowered structs params e).ty ≡ e.ty
+  ty_at e = ap (λ x. x.ty) (fold-roll-TypedExpr _ _ (term_step structs params) lowered_step (record { ty = e.ty; kind = e.kind }))
+
+  binary_at : (e l r : TypedExpr) (o : BinaryOp) (w : Want) (n : ℕ) → e.kind ≡ kind.Binary o l r →
+      forms structs params e w n ≡ binary structs o (lowered structs params l) (lowered structs params r) n
+  binary_at e l r o w n h =
+      ap (λ k. forms structs params (record { ty = e.ty; kind = k }) w n) (h ∙ sym (kind.rolls-Binary o l r))
+      ∙ ap (λ x. x.form w n) (expr_at _ _ (term_step structs params) lowered_step e.ty (term.Binary o l r))
+
+  pub binary_lowered : {E : Type 0} (e l r l' r' : TypedExpr) (o : BinaryOp) (w : Want) (n : ℕ) (x y : Code) (result : Result Code E) →
+      e.kind ≡ kind.Binary o l r → l' ≡ l → r' ≡ r →
+      x ≡ code_of (forms structs params l' want.Value n) → y ≡ code_of (forms structs params r' want.Value x.next) →
+      ((a b : Lowered) (free : ℕ) → IsOperands (l'.ty, r'.ty) a b x y free → IfOk result (λ code. code ≡ code_of (binary structs o a b free))) →
+      IfOk result (λ code. code ≡ code_of (forms structs params e w n))
+  binary_lowered e l r l' r' o w n x y result h left right before behind f =
+      subst (λ low. IfOk result (λ code. code ≡ code_of low)) (sym (binary_at e l r o w n h))
+      (f (lowered structs params l) (lowered structs params r) n (record {
+        first = ap (λ z. z.ty) left ∙ sym (ty_at l);
+        second = ap (λ z. z.ty) right ∙ sym (ty_at r);
+        before = before ∙ ap (λ z. code_of (forms structs params z want.Value n)) left;
+        behind = behind ∙ ap (λ z. code_of (forms structs params z want.Value x.next)) right;
+      }))

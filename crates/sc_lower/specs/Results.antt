@@ -1,0 +1,16 @@
+-- What lowering hands back, as the definitions have it.
+use Rattle.std.specs.Prelude.{◌≡◌, ℕ}
+use Rattle.sc_core.specs.declared.ty.Ty.{Ty}
+use Rattle.sc_core.specs.declared.value.Want.TheVariants as want
+use Rattle.sc_lower.specs.declared.code.Code.{Code}
+use Rattle.sc_lower.specs.Expressions.{Low, Lowered}
+
+abbrev pub code_of : Low → Code
+code_of low = record { stmts = low.code; at = low.at; next = low.next }
+
+-- the code of two operands of these types, one behind the other
+pub record IsOperands (types : Ty × Ty) (a b : Lowered) (left right : Code) (free : ℕ) : Type 0 where
+  pub first : types.0 ≡ a.ty
+  pub second : types.1 ≡ b.ty
+  pub before : left ≡ code_of (a.form want.Value free)
+  pub behind : right ≡ code_of (b.form want.Value left.next)
