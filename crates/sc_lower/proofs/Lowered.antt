@@ -1,5 +1,7 @@
 -- The code of an expression, by what it is made of.
-use Rattle.std.proofs.Common.{◌≡◌, ℕ, List, Result, refl, sym, ap, ◌∙◌, subst, IfOk}
+use Rattle.std.proofs.Common.{◌≡◌, ℕ, ◌+◌, ◌<◌, List, [], ◌∷◌, ◌++◌, map, length, drop, get_or, Result, refl, sym, ap, ◌∙◌, subst, IfOk, append_assoc, add-one, drop-cons}
+use Rattle.sc_tac.specs.declared.stmt.TacStmt.{TacStmt}
+use Rattle.sc_lower.specs.declared.calls.Values.{Values}
 use Rattle.sc_base.specs.declared.op.BinaryOp.{BinaryOp}
 use Rattle.sc_core.specs.declared.ty.Ty.{Ty}
 use Rattle.sc_core.specs.declared.expr.TypedExpr.{TypedExpr, fold-roll-TypedExpr}
@@ -11,9 +13,35 @@ use Rattle.sc_core.specs.declared.value.Want.{Want}
 use Rattle.sc_core.specs.declared.value.Want.TheVariants as want
 use Rattle.sc_core.proofs.Layers.{expr_at}
 use Rattle.sc_lower.specs.declared.code.Code.{Code}
-use Rattle.sc_lower.specs.Expressions.{Low, Lowered, lowered_step, term_step, lowered, forms, binary}
-use Rattle.sc_lower.specs.Results.{code_of, IsOperands}
+use Rattle.sc_lower.specs.Expressions.{Low, Forms, Lowered, lowered_step, term_step, lowered, forms, binary}
+use Rattle.sc_lower.specs.Statements.{Many, many}
+use Rattle.sc_lower.specs.Results.{code_of, values_of, IsOperands}
 
+-- code that is there already, and the code of values behind it
+abbrev pub values_behind : List TacStmt → List ℕ → Many → Values
+values_behind stmts at rest = record { stmts = stmts ++ rest.code; at = at ++ rest.at; next = rest.next }
+
+values_shift : (stmts : List TacStmt) (at : List ℕ) (low : Low) (rest : Many) →
+    values_behind (stmts ++ low.code) (at ++ low.at ∷ []) rest
+    ≡ values_behind stmts at (record { code = low.code ++ rest.code; at = low.at ∷ rest.at; next = rest.next })
+values_shift stmts at low rest =
+    ap (λ xs. record { stmts = xs; at = (at ++ low.at ∷ []) ++ rest.at; next = rest.next }) (append_assoc stmts low.code rest.code)
+    ∙ ap (λ xs. record { stmts = stmts ++ (low.code ++ rest.code); at = xs; next = rest.next }) (append_assoc at (low.at ∷ []) rest.at)
+
+module _ (fs : TypedExpr → Forms) (es : List TypedExpr) (i : ℕ) (e : TypedExpr) (there : i < length es) (item : e ≡ get_or es i e) where
+  next_item : drop i es ≡ e ∷ drop (i + 1) es
+  next_item = rw (add-one, drop-cons es i e) (λ k. sym item k ∷ drop (Prim.Native.Nat.suc i) es)
+
+  pub next_value : (stmts : List TacStmt) (at : List ℕ) (n : ℕ) (x : Code) (whole : Values) → x ≡ code_of (fs e want.Value n) →
+      values_behind stmts at (many (map fs (drop i es)) n) ≡ whole →
+      values_behind (stmts ++ x.stmts) (at ++ x.at ∷ []) (many (map fs (drop (i + 1) es)) x.next) ≡ whole
+  next_value stmts at n x whole is so_far =
+      ap (λ x. values_behind (stmts ++ x.stmts) (at ++ x.at ∷ []) (many (map fs (drop (i + 1) es)) x.next)) is
+      ∙ values_shift stmts at (fs e want.Value n) (many (map fs (drop (i + 1) es)) (fs e want.Value n).next)
+      ∙ ap (λ xs. values_behind stmts at (many (map fs xs) n)) (sym next_item)
+      ∙ so_far
+
+-- ALL EXPRESSIONS
 module _ (structs : List TypedStruct) (params : ℕ) where
   ty_at : (e : TypedExpr) → (lowered structs params e).ty ≡ e.ty
   ty_at e = ap (λ x. x.ty) (fold-roll-TypedExpr _ _ (term_step structs params) lowered_step (record { ty = e.ty; kind = e.kind }))

@@ -2,8 +2,11 @@
 use Rattle.std.specs.Prelude.{◌≡◌, ℕ}
 use Rattle.sc_core.specs.declared.ty.Ty.{Ty}
 use Rattle.sc_core.specs.declared.value.Want.TheVariants as want
+use Rattle.sc_lower.specs.declared.calls.Values.{Values}
 use Rattle.sc_lower.specs.declared.code.Code.{Code}
+use Rattle.sc_lower.specs.declared.code.Fragment.{Fragment}
 use Rattle.sc_lower.specs.Expressions.{Low, Lowered}
+use Rattle.sc_lower.specs.Statements.{Part, Many}
 
 abbrev pub code_of : Low → Code
 code_of low = record { stmts = low.code; at = low.at; next = low.next }
@@ -14,3 +17,9 @@ pub record IsOperands (types : Ty × Ty) (a b : Lowered) (left right : Code) (fr
   pub second : types.1 ≡ b.ty
   pub before : left ≡ code_of (a.form want.Value free)
   pub behind : right ≡ code_of (b.form want.Value left.next)
+
+abbrev pub fragment_of : Part → Fragment
+fragment_of part = record { stmts = part.code; next = part.next }
+
+abbrev pub values_of : Many → Values
+values_of many = record { stmts = many.code; at = many.at; next = many.next }

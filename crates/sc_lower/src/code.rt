@@ -7,6 +7,7 @@ ghost use Rattle.sc_lower.specs.Expressions.{loaded};
 use sc_base::OutOfMemory;
 use sc_core::{Ty, TypedStruct, Want};
 use sc_tac::{TacStmt, TacStmts};
+use std::alloc::Global;
 
 /// Where an expression stands: the structs of its section, and how many parameters its function has.
 #[derive(Clone, Copy)]
@@ -20,6 +21,13 @@ pub struct Scope<'a> {
 pub struct Code {
     pub stmts: TacStmts,
     pub at: u32,
+    pub next: u32,
+}
+
+/// Code that leaves nothing in a temporary, and the next free one.
+#[derive(Drop)]
+pub struct Fragment {
+    pub stmts: TacStmts,
     pub next: u32,
 }
 
@@ -77,4 +85,37 @@ pub fn loaded(place: Code, ty: Ty, want: Want) -> Result<Code, OutOfMemory>
             Ok(code)
         }
     }
+}
+
+/// A statement that assigns no temporary, on its own.
+pub fn single(alloc: Global, stmt: TacStmt, free: u32) -> Result<Fragment, OutOfMemory>
+    ensures { IfOk result (λ fragment. fragment ≡ record { stmts = stmt ∷ []; next = free }) }
+{
+    let mut stmts = TacStmts::new(alloc);
+    stmts.push(stmt)?;
+    Ok(Fragment { stmts, next: free })
+}
+
+/// The code with a statement behind it that assigns no temporary.
+pub fn ended(code: Code, last: TacStmt) -> Result<Fragment, OutOfMemory>
+    ensures { IfOk result (λ fragment. fragment ≡ record { stmts = code.stmts ++ last ∷ []; next = code.next }) }
+{
+    let mut stmts = code.stmts;
+    stmts.push(last)?;
+    Ok(Fragment {
+        stmts,
+        next: code.next,
+    })
+}
+
+/// A fragment behind other statements.
+pub fn after(first: TacStmts, rest: Fragment) -> Result<Fragment, OutOfMemory>
+    ensures { IfOk result (λ fragment. fragment ≡ record { stmts = first ++ rest.stmts; next = rest.next }) }
+{
+    let mut stmts = first;
+    stmts.append(rest.stmts)?;
+    Ok(Fragment {
+        stmts,
+        next: rest.next,
+    })
 }

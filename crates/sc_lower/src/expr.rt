@@ -4,9 +4,10 @@ ghost use Rattle.std.specs.Prelude.{◌≡◌, ℕ, ◌++◌, ◌∷◌, [], suc
 ghost use Rattle.sc_base.specs.declared.op.BinaryOp.TheVariants as op;
 ghost use Rattle.sc_tac.specs.declared.stmt.TacStmt;
 ghost use Rattle.sc_lower.specs.Expressions.{constant_of, place_code, binary_code, move_op, Lowered, binary, forms, truth_code, and_code, or_code};
-ghost use Rattle.sc_lower.specs.Results.{IsOperands, code_of};
+ghost use Rattle.sc_lower.specs.Results.{IsOperands, code_of, fragment_of};
+ghost use Rattle.sc_lower.specs.Statements.{store_at};
 
-use crate::code::{Code, Scope, behind, loaded, one_more, with_last};
+use crate::code::{Code, Fragment, Scope, behind, ended, loaded, one_more, with_last};
 use crate::selection::{binary_code, constant_of, move_op, place_code, unary_op, with_truth};
 use sc_base::{BinaryOp, OutOfMemory};
 use sc_core::{Ty, TypedExpr, TypedKind, VarRef, Want};
@@ -189,4 +190,22 @@ pub fn lower_expr(
         }
         TypedKind::Address(of) => lower_expr(alloc, scope, Want::Place, of.get(), free),
     }
+}
+
+/// A value that is stored at a place.
+pub fn lower_store(
+    alloc: Global,
+    scope: &Scope,
+    place: &TypedExpr,
+    value: u32,
+    free: u32,
+) -> Result<Fragment, OutOfMemory>
+    ensures { IfOk result (λ fragment. fragment ≡ fragment_of (store_at (forms scope.now.structs.now scope.now.params place.now) value free)) }
+{
+    let code = lower_expr(alloc, scope, Want::Place, place, free)?;
+    let last = TacStmt::Store {
+        place: code.at,
+        value,
+    };
+    ended(code, last)
 }

@@ -1,6 +1,7 @@
 //! From typed programs to three-address code: what is emitted, and that it means the same.
 #![tactic(auto)]
 
+mod calls;
 mod cells;
 mod code;
 mod expr;
