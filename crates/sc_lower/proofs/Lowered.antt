@@ -13,8 +13,9 @@ use Rattle.sc_core.specs.declared.value.Want.{Want}
 use Rattle.sc_core.specs.declared.value.Want.TheVariants as want
 use Rattle.sc_core.proofs.Layers.{expr_at}
 use Rattle.sc_lower.specs.declared.code.Code.{Code}
+use Rattle.sc_lower.specs.declared.code.Fragment.{Fragment}
 use Rattle.sc_lower.specs.Expressions.{Low, Forms, Lowered, lowered_step, term_step, lowered, forms, binary}
-use Rattle.sc_lower.specs.Statements.{Many, many}
+use Rattle.sc_lower.specs.Statements.{Part, Many, many}
 use Rattle.sc_lower.specs.Results.{code_of, values_of, IsOperands}
 
 -- code that is there already, and the code of values behind it
@@ -40,6 +41,11 @@ module _ (fs : TypedExpr → Forms) (es : List TypedExpr) (i : ℕ) (e : TypedEx
       ∙ values_shift stmts at (fs e want.Value n) (many (map fs (drop (i + 1) es)) (fs e want.Value n).next)
       ∙ ap (λ xs. values_behind stmts at (many (map fs xs) n)) (sym next_item)
       ∙ so_far
+
+-- STATEMENTS
+-- code that is there already, and more behind it
+abbrev pub fragment_behind : List TacStmt → Part → Fragment
+fragment_behind stmts rest = record { stmts = stmts ++ rest.code; next = rest.next }
 
 -- ALL EXPRESSIONS
 module _ (structs : List TypedStruct) (params : ℕ) where

@@ -7,5 +7,6 @@ mod code;
 mod expr;
 mod laws;
 mod selection;
+mod stmt;
 
 pub use laws::{keeps_branches, keeps_meaning, keeps_rules};
