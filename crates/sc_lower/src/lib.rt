@@ -6,6 +6,7 @@ mod cells;
 mod code;
 mod expr;
 mod laws;
+mod nodes;
 mod selection;
 mod stmt;
 
