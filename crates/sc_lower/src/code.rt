@@ -41,6 +41,19 @@ pub fn one_more(number: u32) -> Result<u32, OutOfMemory>
     }
 }
 
+/// A statement that assigns the temporary `free`.
+pub fn alone(alloc: Global, stmt: TacStmt, free: u32) -> Result<Code, OutOfMemory>
+    ensures { IfOk result (λ code. code ≡ record { stmts = stmt ∷ []; at = free; next = suc free }) }
+{
+    let mut stmts = TacStmts::new(alloc);
+    stmts.push(stmt)?;
+    Ok(Code {
+        stmts,
+        at: free,
+        next: one_more(free)?,
+    })
+}
+
 /// The code with a statement behind it that assigns the next free temporary.
 pub fn with_last(code: Code, last: TacStmt) -> Result<Code, OutOfMemory>
     ensures { IfOk result (λ longer. longer ≡ record { stmts = code.stmts ++ last ∷ []; at = code.next; next = suc code.next }) }

@@ -7,25 +7,12 @@ ghost use Rattle.sc_lower.specs.Expressions.{constant_of, place_code, binary_cod
 ghost use Rattle.sc_lower.specs.Results.{IsOperands, code_of, fragment_of};
 ghost use Rattle.sc_lower.specs.Statements.{store_at};
 
-use crate::code::{Code, Fragment, Scope, behind, ended, loaded, one_more, with_last};
+use crate::code::{Code, alone, Fragment, Scope, behind, ended, loaded, one_more, with_last};
 use crate::selection::{binary_code, constant_of, move_op, place_code, unary_op, with_truth};
 use sc_base::{BinaryOp, OutOfMemory};
 use sc_core::{Ty, TypedExpr, TypedKind, VarRef, Want};
 use sc_tac::{Constant, TacOp, TacStmt, TacStmts};
 use std::alloc::Global;
-
-// A statement that assigns the temporary `free`.
-fn alone(alloc: Global, stmt: TacStmt, free: u32) -> Result<Code, OutOfMemory>
-    ensures { IfOk result (λ code. code ≡ record { stmts = stmt ∷ []; at = free; next = suc free }) }
-{
-    let mut stmts = TacStmts::new(alloc);
-    stmts.push(stmt)?;
-    Ok(Code {
-        stmts,
-        at: free,
-        next: one_more(free)?,
-    })
-}
 
 // An operator that takes one value.
 fn with_op(code: Code, op: TacOp) -> Result<Code, OutOfMemory>

@@ -5,6 +5,7 @@ mod calls;
 mod cells;
 mod code;
 mod expr;
+mod function;
 mod laws;
 mod nodes;
 mod selection;
