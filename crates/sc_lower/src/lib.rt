@@ -4,6 +4,7 @@
 mod calls;
 mod cells;
 mod code;
+mod copies;
 mod expr;
 mod function;
 mod laws;
