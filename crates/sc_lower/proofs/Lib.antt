@@ -7,6 +7,7 @@ pub mod Flowing
 pub mod Gives
 pub mod Hollow
 pub mod Lowered
+pub mod Lowering
 pub mod Matching
 pub mod Operators
 pub mod Passing

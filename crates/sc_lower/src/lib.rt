@@ -9,7 +9,9 @@ mod expr;
 mod function;
 mod laws;
 mod nodes;
+mod program;
 mod selection;
 mod stmt;
 
 pub use laws::{keeps_branches, keeps_meaning, keeps_rules};
+pub use program::lower;
