@@ -1,4 +1,4 @@
--- The code of an expression, by what it is made of.
+-- Code in the making, and the code of an operator by that of its operands.
 use Rattle.std.proofs.Common.{◌≡◌, ℕ, ◌+◌, ◌<◌, List, [], ◌∷◌, ◌++◌, map, length, drop, get_or, Result, refl, sym, ap, ◌∙◌, subst, IfOk, append_assoc, add-one, drop-cons}
 use Rattle.sc_tac.specs.declared.stmt.TacStmt.{TacStmt}
 use Rattle.sc_lower.specs.declared.calls.Values.{Values}
@@ -22,46 +22,27 @@ use Rattle.sc_lower.specs.Results.{code_of, values_of, IsOperands}
 abbrev pub values_behind : List TacStmt → List ℕ → Many → Values
 values_behind stmts at rest = record { stmts = stmts ++ rest.code; at = at ++ rest.at; next = rest.next }
 
-values_shift : (stmts : List TacStmt) (at : List ℕ) (low : Low) (rest : Many) →
-    values_behind (stmts ++ low.code) (at ++ low.at ∷ []) rest
-    ≡ values_behind stmts at (record { code = low.code ++ rest.code; at = low.at ∷ rest.at; next = rest.next })
-values_shift stmts at low rest =
-    ap (λ xs. record { stmts = xs; at = (at ++ low.at ∷ []) ++ rest.at; next = rest.next }) (append_assoc stmts low.code rest.code)
-    ∙ ap (λ xs. record { stmts = stmts ++ (low.code ++ rest.code); at = xs; next = rest.next }) (append_assoc at (low.at ∷ []) rest.at)
-
-module _ (fs : TypedExpr → Forms) (es : List TypedExpr) (i : ℕ) (e : TypedExpr) (there : i < length es) (item : e ≡ get_or es i e) where
-  next_item : drop i es ≡ e ∷ drop (i + 1) es
-  next_item = rw (add-one, drop-cons es i e) (λ k. sym item k ∷ drop (Prim.Native.Nat.suc i) es)
-
-  pub next_value : (stmts : List TacStmt) (at : List ℕ) (n : ℕ) (x : Code) (whole : Values) → x ≡ code_of (fs e want.Value n) →
-      values_behind stmts at (many (map fs (drop i es)) n) ≡ whole →
-      values_behind (stmts ++ x.stmts) (at ++ x.at ∷ []) (many (map fs (drop (i + 1) es)) x.next) ≡ whole
-  next_value stmts at n x whole is so_far =
-      ap (λ x. values_behind (stmts ++ x.stmts) (at ++ x.at ∷ []) (many (map fs (drop (i + 1) es)) x.next)) is
-      ∙ values_shift stmts at (fs e want.Value n) (many (map fs (drop (i + 1) es)) (fs e want.Value n).next)
-      ∙ ap (λ xs. values_behind stmts at (many (map fs xs) n)) (sym next_item)
-      ∙ so_far
-
--- STATEMENTS
 -- code that is there already, and more behind it
 abbrev pub fragment_behind : List TacStmt → Part → Fragment
 fragment_behind stmts rest = record { stmts = stmts ++ rest.code; next = rest.next }
 
--- ALL EXPRESSIONS
 module _ (structs : List TypedStruct) (params : ℕ) where
   ty_at : (e : TypedExpr) → (lowered structs params e).ty ≡ e.ty
   ty_at e = ap (λ x. x.ty) (fold-roll-TypedExpr _ _ (term_step structs params) lowered_step (record { ty = e.ty; kind = e.kind }))
 
+  -- an operator, by the layer of its expression
   binary_at : (e l r : TypedExpr) (o : BinaryOp) (w : Want) (n : ℕ) → e.kind ≡ kind.Binary o l r →
       forms structs params e w n ≡ binary structs o (lowered structs params l) (lowered structs params r) n
   binary_at e l r o w n h =
       ap (λ k. forms structs params (record { ty = e.ty; kind = k }) w n) (h ∙ sym (kind.rolls-Binary o l r))
       ∙ ap (λ x. x.form w n) (expr_at _ _ (term_step structs params) lowered_step e.ty (term.Binary o l r))
 
-  pub binary_lowered : {E : Type 0} (e l r l' r' : TypedExpr) (o : BinaryOp) (w : Want) (n : ℕ) (x y : Code) (result : Result Code E) →
-      e.kind ≡ kind.Binary o l r → l' ≡ l → r' ≡ r →
+  -- what is made of the code of both operands is the code of the whole
+  pub binary_lowered : {E : Type 0} (e l r l' r' : TypedExpr) (o : BinaryOp) (w : Want) (n : ℕ) (x y : Code)
+      (result : Result Code E) → e.kind ≡ kind.Binary o l r → l' ≡ l → r' ≡ r →
       x ≡ code_of (forms structs params l' want.Value n) → y ≡ code_of (forms structs params r' want.Value x.next) →
-      ((a b : Lowered) (free : ℕ) → IsOperands (l'.ty, r'.ty) a b x y free → IfOk result (λ code. code ≡ code_of (binary structs o a b free))) →
+      ((a b : Lowered) (free : ℕ) → IsOperands (l'.ty, r'.ty) a b x y free →
+      IfOk result (λ code. code ≡ code_of (binary structs o a b free))) →
       IfOk result (λ code. code ≡ code_of (forms structs params e w n))
   binary_lowered e l r l' r' o w n x y result h left right before behind f =
       subst (λ low. IfOk result (λ code. code ≡ code_of low)) (sym (binary_at e l r o w n h))

@@ -26,7 +26,8 @@ fn lower_args(
     args: &[TypedExpr],
     free: u32,
 ) -> Result<Values, OutOfMemory>
-    ensures { IfOk result (λ values. values ≡ values_of (many (map (forms scope.now.structs.now scope.now.params) args.now) free)) }
+    ensures { IfOk result (λ values. values ≡
+      values_of (many (map (forms scope.now.structs.now scope.now.params) args.now) free)) }
 {
     let mut stmts = TacStmts::new(alloc);
     let mut at = Temps::new(alloc);
@@ -74,7 +75,10 @@ fn call_code(target: CallTarget, dest: Option<u32>, args: Temps) -> TacStmt
 // A call whose result has the next free temporary, and what is made of it.
 #[tactic(auto, using(std::proofs::Common::append_assoc))]
 fn with_call(values: Values, target: CallTarget, rest: Fragment) -> Result<Fragment, OutOfMemory>
-    ensures { IfOk result (λ fragment. fragment ≡ record { stmts = values.stmts ++ call_code target (Some values.next) values.at ∷ rest.stmts; next = rest.next }) }
+    ensures { IfOk result (λ fragment. fragment ≡ record {
+      stmts = values.stmts ++ call_code target (Some values.next) values.at ∷ rest.stmts;
+      next = rest.next;
+    }) }
 {
     let mut stmts = values.stmts;
     stmts.push(call_code(target, Some(values.next), values.at))?;
@@ -92,7 +96,8 @@ pub fn lower_call(
     call: &TypedCall,
     free: u32,
 ) -> Result<Fragment, OutOfMemory>
-    ensures { IfOk result (λ fragment. fragment ≡ fragment_of (call_alone call.now.target (args scope.now.structs.now scope.now.params call.now) free)) }
+    ensures { IfOk result (λ fragment. fragment ≡
+      fragment_of (call_alone call.now.target (args scope.now.structs.now scope.now.params call.now) free)) }
 {
     let values = lower_args(alloc, scope, call.args.as_slice(), free)?;
     let mut stmts = values.stmts;
@@ -111,7 +116,9 @@ pub fn lower_assign_call(
     call: &TypedCall,
     free: u32,
 ) -> Result<Fragment, OutOfMemory>
-    ensures { IfOk result (λ fragment. fragment ≡ fragment_of (call_for call.now.target (args scope.now.structs.now scope.now.params call.now) (store_at (forms scope.now.structs.now scope.now.params place.now)) free)) }
+    ensures { IfOk result (λ fragment. fragment ≡
+      fragment_of (call_for call.now.target (args scope.now.structs.now scope.now.params call.now)
+      (store_at (forms scope.now.structs.now scope.now.params place.now)) free)) }
 {
     let values = lower_args(alloc, scope, call.args.as_slice(), free)?;
     let store = lower_store(alloc, scope, place, values.next, one_more(values.next)?)?;
@@ -125,7 +132,8 @@ pub fn lower_return_call(
     call: &TypedCall,
     free: u32,
 ) -> Result<Fragment, OutOfMemory>
-    ensures { IfOk result (λ fragment. fragment ≡ fragment_of (call_for call.now.target (args scope.now.structs.now scope.now.params call.now) return_value free)) }
+    ensures { IfOk result (λ fragment. fragment ≡
+      fragment_of (call_for call.now.target (args scope.now.structs.now scope.now.params call.now) return_value free)) }
 {
     let values = lower_args(alloc, scope, call.args.as_slice(), free)?;
     let last = TacStmt::Return {

@@ -56,7 +56,11 @@ pub fn alone(alloc: Global, stmt: TacStmt, free: u32) -> Result<Code, OutOfMemor
 
 /// The code with a statement behind it that assigns the next free temporary.
 pub fn with_last(code: Code, last: TacStmt) -> Result<Code, OutOfMemory>
-    ensures { IfOk result (λ longer. longer ≡ record { stmts = code.stmts ++ last ∷ []; at = code.next; next = suc code.next }) }
+    ensures { IfOk result (λ longer. longer ≡ record {
+      stmts = code.stmts ++ last ∷ [];
+      at = code.next;
+      next = suc code.next;
+    }) }
 {
     let mut stmts = code.stmts;
     stmts.push(last)?;
@@ -82,7 +86,11 @@ pub fn behind(first: TacStmts, code: Code) -> Result<Code, OutOfMemory>
 
 /// A place of this type, or what stands there. The value of an array is its place (C11 6.3.2.1p3).
 pub fn loaded(place: Code, ty: Ty, want: Want) -> Result<Code, OutOfMemory>
-    ensures { IfOk result (λ code. code ≡ record { stmts = place.stmts ++ loaded ty want place.at; at = place.at; next = place.next }) }
+    ensures { IfOk result (λ code. code ≡ record {
+      stmts = place.stmts ++ loaded ty want place.at;
+      at = place.at;
+      next = place.next;
+    }) }
 {
     let mut code = place;
     match want {

@@ -16,7 +16,11 @@ use std::alloc::Global;
 
 // An operator that takes one value.
 fn with_op(code: Code, op: TacOp) -> Result<Code, OutOfMemory>
-    ensures { IfOk result (λ longer. longer ≡ record { stmts = code.stmts ++ TacStmt.Op code.next op code.at None ∷ []; at = code.next; next = suc code.next }) }
+    ensures { IfOk result (λ longer. longer ≡ record {
+      stmts = code.stmts ++ TacStmt.Op code.next op code.at None ∷ [];
+      at = code.next;
+      next = suc code.next;
+    }) }
 {
     let last = TacStmt::Op {
         dest: code.next,
@@ -29,7 +33,12 @@ fn with_op(code: Code, op: TacOp) -> Result<Code, OutOfMemory>
 
 // The place of an element.
 fn element(scope: &Scope, types: (Ty, Ty), base: Code, index: Code) -> Result<Code, OutOfMemory>
-    ensures { IfOk result (λ code. code ≡ record { stmts = base.stmts ++ (index.stmts ++ TacStmt.Op index.next (move_op scope.now.structs.now op.Add types.0 types.1) base.at (Some index.at) ∷ []); at = index.next; next = suc index.next }) }
+    ensures { IfOk result (λ code. code ≡ record {
+      stmts = base.stmts ++ (index.stmts
+        ++ TacStmt.Op index.next (move_op scope.now.structs.now op.Add types.0 types.1) base.at (Some index.at) ∷ []);
+      at = index.next;
+      next = suc index.next;
+    }) }
 {
     let last = TacStmt::Op {
         dest: index.next,
@@ -43,7 +52,11 @@ fn element(scope: &Scope, types: (Ty, Ty), base: Code, index: Code) -> Result<Co
 
 // The second value counts where the first is true, else the result is 0.
 fn and_also(alloc: Global, ty: Ty, left: Code, right: Code) -> Result<Code, OutOfMemory>
-    ensures { IfOk result (λ code. code ≡ record { stmts = left.stmts ++ and_code right.next left.at (right.stmts ++ truth_code ty right.next right.at) ∷ []; at = right.next; next = suc right.next }) }
+    ensures { IfOk result (λ code. code ≡ record {
+      stmts = left.stmts ++ and_code right.next left.at (right.stmts ++ truth_code ty right.next right.at) ∷ [];
+      at = right.next;
+      next = suc right.next;
+    }) }
 {
     let dest = right.next;
     let then_part = with_truth(right.stmts, ty, dest, right.at)?;
@@ -67,7 +80,11 @@ fn and_also(alloc: Global, ty: Ty, left: Code, right: Code) -> Result<Code, OutO
 
 // The second value counts where the first is false, else the result is 1.
 fn or_else(alloc: Global, ty: Ty, left: Code, right: Code) -> Result<Code, OutOfMemory>
-    ensures { IfOk result (λ code. code ≡ record { stmts = left.stmts ++ or_code right.next left.at (right.stmts ++ truth_code ty right.next right.at) ∷ []; at = right.next; next = suc right.next }) }
+    ensures { IfOk result (λ code. code ≡ record {
+      stmts = left.stmts ++ or_code right.next left.at (right.stmts ++ truth_code ty right.next right.at) ∷ [];
+      at = right.next;
+      next = suc right.next;
+    }) }
 {
     let dest = right.next;
     let mut then_part = TacStmts::new(alloc);
@@ -97,7 +114,12 @@ fn plain(
     left: Code,
     right: Code,
 ) -> Result<Code, OutOfMemory>
-    ensures { IfOk result (λ code. code ≡ record { stmts = left.stmts ++ (right.stmts ++ binary_code scope.now.structs.now op types.0 types.1 right.next left.at right.at ∷ []); at = right.next; next = suc right.next }) }
+    ensures { IfOk result (λ code. code ≡ record {
+      stmts = left.stmts ++ (right.stmts
+        ++ binary_code scope.now.structs.now op types.0 types.1 right.next left.at right.at ∷ []);
+      at = right.next;
+      next = suc right.next;
+    }) }
 {
     let last = binary_code(scope.structs, op, types, right.next, left.at, right.at);
     let code = with_last(right, last)?;
@@ -113,7 +135,8 @@ fn binary(
     left: Code,
     right: Code,
 ) -> Result<Code, OutOfMemory>
-    ensures { (a b : Lowered) (free : ℕ) → IsOperands types a b left right free → IfOk result (λ code. code ≡ code_of (binary scope.now.structs.now op a b free)) }
+    ensures { (a b : Lowered) (free : ℕ) → IsOperands types a b left right free →
+      IfOk result (λ code. code ≡ code_of (binary scope.now.structs.now op a b free)) }
 {
     match op {
         BinaryOp::AndAlso => and_also(alloc, types.1, left, right),
@@ -187,7 +210,8 @@ pub fn lower_store(
     value: u32,
     free: u32,
 ) -> Result<Fragment, OutOfMemory>
-    ensures { IfOk result (λ fragment. fragment ≡ fragment_of (store_at (forms scope.now.structs.now scope.now.params place.now) value free)) }
+    ensures { IfOk result (λ fragment. fragment ≡
+      fragment_of (store_at (forms scope.now.structs.now scope.now.params place.now) value free)) }
 {
     let code = lower_expr(alloc, scope, Want::Place, place, free)?;
     let last = TacStmt::Store {

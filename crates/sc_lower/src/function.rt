@@ -32,7 +32,8 @@ fn lower_init(
     local: &TypedLocal,
     free: u32,
 ) -> Result<Fragment, OutOfMemory>
-    ensures { IfOk result (λ fragment. fragment ≡ fragment_of (init_code scope.now.structs.now scope.now.params number local.now local.now.init free)) }
+    ensures { IfOk result (λ fragment. fragment ≡
+      fragment_of (init_code scope.now.structs.now scope.now.params number local.now local.now.init free)) }
 {
     match &local.init {
         None => Ok(Fragment {
@@ -58,7 +59,8 @@ fn lower_inits(
     scope: &Scope,
     locals: &[TypedLocal],
 ) -> Result<Fragment, OutOfMemory>
-    ensures { IfOk result (λ fragment. fragment ≡ fragment_of (in_turn (inits_code scope.now.structs.now scope.now.params 0 locals.now) 0)) }
+    ensures { IfOk result (λ fragment. fragment ≡
+      fragment_of (in_turn (inits_code scope.now.structs.now scope.now.params 0 locals.now) 0)) }
 {
     let mut stmts = TacStmts::new(alloc);
     let mut next = 0;

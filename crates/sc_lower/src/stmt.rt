@@ -25,7 +25,9 @@ pub fn lower_assign(
     value: &TypedExpr,
     free: u32,
 ) -> Result<Fragment, OutOfMemory>
-    ensures { IfOk result (λ fragment. fragment ≡ fragment_of (assign (forms scope.now.structs.now scope.now.params place.now) (forms scope.now.structs.now scope.now.params value.now) free)) }
+    ensures { IfOk result (λ fragment. fragment ≡
+      fragment_of (assign (forms scope.now.structs.now scope.now.params place.now)
+      (forms scope.now.structs.now scope.now.params value.now) free)) }
 {
     let code = lower_expr(alloc, scope, Want::Value, value, free)?;
     let store = lower_store(alloc, scope, place, code.at, code.next)?;
@@ -38,7 +40,8 @@ fn lower_return(
     value: &TypedExpr,
     free: u32,
 ) -> Result<Fragment, OutOfMemory>
-    ensures { IfOk result (λ fragment. fragment ≡ fragment_of (after (forms scope.now.structs.now scope.now.params value.now want.Value) return_value free)) }
+    ensures { IfOk result (λ fragment. fragment ≡
+      fragment_of (after (forms scope.now.structs.now scope.now.params value.now want.Value) return_value free)) }
 {
     let code = lower_expr(alloc, scope, Want::Value, value, free)?;
     let last = TacStmt::Return {
@@ -54,7 +57,8 @@ fn lower_test(
     cond: &TypedExpr,
     free: u32,
 ) -> Result<Fragment, OutOfMemory>
-    ensures { IfOk result (λ fragment. fragment ≡ fragment_of (test (forms scope.now.structs.now scope.now.params cond.now) free)) }
+    ensures { IfOk result (λ fragment. fragment ≡
+      fragment_of (test (forms scope.now.structs.now scope.now.params cond.now) free)) }
 {
     let code = lower_expr(alloc, scope, Want::Value, cond, free)?;
     let mut else_part = TacStmts::new(alloc);
@@ -73,7 +77,8 @@ fn lower_simple(
     kind: &TypedSimpleKind,
     free: u32,
 ) -> Result<Fragment, OutOfMemory>
-    ensures { IfOk result (λ fragment. fragment ≡ fragment_of (simple_code scope.now.structs.now scope.now.params kind.now free)) }
+    ensures { IfOk result (λ fragment. fragment ≡
+      fragment_of (simple_code scope.now.structs.now scope.now.params kind.now free)) }
 {
     match kind {
         TypedSimpleKind::Assign { place, value } => {
@@ -93,7 +98,8 @@ fn lower_part(
     part: &Option<TypedSimple>,
     free: u32,
 ) -> Result<Fragment, OutOfMemory>
-    ensures { IfOk result (λ fragment. fragment ≡ fragment_of (part_code scope.now.structs.now scope.now.params part.now free)) }
+    ensures { IfOk result (λ fragment. fragment ≡
+      fragment_of (part_code scope.now.structs.now scope.now.params part.now free)) }
 {
     match part {
         None => Ok(Fragment {
@@ -106,7 +112,10 @@ fn lower_part(
 
 // The first part where the value is true, else the second.
 fn forked(cond: Code, first: Fragment, second: Fragment) -> Result<Fragment, OutOfMemory>
-    ensures { IfOk result (λ fragment. fragment ≡ record { stmts = cond.stmts ++ TacStmt.If cond.at first.stmts second.stmts ∷ []; next = second.next }) }
+    ensures { IfOk result (λ fragment. fragment ≡ record {
+      stmts = cond.stmts ++ TacStmt.If cond.at first.stmts second.stmts ∷ [];
+      next = second.next;
+    }) }
 {
     let mut stmts = cond.stmts;
     stmts.push(TacStmt::If {
@@ -127,7 +136,10 @@ fn looped(
     body: TacStmts,
     next: Fragment,
 ) -> Result<Fragment, OutOfMemory>
-    ensures { IfOk result (λ fragment. fragment ≡ record { stmts = first ++ TacStmt.Loop head body next.stmts ∷ []; next = next.next }) }
+    ensures { IfOk result (λ fragment. fragment ≡ record {
+      stmts = first ++ TacStmt.Loop head body next.stmts ∷ [];
+      next = next.next;
+    }) }
 {
     let mut stmts = first;
     stmts.push(TacStmt::Loop {
@@ -149,7 +161,8 @@ pub fn lower_stmts(
     block: &TypedStmts,
     free: u32,
 ) -> Result<Fragment, OutOfMemory>
-    ensures { IfOk result (λ fragment. fragment ≡ fragment_of (block_code scope.now.structs.now scope.now.params block.now free)) }
+    ensures { IfOk result (λ fragment. fragment ≡
+      fragment_of (block_code scope.now.structs.now scope.now.params block.now free)) }
 {
     let mut stmts = TacStmts::new(alloc);
     let mut next = free;
@@ -168,7 +181,8 @@ fn lower_stmt(
     stmt: &TypedStmt,
     free: u32,
 ) -> Result<Fragment, OutOfMemory>
-    ensures { IfOk result (λ fragment. fragment ≡ fragment_of (stmt_code scope.now.structs.now scope.now.params stmt.now free)) }
+    ensures { IfOk result (λ fragment. fragment ≡
+      fragment_of (stmt_code scope.now.structs.now scope.now.params stmt.now free)) }
 {
     match &stmt.kind {
         TypedStmtKind::Empty => Ok(Fragment {

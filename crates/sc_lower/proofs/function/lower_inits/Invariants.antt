@@ -7,5 +7,6 @@ use Rattle.sc_lower.proofs.function.lower_inits.Given as goal
 
 abbrev pub invariant-loop-local : goal.invariant-loop-local
 invariant-loop-local l =
-    fragment_behind l.stmts (in_turn (inits_code l.scope.structs.now l.scope.params l.number (drop l.local-index l.locals)) l.next)
+    fragment_behind l.stmts
+    (in_turn (inits_code l.scope.structs.now l.scope.params l.number (drop l.local-index l.locals)) l.next)
     ≡ fragment_of (in_turn (inits_code l.scope.structs.now l.scope.params 0 l.locals) 0)
