@@ -9,7 +9,6 @@ use Rattle.sc_core.specs.declared.section.TypedStruct.{TypedStruct}
 use Rattle.sc_core.specs.WellTyped.{IsWellTyped}
 use Rattle.sc_tac.specs.declared.function.TacFnTree.{TacFnTree}
 use Rattle.sc_tac.specs.declared.program.TacSection.{TacSection}
-use Rattle.sc_tac.specs.declared.program.TacTree.{TacTree}
 use Rattle.sc_tac.specs.Functions.{IsFunction}
 use Rattle.sc_tac.specs.Programs.{IsProgram}
 use Rattle.sc_lower.specs.Programs.{lowered_function, lowered_sections, lowered_program}
@@ -26,8 +25,8 @@ map_next f items i item done more made there at is pushed so_far =
     ∙ append_assoc done (f item ∷ []) (map f (drop (i + 1) items))
     ∙ ap (λ xs. done ++ map f xs) (sym next)
     ∙ so_far where
-  next : drop i items ≡ item ∷ drop (i + 1) items
-  next = rw (add-one, drop-cons items i item) (λ k. sym at k ∷ drop (Prim.Native.Nat.suc i) items)
+      next : drop i items ≡ item ∷ drop (i + 1) items
+      next = rw (add-one, drop-cons items i item) (λ k. sym at k ∷ drop (Prim.Native.Nat.suc i) items)
 
 module _ (interfaces : Interfaces) (comp : ℕ) (structs : List TypedStruct) (functions : List TypedFunction)
     (keep : KeepRules interfaces comp structs functions) where

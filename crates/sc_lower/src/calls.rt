@@ -27,7 +27,7 @@ fn lower_args(
     free: u32,
 ) -> Result<Values, OutOfMemory>
     ensures { IfOk result (λ values. values ≡
-      values_of (many (map (forms scope.now.structs.now scope.now.params) args.now) free)) }
+        values_of (many (map (forms scope.now.structs.now scope.now.params) args.now) free)) }
 {
     let mut stmts = TacStmts::new(alloc);
     let mut at = Temps::new(alloc);
@@ -97,7 +97,7 @@ pub fn lower_call(
     free: u32,
 ) -> Result<Fragment, OutOfMemory>
     ensures { IfOk result (λ fragment. fragment ≡
-      fragment_of (call_alone call.now.target (args scope.now.structs.now scope.now.params call.now) free)) }
+        fragment_of (call_alone call.now.target (args scope.now.structs.now scope.now.params call.now) free)) }
 {
     let values = lower_args(alloc, scope, call.args.as_slice(), free)?;
     let mut stmts = values.stmts;
@@ -117,8 +117,8 @@ pub fn lower_assign_call(
     free: u32,
 ) -> Result<Fragment, OutOfMemory>
     ensures { IfOk result (λ fragment. fragment ≡
-      fragment_of (call_for call.now.target (args scope.now.structs.now scope.now.params call.now)
-      (store_at (forms scope.now.structs.now scope.now.params place.now)) free)) }
+        fragment_of (call_for call.now.target (args scope.now.structs.now scope.now.params call.now)
+        (store_at (forms scope.now.structs.now scope.now.params place.now)) free)) }
 {
     let values = lower_args(alloc, scope, call.args.as_slice(), free)?;
     let store = lower_store(alloc, scope, place, values.next, one_more(values.next)?)?;
@@ -133,7 +133,7 @@ pub fn lower_return_call(
     free: u32,
 ) -> Result<Fragment, OutOfMemory>
     ensures { IfOk result (λ fragment. fragment ≡
-      fragment_of (call_for call.now.target (args scope.now.structs.now scope.now.params call.now) return_value free)) }
+        fragment_of (call_for call.now.target (args scope.now.structs.now scope.now.params call.now) return_value free)) }
 {
     let values = lower_args(alloc, scope, call.args.as_slice(), free)?;
     let last = TacStmt::Return {

@@ -7,7 +7,7 @@ ghost use Rattle.sc_lower.specs.Expressions.{constant_of, place_code, binary_cod
 ghost use Rattle.sc_lower.specs.Results.{IsOperands, code_of, fragment_of};
 ghost use Rattle.sc_lower.specs.Statements.{store_at};
 
-use crate::code::{Code, alone, Fragment, Scope, behind, ended, loaded, one_more, with_last};
+use crate::code::{Code, Fragment, Scope, alone, behind, ended, loaded, one_more, with_last};
 use crate::selection::{binary_code, constant_of, move_op, place_code, unary_op, with_truth};
 use sc_base::{BinaryOp, OutOfMemory};
 use sc_core::{Ty, TypedExpr, TypedKind, VarRef, Want};
@@ -35,7 +35,7 @@ fn with_op(code: Code, op: TacOp) -> Result<Code, OutOfMemory>
 fn element(scope: &Scope, types: (Ty, Ty), base: Code, index: Code) -> Result<Code, OutOfMemory>
     ensures { IfOk result (λ code. code ≡ record {
       stmts = base.stmts ++ (index.stmts
-        ++ TacStmt.Op index.next (move_op scope.now.structs.now op.Add types.0 types.1) base.at (Some index.at) ∷ []);
+          ++ TacStmt.Op index.next (move_op scope.now.structs.now op.Add types.0 types.1) base.at (Some index.at) ∷ []);
       at = index.next;
       next = suc index.next;
     }) }
@@ -116,7 +116,7 @@ fn plain(
 ) -> Result<Code, OutOfMemory>
     ensures { IfOk result (λ code. code ≡ record {
       stmts = left.stmts ++ (right.stmts
-        ++ binary_code scope.now.structs.now op types.0 types.1 right.next left.at right.at ∷ []);
+          ++ binary_code scope.now.structs.now op types.0 types.1 right.next left.at right.at ∷ []);
       at = right.next;
       next = suc right.next;
     }) }
@@ -136,7 +136,7 @@ fn binary(
     right: Code,
 ) -> Result<Code, OutOfMemory>
     ensures { (a b : Lowered) (free : ℕ) → IsOperands types a b left right free →
-      IfOk result (λ code. code ≡ code_of (binary scope.now.structs.now op a b free)) }
+        IfOk result (λ code. code ≡ code_of (binary scope.now.structs.now op a b free)) }
 {
     match op {
         BinaryOp::AndAlso => and_also(alloc, types.1, left, right),
@@ -211,7 +211,7 @@ pub fn lower_store(
     free: u32,
 ) -> Result<Fragment, OutOfMemory>
     ensures { IfOk result (λ fragment. fragment ≡
-      fragment_of (store_at (forms scope.now.structs.now scope.now.params place.now) value free)) }
+        fragment_of (store_at (forms scope.now.structs.now scope.now.params place.now) value free)) }
 {
     let code = lower_expr(alloc, scope, Want::Place, place, free)?;
     let last = TacStmt::Store {

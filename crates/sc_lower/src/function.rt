@@ -33,7 +33,7 @@ fn lower_init(
     free: u32,
 ) -> Result<Fragment, OutOfMemory>
     ensures { IfOk result (λ fragment. fragment ≡
-      fragment_of (init_code scope.now.structs.now scope.now.params number local.now local.now.init free)) }
+        fragment_of (init_code scope.now.structs.now scope.now.params number local.now local.now.init free)) }
 {
     match &local.init {
         None => Ok(Fragment {
@@ -54,13 +54,9 @@ fn lower_init(
 }
 
 // The initialisers in order.
-fn lower_inits(
-    alloc: Global,
-    scope: &Scope,
-    locals: &[TypedLocal],
-) -> Result<Fragment, OutOfMemory>
+fn lower_inits(alloc: Global, scope: &Scope, locals: &[TypedLocal]) -> Result<Fragment, OutOfMemory>
     ensures { IfOk result (λ fragment. fragment ≡
-      fragment_of (in_turn (inits_code scope.now.structs.now scope.now.params 0 locals.now) 0)) }
+        fragment_of (in_turn (inits_code scope.now.structs.now scope.now.params 0 locals.now) 0)) }
 {
     let mut stmts = TacStmts::new(alloc);
     let mut next = 0;

@@ -4,8 +4,8 @@ ghost use Rattle.std.specs.Prelude.{◌≡◌, ◌++◌, IfOk};
 ghost use Rattle.sc_core.specs.Tree.{is_unsigned_op};
 ghost use Rattle.sc_lower.specs.Expressions.{scalar_in, scalar_of, constant_of, place_code, not_op, unary_op, is_sub, between_op, truth_code, move_op, binary_code};
 
-use crate::code::Scope;
 use crate::cells::{is_unsigned, target_cells};
+use crate::code::Scope;
 use sc_base::{BinaryOp, OutOfMemory, UnaryOp};
 use sc_core::{Ty, TypedStruct, VarRef};
 use sc_event::Scalar;

@@ -26,8 +26,8 @@ pub fn lower_assign(
     free: u32,
 ) -> Result<Fragment, OutOfMemory>
     ensures { IfOk result (λ fragment. fragment ≡
-      fragment_of (assign (forms scope.now.structs.now scope.now.params place.now)
-      (forms scope.now.structs.now scope.now.params value.now) free)) }
+        fragment_of (assign (forms scope.now.structs.now scope.now.params place.now)
+        (forms scope.now.structs.now scope.now.params value.now) free)) }
 {
     let code = lower_expr(alloc, scope, Want::Value, value, free)?;
     let store = lower_store(alloc, scope, place, code.at, code.next)?;
@@ -41,7 +41,7 @@ fn lower_return(
     free: u32,
 ) -> Result<Fragment, OutOfMemory>
     ensures { IfOk result (λ fragment. fragment ≡
-      fragment_of (after (forms scope.now.structs.now scope.now.params value.now want.Value) return_value free)) }
+        fragment_of (after (forms scope.now.structs.now scope.now.params value.now want.Value) return_value free)) }
 {
     let code = lower_expr(alloc, scope, Want::Value, value, free)?;
     let last = TacStmt::Return {
@@ -58,7 +58,7 @@ fn lower_test(
     free: u32,
 ) -> Result<Fragment, OutOfMemory>
     ensures { IfOk result (λ fragment. fragment ≡
-      fragment_of (test (forms scope.now.structs.now scope.now.params cond.now) free)) }
+        fragment_of (test (forms scope.now.structs.now scope.now.params cond.now) free)) }
 {
     let code = lower_expr(alloc, scope, Want::Value, cond, free)?;
     let mut else_part = TacStmts::new(alloc);
@@ -78,7 +78,7 @@ fn lower_simple(
     free: u32,
 ) -> Result<Fragment, OutOfMemory>
     ensures { IfOk result (λ fragment. fragment ≡
-      fragment_of (simple_code scope.now.structs.now scope.now.params kind.now free)) }
+        fragment_of (simple_code scope.now.structs.now scope.now.params kind.now free)) }
 {
     match kind {
         TypedSimpleKind::Assign { place, value } => {
@@ -99,7 +99,7 @@ fn lower_part(
     free: u32,
 ) -> Result<Fragment, OutOfMemory>
     ensures { IfOk result (λ fragment. fragment ≡
-      fragment_of (part_code scope.now.structs.now scope.now.params part.now free)) }
+        fragment_of (part_code scope.now.structs.now scope.now.params part.now free)) }
 {
     match part {
         None => Ok(Fragment {
@@ -162,7 +162,7 @@ pub fn lower_stmts(
     free: u32,
 ) -> Result<Fragment, OutOfMemory>
     ensures { IfOk result (λ fragment. fragment ≡
-      fragment_of (block_code scope.now.structs.now scope.now.params block.now free)) }
+        fragment_of (block_code scope.now.structs.now scope.now.params block.now free)) }
 {
     let mut stmts = TacStmts::new(alloc);
     let mut next = free;
@@ -182,7 +182,7 @@ fn lower_stmt(
     free: u32,
 ) -> Result<Fragment, OutOfMemory>
     ensures { IfOk result (λ fragment. fragment ≡
-      fragment_of (stmt_code scope.now.structs.now scope.now.params stmt.now free)) }
+        fragment_of (stmt_code scope.now.structs.now scope.now.params stmt.now free)) }
 {
     match &stmt.kind {
         TypedStmtKind::Empty => Ok(Fragment {

@@ -1,4 +1,4 @@
-use Rattle.std.proofs.Common.{◌≡◌, ◌++◌, map, drop, List, ℕ}
+use Rattle.std.proofs.Common.{◌≡◌, map, drop}
 use Rattle.sc_lower.specs.Expressions.{forms}
 use Rattle.sc_lower.specs.Statements.{many}
 use Rattle.sc_lower.specs.Results.{values_of}

@@ -1,4 +1,4 @@
-use Rattle.std.proofs.Common.{◌≡◌, ◌++◌, drop}
+use Rattle.std.proofs.Common.{◌≡◌, drop}
 use Rattle.sc_lower.specs.Statements.{block_code}
 use Rattle.sc_lower.specs.Results.{fragment_of}
 use Rattle.sc_lower.proofs.Lowered.{fragment_behind}
