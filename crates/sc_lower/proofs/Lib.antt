@@ -6,6 +6,8 @@ pub mod Expressions
 pub mod Flowing
 pub mod Gives
 pub mod Hollow
+pub mod Lowered
+pub mod Lowering
 pub mod Matching
 pub mod Operators
 pub mod Passing

@@ -2,4 +2,5 @@ pub mod Branches
 pub mod Expressions
 pub mod Lowering
 pub mod Programs
+pub mod Results
 pub mod Statements

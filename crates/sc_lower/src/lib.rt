@@ -1,6 +1,17 @@
 //! From typed programs to three-address code: what is emitted, and that it means the same.
 #![tactic(auto)]
 
+mod calls;
+mod cells;
+mod code;
+mod copies;
+mod expr;
+mod function;
 mod laws;
+mod nodes;
+mod program;
+mod selection;
+mod stmt;
 
 pub use laws::{keeps_branches, keeps_meaning, keeps_rules};
+pub use program::lower;

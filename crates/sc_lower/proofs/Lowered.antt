@@ -1,0 +1,52 @@
+-- Code in the making, and the code of an operator by that of its operands.
+use Rattle.std.proofs.Common.{◌≡◌, ℕ, List, ◌++◌, Result, sym, ap, ◌∙◌, subst, IfOk}
+use Rattle.sc_tac.specs.declared.stmt.TacStmt.{TacStmt}
+use Rattle.sc_lower.specs.declared.calls.Values.{Values}
+use Rattle.sc_base.specs.declared.op.BinaryOp.{BinaryOp}
+use Rattle.sc_core.specs.declared.expr.TypedExpr.{TypedExpr, fold-roll-TypedExpr}
+use Rattle.sc_core.specs.declared.expr.TypedKind.TheOpen as term
+use Rattle.sc_core.specs.declared.expr.TypedKind.TheVariants as kind
+use Rattle.sc_core.specs.declared.section.TypedStruct.{TypedStruct}
+use Rattle.sc_core.specs.declared.value.Want.{Want}
+use Rattle.sc_core.specs.declared.value.Want.TheVariants as want
+use Rattle.sc_core.proofs.Layers.{expr_at}
+use Rattle.sc_lower.specs.declared.code.Code.{Code}
+use Rattle.sc_lower.specs.declared.code.Fragment.{Fragment}
+use Rattle.sc_lower.specs.Expressions.{Lowered, lowered_step, term_step, lowered, forms, binary}
+use Rattle.sc_lower.specs.Statements.{Part, Many}
+use Rattle.sc_lower.specs.Results.{code_of, IsOperands}
+
+-- code that is there already, and the code of values behind it
+abbrev pub values_behind : List TacStmt → List ℕ → Many → Values
+values_behind stmts at rest = record { stmts = stmts ++ rest.code; at = at ++ rest.at; next = rest.next }
+
+-- code that is there already, and more behind it
+abbrev pub fragment_behind : List TacStmt → Part → Fragment
+fragment_behind stmts rest = record { stmts = stmts ++ rest.code; next = rest.next }
+
+module _ (structs : List TypedStruct) (params : ℕ) where
+  ty_at : (e : TypedExpr) → (lowered structs params e).ty ≡ e.ty
+  ty_at e = ap (λ x. x.ty) (fold-roll-TypedExpr _ _ (term_step structs params) lowered_step (record { ty = e.ty; kind = e.kind }))
+
+  -- an operator, by the layer of its expression
+  binary_at : (e l r : TypedExpr) (o : BinaryOp) (w : Want) (n : ℕ) → e.kind ≡ kind.Binary o l r →
+      forms structs params e w n ≡ binary structs o (lowered structs params l) (lowered structs params r) n
+  binary_at e l r o w n h =
+      ap (λ k. forms structs params (record { ty = e.ty; kind = k }) w n) (h ∙ sym (kind.rolls-Binary o l r))
+      ∙ ap (λ x. x.form w n) (expr_at _ _ (term_step structs params) lowered_step e.ty (term.Binary o l r))
+
+  -- what is made of the code of both operands is the code of the whole
+  pub binary_lowered : {E : Type 0} (e l r l' r' : TypedExpr) (o : BinaryOp) (w : Want) (n : ℕ) (x y : Code)
+      (result : Result Code E) → e.kind ≡ kind.Binary o l r → l' ≡ l → r' ≡ r →
+      x ≡ code_of (forms structs params l' want.Value n) → y ≡ code_of (forms structs params r' want.Value x.next) →
+      ((a b : Lowered) (free : ℕ) → IsOperands (l'.ty, r'.ty) a b x y free →
+      IfOk result (λ code. code ≡ code_of (binary structs o a b free))) →
+      IfOk result (λ code. code ≡ code_of (forms structs params e w n))
+  binary_lowered e l r l' r' o w n x y result h left right before behind f =
+      subst (λ low. IfOk result (λ code. code ≡ code_of low)) (sym (binary_at e l r o w n h))
+      (f (lowered structs params l) (lowered structs params r) n (record {
+        first = ap (λ z. z.ty) left ∙ sym (ty_at l);
+        second = ap (λ z. z.ty) right ∙ sym (ty_at r);
+        before = before ∙ ap (λ z. code_of (forms structs params z want.Value n)) left;
+        behind = behind ∙ ap (λ z. code_of (forms structs params z want.Value x.next)) right;
+      }))

@@ -1,0 +1,61 @@
+-- What is made of a program, section by section and function by function, keeps the rules.
+use Rattle.std.proofs.Common.{◌≡◌, ℕ, ◌+◌, ◌<◌, List, [], ◌∷◌, ◌++◌, map, length, drop, get_or, slice_get, Some, refl, sym, ap, ◌∙◌, subst, append_assoc, add-one, drop-cons}
+use Rattle.std.proofs.lemmas.Option.{slice_get_read}
+use Rattle.sc_event.specs.declared.interface.Interfaces.{Interfaces}
+use Rattle.sc_core.specs.declared.program.ProgramTree.{ProgramTree}
+use Rattle.sc_core.specs.declared.section.TypedFunction.{TypedFunction}
+use Rattle.sc_core.specs.declared.section.TypedSection.{TypedSection}
+use Rattle.sc_core.specs.declared.section.TypedStruct.{TypedStruct}
+use Rattle.sc_core.specs.WellTyped.{IsWellTyped}
+use Rattle.sc_tac.specs.declared.function.TacFnTree.{TacFnTree}
+use Rattle.sc_tac.specs.declared.program.TacSection.{TacSection}
+use Rattle.sc_tac.specs.Functions.{IsFunction}
+use Rattle.sc_tac.specs.Programs.{IsProgram}
+use Rattle.sc_lower.specs.Programs.{lowered_function, lowered_sections, lowered_program}
+use Rattle.sc_lower.specs.Results.{KeepRules}
+use Rattle.sc_lower.proofs.Rules.{function_kept}
+use Rattle.sc_lower.proofs.Programs.{program_kept}
+
+-- one more item is made
+pub map_next : {A B : Type 0} (f : A → B) (items : List A) (i : ℕ) (item : A) (done more : List B) (made : B) →
+    i < length items → item ≡ get_or items i item → made ≡ f item → more ≡ done ++ made ∷ [] →
+    done ++ map f (drop i items) ≡ map f items → more ++ map f (drop (i + 1) items) ≡ map f items
+map_next f items i item done more made there at is pushed so_far =
+    ap (λ xs. xs ++ map f (drop (i + 1) items)) (pushed ∙ ap (λ x. done ++ x ∷ []) is)
+    ∙ append_assoc done (f item ∷ []) (map f (drop (i + 1) items))
+    ∙ ap (λ xs. done ++ map f xs) (sym next)
+    ∙ so_far where
+      next : drop i items ≡ item ∷ drop (i + 1) items
+      next = rw (add-one, drop-cons items i item) (λ k. sym at k ∷ drop (Prim.Native.Nat.suc i) items)
+
+module _ (interfaces : Interfaces) (comp : ℕ) (structs : List TypedStruct) (functions : List TypedFunction)
+    (keep : KeepRules interfaces comp structs functions) where
+  pub function_at : (i : ℕ) (f : TypedFunction) (tree : TacFnTree) → i < length functions → f ≡ get_or functions i f →
+      tree ≡ lowered_function interfaces comp structs f → IsFunction tree
+  function_at i f tree there item is =
+      subst IsFunction (sym is) (keep i f (slice_get_read functions (length functions) i f refl there item))
+
+  pub functions_of : (same : List TypedStruct) (all : List TypedFunction) → same ≡ structs → all ≡ functions →
+      KeepRules interfaces comp same all
+  functions_of same all one two =
+      subst (λ s. KeepRules interfaces comp s all) (sym one)
+      (subst (λ fs. KeepRules interfaces comp structs fs) (sym two) keep)
+
+module _ (program : ProgramTree) (typed : IsWellTyped program) where
+  pub section_at : (sections : List TypedSection) (i : ℕ) (section : TypedSection) (comp number : ℕ) →
+      sections ≡ program.sections → i < length sections → section ≡ get_or sections i section →
+      comp ≡ number → number ≡ i → KeepRules program.interfaces comp section.structs section.functions
+  section_at sections i section comp number same there item numbered at =
+      subst (λ c. KeepRules program.interfaces c section.structs section.functions) (sym (numbered ∙ at))
+      (λ n f is. function_kept program typed i section (subst (λ all. slice_get all i ≡ Some section) same
+      (slice_get_read sections (length sections) i section refl there item)) n f is)
+
+  pub program_of : (read : ProgramTree) (interfaces : Interfaces) (sections : List TacSection) → read ≡ program →
+      interfaces ≡ read.interfaces → sections ≡ lowered_sections read.interfaces 0 read.sections →
+      IsProgram (record { interfaces = interfaces; sections = sections })
+  program_of read interfaces sections same one two = subst IsProgram (sym all) (program_kept program typed) where
+    all : (record { interfaces = interfaces; sections = sections }) ≡ lowered_program program
+    all =
+        ap (λ i. record { interfaces = i; sections = sections }) one
+        ∙ ap (λ s. record { interfaces = read.interfaces; sections = s }) two
+        ∙ ap lowered_program same

@@ -1,0 +1,17 @@
+use Rattle.std.proofs.Common.{◌∙◌}
+use Rattle.sc_lower.specs.Programs.{lowered_function}
+use Rattle.sc_lower.proofs.Lowering.{function_at, map_next}
+use Rattle.sc_lower.proofs.program.lower_functions.Goals as goal
+
+pub new-requires : goal.new-requires
+new-requires c =
+    function_at c.args.interfaces.now c.args.comp c.args.structs.now c.args.functions.now c.requires
+    c.loop-function.function-index c.function-item.result c.in_ok-tree.tree c.loop-function-test.true c.function-item.is
+    c.in_ok-tree.ensures
+
+pub loop-function-preserved : goal.loop-function-preserved
+loop-function-preserved c =
+    map_next (lowered_function c.args.interfaces.now c.args.comp c.args.structs.now) c.args.functions.now
+    c.loop-function.function-index c.function-item.result c.loop-function.lowered c.push.new.self c.new.result
+    c.loop-function-test.true c.function-item.is (c.new.ensures ∙ c.in_ok-tree.ensures) c.in_ok-push.ensures.ok
+    c.loop-function.invariant

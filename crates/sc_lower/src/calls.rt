@@ -1,0 +1,144 @@
+//! Calls (C11 6.5.2.2): arguments from left to right, then the call.
+
+ghost use Rattle.std.specs.Prelude.{◌≡◌, ◌++◌, ◌∷◌, [], suc, map, None, Some, IfOk};
+ghost use Rattle.sc_lower.specs.Expressions.{forms};
+ghost use Rattle.sc_lower.specs.Statements.{many, first_of, call_code, call_alone, call_for, store_at, return_value, args};
+ghost use Rattle.sc_lower.specs.Results.{fragment_of, values_of};
+
+use crate::code::{Fragment, Scope, one_more, single};
+use crate::expr::{lower_expr, lower_store};
+use sc_base::OutOfMemory;
+use sc_core::{CallTarget, TypedCall, TypedExpr, Want};
+use sc_tac::{TacStmt, TacStmts, Temps};
+use std::alloc::Global;
+
+/// Code, the temporaries in which it leaves values, and the next free one.
+#[derive(Drop)]
+pub struct Values {
+    pub stmts: TacStmts,
+    pub at: Temps,
+    pub next: u32,
+}
+
+fn lower_args(
+    alloc: Global,
+    scope: &Scope,
+    args: &[TypedExpr],
+    free: u32,
+) -> Result<Values, OutOfMemory>
+    ensures { IfOk result (λ values. values ≡
+        values_of (many (map (forms scope.now.structs.now scope.now.params) args.now) free)) }
+{
+    let mut stmts = TacStmts::new(alloc);
+    let mut at = Temps::new(alloc);
+    let mut next = free;
+    for arg in args {
+        let code = lower_expr(alloc, scope, Want::Value, arg, next)?;
+        stmts.append(code.stmts)?;
+        at.push(code.at)?;
+        next = code.next;
+    }
+    Ok(Values { stmts, at, next })
+}
+
+fn first_of(temps: &Temps) -> u32
+    ensures { result ≡ first_of temps.now }
+{
+    match temps.as_slice().first() {
+        Some(first) => *first,
+        None => 0,
+    }
+}
+
+fn call_code(target: CallTarget, dest: Option<u32>, args: Temps) -> TacStmt
+    ensures { result ≡ call_code target dest args }
+{
+    match target {
+        CallTarget::Own(function) => TacStmt::CallOwn {
+            dest,
+            function,
+            args,
+        },
+        CallTarget::Cross(comp, index) => TacStmt::CallCross {
+            dest,
+            comp,
+            index,
+            args,
+        },
+        CallTarget::Input => TacStmt::Input { dest },
+        CallTarget::Output => TacStmt::Output {
+            value: first_of(&args),
+        },
+    }
+}
+
+// A call whose result has the next free temporary, and what is made of it.
+#[tactic(auto, using(std::proofs::Common::append_assoc))]
+fn with_call(values: Values, target: CallTarget, rest: Fragment) -> Result<Fragment, OutOfMemory>
+    ensures { IfOk result (λ fragment. fragment ≡ record {
+      stmts = values.stmts ++ call_code target (Some values.next) values.at ∷ rest.stmts;
+      next = rest.next;
+    }) }
+{
+    let mut stmts = values.stmts;
+    stmts.push(call_code(target, Some(values.next), values.at))?;
+    stmts.append(rest.stmts)?;
+    Ok(Fragment {
+        stmts,
+        next: rest.next,
+    })
+}
+
+/// A call whose result is dropped.
+pub fn lower_call(
+    alloc: Global,
+    scope: &Scope,
+    call: &TypedCall,
+    free: u32,
+) -> Result<Fragment, OutOfMemory>
+    ensures { IfOk result (λ fragment. fragment ≡
+        fragment_of (call_alone call.now.target (args scope.now.structs.now scope.now.params call.now) free)) }
+{
+    let values = lower_args(alloc, scope, call.args.as_slice(), free)?;
+    let mut stmts = values.stmts;
+    stmts.push(call_code(call.target, None, values.at))?;
+    Ok(Fragment {
+        stmts,
+        next: values.next,
+    })
+}
+
+/// A call whose result is assigned.
+pub fn lower_assign_call(
+    alloc: Global,
+    scope: &Scope,
+    place: &TypedExpr,
+    call: &TypedCall,
+    free: u32,
+) -> Result<Fragment, OutOfMemory>
+    ensures { IfOk result (λ fragment. fragment ≡
+        fragment_of (call_for call.now.target (args scope.now.structs.now scope.now.params call.now)
+        (store_at (forms scope.now.structs.now scope.now.params place.now)) free)) }
+{
+    let values = lower_args(alloc, scope, call.args.as_slice(), free)?;
+    let store = lower_store(alloc, scope, place, values.next, one_more(values.next)?)?;
+    with_call(values, call.target, store)
+}
+
+/// A call whose result is returned.
+pub fn lower_return_call(
+    alloc: Global,
+    scope: &Scope,
+    call: &TypedCall,
+    free: u32,
+) -> Result<Fragment, OutOfMemory>
+    ensures { IfOk result (λ fragment. fragment ≡
+        fragment_of (call_for call.now.target (args scope.now.structs.now scope.now.params call.now) return_value free)) }
+{
+    let values = lower_args(alloc, scope, call.args.as_slice(), free)?;
+    let last = TacStmt::Return {
+        value: Some(values.next),
+    };
+    let rest = single(alloc, last, one_more(values.next)?)?;
+    with_call(values, call.target, rest)
+}

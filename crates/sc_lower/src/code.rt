@@ -1,0 +1,142 @@
+//! Code in the making.
+
+ghost use Rattle.std.specs.Prelude.{◌≡◌, ◌++◌, ◌∷◌, [], suc, IfOk};
+ghost use Rattle.sc_core.specs.declared.value.Want;
+ghost use Rattle.sc_lower.specs.Expressions.{loaded};
+
+use sc_base::OutOfMemory;
+use sc_core::{Ty, TypedStruct, Want};
+use sc_tac::{TacStmt, TacStmts};
+use std::alloc::Global;
+
+/// Where an expression stands: the structs of its section, and how many parameters its function has.
+#[derive(Clone, Copy)]
+pub struct Scope<'a> {
+    pub structs: &'a [TypedStruct],
+    pub params: u32,
+}
+
+/// Code, the temporary in which it leaves what it computes, and the next free one.
+#[derive(Drop)]
+pub struct Code {
+    pub stmts: TacStmts,
+    pub at: u32,
+    pub next: u32,
+}
+
+/// Code that leaves nothing in a temporary, and the next free one.
+#[derive(Drop)]
+pub struct Fragment {
+    pub stmts: TacStmts,
+    pub next: u32,
+}
+
+/// The next number. There is no memory for more than 4294967295 temporaries.
+pub fn one_more(number: u32) -> Result<u32, OutOfMemory>
+    ensures { IfOk result (λ more. more ≡ suc number) }
+{
+    match number.checked_add(1) {
+        Some(more) => Ok(more),
+        None => Err(OutOfMemory),
+    }
+}
+
+/// A statement that assigns the temporary `free`.
+pub fn alone(alloc: Global, stmt: TacStmt, free: u32) -> Result<Code, OutOfMemory>
+    ensures { IfOk result (λ code. code ≡ record { stmts = stmt ∷ []; at = free; next = suc free }) }
+{
+    let mut stmts = TacStmts::new(alloc);
+    stmts.push(stmt)?;
+    Ok(Code {
+        stmts,
+        at: free,
+        next: one_more(free)?,
+    })
+}
+
+/// The code with a statement behind it that assigns the next free temporary.
+pub fn with_last(code: Code, last: TacStmt) -> Result<Code, OutOfMemory>
+    ensures { IfOk result (λ longer. longer ≡ record {
+      stmts = code.stmts ++ last ∷ [];
+      at = code.next;
+      next = suc code.next;
+    }) }
+{
+    let mut stmts = code.stmts;
+    stmts.push(last)?;
+    Ok(Code {
+        stmts,
+        at: code.next,
+        next: one_more(code.next)?,
+    })
+}
+
+/// The code behind other statements.
+pub fn behind(first: TacStmts, code: Code) -> Result<Code, OutOfMemory>
+    ensures { IfOk result (λ longer. longer ≡ record { stmts = first ++ code.stmts; at = code.at; next = code.next }) }
+{
+    let mut stmts = first;
+    stmts.append(code.stmts)?;
+    Ok(Code {
+        stmts,
+        at: code.at,
+        next: code.next,
+    })
+}
+
+/// A place of this type, or what stands there. The value of an array is its place (C11 6.3.2.1p3).
+pub fn loaded(place: Code, ty: Ty, want: Want) -> Result<Code, OutOfMemory>
+    ensures { IfOk result (λ code. code ≡ record {
+      stmts = place.stmts ++ loaded ty want place.at;
+      at = place.at;
+      next = place.next;
+    }) }
+{
+    let mut code = place;
+    match want {
+        Want::Place => Ok(code),
+        Want::Value => {
+            if !ty.is_array() {
+                code.stmts.push(TacStmt::Load {
+                    dest: code.at,
+                    place: code.at,
+                    pointer: ty.is_pointer(),
+                })?;
+            }
+            Ok(code)
+        }
+    }
+}
+
+/// A statement that assigns no temporary, on its own.
+pub fn single(alloc: Global, stmt: TacStmt, free: u32) -> Result<Fragment, OutOfMemory>
+    ensures { IfOk result (λ fragment. fragment ≡ record { stmts = stmt ∷ []; next = free }) }
+{
+    let mut stmts = TacStmts::new(alloc);
+    stmts.push(stmt)?;
+    Ok(Fragment { stmts, next: free })
+}
+
+/// The code with a statement behind it that assigns no temporary.
+pub fn ended(code: Code, last: TacStmt) -> Result<Fragment, OutOfMemory>
+    ensures { IfOk result (λ fragment. fragment ≡ record { stmts = code.stmts ++ last ∷ []; next = code.next }) }
+{
+    let mut stmts = code.stmts;
+    stmts.push(last)?;
+    Ok(Fragment {
+        stmts,
+        next: code.next,
+    })
+}
+
+/// A fragment behind other statements.
+pub fn after(first: TacStmts, rest: Fragment) -> Result<Fragment, OutOfMemory>
+    ensures { IfOk result (λ fragment. fragment ≡ record { stmts = first ++ rest.stmts; next = rest.next }) }
+{
+    let mut stmts = first;
+    stmts.append(rest.stmts)?;
+    Ok(Fragment {
+        stmts,
+        next: rest.next,
+    })
+}

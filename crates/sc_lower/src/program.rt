@@ -1,0 +1,80 @@
+//! Sections and programs.
+
+ghost use Rattle.std.specs.Prelude.{◌≡◌, map, IfOk};
+ghost use Rattle.sc_core.specs.WellTyped.{IsWellTyped};
+ghost use Rattle.sc_lower.specs.Programs.{lowered_function, lowered_section, lowered_sections, lowered_program};
+ghost use Rattle.sc_lower.specs.Results.{KeepRules};
+
+use crate::copies::{copy_globals, copy_interfaces, copy_structs};
+use crate::function::lower_function;
+use sc_base::OutOfMemory;
+use sc_core::{Program, ProgramTree, TypedFunction, TypedSection, TypedStruct};
+use sc_event::{CompId, Interfaces};
+use sc_tac::{Tac, TacFn, TacFns, TacSection, TacSections, TacTree};
+use std::alloc::Global;
+
+fn lower_functions(
+    alloc: Global,
+    interfaces: &Interfaces,
+    comp: CompId,
+    structs: &[TypedStruct],
+    functions: &[TypedFunction],
+) -> Result<TacFns, OutOfMemory>
+    requires { KeepRules interfaces.now comp structs.now functions.now }
+    ensures { IfOk result (λ lowered. lowered ≡ map (lowered_function interfaces.now comp structs.now) functions.now) }
+{
+    let mut lowered = TacFns::new(alloc);
+    for function in functions {
+        let tree = lower_function(alloc, interfaces, comp, structs, function)?;
+        lowered.push(TacFn::new(tree))?;
+    }
+    Ok(lowered)
+}
+
+fn lower_section(
+    alloc: Global,
+    interfaces: &Interfaces,
+    comp: CompId,
+    section: &TypedSection,
+) -> Result<TacSection, OutOfMemory>
+    requires { KeepRules interfaces.now comp section.now.structs section.now.functions }
+    ensures { IfOk result (λ lowered. lowered ≡ lowered_section interfaces.now comp section.now) }
+{
+    let structs = section.structs.as_slice();
+    let functions = section.functions.as_slice();
+    Ok(TacSection {
+        structs: copy_structs(alloc, structs)?,
+        globals: copy_globals(alloc, section.globals.as_slice())?,
+        functions: lower_functions(alloc, interfaces, comp, structs, functions)?,
+    })
+}
+
+// The sections in order. There is no memory for more than 32 compartments.
+fn lower_sections(alloc: Global, program: &ProgramTree) -> Result<TacSections, OutOfMemory>
+    requires { IsWellTyped program.now }
+    ensures { IfOk result (λ lowered. lowered ≡ lowered_sections program.now.interfaces 0 program.now.sections) }
+{
+    let mut lowered = TacSections::new(alloc);
+    let mut number = 0;
+    for section in program.sections.as_slice() {
+        let Some(comp) = CompId::new(number) else {
+            return Err(OutOfMemory);
+        };
+        lowered.push(lower_section(alloc, &program.interfaces, comp, section)?)?;
+        number += 1;
+    }
+    Ok(lowered)
+}
+
+/// The code of a program.
+pub fn lower(alloc: Global, program: &Program) -> Result<Tac, OutOfMemory>
+    ensures { IfOk result (λ tac. tac ≡ lowered_program program.now) }
+{
+    let program = program.tree();
+    let interfaces = copy_interfaces(alloc, &program.interfaces)?;
+    let sections = lower_sections(alloc, program)?;
+    Ok(Tac::new(TacTree {
+        interfaces,
+        sections,
+    }))
+}

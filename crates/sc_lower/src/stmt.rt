@@ -1,0 +1,236 @@
+//! Statements (C11 6.8), by recursion on the tree.
+
+ghost use Rattle.std.specs.Prelude.{◌≡◌, ◌++◌, ◌∷◌, [], suc, Some, IfOk};
+ghost use Rattle.sc_core.specs.declared.value.Want.TheVariants as want;
+ghost use Rattle.sc_tac.specs.declared.stmt.TacStmt;
+ghost use Rattle.sc_lower.specs.Expressions.{forms};
+ghost use Rattle.sc_lower.specs.Statements.{after, assign, return_value, test, simple_code, part_code, stmt_code, block_code};
+ghost use Rattle.sc_lower.specs.Results.{fragment_of};
+
+use crate::calls::{lower_assign_call, lower_call, lower_return_call};
+use crate::code::{Code, Fragment, Scope, after, ended, single};
+use crate::expr::{lower_expr, lower_store};
+use sc_base::OutOfMemory;
+use sc_core::{
+    TypedExpr, TypedSimple, TypedSimpleKind, TypedStmt, TypedStmtKind, TypedStmts, Want,
+};
+use sc_tac::{TacStmt, TacStmts};
+use std::alloc::Global;
+
+/// A value that is assigned.
+pub fn lower_assign(
+    alloc: Global,
+    scope: &Scope,
+    place: &TypedExpr,
+    value: &TypedExpr,
+    free: u32,
+) -> Result<Fragment, OutOfMemory>
+    ensures { IfOk result (λ fragment. fragment ≡
+        fragment_of (assign (forms scope.now.structs.now scope.now.params place.now)
+        (forms scope.now.structs.now scope.now.params value.now) free)) }
+{
+    let code = lower_expr(alloc, scope, Want::Value, value, free)?;
+    let store = lower_store(alloc, scope, place, code.at, code.next)?;
+    after(code.stmts, store)
+}
+
+fn lower_return(
+    alloc: Global,
+    scope: &Scope,
+    value: &TypedExpr,
+    free: u32,
+) -> Result<Fragment, OutOfMemory>
+    ensures { IfOk result (λ fragment. fragment ≡
+        fragment_of (after (forms scope.now.structs.now scope.now.params value.now want.Value) return_value free)) }
+{
+    let code = lower_expr(alloc, scope, Want::Value, value, free)?;
+    let last = TacStmt::Return {
+        value: Some(code.at),
+    };
+    ended(code, last)
+}
+
+// Control leaves the loop where the condition is 0.
+fn lower_test(
+    alloc: Global,
+    scope: &Scope,
+    cond: &TypedExpr,
+    free: u32,
+) -> Result<Fragment, OutOfMemory>
+    ensures { IfOk result (λ fragment. fragment ≡
+        fragment_of (test (forms scope.now.structs.now scope.now.params cond.now) free)) }
+{
+    let code = lower_expr(alloc, scope, Want::Value, cond, free)?;
+    let mut else_part = TacStmts::new(alloc);
+    else_part.push(TacStmt::Break)?;
+    let last = TacStmt::If {
+        cond: code.at,
+        then_part: TacStmts::new(alloc),
+        else_part,
+    };
+    ended(code, last)
+}
+
+fn lower_simple(
+    alloc: Global,
+    scope: &Scope,
+    kind: &TypedSimpleKind,
+    free: u32,
+) -> Result<Fragment, OutOfMemory>
+    ensures { IfOk result (λ fragment. fragment ≡
+        fragment_of (simple_code scope.now.structs.now scope.now.params kind.now free)) }
+{
+    match kind {
+        TypedSimpleKind::Assign { place, value } => {
+            lower_assign(alloc, scope, place.get(), value, free)
+        }
+        TypedSimpleKind::AssignCall { place, call } => {
+            lower_assign_call(alloc, scope, place.get(), call, free)
+        }
+        TypedSimpleKind::Call(call) => lower_call(alloc, scope, call, free),
+    }
+}
+
+// A part in the head of a `for`, if it is there.
+fn lower_part(
+    alloc: Global,
+    scope: &Scope,
+    part: &Option<TypedSimple>,
+    free: u32,
+) -> Result<Fragment, OutOfMemory>
+    ensures { IfOk result (λ fragment. fragment ≡
+        fragment_of (part_code scope.now.structs.now scope.now.params part.now free)) }
+{
+    match part {
+        None => Ok(Fragment {
+            stmts: TacStmts::new(alloc),
+            next: free,
+        }),
+        Some(simple) => lower_simple(alloc, scope, &simple.kind, free),
+    }
+}
+
+// The first part where the value is true, else the second.
+fn forked(cond: Code, first: Fragment, second: Fragment) -> Result<Fragment, OutOfMemory>
+    ensures { IfOk result (λ fragment. fragment ≡ record {
+      stmts = cond.stmts ++ TacStmt.If cond.at first.stmts second.stmts ∷ [];
+      next = second.next;
+    }) }
+{
+    let mut stmts = cond.stmts;
+    stmts.push(TacStmt::If {
+        cond: cond.at,
+        then_part: first.stmts,
+        else_part: second.stmts,
+    })?;
+    Ok(Fragment {
+        stmts,
+        next: second.next,
+    })
+}
+
+// A loop of three parts behind other statements.
+fn looped(
+    first: TacStmts,
+    head: TacStmts,
+    body: TacStmts,
+    next: Fragment,
+) -> Result<Fragment, OutOfMemory>
+    ensures { IfOk result (λ fragment. fragment ≡ record {
+      stmts = first ++ TacStmt.Loop head body next.stmts ∷ [];
+      next = next.next;
+    }) }
+{
+    let mut stmts = first;
+    stmts.push(TacStmt::Loop {
+        head,
+        body,
+        next: next.stmts,
+    })?;
+    Ok(Fragment {
+        stmts,
+        next: next.next,
+    })
+}
+
+/// Statements in order.
+#[cycle(lower)]
+pub fn lower_stmts(
+    alloc: Global,
+    scope: &Scope,
+    block: &TypedStmts,
+    free: u32,
+) -> Result<Fragment, OutOfMemory>
+    ensures { IfOk result (λ fragment. fragment ≡
+        fragment_of (block_code scope.now.structs.now scope.now.params block.now free)) }
+{
+    let mut stmts = TacStmts::new(alloc);
+    let mut next = free;
+    for stmt in block.as_slice() {
+        let fragment = lower_stmt(alloc, scope, stmt, next)?;
+        stmts.append(fragment.stmts)?;
+        next = fragment.next;
+    }
+    Ok(Fragment { stmts, next })
+}
+
+#[cycle(lower)]
+fn lower_stmt(
+    alloc: Global,
+    scope: &Scope,
+    stmt: &TypedStmt,
+    free: u32,
+) -> Result<Fragment, OutOfMemory>
+    ensures { IfOk result (λ fragment. fragment ≡
+        fragment_of (stmt_code scope.now.structs.now scope.now.params stmt.now free)) }
+{
+    match &stmt.kind {
+        TypedStmtKind::Empty => Ok(Fragment {
+            stmts: TacStmts::new(alloc),
+            next: free,
+        }),
+        TypedStmtKind::Assign { place, value } => {
+            lower_assign(alloc, scope, place.get(), value, free)
+        }
+        TypedStmtKind::AssignCall { place, call } => {
+            lower_assign_call(alloc, scope, place.get(), call, free)
+        }
+        TypedStmtKind::Call(call) => lower_call(alloc, scope, call, free),
+        TypedStmtKind::If {
+            cond,
+            then_part,
+            else_part,
+        } => {
+            let cond = lower_expr(alloc, scope, Want::Value, cond, free)?;
+            let first = lower_stmts(alloc, scope, then_part, cond.next)?;
+            let second = lower_stmts(alloc, scope, else_part, first.next)?;
+            forked(cond, first, second)
+        }
+        TypedStmtKind::While { cond, body } => {
+            let head = lower_test(alloc, scope, cond, free)?;
+            let body = lower_stmts(alloc, scope, body, head.next)?;
+            let next = Fragment {
+                stmts: TacStmts::new(alloc),
+                next: body.next,
+            };
+            looped(TacStmts::new(alloc), head.stmts, body.stmts, next)
+        }
+        TypedStmtKind::For {
+            first,
+            cond,
+            next,
+            body,
+        } => {
+            let first = lower_part(alloc, scope, first, free)?;
+            let head = lower_test(alloc, scope, cond, first.next)?;
+            let body = lower_stmts(alloc, scope, body, head.next)?;
+            let next = lower_part(alloc, scope, next, body.next)?;
+            looped(first.stmts, head.stmts, body.stmts, next)
+        }
+        TypedStmtKind::Break => single(alloc, TacStmt::Break, free),
+        TypedStmtKind::Continue => single(alloc, TacStmt::Continue, free),
+        TypedStmtKind::Return => single(alloc, TacStmt::Return { value: None }, free),
+        TypedStmtKind::ReturnValue(value) => lower_return(alloc, scope, value, free),
+        TypedStmtKind::ReturnCall(call) => lower_return_call(alloc, scope, call, free),
+    }
+}
