@@ -548,9 +548,10 @@ module _ (program : ProgramTree) (typed : is_well_typed program ≡ true) where
       few_nodes : nodes f ≤ most_nodes
       few_nodes =
           let functions = list_all (function_fits callable section) section.functions in
-          let small =
+          let counts =
           and_rest functions _ (and_rest (list_all (global_fits section.structs) section.globals)
           _ (and_rest (structs_fit section.structs 0 section.structs) _ place.placed.fits)) in
+          let small = and_first (nat_le (total (map nodes section.functions)) most_nodes) _ counts in
           by (nodes f) (total (map nodes section.functions)) (total_at nodes section.functions n f item)
           (leb-true (total (map nodes section.functions)) most_nodes small) where
             by : (a b : ℕ) → a ≤ b → b ≤ most_nodes → a ≤ most_nodes

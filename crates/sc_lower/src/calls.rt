@@ -133,7 +133,8 @@ pub fn lower_return_call(
     free: u32,
 ) -> Result<Fragment, OutOfMemory>
     ensures { IfOk result (λ fragment. fragment ≡
-        fragment_of (call_for call.now.target (args scope.now.structs.now scope.now.params call.now) return_value free)) }
+        fragment_of
+        (call_for call.now.target (args scope.now.structs.now scope.now.params call.now) return_value free)) }
 {
     let values = lower_args(alloc, scope, call.args.as_slice(), free)?;
     let last = TacStmt::Return {
