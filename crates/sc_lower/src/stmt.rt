@@ -17,8 +17,8 @@ use sc_core::{
 use sc_tac::{TacStmt, TacStmts};
 use std::alloc::Global;
 
-/// A value that is assigned.
-pub fn lower_assign(
+// A value that is assigned.
+fn lower_assign(
     alloc: Global,
     scope: &Scope,
     place: &TypedPlace,
