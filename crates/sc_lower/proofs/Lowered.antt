@@ -26,7 +26,9 @@ fragment_behind stmts rest = record { stmts = stmts ++ rest.code; next = rest.ne
 
 module _ (structs : List TypedStruct) (params : ℕ) where
   ty_at : (e : TypedExpr) → (lowered structs params e).ty ≡ e.ty
-  ty_at e = ap (λ x. x.ty) (fold-roll-TypedExpr _ _ (term_step structs params) lowered_step (record { ty = e.ty; kind = e.kind }))
+  ty_at e =
+      ap (λ x. x.ty)
+      (fold-roll-TypedExpr _ _ (term_step structs params) lowered_step (record { ty = e.ty; kind = e.kind }))
 
   -- an operator, by the layer of its expression
   binary_at : (e l r : TypedExpr) (o : BinaryOp) (w : Want) (n : ℕ) → e.kind ≡ kind.Binary o l r →

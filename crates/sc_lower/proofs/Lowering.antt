@@ -12,7 +12,7 @@ use Rattle.sc_tac.specs.declared.program.TacSection.{TacSection}
 use Rattle.sc_tac.specs.Functions.{IsFunction}
 use Rattle.sc_tac.specs.Programs.{IsProgram}
 use Rattle.sc_lower.specs.Programs.{lowered_function, lowered_sections, lowered_program}
-use Rattle.sc_lower.specs.Results.{KeepRules}
+use Rattle.sc_lower.specs.Results.{AreFunctions}
 use Rattle.sc_lower.proofs.Rules.{function_kept}
 use Rattle.sc_lower.proofs.Programs.{program_kept}
 
@@ -29,24 +29,24 @@ map_next f items i item done more made there at is pushed so_far =
       next = rw (add-one, drop-cons items i item) (λ k. sym at k ∷ drop (Prim.Native.Nat.suc i) items)
 
 module _ (interfaces : Interfaces) (comp : ℕ) (structs : List TypedStruct) (functions : List TypedFunction)
-    (keep : KeepRules interfaces comp structs functions) where
+    (keep : AreFunctions interfaces comp structs functions) where
   pub function_at : (i : ℕ) (f : TypedFunction) (tree : TacFnTree) → i < length functions → f ≡ get_or functions i f →
       tree ≡ lowered_function interfaces comp structs f → IsFunction tree
   function_at i f tree there item is =
       subst IsFunction (sym is) (keep i f (slice_get_read functions (length functions) i f refl there item))
 
   pub functions_of : (same : List TypedStruct) (all : List TypedFunction) → same ≡ structs → all ≡ functions →
-      KeepRules interfaces comp same all
+      AreFunctions interfaces comp same all
   functions_of same all one two =
-      subst (λ s. KeepRules interfaces comp s all) (sym one)
-      (subst (λ fs. KeepRules interfaces comp structs fs) (sym two) keep)
+      subst (λ s. AreFunctions interfaces comp s all) (sym one)
+      (subst (λ fs. AreFunctions interfaces comp structs fs) (sym two) keep)
 
 module _ (program : ProgramTree) (typed : IsWellTyped program) where
   pub section_at : (sections : List TypedSection) (i : ℕ) (section : TypedSection) (comp number : ℕ) →
       sections ≡ program.sections → i < length sections → section ≡ get_or sections i section →
-      comp ≡ number → number ≡ i → KeepRules program.interfaces comp section.structs section.functions
+      comp ≡ number → number ≡ i → AreFunctions program.interfaces comp section.structs section.functions
   section_at sections i section comp number same there item numbered at =
-      subst (λ c. KeepRules program.interfaces c section.structs section.functions) (sym (numbered ∙ at))
+      subst (λ c. AreFunctions program.interfaces c section.structs section.functions) (sym (numbered ∙ at))
       (λ n f is. function_kept program typed i section (subst (λ all. slice_get all i ≡ Some section) same
       (slice_get_read sections (length sections) i section refl there item)) n f is)
 

@@ -30,7 +30,7 @@ abbrev pub values_of : Many → Values
 values_of many = record { stmts = many.code; at = many.at; next = many.next }
 
 -- the code of each function keeps the rules of functions
-abbrev pub KeepRules : Interfaces → ℕ → List TypedStruct → List TypedFunction → Type 0
-KeepRules interfaces comp structs functions =
+abbrev pub AreFunctions : Interfaces → ℕ → List TypedStruct → List TypedFunction → Type 0
+AreFunctions interfaces comp structs functions =
     (number : ℕ) (f : TypedFunction) → slice_get functions number ≡ Some f →
     IsFunction (lowered_function interfaces comp structs f)

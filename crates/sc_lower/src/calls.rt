@@ -8,7 +8,7 @@ ghost use Rattle.sc_lower.specs.Results.{fragment_of, values_of};
 use crate::code::{Fragment, Scope, one_more, single};
 use crate::expr::{lower_expr, lower_store};
 use sc_base::OutOfMemory;
-use sc_core::{CallTarget, TypedCall, TypedExpr, Want};
+use sc_core::{CallTarget, TypedCall, TypedExpr, TypedPlace, Want};
 use sc_tac::{TacStmt, TacStmts, Temps};
 use std::alloc::Global;
 
@@ -109,10 +109,10 @@ pub fn lower_call(
 }
 
 /// A call whose result is assigned.
-pub fn lower_assign_call(
+pub fn store_call(
     alloc: Global,
     scope: &Scope,
-    place: &TypedExpr,
+    place: &TypedPlace,
     call: &TypedCall,
     free: u32,
 ) -> Result<Fragment, OutOfMemory>
@@ -121,7 +121,13 @@ pub fn lower_assign_call(
         (store_at (forms scope.now.structs.now scope.now.params place.now)) free)) }
 {
     let values = lower_args(alloc, scope, call.args.as_slice(), free)?;
-    let store = lower_store(alloc, scope, place, values.next, one_more(values.next)?)?;
+    let store = lower_store(
+        alloc,
+        scope,
+        place.get(),
+        values.next,
+        one_more(values.next)?,
+    )?;
     with_call(values, call.target, store)
 }
 

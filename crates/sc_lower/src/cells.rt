@@ -5,6 +5,7 @@ ghost use Rattle.sc_core.specs.Types.{is_unsigned, struct_cells, base_cells, sta
 
 use sc_core::{BaseTy, Ty, TypedStruct};
 
+/// Whether the type is `unsigned int`.
 pub fn is_unsigned(ty: Ty) -> bool
     ensures { result ≡ is_unsigned ty }
 {

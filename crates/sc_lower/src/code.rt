@@ -108,6 +108,16 @@ pub fn loaded(place: Code, ty: Ty, want: Want) -> Result<Code, OutOfMemory>
     }
 }
 
+/// No code.
+pub fn nothing(alloc: Global, free: u32) -> Fragment
+    ensures { result ≡ record { stmts = []; next = free } }
+{
+    Fragment {
+        stmts: TacStmts::new(alloc),
+        next: free,
+    }
+}
+
 /// A statement that assigns no temporary, on its own.
 pub fn single(alloc: Global, stmt: TacStmt, free: u32) -> Result<Fragment, OutOfMemory>
     ensures { IfOk result (λ fragment. fragment ≡ record { stmts = stmt ∷ []; next = free }) }

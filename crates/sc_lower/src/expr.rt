@@ -14,6 +14,21 @@ use sc_core::{Ty, TypedExpr, TypedKind, VarRef, Want};
 use sc_tac::{Constant, TacOp, TacStmt, TacStmts};
 use std::alloc::Global;
 
+// A literal of this type.
+fn literal(alloc: Global, ty: Ty, word: u32, free: u32) -> Result<Code, OutOfMemory>
+    ensures { IfOk result (λ code. code ≡ record {
+      stmts = TacStmt.Const free (constant_of ty word) ∷ [];
+      at = free;
+      next = suc free;
+    }) }
+{
+    let stmt = TacStmt::Const {
+        dest: free,
+        value: constant_of(ty, word),
+    };
+    alone(alloc, stmt, free)
+}
+
 // An operator that takes one value.
 fn with_op(code: Code, op: TacOp) -> Result<Code, OutOfMemory>
     ensures { IfOk result (λ longer. longer ≡ record {
@@ -156,13 +171,7 @@ pub fn lower_expr(
     ensures { IfOk result (λ code. code ≡ code_of (forms scope.now.structs.now scope.now.params expr.now want free)) }
 {
     match &expr.kind {
-        TypedKind::Literal { value } => {
-            let stmt = TacStmt::Const {
-                dest: free,
-                value: constant_of(expr.ty, *value),
-            };
-            alone(alloc, stmt, free)
-        }
+        TypedKind::Literal { value } => literal(alloc, expr.ty, *value, free),
         TypedKind::Variable(variable) => {
             let place = alone(alloc, place_code(scope.params, *variable, free)?, free)?;
             loaded(place, expr.ty, want)

@@ -13,7 +13,7 @@ ghost use Rattle.sc_lower.specs.Programs.{init_code, inits_code, body_code, expo
 ghost use Rattle.sc_lower.specs.Results.{fragment_of};
 
 use crate::cells::cells_of;
-use crate::code::{Fragment, Scope, after, alone, ended, one_more};
+use crate::code::{Fragment, Scope, after, alone, ended, nothing, one_more};
 use crate::expr::lower_expr;
 use crate::nodes::function_nodes;
 use crate::selection::place_code;
@@ -36,10 +36,7 @@ fn lower_init(
         fragment_of (init_code scope.now.structs.now scope.now.params number local.now local.now.init free)) }
 {
     match &local.init {
-        None => Ok(Fragment {
-            stmts: TacStmts::new(alloc),
-            next: free,
-        }),
+        None => Ok(nothing(alloc, free)),
         Some(value) => {
             let code = lower_expr(alloc, scope, Want::Value, value, free)?;
             let variable = place_code(scope.params, VarRef::Local(number), code.next)?;

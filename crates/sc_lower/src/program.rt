@@ -3,7 +3,7 @@
 ghost use Rattle.std.specs.Prelude.{◌≡◌, map, IfOk};
 ghost use Rattle.sc_core.specs.WellTyped.{IsWellTyped};
 ghost use Rattle.sc_lower.specs.Programs.{lowered_function, lowered_section, lowered_sections, lowered_program};
-ghost use Rattle.sc_lower.specs.Results.{KeepRules};
+ghost use Rattle.sc_lower.specs.Results.{AreFunctions};
 
 use crate::copies::{copy_globals, copy_interfaces, copy_structs};
 use crate::function::lower_function;
@@ -20,7 +20,7 @@ fn lower_functions(
     structs: &[TypedStruct],
     functions: &[TypedFunction],
 ) -> Result<TacFns, OutOfMemory>
-    requires { KeepRules interfaces.now comp structs.now functions.now }
+    requires { AreFunctions interfaces.now comp structs.now functions.now }
     ensures { IfOk result (λ lowered. lowered ≡ map (lowered_function interfaces.now comp structs.now) functions.now) }
 {
     let mut lowered = TacFns::new(alloc);
@@ -37,7 +37,7 @@ fn lower_section(
     comp: CompId,
     section: &TypedSection,
 ) -> Result<TacSection, OutOfMemory>
-    requires { KeepRules interfaces.now comp section.now.structs section.now.functions }
+    requires { AreFunctions interfaces.now comp section.now.structs section.now.functions }
     ensures { IfOk result (λ lowered. lowered ≡ lowered_section interfaces.now comp section.now) }
 {
     let structs = section.structs.as_slice();

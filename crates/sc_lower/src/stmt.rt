@@ -7,21 +7,21 @@ ghost use Rattle.sc_lower.specs.Expressions.{forms};
 ghost use Rattle.sc_lower.specs.Statements.{after, assign, return_value, test, simple_code, part_code, stmt_code, block_code};
 ghost use Rattle.sc_lower.specs.Results.{fragment_of};
 
-use crate::calls::{lower_assign_call, lower_call, lower_return_call};
-use crate::code::{Code, Fragment, Scope, after, ended, single};
+use crate::calls::{lower_call, lower_return_call, store_call};
+use crate::code::{Code, Fragment, Scope, after, ended, nothing, single};
 use crate::expr::{lower_expr, lower_store};
 use sc_base::OutOfMemory;
 use sc_core::{
-    TypedExpr, TypedSimple, TypedSimpleKind, TypedStmt, TypedStmtKind, TypedStmts, Want,
+    TypedExpr, TypedPlace, TypedSimple, TypedSimpleKind, TypedStmt, TypedStmtKind, TypedStmts, Want,
 };
 use sc_tac::{TacStmt, TacStmts};
 use std::alloc::Global;
 
-/// A value that is assigned.
-pub fn lower_assign(
+// A value that is assigned.
+fn lower_assign(
     alloc: Global,
     scope: &Scope,
-    place: &TypedExpr,
+    place: &TypedPlace,
     value: &TypedExpr,
     free: u32,
 ) -> Result<Fragment, OutOfMemory>
@@ -30,7 +30,7 @@ pub fn lower_assign(
         (forms scope.now.structs.now scope.now.params value.now) free)) }
 {
     let code = lower_expr(alloc, scope, Want::Value, value, free)?;
-    let store = lower_store(alloc, scope, place, code.at, code.next)?;
+    let store = lower_store(alloc, scope, place.get(), code.at, code.next)?;
     after(code.stmts, store)
 }
 
@@ -81,12 +81,8 @@ fn lower_simple(
         fragment_of (simple_code scope.now.structs.now scope.now.params kind.now free)) }
 {
     match kind {
-        TypedSimpleKind::Assign { place, value } => {
-            lower_assign(alloc, scope, place.get(), value, free)
-        }
-        TypedSimpleKind::AssignCall { place, call } => {
-            lower_assign_call(alloc, scope, place.get(), call, free)
-        }
+        TypedSimpleKind::Assign { place, value } => lower_assign(alloc, scope, place, value, free),
+        TypedSimpleKind::AssignCall { place, call } => store_call(alloc, scope, place, call, free),
         TypedSimpleKind::Call(call) => lower_call(alloc, scope, call, free),
     }
 }
@@ -102,10 +98,7 @@ fn lower_part(
         fragment_of (part_code scope.now.structs.now scope.now.params part.now free)) }
 {
     match part {
-        None => Ok(Fragment {
-            stmts: TacStmts::new(alloc),
-            next: free,
-        }),
+        None => Ok(nothing(alloc, free)),
         Some(simple) => lower_simple(alloc, scope, &simple.kind, free),
     }
 }
@@ -185,16 +178,9 @@ fn lower_stmt(
         fragment_of (stmt_code scope.now.structs.now scope.now.params stmt.now free)) }
 {
     match &stmt.kind {
-        TypedStmtKind::Empty => Ok(Fragment {
-            stmts: TacStmts::new(alloc),
-            next: free,
-        }),
-        TypedStmtKind::Assign { place, value } => {
-            lower_assign(alloc, scope, place.get(), value, free)
-        }
-        TypedStmtKind::AssignCall { place, call } => {
-            lower_assign_call(alloc, scope, place.get(), call, free)
-        }
+        TypedStmtKind::Empty => Ok(nothing(alloc, free)),
+        TypedStmtKind::Assign { place, value } => lower_assign(alloc, scope, place, value, free),
+        TypedStmtKind::AssignCall { place, call } => store_call(alloc, scope, place, call, free),
         TypedStmtKind::Call(call) => lower_call(alloc, scope, call, free),
         TypedStmtKind::If {
             cond,
@@ -209,10 +195,7 @@ fn lower_stmt(
         TypedStmtKind::While { cond, body } => {
             let head = lower_test(alloc, scope, cond, free)?;
             let body = lower_stmts(alloc, scope, body, head.next)?;
-            let next = Fragment {
-                stmts: TacStmts::new(alloc),
-                next: body.next,
-            };
+            let next = nothing(alloc, body.next);
             looped(TacStmts::new(alloc), head.stmts, body.stmts, next)
         }
         TypedStmtKind::For {
