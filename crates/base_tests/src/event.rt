@@ -35,7 +35,12 @@ fn arguments(rt: HostRuntime) {
 fn fixture(alloc: Global) -> Result<Interfaces, OutOfMemory>
     ensures { IfOk result (λ interfaces. interfaces ≡ record {
       comps = record { name = codes "Main"; exports = []; imports = Output ∷ Function 1 0 ∷ [] }
-          ∷ record { name = codes "Net"; exports = record { name = codes "put"; params = Int ∷ []; result = Some Int } ∷ []; imports = [] }
+          ∷ record {
+            name = codes "Net";
+            exports = record { name = codes "put"; params = Int ∷ []; result = Some Int } ∷
+                [];
+            imports = [];
+          }
           ∷ [];
       main = 0;
     }) }
@@ -51,7 +56,11 @@ fn fixture(alloc: Global) -> Result<Interfaces, OutOfMemory>
 
 #[tactic(auto, unfolding(sc_base::specs::Identifier::is_name))]
 fn main_interface(alloc: Global) -> Result<Interface, OutOfMemory>
-    ensures { IfOk result (λ main. main ≡ record { name = codes "Main"; exports = []; imports = Output ∷ Function 1 0 ∷ [] }) }
+    ensures { IfOk result (λ main. main ≡ record {
+      name = codes "Main";
+      exports = [];
+      imports = Output ∷ Function 1 0 ∷ [];
+    }) }
 {
     let mut imports = Imports::new(alloc);
     imports.push(Import::Output)?;
@@ -68,7 +77,11 @@ fn main_interface(alloc: Global) -> Result<Interface, OutOfMemory>
 
 #[tactic(auto, unfolding(sc_base::specs::Identifier::is_name))]
 fn net_interface(alloc: Global) -> Result<Interface, OutOfMemory>
-    ensures { IfOk result (λ net. net ≡ record { name = codes "Net"; exports = record { name = codes "put"; params = Int ∷ []; result = Some Int } ∷ []; imports = [] }) }
+    ensures { IfOk result (λ net. net ≡ record {
+      name = codes "Net";
+      exports = record { name = codes "put"; params = Int ∷ []; result = Some Int } ∷ [];
+      imports = [];
+    }) }
 {
     let mut exports = Protos::new(alloc);
     exports.push(Proto {

@@ -1,4 +1,5 @@
-// The code of whole programs: how many temporaries, instructions at most and branches each function has, beside its nodes.
+// The code of whole programs: how many temporaries, instructions at most and branches each function has, beside its
+// nodes.
 use sc_lower::lower;
 use sc_types::SourceText;
 use std::test::Fail;

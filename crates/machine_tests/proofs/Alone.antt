@@ -22,7 +22,8 @@ alone output code globals = record {
 
 pub all_below : (limit : ℕ) (xs : List ℕ) → ((i : ℕ) → get_or xs i 0 < limit) → All (λ x. x < limit) xs
 all_below limit xs h = λ i d within.
-    let same : Some (get_or xs i 0) ≡ Some (get_or xs i d) = sym (slice_get-get_or xs i 0 within) ∙ slice_get-get_or xs i d within in
+    let same : Some (get_or xs i 0) ≡ Some (get_or xs i d) =
+    sym (slice_get-get_or xs i 0 within) ∙ slice_get-get_or xs i d within in
     let equal : get_or xs i 0 ≡ get_or xs i d = cc same in
     subst (λ x. x < limit) equal (h i)
 
@@ -35,7 +36,8 @@ module _ (output : Bool) (code globals : List ℕ) where
   unfolding word_at
   first_word some = some_first code some
 
-  is_lone : 4 * length code ≤ stretch → length globals ≤ most_globals → ((i : ℕ) → get_or code i 0 < 4294967296) → ((i : ℕ) → get_or globals i 0 < 256) →
+  is_lone : 4 * length code ≤ stretch → length globals ≤ most_globals → ((i : ℕ) → get_or code i 0 < 4294967296) →
+      ((i : ℕ) → get_or globals i 0 < 256) →
       IsLone (alone output code globals)
   unfolding is_name
   is_lone short few words bytes = record {
@@ -50,5 +52,7 @@ module _ (output : Bool) (code globals : List ℕ) where
   }
 
   pub well_formed : 0 < length code → 4 * length code ≤ stretch → length globals ≤ most_globals →
-      ((i : ℕ) → get_or code i 0 < 4294967296) → ((i : ℕ) → get_or globals i 0 < 256) → IsWellFormed (only 0x01000000 (alone output code globals))
-  well_formed some short few words bytes = one_well_formed 0x01000000 (alone output code globals) (is_lone short few words bytes) (first_word some)
+      ((i : ℕ) → get_or code i 0 < 4294967296) → ((i : ℕ) → get_or globals i 0 < 256) →
+      IsWellFormed (only 0x01000000 (alone output code globals))
+  well_formed some short few words bytes = one_well_formed 0x01000000 (alone output code globals)
+      (is_lone short few words bytes) (first_word some)

@@ -1,4 +1,5 @@
--- The images of the tests with two compartments are images: the second offers a function that returns at once, which the first may call or not.
+-- The images of the tests with two compartments are images: the second offers a function that returns at once, which
+-- the first may call or not.
 use Rattle.std.proofs.Common.{◌≡◌, ◌≢◌, ℕ, zero, suc, ◌*◌, ◌<◌, ◌≤◌, List, [], ◌∷◌, length, get_or, Bool, true, false, All, Option, Some, None, refl, subst, ap, arith, lit<, lit≤}
 use Rattle.std.specs.Prelude.{codes, IsSome, if◌then◌else◌}
 use Rattle.std.specs.List.{slice_get}
@@ -61,7 +62,8 @@ other_names same = let never : ◌≡◌ {A = ℕ} 65 66 = ap (λ name. get_or n
 module _ (imported : Bool) (code : List ℕ) where
   taken_are : (b : Bool) → All (IsImport (pair imported code) 0) (taken_part b)
   taken_are true =
-      All-cons (IsImport (pair imported code) 0) (record { comp = 1; index = 0 }) [] (record { other = (λ same. absurd (omega arith)); offered = lit< tt })
+      All-cons (IsImport (pair imported code) 0) (record { comp = 1; index = 0 }) []
+      (record { other = (λ same. absurd (omega arith)); offered = lit< tt })
       (All-nil (IsImport (pair imported code) 0))
   taken_are false = All-nil (IsImport (pair imported code) 0)
 
@@ -81,7 +83,8 @@ module _ (imported : Bool) (code : List ℕ) where
   unfolding word_at
   f_word = refl
 
-  is_caller : 4 * length code ≤ stretch → ((i : ℕ) → get_or code i 0 < 4294967296) → IsComp (pair imported code) 0 (caller_part imported code)
+  is_caller : 4 * length code ≤ stretch → ((i : ℕ) → get_or code i 0 < 4294967296) →
+      IsComp (pair imported code) 0 (caller_part imported code)
   unfolding is_name
   is_caller short words = record {
     name = refl;
@@ -106,25 +109,30 @@ module _ (imported : Bool) (code : List ℕ) where
     no_environment = λ same. cc same;
     few_exports = lit≤ tt;
     exports =
-        All-cons (IsExport (pair imported code) 1) f_part [] (record { name = refl; params = lit≤ tt; entry = f_word }) (All-nil (IsExport (pair imported code) 1));
+        All-cons (IsExport (pair imported code) 1) f_part [] (record { name = refl; params = lit≤ tt; entry = f_word })
+        (All-nil (IsExport (pair imported code) 1));
     export_names = distinct_one (codes "f");
     export_entries = distinct_one 0x01100000;
     few_imports = lit≤ tt;
     imports = All-nil (IsImport (pair imported code) 1);
     distinct_imports = distinct_empty;
     short_code = lit≤ tt;
-    words = All-cons IsWord 0x00008067 (0x00008067 ∷ []) (lit< tt) (All-cons IsWord 0x00008067 [] (lit< tt) (All-nil IsWord));
+    words = All-cons IsWord 0x00008067 (0x00008067 ∷ []) (lit< tt)
+        (All-cons IsWord 0x00008067 [] (lit< tt) (All-nil IsWord));
     short_globals = lit≤ tt;
     bytes = All-nil IsByte;
   }
 
   comps_there : IsComp (pair imported code) 0 (caller_part imported code) → (c : ℕ) (comp : CompPart) →
       slice_get (caller_part imported code ∷ callee_part ∷ []) c ≡ Some comp → IsComp (pair imported code) c comp
-  comps_there first zero comp at = let same : caller_part imported code ≡ comp = cc at in subst (IsComp (pair imported code) 0) same first
-  comps_there first (suc zero) comp at = let same : callee_part ≡ comp = cc at in subst (IsComp (pair imported code) 1) same is_callee
+  comps_there first zero comp at = let same : caller_part imported code ≡ comp = cc at in
+      subst (IsComp (pair imported code) 0) same first
+  comps_there first (suc zero) comp at = let same : callee_part ≡ comp = cc at in
+      subst (IsComp (pair imported code) 1) same is_callee
   comps_there first (suc (suc c)) comp at = let none : ◌≡◌ {A = Option CompPart} None (Some comp) = at in cc none
 
-  pub pair_formed : 0 < length code → 4 * length code ≤ stretch → ((i : ℕ) → get_or code i 0 < 4294967296) → IsWellFormed (pair imported code)
+  pub pair_formed : 0 < length code → 4 * length code ≤ stretch → ((i : ℕ) → get_or code i 0 < 4294967296) →
+      IsWellFormed (pair imported code)
   pair_formed some short words = record {
     few_comps = lit≤ tt;
     main = lit< tt;

@@ -75,7 +75,7 @@ fn outputs_and_ends(rt: HostRuntime) -> Result<(), OutOfMemory> {
     let no_import = trap(TrapReason::NoImport, 8);
     // Whether it may output, the room for events, and how many calls of how many steps; then why it
     // stops, how many events it showed, how far the pc is, and a0.
-    for (output, events, calls, steps, stop, shown, at, a0) in [
+    for (output, events, calls, steps, stop, observation, at, a0) in [
         (true, 10, 1, 0, StepsOut, 0, 0, 0),
         (true, 10, 1, 100, Ended, 2, 16, 0),
         (true, 10, 4, 1, StepsOut, 1, 16, 0),
@@ -96,7 +96,7 @@ fn outputs_and_ends(rt: HostRuntime) -> Result<(), OutOfMemory> {
         }
         assert_eq!(rt; last, stop);
         assert!(rt; all.starts_with(machine.trace()));
-        assert_eq!(rt; machine.trace().len(), shown);
+        assert_eq!(rt; machine.trace().len(), observation);
         assert_eq!(rt; machine.pc().wrapping_sub(START), at);
         assert_eq!(rt; machine.register(10), a0);
         assert_eq!(rt; (machine.register(0), machine.register(1)), (0, 0x100));
@@ -277,7 +277,15 @@ fn f_name() -> Name
 
 // `A`, which may call the function of `B` or not.
 fn caller(alloc: Global, imported: bool, code: &[u32]) -> Result<CompPart, OutOfMemory>
-    ensures { IfOk result (λ comp. comp ≡ record { name = codes "A"; input = false; output = false; exports = []; imports = (if imported then record { comp = 1; index = 0 } ∷ [] else []); code = code.now; globals = [] }) }
+    ensures { IfOk result (λ comp. comp ≡ record {
+      name = codes "A";
+      input = false;
+      output = false;
+      exports = [];
+      imports = (if imported then record { comp = 1; index = 0 } ∷ [] else []);
+      code = code.now;
+      globals = [];
+    }) }
 {
     Ok(CompPart {
         name: a_name(),
@@ -292,7 +300,15 @@ fn caller(alloc: Global, imported: bool, code: &[u32]) -> Result<CompPart, OutOf
 
 // `B`, whose function `f` takes nothing, gives nothing and returns at once.
 fn callee(alloc: Global) -> Result<CompPart, OutOfMemory>
-    ensures { IfOk result (λ comp. comp ≡ record { name = codes "B"; input = false; output = false; exports = record { name = codes "f"; params = 0; result = false; entry = 0x01100000 } ∷ []; imports = []; code = 0x00008067 ∷ 0x00008067 ∷ []; globals = [] }) }
+    ensures { IfOk result (λ comp. comp ≡ record {
+      name = codes "B";
+      input = false;
+      output = false;
+      exports = record { name = codes "f"; params = 0; result = false; entry = 0x01100000 } ∷ [];
+      imports = [];
+      code = 0x00008067 ∷ 0x00008067 ∷ [];
+      globals = [];
+    }) }
 {
     let mut exports = ExportParts::new(alloc);
     exports.push(ExportPart {

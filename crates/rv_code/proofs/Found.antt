@@ -23,13 +23,17 @@ none_has : (w : ℕ) → AllHave w None
 none_has w = record { each = λ i e. (let q : ◌≡◌ {A = Option Instr} None (Some i) = e in cc q) }
 
 some_has : (w : ℕ) (i : Instr) → HasWord i w → AllHave w (Some i)
-some_has w i h = record { each = λ j e. (let q : ◌≡◌ {A = Option Instr} (Some i) (Some j) = e in let s : i ≡ j = cc in subst (λ k. HasWord k w) s h) }
+some_has w i h = record {
+  each = λ j e. (let q : ◌≡◌ {A = Option Instr} (Some i) (Some j) = e in let s : i ≡ j = cc in
+      subst (λ k. HasWord k w) s h);
+}
 
 if_has : (w : ℕ) (b : Bool) (x y : Option Instr) → (b ≡ true → AllHave w x) → AllHave w y → AllHave w (cond b x y)
 if_has w true x y h k = h refl
 if_has w false x y h k = k
 
-map_has : {A : Type 0} (w : ℕ) (f : A → Instr) (o : Option A) → ((a : A) → o ≡ Some a → HasWord (f a) w) → AllHave w (option_map f o)
+map_has : {A : Type 0} (w : ℕ) (f : A → Instr) (o : Option A) → ((a : A) → o ≡ Some a → HasWord (f a) w) →
+    AllHave w (option_map f o)
 map_has w f None h = none_has w
 map_has w f (Some a) h = some_has w (f a) (h a refl)
 
@@ -46,14 +50,17 @@ s_imm_fits : (w : ℕ) → w < 2 ^ 32 → IsImmediate (s_imm_of w)
 s_imm_fits w h = IsImmediate-signed (2 ^ 5 * (w / 2 ^ 25) + w / 2 ^ 7 % 2 ^ 5) (omega arith)
 
 b_imm_fits : (w : ℕ) → w < 2 ^ 32 → IsBranchOffset (b_imm_of w)
-b_imm_fits w h = IsBranchOffset-signed (2 ^ 12 * (w / 2 ^ 31) + 2 ^ 11 * (w / 2 ^ 7 % 2) + 2 ^ 5 * (w / 2 ^ 25 % 2 ^ 6) + 2 * (w / 2 ^ 8 % 2 ^ 4)) (omega arith) (omega arith)
+b_imm_fits w h = IsBranchOffset-signed (2 ^ 12 * (w / 2 ^ 31) + 2 ^ 11 * (w / 2 ^ 7 % 2) + 2 ^ 5 *
+    (w / 2 ^ 25 % 2 ^ 6) + 2 * (w / 2 ^ 8 % 2 ^ 4)) (omega arith) (omega arith)
 
 j_imm_fits : (w : ℕ) → w < 2 ^ 32 → IsJumpOffset (j_imm_of w)
-j_imm_fits w h = IsJumpOffset-signed (2 ^ 20 * (w / 2 ^ 31) + 2 ^ 12 * (w / 2 ^ 12 % 2 ^ 8) + 2 ^ 11 * (w / 2 ^ 20 % 2) + 2 * (w / 2 ^ 21 % 2 ^ 10)) (omega arith) (omega arith)
+j_imm_fits w h = IsJumpOffset-signed (2 ^ 20 * (w / 2 ^ 31) + 2 ^ 12 * (w / 2 ^ 12 % 2 ^ 8) + 2 ^ 11 *
+    (w / 2 ^ 20 % 2) + 2 * (w / 2 ^ 21 % 2 ^ 10)) (omega arith) (omega arith)
 
 -- each form
 
-upper_has : (w : ℕ) (op : UpperOp) → w < 2 ^ 32 → opcode_of w ≡ upper_opcode op → HasWord (Upper op (rd_of w) (u_imm_of w)) w
+upper_has : (w : ℕ) (op : UpperOp) → w < 2 ^ 32 → opcode_of w ≡ upper_opcode op →
+    HasWord (Upper op (rd_of w) (u_imm_of w)) w
 unfolding word_of
 upper_has w op h e = record {
   instr = (omega arith, record { word = omega arith; low = omega arith });
@@ -75,33 +82,37 @@ jalr_has w h e = if_has w (nat_eq (funct3_of w) jalr_funct3) _ _
 
 branch_has : (w : ℕ) → w < 2 ^ 32 → opcode_of w ≡ branch_opcode → AllHave w (branch_in w)
 unfolding word_of branch_in
-branch_has w h e = map_has w (λ op. Branch op (rs1_of w) (rs2_of w) (b_imm_of w)) (branch_op_of (funct3_of w)) (λ op f. record {
-  instr = (omega arith, omega arith, b_imm_fits w h);
-  word = b_joined w branch_opcode (branch_funct3 op) h e (branch_funct3_of (funct3_of w) op f);
-})
+branch_has w h e = map_has w (λ op. Branch op (rs1_of w) (rs2_of w) (b_imm_of w)) (branch_op_of (funct3_of w))
+    (λ op f. record {
+      instr = (omega arith, omega arith, b_imm_fits w h);
+      word = b_joined w branch_opcode (branch_funct3 op) h e (branch_funct3_of (funct3_of w) op f);
+    })
 
 load_has : (w : ℕ) → w < 2 ^ 32 → opcode_of w ≡ load_opcode → AllHave w (load_in w)
 unfolding word_of load_in
-load_has w h e = map_has w (λ op. Load op (rd_of w) (rs1_of w) (i_imm_of w)) (load_op_of (funct3_of w)) (λ op f. record {
-  instr = (omega arith, omega arith, i_imm_fits w h);
-  word = i_joined w load_opcode (load_funct3 op) h e (load_funct3_of (funct3_of w) op f);
-})
+load_has w h e = map_has w (λ op. Load op (rd_of w) (rs1_of w) (i_imm_of w)) (load_op_of (funct3_of w))
+    (λ op f. record {
+      instr = (omega arith, omega arith, i_imm_fits w h);
+      word = i_joined w load_opcode (load_funct3 op) h e (load_funct3_of (funct3_of w) op f);
+    })
 
 store_has : (w : ℕ) → w < 2 ^ 32 → opcode_of w ≡ store_opcode → AllHave w (store_in w)
 unfolding word_of store_in
-store_has w h e = map_has w (λ op. Store op (rs1_of w) (rs2_of w) (s_imm_of w)) (store_op_of (funct3_of w)) (λ op f. record {
-  instr = (omega arith, omega arith, s_imm_fits w h);
-  word = s_joined w store_opcode (store_funct3 op) h e (store_funct3_of (funct3_of w) op f);
-})
+store_has w h e = map_has w (λ op. Store op (rs1_of w) (rs2_of w) (s_imm_of w)) (store_op_of (funct3_of w))
+    (λ op f. record {
+      instr = (omega arith, omega arith, s_imm_fits w h);
+      word = s_joined w store_opcode (store_funct3 op) h e (store_funct3_of (funct3_of w) op f);
+    })
 
 shift_has : (w : ℕ) → w < 2 ^ 32 → opcode_of w ≡ op_imm_opcode → AllHave w (shift_in w)
 unfolding word_of shift_in
-shift_has w h e = map_has w (λ op. Shift op (rd_of w) (rs1_of w) (rs2_of w)) (shift_op_of (funct7_of w) (funct3_of w)) (λ op f. record {
-  instr = (omega arith, omega arith, omega arith);
-  word =
-      let codes = shift_functs_of (funct7_of w) (funct3_of w) op f in
-      r_joined w op_imm_opcode (shift_funct3 op) (shift_funct7 op) e codes.1 codes.0;
-})
+shift_has w h e = map_has w (λ op. Shift op (rd_of w) (rs1_of w) (rs2_of w)) (shift_op_of (funct7_of w) (funct3_of w))
+    (λ op f. record {
+      instr = (omega arith, omega arith, omega arith);
+      word =
+          let codes = shift_functs_of (funct7_of w) (funct3_of w) op f in
+          r_joined w op_imm_opcode (shift_funct3 op) (shift_funct7 op) e codes.1 codes.0;
+    })
 
 op_imm_has : (w : ℕ) → w < 2 ^ 32 → opcode_of w ≡ op_imm_opcode → AllHave w (op_imm_in w)
 unfolding word_of op_imm_in
@@ -114,12 +125,13 @@ op_imm_has w h e = or_has w _ (shift_in w)
 
 op_has : (w : ℕ) → w < 2 ^ 32 → opcode_of w ≡ op_opcode → AllHave w (op_in w)
 unfolding word_of op_in
-op_has w h e = map_has w (λ op. Op op (rd_of w) (rs1_of w) (rs2_of w)) (op_op_of (funct7_of w) (funct3_of w)) (λ op f. record {
-  instr = (omega arith, omega arith, omega arith);
-  word =
-      let codes = op_functs_of (funct7_of w) (funct3_of w) op f in
-      r_joined w op_opcode (op_funct3 op) (op_funct7 op) e codes.1 codes.0;
-})
+op_has w h e = map_has w (λ op. Op op (rd_of w) (rs1_of w) (rs2_of w)) (op_op_of (funct7_of w) (funct3_of w))
+    (λ op f. record {
+      instr = (omega arith, omega arith, omega arith);
+      word =
+          let codes = op_functs_of (funct7_of w) (funct3_of w) op f in
+          r_joined w op_opcode (op_funct3 op) (op_funct7 op) e codes.1 codes.0;
+    })
 
 fence_has : (w : ℕ) → w < 2 ^ 32 → opcode_of w ≡ fence_opcode → AllHave w (fence_in w)
 unfolding word_of fence_in
@@ -143,9 +155,12 @@ pub decoded_has : (w : ℕ) → w < 2 ^ 32 → AllHave w (decoded w)
 unfolding decoded
 decoded_has w h =
     let is = λ (code : ℕ) (t : nat_eq (opcode_of w) code ≡ true). eqb-true (opcode_of w) code t in
-    if_has w (nat_eq (opcode_of w) (upper_opcode Lui)) _ _ (λ t. some_has w (Upper Lui (rd_of w) (u_imm_of w)) (upper_has w Lui h (is (upper_opcode Lui) t)))
-    (if_has w (nat_eq (opcode_of w) (upper_opcode Auipc)) _ _ (λ t. some_has w (Upper Auipc (rd_of w) (u_imm_of w)) (upper_has w Auipc h (is (upper_opcode Auipc) t)))
-    (if_has w (nat_eq (opcode_of w) jal_opcode) _ _ (λ t. some_has w (Jal (rd_of w) (j_imm_of w)) (jal_has w h (is jal_opcode t)))
+    if_has w (nat_eq (opcode_of w) (upper_opcode Lui)) _ _
+    (λ t. some_has w (Upper Lui (rd_of w) (u_imm_of w)) (upper_has w Lui h (is (upper_opcode Lui) t)))
+    (if_has w (nat_eq (opcode_of w) (upper_opcode Auipc)) _ _
+    (λ t. some_has w (Upper Auipc (rd_of w) (u_imm_of w)) (upper_has w Auipc h (is (upper_opcode Auipc) t)))
+    (if_has w (nat_eq (opcode_of w) jal_opcode) _ _ (λ t.
+    some_has w (Jal (rd_of w) (j_imm_of w)) (jal_has w h (is jal_opcode t)))
     (if_has w (nat_eq (opcode_of w) jalr_opcode) _ _ (λ t. jalr_has w h (is jalr_opcode t))
     (if_has w (nat_eq (opcode_of w) branch_opcode) _ _ (λ t. branch_has w h (is branch_opcode t))
     (if_has w (nat_eq (opcode_of w) load_opcode) _ _ (λ t. load_has w h (is load_opcode t))

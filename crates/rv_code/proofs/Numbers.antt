@@ -95,12 +95,28 @@ IsImmediate-signed n h = ⊎_elim
 
 pub IsBranchOffset-signed : (n : ℕ) → n < 2 ^ 13 → n % 2 ≡ 0 → IsBranchOffset (signed (2 ^ 12) n)
 IsBranchOffset-signed n h e = ⊎_elim
-    (λ low. rw (signed-low (2 ^ 12) n low) (record { least = omega (arith, ints); greatest = omega (arith, ints); even = omega arith }))
-    (λ high. rw (signed-high (2 ^ 12) n high) (record { least = omega (arith, ints); greatest = omega (arith, ints); even = omega arith }))
+    (λ low. rw (signed-low (2 ^ 12) n low) (record {
+      least = omega (arith, ints);
+      greatest = omega (arith, ints);
+      even = omega arith;
+    }))
+    (λ high. rw (signed-high (2 ^ 12) n high) (record {
+      least = omega (arith, ints);
+      greatest = omega (arith, ints);
+      even = omega arith;
+    }))
     (cases_lt n (2 ^ 12))
 
 pub IsJumpOffset-signed : (n : ℕ) → n < 2 ^ 21 → n % 2 ≡ 0 → IsJumpOffset (signed (2 ^ 20) n)
 IsJumpOffset-signed n h e = ⊎_elim
-    (λ low. rw (signed-low (2 ^ 20) n low) (record { least = omega (arith, ints); greatest = omega (arith, ints); even = omega arith }))
-    (λ high. rw (signed-high (2 ^ 20) n high) (record { least = omega (arith, ints); greatest = omega (arith, ints); even = omega arith }))
+    (λ low. rw (signed-low (2 ^ 20) n low) (record {
+      least = omega (arith, ints);
+      greatest = omega (arith, ints);
+      even = omega arith;
+    }))
+    (λ high. rw (signed-high (2 ^ 20) n high) (record {
+      least = omega (arith, ints);
+      greatest = omega (arith, ints);
+      even = omega arith;
+    }))
     (cases_lt n (2 ^ 20))

@@ -45,22 +45,32 @@ not_found w (Some j) e n i h = (let q : true ≡ false = n in cc q)
 
 -- a word has 32 bits
 
-r_below : (w opcode rd funct3 rs1 rs2 funct7 : ℕ) → w ≡ opcode + 2 ^ 7 * rd + 2 ^ 12 * funct3 + 2 ^ 15 * rs1 + 2 ^ 20 * rs2 + 2 ^ 25 * funct7 → opcode < 2 ^ 7 → rd < 2 ^ 5 → funct3 < 2 ^ 3 → rs1 < 2 ^ 5 → rs2 < 2 ^ 5 → funct7 < 2 ^ 7 → w < 2 ^ 32
+r_below : (w opcode rd funct3 rs1 rs2 funct7 : ℕ) → w ≡
+    opcode + 2 ^ 7 * rd + 2 ^ 12 * funct3 + 2 ^ 15 * rs1 + 2 ^ 20 * rs2 + 2 ^ 25 * funct7 → opcode < 2 ^ 7 →
+    rd < 2 ^ 5 → funct3 < 2 ^ 3 → rs1 < 2 ^ 5 → rs2 < 2 ^ 5 → funct7 < 2 ^ 7 → w < 2 ^ 32
 r_below w opcode rd funct3 rs1 rs2 funct7 e ho hd hf h1 h2 h7 = omega arith
 
-i_below : (w opcode rd funct3 rs1 bits : ℕ) → w ≡ opcode + 2 ^ 7 * rd + 2 ^ 12 * funct3 + 2 ^ 15 * rs1 + 2 ^ 20 * bits → opcode < 2 ^ 7 → rd < 2 ^ 5 → funct3 < 2 ^ 3 → rs1 < 2 ^ 5 → bits < 2 ^ 12 → w < 2 ^ 32
+i_below : (w opcode rd funct3 rs1 bits : ℕ) → w ≡ opcode + 2 ^ 7 * rd + 2 ^ 12 * funct3 + 2 ^ 15 * rs1 + 2 ^ 20 * bits →
+    opcode < 2 ^ 7 → rd < 2 ^ 5 → funct3 < 2 ^ 3 → rs1 < 2 ^ 5 → bits < 2 ^ 12 → w < 2 ^ 32
 i_below w opcode rd funct3 rs1 bits e ho hd hf h1 hb = omega arith
 
-s_below : (w opcode funct3 rs1 rs2 bits : ℕ) → w ≡ opcode + 2 ^ 7 * (bits % 2 ^ 5) + 2 ^ 12 * funct3 + 2 ^ 15 * rs1 + 2 ^ 20 * rs2 + 2 ^ 25 * (bits / 2 ^ 5) → opcode < 2 ^ 7 → funct3 < 2 ^ 3 → rs1 < 2 ^ 5 → rs2 < 2 ^ 5 → bits < 2 ^ 12 → w < 2 ^ 32
+s_below : (w opcode funct3 rs1 rs2 bits : ℕ) → w ≡ opcode + 2 ^ 7 *
+    (bits % 2 ^ 5) + 2 ^ 12 * funct3 + 2 ^ 15 * rs1 + 2 ^ 20 * rs2 + 2 ^ 25 * (bits / 2 ^ 5) → opcode < 2 ^ 7 →
+    funct3 < 2 ^ 3 → rs1 < 2 ^ 5 → rs2 < 2 ^ 5 → bits < 2 ^ 12 → w < 2 ^ 32
 s_below w opcode funct3 rs1 rs2 bits e ho hf h1 h2 hb = omega arith
 
-b_below : (w opcode funct3 rs1 rs2 bits : ℕ) → w ≡ opcode + 2 ^ 7 * (bits / 2 ^ 11 % 2) + 2 ^ 8 * (bits / 2 % 2 ^ 4) + 2 ^ 12 * funct3 + 2 ^ 15 * rs1 + 2 ^ 20 * rs2 + 2 ^ 25 * (bits / 2 ^ 5 % 2 ^ 6) + 2 ^ 31 * (bits / 2 ^ 12) → opcode < 2 ^ 7 → funct3 < 2 ^ 3 → rs1 < 2 ^ 5 → rs2 < 2 ^ 5 → bits < 2 ^ 13 → w < 2 ^ 32
+b_below : (w opcode funct3 rs1 rs2 bits : ℕ) → w ≡ opcode + 2 ^ 7 * (bits / 2 ^ 11 % 2) + 2 ^ 8 *
+    (bits / 2 % 2 ^ 4) + 2 ^ 12 * funct3 + 2 ^ 15 * rs1 + 2 ^ 20 * rs2 + 2 ^ 25 * (bits / 2 ^ 5 % 2 ^ 6) + 2 ^ 31 *
+    (bits / 2 ^ 12) → opcode < 2 ^ 7 → funct3 < 2 ^ 3 → rs1 < 2 ^ 5 → rs2 < 2 ^ 5 → bits < 2 ^ 13 → w < 2 ^ 32
 b_below w opcode funct3 rs1 rs2 bits e ho hf h1 h2 hb = omega arith
 
-u_below : (w opcode rd imm : ℕ) → w ≡ opcode + 2 ^ 7 * rd + imm → opcode < 2 ^ 7 → rd < 2 ^ 5 → imm < 2 ^ 32 → imm % 2 ^ 12 ≡ 0 → w < 2 ^ 32
+u_below : (w opcode rd imm : ℕ) → w ≡ opcode + 2 ^ 7 * rd + imm → opcode < 2 ^ 7 → rd < 2 ^ 5 → imm < 2 ^ 32 →
+    imm % 2 ^ 12 ≡ 0 → w < 2 ^ 32
 u_below w opcode rd imm e ho hd hi hl = omega arith
 
-j_below : (w opcode rd bits : ℕ) → w ≡ opcode + 2 ^ 7 * rd + 2 ^ 12 * (bits / 2 ^ 12 % 2 ^ 8) + 2 ^ 20 * (bits / 2 ^ 11 % 2) + 2 ^ 21 * (bits / 2 % 2 ^ 10) + 2 ^ 31 * (bits / 2 ^ 20) → opcode < 2 ^ 7 → rd < 2 ^ 5 → bits < 2 ^ 21 → w < 2 ^ 32
+j_below : (w opcode rd bits : ℕ) → w ≡ opcode + 2 ^ 7 * rd + 2 ^ 12 * (bits / 2 ^ 12 % 2 ^ 8) + 2 ^ 20 *
+    (bits / 2 ^ 11 % 2) + 2 ^ 21 * (bits / 2 % 2 ^ 10) + 2 ^ 31 * (bits / 2 ^ 20) → opcode < 2 ^ 7 → rd < 2 ^ 5 →
+    bits < 2 ^ 21 → w < 2 ^ 32
 j_below w opcode rd bits e ho hd hb = omega arith
 
 pub word-below : (i : Instr) (w : ℕ) → HasWord i w → w < 2 ^ 32
@@ -68,13 +78,21 @@ unfolding word_of
 word-below (Upper Lui rd imm) w h = u_below w _ rd imm h.word (lit< tt) h.instr.0 h.instr.1.word h.instr.1.low
 word-below (Upper Auipc rd imm) w h = u_below w _ rd imm h.word (lit< tt) h.instr.0 h.instr.1.word h.instr.1.low
 word-below (Jal rd imm) w h = j_below w _ rd (residue (2 ^ 21) imm) h.word (lit< tt) h.instr.0 (residue-below-21 imm)
-word-below (Jalr rd rs1 imm) w h = i_below w jalr_opcode rd jalr_funct3 rs1 (residue (2 ^ 12) imm) h.word (lit< tt) h.instr.0 (lit< tt) h.instr.1 (residue-below-12 imm)
-word-below (Branch op rs1 rs2 imm) w h = b_below w _ (branch_funct3 op) rs1 rs2 (residue (2 ^ 13) imm) h.word (lit< tt) (branch_funct3-below op) h.instr.0 h.instr.1 (residue-below-13 imm)
-word-below (Load op rd rs1 imm) w h = i_below w _ rd (load_funct3 op) rs1 (residue (2 ^ 12) imm) h.word (lit< tt) h.instr.0 (load_funct3-below op) h.instr.1 (residue-below-12 imm)
-word-below (Store op rs1 rs2 imm) w h = s_below w _ (store_funct3 op) rs1 rs2 (residue (2 ^ 12) imm) h.word (lit< tt) (store_funct3-below op) h.instr.0 h.instr.1 (residue-below-12 imm)
-word-below (OpImm op rd rs1 imm) w h = i_below w _ rd (op_imm_funct3 op) rs1 (residue (2 ^ 12) imm) h.word (lit< tt) h.instr.0 (op_imm_funct3-below op) h.instr.1 (residue-below-12 imm)
-word-below (Shift op rd rs1 amount) w h = r_below w _ rd (shift_funct3 op) rs1 amount (shift_funct7 op) h.word (lit< tt) h.instr.0 (shift_funct3-below op) h.instr.1 h.instr.2 (shift_funct7-below op)
-word-below (Op op rd rs1 rs2) w h = r_below w _ rd (op_funct3 op) rs1 rs2 (op_funct7 op) h.word (lit< tt) h.instr.0 (op_funct3-below op) h.instr.1 h.instr.2 (op_funct7-below op)
-word-below (Fence imm rs1 rd) w h = i_below w fence_opcode rd fence_funct3 rs1 (residue (2 ^ 12) imm) h.word (lit< tt) h.instr.0 (lit< tt) h.instr.1 (residue-below-12 imm)
+word-below (Jalr rd rs1 imm) w h = i_below w jalr_opcode rd jalr_funct3 rs1 (residue (2 ^ 12) imm) h.word
+    (lit< tt) h.instr.0 (lit< tt) h.instr.1 (residue-below-12 imm)
+word-below (Branch op rs1 rs2 imm) w h = b_below w _ (branch_funct3 op) rs1 rs2 (residue (2 ^ 13) imm) h.word (lit< tt)
+    (branch_funct3-below op) h.instr.0 h.instr.1 (residue-below-13 imm)
+word-below (Load op rd rs1 imm) w h = i_below w _ rd (load_funct3 op) rs1 (residue (2 ^ 12) imm) h.word
+    (lit< tt) h.instr.0 (load_funct3-below op) h.instr.1 (residue-below-12 imm)
+word-below (Store op rs1 rs2 imm) w h = s_below w _ (store_funct3 op) rs1 rs2 (residue (2 ^ 12) imm) h.word (lit< tt)
+    (store_funct3-below op) h.instr.0 h.instr.1 (residue-below-12 imm)
+word-below (OpImm op rd rs1 imm) w h = i_below w _ rd (op_imm_funct3 op) rs1 (residue (2 ^ 12) imm) h.word
+    (lit< tt) h.instr.0 (op_imm_funct3-below op) h.instr.1 (residue-below-12 imm)
+word-below (Shift op rd rs1 amount) w h = r_below w _ rd (shift_funct3 op) rs1 amount (shift_funct7 op) h.word
+    (lit< tt) h.instr.0 (shift_funct3-below op) h.instr.1 h.instr.2 (shift_funct7-below op)
+word-below (Op op rd rs1 rs2) w h = r_below w _ rd (op_funct3 op) rs1 rs2 (op_funct7 op) h.word (lit< tt) h.instr.0
+    (op_funct3-below op) h.instr.1 h.instr.2 (op_funct7-below op)
+word-below (Fence imm rs1 rd) w h = i_below w fence_opcode rd fence_funct3 rs1 (residue (2 ^ 12) imm) h.word
+    (lit< tt) h.instr.0 (lit< tt) h.instr.1 (residue-below-12 imm)
 word-below Ecall w h = rw h.word (lit< tt)
 word-below Ebreak w h = rw h.word (lit< tt)

@@ -96,7 +96,8 @@ op_op_of-own Remu = refl
 
 pub branch_funct3_of : (n : ℕ) (op : BranchOp) → branch_op_of n ≡ Some op → n ≡ branch_funct3 op
 unfolding branch_op_of
-branch_funct3_of n op e = eqb-true n (branch_funct3 op) (find-passes (λ op. nat_eq n (branch_funct3 op)) branch_ops op e)
+branch_funct3_of n op e = eqb-true n (branch_funct3 op)
+    (find-passes (λ op. nat_eq n (branch_funct3 op)) branch_ops op e)
 
 pub load_funct3_of : (n : ℕ) (op : LoadOp) → load_op_of n ≡ Some op → n ≡ load_funct3 op
 unfolding load_op_of
@@ -108,18 +109,22 @@ store_funct3_of n op e = eqb-true n (store_funct3 op) (find-passes (λ op. nat_e
 
 pub op_imm_funct3_of : (n : ℕ) (op : OpImmOp) → op_imm_op_of n ≡ Some op → n ≡ op_imm_funct3 op
 unfolding op_imm_op_of
-op_imm_funct3_of n op e = eqb-true n (op_imm_funct3 op) (find-passes (λ op. nat_eq n (op_imm_funct3 op)) op_imm_ops op e)
+op_imm_funct3_of n op e = eqb-true n (op_imm_funct3 op)
+    (find-passes (λ op. nat_eq n (op_imm_funct3 op)) op_imm_ops op e)
 
-pub shift_functs_of : (m n : ℕ) (op : ShiftOp) → shift_op_of m n ≡ Some op → (m ≡ shift_funct7 op) × (n ≡ shift_funct3 op)
+pub shift_functs_of : (m n : ℕ) (op : ShiftOp) → shift_op_of m n ≡ Some op →
+    (m ≡ shift_funct7 op) × (n ≡ shift_funct3 op)
 unfolding shift_op_of
 shift_functs_of m n op e =
-    let passed = and_parts (nat_eq m (shift_funct7 op)) (nat_eq n (shift_funct3 op)) (find-passes (λ op. nat_eq m (shift_funct7 op) && nat_eq n (shift_funct3 op)) shift_ops op e) in
+    let passed = and_parts (nat_eq m (shift_funct7 op)) (nat_eq n (shift_funct3 op))
+    (find-passes (λ op. nat_eq m (shift_funct7 op) && nat_eq n (shift_funct3 op)) shift_ops op e) in
     (eqb-true m (shift_funct7 op) passed.0, eqb-true n (shift_funct3 op) passed.1)
 
 pub op_functs_of : (m n : ℕ) (op : OpOp) → op_op_of m n ≡ Some op → (m ≡ op_funct7 op) × (n ≡ op_funct3 op)
 unfolding op_op_of
 op_functs_of m n op e =
-    let passed = and_parts (nat_eq m (op_funct7 op)) (nat_eq n (op_funct3 op)) (find-passes (λ op. nat_eq m (op_funct7 op) && nat_eq n (op_funct3 op)) op_ops op e) in
+    let passed = and_parts (nat_eq m (op_funct7 op)) (nat_eq n (op_funct3 op))
+    (find-passes (λ op. nat_eq m (op_funct7 op) && nat_eq n (op_funct3 op)) op_ops op e) in
     (eqb-true m (op_funct7 op) passed.0, eqb-true n (op_funct3 op) passed.1)
 
 -- function codes fit their fields

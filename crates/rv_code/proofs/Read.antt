@@ -73,47 +73,76 @@ jalr_read : (w rd rs1 : ℕ) (imm : ℤ) → IFields w jalr_opcode rd jalr_funct
 unfolding jalr_in
 jalr_read w rd rs1 imm f = decoded-jalr w f.opcode_is ∙ rw (f.funct3_is, f.rd_is, f.rs1_is, f.imm_is) refl
 
-fence_read : (w rd rs1 : ℕ) (imm : ℤ) → IFields w fence_opcode rd fence_funct3 rs1 imm → decoded w ≡ Some (Fence imm rs1 rd)
+fence_read : (w rd rs1 : ℕ) (imm : ℤ) → IFields w fence_opcode rd fence_funct3 rs1 imm →
+    decoded w ≡ Some (Fence imm rs1 rd)
 unfolding fence_in
 fence_read w rd rs1 imm f = decoded-fence w f.opcode_is ∙ rw (f.funct3_is, f.rd_is, f.rs1_is, f.imm_is) refl
 
-branch_read : (w rs1 rs2 : ℕ) (op : BranchOp) (imm : ℤ) → BFields w branch_opcode (branch_funct3 op) rs1 rs2 imm → decoded w ≡ Some (Branch op rs1 rs2 imm)
+branch_read : (w rs1 rs2 : ℕ) (op : BranchOp) (imm : ℤ) → BFields w branch_opcode (branch_funct3 op) rs1 rs2 imm →
+    decoded w ≡ Some (Branch op rs1 rs2 imm)
 unfolding branch_in
-branch_read w rs1 rs2 op imm f = decoded-branch w f.opcode_is ∙ rw (f.funct3_is, branch_op_of-own op, f.rs1_is, f.rs2_is, f.imm_is) refl
+branch_read w rs1 rs2 op imm f = decoded-branch w f.opcode_is ∙
+    rw (f.funct3_is, branch_op_of-own op, f.rs1_is, f.rs2_is, f.imm_is) refl
 
-load_read : (w rd rs1 : ℕ) (op : LoadOp) (imm : ℤ) → IFields w load_opcode rd (load_funct3 op) rs1 imm → decoded w ≡ Some (Load op rd rs1 imm)
+load_read : (w rd rs1 : ℕ) (op : LoadOp) (imm : ℤ) → IFields w load_opcode rd (load_funct3 op) rs1 imm →
+    decoded w ≡ Some (Load op rd rs1 imm)
 unfolding load_in
-load_read w rd rs1 op imm f = decoded-load w f.opcode_is ∙ rw (f.funct3_is, load_op_of-own op, f.rd_is, f.rs1_is, f.imm_is) refl
+load_read w rd rs1 op imm f = decoded-load w f.opcode_is ∙
+    rw (f.funct3_is, load_op_of-own op, f.rd_is, f.rs1_is, f.imm_is) refl
 
-store_read : (w rs1 rs2 : ℕ) (op : StoreOp) (imm : ℤ) → SFields w store_opcode (store_funct3 op) rs1 rs2 imm → decoded w ≡ Some (Store op rs1 rs2 imm)
+store_read : (w rs1 rs2 : ℕ) (op : StoreOp) (imm : ℤ) → SFields w store_opcode (store_funct3 op) rs1 rs2 imm →
+    decoded w ≡ Some (Store op rs1 rs2 imm)
 unfolding store_in
-store_read w rs1 rs2 op imm f = decoded-store w f.opcode_is ∙ rw (f.funct3_is, store_op_of-own op, f.rs1_is, f.rs2_is, f.imm_is) refl
+store_read w rs1 rs2 op imm f = decoded-store w f.opcode_is ∙
+    rw (f.funct3_is, store_op_of-own op, f.rs1_is, f.rs2_is, f.imm_is) refl
 
-op_imm_read : (w rd rs1 : ℕ) (op : OpImmOp) (imm : ℤ) → IFields w op_imm_opcode rd (op_imm_funct3 op) rs1 imm → decoded w ≡ Some (OpImm op rd rs1 imm)
+op_imm_read : (w rd rs1 : ℕ) (op : OpImmOp) (imm : ℤ) → IFields w op_imm_opcode rd (op_imm_funct3 op) rs1 imm →
+    decoded w ≡ Some (OpImm op rd rs1 imm)
 unfolding op_imm_in
-op_imm_read w rd rs1 op imm f = decoded-op_imm w f.opcode_is ∙ rw (f.funct3_is, op_imm_op_of-own op, f.rd_is, f.rs1_is, f.imm_is) refl
+op_imm_read w rd rs1 op imm f = decoded-op_imm w f.opcode_is ∙
+    rw (f.funct3_is, op_imm_op_of-own op, f.rd_is, f.rs1_is, f.imm_is) refl
 
-shift_read : (w rd rs1 amount : ℕ) (op : ShiftOp) → RFields w op_imm_opcode rd (shift_funct3 op) rs1 amount (shift_funct7 op) → decoded w ≡ Some (Shift op rd rs1 amount)
+shift_read : (w rd rs1 amount : ℕ) (op : ShiftOp) → RFields w op_imm_opcode rd (shift_funct3 op) rs1 amount
+    (shift_funct7 op) → decoded w ≡ Some (Shift op rd rs1 amount)
 unfolding op_imm_in shift_in
-shift_read w rd rs1 amount op f = decoded-op_imm w f.opcode_is ∙ rw (f.funct3_is, op_imm_op_of-shift op, f.funct7_is, shift_op_of-own op, f.rd_is, f.rs1_is, f.rs2_is) refl
+shift_read w rd rs1 amount op f = decoded-op_imm w f.opcode_is ∙
+    rw (f.funct3_is, op_imm_op_of-shift op, f.funct7_is, shift_op_of-own op, f.rd_is, f.rs1_is, f.rs2_is) refl
 
-op_read : (w rd rs1 rs2 : ℕ) (op : OpOp) → RFields w op_opcode rd (op_funct3 op) rs1 rs2 (op_funct7 op) → decoded w ≡ Some (Op op rd rs1 rs2)
+op_read : (w rd rs1 rs2 : ℕ) (op : OpOp) → RFields w op_opcode rd (op_funct3 op) rs1 rs2 (op_funct7 op) →
+    decoded w ≡ Some (Op op rd rs1 rs2)
 unfolding op_in
-op_read w rd rs1 rs2 op f = decoded-op w f.opcode_is ∙ rw (f.funct3_is, f.funct7_is, op_op_of-own op, f.rd_is, f.rs1_is, f.rs2_is) refl
+op_read w rd rs1 rs2 op f = decoded-op w f.opcode_is ∙
+    rw (f.funct3_is, f.funct7_is, op_op_of-own op, f.rd_is, f.rs1_is, f.rs2_is) refl
 
 -- the word of an instruction is decoded to that instruction
 pub decoded-word : (i : Instr) (w : ℕ) → HasWord i w → decoded w ≡ Some i
 unfolding word_of system_in decoded
-decoded-word (Upper Lui rd imm) w h = lui_read w rd imm (u_fields w (upper_opcode Lui) rd imm h.word (lit< tt) h.instr.0 h.instr.1)
-decoded-word (Upper Auipc rd imm) w h = auipc_read w rd imm (u_fields w (upper_opcode Auipc) rd imm h.word (lit< tt) h.instr.0 h.instr.1)
+decoded-word (Upper Lui rd imm) w h = lui_read w rd imm
+    (u_fields w (upper_opcode Lui) rd imm h.word (lit< tt) h.instr.0 h.instr.1)
+decoded-word (Upper Auipc rd imm) w h = auipc_read w rd imm
+    (u_fields w (upper_opcode Auipc) rd imm h.word (lit< tt) h.instr.0 h.instr.1)
 decoded-word (Jal rd imm) w h = jal_read w rd imm (j_fields w jal_opcode rd imm h.word (lit< tt) h.instr.0 h.instr.1)
-decoded-word (Jalr rd rs1 imm) w h = jalr_read w rd rs1 imm (i_fields w jalr_opcode rd jalr_funct3 rs1 imm h.word (lit< tt) h.instr.0 (lit< tt) h.instr.1 h.instr.2)
-decoded-word (Branch op rs1 rs2 imm) w h = branch_read w rs1 rs2 op imm (b_fields w branch_opcode (branch_funct3 op) rs1 rs2 imm h.word (lit< tt) (branch_funct3-below op) h.instr.0 h.instr.1 h.instr.2)
-decoded-word (Load op rd rs1 imm) w h = load_read w rd rs1 op imm (i_fields w load_opcode rd (load_funct3 op) rs1 imm h.word (lit< tt) h.instr.0 (load_funct3-below op) h.instr.1 h.instr.2)
-decoded-word (Store op rs1 rs2 imm) w h = store_read w rs1 rs2 op imm (s_fields w store_opcode (store_funct3 op) rs1 rs2 imm h.word (lit< tt) (store_funct3-below op) h.instr.0 h.instr.1 h.instr.2)
-decoded-word (OpImm op rd rs1 imm) w h = op_imm_read w rd rs1 op imm (i_fields w op_imm_opcode rd (op_imm_funct3 op) rs1 imm h.word (lit< tt) h.instr.0 (op_imm_funct3-below op) h.instr.1 h.instr.2)
-decoded-word (Shift op rd rs1 amount) w h = shift_read w rd rs1 amount op (r_fields w op_imm_opcode rd (shift_funct3 op) rs1 amount (shift_funct7 op) h.word (lit< tt) h.instr.0 (shift_funct3-below op) h.instr.1 h.instr.2)
-decoded-word (Op op rd rs1 rs2) w h = op_read w rd rs1 rs2 op (r_fields w op_opcode rd (op_funct3 op) rs1 rs2 (op_funct7 op) h.word (lit< tt) h.instr.0 (op_funct3-below op) h.instr.1 h.instr.2)
-decoded-word (Fence imm rs1 rd) w h = fence_read w rd rs1 imm (i_fields w fence_opcode rd fence_funct3 rs1 imm h.word (lit< tt) h.instr.0 (lit< tt) h.instr.1 h.instr.2)
+decoded-word (Jalr rd rs1 imm) w h = jalr_read w rd rs1 imm
+    (i_fields w jalr_opcode rd jalr_funct3 rs1 imm h.word (lit< tt) h.instr.0 (lit< tt) h.instr.1 h.instr.2)
+decoded-word (Branch op rs1 rs2 imm) w h = branch_read w rs1 rs2 op imm
+    (b_fields w branch_opcode (branch_funct3 op) rs1 rs2 imm h.word (lit< tt)
+    (branch_funct3-below op) h.instr.0 h.instr.1 h.instr.2)
+decoded-word (Load op rd rs1 imm) w h = load_read w rd rs1 op imm
+    (i_fields w load_opcode rd (load_funct3 op) rs1 imm h.word (lit< tt) h.instr.0
+    (load_funct3-below op) h.instr.1 h.instr.2)
+decoded-word (Store op rs1 rs2 imm) w h = store_read w rs1 rs2 op imm
+    (s_fields w store_opcode (store_funct3 op) rs1 rs2 imm h.word (lit< tt)
+    (store_funct3-below op) h.instr.0 h.instr.1 h.instr.2)
+decoded-word (OpImm op rd rs1 imm) w h = op_imm_read w rd rs1 op imm
+    (i_fields w op_imm_opcode rd (op_imm_funct3 op) rs1 imm h.word (lit< tt) h.instr.0
+    (op_imm_funct3-below op) h.instr.1 h.instr.2)
+decoded-word (Shift op rd rs1 amount) w h = shift_read w rd rs1 amount op
+    (r_fields w op_imm_opcode rd (shift_funct3 op) rs1 amount (shift_funct7 op) h.word (lit< tt) h.instr.0
+    (shift_funct3-below op) h.instr.1 h.instr.2)
+decoded-word (Op op rd rs1 rs2) w h = op_read w rd rs1 rs2 op
+    (r_fields w op_opcode rd (op_funct3 op) rs1 rs2 (op_funct7 op) h.word (lit< tt) h.instr.0
+    (op_funct3-below op) h.instr.1 h.instr.2)
+decoded-word (Fence imm rs1 rd) w h = fence_read w rd rs1 imm
+    (i_fields w fence_opcode rd fence_funct3 rs1 imm h.word (lit< tt) h.instr.0 (lit< tt) h.instr.1 h.instr.2)
 decoded-word Ecall w h = rw h.word refl
 decoded-word Ebreak w h = rw h.word refl

@@ -41,14 +41,16 @@ s_imm_of w = signed (2 ^ 11) (2 ^ 5 * (w / 2 ^ 25) + w / 2 ^ 7 % 2 ^ 5)
 
 abbrev pub b_imm_of : ℕ → ℤ
 b_imm_of w =
-    signed (2 ^ 12) (2 ^ 12 * (w / 2 ^ 31) + 2 ^ 11 * (w / 2 ^ 7 % 2) + 2 ^ 5 * (w / 2 ^ 25 % 2 ^ 6) + 2 * (w / 2 ^ 8 % 2 ^ 4))
+    signed (2 ^ 12) (2 ^ 12 * (w / 2 ^ 31) + 2 ^ 11 * (w / 2 ^ 7 % 2) + 2 ^ 5 * (w / 2 ^ 25 % 2 ^ 6) + 2 *
+    (w / 2 ^ 8 % 2 ^ 4))
 
 abbrev pub u_imm_of : ℕ → ℕ
 u_imm_of w = 2 ^ 12 * (w / 2 ^ 12)
 
 abbrev pub j_imm_of : ℕ → ℤ
 j_imm_of w =
-    signed (2 ^ 20) (2 ^ 20 * (w / 2 ^ 31) + 2 ^ 12 * (w / 2 ^ 12 % 2 ^ 8) + 2 ^ 11 * (w / 2 ^ 20 % 2) + 2 * (w / 2 ^ 21 % 2 ^ 10))
+    signed (2 ^ 20) (2 ^ 20 * (w / 2 ^ 31) + 2 ^ 12 * (w / 2 ^ 12 % 2 ^ 8) + 2 ^ 11 * (w / 2 ^ 20 % 2) + 2 *
+    (w / 2 ^ 21 % 2 ^ 10))
 
 -- The operation of a form with those function codes.
 
@@ -89,7 +91,8 @@ shift_in w = option_map (λ op. Shift op (rd_of w) (rs1_of w) (rs2_of w)) (shift
 
 -- no shift has the function code of another operation on an immediate
 unfoldable pub op_imm_in : ℕ → Option Instr
-op_imm_in w = option_or (option_map (λ op. OpImm op (rd_of w) (rs1_of w) (i_imm_of w)) (op_imm_op_of (funct3_of w))) (shift_in w)
+op_imm_in w = option_or (option_map (λ op. OpImm op (rd_of w) (rs1_of w) (i_imm_of w)) (op_imm_op_of (funct3_of w)))
+    (shift_in w)
 
 unfoldable pub op_in : ℕ → Option Instr
 op_in w = option_map (λ op. Op op (rd_of w) (rs1_of w) (rs2_of w)) (op_op_of (funct7_of w) (funct3_of w))

@@ -24,7 +24,9 @@ const IN_A_SECTION: [Row; 34] = [
         Some(2),
     ),
     (
-        b"int f(int, int, int, int, int, int, int, int, int);\nint f(int a, int b, int c, int d, int e, int f, int g, int h, int i) { return h; }\n",
+        b"int f(int, int, int, int, int, int, int, int, int);
+int f(int a, int b, int c, int d, int e, int f, int g, int h, int i) { return h; }
+",
         Some(2),
     ),
     (
@@ -87,7 +89,11 @@ const IN_A_SECTION: [Row; 34] = [
     (b"struct S { int a[1048576]; };\nstruct S s[2];\n", Some(3)),
     // Sizes don't wrap.
     (
-        b"struct S { int a[1048576]; };\nstruct T { struct S a[4294967295u]; };\nstruct U { struct T a[4294967295u]; };\nstruct U u[4294967295u];\n",
+        b"struct S { int a[1048576]; };
+struct T { struct S a[4294967295u]; };
+struct U { struct T a[4294967295u]; };
+struct U u[4294967295u];
+",
         Some(3),
     ),
     (
@@ -112,15 +118,37 @@ const IN_A_SECTION: [Row; 34] = [
 // Each text is whole.
 const OF_SECTIONS: [Row; 3] = [
     (
-        b"#pragma compartment A\nint a[1048576];\n#pragma compartment Main\nint a[1048576];\nint main(void) { return 0; }\n#pragma compartment C\n\nint a[1048577];\n#pragma compartment D\nint a[1048577];\n",
+        b"#pragma compartment A
+int a[1048576];
+#pragma compartment Main
+int a[1048576];
+int main(void) { return 0; }
+#pragma compartment C
+
+int a[1048577];
+#pragma compartment D
+int a[1048577];
+",
         Some(8),
     ),
     (
-        b"#pragma compartment Main\nint main(void) {\n  int a[1048577];\n  return 0;\n}\n",
+        b"#pragma compartment Main
+int main(void) {
+  int a[1048577];
+  return 0;
+}
+",
         Some(3),
     ),
     (
-        b"#pragma compartment Main\n#pragma import A f\nint f(int, int, int, int, int, int, int, int, int);\nint main(void) { return 0; }\n#pragma compartment A\n#pragma export f\nint f(int a, int b, int c, int d, int e, int f, int g, int h, int i) { return h; }\n",
+        b"#pragma compartment Main
+#pragma import A f
+int f(int, int, int, int, int, int, int, int, int);
+int main(void) { return 0; }
+#pragma compartment A
+#pragma export f
+int f(int a, int b, int c, int d, int e, int f, int g, int h, int i) { return h; }
+",
         Some(3),
     ),
 ];

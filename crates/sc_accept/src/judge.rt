@@ -11,7 +11,7 @@ pub type Row = (&'static [u8], Option<u32>);
 #[derive(Clone, Copy, Debug, Drop, PartialEq, Eq)]
 pub struct Wrong {
     pub row: usize,
-    pub given: Option<Refusal>,
+    pub answer: Option<Refusal>,
 }
 
 // What stands before and behind each row of a table.
@@ -52,13 +52,13 @@ pub fn wrong_rows(
         let mut whole = frame.before.to_vec(alloc)?;
         whole.extend_from_slice(text)?;
         whole.extend_from_slice(frame.after)?;
-        let given = judge(alloc, whole.as_slice())?;
+        let answer = judge(alloc, whole.as_slice())?;
         let want = match *line {
             None => None,
             Some(line) => Some(Refusal { phase, line }),
         };
-        if given != want {
-            wrong.push(Wrong { row, given })?;
+        if answer != want {
+            wrong.push(Wrong { row, answer })?;
         }
     }
     Ok(wrong)

@@ -27,7 +27,10 @@ const COMPARTMENT_LINES: [Row; 28] = [
         Some(1),
     ),
     (
-        b"\n #pragma compartment Main\nint main(void) { return 0; }\n",
+        b"
+ #pragma compartment Main
+int main(void) { return 0; }
+",
         Some(2),
     ),
     (
@@ -55,11 +58,15 @@ const COMPARTMENT_LINES: [Row; 28] = [
         None,
     ),
     (
-        b"#pragma compartment a23456789_123456789_123456789_123456789_123456789_123456789_123\nint main(void) { return 0; }\n",
+        b"#pragma compartment a23456789_123456789_123456789_123456789_123456789_123456789_123
+int main(void) { return 0; }
+",
         None,
     ),
     (
-        b"#pragma compartment a23456789_123456789_123456789_123456789_123456789_123456789_1234\nint main(void) { return 0; }\n",
+        b"#pragma compartment a23456789_123456789_123456789_123456789_123456789_123456789_1234
+int main(void) { return 0; }
+",
         Some(1),
     ),
     // Blanks may follow the name, up to the end of the line or of the text.
@@ -77,45 +84,88 @@ const COMPARTMENT_LINES: [Row; 28] = [
     ),
     // The split is made before anything else, also inside comments.
     (
-        b"#pragma compartment Main\nint main(void) { return 0; }\n/*\n#pragma compartment B\n*/\n",
+        b"#pragma compartment Main
+int main(void) { return 0; }
+/*
+#pragma compartment B
+*/
+",
         Some(3),
     ),
     (
-        b"/* before\n#pragma compartment Main\nint main(void) { return 0; }\n",
+        b"/* before
+#pragma compartment Main
+int main(void) { return 0; }
+",
         Some(1),
     ),
     (
-        b"// #pragma compartment B\n#pragma compartment Main\nint main(void) { return 0; }\n",
+        b"// #pragma compartment B
+#pragma compartment Main
+int main(void) { return 0; }
+",
         None,
     ),
     (
-        b"/* of\n two lines */\n\n#pragma compartment Main\nint main(void) { return 0; }\n",
+        b"/* of
+ two lines */
+
+#pragma compartment Main
+int main(void) { return 0; }
+",
         None,
     ),
     // The first bad compartment line wins, also over an earlier bad byte.
     (b"#pragma compartment 1\n#pragma compartment 2\n", Some(1)),
     (
-        b"@\n#pragma compartment Main\nint main(void) { return 0; }\n#pragma compartment  B\n",
+        b"@
+#pragma compartment Main
+int main(void) { return 0; }
+#pragma compartment  B
+",
         Some(4),
     ),
     (
-        b"#pragma compartment Main\n@\n/*\n#pragma compartment 2B\n",
+        b"#pragma compartment Main
+@
+/*
+#pragma compartment 2B
+",
         Some(4),
     ),
     // Otherwise the first bad byte of the text does.
-    (b"@\n#pragma compartment Main\n@\n", Some(1)),
     (
-        b"#pragma compartment Main\nint main(void) { return 0; }\n#pragma compartment B\n@\n@\n",
+        b"@
+#pragma compartment Main
+@
+",
+        Some(1),
+    ),
+    (
+        b"#pragma compartment Main
+int main(void) { return 0; }
+#pragma compartment B
+@
+@
+",
         Some(4),
     ),
     // A section ends where the next begins, and no comment reaches over.
     (
-        b"#pragma compartment A\n/*\n#pragma compartment Main\n@ */\nint main(void) { return 0; }\n",
+        b"#pragma compartment A
+/*
+#pragma compartment Main
+@ */
+int main(void) { return 0; }
+",
         Some(2),
     ),
     // In the preamble nothing is a directive.
     (
-        b"#pragma export f\n#pragma compartment Main\nint main(void) { return 0; }\n",
+        b"#pragma export f
+#pragma compartment Main
+int main(void) { return 0; }
+",
         Some(1),
     ),
 ];
@@ -147,7 +197,11 @@ const DIRECTIVES: [Row; 22] = [
     (b"# pragma export f\nint f(void) { return 0; }\n", Some(2)),
     (b" #pragma export f\nint f(void) { return 0; }\n", Some(2)),
     (
-        b"\n/*\n*/#pragma export f\nint f(void) { return 0; }\n",
+        b"
+/*
+*/#pragma export f
+int f(void) { return 0; }
+",
         Some(4),
     ),
     (b"#pragma import input\nint input(void);\n", Some(2)),
@@ -159,7 +213,14 @@ const DIRECTIVES: [Row; 22] = [
     (b"#include <stdio.h>\n", Some(2)),
     (b"int x;\n#\n", Some(3)),
     // In a comment a `#` begins no directive.
-    (b"/*\n# nothing\n#pragma once\n*/\n", None),
+    (
+        b"/*
+# nothing
+#pragma once
+*/
+",
+        None,
+    ),
 ];
 
 // Each stands behind a compartment line, and before `main`.

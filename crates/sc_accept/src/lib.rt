@@ -1,5 +1,5 @@
-//! Texts, each with what it must give: its program, or the phase and the line at which it is refused. This crate has tests
-//! alone.
+//! Texts, each with what it must give: its program, or the phase and the line at which it is refused. This crate has
+//! tests alone.
 #![tactic(auto)]
 
 #[cfg(test)]

@@ -35,7 +35,10 @@ const IN_A_SECTION: [Row; 114] = [
     ),
     (b"#pragma import Env output\nint output;\n", Some(3)),
     (
-        b"#pragma import Env output\nvoid output(int v);\nint x, output;\n",
+        b"#pragma import Env output
+void output(int v);
+int x, output;
+",
         Some(4),
     ),
     (b"int main;\n", Some(3)),
@@ -228,11 +231,24 @@ const IN_A_SECTION: [Row; 114] = [
         Some(4),
     ),
     (
-        b"#pragma import Env output\nvoid output(int v);\nint f(void) {\n  output(1);\n  return 0;\n}\n",
+        b"#pragma import Env output
+void output(int v);
+int f(void) {
+  output(1);
+  return 0;
+}
+",
         None,
     ),
     (
-        b"#pragma import Env input\n#pragma import Env output\nint f(void) {\n  output(1);\n  return input();\n}\nint input(void); void output(int);\n",
+        b"#pragma import Env input
+#pragma import Env output
+int f(void) {
+  output(1);
+  return input();
+}
+int input(void); void output(int);
+",
         None,
     ),
     (
@@ -250,7 +266,12 @@ const IN_A_SECTION: [Row; 114] = [
     ),
     (b"int f(int f) {\n  return f(1);\n}\n", Some(3)),
     (
-        b"#pragma import Env input\nint input(void);\nint f(int *input) {\n  return input();\n}\n",
+        b"#pragma import Env input
+int input(void);
+int f(int *input) {
+  return input();
+}
+",
         Some(5),
     ),
     (
@@ -314,7 +335,17 @@ const IN_A_SECTION: [Row; 114] = [
         Some(3),
     ),
     (
-        b"int f(int a) {\n  while (a) {\n    if (a) { break; } else { continue; }\n  }\n  for (; ; ) {\n    while (a) { } continue;\n    break;\n  }\n  return 0;\n}\n",
+        b"int f(int a) {
+  while (a) {
+    if (a) { break; } else { continue; }
+  }
+  for (; ; ) {
+    while (a) { } continue;
+    break;
+  }
+  return 0;
+}
+",
         None,
     ),
     // The least line at which a rule is broken.
@@ -330,38 +361,97 @@ const IN_A_SECTION: [Row; 114] = [
 const OF_SECTIONS: [Row; 8] = [
     // Each section has its own names.
     (
-        b"#pragma compartment A\nint x;\nstruct S { int a; };\nint f(void) { return x; }\n#pragma compartment Main\nint x;\nstruct S { int b; };\nint f(void) { return x; }\nint main(void) { return f(); }\n",
+        b"#pragma compartment A
+int x;
+struct S { int a; };
+int f(void) { return x; }
+#pragma compartment Main
+int x;
+struct S { int b; };
+int f(void) { return x; }
+int main(void) { return f(); }
+",
         None,
     ),
     (
-        b"#pragma compartment A\nint x;\n#pragma compartment Main\nint main(void) {\n  return x;\n}\n",
+        b"#pragma compartment A
+int x;
+#pragma compartment Main
+int main(void) {
+  return x;
+}
+",
         Some(5),
     ),
     (
-        b"#pragma compartment A\nstruct S { int a; };\n#pragma compartment Main\nstruct S s;\nint main(void) { return 0; }\n",
+        b"#pragma compartment A
+struct S { int a; };
+#pragma compartment Main
+struct S s;
+int main(void) { return 0; }
+",
         Some(4),
     ),
     (
-        b"#pragma compartment A\n#pragma export f\nint f(void) { return 1; }\n#pragma compartment Main\nint f(void);\nint main(void) {\n  return f();\n}\n",
+        b"#pragma compartment A
+#pragma export f
+int f(void) { return 1; }
+#pragma compartment Main
+int f(void);
+int main(void) {
+  return f();
+}
+",
         Some(7),
     ),
     (
-        b"#pragma compartment A\n#pragma export f\nint f(void) { return 1; }\n#pragma compartment Main\n#pragma import A f\nint f(void);\nint main(void) {\n  return f();\n}\n",
+        b"#pragma compartment A
+#pragma export f
+int f(void) { return 1; }
+#pragma compartment Main
+#pragma import A f
+int f(void);
+int main(void) {
+  return f();
+}
+",
         None,
     ),
     // A function of the section itself may have the name of one that isn't imported.
     (
-        b"#pragma compartment A\n#pragma export f\nint f(void) { return 1; }\n#pragma compartment Main\nunsigned int f(int *p) { return 2; }\nint output(void) { return 3; }\nint main(void) {\n  output();\n  return f(0);\n}\n",
+        b"#pragma compartment A
+#pragma export f
+int f(void) { return 1; }
+#pragma compartment Main
+unsigned int f(int *p) { return 2; }
+int output(void) { return 3; }
+int main(void) {
+  output();
+  return f(0);
+}
+",
         None,
     ),
     // The first section that breaks a rule decides.
     (
-        b"\n#pragma compartment A\nint x;\nint f(void) {\n  return x + y;\n}\n#pragma compartment Main\nint x, x;\nint main(void) { return y; }\n",
+        b"
+#pragma compartment A
+int x;
+int f(void) {
+  return x + y;
+}
+#pragma compartment Main
+int x, x;
+int main(void) { return y; }
+",
         Some(5),
     ),
     // A global that is named `main` beside the function.
     (
-        b"#pragma compartment Main\nint main(void) { return 0; }\nint main;\n",
+        b"#pragma compartment Main
+int main(void) { return 0; }
+int main;
+",
         Some(3),
     ),
 ];

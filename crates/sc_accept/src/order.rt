@@ -8,69 +8,162 @@ type Phased = (&'static [u8], Option<(Phase, u32)>);
 // Each text is whole.
 const TEXTS: [Phased; 20] = [
     (
-        b"#pragma compartment Main\n#pragma import Env output\nvoid output(int v);\nint main(void) {\n  output(7);\n  return 0;\n}\n",
+        b"#pragma compartment Main
+#pragma import Env output
+void output(int v);
+int main(void) {
+  output(7);
+  return 0;
+}
+",
         None,
     ),
     (
-        b"#pragma compartment Main\n#pragma import Env output\nvoid output(int v);\nint main(void) {\n  output(4294967296);\n  return 0;\n}\n",
+        b"#pragma compartment Main
+#pragma import Env output
+void output(int v);
+int main(void) {
+  output(4294967296);
+  return 0;
+}
+",
         Some((Phase::Lex, 5)),
     ),
     (
-        b"#pragma compartment Main\n#pragma import Env output\nvoid output(int v);\nint main(void) {\n  output(7)\n  return 0;\n}\n",
+        b"#pragma compartment Main
+#pragma import Env output
+void output(int v);
+int main(void) {
+  output(7)
+  return 0;
+}
+",
         Some((Phase::Syntax, 6)),
     ),
     (
-        b"#pragma compartment Main\nvoid output(int v);\nint main(void) {\n  output(7);\n  return 0;\n}\n",
+        b"#pragma compartment Main
+void output(int v);
+int main(void) {
+  output(7);
+  return 0;
+}
+",
         Some((Phase::Names, 4)),
     ),
     (
-        b"#pragma compartment Main\n#pragma import Env output\nint main(void) {\n  output(7);\n  return 0;\n}\n",
+        b"#pragma compartment Main
+#pragma import Env output
+int main(void) {
+  output(7);
+  return 0;
+}
+",
         Some((Phase::Types, 4)),
     ),
     (
-        b"#pragma compartment Main\n#pragma import Env output\nint main(void) {\n  return 0;\n}\n",
+        b"#pragma compartment Main
+#pragma import Env output
+int main(void) {
+  return 0;
+}
+",
         Some((Phase::Interface, 2)),
     ),
     // Lex in the last section comes before Syntax in the preamble and in the first.
     (
-        b"x\n#pragma compartment A\nint;\n#pragma compartment B\n@\n",
+        b"x
+#pragma compartment A
+int;
+#pragma compartment B
+@
+",
         Some((Phase::Lex, 5)),
     ),
-    (b"int;\n/*\n#pragma compartment A\n", Some((Phase::Lex, 2))),
+    (
+        b"int;
+/*
+#pragma compartment A
+",
+        Some((Phase::Lex, 2)),
+    ),
     // Syntax in the last section comes before Names in the first.
     (
-        b"#pragma compartment A\nint x, x;\n#pragma compartment B\nint x\nx;\n",
+        b"#pragma compartment A
+int x, x;
+#pragma compartment B
+int x
+x;
+",
         Some((Phase::Syntax, 5)),
     ),
     (
-        b"#pragma compartment A\nint f(void) { break; return x; }\nint f\n(void) { return 1 }\n",
+        b"#pragma compartment A
+int f(void) { break; return x; }
+int f
+(void) { return 1 }
+",
         Some((Phase::Syntax, 4)),
     ),
     // Names in the last section come before Types in the first.
     (
-        b"#pragma compartment A\nint *f(void) { return 1; }\n#pragma compartment B\nint f(void) {\n  return x;\n}\n",
+        b"#pragma compartment A
+int *f(void) { return 1; }
+#pragma compartment B
+int f(void) {
+  return x;
+}
+",
         Some((Phase::Names, 5)),
     ),
     (
-        b"#pragma compartment A\nint *p = 1;\nint f(void) {\n  return 1 + *g;\n}\n",
+        b"#pragma compartment A
+int *p = 1;
+int f(void) {
+  return 1 + *g;
+}
+",
         Some((Phase::Names, 4)),
     ),
     // A name that isn't declared, within what has no type.
     (
-        b"#pragma compartment A\nstruct S { int a; } ;\nint f(struct S s) { return s + s.b; }\nint g(void) {\n  return &5 + y;\n}\n",
+        b"#pragma compartment A
+struct S { int a; } ;
+int f(struct S s) { return s + s.b; }
+int g(void) {
+  return &5 + y;
+}
+",
         Some((Phase::Names, 5)),
     ),
     (
-        b"#pragma compartment A\nint f(int a) {\n  f(a, a, *a, y);\n  return 0;\n}\n",
+        b"#pragma compartment A
+int f(int a) {
+  f(a, a, *a, y);
+  return 0;
+}
+",
         Some((Phase::Names, 3)),
     ),
     // Types in the last section come before Interface in the first.
     (
-        b"#pragma compartment A\n#pragma export f\n#pragma compartment A\nint f(void) {\n  return;\n}\n",
+        b"#pragma compartment A
+#pragma export f
+#pragma compartment A
+int f(void) {
+  return;
+}
+",
         Some((Phase::Types, 5)),
     ),
     (
-        b"#pragma compartment Main\nint f(int a);\nint f(void);\nint main(int a) {\n  int *p = a;\n  return 0;\n}\n",
+        b"#pragma compartment Main
+int f(int a);
+int f(void);
+int main(int a) {
+  int *p = a;
+  return 0;
+}
+",
         Some((Phase::Types, 5)),
     ),
     // Interface comes before Count, also at line 0.
@@ -79,17 +172,31 @@ const TEXTS: [Phased; 20] = [
         Some((Phase::Interface, 0)),
     ),
     (
-        b"#pragma compartment A\nint a[1048577];\n#pragma compartment Main\nint main(void) { return 0; }\n#pragma compartment A\n",
+        b"#pragma compartment A
+int a[1048577];
+#pragma compartment Main
+int main(void) { return 0; }
+#pragma compartment A
+",
         Some((Phase::Interface, 5)),
     ),
     // Types come before Count.
     (
-        b"#pragma compartment Main\nint f(int, int, int, int, int, int, int, int, int);\nint a[1048577];\nint main(void) {\n  return a;\n}\n",
+        b"#pragma compartment Main
+int f(int, int, int, int, int, int, int, int, int);
+int a[1048577];
+int main(void) {
+  return a;
+}
+",
         Some((Phase::Types, 5)),
     ),
     // An initialiser longer than its array is of Types, whatever the array's length.
     (
-        b"#pragma compartment Main\nint a[1048577], b[1] = { 1, 2 };\nint main(void) { return 0; }\n",
+        b"#pragma compartment Main
+int a[1048577], b[1] = { 1, 2 };
+int main(void) { return 0; }
+",
         Some((Phase::Types, 2)),
     ),
 ];

@@ -7,57 +7,120 @@ use std::test::Fail;
 const SECTIONS: [Row; 14] = [
     // The preamble has no token.
     (
-        b"int x;\n#pragma compartment Main\nint main(void) { return 0; }\n",
+        b"int x;
+#pragma compartment Main
+int main(void) { return 0; }
+",
         Some(1),
     ),
     (
-        b"/* a\n*/\n;\n#pragma compartment Main\nint main(void) { return 0; }\n",
+        b"/* a
+*/
+;
+#pragma compartment Main
+int main(void) { return 0; }
+",
         Some(3),
     ),
     (b"x", Some(1)),
-    (b"\n\nx\n#pragma compartment Main\nint\n", Some(3)),
+    (
+        b"
+
+x
+#pragma compartment Main
+int
+",
+        Some(3),
+    ),
     // The first section that spells no tree decides.
     (
-        b"#pragma compartment A\nint x;\n#pragma compartment B\nint;\n#pragma compartment C\nint;\n",
+        b"#pragma compartment A
+int x;
+#pragma compartment B
+int;
+#pragma compartment C
+int;
+",
         Some(4),
     ),
     (
-        b"#pragma compartment Main\n#pragma import Env output\nvoid output(int v);\nint main(void) {\n  output(7);\n  return 0;\n",
+        b"#pragma compartment Main
+#pragma import Env output
+void output(int v);
+int main(void) {
+  output(7);
+  return 0;
+",
         Some(6),
     ),
     (
-        b"#pragma compartment A\nint x\n\n#pragma compartment Main\nint main(void) { return 0; }\n",
+        b"#pragma compartment A
+int x
+
+#pragma compartment Main
+int main(void) { return 0; }
+",
         Some(2),
     ),
     (
-        b"#pragma compartment Main\nint main(void) { return 0; }\n}\n",
+        b"#pragma compartment Main
+int main(void) { return 0; }
+}
+",
         Some(3),
     ),
     // An empty section is one.
     (
-        b"#pragma compartment A\n#pragma compartment Main\nint main(void) { return 0; }\n",
+        b"#pragma compartment A
+#pragma compartment Main
+int main(void) { return 0; }
+",
         None,
     ),
     // Directives stand before the first declaration.
     (
-        b"#pragma compartment Main\nint f(void) { return 0; }\n#pragma export f\nint main(void) { return 0; }\n",
+        b"#pragma compartment Main
+int f(void) { return 0; }
+#pragma export f
+int main(void) { return 0; }
+",
         Some(3),
     ),
     (
-        b"#pragma compartment Main\nint\n#pragma export main\nmain(void) { return 0; }\n",
+        b"#pragma compartment Main
+int
+#pragma export main
+main(void) { return 0; }
+",
         Some(3),
     ),
     (
-        b"#pragma compartment Main\n;\n#pragma export f\nint main(void) { return 0; }\n",
+        b"#pragma compartment Main
+;
+#pragma export f
+int main(void) { return 0; }
+",
         Some(2),
     ),
     (
-        b"#pragma compartment Main\n#pragma export f\n#pragma import Env input\n#pragma export g\nint input(void); int f(void) { return 1; } int g(void) { return 2; }\nint main(void) { return 0; }\n",
+        b"#pragma compartment Main
+#pragma export f
+#pragma import Env input
+#pragma export g
+int input(void); int f(void) { return 1; } int g(void) { return 2; }
+int main(void) { return 0; }
+",
         None,
     ),
     // Where a section ends early, its last token decides.
     (
-        b"#pragma compartment Main\nint main(void) {\n  if (1) {\n\n\n/* the end */\n",
+        b"#pragma compartment Main
+int main(void) {
+  if (1) {
+
+
+/* the end */
+",
         Some(3),
     ),
 ];
@@ -88,7 +151,8 @@ const DECLARED: [Row; 10] = [
     ),
 ];
 
-// Each stands behind a compartment line, and before `main`. The token in a line of its own is the first that can't go on.
+// Each stands behind a compartment line, and before `main`. The token in a line of its own is the first that can't go
+// on.
 const NOT_DECLARED: [Row; 102] = [
     // Declarations of variables.
     (b"int x;\n;\nint y;\n", Some(3)),

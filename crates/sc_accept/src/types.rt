@@ -339,7 +339,11 @@ const DECLARED: [Row; 62] = [
     (b"struct S { int a; };\nstruct S s[1] = { 0 };\n", Some(3)),
     // `return` has a value exactly in a function with a result.
     (
-        b"void f(void) { return; }\nvoid g(int a) { if (a) { return; } }\nint h(void) { }\nint *i(int a) { while (a) { return 0; } }\n",
+        b"void f(void) { return; }
+void g(int a) { if (a) { return; } }
+int h(void) { }
+int *i(int a) { while (a) { return 0; } }
+",
         None,
     ),
     (b"int f(void) {\n  return;\n}\n", Some(3)),
@@ -355,7 +359,12 @@ const DECLARED: [Row; 62] = [
     ),
     // The value goes into the result.
     (
-        b"int f(unsigned int a) { return a; }\nunsigned int g(void) { return -1; }\nint *h(int a) { return &a; }\nint *i(void) { return 0; }\nint *j(void) { int a[2]; return a; }\n",
+        b"int f(unsigned int a) { return a; }
+unsigned int g(void) { return -1; }
+int *h(int a) { return &a; }
+int *i(void) { return 0; }
+int *j(void) { int a[2]; return a; }
+",
         None,
     ),
     (b"int *f(void) {\n  return 1;\n}\n", Some(3)),
@@ -404,7 +413,11 @@ const DECLARED: [Row; 62] = [
     ),
     // Structs may be parameters and results, but no call passes one.
     (
-        b"struct S { int a; };\nint f(struct S s) { return s.a; }\nstruct S g(struct S *s) { s->a = 1; }\nvoid h(struct S *s) { g(s); }\n",
+        b"struct S { int a; };
+int f(struct S s) { return s.a; }
+struct S g(struct S *s) { s->a = 1; }
+void h(struct S *s) { g(s); }
+",
         None,
     ),
     (
@@ -434,19 +447,48 @@ const DECLARED: [Row; 62] = [
     ),
     // A call of an import is typed by its first prototype there; without one it has no type.
     (
-        b"#pragma import Env output\nint f(void) {\n  output(1);\n  return 0;\n}\n",
+        b"#pragma import Env output
+int f(void) {
+  output(1);
+  return 0;
+}
+",
         Some(4),
     ),
     (
-        b"#pragma import Env output\nvoid output(void);\nvoid output(int v);\nint f(void) {\n  output(1);\n  return 0;\n}\n",
+        b"#pragma import Env output
+void output(void);
+void output(int v);
+int f(void) {
+  output(1);
+  return 0;
+}
+",
         Some(6),
     ),
     (
-        b"#pragma import Env input\nint f(void) {\n  int *p;\n  p = input();\n  return 0;\n}\nint input(void);\n",
+        b"#pragma import Env input
+int f(void) {
+  int *p;
+  p = input();
+  return 0;
+}
+int input(void);
+",
         Some(5),
     ),
     (
-        b"#pragma import Env input\n#pragma import Env output\nint f(void) {\n  unsigned int u;\n  u = input();\n  output(u);\n  return input();\n}\nvoid output(int v);\nint input(void);\n",
+        b"#pragma import Env input
+#pragma import Env output
+int f(void) {
+  unsigned int u;
+  u = input();
+  output(u);
+  return input();
+}
+void output(int v);
+int input(void);
+",
         None,
     ),
     // The line is that of the innermost statement, or of the local.
@@ -489,21 +531,52 @@ const DECLARED: [Row; 62] = [
 // Each text is whole.
 const OF_SECTIONS: [Row; 5] = [
     (
-        b"#pragma compartment Main\nint main(void) {\n  return;\n}\n",
+        b"#pragma compartment Main
+int main(void) {
+  return;
+}
+",
         Some(3),
     ),
     (b"#pragma compartment Main\nint main(void) { }\n", None),
     (
-        b"#pragma compartment A\nstruct S { int a; };\nint f(struct S *s) { return s->a; }\n#pragma compartment Main\nstruct S { int b; };\nint f(struct S *s) {\n  return s->a;\n}\nint main(void) { return 0; }\n",
+        b"#pragma compartment A
+struct S { int a; };
+int f(struct S *s) { return s->a; }
+#pragma compartment Main
+struct S { int b; };
+int f(struct S *s) {
+  return s->a;
+}
+int main(void) { return 0; }
+",
         Some(7),
     ),
     (
-        b"#pragma compartment A\nint *f(void) { return 0; }\n#pragma compartment Main\nint f(void) { return 1; }\nint main(void) {\n  int *p;\n  p = f();\n  return 0;\n}\n",
+        b"#pragma compartment A
+int *f(void) { return 0; }
+#pragma compartment Main
+int f(void) { return 1; }
+int main(void) {
+  int *p;
+  p = f();
+  return 0;
+}
+",
         Some(7),
     ),
     // The importing section's own prototype decides.
     (
-        b"#pragma compartment Main\n#pragma import A f\nint f(int a);\nint main(void) {\n  return f();\n}\n#pragma compartment A\n#pragma export f\nint f(void) { return 1; }\n",
+        b"#pragma compartment Main
+#pragma import A f
+int f(int a);
+int main(void) {
+  return f();
+}
+#pragma compartment A
+#pragma export f
+int f(void) { return 1; }
+",
         Some(5),
     ),
 ];

@@ -42,7 +42,8 @@ pub no_empty_array : array_length 0 ≡ None
 no_empty_array = refl
 
 -- `a + -b`
-pub sum_is_3_high : expr_height (expr.Binary binary.Add (expr.Variable (codes "a")) (expr.Unary unary.Minus (expr.Variable (codes "b")))) ≡ 3
+pub sum_is_3_high : expr_height (expr.Binary binary.Add (expr.Variable (codes "a"))
+    (expr.Unary unary.Minus (expr.Variable (codes "b")))) ≡ 3
 sum_is_3_high = search (arith, rules, the_lemmas)
 
 -- `*p` is a place and `&p` is none
@@ -53,12 +54,23 @@ pub address_is_no_place : is_place (expr.Address (expr.Variable (codes "p"))) �
 address_is_no_place = search (rules, the_lemmas)
 
 -- `while (c) { break; }`, whatever its lines
-pub lines_are_left_out : lineless_stmt (record { line = 3; kind = stmt.While (expr.Variable (codes "c")) (record { line = 4; kind = stmt.Break } ∷ []) }) ≡ lineless_stmt (record { line = 7; kind = stmt.While (expr.Variable (codes "c")) (record { line = 9; kind = stmt.Break } ∷ []) })
+pub lines_are_left_out : lineless_stmt (record {
+  line = 3;
+  kind = stmt.While (expr.Variable (codes "c")) (record { line = 4; kind = stmt.Break } ∷ []);
+}) ≡
+    lineless_stmt (record {
+      line = 7;
+      kind = stmt.While (expr.Variable (codes "c"))
+          (record { line = 9; kind = stmt.Break } ∷ []);
+    })
 lines_are_left_out = search (arith, rules, the_lemmas, kinds.the_lemmas, stmts.the_lemmas)
 
 -- `a - (b - c)` and `- -a`
-pub right_operands_stand_in_parentheses : text_of (expr_words (expr.Binary binary.Sub (expr.Variable (codes "a")) (expr.Binary binary.Sub (expr.Variable (codes "b")) (expr.Variable (codes "c"))))) ≡ codes "a - (b - c)"
+pub right_operands_stand_in_parentheses : text_of (expr_words
+    (expr.Binary binary.Sub (expr.Variable (codes "a"))
+    (expr.Binary binary.Sub (expr.Variable (codes "b")) (expr.Variable (codes "c"))))) ≡ codes "a - (b - c)"
 right_operands_stand_in_parentheses = search (arith, rules, the_lemmas)
 
-pub minus_stands_apart_from_minus : text_of (expr_words (expr.Unary unary.Minus (expr.Unary unary.Minus (expr.Variable (codes "a"))))) ≡ codes "- -a"
+pub minus_stands_apart_from_minus : text_of (expr_words
+    (expr.Unary unary.Minus (expr.Unary unary.Minus (expr.Variable (codes "a"))))) ≡ codes "- -a"
 minus_stands_apart_from_minus = search (arith, rules, the_lemmas)

@@ -58,7 +58,8 @@ module _ (P : StmtTree → Type 0) where
   each [] = tt
   each (s ∷ rest) = (s.1, each rest)
 
-  inside : (y : StmtKind-F ((k : StmtKind) × AnyLine k) ((s : StmtTree) × P s)) → Inside P (map-StmtKind _ _ _ _ (λ k. k.0) (λ s. s.0) y)
+  inside : (y : StmtKind-F ((k : StmtKind) × AnyLine k) ((s : StmtTree) × P s)) →
+      Inside P (map-StmtKind _ _ _ _ (λ k. k.0) (λ s. s.0) y)
   inside layer.Empty = tt
   inside (layer.Assign place value) = tt
   inside (layer.AssignCall place call) = tt
@@ -73,7 +74,8 @@ module _ (P : StmtTree → Type 0) where
   inside (layer.ReturnCall call) = tt
 
   -- To show P of every statement, show it of one where P holds of each statement directly inside.
-  pub stmt_induction : ((line : ℕ) (k : StmtKind-F StmtKind StmtTree) → Inside P k → P (record { line = line; kind = roll-StmtKind k })) → (s : StmtTree) → P s
+  pub stmt_induction : ((line : ℕ) (k : StmtKind-F StmtKind StmtTree) → Inside P k →
+      P (record { line = line; kind = roll-StmtKind k })) → (s : StmtTree) → P s
   stmt_induction step =
       ind-StmtTree AnyLine P
       (λ x y is line. step line x (subst (Inside P) is (inside y)))

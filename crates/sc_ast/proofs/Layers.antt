@@ -5,16 +5,20 @@ use Rattle.sc_ast.specs.declared.stmt.StmtTree.{StmtTree, StmtTree-F, fold-StmtT
 use Rattle.sc_ast.specs.declared.stmt.StmtKind.{StmtKind, StmtKind-F, roll-StmtKind, map-StmtKind, fold-StmtKind, fold-roll-StmtKind}
 
 -- an expression's fold, by its layer
-pub expr_at : {A : Type 0} (step : ExprTree-F A → A) (t : ExprTree-F ExprTree) → fold-ExprTree A step (roll-ExprTree t) ≡ step (map-ExprTree _ _ (fold-ExprTree A step) t)
+pub expr_at : {A : Type 0} (step : ExprTree-F A → A) (t : ExprTree-F ExprTree) →
+    fold-ExprTree A step (roll-ExprTree t) ≡ step (map-ExprTree _ _ (fold-ExprTree A step) t)
 expr_at {A} step t = fold-roll-ExprTree A step t
 
 module _ (A B : Type 0) (kind_step : StmtKind-F A B → A) (stmt_step : StmtTree-F A B → B) where
   -- the fold of a kind, by its layer
   abbrev pub layer_of : StmtKind-F StmtKind StmtTree → A
-  layer_of k = kind_step (map-StmtKind _ _ _ _ (fold-StmtKind A B kind_step stmt_step) (fold-StmtTree A B kind_step stmt_step) k)
+  layer_of k = kind_step (map-StmtKind _ _ _ _ (fold-StmtKind A B kind_step stmt_step)
+      (fold-StmtTree A B kind_step stmt_step) k)
 
   -- the fold of a statement, by its line and the layer of its kind
-  pub stmt_at : (line : ℕ) (k : StmtKind-F StmtKind StmtTree) → fold-StmtTree A B kind_step stmt_step (record { line = line; kind = roll-StmtKind k }) ≡ stmt_step (record { line = line; kind = layer_of k })
+  pub stmt_at : (line : ℕ) (k : StmtKind-F StmtKind StmtTree) →
+      fold-StmtTree A B kind_step stmt_step (record { line = line; kind = roll-StmtKind k }) ≡
+      stmt_step (record { line = line; kind = layer_of k })
   stmt_at line k =
       fold-roll-StmtTree A B kind_step stmt_step (record { line = line; kind = roll-StmtKind k })
       ∙ ap (λ x. stmt_step (record { line = line; kind = x })) (fold-roll-StmtKind A B kind_step stmt_step k)

@@ -13,16 +13,22 @@ use Rattle.sc_ast.specs.declared.stmt.StmtKind.TheVariants as stmt
 use Rattle.sc_ast.specs.declared.stmt.StmtTree.{StmtTree}
 use Rattle.sc_ast.specs.declared.stmt.StmtTree as trees
 
-pub tree_height : (line : ℕ) (kind : StmtKind) → stmt_height (record { line = line; kind = kind }) ≡ kind_height kind + 1
+pub tree_height : (line : ℕ) (kind : StmtKind) → stmt_height (record { line = line; kind = kind }) ≡
+    kind_height kind + 1
 tree_height line kind = search (rules, the_lemmas)
 
-pub if_height : (cond : ExprTree) (then_part else_part : List StmtTree) → kind_height (stmt.If cond then_part else_part) ≡ max (expr_height cond) (max (stmts_height then_part) (stmts_height else_part))
+pub if_height : (cond : ExprTree) (then_part else_part : List StmtTree) →
+    kind_height (stmt.If cond then_part else_part) ≡ max (expr_height cond)
+    (max (stmts_height then_part) (stmts_height else_part))
 if_height cond then_part else_part = search (rules, the_lemmas)
 
-pub while_height : (cond : ExprTree) (body : List StmtTree) → kind_height (stmt.While cond body) ≡ max (expr_height cond) (stmts_height body)
+pub while_height : (cond : ExprTree) (body : List StmtTree) →
+    kind_height (stmt.While cond body) ≡ max (expr_height cond) (stmts_height body)
 while_height cond body = search (rules, the_lemmas)
 
-pub for_height : (first : Option SimpleTree) (cond : ExprTree) (next : Option SimpleTree) (body : List StmtTree) → kind_height (stmt.For first cond next body) ≡ max (max (option_height first) (option_height next)) (max (expr_height cond) (stmts_height body))
+pub for_height : (first : Option SimpleTree) (cond : ExprTree) (next : Option SimpleTree) (body : List StmtTree) →
+    kind_height (stmt.For first cond next body) ≡ max (max (option_height first) (option_height next))
+    (max (expr_height cond) (stmts_height body))
 for_height first cond next body = search (rules, the_lemmas)
 
 pub empty_height : kind_height stmt.Empty ≡ 0
@@ -48,5 +54,6 @@ plain_height (simple.Assign place value) = search (rules, the_lemmas)
 plain_height (simple.AssignCall place call) = search (rules, the_lemmas)
 plain_height (simple.Call call) = search (rules, the_lemmas)
 
-pub bare_stmt : (line : ℕ) (kind : StmtKind) → lineless_stmt (record { line = line; kind = kind }) ≡ record { line = 0; kind = lineless_kind kind }
+pub bare_stmt : (line : ℕ) (kind : StmtKind) → lineless_stmt (record { line = line; kind = kind }) ≡
+    record { line = 0; kind = lineless_kind kind }
 bare_stmt line kind = search (rules, the_lemmas, trees.the_lemmas)

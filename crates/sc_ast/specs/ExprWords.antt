@@ -58,12 +58,14 @@ Printed = List ℕ → ℕ → List Piece
 
 -- an operator in front of an operand
 abbrev pub prefix_words : List ℕ → Printed → Printed
-prefix_words sign of before level = in_parens (nat_lt level unary_level) (apart before sign ++ word sign ∷ of sign unary_level)
+prefix_words sign of before level = in_parens (nat_lt level unary_level)
+    (apart before sign ++ word sign ∷ of sign unary_level)
 
 -- an operator between its operands, of which the right one is of the next tighter level
 abbrev pub binary_words : BinaryOp → Printed → Printed → Printed
 binary_words op left right before level =
-    in_parens (nat_lt level (level_of op)) (left [] (level_of op) ++ blank ∷ word (binary_text op) ∷ blank ∷ right [] (level_of op - 1))
+    in_parens (nat_lt level (level_of op)) (left [] (level_of op) ++ blank ∷ word (binary_text op) ∷ blank ∷
+    right [] (level_of op - 1))
 
 -- the words of an expression, by those of its parts
 abbrev pub expr_step : ExprTree-F Printed → Printed
@@ -71,7 +73,8 @@ expr_step (term.Literal literal) before level = word (literal_text literal) ∷ 
 expr_step (term.Variable name) before level = word name ∷ []
 expr_step (term.Unary op of) before level = prefix_words (unary_text op) of before level
 expr_step (term.Binary op left right) before level = binary_words op left right before level
-expr_step (term.Index base index) before level = base [] postfix_level ++ word (codes "[") ∷ (index [] loosest_level ++ word (codes "]") ∷ [])
+expr_step (term.Index base index) before level = base [] postfix_level ++
+    word (codes "[") ∷ (index [] loosest_level ++ word (codes "]") ∷ [])
 expr_step (term.Member base name) before level = base [] postfix_level ++ word (codes ".") ∷ word name ∷ []
 expr_step (term.Arrow base name) before level = base [] postfix_level ++ word (codes "->") ∷ word name ∷ []
 expr_step (term.Deref of) before level = prefix_words (codes "*") of before level

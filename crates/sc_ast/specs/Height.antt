@@ -61,7 +61,8 @@ kind_step (layer.AssignCall place call) = max (expr_height place) (call_height c
 kind_step (layer.Call call) = call_height call
 kind_step (layer.If cond then_part else_part) = max (expr_height cond) (max (highest then_part) (highest else_part))
 kind_step (layer.While cond body) = max (expr_height cond) (highest body)
-kind_step (layer.For first cond next body) = max (max (option_height first) (option_height next)) (max (expr_height cond) (highest body))
+kind_step (layer.For first cond next body) = max (max (option_height first) (option_height next))
+    (max (expr_height cond) (highest body))
 kind_step (layer.ReturnValue value) = expr_height value
 kind_step (layer.ReturnCall call) = call_height call
 kind_step _ = 0

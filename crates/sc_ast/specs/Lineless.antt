@@ -25,7 +25,8 @@ lineless_option (Some simple) = Some (lineless_simple simple)
 
 -- a kind of statement, where those inside are without lines
 abbrev pub kind_step : StmtKind-F StmtKind StmtTree → StmtKind
-kind_step (layer.For first cond next body) = roll-StmtKind (layer.For (lineless_option first) cond (lineless_option next) body)
+kind_step (layer.For first cond next body) = roll-StmtKind
+    (layer.For (lineless_option first) cond (lineless_option next) body)
 kind_step kind = roll-StmtKind kind
 
 abbrev pub stmt_step : StmtTree-F StmtKind StmtTree → StmtTree
@@ -51,7 +52,12 @@ lineless_local tree = record tree { line = 0 }
 
 abbrev pub lineless_function : FunctionTree → FunctionTree
 lineless_function tree =
-    record { head = lineless_function_head tree.head; locals = map lineless_local tree.locals; body = lineless_stmts tree.body; close_line = 0 }
+    record {
+      head = lineless_function_head tree.head;
+      locals = map lineless_local tree.locals;
+      body = lineless_stmts tree.body;
+      close_line = 0;
+    }
 
 abbrev pub lineless_struct : StructTree → StructTree
 lineless_struct tree = record tree { line = 0 }
@@ -73,7 +79,13 @@ lineless_import line = record line { line = 0 }
 
 abbrev pub lineless_section : SectionTree → SectionTree
 lineless_section tree =
-    record { name = tree.name; line = 0; exports = map lineless_export tree.exports; imports = map lineless_import tree.imports; decls = map lineless_decl tree.decls }
+    record {
+      name = tree.name;
+      line = 0;
+      exports = map lineless_export tree.exports;
+      imports = map lineless_import tree.imports;
+      decls = map lineless_decl tree.decls;
+    }
 
 -- two sections are the same, lines aside
 abbrev pub SameButLines : SectionTree → SectionTree → Type 0

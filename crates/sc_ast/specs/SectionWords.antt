@@ -54,7 +54,9 @@ member_line member = line_of 1 (ended (declared_words member.ty member.name))
 
 abbrev pub struct_words : StructTree → List Piece
 struct_words tree =
-    word (codes "struct") ∷ blank ∷ word tree.name ∷ blank ∷ word (codes "{") ∷ newline ∷ (flat_map member_line tree.members ++ word (codes "}") ∷ word (codes ";") ∷ newline ∷ [])
+    word (codes "struct") ∷ blank ∷ word tree.name ∷ blank ∷
+    word (codes "{") ∷ newline ∷ (flat_map member_line tree.members ++ word (codes "}") ∷ word (codes ";") ∷
+    newline ∷ [])
 
 abbrev pub minus_words : Bool → List Piece
 minus_words true = word (codes "-") ∷ []
@@ -67,7 +69,8 @@ const_words constant = minus_words constant.negative ++ word (literal_text const
 abbrev pub init_words : InitTree → List Piece
 init_words init.Absent = []
 init_words (init.One constant) = equals ++ const_words constant
-init_words (init.Many constants) = equals ++ word (codes "{") ∷ (join_by const_words comma constants ++ word (codes "}") ∷ [])
+init_words (init.Many constants) = equals ++ word (codes "{") ∷
+    (join_by const_words comma constants ++ word (codes "}") ∷ [])
 
 abbrev pub global_words : GlobalTree → List Piece
 global_words tree = ended (declared_words tree.ty tree.name ++ init_words tree.init) ++ newline ∷ []
@@ -78,7 +81,8 @@ name_words None = []
 name_words (Some name) = word name ∷ []
 
 abbrev pub param_words : ParamTree → List Piece
-param_words param = base_words param.ty.base ++ (blank_if (nat_lt 0 param.ty.stars || is_some param.name) ++ (star_words param.ty.stars ++ name_words param.name))
+param_words param = base_words param.ty.base ++ (blank_if (nat_lt 0 param.ty.stars || is_some param.name) ++
+    (star_words param.ty.stars ++ name_words param.name))
 
 -- parameters, or `void` for none
 abbrev pub params_words : List ParamTree → List Piece
@@ -91,7 +95,8 @@ result_words None = word (codes "void") ∷ blank ∷ []
 result_words (Some ty) = base_words ty.base ++ blank ∷ star_words ty.stars
 
 abbrev pub head_words : HeadTree → List Piece
-head_words head = result_words head.result ++ word head.name ∷ word (codes "(") ∷ (params_words head.params ++ word (codes ")") ∷ [])
+head_words head = result_words head.result ++ word head.name ∷
+    word (codes "(") ∷ (params_words head.params ++ word (codes ")") ∷ [])
 
 abbrev pub value_words : Option ExprTree → List Piece
 value_words None = []
@@ -103,7 +108,9 @@ local_line tree = line_of 1 (ended (declared_words tree.ty tree.name ++ value_wo
 -- the head, and in braces the locals and the statements, behind an empty line
 abbrev pub function_words : FunctionTree → List Piece
 function_words tree =
-    newline ∷ (head_words (head_of tree.head) ++ blank ∷ word (codes "{") ∷ newline ∷ (flat_map local_line tree.locals ++ (lines_at 1 (layouts tree.body) ++ word (codes "}") ∷ newline ∷ [])))
+    newline ∷ (head_words (head_of tree.head) ++ blank ∷
+    word (codes "{") ∷ newline ∷ (flat_map local_line tree.locals ++
+    (lines_at 1 (layouts tree.body) ++ word (codes "}") ∷ newline ∷ [])))
 
 abbrev pub decl_words : Decl → List Piece
 decl_words (decl.Struct tree) = struct_words tree
@@ -123,7 +130,8 @@ heading_words name = word (codes "#pragma compartment " ++ name) ∷ newline ∷
 
 abbrev pub section_words : SectionTree → List Piece
 section_words tree =
-    heading_words tree.name ++ (flat_map export_words tree.exports ++ (flat_map import_words tree.imports ++ flat_map decl_words tree.decls))
+    heading_words tree.name ++ (flat_map export_words tree.exports ++
+    (flat_map import_words tree.imports ++ flat_map decl_words tree.decls))
 
 -- the text of a section
 abbrev pub printed : SectionTree → List ℕ

@@ -35,7 +35,8 @@ ended pieces = pieces ++ word (codes ";") ∷ []
 
 -- `if (e) ` or `while (e) `
 abbrev pub condition_words : List ℕ → ExprTree → List Piece
-condition_words keyword cond = word keyword ∷ blank ∷ word (codes "(") ∷ (expr_words cond ++ word (codes ")") ∷ blank ∷ [])
+condition_words keyword cond = word keyword ∷ blank ∷
+    word (codes "(") ∷ (expr_words cond ++ word (codes ")") ∷ blank ∷ [])
 
 abbrev pub first_words : Option SimpleTree → List Piece
 first_words None = []
@@ -48,7 +49,8 @@ next_words (Some simple) = blank ∷ simple_words simple.kind
 -- `for (x = e; e; x = e) `
 abbrev pub for_words : Option SimpleTree → ExprTree → Option SimpleTree → List Piece
 for_words first cond next =
-    word (codes "for") ∷ blank ∷ word (codes "(") ∷ (first_words first ++ word (codes ";") ∷ blank ∷ (expr_words cond ++ word (codes ";") ∷ (next_words next ++ word (codes ")") ∷ blank ∷ [])))
+    word (codes "for") ∷ blank ∷ word (codes "(") ∷ (first_words first ++ word (codes ";") ∷ blank ∷
+    (expr_words cond ++ word (codes ";") ∷ (next_words next ++ word (codes ")") ∷ blank ∷ [])))
 
 -- `return` and what stands behind it
 abbrev pub return_words : List Piece → List Piece
@@ -67,7 +69,8 @@ abbrev pub lines_at : ℕ → List Layout → List Piece
 lines_at depth stmts = flat_map (λ stmt. line_of depth (stmt.words depth)) stmts
 
 abbrev pub block_words : ℕ → List Layout → List Piece
-block_words depth stmts = word (codes "{") ∷ newline ∷ (lines_at (deeper depth) stmts ++ indent depth ∷ word (codes "}") ∷ [])
+block_words depth stmts = word (codes "{") ∷ newline ∷
+    (lines_at (deeper depth) stmts ++ indent depth ∷ word (codes "}") ∷ [])
 
 -- all of the statements are one `if`, which goes on behind an `else`
 abbrev pub is_chain : List Layout → Bool
@@ -81,10 +84,12 @@ abbrev pub behind_else : ℕ → List Layout → List Piece
 behind_else depth stmts = if is_chain stmts then chain_words depth stmts else block_words depth stmts
 
 abbrev pub else_words : ℕ → List Layout → List Piece
-else_words depth stmts = if length stmts == 0 then [] else (blank ∷ word (codes "else") ∷ blank ∷ behind_else depth stmts)
+else_words depth stmts = if length stmts == 0 then [] else
+    (blank ∷ word (codes "else") ∷ blank ∷ behind_else depth stmts)
 
 abbrev pub if_words : ExprTree → List Layout → List Layout → ℕ → List Piece
-if_words cond then_part else_part depth = condition_words (codes "if") cond ++ (block_words depth then_part ++ else_words depth else_part)
+if_words cond then_part else_part depth = condition_words (codes "if") cond ++
+    (block_words depth then_part ++ else_words depth else_part)
 
 -- what is printed of a statement, by what is printed of those inside
 abbrev pub kind_step : StmtKind-F Layout Layout → Layout
@@ -93,8 +98,14 @@ kind_step (layer.Assign place value) = same_everywhere (ended (assign_words plac
 kind_step (layer.AssignCall place call) = same_everywhere (ended (assign_call_words place call))
 kind_step (layer.Call call) = same_everywhere (ended (call_words call))
 kind_step (layer.If cond then_part else_part) = record { is_if = true; words = if_words cond then_part else_part }
-kind_step (layer.While cond body) = record { is_if = false; words = λ depth. condition_words (codes "while") cond ++ block_words depth body }
-kind_step (layer.For first cond next body) = record { is_if = false; words = λ depth. for_words first cond next ++ block_words depth body }
+kind_step (layer.While cond body) = record {
+  is_if = false;
+  words = λ depth. condition_words (codes "while") cond ++ block_words depth body;
+}
+kind_step (layer.For first cond next body) = record {
+  is_if = false;
+  words = λ depth. for_words first cond next ++ block_words depth body;
+}
 kind_step layer.Break = same_everywhere (ended (word (codes "break") ∷ []))
 kind_step layer.Continue = same_everywhere (ended (word (codes "continue") ∷ []))
 kind_step layer.Return = same_everywhere (ended (word (codes "return") ∷ []))

@@ -52,7 +52,8 @@ fn append_directives(
     exports: &ExportLines,
     imports: &ImportLines,
 ) -> Result<(), OutOfMemory>
-    ensures { OnOk result (out.new ≡ out.old ++ text_of (flat_map export_words exports.now ++ flat_map import_words imports.now)) }
+    ensures { OnOk result (out.new ≡ out.old ++ text_of
+        (flat_map export_words exports.now ++ flat_map import_words imports.now)) }
 {
     append_exports(out, exports)?;
     append_imports(out, imports)
@@ -126,7 +127,8 @@ fn append_function(out: &mut Text, tree: &FunctionTree) -> Result<(), OutOfMemor
 
 // An empty line, a head and `{`.
 fn append_function_head(out: &mut Text, head: &FunctionHead) -> Result<(), OutOfMemory>
-    ensures { OnOk result (out.new ≡ out.old ++ text_of (newline ∷ (head_words (head_of head.now) ++ blank ∷ word (codes "{") ∷ newline ∷ []))) }
+    ensures { OnOk result (out.new ≡ out.old ++ text_of
+        (newline ∷ (head_words (head_of head.now) ++ blank ∷ word (codes "{") ∷ newline ∷ []))) }
 {
     out.push(b'\n')?;
     append_head(out, head)?;
@@ -165,7 +167,8 @@ fn append_value(out: &mut Text, value: &Option<ExprTree>) -> Result<(), OutOfMem
 
 // Statements and `}`.
 fn append_body(out: &mut Text, body: &Stmts) -> Result<(), OutOfMemory>
-    ensures { OnOk result (out.new ≡ out.old ++ text_of (lines_at 1 (layouts body.now) ++ word (codes "}") ∷ newline ∷ [])) }
+    ensures { OnOk result (out.new ≡ out.old ++ text_of (lines_at 1 (layouts body.now) ++ word (codes "}") ∷ newline ∷
+        [])) }
 {
     append_lines(out, body, 1)?;
     out.append(b"}\n")

@@ -1,4 +1,5 @@
--- Tests that are joined by `&&`, from their parts and into them. std has `and_from`, `and_parts`, `or_from` and `or_parts`.
+-- Tests that are joined by `&&`, from their parts and into them. std has `and_from`, `and_parts`, `or_from` and
+-- `or_parts`.
 use Rattle.std.proofs.Common.{◌≡◌, Bool, true, false, refl}
 use Rattle.std.specs.Prelude.{◌&&◌}
 use Rattle.std.proofs.lemmas.Bool.{and_parts}

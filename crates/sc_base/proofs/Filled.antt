@@ -13,14 +13,16 @@ name_is_short (first ∷ rest) named = grind (arith, nat_tests)
 
 pub filled_is : (text : List ℕ) → is_name text ≡ true → IsFilled (length text) (filled text)
 filled_is text named = record {
-  front = subst (λ front. IsTrue (is_name front)) (sym (take-append_seam text (zeros_behind (length text)))) (search named);
+  front = subst (λ front. IsTrue (is_name front)) (sym (take-append_seam text (zeros_behind (length text))))
+      (search named);
   behind = drop-append_seam text (zeros_behind (length text));
   within = omega (arith, length-append text (zeros_behind (length text)));
 }
 
 -- a text copied over the front of zeros
 pub copied_over : (text blank : List ℕ) → blank ≡ replicate 63 0 → text ++ drop (length text) blank ≡ filled text
-copied_over text blank is = ap (λ all. text ++ drop (length text) all) is ∙ ap (λ rest. text ++ rest) (drop-replicate {X = ℕ} (length text) 63 0)
+copied_over text blank is = ap (λ all. text ++ drop (length text) all) is ∙
+    ap (λ rest. text ++ rest) (drop-replicate {X = ℕ} (length text) 63 0)
 
 pub ruleset names = (name_is_short, filled_is)
 

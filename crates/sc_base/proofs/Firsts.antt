@@ -8,7 +8,8 @@ module _ {V : Type 0} (name : List ℕ) (value : V) where
   absent_at : (b : Bool) (e : List ℕ × V) (es : List (List ℕ × V)) →
       cond b (Some e.1) (first_by_name es name) ≡ None →
       (first_by_name es name ≡ None → insert_entry (pointwise ◌==◌) es name value ≡ es ++ (name, value) ∷ []) →
-      (if b then (e.0, value) ∷ es else e ∷ insert_entry (pointwise ◌==◌) es name value) ≡ e ∷ (es ++ (name, value) ∷ [])
+      (if b then (e.0, value) ∷ es else e ∷ insert_entry (pointwise ◌==◌) es name value) ≡ e ∷
+      (es ++ (name, value) ∷ [])
   absent_at true e es absent rest = cc
   absent_at false e es absent rest = ap (λ more. e ∷ more) (rest absent)
 

@@ -13,10 +13,12 @@ get_behind [] y ys = refl
 get_behind (x ∷ xs) y ys = get_behind xs y ys
 
 -- one step of a loop over a list: what is left, and what was
-pub drop-step : {A : Type 0} (xs : List A) (i : ℕ) (x : A) → i < length xs → x ≡ get_or xs i x → drop i xs ≡ x ∷ drop (i + 1) xs
+pub drop-step : {A : Type 0} (xs : List A) (i : ℕ) (x : A) → i < length xs → x ≡ get_or xs i x →
+    drop i xs ≡ x ∷ drop (i + 1) xs
 drop-step xs i x lt is = rw (add-one, drop-cons xs i x) (ap (λ y. y ∷ drop (suc i) xs) (sym is))
 
-pub take-step : {A : Type 0} (xs : List A) (i : ℕ) (x : A) → i < length xs → x ≡ get_or xs i x → take (i + 1) xs ≡ take i xs ++ x ∷ []
+pub take-step : {A : Type 0} (xs : List A) (i : ℕ) (x : A) → i < length xs → x ≡ get_or xs i x →
+    take (i + 1) xs ≡ take i xs ++ x ∷ []
 take-step xs i x lt is = take_more xs i x lt ∙ ap (λ y. take i xs ++ y ∷ []) (sym is)
 
 -- what is found passes
@@ -36,10 +38,12 @@ map_twice f g [] = refl
 map_twice f g (x ∷ xs) = ap (λ rest. f (g x) ∷ rest) (map_twice f g xs)
 
 -- a test that another implies
-pub list_all_along : {A : Type 0} (p q : A → Bool) → ((x : A) → p x ≡ true → q x ≡ true) → (xs : List A) → list_all p xs ≡ true → list_all q xs ≡ true
+pub list_all_along : {A : Type 0} (p q : A → Bool) → ((x : A) → p x ≡ true → q x ≡ true) → (xs : List A) →
+    list_all p xs ≡ true → list_all q xs ≡ true
 list_all_along p q on [] h = refl
 list_all_along p q on (x ∷ xs) h =
-    let parts = and_parts (p x) (list_all p xs) h in and_from (q x) (list_all q xs) (on x parts.0) (list_all_along p q on xs parts.1)
+    let parts = and_parts (p x) (list_all p xs) h in and_from (q x) (list_all q xs) (on x parts.0)
+    (list_all_along p q on xs parts.1)
 
 suc_within : (k n : ℕ) → ltb (suc k) (suc n) ≡ ltb k n
 suc_within k n = grind arith
@@ -57,9 +61,11 @@ zero_within : (n : ℕ) → ltb 0 (suc n) ≡ true
 zero_within n = grind arith
 
 -- the first place that passes a test, step by step
-pub position-cons : {X : Type 0} (p : X → Bool) (x : X) (xs : List X) → position p (x ∷ xs) ≡ cond (p x) (Some 0) (option_map suc (position p xs))
+pub position-cons : {X : Type 0} (p : X → Bool) (x : X) (xs : List X) →
+    position p (x ∷ xs) ≡ cond (p x) (Some 0) (option_map suc (position p xs))
 position-cons p x xs = by (p x) where
-  by : (b : Bool) → cond (ltb (cond (not b) (1 + position_or_len p xs) 0) (suc (length xs))) (Some (cond (not b) (1 + position_or_len p xs) 0)) None ≡ cond b (Some 0) (option_map suc (position p xs))
+  by : (b : Bool) → cond (ltb (cond (not b) (1 + position_or_len p xs) 0) (suc (length xs)))
+      (Some (cond (not b) (1 + position_or_len p xs) 0)) None ≡ cond b (Some 0) (option_map suc (position p xs))
   by true = ap (λ b. cond b (Some 0) None) (zero_within (length xs))
   by false =
       ap (λ k. cond (ltb k (suc (length xs))) (Some k) None) (one_more (position_or_len p xs))

@@ -13,17 +13,20 @@ abbrev pub or_behind : Option ℕ → Bool → ℕ → Option ℕ
 or_behind (Some i) passes place = Some i
 or_behind None passes place = cond passes (Some place) None
 
-more-behind : (b passes : Bool) (i place : ℕ) (whole part : Option ℕ) → whole ≡ or_behind part passes place → cond b (Some i) whole ≡ or_behind (cond b (Some i) part) passes place
+more-behind : (b passes : Bool) (i place : ℕ) (whole part : Option ℕ) → whole ≡ or_behind part passes place →
+    cond b (Some i) whole ≡ or_behind (cond b (Some i) part) passes place
 more-behind true passes i place whole part h = refl
 more-behind false passes i place whole part h = h
 
 one-further : (i n : ℕ) → i + 1 + n ≡ i + suc n
 one-further i n = omega arith
 
-from-more : {X : Type 0} (p : X → Bool) (i : ℕ) (xs : List X) (x : X) → position_from p i (xs ++ x ∷ []) ≡ or_behind (position_from p i xs) (p x) (i + length xs)
+from-more : {X : Type 0} (p : X → Bool) (i : ℕ) (xs : List X) (x : X) →
+    position_from p i (xs ++ x ∷ []) ≡ or_behind (position_from p i xs) (p x) (i + length xs)
 from-more p i [] x = let e : i ≡ i + 0 = omega arith in ap (λ n. cond (p x) (Some n) None) e
 from-more p i (y ∷ xs) x =
-    more-behind (p y) (p x) i (i + suc (length xs)) (position_from p (i + 1) (xs ++ x ∷ [])) (position_from p (i + 1) xs)
+    more-behind (p y) (p x) i (i + suc (length xs)) (position_from p (i + 1) (xs ++ x ∷ []))
+    (position_from p (i + 1) xs)
     (from-more p (i + 1) xs x ∙ ap (or_behind (position_from p (i + 1) xs) (p x)) (one-further i (length xs)))
 
 some-or : (b rest : Bool) (i : ℕ) (o : Option ℕ) → is_some o ≡ rest → is_some (cond b (Some i) o) ≡ (b || rest)
@@ -34,11 +37,14 @@ from-some : {X : Type 0} (p : X → Bool) (i : ℕ) (xs : List X) → is_some (p
 from-some p i [] = refl
 from-some p i (x ∷ xs) = some-or (p x) (list_any p xs) i (position_from p (i + 1) xs) (from-some p (i + 1) xs)
 
-number-more : (names : List (List ℕ)) (name other : List ℕ) → number_of (names ++ name ∷ []) other ≡ or_behind (number_of names other) (pointwise nat_eq other name) (length names)
+number-more : (names : List (List ℕ)) (name other : List ℕ) →
+    number_of (names ++ name ∷ []) other ≡ or_behind (number_of names other) (pointwise nat_eq other name)
+    (length names)
 number-more names name other =
     position_from-zero (pointwise nat_eq other) (names ++ name ∷ [])
     ∙ (from-more (pointwise nat_eq other) 0 names name
-    ∙ (ap (λ o. or_behind o (pointwise nat_eq other name) (0 + length names)) (sym (position_from-zero (pointwise nat_eq other) names))
+    ∙ (ap (λ o. or_behind o (pointwise nat_eq other name) (0 + length names))
+    (sym (position_from-zero (pointwise nat_eq other) names))
     ∙ ap (or_behind (number_of names other) (pointwise nat_eq other name)) (omega arith)))
 
 -- a name that has a number is one of the names
@@ -53,39 +59,49 @@ is-none None h = refl
 is-none (Some i) h = absurd (true≢false h)
 
 -- Where the test says that they are the same, two names have the same number.
-numbers-alike : (names : List (List ℕ)) (name other : List ℕ) → pointwise nat_eq other name ≡ true → number_of names other ≡ number_of names name
+numbers-alike : (names : List (List ℕ)) (name other : List ℕ) → pointwise nat_eq other name ≡ true →
+    number_of names other ≡ number_of names name
 numbers-alike names name other h = ap (number_of names) (same_text other name (sym h))
 
-old-place : (names : List (List ℕ)) (name other : List ℕ) (o : Option ℕ) (b : Bool) → is_some (number_of names name) ≡ true → number_of names other ≡ o → pointwise nat_eq other name ≡ b → o ≡ or_behind o b (length names)
+old-place : (names : List (List ℕ)) (name other : List ℕ) (o : Option ℕ) (b : Bool) →
+    is_some (number_of names name) ≡ true → number_of names other ≡ o → pointwise nat_eq other name ≡ b →
+    o ≡ or_behind o b (length names)
 old-place names name other (Some i) b h e s = refl
 old-place names name other None false h e s = refl
 old-place names name other None true h e s =
     absurd (true≢false (sym h ∙ ap is_some (sym (numbers-alike names name other s) ∙ e)))
 
-new-place : (names : List (List ℕ)) (name other : List ℕ) (o : Option ℕ) (b : Bool) → is_some (number_of names name) ≡ false → number_of names other ≡ o → pointwise nat_eq other name ≡ b → cond b (Some (length names)) o ≡ or_behind o b (length names)
+new-place : (names : List (List ℕ)) (name other : List ℕ) (o : Option ℕ) (b : Bool) →
+    is_some (number_of names name) ≡ false → number_of names other ≡ o → pointwise nat_eq other name ≡ b →
+    cond b (Some (length names)) o ≡ or_behind o b (length names)
 new-place names name other None b h e s = refl
 new-place names name other (Some i) false h e s = refl
 new-place names name other (Some i) true h e s =
     absurd (true≢false (ap is_some (sym e ∙ numbers-alike names name other s) ∙ h))
 
-module _ {S : Type 0} (names : List (List ℕ)) (name : List ℕ) (places : IndexMap (List ℕ) ℕ S) (has : HasPlaces names places) where
+module _ {S : Type 0} (names : List (List ℕ)) (name : List ℕ) (places : IndexMap (List ℕ) ℕ S)
+    (has : HasPlaces names places) where
   -- a name that was there
   pub known-place : is_some (get (pointwise ◌==◌) places name) ≡ true → HasPlaces (names ++ name ∷ []) places
   known-place h = record {
     at = λ other.
         has.at other
-        ∙ (old-place names name other (number_of names other) (pointwise nat_eq other name) (ap is_some (sym (has.at name)) ∙ h) refl refl
+        ∙ (old-place names name other (number_of names other) (pointwise nat_eq other name)
+        (ap is_some (sym (has.at name)) ∙ h) refl refl
         ∙ sym (number-more names name other));
   }
 
   -- a new name
-  pub noted-place : (more : IndexMap (List ℕ) ℕ S) (place : ℕ) → is_some (get (pointwise ◌==◌) places name) ≡ false → place ≡ length names → Updates (pointwise ◌==◌) places more name (Some place) → HasPlaces (names ++ name ∷ []) more
+  pub noted-place : (more : IndexMap (List ℕ) ℕ S) (place : ℕ) → is_some (get (pointwise ◌==◌) places name) ≡ false →
+      place ≡ length names → Updates (pointwise ◌==◌) places more name (Some place) →
+      HasPlaces (names ++ name ∷ []) more
   noted-place more place h e updates = record {
     at = λ other.
         updates.0 other
         ∙ (ap (λ b. cond b (Some place) (get (pointwise ◌==◌) places other)) (nat_list_eq_equiv.symm name other)
         ∙ (ap (λ n. cond (pointwise nat_eq other name) (Some n) (get (pointwise ◌==◌) places other)) e
         ∙ (ap (cond (pointwise nat_eq other name) (Some (length names))) (has.at other)
-        ∙ (new-place names name other (number_of names other) (pointwise nat_eq other name) (ap is_some (sym (has.at name)) ∙ h) refl refl
+        ∙ (new-place names name other (number_of names other) (pointwise nat_eq other name)
+        (ap is_some (sym (has.at name)) ∙ h) refl refl
         ∙ sym (number-more names name other)))));
   }

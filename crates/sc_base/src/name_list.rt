@@ -73,7 +73,8 @@ impl NameList {
 
 // One name more, whose first place this is if it is new.
 fn note_place(places: &mut IndexMap<Name, u32>, name: Name, place: u32) -> Result<(), OutOfMemory>
-    ensures ok { (names : List (List ℕ)) → HasPlaces names places.old → place ≡ length names → OnOk result (HasPlaces (names ++ name ∷ []) places.new) }
+    ensures ok { (names : List (List ℕ)) → HasPlaces names places.old → place ≡ length names →
+        OnOk result (HasPlaces (names ++ name ∷ []) places.new) }
     ensures err { (names : List (List ℕ)) → HasPlaces names places.old → OnErr result (HasPlaces names places.new) }
 {
     if places.contains_key(&name) {

@@ -18,27 +18,35 @@ row_of_more (row ∷ rows) (suc comp) = row_of_more rows comp
 pub memory_more : (rows : List Blocks) → memory_of (rows ++ [] ∷ []) ≡ memory_of rows
 memory_more rows = λ i comp. row_of_more rows comp i
 
-pub memory_more_by : (rows more : List Blocks) (row : Blocks) → row ≡ [] → more ≡ rows ++ row ∷ [] → memory_of more ≡ memory_of rows
+pub memory_more_by : (rows more : List Blocks) (row : Blocks) → row ≡ [] → more ≡ rows ++ row ∷ [] →
+    memory_of more ≡ memory_of rows
 memory_more_by rows more row none is = ap memory_of (is ∙ ap (λ r. rows ++ r ∷ []) none) ∙ memory_more rows
 
-row_of_set : (rows : List Blocks) (comp : ℕ) (row : Blocks) (c : ℕ) → comp < length rows → slice_index_or (slice_set rows comp row) c [] ≡ (if c == comp then row else slice_index_or rows c [])
+row_of_set : (rows : List Blocks) (comp : ℕ) (row : Blocks) (c : ℕ) → comp < length rows →
+    slice_index_or (slice_set rows comp row) c [] ≡ (if c == comp then row else slice_index_or rows c [])
 row_of_set [] comp row c h = absurd (omega arith)
 row_of_set (r ∷ rows) zero row zero h = refl
 row_of_set (r ∷ rows) zero row (suc c) h = ap (λ b. if b then row else slice_index_or rows c []) (sym (eqb-suc-zero c))
 row_of_set (r ∷ rows) (suc comp) row zero h = ap (λ b. if b then row else r) (sym (eqb-zero-suc comp))
 row_of_set (r ∷ rows) (suc comp) row (suc c) h =
-    row_of_set rows comp row c (omega arith) ∙ ap (λ b. if b then row else slice_index_or rows c []) (sym (eqb-suc-suc c comp))
+    row_of_set rows comp row c (omega arith) ∙ ap (λ b. if b then row else slice_index_or rows c [])
+    (sym (eqb-suc-suc c comp))
 
-pub memory_set : (rows : List Blocks) (comp : ℕ) (row : Blocks) → comp < length rows → memory_of (slice_set rows comp row) ≡ with_blocks comp row (memory_of rows)
+pub memory_set : (rows : List Blocks) (comp : ℕ) (row : Blocks) → comp < length rows →
+    memory_of (slice_set rows comp row) ≡ with_blocks comp row (memory_of rows)
 memory_set rows comp row h = λ i c. row_of_set rows comp row c h i
 
 -- a row, as it was looked up
-pub row_is : (rows : List Blocks) (memory : Memory) (at comp : ℕ) (old : Blocks) → memory_of rows ≡ memory → at ≡ comp → comp < length rows → old ≡ get_or rows at old → old ≡ memory comp
+pub row_is : (rows : List Blocks) (memory : Memory) (at comp : ℕ) (old : Blocks) → memory_of rows ≡ memory → at ≡ comp →
+    comp < length rows → old ≡ get_or rows at old → old ≡ memory comp
 row_is rows memory at comp old is same there looked =
-    looked ∙ get_or_default rows at old [] (subst (λ n. n < length rows) (sym same) there) ∙ ap (λ n. slice_index_or rows n []) same ∙ (λ i. is i comp)
+    looked ∙ get_or_default rows at old [] (subst (λ n. n < length rows) (sym same) there) ∙
+    ap (λ n. slice_index_or rows n []) same ∙ (λ i. is i comp)
 
 -- what a change of one row makes of the memory
-pub memory_changed : (rows : List Blocks) (memory : Memory) (at comp : ℕ) (old row : Blocks) (f : Blocks → Blocks) → memory_of rows ≡ memory → at ≡ comp → comp < length rows → old ≡ get_or rows at old → row ≡ f old → memory_of (slice_set rows at row) ≡ with_blocks comp (f (memory comp)) memory
+pub memory_changed : (rows : List Blocks) (memory : Memory) (at comp : ℕ) (old row : Blocks) (f : Blocks → Blocks) →
+    memory_of rows ≡ memory → at ≡ comp → comp < length rows → old ≡ get_or rows at old → row ≡ f old →
+    memory_of (slice_set rows at row) ≡ with_blocks comp (f (memory comp)) memory
 memory_changed rows memory at comp old row f is same there looked gives =
     ap (λ n. memory_of (slice_set rows n row)) same ∙ memory_set rows comp row there
     ∙ (λ i. with_blocks comp ((gives ∙ ap f (row_is rows memory at comp old is same there looked)) i) (is i))
@@ -53,7 +61,9 @@ same_at memory comp c true is = ap memory (eqb-true c comp is)
 same_at memory comp c false is = refl
 
 -- a compartment without a row has no blocks that could end
-pub none_end : (rows : List Blocks) (comp first count : ℕ) → length rows ≤ comp → memory_of rows ≡ with_blocks comp (cleared first count (memory_of rows comp)) (memory_of rows)
+pub none_end : (rows : List Blocks) (comp first count : ℕ) → length rows ≤ comp →
+    memory_of rows ≡ with_blocks comp (cleared first count (memory_of rows comp)) (memory_of rows)
 none_end rows comp first count h =
     (λ i c. same_at (memory_of rows) comp c (c == comp) refl i)
-    ∙ ap (λ bs. with_blocks comp bs (memory_of rows)) (no_row rows comp h ∙ sym (nothing_cleared first count) ∙ ap (cleared first count) (sym (no_row rows comp h)))
+    ∙ ap (λ bs. with_blocks comp bs (memory_of rows))
+    (no_row rows comp h ∙ sym (nothing_cleared first count) ∙ ap (cleared first count) (sym (no_row rows comp h)))

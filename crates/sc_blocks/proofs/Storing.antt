@@ -13,20 +13,29 @@ use Rattle.sc_blocks.specs.declared.fault.BlockFault.{BlockFault}
 use Rattle.sc_blocks.specs.Rows.{cause_of, living, put_in, store_cell}
 use Rattle.sc_blocks.specs.Cells.{block_of, stored_in}
 
-in_block : (bs : Blocks) (k : ℕ) (q : Result (List Cell) Cause) → bind q (λ cells. Ok (slice_set bs k (living cells))) ≡ bind (bind q (λ cells. Ok (living cells))) (λ block. Ok (slice_set bs k block))
+in_block : (bs : Blocks) (k : ℕ) (q : Result (List Cell) Cause) →
+    bind q (λ cells. Ok (slice_set bs k (living cells))) ≡
+    bind (bind q (λ cells. Ok (living cells))) (λ block. Ok (slice_set bs k block))
 in_block bs k (Err cause) = refl
 in_block bs k (Ok cells) = refl
 
-by_block : (bs : Blocks) (k index : ℕ) (cell : Cell) (c : Result (List Cell) Cause) → bind c (λ cells. bind (put_in cells index cell) (λ cells. Ok (slice_set bs k (living cells)))) ≡ bind (bind c (λ cells. bind (put_in cells index cell) (λ cells. Ok (living cells)))) (λ block. Ok (slice_set bs k block))
+by_block : (bs : Blocks) (k index : ℕ) (cell : Cell) (c : Result (List Cell) Cause) →
+    bind c (λ cells. bind (put_in cells index cell) (λ cells. Ok (slice_set bs k (living cells)))) ≡
+    bind (bind c (λ cells. bind (put_in cells index cell) (λ cells. Ok (living cells))))
+    (λ block. Ok (slice_set bs k block))
 by_block bs k index cell (Err cause) = refl
 by_block bs k index cell (Ok cells) = in_block bs k (put_in cells index cell)
 
 -- a store into a row is one into its block
-store_is : (bs : Blocks) (p : Pointer) (cell : Cell) (block : Block) → slice_get bs p.block ≡ Some block → store_cell bs (Ptr p) cell ≡ bind (stored_in block p.index cell) (λ block. Ok (slice_set bs p.block block))
+store_is : (bs : Blocks) (p : Pointer) (cell : Cell) (block : Block) → slice_get bs p.block ≡ Some block →
+    store_cell bs (Ptr p) cell ≡ bind (stored_in block p.index cell) (λ block. Ok (slice_set bs p.block block))
 store_is bs p cell block is =
-    by_block bs p.block p.index cell (cells_at bs p.block) ∙ ap (λ o. bind (bind (live_cells o) (λ cells. bind (put_in cells p.index cell) (λ cells. Ok (living cells)))) (λ block. Ok (slice_set bs p.block block))) is
+    by_block bs p.block p.index cell (cells_at bs p.block) ∙
+    ap (λ o. bind (bind (live_cells o) (λ cells. bind (put_in cells p.index cell) (λ cells. Ok (living cells))))
+    (λ block. Ok (slice_set bs p.block block))) is
 
-module _ (os : List (Option (List Cell))) (p : Pointer) (cell : Cell) (b c : Option (List Cell)) (there : p.block < length os) (old : b ≡ get_or os p.block b) where
+module _ (os : List (Option (List Cell))) (p : Pointer) (cell : Cell) (b c : Option (List Cell))
+    (there : p.block < length os) (old : b ≡ get_or os p.block b) where
   abbrev row : Blocks
   row = map block_of os
 
@@ -34,10 +43,17 @@ module _ (os : List (Option (List Cell))) (p : Pointer) (cell : Cell) (b c : Opt
   after = map block_of (slice_set os p.block c)
 
   found : slice_get row p.block ≡ Some (block_of b)
-  found = slice_get-map block_of os p.block ∙ ap (λ o. option_map block_of o) (slice_get_read os (length os) p.block b refl there old)
+  found = slice_get-map block_of os p.block ∙ ap (λ o. option_map block_of o)
+      (slice_get_read os (length os) p.block b refl there old)
 
   -- what a store did to the row, by what it did to the block
-  pub stored : (r : Result (Unit {0}) BlockFault) → MatchResult r (λ _. stored_in (block_of b) p.index cell ≡ Ok (block_of c)) (λ fault. stored_in (block_of b) p.index cell ≡ Err (cause_of fault)) → MatchResult r (λ _. store_cell row (Ptr p) cell ≡ Ok after) (λ fault. store_cell row (Ptr p) cell ≡ Err (cause_of fault))
+  pub stored : (r : Result (Unit {0}) BlockFault) → MatchResult r
+      (λ _. stored_in (block_of b) p.index cell ≡ Ok (block_of c))
+      (λ fault. stored_in (block_of b) p.index cell ≡ Err (cause_of fault)) →
+      MatchResult r (λ _. store_cell row (Ptr p) cell ≡ Ok after)
+      (λ fault. store_cell row (Ptr p) cell ≡ Err (cause_of fault))
   stored (Ok done) h =
-      store_is row p cell (block_of b) found ∙ ap (λ q. bind q (λ block. Ok (slice_set row p.block block))) h ∙ ap Ok (sym (map-set block_of os p.block c))
-  stored (Err fault) h = store_is row p cell (block_of b) found ∙ ap (λ q. bind q (λ block. Ok (slice_set row p.block block))) h
+      store_is row p cell (block_of b) found ∙ ap (λ q. bind q (λ block. Ok (slice_set row p.block block))) h ∙
+      ap Ok (sym (map-set block_of os p.block c))
+  stored (Err fault) h = store_is row p cell (block_of b) found ∙
+      ap (λ q. bind q (λ block. Ok (slice_set row p.block block))) h

@@ -12,4 +12,5 @@ block_of (Some cells) = living cells
 
 -- the block once the cell at an index is another
 abbrev pub stored_in : Block → ℕ → Cell → Result Block Cause
-stored_in block index cell = bind (live_cells (Some block)) (λ cells. bind (put_in cells index cell) (λ cells. Ok (living cells)))
+stored_in block index cell = bind (live_cells (Some block))
+    (λ cells. bind (put_in cells index cell) (λ cells. Ok (living cells)))

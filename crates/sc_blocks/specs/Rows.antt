@@ -46,16 +46,16 @@ is_place (Ptr p) = true
 is_place _ = false
 
 -- what a cell holds: a pointer into a block that has ended is nothing that can be loaded
-abbrev pub held : Blocks → Option Cell → Result Cell Cause
-held blocks None = Err cause.OutOfBounds
-held blocks (Some Undef) = Err cause.Indeterminate
-held blocks (Some (Word w)) = Ok (Word w)
-held blocks (Some Null) = Ok Null
-held blocks (Some (Ptr p)) = if is_live (slice_get blocks p.block) then Ok (Ptr p) else Err cause.Dangling
+abbrev pub read_cell : Blocks → Option Cell → Result Cell Cause
+read_cell blocks None = Err cause.OutOfBounds
+read_cell blocks (Some Undef) = Err cause.Indeterminate
+read_cell blocks (Some (Word w)) = Ok (Word w)
+read_cell blocks (Some Null) = Ok Null
+read_cell blocks (Some (Ptr p)) = if is_live (slice_get blocks p.block) then Ok (Ptr p) else Err cause.Dangling
 
 -- the cell at a place
 abbrev pub load_cell : Blocks → Cell → Result Cell Cause
-load_cell blocks (Ptr p) = bind (cells_at blocks p.block) (λ cells. held blocks (slice_get cells p.index))
+load_cell blocks (Ptr p) = bind (cells_at blocks p.block) (λ cells. read_cell blocks (slice_get cells p.index))
 load_cell blocks _ = Err cause.NullUse
 
 -- the cells once the one at an index is another
@@ -65,7 +65,8 @@ put_in cells index cell = if nat_lt index (length cells) then Ok (slice_set cell
 -- the blocks once a place holds this cell
 abbrev pub store_cell : Blocks → Cell → Cell → Result Blocks Cause
 store_cell blocks (Ptr p) cell =
-    bind (cells_at blocks p.block) (λ cells. bind (put_in cells p.index cell) (λ cells. Ok (slice_set blocks p.block (living cells))))
+    bind (cells_at blocks p.block) (λ cells. bind (put_in cells p.index cell)
+    (λ cells. Ok (slice_set blocks p.block (living cells))))
 store_cell blocks _ cell = Err cause.NullUse
 
 -- how many cells a block has, if it lives

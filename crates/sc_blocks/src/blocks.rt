@@ -55,7 +55,8 @@ impl Blocks {
     // A block with these cells, behind those of the compartment.
     fn add(&mut self, comp: CompId, cells: Cells) -> Result<u64, OutOfMemory>
         ensures number { IfOk result (λ number. number ≡ length (memory_of self.old comp)) }
-        ensures made { OnOk result (memory_of self.new ≡ with_blocks comp (memory_of self.old comp ++ living cells ∷ []) (memory_of self.old)) }
+        ensures made { OnOk result (memory_of self.new ≡
+            with_blocks comp (memory_of self.old comp ++ living cells ∷ []) (memory_of self.old)) }
         ensures err { OnErr result (memory_of self.new ≡ memory_of self.old) }
     {
         self.make_row(comp)?;
@@ -69,7 +70,8 @@ impl Blocks {
     pub fn new_block(&mut self, comp: CompId, cells: &[Cell]) -> Result<u64, OutOfMemory>
         requires { length cells.now < 2 ^ 32 }
         ensures number { IfOk result (λ number. number ≡ length (memory_of self.old comp)) }
-        ensures made { OnOk result (memory_of self.new ≡ with_blocks comp (memory_of self.old comp ++ living cells.now ∷ []) (memory_of self.old)) }
+        ensures made { OnOk result (memory_of self.new ≡
+            with_blocks comp (memory_of self.old comp ++ living cells.now ∷ []) (memory_of self.old)) }
         ensures err { OnErr result (memory_of self.new ≡ memory_of self.old) }
     {
         let cells = Items::from_slice(self.alloc, cells)?;
@@ -79,7 +81,8 @@ impl Blocks {
     /// A new block of so many cells, in which nothing was stored yet.
     pub fn new_blank(&mut self, comp: CompId, count: u32) -> Result<u64, OutOfMemory>
         ensures number { IfOk result (λ number. number ≡ length (memory_of self.old comp)) }
-        ensures made { OnOk result (memory_of self.new ≡ with_blocks comp (memory_of self.old comp ++ living (replicate count Undef) ∷ []) (memory_of self.old)) }
+        ensures made { OnOk result (memory_of self.new ≡
+            with_blocks comp (memory_of self.old comp ++ living (replicate count Undef) ∷ []) (memory_of self.old)) }
         ensures err { OnErr result (memory_of self.new ≡ memory_of self.old) }
     {
         let cells = blank(self.alloc, count)?;
@@ -96,9 +99,11 @@ impl Blocks {
         }
     }
 
-    /// Ends so many blocks of the compartment, from a number on, as at a return (C11 6.2.4p2). Their cells are given back.
+    /// Ends so many blocks of the compartment, from a number on, as at a return (C11 6.2.4p2). Their cells are given
+    /// back.
     pub fn end(&mut self, comp: CompId, first: u64, count: u64)
-        ensures { memory_of self.new ≡ with_blocks comp (cleared first count (memory_of self.old comp)) (memory_of self.old) }
+        ensures { memory_of self.new ≡ with_blocks comp (cleared first count (memory_of self.old comp))
+            (memory_of self.old) }
     {
         if (comp.number() as usize) < self.rows.len() {
             let row = &mut self.rows[comp.number() as usize];

@@ -3,7 +3,7 @@ ghost use Rattle.std.specs.Option.{option_copied};
 ghost use Rattle.sc_core.specs.declared.value.Cell.TheVariants.{Ptr};
 ghost use Rattle.sc_core.specs.Memory.{is_live, cells_at};
 ghost use Rattle.sc_blocks.specs.Cells.{block_of, stored_in};
-ghost use Rattle.sc_blocks.specs.Rows.{or_cause, cause_of, living, cleared, held, load_cell, store_cell, cell_count};
+ghost use Rattle.sc_blocks.specs.Rows.{or_cause, cause_of, living, cleared, read_cell, load_cell, store_cell, cell_count};
 
 use crate::BlockFault;
 use crate::cells::Cells;
@@ -91,8 +91,8 @@ impl Row {
     }
 
     // What a cell holds, where there is one.
-    fn held(&self, cell: Option<&Cell>) -> Result<Cell, BlockFault>
-        ensures { or_cause result ≡ held self.now (option_copied cell.entry) }
+    fn read_cell(&self, cell: Option<&Cell>) -> Result<Cell, BlockFault>
+        ensures { or_cause result ≡ read_cell self.now (option_copied cell.entry) }
     {
         match cell {
             None => Err(BlockFault::OutOfBounds),
@@ -113,7 +113,7 @@ impl Row {
         ensures { or_cause result ≡ load_cell self.now (Ptr place) }
     {
         match self.cells(place.block as usize) {
-            Ok(cells) => self.held(cells.get(place.index as usize)),
+            Ok(cells) => self.read_cell(cells.get(place.index as usize)),
             Err(fault) => Err(fault),
         }
     }

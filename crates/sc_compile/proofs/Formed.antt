@@ -24,11 +24,13 @@ use Rattle.sc_compile.proofs.Correct.{code_length}
 load_instrs : (b : Bool) (rd word : ℕ) → is_short word ≡ b → rd < 32 → All IsInstr (loading rd word)
 unfolding loading
 load_instrs true rd word h below =
-    rw h (All-cons IsInstr (OpImm Addi rd 0 (signed_of word)) [] (below, lit< tt, IsImmediate-signed_of word h) (All-nil IsInstr))
+    rw h (All-cons IsInstr (OpImm Addi rd 0 (signed_of word)) [] (below, lit< tt, IsImmediate-signed_of word h)
+    (All-nil IsInstr))
 load_instrs false rd word h below =
     rw h (All-cons IsInstr (Upper Lui rd (upper_part word)) (OpImm Addi rd rd (lower_part word) ∷ [])
     (below, IsUpper-upper_part word)
-    (All-cons IsInstr (OpImm Addi rd rd (lower_part word)) [] (below, below, IsImmediate-lower_part word) (All-nil IsInstr)))
+    (All-cons IsInstr (OpImm Addi rd rd (lower_part word)) [] (below, below, IsImmediate-lower_part word)
+    (All-nil IsInstr)))
 
 loading_instrs : (rd word : ℕ) → rd < 32 → All IsInstr (loading rd word)
 loading_instrs rd word below = load_instrs (is_short word) rd word refl below
@@ -43,23 +45,27 @@ outputs_instrs : (words : List ℕ) → All IsInstr (flat_map outputting words)
 outputs_instrs [] = All-nil IsInstr
 outputs_instrs (word ∷ words) =
     All-append IsInstr (outputting word) (flat_map outputting words)
-    (All-append IsInstr (loading 10 word) (OpImm Addi 17 0 output_call ∷ Ecall ∷ []) (loading_instrs 10 word (lit< tt)) call_instrs)
+    (All-append IsInstr (loading 10 word) (OpImm Addi 17 0 output_call ∷ Ecall ∷ [])
+    (loading_instrs 10 word (lit< tt)) call_instrs)
     (outputs_instrs words)
 
 return_instrs : (word : ℕ) → All IsInstr (returning word)
 return_instrs word =
     All-append IsInstr (loading 10 word) (Jalr 0 1 (pos 0) ∷ []) (loading_instrs 10 word (lit< tt))
-    (All-cons IsInstr (Jalr 0 1 (pos 0)) [] (lit< tt, lit< tt, record { least = search rules; greatest = search rules }) (All-nil IsInstr))
+    (All-cons IsInstr (Jalr 0 1 (pos 0)) [] (lit< tt, lit< tt, record { least = search rules; greatest = search rules })
+    (All-nil IsInstr))
 
 code_instrs : (program : ThinProgram) → All IsInstr (thin_code program)
 code_instrs program =
-    All-append IsInstr (flat_map outputting program.outputs) (returning program.result) (outputs_instrs program.outputs) (return_instrs program.result)
+    All-append IsInstr (flat_map outputting program.outputs) (returning program.result) (outputs_instrs program.outputs)
+    (return_instrs program.result)
 
 instr_word : (instr : Instr) → IsInstr instr → IsWord (word_of instr)
 instr_word instr h = word-below instr (word_of instr) (HasWord-own instr h)
 
 code_words : (program : ThinProgram) → All IsWord (map word_of (thin_code program))
-code_words program = All-map IsWord word_of (thin_code program) (All-weaker IsInstr (λ i. IsWord (word_of i)) instr_word (thin_code program) (code_instrs program))
+code_words program = All-map IsWord word_of (thin_code program)
+    (All-weaker IsInstr (λ i. IsWord (word_of i)) instr_word (thin_code program) (code_instrs program))
 
 -- there is a first word
 some_first : (code : List ℕ) → 0 < length code → IsSome (slice_get code 0)
@@ -80,7 +86,8 @@ main_name = refl
 main_other : codes "Main" ≢ codes "Env"
 main_other same = let lengths : ◌≡◌ {A = ℕ} 4 3 = ap length same in absurd (omega arith)
 
-main_is_lone : (program : ThinProgram) → length program.outputs ≤ 16384 → IsLone (main_comp (map word_of (thin_code program)))
+main_is_lone : (program : ThinProgram) → length program.outputs ≤ 16384 →
+    IsLone (main_comp (map word_of (thin_code program)))
 main_is_lone program few = record {
   name = main_name;
   no_environment = main_other;
@@ -93,4 +100,5 @@ main_is_lone program few = record {
 }
 
 pub well_formed : (program : ThinProgram) → length program.outputs ≤ 16384 → IsWellFormed (thin_image program)
-well_formed program few = one_well_formed (code_start 0) (main_comp (map word_of (thin_code program))) (main_is_lone program few) (first_word program)
+well_formed program few = one_well_formed (code_start 0) (main_comp (map word_of (thin_code program)))
+    (main_is_lone program few) (first_word program)

@@ -21,7 +21,8 @@ seven_words : map word_of (thin_code seven) ≡ 0x00700513 ∷ 0x00200893 ∷ 0x
 unfolding loading word_of
 seven_words = refl
 
-short : (loading 10 2047 ≡ OpImm Addi 10 0 (pos 2047) ∷ []) × (loading 10 0xfffff800 ≡ OpImm Addi 10 0 (negsuc 2047) ∷ [])
+short : (loading 10 2047 ≡ OpImm Addi 10 0 (pos 2047) ∷ []) ×
+    (loading 10 0xfffff800 ≡ OpImm Addi 10 0 (negsuc 2047) ∷ [])
 unfolding loading
 short = (refl, refl)
 

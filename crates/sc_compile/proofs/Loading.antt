@@ -18,14 +18,20 @@ word_of-fits (pos n) h = let k : n < 2 ^ 31 = h.sfits in omega arith
 word_of-fits (negsuc n) h = let k : n < 2 ^ 31 = h.sfits in omega arith
 
 pub word_of-signed_of : (w : ℕ) → w < 2 ^ 32 → word_of (signed_of w) ≡ w
-word_of-signed_of w h = word_of-fits (signed_of w) (sfits_to_z {w = w32} {n = w} (record { fits = h })) ∙ of_z-to_z w32 w h
+word_of-signed_of w h = word_of-fits (signed_of w) (sfits_to_z {w = w32} {n = w} (record { fits = h })) ∙
+    of_z-to_z w32 w h
 
 int_le-true : (x y : ℤ) → int_le x y ≡ true → x ≤ℤ y
 int_le-true x y h = record { le = rw h tt }
 
 short_immediate : (z : ℤ) → (int_le (negsuc 2047) z && int_le z (pos 2047)) ≡ true → IsImmediate z
-short_immediate (pos n) h = let k : n ≤ 2047 = leb-true n 2047 h in record { least = search rules; greatest = omega (arith, ints) }
-short_immediate (negsuc n) h = record { least = int_le-true (negsuc 2047) (negsuc n) (and_first _ (int_le (negsuc n) (pos 2047)) h); greatest = search rules }
+short_immediate (pos n) h = let k : n ≤ 2047 = leb-true n 2047 h in
+    record { least = search rules; greatest = omega (arith, ints) }
+short_immediate (negsuc n) h = record {
+  least = int_le-true (negsuc 2047) (negsuc n)
+      (and_first _ (int_le (negsuc n) (pos 2047)) h);
+  greatest = search rules;
+}
 
 -- what ADDI loads alone
 pub short_loaded : (w : ℕ) → w < 2 ^ 32 → add_word 0 (word_of (signed_of w)) ≡ w
@@ -36,14 +42,19 @@ pub IsUpper-upper_part : (w : ℕ) → IsUpper (upper_part w)
 IsUpper-upper_part w = record { word = omega arith; low = omega arith }
 
 -- the part of ADDI, by its two cases
-low_bits : (b : Bool) (n : ℕ) → nat_lt n (2 ^ 11) ≡ b → n < 2 ^ 12 → IsImmediate (if b then pos n else negsuc (2 * 2 ^ 11 - suc n))
-low_bits true n h k = let l : n < 2 ^ 11 = ltb-true n (2 ^ 11) h in record { least = search rules; greatest = omega (arith, ints) }
-low_bits false n h k = let l : 2 ^ 11 ≤ n = ltb-false n (2 ^ 11) h in record { least = omega (arith, ints); greatest = search rules }
+low_bits : (b : Bool) (n : ℕ) → nat_lt n (2 ^ 11) ≡ b → n < 2 ^ 12 →
+    IsImmediate (if b then pos n else negsuc (2 * 2 ^ 11 - suc n))
+low_bits true n h k = let l : n < 2 ^ 11 = ltb-true n (2 ^ 11) h in
+    record { least = search rules; greatest = omega (arith, ints) }
+low_bits false n h k = let l : 2 ^ 11 ≤ n = ltb-false n (2 ^ 11) h in
+    record { least = omega (arith, ints); greatest = search rules }
 
-sum_low : (w : ℕ) → w < 2 ^ 32 → w % 2 ^ 12 < 2 ^ 11 → ((w + 2 ^ 11) % 2 ^ 32 / 2 ^ 12 * 2 ^ 12 + (w % 2 ^ 12) % 2 ^ 32) % 2 ^ 32 ≡ w
+sum_low : (w : ℕ) → w < 2 ^ 32 → w % 2 ^ 12 < 2 ^ 11 →
+    ((w + 2 ^ 11) % 2 ^ 32 / 2 ^ 12 * 2 ^ 12 + (w % 2 ^ 12) % 2 ^ 32) % 2 ^ 32 ≡ w
 sum_low w h k = omega arith
 
-sum_high : (w : ℕ) → w < 2 ^ 32 → 2 ^ 11 ≤ w % 2 ^ 12 → ((w + 2 ^ 11) % 2 ^ 32 / 2 ^ 12 * 2 ^ 12 + (2 ^ 32 - 1 - (2 * 2 ^ 11 - suc (w % 2 ^ 12)) % 2 ^ 32)) % 2 ^ 32 ≡ w
+sum_high : (w : ℕ) → w < 2 ^ 32 → 2 ^ 11 ≤ w % 2 ^ 12 →
+    ((w + 2 ^ 11) % 2 ^ 32 / 2 ^ 12 * 2 ^ 12 + (2 ^ 32 - 1 - (2 * 2 ^ 11 - suc (w % 2 ^ 12)) % 2 ^ 32)) % 2 ^ 32 ≡ w
 sum_high w h k = omega arith
 
 sum_by : (b : Bool) (w : ℕ) → nat_lt (w % 2 ^ 12) (2 ^ 11) ≡ b → w < 2 ^ 32 →

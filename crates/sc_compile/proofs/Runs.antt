@@ -49,11 +49,13 @@ module _ (image : ImageParts) (inputs : List ℕ) (whole : List Event) (events :
   pub record Runs (cost : ℕ) (state : State) : Type 0 where
     pub each : (steps : ℕ) → Shows whole events cost steps (run image inputs events steps state)
 
-  full : (trace : List Event) → is_ended trace ≡ false → nat_le events (length trace) ≡ true → stopped events trace ≡ Some EventsOut
+  full : (trace : List Event) → is_ended trace ≡ false → nat_le events (length trace) ≡ true →
+      stopped events trace ≡ Some EventsOut
   unfolding stopped
   full trace h k = rw (h, k) refl
 
-  open_still : (trace : List Event) → is_ended trace ≡ false → nat_le events (length trace) ≡ false → stopped events trace ≡ None
+  open_still : (trace : List Event) → is_ended trace ≡ false → nat_le events (length trace) ≡ false →
+      stopped events trace ≡ None
   unfolding stopped
   open_still trace h k = rw (h, k) refl
 
@@ -63,12 +65,15 @@ module _ (image : ImageParts) (inputs : List ℕ) (whole : List Event) (events :
 
   -- the run goes on
   on : (cost : ℕ) (state next : State) → IsOpen whole events state.trace → nat_le events (length state.trace) ≡ false →
-      step image inputs state ≡ Goes next → Runs cost next → (steps : ℕ) → Shows whole events (suc cost) steps (run image inputs events steps state)
+      step image inputs state ≡ Goes next → Runs cost next → (steps : ℕ) →
+      Shows whole events (suc cost) steps (run image inputs events steps state)
   on cost state next h k goes later zero =
-      subst (Shows whole events (suc cost) zero) (sym (run_out image inputs events state (open_still state.trace h.ended k)))
+      subst (Shows whole events (suc cost) zero) (sym
+      (run_out image inputs events state (open_still state.trace h.ended k)))
       (record { front = h.front; because = omega arith })
   on cost state next h k goes later (suc steps) =
-      subst (Shows whole events (suc cost) (suc steps)) (sym (run_goes image inputs events steps state next (open_still state.trace h.ended k) goes))
+      subst (Shows whole events (suc cost) (suc steps))
+      (sym (run_goes image inputs events steps state next (open_still state.trace h.ended k) goes))
       (more_shown whole events cost steps (run image inputs events steps next) (later.each steps))
 
   -- there is no room for another event
@@ -78,24 +83,33 @@ module _ (image : ImageParts) (inputs : List ℕ) (whole : List Event) (events :
       let full_now : events ≤ length state.trace = leb-true events (length state.trace) k in
       let room : length state.trace ≤ events = h.room in
       let short : length state.trace < length whole = h.short in
-      subst (Shows whole events cost steps) (sym (run_stopped image inputs events steps state EventsOut (full state.trace h.ended k)))
+      subst (Shows whole events cost steps) (sym (run_stopped image inputs events steps state EventsOut
+      (full state.trace h.ended k)))
       (record { front = h.front; because = (omega arith, omega arith) })
 
-  step_first : (b : Bool) (cost : ℕ) (state next : State) → nat_le events (length state.trace) ≡ b → IsOpen whole events state.trace →
+  step_first : (b : Bool) (cost : ℕ) (state next : State) → nat_le events (length state.trace) ≡ b →
+      IsOpen whole events state.trace →
       step image inputs state ≡ Goes next → (length state.trace < events → Runs cost next) → Runs (suc cost) state
   step_first true cost state next e h goes later = record { each = off (suc cost) state h e }
   step_first false cost state next e h goes later =
       record { each = on cost state next h e goes (later (leb-false events (length state.trace) e)) }
 
   -- a step, and then the rest
-  pub Runs-step : (cost : ℕ) (state next : State) → IsOpen whole events state.trace → step image inputs state ≡ Goes next →
+  pub Runs-step : (cost : ℕ) (state next : State) → IsOpen whole events state.trace →
+      step image inputs state ≡ Goes next →
       (length state.trace < events → Runs cost next) → Runs (suc cost) state
-  Runs-step cost state next h goes later = step_first (nat_le events (length state.trace)) cost state next refl h goes later
+  Runs-step cost state next h goes later = step_first
+      (nat_le events (length state.trace)) cost state next refl h goes later
 
   -- the end
   pub Runs-end : (state : State) → state.trace ≡ whole → is_ended whole ≡ true → length whole ≤ events → Runs zero state
   Runs-end state h end room = record {
     each = λ steps.
-        subst (Shows whole events zero steps) (sym (run_stopped image inputs events steps state Ended (closed state.trace (ap is_ended h ∙ end))))
-        (record { front = h ∙ sym (take_all (length state.trace) whole (let same : length state.trace ≡ length whole = ap length h in omega arith)); because = (h, omega arith, room) });
+        subst (Shows whole events zero steps) (sym (run_stopped image inputs events steps state Ended
+        (closed state.trace (ap is_ended h ∙ end))))
+        (record {
+          front = h ∙ sym (take_all (length state.trace) whole
+              (let same : length state.trace ≡ length whole = ap length h in omega arith));
+          because = (h, omega arith, room);
+        });
   }

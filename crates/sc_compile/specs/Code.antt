@@ -14,7 +14,8 @@ use Rattle.sc_image.specs.WellFormed.{IsWord}
 abbrev pub is_short : ℕ → Bool
 is_short word = int_le (negsuc 2047) (signed_of word) && int_le (signed_of word) (pos 2047)
 
--- what LUI loads of any other word: its high 20 bits, and one more where bit 11 is set, since ADDI's part is then negative
+-- what LUI loads of any other word: its high 20 bits, and one more where bit 11 is set, since ADDI's part is then
+-- negative
 abbrev pub upper_part : ℕ → ℕ
 upper_part word = (word + 2 ^ 11) % 2 ^ 32 / 2 ^ 12 * 2 ^ 12
 
@@ -25,7 +26,8 @@ lower_part word = signed (2 ^ 11) (word % 2 ^ 12)
 -- the instructions that load a word into a register
 unfoldable pub loading : (rd word : ℕ) → List Instr
 loading rd word =
-    if is_short word then OpImm Addi rd 0 (signed_of word) ∷ [] else Upper Lui rd (upper_part word) ∷ OpImm Addi rd rd (lower_part word) ∷ []
+    if is_short word then OpImm Addi rd 0 (signed_of word) ∷ [] else Upper Lui rd (upper_part word) ∷
+    OpImm Addi rd rd (lower_part word) ∷ []
 
 -- the environment's number of `output`, which ECALL takes in a7
 abbrev pub output_call : ℤ

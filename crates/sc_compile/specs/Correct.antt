@@ -10,7 +10,8 @@ use Rattle.sc_image.specs.declared.parts.ImageParts.{ImageParts}
 use Rattle.sc_image.specs.Machine.{machine}
 use Rattle.sc_compile.specs.Code.{thin_code}
 
--- the machine stops so where the meaning ends so; a run that is blamed or has no turn left promises nothing of the machine
+-- the machine stops so where the meaning ends so; a run that is blamed or has no turn left promises nothing of the
+-- machine
 abbrev pub StopsAs : RunEnd → Stop → Type 0
 StopsAs MeaningEnded stop = stop ≡ Ended
 StopsAs MeaningEventsOut stop = stop ≡ EventsOut
@@ -36,7 +37,8 @@ IsNoTrap _ = Unit {0}
 -- What the machine shows is the program's meaning, as far as it goes, however few the steps are.
 pub record IsBackward (program : ThinProgram) (image : ImageParts) : Type 0 where
   pub trace : (inputs : List ℕ) (steps events : ℕ) →
-      let shown = (machine image inputs steps events).state.trace in (thin_meaning (length shown) program).trace ≡ shown
+      let machine_trace = (machine image inputs steps events).state.trace in
+      (thin_meaning (length machine_trace) program).trace ≡ machine_trace
   pub no_trap : (inputs : List ℕ) (steps events : ℕ) → IsNoTrap (machine image inputs steps events).stop
   -- it ends exactly where the meaning does and each instruction had its step
   pub ended : (inputs : List ℕ) (steps events : ℕ) →

@@ -34,7 +34,8 @@ module _ (P : TypedStmt → Type 0) where
   each [] = tt
   each (s ∷ rest) = (s.1, each rest)
 
-  inside : (y : TypedStmtKind-F ((k : TypedStmtKind) × AnyLine k) ((s : TypedStmt) × P s)) → Inside P (map-TypedStmtKind _ _ _ _ (λ k. k.0) (λ s. s.0) y)
+  inside : (y : TypedStmtKind-F ((k : TypedStmtKind) × AnyLine k) ((s : TypedStmt) × P s)) →
+      Inside P (map-TypedStmtKind _ _ _ _ (λ k. k.0) (λ s. s.0) y)
   inside layer.Empty = tt
   inside (layer.Assign place value) = tt
   inside (layer.AssignCall place call) = tt
@@ -49,7 +50,8 @@ module _ (P : TypedStmt → Type 0) where
   inside (layer.ReturnCall call) = tt
 
   -- To show P of every statement, show it of one where P holds of each statement directly inside.
-  pub stmt_induction : ((line : ℕ) (k : TypedStmtKind-F TypedStmtKind TypedStmt) → Inside P k → P (on_line line k)) → (s : TypedStmt) → P s
+  pub stmt_induction : ((line : ℕ) (k : TypedStmtKind-F TypedStmtKind TypedStmt) → Inside P k → P (on_line line k)) →
+      (s : TypedStmt) → P s
   stmt_induction step =
       ind-TypedStmt AnyLine P
       (λ x y is line. step line x (subst (Inside P) is (inside y)))
@@ -70,7 +72,8 @@ module _ (P : TypedExpr → Type 0) where
   abbrev AnyType : TypedKind → Type 0
   AnyType kind = (ty : Ty) → P (record { ty = ty; kind = kind })
 
-  under : (y : TypedKind-F ((k : TypedKind) × AnyType k) ((e : TypedExpr) × P e)) → Under P (map-TypedKind _ _ _ _ (λ k. k.0) (λ e. e.0) y)
+  under : (y : TypedKind-F ((k : TypedKind) × AnyType k) ((e : TypedExpr) × P e)) →
+      Under P (map-TypedKind _ _ _ _ (λ k. k.0) (λ e. e.0) y)
   under (term.Literal word) = tt
   under (term.Variable v) = tt
   under (term.Unary o a) = a.1
@@ -82,7 +85,8 @@ module _ (P : TypedExpr → Type 0) where
   under (term.Address a) = a.1
 
   -- To show P of every expression, show it of one where P holds of each expression directly inside.
-  pub expr_induction : ((ty : Ty) (k : TypedKind-F TypedKind TypedExpr) → Under P k → P (typed ty k)) → (e : TypedExpr) → P e
+  pub expr_induction : ((ty : Ty) (k : TypedKind-F TypedKind TypedExpr) → Under P k → P (typed ty k)) →
+      (e : TypedExpr) → P e
   expr_induction step =
       ind-TypedExpr AnyType P
       (λ x y is ty. step ty x (subst (Under P) is (under y)))

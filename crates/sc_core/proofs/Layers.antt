@@ -12,10 +12,12 @@ typed ty k = record { ty = ty; kind = roll-TypedKind k }
 
 module _ (A B : Type 0) (kind_step : TypedKind-F A B → A) (expr_step : TypedExpr-F A B → B) where
   abbrev pub term_of : TypedKind-F TypedKind TypedExpr → A
-  term_of k = kind_step (map-TypedKind _ _ _ _ (fold-TypedKind A B kind_step expr_step) (fold-TypedExpr A B kind_step expr_step) k)
+  term_of k = kind_step (map-TypedKind _ _ _ _ (fold-TypedKind A B kind_step expr_step)
+      (fold-TypedExpr A B kind_step expr_step) k)
 
   -- the fold of an expression, by its type and the layer of its kind
-  pub expr_at : (ty : Ty) (k : TypedKind-F TypedKind TypedExpr) → fold-TypedExpr A B kind_step expr_step (typed ty k) ≡ expr_step (record { ty = ty; kind = term_of k })
+  pub expr_at : (ty : Ty) (k : TypedKind-F TypedKind TypedExpr) →
+      fold-TypedExpr A B kind_step expr_step (typed ty k) ≡ expr_step (record { ty = ty; kind = term_of k })
   expr_at ty k =
       fold-roll-TypedExpr A B kind_step expr_step (record { ty = ty; kind = roll-TypedKind k })
       ∙ ap (λ x. expr_step (record { ty = ty; kind = x })) (fold-roll-TypedKind A B kind_step expr_step k)
@@ -26,10 +28,12 @@ on_line line k = record { line = line; kind = roll-TypedStmtKind k }
 
 module _ (A B : Type 0) (kind_step : TypedStmtKind-F A B → A) (stmt_step : TypedStmt-F A B → B) where
   abbrev pub layer_of : TypedStmtKind-F TypedStmtKind TypedStmt → A
-  layer_of k = kind_step (map-TypedStmtKind _ _ _ _ (fold-TypedStmtKind A B kind_step stmt_step) (fold-TypedStmt A B kind_step stmt_step) k)
+  layer_of k = kind_step (map-TypedStmtKind _ _ _ _ (fold-TypedStmtKind A B kind_step stmt_step)
+      (fold-TypedStmt A B kind_step stmt_step) k)
 
   -- the fold of a statement, by its line and the layer of its kind
-  pub stmt_at : (line : ℕ) (k : TypedStmtKind-F TypedStmtKind TypedStmt) → fold-TypedStmt A B kind_step stmt_step (on_line line k) ≡ stmt_step (record { line = line; kind = layer_of k })
+  pub stmt_at : (line : ℕ) (k : TypedStmtKind-F TypedStmtKind TypedStmt) →
+      fold-TypedStmt A B kind_step stmt_step (on_line line k) ≡ stmt_step (record { line = line; kind = layer_of k })
   stmt_at line k =
       fold-roll-TypedStmt A B kind_step stmt_step (record { line = line; kind = roll-TypedStmtKind k })
       ∙ ap (λ x. stmt_step (record { line = line; kind = x })) (fold-roll-TypedStmtKind A B kind_step stmt_step k)

@@ -28,13 +28,20 @@ module _ (A B : Type 0) (kind : TypedKind-F A B → A) (of : TypedExpr-F A B →
   pub shape_fold_is : (a : Shape) → fold-TypedExpr A B kind of (expr a) ≡ shape_fold a
   shape_fold_is (Lit ty word) = expr_at A B kind of ty (term.Literal word)
   shape_fold_is (Var ty v) = expr_at A B kind of ty (term.Variable v)
-  shape_fold_is (One ty o a) = expr_at A B kind of ty (term.Unary o (expr a)) ∙ (λ j. of (record { ty = ty; kind = kind (term.Unary o (shape_fold_is a j)) }))
-  shape_fold_is (Two ty o a b) = expr_at A B kind of ty (term.Binary o (expr a) (expr b)) ∙ (λ j. of (record { ty = ty; kind = kind (term.Binary o (shape_fold_is a j) (shape_fold_is b j)) }))
-  shape_fold_is (At ty a b) = expr_at A B kind of ty (term.Index (expr a) (expr b)) ∙ (λ j. of (record { ty = ty; kind = kind (term.Index (shape_fold_is a j) (shape_fold_is b j)) }))
-  shape_fold_is (Dot ty a offset) = expr_at A B kind of ty (term.Member (expr a) offset) ∙ (λ j. of (record { ty = ty; kind = kind (term.Member (shape_fold_is a j) offset) }))
-  shape_fold_is (Arrow ty a offset) = expr_at A B kind of ty (term.Arrow (expr a) offset) ∙ (λ j. of (record { ty = ty; kind = kind (term.Arrow (shape_fold_is a j) offset) }))
-  shape_fold_is (Star ty a) = expr_at A B kind of ty (term.Deref (expr a)) ∙ (λ j. of (record { ty = ty; kind = kind (term.Deref (shape_fold_is a j)) }))
-  shape_fold_is (Amp ty a) = expr_at A B kind of ty (term.Address (expr a)) ∙ (λ j. of (record { ty = ty; kind = kind (term.Address (shape_fold_is a j)) }))
+  shape_fold_is (One ty o a) = expr_at A B kind of ty (term.Unary o (expr a)) ∙
+      (λ j. of (record { ty = ty; kind = kind (term.Unary o (shape_fold_is a j)) }))
+  shape_fold_is (Two ty o a b) = expr_at A B kind of ty (term.Binary o (expr a) (expr b)) ∙
+      (λ j. of (record { ty = ty; kind = kind (term.Binary o (shape_fold_is a j) (shape_fold_is b j)) }))
+  shape_fold_is (At ty a b) = expr_at A B kind of ty (term.Index (expr a) (expr b)) ∙
+      (λ j. of (record { ty = ty; kind = kind (term.Index (shape_fold_is a j) (shape_fold_is b j)) }))
+  shape_fold_is (Dot ty a offset) = expr_at A B kind of ty (term.Member (expr a) offset) ∙
+      (λ j. of (record { ty = ty; kind = kind (term.Member (shape_fold_is a j) offset) }))
+  shape_fold_is (Arrow ty a offset) = expr_at A B kind of ty (term.Arrow (expr a) offset) ∙
+      (λ j. of (record { ty = ty; kind = kind (term.Arrow (shape_fold_is a j) offset) }))
+  shape_fold_is (Star ty a) = expr_at A B kind of ty (term.Deref (expr a)) ∙
+      (λ j. of (record { ty = ty; kind = kind (term.Deref (shape_fold_is a j)) }))
+  shape_fold_is (Amp ty a) = expr_at A B kind of ty (term.Address (expr a)) ∙
+      (λ j. of (record { ty = ty; kind = kind (term.Address (shape_fold_is a j)) }))
 
   pub shapes_are : (args : List Shape) → map (fold-TypedExpr A B kind of) (map expr args) ≡ map shape_fold args
   shapes_are [] = refl
@@ -53,11 +60,15 @@ abbrev pub lines_high : Lines → List ℕ
 lines_high NoLine = []
 lines_high (EmptyLine line rest) = 1 ∷ lines_high rest
 lines_high (AssignLine line p e rest) = suc (max (shape_height p) (shape_height e)) ∷ lines_high rest
-lines_high (AssignCallLine line p target args rest) = suc (max (shape_height p) (highest (map shape_height args))) ∷ lines_high rest
+lines_high (AssignCallLine line p target args rest) =
+    suc (max (shape_height p) (highest (map shape_height args))) ∷ lines_high rest
 lines_high (CallLine line target args rest) = suc (highest (map shape_height args)) ∷ lines_high rest
-lines_high (IfLine line c x y rest) = suc (max (shape_height c) (max (highest (lines_high x)) (highest (lines_high y)))) ∷ lines_high rest
+lines_high (IfLine line c x y rest) = suc (max (shape_height c)
+    (max (highest (lines_high x)) (highest (lines_high y)))) ∷ lines_high rest
 lines_high (WhileLine line c x rest) = suc (max (shape_height c) (highest (lines_high x))) ∷ lines_high rest
-lines_high (ForLine line p e c q f x rest) = suc (max (max (suc (max (shape_height p) (shape_height e))) (suc (max (shape_height q) (shape_height f)))) (max (shape_height c) (highest (lines_high x)))) ∷ lines_high rest
+lines_high (ForLine line p e c q f x rest) = suc (max
+    (max (suc (max (shape_height p) (shape_height e))) (suc (max (shape_height q) (shape_height f))))
+    (max (shape_height c) (highest (lines_high x)))) ∷ lines_high rest
 lines_high (BreakLine line rest) = 1 ∷ lines_high rest
 lines_high (ContinueLine line rest) = 1 ∷ lines_high rest
 lines_high (ReturnLine line rest) = 1 ∷ lines_high rest
@@ -66,18 +77,38 @@ lines_high (ReturnCallLine line target args rest) = suc (highest (map shape_heig
 
 pub lines_high_are : (x : Lines) → map stmt_height (stmts x) ≡ lines_high x
 lines_high_are NoLine = refl
-lines_high_are (EmptyLine line rest) = λ i. (stmt_at _ _ kind_height (λ s. suc s.kind) line (layer.Empty) ∙ (λ j. 1)) i ∷ lines_high_are rest i
-lines_high_are (AssignLine line p e rest) = λ i. (stmt_at _ _ kind_height (λ s. suc s.kind) line (layer.Assign (expr p) (expr e)) ∙ (λ j. suc (max (height_is p j) (height_is e j)))) i ∷ lines_high_are rest i
-lines_high_are (AssignCallLine line p target args rest) = λ i. (stmt_at _ _ kind_height (λ s. suc s.kind) line (layer.AssignCall (expr p) (call_of target args)) ∙ (λ j. suc (max (height_is p j) (highest (heights_are args j))))) i ∷ lines_high_are rest i
-lines_high_are (CallLine line target args rest) = λ i. (stmt_at _ _ kind_height (λ s. suc s.kind) line (layer.Call (call_of target args)) ∙ (λ j. suc (highest (heights_are args j)))) i ∷ lines_high_are rest i
-lines_high_are (IfLine line c x y rest) = λ i. (stmt_at _ _ kind_height (λ s. suc s.kind) line (layer.If (expr c) (stmts x) (stmts y)) ∙ (λ j. suc (max (height_is c j) (max (highest (lines_high_are x j)) (highest (lines_high_are y j)))))) i ∷ lines_high_are rest i
-lines_high_are (WhileLine line c x rest) = λ i. (stmt_at _ _ kind_height (λ s. suc s.kind) line (layer.While (expr c) (stmts x)) ∙ (λ j. suc (max (height_is c j) (highest (lines_high_are x j))))) i ∷ lines_high_are rest i
-lines_high_are (ForLine line p e c q f x rest) = λ i. (stmt_at _ _ kind_height (λ s. suc s.kind) line (layer.For (part line p e) (expr c) (part line q f) (stmts x)) ∙ (λ j. suc (max (max (suc (max (height_is p j) (height_is e j))) (suc (max (height_is q j) (height_is f j)))) (max (height_is c j) (highest (lines_high_are x j)))))) i ∷ lines_high_are rest i
-lines_high_are (BreakLine line rest) = λ i. (stmt_at _ _ kind_height (λ s. suc s.kind) line (layer.Break) ∙ (λ j. 1)) i ∷ lines_high_are rest i
-lines_high_are (ContinueLine line rest) = λ i. (stmt_at _ _ kind_height (λ s. suc s.kind) line (layer.Continue) ∙ (λ j. 1)) i ∷ lines_high_are rest i
-lines_high_are (ReturnLine line rest) = λ i. (stmt_at _ _ kind_height (λ s. suc s.kind) line (layer.Return) ∙ (λ j. 1)) i ∷ lines_high_are rest i
-lines_high_are (ReturnValueLine line e rest) = λ i. (stmt_at _ _ kind_height (λ s. suc s.kind) line (layer.ReturnValue (expr e)) ∙ (λ j. suc (height_is e j))) i ∷ lines_high_are rest i
-lines_high_are (ReturnCallLine line target args rest) = λ i. (stmt_at _ _ kind_height (λ s. suc s.kind) line (layer.ReturnCall (call_of target args)) ∙ (λ j. suc (highest (heights_are args j)))) i ∷ lines_high_are rest i
+lines_high_are (EmptyLine line rest) = λ i. (stmt_at _ _ kind_height (λ s. suc s.kind) line (layer.Empty) ∙
+    (λ j. 1)) i ∷ lines_high_are rest i
+lines_high_are (AssignLine line p e rest) = λ i. (stmt_at _ _ kind_height (λ s. suc s.kind) line
+    (layer.Assign (expr p) (expr e)) ∙ (λ j. suc (max (height_is p j) (height_is e j)))) i ∷ lines_high_are rest i
+lines_high_are (AssignCallLine line p target args rest) =
+    λ i. (stmt_at _ _ kind_height (λ s. suc s.kind) line (layer.AssignCall (expr p) (call_of target args)) ∙
+    (λ j. suc (max (height_is p j) (highest (heights_are args j))))) i ∷ lines_high_are rest i
+lines_high_are (CallLine line target args rest) = λ i.
+    (stmt_at _ _ kind_height (λ s. suc s.kind) line (layer.Call (call_of target args)) ∙
+    (λ j. suc (highest (heights_are args j)))) i ∷ lines_high_are rest i
+lines_high_are (IfLine line c x y rest) = λ i. (stmt_at _ _ kind_height (λ s. suc s.kind) line
+    (layer.If (expr c) (stmts x) (stmts y)) ∙ (λ j. suc
+    (max (height_is c j) (max (highest (lines_high_are x j)) (highest (lines_high_are y j)))))) i ∷
+    lines_high_are rest i
+lines_high_are (WhileLine line c x rest) = λ i. (stmt_at _ _ kind_height (λ s. suc s.kind) line
+    (layer.While (expr c) (stmts x)) ∙ (λ j. suc (max (height_is c j) (highest (lines_high_are x j))))) i ∷
+    lines_high_are rest i
+lines_high_are (ForLine line p e c q f x rest) = λ i.
+    (stmt_at _ _ kind_height (λ s. suc s.kind) line (layer.For (part line p e) (expr c) (part line q f) (stmts x)) ∙
+    (λ j. suc (max (max (suc (max (height_is p j) (height_is e j))) (suc (max (height_is q j) (height_is f j))))
+    (max (height_is c j) (highest (lines_high_are x j)))))) i ∷ lines_high_are rest i
+lines_high_are (BreakLine line rest) = λ i. (stmt_at _ _ kind_height (λ s. suc s.kind) line (layer.Break) ∙
+    (λ j. 1)) i ∷ lines_high_are rest i
+lines_high_are (ContinueLine line rest) = λ i. (stmt_at _ _ kind_height (λ s. suc s.kind) line (layer.Continue) ∙
+    (λ j. 1)) i ∷ lines_high_are rest i
+lines_high_are (ReturnLine line rest) = λ i. (stmt_at _ _ kind_height (λ s. suc s.kind) line (layer.Return) ∙
+    (λ j. 1)) i ∷ lines_high_are rest i
+lines_high_are (ReturnValueLine line e rest) = λ i. (stmt_at _ _ kind_height (λ s. suc s.kind) line
+    (layer.ReturnValue (expr e)) ∙ (λ j. suc (height_is e j))) i ∷ lines_high_are rest i
+lines_high_are (ReturnCallLine line target args rest) =
+    λ i. (stmt_at _ _ kind_height (λ s. suc s.kind) line (layer.ReturnCall (call_of target args)) ∙
+    (λ j. suc (highest (heights_are args j)))) i ∷ lines_high_are rest i
 
 abbrev pub shape_nodes : Shape → ℕ
 shape_nodes = shape_fold ℕ ℕ term_nodes (λ e. e.kind)
@@ -92,11 +123,14 @@ abbrev pub lines_nodes : Lines → List ℕ
 lines_nodes NoLine = []
 lines_nodes (EmptyLine line rest) = 1 ∷ lines_nodes rest
 lines_nodes (AssignLine line p e rest) = suc ((shape_nodes p) + (shape_nodes e)) ∷ lines_nodes rest
-lines_nodes (AssignCallLine line p target args rest) = suc ((shape_nodes p) + total (map shape_nodes args)) ∷ lines_nodes rest
+lines_nodes (AssignCallLine line p target args rest) =
+    suc ((shape_nodes p) + total (map shape_nodes args)) ∷ lines_nodes rest
 lines_nodes (CallLine line target args rest) = suc (total (map shape_nodes args)) ∷ lines_nodes rest
-lines_nodes (IfLine line c x y rest) = suc ((shape_nodes c) + total (lines_nodes x) + total (lines_nodes y)) ∷ lines_nodes rest
+lines_nodes (IfLine line c x y rest) = suc ((shape_nodes c) + total (lines_nodes x) + total (lines_nodes y)) ∷
+    lines_nodes rest
 lines_nodes (WhileLine line c x rest) = suc ((shape_nodes c) + total (lines_nodes x)) ∷ lines_nodes rest
-lines_nodes (ForLine line p e c q f x rest) = suc (suc ((shape_nodes p) + (shape_nodes e)) + (shape_nodes c) + suc ((shape_nodes q) + (shape_nodes f)) + total (lines_nodes x)) ∷ lines_nodes rest
+lines_nodes (ForLine line p e c q f x rest) = suc (suc ((shape_nodes p) + (shape_nodes e)) + (shape_nodes c) + suc
+    ((shape_nodes q) + (shape_nodes f)) + total (lines_nodes x)) ∷ lines_nodes rest
 lines_nodes (BreakLine line rest) = 1 ∷ lines_nodes rest
 lines_nodes (ContinueLine line rest) = 1 ∷ lines_nodes rest
 lines_nodes (ReturnLine line rest) = 1 ∷ lines_nodes rest
@@ -105,18 +139,37 @@ lines_nodes (ReturnCallLine line target args rest) = suc (total (map shape_nodes
 
 pub lines_nodes_are : (x : Lines) → map stmt_nodes (stmts x) ≡ lines_nodes x
 lines_nodes_are NoLine = refl
-lines_nodes_are (EmptyLine line rest) = λ i. (stmt_at _ _ kind_nodes (λ s. s.kind) line (layer.Empty) ∙ (λ j. 1)) i ∷ lines_nodes_are rest i
-lines_nodes_are (AssignLine line p e rest) = λ i. (stmt_at _ _ kind_nodes (λ s. s.kind) line (layer.Assign (expr p) (expr e)) ∙ (λ j. suc ((nodes_is p j) + (nodes_is e j)))) i ∷ lines_nodes_are rest i
-lines_nodes_are (AssignCallLine line p target args rest) = λ i. (stmt_at _ _ kind_nodes (λ s. s.kind) line (layer.AssignCall (expr p) (call_of target args)) ∙ (λ j. suc ((nodes_is p j) + total (nodes_are args j)))) i ∷ lines_nodes_are rest i
-lines_nodes_are (CallLine line target args rest) = λ i. (stmt_at _ _ kind_nodes (λ s. s.kind) line (layer.Call (call_of target args)) ∙ (λ j. suc (total (nodes_are args j)))) i ∷ lines_nodes_are rest i
-lines_nodes_are (IfLine line c x y rest) = λ i. (stmt_at _ _ kind_nodes (λ s. s.kind) line (layer.If (expr c) (stmts x) (stmts y)) ∙ (λ j. suc ((nodes_is c j) + total (lines_nodes_are x j) + total (lines_nodes_are y j)))) i ∷ lines_nodes_are rest i
-lines_nodes_are (WhileLine line c x rest) = λ i. (stmt_at _ _ kind_nodes (λ s. s.kind) line (layer.While (expr c) (stmts x)) ∙ (λ j. suc ((nodes_is c j) + total (lines_nodes_are x j)))) i ∷ lines_nodes_are rest i
-lines_nodes_are (ForLine line p e c q f x rest) = λ i. (stmt_at _ _ kind_nodes (λ s. s.kind) line (layer.For (part line p e) (expr c) (part line q f) (stmts x)) ∙ (λ j. suc (suc ((nodes_is p j) + (nodes_is e j)) + (nodes_is c j) + suc ((nodes_is q j) + (nodes_is f j)) + total (lines_nodes_are x j)))) i ∷ lines_nodes_are rest i
-lines_nodes_are (BreakLine line rest) = λ i. (stmt_at _ _ kind_nodes (λ s. s.kind) line (layer.Break) ∙ (λ j. 1)) i ∷ lines_nodes_are rest i
-lines_nodes_are (ContinueLine line rest) = λ i. (stmt_at _ _ kind_nodes (λ s. s.kind) line (layer.Continue) ∙ (λ j. 1)) i ∷ lines_nodes_are rest i
-lines_nodes_are (ReturnLine line rest) = λ i. (stmt_at _ _ kind_nodes (λ s. s.kind) line (layer.Return) ∙ (λ j. 1)) i ∷ lines_nodes_are rest i
-lines_nodes_are (ReturnValueLine line e rest) = λ i. (stmt_at _ _ kind_nodes (λ s. s.kind) line (layer.ReturnValue (expr e)) ∙ (λ j. suc (nodes_is e j))) i ∷ lines_nodes_are rest i
-lines_nodes_are (ReturnCallLine line target args rest) = λ i. (stmt_at _ _ kind_nodes (λ s. s.kind) line (layer.ReturnCall (call_of target args)) ∙ (λ j. suc (total (nodes_are args j)))) i ∷ lines_nodes_are rest i
+lines_nodes_are (EmptyLine line rest) = λ i. (stmt_at _ _ kind_nodes (λ s. s.kind) line (layer.Empty) ∙ (λ j. 1)) i ∷
+    lines_nodes_are rest i
+lines_nodes_are (AssignLine line p e rest) = λ i. (stmt_at _ _ kind_nodes (λ s. s.kind) line
+    (layer.Assign (expr p) (expr e)) ∙ (λ j. suc ((nodes_is p j) + (nodes_is e j)))) i ∷ lines_nodes_are rest i
+lines_nodes_are (AssignCallLine line p target args rest) =
+    λ i. (stmt_at _ _ kind_nodes (λ s. s.kind) line (layer.AssignCall (expr p) (call_of target args)) ∙
+    (λ j. suc ((nodes_is p j) + total (nodes_are args j)))) i ∷ lines_nodes_are rest i
+lines_nodes_are (CallLine line target args rest) = λ i.
+    (stmt_at _ _ kind_nodes (λ s. s.kind) line (layer.Call (call_of target args)) ∙
+    (λ j. suc (total (nodes_are args j)))) i ∷ lines_nodes_are rest i
+lines_nodes_are (IfLine line c x y rest) = λ i. (stmt_at _ _ kind_nodes (λ s. s.kind) line
+    (layer.If (expr c) (stmts x) (stmts y)) ∙ (λ j. suc
+    ((nodes_is c j) + total (lines_nodes_are x j) + total (lines_nodes_are y j)))) i ∷ lines_nodes_are rest i
+lines_nodes_are (WhileLine line c x rest) = λ i. (stmt_at _ _ kind_nodes (λ s. s.kind) line
+    (layer.While (expr c) (stmts x)) ∙ (λ j. suc ((nodes_is c j) + total (lines_nodes_are x j)))) i ∷
+    lines_nodes_are rest i
+lines_nodes_are (ForLine line p e c q f x rest) = λ i.
+    (stmt_at _ _ kind_nodes (λ s. s.kind) line (layer.For (part line p e) (expr c) (part line q f) (stmts x)) ∙
+    (λ j. suc (suc ((nodes_is p j) + (nodes_is e j)) + (nodes_is c j) + suc ((nodes_is q j) + (nodes_is f j)) + total
+    (lines_nodes_are x j)))) i ∷ lines_nodes_are rest i
+lines_nodes_are (BreakLine line rest) = λ i. (stmt_at _ _ kind_nodes (λ s. s.kind) line (layer.Break) ∙ (λ j. 1)) i ∷
+    lines_nodes_are rest i
+lines_nodes_are (ContinueLine line rest) = λ i. (stmt_at _ _ kind_nodes (λ s. s.kind) line (layer.Continue) ∙
+    (λ j. 1)) i ∷ lines_nodes_are rest i
+lines_nodes_are (ReturnLine line rest) = λ i. (stmt_at _ _ kind_nodes (λ s. s.kind) line (layer.Return) ∙ (λ j. 1)) i ∷
+    lines_nodes_are rest i
+lines_nodes_are (ReturnValueLine line e rest) = λ i. (stmt_at _ _ kind_nodes (λ s. s.kind) line
+    (layer.ReturnValue (expr e)) ∙ (λ j. suc (nodes_is e j))) i ∷ lines_nodes_are rest i
+lines_nodes_are (ReturnCallLine line target args rest) =
+    λ i. (stmt_at _ _ kind_nodes (λ s. s.kind) line (layer.ReturnCall (call_of target args)) ∙
+    (λ j. suc (total (nodes_are args j)))) i ∷ lines_nodes_are rest i
 
 module _ (scope : Scope) (callable : Callable) (result : Option Ty) where
   abbrev pub judge : Shape → Judged
@@ -132,28 +185,59 @@ module _ (scope : Scope) (callable : Callable) (result : Option Ty) where
   lines_fit NoLine = []
   lines_fit (EmptyLine line rest) = (λ looping. true) ∷ lines_fit rest
   lines_fit (AssignLine line p e rest) = (λ looping. assign_fits (judge p) (judge e)) ∷ lines_fit rest
-  lines_fit (AssignCallLine line p target args rest) = (λ looping. assign_call_fits callable (judge p) target (map judge args)) ∷ lines_fit rest
+  lines_fit (AssignCallLine line p target args rest) =
+      (λ looping. assign_call_fits callable (judge p) target (map judge args)) ∷ lines_fit rest
   lines_fit (CallLine line target args rest) = (λ looping. call_fits callable target (map judge args)) ∷ lines_fit rest
-  lines_fit (IfLine line c x y rest) = (λ looping. is_scalar (judge c) && (list_all {X = Bool → Bool} (λ s. s looping) (lines_fit x) && list_all {X = Bool → Bool} (λ s. s looping) (lines_fit y))) ∷ lines_fit rest
-  lines_fit (WhileLine line c x rest) = (λ looping. is_scalar (judge c) && list_all {X = Bool → Bool} (λ s. s true) (lines_fit x)) ∷ lines_fit rest
-  lines_fit (ForLine line p e c q f x rest) = (λ looping. assign_fits (judge p) (judge e) && (is_scalar (judge c) && (assign_fits (judge q) (judge f) && list_all {X = Bool → Bool} (λ s. s true) (lines_fit x)))) ∷ lines_fit rest
+  lines_fit (IfLine line c x y rest) = (λ looping. is_scalar (judge c) &&
+      (list_all {X = Bool → Bool} (λ s. s looping) (lines_fit x) &&
+      list_all {X = Bool → Bool} (λ s. s looping) (lines_fit y))) ∷ lines_fit rest
+  lines_fit (WhileLine line c x rest) = (λ looping. is_scalar (judge c) &&
+      list_all {X = Bool → Bool} (λ s. s true) (lines_fit x)) ∷ lines_fit rest
+  lines_fit (ForLine line p e c q f x rest) = (λ looping. assign_fits (judge p) (judge e) &&
+      (is_scalar (judge c) && (assign_fits (judge q) (judge f) &&
+      list_all {X = Bool → Bool} (λ s. s true) (lines_fit x)))) ∷ lines_fit rest
   lines_fit (BreakLine line rest) = (λ looping. looping) ∷ lines_fit rest
   lines_fit (ContinueLine line rest) = (λ looping. looping) ∷ lines_fit rest
   lines_fit (ReturnLine line rest) = (λ looping. not (is_some result)) ∷ lines_fit rest
   lines_fit (ReturnValueLine line e rest) = (λ looping. returned_fits result (judge e)) ∷ lines_fit rest
-  lines_fit (ReturnCallLine line target args rest) = (λ looping. returned_call_fits callable result target (map judge args)) ∷ lines_fit rest
+  lines_fit (ReturnCallLine line target args rest) = (λ looping.
+      returned_call_fits callable result target (map judge args)) ∷ lines_fit rest
 
   pub lines_fit_are : (x : Lines) → map (stmt_fits scope callable result) (stmts x) ≡ lines_fit x
   lines_fit_are NoLine = refl
-  lines_fit_are (EmptyLine line rest) = λ i. (stmt_at _ _ (kind_fits scope callable result) (λ s. s.kind) line (layer.Empty) ∙ (λ j. (λ looping. true))) i ∷ lines_fit_are rest i
-  lines_fit_are (AssignLine line p e rest) = λ i. (stmt_at _ _ (kind_fits scope callable result) (λ s. s.kind) line (layer.Assign (expr p) (expr e)) ∙ (λ j. (λ looping. assign_fits (judge_is p j) (judge_is e j)))) i ∷ lines_fit_are rest i
-  lines_fit_are (AssignCallLine line p target args rest) = λ i. (stmt_at _ _ (kind_fits scope callable result) (λ s. s.kind) line (layer.AssignCall (expr p) (call_of target args)) ∙ (λ j. (λ looping. assign_call_fits callable (judge_is p j) target (judges_are args j)))) i ∷ lines_fit_are rest i
-  lines_fit_are (CallLine line target args rest) = λ i. (stmt_at _ _ (kind_fits scope callable result) (λ s. s.kind) line (layer.Call (call_of target args)) ∙ (λ j. (λ looping. call_fits callable target (judges_are args j)))) i ∷ lines_fit_are rest i
-  lines_fit_are (IfLine line c x y rest) = λ i. (stmt_at _ _ (kind_fits scope callable result) (λ s. s.kind) line (layer.If (expr c) (stmts x) (stmts y)) ∙ (λ j. (λ looping. is_scalar (judge_is c j) && (list_all {X = Bool → Bool} (λ s. s looping) (lines_fit_are x j) && list_all {X = Bool → Bool} (λ s. s looping) (lines_fit_are y j))))) i ∷ lines_fit_are rest i
-  lines_fit_are (WhileLine line c x rest) = λ i. (stmt_at _ _ (kind_fits scope callable result) (λ s. s.kind) line (layer.While (expr c) (stmts x)) ∙ (λ j. (λ looping. is_scalar (judge_is c j) && list_all {X = Bool → Bool} (λ s. s true) (lines_fit_are x j)))) i ∷ lines_fit_are rest i
-  lines_fit_are (ForLine line p e c q f x rest) = λ i. (stmt_at _ _ (kind_fits scope callable result) (λ s. s.kind) line (layer.For (part line p e) (expr c) (part line q f) (stmts x)) ∙ (λ j. (λ looping. assign_fits (judge_is p j) (judge_is e j) && (is_scalar (judge_is c j) && (assign_fits (judge_is q j) (judge_is f j) && list_all {X = Bool → Bool} (λ s. s true) (lines_fit_are x j)))))) i ∷ lines_fit_are rest i
-  lines_fit_are (BreakLine line rest) = λ i. (stmt_at _ _ (kind_fits scope callable result) (λ s. s.kind) line (layer.Break) ∙ (λ j. (λ looping. looping))) i ∷ lines_fit_are rest i
-  lines_fit_are (ContinueLine line rest) = λ i. (stmt_at _ _ (kind_fits scope callable result) (λ s. s.kind) line (layer.Continue) ∙ (λ j. (λ looping. looping))) i ∷ lines_fit_are rest i
-  lines_fit_are (ReturnLine line rest) = λ i. (stmt_at _ _ (kind_fits scope callable result) (λ s. s.kind) line (layer.Return) ∙ (λ j. (λ looping. not (is_some result)))) i ∷ lines_fit_are rest i
-  lines_fit_are (ReturnValueLine line e rest) = λ i. (stmt_at _ _ (kind_fits scope callable result) (λ s. s.kind) line (layer.ReturnValue (expr e)) ∙ (λ j. (λ looping. returned_fits result (judge_is e j)))) i ∷ lines_fit_are rest i
-  lines_fit_are (ReturnCallLine line target args rest) = λ i. (stmt_at _ _ (kind_fits scope callable result) (λ s. s.kind) line (layer.ReturnCall (call_of target args)) ∙ (λ j. (λ looping. returned_call_fits callable result target (judges_are args j)))) i ∷ lines_fit_are rest i
+  lines_fit_are (EmptyLine line rest) = λ i. (stmt_at _ _ (kind_fits scope callable result) (λ s. s.kind) line
+      (layer.Empty) ∙ (λ j. (λ looping. true))) i ∷ lines_fit_are rest i
+  lines_fit_are (AssignLine line p e rest) = λ i. (stmt_at _ _ (kind_fits scope callable result) (λ s. s.kind) line
+      (layer.Assign (expr p) (expr e)) ∙ (λ j. (λ looping. assign_fits (judge_is p j) (judge_is e j)))) i ∷
+      lines_fit_are rest i
+  lines_fit_are (AssignCallLine line p target args rest) =
+      λ i. (stmt_at _ _ (kind_fits scope callable result) (λ s. s.kind) line
+      (layer.AssignCall (expr p) (call_of target args)) ∙
+      (λ j. (λ looping. assign_call_fits callable (judge_is p j) target (judges_are args j)))) i ∷ lines_fit_are rest i
+  lines_fit_are (CallLine line target args rest) = λ i.
+      (stmt_at _ _ (kind_fits scope callable result) (λ s. s.kind) line (layer.Call (call_of target args)) ∙
+      (λ j. (λ looping. call_fits callable target (judges_are args j)))) i ∷ lines_fit_are rest i
+  lines_fit_are (IfLine line c x y rest) = λ i. (stmt_at _ _ (kind_fits scope callable result) (λ s. s.kind) line
+      (layer.If (expr c) (stmts x) (stmts y)) ∙ (λ j.
+      (λ looping. is_scalar (judge_is c j) && (list_all {X = Bool → Bool} (λ s. s looping) (lines_fit_are x j) &&
+      list_all {X = Bool → Bool} (λ s. s looping) (lines_fit_are y j))))) i ∷ lines_fit_are rest i
+  lines_fit_are (WhileLine line c x rest) = λ i. (stmt_at _ _ (kind_fits scope callable result) (λ s. s.kind) line
+      (layer.While (expr c) (stmts x)) ∙ (λ j. (λ looping. is_scalar (judge_is c j) &&
+      list_all {X = Bool → Bool} (λ s. s true) (lines_fit_are x j)))) i ∷ lines_fit_are rest i
+  lines_fit_are (ForLine line p e c q f x rest) = λ i.
+      (stmt_at _ _ (kind_fits scope callable result) (λ s. s.kind) line
+      (layer.For (part line p e) (expr c) (part line q f) (stmts x)) ∙
+      (λ j. (λ looping. assign_fits (judge_is p j) (judge_is e j) &&
+      (is_scalar (judge_is c j) && (assign_fits (judge_is q j) (judge_is f j) &&
+      list_all {X = Bool → Bool} (λ s. s true) (lines_fit_are x j)))))) i ∷ lines_fit_are rest i
+  lines_fit_are (BreakLine line rest) = λ i. (stmt_at _ _ (kind_fits scope callable result) (λ s. s.kind) line
+      (layer.Break) ∙ (λ j. (λ looping. looping))) i ∷ lines_fit_are rest i
+  lines_fit_are (ContinueLine line rest) = λ i. (stmt_at _ _ (kind_fits scope callable result) (λ s. s.kind) line
+      (layer.Continue) ∙ (λ j. (λ looping. looping))) i ∷ lines_fit_are rest i
+  lines_fit_are (ReturnLine line rest) = λ i. (stmt_at _ _ (kind_fits scope callable result) (λ s. s.kind) line
+      (layer.Return) ∙ (λ j. (λ looping. not (is_some result)))) i ∷ lines_fit_are rest i
+  lines_fit_are (ReturnValueLine line e rest) = λ i. (stmt_at _ _ (kind_fits scope callable result) (λ s. s.kind) line
+      (layer.ReturnValue (expr e)) ∙ (λ j. (λ looping. returned_fits result (judge_is e j)))) i ∷ lines_fit_are rest i
+  lines_fit_are (ReturnCallLine line target args rest) =
+      λ i. (stmt_at _ _ (kind_fits scope callable result) (λ s. s.kind) line (layer.ReturnCall (call_of target args)) ∙
+      (λ j. (λ looping. returned_call_fits callable result target (judges_are args j)))) i ∷ lines_fit_are rest i

@@ -55,7 +55,14 @@ local slot = record { name = codes "v"; ty = slot.ty; init = init_of slot.init; 
 
 abbrev pub function : Plan → TypedFunction
 function plan =
-    record { name = plan.name; params = map param plan.params; locals = map local plan.locals; result = plan.result; body = stmts plan.body; close_line = plan.close_line }
+    record {
+      name = plan.name;
+      params = map param plan.params;
+      locals = map local plan.locals;
+      result = plan.result;
+      body = stmts plan.body;
+      close_line = plan.close_line;
+    }
 
 abbrev pub section : Sheet → TypedSection
 section sheet =
@@ -80,56 +87,91 @@ slots_nodes_are [] = refl
 slots_nodes_are (slot ∷ slots) = λ i. suc (init_nodes_is slot.init i) ∷ slots_nodes_are slots i
 
 abbrev pub plan_nodes : Plan → ℕ
-plan_nodes plan = suc (length (map param plan.params)) + total (map slot_nodes plan.locals) + total (lines_nodes plan.body)
+plan_nodes plan = suc (length (map param plan.params)) + total (map slot_nodes plan.locals) + total
+    (lines_nodes plan.body)
 
 pub plan_nodes_is : (plan : Plan) → nodes (function plan) ≡ plan_nodes plan
-plan_nodes_is plan = λ i. suc (length (map param plan.params)) + total (slots_nodes_are plan.locals i) + total (lines_nodes_are plan.body i)
+plan_nodes_is plan = λ i. suc (length (map param plan.params)) + total (slots_nodes_are plan.locals i) + total
+    (lines_nodes_are plan.body i)
 
 module _ (arith : Arith) (structs : List TypedStruct) (here : Here) (params : ℕ) where
   abbrev pub slot_does : ℕ → Slot → Option Shape → Acts
   slot_does k slot None = leave Next
   slot_does k slot (Some a) =
-      assign here (at_place slot.ty (λ blocks. Ok (variable_at here params (Local k)))) (way arith structs here params a) slot.line
+      assign here (at_place slot.ty (λ blocks. Ok (variable_at here params (Local k))))
+      (way arith structs here params a) slot.line
 
   abbrev pub slots_do : ℕ → List Slot → List Acts
   slots_do k [] = []
   slots_do k (slot ∷ slots) = slot_does k slot slot.init ∷ slots_do (suc k) slots
 
-  pub inits_are : (k : ℕ) (slots : List Slot) → inits_do arith structs here params k (map local slots) ≡ slots_do k slots
+  pub inits_are : (k : ℕ) (slots : List Slot) → inits_do arith structs here params k (map local slots) ≡
+      slots_do k slots
   inits_are k [] = refl
   inits_are k (slot ∷ slots) =
       with_init k slot slot.init (inits_are (suc k) slots) where
-        with_init : (k : ℕ) (slot : Slot) (init : Option Shape) → inits_do arith structs here params (suc k) (map local slots) ≡ slots_do (suc k) slots → inits_do arith structs here params k (record (local slot) { init = init_of init } ∷ map local slots) ≡ slot_does k slot init ∷ slots_do (suc k) slots
+        with_init : (k : ℕ) (slot : Slot) (init : Option Shape) →
+            inits_do arith structs here params (suc k) (map local slots) ≡ slots_do (suc k) slots →
+            inits_do arith structs here params k (record (local slot) { init = init_of init } ∷ map local slots) ≡
+            slot_does k slot init ∷ slots_do (suc k) slots
         with_init k slot None rest = λ i. leave Next ∷ rest i
         with_init k slot (Some a) rest = λ i.
-            assign here (at_place slot.ty (λ blocks. Ok (variable_at here params (Local k)))) (way_is arith structs here params a i) slot.line ∷ rest i
+            assign here (at_place slot.ty (λ blocks. Ok (variable_at here params (Local k))))
+            (way_is arith structs here params a i) slot.line ∷ rest i
 
 module _ (arith : Arith) (main : ℕ) where
   abbrev pub quick : List TypedStruct → Plan → Function
   quick structs plan =
-      record { cells = variables structs (function plan); room = frame_bound (variables structs (function plan)) (plan_nodes plan); does = λ by here s. and_then (follow in_order (all_do (slots_do arith structs here (length (map param plan.params)) 0 plan.locals) tt s) (all_do (lines_do arith structs here (length (map param plan.params)) by plan.body))) (λ left s. closed left.exit (is_some plan.result) (here.comp == main && bytes_eq plan.name main_name) plan.close_line here s) }
+      record {
+        cells = variables structs (function plan);
+        room = frame_bound (variables structs (function plan)) (plan_nodes plan);
+        does = λ by here s. and_then (follow in_order
+            (all_do (slots_do arith structs here (length (map param plan.params)) 0 plan.locals) tt s)
+            (all_do (lines_do arith structs here (length (map param plan.params)) by plan.body)))
+            (λ left s. closed left.exit (is_some plan.result)
+            (here.comp == main && bytes_eq plan.name main_name) plan.close_line here s);
+      }
 
-  pub function_is : (structs : List TypedStruct) (plan : Plan) → function_of arith main structs (function plan) ≡ quick structs plan
+  pub function_is : (structs : List TypedStruct) (plan : Plan) →
+      function_of arith main structs (function plan) ≡ quick structs plan
   function_is structs plan = λ i.
-      record { cells = variables structs (function plan); room = frame_bound (variables structs (function plan)) (plan_nodes_is plan i); does = λ by here s. and_then (follow in_order (all_do (inits_are arith structs here (length (map param plan.params)) 0 plan.locals i) tt s) (all_do (lines_are arith structs here (length (map param plan.params)) by plan.body i))) (λ left s. closed left.exit (is_some plan.result) (here.comp == main && bytes_eq plan.name main_name) plan.close_line here s) }
+      record {
+        cells = variables structs (function plan);
+        room = frame_bound (variables structs (function plan)) (plan_nodes_is plan i);
+        does = λ by here s. and_then (follow in_order
+            (all_do (inits_are arith structs here (length (map param plan.params)) 0 plan.locals i) tt s)
+            (all_do (lines_are arith structs here (length (map param plan.params)) by plan.body i)))
+            (λ left s. closed left.exit (is_some plan.result)
+            (here.comp == main && bytes_eq plan.name main_name) plan.close_line here s);
+      }
 
-  pub functions_are : (structs : List TypedStruct) (plans : List Plan) → map (function_of arith main structs) (map function plans) ≡ map (quick structs) plans
+  pub functions_are : (structs : List TypedStruct) (plans : List Plan) →
+      map (function_of arith main structs) (map function plans) ≡ map (quick structs) plans
   functions_are structs [] = refl
   functions_are structs (plan ∷ plans) = λ i. function_is structs plan i ∷ functions_are structs plans i
 
   abbrev pub quick_section : Sheet → List Function
   quick_section sheet = map (quick sheet.structs) sheet.plans
 
-  pub sections_are : (sheets : List Sheet) → map (functions_in arith main) (map section sheets) ≡ map quick_section sheets
+  pub sections_are : (sheets : List Sheet) → map (functions_in arith main) (map section sheets) ≡
+      map quick_section sheets
   sections_are [] = refl
   sections_are (sheet ∷ sheets) = λ i. functions_are sheet.structs sheet.plans i ∷ sections_are sheets i
 
 module _ (arith : Arith) (interfaces : Interfaces) (sheets : List Sheet) where
   abbrev pub quick_library : Library
-  quick_library = record { interfaces = interfaces; functions = map (quick_section arith interfaces.main) sheets; entered = entry_in (program interfaces sheets) }
+  quick_library = record {
+    interfaces = interfaces;
+    functions = map (quick_section arith interfaces.main) sheets;
+    entered = entry_in (program interfaces sheets);
+  }
 
   pub library_is : library_of arith (program interfaces sheets) ≡ quick_library
-  library_is = λ i. record { interfaces = interfaces; functions = sections_are arith interfaces.main sheets i; entered = entry_in (program interfaces sheets) }
+  library_is = λ i. record {
+    interfaces = interfaces;
+    functions = sections_are arith interfaces.main sheets i;
+    entered = entry_in (program interfaces sheets);
+  }
 
   module _ (inputs : List ℕ) (turns : ℕ) where
     abbrev pub quick_run : Run
@@ -140,8 +182,11 @@ module _ (arith : Arith) (interfaces : Interfaces) (sheets : List Sheet) where
 
     abbrev pub quick_scripted : (ℕ → Bool) → List Event → Run
     quick_scripted set trace =
-        run_by quick_library (scripted_step quick_library (roles_in interfaces.main set trace) (run_step quick_library)) (globals_of (map section sheets)) inputs turns
+        run_by quick_library (scripted_step quick_library (roles_in interfaces.main set trace) (run_step quick_library))
+        (globals_of (map section sheets)) inputs turns
 
-    pub scripted_run_is : (set : ℕ → Bool) (trace : List Event) → scripted_run_of arith (program interfaces sheets) inputs turns set trace ≡ quick_scripted set trace
+    pub scripted_run_is : (set : ℕ → Bool) (trace : List Event) →
+        scripted_run_of arith (program interfaces sheets) inputs turns set trace ≡ quick_scripted set trace
     scripted_run_is set trace =
-        ap (λ library. run_by library (scripted_step library (roles_in interfaces.main set trace) (run_step library)) (globals_of (map section sheets)) inputs turns) library_is
+        ap (λ library. run_by library (scripted_step library (roles_in interfaces.main set trace) (run_step library))
+        (globals_of (map section sheets)) inputs turns) library_is

@@ -1,4 +1,5 @@
--- Trees by shapes, on which folds compute: what an expression gives and what statements do, as recursions that the meaning equals.
+-- Trees by shapes, on which folds compute: what an expression gives and what statements do, as recursions that the
+-- meaning equals.
 use Rattle.std.proofs.Common.{◌≡◌, refl, ap, ◌∙◌, ℕ, List, [], ◌∷◌, map, Option, None, Some}
 use Rattle.sc_core.specs.declared.ty.Ty.{Ty}
 use Rattle.sc_base.specs.declared.op.UnaryOp.{UnaryOp}
@@ -16,7 +17,7 @@ use Rattle.sc_core.specs.declared.section.TypedStruct.{TypedStruct}
 use Rattle.sc_core.specs.declared.value.Want.TheVariants as want
 use Rattle.sc_core.specs.Value.{Arith}
 use Rattle.sc_core.specs.Words.{Here, and_then, Next, Break, Continue, Return, leave, follow, in_order, all_do, loop, choose, Calls}
-use Rattle.sc_core.specs.Tree.{Ways, Meant, Acts, term_step, meant_step, meant, ways, given, assign, call, assign_call, call_alone, test, kind_step, stmt_step, stmt_does}
+use Rattle.sc_core.specs.Tree.{Ways, Meant, Acts, term_step, meant_step, meant, ways, evaluated, assign, call, assign_call, call_alone, test, kind_step, stmt_step, stmt_does}
 use Rattle.sc_core.proofs.Layers.{typed, expr_at, on_line, stmt_at}
 
 -- an expression
@@ -68,11 +69,13 @@ abbrev pub stmts : Lines → List TypedStmt
 stmts NoLine = []
 stmts (EmptyLine line rest) = on_line line layer.Empty ∷ stmts rest
 stmts (AssignLine line place e rest) = on_line line (layer.Assign (expr place) (expr e)) ∷ stmts rest
-stmts (AssignCallLine line place target args rest) = on_line line (layer.AssignCall (expr place) (call_of target args)) ∷ stmts rest
+stmts (AssignCallLine line place target args rest) = on_line line
+    (layer.AssignCall (expr place) (call_of target args)) ∷ stmts rest
 stmts (CallLine line target args rest) = on_line line (layer.Call (call_of target args)) ∷ stmts rest
 stmts (IfLine line cond x y rest) = on_line line (layer.If (expr cond) (stmts x) (stmts y)) ∷ stmts rest
 stmts (WhileLine line cond x rest) = on_line line (layer.While (expr cond) (stmts x)) ∷ stmts rest
-stmts (ForLine line p e cond q f x rest) = on_line line (layer.For (part line p e) (expr cond) (part line q f) (stmts x)) ∷ stmts rest
+stmts (ForLine line p e cond q f x rest) = on_line line
+    (layer.For (part line p e) (expr cond) (part line q f) (stmts x)) ∷ stmts rest
 stmts (BreakLine line rest) = on_line line layer.Break ∷ stmts rest
 stmts (ContinueLine line rest) = on_line line layer.Continue ∷ stmts rest
 stmts (ReturnLine line rest) = on_line line layer.Return ∷ stmts rest
@@ -84,10 +87,22 @@ module _ (arith : Arith) (structs : List TypedStruct) (here : Here) (params : �
   sense (Lit ty word) = record { ty = ty; way = term_step arith structs here params (term.Literal word) ty }
   sense (Var ty v) = record { ty = ty; way = term_step arith structs here params (term.Variable v) ty }
   sense (One ty o a) = record { ty = ty; way = term_step arith structs here params (term.Unary o (sense a)) ty }
-  sense (Two ty o a b) = record { ty = ty; way = term_step arith structs here params (term.Binary o (sense a) (sense b)) ty }
+  sense (Two ty o a b) = record {
+    ty = ty;
+    way = term_step arith structs here params
+        (term.Binary o (sense a) (sense b)) ty;
+  }
   sense (At ty a b) = record { ty = ty; way = term_step arith structs here params (term.Index (sense a) (sense b)) ty }
-  sense (Dot ty a offset) = record { ty = ty; way = term_step arith structs here params (term.Member (sense a) offset) ty }
-  sense (Arrow ty a offset) = record { ty = ty; way = term_step arith structs here params (term.Arrow (sense a) offset) ty }
+  sense (Dot ty a offset) = record {
+    ty = ty;
+    way = term_step arith structs here params
+        (term.Member (sense a) offset) ty;
+  }
+  sense (Arrow ty a offset) = record {
+    ty = ty;
+    way = term_step arith structs here params
+        (term.Arrow (sense a) offset) ty;
+  }
   sense (Star ty a) = record { ty = ty; way = term_step arith structs here params (term.Deref (sense a)) ty }
   sense (Amp ty a) = record { ty = ty; way = term_step arith structs here params (term.Address (sense a)) ty }
 
@@ -102,11 +117,20 @@ module _ (arith : Arith) (structs : List TypedStruct) (here : Here) (params : �
       ∙ ap (λ m. record { ty = ty; way = term_step arith structs here params (term.Unary o m) ty }) (sense_is a)
   sense_is (Two ty o a b) =
       expr_at _ _ (term_step arith structs here params) meant_step ty (term.Binary o (expr a) (expr b))
-      ∙ ap (λ m. record { ty = ty; way = term_step arith structs here params (term.Binary o m (meant arith structs here params (expr b))) ty }) (sense_is a)
-      ∙ ap (λ m. record { ty = ty; way = term_step arith structs here params (term.Binary o (sense a) m) ty }) (sense_is b)
+      ∙ ap (λ m. record {
+        ty = ty;
+        way = term_step arith structs here params
+            (term.Binary o m (meant arith structs here params (expr b))) ty;
+      }) (sense_is a)
+      ∙ ap (λ m. record { ty = ty; way = term_step arith structs here params (term.Binary o (sense a) m) ty })
+      (sense_is b)
   sense_is (At ty a b) =
       expr_at _ _ (term_step arith structs here params) meant_step ty (term.Index (expr a) (expr b))
-      ∙ ap (λ m. record { ty = ty; way = term_step arith structs here params (term.Index m (meant arith structs here params (expr b))) ty }) (sense_is a)
+      ∙ ap (λ m. record {
+        ty = ty;
+        way = term_step arith structs here params
+            (term.Index m (meant arith structs here params (expr b))) ty;
+      }) (sense_is a)
       ∙ ap (λ m. record { ty = ty; way = term_step arith structs here params (term.Index (sense a) m) ty }) (sense_is b)
   sense_is (Dot ty a offset) =
       expr_at _ _ (term_step arith structs here params) meant_step ty (term.Member (expr a) offset)
@@ -133,48 +157,66 @@ module _ (arith : Arith) (structs : List TypedStruct) (here : Here) (params : �
     lines_do NoLine = []
     lines_do (EmptyLine line rest) = leave Next ∷ lines_do rest
     lines_do (AssignLine line place e rest) = assign here (way place) (way e) line ∷ lines_do rest
-    lines_do (AssignCallLine line place target args rest) = assign_call here calls (way place) target (map way args) line ∷ lines_do rest
+    lines_do (AssignCallLine line place target args rest) =
+        assign_call here calls (way place) target (map way args) line ∷ lines_do rest
     lines_do (CallLine line target args rest) = call_alone here calls target (map way args) line ∷ lines_do rest
     lines_do (IfLine line cond x y rest) =
-        (λ a s. and_then (given here want.Value (way cond) line s) (λ v s. choose v (all_do (lines_do x) a s) (all_do (lines_do y) a s))) ∷ lines_do rest
-    lines_do (WhileLine line cond x rest) = loop (test here (way cond) line) (all_do (lines_do x)) (leave Next) ∷ lines_do rest
+        (λ a s. and_then (evaluated here want.Value (way cond) line s)
+        (λ v s. choose v (all_do (lines_do x) a s) (all_do (lines_do y) a s))) ∷ lines_do rest
+    lines_do (WhileLine line cond x rest) = loop (test here (way cond) line) (all_do (lines_do x)) (leave Next) ∷
+        lines_do rest
     lines_do (ForLine line p e cond q f x rest) =
-        (λ a s. follow in_order (assign here (way p) (way e) line a s) (loop (test here (way cond) line) (all_do (lines_do x)) (assign here (way q) (way f) line))) ∷ lines_do rest
+        (λ a s. follow in_order (assign here (way p) (way e) line a s)
+        (loop (test here (way cond) line) (all_do (lines_do x)) (assign here (way q) (way f) line))) ∷ lines_do rest
     lines_do (BreakLine line rest) = leave Break ∷ lines_do rest
     lines_do (ContinueLine line rest) = leave Continue ∷ lines_do rest
     lines_do (ReturnLine line rest) = leave (Return None) ∷ lines_do rest
     lines_do (ReturnValueLine line e rest) =
-        (λ a s. and_then (given here want.Value (way e) line s) (λ v s. leave (Return (Some v)) a s)) ∷ lines_do rest
+        (λ a s. and_then (evaluated here want.Value (way e) line s) (λ v s. leave (Return (Some v)) a s)) ∷
+        lines_do rest
     lines_do (ReturnCallLine line target args rest) =
-        (λ a s. and_then (call here calls target (map way args) line s) (λ result s. leave (Return result) a s)) ∷ lines_do rest
+        (λ a s. and_then (call here calls target (map way args) line s) (λ result s. leave (Return result) a s)) ∷
+        lines_do rest
 
     pub lines_are : (x : Lines) → map (stmt_does arith structs here params calls) (stmts x) ≡ lines_do x
     lines_are NoLine = refl
-    lines_are (EmptyLine line rest) = λ i. stmt_at _ _ (kind_step arith structs here params calls) stmt_step line layer.Empty i ∷ lines_are rest i
+    lines_are (EmptyLine line rest) = λ i. stmt_at _ _
+        (kind_step arith structs here params calls) stmt_step line layer.Empty i ∷ lines_are rest i
     lines_are (AssignLine line place e rest) = λ i.
         (stmt_at _ _ (kind_step arith structs here params calls) stmt_step line (layer.Assign (expr place) (expr e))
         ∙ (λ j. assign here (way_is place j) (way_is e j) line)) i ∷ lines_are rest i
     lines_are (AssignCallLine line place target args rest) = λ i.
-        (stmt_at _ _ (kind_step arith structs here params calls) stmt_step line (layer.AssignCall (expr place) (call_of target args))
+        (stmt_at _ _ (kind_step arith structs here params calls) stmt_step line
+        (layer.AssignCall (expr place) (call_of target args))
         ∙ (λ j. assign_call here calls (way_is place j) target (ways_are args j) line)) i ∷ lines_are rest i
     lines_are (CallLine line target args rest) = λ i.
         (stmt_at _ _ (kind_step arith structs here params calls) stmt_step line (layer.Call (call_of target args))
         ∙ (λ j. call_alone here calls target (ways_are args j) line)) i ∷ lines_are rest i
     lines_are (IfLine line cond x y rest) = λ i.
-        (stmt_at _ _ (kind_step arith structs here params calls) stmt_step line (layer.If (expr cond) (stmts x) (stmts y))
-        ∙ (λ j a s. and_then (given here want.Value (way_is cond j) line s) (λ v s. choose v (all_do (lines_are x j) a s) (all_do (lines_are y j) a s)))) i ∷ lines_are rest i
+        (stmt_at _ _ (kind_step arith structs here params calls) stmt_step line
+        (layer.If (expr cond) (stmts x) (stmts y))
+        ∙ (λ j a s. and_then (evaluated here want.Value (way_is cond j) line s)
+        (λ v s. choose v (all_do (lines_are x j) a s) (all_do (lines_are y j) a s)))) i ∷ lines_are rest i
     lines_are (WhileLine line cond x rest) = λ i.
         (stmt_at _ _ (kind_step arith structs here params calls) stmt_step line (layer.While (expr cond) (stmts x))
         ∙ (λ j. loop (test here (way_is cond j) line) (all_do (lines_are x j)) (leave Next))) i ∷ lines_are rest i
     lines_are (ForLine line p e cond q f x rest) = λ i.
-        (stmt_at _ _ (kind_step arith structs here params calls) stmt_step line (layer.For (part line p e) (expr cond) (part line q f) (stmts x))
-        ∙ (λ j a s. follow in_order (assign here (way_is p j) (way_is e j) line a s) (loop (test here (way_is cond j) line) (all_do (lines_are x j)) (assign here (way_is q j) (way_is f j) line)))) i ∷ lines_are rest i
-    lines_are (BreakLine line rest) = λ i. stmt_at _ _ (kind_step arith structs here params calls) stmt_step line layer.Break i ∷ lines_are rest i
-    lines_are (ContinueLine line rest) = λ i. stmt_at _ _ (kind_step arith structs here params calls) stmt_step line layer.Continue i ∷ lines_are rest i
-    lines_are (ReturnLine line rest) = λ i. stmt_at _ _ (kind_step arith structs here params calls) stmt_step line layer.Return i ∷ lines_are rest i
+        (stmt_at _ _ (kind_step arith structs here params calls) stmt_step line
+        (layer.For (part line p e) (expr cond) (part line q f) (stmts x))
+        ∙ (λ j a s. follow in_order (assign here (way_is p j) (way_is e j) line a s)
+        (loop (test here (way_is cond j) line) (all_do (lines_are x j))
+        (assign here (way_is q j) (way_is f j) line)))) i ∷ lines_are rest i
+    lines_are (BreakLine line rest) = λ i. stmt_at _ _
+        (kind_step arith structs here params calls) stmt_step line layer.Break i ∷ lines_are rest i
+    lines_are (ContinueLine line rest) = λ i. stmt_at _ _
+        (kind_step arith structs here params calls) stmt_step line layer.Continue i ∷ lines_are rest i
+    lines_are (ReturnLine line rest) = λ i. stmt_at _ _
+        (kind_step arith structs here params calls) stmt_step line layer.Return i ∷ lines_are rest i
     lines_are (ReturnValueLine line e rest) = λ i.
         (stmt_at _ _ (kind_step arith structs here params calls) stmt_step line (layer.ReturnValue (expr e))
-        ∙ (λ j a s. and_then (given here want.Value (way_is e j) line s) (λ v s. leave (Return (Some v)) a s))) i ∷ lines_are rest i
+        ∙ (λ j a s. and_then (evaluated here want.Value (way_is e j) line s) (λ v s. leave (Return (Some v)) a s))) i ∷
+        lines_are rest i
     lines_are (ReturnCallLine line target args rest) = λ i.
         (stmt_at _ _ (kind_step arith structs here params calls) stmt_step line (layer.ReturnCall (call_of target args))
-        ∙ (λ j a s. and_then (call here calls target (ways_are args j) line s) (λ result s. leave (Return result) a s))) i ∷ lines_are rest i
+        ∙ (λ j a s. and_then (call here calls target (ways_are args j) line s)
+        (λ result s. leave (Return result) a s))) i ∷ lines_are rest i

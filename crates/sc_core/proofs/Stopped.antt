@@ -10,11 +10,13 @@ use Rattle.sc_core.specs.declared.thin.ThinProgram.{ThinProgram}
 use Rattle.sc_core.specs.Thin.{thin_meaning}
 
 pub outputs_alone : (events : ℕ) (program : ThinProgram) → events ≤ length program.outputs
-    → ◌≡◌ {A = SourceRun} (record { trace = map (λ word. Out 0 word) (take events program.outputs); end = EventsOut }) (thin_meaning events program)
+    → ◌≡◌ {A = SourceRun} (record { trace = map (λ word. Out 0 word) (take events program.outputs); end = EventsOut })
+    (thin_meaning events program)
 outputs_alone events program few =
     let outs : List Event = map (λ word. Out 0 word) program.outputs in
     let many : length outs ≡ length program.outputs = length-map _ _ in
     let past : events < length (outs ++ End 0 program.result ∷ []) = rw (length-append, many) (omega arith) in
-    let front : take events (outs ++ End 0 program.result ∷ []) ≡ map (λ word. Out 0 word) (take events program.outputs) =
+    let front : take events (outs ++ End 0 program.result ∷ []) ≡
+    map (λ word. Out 0 word) (take events program.outputs) =
     take-append-le events outs _ (rw many few) ∙ take-map _ events program.outputs in
     rw (lt-ltb _ _ past, front) refl

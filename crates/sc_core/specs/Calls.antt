@@ -1,4 +1,5 @@
--- Calls: the variables and the frame of a function begin, its body runs, and they end (C11 6.2.4, 6.5.2.2). The same for trees and for code.
+-- Calls: the variables and the frame of a function begin, its body runs, and they end (C11 6.2.4, 6.5.2.2). The same
+-- for trees and for code.
 use Rattle.std.specs.Prelude.{ℕ, zero, suc, ◌++◌, Bool, true, false, ◌&&◌, ◌==◌, if◌then◌else◌, List, [], ◌∷◌, length, map, replicate, drop, Option, None, Some, is_some, slice_get, slice_index_or}
 use Rattle.std.specs.List.{list_all}
 use Rattle.sc_event.specs.declared.event.Event.TheVariants.{Call, Ret, Out, In}
@@ -19,7 +20,8 @@ use Rattle.sc_core.specs.declared.value.Value.TheVariants.{Word, Null, Ptr}
 use Rattle.sc_core.specs.Memory.{Blocks, with_blocks, cell_of, ended}
 use Rattle.sc_core.specs.Words.{Opened, Closed, State, Here, Piece, Reached, Stopped, and_then, turn, tell, Calls}
 
--- a function as a call sees it, whatever it is written in: the cells of its variables, parameters first, the bytes of its
+-- a function as a call sees it, whatever it is written in: the cells of its variables, parameters first, the bytes of
+-- its
 -- frame at most, and what it does by what its calls do
 pub record Function : Type 0 where
   pub cells : List ℕ
@@ -134,7 +136,8 @@ back_own v s = Reached v s
 -- a return to another compartment is told, and gives what crossed
 abbrev pub back_cross : Interfaces → ℕ → ℕ → ℕ → Option Value → State → Piece (Option Value)
 back_cross interfaces from to index v s =
-    Reached (option_value (crossing (export_at interfaces to index) v)) (tell (Ret to from (crossing (export_at interfaces to index) v)) s)
+    Reached (option_value (crossing (export_at interfaces to index) v))
+    (tell (Ret to from (crossing (export_at interfaces to index) v)) s)
 
 module _ (library : Library) (body : Body) where
   -- a function of this number runs from here, and `back` is what is told at its return
@@ -152,7 +155,8 @@ module _ (library : Library) (body : Body) where
   abbrev pub call_cross : ℕ → ℕ → ℕ → List Value → State → Piece (Option Value)
   call_cross from to index args s =
       and_then (found (library.entered to (Export index)) s) (λ number s.
-      run_in to number (crossed args) (back_cross library.interfaces from to index) (tell (Call from to index (map word_in args)) s))
+      run_in to number (crossed args) (back_cross library.interfaces from to index)
+      (tell (Call from to index (map word_in args)) s))
 
   -- a call takes its turn once its arguments are there and before its event; the environment takes none
   abbrev pub called : Calls

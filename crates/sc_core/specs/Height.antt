@@ -1,4 +1,5 @@
--- How high a typed tree is: a leaf is 1 high, and any other expression or statement is one higher than its highest part.
+-- How high a typed tree is: a leaf is 1 high, and any other expression or statement is one higher than its highest
+-- part.
 use Rattle.std.specs.Prelude.{ℕ, suc, max, List, [], ◌∷◌, map, Option, Some, None}
 use Rattle.sc_core.specs.declared.expr.TypedExpr.{TypedExpr, fold-TypedExpr}
 use Rattle.sc_core.specs.declared.expr.TypedKind.{TypedKind-F}
@@ -50,7 +51,8 @@ kind_height (layer.AssignCall place call) = max (expr_height place) (call_height
 kind_height (layer.Call call) = call_height call
 kind_height (layer.If cond first second) = max (expr_height cond) (max (highest first) (highest second))
 kind_height (layer.While cond body) = max (expr_height cond) (highest body)
-kind_height (layer.For first cond next body) = max (max (part_height first) (part_height next)) (max (expr_height cond) (highest body))
+kind_height (layer.For first cond next body) = max (max (part_height first) (part_height next))
+    (max (expr_height cond) (highest body))
 kind_height (layer.ReturnValue value) = expr_height value
 kind_height (layer.ReturnCall call) = call_height call
 kind_height _ = 0

@@ -43,7 +43,8 @@ main_name = codes "main"
 -- the closing brace: a function with a result must not reach it, except `main`, which gives 0 (C11 5.1.2.2.3, 6.9.1p12)
 abbrev pub at_brace : Bool → Bool → ℕ → Here → State → Piece (Option Value)
 at_brace has_result is_main line here s =
-    if has_result then (if is_main then Reached (Some (Word 0)) s else Stopped (Blamed here.comp NoReturn line) s) else Reached None s
+    if has_result then (if is_main then Reached (Some (Word 0)) s else Stopped (Blamed here.comp NoReturn line) s) else
+    Reached None s
 
 -- how a call ends once control left the body of its function
 abbrev pub closed : Exit → Bool → Bool → ℕ → Here → State → Piece (Option Value)
@@ -57,7 +58,8 @@ module _ (arith : Arith) (structs : List TypedStruct) (here : Here) (params : �
   abbrev pub init_does : ℕ → TypedLocal → Option TypedExpr → Acts
   init_does k local None = leave Next
   init_does k local (Some e) =
-      assign here (at_place local.ty (λ blocks. Ok (variable_at here params (Local k)))) (ways arith structs here params e) local.line
+      assign here (at_place local.ty (λ blocks. Ok (variable_at here params (Local k))))
+      (ways arith structs here params e) local.line
 
   abbrev pub inits_do : ℕ → List TypedLocal → List Acts
   inits_do k [] = []
@@ -71,7 +73,13 @@ module _ (arith : Arith) (structs : List TypedStruct) (here : Here) (params : �
 -- a function of a section as a call sees it, where this is the main compartment
 abbrev pub function_of : Arith → ℕ → List TypedStruct → TypedFunction → Function
 function_of arith main structs f =
-    record { cells = variables structs f; room = frame_bound (variables structs f) (nodes f); does = λ by here s. and_then (body_does arith structs here (length f.params) by f tt s) (λ left s. closed left.exit (is_some f.result) (here.comp == main && bytes_eq f.name main_name) f.close_line here s) }
+    record {
+      cells = variables structs f;
+      room = frame_bound (variables structs f) (nodes f);
+      does = λ by here s. and_then (body_does arith structs here (length f.params) by f tt s)
+          (λ left s. closed left.exit (is_some f.result)
+          (here.comp == main && bytes_eq f.name main_name) f.close_line here s);
+    }
 
 abbrev pub functions_in : Arith → ℕ → TypedSection → List Function
 functions_in arith main section = map (function_of arith main section.structs) section.functions
@@ -88,7 +96,8 @@ place_of_export (Some proto) section = place_named proto.name section
 -- an export leads to the function of its name, and `main` to the one that is called so
 abbrev pub entry_in : ProgramTree → ℕ → Entry → Option ℕ
 entry_in program comp Main = place_named main_name (slice_get program.sections comp)
-entry_in program comp (Export index) = place_of_export (export_at program.interfaces comp index) (slice_get program.sections comp)
+entry_in program comp (Export index) = place_of_export (export_at program.interfaces comp index)
+    (slice_get program.sections comp)
 
 abbrev pub library_of : Arith → ProgramTree → Library
 library_of arith program =
@@ -124,7 +133,8 @@ module _ (zeros : List (List Cell)) where
   member_zeros [] = []
   member_zeros (m ∷ ms) = zeros_of m.ty ++ member_zeros ms
 
--- of each struct, where those of the first ones are known: a struct holds only structs that stand before it (C11 6.7.2.1p3)
+-- of each struct, where those of the first ones are known: a struct holds only structs that stand before it (C11
+-- 6.7.2.1p3)
 abbrev pub struct_zeros : List (List Cell) → List TypedStruct → List (List Cell)
 struct_zeros known [] = known
 struct_zeros known (s ∷ structs) = struct_zeros (known ++ member_zeros known s.members ∷ []) structs
@@ -149,7 +159,7 @@ globals_of sections comp = first_blocks (slice_get sections comp)
 
 -- a whole run, not stopped at a number of events yet
 pub record Run : Type 0 where
-  pub shown : SourceRun
+  pub behaviour : SourceRun
   pub frames : List FrameChange
 
 -- the word that `main` returns
@@ -160,27 +170,32 @@ exit_word (Some v) = word_in v
 -- the run that ends so; where the first call of `main` returned it ends with an event
 abbrev pub run_to : ℕ → Piece (Option Value) → Run
 run_to main (Reached v s) =
-    record { shown = record { trace = s.trace ++ End main (exit_word v) ∷ []; end = Ended }; frames = s.frames }
-run_to main (Stopped end s) = record { shown = record { trace = s.trace; end = end }; frames = s.frames }
+    record { behaviour = record { trace = s.trace ++ End main (exit_word v) ∷ []; end = Ended }; frames = s.frames }
+run_to main (Stopped end s) = record { behaviour = record { trace = s.trace; end = end }; frames = s.frames }
 
 -- the state in which a run begins
 abbrev pub first_state : Memory → List ℕ → ℕ → State
 first_state globals inputs turns =
     record { memory = globals; trace = []; frames = []; turns = turns; inputs = inputs }
 
--- the run in which functions do this step. The start of `main` takes no turn, so there are never more open calls than turns and one
+-- the run in which functions do this step. The start of `main` takes no turn, so there are never more open calls than
+-- turns and one
 abbrev pub run_by : Library → Step → Memory → List ℕ → ℕ → Run
 run_by library step globals inputs turns =
-    run_to library.interfaces.main (and_then (found (library.entered library.interfaces.main Main) (first_state globals inputs turns)) (λ number s. call_own library (within step (suc turns)) library.interfaces.main number [] s))
+    run_to library.interfaces.main (and_then (found (library.entered library.interfaces.main Main)
+    (first_state globals inputs turns)) (λ number s.
+    call_own library (within step (suc turns)) library.interfaces.main number [] s))
 
 -- the greatest room that the open frames of a compartment take at once, by the changes that stand before so many events
 -- were told, where its frames take this room already
 abbrev pub deepest : ℕ → ℕ → ℕ → List FrameChange → ℕ
 deepest events comp room [] = room
 deepest events comp room (Opened told c more ∷ changes) =
-    if c == comp && nat_lt told events then max room (deepest events comp (room + more) changes) else deepest events comp room changes
+    if c == comp && nat_lt told events then max room (deepest events comp (room + more) changes) else
+    deepest events comp room changes
 deepest events comp room (Closed told c less ∷ changes) =
-    if c == comp && nat_lt told events then max room (deepest events comp (room - less) changes) else deepest events comp room changes
+    if c == comp && nat_lt told events then max room (deepest events comp (room - less) changes) else
+    deepest events comp room changes
 
 -- how deep a compartment gets in a run that is stopped at a number of events
 abbrev pub depth_in : Run → ℕ → ℕ → ℕ
@@ -194,15 +209,17 @@ module _ (arith : Arith) (program : ProgramTree) (inputs : List ℕ) (turns : �
   -- the run in which the compartments of a set perform their parts of a trace
   abbrev pub scripted_run_of : (ℕ → Bool) → List Event → Run
   scripted_run_of set trace =
-      run_by (library_of arith program) (scripted_step (library_of arith program) (roles_in program.interfaces.main set trace) (run_step (library_of arith program))) (globals_of program.sections) inputs turns
+      run_by (library_of arith program) (scripted_step (library_of arith program)
+      (roles_in program.interfaces.main set trace) (run_step (library_of arith program)))
+      (globals_of program.sections) inputs turns
 
 -- what a program shows under an arithmetic, stopped at a number of events
 abbrev pub meaning_by : Arith → ProgramTree → List ℕ → ℕ → ℕ → SourceRun
-meaning_by arith program inputs turns events = stopped_at events (run_of arith program inputs turns).shown
+meaning_by arith program inputs turns events = stopped_at events (run_of arith program inputs turns).behaviour
 
 abbrev pub scripted_by : Arith → ProgramTree → (ℕ → Bool) → List Event → List ℕ → ℕ → ℕ → SourceRun
 scripted_by arith program set trace inputs turns events =
-    stopped_at events (scripted_run_of arith program inputs turns set trace).shown
+    stopped_at events (scripted_run_of arith program inputs turns set trace).behaviour
 
 abbrev pub meaning : ProgramTree → List ℕ → ℕ → ℕ → SourceRun
 meaning program inputs turns events = meaning_by c_arith program inputs turns events

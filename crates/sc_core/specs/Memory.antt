@@ -47,7 +47,8 @@ cell_of (Word w) = cell.Word w
 cell_of Null = cell.Null
 cell_of (Ptr p) = cell.Ptr p
 
--- what a cell gives where a pointer, or else an integer, is wanted; a pointer to a variable that has ended gives nothing (C11 6.2.4p2)
+-- what a cell gives where a pointer, or else an integer, is wanted; a pointer to a variable that has ended gives
+-- nothing (C11 6.2.4p2)
 abbrev pub loaded : Blocks → Bool → Option Cell → Result Value Cause
 loaded blocks pointer None = Err OutOfBounds
 loaded blocks pointer (Some cell.Undef) = Err Indeterminate
@@ -65,7 +66,8 @@ load blocks pointer (Ptr p) = bind (cells_at blocks p.block) (λ cells. loaded b
 -- the blocks once a cell of one of them, which has these cells, holds a value
 abbrev pub with_cell : Blocks → Pointer → Value → List Cell → Result Blocks Cause
 with_cell blocks p v cells =
-    if nat_lt p.index (length cells) then Ok (slice_set blocks p.block (record { live = true; cells = slice_set cells p.index (cell_of v) })) else Err OutOfBounds
+    if nat_lt p.index (length cells) then Ok (slice_set blocks p.block
+    (record { live = true; cells = slice_set cells p.index (cell_of v) })) else Err OutOfBounds
 
 -- the blocks once a value is stored at a place
 abbrev pub store : Blocks → Value → Value → Result Blocks Cause

@@ -36,8 +36,10 @@ module _ (library : Library) (body : Body) where
   asks comp target args s =
       if may_call library comp target args then calls library body comp target args s else Stopped TurnsOut s
 
-  -- one action, which is a call of the environment, a call across, or a return. After the environment the function goes on with the rows behind; after a call it performs again, the rows that are left then
-  abbrev pub acts : Action → (State → Piece (Option Value)) → (State → Piece (Option Value)) → ℕ → State → Piece (Option Value)
+  -- one action, which is a call of the environment, a call across, or a return. After the environment the function goes
+  -- on with the rows behind; after a call it performs again, the rows that are left then
+  abbrev pub acts : Action → (State → Piece (Option Value)) → (State → Piece (Option Value)) → ℕ → State →
+      Piece (Option Value)
   acts (act.Call to index args) next again comp s =
       and_then (asks comp (Cross to index) (map (λ w. Word w) args) s) (λ v s. again s)
   acts (act.Ret v) next again comp s = Reached (option_value v) s
@@ -49,9 +51,11 @@ module _ (library : Library) (body : Body) where
   abbrev pub performs : List Row → Body
   performs [] number here s = Stopped TurnsOut s
   performs (row ∷ rest) number here s =
-      if is_number number (library.entered here.comp row.entry) then acts row.action (performs rest number here) (body number here) here.comp s else Stopped TurnsOut s
+      if is_number number (library.entered here.comp row.entry) then
+      acts row.action (performs rest number here) (body number here) here.comp s else Stopped TurnsOut s
 
 -- functions of scripted compartments perform, all others do this step
 abbrev pub scripted_step : Library → Roles → Step → Step
 scripted_step library roles step body number here s =
-    if roles.scripted here.comp then performs library body (rows_left roles here.comp s.trace) number here s else step body number here s
+    if roles.scripted here.comp then performs library body (rows_left roles here.comp s.trace) number here s else
+    step body number here s

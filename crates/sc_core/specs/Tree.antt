@@ -87,20 +87,20 @@ values (e ∷ es) blocks = bind (e want.Value blocks) (λ v. bind (values es blo
 
 module _ (here : Here) where
   -- the place or value of an expression
-  abbrev pub given : Want → Ways → ℕ → State → Piece Value
-  given want e line s = computed here line (e want (s.memory here.comp)) s
+  abbrev pub evaluated : Want → Ways → ℕ → State → Piece Value
+  evaluated want e line s = computed here line (e want (s.memory here.comp)) s
 
   -- the place, and then a value there
   abbrev pub store_at : Ways → Value → ℕ → Acts
-  store_at place v line a s = and_then (given want.Place place line s) (λ q s. stored here q v line a s)
+  store_at place v line a s = and_then (evaluated want.Place place line s) (λ q s. stored here q v line a s)
 
   -- the value first, then the place, then the store
   abbrev pub assign : Ways → Ways → ℕ → Acts
-  assign place e line a s = and_then (given want.Value e line s) (λ v s. store_at place v line a s)
+  assign place e line a s = and_then (evaluated want.Value e line s) (λ v s. store_at place v line a s)
 
   -- the head of a loop: control leaves the loop where the condition is 0
   abbrev pub test : Ways → ℕ → Acts
-  test cond line a s = and_then (given want.Value cond line s) (λ v s. choose v (leave Next a s) (leave Break a s))
+  test cond line a s = and_then (evaluated want.Value cond line s) (λ v s. choose v (leave Next a s) (leave Break a s))
 
   -- typed trees store no call without a result
   abbrev pub store_result : Ways → Option Value → ℕ → Acts
@@ -131,14 +131,20 @@ module _ (arith : Arith) (structs : List TypedStruct) where
   -- an operator between two values of these types
   abbrev pub applied : Blocks → BinaryOp → Ty → Ty → Value → Value → Result Value Cause
   applied blocks o left right v w =
-      if is_pointer left then (if is_pointer right then between blocks o (target_cells structs left) v w else at_pointer structs blocks o left right v w) else (if is_pointer right then at_pointer structs blocks o right left w v else on_words arith (is_unsigned_op o left right) o v w)
+      if is_pointer left then (if is_pointer right then between blocks o (target_cells structs left) v w else
+      at_pointer structs blocks o left right v w) else
+      (if is_pointer right then at_pointer structs blocks o right left w v else
+      on_words arith (is_unsigned_op o left right) o v w)
 
-  -- both operands from left to right, and then the operator; `&&` and `||` look at the second where they need it (C11 6.5.13, 6.5.14)
+  -- both operands from left to right, and then the operator; `&&` and `||` look at the second where they need it (C11
+  -- 6.5.13, 6.5.14)
   abbrev pub binary : BinaryOp → Meant → Meant → Blocks → Result Value Cause
   binary op.AndAlso a b blocks =
-      bind (a.way want.Value blocks) (λ v. choose v (bind (b.way want.Value blocks) (λ w. Ok (of_bool (is_true w)))) (Ok (Word 0)))
+      bind (a.way want.Value blocks) (λ v. choose v (bind (b.way want.Value blocks) (λ w. Ok (of_bool (is_true w))))
+      (Ok (Word 0)))
   binary op.OrElse a b blocks =
-      bind (a.way want.Value blocks) (λ v. choose v (Ok (Word 1)) (bind (b.way want.Value blocks) (λ w. Ok (of_bool (is_true w)))))
+      bind (a.way want.Value blocks) (λ v. choose v (Ok (Word 1))
+      (bind (b.way want.Value blocks) (λ w. Ok (of_bool (is_true w)))))
   binary o a b blocks =
       bind (a.way want.Value blocks) (λ v. bind (b.way want.Value blocks) (applied blocks o a.ty b.ty v))
 
@@ -151,9 +157,12 @@ module _ (arith : Arith) (structs : List TypedStruct) where
         no_place (λ blocks. bind (a.way want.Value blocks) (applied_one arith (is_unsigned a.ty) o))
     term_step (term.Binary o a b) ty = no_place (binary o a b)
     term_step (term.Index a b) ty =
-        at_place ty (λ blocks. bind (a.way want.Value blocks) (λ v. bind (b.way want.Value blocks) (at_pointer structs blocks op.Add a.ty b.ty v)))
-    term_step (term.Member a offset) ty = at_place ty (λ blocks. bind (a.way want.Place blocks) (moved blocks (pos offset)))
-    term_step (term.Arrow a offset) ty = at_place ty (λ blocks. bind (a.way want.Value blocks) (moved blocks (pos offset)))
+        at_place ty (λ blocks. bind (a.way want.Value blocks)
+        (λ v. bind (b.way want.Value blocks) (at_pointer structs blocks op.Add a.ty b.ty v)))
+    term_step (term.Member a offset) ty = at_place ty
+        (λ blocks. bind (a.way want.Place blocks) (moved blocks (pos offset)))
+    term_step (term.Arrow a offset) ty = at_place ty (λ blocks.
+        bind (a.way want.Value blocks) (moved blocks (pos offset)))
     term_step (term.Deref a) ty = at_place ty (a.way want.Value)
     term_step (term.Address a) ty = no_place (a.way want.Place)
 
@@ -178,10 +187,12 @@ module _ (arith : Arith) (structs : List TypedStruct) where
       abbrev pub kind_step : TypedStmtKind-F (ℕ → Acts) Acts → ℕ → Acts
       kind_step layer.Empty line a s = leave Next a s
       kind_step (layer.Assign place e) line a s = assign here (ways place) (ways e) line a s
-      kind_step (layer.AssignCall place c) line a s = assign_call here calls (ways place) c.target (map ways c.args) line a s
+      kind_step (layer.AssignCall place c) line a s =
+          assign_call here calls (ways place) c.target (map ways c.args) line a s
       kind_step (layer.Call c) line a s = call_alone here calls c.target (map ways c.args) line a s
       kind_step (layer.If cond first second) line a s =
-          and_then (given here want.Value (ways cond) line s) (λ v s. choose v (all_do first a s) (all_do second a s))
+          and_then (evaluated here want.Value (ways cond) line s)
+          (λ v s. choose v (all_do first a s) (all_do second a s))
       kind_step (layer.While cond body) line a s = loop (test here (ways cond) line) (all_do body) (leave Next) a s
       kind_step (layer.For first cond next body) line a s =
           follow in_order (part_does first a s) (loop (test here (ways cond) line) (all_do body) (part_does next))
@@ -189,7 +200,7 @@ module _ (arith : Arith) (structs : List TypedStruct) where
       kind_step layer.Continue line a s = leave Continue a s
       kind_step layer.Return line a s = leave (Return None) a s
       kind_step (layer.ReturnValue e) line a s =
-          and_then (given here want.Value (ways e) line s) (λ v s. leave (Return (Some v)) a s)
+          and_then (evaluated here want.Value (ways e) line s) (λ v s. leave (Return (Some v)) a s)
       kind_step (layer.ReturnCall c) line a s =
           and_then (call here calls c.target (map ways c.args) line s) (λ result s. leave (Return result) a s)
 

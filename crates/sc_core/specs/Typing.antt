@@ -276,13 +276,13 @@ abbrev pub target_signature : Callable → CallTarget → Option Signature
 target_signature callable (Own n) = slice_get callable.functions n
 target_signature callable (Cross comp index) =
     allowed (list_any (same_import (import.Function comp index)) callable.imports)
-      (option_signature proto_signature (export_at callable.interfaces comp index))
+    (option_signature proto_signature (export_at callable.interfaces comp index))
 target_signature callable Input =
     allowed (list_any (same_import import.Input) callable.imports)
-      (Some (record { params = []; result = Some ty.Int }))
+    (Some (record { params = []; result = Some ty.Int }))
 target_signature callable Output =
     allowed (list_any (same_import import.Output) callable.imports)
-      (Some (record { params = ty.Int ∷ []; result = None }))
+    (Some (record { params = ty.Int ∷ []; result = None }))
 
 -- the arguments go into the parameters (C11 6.5.2.2p2)
 abbrev pub args_fit : Option Signature → List Judged → Bool
@@ -318,9 +318,9 @@ module _ (callable : Callable) where
   abbrev pub assign_call_fits : Judged → CallTarget → List Judged → Bool
   assign_call_fits place target args =
       all_hold (
-        is_target place ∷
-        call_fits target args ∷
-        result_goes (target_signature callable target) place.ty ∷ []
+      is_target place ∷
+      call_fits target args ∷
+      result_goes (target_signature callable target) place.ty ∷ []
       )
 
   abbrev pub returned_call_fits : Option Ty → CallTarget → List Judged → Bool
@@ -347,18 +347,18 @@ module _ (scope : Scope) (callable : Callable) (result : Option Ty) where
   kind_fits (layer.Call c) looping = call_fits callable c.target (map (judged scope) c.args)
   kind_fits (layer.If cond first second) looping =
       all_hold (
-        is_scalar (judged scope cond) ∷
-        list_all {X = Bool → Bool} (λ s. s looping) first ∷
-        list_all {X = Bool → Bool} (λ s. s looping) second ∷ []
+      is_scalar (judged scope cond) ∷
+      list_all {X = Bool → Bool} (λ s. s looping) first ∷
+      list_all {X = Bool → Bool} (λ s. s looping) second ∷ []
       )
   kind_fits (layer.While cond body) looping =
       is_scalar (judged scope cond) && list_all {X = Bool → Bool} (λ s. s true) body
   kind_fits (layer.For first cond next body) looping =
       all_hold (
-        part_fits first ∷
-        is_scalar (judged scope cond) ∷
-        part_fits next ∷
-        list_all {X = Bool → Bool} (λ s. s true) body ∷ []
+      part_fits first ∷
+      is_scalar (judged scope cond) ∷
+      part_fits next ∷
+      list_all {X = Bool → Bool} (λ s. s true) body ∷ []
       )
   kind_fits layer.Break looping = looping
   kind_fits layer.Continue looping = looping

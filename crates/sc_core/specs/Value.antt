@@ -39,7 +39,8 @@ abbrev pub is_less : Bool → ℕ → ℕ → Bool
 is_less true a b = nat_lt a b
 is_less false a b = int_lt (signed_of a) (signed_of b)
 
--- each operator as one on all words: results are taken modulo 2 ^ 32 and shift counts modulo 32; a quotient by zero is all ones, and its remainder is the dividend
+-- each operator as one on all words: results are taken modulo 2 ^ 32 and shift counts modulo 32; a quotient by zero is
+-- all ones, and its remainder is the dividend
 abbrev pub on_all_words : Bool → BinaryOp → ℕ → ℕ → ℕ
 on_all_words unsigned op.BitOr a b = bit_or a b
 on_all_words unsigned op.BitXor a b = bit_xor a b
@@ -98,7 +99,10 @@ c_arith = record { binary = c_binary; negated = c_negated }
 -- the arithmetic in which every operator gives a word
 abbrev pub wrapping : Arith
 wrapping =
-    record { binary = λ unsigned o a b. Ok (on_all_words unsigned o a b); negated = λ unsigned a. Ok (negated_word unsigned a) }
+    record {
+      binary = λ unsigned o a b. Ok (on_all_words unsigned o a b);
+      negated = λ unsigned a. Ok (negated_word unsigned a);
+    }
 
 abbrev pub as_word : Result ℕ Cause → Result Value Cause
 as_word r = bind r (λ w. Ok (Word w))
@@ -120,7 +124,8 @@ number_of false w = signed_of w
 -- the place at this index of a block of so many cells, or one past its last (C11 6.5.6p8)
 abbrev pub place_at : ℕ → ℤ → ℕ → Result Value Cause
 place_at block (negsuc i) cells = Err OutOfBounds
-place_at block (pos i) cells = if nat_le i cells then Ok (Ptr (record { block = block; index = i })) else Err OutOfBounds
+place_at block (pos i) cells = if nat_le i cells then Ok (Ptr (record { block = block; index = i })) else
+    Err OutOfBounds
 
 -- the place so many cells behind another
 abbrev pub moved : Blocks → ℤ → Value → Result Value Cause
@@ -148,7 +153,8 @@ is_zero (negsuc n) = false
 
 -- so many cells as a whole number of elements
 abbrev pub in_elements : ℕ → ℤ → Result Value Cause
-in_elements cells by = if is_zero (int_rem by (pos cells)) then Ok (Word (word_of (int_div by (pos cells)))) else Err BadPointer
+in_elements cells by = if is_zero (int_rem by (pos cells)) then Ok (Word (word_of (int_div by (pos cells)))) else
+    Err BadPointer
 
 -- the order of two places that are so far apart
 abbrev pub ordered : BinaryOp → ℤ → Bool
@@ -165,7 +171,8 @@ is_inside blocks p = bind (cells_at blocks p.block) (λ cells. Ok (nat_lt p.inde
 abbrev pub same_place : Blocks → Value → Value → Result Bool Cause
 same_place blocks Null Null = Ok true
 same_place blocks (Ptr p) (Ptr q) =
-    if p.block == q.block then Ok (p.index == q.index) else bind (is_inside blocks p) (λ a. bind (is_inside blocks q) (λ b. if a && b then Ok false else Err BadPointer))
+    if p.block == q.block then Ok (p.index == q.index) else
+    bind (is_inside blocks p) (λ a. bind (is_inside blocks q) (λ b. if a && b then Ok false else Err BadPointer))
 same_place blocks v w = Ok false
 
 -- an operator between two pointers to elements of so many cells

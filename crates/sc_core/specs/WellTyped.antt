@@ -76,18 +76,18 @@ abbrev pub members_fit : List TypedStruct → ℕ → ℕ → List TypedMember �
 members_fit structs k offset [] end = offset == end
 members_fit structs k offset (m ∷ members) end =
     all_hold (
-      (m.offset == offset) ∷
-      type_within k (suc k) m.ty ∷
-      members_fit structs k (offset + cells_of structs m.ty) members end ∷ []
+    (m.offset == offset) ∷
+    type_within k (suc k) m.ty ∷
+    members_fit structs k (offset + cells_of structs m.ty) members end ∷ []
     )
 
 -- a struct has a member, holds only structs that stand before it, points to these and itself, and has few cells
 abbrev pub struct_fits : List TypedStruct → ℕ → TypedStruct → Bool
 struct_fits structs k s =
     all_hold (
-      nat_le 1 (length s.members) ∷
-      members_fit structs k 0 s.members s.cells ∷
-      nat_le s.cells most_cells ∷ []
+    nat_le 1 (length s.members) ∷
+    members_fit structs k 0 s.members s.cells ∷
+    nat_le s.cells most_cells ∷ []
     )
 
 abbrev pub structs_fit : List TypedStruct → ℕ → List TypedStruct → Bool
@@ -135,9 +135,9 @@ init_height (Some e) = expr_height e
 abbrev pub local_fits : Scope → TypedLocal → Bool
 local_fits scope l =
     all_hold (
-      variable_fits scope.structs l.ty ∷
-      init_fits scope l.ty l.init ∷
-      nat_le (init_height l.init) most_height ∷ []
+    variable_fits scope.structs l.ty ∷
+    init_fits scope l.ty l.init ∷
+    nat_le (init_height l.init) most_height ∷ []
     )
 
 abbrev pub params_fit : List TypedStruct → List TypedParam → Bool
@@ -150,12 +150,12 @@ is_low body = list_all {X = TypedStmt} (λ s. nat_le (stmt_height s) most_height
 abbrev pub function_fits : Callable → TypedSection → TypedFunction → Bool
 function_fits callable section f =
     all_hold (
-      nat_le (length f.params) most_params ∷
-      params_fit section.structs f.params ∷
-      result_fits section.structs f.result ∷
-      list_all (local_fits (scope_of section f)) f.locals ∷
-      body_fits (scope_of section f) callable f.result f.body ∷
-      is_low f.body ∷ []
+    nat_le (length f.params) most_params ∷
+    params_fit section.structs f.params ∷
+    result_fits section.structs f.result ∷
+    list_all (local_fits (scope_of section f)) f.locals ∷
+    body_fits (scope_of section f) callable f.result f.body ∷
+    is_low f.body ∷ []
     )
 
 abbrev pub same_types : List Ty → List Ty → Bool
@@ -179,15 +179,15 @@ is_plain_name name = not (bytes_eq (take 3 name) (codes "bt_"))
 abbrev pub is_defined_in : List TypedFunction → Proto → Bool
 is_defined_in functions proto =
     list_any {X = TypedFunction}
-      (λ f. bytes_eq f.name proto.name && same_signature (signature_of f) (proto_signature proto)) functions
+    (λ f. bytes_eq f.name proto.name && same_signature (signature_of f) (proto_signature proto)) functions
 
 -- an export is a function of its section with this head, and isn't `main`
 abbrev pub export_fits : List TypedFunction → Proto → Bool
 export_fits functions proto =
     all_hold (
-      is_plain_name proto.name ∷
-      not (bytes_eq proto.name main_name) ∷
-      is_defined_in functions proto ∷ []
+    is_plain_name proto.name ∷
+    not (bytes_eq proto.name main_name) ∷
+    is_defined_in functions proto ∷ []
     )
 
 -- an import is the environment's, or an export of another compartment
@@ -218,11 +218,11 @@ decl_count section = length section.structs + (length section.globals + length s
 abbrev pub section_fits : Interfaces → ℕ → Interface → TypedSection → Bool
 section_fits interfaces comp interface section =
     all_hold (
-      structs_fit section.structs 0 section.structs ∷
-      list_all (global_fits section.structs) section.globals ∷
-      list_all (function_fits (callable_in interfaces interface section) section) section.functions ∷
-      nat_le (total (map nodes section.functions)) most_nodes ∷
-      nat_le (decl_count section) most_nodes ∷ []
+    structs_fit section.structs 0 section.structs ∷
+    list_all (global_fits section.structs) section.globals ∷
+    list_all (function_fits (callable_in interfaces interface section) section) section.functions ∷
+    nat_le (total (map nodes section.functions)) most_nodes ∷
+    nat_le (decl_count section) most_nodes ∷ []
     )
 
 -- the names by which a section's functions are called
@@ -238,12 +238,12 @@ export_names interface = map {A = Proto} (λ p. p.name) interface.exports
 abbrev pub interface_fits : Interfaces → ℕ → Interface → TypedSection → Bool
 interface_fits interfaces comp interface section =
     all_hold (
-      are_distinct (callable_names interfaces interface section) ∷
-      are_distinct (export_names interface) ∷
-      list_all (export_fits section.functions) interface.exports ∷
-      list_all (import_fits interfaces comp) interface.imports ∷
-      nat_le (length interface.exports) most_exports ∷
-      nat_le (length interface.imports) most_exports ∷ []
+    are_distinct (callable_names interfaces interface section) ∷
+    are_distinct (export_names interface) ∷
+    list_all (export_fits section.functions) interface.exports ∷
+    list_all (import_fits interfaces comp) interface.imports ∷
+    nat_le (length interface.exports) most_exports ∷
+    nat_le (length interface.imports) most_exports ∷ []
     )
 
 -- each compartment with its section, from this number on
@@ -251,9 +251,9 @@ abbrev pub sections_fit : Interfaces → ℕ → List Interface → List TypedSe
 sections_fit interfaces comp [] [] = true
 sections_fit interfaces comp (interface ∷ comps) (section ∷ sections) =
     all_hold (
-      section_fits interfaces comp interface section ∷
-      interface_fits interfaces comp interface section ∷
-      sections_fit interfaces (suc comp) comps sections ∷ []
+    section_fits interfaces comp interface section ∷
+    interface_fits interfaces comp interface section ∷
+    sections_fit interfaces (suc comp) comps sections ∷ []
     )
 sections_fit interfaces comp _ _ = false
 
@@ -296,11 +296,11 @@ has_one_main program = mains_in program.sections == 1
 abbrev pub is_well_typed : ProgramTree → Bool
 is_well_typed program =
     all_hold (
-      has_few_compartments program ∷
-      has_distinct_names program ∷
-      has_fitting_sections program ∷
-      has_main program ∷
-      has_one_main program ∷ []
+    has_few_compartments program ∷
+    has_distinct_names program ∷
+    has_fitting_sections program ∷
+    has_main program ∷
+    has_one_main program ∷ []
     )
 
 abbrev pub IsWellTyped : ProgramTree → Type 0

@@ -1,4 +1,5 @@
--- The words in which the meaning is told, of trees and of code alike: pieces of a run, how control leaves statements, and loops.
+-- The words in which the meaning is told, of trees and of code alike: pieces of a run, how control leaves statements,
+-- and loops.
 -- What a run carries beside its state is a parameter `A`: nothing in trees, temporaries in three-address code.
 use Rattle.std.specs.Prelude.{ℕ, zero, suc, ◌++◌, List, [], ◌∷◌, Option, Result, Ok, Err, if◌then◌else◌}
 use Rattle.sc_event.specs.declared.event.Event.{Event}
@@ -10,7 +11,8 @@ use Rattle.sc_core.specs.declared.value.Value.{Value}
 use Rattle.sc_core.specs.Memory.{Blocks, Memory, with_blocks, store}
 use Rattle.sc_core.specs.Value.{is_true}
 
--- a frame of a function of this compartment begins or ends, when so many events were told; it has room for so many bytes
+-- a frame of a function of this compartment begins or ends, when so many events were told; it has room for so many
+-- bytes
 pub data FrameChange : Type 0 where
   Opened : (told comp room : ℕ) → FrameChange
   Closed : (told comp room : ℕ) → FrameChange
@@ -81,7 +83,8 @@ leave exit a s = Reached (record { exit = exit; carried = a }) s
 -- a value at this place (C11 6.5.16)
 abbrev pub stored : {A : Type 0} → Here → Value → Value → ℕ → Does A
 stored here q v line a s =
-    and_then (computed here line (store (s.memory here.comp) q v) s) (λ blocks s. leave Next a (with_memory here.comp blocks s))
+    and_then (computed here line (store (s.memory here.comp) q v) s)
+    (λ blocks s. leave Next a (with_memory here.comp blocks s))
 
 -- where an exit leads: to what stands behind, or further out
 pub data Route : Type 0 where
@@ -115,11 +118,13 @@ abbrev pub all_do : {A : Type 0} → List (Does A) → Does A
 all_do [] a s = leave Next a s
 all_do (does ∷ rest) a s = follow in_order (does a s) (all_do rest)
 
--- a loop (C11 6.8.5) of at most so many rounds: its head, a turn, its body, what comes next; a `break` in any of them ends it
+-- a loop (C11 6.8.5) of at most so many rounds: its head, a turn, its body, what comes next; a `break` in any of them
+-- ends it
 abbrev pub rounds : {A : Type 0} → ℕ → Does A → Does A → Does A → Does A
 rounds zero head body next a s = Stopped TurnsOut s
 rounds (suc n) head body next a s =
-    follow in_loop (head a s) (λ a s. and_then (turn s) (λ _ s. follow in_loop (body a s) (λ a s. follow in_loop (next a s) (rounds n head body next))))
+    follow in_loop (head a s) (λ a s. and_then (turn s)
+    (λ _ s. follow in_loop (body a s) (λ a s. follow in_loop (next a s) (rounds n head body next))))
 
 -- a loop from here: each round takes a turn, so there are never more rounds than turns and one
 abbrev pub loop : {A : Type 0} → Does A → Does A → Does A → Does A

@@ -1,4 +1,5 @@
-/// A place: an index of a block, in cells. The blocks of a compartment are numbered in the order in which they are made.
+/// A place: an index of a block, in cells. The blocks of a compartment are numbered in the order in which they are
+/// made.
 #[derive(Clone, Copy, Debug, PartialEq, Eq)]
 pub struct Pointer {
     pub block: u64,

@@ -23,7 +23,13 @@ pub struct MemSink {
 impl Model for MemSink {
     ghost Value = { SinkState };
 
-    ghost view = { λ s. record { written = s.bytes.items; room = s.room; fails = s.fails.items; calls = s.calls; faults = s.faults } };
+    ghost view = { λ s. record {
+      written = s.bytes.items;
+      room = s.room;
+      fails = s.fails.items;
+      calls = s.calls;
+      faults = s.faults;
+    } };
 
     ghost invariant = { λ s. (length s.bytes.items ≤ s.room) × (s.room ≤ vec_capacity s.bytes) };
 }
@@ -32,7 +38,13 @@ impl MemSink {
     /// An empty sink that takes `room` bytes in all, and memory for them now. `fails` has the numbers, from 0, of the
     /// writes that are to fail; a write past number 4,294,967,295 never is, but for want of room.
     pub fn new(alloc: Global, room: u32, fails: &[u32]) -> Result<MemSink, OutOfMemory>
-        ensures { IfOk result (λ s. s ≡ record { written = []; room = room; fails = fails.now; calls = 0; faults = 0 }) }
+        ensures { IfOk result (λ s. s ≡ record {
+          written = [];
+          room = room;
+          fails = fails.now;
+          calls = 0;
+          faults = 0;
+        }) }
     {
         let room = room as usize;
         Ok(MemSink {
@@ -71,7 +83,8 @@ impl Sink for MemSink {
         ensures nothing { OnErr result (Some self.new.written ≡ Some self.old.written) }
         ensures cause { OnErr result (Rose self.old.faults self.new.faults) }
         ensures faults { self.old.faults ≤ self.new.faults }
-        ensures failed { IsErr result ↔ (Contains self.old.fails self.old.calls ⊎ (self.old.room ≤ length self.old.written)) }
+        ensures failed { IsErr result ↔ (Contains self.old.fails self.old.calls ⊎
+            (self.old.room ≤ length self.old.written)) }
         ensures count { IfOk result (λ n. n ≡ min (length piece.now) (self.old.room - length self.old.written)) }
         ensures ok { IfOk result (λ n. self.new ≡ after_write self.old (take n piece.now)) }
         ensures err { OnErr result (self.new ≡ after_failed_write self.old) }

@@ -37,7 +37,8 @@ impl<R: Read> Source for StdSource<R> {
         ensures within { IfOk result (λ n. n ≤ length buf.old) }
 
         // Where the reader tells its bytes, those that it gave are passed on.
-        ensures passed { IfOk result (λ n. Takes (R.remaining (reader_of self.old)) (R.remaining (reader_of self.new)) (take n buf.new)) }
+        ensures passed { IfOk result (λ n. Takes (R.remaining (reader_of self.old)) (R.remaining (reader_of self.new))
+            (take n buf.new)) }
         ensures end { result ≡ Ok 0 → IsAtEnd (R.remaining (reader_of self.old)) }
         ensures ok { OnOk result (read_faults self.new ≡ read_faults self.old) }
         ensures err { OnErr result (read_faults self.new ≡ counted (read_faults self.old)) }
@@ -81,7 +82,8 @@ impl<W: Write> Sink for StdSink<W> {
         ensures within { IfOk result (λ n. (0 < n) × (n ≤ length piece.now)) }
 
         // Where the writer tells its bytes, these were added and no others.
-        ensures passed { IfOk result (λ n. Adds (W.contents (writer_of self.old)) (W.contents (writer_of self.new)) (take n piece.now)) }
+        ensures passed { IfOk result (λ n. Adds (W.contents (writer_of self.old)) (W.contents (writer_of self.new))
+            (take n piece.now)) }
         ensures ok { OnOk result (write_faults self.new ≡ write_faults self.old) }
         ensures err { OnErr result (write_faults self.new ≡ counted (write_faults self.old)) }
         ensures faults { write_faults self.old ≤ write_faults self.new }

@@ -29,68 +29,104 @@ same_back a b false true h k = sym h ∙ (bytes_eq-Decides a b).1 (sym ((bytes_e
 turned : (a b : List ℕ) → same a b ≡ bytes_eq b a
 turned a b = same_back a b (same a b) (bytes_eq b a) refl refl
 
-after_suc : {A : Type 0} (x : A) (xs : List A) (o : Option ℕ) → option_and_then (slice_get (x ∷ xs)) (option_map suc o) ≡ option_and_then (slice_get xs) o
+after_suc : {A : Type 0} (x : A) (xs : List A) (o : Option ℕ) →
+    option_and_then (slice_get (x ∷ xs)) (option_map suc o) ≡ option_and_then (slice_get xs) o
 after_suc x xs None = refl
 after_suc x xs (Some n) = refl
 
-module _ {A : Type 0} (name_of : A → List ℕ) (name : List ℕ) (find : List A → Option A) (find-nil : find [] ≡ None) (find-cons : (x : A) (xs : List A) → find (x ∷ xs) ≡ (if bytes_eq (name_of x) name then Some x else find xs)) {B : Type 0} (f : A → B) where
+module _ {A : Type 0} (name_of : A → List ℕ) (name : List ℕ) (find : List A → Option A) (find-nil : find [] ≡ None)
+    (find-cons : (x : A) (xs : List A) → find (x ∷ xs) ≡
+    (if bytes_eq (name_of x) name then Some x else find xs)) {B : Type 0} (f : A → B) where
   -- what is made of the first item of a name stands at the name's first place
-  pub first_found : (xs : List A) → option_and_then (slice_get (map f xs)) (number_of (map name_of xs) name) ≡ option_map f (find xs)
+  pub first_found : (xs : List A) → option_and_then (slice_get (map f xs)) (number_of (map name_of xs) name) ≡
+      option_map f (find xs)
   first_found [] = ap (option_map f) (sym find-nil)
   first_found (x ∷ xs) =
       ap (option_and_then (slice_get (f x ∷ map f xs))) (position-cons (same name) (name_of x) (map name_of xs))
-      ∙ ap (λ b. option_and_then (slice_get (f x ∷ map f xs)) (cond b (Some 0) (option_map suc (number_of (map name_of xs) name)))) (turned name (name_of x))
+      ∙ ap (λ b. option_and_then (slice_get (f x ∷ map f xs))
+      (cond b (Some 0) (option_map suc (number_of (map name_of xs) name)))) (turned name (name_of x))
       ∙ by (first_found xs) (bytes_eq (name_of x) name)
       ∙ ap (option_map f) (sym (find-cons x xs))
     where
-      by : option_and_then (slice_get (map f xs)) (number_of (map name_of xs) name) ≡ option_map f (find xs) → (b : Bool) → option_and_then (slice_get (f x ∷ map f xs)) (cond b (Some 0) (option_map suc (number_of (map name_of xs) name))) ≡ option_map f (if b then Some x else find xs)
+      by : option_and_then (slice_get (map f xs)) (number_of (map name_of xs) name) ≡ option_map f (find xs) →
+          (b : Bool) → option_and_then (slice_get (f x ∷ map f xs))
+          (cond b (Some 0) (option_map suc (number_of (map name_of xs) name))) ≡
+          option_map f (if b then Some x else find xs)
       by h true = refl
       by h false = after_suc (f x) (map f xs) (number_of (map name_of xs) name) ∙ h
 
 module _ (name : List ℕ) where
   -- the first of the heads of functions and of others
-  head_found : (trees : List FunctionTree) (heads : List HeadTree) → head_named name (map (λ (tree : FunctionTree). head_of tree.head) trees ++ heads) ≡ or_first (function_named name trees) (head_named name heads)
+  head_found : (trees : List FunctionTree) (heads : List HeadTree) →
+      head_named name (map (λ (tree : FunctionTree). head_of tree.head) trees ++ heads) ≡
+      or_first (function_named name trees) (head_named name heads)
   head_found [] heads = refl
   head_found (tree ∷ trees) heads = by (head_found trees heads) (bytes_eq tree.head.name name) where
-    by : head_named name (map (λ (tree : FunctionTree). head_of tree.head) trees ++ heads) ≡ or_first (function_named name trees) (head_named name heads) → (b : Bool) → (if b then Some (head_of tree.head) else head_named name (map (λ (tree : FunctionTree). head_of tree.head) trees ++ heads)) ≡ or_first (if b then Some tree else function_named name trees) (head_named name heads)
+    by : head_named name (map (λ (tree : FunctionTree). head_of tree.head) trees ++ heads) ≡
+        or_first (function_named name trees) (head_named name heads) → (b : Bool) →
+        (if b then Some (head_of tree.head) else head_named name
+        (map (λ (tree : FunctionTree). head_of tree.head) trees ++ heads)) ≡
+        or_first (if b then Some tree else function_named name trees) (head_named name heads)
     by h true = refl
     by h false = h
 
-  signature_found : (tags : List (List ℕ)) (section : SectionTree) → option_and_then (slice_get (map (signature_by tags) (calling_heads section.decls))) (number_of (map head_name (calling_heads section.decls)) name) ≡ option_map (signature_by tags) (called_head section name)
+  signature_found : (tags : List (List ℕ)) (section : SectionTree) →
+      option_and_then (slice_get (map (signature_by tags) (calling_heads section.decls)))
+      (number_of (map head_name (calling_heads section.decls)) name) ≡
+      option_map (signature_by tags) (called_head section name)
   signature_found tags section =
       first_found head_name name (head_named name) refl (λ x xs. refl) (signature_by tags) (calling_heads section.decls)
       ∙ ap (option_map (signature_by tags)) (head_found (functions_in section.decls) (heads_in section.decls))
 
-  target_found : (sections : List SectionTree) (number : ℕ) (lines : List ImportLine) → or_first_own (option_and_then (slice_get (map (λ line. import_target (import_of sections number line)) lines)) (number_of (map import_line_name lines) name)) ≡ imported_target sections number (import_named name lines)
+  target_found : (sections : List SectionTree) (number : ℕ) (lines : List ImportLine) →
+      or_first_own (option_and_then (slice_get (map (λ line. import_target (import_of sections number line)) lines))
+      (number_of (map import_line_name lines) name)) ≡ imported_target sections number (import_named name lines)
   target_found sections number lines =
-      ap or_first_own (first_found import_line_name name (import_named name) refl (λ x xs. refl) (λ line. import_target (import_of sections number line)) lines)
+      ap or_first_own (first_found import_line_name name (import_named name) refl (λ x xs. refl)
+      (λ line. import_target (import_of sections number line)) lines)
       ∙ by (import_named name lines)
     where
-      by : (o : Option ImportLine) → or_first_own (option_map (λ line. import_target (import_of sections number line)) o) ≡ imported_target sections number o
+      by : (o : Option ImportLine) → or_first_own (option_map
+          (λ line. import_target (import_of sections number line)) o) ≡ imported_target sections number o
       by None = refl
       by (Some line) = refl
 
-module _ (section : SectionTree) (imports : List Import) (callees : Callees) (calls : CallsIn (struct_names section.decls) section imports callees) where
-  signature_is : (name : List ℕ) → option_and_then (slice_get callees.signatures) (number_of callees.heads name) ≡ option_map (signature_by (struct_names section.decls)) (called_head section name)
+module _ (section : SectionTree) (imports : List Import) (callees : Callees)
+    (calls : CallsIn (struct_names section.decls) section imports callees) where
+  signature_is : (name : List ℕ) → option_and_then (slice_get callees.signatures) (number_of callees.heads name) ≡
+      option_map (signature_by (struct_names section.decls)) (called_head section name)
   signature_is name =
       ap (λ s. option_and_then (slice_get s) (number_of callees.heads name)) calls.signatures
-      ∙ ap (λ h. option_and_then (slice_get (map (signature_by (struct_names section.decls)) (calling_heads section.decls))) (number_of h name)) calls.heads
+      ∙ ap (λ h. option_and_then (slice_get (map (signature_by (struct_names section.decls))
+      (calling_heads section.decls))) (number_of h name)) calls.heads
       ∙ signature_found name (struct_names section.decls) section
 
   pub signatures_kept : (called callees).signature ≡ (callees_of [] 0 section).signature
   signatures_kept = λ j name. signature_is name j
 
-module _ (sections : List SectionTree) (number : ℕ) (section : SectionTree) (imports : List Import) (callees : Callees) (calls : CallsIn (struct_names section.decls) section imports callees) (are : imports ≡ map (import_of sections number) section.imports) where
+module _ (sections : List SectionTree) (number : ℕ) (section : SectionTree) (imports : List Import) (callees : Callees)
+    (calls : CallsIn (struct_names section.decls) section imports callees)
+    (are : imports ≡ map (import_of sections number) section.imports) where
   targets_are : callees.targets ≡ map (λ line. import_target (import_of sections number line)) section.imports
-  targets_are = calls.targets ∙ ap (map import_target) are ∙ map_twice import_target (import_of sections number) section.imports
+  targets_are = calls.targets ∙ ap (map import_target) are ∙
+      map_twice import_target (import_of sections number) section.imports
 
-  target_is : (name : List ℕ) → target_or (number_of callees.functions name) (or_first_own (imported callees name)) ≡ target_or (number_of (function_names section.decls) name) (imported_target sections number (import_named name section.imports))
+  target_is : (name : List ℕ) → target_or (number_of callees.functions name) (or_first_own (imported callees name)) ≡
+      target_or (number_of (function_names section.decls) name)
+      (imported_target sections number (import_named name section.imports))
   target_is name =
       ap (λ f. target_or (number_of f name) (or_first_own (imported callees name))) calls.functions
-      ∙ ap (λ t. target_or (number_of (function_names section.decls) name) (or_first_own (option_and_then (slice_get t) (number_of callees.imports name)))) targets_are
-      ∙ ap (λ i. target_or (number_of (function_names section.decls) name) (or_first_own (option_and_then (slice_get (map (λ line. import_target (import_of sections number line)) section.imports)) (number_of i name)))) calls.imports
-      ∙ ap (target_or (number_of (function_names section.decls) name)) (target_found name sections number section.imports)
+      ∙ ap (λ t. target_or (number_of (function_names section.decls) name)
+      (or_first_own (option_and_then (slice_get t) (number_of callees.imports name)))) targets_are
+      ∙ ap (λ i. target_or (number_of (function_names section.decls) name)
+      (or_first_own (option_and_then (slice_get (map
+      (λ line. import_target (import_of sections number line)) section.imports)) (number_of i name)))) calls.imports
+      ∙ ap (target_or (number_of (function_names section.decls) name))
+      (target_found name sections number section.imports)
 
   -- What a section calls by its tables is what its program calls.
   pub called_kept : called callees ≡ callees_of sections number section
-  called_kept = λ j. record { signature = λ name. signature_is section imports callees calls name j; target = λ name. target_is name j }
+  called_kept = λ j. record {
+    signature = λ name. signature_is section imports callees calls name j;
+    target = λ name. target_is name j;
+  }

@@ -26,14 +26,42 @@ pub local_hides_global : found some_visible (codes "x") ≡ Some (record { varia
 local_hides_global = refl
 
 -- `struct { int a; int b[3]; int *c; }`
-pub offsets_count_cells : typed_structs [] [] (record { name = codes "s"; members = record { ty = record { base = base_tree.Int; stars = 0; length = None }; name = codes "a" } ∷ (record { ty = record { base = base_tree.Int; stars = 0; length = Some 3 }; name = codes "b" } ∷ (record { ty = record { base = base_tree.Int; stars = 1; length = None }; name = codes "c" } ∷ [])); line = 1 } ∷ []) ≡ record { name = codes "s"; members = record { name = codes "a"; ty = ty.Int; offset = 0 } ∷ (record { name = codes "b"; ty = ty.Array 0 base.Int 3; offset = 1 } ∷ (record { name = codes "c"; ty = ty.Pointer 1 base.Int; offset = 4 } ∷ [])); cells = 5 } ∷ []
+pub offsets_count_cells : typed_structs [] [] (record {
+  name = codes "s";
+  members = record { ty = record { base = base_tree.Int; stars = 0; length = None }; name = codes "a" } ∷
+      (record { ty = record { base = base_tree.Int; stars = 0; length = Some 3 }; name = codes "b" } ∷
+      (record { ty = record { base = base_tree.Int; stars = 1; length = None }; name = codes "c" } ∷ []));
+  line = 1;
+} ∷
+    []) ≡ record {
+      name = codes "s";
+      members = record { name = codes "a"; ty = ty.Int; offset = 0 } ∷
+          (record { name = codes "b"; ty = ty.Array 0 base.Int 3; offset = 1 } ∷
+          (record { name = codes "c"; ty = ty.Pointer 1 base.Int; offset = 4 } ∷ []));
+      cells = 5;
+    } ∷ []
 unfolding typed_structs
 offsets_count_cells = refl
 
 -- `-1`
-pub minus_one_is_all_ones : word_of_const (record { negative = true; literal = record { value = 1; unsigned = false } }) ≡ 4294967295
+pub minus_one_is_all_ones : word_of_const (record {
+  negative = true;
+  literal = record { value = 1; unsigned = false };
+}) ≡ 4294967295
 minus_one_is_all_ones = refl
 
 -- `p[1] == 0`, where the 0 is a null pointer
-pub null_beside_a_pointer : typed some_visible (tree.Binary op.Equal (tree.Index (tree.Variable (codes "p")) (tree.Literal (record { value = 1; unsigned = false }))) (tree.Literal (record { value = 0; unsigned = false }))) ≡ record { ty = ty.Int; kind = kind.Binary op.Equal (record { ty = ty.Pointer 1 base.Int; kind = kind.Index (record { ty = ty.Array 1 base.Int 2; kind = kind.Variable (Local 0) }) (record { ty = ty.Int; kind = kind.Literal 1 }) }) (record { ty = ty.Pointer 1 base.Int; kind = kind.Literal 0 }) }
+pub null_beside_a_pointer : typed some_visible (tree.Binary op.Equal
+    (tree.Index (tree.Variable (codes "p")) (tree.Literal (record { value = 1; unsigned = false })))
+    (tree.Literal (record { value = 0; unsigned = false }))) ≡
+    record {
+      ty = ty.Int;
+      kind = kind.Binary op.Equal
+          (record {
+            ty = ty.Pointer 1 base.Int;
+            kind = kind.Index
+                (record { ty = ty.Array 1 base.Int 2; kind = kind.Variable (Local 0) })
+                (record { ty = ty.Int; kind = kind.Literal 1 });
+          }) (record { ty = ty.Pointer 1 base.Int; kind = kind.Literal 0 });
+    }
 null_beside_a_pointer = search (arith, rules, the_lemmas, exprs.the_lemmas, kind.the_lemmas)

@@ -14,11 +14,18 @@ use Rattle.sc_core.specs.declared.ty.Ty.{Ty}
 use Rattle.sc_elab.specs.Scopes.{Visible, found}
 use Rattle.sc_elab.specs.Expressions.{no_ty, binary_ty, binary_typed, literal_typed, unary_ty, step}
 
--- `struct S { int m; int *n; }`, and `struct S s; int x;` outside a function with the parameter `unsigned x` and the local `int *x`
+-- `struct S { int m; int *n; }`, and `struct S s; int x;` outside a function with the parameter `unsigned x` and the
+-- local `int *x`
 abbrev visible : Visible
 visible = record {
-  structs = record { name = codes "S"; members = record { name = codes "m"; ty = ty.Int; offset = 0 } ∷ (record { name = codes "n"; ty = ty.Pointer 1 base.Int; offset = 1 } ∷ []); cells = 2 } ∷ [];
-  globals = record { name = codes "s"; ty = ty.Struct 0 } ∷ (record { name = codes "x"; ty = ty.Int } ∷ (record { name = codes "y"; ty = ty.Int } ∷ []));
+  structs = record {
+    name = codes "S";
+    members = record { name = codes "m"; ty = ty.Int; offset = 0 } ∷
+        (record { name = codes "n"; ty = ty.Pointer 1 base.Int; offset = 1 } ∷ []);
+    cells = 2;
+  } ∷ [];
+  globals = record { name = codes "s"; ty = ty.Struct 0 } ∷
+      (record { name = codes "x"; ty = ty.Int } ∷ (record { name = codes "y"; ty = ty.Int } ∷ []));
   params = record { name = codes "x"; ty = ty.Unsigned } ∷ (record { name = codes "y"; ty = ty.Unsigned } ∷ []);
   locals = record { name = codes "x"; ty = ty.Pointer 1 base.Int } ∷ [];
 }
@@ -76,8 +83,14 @@ negated : unary_ty unary.Not p ≡ ty.Int
 negated = refl
 
 -- `p != 0` compares with a null pointer, `p != 1` with the number
-with_null : binary_typed op.NotEqual (variable (Local 0) p) (literal 0) ≡ record { ty = ty.Int; kind = TypedKind.Binary op.NotEqual (variable (Local 0) p) (record { ty = p; kind = TypedKind.Literal 0 }) }
+with_null : binary_typed op.NotEqual (variable (Local 0) p) (literal 0) ≡
+    record {
+      ty = ty.Int;
+      kind = TypedKind.Binary op.NotEqual (variable (Local 0) p)
+          (record { ty = p; kind = TypedKind.Literal 0 });
+    }
 with_null = search (rules, the_lemmas)
 
-with_one : binary_typed op.NotEqual (variable (Local 0) p) (literal 1) ≡ record { ty = ty.Int; kind = TypedKind.Binary op.NotEqual (variable (Local 0) p) (literal 1) }
+with_one : binary_typed op.NotEqual (variable (Local 0) p) (literal 1) ≡
+    record { ty = ty.Int; kind = TypedKind.Binary op.NotEqual (variable (Local 0) p) (literal 1) }
 with_one = search (rules, the_lemmas)

@@ -28,43 +28,73 @@ use Rattle.sc_elab.proofs.Suiting.{suiting}
 use Rattle.sc_base.proofs.Lists.{drop-step}
 
 module _ (scope : SectionScope) (section : SectionTree) (stands : Stands scope section) where
-  pub global_noted : (tree : GlobalTree) (a b : BrokenLines) → b ≡ with_lines a (unless (is_sized tree.ty && init_holds (type_of scope.tags tree.ty) tree.init) tree.line) → b ≡ with_lines a (global_lines section tree)
-  global_noted tree a b is = is ∙ ap (λ t. with_lines a (unless (is_sized tree.ty && init_holds (type_of t tree.ty) tree.init) tree.line)) stands.tags
+  pub global_noted : (tree : GlobalTree) (a b : BrokenLines) →
+      b ≡ with_lines a (unless (is_sized tree.ty && init_holds (type_of scope.tags tree.ty) tree.init) tree.line) →
+      b ≡ with_lines a (global_lines section tree)
+  global_noted tree a b is = is ∙ ap (λ t. with_lines a
+      (unless (is_sized tree.ty && init_holds (type_of t tree.ty) tree.init) tree.line)) stands.tags
 
 module _ (scope : SectionScope) (section : SectionTree) (stands : Stands scope section) (tree : FunctionTree) where
-  pub suits : (count : ℕ) (function : FunctionScope) → StandsIn section tree count function → Suits (visible scope function) (scope_in section tree)
+  pub suits : (count : ℕ) (function : FunctionScope) → StandsIn section tree count function →
+      Suits (visible scope function) (scope_in section tree)
   suits count function within =
-      subst (λ v. Suits v (scope_in section tree)) (sym (seen scope section stands tree count function within)) (suiting section tree count)
+      subst (λ v. Suits v (scope_in section tree)) (sym (seen scope section stands tree count function within))
+      (suiting section tree count)
 
   module _ (callees : statements.Callees) where
     abbrev after : ℕ → List ℕ
     after i = locals_from section callees tree i (drop i tree.locals)
 
-    begins : (i : ℕ) (function : FunctionScope) → StandsIn section tree (suc i) function → (t : Ty) (init : Option ExprTree) → init_goes (visible scope function) (scope_in section tree) t init ≡ init_fits (scope_in section tree) t (typed_init section tree i t init)
+    begins : (i : ℕ) (function : FunctionScope) → StandsIn section tree (suc i) function →
+        (t : Ty) (init : Option ExprTree) → init_goes (visible scope function) (scope_in section tree) t init ≡
+        init_fits (scope_in section tree) t (typed_init section tree i t init)
     begins i function within t None = refl
     begins i function within t (Some init) =
-        ap (λ v. init_goes v (scope_in section tree) t (Some init)) (seen scope section stands tree (suc i) function within)
+        ap (λ v. init_goes v (scope_in section tree) t (Some init))
+        (seen scope section stands tree (suc i) function within)
 
-    pub local_noted : (i : ℕ) (local : LocalTree) (function : FunctionScope) → i < length tree.locals → local ≡ get_or tree.locals i local → StandsIn section tree (i + 1) function → (a b whole : BrokenLines) → b ≡ with_lines a (unless (is_sized local.ty && init_goes (visible scope function) (scope_in section tree) (type_of scope.tags local.ty) local.init) local.line) → with_lines a (after i) ≡ whole → with_lines b (after (i + 1)) ≡ whole
+    pub local_noted : (i : ℕ) (local : LocalTree) (function : FunctionScope) → i < length tree.locals →
+        local ≡ get_or tree.locals i local → StandsIn section tree (i + 1) function → (a b whole : BrokenLines) →
+        b ≡ with_lines a (unless (is_sized local.ty &&
+        init_goes (visible scope function) (scope_in section tree)
+        (type_of scope.tags local.ty) local.init) local.line) → with_lines a (after i) ≡ whole →
+        with_lines b (after (i + 1)) ≡ whole
     local_noted i local function h e within a b whole noted so =
-        ap (λ b. with_lines b (after (i + 1))) (noted ∙ ap (λ holds. with_lines a (unless (is_sized local.ty && holds) local.line)) holds)
+        ap (λ b. with_lines b (after (i + 1))) (noted ∙
+        ap (λ holds. with_lines a (unless (is_sized local.ty && holds) local.line)) holds)
         ∙ sym (with_lines-append a (unless (local_holds section callees tree i local) local.line) (after (i + 1)))
-        ∙ ap (λ n. with_lines a (unless (local_holds section callees tree i local) local.line ++ locals_from section callees tree n (drop (i + 1) tree.locals))) (sym (next_place i))
+        ∙ ap (λ n. with_lines a (unless (local_holds section callees tree i local) local.line ++
+        locals_from section callees tree n (drop (i + 1) tree.locals))) (sym (next_place i))
         ∙ ap (λ l. with_lines a (locals_from section callees tree i l)) (sym (drop-step tree.locals i local h e))
         ∙ so
       where
         at : StandsIn section tree (suc i) function
         at = subst (λ n. StandsIn section tree n function) (sym (next_place i)) within
 
-        holds : init_goes (visible scope function) (scope_in section tree) (type_of scope.tags local.ty) local.init ≡ init_fits (scope_in section tree) (type_of (tags section) local.ty) (typed_init section tree i (type_of (tags section) local.ty) local.init)
+        holds : init_goes (visible scope function) (scope_in section tree) (type_of scope.tags local.ty) local.init ≡
+            init_fits (scope_in section tree) (type_of (tags section) local.ty)
+            (typed_init section tree i (type_of (tags section) local.ty) local.init)
         holds =
-            ap (λ t. init_goes (visible scope function) (scope_in section tree) (type_of t local.ty) local.init) stands.tags
+            ap (λ t. init_goes (visible scope function) (scope_in section tree)
+            (type_of t local.ty) local.init) stands.tags
             ∙ begins i function at (type_of (tags section) local.ty) local.init
 
-    pub locals_noted : (i : ℕ) (a whole : BrokenLines) → length tree.locals ≤ i → with_lines a (after i) ≡ whole → a ≡ whole
+    pub locals_noted : (i : ℕ) (a whole : BrokenLines) → length tree.locals ≤ i → with_lines a (after i) ≡ whole →
+        a ≡ whole
     locals_noted i a whole done so =
-        sym (with_lines-nil a) ∙ ap (λ l. with_lines a (locals_from section callees tree i l)) (sym (drop_all i tree.locals done)) ∙ so
+        sym (with_lines-nil a) ∙ ap (λ l. with_lines a (locals_from section callees tree i l))
+        (sym (drop_all i tree.locals done)) ∙ so
 
-    pub function_noted : {E T : Type 0} (r : Result T E) (function : FunctionScope) → StandsIn section tree (length tree.locals) function → (a b c : BrokenLines) → b ≡ with_lines a (locals_from section callees tree 0 tree.locals) → OnOk r (c ≡ with_lines b (concat (map (stmt_lines (visible scope function) callees (scope_in section tree) function.result) tree.body))) → OnOk r (c ≡ with_lines a (function_lines section callees tree))
+    pub function_noted : {E T : Type 0} (r : Result T E) (function : FunctionScope) →
+        StandsIn section tree (length tree.locals) function → (a b c : BrokenLines) →
+        b ≡ with_lines a (locals_from section callees tree 0 tree.locals) →
+        OnOk r (c ≡ with_lines b (concat (map (stmt_lines (visible scope function) callees
+        (scope_in section tree) function.result) tree.body))) →
+        OnOk r (c ≡ with_lines a (function_lines section callees tree))
     function_noted r function within a b c first =
-        on_ok r (λ second. two a b c (locals_from section callees tree 0 tree.locals) (concat (map (stmt_lines (visible_in section tree (length tree.locals)) callees (scope_in section tree) (result_of section tree)) tree.body)) first (second ∙ (λ j. with_lines b (concat (map (stmt_lines (seen scope section stands tree (length tree.locals) function within j) callees (scope_in section tree) (within.result j)) tree.body)))))
+        on_ok r (λ second. two a b c (locals_from section callees tree 0 tree.locals)
+        (concat (map (stmt_lines (visible_in section tree (length tree.locals)) callees (scope_in section tree)
+        (result_of section tree)) tree.body)) first
+        (second ∙ (λ j. with_lines b (concat (map
+        (stmt_lines (seen scope section stands tree (length tree.locals) function within j) callees
+        (scope_in section tree) (within.result j)) tree.body)))))

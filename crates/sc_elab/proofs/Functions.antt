@@ -27,29 +27,50 @@ pub next_place : (i : ℕ) → suc i ≡ i + 1
 next_place i = omega arith
 
 module _ (scope : SectionScope) (section : SectionTree) (stands : Stands scope section) (tree : FunctionTree) where
-  pub seen : (count : ℕ) (function : FunctionScope) → StandsIn section tree count function → visible scope function ≡ visible_in section tree count
+  pub seen : (count : ℕ) (function : FunctionScope) → StandsIn section tree count function →
+      visible scope function ≡ visible_in section tree count
   seen count function within =
-      λ j. record { structs = stands.structs j; globals = stands.globals j; params = within.params j; locals = within.locals j }
+      λ j. record {
+        structs = stands.structs j;
+        globals = stands.globals j;
+        params = within.params j;
+        locals = within.locals j;
+      }
 
-  init_kept : (place : ℕ) (function : FunctionScope) → StandsIn section tree (suc place) function → (t : Ty) (init : Option ExprTree) → option_map (value_in scope function t) init ≡ typed_init section tree place t init
+  init_kept : (place : ℕ) (function : FunctionScope) → StandsIn section tree (suc place) function →
+      (t : Ty) (init : Option ExprTree) → option_map (value_in scope function t) init ≡
+      typed_init section tree place t init
   unfolding value_in
   init_kept place function within t None = refl
   init_kept place function within t (Some init) =
       ap (λ v. Some (going_to t (typed v init))) (seen (suc place) function within)
 
-  pub local_kept : (place : ℕ) (function : FunctionScope) → StandsIn section tree (suc place) function → (local : LocalTree) → local_in scope function local ≡ typed_local section tree place local
+  pub local_kept : (place : ℕ) (function : FunctionScope) → StandsIn section tree (suc place) function →
+      (local : LocalTree) → local_in scope function local ≡ typed_local section tree place local
   local_kept place function within local =
-      ap (λ (t : List (List ℕ)). record { name = local.name; ty = type_of t local.ty; init = option_map (value_in scope function (type_of t local.ty)) local.init; line = local.line }) stands.tags
-      ∙ ap (λ i. record { name = local.name; ty = type_of (tags section) local.ty; init = i; line = local.line }) (init_kept place function within (type_of (tags section) local.ty) local.init)
+      ap (λ (t : List (List ℕ)). record {
+        name = local.name;
+        ty = type_of t local.ty;
+        init = option_map (value_in scope function (type_of t local.ty)) local.init;
+        line = local.line;
+      }) stands.tags
+      ∙ ap (λ i. record { name = local.name; ty = type_of (tags section) local.ty; init = i; line = local.line })
+      (init_kept place function within (type_of (tags section) local.ty) local.init)
 
-  pub head_kept : (function : FunctionScope) → function ≡ record { params = map (typed_param scope.tags) tree.head.params; locals = []; result = option_map (type_of_name scope.tags) tree.head.result } → StandsIn section tree 0 function
+  pub head_kept : (function : FunctionScope) → function ≡
+      record {
+        params = map (typed_param scope.tags) tree.head.params;
+        locals = [];
+        result = option_map (type_of_name scope.tags) tree.head.result;
+      } → StandsIn section tree 0 function
   head_kept function e = record {
     params = ap (λ f. f.params) e ∙ ap (λ t. map (typed_param t) tree.head.params) stands.tags;
     locals = ap (λ f. f.locals) e;
     result = ap (λ f. f.result) e ∙ ap (λ t. option_map (type_of_name t) tree.head.result) stands.tags;
   }
 
-  taken : (i : ℕ) (local : LocalTree) → i < length tree.locals → local ≡ get_or tree.locals i local → take (i + 1) tree.locals ≡ take i tree.locals ++ local ∷ []
+  taken : (i : ℕ) (local : LocalTree) → i < length tree.locals → local ≡ get_or tree.locals i local →
+      take (i + 1) tree.locals ≡ take i tree.locals ++ local ∷ []
   taken i local h e =
       ap (λ n. take n tree.locals) (sym (next_place i))
       ∙ take-suc tree.locals i local h
@@ -60,7 +81,13 @@ module _ (scope : SectionScope) (section : SectionTree) (stands : Stands scope s
   mapped_more f (y ∷ xs) x = ap (λ l. f y ∷ l) (mapped_more f xs x)
 
   -- one more local stands there
-  pub more_stands : (i : ℕ) (local : LocalTree) (function more : FunctionScope) → i < length tree.locals → local ≡ get_or tree.locals i local → StandsIn section tree i function → more ≡ record { params = function.params; locals = function.locals ++ local_variable scope.tags local ∷ []; result = function.result } → StandsIn section tree (i + 1) more
+  pub more_stands : (i : ℕ) (local : LocalTree) (function more : FunctionScope) → i < length tree.locals →
+      local ≡ get_or tree.locals i local → StandsIn section tree i function →
+      more ≡ record {
+        params = function.params;
+        locals = function.locals ++ local_variable scope.tags local ∷ [];
+        result = function.result;
+      } → StandsIn section tree (i + 1) more
   more_stands i local function more h e within m = record {
     params = ap (λ f. f.params) m ∙ within.params;
     locals =
@@ -76,32 +103,57 @@ module _ (scope : SectionScope) (section : SectionTree) (stands : Stands scope s
   unfolding typed_locals
   locals-nil place = refl
 
-  locals-cons : (place : ℕ) (local : LocalTree) (locals : List LocalTree) → typed_locals section tree place (local ∷ locals) ≡ typed_local section tree place local ∷ typed_locals section tree (suc place) locals
+  locals-cons : (place : ℕ) (local : LocalTree) (locals : List LocalTree) →
+      typed_locals section tree place (local ∷ locals) ≡ typed_local section tree place local ∷
+      typed_locals section tree (suc place) locals
   unfolding typed_locals
   locals-cons place local locals = refl
 
   -- one more local is built
-  pub more_built : (i : ℕ) (local : LocalTree) (function : FunctionScope) (done more whole : List TypedLocal) (built : TypedLocal) → i < length tree.locals → local ≡ get_or tree.locals i local → StandsIn section tree (i + 1) function → built ≡ local_in scope function local → more ≡ done ++ built ∷ [] → done ++ typed_locals section tree i (drop i tree.locals) ≡ whole → more ++ typed_locals section tree (i + 1) (drop (i + 1) tree.locals) ≡ whole
+  pub more_built : (i : ℕ) (local : LocalTree) (function : FunctionScope) (done more whole : List TypedLocal)
+      (built : TypedLocal) → i < length tree.locals → local ≡ get_or tree.locals i local →
+      StandsIn section tree (i + 1) function → built ≡ local_in scope function local → more ≡ done ++ built ∷ [] →
+      done ++ typed_locals section tree i (drop i tree.locals) ≡ whole →
+      more ++ typed_locals section tree (i + 1) (drop (i + 1) tree.locals) ≡ whole
   more_built i local function done more whole built h e within b m k =
-      one_more done more (typed_locals section tree i (drop i tree.locals)) (typed_locals section tree (i + 1) (drop (i + 1) tree.locals)) whole built m step k
+      one_more done more (typed_locals section tree i (drop i tree.locals))
+      (typed_locals section tree (i + 1) (drop (i + 1) tree.locals)) whole built m step k
     where
       at : StandsIn section tree (suc i) function
-      at = record { params = within.params; locals = within.locals ∙ ap (λ n. map (local_variable (tags section)) (take n tree.locals)) (sym (next_place i)); result = within.result }
+      at = record {
+        params = within.params;
+        locals = within.locals ∙
+            ap (λ n. map (local_variable (tags section)) (take n tree.locals)) (sym (next_place i));
+        result = within.result;
+      }
 
-      step : typed_locals section tree i (drop i tree.locals) ≡ built ∷ typed_locals section tree (i + 1) (drop (i + 1) tree.locals)
+      step : typed_locals section tree i (drop i tree.locals) ≡ built ∷
+          typed_locals section tree (i + 1) (drop (i + 1) tree.locals)
       step =
           ap (typed_locals section tree i) (drop-step tree.locals i local h e)
           ∙ locals-cons i local (drop (i + 1) tree.locals)
-          ∙ ap (λ x. x ∷ typed_locals section tree (suc i) (drop (i + 1) tree.locals)) (sym (b ∙ local_kept i function at local))
+          ∙ ap (λ x. x ∷ typed_locals section tree (suc i) (drop (i + 1) tree.locals))
+          (sym (b ∙ local_kept i function at local))
           ∙ ap (λ n. built ∷ typed_locals section tree n (drop (i + 1) tree.locals)) (next_place i)
 
   -- all are built
-  pub all_built : (i : ℕ) (done whole : List TypedLocal) → drop i tree.locals ≡ [] → done ++ typed_locals section tree i (drop i tree.locals) ≡ whole → done ≡ whole
+  pub all_built : (i : ℕ) (done whole : List TypedLocal) → drop i tree.locals ≡ [] →
+      done ++ typed_locals section tree i (drop i tree.locals) ≡ whole → done ≡ whole
   all_built i done whole h k =
-      all_done done (typed_locals section tree i (drop i tree.locals)) whole (ap (typed_locals section tree i) h ∙ locals-nil i) k
+      all_done done (typed_locals section tree i (drop i tree.locals)) whole
+      (ap (typed_locals section tree i) h ∙ locals-nil i) k
 
   -- the function over its locals and its body
-  pub function_kept : (function : FunctionScope) → StandsIn section tree (length tree.locals) function → (built : TypedFunction) → built ≡ record { name = tree.head.name; params = function.params; locals = typed_locals section tree 0 tree.locals; result = function.result; body = map (stmt_in scope function) tree.body; close_line = tree.close_line } → built ≡ typed_function section (called scope.callees) tree
+  pub function_kept : (function : FunctionScope) → StandsIn section tree (length tree.locals) function →
+      (built : TypedFunction) → built ≡ record {
+        name = tree.head.name;
+        params = function.params;
+        locals = typed_locals section tree 0 tree.locals;
+        result = function.result;
+        body = map (stmt_in scope function) tree.body;
+        close_line = tree.close_line;
+      } →
+      built ≡ typed_function section (called scope.callees) tree
   unfolding stmt_in
   function_kept function within built e =
       e
@@ -110,12 +162,20 @@ module _ (scope : SectionScope) (section : SectionTree) (stands : Stands scope s
         params = within.params j;
         locals = typed_locals section tree 0 tree.locals;
         result = within.result j;
-        body = map (typed_stmt (seen (length tree.locals) function within j) (called scope.callees) (within.result j)) tree.body;
+        body = map (typed_stmt (seen (length tree.locals) function within j) (called scope.callees)
+            (within.result j)) tree.body;
         close_line = tree.close_line;
       })
 
 -- the section over its functions
-pub section_kept : (scope : SectionScope) (section : SectionTree) → Stands scope section → (callees : statements.Callees) (built : TypedSection) → built ≡ record { structs = scope.structs; globals = map (typed_global scope.tags) (globals_in section.decls); functions = map (typed_function section callees) (functions_in section.decls) } → built ≡ typed_section section callees
+pub section_kept : (scope : SectionScope) (section : SectionTree) → Stands scope section →
+    (callees : statements.Callees) (built : TypedSection) →
+    built ≡ record {
+      structs = scope.structs;
+      globals = map (typed_global scope.tags) (globals_in section.decls);
+      functions = map (typed_function section callees) (functions_in section.decls);
+    } →
+    built ≡ typed_section section callees
 section_kept scope section stands callees built e =
     e
     ∙ (λ j. record {

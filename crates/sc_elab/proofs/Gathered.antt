@@ -15,7 +15,9 @@ module _ {A B C : Type 0} (f : A → Option B) (g : B → C) where
     by (Some y) = refl
 
   -- one more item is looked at
-  pub gather_more : (xs : List A) (i : ℕ) (x : A) (done more whole : List C) → i < length xs → x ≡ get_or xs i x → more ≡ done ++ gathered (x ∷ []) → done ++ gathered (drop i xs) ≡ whole → more ++ gathered (drop (i + 1) xs) ≡ whole
+  pub gather_more : (xs : List A) (i : ℕ) (x : A) (done more whole : List C) → i < length xs → x ≡ get_or xs i x →
+      more ≡ done ++ gathered (x ∷ []) → done ++ gathered (drop i xs) ≡ whole →
+      more ++ gathered (drop (i + 1) xs) ≡ whole
   gather_more xs i x done more whole h e m k =
       ap (λ l. l ++ gathered (drop (i + 1) xs)) m
       ∙ append_assoc done (gathered (x ∷ [])) (gathered (drop (i + 1) xs))
@@ -23,11 +25,13 @@ module _ {A B C : Type 0} (f : A → Option B) (g : B → C) where
       ∙ k
 
   -- all are looked at
-  pub gather_end : (xs : List A) (i : ℕ) (done whole : List C) → length xs ≤ i → done ++ gathered (drop i xs) ≡ whole → done ≡ whole
+  pub gather_end : (xs : List A) (i : ℕ) (done whole : List C) → length xs ≤ i → done ++ gathered (drop i xs) ≡ whole →
+      done ≡ whole
   gather_end xs i done whole h k =
       sym (append-nil done) ∙ ap (λ l. done ++ l) (sym (ap gathered (drop_all i xs h))) ∙ k
 
 -- what is made of the items of two lists, the first made of others
-pub made_of_both : {A B C : Type 0} (g : B → C) (h : A → B) (xs : List A) (ys : List B) → map (λ x. g (h x)) xs ++ map g ys ≡ map g (map h xs ++ ys)
+pub made_of_both : {A B C : Type 0} (g : B → C) (h : A → B) (xs : List A) (ys : List B) →
+    map (λ x. g (h x)) xs ++ map g ys ≡ map g (map h xs ++ ys)
 made_of_both g h [] ys = refl
 made_of_both g h (x ∷ xs) ys = ap (λ l. g (h x) ∷ l) (made_of_both g h xs ys)

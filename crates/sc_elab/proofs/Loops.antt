@@ -4,7 +4,8 @@ use Rattle.std.proofs.lemmas.List.{append_assoc, append-nil}
 use Rattle.std.proofs.Math.Seq.{drop-cons}
 
 -- one more item is done
-pub one_more : {B : Type 0} (done more left rest whole : List B) (x : B) → more ≡ done ++ x ∷ [] → left ≡ x ∷ rest → done ++ left ≡ whole → more ++ rest ≡ whole
+pub one_more : {B : Type 0} (done more left rest whole : List B) (x : B) → more ≡ done ++ x ∷ [] → left ≡ x ∷ rest →
+    done ++ left ≡ whole → more ++ rest ≡ whole
 one_more done more left rest whole x e h i =
     ap (λ m. m ++ rest) e ∙ append_assoc done (x ∷ []) rest ∙ ap (λ l. done ++ l) (sym h) ∙ i
 

@@ -19,7 +19,8 @@ one_further : (k i : ℕ) → suc k + i ≡ k + suc i
 one_further k i = omega arith
 
 module _ (sections : List SectionTree) where
-  comps_from : (rest : List SectionTree) (k i : ℕ) → slice_get (interfaces_from sections k rest) i ≡ option_map (interface_of sections (k + i)) (slice_get rest i)
+  comps_from : (rest : List SectionTree) (k i : ℕ) → slice_get (interfaces_from sections k rest) i ≡
+      option_map (interface_of sections (k + i)) (slice_get rest i)
   comps_from [] k i = refl
   comps_from (section ∷ rest) k zero = ap (λ n. Some (interface_of sections n section)) (at k) where
     at : (k : ℕ) → k ≡ k + 0
@@ -28,13 +29,15 @@ module _ (sections : List SectionTree) where
       comps_from rest (suc k) i ∙ ap (λ n. option_map (interface_of sections n) (slice_get rest i)) (one_further k i)
 
   -- the interface of a section, by its number
-  pub comp_at : (i : ℕ) (section : SectionTree) → slice_get sections i ≡ Some section → slice_get (interfaces_from sections 0 sections) i ≡ Some (interface_of sections i section)
+  pub comp_at : (i : ℕ) (section : SectionTree) → slice_get sections i ≡ Some section →
+      slice_get (interfaces_from sections 0 sections) i ≡ Some (interface_of sections i section)
   comp_at i section h =
       comps_from sections 0 i
       ∙ ap (λ n. option_map (interface_of sections n) (slice_get sections i)) (from_zero i)
       ∙ ap (option_map (interface_of sections i)) h
 
-  module _ (interfaces : Interfaces) (i : ℕ) (section : SectionTree) (are : interfaces ≡ interfaces_of sections) (h : slice_get sections i ≡ Some section) where
+  module _ (interfaces : Interfaces) (i : ℕ) (section : SectionTree) (are : interfaces ≡ interfaces_of sections)
+      (h : slice_get sections i ≡ Some section) where
     stands_at : slice_get interfaces.comps i ≡ Some (interface_of sections i section)
     stands_at = ap (λ (x : Interfaces). slice_get x.comps i) are ∙ comp_at i section h
 
@@ -45,14 +48,20 @@ module _ (sections : List SectionTree) where
     same_some a b e = cc e
 
     -- what a section imports, by its number
-    pub imports_at : (interface : Interface) → slice_get interfaces.comps i ≡ Some interface → interface.imports ≡ map (import_of sections i) section.imports
+    pub imports_at : (interface : Interface) → slice_get interfaces.comps i ≡ Some interface →
+        interface.imports ≡ map (import_of sections i) section.imports
     imports_at interface at =
         ap (λ (x : Interface). x.imports) (same_some interface (interface_of sections i section) (sym at ∙ stands_at))
 
   -- one more section is built
-  pub more_sections : (i : ℕ) (section : SectionTree) (done more whole : List TypedSection) (built : TypedSection) → i < length sections → section ≡ get_or sections i section → built ≡ typed_section section (callees_of sections i section) → more ≡ done ++ built ∷ [] → done ++ sections_from sections i (drop i sections) ≡ whole → more ++ sections_from sections (i + 1) (drop (i + 1) sections) ≡ whole
+  pub more_sections : (i : ℕ) (section : SectionTree) (done more whole : List TypedSection) (built : TypedSection) →
+      i < length sections → section ≡ get_or sections i section →
+      built ≡ typed_section section (callees_of sections i section) → more ≡ done ++ built ∷ [] →
+      done ++ sections_from sections i (drop i sections) ≡ whole →
+      more ++ sections_from sections (i + 1) (drop (i + 1) sections) ≡ whole
   more_sections i section done more whole built h e b m k =
-      one_more done more (sections_from sections i (drop i sections)) (sections_from sections (i + 1) (drop (i + 1) sections)) whole built m step k
+      one_more done more (sections_from sections i (drop i sections))
+      (sections_from sections (i + 1) (drop (i + 1) sections)) whole built m step k
     where
       step : sections_from sections i (drop i sections) ≡ built ∷ sections_from sections (i + 1) (drop (i + 1) sections)
       step =

@@ -12,7 +12,8 @@ use Rattle.sc_elab.specs.Scopes.{Found, found_in, member_named}
 use Rattle.sc_elab.specs.Placed.{placed, variable_names, member_names}
 use Rattle.sc_base.proofs.Lists.{position-cons}
 
-pub position-map : {A B : Type 0} (f : A → B) (p : B → Bool) (xs : List A) → position p (map f xs) ≡ position (λ x. p (f x)) xs
+pub position-map : {A B : Type 0} (f : A → B) (p : B → Bool) (xs : List A) →
+    position p (map f xs) ≡ position (λ x. p (f x)) xs
 position-map f p [] = refl
 position-map f p (x ∷ xs) =
     position-cons p (f x) (map f xs)
@@ -27,20 +28,28 @@ found_at reference p = record { variable = reference p.0; ty = p.1 }
 abbrev pub found_with : (ℕ → VarRef) → ℕ → TypedParam → Found
 found_with reference place variable = record { variable = reference place; ty = variable.ty }
 
-pub found_in_placed : (reference : ℕ → VarRef) (variables : List TypedParam) (name : List ℕ) → found_in reference variables name ≡ option_map (found_at reference) (placed variables name)
+pub found_in_placed : (reference : ℕ → VarRef) (variables : List TypedParam) (name : List ℕ) →
+    found_in reference variables name ≡ option_map (found_at reference) (placed variables name)
 found_in_placed reference variables name =
-    ap (option_and_then (λ place. option_map (found_with reference place) (slice_get variables place))) (sym (position-map (λ variable. variable.name) (bytes_eq name) variables))
+    ap (option_and_then (λ place. option_map (found_with reference place) (slice_get variables place)))
+    (sym (position-map (λ variable. variable.name) (bytes_eq name) variables))
     ∙ each (number_of (variable_names variables) name)
   where
-    at : (place : ℕ) (o : Option TypedParam) → option_map (found_with reference place) o ≡ option_map (found_at reference) (option_map (λ variable. (place, variable.ty)) o)
+    at : (place : ℕ) (o : Option TypedParam) → option_map (found_with reference place) o ≡
+        option_map (found_at reference) (option_map (λ variable. (place, variable.ty)) o)
     at place None = refl
     at place (Some variable) = refl
 
-    each : (o : Option ℕ) → option_and_then (λ place. option_map (found_with reference place) (slice_get variables place)) o ≡ option_map (found_at reference) (option_and_then (λ place. option_map (λ variable. (place, variable.ty)) (slice_get variables place)) o)
+    each : (o : Option ℕ) → option_and_then (λ place.
+        option_map (found_with reference place) (slice_get variables place)) o ≡
+        option_map (found_at reference) (option_and_then
+        (λ place. option_map (λ variable. (place, variable.ty)) (slice_get variables place)) o)
     each None = refl
     each (Some place) = at place (slice_get variables place)
 
-pub member_placed : (name : List ℕ) (tree : TypedStruct) → member_named name (Some tree) ≡ option_and_then (slice_get tree.members) (number_of (member_names tree) name)
-member_placed name tree = ap (option_and_then (slice_get tree.members)) (sym (position-map (λ member. member.name) (bytes_eq name) tree.members))
+pub member_placed : (name : List ℕ) (tree : TypedStruct) →
+    member_named name (Some tree) ≡ option_and_then (slice_get tree.members) (number_of (member_names tree) name)
+member_placed name tree = ap (option_and_then (slice_get tree.members))
+    (sym (position-map (λ member. member.name) (bytes_eq name) tree.members))
 
 pub ruleset members = (member_placed, slice_get-map)

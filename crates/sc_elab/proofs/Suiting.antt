@@ -50,26 +50,31 @@ module _ (tags : List (List ℕ)) where
   abbrev has_none : TypedMember → Bool
   has_none m = m.offset == 0 && same_ty m.ty no_ty
 
-  members-some : (structs : List TypedStruct) (offset : ℕ) (members : List MemberTree) → list_any {X = TypedMember} has_none (members_from tags structs offset members) ≡ false
+  members-some : (structs : List TypedStruct) (offset : ℕ) (members : List MemberTree) →
+      list_any {X = TypedMember} has_none (members_from tags structs offset members) ≡ false
   members-some structs offset [] = refl
   members-some structs offset (m ∷ members) =
-      (λ j. offset == 0 && type-some m.ty j || list_any {X = TypedMember} has_none (members_from tags structs (end_of_member tags structs offset m) members))
+      (λ j. offset == 0 && type-some m.ty j || list_any {X = TypedMember} has_none
+      (members_from tags structs (end_of_member tags structs offset m) members))
       ∙ (λ j. and-false (offset == 0) j || members-some structs (end_of_member tags structs offset m) members j)
 
   abbrev AreSome : List TypedStruct → Type 0
   AreSome structs = (n : ℕ) → has_member (slice_get structs n) 0 no_ty ≡ false
 
-  one-more : (structs : List TypedStruct) (s : TypedStruct) → AreSome structs → has_member (Some s) 0 no_ty ≡ false → AreSome (structs ++ s ∷ [])
+  one-more : (structs : List TypedStruct) (s : TypedStruct) → AreSome structs → has_member (Some s) 0 no_ty ≡ false →
+      AreSome (structs ++ s ∷ [])
   one-more [] s are is zero = is
   one-more [] s are is (suc n) = refl
   one-more (x ∷ structs) s are is zero = are zero
   one-more (x ∷ structs) s are is (suc n) = one-more structs s (λ k. are (suc k)) is n
 
-  structs-some : (structs : List TypedStruct) (trees : List StructTree) → AreSome structs → AreSome (typed_structs tags structs trees)
+  structs-some : (structs : List TypedStruct) (trees : List StructTree) → AreSome structs →
+      AreSome (typed_structs tags structs trees)
   unfolding typed_structs
   structs-some structs [] are = are
   structs-some structs (tree ∷ trees) are =
-      structs-some (structs ++ typed_struct tags structs tree ∷ []) trees (one-more structs (typed_struct tags structs tree) are (members-some structs 0 tree.members))
+      structs-some (structs ++ typed_struct tags structs tree ∷ []) trees
+      (one-more structs (typed_struct tags structs tree) are (members-some structs 0 tree.members))
 
 -- the variable that is found stands at its place, with its type
 module _ (reference : ℕ → VarRef) (variables : List TypedParam) (name : List ℕ) where
@@ -79,7 +84,9 @@ module _ (reference : ℕ → VarRef) (variables : List TypedParam) (name : List
   abbrev found_at : ℕ → TypedParam → Found
   found_at place variable = record { variable = reference place; ty = variable.ty }
 
-  found-place : (f : Found) → found_in reference variables name ≡ Some f → (place : ℕ) × (f.variable ≡ reference place) × (slice_get (map (λ variable. variable.ty) variables) place ≡ Some f.ty)
+  found-place : (f : Found) → found_in reference variables name ≡ Some f →
+      (place : ℕ) × (f.variable ≡ reference place) ×
+      (slice_get (map (λ variable. variable.ty) variables) place ≡ Some f.ty)
   found-place f is = by place_of is where
     variable_or : Option Found → VarRef
     variable_or None = f.variable
@@ -89,16 +96,25 @@ module _ (reference : ℕ → VarRef) (variables : List TypedParam) (name : List
     ty_or None = f.ty
     ty_or (Some f) = f.ty
 
-    at : (place : ℕ) (v : Option TypedParam) → slice_get variables place ≡ v → option_map (found_at place) v ≡ Some f → (place : ℕ) × (f.variable ≡ reference place) × (slice_get (map (λ variable. variable.ty) variables) place ≡ Some f.ty)
+    at : (place : ℕ) (v : Option TypedParam) → slice_get variables place ≡ v → option_map (found_at place) v ≡ Some f →
+        (place : ℕ) × (f.variable ≡ reference place) ×
+        (slice_get (map (λ variable. variable.ty) variables) place ≡ Some f.ty)
     at place None got is = absurd (true≢false (sym (ap is_some is)))
-    at place (Some v) got is =
-        (place, sym (ap variable_or is), slice_get-map (λ variable. variable.ty) variables place ∙ ap (option_map (λ variable. variable.ty)) got ∙ ap (λ o. Some (ty_or o)) is)
+    at place (Some v) got is = (
+      place,
+      sym (ap variable_or is),
+      slice_get-map (λ variable. variable.ty) variables place ∙
+          ap (option_map (λ variable. variable.ty)) got ∙ ap (λ o. Some (ty_or o)) is,
+    )
 
-    by : (p : Option ℕ) → option_and_then (λ place. option_map (found_at place) (slice_get variables place)) p ≡ Some f → (place : ℕ) × (f.variable ≡ reference place) × (slice_get (map (λ variable. variable.ty) variables) place ≡ Some f.ty)
+    by : (p : Option ℕ) → option_and_then (λ place. option_map (found_at place) (slice_get variables place)) p ≡
+        Some f → (place : ℕ) × (f.variable ≡ reference place) ×
+        (slice_get (map (λ variable. variable.ty) variables) place ≡ Some f.ty)
     by None is = absurd (true≢false (sym (ap is_some is)))
     by (Some place) is = at place (slice_get variables place) refl is
 
-take-get : {A : Type 0} (g : A → Ty) (k : ℕ) (xs : List A) (place : ℕ) (t : Ty) → slice_get (map g (take k xs)) place ≡ Some t → slice_get (map g xs) place ≡ Some t
+take-get : {A : Type 0} (g : A → Ty) (k : ℕ) (xs : List A) (place : ℕ) (t : Ty) →
+    slice_get (map g (take k xs)) place ≡ Some t → slice_get (map g xs) place ≡ Some t
 take-get g zero xs place t is = absurd (true≢false (sym (ap is_some is)))
 take-get g (suc k) [] place t is = is
 take-get g (suc k) (x ∷ xs) zero t is = is
@@ -123,29 +139,42 @@ module _ (section : SectionTree) (tree : FunctionTree) (count : ℕ) where
   local-known : (name : List ℕ) (f : Found) → found_in var.Local seen.locals name ≡ Some f → Known f
   local-known name f is =
       let at = found-place var.Local seen.locals name f is in
-      ap (λ v. is_type (variable_ty scope v) f.ty) at.1 ∙ typed-at f (slice_get scope.locals at.0) (take-get (λ local. type_of tags local.ty) count tree.locals at.0 f.ty (ap (λ types. slice_get types at.0) (sym (map_twice (λ variable. variable.ty) (local_variable tags) (take count tree.locals))) ∙ at.2))
+      ap (λ v. is_type (variable_ty scope v) f.ty) at.1 ∙
+      typed-at f (slice_get scope.locals at.0) (take-get
+      (λ local. type_of tags local.ty) count tree.locals at.0 f.ty
+      (ap (λ types. slice_get types at.0) (sym (map_twice (λ variable. variable.ty) (local_variable tags)
+      (take count tree.locals))) ∙ at.2))
 
   param-known : (name : List ℕ) (f : Found) → found_in var.Param seen.params name ≡ Some f → Known f
   param-known name f is =
       let at = found-place var.Param seen.params name f is in
-      ap (λ v. is_type (variable_ty scope v) f.ty) at.1 ∙ typed-at f (slice_get scope.params at.0) (ap (λ types. slice_get types at.0) (sym (map_twice (λ variable. variable.ty) (typed_param tags) tree.head.params)) ∙ at.2)
+      ap (λ v. is_type (variable_ty scope v) f.ty) at.1 ∙
+      typed-at f (slice_get scope.params at.0) (ap (λ types. slice_get types at.0)
+      (sym (map_twice (λ variable. variable.ty) (typed_param tags) tree.head.params)) ∙ at.2)
 
   global-known : (name : List ℕ) (f : Found) → found_in var.Global seen.globals name ≡ Some f → Known f
   global-known name f is =
       let at = found-place var.Global seen.globals name f is in
-      ap (λ v. is_type (variable_ty scope v) f.ty) at.1 ∙ typed-at f (slice_get scope.globals at.0) (ap (λ types. slice_get types at.0) (sym (map_twice (λ variable. variable.ty) (global_variable tags) (globals_in section.decls))) ∙ at.2)
+      ap (λ v. is_type (variable_ty scope v) f.ty) at.1 ∙
+      typed-at f (slice_get scope.globals at.0) (ap (λ types. slice_get types at.0)
+      (sym (map_twice (λ variable. variable.ty) (global_variable tags) (globals_in section.decls))) ∙ at.2)
 
-  either-known : (x y : Option Found) (f : Found) → (x ≡ Some f → Known f) → (y ≡ Some f → Known f) → or_else x y ≡ Some f → Known f
+  either-known : (x y : Option Found) (f : Found) → (x ≡ Some f → Known f) → (y ≡ Some f → Known f) →
+      or_else x y ≡ Some f → Known f
   either-known None y f first second is = second is
   either-known (Some g) y f first second is = first is
 
-  some-global : (globals : List GlobalTree) → is_type (slice_get (map {A = GlobalTree} (λ global. type_of tags global.ty) globals) 0) no_ty ≡ false
+  some-global : (globals : List GlobalTree) → is_type
+      (slice_get (map {A = GlobalTree} (λ global. type_of tags global.ty) globals) 0) no_ty ≡ false
   some-global [] = refl
   some-global (global ∷ globals) = type-some tags global.ty
 
   pub suiting : Suits seen scope
   suiting = record {
-    known = λ name f is. either-known (found_in var.Local seen.locals name) (or_else (found_in var.Param seen.params name) (found_in var.Global seen.globals name)) f (local-known name f) (either-known (found_in var.Param seen.params name) (found_in var.Global seen.globals name) f (param-known name f) (global-known name f)) is;
+    known = λ name f is. either-known (found_in var.Local seen.locals name)
+        (or_else (found_in var.Param seen.params name) (found_in var.Global seen.globals name)) f (local-known name f)
+        (either-known (found_in var.Param seen.params name) (found_in var.Global seen.globals name) f
+        (param-known name f) (global-known name f)) is;
     unknown = some-global (globals_in section.decls);
     structs = refl;
     nothing = structs-some tags [] (structs_in section.decls) (λ n. refl);

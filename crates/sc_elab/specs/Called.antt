@@ -48,12 +48,14 @@ import_line_name line = line.name
 abbrev pub function_signature : List (List ℕ) → FunctionTree → Signature
 function_signature tags tree = signature_by tags (head_of tree.head)
 
--- the heads by which calls are typed, each name by its first: those of the functions, and behind them all that are declared
+-- the heads by which calls are typed, each name by its first: those of the functions, and behind them all that are
+-- declared
 abbrev pub calling_heads : List Decl → List HeadTree
 calling_heads decls = map (λ tree. head_of tree.head) (functions_in decls) ++ heads_in decls
 
 -- whom a section calls, where its structs have these tags and it imports these functions
-pub record CallsIn (tags : List (List ℕ)) (section : SectionTree) (used : List Import) (callees : Callees) : Type 0 where
+pub record CallsIn (tags : List (List ℕ)) (section : SectionTree) (used : List Import)
+    (callees : Callees) : Type 0 where
   pub heads : callees.heads ≡ map head_name (calling_heads section.decls)
   pub signatures : callees.signatures ≡ map (signature_by tags) (calling_heads section.decls)
   pub functions : callees.functions ≡ map function_name (functions_in section.decls)

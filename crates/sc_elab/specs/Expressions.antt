@@ -1,4 +1,5 @@
--- Expressions with their types (C11 6.5). Where an expression breaks the rules of types, it gets some type that doesn't fit.
+-- Expressions with their types (C11 6.5). Where an expression breaks the rules of types, it gets some type that doesn't
+-- fit.
 use Rattle.std.specs.Prelude.{ℕ, zero, Bool, true, false, ◌&&◌, if◌then◌else◌, Option, Some, None}
 use Rattle.std.specs.Option.{option_map_or}
 use Rattle.sc_ast.specs.Numbers.{Number}
@@ -33,7 +34,8 @@ or_int (Some t) = t
 -- the type of a sum or a difference: of two pointers it is `int` (a difference; a sum of two doesn't fit)
 abbrev pub moved_ty : Ty → Ty → Ty
 moved_ty a b =
-    if is_pointer a then (if is_pointer b then ty.Int else decayed a) else if is_pointer b then decayed b else common a b
+    if is_pointer a then (if is_pointer b then ty.Int else decayed a) else if is_pointer b then decayed b else
+    common a b
 
 abbrev pub binary_ty : BinaryOp → Ty → Ty → Ty
 binary_ty op.OrElse a b = ty.Int
@@ -73,7 +75,10 @@ beside op.NotEqual other e = going_to other e
 beside o other e = e
 
 abbrev pub literal_typed : Number → TypedExpr
-literal_typed number = record { ty = if number.unsigned then ty.Unsigned else ty.Int; kind = TypedKind.Literal number.value }
+literal_typed number = record {
+  ty = if number.unsigned then ty.Unsigned else ty.Int;
+  kind = TypedKind.Literal number.value;
+}
 
 abbrev pub variable_typed : Option Found → TypedExpr
 variable_typed None = record { ty = no_ty; kind = TypedKind.Variable (Global 0) }
@@ -97,9 +102,11 @@ module _ (visible : Visible) where
   step (tree.Binary o a b) = binary_typed o a b
   step (tree.Index a b) = record { ty = or_int (target (decayed a.ty)); kind = TypedKind.Index a b }
   step (tree.Member a name) =
-      let member = member_named name (struct_of visible.structs (Some a.ty)) in record { ty = member_ty member; kind = TypedKind.Member a (member_offset member) }
+      let member = member_named name (struct_of visible.structs (Some a.ty)) in
+      record { ty = member_ty member; kind = TypedKind.Member a (member_offset member) }
   step (tree.Arrow a name) =
-      let member = member_named name (struct_of visible.structs (target (decayed a.ty))) in record { ty = member_ty member; kind = TypedKind.Arrow a (member_offset member) }
+      let member = member_named name (struct_of visible.structs (target (decayed a.ty))) in
+      record { ty = member_ty member; kind = TypedKind.Arrow a (member_offset member) }
   step (tree.Deref e) = record { ty = or_int (target (decayed e.ty)); kind = TypedKind.Deref e }
   step (tree.Address e) = record { ty = or_int (pointer_to e.ty); kind = TypedKind.Address e }
 

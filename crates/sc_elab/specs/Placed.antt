@@ -19,4 +19,5 @@ member_names tree = names_of tree.members
 -- a variable's place and its type
 abbrev pub placed : List TypedParam → List ℕ → Option (ℕ × Ty)
 placed variables name =
-    option_and_then (λ place. option_map (λ variable. (place, variable.ty)) (slice_get variables place)) (number_of (variable_names variables) name)
+    option_and_then (λ place. option_map (λ variable. (place, variable.ty)) (slice_get variables place))
+    (number_of (variable_names variables) name)

@@ -27,7 +27,8 @@ types_of variables = map (λ variable. variable.ty) variables
 -- the variable of a name in a list, as the kind of reference that the list's places are
 abbrev pub found_in : (ℕ → VarRef) → List TypedParam → List ℕ → Option Found
 found_in reference variables name =
-    option_and_then (λ place. option_map (λ variable. record { variable = reference place; ty = variable.ty }) (slice_get variables place)) (position (λ variable. bytes_eq name variable.name) variables)
+    option_and_then (λ place. option_map (λ variable. record { variable = reference place; ty = variable.ty })
+    (slice_get variables place)) (position (λ variable. bytes_eq name variable.name) variables)
 
 abbrev pub or_else : {A : Type 0} → Option A → Option A → Option A
 or_else None other = other
@@ -36,12 +37,14 @@ or_else (Some x) other = Some x
 -- a local hides a parameter, and both hide a global
 abbrev pub found : Visible → List ℕ → Option Found
 found visible name =
-    or_else (found_in Local visible.locals name) (or_else (found_in Param visible.params name) (found_in Global visible.globals name))
+    or_else (found_in Local visible.locals name) (or_else (found_in Param visible.params name)
+    (found_in Global visible.globals name))
 
 -- the member of a name
 abbrev pub member_named : List ℕ → Option TypedStruct → Option TypedMember
 member_named name None = None
-member_named name (Some tree) = option_and_then (slice_get tree.members) (position (λ member. bytes_eq name member.name) tree.members)
+member_named name (Some tree) = option_and_then (slice_get tree.members)
+    (position (λ member. bytes_eq name member.name) tree.members)
 
 -- the struct of a type
 abbrev pub struct_of : List TypedStruct → Option Ty → Option TypedStruct

@@ -83,7 +83,8 @@ module _ (tags : List (List ℕ)) where
   abbrev pub members_from : List TypedStruct → ℕ → List MemberTree → List TypedMember
   members_from structs offset [] = []
   members_from structs offset (member ∷ members) =
-      record { name = member.name; ty = type_of member.ty; offset = offset } ∷ members_from structs (end_of_member structs offset member) members
+      record { name = member.name; ty = type_of member.ty; offset = offset } ∷
+      members_from structs (end_of_member structs offset member) members
 
   abbrev pub cells_from : List TypedStruct → ℕ → List MemberTree → ℕ
   cells_from structs offset [] = offset
@@ -92,7 +93,11 @@ module _ (tags : List (List ℕ)) where
   -- a struct over those that stand before it
   abbrev pub typed_struct : List TypedStruct → StructTree → TypedStruct
   typed_struct structs tree =
-      record { name = tree.name; members = members_from structs 0 tree.members; cells = cells_from structs 0 tree.members }
+      record {
+        name = tree.name;
+        members = members_from structs 0 tree.members;
+        cells = cells_from structs 0 tree.members;
+      }
 
   unfoldable pub typed_structs : List TypedStruct → List StructTree → List TypedStruct
   typed_structs structs [] = structs
@@ -113,7 +118,8 @@ init_words (Many consts) = map word_of_const consts
 abbrev pub is_null : ConstTree → Bool
 is_null const = not const.negative && nat_eq const.literal.value 0
 
--- what a global of a type may begin with (C11 6.7.9): an integer with an integer, a pointer with null, an array of integers with a list no longer than it
+-- what a global of a type may begin with (C11 6.7.9): an integer with an integer, a pointer with null, an array of
+-- integers with a list no longer than it
 abbrev pub init_holds : Ty → InitTree → Bool
 init_holds t Absent = true
 init_holds ty.Int (One const) = true
@@ -133,7 +139,10 @@ param_ty tags param = type_of_name tags param.ty
 
 -- the types of a function or a prototype, by its head
 abbrev pub signature_by : List (List ℕ) → HeadTree → Signature
-signature_by tags head = record { params = map (param_ty tags) head.params; result = option_map (type_of_name tags) head.result }
+signature_by tags head = record {
+  params = map (param_ty tags) head.params;
+  result = option_map (type_of_name tags) head.result;
+}
 
 abbrev pub head_named : List ℕ → List HeadTree → Option HeadTree
 head_named name [] = None
@@ -145,7 +154,8 @@ or_first (Some tree) first = Some (head_of tree.head)
 
 -- a call is typed by the function's definition in its section, or else by its first prototype there
 abbrev pub called_head : SectionTree → List ℕ → Option HeadTree
-called_head section name = or_first (function_named name (functions_in section.decls)) (head_named name (heads_in section.decls))
+called_head section name = or_first (function_named name (functions_in section.decls))
+    (head_named name (heads_in section.decls))
 
 abbrev pub import_target : Import → CallTarget
 import_target import.Input = Input
@@ -168,7 +178,8 @@ target_or (Some place) imported = Own place
 abbrev pub callees_of : List SectionTree → ℕ → SectionTree → Callees
 callees_of sections number section = record {
   signature = λ name. option_map (signature_by (struct_names section.decls)) (called_head section name);
-  target = λ name. target_or (number_of (function_names section.decls) name) (imported_target sections number (import_named name section.imports));
+  target = λ name. target_or (number_of (function_names section.decls) name)
+      (imported_target sections number (import_named name section.imports));
 }
 
 abbrev pub typed_param : List (List ℕ) → FunctionParam → TypedParam
@@ -215,7 +226,12 @@ module _ (section : SectionTree) where
 
   abbrev pub typed_local : FunctionTree → (place : ℕ) → LocalTree → TypedLocal
   typed_local tree place local =
-      record { name = local.name; ty = type_of tags local.ty; init = typed_init tree place (type_of tags local.ty) local.init; line = local.line }
+      record {
+        name = local.name;
+        ty = type_of tags local.ty;
+        init = typed_init tree place (type_of tags local.ty) local.init;
+        line = local.line;
+      }
 
   unfoldable pub typed_locals : FunctionTree → (place : ℕ) → List LocalTree → List TypedLocal
   typed_locals tree place [] = []
@@ -232,7 +248,8 @@ module _ (section : SectionTree) where
   -- a struct has a member
   abbrev pub struct_lines : StructTree → List ℕ
   struct_lines tree =
-      unless (nat_le 1 (length tree.members) && list_all {X = MemberTree} (λ member. is_sized member.ty) tree.members) tree.line
+      unless (nat_le 1 (length tree.members) && list_all {X = MemberTree}
+      (λ member. is_sized member.ty) tree.members) tree.line
 
   module _ (callees : Callees) where
     abbrev pub typed_function : FunctionTree → TypedFunction
@@ -257,15 +274,18 @@ module _ (section : SectionTree) where
     -- of the local at this place
     abbrev pub local_holds : FunctionTree → (place : ℕ) → LocalTree → Bool
     local_holds tree place local =
-        is_sized local.ty && init_fits (scope_in tree) (type_of tags local.ty) (typed_init tree place (type_of tags local.ty) local.init)
+        is_sized local.ty && init_fits (scope_in tree) (type_of tags local.ty)
+        (typed_init tree place (type_of tags local.ty) local.init)
 
     abbrev pub locals_from : FunctionTree → (place : ℕ) → List LocalTree → List ℕ
     locals_from tree place [] = []
-    locals_from tree place (local ∷ locals) = unless (local_holds tree place local) local.line ++ locals_from tree (suc place) locals
+    locals_from tree place (local ∷ locals) = unless (local_holds tree place local) local.line ++
+        locals_from tree (suc place) locals
 
     abbrev pub function_lines : FunctionTree → List ℕ
     function_lines tree =
-        locals_from tree 0 tree.locals ++ concat (map (stmt_lines (visible_of tree) callees (scope_in tree) (result_of tree)) tree.body)
+        locals_from tree 0 tree.locals ++ concat (map
+        (stmt_lines (visible_of tree) callees (scope_in tree) (result_of tree)) tree.body)
 
     abbrev pub decl_lines : Decl → List ℕ
     decl_lines (Struct tree) = struct_lines tree
@@ -286,7 +306,9 @@ sections_from sections k (section ∷ rest) =
 abbrev pub program_of : List SectionTree → ProgramTree
 program_of sections = record { interfaces = interfaces_of sections; sections = sections_from sections 0 sections }
 
--- the lines of the whole text at which rules of types are broken in it: a call is typed by its own section, so the others don't matter
+-- the lines of the whole text at which rules of types are broken in it: a call is typed by its own section, so the
+-- others don't matter
 abbrev pub types_broken : List SectionTree → List ℕ
 types_broken sections =
-    concat (map {A = SectionTree} (λ section. map (line_of_text section.line) (section_lines section (callees_of sections 0 section))) sections)
+    concat (map {A = SectionTree} (λ section. map (line_of_text section.line)
+    (section_lines section (callees_of sections 0 section))) sections)

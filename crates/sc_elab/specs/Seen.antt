@@ -56,7 +56,9 @@ module _ (section : SectionScope) (function : FunctionScope) where
 
   unfoldable pub kind_in : StmtKind → TypedStmtKind
   kind_in =
-      fold-StmtKind TypedStmtKind TypedStmt (kind_step (visible section function) (called section.callees) function.result) (stmt_step (visible section function) (called section.callees) function.result)
+      fold-StmtKind TypedStmtKind TypedStmt (kind_step (visible section function)
+      (called section.callees) function.result) (stmt_step (visible section function)
+      (called section.callees) function.result)
 
   unfoldable pub stmt_in : StmtTree → TypedStmt
   stmt_in = typed_stmt (visible section function) (called section.callees) function.result

@@ -26,7 +26,8 @@ use Rattle.sc_scope.specs.Broken.{unless}
 use Rattle.sc_elab.specs.Scopes.{Visible}
 use Rattle.sc_elab.specs.Expressions.{typed, going_to}
 
--- what a name stands for in a call: its function's types, by the definition or the first prototype of the section, and who is called
+-- what a name stands for in a call: its function's types, by the definition or the first prototype of the section, and
+-- who is called
 pub record Callees : Type 0 where
   pub signature : List ℕ → Option Signature
   pub target : List ℕ → CallTarget
@@ -102,9 +103,9 @@ module _ (visible : Visible) (callees : Callees) where
     abbrev pub assign_call_holds : ExprTree → CallTree → Bool
     assign_call_holds place call =
         all_hold (
-          is_target (judge (typed visible place)) ∷
-          call_holds call ∷
-          result_goes (callees.signature call.name) (typed visible place).ty ∷ []
+        is_target (judge (typed visible place)) ∷
+        call_holds call ∷
+        result_goes (callees.signature call.name) (typed visible place).ty ∷ []
         )
 
     abbrev pub cond_holds : ExprTree → Bool

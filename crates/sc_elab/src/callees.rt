@@ -38,7 +38,8 @@ impl Signature {
     }
 }
 
-/// What a section calls by name: the heads by which calls are typed, with their types, the section's functions, and what it imports, with whom that calls.
+/// What a section calls by name: the heads by which calls are typed, with their types, the section's functions, and
+/// what it imports, with whom that calls.
 #[derive(Drop)]
 pub struct Callees {
     pub heads: NameList,

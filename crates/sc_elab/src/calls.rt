@@ -96,7 +96,8 @@ fn with_function(
     decl: &Decl,
 ) -> Result<Heads, OutOfMemory>
     ensures names { IfOk result (λ more. more.names ≡ heads.names ++ map function_name (functions_in (decl.now ∷ []))) }
-    ensures signatures { IfOk result (λ more. more.signatures ≡ heads.signatures ++ map (function_signature tags.now) (functions_in (decl.now ∷ []))) }
+    ensures signatures { IfOk result (λ more. more.signatures ≡ heads.signatures ++
+        map (function_signature tags.now) (functions_in (decl.now ∷ []))) }
 {
     match decl {
         Decl::Function(tree) => {
@@ -115,7 +116,8 @@ fn with_declared(
     decl: &Decl,
 ) -> Result<Heads, OutOfMemory>
     ensures names { IfOk result (λ more. more.names ≡ heads.names ++ map head_name (heads_in (decl.now ∷ []))) }
-    ensures signatures { IfOk result (λ more. more.signatures ≡ heads.signatures ++ map (signature_by tags.now) (heads_in (decl.now ∷ []))) }
+    ensures signatures { IfOk result (λ more. more.signatures ≡ heads.signatures ++
+        map (signature_by tags.now) (heads_in (decl.now ∷ []))) }
 {
     match decl {
         Decl::Function(tree) => {
@@ -133,7 +135,8 @@ fn with_declared(
 // The heads of the functions.
 fn function_heads(alloc: Global, tags: &NameList, decls: &[Decl]) -> Result<Heads, OutOfMemory>
     ensures names { IfOk result (λ heads. heads.names ≡ map function_name (functions_in decls.now)) }
-    ensures signatures { IfOk result (λ heads. heads.signatures ≡ map (function_signature tags.now) (functions_in decls.now)) }
+    ensures signatures { IfOk result (λ heads. heads.signatures ≡
+        map (function_signature tags.now) (functions_in decls.now)) }
 {
     let mut heads = Heads {
         names: NameList::new(alloc),
@@ -148,7 +151,8 @@ fn function_heads(alloc: Global, tags: &NameList, decls: &[Decl]) -> Result<Head
 // The heads by which calls are typed: those of the functions, and behind them all that are declared.
 fn calling_heads(alloc: Global, tags: &NameList, decls: &[Decl]) -> Result<Heads, OutOfMemory>
     ensures names { IfOk result (λ heads. heads.names ≡ map head_name (calling_heads decls.now)) }
-    ensures signatures { IfOk result (λ heads. heads.signatures ≡ map (signature_by tags.now) (calling_heads decls.now)) }
+    ensures signatures { IfOk result (λ heads. heads.signatures ≡
+        map (signature_by tags.now) (calling_heads decls.now)) }
 {
     let mut heads = function_heads(alloc, tags, decls)?;
     for decl in decls {

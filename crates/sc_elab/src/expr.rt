@@ -31,7 +31,8 @@ pub fn build_expr(
     expr: &ExprTree,
 ) -> Result<Built, OutOfMemory>
     ensures expr { IfOk result (λ built. built.expr ≡ expr_in section.now function.now expr.now) }
-    ensures judged { (scope : Scope) → Suits (visible section.now function.now) scope → IfOk result (λ built. built.judged ≡ judged scope built.expr) }
+    ensures judged { (scope : Scope) → Suits (visible section.now function.now) scope →
+        IfOk result (λ built. built.judged ≡ judged scope built.expr) }
 {
     match expr {
         ExprTree::Literal(literal) => Ok(literal_built(*literal)),
@@ -124,7 +125,12 @@ fn variable_typed(found: Option<Found>) -> TypedExpr
 // A variable fits where it is declared.
 fn variable_built(found: Option<Found>) -> Built
     ensures expr { result.expr ≡ variable_typed found }
-    ensures judged { result.judged ≡ record { ty = (variable_typed found).ty; fits = is_some found; place = true; null = false } }
+    ensures judged { result.judged ≡ record {
+      ty = (variable_typed found).ty;
+      fits = is_some found;
+      place = true;
+      null = false;
+    } }
 {
     let expr = variable_typed(found);
     let judged = Judged {
@@ -138,8 +144,10 @@ fn variable_built(found: Option<Found>) -> Built
 
 #[tactic(auto, using(crate::proofs::Parts::unary_judged))]
 fn unary_built(alloc: Global, op: UnaryOp, of: Built) -> Result<Built, OutOfMemory>
-    ensures expr { IfOk result (λ built. built.expr ≡ record { ty = unary_ty op of.expr.ty; kind = TypedKind.Unary op of.expr }) }
-    ensures judged { (scope : Scope) → of.judged ≡ judged scope of.expr → IfOk result (λ built. built.judged ≡ judged scope built.expr) }
+    ensures expr { IfOk result (λ built. built.expr ≡
+        record { ty = unary_ty op of.expr.ty; kind = TypedKind.Unary op of.expr }) }
+    ensures judged { (scope : Scope) → of.judged ≡ judged scope of.expr →
+        IfOk result (λ built. built.judged ≡ judged scope built.expr) }
 {
     let Built { expr: of, judged } = of;
     let ty = unary_ty(op, of.ty);
@@ -165,7 +173,8 @@ fn binary_built(
     right: Built,
 ) -> Result<Built, OutOfMemory>
     ensures expr { IfOk result (λ built. built.expr ≡ binary_typed op left.expr right.expr) }
-    ensures judged { (scope : Scope) → left.judged ≡ judged scope left.expr → right.judged ≡ judged scope right.expr → IfOk result (λ built. built.judged ≡ judged scope built.expr) }
+    ensures judged { (scope : Scope) → left.judged ≡ judged scope left.expr → right.judged ≡ judged scope right.expr →
+        IfOk result (λ built. built.judged ≡ judged scope built.expr) }
 {
     let left_ty = left.expr.ty;
     let right_ty = right.expr.ty;
@@ -189,8 +198,10 @@ fn binary_built(
 
 #[tactic(auto, using(crate::proofs::Parts::index_judged))]
 fn index_built(alloc: Global, base: Built, index: Built) -> Result<Built, OutOfMemory>
-    ensures expr { IfOk result (λ built. built.expr ≡ record { ty = or_int (target (decayed base.expr.ty)); kind = TypedKind.Index base.expr index.expr }) }
-    ensures judged { (scope : Scope) → base.judged ≡ judged scope base.expr → index.judged ≡ judged scope index.expr → IfOk result (λ built. built.judged ≡ judged scope built.expr) }
+    ensures expr { IfOk result (λ built. built.expr ≡
+        record { ty = or_int (target (decayed base.expr.ty)); kind = TypedKind.Index base.expr index.expr }) }
+    ensures judged { (scope : Scope) → base.judged ≡ judged scope base.expr → index.judged ≡ judged scope index.expr →
+        IfOk result (λ built. built.judged ≡ judged scope built.expr) }
 {
     let pointed = base.expr.ty.pointed();
     let ty = pointed.unwrap_or(Ty::Int);
@@ -215,8 +226,15 @@ fn member_built(
     base: Built,
     member: Option<TypedMember>,
 ) -> Result<Built, OutOfMemory>
-    ensures expr { IfOk result (λ built. built.expr ≡ record { ty = member_ty member; kind = TypedKind.Member base.expr (member_offset member) }) }
-    ensures judged { IfOk result (λ built. built.judged ≡ record { ty = member_ty member; fits = base.judged.fits && (base.judged.place && is_some member); place = true; null = false }) }
+    ensures expr { IfOk result (λ built. built.expr ≡
+        record { ty = member_ty member; kind = TypedKind.Member base.expr (member_offset member) }) }
+    ensures judged { IfOk result (λ built. built.judged ≡
+        record {
+          ty = member_ty member;
+          fits = base.judged.fits && (base.judged.place && is_some member);
+          place = true;
+          null = false;
+        }) }
 {
     let (ty, offset) = typed_offset(member);
     let judged = Judged {
@@ -239,8 +257,10 @@ fn arrow_built(
     base: Built,
     member: Option<TypedMember>,
 ) -> Result<Built, OutOfMemory>
-    ensures expr { IfOk result (λ built. built.expr ≡ record { ty = member_ty member; kind = TypedKind.Arrow base.expr (member_offset member) }) }
-    ensures judged { IfOk result (λ built. built.judged ≡ record { ty = member_ty member; fits = is_address base.judged && is_some member; place = true; null = false }) }
+    ensures expr { IfOk result (λ built. built.expr ≡
+        record { ty = member_ty member; kind = TypedKind.Arrow base.expr (member_offset member) }) }
+    ensures judged { IfOk result (λ built. built.judged ≡
+        record { ty = member_ty member; fits = is_address base.judged && is_some member; place = true; null = false }) }
 {
     let (ty, offset) = typed_offset(member);
     let judged = Judged {
@@ -269,8 +289,10 @@ fn typed_offset(member: Option<TypedMember>) -> (Ty, u32)
 
 #[tactic(auto, using(crate::proofs::Parts::deref_judged))]
 fn deref_built(alloc: Global, of: Built) -> Result<Built, OutOfMemory>
-    ensures expr { IfOk result (λ built. built.expr ≡ record { ty = or_int (target (decayed of.expr.ty)); kind = TypedKind.Deref of.expr }) }
-    ensures judged { (scope : Scope) → of.judged ≡ judged scope of.expr → IfOk result (λ built. built.judged ≡ judged scope built.expr) }
+    ensures expr { IfOk result (λ built. built.expr ≡
+        record { ty = or_int (target (decayed of.expr.ty)); kind = TypedKind.Deref of.expr }) }
+    ensures judged { (scope : Scope) → of.judged ≡ judged scope of.expr →
+        IfOk result (λ built. built.judged ≡ judged scope built.expr) }
 {
     let pointed = of.expr.ty.pointed();
     let ty = pointed.unwrap_or(Ty::Int);
@@ -290,8 +312,10 @@ fn deref_built(alloc: Global, of: Built) -> Result<Built, OutOfMemory>
 
 #[tactic(auto, using(crate::proofs::Parts::address_judged))]
 fn address_built(alloc: Global, of: Built) -> Result<Built, OutOfMemory>
-    ensures expr { IfOk result (λ built. built.expr ≡ record { ty = or_int (pointer_to of.expr.ty); kind = TypedKind.Address of.expr }) }
-    ensures judged { (scope : Scope) → of.judged ≡ judged scope of.expr → IfOk result (λ built. built.judged ≡ judged scope built.expr) }
+    ensures expr { IfOk result (λ built. built.expr ≡
+        record { ty = or_int (pointer_to of.expr.ty); kind = TypedKind.Address of.expr }) }
+    ensures judged { (scope : Scope) → of.judged ≡ judged scope of.expr →
+        IfOk result (λ built. built.judged ≡ judged scope built.expr) }
 {
     let pointer = of.expr.ty.pointer_to()?;
     let ty = pointer.unwrap_or(Ty::Int);
@@ -318,11 +342,13 @@ fn is_zero(expr: &TypedExpr) -> bool
     }
 }
 
-/// An expression on its way to a place of this type: where it is a pointer's, a literal of value 0 is null (C11 6.3.2.3p3).
+/// An expression on its way to a place of this type: where it is a pointer's, a literal of value 0 is null (C11
+/// 6.3.2.3p3).
 #[tactic(auto, using(crate::proofs::Parts::null_judged))]
 pub fn going_to(place: Ty, built: Built) -> Result<Built, OutOfMemory>
     ensures expr { IfOk result (λ going. going.expr ≡ going_to place built.expr) }
-    ensures judged { (scope : Scope) → built.judged ≡ judged scope built.expr → IfOk result (λ going. going.judged ≡ judged scope going.expr) }
+    ensures judged { (scope : Scope) → built.judged ≡ judged scope built.expr →
+        IfOk result (λ going. going.judged ≡ judged scope going.expr) }
 {
     if place.is_pointer() && is_zero(&built.expr) {
         null_built(place, built.expr.kind)
@@ -333,7 +359,8 @@ pub fn going_to(place: Ty, built: Built) -> Result<Built, OutOfMemory>
 
 fn null_built(place: Ty, kind: TypedKind) -> Result<Built, OutOfMemory>
     ensures expr { IfOk result (λ null. null.expr ≡ record { ty = decayed place; kind = kind }) }
-    ensures judged { IfOk result (λ null. null.judged ≡ record { ty = decayed place; fits = true; place = false; null = true }) }
+    ensures judged { IfOk result (λ null. null.judged ≡
+        record { ty = decayed place; fits = true; place = false; null = true }) }
 {
     let ty = place.decayed()?;
     let judged = Judged {
@@ -351,7 +378,8 @@ fn null_built(place: Ty, kind: TypedKind) -> Result<Built, OutOfMemory>
 // An operand of `==` or `!=` may be null beside a pointer.
 fn beside(op: BinaryOp, other: Ty, built: Built) -> Result<Built, OutOfMemory>
     ensures expr { IfOk result (λ operand. operand.expr ≡ beside op other built.expr) }
-    ensures judged { (scope : Scope) → built.judged ≡ judged scope built.expr → IfOk result (λ operand. operand.judged ≡ judged scope operand.expr) }
+    ensures judged { (scope : Scope) → built.judged ≡ judged scope built.expr →
+        IfOk result (λ operand. operand.judged ≡ judged scope operand.expr) }
 {
     match op {
         BinaryOp::Equal | BinaryOp::NotEqual => going_to(other, built),

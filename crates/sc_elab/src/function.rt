@@ -77,7 +77,11 @@ pub fn with_local(
     function: FunctionScope,
     local: &LocalTree,
 ) -> Result<FunctionScope, OutOfMemory>
-    ensures { IfOk result (λ more. more ≡ record { params = function.params; locals = function.locals ++ local_variable tags.now local.now ∷ []; result = function.result }) }
+    ensures { IfOk result (λ more. more ≡ record {
+      params = function.params;
+      locals = function.locals ++ local_variable tags.now local.now ∷ [];
+      result = function.result;
+    }) }
 {
     let FunctionScope {
         params,
@@ -100,7 +104,12 @@ pub fn head_scope(
     scope: &SectionScope,
     tree: &FunctionTree,
 ) -> Result<FunctionScope, OutOfMemory>
-    ensures { IfOk result (λ function. function ≡ record { params = map (typed_param scope.now.tags) tree.now.head.params; locals = []; result = option_map (type_of_name scope.now.tags) tree.now.head.result }) }
+    ensures { IfOk result (λ function. function ≡ record {
+      params = map
+          (typed_param scope.now.tags) tree.now.head.params;
+      locals = [];
+      result = option_map (type_of_name scope.now.tags) tree.now.head.result;
+    }) }
 {
     let params = param_variables(alloc, &scope.tags, tree.head.params.as_slice())?;
     let outcome = type_of_result(&scope.tags, &tree.head.result);

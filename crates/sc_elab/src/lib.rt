@@ -1,4 +1,5 @@
-//! Elaboration: the program of a text is built from the trees of its sections, and the rules of types are judged on what
+//! Elaboration: the program of a text is built from the trees of its sections, and the rules of types are judged on
+//! what
 //! is built.
 #![tactic(auto)]
 

@@ -24,7 +24,10 @@ impl Place<'_> {
         lines: &mut BrokenLines,
         part: &Option<SimpleTree>,
     ) -> Result<(), OutOfMemory>
-        ensures { (scope : Scope) → Suits (visible self.now.section.now self.now.function.now) scope → OnOk result (lines.new ≡ with_lines lines.old (part_lines (visible self.now.section.now self.now.function.now) (called self.now.section.now.callees) scope self.now.function.now.result part.now)) }
+        ensures { (scope : Scope) → Suits (visible self.now.section.now self.now.function.now) scope →
+            OnOk result (lines.new ≡ with_lines lines.old
+            (part_lines (visible self.now.section.now self.now.function.now)
+            (called self.now.section.now.callees) scope self.now.function.now.result part.now)) }
     {
         match part {
             None => Ok(()),
@@ -44,7 +47,10 @@ impl Place<'_> {
         lines: &mut BrokenLines,
         stmts: &Stmts,
     ) -> Result<(), OutOfMemory>
-        ensures { (scope : Scope) → Suits (visible self.now.section.now self.now.function.now) scope → OnOk result (lines.new ≡ with_lines lines.old (concat (map (stmt_lines (visible self.now.section.now self.now.function.now) (called self.now.section.now.callees) scope self.now.function.now.result) stmts.now))) }
+        ensures { (scope : Scope) → Suits (visible self.now.section.now self.now.function.now) scope →
+            OnOk result (lines.new ≡ with_lines lines.old
+            (concat (map (stmt_lines (visible self.now.section.now self.now.function.now)
+            (called self.now.section.now.callees) scope self.now.function.now.result) stmts.now))) }
     {
         for stmt in stmts.as_slice() {
             self.note_stmt(alloc, lines, stmt)?;
@@ -60,7 +66,10 @@ impl Place<'_> {
         lines: &mut BrokenLines,
         stmt: &StmtTree,
     ) -> Result<(), OutOfMemory>
-        ensures { (scope : Scope) → Suits (visible self.now.section.now self.now.function.now) scope → OnOk result (lines.new ≡ with_lines lines.old (stmt_lines (visible self.now.section.now self.now.function.now) (called self.now.section.now.callees) scope self.now.function.now.result stmt.now)) }
+        ensures { (scope : Scope) → Suits (visible self.now.section.now self.now.function.now) scope →
+            OnOk result (lines.new ≡ with_lines lines.old
+            (stmt_lines (visible self.now.section.now self.now.function.now)
+            (called self.now.section.now.callees) scope self.now.function.now.result stmt.now)) }
     {
         self.note_kind(alloc, lines, &stmt.kind, stmt.line)
     }
@@ -74,7 +83,10 @@ impl Place<'_> {
         kind: &StmtKind,
         line: u32,
     ) -> Result<(), OutOfMemory>
-        ensures { (scope : Scope) → Suits (visible self.now.section.now self.now.function.now) scope → OnOk result (lines.new ≡ with_lines lines.old (lines_at (visible self.now.section.now self.now.function.now) (called self.now.section.now.callees) scope self.now.function.now.result kind.now line)) }
+        ensures { (scope : Scope) → Suits (visible self.now.section.now self.now.function.now) scope →
+            OnOk result (lines.new ≡ with_lines lines.old
+            (lines_at (visible self.now.section.now self.now.function.now)
+            (called self.now.section.now.callees) scope self.now.function.now.result kind.now line)) }
     {
         match kind {
             StmtKind::If {

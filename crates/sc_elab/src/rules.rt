@@ -29,7 +29,8 @@ impl Place<'_> {
     // Whether a value goes into a place of this type.
     #[tactic(auto, unfolding(crate::specs::Seen::value_in))]
     fn goes(&self, alloc: Global, ty: Ty, value: &ExprTree) -> Result<bool, OutOfMemory>
-        ensures { (scope : Scope) → Suits (visible self.now.section.now self.now.function.now) scope → IfOk result (λ goes. goes ≡ goes_in (visible self.now.section.now self.now.function.now) scope ty value.now) }
+        ensures { (scope : Scope) → Suits (visible self.now.section.now self.now.function.now) scope →
+            IfOk result (λ goes. goes ≡ goes_in (visible self.now.section.now self.now.function.now) scope ty value.now) }
     {
         let value = build_value(alloc, self.section, self.function, ty, value)?;
         value.judged.goes_into(ty)
@@ -42,7 +43,9 @@ impl Place<'_> {
         ty: Ty,
         init: &Option<ExprTree>,
     ) -> Result<bool, OutOfMemory>
-        ensures { (scope : Scope) → Suits (visible self.now.section.now self.now.function.now) scope → IfOk result (λ holds. holds ≡ init_goes (visible self.now.section.now self.now.function.now) scope ty init.now) }
+        ensures { (scope : Scope) → Suits (visible self.now.section.now self.now.function.now) scope →
+            IfOk result (λ holds. holds ≡ init_goes (visible self.now.section.now self.now.function.now) scope ty
+            init.now) }
     {
         match init {
             None => Ok(true),
@@ -53,7 +56,9 @@ impl Place<'_> {
     // Whether arguments go into parameters of these types (C11 6.5.2.2p2).
     #[tactic(auto, using(crate::proofs::Ruled::arguments))]
     fn all_go(&self, alloc: Global, params: &[Ty], args: &[ExprTree]) -> Result<bool, OutOfMemory>
-        ensures { (scope : Scope) → Suits (visible self.now.section.now self.now.function.now) scope → IfOk result (λ holds. holds ≡ all_go (goes_in (visible self.now.section.now self.now.function.now) scope) params.now args.now) }
+        ensures { (scope : Scope) → Suits (visible self.now.section.now self.now.function.now) scope →
+            IfOk result (λ holds. holds ≡ all_go (goes_in
+            (visible self.now.section.now self.now.function.now) scope) params.now args.now) }
     {
         if params.len() != args.len() {
             return Ok(false);
@@ -67,7 +72,9 @@ impl Place<'_> {
     }
 
     pub fn call_holds(&self, alloc: Global, call: &CallTree) -> Result<bool, OutOfMemory>
-        ensures { (scope : Scope) → Suits (visible self.now.section.now self.now.function.now) scope → IfOk result (λ holds. holds ≡ call_holds (visible self.now.section.now self.now.function.now) (called self.now.section.now.callees) scope self.now.function.now.result call.now) }
+        ensures { (scope : Scope) → Suits (visible self.now.section.now self.now.function.now) scope →
+            IfOk result (λ holds. holds ≡ call_holds (visible self.now.section.now self.now.function.now)
+            (called self.now.section.now.callees) scope self.now.function.now.result call.now) }
     {
         match self.section.callees.signature(&call.name.name()) {
             None => Ok(false),
@@ -87,7 +94,10 @@ impl Place<'_> {
 
     // Whether a call fits and its result goes into a place of this type.
     fn gives(&self, alloc: Global, call: &CallTree, ty: Ty) -> Result<bool, OutOfMemory>
-        ensures { (scope : Scope) → Suits (visible self.now.section.now self.now.function.now) scope → IfOk result (λ holds. holds ≡ (call_holds (visible self.now.section.now self.now.function.now) (called self.now.section.now.callees) scope self.now.function.now.result call.now && result_goes ((called self.now.section.now.callees).signature call.now.name) ty)) }
+        ensures { (scope : Scope) → Suits (visible self.now.section.now self.now.function.now) scope →
+            IfOk result (λ holds. holds ≡ (call_holds (visible self.now.section.now self.now.function.now)
+            (called self.now.section.now.callees) scope self.now.function.now.result call.now &&
+            result_goes ((called self.now.section.now.callees).signature call.now.name) ty)) }
     {
         let fits = self.call_holds(alloc, call)?;
         Ok(fits && self.result_goes(&call.name.name(), ty))
@@ -99,7 +109,9 @@ impl Place<'_> {
         place: &ExprTree,
         value: &ExprTree,
     ) -> Result<bool, OutOfMemory>
-        ensures { (scope : Scope) → Suits (visible self.now.section.now self.now.function.now) scope → IfOk result (λ holds. holds ≡ assign_holds (visible self.now.section.now self.now.function.now) (called self.now.section.now.callees) scope self.now.function.now.result place.now value.now) }
+        ensures { (scope : Scope) → Suits (visible self.now.section.now self.now.function.now) scope →
+            IfOk result (λ holds. holds ≡ assign_holds (visible self.now.section.now self.now.function.now)
+            (called self.now.section.now.callees) scope self.now.function.now.result place.now value.now) }
     {
         let place = build_expr(alloc, self.section, self.function, place)?;
         let goes = self.goes(alloc, place.expr.ty, value)?;
@@ -112,7 +124,9 @@ impl Place<'_> {
         place: &ExprTree,
         call: &CallTree,
     ) -> Result<bool, OutOfMemory>
-        ensures { (scope : Scope) → Suits (visible self.now.section.now self.now.function.now) scope → IfOk result (λ holds. holds ≡ assign_call_holds (visible self.now.section.now self.now.function.now) (called self.now.section.now.callees) scope self.now.function.now.result place.now call.now) }
+        ensures { (scope : Scope) → Suits (visible self.now.section.now self.now.function.now) scope →
+            IfOk result (λ holds. holds ≡ assign_call_holds (visible self.now.section.now self.now.function.now)
+            (called self.now.section.now.callees) scope self.now.function.now.result place.now call.now) }
     {
         let place = build_expr(alloc, self.section, self.function, place)?;
         let gives = self.gives(alloc, call, place.expr.ty)?;
@@ -121,7 +135,9 @@ impl Place<'_> {
 
     /// Whether this is a condition.
     pub fn cond_holds(&self, alloc: Global, cond: &ExprTree) -> Result<bool, OutOfMemory>
-        ensures { (scope : Scope) → Suits (visible self.now.section.now self.now.function.now) scope → IfOk result (λ holds. holds ≡ cond_holds (visible self.now.section.now self.now.function.now) (called self.now.section.now.callees) scope self.now.function.now.result cond.now) }
+        ensures { (scope : Scope) → Suits (visible self.now.section.now self.now.function.now) scope →
+            IfOk result (λ holds. holds ≡ cond_holds (visible self.now.section.now self.now.function.now)
+            (called self.now.section.now.callees) scope self.now.function.now.result cond.now) }
     {
         let cond = build_expr(alloc, self.section, self.function, cond)?;
         Ok(cond.judged.is_scalar())
@@ -129,7 +145,9 @@ impl Place<'_> {
 
     /// Whether a value may be returned (C11 6.8.6.4).
     pub fn return_value_holds(&self, alloc: Global, value: &ExprTree) -> Result<bool, OutOfMemory>
-        ensures { (scope : Scope) → Suits (visible self.now.section.now self.now.function.now) scope → IfOk result (λ holds. holds ≡ return_value_holds (visible self.now.section.now self.now.function.now) (called self.now.section.now.callees) scope self.now.function.now.result value.now) }
+        ensures { (scope : Scope) → Suits (visible self.now.section.now self.now.function.now) scope →
+            IfOk result (λ holds. holds ≡ return_value_holds (visible self.now.section.now self.now.function.now)
+            (called self.now.section.now.callees) scope self.now.function.now.result value.now) }
     {
         match self.function.result {
             None => Ok(false),
@@ -139,7 +157,10 @@ impl Place<'_> {
 
     /// Whether a call's result may be returned.
     pub fn return_call_holds(&self, alloc: Global, call: &CallTree) -> Result<bool, OutOfMemory>
-        ensures { (scope : Scope) → Suits (visible self.now.section.now self.now.function.now) scope → IfOk result (λ holds. holds ≡ return_call_holds (visible self.now.section.now self.now.function.now) (called self.now.section.now.callees) scope self.now.function.now.result self.now.function.now.result call.now) }
+        ensures { (scope : Scope) → Suits (visible self.now.section.now self.now.function.now) scope →
+            IfOk result (λ holds. holds ≡ return_call_holds (visible self.now.section.now self.now.function.now)
+            (called self.now.section.now.callees) scope self.now.function.now.result self.now.function.now.result
+            call.now) }
     {
         match self.function.result {
             None => Ok(false),
@@ -149,7 +170,9 @@ impl Place<'_> {
 
     /// Whether an assignment or a call keeps the rules.
     pub fn simple_holds(&self, alloc: Global, simple: &SimpleKind) -> Result<bool, OutOfMemory>
-        ensures { (scope : Scope) → Suits (visible self.now.section.now self.now.function.now) scope → IfOk result (λ holds. holds ≡ simple_holds (visible self.now.section.now self.now.function.now) (called self.now.section.now.callees) scope self.now.function.now.result simple.now) }
+        ensures { (scope : Scope) → Suits (visible self.now.section.now self.now.function.now) scope →
+            IfOk result (λ holds. holds ≡ simple_holds (visible self.now.section.now self.now.function.now)
+            (called self.now.section.now.callees) scope self.now.function.now.result simple.now) }
     {
         match simple {
             SimpleKind::Assign { place, value } => self.assign_holds(alloc, place.get(), value),

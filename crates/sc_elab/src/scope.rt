@@ -8,7 +8,8 @@ use crate::variables::{Found, Variables};
 use sc_base::{Name, NameList};
 use sc_core::Ty;
 
-/// What a section gives to the bodies of its functions: the tags of its structs, its structs and globals, and whom it calls.
+/// What a section gives to the bodies of its functions: the tags of its structs, its structs and globals, and whom it
+/// calls.
 #[derive(Drop)]
 pub struct SectionScope {
     pub tags: NameList,

@@ -48,7 +48,8 @@ pub fn build_scope(
     imports: &[Import],
 ) -> Result<SectionScope, OutOfMemory>
     ensures stands { IfOk result (λ scope. Stands scope section.now) }
-    ensures calls { IfOk result (λ scope. CallsIn (struct_names section.now.decls) section.now imports.now scope.callees) }
+    ensures calls { IfOk result (λ scope. CallsIn (struct_names section.now.decls) section.now imports.now
+        scope.callees) }
 {
     let tags = build_tags(alloc, section.decls.as_slice())?;
     let callees = build_callees(alloc, &tags, section, imports)?;
@@ -71,7 +72,8 @@ fn with_function(
     decl: &Decl,
 ) -> Result<TypedFunctions, OutOfMemory>
     requires { Stands scope.now section.now }
-    ensures { IfOk result (λ more. more ≡ functions ++ map (typed_function section.now (called scope.now.callees)) (functions_in (decl.now ∷ []))) }
+    ensures { IfOk result (λ more. more ≡ functions ++
+        map (typed_function section.now (called scope.now.callees)) (functions_in (decl.now ∷ []))) }
 {
     match decl {
         Decl::Function(tree) => {
@@ -89,7 +91,8 @@ fn build_functions(
     decls: &[Decl],
 ) -> Result<TypedFunctions, OutOfMemory>
     requires { Stands scope.now section.now }
-    ensures { IfOk result (λ functions. functions ≡ map (typed_function section.now (called scope.now.callees)) (functions_in decls.now)) }
+    ensures { IfOk result (λ functions. functions ≡ map (typed_function section.now (called scope.now.callees))
+        (functions_in decls.now)) }
 {
     let mut functions = Items::new(alloc);
     for decl in decls {
@@ -131,7 +134,9 @@ pub fn build_section(
     section: &SectionTree,
     imports: &[Import],
 ) -> Result<TypedSection, OutOfMemory>
-    ensures { (sections : List SectionTree) (number : ℕ) → imports.now ≡ map (import_of sections number) section.now.imports → IfOk result (λ built. built ≡ typed_section section.now (callees_of sections number section.now)) }
+    ensures { (sections : List SectionTree) (number : ℕ) →
+        imports.now ≡ map (import_of sections number) section.now.imports →
+        IfOk result (λ built. built ≡ typed_section section.now (callees_of sections number section.now)) }
 {
     let scope = build_scope(alloc, section, imports)?;
     section_over(alloc, scope, section)

@@ -50,7 +50,8 @@ pub fn build_value(
     value: &ExprTree,
 ) -> Result<Built, OutOfMemory>
     ensures expr { IfOk result (λ built. built.expr ≡ value_in section.now function.now place value.now) }
-    ensures judged { (scope : Scope) → Suits (visible section.now function.now) scope → IfOk result (λ built. built.judged ≡ judged scope built.expr) }
+    ensures judged { (scope : Scope) → Suits (visible section.now function.now) scope →
+        IfOk result (λ built. built.judged ≡ judged scope built.expr) }
 {
     let value = build_expr(alloc, section, function, value)?;
     going_to(place, value)
@@ -135,7 +136,8 @@ fn build_assign(
     value: &ExprTree,
 ) -> Result<(TypedPlace, TypedExpr), OutOfMemory>
     ensures place { IfOk result (λ built. built.0 ≡ expr_in section.now function.now place.now) }
-    ensures value { IfOk result (λ built. built.1 ≡ value_in section.now function.now (expr_in section.now function.now place.now).ty value.now) }
+    ensures value { IfOk result (λ built. built.1 ≡ value_in section.now function.now
+        (expr_in section.now function.now place.now).ty value.now) }
 {
     let place = build_place(alloc, section, function, place)?;
     let value = build_value(alloc, section, function, place.get().ty, value)?;
@@ -300,7 +302,8 @@ fn if_kind(
     then_part: TypedStmts,
     else_part: TypedStmts,
 ) -> Result<TypedStmtKind, OutOfMemory>
-    ensures { IfOk result (λ built. built ≡ TypedStmtKind.If (expr_in section.now function.now cond.now) then_part else_part) }
+    ensures { IfOk result (λ built. built ≡ TypedStmtKind.If
+        (expr_in section.now function.now cond.now) then_part else_part) }
 {
     let cond = build_expr(alloc, section, function, cond)?;
     Ok(TypedStmtKind::If {
@@ -337,7 +340,8 @@ fn for_kind(
     next: &Option<SimpleTree>,
     body: TypedStmts,
 ) -> Result<TypedStmtKind, OutOfMemory>
-    ensures { IfOk result (λ built. built ≡ TypedStmtKind.For (part_in section.now function.now first.now) (expr_in section.now function.now cond.now) (part_in section.now function.now next.now) body) }
+    ensures { IfOk result (λ built. built ≡ TypedStmtKind.For (part_in section.now function.now first.now)
+        (expr_in section.now function.now cond.now) (part_in section.now function.now next.now) body) }
 {
     let first = build_part(alloc, section, function, first)?;
     let cond = build_expr(alloc, section, function, cond)?;

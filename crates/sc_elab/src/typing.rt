@@ -40,7 +40,8 @@ fn least_in(
     least: Option<u32>,
     section: &SectionTree,
 ) -> Result<Option<u32>, OutOfMemory>
-    ensures { IfOk result (λ line. line ≡ noted_all least (map (line_of_text section.now.line) (section_lines section.now (callees_of [] 0 section.now)))) }
+    ensures { IfOk result (λ line. line ≡ noted_all least
+        (map (line_of_text section.now.line) (section_lines section.now (callees_of [] 0 section.now)))) }
 {
     let scope = build_scope(alloc, section, &[])?;
     let mut lines = BrokenLines {
@@ -60,7 +61,8 @@ fn note_decls(
     decls: &[Decl],
 ) -> Result<(), OutOfMemory>
     requires { Stands scope.now section.now }
-    ensures { OnOk result (lines.new ≡ with_lines lines.old (concat (map (decl_lines section.now (called scope.now.callees)) decls.now))) }
+    ensures { OnOk result (lines.new ≡ with_lines lines.old
+        (concat (map (decl_lines section.now (called scope.now.callees)) decls.now))) }
 {
     for decl in decls {
         note_decl(alloc, scope, section, lines, decl)?;
@@ -77,7 +79,8 @@ fn note_decl(
     decl: &Decl,
 ) -> Result<(), OutOfMemory>
     requires { Stands scope.now section.now }
-    ensures { OnOk result (lines.new ≡ with_lines lines.old (decl_lines section.now (called scope.now.callees) decl.now)) }
+    ensures { OnOk result (lines.new ≡ with_lines lines.old
+        (decl_lines section.now (called scope.now.callees) decl.now)) }
 {
     match decl {
         Decl::Struct(tree) => {
@@ -135,7 +138,10 @@ fn note_local(
     lines: &mut BrokenLines,
     local: &LocalTree,
 ) -> Result<(), OutOfMemory>
-    ensures { (around : Scope) → Suits (visible scope.now function.now) around → OnOk result (lines.new ≡ with_lines lines.old (unless (is_sized local.now.ty && init_goes (visible scope.now function.now) around (type_of scope.now.tags local.now.ty) local.now.init) local.now.line)) }
+    ensures { (around : Scope) → Suits (visible scope.now function.now) around →
+        OnOk result (lines.new ≡ with_lines lines.old
+        (unless (is_sized local.now.ty && init_goes (visible scope.now function.now) around
+        (type_of scope.now.tags local.now.ty) local.now.init) local.now.line)) }
 {
     let place = Place {
         section: scope,
@@ -157,7 +163,8 @@ fn note_locals(
 ) -> Result<FunctionScope, OutOfMemory>
     requires { Stands scope.now section.now }
     ensures stands { IfOk result (λ function. StandsIn section.now tree.now (length tree.now.locals) function) }
-    ensures lines { OnOk result (lines.new ≡ with_lines lines.old (locals_from section.now (called scope.now.callees) tree.now 0 tree.now.locals)) }
+    ensures lines { OnOk result (lines.new ≡ with_lines lines.old
+        (locals_from section.now (called scope.now.callees) tree.now 0 tree.now.locals)) }
 {
     let _ = section;
     let mut function = head_scope(alloc, scope, tree)?;
@@ -176,7 +183,8 @@ fn note_function(
     tree: &FunctionTree,
 ) -> Result<(), OutOfMemory>
     requires { Stands scope.now section.now }
-    ensures { OnOk result (lines.new ≡ with_lines lines.old (function_lines section.now (called scope.now.callees) tree.now)) }
+    ensures { OnOk result (lines.new ≡ with_lines lines.old
+        (function_lines section.now (called scope.now.callees) tree.now)) }
 {
     let function = note_locals(alloc, scope, section, lines, tree)?;
     let place = Place {

@@ -24,12 +24,14 @@ pub begins : (interfaces : Interfaces) (trace : List Event) → IsOpenAt interfa
 begins interfaces trace = record { at = _; come = refl; by = refl; left = refl }
 
 -- a function that awaits nothing else but this compartment is there
-resumes : (waiting : List Activation) (to : ℕ) → awaits waiting to ≡ true → (next : Standing) × (resumed waiting ≡ Some next)
+resumes : (waiting : List Activation) (to : ℕ) → awaits waiting to ≡ true →
+    (next : Standing) × (resumed waiting ≡ Some next)
 resumes [] to is = absurd (false≢true is)
 resumes (latest ∷ earlier) to is = (_, refl)
 
 -- the run goes on after each allowed event but its end
-goes_further : (interfaces : Interfaces) (at : Standing) (event : Event) → may_perform interfaces at event ≡ true → is_end event ≡ false →
+goes_further : (interfaces : Interfaces) (at : Standing) (event : Event) → may_perform interfaces at event ≡ true →
+    is_end event ≡ false →
     (next : Standing) × (stands_after at event ≡ Some next)
 goes_further interfaces at (Call from to index args) may open_end = (_, refl)
 goes_further interfaces at (Ret from to value) may open_end =
@@ -39,22 +41,29 @@ goes_further interfaces at (In comp value) may open_end = (at, refl)
 goes_further interfaces at (End comp value) may open_end = absurd (false≢true (sym open_end))
 
 module _ (interfaces : Interfaces) (trace : List Event) (pending : Option ℕ) (place : ℕ) (event : Event)
-    (is : IsOpenAt interfaces trace pending place) (within : place < length trace) (here : event ≡ get_or trace place event) where
+    (is : IsOpenAt interfaces trace pending place) (within : place < length trace)
+    (here : event ≡ get_or trace place event) where
   -- the verdict is that of this event and of the later ones
-  splits : legal interfaces trace ≡ (is_allowed interfaces is.at event && is_legal_from interfaces (stands_after is.at event) (drop (place + 1) trace))
+  splits : legal interfaces trace ≡ (is_allowed interfaces is.at event &&
+      is_legal_from interfaces (stands_after is.at event) (drop (place + 1) trace))
   splits =
       is.left ∙ ap (is_legal_from interfaces (Some is.at)) (drop_more trace place event within) ∙
       ap (λ e. is_legal_from interfaces (Some is.at) (e ∷ drop (place + 1) trace)) (sym here)
 
-  module _ (allowed : Bool) (says : (at : Standing) → StandsBy interfaces.main trace pending at → allowed ≡ is_allowed interfaces at event) where
+  module _ (allowed : Bool) (says : (at : Standing) → StandsBy interfaces.main trace pending at →
+      allowed ≡ is_allowed interfaces at event) where
     pub refused : allowed ≡ false → false ≡ legal interfaces trace
-    refused denied = sym (splits ∙ ap (λ b. b && is_legal_from interfaces (stands_after is.at event) (drop (place + 1) trace)) (sym (says is.at is.by) ∙ denied))
+    refused denied = sym (splits ∙ ap (λ b. b && is_legal_from interfaces (stands_after is.at event)
+        (drop (place + 1) trace)) (sym (says is.at is.by) ∙ denied))
 
-    passed : allowed ≡ true → legal interfaces trace ≡ is_legal_from interfaces (stands_after is.at event) (drop (place + 1) trace)
-    passed granted = splits ∙ ap (λ b. b && is_legal_from interfaces (stands_after is.at event) (drop (place + 1) trace)) (sym (says is.at is.by) ∙ granted)
+    passed : allowed ≡ true → legal interfaces trace ≡
+        is_legal_from interfaces (stands_after is.at event) (drop (place + 1) trace)
+    passed granted = splits ∙ ap (λ b. b && is_legal_from interfaces (stands_after is.at event)
+        (drop (place + 1) trace)) (sym (says is.at is.by) ∙ granted)
 
     -- nothing may follow the end
-    nothing_follows : (later : List Event) → drop (place + 1) trace ≡ later → (place + 1 == length trace) ≡ is_legal_from interfaces None later
+    nothing_follows : (later : List Event) → drop (place + 1) trace ≡ later →
+        (place + 1 == length trace) ≡ is_legal_from interfaces None later
     nothing_follows [] e =
         let count = length-drop (place + 1) trace in
         eq-eqb (place + 1) (length trace) (omega (arith, within, count, ap length e))
@@ -77,9 +86,11 @@ module _ (interfaces : Interfaces) (trace : List Event) (pending : Option ℕ) (
     pub goes_on : IfSome pending (λ call. call < length trace) → allowed ≡ true → is_end event ≡ false →
         IsOpenAt interfaces trace (open_after trace pending place event) (place + 1)
     goes_on earlier granted open_end =
-        let may = (and_parts (performer event == is.at.active.comp) (may_perform interfaces is.at event) (sym (says is.at is.by) ∙ granted)).1 in
+        let may = (and_parts (performer event == is.at.active.comp) (may_perform interfaces is.at event)
+        (sym (says is.at is.by) ∙ granted)).1 in
         let next = goes_further interfaces is.at event may open_end in
-        let there : slice_get trace place ≡ Some event = slice_get-get_or trace place event within ∙ ap (λ e. Some e) (sym here) in
+        let there : slice_get trace place ≡ Some event =
+        slice_get-get_or trace place event within ∙ ap (λ e. Some e) (sym here) in
         let count : place + 1 ≡ suc place = omega arith in
         record {
           at = next.0;
@@ -90,9 +101,12 @@ module _ (interfaces : Interfaces) (trace : List Event) (pending : Option ℕ) (
         }
 
 -- no event is left
-pub all_allowed : (interfaces : Interfaces) (trace : List Event) (pending : Option ℕ) → IsOpenAt interfaces trace pending (length trace) → true ≡ legal interfaces trace
-all_allowed interfaces trace pending is = sym (is.left ∙ nothing (drop (length trace) trace) (length-drop (length trace) trace))
+pub all_allowed : (interfaces : Interfaces) (trace : List Event) (pending : Option ℕ) →
+    IsOpenAt interfaces trace pending (length trace) → true ≡ legal interfaces trace
+all_allowed interfaces trace pending is = sym (is.left ∙
+    nothing (drop (length trace) trace) (length-drop (length trace) trace))
   where
-    nothing : (later : List Event) → length later ≡ length trace - length trace → is_legal_from interfaces (Some is.at) later ≡ true
+    nothing : (later : List Event) → length later ≡ length trace - length trace →
+        is_legal_from interfaces (Some is.at) later ≡ true
     nothing [] e = refl
     nothing (event ∷ later) e = absurd (omega (arith, e))

@@ -25,7 +25,11 @@ three = record {
   main = 0;
   comps =
       record { name = codes "Main"; exports = []; imports = Output ∷ Function 1 0 ∷ [] } ∷
-      record { name = codes "A"; exports = function (codes "f") ∷ function (codes "h") ∷ procedure (codes "k") ∷ []; imports = Function 2 0 ∷ [] } ∷
+      record {
+        name = codes "A";
+        exports = function (codes "f") ∷ function (codes "h") ∷ procedure (codes "k") ∷ [];
+        imports = Function 2 0 ∷ [];
+      } ∷
       record { name = codes "B"; exports = function (codes "g") ∷ []; imports = Function 1 1 ∷ Function 1 2 ∷ [] } ∷ [];
 }
 
@@ -72,7 +76,8 @@ too_few_arguments = refl
 result_missing : legal three (calls ++ Ret 1 2 None ∷ []) ≡ false
 result_missing = refl
 
-result_not_promised : legal three (Call 0 1 0 (2 ∷ []) ∷ Call 1 2 0 (5 ∷ []) ∷ Call 2 1 2 [] ∷ Ret 1 2 (Some 1) ∷ []) ≡ false
+result_not_promised : legal three (Call 0 1 0 (2 ∷ []) ∷ Call 1 2 0 (5 ∷ []) ∷ Call 2 1 2 [] ∷ Ret 1 2 (Some 1) ∷ []) ≡
+    false
 result_not_promised = refl
 
 returns_past_its_caller : legal three (calls ++ Ret 1 0 (Some 11) ∷ []) ≡ false

@@ -31,36 +31,46 @@ module _ (interfaces : Interfaces) where
   has_comp : (comp index : ℕ) → IsSome (export_at interfaces comp index) → IsComp comp
   has_comp comp index = of (comp_at interfaces comp)
     where
-      of : (found : Option Interface) → IsSome (option_and_then (λ found. slice_get found.exports index) found) → IsSome found
+      of : (found : Option Interface) → IsSome (option_and_then (λ found. slice_get found.exports index) found) →
+          IsSome found
       of None is = absurd (false≢true is)
       of (Some found) is = refl
 
-  awaited : (waiting : List Activation) (to : ℕ) → awaits waiting to ≡ true → AllByRecursion (λ a. IsComp a.comp) waiting → IsComp to
+  awaited : (waiting : List Activation) (to : ℕ) → awaits waiting to ≡ true →
+      AllByRecursion (λ a. IsComp a.comp) waiting → IsComp to
   awaited [] to is known = absurd (false≢true is)
   awaited (latest ∷ earlier) to is known = subst IsComp (eqb-true latest.comp to is) known.0
 
-  performed : (at : Standing) (event : Event) → may_perform interfaces at event ≡ true → IsAmong at → IsComp (performer event) → IsKnown interfaces event
+  performed : (at : Standing) (event : Event) → may_perform interfaces at event ≡ true → IsAmong at →
+      IsComp (performer event) → IsKnown interfaces event
   performed at (Call from to index args) may known mine =
-      let takes_it = (and_parts (imports interfaces from (is_function to index)) (takes interfaces to index (length args)) may).1 in
+      let takes_it = (and_parts (imports interfaces from (is_function to index))
+      (takes interfaces to index (length args)) may).1 in
       let export = there (export_at interfaces to index) (λ found. length found.params == length args) takes_it in
       (mine, has_comp to index export, export)
-  performed at (Ret from to value) may known mine =
-      (mine, awaited at.waiting to (and_parts (awaits at.waiting to) (may_return interfaces from at.active.entry value) may).0 known.waiting)
+  performed at (Ret from to value) may known mine = (
+    mine,
+    awaited at.waiting to (and_parts (awaits at.waiting to)
+        (may_return interfaces from at.active.entry value) may).0 known.waiting,
+  )
   performed at (Out comp value) may known mine = mine
   performed at (In comp value) may known mine = mine
   performed at (End comp value) may known mine = mine
 
-  known_of : (at : Standing) (event : Event) → is_allowed interfaces at event ≡ true → IsAmong at → IsKnown interfaces event
+  known_of : (at : Standing) (event : Event) → is_allowed interfaces at event ≡ true → IsAmong at →
+      IsKnown interfaces event
   known_of at event allowed known =
       let parts = and_parts (performer event == at.active.comp) (may_perform interfaces at event) allowed in
-      performed at event parts.1 known (subst IsComp (sym (eqb-true (performer event) at.active.comp parts.0)) known.active)
+      performed at event parts.1 known (subst IsComp (sym
+      (eqb-true (performer event) at.active.comp parts.0)) known.active)
 
   -- a run that goes on stands among the compartments
   abbrev StandsAmong : Option Standing → Type 0
   StandsAmong None = Unit {0}
   StandsAmong (Some at) = IsAmong at
 
-  among_after : (at : Standing) (event : Event) → IsKnown interfaces event → IsAmong at → StandsAmong (stands_after at event)
+  among_after : (at : Standing) (event : Event) → IsKnown interfaces event → IsAmong at →
+      StandsAmong (stands_after at event)
   among_after at (Call from to index args) is known = record { active = is.1; waiting = (known.active, known.waiting) }
   among_after at (Ret from to value) is known = resume at.waiting known.waiting
     where
@@ -71,14 +81,18 @@ module _ (interfaces : Interfaces) where
   among_after at (In comp value) is known = known
   among_after at (End comp value) is known = tt
 
-  all_known : (from : Option Standing) (trace : List Event) → StandsAmong from → is_legal_from interfaces from trace ≡ true → AllByRecursion (IsKnown interfaces) trace
+  all_known : (from : Option Standing) (trace : List Event) → StandsAmong from →
+      is_legal_from interfaces from trace ≡ true → AllByRecursion (IsKnown interfaces) trace
   all_known from [] known is = tt
   all_known None (event ∷ later) known is = absurd (false≢true is)
   all_known (Some at) (event ∷ later) known is =
-      let parts = and_parts (is_allowed interfaces at event) (is_legal_from interfaces (stands_after at event) later) is in
+      let parts = and_parts (is_allowed interfaces at event)
+      (is_legal_from interfaces (stands_after at event) later) is in
       let this = known_of at event parts.0 known in
       (this, all_known (stands_after at event) later (among_after at event this known) parts.1)
 
-  pub legal_is_known : (trace : List Event) → IsComp interfaces.main → legal interfaces trace ≡ true → All (IsKnown interfaces) trace
+  pub legal_is_known : (trace : List Event) → IsComp interfaces.main → legal interfaces trace ≡ true →
+      All (IsKnown interfaces) trace
   legal_is_known trace main is =
-      All-from_recursion (IsKnown interfaces) trace (all_known (at_start interfaces.main) trace (record { active = main; waiting = tt }) is)
+      All-from_recursion (IsKnown interfaces) trace (all_known (at_start interfaces.main) trace
+      (record { active = main; waiting = tt }) is)

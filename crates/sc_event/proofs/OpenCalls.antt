@@ -13,7 +13,8 @@ use Rattle.sc_event.specs.Standing.{Standing, at_start, resumed, stands_after, s
 same_count : (a b : ℕ) → ◌≡◌ {A = Option ℕ} (Some a) (Some b) → a ≡ b
 same_count a b e = ap (λ o. option_map_or (λ n. n) o a) e
 
-one_more : (trace : List Event) (n : ℕ) (event : Event) → slice_get trace n ≡ Some event → take (suc n) trace ≡ take n trace ++ event ∷ []
+one_more : (trace : List Event) (n : ℕ) (event : Event) → slice_get trace n ≡ Some event →
+    take (suc n) trace ≡ take n trace ++ event ∷ []
 one_more trace n event is =
     let count : suc n ≡ n + 1 = omega arith in
     ap (λ m. take m trace) count ∙ take_more trace n event (slice_get_within trace n event is) ∙
@@ -23,19 +24,24 @@ same_standing : (a b : Standing) → ◌≡◌ {A = Option Standing} (Some a) (S
 same_standing a b e = ap (λ o. option_map_or (λ s. s) o a) e
 
 behind_last : (from : Option Standing) (earlier : List Event) (event : Event) →
-    stands_behind from (earlier ++ event ∷ []) ≡ option_and_then (λ at. stands_after at event) (stands_behind from earlier)
+    stands_behind from (earlier ++ event ∷ []) ≡ option_and_then (λ at. stands_after at event)
+    (stands_behind from earlier)
 behind_last None [] event = refl
 behind_last (Some at) [] event = refl
 behind_last None (first ∷ earlier) event = refl
 behind_last (Some at) (first ∷ earlier) event = behind_last (stands_after at first) earlier event
 
-event_here : (trace : List Event) (place : ℕ) (event : Event) → place < length trace → event ≡ get_or trace place event → slice_get trace place ≡ Some event
+event_here : (trace : List Event) (place : ℕ) (event : Event) → place < length trace →
+    event ≡ get_or trace place event → slice_get trace place ≡ Some event
 event_here trace place event within is = slice_get-get_or trace place event within ∙ ap (λ e. Some e) (sym is)
 
 -- the search goes on before an event that is no open call
-pub goes_on : (trace : List Event) (left place returned before : ℕ) (event : Event) → left ≡ suc place → place < length trace →
-    event ≡ get_or trace place event → returned_before event returned ≡ Some before → open_call trace left returned ≡ open_call trace place before
-goes_on trace left place returned before event e within is found = rw (e, event_here trace place event within is, found) refl
+pub goes_on : (trace : List Event) (left place returned before : ℕ) (event : Event) → left ≡ suc place →
+    place < length trace →
+    event ≡ get_or trace place event → returned_before event returned ≡ Some before →
+    open_call trace left returned ≡ open_call trace place before
+goes_on trace left place returned before event e within is found =
+    rw (e, event_here trace place event within is, found) refl
 
 pub few : (event : Event) (returned before : ℕ) → returned_before event returned ≡ Some before → before ≤ suc returned
 few (Call from to index args) zero before is = absurd (none-some before is)
@@ -71,7 +77,8 @@ module _ (main : ℕ) (trace : List Event) where
   found_by count (Call from to index args) is again earlier was zero at then_at next up =
       (earlier, was, subst (λ o. HasEntered o earlier then_at) (sym is) (sym (same_standing _ _ (next ∙ up))))
   found_by count (Call from to index args) is again earlier was (suc returned) at then_at next up =
-      again returned earlier then_at was (subst (λ s. back (suc returned) s ≡ Some then_at) (sym (same_standing _ _ next)) up)
+      again returned earlier then_at was (subst (λ s. back (suc returned) s ≡ Some then_at)
+      (sym (same_standing _ _ next)) up)
   found_by count (Ret from to value) is again earlier was returned at then_at next up =
       again (suc returned) earlier then_at was (ap (option_and_then (back returned)) next ∙ up)
   found_by count (Out comp value) is again earlier was returned at then_at next up =
@@ -80,14 +87,17 @@ module _ (main : ℕ) (trace : List Event) where
       again returned earlier then_at was (subst (λ s. back returned s ≡ Some then_at) (sym (same_standing _ _ next)) up)
   found_by count (End comp value) is again earlier was returned at then_at next up = absurd (none-some at next)
 
-  found_next : (count : ℕ) (event : Event) → slice_get trace count ≡ Some event → Finds count → (was : Option Standing) → standing count ≡ was →
-      (returned : ℕ) (at then_at : Standing) → option_and_then (λ s. stands_after s event) was ≡ Some at → back returned at ≡ Some then_at →
+  found_next : (count : ℕ) (event : Event) → slice_get trace count ≡ Some event → Finds count →
+      (was : Option Standing) → standing count ≡ was →
+      (returned : ℕ) (at then_at : Standing) → option_and_then (λ s. stands_after s event) was ≡ Some at →
+      back returned at ≡ Some then_at →
       StandsBy main trace (here_or count (open_call trace count) (returned_before event returned)) then_at
   found_next count event is again None was returned at then_at next up = absurd (none-some at next)
   found_next count event is again (Some earlier) was returned at then_at next up =
       found_by count event is again earlier was returned at then_at next up
 
-  found_first : (returned : ℕ) (at then_at : Standing) → at_start main ≡ Some at → back returned at ≡ Some then_at → StandsBy main trace None then_at
+  found_first : (returned : ℕ) (at then_at : Standing) → at_start main ≡ Some at → back returned at ≡ Some then_at →
+      StandsBy main trace None then_at
   found_first zero at then_at is up = sym up ∙ sym is
   found_first (suc returned) at then_at is up =
       absurd (none-some then_at (subst (λ s. back (suc returned) s ≡ Some then_at) (sym (same_standing _ _ is)) up))
@@ -97,15 +107,18 @@ module _ (main : ℕ) (trace : List Event) where
   found (suc count) within = λ returned at then_at is up.
       let last = get_or trace count (End 0 0) in
       let here : slice_get trace count ≡ Some last = slice_get-get_or trace count (End 0 0) (omega (arith, within)) in
-      subst (λ o. StandsBy main trace (here_or count (open_call trace count) (option_map_or (λ event. returned_before event returned) o (Some returned))) then_at) (sym here)
-      (found_next count last here (found count (omega (arith, within))) (standing count) refl returned at then_at (sym (standing_next count last here) ∙ is) up)
+      subst (λ o. StandsBy main trace (here_or count (open_call trace count)
+      (option_map_or (λ event. returned_before event returned) o (Some returned))) then_at) (sym here)
+      (found_next count last here (found count (omega (arith, within))) (standing count) refl returned at then_at
+      (sym (standing_next count last here) ∙ is) up)
 
   -- where the run stands by an open call, the latest function that waits stands by the outer one
   module _ (call : ℕ) (at : Standing) (within : call < length trace) where
     caller : (earlier : Standing) → standing call ≡ Some earlier → StandsBy main trace (open_call trace call 0) earlier
     caller earlier was = found call (omega (arith, within)) 0 earlier earlier was refl
 
-    waits_by : (event : Option Event) (earlier : Standing) → HasEntered event earlier at → at.waiting ≡ earlier.active ∷ earlier.waiting
+    waits_by : (event : Option Event) (earlier : Standing) → HasEntered event earlier at →
+        at.waiting ≡ earlier.active ∷ earlier.waiting
     waits_by None earlier h = absurd h
     waits_by (Some (Call from to index args)) earlier h = ap (λ s. s.waiting) h
     waits_by (Some (Ret from to value)) earlier h = absurd h
@@ -114,24 +127,31 @@ module _ (main : ℕ) (trace : List Event) where
     waits_by (Some (End comp value)) earlier h = absurd h
 
     pub awaited : (comp to : ℕ) → StandsBy main trace (Some call) at →
-        ((earlier : Standing) → StandsBy main trace (open_call trace call 0) earlier → comp ≡ earlier.active.comp) → (comp == to) ≡ awaits at.waiting to
+        ((earlier : Standing) → StandsBy main trace (open_call trace call 0) earlier → comp ≡ earlier.active.comp) →
+        (comp == to) ≡ awaits at.waiting to
     awaited comp to by is =
-        ap (λ c. c == to) (is by.0 (caller by.0 by.1)) ∙ ap (λ ws. awaits ws to) (sym (waits_by (slice_get trace call) by.0 by.2))
+        ap (λ c. c == to) (is by.0 (caller by.0 by.1)) ∙
+        ap (λ ws. awaits ws to) (sym (waits_by (slice_get trace call) by.0 by.2))
 
-    pub outer_by : (next : Standing) → StandsBy main trace (Some call) at → resumed at.waiting ≡ Some next → StandsBy main trace (open_call trace call 0) next
+    pub outer_by : (next : Standing) → StandsBy main trace (Some call) at → resumed at.waiting ≡ Some next →
+        StandsBy main trace (open_call trace call 0) next
     outer_by next by e =
         let same : Some by.0 ≡ Some next = sym (ap resumed (waits_by (slice_get trace call) by.0 by.2)) ∙ e in
         subst (StandsBy main trace (open_call trace call 0)) (same_standing _ _ same) (caller by.0 by.1)
 
   -- the run stands by the open call after each event
-  pub after_by : (pending : Option ℕ) (place : ℕ) (event : Event) (at next : Standing) → IfSome pending (λ call. call < length trace) →
-      slice_get trace place ≡ Some event → standing place ≡ Some at → StandsBy main trace pending at → stands_after at event ≡ Some next →
+  pub after_by : (pending : Option ℕ) (place : ℕ) (event : Event) (at next : Standing) →
+      IfSome pending (λ call. call < length trace) →
+      slice_get trace place ≡ Some event → standing place ≡ Some at → StandsBy main trace pending at →
+      stands_after at event ≡ Some next →
       StandsBy main trace (open_after trace pending place event) next
   after_by pending place (Call from to index args) at next within is come by e =
       (at, come, subst (λ o. HasEntered o at next) (sym is) (sym (same_standing _ _ e)))
   after_by None place (Ret from to value) at next within is come by e =
       absurd (none-some next (subst (λ s. resumed s.waiting ≡ Some next) (same_standing _ _ by) e))
   after_by (Some call) place (Ret from to value) at next within is come by e = outer_by call at within next by e
-  after_by pending place (Out comp value) at next within is come by e = subst (StandsBy main trace pending) (same_standing _ _ e) by
-  after_by pending place (In comp value) at next within is come by e = subst (StandsBy main trace pending) (same_standing _ _ e) by
+  after_by pending place (Out comp value) at next within is come by e =
+      subst (StandsBy main trace pending) (same_standing _ _ e) by
+  after_by pending place (In comp value) at next within is come by e =
+      subst (StandsBy main trace pending) (same_standing _ _ e) by
   after_by pending place (End comp value) at next within is come by e = absurd (none-some next e)

@@ -16,10 +16,12 @@ module _ (comp : ℕ) (event : Event) (later : List Event) (at : Standing) (own 
   -- what is left of the rows behind so many
   abbrev IsNext : (number count : ℕ) → List Row → Type 0
   IsNext number count rows =
-      drop count rows ≡ row_of at (number + count) event ∷ rows_from comp (suc (number + count)) (stands_after at event) later
+      drop count rows ≡ row_of at (number + count) event ∷
+      rows_from comp (suc (number + count)) (stands_after at event) later
 
   -- one row more stands in front
-  one_before : (number count : ℕ) (row : Row) (rows : List Row) → IsNext (suc number) count rows → IsNext number (suc count) (row ∷ rows)
+  one_before : (number count : ℕ) (row : Row) (rows : List Row) → IsNext (suc number) count rows →
+      IsNext number (suc count) (row ∷ rows)
   one_before number count row rows is =
       let same : suc number + count ≡ number + suc count = omega arith in
       subst (λ n. drop count rows ≡ row_of at n event ∷ rows_from comp (suc n) (stands_after at event) later) same is
@@ -30,23 +32,33 @@ module _ (comp : ℕ) (event : Event) (later : List Event) (at : Standing) (own 
   behind number [] (Some s) e =
       let here : s ≡ at = ap (λ o. option_map_or (λ t. t) o s) e in
       let none : number ≡ number + 0 = omega arith in
-      ap (λ t. if performer event == comp then row_of t number event ∷ rows_from comp (suc number) (stands_after t event) later else rows_from comp number (stands_after t event) later) here ∙
-      ap (λ b. if b then row_of at number event ∷ rows_from comp (suc number) (stands_after at event) later else rows_from comp number (stands_after at event) later) own ∙
+      ap (λ t. if performer event == comp then row_of t number event ∷
+      rows_from comp (suc number) (stands_after t event) later else
+      rows_from comp number (stands_after t event) later) here ∙
+      ap (λ b. if b then row_of at number event ∷ rows_from comp (suc number) (stands_after at event) later else
+      rows_from comp number (stands_after at event) later) own ∙
       ap (λ n. row_of at n event ∷ rows_from comp (suc n) (stands_after at event) later) none
   behind number (first ∷ earlier) None e = absurd (none-some at e)
   behind number (first ∷ earlier) (Some s) e =
-      split (performer first == comp) (behind (suc number) earlier (stands_after s first) e) (behind number earlier (stands_after s first) e)
+      split (performer first == comp) (behind (suc number) earlier (stands_after s first) e)
+      (behind number earlier (stands_after s first) e)
     where
-      split : (mine : Bool) → IsNext (suc number) (count_of comp earlier) (rows_from comp (suc number) (stands_after s first) (earlier ++ event ∷ later)) →
-          IsNext number (count_of comp earlier) (rows_from comp number (stands_after s first) (earlier ++ event ∷ later)) →
-          IsNext number (length (cond mine (first ∷ filter (λ event. performer event == comp) earlier) (filter (λ event. performer event == comp) earlier)))
-          (if mine then row_of s number first ∷ rows_from comp (suc number) (stands_after s first) (earlier ++ event ∷ later)
+      split : (mine : Bool) → IsNext (suc number) (count_of comp earlier)
+          (rows_from comp (suc number) (stands_after s first) (earlier ++ event ∷ later)) →
+          IsNext number (count_of comp earlier) (rows_from comp number (stands_after s first)
+          (earlier ++ event ∷ later)) →
+          IsNext number (length (cond mine (first ∷ filter (λ event. performer event == comp) earlier)
+          (filter (λ event. performer event == comp) earlier)))
+          (if mine then row_of s number first ∷ rows_from comp (suc number) (stands_after s first)
+          (earlier ++ event ∷ later)
           else rows_from comp number (stands_after s first) (earlier ++ event ∷ later))
       split true with_it without =
-          one_before number (count_of comp earlier) (row_of s number first) (rows_from comp (suc number) (stands_after s first) (earlier ++ event ∷ later)) with_it
+          one_before number (count_of comp earlier) (row_of s number first)
+          (rows_from comp (suc number) (stands_after s first) (earlier ++ event ∷ later)) with_it
       split false with_it without = without
 
--- behind its own events so far, the rows of a compartment begin with its next event, and the function that is active there
+-- behind its own events so far, the rows of a compartment begin with its next event, and the function that is active
+-- there
 pub next_row : (main comp : ℕ) (earlier : List Event) (event : Event) (later : List Event) (at : Standing) →
     (performer event == comp) ≡ true → stands_behind (at_start main) earlier ≡ Some at →
     drop (count_of comp earlier) (part main comp (earlier ++ event ∷ later)) ≡

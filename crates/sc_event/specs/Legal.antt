@@ -35,7 +35,8 @@ imports interfaces comp is_it = list_any is_it (imports_of interfaces comp)
 
 -- the export takes so many arguments
 abbrev pub takes : Interfaces → (comp index count : ℕ) → Bool
-takes interfaces comp index count = option_map_or (λ found. length found.params == count) (export_at interfaces comp index) false
+takes interfaces comp index count = option_map_or (λ found. length found.params == count)
+    (export_at interfaces comp index) false
 
 -- a value is there exactly where a result is promised
 abbrev pub fits_result : Option Scalar → Option ℕ → Bool

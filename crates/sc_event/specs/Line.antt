@@ -27,7 +27,8 @@ line what names words = what ++ (spaced_names names ++ (spaced_words words ++ co
 
 abbrev pub event_line : Interfaces → Event → List ℕ
 event_line interfaces (Call from to index args) =
-    line (codes "call") (comp_name interfaces from ∷ comp_name interfaces to ∷ export_name interfaces to index ∷ []) args
+    line (codes "call") (comp_name interfaces from ∷ comp_name interfaces to ∷ export_name interfaces to index ∷
+    []) args
 event_line interfaces (Ret from to value) =
     line (codes "ret") (comp_name interfaces from ∷ comp_name interfaces to ∷ []) (option_to_list value)
 event_line interfaces (Out comp value) = line (codes "out") (comp_name interfaces comp ∷ []) (value ∷ [])

@@ -6,7 +6,8 @@ use Rattle.sc_event.specs.declared.event.Event.TheVariants.{Call, Ret, Out, In, 
 use Rattle.sc_event.specs.declared.row.Entry.TheVariants.{Export}
 use Rattle.sc_event.specs.Standing.{Standing, at_start, stands_behind}
 
--- so many calls have returned behind an event: how many have behind the event before it, `None` where the event is a call
+-- so many calls have returned behind an event: how many have behind the event before it, `None` where the event is a
+-- call
 -- that hasn't returned itself
 abbrev pub returned_before : Event → (returned : ℕ) → Option ℕ
 returned_before (Call from to index args) zero = None
@@ -24,7 +25,8 @@ here_or place earlier (Some returned) = earlier returned
 abbrev pub open_call : List Event → (count returned : ℕ) → Option ℕ
 open_call trace zero returned = None
 open_call trace (suc count) returned =
-    here_or count (open_call trace count) (option_map_or (λ event. returned_before event returned) (slice_get trace count) (Some returned))
+    here_or count (open_call trace count) (option_map_or (λ event. returned_before event returned)
+    (slice_get trace count) (Some returned))
 
 -- the call that was open when the open call was made
 abbrev pub outer : List Event → (open_at : Option ℕ) → Option ℕ
@@ -49,4 +51,5 @@ HasEntered _ earlier at = ⊥
 abbrev pub StandsBy : (main : ℕ) → List Event → Option ℕ → Standing → Type 0
 StandsBy main trace None at = Some at ≡ at_start main
 StandsBy main trace (Some call) at =
-    (earlier : Standing) × (stands_behind (at_start main) (take call trace) ≡ Some earlier) × HasEntered (slice_get trace call) earlier at
+    (earlier : Standing) × (stands_behind (at_start main) (take call trace) ≡ Some earlier) ×
+    HasEntered (slice_get trace call) earlier at

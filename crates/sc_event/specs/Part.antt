@@ -15,13 +15,15 @@ action_of (events.Out comp value) = Out value
 action_of (events.In comp value) = In value
 action_of (events.End comp value) = End value
 
--- the events of a compartment from where the run stands, numbered from `number` on, each with the function that is active there
+-- the events of a compartment from where the run stands, numbered from `number` on, each with the function that is
+-- active there
 abbrev pub rows_from : (comp number : ℕ) → Option Standing → List Event → List Row
 rows_from comp number at [] = []
 rows_from comp number None (event ∷ later) = []
 rows_from comp number (Some at) (event ∷ later) =
     if performer event == comp
-    then record { entry = at.active.entry; number = number; action = action_of event } ∷ rows_from comp (suc number) (stands_after at event) later
+    then record { entry = at.active.entry; number = number; action = action_of event } ∷
+    rows_from comp (suc number) (stands_after at event) later
     else rows_from comp number (stands_after at event) later
 
 -- all its events in the trace of a run that begins in `main`, numbered from 0

@@ -40,7 +40,8 @@ fn is_allowed(
     event: &Event,
 ) -> bool
     requires { IfSome pending (λ call. call < length events.now) }
-    ensures { (at : Standing) → StandsBy interfaces.now.main events.now pending at → result ≡ is_allowed interfaces.now at event.now }
+    ensures { (at : Standing) → StandsBy interfaces.now.main events.now pending at →
+        result ≡ is_allowed interfaces.now at event.now }
 {
     event.performer() == active_comp(interfaces.main, events, pending)
         && may_perform(interfaces, events, pending, event)
@@ -53,7 +54,8 @@ fn may_perform(
     event: &Event,
 ) -> bool
     requires { IfSome pending (λ call. call < length events.now) }
-    ensures { (at : Standing) → StandsBy interfaces.now.main events.now pending at → result ≡ may_perform interfaces.now at event.now }
+    ensures { (at : Standing) → StandsBy interfaces.now.main events.now pending at →
+        result ≡ may_perform interfaces.now at event.now }
 {
     match event {
         Event::Call {

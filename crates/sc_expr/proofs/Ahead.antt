@@ -85,30 +85,41 @@ pub record Ahead (level : ℕ) (ts : List Lexeme) (ext : Extension) (us : List L
   pub of : extension_of m ≡ Some ext
   pub low : extension_level ext ≤ level
 
-within_some : (level : ℕ) (us vs : List Lexeme) (ext : Extension) (o : Option Extension) → within level us o ≡ Some (ext, vs) → (o ≡ Some ext) × (us ≡ vs) × (extension_level ext ≤ level)
+within_some : (level : ℕ) (us vs : List Lexeme) (ext : Extension) (o : Option Extension) →
+    within level us o ≡ Some (ext, vs) → (o ≡ Some ext) × (us ≡ vs) × (extension_level ext ≤ level)
 within_some level us vs ext None h = absurd (none-some _ h)
 within_some level us vs ext (Some e) h =
     let c = cond_some (leb (extension_level e) level) (e, us) (ext, vs) h in
-    let same : e ≡ ext = ap (λ x. x.0) c.1 in
-    (ap (λ x. Some x) same, ap (λ x. x.1) c.1, subst (λ x. extension_level x ≤ level) same (leb-true (extension_level e) level c.0))
+    let same : e ≡ ext = ap (λ x. x.0) c.1 in (
+      ap (λ x. Some x) same,
+      ap (λ x. x.1) c.1,
+      subst (λ x. extension_level x ≤ level) same
+          (leb-true (extension_level e) level c.0),
+    )
 
-by_mark : (s : Symbol) (ext : Extension) → extension_by s ≡ Some ext → (m : Mark) × (s ≡ symbol.Mark m) × (extension_of m ≡ Some ext)
+by_mark : (s : Symbol) (ext : Extension) → extension_by s ≡ Some ext →
+    (m : Mark) × (s ≡ symbol.Mark m) × (extension_of m ≡ Some ext)
 by_mark (symbol.Mark m) ext h = (m, refl, h)
 by_mark _ ext h = absurd (none-some ext h)
 
-pub ahead : (level : ℕ) (ts us : List Lexeme) (ext : Extension) → extension_within level ts ≡ Some (ext, us) → Ahead level ts ext us
+pub ahead : (level : ℕ) (ts us : List Lexeme) (ext : Extension) → extension_within level ts ≡ Some (ext, us) →
+    Ahead level ts ext us
 ahead level [] us ext h = absurd (none-some _ h)
 ahead level (t ∷ ts) us ext h =
     let w = within_some level ts us ext (extension_by t.symbol) h in
     let b = by_mark t.symbol ext w.0 in
     record { first = t; m = b.0; split = ap (λ rest. t ∷ rest) w.1; is = b.1; of = b.2; low = w.2 }
 
-within_none : (level : ℕ) (us : List Lexeme) (ext : Extension) → within level us (Some ext) ≡ None → level < extension_level ext
+within_none : (level : ℕ) (us : List Lexeme) (ext : Extension) → within level us (Some ext) ≡ None →
+    level < extension_level ext
 within_none level us ext h =
-    ⊎_elim (λ more. more) (λ low. absurd (none-some _ (sym h ∙ ap (λ b. cond b (Some (ext, us)) None) (le-leb (extension_level ext) level low)))) (cases_lt level (extension_level ext))
+    ⊎_elim (λ more. more) (λ low. absurd (none-some _
+    (sym h ∙ ap (λ b. cond b (Some (ext, us)) None) (le-leb (extension_level ext) level low))))
+    (cases_lt level (extension_level ext))
 
 -- where nothing of a level goes on, what does is looser
-pub nothing_within : (level : ℕ) (ts : List Lexeme) → extension_within level ts ≡ None → (ext : Extension) → extension_at ts ≡ Some ext → level < extension_level ext
+pub nothing_within : (level : ℕ) (ts : List Lexeme) → extension_within level ts ≡ None → (ext : Extension) →
+    extension_at ts ≡ Some ext → level < extension_level ext
 nothing_within level [] h ext at = absurd (none-some ext at)
 nothing_within level (t ∷ ts) h ext at = within_none level ts ext (ap (λ o. within level ts o) (sym at) ∙ h)
 
@@ -129,7 +140,8 @@ named : (s : Symbol) (name : List ℕ) → name_by s ≡ Some name → s ≡ sym
 named (symbol.Ident other) name h = ap (λ x. symbol.Ident x) (same_some h)
 named _ name h = absurd (none-some name h)
 
-pub name_ahead : (ts us : List Lexeme) (name : List ℕ) → name_at ts ≡ Some (name, us) → (t : Lexeme) × (ts ≡ t ∷ us) × IsIdent name t
+pub name_ahead : (ts us : List Lexeme) (name : List ℕ) → name_at ts ≡ Some (name, us) →
+    (t : Lexeme) × (ts ≡ t ∷ us) × IsIdent name t
 name_ahead [] us name h = absurd (none-some _ h)
 name_ahead (t ∷ ts) us name h =
     let b = bound (λ x. Some (x, ts)) (name_by t.symbol) (name, us) h in
@@ -156,6 +168,7 @@ pub paren_lead : (s : Symbol) → lead_of s ≡ Some lead.Paren → s ≡ symbol
 paren_lead (symbol.Mark m) h = ap (λ x. symbol.Mark x) (paren_by m h)
 paren_lead _ h = absurd (none-some lead.Paren h)
 
-pub prefix_lead : (s : Symbol) (p : Prefix) → lead_of s ≡ Some (lead.Prefix p) → (m : Mark) × (s ≡ symbol.Mark m) × (prefix_of m ≡ Some p)
+pub prefix_lead : (s : Symbol) (p : Prefix) → lead_of s ≡ Some (lead.Prefix p) →
+    (m : Mark) × (s ≡ symbol.Mark m) × (prefix_of m ≡ Some p)
 prefix_lead (symbol.Mark m) p h = (m, refl, prefix_by m p h)
 prefix_lead _ p h = absurd (none-some (lead.Prefix p) h)

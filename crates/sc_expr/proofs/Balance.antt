@@ -49,7 +49,8 @@ no_prefix_bracket mark.CloseSquare p n h = absurd (none-some p h)
 no_prefix_bracket mark.CloseCurly p n h = absurd (none-some p h)
 no_prefix_bracket _ p n h = refl
 
-pub plain_binary : (t : Lexeme) (m : Mark) (op : BinaryOp) → t.symbol ≡ symbol.Mark m → binary_of m ≡ Some op → IsPlain t
+pub plain_binary : (t : Lexeme) (m : Mark) (op : BinaryOp) → t.symbol ≡ symbol.Mark m → binary_of m ≡ Some op →
+    IsPlain t
 plain_binary t m op is of n = says t (symbol.Mark m) is n ∙ no_binary_bracket m op n of
 
 pub plain_prefix : (t : Lexeme) (m : Mark) (p : Prefix) → t.symbol ≡ symbol.Mark m → prefix_of m ≡ Some p → IsPlain t
@@ -59,44 +60,59 @@ after_append : (n : ℕ) (ts us : List Lexeme) → count_after n (ts ++ us) ≡ 
 after_append n [] us = refl
 after_append n (t ∷ ts) us = after_append (open_after t.symbol n) ts us
 
-after_bracketed : (n : ℕ) (t u : Lexeme) (us : List Lexeme) → Opens t → Closes u → ((k : ℕ) → count_after k us ≡ k) → count_after n (t ∷ (us ++ u ∷ [])) ≡ n
+after_bracketed : (n : ℕ) (t u : Lexeme) (us : List Lexeme) → Opens t → Closes u → ((k : ℕ) → count_after k us ≡ k) →
+    count_after n (t ∷ (us ++ u ∷ [])) ≡ n
 after_bracketed n t u us opens closes even =
     let one_less : n + 1 - 1 ≡ n = omega arith in
-    ap (λ k. count_after k (us ++ u ∷ [])) (opens n) ∙ after_append (n + 1) us (u ∷ []) ∙ ap (λ k. open_after u.symbol k) (even (n + 1)) ∙ closes (n + 1) ∙ one_less
+    ap (λ k. count_after k (us ++ u ∷ [])) (opens n) ∙ after_append (n + 1) us (u ∷ []) ∙
+    ap (λ k. open_after u.symbol k) (even (n + 1)) ∙ closes (n + 1) ∙ one_less
 
-after_behind : (n : ℕ) (ts us : List Lexeme) → count_after n ts ≡ n → count_after n us ≡ n → count_after n (ts ++ us) ≡ n
+after_behind : (n : ℕ) (ts us : List Lexeme) → count_after n ts ≡ n → count_after n us ≡ n →
+    count_after n (ts ++ us) ≡ n
 after_behind n ts us even too = after_append n ts us ∙ ap (λ k. count_after k us) even ∙ too
 
 pub balanced : {level : ℕ} {ts : List Lexeme} {e : ExprTree} → Spells level ts e → (n : ℕ) → count_after n ts ≡ n
 balanced (literal t number is) n = says t (symbol.Integer number) is n
 balanced (variable t name is) n = says t (symbol.Ident name) is n
-balanced (parenthesised {ts = ts} t u o q d) n = after_bracketed n t u ts (says t (symbol.Mark mark.OpenParen) o) (says u (symbol.Mark mark.CloseParen) q) (balanced d)
-balanced (index {ts = ts} {us = us} t u o q d g) n = after_behind n ts (t ∷ (us ++ u ∷ [])) (balanced d n) (after_bracketed n t u us (says t (symbol.Mark mark.OpenSquare) o) (says u (symbol.Mark mark.CloseSquare) q) (balanced g))
-balanced (member {ts = ts} t u name o is d) n = after_behind n ts (t ∷ u ∷ []) (balanced d n) (ap (λ k. open_after u.symbol k) (says t (symbol.Mark mark.Dot) o n) ∙ says u (symbol.Ident name) is n)
-balanced (arrow {ts = ts} t u name o is d) n = after_behind n ts (t ∷ u ∷ []) (balanced d n) (ap (λ k. open_after u.symbol k) (says t (symbol.Mark mark.Arrow) o n) ∙ says u (symbol.Ident name) is n)
+balanced (parenthesised {ts = ts} t u o q d) n = after_bracketed n t u ts (says t (symbol.Mark mark.OpenParen) o)
+    (says u (symbol.Mark mark.CloseParen) q) (balanced d)
+balanced (index {ts = ts} {us = us} t u o q d g) n = after_behind n ts (t ∷ (us ++ u ∷ [])) (balanced d n)
+    (after_bracketed n t u us (says t (symbol.Mark mark.OpenSquare) o) (says u (symbol.Mark mark.CloseSquare) q)
+    (balanced g))
+balanced (member {ts = ts} t u name o is d) n = after_behind n ts (t ∷ u ∷ []) (balanced d n)
+    (ap (λ k. open_after u.symbol k) (says t (symbol.Mark mark.Dot) o n) ∙ says u (symbol.Ident name) is n)
+balanced (arrow {ts = ts} t u name o is d) n = after_behind n ts (t ∷ u ∷ []) (balanced d n)
+    (ap (λ k. open_after u.symbol k) (says t (symbol.Mark mark.Arrow) o n) ∙ says u (symbol.Ident name) is n)
 balanced («prefix» {ts = ts} t m p is of d) n = ap (λ k. count_after k ts) (plain_prefix t m p is of n) ∙ balanced d n
-balanced (joined {ts = ts} {us = us} t m op is of at d g) n = after_behind n ts (t ∷ us) (balanced d n) (ap (λ k. count_after k us) (plain_binary t m op is of n) ∙ balanced g n)
+balanced (joined {ts = ts} {us = us} t m op is of at d g) n =
+    after_behind n ts (t ∷ us) (balanced d n) (ap (λ k. count_after k us) (plain_binary t m op is of n) ∙ balanced g n)
 balanced (looser d) n = balanced d n
 
 pub open_low : (n : ℕ) (ts : List Lexeme) → n ≤ most_open n ts
 open_low n [] = omega arith
 open_low n (t ∷ ts) = omega arith
 
-most_append : (n : ℕ) (ts us : List Lexeme) → most_open n (ts ++ us) ≡ max (most_open n ts) (most_open (count_after n ts) us)
+most_append : (n : ℕ) (ts us : List Lexeme) → most_open n (ts ++ us) ≡
+    max (most_open n ts) (most_open (count_after n ts) us)
 most_append n [] us = let low = open_low n us in omega arith
 most_append n (t ∷ ts) us = let rest = most_append (open_after t.symbol n) ts us in omega arith
 
 -- the most behind an expression is that of the expression or of what follows
-pub most_behind : {level : ℕ} {ts : List Lexeme} {e : ExprTree} (n : ℕ) (us : List Lexeme) → Spells level ts e → most_open n (ts ++ us) ≡ max (most_open n ts) (most_open n us)
+pub most_behind : {level : ℕ} {ts : List Lexeme} {e : ExprTree} (n : ℕ) (us : List Lexeme) → Spells level ts e →
+    most_open n (ts ++ us) ≡ max (most_open n ts) (most_open n us)
 most_behind {ts = ts} n us d = most_append n ts us ∙ ap (λ k. max (most_open n ts) (most_open k us)) (balanced d n)
 
 -- the most in brackets is that inside them or of what follows
-pub most_bracketed : {level : ℕ} {us : List Lexeme} {e : ExprTree} (n : ℕ) (t u : Lexeme) (rest : List Lexeme) → Opens t → Closes u → Spells level us e → most_open n (t ∷ (us ++ u ∷ rest)) ≡ max (most_open (n + 1) us) (most_open n rest)
+pub most_bracketed : {level : ℕ} {us : List Lexeme} {e : ExprTree} (n : ℕ) (t u : Lexeme) (rest : List Lexeme) →
+    Opens t → Closes u → Spells level us e → most_open n (t ∷ (us ++ u ∷ rest)) ≡
+    max (most_open (n + 1) us) (most_open n rest)
 most_bracketed {us = us} n t u rest opens closes d =
-    let first : most_open (open_after t.symbol n) (us ++ u ∷ rest) ≡ most_open (n + 1) (us ++ u ∷ rest) = ap (λ k. most_open k (us ++ u ∷ rest)) (opens n) in
+    let first : most_open (open_after t.symbol n) (us ++ u ∷ rest) ≡ most_open (n + 1) (us ++ u ∷ rest) =
+    ap (λ k. most_open k (us ++ u ∷ rest)) (opens n) in
     let inside = most_behind (n + 1) (u ∷ rest) d in
     let one_less : n + 1 - 1 ≡ n = omega arith in
-    let last : most_open (open_after u.symbol (n + 1)) rest ≡ most_open n rest = ap (λ k. most_open k rest) (closes (n + 1) ∙ one_less) in
+    let last : most_open (open_after u.symbol (n + 1)) rest ≡ most_open n rest =
+    ap (λ k. most_open k rest) (closes (n + 1) ∙ one_less) in
     let low = open_low (n + 1) us in
     omega arith
 

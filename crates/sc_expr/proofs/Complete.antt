@@ -32,151 +32,227 @@ use Rattle.sc_expr.proofs.Steps.{read_goes, nested_at, turns_on, turns_end}
 abbrev pub Onward : ℕ → List Lexeme → Type 0
 Onward level rest = (ext : Extension) → extension_at rest ≡ Some ext → level ≤ extension_level ext
 
-quiet_by : (level : ℕ) (us : List Lexeme) (o : Option Extension) → ((ext : Extension) → o ≡ Some ext → level < extension_level ext) → within level us o ≡ None
+quiet_by : (level : ℕ) (us : List Lexeme) (o : Option Extension) →
+    ((ext : Extension) → o ≡ Some ext → level < extension_level ext) → within level us o ≡ None
 quiet_by level us None looser_all = refl
-quiet_by level us (Some ext) looser_all = ap (λ b. cond b (Some (ext, us)) None) (lt-leb (extension_level ext) level (looser_all ext refl))
+quiet_by level us (Some ext) looser_all = ap (λ b. cond b (Some (ext, us)) None)
+    (lt-leb (extension_level ext) level (looser_all ext refl))
 
 quiet : (level : ℕ) (rest : List Lexeme) → Onward (suc level) rest → extension_within level rest ≡ None
 quiet level [] may = refl
 quiet level (t ∷ ts) may = quiet_by level ts (extension_by t.symbol) (λ ext at. let more = may ext at in omega arith)
 
 -- a lexeme that no expression goes on with
-closing : (t : Lexeme) (rest : List Lexeme) (s : Symbol) (level : ℕ) → t.symbol ≡ s → extension_by s ≡ None → Onward level (t ∷ rest)
+closing : (t : Lexeme) (rest : List Lexeme) (s : Symbol) (level : ℕ) → t.symbol ≡ s → extension_by s ≡ None →
+    Onward level (t ∷ rest)
 closing t rest s level is none ext at = absurd (none-some ext (sym none ∙ ap (λ x. extension_by x) (sym is) ∙ at))
 
-next_within : (level : ℕ) (t : Lexeme) (us : List Lexeme) (m : Mark) (ext : Extension) → IsMark m t → extension_of m ≡ Some ext → extension_level ext ≤ level → extension_within level (t ∷ us) ≡ Some (ext, us)
+next_within : (level : ℕ) (t : Lexeme) (us : List Lexeme) (m : Mark) (ext : Extension) → IsMark m t →
+    extension_of m ≡ Some ext → extension_level ext ≤ level → extension_within level (t ∷ us) ≡ Some (ext, us)
 next_within level t us m ext is of low =
-    ap (λ s. within level us (extension_by s)) is ∙ ap (λ o. within level us o) of ∙ ap (λ b. cond b (Some (ext, us)) None) (le-leb (extension_level ext) level low)
+    ap (λ s. within level us (extension_by s)) is ∙ ap (λ o. within level us o) of ∙
+    ap (λ b. cond b (Some (ext, us)) None) (le-leb (extension_level ext) level low)
 
 prefix_leads : (m : Mark) (p : Prefix) → prefix_of m ≡ Some p → lead_by m ≡ Some (lead.Prefix p)
 prefix_leads mark.OpenParen p h = absurd (none-some p h)
 prefix_leads _ p h = ap (λ o. option_map (λ x. lead.Prefix x) o) h
 
 module _ (nested : ℕ → ℕ → Reader) (below : ℕ → Reader) (room : ℕ) where
-  operand_leaf : (t : Lexeme) (ts : List Lexeme) (s : Symbol) (e : ExprTree) → t.symbol ≡ s → lead_of s ≡ None → leaf_of s ≡ Some e → operand_with nested below room (t ∷ ts) ≡ Some (found e 1 ts)
+  operand_leaf : (t : Lexeme) (ts : List Lexeme) (s : Symbol) (e : ExprTree) → t.symbol ≡ s → lead_of s ≡ None →
+      leaf_of s ≡ Some e → operand_with nested below room (t ∷ ts) ≡ Some (found e 1 ts)
   unfolding operand_with
   operand_leaf t ts s e is none leaf = rw (is, none, leaf)
 
-  operand_paren : (t u : Lexeme) (us rest : List Lexeme) (e : ExprTree) (h : ℕ) → IsMark mark.OpenParen t → IsMark mark.CloseParen u → nested (room + 1) 11 us ≡ Some (found e h (u ∷ rest)) → operand_with nested below room (t ∷ us) ≡ Some (found e h rest)
+  operand_paren : (t u : Lexeme) (us rest : List Lexeme) (e : ExprTree) (h : ℕ) → IsMark mark.OpenParen t →
+      IsMark mark.CloseParen u → nested (room + 1) 11 us ≡ Some (found e h (u ∷ rest)) →
+      operand_with nested below room (t ∷ us) ≡ Some (found e h rest)
   unfolding operand_with
   operand_paren t u us rest e h is closes inner = rw (is, inner, closes)
 
-  operand_prefix : (t : Lexeme) (m : Mark) (p : Prefix) (us rest : List Lexeme) (e : ExprTree) (h : ℕ) → IsMark m t → prefix_of m ≡ Some p → below 1 us ≡ Some (found e h rest) → operand_with nested below room (t ∷ us) ≡ Some (found (prefixed p e) (h + 1) rest)
+  operand_prefix : (t : Lexeme) (m : Mark) (p : Prefix) (us rest : List Lexeme) (e : ExprTree) (h : ℕ) → IsMark m t →
+      prefix_of m ≡ Some p → below 1 us ≡ Some (found e h rest) →
+      operand_with nested below room (t ∷ us) ≡ Some (found (prefixed p e) (h + 1) rest)
   unfolding operand_with
   operand_prefix t m p us rest e h is of inner = let leads = prefix_leads m p of in rw (is, leads, inner)
 
-  extended_operator : (op : BinaryOp) (us rest : List Lexeme) (e f : ExprTree) (h k : ℕ) → h ≤ room → below (level_of op - 1) us ≡ Some (found f k rest) → extended_with nested below room e h (extension.Operator op) us ≡ Some (found (expr.Binary op e f) (max h k + 1) rest)
+  extended_operator : (op : BinaryOp) (us rest : List Lexeme) (e f : ExprTree) (h k : ℕ) → h ≤ room →
+      below (level_of op - 1) us ≡ Some (found f k rest) →
+      extended_with nested below room e h (extension.Operator op) us ≡
+      Some (found (expr.Binary op e f) (max h k + 1) rest)
   unfolding extended_with
   extended_operator op us rest e f h k low right = let fits = le-leb h room low in rw (fits, right)
 
-  extended_index : (u : Lexeme) (us rest : List Lexeme) (e f : ExprTree) (h k : ℕ) → h ≤ room → nested room 11 us ≡ Some (found f k (u ∷ rest)) → IsMark mark.CloseSquare u → extended_with nested below room e h extension.Index us ≡ Some (found (expr.Index e f) (max h k + 1) rest)
+  extended_index : (u : Lexeme) (us rest : List Lexeme) (e f : ExprTree) (h k : ℕ) → h ≤ room →
+      nested room 11 us ≡ Some (found f k (u ∷ rest)) → IsMark mark.CloseSquare u →
+      extended_with nested below room e h extension.Index us ≡ Some (found (expr.Index e f) (max h k + 1) rest)
   unfolding extended_with
   extended_index u us rest e f h k low inner closes = let fits = le-leb h room low in rw (fits, inner, closes)
 
-  extended_member : (u : Lexeme) (rest : List Lexeme) (e : ExprTree) (name : List ℕ) (h : ℕ) → h ≤ room → IsIdent name u → extended_with nested below room e h extension.Member (u ∷ rest) ≡ Some (found (expr.Member e name) (h + 1) rest)
+  extended_member : (u : Lexeme) (rest : List Lexeme) (e : ExprTree) (name : List ℕ) (h : ℕ) → h ≤ room →
+      IsIdent name u → extended_with nested below room e h extension.Member (u ∷ rest) ≡
+      Some (found (expr.Member e name) (h + 1) rest)
   unfolding extended_with
   extended_member u rest e name h low is = let fits = le-leb h room low in rw (fits, is)
 
-  extended_arrow : (u : Lexeme) (rest : List Lexeme) (e : ExprTree) (name : List ℕ) (h : ℕ) → h ≤ room → IsIdent name u → extended_with nested below room e h extension.Arrow (u ∷ rest) ≡ Some (found (expr.Arrow e name) (h + 1) rest)
+  extended_arrow : (u : Lexeme) (rest : List Lexeme) (e : ExprTree) (name : List ℕ) (h : ℕ) → h ≤ room →
+      IsIdent name u → extended_with nested below room e h extension.Arrow (u ∷ rest) ≡
+      Some (found (expr.Arrow e name) (h + 1) rest)
   unfolding extended_with
   extended_arrow u rest e name h low is = let fits = le-leb h room low in rw (fits, is)
 
 -- reading these lexemes comes to the expression, and to going on behind it in turns enough
 abbrev Arrives : ℕ → ℕ → ℕ → List Lexeme → ExprTree → List Lexeme → Type 0
 Arrives free room level all e rest =
-    (turns : ℕ) × (suc room < turns + expr_height e) × (read free (suc room) level all ≡ go_on (read_nested free) (read free room) room level turns (found e (expr_height e) rest))
+    (turns : ℕ) × (suc room < turns + expr_height e) ×
+    (read free (suc room) level all ≡ go_on (read_nested free) (read free room) room level turns
+    (found e (expr_height e) rest))
 
 -- Reading arrives at an expression of a level wherever that level or a looser one is read.
 abbrev pub GoesOn : ℕ → List Lexeme → ExprTree → Type 0
-GoesOn c ts e = (free room level n : ℕ) (rest : List Lexeme) → c ≤ level → expr_height e ≤ suc room → most_open n ts ≤ n + free → Onward c rest → Arrives free room level (ts ++ rest) e rest
+GoesOn c ts e = (free room level n : ℕ) (rest : List Lexeme) → c ≤ level → expr_height e ≤ suc room →
+    most_open n ts ≤ n + free → Onward c rest → Arrives free room level (ts ++ rest) e rest
 
 -- Reading takes an expression and ends behind it, where nothing of the level goes on.
 abbrev pub Takes : ℕ → List Lexeme → ExprTree → Type 0
-Takes c ts e = (free room level n : ℕ) (rest : List Lexeme) → c ≤ level → expr_height e ≤ room → most_open n ts ≤ n + free → Onward (suc level) rest → read free room level (ts ++ rest) ≡ Some (found e (expr_height e) rest)
+Takes c ts e = (free room level n : ℕ) (rest : List Lexeme) → c ≤ level → expr_height e ≤ room →
+    most_open n ts ≤ n + free → Onward (suc level) rest →
+    read free room level (ts ++ rest) ≡ Some (found e (expr_height e) rest)
 
 pub takes : (c : ℕ) (ts : List Lexeme) (e : ExprTree) → 1 ≤ expr_height e → GoesOn c ts e → Takes c ts e
 takes c ts e some on free zero level n rest inside low few may = absurd (omega arith)
 takes c ts e some on free (suc room) level n rest inside low few may =
     let g = on free room level n rest inside low few (λ ext at. let more = may ext at in omega arith) in
     let enough = g.1 in
-    g.2 ∙ turns_end (read_nested free) (read free room) room level g.0 (found e (expr_height e) rest) (omega arith) (quiet level rest may)
+    g.2 ∙ turns_end (read_nested free) (read free room) room level g.0 (found e (expr_height e) rest) (omega arith)
+    (quiet level rest may)
 
-from_operand : (free room level : ℕ) (ts : List Lexeme) (e : ExprTree) (h : ℕ) (rest : List Lexeme) → h ≡ expr_height e → 1 ≤ h → operand_with (read_nested free) (read free room) room ts ≡ Some (found e h rest) → Arrives free room level ts e rest
+from_operand : (free room level : ℕ) (ts : List Lexeme) (e : ExprTree) (h : ℕ) (rest : List Lexeme) →
+    h ≡ expr_height e → 1 ≤ h → operand_with (read_nested free) (read free room) room ts ≡ Some (found e h rest) →
+    Arrives free room level ts e rest
 from_operand free room level ts e h rest same some operand =
-    let next : suc room ≡ room + 1 = omega arith in
-    (suc room, omega arith, read_goes free (suc room) room level (suc room) ts (found e h rest) next refl operand ∙ ap (λ k. go_on (read_nested free) (read free room) room level (suc room) (found e k rest)) same)
+    let next : suc room ≡ room + 1 = omega arith in (
+      suc room,
+      omega arith,
+      read_goes free (suc room) room level (suc room) ts (found e h rest) next refl operand ∙
+          ap (λ k. go_on (read_nested free) (read free room) room level (suc room) (found e k rest)) same,
+    )
 
 -- one turn more, to an expression that is higher
-from_turn : (free room level : ℕ) (all ts us rest : List Lexeme) (e f : ExprTree) (ext : Extension) (h : ℕ) → Arrives free room level all e us → extension_within level us ≡ Some (ext, ts) → expr_height e ≤ room → expr_height e < expr_height f → h ≡ expr_height f → extended_with (read_nested free) (read free room) room e (expr_height e) ext ts ≡ Some (found f h rest) → Arrives free room level all f rest
+from_turn : (free room level : ℕ) (all ts us rest : List Lexeme) (e f : ExprTree) (ext : Extension) (h : ℕ) →
+    Arrives free room level all e us → extension_within level us ≡ Some (ext, ts) → expr_height e ≤ room →
+    expr_height e < expr_height f → h ≡ expr_height f →
+    extended_with (read_nested free) (read free room) room e (expr_height e) ext ts ≡ Some (found f h rest) →
+    Arrives free room level all f rest
 from_turn free room level all ts us rest e f ext h g next low more same grows =
     let enough = g.1 in
-    let one : g.0 ≡ g.0 - 1 + 1 = omega arith in
-    (g.0 - 1, omega arith, g.2 ∙ turns_on (read_nested free) (read free room) room level g.0 (g.0 - 1) (found e (expr_height e) us) (found f h rest) ext ts one next grows ∙ ap (λ k. go_on (read_nested free) (read free room) room level (g.0 - 1) (found f k rest)) same)
+    let one : g.0 ≡ g.0 - 1 + 1 = omega arith in (
+      g.0 - 1,
+      omega arith,
+      g.2 ∙ turns_on (read_nested free) (read free room) room level g.0 (g.0 - 1)
+          (found e (expr_height e) us) (found f h rest) ext ts one next grows ∙
+          ap (λ k. go_on (read_nested free) (read free room) room level (g.0 - 1) (found f k rest)) same,
+    )
 
 -- the lexemes behind a closing bracket, one behind another
 inside_of : (us rest : List Lexeme) (u : Lexeme) → us ++ u ∷ [] ++ rest ≡ us ++ (u ∷ rest)
 inside_of us rest u = append_assoc us (u ∷ []) rest
 
 -- behind a part, brackets and what they hold
-with_brackets : (ts us rest : List Lexeme) (t u : Lexeme) → ts ++ (t ∷ (us ++ u ∷ [])) ++ rest ≡ ts ++ (t ∷ (us ++ (u ∷ rest)))
+with_brackets : (ts us rest : List Lexeme) (t u : Lexeme) →
+    ts ++ (t ∷ (us ++ u ∷ [])) ++ rest ≡ ts ++ (t ∷ (us ++ (u ∷ rest)))
 with_brackets ts us rest t u = append_assoc ts (t ∷ (us ++ u ∷ [])) rest ∙ ap (λ k. ts ++ (t ∷ k)) (inside_of us rest u)
 
 -- Reading arrives at all that is spelled.
 pub goes : {c : ℕ} {ts : List Lexeme} {e : ExprTree} (d : Spells c ts e) → GoesOn c ts e
 goes (literal t number is) = λ free room level n rest inside low few may.
-    from_operand free room level (t ∷ rest) (expr.Literal number) 1 rest (sym (literal_height number)) (omega arith) (operand_leaf (read_nested free) (read free room) room t rest (symbol.Integer number) (expr.Literal number) is refl refl)
+    from_operand free room level (t ∷ rest) (expr.Literal number) 1 rest (sym (literal_height number)) (omega arith)
+    (operand_leaf (read_nested free) (read free room) room t rest (symbol.Integer number)
+    (expr.Literal number) is refl refl)
 goes (variable t name is) = λ free room level n rest inside low few may.
-    from_operand free room level (t ∷ rest) (expr.Variable name) 1 rest (sym (variable_height name)) (omega arith) (operand_leaf (read_nested free) (read free room) room t rest (symbol.Ident name) (expr.Variable name) is refl refl)
+    from_operand free room level (t ∷ rest) (expr.Variable name) 1 rest (sym (variable_height name)) (omega arith)
+    (operand_leaf (read_nested free) (read free room) room t rest (symbol.Ident name)
+    (expr.Variable name) is refl refl)
 goes (parenthesised {ts = ts} {e = e} t u is closes d) = λ free room level n rest inside low few may.
-    let most = most_bracketed n t u [] (says t (symbol.Mark mark.OpenParen) is) (says u (symbol.Mark mark.CloseParen) closes) d in
+    let most = most_bracketed n t u [] (says t (symbol.Mark mark.OpenParen) is)
+    (says u (symbol.Mark mark.CloseParen) closes) d in
     let opened = open_low (n + 1) ts in
     let fewer : free ≡ free - 1 + 1 = omega arith in
-    let inner = takes 11 ts e (positive d) (goes d) (free - 1) (room + 1) 11 (n + 1) (u ∷ rest) (omega arith) (omega arith) (omega arith) (closing u rest (symbol.Mark mark.CloseParen) 12 closes refl) in
+    let inner = takes 11 ts e (positive d) (goes d) (free - 1) (room + 1) 11 (n + 1) (u ∷ rest) (omega arith)
+    (omega arith) (omega arith) (closing u rest (symbol.Mark mark.CloseParen) 12 closes refl) in
     let nested = nested_at free (free - 1) (room + 1) 11 (ts ++ (u ∷ rest)) fewer ∙ inner in
-    let operand = operand_paren (read_nested free) (read free room) room t u (ts ++ (u ∷ rest)) rest e (expr_height e) is closes nested in
-    subst (λ k. Arrives free room level (t ∷ k) e rest) (sym (inside_of ts rest u)) (from_operand free room level (t ∷ (ts ++ (u ∷ rest))) e (expr_height e) rest refl (positive d) operand)
+    let operand = operand_paren (read_nested free) (read free room) room t u (ts ++ (u ∷ rest)) rest e
+    (expr_height e) is closes nested in
+    subst (λ k. Arrives free room level (t ∷ k) e rest) (sym (inside_of ts rest u))
+    (from_operand free room level (t ∷ (ts ++ (u ∷ rest))) e (expr_height e) rest refl (positive d) operand)
 goes (index {ts = ts} {us = us} {e = e} {f = f} t u is closes d g) = λ free room level n rest inside low few may.
     let height = index_height e f in
     let most = most_behind n (t ∷ (us ++ u ∷ [])) d in
-    let most_inside = most_bracketed n t u [] (says t (symbol.Mark mark.OpenSquare) is) (says u (symbol.Mark mark.CloseSquare) closes) g in
+    let most_inside = most_bracketed n t u [] (says t (symbol.Mark mark.OpenSquare) is)
+    (says u (symbol.Mark mark.CloseSquare) closes) g in
     let opened = open_low (n + 1) us in
     let fewer : free ≡ free - 1 + 1 = omega arith in
-    let base = goes d free room level n (t ∷ (us ++ (u ∷ rest))) (omega arith) (omega arith) (omega arith) (λ ext at. omega arith) in
-    let inner = takes 11 us f (positive g) (goes g) (free - 1) room 11 (n + 1) (u ∷ rest) (omega arith) (omega arith) (omega arith) (closing u rest (symbol.Mark mark.CloseSquare) 12 closes refl) in
+    let base = goes d free room level n (t ∷ (us ++ (u ∷ rest))) (omega arith) (omega arith) (omega arith)
+    (λ ext at. omega arith) in
+    let inner = takes 11 us f (positive g) (goes g) (free - 1) room 11 (n + 1) (u ∷ rest) (omega arith) (omega arith)
+    (omega arith) (closing u rest (symbol.Mark mark.CloseSquare) 12 closes refl) in
     let nested = nested_at free (free - 1) room 11 (us ++ (u ∷ rest)) fewer ∙ inner in
-    let grows = extended_index (read_nested free) (read free room) room u (us ++ (u ∷ rest)) rest e f (expr_height e) (expr_height f) (omega arith) nested closes in
+    let grows = extended_index (read_nested free) (read free room) room u (us ++ (u ∷ rest)) rest e f (expr_height e)
+    (expr_height f) (omega arith) nested closes in
     subst (λ k. Arrives free room level k (expr.Index e f) rest) (sym (with_brackets ts us rest t u))
-    (from_turn free room level (ts ++ (t ∷ (us ++ (u ∷ rest)))) (us ++ (u ∷ rest)) (t ∷ (us ++ (u ∷ rest))) rest e (expr.Index e f) extension.Index (max (expr_height e) (expr_height f) + 1) base (next_within level t (us ++ (u ∷ rest)) mark.OpenSquare extension.Index is refl (omega arith)) (omega arith) (omega arith) (sym height) grows)
+    (from_turn free room level (ts ++ (t ∷ (us ++ (u ∷ rest)))) (us ++ (u ∷ rest)) (t ∷ (us ++ (u ∷ rest))) rest e
+    (expr.Index e f) extension.Index (max (expr_height e) (expr_height f) + 1) base
+    (next_within level t (us ++ (u ∷ rest)) mark.OpenSquare extension.Index is refl (omega arith)) (omega arith)
+    (omega arith) (sym height) grows)
 goes (member {ts = ts} {e = e} t u name dot is d) = λ free room level n rest inside low few may.
     let height = member_height e name in
     let most = most_behind n (t ∷ u ∷ []) d in
-    let base = goes d free room level n (t ∷ u ∷ rest) (omega arith) (omega arith) (omega arith) (λ ext at. omega arith) in
-    let grows = extended_member (read_nested free) (read free room) room u rest e name (expr_height e) (omega arith) is in
+    let base = goes d free room level n (t ∷ u ∷ rest) (omega arith) (omega arith) (omega arith)
+    (λ ext at. omega arith) in
+    let grows = extended_member (read_nested free) (read free room) room u rest e name (expr_height e)
+    (omega arith) is in
     subst (λ k. Arrives free room level k (expr.Member e name) rest) (sym (append_assoc ts (t ∷ u ∷ []) rest))
-    (from_turn free room level (ts ++ (t ∷ u ∷ rest)) (u ∷ rest) (t ∷ u ∷ rest) rest e (expr.Member e name) extension.Member (expr_height e + 1) base (next_within level t (u ∷ rest) mark.Dot extension.Member dot refl (omega arith)) (omega arith) (omega arith) (sym height) grows)
+    (from_turn free room level (ts ++ (t ∷ u ∷ rest)) (u ∷ rest) (t ∷ u ∷ rest) rest e
+    (expr.Member e name) extension.Member (expr_height e + 1) base
+    (next_within level t (u ∷ rest) mark.Dot extension.Member dot refl (omega arith)) (omega arith) (omega arith)
+    (sym height) grows)
 goes (arrow {ts = ts} {e = e} t u name points is d) = λ free room level n rest inside low few may.
     let height = arrow_height e name in
     let most = most_behind n (t ∷ u ∷ []) d in
-    let base = goes d free room level n (t ∷ u ∷ rest) (omega arith) (omega arith) (omega arith) (λ ext at. omega arith) in
-    let grows = extended_arrow (read_nested free) (read free room) room u rest e name (expr_height e) (omega arith) is in
+    let base = goes d free room level n (t ∷ u ∷ rest) (omega arith) (omega arith) (omega arith)
+    (λ ext at. omega arith) in
+    let grows = extended_arrow (read_nested free) (read free room) room u rest e name (expr_height e)
+    (omega arith) is in
     subst (λ k. Arrives free room level k (expr.Arrow e name) rest) (sym (append_assoc ts (t ∷ u ∷ []) rest))
-    (from_turn free room level (ts ++ (t ∷ u ∷ rest)) (u ∷ rest) (t ∷ u ∷ rest) rest e (expr.Arrow e name) extension.Arrow (expr_height e + 1) base (next_within level t (u ∷ rest) mark.Arrow extension.Arrow points refl (omega arith)) (omega arith) (omega arith) (sym height) grows)
+    (from_turn free room level (ts ++ (t ∷ u ∷ rest)) (u ∷ rest) (t ∷ u ∷ rest) rest e
+    (expr.Arrow e name) extension.Arrow (expr_height e + 1) base
+    (next_within level t (u ∷ rest) mark.Arrow extension.Arrow points refl (omega arith)) (omega arith)
+    (omega arith) (sym height) grows)
 goes («prefix» {ts = ts} {e = e} t m p is of d) = λ free room level n rest inside low few may.
     let height = prefixed_height p e in
     let most = most_plain n t ts (plain_prefix t m p is of) in
-    let inner = takes 1 ts e (positive d) (goes d) free room 1 n rest (omega arith) (omega arith) (omega arith) (λ ext at. no_unary ext (may ext at)) in
-    from_operand free room level (t ∷ (ts ++ rest)) (prefixed p e) (expr_height e + 1) rest (sym height) (omega arith) (operand_prefix (read_nested free) (read free room) room t m p (ts ++ rest) rest e (expr_height e) is of inner)
-goes (joined {level = tight} {ts = ts} {us = us} {e = e} {f = f} t m op is of at d g) = λ free room level n rest inside low few may.
+    let inner = takes 1 ts e (positive d) (goes d) free room 1 n rest (omega arith) (omega arith) (omega arith)
+    (λ ext at. no_unary ext (may ext at)) in
+    from_operand free room level (t ∷ (ts ++ rest)) (prefixed p e) (expr_height e + 1) rest (sym height) (omega arith)
+    (operand_prefix (read_nested free) (read free room) room t m p (ts ++ rest) rest e (expr_height e) is of inner)
+goes (joined {level = tight} {ts = ts} {us = us} {e = e} {f = f} t m op is of at d g) =
+    λ free room level n rest inside low few may.
     let height = joined_height op e f in
     let most = most_behind n (t ∷ us) d in
     let most_right = most_plain n t us (plain_binary t m op is of) in
-    let next : extension_at (t ∷ (us ++ rest)) ≡ Some (extension.Operator op) = ap (λ s. extension_by s) is ∙ mark_operator m op of in
-    let base = goes d free room level n (t ∷ (us ++ rest)) inside (omega arith) (omega arith) (λ ext there. subst (λ x. suc tight ≤ extension_level x) (same_some (sym next ∙ there)) (omega arith)) in
-    let right = takes tight us f (positive g) (goes g) free room tight n rest (omega arith) (omega arith) (omega arith) may in
+    let next : extension_at (t ∷ (us ++ rest)) ≡ Some (extension.Operator op) =
+    ap (λ s. extension_by s) is ∙ mark_operator m op of in
+    let base = goes d free room level n (t ∷ (us ++ rest)) inside (omega arith) (omega arith)
+    (λ ext there. subst (λ x. suc tight ≤ extension_level x) (same_some (sym next ∙ there)) (omega arith)) in
+    let right = takes tight us f (positive g) (goes g) free room tight n rest (omega arith) (omega arith)
+    (omega arith) may in
     let less : level_of op - 1 ≡ tight = omega arith in
-    let grows = extended_operator (read_nested free) (read free room) room op (us ++ rest) rest e f (expr_height e) (expr_height f) (omega arith) (ap (λ k. read free room k (us ++ rest)) less ∙ right) in
+    let grows = extended_operator (read_nested free) (read free room) room op (us ++ rest) rest e f (expr_height e)
+    (expr_height f) (omega arith) (ap (λ k. read free room k (us ++ rest)) less ∙ right) in
     subst (λ k. Arrives free room level k (expr.Binary op e f) rest) (sym (append_assoc ts (t ∷ us) rest))
-    (from_turn free room level (ts ++ (t ∷ (us ++ rest))) (us ++ rest) (t ∷ (us ++ rest)) rest e (expr.Binary op e f) (extension.Operator op) (max (expr_height e) (expr_height f) + 1) base (next_within level t (us ++ rest) m (extension.Operator op) is (mark_operator m op of) (omega arith)) (omega arith) (omega arith) (sym height) grows)
+    (from_turn free room level (ts ++ (t ∷ (us ++ rest))) (us ++ rest) (t ∷ (us ++ rest)) rest e (expr.Binary op e f)
+    (extension.Operator op) (max (expr_height e) (expr_height f) + 1) base
+    (next_within level t (us ++ rest) m (extension.Operator op) is (mark_operator m op of) (omega arith))
+    (omega arith) (omega arith) (sym height) grows)
 goes (looser d) = λ free room level n rest inside low few may.
     goes d free room level n rest (omega arith) low few (λ ext at. let more = may ext at in omega arith)
 

@@ -22,7 +22,8 @@ prefixed_height (prefix.Operator op) e = search (rules, the_lemmas)
 prefixed_height prefix.Dereference e = search (rules, the_lemmas)
 prefixed_height prefix.Address e = search (rules, the_lemmas)
 
-pub joined_height : (op : BinaryOp) (e f : ExprTree) → expr_height (expr.Binary op e f) ≡ max (expr_height e) (expr_height f) + 1
+pub joined_height : (op : BinaryOp) (e f : ExprTree) →
+    expr_height (expr.Binary op e f) ≡ max (expr_height e) (expr_height f) + 1
 joined_height op e f = search (rules, the_lemmas)
 
 pub index_height : (e f : ExprTree) → expr_height (expr.Index e f) ≡ max (expr_height e) (expr_height f) + 1

@@ -11,7 +11,8 @@ pub same_some : {A : Type 0} {x y : A} → Some x ≡ Some y → x ≡ y
 same_some {x = x} h = ap (out x) h
 
 -- where the whole gives something, so does the first part
-pub bound : {A B : Type 0} (f : A → Option B) (first : Option A) (y : B) → first >>= f ≡ Some y → (x : A) × (first ≡ Some x) × (f x ≡ Some y)
+pub bound : {A B : Type 0} (f : A → Option B) (first : Option A) (y : B) → first >>= f ≡ Some y →
+    (x : A) × (first ≡ Some x) × (f x ≡ Some y)
 bound f None y h = absurd (none-some y h)
 bound f (Some x) y h = (x, refl, h)
 

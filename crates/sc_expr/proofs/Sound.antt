@@ -46,9 +46,11 @@ Reads free room level ts x = Stands free room level (suc level) ts x
 raise : (level c : ℕ) (ts : List Lexeme) (e : ExprTree) → c ≤ level → Spells c ts e → Spells level ts e
 raise zero c ts e h d = let same : c ≡ 0 = omega arith in subst (λ k. Spells k ts e) same d
 raise (suc level) c ts e h d =
-    ⊎_elim (λ less. looser (raise level c ts e (omega arith) d)) (λ more. let same : c ≡ suc level = omega arith in subst (λ k. Spells k ts e) same d) (cases_lt c (suc level))
+    ⊎_elim (λ less. looser (raise level c ts e (omega arith) d))
+    (λ more. let same : c ≡ suc level = omega arith in subst (λ k. Spells k ts e) same d) (cases_lt c (suc level))
 
-leaf_stands : (free room : ℕ) (t : Lexeme) (ts : List Lexeme) (s : Symbol) (e : ExprTree) → t.symbol ≡ s → leaf_of s ≡ Some e → Stands free (room + 1) 0 0 (t ∷ ts) (found e 1 ts)
+leaf_stands : (free room : ℕ) (t : Lexeme) (ts : List Lexeme) (s : Symbol) (e : ExprTree) → t.symbol ≡ s →
+    leaf_of s ≡ Some e → Stands free (room + 1) 0 0 (t ∷ ts) (found e 1 ts)
 leaf_stands free room t ts (symbol.Integer number) e is h =
     subst (λ k. Stands free (room + 1) 0 0 (t ∷ ts) (found k 1 ts)) (same_some h) (record {
       taken = t ∷ [];
@@ -75,12 +77,16 @@ leaf_sound : (free room : ℕ) (ts : List Lexeme) (x : Found) → leaf_at ts ≡
 leaf_sound free room [] x h = absurd (none-some x h)
 leaf_sound free room (t ∷ ts) x h =
     let b = bound (λ e. Some (found e 1 ts)) (leaf_of t.symbol) x h in
-    subst (λ y. Stands free (room + 1) 0 0 (t ∷ ts) y) (same_some b.2) (leaf_stands free room t ts t.symbol b.0 refl b.1)
+    subst (λ y. Stands free (room + 1) 0 0 (t ∷ ts) y) (same_some b.2)
+    (leaf_stands free room t ts t.symbol b.0 refl b.1)
 
 module _ (free room : ℕ) (nested : ℕ → ℕ → Reader) (below : ℕ → Reader)
-    (in_brackets : (levels level : ℕ) (ts : List Lexeme) (x : Found) → 0 < level → nested levels level ts ≡ Some x → (fewer : ℕ) × (free ≡ fewer + 1) × Reads fewer levels level ts x)
-    (one_less : (level : ℕ) (ts : List Lexeme) (x : Found) → 0 < level → below level ts ≡ Some x → Reads free room level ts x) where
-  paren_sound : (t : Lexeme) (ts : List Lexeme) (x : Found) → IsMark mark.OpenParen t → paren_with nested below room ts ≡ Some x → Stands free (room + 1) 0 0 (t ∷ ts) x
+    (in_brackets : (levels level : ℕ) (ts : List Lexeme) (x : Found) → 0 < level → nested levels level ts ≡ Some x →
+    (fewer : ℕ) × (free ≡ fewer + 1) × Reads fewer levels level ts x)
+    (one_less : (level : ℕ) (ts : List Lexeme) (x : Found) → 0 < level → below level ts ≡ Some x →
+    Reads free room level ts x) where
+  paren_sound : (t : Lexeme) (ts : List Lexeme) (x : Found) → IsMark mark.OpenParen t →
+      paren_with nested below room ts ≡ Some x → Stands free (room + 1) 0 0 (t ∷ ts) x
   paren_sound t ts x is h =
       let b = bound _ (nested (room + 1) 11 ts) x h in
       let y = b.0 in
@@ -88,18 +94,22 @@ module _ (free room : ℕ) (nested : ℕ → ℕ → Reader) (below : ℕ → Re
       let u = behind_mark mark.CloseParen y.rest c.0 c.1 in
       let r = in_brackets (room + 1) 11 ts y (omega arith) b.1 in
       let inner = r.2 in
-      let split : ts ≡ inner.taken ++ u.0 ∷ [] ++ c.0 = inner.split ∙ ap (λ rest. inner.taken ++ rest) u.1 ∙ sym (append_assoc inner.taken (u.0 ∷ []) c.0) in
+      let split : ts ≡ inner.taken ++ u.0 ∷ [] ++ c.0 =
+      inner.split ∙ ap (λ rest. inner.taken ++ rest) u.1 ∙ sym (append_assoc inner.taken (u.0 ∷ []) c.0) in
       subst (λ z. Stands free (room + 1) 0 0 (t ∷ ts) z) (same_some c.2) (record {
         taken = t ∷ (inner.taken ++ u.0 ∷ []);
         split = ap (λ rest. t ∷ rest) split;
         spelled = parenthesised t u.0 is u.2 inner.spelled;
         measured = inner.measured;
         low = inner.low;
-        few = λ n. let most = most_bracketed n t u.0 [] (says t (symbol.Mark mark.OpenParen) is) (says u.0 (symbol.Mark mark.CloseParen) u.2) inner.spelled in let few = inner.few (n + 1) in let same = r.1 in omega arith;
+        few = λ n. let most = most_bracketed n t u.0 [] (says t (symbol.Mark mark.OpenParen) is)
+            (says u.0 (symbol.Mark mark.CloseParen) u.2) inner.spelled in let few = inner.few (n + 1) in let same =
+            r.1 in omega arith;
         onward = λ ext at. omega arith;
       })
 
-  prefix_sound : (t : Lexeme) (m : Mark) (p : Prefix) (ts : List Lexeme) (x : Found) → IsMark m t → prefix_of m ≡ Some p → prefix_with nested below room p ts ≡ Some x → Stands free (room + 1) 1 1 (t ∷ ts) x
+  prefix_sound : (t : Lexeme) (m : Mark) (p : Prefix) (ts : List Lexeme) (x : Found) → IsMark m t →
+      prefix_of m ≡ Some p → prefix_with nested below room p ts ≡ Some x → Stands free (room + 1) 1 1 (t ∷ ts) x
   prefix_sound t m p ts x is of h =
       let b = bound _ (below 1 ts) x h in
       let y = b.0 in
@@ -110,31 +120,41 @@ module _ (free room : ℕ) (nested : ℕ → ℕ → Reader) (below : ℕ → Re
         spelled = «prefix» t m p is of inner.spelled;
         measured = ap (λ k. k + 1) inner.measured ∙ sym (prefixed_height p y.tree);
         low = let low = inner.low in omega arith;
-        few = λ n. let most = most_plain n t inner.taken (plain_prefix t m p is of) in let few = inner.few n in omega arith;
+        few = λ n. let most = most_plain n t inner.taken (plain_prefix t m p is of) in let few = inner.few n in
+            omega arith;
         onward = λ ext at. let more = inner.onward ext at in omega arith;
       })
 
-  lead_sound : (t : Lexeme) (ts : List Lexeme) (x : Found) (o : Option Lead) → lead_of t.symbol ≡ o → lead_with nested below room o t ts ≡ Some x → (c : ℕ) × (c ≤ 1) × Stands free (room + 1) c c (t ∷ ts) x
+  lead_sound : (t : Lexeme) (ts : List Lexeme) (x : Found) (o : Option Lead) → lead_of t.symbol ≡ o →
+      lead_with nested below room o t ts ≡ Some x → (c : ℕ) × (c ≤ 1) × Stands free (room + 1) c c (t ∷ ts) x
   lead_sound t ts x (Some lead.Paren) is h = (0, omega arith, paren_sound t ts x (paren_lead t.symbol is) h)
-  lead_sound t ts x (Some (lead.Prefix p)) is h = let q = prefix_lead t.symbol p is in (1, omega arith, prefix_sound t q.0 p ts x q.1 q.2 h)
+  lead_sound t ts x (Some (lead.Prefix p)) is h = let q = prefix_lead t.symbol p is in
+      (1, omega arith, prefix_sound t q.0 p ts x q.1 q.2 h)
   lead_sound t ts x None is h = (0, omega arith, leaf_sound free room (t ∷ ts) x h)
 
-  operand_sound : (ts : List Lexeme) (x : Found) → operand_with nested below room ts ≡ Some x → (c : ℕ) × (c ≤ 1) × Stands free (room + 1) c c ts x
+  operand_sound : (ts : List Lexeme) (x : Found) → operand_with nested below room ts ≡ Some x →
+      (c : ℕ) × (c ≤ 1) × Stands free (room + 1) c c ts x
   unfolding operand_with
   operand_sound [] x h = absurd (none-some x h)
   operand_sound (t ∷ ts) x h = lead_sound t ts x (lead_of t.symbol) refl h
 
   -- what is made with a name behind `.` or `->`
   abbrev NamedBy : (m : Mark) → (ExprTree → List ℕ → ExprTree) → Type 0
-  NamedBy m make = (e : ExprTree) (name : List ℕ) (ts : List Lexeme) (t u : Lexeme) → IsMark m t → u.symbol ≡ symbol.Ident name → Spells 0 ts e → Spells 0 (ts ++ t ∷ u ∷ []) (make e name)
+  NamedBy m make = (e : ExprTree) (name : List ℕ) (ts : List Lexeme) (t u : Lexeme) → IsMark m t →
+      u.symbol ≡ symbol.Ident name → Spells 0 ts e → Spells 0 (ts ++ t ∷ u ∷ []) (make e name)
 
-  named_sound : (m : Mark) (ext : Extension) (make : ExprTree → List ℕ → ExprTree) (level : ℕ) (ts us : List Lexeme) (x y : Found) → NamedBy m make → ((e : ExprTree) (name : List ℕ) → expr_height (make e name) ≡ expr_height e + 1) → ((n : ℕ) → open_behind m n ≡ n) → Stands free (room + 1) 0 0 ts x → (a : Ahead level x.rest ext us) → IsMark m a.first → x.height ≤ room → named_with (λ name. make x.tree name) x.height us ≡ Some y → Stands free (room + 1) 0 0 ts y
+  named_sound : (m : Mark) (ext : Extension) (make : ExprTree → List ℕ → ExprTree) (level : ℕ) (ts us : List Lexeme)
+      (x y : Found) → NamedBy m make → ((e : ExprTree) (name : List ℕ) →
+      expr_height (make e name) ≡ expr_height e + 1) → ((n : ℕ) → open_behind m n ≡ n) →
+      Stands free (room + 1) 0 0 ts x → (a : Ahead level x.rest ext us) → IsMark m a.first → x.height ≤ room →
+      named_with (λ name. make x.tree name) x.height us ≡ Some y → Stands free (room + 1) 0 0 ts y
   named_sound m ext make level ts us x y spells height plain s a is low h =
       let b = bound _ (name_at us) y h in
       let u = name_ahead us b.0.1 b.0.0 b.1 in
       subst (λ z. Stands free (room + 1) 0 0 ts z) (same_some b.2) (record {
         taken = s.taken ++ a.first ∷ u.0 ∷ [];
-        split = s.split ∙ ap (λ rest. s.taken ++ rest) (a.split ∙ ap (λ rest. a.first ∷ rest) u.1) ∙ sym (append_assoc s.taken (a.first ∷ u.0 ∷ []) b.0.1);
+        split = s.split ∙ ap (λ rest. s.taken ++ rest) (a.split ∙ ap (λ rest. a.first ∷ rest) u.1) ∙
+            sym (append_assoc s.taken (a.first ∷ u.0 ∷ []) b.0.1);
         spelled = spells x.tree b.0.0 s.taken a.first u.0 is u.2 s.spelled;
         measured = ap (λ k. k + 1) s.measured ∙ sym (height x.tree b.0.0);
         low = omega arith;
@@ -146,7 +166,10 @@ module _ (free room : ℕ) (nested : ℕ → ℕ → Reader) (below : ℕ → Re
         onward = λ other at. omega arith;
       })
 
-  operator_sound : (level : ℕ) (op : BinaryOp) (ts us : List Lexeme) (x y : Found) → Stands free (room + 1) (level_of op) (level_of op) ts x → Ahead level x.rest (extension.Operator op) us → x.height ≤ room → joined_with nested below room x.tree x.height (extension.Operator op) us ≡ Some y → Stands free (room + 1) (level_of op) (level_of op) ts y
+  operator_sound : (level : ℕ) (op : BinaryOp) (ts us : List Lexeme) (x y : Found) →
+      Stands free (room + 1) (level_of op) (level_of op) ts x → Ahead level x.rest (extension.Operator op) us →
+      x.height ≤ room → joined_with nested below room x.tree x.height (extension.Operator op) us ≡ Some y →
+      Stands free (room + 1) (level_of op) (level_of op) ts y
   operator_sound level op ts us x y s a low h =
       let b = bound _ (below (level_of op - 1) us) y h in
       let z = b.0 in
@@ -154,10 +177,12 @@ module _ (free room : ℕ) (nested : ℕ → ℕ → Reader) (below : ℕ → Re
       let right = one_less (level_of op - 1) us z (omega arith) b.1 in
       let at : suc (level_of op - 1) ≡ level_of op = omega arith in
       let of = operator_mark a.m op a.of in
-      let whole = joined {level = level_of op - 1} a.first a.m op a.is of (sym at) (subst (λ k. Spells k s.taken x.tree) (sym at) s.spelled) right.spelled in
+      let whole = joined {level = level_of op - 1} a.first a.m op a.is of (sym at)
+      (subst (λ k. Spells k s.taken x.tree) (sym at) s.spelled) right.spelled in
       subst (λ v. Stands free (room + 1) (level_of op) (level_of op) ts v) (same_some b.2) (record {
         taken = s.taken ++ a.first ∷ right.taken;
-        split = s.split ∙ ap (λ rest. s.taken ++ rest) (a.split ∙ ap (λ rest. a.first ∷ rest) right.split) ∙ sym (append_assoc s.taken (a.first ∷ right.taken) z.rest);
+        split = s.split ∙ ap (λ rest. s.taken ++ rest) (a.split ∙ ap (λ rest. a.first ∷ rest) right.split) ∙
+            sym (append_assoc s.taken (a.first ∷ right.taken) z.rest);
         spelled = subst (λ k. Spells k (s.taken ++ a.first ∷ right.taken) (expr.Binary op x.tree z.tree)) at whole;
         measured = ap₂ (λ k l. max k l + 1) s.measured right.measured ∙ sym (joined_height op x.tree z.tree);
         low = let less = right.low in omega arith;
@@ -168,7 +193,9 @@ module _ (free room : ℕ) (nested : ℕ → ℕ → Reader) (below : ℕ → Re
         onward = λ other next. let more = right.onward other next in omega arith;
       })
 
-  index_sound : (level : ℕ) (ts us : List Lexeme) (x y : Found) → Stands free (room + 1) 0 0 ts x → Ahead level x.rest extension.Index us → x.height ≤ room → joined_with nested below room x.tree x.height extension.Index us ≡ Some y → Stands free (room + 1) 0 0 ts y
+  index_sound : (level : ℕ) (ts us : List Lexeme) (x y : Found) → Stands free (room + 1) 0 0 ts x →
+      Ahead level x.rest extension.Index us → x.height ≤ room →
+      joined_with nested below room x.tree x.height extension.Index us ≡ Some y → Stands free (room + 1) 0 0 ts y
   index_sound level ts us x y s a low h =
       let b = bound _ (nested room 11 us) y h in
       let z = b.0 in
@@ -177,34 +204,49 @@ module _ (free room : ℕ) (nested : ℕ → ℕ → Reader) (below : ℕ → Re
       let r = in_brackets room 11 us z (omega arith) b.1 in
       let inner = r.2 in
       let is : IsMark mark.OpenSquare a.first = a.is ∙ ap (λ m. symbol.Mark m) (index_mark a.m a.of) in
-      let inside : us ≡ inner.taken ++ u.0 ∷ [] ++ c.0 = inner.split ∙ ap (λ rest. inner.taken ++ rest) u.1 ∙ sym (append_assoc inner.taken (u.0 ∷ []) c.0) in
+      let inside : us ≡ inner.taken ++ u.0 ∷ [] ++ c.0 =
+      inner.split ∙ ap (λ rest. inner.taken ++ rest) u.1 ∙ sym (append_assoc inner.taken (u.0 ∷ []) c.0) in
       subst (λ v. Stands free (room + 1) 0 0 ts v) (same_some c.2) (record {
         taken = s.taken ++ a.first ∷ (inner.taken ++ u.0 ∷ []);
-        split = s.split ∙ ap (λ rest. s.taken ++ rest) (a.split ∙ ap (λ rest. a.first ∷ rest) inside) ∙ sym (append_assoc s.taken (a.first ∷ (inner.taken ++ u.0 ∷ [])) c.0);
+        split = s.split ∙ ap (λ rest. s.taken ++ rest) (a.split ∙ ap (λ rest. a.first ∷ rest) inside) ∙
+            sym (append_assoc s.taken (a.first ∷ (inner.taken ++ u.0 ∷ [])) c.0);
         spelled = index a.first u.0 is u.2 s.spelled inner.spelled;
         measured = ap₂ (λ k l. max k l + 1) s.measured inner.measured ∙ sym (index_height x.tree z.tree);
         low = let less = inner.low in omega arith;
         few = λ n.
             let most = most_behind n (a.first ∷ (inner.taken ++ u.0 ∷ [])) s.spelled in
-            let most_inside = most_bracketed n a.first u.0 [] (says a.first (symbol.Mark mark.OpenSquare) is) (says u.0 (symbol.Mark mark.CloseSquare) u.2) inner.spelled in
+            let most_inside = most_bracketed n a.first u.0 [] (says a.first (symbol.Mark mark.OpenSquare) is)
+            (says u.0 (symbol.Mark mark.CloseSquare) u.2) inner.spelled in
             let left = s.few n in let few = inner.few (n + 1) in let same = r.1 in omega arith;
         onward = λ other at. omega arith;
       })
 
   -- what an expression goes on to, of the level of what it goes on with
-  joined_sound : (level : ℕ) (ext : Extension) (ts us : List Lexeme) (x y : Found) → Stands free (room + 1) (extension_level ext) (extension_level ext) ts x → Ahead level x.rest ext us → x.height ≤ room → joined_with nested below room x.tree x.height ext us ≡ Some y → Stands free (room + 1) (extension_level ext) (extension_level ext) ts y
+  joined_sound : (level : ℕ) (ext : Extension) (ts us : List Lexeme) (x y : Found) →
+      Stands free (room + 1) (extension_level ext) (extension_level ext) ts x → Ahead level x.rest ext us →
+      x.height ≤ room → joined_with nested below room x.tree x.height ext us ≡ Some y →
+      Stands free (room + 1) (extension_level ext) (extension_level ext) ts y
   joined_sound level (extension.Operator op) ts us x y s a low h = operator_sound level op ts us x y s a low h
   joined_sound level extension.Index ts us x y s a low h = index_sound level ts us x y s a low h
   joined_sound level extension.Member ts us x y s a low h =
-      named_sound mark.Dot extension.Member (λ e name. expr.Member e name) level ts us x y (λ e name ts t u is of d. member t u name is of d) (λ e name. member_height e name) (λ n. refl) s a (a.is ∙ ap (λ m. symbol.Mark m) (member_mark a.m a.of)) low h
+      named_sound mark.Dot extension.Member (λ e name. expr.Member e name) level ts us x y
+      (λ e name ts t u is of d. member t u name is of d) (λ e name. member_height e name) (λ n. refl) s a
+      (a.is ∙ ap (λ m. symbol.Mark m) (member_mark a.m a.of)) low h
   joined_sound level extension.Arrow ts us x y s a low h =
-      named_sound mark.Arrow extension.Arrow (λ e name. expr.Arrow e name) level ts us x y (λ e name ts t u is of d. arrow t u name is of d) (λ e name. arrow_height e name) (λ n. refl) s a (a.is ∙ ap (λ m. symbol.Mark m) (arrow_mark a.m a.of)) low h
+      named_sound mark.Arrow extension.Arrow (λ e name. expr.Arrow e name) level ts us x y
+      (λ e name ts t u is of d. arrow t u name is of d) (λ e name. arrow_height e name) (λ n. refl) s a
+      (a.is ∙ ap (λ m. symbol.Mark m) (arrow_mark a.m a.of)) low h
 
-  extended_sound : (level c : ℕ) (ext : Extension) (ts us : List Lexeme) (x y : Found) → Stands free (room + 1) c c ts x → Ahead level x.rest ext us → extended_with nested below room x.tree x.height ext us ≡ Some y → Stands free (room + 1) (extension_level ext) (extension_level ext) ts y
+  extended_sound : (level c : ℕ) (ext : Extension) (ts us : List Lexeme) (x y : Found) →
+      Stands free (room + 1) c c ts x → Ahead level x.rest ext us →
+      extended_with nested below room x.tree x.height ext us ≡ Some y →
+      Stands free (room + 1) (extension_level ext) (extension_level ext) ts y
   unfolding extended_with
   extended_sound level c ext ts us x y s a h =
-      let at : extension_at x.rest ≡ Some ext = ap (λ rest. extension_at rest) a.split ∙ ap (λ k. extension_by k) a.is ∙ a.of in
-      let fits : (leb x.height room ≡ true) × (joined_with nested below room x.tree x.height ext us ≡ Some y) = cond_is (leb x.height room) _ y h in
+      let at : extension_at x.rest ≡ Some ext = ap (λ rest. extension_at rest) a.split ∙ ap (λ k. extension_by k) a.is ∙
+      a.of in
+      let fits : (leb x.height room ≡ true) × (joined_with nested below room x.tree x.height ext us ≡ Some y) =
+      cond_is (leb x.height room) _ y h in
       let grown : Stands free (room + 1) (extension_level ext) (extension_level ext) ts x = record {
         taken = s.taken;
         split = s.split;
@@ -212,11 +254,17 @@ module _ (free room : ℕ) (nested : ℕ → ℕ → Reader) (below : ℕ → Re
         measured = s.measured;
         low = s.low;
         few = s.few;
-        onward = λ other next. subst (λ o. extension_level ext ≤ extension_level o) (same_some (sym at ∙ next)) (omega arith);
+        onward = λ other next. subst (λ o. extension_level ext ≤ extension_level o) (same_some (sym at ∙ next))
+            (omega arith);
       } in
       joined_sound level ext ts us x y grown a (leb-true x.height room fits.0) fits.1
 
-  turn_sound : (level turns c : ℕ) (ts : List Lexeme) (x y : Found) (o : Option (Extension × List Lexeme)) → ((l : ℕ) (z : Found) → l ≤ level → Stands free (room + 1) l l ts z → go_on nested below room level turns z ≡ Some y → Reads free (room + 1) level ts y) → c ≤ level → Stands free (room + 1) c c ts x → extension_within level x.rest ≡ o → turn_with nested below room (λ z. go_on nested below room level turns z) x o ≡ Some y → Reads free (room + 1) level ts y
+  turn_sound : (level turns c : ℕ) (ts : List Lexeme) (x y : Found) (o : Option (Extension × List Lexeme)) →
+      ((l : ℕ) (z : Found) → l ≤ level → Stands free (room + 1) l l ts z →
+      go_on nested below room level turns z ≡ Some y → Reads free (room + 1) level ts y) → c ≤ level →
+      Stands free (room + 1) c c ts x → extension_within level x.rest ≡ o →
+      turn_with nested below room (λ z. go_on nested below room level turns z) x o ≡ Some y →
+      Reads free (room + 1) level ts y
   turn_sound level turns c ts x y None further low s none h =
       subst (λ z. Reads free (room + 1) level ts z) (same_some h) (record {
         taken = s.taken;
@@ -228,34 +276,46 @@ module _ (free room : ℕ) (nested : ℕ → ℕ → Reader) (below : ℕ → Re
         onward = λ ext at. let more = nothing_within level x.rest none ext at in omega arith;
       })
   turn_sound level turns c ts x y (Some next) further low s some h =
-      let b = bound (λ z. go_on nested below room level turns z) (extended_with nested below room x.tree x.height next.0 next.1) y h in
+      let b = bound (λ z. go_on nested below room level turns z)
+      (extended_with nested below room x.tree x.height next.0 next.1) y h in
       let a = ahead level x.rest next.1 next.0 some in
       further (extension_level next.0) b.0 a.low (extended_sound level c next.0 ts next.1 x b.0 s a b.1) b.2
 
-  loop_sound : (level turns c : ℕ) (ts : List Lexeme) (x y : Found) → c ≤ level → Stands free (room + 1) c c ts x → go_on nested below room level turns x ≡ Some y → Reads free (room + 1) level ts y
+  loop_sound : (level turns c : ℕ) (ts : List Lexeme) (x y : Found) → c ≤ level → Stands free (room + 1) c c ts x →
+      go_on nested below room level turns x ≡ Some y → Reads free (room + 1) level ts y
   unfolding go_on
   loop_sound level zero c ts x y low s h = absurd (none-some y h)
   loop_sound level (suc turns) c ts x y low s h =
-      turn_sound level turns c ts x y (extension_within level x.rest) (λ l z under stands q. loop_sound level turns l ts z y under stands q) low s refl h
+      turn_sound level turns c ts x y (extension_within level x.rest)
+      (λ l z under stands q. loop_sound level turns l ts z y under stands q) low s refl h
 
-  pub level_sound : (level : ℕ) (ts : List Lexeme) (x : Found) → 0 < level → level_with nested below room level ts ≡ Some x → Reads free (room + 1) level ts x
+  pub level_sound : (level : ℕ) (ts : List Lexeme) (x : Found) → 0 < level →
+      level_with nested below room level ts ≡ Some x → Reads free (room + 1) level ts x
   level_sound level ts x some h =
       let b = bound _ (operand_with nested below room ts) x h in
       let first = operand_sound ts b.0 b.1 in
       let tight = first.1 in
       loop_sound level (room + 1) first.0 ts b.0 x (omega arith) first.2 b.2
 
-within_sound : (free : ℕ) (nested : ℕ → ℕ → Reader) → ((levels level : ℕ) (ts : List Lexeme) (x : Found) → 0 < level → nested levels level ts ≡ Some x → (fewer : ℕ) × (free ≡ fewer + 1) × Reads fewer levels level ts x) → (room level : ℕ) (ts : List Lexeme) (x : Found) → 0 < level → read_within nested room level ts ≡ Some x → Reads free room level ts x
+within_sound : (free : ℕ) (nested : ℕ → ℕ → Reader) →
+    ((levels level : ℕ) (ts : List Lexeme) (x : Found) → 0 < level → nested levels level ts ≡ Some x →
+    (fewer : ℕ) × (free ≡ fewer + 1) × Reads fewer levels level ts x) →
+    (room level : ℕ) (ts : List Lexeme) (x : Found) → 0 < level → read_within nested room level ts ≡ Some x →
+    Reads free room level ts x
 unfolding read_within
 within_sound free nested inside zero level ts x some h = absurd (none-some x h)
 within_sound free nested inside (suc room) level ts x some h =
     let next : room + 1 ≡ suc room = omega arith in
-    subst (λ k. Reads free k level ts x) next (level_sound free room nested (read_within nested room) inside (λ l us y p q. within_sound free nested inside room l us y p q) level ts x some h)
+    subst (λ k. Reads free k level ts x) next (level_sound free room nested (read_within nested room) inside
+    (λ l us y p q. within_sound free nested inside room l us y p q) level ts x some h)
 
 -- what is read at a level is spelled at it, within the limits, as far as it goes
-pub read_sound : (free room level : ℕ) (ts : List Lexeme) (x : Found) → 0 < level → read free room level ts ≡ Some x → Reads free room level ts x
+pub read_sound : (free room level : ℕ) (ts : List Lexeme) (x : Found) → 0 < level → read free room level ts ≡ Some x →
+    Reads free room level ts x
 unfolding read
-read_sound zero room level ts x some h = within_sound 0 (λ levels l us. None) (λ levels l us y p q. absurd (none-some y q)) room level ts x some h
+read_sound zero room level ts x some h = within_sound 0 (λ levels l us. None)
+    (λ levels l us y p q. absurd (none-some y q)) room level ts x some h
 read_sound (suc free) room level ts x some h =
     let next : suc free ≡ free + 1 = omega arith in
-    within_sound (suc free) (read free) (λ levels l us y p q. (free, next, read_sound free levels l us y p q)) room level ts x some h
+    within_sound (suc free) (read free) (λ levels l us y p q.
+    (free, next, read_sound free levels l us y p q)) room level ts x some h

@@ -81,7 +81,8 @@ named_with make height ts = name_at ts >>= (λ x. Some (found (make x.0) (height
 module _ (nested : ℕ → ℕ → Reader) (below : ℕ → Reader) (room : ℕ) where
   -- inside parentheses
   abbrev pub paren_with : Reader
-  paren_with ts = nested (room + 1) loosest_level ts >>= (λ x. behind mark.CloseParen x.rest >>= (λ rest. Some (found x.tree x.height rest)))
+  paren_with ts = nested (room + 1) loosest_level ts >>=
+      (λ x. behind mark.CloseParen x.rest >>= (λ rest. Some (found x.tree x.height rest)))
 
   -- behind a prefix operator
   abbrev pub prefix_with : Prefix → Reader
@@ -98,8 +99,11 @@ module _ (nested : ℕ → ℕ → Reader) (below : ℕ → Reader) (room : ℕ)
   operand_with (t ∷ ts) = lead_with (lead_of t.symbol) t ts
 
   abbrev pub joined_with : ExprTree → ℕ → Extension → Reader
-  joined_with e height (extension.Operator op) ts = below (level_of op - 1) ts >>= (λ x. Some (found (expr.Binary op e x.tree) (max height x.height + 1) x.rest))
-  joined_with e height extension.Index ts = nested room loosest_level ts >>= (λ x. behind mark.CloseSquare x.rest >>= (λ rest. Some (found (expr.Index e x.tree) (max height x.height + 1) rest)))
+  joined_with e height (extension.Operator op) ts = below (level_of op - 1) ts >>=
+      (λ x. Some (found (expr.Binary op e x.tree) (max height x.height + 1) x.rest))
+  joined_with e height extension.Index ts = nested room loosest_level ts >>=
+      (λ x. behind mark.CloseSquare x.rest >>= (λ rest.
+      Some (found (expr.Index e x.tree) (max height x.height + 1) rest)))
   joined_with e height extension.Member ts = named_with (λ name. expr.Member e name) height ts
   joined_with e height extension.Arrow ts = named_with (λ name. expr.Arrow e name) height ts
 

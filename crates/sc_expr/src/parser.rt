@@ -42,10 +42,12 @@ pub fn parse_expr(alloc: Global, opened: u32, lexemes: &[Lexeme]) -> Answer<'_>
     ensures height { IfOk result (λ x. x.0.height ≡ expr_height x.0.tree) }
 
     // Lexemes are refused where no front of them is spelled so.
-    ensures refused { (left : ℕ) → IsErrOf result (Refused left) → (e : ExprTree) (rest : List Lexeme) → IsFront loosest_level opened lexemes.now e rest → ⊥ }
+    ensures refused { (left : ℕ) → IsErrOf result (Refused left) → (e : ExprTree) (rest : List Lexeme) →
+        IsFront loosest_level opened lexemes.now e rest → ⊥ }
 
     // The same as a function of the lexemes.
-    ensures reading { Agrees (λ x. found x.0.tree x.0.height x.1.now) result (read_expr loosest_level opened lexemes.now) }
+    ensures reading { Agrees (λ x. found x.0.tree x.0.height x.1.now) result
+        (read_expr loosest_level opened lexemes.now) }
 {
     parse_level(alloc, MAX_BRACKETS - opened, MAX_HEIGHT, LOOSEST, lexemes)
 }
@@ -57,10 +59,12 @@ pub fn parse_unary(alloc: Global, opened: u32, lexemes: &[Lexeme]) -> Answer<'_>
     ensures height { IfOk result (λ x. x.0.height ≡ expr_height x.0.tree) }
 
     // Lexemes are refused where no front of them is spelled so.
-    ensures refused { (left : ℕ) → IsErrOf result (Refused left) → (e : ExprTree) (rest : List Lexeme) → IsFront unary_level opened lexemes.now e rest → ⊥ }
+    ensures refused { (left : ℕ) → IsErrOf result (Refused left) → (e : ExprTree) (rest : List Lexeme) →
+        IsFront unary_level opened lexemes.now e rest → ⊥ }
 
     // The same as a function of the lexemes.
-    ensures reading { Agrees (λ x. found x.0.tree x.0.height x.1.now) result (read_expr unary_level opened lexemes.now) }
+    ensures reading { Agrees (λ x. found x.0.tree x.0.height x.1.now) result
+        (read_expr unary_level opened lexemes.now) }
 {
     parse_level(alloc, MAX_BRACKETS - opened, MAX_HEIGHT, UNARY, lexemes)
 }
@@ -68,12 +72,14 @@ pub fn parse_unary(alloc: Global, opened: u32, lexemes: &[Lexeme]) -> Answer<'_>
 /// Lexemes spell one expression of a level at most.
 #[tactic(auto, using(crate::proofs::Theorem::trees_agree))]
 pub fn one_expr()
-    ensures { (level : ℕ) (lexemes : List Lexeme) (e f : ExprTree) → Spells level lexemes e → Spells level lexemes f → e ≡ f }
+    ensures { (level : ℕ) (lexemes : List Lexeme) (e f : ExprTree) → Spells level lexemes e → Spells level lexemes f →
+        e ≡ f }
 {}
 
 /// Lexemes have one expression of a level at their front at most, as far as it goes.
 pub fn one_front()
-    ensures { (level count : ℕ) (lexemes : List Lexeme) (e f : ExprTree) (rest more : List Lexeme) → IsFront level count lexemes e rest → IsFront level count lexemes f more → (e ≡ f) × (rest ≡ more) }
+    ensures { (level count : ℕ) (lexemes : List Lexeme) (e f : ExprTree) (rest more : List Lexeme) →
+        IsFront level count lexemes e rest → IsFront level count lexemes f more → (e ≡ f) × (rest ≡ more) }
 {}
 
 /// What a mark begins an expression with.
@@ -198,7 +204,8 @@ pub fn parse_level<'a>(
 #[tactic(auto, unfolding(crate::specs::Reading::operand_with))]
 fn parse_operand<'a>(alloc: Global, free: u32, below: u32, lexemes: &'a [Lexeme]) -> Answer<'a>
     requires { below + 1 < 2 ^ 32 }
-    ensures read { Agrees (λ x. found x.0.tree x.0.height x.1.now) result (operand_with (read_nested free) (read free below) below lexemes.now) }
+    ensures read { Agrees (λ x. found x.0.tree x.0.height x.1.now) result
+        (operand_with (read_nested free) (read free below) below lexemes.now) }
     ensures low { IfOk result (λ x. x.0.height ≤ below + 1) }
 {
     let [first, rest @ ..] = lexemes else {
@@ -215,7 +222,8 @@ fn parse_operand<'a>(alloc: Global, free: u32, below: u32, lexemes: &'a [Lexeme]
 #[tactic(auto, using(crate::proofs::Steps::reads))]
 fn parse_paren<'a>(alloc: Global, free: u32, below: u32, lexemes: &'a [Lexeme]) -> Answer<'a>
     requires { below + 1 < 2 ^ 32 }
-    ensures read { Agrees (λ x. found x.0.tree x.0.height x.1.now) result (paren_with (read_nested free) (read free below) below lexemes.now) }
+    ensures read { Agrees (λ x. found x.0.tree x.0.height x.1.now) result
+        (paren_with (read_nested free) (read free below) below lexemes.now) }
     ensures low { IfOk result (λ x. x.0.height ≤ below + 1) }
 {
     let Some(fewer) = free.checked_sub(1) else {
@@ -234,7 +242,8 @@ fn parse_prefix<'a>(
     lexemes: &'a [Lexeme],
 ) -> Answer<'a>
     requires { below + 1 < 2 ^ 32 }
-    ensures read { Agrees (λ x. found x.0.tree x.0.height x.1.now) result (prefix_with (read_nested free) (read free below) below prefix lexemes.now) }
+    ensures read { Agrees (λ x. found x.0.tree x.0.height x.1.now) result
+        (prefix_with (read_nested free) (read free below) below prefix lexemes.now) }
     ensures low { IfOk result (λ x. x.0.height ≤ below + 1) }
 {
     let (of, rest) = parse_level(alloc, free, below, UNARY, lexemes)?;
@@ -253,7 +262,8 @@ fn parse_extended<'a>(
     lexemes: &'a [Lexeme],
 ) -> Answer<'a>
     requires { below + 1 < 2 ^ 32 }
-    ensures read { Agrees (λ x. found x.0.tree x.0.height x.1.now) result (extended_with (read_nested free) (read free below) below left.tree left.height extension lexemes.now) }
+    ensures read { Agrees (λ x. found x.0.tree x.0.height x.1.now) result
+        (extended_with (read_nested free) (read free below) below left.tree left.height extension lexemes.now) }
     ensures low { IfOk result (λ x. x.0.height ≤ below + 1) }
 {
     if left.height > below {
@@ -277,7 +287,8 @@ fn parse_joined<'a>(
     lexemes: &'a [Lexeme],
 ) -> Answer<'a>
     requires { (below + 1 < 2 ^ 32) × (left.height ≤ below) }
-    ensures read { Agrees (λ x. found x.0.tree x.0.height x.1.now) result (joined_with (read_nested free) (read free below) below left.tree left.height (Operator op) lexemes.now) }
+    ensures read { Agrees (λ x. found x.0.tree x.0.height x.1.now) result
+        (joined_with (read_nested free) (read free below) below left.tree left.height (Operator op) lexemes.now) }
     ensures low { IfOk result (λ x. x.0.height ≤ below + 1) }
 {
     let (right, rest) = parse_level(alloc, free, below, right_level_of(op), lexemes)?;
@@ -300,7 +311,8 @@ fn parse_index<'a>(
     lexemes: &'a [Lexeme],
 ) -> Answer<'a>
     requires { (below + 1 < 2 ^ 32) × (left.height ≤ below) }
-    ensures read { Agrees (λ x. found x.0.tree x.0.height x.1.now) result (joined_with (read_nested free) (read free below) below left.tree left.height Index lexemes.now) }
+    ensures read { Agrees (λ x. found x.0.tree x.0.height x.1.now) result
+        (joined_with (read_nested free) (read free below) below left.tree left.height Index lexemes.now) }
     ensures low { IfOk result (λ x. x.0.height ≤ below + 1) }
 {
     let Some(fewer) = free.checked_sub(1) else {
@@ -318,7 +330,8 @@ fn parse_index<'a>(
 
 fn parse_member<'a>(alloc: Global, left: Built, lexemes: &'a [Lexeme]) -> Answer<'a>
     requires { left.height + 1 < 2 ^ 32 }
-    ensures read { Agrees (λ x. found x.0.tree x.0.height x.1.now) result (named_with (λ name. expr.Member left.tree name) left.height lexemes.now) }
+    ensures read { Agrees (λ x. found x.0.tree x.0.height x.1.now) result
+        (named_with (λ name. expr.Member left.tree name) left.height lexemes.now) }
     ensures low { IfOk result (λ x. x.0.height ≡ left.height + 1) }
 {
     let [first, rest @ ..] = lexemes else {
@@ -337,7 +350,8 @@ fn parse_member<'a>(alloc: Global, left: Built, lexemes: &'a [Lexeme]) -> Answer
 
 fn parse_arrow<'a>(alloc: Global, left: Built, lexemes: &'a [Lexeme]) -> Answer<'a>
     requires { left.height + 1 < 2 ^ 32 }
-    ensures read { Agrees (λ x. found x.0.tree x.0.height x.1.now) result (named_with (λ name. expr.Arrow left.tree name) left.height lexemes.now) }
+    ensures read { Agrees (λ x. found x.0.tree x.0.height x.1.now) result
+        (named_with (λ name. expr.Arrow left.tree name) left.height lexemes.now) }
     ensures low { IfOk result (λ x. x.0.height ≡ left.height + 1) }
 {
     let [first, rest @ ..] = lexemes else {

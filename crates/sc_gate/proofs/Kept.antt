@@ -9,12 +9,14 @@ abbrev pub cleared_first : (keeps : ℕ → Bool) → (n : ℕ) → List ℕ →
 cleared_first keeps n regs = kept keeps (take n regs) ++ drop n regs
 
 clears_from : (keeps : ℕ → Bool) (r : ℕ) (regs : List ℕ) (n k : ℕ) → k ≡ r + n → n < length regs → keeps k ≡ false →
-    kept_from keeps r (take (suc n) regs) ++ drop (suc n) regs ≡ set (kept_from keeps r (take n regs) ++ drop n regs) n 0
+    kept_from keeps r (take (suc n) regs) ++ drop (suc n) regs ≡
+    set (kept_from keeps r (take n regs) ++ drop n regs) n 0
 clears_from keeps r [] n k is h out = absurd (omega arith)
 clears_from keeps r (x ∷ xs) zero k is h out =
     let same : r ≡ k = omega arith in
     rw (same, out) refl
-clears_from keeps r (x ∷ xs) (suc n) k is h out = ap (λ rest. (if keeps r then x else 0) ∷ rest) (clears_from keeps (suc r) xs n k (omega arith) (omega arith) out)
+clears_from keeps r (x ∷ xs) (suc n) k is h out = ap (λ rest. (if keeps r then x else 0) ∷ rest)
+    (clears_from keeps (suc r) xs n k (omega arith) (omega arith) out)
 
 keeps_from : (keeps : ℕ → Bool) (r : ℕ) (regs : List ℕ) (n k : ℕ) → k ≡ r + n → n < length regs → keeps k ≡ true →
     kept_from keeps r (take (suc n) regs) ++ drop (suc n) regs ≡ kept_from keeps r (take n regs) ++ drop n regs
@@ -22,16 +24,19 @@ keeps_from keeps r [] n k is h stays = absurd (omega arith)
 keeps_from keeps r (x ∷ xs) zero k is h stays =
     let same : r ≡ k = omega arith in
     rw (same, stays) refl
-keeps_from keeps r (x ∷ xs) (suc n) k is h stays = ap (λ rest. (if keeps r then x else 0) ∷ rest) (keeps_from keeps (suc r) xs n k (omega arith) (omega arith) stays)
+keeps_from keeps r (x ∷ xs) (suc n) k is h stays = ap (λ rest. (if keeps r then x else 0) ∷ rest)
+    (keeps_from keeps (suc r) xs n k (omega arith) (omega arith) stays)
 
 -- the next register, by whether it is kept
-pub next_cleared : (keeps : ℕ → Bool) (n : ℕ) (regs now : List ℕ) → n < length regs → keeps n ≡ false → now ≡ cleared_first keeps n regs →
+pub next_cleared : (keeps : ℕ → Bool) (n : ℕ) (regs now : List ℕ) → n < length regs → keeps n ≡ false →
+    now ≡ cleared_first keeps n regs →
     set now n 0 ≡ cleared_first keeps (n + 1) regs
 next_cleared keeps n regs now h out is =
     let more : n + 1 ≡ suc n = omega arith in
     rw (is, more) (sym (clears_from keeps 0 regs n n (omega arith) h out))
 
-pub next_kept : (keeps : ℕ → Bool) (n : ℕ) (regs now : List ℕ) → n < length regs → keeps n ≡ true → now ≡ cleared_first keeps n regs →
+pub next_kept : (keeps : ℕ → Bool) (n : ℕ) (regs now : List ℕ) → n < length regs → keeps n ≡ true →
+    now ≡ cleared_first keeps n regs →
     now ≡ cleared_first keeps (n + 1) regs
 next_kept keeps n regs now h stays is =
     let more : n + 1 ≡ suc n = omega arith in

@@ -20,7 +20,10 @@ impl Model for CrossStack {
 
     ghost Value = { Waiting };
 
-    ghost view = { λ s. record { calls = map crossing_of (reverse s.entries.items); room = s.limit - length s.entries.items } };
+    ghost view = { λ s. record {
+      calls = map crossing_of (reverse s.entries.items);
+      room = s.limit - length s.entries.items;
+    } };
 
     ghost invariant = { λ s. (length s.entries.items ≤ s.limit) × (s.limit ≤ vec_capacity s.entries) };
 }

@@ -18,7 +18,8 @@ use Rattle.std.proofs.lemmas.Option.{slice_get_cases}
 
 pub few_globals : (image : ImageParts) (c : ℕ) → IsWellFormed image → length (globals_of image c) ≤ most_globals
 few_globals image c formed =
-    ⊎_elim (λ found. rw found.2 (formed.comps c found.0 found.2).short_globals) (λ none. rw none.1 (omega arith)) (slice_get_cases image.comps c).1
+    ⊎_elim (λ found. rw found.2 (formed.comps c found.0 found.2).short_globals) (λ none. rw none.1 (omega arith))
+    (slice_get_cases image.comps c).1
 
 abbrev IsByteAt : ℕ → ℕ → Type 0
 IsByteAt address byte = (address < 2 ^ 32) × (byte < 256)
@@ -31,7 +32,8 @@ both false y h = let never : false ≡ true = h in cc never
 digit : (n : ℕ) → n % 256 < 256
 digit n = omega arith
 
-module _ (image : ImageParts) (formed : IsWellFormed image) (c a size word : ℕ) (memory : Memory) (active : c < length image.comps) (owned : are_data image c a size ≡ true) (bytes : HoldsBytes memory) where
+module _ (image : ImageParts) (formed : IsWellFormed image) (c a size word : ℕ) (memory : Memory)
+    (active : c < length image.comps) (owned : are_data image c a size ≡ true) (bytes : HoldsBytes memory) where
   data_below : (x : ℕ) → a ≤ x → x < a + size → x < 2 ^ 32
   data_below x from upto =
       let m = data_bounds image c a size (omega (arith, from, upto)) owned in
@@ -41,15 +43,18 @@ module _ (image : ImageParts) (formed : IsWellFormed image) (c a size word : ℕ
       (if inside then Some (byte_of word (x - a)) else memory x) ≡ Some byte → IsByteAt x byte
   stored_by x byte true is at =
       let same : byte_of word (x - a) ≡ byte = cc at in
-      let tests = both (nat_le a x) (nat_lt x (a + size)) is in
-      (data_below x (leb-true a x tests.0) (ltb-true x (a + size) tests.1), subst (λ b. b < 256) same (digit (word / 256 ^ (x - a))))
+      let tests = both (nat_le a x) (nat_lt x (a + size)) is in (
+        data_below x (leb-true a x tests.0) (ltb-true x (a + size) tests.1),
+        subst (λ b. b < 256) same (digit (word / 256 ^ (x - a))),
+      )
   stored_by x byte false is at = bytes x byte at
 
 pub stored_bytes : (image : ImageParts) → IsWellFormed image → (c a size word : ℕ) (memory : Memory) →
     c < length image.comps → refused image c size a ≡ None →
     HoldsBytes memory → HoldsBytes (stored memory a size word)
 stored_bytes image formed c a size word memory active allowed bytes x byte at =
-    stored_by image formed c a size word memory active (allowed_data image c size a allowed) bytes x byte (nat_le a x && nat_lt x (a + size)) refl at
+    stored_by image formed c a size word memory active (allowed_data image c size a allowed) bytes x byte
+    (nat_le a x && nat_lt x (a + size)) refl at
 
 -- the start
 
@@ -57,7 +62,8 @@ module _ (image : ImageParts) (formed : IsWellFormed image) (a b : ℕ) where
   global_byte : (c : ℕ) (comp : CompPart) → slice_get image.comps c ≡ Some comp → (k : ℕ) →
       slice_get comp.globals k ≡ Some b → b < 256
   global_byte c comp is k at =
-      subst IsByte (get_or_from_slice_get comp.globals k b b at) ((formed.comps c comp is).bytes k b (slice_get_within comp.globals k b at))
+      subst IsByte (get_or_from_slice_get comp.globals k b b at)
+      ((formed.comps c comp is).bytes k b (slice_get_within comp.globals k b at))
 
   byte_by : (c : ℕ) (comp : CompPart) → slice_get image.comps c ≡ Some comp → (offset : ℕ) (in_stack : Bool) →
       (if in_stack then Some 0 else slice_get comp.globals (offset - stack_size)) ≡ Some b → b < 256
@@ -70,10 +76,13 @@ module _ (image : ImageParts) (formed : IsWellFormed image) (a b : ℕ) where
   start_by (Some comp) is at =
       let within = slice_get_within image.comps (comp_of_data a) comp is in (
         omega (arith, within, formed.few_comps),
-        byte_by (comp_of_data a) comp is ((a - data_start 0) % stretch) (nat_lt ((a - data_start 0) % stretch) stack_size) at,
+        byte_by (comp_of_data a) comp is ((a - data_start 0) % stretch)
+            (nat_lt ((a - data_start 0) % stretch) stack_size) at,
       )
 
-  below_by : (below : Bool) → (if below then None else option_and_then (data_byte ((a - data_start 0) % stretch)) (slice_get image.comps (comp_of_data a))) ≡ Some b → IsByteAt a b
+  below_by : (below : Bool) → (if below then None else
+      option_and_then (data_byte ((a - data_start 0) % stretch)) (slice_get image.comps (comp_of_data a))) ≡ Some b →
+      IsByteAt a b
   below_by true at = let never : ◌≡◌ {A = Option ℕ} None (Some b) = at in cc never
   below_by false at = start_by (slice_get image.comps (comp_of_data a)) refl at
 

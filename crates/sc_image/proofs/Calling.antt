@@ -20,7 +20,15 @@ pair imports params result a b = record {
   main = 0;
   entry = 0x01000000;
   comps =
-      record { name = codes "A"; input = false; output = false; exports = []; imports = imports; code = a; globals = [] } ∷
+      record {
+        name = codes "A";
+        input = false;
+        output = false;
+        exports = [];
+        imports = imports;
+        code = a;
+        globals = [];
+      } ∷
       record {
         name = codes "B";
         input = false;
@@ -66,7 +74,8 @@ is_call : (state : State) → state.active ≡ 0 → IsCall (at_entry f_of_b) st
 is_call state active = record { entry = refl; may = rw active refl }
 
 -- without the import
-calls_without_import : ((machine (at_entry []) [] 9 9).stop ≡ Trap NoImport 0x01000004) × ((machine (at_entry []) [] 9 9).state.trace ≡ [])
+calls_without_import : ((machine (at_entry []) [] 9 9).stop ≡ Trap NoImport 0x01000004) ×
+    ((machine (at_entry []) [] 9 9).state.trace ≡ [])
 unfolding run step_by stopped execute_by word_at decoded jalr_in
 calls_without_import = (refl, refl)
 
@@ -76,15 +85,18 @@ adding =
     pair f_of_b 2 true (0x00700513 ∷ 0x00800593 ∷ 0x00900613 ∷ 0x00500293 ∷ 0x01100337 ∷ 0x000300e7 ∷ 0x00100073 ∷ [])
     (0x00b50533 ∷ 0x00300593 ∷ 0x00008067 ∷ [])
 
--- in f there are the arguments, its own stack and the gate, and after it the result and the caller's stack: every other register is 0
-passes_numbers_alone : ((machine adding [] 9 1).state.regs ≡ 0 ∷ 0x100 ∷ 0x10110000 ∷ 0 ∷ 0 ∷ 0 ∷ 0 ∷ 0 ∷ 0 ∷ 0 ∷ 7 ∷ 8 ∷ replicate 20 0) ×
+-- in f there are the arguments, its own stack and the gate, and after it the result and the caller's stack: every other
+-- register is 0
+passes_numbers_alone : ((machine adding [] 9 1).state.regs ≡ 0 ∷ 0x100 ∷ 0x10110000 ∷ 0 ∷ 0 ∷ 0 ∷ 0 ∷ 0 ∷ 0 ∷ 0 ∷ 7 ∷
+    8 ∷ replicate 20 0) ×
     ((machine adding [] 99 9).stop ≡ Trap Breakpoint 0x01000018) ×
     ((machine adding [] 99 9).state.trace ≡ Call 0 1 0 (7 ∷ 8 ∷ []) ∷ Ret 1 0 (Some 15) ∷ []) ×
     ((machine adding [] 99 9).state.regs ≡ 0 ∷ 0 ∷ 0x10010000 ∷ 0 ∷ 0 ∷ 0 ∷ 0 ∷ 0 ∷ 0 ∷ 0 ∷ 15 ∷ replicate 21 0)
 unfolding run step_by stopped execute_by word_at decoded jalr_in op_imm_in op_imm_op_of op_in op_op_of system_in
 passes_numbers_alone = (refl, refl, refl, refl)
 
--- A takes 16 bytes of its stack and calls g of B, which takes 16 of its own, keeps ra there and calls h of A, which gives back its sp
+-- A takes 16 bytes of its stack and calls g of B, which takes 16 of its own, keeps ra there and calls h of A, which
+-- gives back its sp
 abbrev reentered : ImageParts
 reentered = record {
   main = 0;
@@ -112,14 +124,16 @@ reentered = record {
 
 -- h runs below the stack that A has in use, and all stacks are as before in the end
 re_enters : ((machine reentered [] 99 9).stop ≡ Trap Breakpoint 0x0100000c) ×
-    ((machine reentered [] 99 9).state.trace ≡ Call 0 1 0 [] ∷ Call 1 0 0 [] ∷ Ret 0 1 (Some 0x1000fff0) ∷ Ret 1 0 (Some 0x1000fff0) ∷ []) ×
+    ((machine reentered [] 99 9).state.trace ≡ Call 0 1 0 [] ∷ Call 1 0 0 [] ∷ Ret 0 1 (Some 0x1000fff0) ∷
+    Ret 1 0 (Some 0x1000fff0) ∷ []) ×
     (reg (machine reentered [] 99 9).state 2 ≡ 0x1000fff0) ×
     ((machine reentered [] 99 9).state.saved ≡ 0x1000fff0 ∷ 0x10110000 ∷ []) ×
     ((machine reentered [] 99 2).state.saved ≡ 0x1000fff0 ∷ 0x1010fff0 ∷ []) ×
     ((machine reentered [] 99 2).state.cross ≡
     record { caller = 1; pc = 0x01100010; sp = 0x1010fff0; callee = 0; entry = Export 0; saved = 0x1000fff0 } ∷
     record { caller = 0; pc = 0x0100000c; sp = 0x1000fff0; callee = 1; entry = Export 0; saved = 0x10110000 } ∷ [])
-unfolding run step_by stopped execute_by word_at are_data decoded jalr_in op_imm_in op_imm_op_of load_in load_op_of store_in store_op_of system_in
+unfolding run step_by stopped execute_by word_at are_data decoded jalr_in op_imm_in op_imm_op_of load_in load_op_of
+    store_in store_op_of system_in
 re_enters = (refl, refl, refl, refl, refl, refl)
 
 -- one compartment with this code, which may read inputs or not
@@ -128,7 +142,15 @@ alone input code = record {
   main = 0;
   entry = 0x01000000;
   comps =
-      record { name = codes "A"; input = input; output = false; exports = []; imports = []; code = code; globals = [] } ∷ [];
+      record {
+        name = codes "A";
+        input = input;
+        output = false;
+        exports = [];
+        imports = [];
+        code = code;
+        globals = [];
+      } ∷ [];
 }
 
 -- a7 is 1, and three calls of the environment: there are two inputs, and 0 comes after the last

@@ -1,4 +1,5 @@
--- What a step can come to, in two states at once that a compartment can't tell apart: the same registers, pc, inputs and events, and the same
+-- What a step can come to, in two states at once that a compartment can't tell apart: the same registers, pc, inputs
+-- and events, and the same
 -- bytes at its addresses. A relation between the outcomes holds if it holds of each kind of outcome.
 use Rattle.std.proofs.Common.{◌≡◌, ℕ, ◌+◌, ◌<◌, ◌%◌, Bool, true, false, ◌&&◌, nat_eq, if◌then◌else◌, List, length, set, Option, Some, None, refl, ap, subst, arith, length-set}
 use Rattle.std.specs.Prelude.{is_some, not, ◌==◌, slice_index}
@@ -32,13 +33,15 @@ use Rattle.sc_image.specs.Cross.{called, returned, output, input}
 use Rattle.sc_image.specs.Step.{Outcome, Goes, Traps, next, gives, load_size, store_size, extended, refused, unless, loaded, with_stored, jump, export_called, calls, leaves, jalr_target, compares, computed, on_registers, shift_on_registers, execute, by_owner, if_decoded, if_fetched, step, execute_by, step_by}
 
 -- each byte of an access that is the compartment's
-pub one_of : (image : ImageParts) (c a size k : ℕ) → are_data image c a size ≡ true → k < size → are_data image c (a + k) 1 ≡ true
+pub one_of : (image : ImageParts) (c a size k : ℕ) → are_data image c a size ≡ true → k < size →
+    are_data image c (a + k) 1 ≡ true
 one_of image c a size k all within =
     let bounds = data_bounds image c a size (omega (arith, within)) all in
     within_data image c (a + k) 1 (omega arith) (omega (arith, bounds.0)) (omega (arith, bounds.1, within))
 
 -- an access that isn't refused is of the compartment's bytes
-data_by : (aligned owned : Bool) → (if not aligned then Some Misaligned else if not owned then Some Owner else None) ≡ None → owned ≡ true
+data_by : (aligned owned : Bool) → (if not aligned then Some Misaligned else if not owned then Some Owner else None) ≡
+    None → owned ≡ true
 data_by true true h = refl
 data_by true false h = cc h
 data_by false owned h = cc h
@@ -61,12 +64,31 @@ shifted_word Srai a amount h = sra_word-lt a amount
 
 -- The two states.
 
-module _ (image : ImageParts) (inputs : List ℕ) (formed : IsWellFormed image) (regs : List ℕ) (pc c place : ℕ) (trace : List Event) (saved saved' : List ℕ) (memory memory' : Memory) (cross cross' : List Crossing) where
+module _ (image : ImageParts) (inputs : List ℕ) (formed : IsWellFormed image) (regs : List ℕ) (pc c place : ℕ)
+    (trace : List Event) (saved saved' : List ℕ) (memory memory' : Memory) (cross cross' : List Crossing) where
   abbrev pub one : State
-  one = record { regs = regs; pc = pc; active = c; saved = saved; memory = memory; cross = cross; input = place; trace = trace }
+  one = record {
+    regs = regs;
+    pc = pc;
+    active = c;
+    saved = saved;
+    memory = memory;
+    cross = cross;
+    input = place;
+    trace = trace;
+  }
 
   abbrev pub other : State
-  other = record { regs = regs; pc = pc; active = c; saved = saved'; memory = memory'; cross = cross'; input = place; trace = trace }
+  other = record {
+    regs = regs;
+    pc = pc;
+    active = c;
+    saved = saved';
+    memory = memory';
+    cross = cross';
+    input = place;
+    trace = trace;
+  }
 
   -- the registers and the pc after a step that changes nothing else
   pub record Moves (regs' : List ℕ) (pc' : ℕ) : Type 0 where
@@ -79,26 +101,32 @@ module _ (image : ImageParts) (inputs : List ℕ) (formed : IsWellFormed image) 
   pub record Cases (P : Outcome → Outcome → Type 0) : Type 0 where
     pub same : (a : ℕ) → are_data image c a 1 ≡ true → memory a ≡ memory' a
     pub traps : (reason : TrapReason) → P (Traps reason) (Traps reason)
-    pub quiet : (regs' : List ℕ) (pc' : ℕ) → Moves regs' pc' → P (Goes (record one { regs = regs'; pc = pc' })) (Goes (record other { regs = regs'; pc = pc' }))
+    pub quiet : (regs' : List ℕ) (pc' : ℕ) → Moves regs' pc' →
+        P (Goes (record one { regs = regs'; pc = pc' })) (Goes (record other { regs = regs'; pc = pc' }))
     pub stores : (op : StoreOp) (a word : ℕ) → refused image c (store_size op) a ≡ None →
         P (Goes (with_pc (with_stored one op a word) (pc + 4))) (Goes (with_pc (with_stored other op a word) (pc + 4)))
     pub calls : (to index target : ℕ) → export_at image to target ≡ Some index → may_call image c to index ≡ true →
-        P (Goes (called one to index (params_of image to index) target)) (Goes (called other to index (params_of image to index) target))
+        P (Goes (called one to index (params_of image to index) target))
+        (Goes (called other to index (params_of image to index) target))
     pub returns : P (Goes (returned image one cross)) (Goes (returned image other cross'))
-    pub outputs : may_output image c ≡ true → P (Goes (with_pc (output one) (pc + 4))) (Goes (with_pc (output other) (pc + 4)))
-    pub reads : may_input image c ≡ true → P (Goes (with_pc (input inputs one) (pc + 4))) (Goes (with_pc (input inputs other) (pc + 4)))
+    pub outputs : may_output image c ≡ true → P (Goes (with_pc (output one) (pc + 4)))
+        (Goes (with_pc (output other) (pc + 4)))
+    pub reads : may_input image c ≡ true → P (Goes (with_pc (input inputs one) (pc + 4)))
+        (Goes (with_pc (input inputs other) (pc + 4)))
 
   module _ (P : Outcome → Outcome → Type 0) (h : Cases P) where
     either : (b : Bool) (x x' y y' : Outcome) → P x x' → P y y' → P (if b then x else y) (if b then x' else y')
     either true x x' y y' p q = p
     either false x x' y y' p q = q
 
-    where_true : (b : Bool) (x x' y y' : Outcome) → (b ≡ true → P x x') → P y y' → P (if b then x else y) (if b then x' else y')
+    where_true : (b : Bool) (x x' y y' : Outcome) → (b ≡ true → P x x') → P y y' →
+        P (if b then x else y) (if b then x' else y')
     where_true true x x' y y' p q = p refl
     where_true false x x' y y' p q = q
 
     -- rd gets a word, and the pc goes on to this address
-    moves_with : (rd word target : ℕ) → (IsWord (pc + 4) → AreWords regs → HoldsBytes memory → IsWord word) → (IsWord (pc + 4) → IsWord target) → Moves (written regs rd word) target
+    moves_with : (rd word target : ℕ) → (IsWord (pc + 4) → AreWords regs → HoldsBytes memory → IsWord word) →
+        (IsWord (pc + 4) → IsWord target) → Moves (written regs rd word) target
     moves_with rd word target is_word next = record {
       count = length-written regs rd word;
       zero = written_zero regs rd word;
@@ -106,19 +134,30 @@ module _ (image : ImageParts) (inputs : List ℕ) (formed : IsWellFormed image) 
       goes = next;
     }
 
-    gives_both : (rd word : ℕ) → (IsWord (pc + 4) → AreWords regs → HoldsBytes memory → IsWord word) → P (gives one rd word) (gives other rd word)
-    gives_both rd word is_word = h.quiet (written regs rd word) (pc + 4) (moves_with rd word (pc + 4) is_word (λ here. here))
+    gives_both : (rd word : ℕ) → (IsWord (pc + 4) → AreWords regs → HoldsBytes memory → IsWord word) →
+        P (gives one rd word) (gives other rd word)
+    gives_both rd word is_word = h.quiet (written regs rd word) (pc + 4)
+        (moves_with rd word (pc + 4) is_word (λ here. here))
 
     next_both : P (next one) (next other)
-    next_both = h.quiet regs (pc + 4) (record { count = refl; zero = λ z. z; words = λ here w bytes. w; goes = λ here. here })
+    next_both = h.quiet regs (pc + 4) (record {
+      count = refl;
+      zero = λ z. z;
+      words = λ here w bytes. w;
+      goes = λ here. here;
+    })
 
-    jump_both : (rd target : ℕ) (x x' : Outcome) → P x x' → P (jump image one rd target x) (jump image other rd target x')
+    jump_both : (rd target : ℕ) (x x' : Outcome) → P x x' →
+        P (jump image one rd target x) (jump image other rd target x')
     jump_both rd target x x' elsewhere =
         either (not (target % 4 == 0)) _ _ _ _ (h.traps Misaligned)
         (where_true (is_some (word_at image c target)) _ _ _ _
-        (λ some. h.quiet (written regs rd (pc + 4)) target (moves_with rd (pc + 4) target (λ here w bytes. here) (λ here. code_address image formed c target some))) elsewhere)
+        (λ some. h.quiet (written regs rd (pc + 4)) target
+        (moves_with rd (pc + 4) target (λ here w bytes. here)
+        (λ here. code_address image formed c target some))) elsewhere)
 
-    export_both : (to target : ℕ) (index : Option ℕ) → export_at image to target ≡ index → P (export_called image one to target index) (export_called image other to target index)
+    export_both : (to target : ℕ) (index : Option ℕ) → export_at image to target ≡ index →
+        P (export_called image one to target index) (export_called image other to target index)
     export_both to target None at = h.traps BadJump
     export_both to target (Some index) at = may_by (may_call image c to index) refl
       where
@@ -130,14 +169,17 @@ module _ (image : ImageParts) (inputs : List ℕ) (formed : IsWellFormed image) 
 
     calls_both : (rd target : ℕ) → P (calls image one rd target) (calls image other rd target)
     calls_both rd target =
-        either (nat_eq rd ra) _ _ _ _ (export_both (comp_of_code target) target (export_at image (comp_of_code target) target) refl) (h.traps BadJump)
+        either (nat_eq rd ra) _ _ _ _ (export_both (comp_of_code target) target
+        (export_at image (comp_of_code target) target) refl) (h.traps BadJump)
 
     leaves_both : (rd target : ℕ) → P (leaves image one rd target) (leaves image other rd target)
     leaves_both rd target = either (nat_eq rd 0 && nat_eq target gate) _ _ _ _ h.returns (calls_both rd target)
 
     loaded_same : (op : LoadOp) (a : ℕ) → refused image c (load_size op) a ≡ None → loaded one op a ≡ loaded other op a
     loaded_same op a allowed =
-        ap (extended op) (load_of-same memory memory' a (load_size op) (λ k within. h.same (a + k) (one_of image c a (load_size op) k (allowed_data image c (load_size op) a allowed) within)))
+        ap (extended op) (load_of-same memory memory' a (load_size op)
+        (λ k within. h.same (a + k) (one_of image c a (load_size op) k
+        (allowed_data image c (load_size op) a allowed) within)))
 
     load_both : (op : LoadOp) (rd a : ℕ) (why : Option TrapReason) → refused image c (load_size op) a ≡ why →
         P (unless why (gives one rd (loaded one op a))) (unless why (gives other rd (loaded other op a)))
@@ -160,10 +202,13 @@ module _ (image : ImageParts) (inputs : List ℕ) (formed : IsWellFormed image) 
     unfolding execute_by
     execute_both (Upper Lui rd imm) fits = gives_both rd imm (λ here w bytes. fits)
     execute_both (Upper Auipc rd imm) fits = gives_both rd (add_word pc imm) (λ here w bytes. add_word-lt pc imm)
-    execute_both (Jal rd imm) fits = jump_both rd (add_word pc (word_of imm)) _ _ (calls_both rd (add_word pc (word_of imm)))
-    execute_both (Jalr rd rs1 imm) fits = jump_both rd (jalr_target (reg one rs1) imm) _ _ (leaves_both rd (jalr_target (reg one rs1) imm))
+    execute_both (Jal rd imm) fits = jump_both rd (add_word pc (word_of imm)) _ _
+        (calls_both rd (add_word pc (word_of imm)))
+    execute_both (Jalr rd rs1 imm) fits = jump_both rd (jalr_target (reg one rs1) imm) _ _
+        (leaves_both rd (jalr_target (reg one rs1) imm))
     execute_both (Branch op rs1 rs2 imm) fits =
-        either (compares op (reg one rs1) (reg one rs2)) _ _ _ _ (jump_both 0 (add_word pc (word_of imm)) _ _ (h.traps BadJump)) next_both
+        either (compares op (reg one rs1) (reg one rs2)) _ _ _ _
+        (jump_both 0 (add_word pc (word_of imm)) _ _ (h.traps BadJump)) next_both
     execute_both (Load op rd rs1 imm) fits = load_both op rd (add_word (reg one rs1) (word_of imm)) _ refl
     execute_both (Store op rs1 rs2 imm) fits = store_both op (add_word (reg one rs1) (word_of imm)) (reg one rs2) _ refl
     execute_both (OpImm op rd rs1 imm) fits =
@@ -173,11 +218,13 @@ module _ (image : ImageParts) (inputs : List ℕ) (formed : IsWellFormed image) 
         gives_both rd (computed (shift_on_registers op) (reg one rs1) amount)
         (λ here w bytes. shifted_word op (reg one rs1) amount (w rs1))
     execute_both (Op op rd rs1 rs2) fits =
-        gives_both rd (computed op (reg one rs1) (reg one rs2)) (λ here w bytes. computed_word op (reg one rs1) (reg one rs2) (w rs1) (w rs2))
+        gives_both rd (computed op (reg one rs1) (reg one rs2))
+        (λ here w bytes. computed_word op (reg one rs1) (reg one rs2) (w rs1) (w rs2))
     execute_both (Fence imm rs1 rd) fits = next_both
     execute_both Ecall fits =
         either (nat_eq (reg one a7) 1) _ _ _ _ (where_true (may_input image c) _ _ _ _ h.reads (h.traps NoImport))
-        (either (nat_eq (reg one a7) 2) _ _ _ _ (where_true (may_output image c) _ _ _ _ h.outputs (h.traps NoImport)) (h.traps BadCall))
+        (either (nat_eq (reg one a7) 2) _ _ _ _ (where_true (may_output image c) _ _ _ _ h.outputs (h.traps NoImport))
+        (h.traps BadCall))
     execute_both Ebreak fits = h.traps Breakpoint
 
     fits_decoded : (instr : Instr) (word : ℕ) → HasWord instr word → Fits instr
@@ -194,11 +241,14 @@ module _ (image : ImageParts) (inputs : List ℕ) (formed : IsWellFormed image) 
     fits_decoded Ecall word has = tt
     fits_decoded Ebreak word has = tt
 
-    decoded_both : (word : ℕ) (instr : Option Instr) → IsWord word → decoded word ≡ instr → P (if_decoded (by_owner image inputs) one instr) (if_decoded (by_owner image inputs) other instr)
+    decoded_both : (word : ℕ) (instr : Option Instr) → IsWord word → decoded word ≡ instr →
+        P (if_decoded (by_owner image inputs) one instr) (if_decoded (by_owner image inputs) other instr)
     decoded_both word None bits is = h.traps Illegal
-    decoded_both word (Some instr) bits is = execute_both instr (fits_decoded instr word (HasWord-decoded word instr bits is))
+    decoded_both word (Some instr) bits is = execute_both instr
+        (fits_decoded instr word (HasWord-decoded word instr bits is))
 
-    fetched_both : (word : Option ℕ) → word_at image c pc ≡ word → P (if_fetched (by_owner image inputs) one word) (if_fetched (by_owner image inputs) other word)
+    fetched_both : (word : Option ℕ) → word_at image c pc ≡ word →
+        P (if_fetched (by_owner image inputs) one word) (if_fetched (by_owner image inputs) other word)
     fetched_both None at = h.traps BadJump
     fetched_both (Some word) at = decoded_both word (decoded word) (in_code image formed c pc word at).bits refl
 
@@ -208,11 +258,14 @@ module _ (image : ImageParts) (inputs : List ℕ) (formed : IsWellFormed image) 
     step_both = fetched_both (word_at image c pc) refl
 
 -- One state: a property of its outcome.
-module _ (image : ImageParts) (inputs : List ℕ) (formed : IsWellFormed image) (state : State) (P : Outcome → Type 0) where
+module _ (image : ImageParts) (inputs : List ℕ) (formed : IsWellFormed image) (state : State)
+    (P : Outcome → Type 0) where
   abbrev pub OneCases : Type 0
   OneCases =
-      Cases image inputs formed state.regs state.pc state.active state.input state.trace state.saved state.saved state.memory state.memory state.cross state.cross (λ x y. P x)
+      Cases image inputs formed state.regs state.pc state.active state.input state.trace state.saved state.saved
+      state.memory state.memory state.cross state.cross (λ x y. P x)
 
   pub step_of : OneCases → P (step image inputs state)
   step_of h =
-      step_both image inputs formed state.regs state.pc state.active state.input state.trace state.saved state.saved state.memory state.memory state.cross state.cross (λ x y. P x) h
+      step_both image inputs formed state.regs state.pc state.active state.input state.trace state.saved state.saved
+      state.memory state.memory state.cross state.cross (λ x y. P x) h

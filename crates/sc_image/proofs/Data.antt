@@ -12,18 +12,22 @@ byte_is low mid count a = grind (arith, nat_tests)
 first_is : (low high a : ℕ) → (nat_le low (a + 0) && nat_le (a + 0 + 1) high) ≡ (nat_le low a && nat_le (a + 1) high)
 first_is low high a = grind (arith, nat_tests)
 
-next_is : (low high a k : ℕ) → ((nat_le low a && nat_le (a + suc k) high) && (nat_le low (a + suc k) && nat_le (a + suc k + 1) high)) ≡
+next_is : (low high a k : ℕ) → ((nat_le low a && nat_le (a + suc k) high) &&
+    (nat_le low (a + suc k) && nat_le (a + suc k + 1) high)) ≡
     (nat_le low a && nat_le (a + suc (suc k)) high)
 next_is low high a k = grind (arith, nat_tests)
 
 -- so the first and the last of some bytes tell of all
 pub data_range : (image : ImageParts) (c a k : ℕ) →
-    are_data image c a (suc k) ≡ (nat_le (data_start c) a && nat_le (a + suc k) (stack_top c + length (globals_of image c)))
+    are_data image c a (suc k) ≡ (nat_le (data_start c) a &&
+    nat_le (a + suc k) (stack_top c + length (globals_of image c)))
 unfolding are_data
 data_range image c a zero =
-    byte_is (data_start c) stack_size (length (globals_of image c)) (a + 0) ∙ first_is (data_start c) (stack_top c + length (globals_of image c)) a
+    byte_is (data_start c) stack_size (length (globals_of image c)) (a + 0) ∙
+    first_is (data_start c) (stack_top c + length (globals_of image c)) a
 data_range image c a (suc k) =
-    ap₂ (λ (x y : Bool). x && y) (data_range image c a k) (byte_is (data_start c) stack_size (length (globals_of image c)) (a + suc k)) ∙
+    ap₂ (λ (x y : Bool). x && y) (data_range image c a k)
+    (byte_is (data_start c) stack_size (length (globals_of image c)) (a + suc k)) ∙
     next_is (data_start c) (stack_top c + length (globals_of image c)) a k
 
 pub range_of : (image : ImageParts) (c a size : ℕ) → 0 < size →
@@ -40,9 +44,12 @@ holds x y z w h k = grind (arith, nat_tests)
 pub data_bounds : (image : ImageParts) (c a size : ℕ) → 0 < size → are_data image c a size ≡ true →
     (data_start c ≤ a) × (a + size ≤ stack_top c + length (globals_of image c))
 data_bounds image c a size some all =
-    facts (data_start c) a (a + size) (stack_top c + length (globals_of image c)) (sym (range_of image c a size some) ∙ all)
+    facts (data_start c) a (a + size) (stack_top c + length (globals_of image c))
+    (sym (range_of image c a size some) ∙ all)
 
-pub within_data : (image : ImageParts) (c a size : ℕ) → 0 < size → data_start c ≤ a → a + size ≤ stack_top c + length (globals_of image c) →
+pub within_data : (image : ImageParts) (c a size : ℕ) → 0 < size → data_start c ≤ a →
+    a + size ≤ stack_top c + length (globals_of image c) →
     are_data image c a size ≡ true
 within_data image c a size some low high =
-    range_of image c a size some ∙ holds (data_start c) a (a + size) (stack_top c + length (globals_of image c)) low high
+    range_of image c a size some ∙ holds (data_start c) a (a + size)
+    (stack_top c + length (globals_of image c)) low high

@@ -21,7 +21,7 @@ use Rattle.sc_image.specs.State.{State, Crossing, ra, sp, a0, reg, saved_sp, wri
 use Rattle.sc_image.specs.Cross.{kept_from, kept, is_argument, is_result, arguments, given_back, called, returned, returned_to, input_at}
 use Rattle.sc_image.specs.Step.{Outcome, Goes, step}
 use Rattle.sc_image.specs.Own.{Own, Kept, Waits, Entered, kept_by, data_of, own}
-use Rattle.sc_image.specs.Isolation.{Adds, EntersByEvent, activates, shown_by, after_outcome}
+use Rattle.sc_image.specs.Isolation.{Adds, EntersByEvent, activates, observation_of, after_outcome}
 use Rattle.std.proofs.Math.Seq.{drop-append_seam, drop-length}
 use Rattle.sc_image.proofs.Cases.{step_of}
 use Rattle.sc_image.specs.Steady.{IsChain, IsSteady}
@@ -35,15 +35,18 @@ if_same true x y h = h refl
 if_same false x y h = refl
 
 -- only the registers that are kept matter
-kept_same : (keeps : ℕ → Bool) (r : ℕ) (xs ys : List ℕ) → length xs ≡ length ys → ((i : ℕ) → keeps (r + i) ≡ true → get_or xs i 0 ≡ get_or ys i 0) →
+kept_same : (keeps : ℕ → Bool) (r : ℕ) (xs ys : List ℕ) → length xs ≡ length ys →
+    ((i : ℕ) → keeps (r + i) ≡ true → get_or xs i 0 ≡ get_or ys i 0) →
     kept_from keeps r xs ≡ kept_from keeps r ys
 kept_same keeps r [] [] same h = refl
 kept_same keeps r [] (y ∷ ys) same h = absurd (omega arith)
 kept_same keeps r (x ∷ xs) [] same h = absurd (omega arith)
 kept_same keeps r (x ∷ xs) (y ∷ ys) same h =
     let here : r + 0 ≡ r = omega arith in
-    let first : (if keeps r then x else 0) ≡ (if keeps r then y else 0) = if_same (keeps r) x y (λ e. h 0 (ap keeps here ∙ e)) in
-    let later = kept_same keeps (suc r) xs ys (omega arith) (λ i e. h (suc i) (let next : r + suc i ≡ suc r + i = omega arith in ap keeps next ∙ e)) in
+    let first : (if keeps r then x else 0) ≡ (if keeps r then y else 0) =
+    if_same (keeps r) x y (λ e. h 0 (ap keeps here ∙ e)) in
+    let later = kept_same keeps (suc r) xs ys (omega arith)
+    (λ i e. h (suc i) (let next : r + suc i ≡ suc r + i = omega arith in ap keeps next ∙ e)) in
     λ i. first i ∷ later i
 
 length-zeros : (n : ℕ) → length {A = ℕ} (replicate n 0) ≡ n
@@ -52,9 +55,15 @@ length-zeros (suc n) = ap suc (length-zeros n)
 
 length-from_a0 : (count : ℕ) (words : List ℕ) → count ≤ 8 → length words ≡ count → length (from_a0 count words) ≡ 32
 length-from_a0 count words few same =
-    omega (arith, length-append (replicate 10 0) (words ++ replicate (22 - count) 0), length-append words (replicate (22 - count) 0), length-zeros (22 - count))
+    omega (
+      arith,
+      length-append (replicate 10 0) (words ++ replicate (22 - count) 0),
+      length-append words (replicate (22 - count) 0),
+      length-zeros (22 - count),
+    )
 
-get-from_a0 : (count i : ℕ) (words : List ℕ) → length words ≡ count → 10 ≤ i → i < 10 + count → get_or (from_a0 count words) i 0 ≡ get_or words (i - 10) 0
+get-from_a0 : (count i : ℕ) (words : List ℕ) → length words ≡ count → 10 ≤ i → i < 10 + count →
+    get_or (from_a0 count words) i 0 ≡ get_or words (i - 10) 0
 get-from_a0 count i words same low high =
     get_or-append_right (replicate 10 0) (words ++ replicate (22 - count) 0) 10 i 0 refl low ∙
     get_or_append_left words (replicate (22 - count) 0) 0 (i - 10) (omega arith)
@@ -64,7 +73,8 @@ both_facts x y z w h = (grind (arith, nat_tests), grind (arith, nat_tests))
 
 -- The registers in a function that was called.
 
-length-arguments : (params : ℕ) (regs : List ℕ) → params ≤ 8 → length regs ≡ 32 → length (arguments params regs) ≡ params
+length-arguments : (params : ℕ) (regs : List ℕ) → params ≤ 8 → length regs ≡ 32 →
+    length (arguments params regs) ≡ params
 length-arguments params regs few same = length-take-le params (drop 10 regs) (omega (arith, length-drop 10 regs))
 
 argument_same : (params i : ℕ) (regs : List ℕ) → params ≤ 8 → length regs ≡ 32 → is_argument params i ≡ true →
@@ -73,13 +83,16 @@ argument_same params i regs few same is =
     let place = both_facts 10 i i (10 + params) is in
     let at : 10 + (i - 10) ≡ i = omega (arith, place.0) in
     sym (get-from_a0 params i (arguments params regs) (length-arguments params regs few same) place.0 place.1 ∙
-    get_or-take params (drop 10 regs) (i - 10) 0 (omega (arith, place.0, place.1)) ∙ get_or-drop 10 regs (i - 10) 0 ∙ ap (λ k. get_or regs k 0) at)
+    get_or-take params (drop 10 regs) (i - 10) 0 (omega (arith, place.0, place.1)) ∙ get_or-drop 10 regs (i - 10) 0 ∙
+    ap (λ k. get_or regs k 0) at)
 
-arguments_same : (params : ℕ) (regs : List ℕ) → params ≤ 8 → length regs ≡ 32 → kept (is_argument params) regs ≡ kept (is_argument params) (from_a0 params (arguments params regs))
+arguments_same : (params : ℕ) (regs : List ℕ) → params ≤ 8 → length regs ≡ 32 →
+    kept (is_argument params) regs ≡ kept (is_argument params) (from_a0 params (arguments params regs))
 arguments_same params regs few same =
     kept_same (is_argument params) 0 regs (from_a0 params (arguments params regs))
     (same ∙ sym (length-from_a0 params (arguments params regs) few (length-arguments params regs few same)))
-    (λ i e. argument_same params i regs few same (let here : 0 + i ≡ i = omega arith in sym (ap (is_argument params) here) ∙ e))
+    (λ i e. argument_same params i regs few same (let here : 0 + i ≡ i = omega arith in
+    sym (ap (is_argument params) here) ∙ e))
 
 -- The registers after a return.
 
@@ -90,7 +103,8 @@ both_true : (b : Bool) (x y : ℕ) → (b && nat_eq x y) ≡ true → (b ≡ tru
 both_true true x y h = (refl, eqb-true x y h)
 both_true false x y h = cc h
 
-result_same : (result : Bool) (regs : List ℕ) → length regs ≡ 32 → kept (is_result result) regs ≡ result_of (if result then Some (get_or regs 10 0) else None)
+result_same : (result : Bool) (regs : List ℕ) → length regs ≡ 32 →
+    kept (is_result result) regs ≡ result_of (if result then Some (get_or regs 10 0) else None)
 result_same true regs same =
     kept_same (is_result true) 0 regs (from_a0 1 (get_or regs 10 0 ∷ [])) same
     (λ i e. let here : 0 + i ≡ i = omega arith in
@@ -99,18 +113,21 @@ result_same false regs same = kept_same (is_result false) 0 regs (from_a0 1 (0 �
 
 -- The exports of a compartment.
 
-some_or_none : {A : Type 0} (P : A → Type 0) (f : A → ℕ) (x : Option A) → ((a : A) → x ≡ Some a → f a ≤ 8) → option_map_or f x 0 ≤ 8
+some_or_none : {A : Type 0} (P : A → Type 0) (f : A → ℕ) (x : Option A) → ((a : A) → x ≡ Some a → f a ≤ 8) →
+    option_map_or f x 0 ≤ 8
 some_or_none P f None h = omega arith
 some_or_none P f (Some a) h = h a refl
 
-few_of : (image : ImageParts) (d index : ℕ) → IsWellFormed image → (comp : Option CompPart) → slice_get image.comps d ≡ comp →
+few_of : (image : ImageParts) (d index : ℕ) → IsWellFormed image → (comp : Option CompPart) →
+    slice_get image.comps d ≡ comp →
     option_map_or (λ export. export.params) (slice_get (option_map_or (λ comp. comp.exports) comp []) index) 0 ≤ 8
 few_of image d index formed None is = omega arith
 few_of image d index formed (Some comp) is =
     some_or_none (λ e. Unit {0}) (λ (export : ExportPart). export.params) (slice_get comp.exports index)
     (λ export found.
     let all = (formed.comps d comp is).exports in
-    (subst (IsExport image d) (get_or_from_slice_get comp.exports index export export found) (all index export (slice_get_within comp.exports index export found))).params)
+    (subst (IsExport image d) (get_or_from_slice_get comp.exports index export export found)
+    (all index export (slice_get_within comp.exports index export found))).params)
 
 few_params : (image : ImageParts) (d index : ℕ) → IsWellFormed image → params_of image d index ≤ 8
 few_params image d index formed = few_of image d index formed (slice_get image.comps d) refl
@@ -121,9 +138,11 @@ entry_of image c index = option_map_or (λ export. export.entry) (slice_get (exp
 abbrev no_export : ExportPart
 no_export = record { name = []; params = 0; result = false; entry = 0 }
 
-entry_is : (image : ImageParts) (c target index : ℕ) → export_at image c target ≡ Some index → entry_of image c index ≡ target
+entry_is : (image : ImageParts) (c target index : ℕ) → export_at image c target ≡ Some index →
+    entry_of image c index ≡ target
 entry_is image c target index at =
-    let first = position-Some (λ (export : ExportPart). export.entry == target) (exports_of image c) index no_export at in
+    let first = position-Some (λ (export : ExportPart). export.entry == target)
+    (exports_of image c) index no_export at in
     rw (slice_get-get_or (exports_of image c) index no_export first.0) (eqb-true _ _ first.1)
 
 -- What is entered.
@@ -144,7 +163,8 @@ entered image d before (Call from to index args) = record {
   calls = Entered before.saved ∷ before.calls;
   running =
       Some (record {
-        regs = written (written (kept (is_argument (params_of image d index)) (from_a0 (params_of image d index) args)) ra gate) sp before.saved;
+        regs = written (written (kept (is_argument (params_of image d index))
+            (from_a0 (params_of image d index) args)) ra gate) sp before.saved;
         pc = entry_of image d index;
       });
 }
@@ -154,12 +174,15 @@ entered image d before _ = before
 -- the last event
 last_same : (trace : List Event) (one other : Event) → trace ++ one ∷ [] ≡ trace ++ other ∷ [] → one ≡ other
 last_same [] one other h = cc h
-last_same (event ∷ trace) one other h = let rest : trace ++ one ∷ [] ≡ trace ++ other ∷ [] = cc h in last_same trace one other rest
+last_same (event ∷ trace) one other h = let rest : trace ++ one ∷ [] ≡ trace ++ other ∷ [] = cc h in
+    last_same trace one other rest
 
-module _ (image : ImageParts) (inputs : List ℕ) (state : State) (d : ℕ) (formed : IsWellFormed image) (h : IsSteady image state) (differ : state.active ≢ d) where
+module _ (image : ImageParts) (inputs : List ℕ) (state : State) (d : ℕ) (formed : IsWellFormed image)
+    (h : IsSteady image state) (differ : state.active ≢ d) where
   abbrev Enters : Outcome → Type 0
   Enters outcome =
-      (after_outcome state outcome).active ≡ d → (event : Event) → (after_outcome state outcome).trace ≡ state.trace ++ event ∷ [] →
+      (after_outcome state outcome).active ≡ d → (event : Event) →
+      (after_outcome state outcome).trace ≡ state.trace ++ event ∷ [] →
       own image (after_outcome state outcome) d ≡ entered image d (own image state d) event
 
   -- a call
@@ -169,38 +192,65 @@ module _ (image : ImageParts) (inputs : List ℕ) (state : State) (d : ℕ) (for
   enters_call index target at =
       let params = params_of image d index in
       let after = called state d index params target in
-      let crossing : Crossing = record { caller = state.active; pc = state.pc + 4; sp = reg state sp; callee = d; entry = Export index; saved = saved_sp state d } in
-      let kept_is : kept_by d crossing ≡ Entered (saved_sp state d) ∷ [] = rw (ne_eqb state.active d differ, eq-eqb d d refl) refl in
-      let calls : kept_by d crossing ++ flat_map (kept_by d) state.cross ≡ Entered (saved_sp state d) ∷ flat_map (kept_by d) state.cross =
+      let crossing : Crossing = record {
+        caller = state.active;
+        pc = state.pc + 4;
+        sp = reg state sp;
+        callee = d;
+        entry = Export index;
+        saved = saved_sp state d;
+      } in
+      let kept_is : kept_by d crossing ≡ Entered (saved_sp state d) ∷ [] =
+      rw (ne_eqb state.active d differ, eq-eqb d d refl) refl in
+      let calls : kept_by d crossing ++ flat_map (kept_by d) state.cross ≡ Entered (saved_sp state d) ∷
+      flat_map (kept_by d) state.cross =
       ap (λ k. k ++ flat_map (kept_by d) state.cross) kept_is in
-      let saved : saved_sp after d ≡ saved_sp state d = get_or-set_other state.saved state.active d (reg state sp) 0 (λ same. differ (sym same)) in
+      let saved : saved_sp after d ≡ saved_sp state d =
+      get_or-set_other state.saved state.active d (reg state sp) 0 (λ same. differ (sym same)) in
       let regs = arguments_same params state.regs (few_params image d index formed) h.regs in
       let runs : (if nat_eq d d then Some (record { regs = after.regs; pc = after.pc }) else None) ≡
-      Some (record { regs = written (written (kept (is_argument params) (from_a0 params (arguments params state.regs))) ra gate) sp (saved_sp state d); pc = entry_of image d index }) =
-      rw (eq-eqb d d refl) (λ i. Some (record { regs = written (written (regs i) ra gate) sp (saved_sp state d); pc = sym (entry_is image d target index at) i })) in
+      Some (record {
+        regs = written (written (kept (is_argument params)
+            (from_a0 params (arguments params state.regs))) ra gate) sp (saved_sp state d);
+        pc = entry_of image d index;
+      }) =
+      rw (eq-eqb d d refl) (λ i. Some (record {
+        regs = written (written (regs i) ra gate) sp (saved_sp state d);
+        pc = sym (entry_is image d target index at) i;
+      })) in
       λ i. record { bytes = data_of image d state.memory; saved = saved i; calls = calls i; running = runs i }
 
   -- a return
   enters_return : (cross : List Crossing) → state.cross ≡ cross → Enters (Goes (returned image state cross))
   enters_return [] is = λ active event same. absurd (differ active)
   enters_return (x ∷ xs) is = λ active event same.
-      let chain : IsChain (length image.comps) state.active (x ∷ xs) = subst (IsChain (length image.comps) state.active) is h.chain in
+      let chain : IsChain (length image.comps) state.active (x ∷ xs) =
+      subst (IsChain (length image.comps) state.active) is h.chain in
       let callee : x.callee ≢ d = λ e. differ (sym chain.0 ∙ e) in
       let result = has_result image x.callee x.entry in
       let after = returned_to result state x xs in
       let kept_is : kept_by d x ≡ Waits x.pc x.sp ∷ [] = rw (eq-eqb x.caller d active, ne_eqb x.callee d callee) refl in
       let calls : flat_map (kept_by d) state.cross ≡ Waits x.pc x.sp ∷ flat_map (kept_by d) xs =
       ap (flat_map (kept_by d)) is ∙ ap (λ k. k ++ flat_map (kept_by d) xs) kept_is in
-      let saved : saved_sp after d ≡ saved_sp state d = get_or-set_other state.saved state.active d x.saved 0 (λ e. differ (sym e)) in
-      let regs : kept (is_result result) state.regs ≡ result_of (given_back result state) = result_same result state.regs h.regs in
+      let saved : saved_sp after d ≡ saved_sp state d =
+      get_or-set_other state.saved state.active d x.saved 0 (λ e. differ (sym e)) in
+      let regs : kept (is_result result) state.regs ≡ result_of (given_back result state) =
+      result_same result state.regs h.regs in
       let runs : (if nat_eq x.caller d then Some (record { regs = after.regs; pc = after.pc }) else None) ≡
       Some (record { regs = written (result_of (given_back result state)) sp x.sp; pc = x.pc }) =
       rw (eq-eqb x.caller d active) (λ i. Some (record { regs = written (regs i) sp x.sp; pc = x.pc })) in
       let is_event : Ret state.active x.caller (given_back result state) ≡ event = last_same state.trace _ event same in
-      let before : by_return (own image state d) (given_back result state) (Waits x.pc x.sp ∷ flat_map (kept_by d) xs) ≡ by_return (own image state d) (given_back result state) (own image state d).calls =
+      let before : by_return (own image state d) (given_back result state) (Waits x.pc x.sp ∷ flat_map (kept_by d) xs) ≡
+      by_return (own image state d) (given_back result state) (own image state d).calls =
       ap (by_return (own image state d) (given_back result state)) (sym calls) in
-      let first : own image after d ≡ by_return (own image state d) (given_back result state) (Waits x.pc x.sp ∷ flat_map (kept_by d) xs) =
-      λ i. record { bytes = data_of image d state.memory; saved = saved i; calls = flat_map (kept_by d) xs; running = runs i } in
+      let first : own image after d ≡ by_return (own image state d) (given_back result state)
+      (Waits x.pc x.sp ∷ flat_map (kept_by d) xs) =
+      λ i. record {
+        bytes = data_of image d state.memory;
+        saved = saved i;
+        calls = flat_map (kept_by d) xs;
+        running = runs i;
+      } in
       subst (λ e. own image after d ≡ entered image d (own image state d) e) is_event (first ∙ before)
 
   pub step_enters : Enters (step image inputs state)
@@ -211,10 +261,14 @@ module _ (image : ImageParts) (inputs : List ℕ) (state : State) (d : ℕ) (for
     stores = λ op a word allowed active event same. absurd (differ active);
     calls = λ to index target at may active event same.
         subst (λ k. export_at image k target ≡ Some index →
-        state.trace ++ Call state.active k index (arguments (params_of image k index) state.regs) ∷ [] ≡ state.trace ++ event ∷ [] →
-        own image (called state k index (params_of image k index) target) d ≡ entered image d (own image state d) event) (sym active)
-        (λ at same. subst (λ e. own image (called state d index (params_of image d index) target) d ≡ entered image d (own image state d) e)
-        (last_same state.trace (Call state.active d index (arguments (params_of image d index) state.regs)) event same) (enters_call index target at)) at same;
+        state.trace ++ Call state.active k index (arguments (params_of image k index) state.regs) ∷ [] ≡ state.trace ++
+        event ∷ [] →
+        own image (called state k index (params_of image k index) target) d ≡ entered image d (own image state d) event)
+        (sym active)
+        (λ at same. subst (λ e. own image (called state d index (params_of image d index) target) d ≡
+        entered image d (own image state d) e)
+        (last_same state.trace (Call state.active d index (arguments (params_of image d index) state.regs)) event same)
+        (enters_call index target at)) at same;
     returns = enters_return state.cross refl;
     outputs = λ may active event same. absurd (differ active);
     reads = λ may active event same. absurd (differ active);
@@ -222,25 +276,29 @@ module _ (image : ImageParts) (inputs : List ℕ) (state : State) (d : ℕ) (for
 
 -- Who is active after a step that shows this one event, a call of d or a return to it.
 
-module _ (image : ImageParts) (inputs : List ℕ) (state : State) (d : ℕ) (formed : IsWellFormed image) (event : Event) (activating : activates d event ≡ true) where
+module _ (image : ImageParts) (inputs : List ℕ) (state : State) (d : ℕ) (formed : IsWellFormed image) (event : Event)
+    (activating : activates d event ≡ true) where
   abbrev Activated : Outcome → Type 0
-  Activated outcome = shown_by state outcome ≡ Adds (event ∷ []) →
+  Activated outcome = observation_of state outcome ≡ Adds (event ∷ []) →
       ((after_outcome state outcome).active ≡ d) × ((after_outcome state outcome).trace ≡ state.trace ++ event ∷ [])
 
   no_event : Adds (drop (length state.trace) state.trace) ≡ Adds (event ∷ []) → ⊥
   no_event shows =
       let none : Adds [] ≡ Adds (event ∷ []) = ap Adds (sym (drop-length state.trace)) ∙ shows in cc none
 
-  that_event : (one : Event) → Adds (drop (length state.trace) (state.trace ++ one ∷ [])) ≡ Adds (event ∷ []) → one ≡ event
+  that_event : (one : Event) → Adds (drop (length state.trace) (state.trace ++ one ∷ [])) ≡ Adds (event ∷ []) →
+      one ≡ event
   that_event one shows =
-      let same : Adds (one ∷ []) ≡ Adds (event ∷ []) = ap Adds (sym (drop-append_seam state.trace (one ∷ []))) ∙ shows in cc same
+      let same : Adds (one ∷ []) ≡ Adds (event ∷ []) =
+      ap Adds (sym (drop-append_seam state.trace (one ∷ []))) ∙ shows in cc same
 
   activates_that : (one : Event) → one ≡ event → activates d one ≡ true
   activates_that one same = ap (activates d) same ∙ activating
 
   return_activates : (cross : List Crossing) → Activated (Goes (returned image state cross))
   return_activates [] shows =
-      let never : false ≡ true = activates_that (End state.active (reg state a0)) (that_event (End state.active (reg state a0)) shows) in cc never
+      let never : false ≡ true = activates_that (End state.active (reg state a0))
+      (that_event (End state.active (reg state a0)) shows) in cc never
   return_activates (x ∷ xs) shows =
       let one : Event = Ret state.active x.caller (given_back (has_result image x.callee x.entry) state) in
       let same : one ≡ event = that_event one shows in

@@ -16,23 +16,34 @@ with_code code globals = record {
   main = 0;
   entry = 0x01000000;
   comps =
-      record { name = codes "A"; input = false; output = false; exports = []; imports = []; code = code; globals = globals } ∷ [];
+      record {
+        name = codes "A";
+        input = false;
+        output = false;
+        exports = [];
+        imports = [];
+        code = code;
+        globals = globals;
+      } ∷ [];
 }
 
 -- addi a0,x0,-128; sw a0,-4(sp); lb a1,-4(sp); lbu a2,-4(sp); bltu a2,a1,8; ebreak; mul a0,a1,a2; lw a3,2(sp):
 -- the branch leads past the ebreak, and the last address is no multiple of 4
 words : ImageParts
-words = with_code (0xf8000513 ∷ 0xfea12e23 ∷ 0xffc10583 ∷ 0xffc14603 ∷ 0x00b66463 ∷ 0x00100073 ∷ 0x02c58533 ∷ 0x00212683 ∷ []) []
+words = with_code (0xf8000513 ∷ 0xfea12e23 ∷ 0xffc10583 ∷ 0xffc14603 ∷ 0x00b66463 ∷ 0x00100073 ∷ 0x02c58533 ∷
+    0x00212683 ∷ []) []
 
 runs_words : ((machine words [] 20 1).stop ≡ Trap Misaligned 0x0100001c) ×
     (reg (machine words [] 20 1).state a0 ≡ 0xffffc000) ×
     (reg (machine words [] 20 1).state 11 ≡ 0xffffff80) ×
     (reg (machine words [] 20 1).state 12 ≡ 0x80)
-unfolding words run step_by stopped execute_by word_at are_data decoded load_in store_in branch_in op_imm_in op_in load_op_of store_op_of branch_op_of op_imm_op_of op_op_of
+unfolding words run step_by stopped execute_by word_at are_data decoded load_in store_in branch_in op_imm_in op_in
+    load_op_of store_op_of branch_op_of op_imm_op_of op_op_of
 runs_words = (refl, refl, refl, refl)
 
 -- lhu a0,0(sp); lw a0,0(sp), with two bytes of globals: the word's last bytes are nobody's
-runs_past_globals : ((machine (with_code (0x00015503 ∷ 0x00012503 ∷ []) (0x34 ∷ 0x12 ∷ [])) [] 9 1).stop ≡ Trap Owner 0x01000004) ×
+runs_past_globals : ((machine (with_code (0x00015503 ∷ 0x00012503 ∷ []) (0x34 ∷ 0x12 ∷ [])) [] 9 1).stop ≡
+    Trap Owner 0x01000004) ×
     (reg (machine (with_code (0x00015503 ∷ 0x00012503 ∷ []) (0x34 ∷ 0x12 ∷ [])) [] 9 1).state a0 ≡ 0x1234)
 unfolding run step_by stopped execute_by word_at are_data start_memory decoded load_in load_op_of
 runs_past_globals = (refl, refl)

@@ -1,4 +1,5 @@
--- Fields: what a field's reader took from the front of the bytes is the field as it is written, and what is written is read again.
+-- Fields: what a field's reader took from the front of the bytes is the field as it is written, and what is written is
+-- read again.
 use Rattle.std.proofs.Common.{◌≡◌, ℕ, zero, suc, ◌+◌, ◌^◌, ◌<◌, ◌≤◌, Bool, true, false, List, [], ◌∷◌, ◌++◌, length, get_or, take, drop, All, Result, Ok, Err, refl, sym, ap, subst, ◌∙◌, append_assoc, arith, inl, inr}
 use Rattle.std.specs.Prelude.{nat_le, flat_map}
 use Rattle.std.specs.List.{AllByRecursion}
@@ -33,12 +34,14 @@ IsBytes-take n bytes h i =
     ]
 
 -- the value of a step that did not fail
-pub bind_ok : {A B : Type 0} (r : Result A BadImage) (f : A → Result B BadImage) (y : B) → (r >>= f) ≡ Ok y → (x : A) × (r ≡ Ok x) × (f x ≡ Ok y)
+pub bind_ok : {A B : Type 0} (r : Result A BadImage) (f : A → Result B BadImage) (y : B) → (r >>= f) ≡ Ok y →
+    (x : A) × (r ≡ Ok x) × (f x ≡ Ok y)
 bind_ok (Ok x) f y e = (x, refl, e)
 bind_ok (Err d) f y e = absurd cc
 
 -- a test that did not fail
-pub good_ok : {A : Type 0} (cause : BadImage) (good : Bool) (x y : A) → if_good cause good x ≡ Ok y → (good ≡ true) × (x ≡ y)
+pub good_ok : {A : Type 0} (cause : BadImage) (good : Bool) (x y : A) → if_good cause good x ≡ Ok y →
+    (good ≡ true) × (x ≡ y)
 good_ok cause true x y e = (refl, cc)
 good_ok cause false x y e = absurd cc
 
@@ -54,11 +57,15 @@ pub record Takes (bytes text rest : List ℕ) : Type 0 where
   pub rest_fits : IsBytes rest
 
 Takes-then : (a x b y c : List ℕ) → Takes a x b → Takes b y c → Takes a (x ++ y) c
-Takes-then a x b y c p q = record { parts = p.parts ∙ ap (λ (t : List ℕ). x ++ t) q.parts ∙ sym (append_assoc x y c); rest_fits = q.rest_fits }
+Takes-then a x b y c p q = record {
+  parts = p.parts ∙ ap (λ (t : List ℕ). x ++ t) q.parts ∙ sym (append_assoc x y c);
+  rest_fits = q.rest_fits;
+}
 
 -- a field of the values that fit it, each written in one way
 pub record IsField {A : Type 0} (field : List ℕ → Read A) (text : A → List ℕ) (fits : A → Type 0) : Type 0 where
-  pub takes : (bytes : List ℕ) (x : A) (rest : List ℕ) → IsBytes bytes → field bytes ≡ Ok (x, rest) → Takes bytes (text x) rest × fits x
+  pub takes : (bytes : List ℕ) (x : A) (rest : List ℕ) → IsBytes bytes → field bytes ≡ Ok (x, rest) →
+      Takes bytes (text x) rest × fits x
   pub again : (x : A) (rest : List ℕ) → fits x → field (text x ++ rest) ≡ Ok (x, rest)
 
 -- the same field, in other words
@@ -68,11 +75,13 @@ restated {A} {f} {t} {u} {F} {G} h same to from = record {
   takes = λ bytes x rest fits e.
       let took = h.takes bytes x rest fits e in
       (subst (λ (text : List ℕ). Takes bytes text rest) (same x took.1) took.0, to x took.1);
-  again = λ x rest fits. subst (λ (text : List ℕ). f (text ++ rest) ≡ Ok (x, rest)) (same x (from x fits)) (h.again x rest (from x fits));
+  again = λ x rest fits. subst (λ (text : List ℕ). f (text ++ rest) ≡ Ok (x, rest)) (same x (from x fits))
+      (h.again x rest (from x fits));
 }
 
 -- a field of which a value is made
-pub made : {A B : Type 0} {f : List ℕ → Read A} {t : A → List ℕ} {F : A → Type 0} → IsField f t F → (make : A → B) (part : B → A) → ((x : A) → part (make x) ≡ x) →
+pub made : {A B : Type 0} {f : List ℕ → Read A} {t : A → List ℕ} {F : A → Type 0} → IsField f t F →
+    (make : A → B) (part : B → A) → ((x : A) → part (make x) ≡ x) →
     IsField (λ bytes. f bytes >>= (λ x. Ok (make x.0, x.1))) (λ y. t (part y)) (λ y. F (part y) × (y ≡ make (part y)))
 made {A} {B} {f} {t} {F} h make part part_is = record {
   takes = λ bytes y rest fits e.
@@ -80,13 +89,16 @@ made {A} {B} {f} {t} {F} h make part part_is = record {
       let p : ◌≡◌ {A = B × List ℕ} (make a.0.0, a.0.1) (y, rest) = ok_is (make a.0.0, a.0.1) (y, rest) a.2 in
       let took = h.takes bytes a.0.0 a.0.1 fits a.1 in
       subst (λ (q : B × List ℕ). Takes bytes (t (part q.0)) q.1 × (F (part q.0) × (q.0 ≡ make (part q.0)))) p
-      (subst (λ (z : A). Takes bytes (t z) a.0.1 × (F z × (make a.0.0 ≡ make z))) (sym (part_is a.0.0)) (took.0, (took.1, refl)));
+      (subst (λ (z : A). Takes bytes (t z) a.0.1 × (F z × (make a.0.0 ≡ make z))) (sym (part_is a.0.0))
+      (took.0, (took.1, refl)));
   again = λ y rest fits.
-      ap (λ (r : Read A). r >>= (λ x. Ok (make x.0, x.1))) (h.again (part y) rest fits.0) ∙ ap (λ (z : B). Ok (z, rest)) (sym fits.1);
+      ap (λ (r : Read A). r >>= (λ x. Ok (make x.0, x.1))) (h.again (part y) rest fits.0) ∙
+      ap (λ (z : B). Ok (z, rest)) (sym fits.1);
 }
 
 -- a field whose value passes a test
-pub tested : {A : Type 0} {f : List ℕ → Read A} {t : A → List ℕ} {F : A → Type 0} → IsField f t F → (cause : BadImage) (passes : A → Bool) →
+pub tested : {A : Type 0} {f : List ℕ → Read A} {t : A → List ℕ} {F : A → Type 0} → IsField f t F →
+    (cause : BadImage) (passes : A → Bool) →
     IsField (λ bytes. f bytes >>= (λ x. if_good cause (passes x.0) x)) t (λ x. F x × (passes x ≡ true))
 tested {A} {f} {t} {F} h cause passes = record {
   takes = λ bytes y rest fits e.
@@ -98,9 +110,12 @@ tested {A} {f} {t} {F} h cause passes = record {
 }
 
 -- a field and then another, whose value holds that of the first
-pub followed : {A B : Type 0} {f : List ℕ → Read A} {t : A → List ℕ} {F : A → Type 0} {g : A → List ℕ → Read B} {u : A → B → List ℕ} {G : A → B → Type 0} →
-    IsField f t F → (first : B → A) → ((a : A) → F a → IsField (g a) (u a) (G a)) → ((a : A) (y : B) → F a → G a y → first y ≡ a) →
-    IsField (λ bytes. f bytes >>= (λ x. g x.0 x.1)) (λ y. t (first y) ++ u (first y) y) (λ y. F (first y) × G (first y) y)
+pub followed : {A B : Type 0} {f : List ℕ → Read A} {t : A → List ℕ} {F : A → Type 0} {g : A → List ℕ → Read B} {u : A →
+    B → List ℕ} {G : A → B → Type 0} →
+    IsField f t F → (first : B → A) → ((a : A) → F a → IsField (g a) (u a) (G a)) →
+    ((a : A) (y : B) → F a → G a y → first y ≡ a) →
+    IsField (λ bytes. f bytes >>= (λ x. g x.0 x.1)) (λ y. t (first y) ++ u (first y) y)
+    (λ y. F (first y) × G (first y) y)
 followed {A} {B} {f} {t} {F} {g} {u} {G} h first k keeps = record {
   takes = λ bytes y rest fits e.
       let a = bind_ok (f bytes) (λ x. g x.0 x.1) (y, rest) e in
@@ -111,19 +126,23 @@ followed {A} {B} {f} {t} {F} {g} {u} {G} h first k keeps = record {
   again = λ y rest fits.
       let b = first y in
       let regrouped : (t b ++ u b y) ++ rest ≡ t b ++ (u b y ++ rest) = append_assoc (t b) (u b y) rest in
-      let one : f ((t b ++ u b y) ++ rest) ≡ Ok (b, u b y ++ rest) = ap f regrouped ∙ h.again b (u b y ++ rest) fits.0 in
+      let one : f ((t b ++ u b y) ++ rest) ≡ Ok (b, u b y ++ rest) =
+      ap f regrouped ∙ h.again b (u b y ++ rest) fits.0 in
       ap (λ (r : Read A). r >>= (λ x. g x.0 x.1)) one ∙ (k b fits.0).again y rest fits.1;
 }
 
 -- so many bytes
-pub bytes_field : (cause : BadImage) (size : ℕ) → IsField (bytes_at cause size) (λ x. x) (λ x. (length x ≡ size) × IsBytes x)
+pub bytes_field : (cause : BadImage) (size : ℕ) → IsField (bytes_at cause size) (λ x. x)
+    (λ x. (length x ≡ size) × IsBytes x)
 bytes_field cause size = record {
   takes = λ bytes x rest fits e.
       let g = good_ok cause (nat_le size (length bytes)) (take size bytes, drop size bytes) (x, rest) e in
       let long : size ≤ length bytes = leb-true _ _ g.0 in
-      let parts : Takes bytes (take size bytes) (drop size bytes) = record { parts = sym (take-append-drop size bytes); rest_fits = IsBytes-drop size bytes fits } in
+      let parts : Takes bytes (take size bytes) (drop size bytes) =
+      record { parts = sym (take-append-drop size bytes); rest_fits = IsBytes-drop size bytes fits } in
       let len : length (take size bytes) ≡ size = omega (arith, length-take size bytes) in
-      subst (λ (p : List ℕ × List ℕ). Takes bytes p.0 p.1 × ((length p.0 ≡ size) × IsBytes p.0)) g.1 (parts, (len, IsBytes-take size bytes fits));
+      subst (λ (p : List ℕ × List ℕ). Takes bytes p.0 p.1 × ((length p.0 ≡ size) × IsBytes p.0)) g.1
+      (parts, (len, IsBytes-take size bytes fits));
   again = λ x rest fits.
       let long : nat_le size (length (x ++ rest)) ≡ true = le-leb _ _ (omega (arith, length-append x rest, fits.0)) in
       rw (long, take_at x rest size fits.0, drop_at x rest size fits.0) refl;
@@ -132,7 +151,8 @@ bytes_field cause size = record {
 -- ---- numbers
 
 pub record IsWide (size : ℕ) : Type 0 where
-  pub back : (bytes : List ℕ) → length bytes ≡ size → IsBytes bytes → little_bytes size (little_number size bytes) ≡ bytes
+  pub back : (bytes : List ℕ) → length bytes ≡ size → IsBytes bytes →
+      little_bytes size (little_number size bytes) ≡ bytes
 
 pub two_wide : IsWide 2
 two_wide = record { back = λ bytes len fits. le_bytes_2 bytes (little_number 2 bytes) len fits (omega arith) }
@@ -141,34 +161,44 @@ pub four_wide : IsWide 4
 four_wide = record { back = λ bytes len fits. le_bytes_4 bytes (little_number 4 bytes) len fits (omega arith) }
 
 -- the lowest byte first
-pub number_field : (cause : BadImage) (size : ℕ) → IsWide size → IsField (number_at cause size) (little_bytes size) (λ n. n < 256 ^ size)
+pub number_field : (cause : BadImage) (size : ℕ) → IsWide size →
+    IsField (number_at cause size) (little_bytes size) (λ n. n < 256 ^ size)
 number_field cause size wide = record {
   takes = λ bytes n rest fits e.
       let g = good_ok cause (nat_le size (length bytes)) (little_number size bytes, drop size bytes) (n, rest) e in
       let long : size ≤ length bytes = leb-true _ _ g.0 in
       let len : length (take size bytes) ≡ size = omega (arith, length-take size bytes) in
-      let same : little_number size (take size bytes) ≡ little_number size bytes = little_from-take 0 size size bytes (omega arith) in
+      let same : little_number size (take size bytes) ≡ little_number size bytes =
+      little_from-take 0 size size bytes (omega arith) in
       let front : little_bytes size (little_number size bytes) ≡ take size bytes =
       ap (little_bytes size) (sym same) ∙ wide.back (take size bytes) len (IsBytes-take size bytes fits) in
       let parts : Takes bytes (little_bytes size (little_number size bytes)) (drop size bytes) =
-      record { parts = sym (take-append-drop size bytes) ∙ ap (λ (t : List ℕ). t ++ drop size bytes) (sym front); rest_fits = IsBytes-drop size bytes fits } in
-      subst (λ (p : ℕ × List ℕ). Takes bytes (little_bytes size p.0) p.1 × (p.0 < 256 ^ size)) g.1 (parts, little_from-lt 0 size bytes fits);
+      record {
+        parts = sym (take-append-drop size bytes) ∙ ap (λ (t : List ℕ). t ++ drop size bytes) (sym front);
+        rest_fits = IsBytes-drop size bytes fits;
+      } in
+      subst (λ (p : ℕ × List ℕ). Takes bytes (little_bytes size p.0) p.1 × (p.0 < 256 ^ size)) g.1
+      (parts, little_from-lt 0 size bytes fits);
   again = λ n rest lt.
       let len = length-bytes_low_first 0 size n in
-      let long : nat_le size (length (little_bytes size n ++ rest)) ≡ true = le-leb _ _ (omega (arith, length-append (little_bytes size n) rest, len)) in
+      let long : nat_le size (length (little_bytes size n ++ rest)) ≡ true =
+      le-leb _ _ (omega (arith, length-append (little_bytes size n) rest, len)) in
       rw (long, little_number-reads_back size n rest lt, drop_at (little_bytes size n) rest size len) refl;
 }
 
 -- one byte
-byte_takes : (cause : BadImage) (bytes : List ℕ) (n : ℕ) (rest : List ℕ) → IsBytes bytes → number_at cause 1 bytes ≡ Ok (n, rest) → Takes bytes (n ∷ []) rest × (n < 256)
+byte_takes : (cause : BadImage) (bytes : List ℕ) (n : ℕ) (rest : List ℕ) → IsBytes bytes →
+    number_at cause 1 bytes ≡ Ok (n, rest) → Takes bytes (n ∷ []) rest × (n < 256)
 byte_takes cause [] n rest fits e = absurd cc
 byte_takes cause (b ∷ bytes) n rest fits e =
-    let g = good_ok cause (nat_le 1 (length (b ∷ bytes))) (little_number 1 (b ∷ bytes), drop 1 (b ∷ bytes)) (n, rest) e in
+    let g = good_ok cause (nat_le 1 (length (b ∷ bytes))) (little_number 1 (b ∷ bytes), drop 1 (b ∷ bytes))
+    (n, rest) e in
     let number : little_number 1 (b ∷ bytes) ≡ b = omega arith in
     let n-is : b ≡ n = sym number ∙ ap (λ (p : ℕ × List ℕ). p.0) g.1 in
     let rest-is : bytes ≡ rest = ap (λ (p : ℕ × List ℕ). p.1) g.1 in
     let whole : Takes (b ∷ bytes) (b ∷ []) bytes = record { parts = refl; rest_fits = λ i. fits (suc i) } in
-    subst (λ (m : ℕ). Takes (b ∷ bytes) (m ∷ []) rest × (m < 256)) n-is (subst (λ (r : List ℕ). Takes (b ∷ bytes) (b ∷ []) r) rest-is whole, fits 0)
+    subst (λ (m : ℕ). Takes (b ∷ bytes) (m ∷ []) rest × (m < 256)) n-is
+    (subst (λ (r : List ℕ). Takes (b ∷ bytes) (b ∷ []) r) rest-is whole, fits 0)
 
 pub byte_field : (cause : BadImage) → IsField (number_at cause 1) (λ n. n ∷ []) (λ n. n < 256)
 byte_field cause = record {
@@ -182,36 +212,46 @@ byte_field cause = record {
 -- ---- many fields
 
 module _ {A : Type 0} (f : List ℕ → Read A) (t : A → List ℕ) (F : A → Type 0) (h : IsField f t F) where
-  many_takes : (count : ℕ) (bytes : List ℕ) (xs : List A) (rest : List ℕ) → IsBytes bytes → fields_at f count bytes ≡ Ok (xs, rest) →
+  many_takes : (count : ℕ) (bytes : List ℕ) (xs : List A) (rest : List ℕ) → IsBytes bytes →
+      fields_at f count bytes ≡ Ok (xs, rest) →
       Takes bytes (flat_map t xs) rest × ((length xs ≡ count) × AllByRecursion F xs)
   unfolding fields_at
   many_takes zero bytes xs rest fits e =
       let p : ◌≡◌ {A = List A × List ℕ} ([], bytes) (xs, rest) = ok_is ([], bytes) (xs, rest) e in
       let none : Takes bytes (flat_map t []) bytes = record { parts = refl; rest_fits = fits } in
-      subst (λ (q : List A × List ℕ). Takes bytes (flat_map t q.0) q.1 × ((length q.0 ≡ 0) × AllByRecursion F q.0)) p (none, (refl, tt))
+      subst (λ (q : List A × List ℕ). Takes bytes (flat_map t q.0) q.1 × ((length q.0 ≡ 0) × AllByRecursion F q.0)) p
+      (none, (refl, tt))
   many_takes (suc count) bytes xs rest fits e =
-      let a = bind_ok (f bytes) (λ x. fields_at f count x.1 >>= (λ others. Ok (x.0 ∷ others.0, others.1))) (xs, rest) e in
+      let a = bind_ok (f bytes) (λ x. fields_at f count x.1 >>= (λ others. Ok (x.0 ∷ others.0, others.1)))
+      (xs, rest) e in
       let b = bind_ok (fields_at f count a.0.1) (λ others. Ok (a.0.0 ∷ others.0, others.1)) (xs, rest) a.2 in
       let one = h.takes bytes a.0.0 a.0.1 fits a.1 in
       let two = many_takes count a.0.1 b.0.0 b.0.1 one.0.rest_fits b.1 in
       let both = Takes-then bytes (t a.0.0) a.0.1 (flat_map t b.0.0) b.0.1 one.0 two.0 in
-      let p : ◌≡◌ {A = List A × List ℕ} (a.0.0 ∷ b.0.0, b.0.1) (xs, rest) = ok_is (a.0.0 ∷ b.0.0, b.0.1) (xs, rest) b.2 in
-      let whole : Takes bytes (flat_map t (a.0.0 ∷ b.0.0)) b.0.1 = subst (λ (text : List ℕ). Takes bytes text b.0.1) (sym (flat_map-cons t a.0.0 b.0.0)) both in
-      subst (λ (q : List A × List ℕ). Takes bytes (flat_map t q.0) q.1 × ((length q.0 ≡ suc count) × AllByRecursion F q.0)) p (whole, (ap suc two.1.0, (one.1, two.1.1)))
+      let p : ◌≡◌ {A = List A × List ℕ} (a.0.0 ∷ b.0.0, b.0.1) (xs, rest) =
+      ok_is (a.0.0 ∷ b.0.0, b.0.1) (xs, rest) b.2 in
+      let whole : Takes bytes (flat_map t (a.0.0 ∷ b.0.0)) b.0.1 =
+      subst (λ (text : List ℕ). Takes bytes text b.0.1) (sym (flat_map-cons t a.0.0 b.0.0)) both in
+      subst (λ (q : List A × List ℕ). Takes bytes (flat_map t q.0) q.1 ×
+      ((length q.0 ≡ suc count) × AllByRecursion F q.0)) p (whole, (ap suc two.1.0, (one.1, two.1.1)))
 
-  many_again : (xs : List A) (rest : List ℕ) → AllByRecursion F xs → fields_at f (length xs) (flat_map t xs ++ rest) ≡ Ok (xs, rest)
+  many_again : (xs : List A) (rest : List ℕ) → AllByRecursion F xs →
+      fields_at f (length xs) (flat_map t xs ++ rest) ≡ Ok (xs, rest)
   unfolding fields_at
   many_again [] rest all = refl
   many_again (x ∷ xs) rest all =
       let regrouped : flat_map t (x ∷ xs) ++ rest ≡ t x ++ (flat_map t xs ++ rest) =
       ap (λ (text : List ℕ). text ++ rest) (flat_map-cons t x xs) ∙ append_assoc (t x) (flat_map t xs) rest in
-      let one : f (flat_map t (x ∷ xs) ++ rest) ≡ Ok (x, flat_map t xs ++ rest) = ap f regrouped ∙ h.again x (flat_map t xs ++ rest) all.0 in
+      let one : f (flat_map t (x ∷ xs) ++ rest) ≡ Ok (x, flat_map t xs ++ rest) =
+      ap f regrouped ∙ h.again x (flat_map t xs ++ rest) all.0 in
       ap (λ (r : Read A). r >>= (λ y. fields_at f (length xs) y.1 >>= (λ others. Ok (y.0 ∷ others.0, others.1)))) one ∙
       ap (λ (r : Read (List A)). r >>= (λ others. Ok (x ∷ others.0, others.1))) (many_again xs rest all.1)
 
   -- so many of them
-  pub many_field : (count : ℕ) → IsField (fields_at f count) (flat_map t) (λ xs. (length xs ≡ count) × AllByRecursion F xs)
+  pub many_field : (count : ℕ) → IsField (fields_at f count) (flat_map t)
+      (λ xs. (length xs ≡ count) × AllByRecursion F xs)
   many_field count = record {
     takes = many_takes count;
-    again = λ xs rest fits. subst (λ (n : ℕ). fields_at f n (flat_map t xs ++ rest) ≡ Ok (xs, rest)) fits.0 (many_again xs rest fits.1);
+    again = λ xs rest fits. subst (λ (n : ℕ). fields_at f n (flat_map t xs ++ rest) ≡ Ok (xs, rest)) fits.0
+        (many_again xs rest fits.1);
   }

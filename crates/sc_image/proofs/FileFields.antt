@@ -30,8 +30,10 @@ nondigit_is_small b h = grind (arith, nat_tests)
 
 name_bytes_are_bytes : (xs : List ℕ) → list_all is_name_byte xs ≡ true → IsBytes xs
 name_bytes_are_bytes [] all i = omega arith
-name_bytes_are_bytes (x ∷ xs) all zero = name_byte_is_small x (and_parts (is_name_byte x) (list_all is_name_byte xs) all).0
-name_bytes_are_bytes (x ∷ xs) all (suc i) = name_bytes_are_bytes xs (and_parts (is_name_byte x) (list_all is_name_byte xs) all).1 i
+name_bytes_are_bytes (x ∷ xs) all zero = name_byte_is_small x
+    (and_parts (is_name_byte x) (list_all is_name_byte xs) all).0
+name_bytes_are_bytes (x ∷ xs) all (suc i) = name_bytes_are_bytes xs
+    (and_parts (is_name_byte x) (list_all is_name_byte xs) all).1 i
 
 pub name_is_bytes : (name : List ℕ) → is_name name ≡ true → IsBytes name
 unfolding is_name
@@ -43,18 +45,22 @@ name_is_bytes (first ∷ rest) named = by_place
 
     by_place : (i : ℕ) → get_or (first ∷ rest) i 0 < 256
     by_place zero = nondigit_is_small first tests.0
-    by_place (suc i) = name_bytes_are_bytes rest (and_parts (list_all is_name_byte rest) (nat_lt (length rest) 63) tests.1).0 i
+    by_place (suc i) = name_bytes_are_bytes rest (and_parts (list_all is_name_byte rest)
+        (nat_lt (length rest) 63) tests.1).0 i
 
 name_field : (cause : BadImage) → IsField (name_at cause) name_bytes (λ name. is_name name ≡ true)
 unfolding name_at
 name_field cause =
-    restated (followed (byte_field cause) (λ (name : List ℕ). length name) (λ size ok. tested (bytes_field cause size) cause is_name) (λ size name a b. b.0.0))
+    restated (followed (byte_field cause) (λ (name : List ℕ). length name)
+    (λ size ok. tested (bytes_field cause size) cause is_name) (λ size name a b. b.0.0))
     (λ name h. refl) (λ name h. h.1.1) (λ name h. (omega (arith, short_name name h), ((refl, name_is_bytes name h), h)))
 
-comp_name_field : IsField comp_name_at name_bytes (λ name. (is_name name ≡ true) × (is_same_name name (codes "Env") ≡ false))
+comp_name_field : IsField comp_name_at name_bytes (λ name. (is_name name ≡ true) ×
+    (is_same_name name (codes "Env") ≡ false))
 unfolding comp_name_at
 comp_name_field =
-    restated (tested (name_field Compartment) Compartment (λ name. not (is_same_name name (codes "Env")))) (λ name h. refl)
+    restated (tested (name_field Compartment) Compartment (λ name. not (is_same_name name (codes "Env"))))
+    (λ name h. refl)
     (λ name h. (h.0, not-true _ h.1)) (λ name h. (h.0, not_from_false _ h.1))
 
 -- exports
@@ -81,22 +87,36 @@ abbrev export_with : (name : List ℕ) (params result entry : ℕ) → ExportPar
 export_with name params result entry = record { name = name; params = params; result = result == 1; entry = entry }
 
 export_again : (export : ExportPart) → export ≡ export_with export.name export.params (bit export.result) export.entry
-export_again export = ap (λ (b : Bool). record { name = export.name; params = export.params; result = b; entry = export.entry }) (sym (bit_again export.result))
+export_again export = ap (λ (b : Bool). record {
+  name = export.name;
+  params = export.params;
+  result = b;
+  entry = export.entry;
+}) (sym (bit_again export.result))
 
 pub export_field : IsField export_at export_bytes FitsExport
 unfolding export_at
 export_field =
     restated
     (followed (name_field Exports) (λ (export : ExportPart). export.name) (λ name ok.
-    followed (tested (byte_field Exports) Exports (λ n. nat_le n 8)) (λ (export : ExportPart). export.params) (λ params ok.
-    followed (tested (byte_field Exports) Exports (λ n. nat_le n 1)) (λ (export : ExportPart). bit export.result) (λ result ok.
-    made (number_field Exports 4 four_wide) (export_with name params result) (λ (export : ExportPart). export.entry) (λ entry. refl))
+    followed (tested (byte_field Exports) Exports (λ n. nat_le n 8)) (λ (export : ExportPart). export.params)
+    (λ params ok.
+    followed (tested (byte_field Exports) Exports (λ n. nat_le n 1)) (λ (export : ExportPart). bit export.result)
+    (λ result ok.
+    made (number_field Exports 4 four_wide) (export_with name params result) (λ (export : ExportPart). export.entry)
+    (λ entry. refl))
     (λ result y a b. ap (λ (e : ExportPart). bit e.result) b.1 ∙ bit_of result (leb-true _ _ a.1)))
     (λ params y a b. ap (λ (e : ExportPart). e.params) b.1.1))
     (λ name y a b. ap (λ (e : ExportPart). e.name) b.1.1.1))
     (λ export h. refl)
     (λ export h. record { name = h.0; params = leb-true _ _ h.1.0.1; entry = h.1.1.1.0 })
-    (λ export h. (h.name, ((omega (arith, h.params), le-leb _ _ h.params), (bit_fits export.result, (h.entry, export_again export)))))
+    (λ export h. (
+      h.name,
+      (
+        (omega (arith, h.params), le-leb _ _ h.params),
+        (bit_fits export.result, (h.entry, export_again export)),
+      ),
+    ))
 
 pub record FitsExports (exports : List ExportPart) : Type 0 where
   pub few : length exports ≤ 4096
@@ -106,7 +126,8 @@ pub exports_field : IsField exports_at exports_bytes FitsExports
 unfolding exports_at
 exports_field =
     restated
-    (followed (tested (number_field Exports 2 two_wide) Exports (λ n. nat_le n 4096)) (λ (exports : List ExportPart). length exports)
+    (followed (tested (number_field Exports 2 two_wide) Exports (λ n. nat_le n 4096))
+    (λ (exports : List ExportPart). length exports)
     (λ count ok. many_field export_at export_bytes FitsExport export_field count) (λ count exports a b. b.0))
     (λ exports h. refl) (λ exports h. record { few = leb-true _ _ h.0.1; each = h.1.1 })
     (λ exports h. ((omega (arith, h.few), le-leb _ _ h.few), (refl, h.each)))
@@ -128,10 +149,12 @@ pub record FitsCode (code : List ℕ) : Type 0 where
   pub each : AllByRecursion (λ word. word < 2 ^ 32) code
 
 code_size : (size k : ℕ) → (size % 4 == 0 && nat_le size stretch) ≡ true → k ≡ size / 4 → 4 * k ≡ size
-code_size size k passes is = let whole : size % 4 ≡ 0 = eqb-true _ _ (and_parts (size % 4 == 0) (nat_le size stretch) passes).0 in omega (arith, whole, is)
+code_size size k passes is = let whole : size % 4 ≡ 0 =
+    eqb-true _ _ (and_parts (size % 4 == 0) (nat_le size stretch) passes).0 in omega (arith, whole, is)
 
 code_passes : (k : ℕ) → 4 * k ≤ stretch → (4 * k % 4 == 0 && nat_le (4 * k) stretch) ≡ true
-code_passes k short = and_from (4 * k % 4 == 0) (nat_le (4 * k) stretch) (eq-eqb (4 * k % 4) 0 (omega arith)) (le-leb (4 * k) stretch short)
+code_passes k short = and_from (4 * k % 4 == 0) (nat_le (4 * k) stretch) (eq-eqb (4 * k % 4) 0 (omega arith))
+    (le-leb (4 * k) stretch short)
 
 code_short : (size k : ℕ) → (4 * k % 4 == 0 && nat_le (4 * k) stretch) ≡ true → 4 * k ≤ stretch
 code_short size k passes = leb-true _ _ (and_parts (4 * k % 4 == 0) (nat_le (4 * k) stretch) passes).1
@@ -140,8 +163,10 @@ pub code_field : IsField code_at code_bytes FitsCode
 unfolding code_at
 code_field =
     restated
-    (followed (tested (number_field Contents 4 four_wide) Contents (λ n. n % 4 == 0 && nat_le n stretch)) (λ (code : List ℕ). 4 * length code)
-    (λ size ok. many_field (number_at Contents 4) (little_bytes 4) (λ word. word < 2 ^ 32) (number_field Contents 4 four_wide) (size / 4))
+    (followed (tested (number_field Contents 4 four_wide) Contents (λ n. n % 4 == 0 && nat_le n stretch))
+    (λ (code : List ℕ). 4 * length code)
+    (λ size ok. many_field (number_at Contents 4) (little_bytes 4) (λ word. word < 2 ^ 32)
+    (number_field Contents 4 four_wide) (size / 4))
     (λ size code a b. code_size size (length code) a.1 b.0))
     (λ code h. refl) (λ code h. record { short = code_short 0 (length code) h.0.1; each = h.1.1 })
     (λ code h. ((omega (arith, h.short), code_passes (length code) h.short), (omega arith, h.each)))
@@ -154,7 +179,8 @@ pub globals_field : IsField globals_at globals_bytes FitsGlobals
 unfolding globals_at
 globals_field =
     restated
-    (followed (tested (number_field Contents 4 four_wide) Contents (λ n. nat_le n most_globals)) (λ (globals : List ℕ). length globals)
+    (followed (tested (number_field Contents 4 four_wide) Contents (λ n. nat_le n most_globals))
+    (λ (globals : List ℕ). length globals)
     (λ size ok. bytes_field Contents size) (λ size globals a b. b.0))
     (λ globals h. refl) (λ globals h. record { short = leb-true _ _ h.0.1; bytes = h.1.1 })
     (λ globals h. ((omega (arith, h.short), le-leb _ _ h.short), (refl, h.bytes)))
@@ -187,7 +213,8 @@ has_flags true false = record { within = omega arith; first = refl; second = ref
 has_flags false true = record { within = omega arith; first = refl; second = refl }
 has_flags false false = record { within = omega arith; first = refl; second = refl }
 
-abbrev comp_with : (name : List ℕ) (flags : ℕ) (exports : List ExportPart) (imports : List ImportPart) (code globals : List ℕ) → CompPart
+abbrev comp_with : (name : List ℕ) (flags : ℕ) (exports : List ExportPart) (imports : List ImportPart)
+    (code globals : List ℕ) → CompPart
 comp_with name flags exports imports code globals = record {
   name = name;
   input = flags % 2 == 1;
@@ -198,13 +225,31 @@ comp_with name flags exports imports code globals = record {
   globals = globals;
 }
 
-comp_again : (comp : CompPart) → comp ≡ comp_with comp.name (flags comp) comp.exports comp.imports comp.code comp.globals
+comp_again : (comp : CompPart) → comp ≡ comp_with comp.name
+    (flags comp) comp.exports comp.imports comp.code comp.globals
 comp_again comp =
     let h = has_flags comp.input comp.output in
-    ap (λ (b : Bool). record { name = comp.name; input = b; output = comp.output; exports = comp.exports; imports = comp.imports; code = comp.code; globals = comp.globals }) (sym h.first) ∙
-    ap (λ (b : Bool). record { name = comp.name; input = flags comp % 2 == 1; output = b; exports = comp.exports; imports = comp.imports; code = comp.code; globals = comp.globals }) (sym h.second)
+    ap (λ (b : Bool). record {
+      name = comp.name;
+      input = b;
+      output = comp.output;
+      exports = comp.exports;
+      imports = comp.imports;
+      code = comp.code;
+      globals = comp.globals;
+    }) (sym h.first) ∙
+    ap (λ (b : Bool). record {
+      name = comp.name;
+      input = flags comp % 2 == 1;
+      output = b;
+      exports = comp.exports;
+      imports = comp.imports;
+      code = comp.code;
+      globals = comp.globals;
+    }) (sym h.second)
 
-grouped : (name exports imports code globals : List ℕ) (f : ℕ) → name ++ (f ∷ (exports ++ (imports ++ (code ++ globals)))) ≡ name ++ f ∷ exports ++ imports ++ code ++ globals
+grouped : (name exports imports code globals : List ℕ) (f : ℕ) →
+    name ++ (f ∷ (exports ++ (imports ++ (code ++ globals)))) ≡ name ++ f ∷ exports ++ imports ++ code ++ globals
 grouped name exports imports code globals f = simp append_assoc
 
 -- an image of so many compartments
@@ -213,8 +258,10 @@ module _ (comps : ℕ) (few : comps ≤ 32) where
   unfolding import_at
   import_field =
       restated
-      (followed (tested (byte_field Imports) Imports (λ c. nat_lt c comps)) (λ (import : ImportPart). import.comp) (λ comp ok.
-      made (number_field Imports 2 two_wide) (λ index. record { comp = comp; index = index }) (λ (import : ImportPart). import.index) (λ index. refl))
+      (followed (tested (byte_field Imports) Imports (λ c. nat_lt c comps)) (λ (import : ImportPart). import.comp)
+      (λ comp ok.
+      made (number_field Imports 2 two_wide) (λ index. record { comp = comp; index = index })
+      (λ (import : ImportPart). import.index) (λ index. refl))
       (λ comp y a b. ap (λ (i : ImportPart). i.comp) b.1))
       (λ import h. refl) (λ import h. record { comp = ltb-true _ _ h.0.1; index = h.1.0 })
       (λ import h. ((omega (arith, h.comp, few), lt-ltb _ _ h.comp), (h.index, refl)))
@@ -223,8 +270,10 @@ module _ (comps : ℕ) (few : comps ≤ 32) where
   unfolding imports_at
   imports_field =
       restated
-      (followed (tested (number_field Imports 2 two_wide) Imports (λ n. nat_le n 4096)) (λ (imports : List ImportPart). length imports)
-      (λ count ok. many_field (import_at comps) import_bytes (FitsImport comps) import_field count) (λ count imports a b. b.0))
+      (followed (tested (number_field Imports 2 two_wide) Imports (λ n. nat_le n 4096))
+      (λ (imports : List ImportPart). length imports)
+      (λ count ok. many_field (import_at comps) import_bytes (FitsImport comps) import_field count)
+      (λ count imports a b. b.0))
       (λ imports h. refl) (λ imports h. record { few = leb-true _ _ h.0.1; each = h.1.1 })
       (λ imports h. ((omega (arith, h.few), le-leb _ _ h.few), (refl, h.each)))
 
@@ -233,7 +282,8 @@ module _ (comps : ℕ) (few : comps ≤ 32) where
   comp_field =
       restated
       (followed comp_name_field (λ (comp : CompPart). comp.name) (λ name ok.
-      followed (tested (byte_field Compartment) Compartment (λ f. nat_le f 3)) (λ (comp : CompPart). flags comp) (λ f ok.
+      followed (tested (byte_field Compartment) Compartment (λ f. nat_le f 3)) (λ (comp : CompPart). flags comp)
+      (λ f ok.
       followed exports_field (λ (comp : CompPart). comp.exports) (λ exports ok.
       followed imports_field (λ (comp : CompPart). comp.imports) (λ imports ok.
       followed code_field (λ (comp : CompPart). comp.code) (λ code ok.
@@ -243,11 +293,24 @@ module _ (comps : ℕ) (few : comps ≤ 32) where
       (λ exports y a b. ap (λ (c : CompPart). c.exports) b.1.1.1))
       (λ f y a b. ap (λ (c : CompPart). flags c) b.1.1.1.1 ∙ flags_of f (leb-true _ _ a.1)))
       (λ name y a b. ap (λ (c : CompPart). c.name) b.1.1.1.1.1))
-      (λ comp h. grouped (name_bytes comp.name) (exports_bytes comp.exports) (imports_bytes comp.imports) (code_bytes comp.code) (globals_bytes comp.globals) (flags comp))
-      (λ comp h. record { name = h.0.0; no_environment = h.0.1; exports = h.1.1.0; imports = h.1.1.1.0; code = h.1.1.1.1.0; globals = h.1.1.1.1.1.0 })
+      (λ comp h. grouped (name_bytes comp.name) (exports_bytes comp.exports) (imports_bytes comp.imports)
+      (code_bytes comp.code) (globals_bytes comp.globals) (flags comp))
+      (λ comp h. record {
+        name = h.0.0;
+        no_environment = h.0.1;
+        exports = h.1.1.0;
+        imports = h.1.1.1.0;
+        code = h.1.1.1.1.0;
+        globals = h.1.1.1.1.1.0;
+      })
       (λ comp h.
-      let all_flags = has_flags comp.input comp.output in
-      ((h.name, h.no_environment), ((omega (arith, all_flags.within), le-leb _ _ all_flags.within), (h.exports, (h.imports, (h.code, (h.globals, comp_again comp)))))))
+      let all_flags = has_flags comp.input comp.output in (
+        (h.name, h.no_environment),
+        (
+          (omega (arith, all_flags.within), le-leb _ _ all_flags.within),
+          (h.exports, (h.imports, (h.code, (h.globals, comp_again comp)))),
+        ),
+      ))
 
 -- the whole image
 
@@ -272,13 +335,18 @@ parts_field : (version : ℕ) → version < 2 ^ 16 → IsField (parts_in_version
 unfolding parts_in_version
 parts_field version low =
     restated
-    (followed (tested (bytes_field Mark 4) Mark (λ mark. is_same_name mark (codes "SCIM"))) (λ (parts : ImageParts). codes "SCIM") (λ mark ok.
-    followed (tested (number_field Version 2 two_wide) Version (λ v. v == version)) (λ (parts : ImageParts). version) (λ same ok.
-    followed (tested (byte_field Count) Count (is_between 1 32)) (λ (parts : ImageParts). length parts.comps) (λ count ok.
-    followed (tested (byte_field Start) Start (λ c. nat_lt c count)) (λ (parts : ImageParts). parts.main) (λ main ok_main.
+    (followed (tested (bytes_field Mark 4) Mark (λ mark. is_same_name mark (codes "SCIM")))
+    (λ (parts : ImageParts). codes "SCIM") (λ mark ok.
+    followed (tested (number_field Version 2 two_wide) Version (λ v. v == version)) (λ (parts : ImageParts). version)
+    (λ same ok.
+    followed (tested (byte_field Count) Count (is_between 1 32)) (λ (parts : ImageParts). length parts.comps)
+    (λ count ok.
+    followed (tested (byte_field Start) Start (λ c. nat_lt c count)) (λ (parts : ImageParts). parts.main)
+    (λ main ok_main.
     followed (number_field Start 4 four_wide) (λ (parts : ImageParts). parts.entry) (λ entry ok_entry.
     made (many_field (comp_at count) comp_bytes (FitsComp count) (comp_field count (count_within count ok.1).1) count)
-    (λ comps. record { main = main; entry = entry; comps = comps }) (λ (parts : ImageParts). parts.comps) (λ comps. refl))
+    (λ comps. record { main = main; entry = entry; comps = comps }) (λ (parts : ImageParts). parts.comps)
+    (λ comps. refl))
     (λ entry y a b. ap (λ (p : ImageParts). p.entry) b.1))
     (λ main y a b. ap (λ (p : ImageParts). p.main) b.1.1))
     (λ count y a b. b.1.1.0.0))
@@ -296,12 +364,17 @@ parts_field version low =
       ((refl, mark_is_bytes), refl),
       (
         (omega (arith, low), eq-eqb version version refl),
-        ((omega (arith, h.few), count_passes (length parts.comps) h.some h.few), ((omega (arith, h.main, h.few), lt-ltb _ _ h.main), (h.entry, ((refl, h.comps), refl)))),
+        (
+          (omega (arith, h.few), count_passes (length parts.comps) h.some h.few),
+          ((omega (arith, h.main, h.few), lt-ltb _ _ h.main), (h.entry, ((refl, h.comps), refl))),
+        ),
       ),
     ))
 
-pub parts_take : (version : ℕ) → version < 2 ^ 16 → (bytes : List ℕ) (parts : ImageParts) (rest : List ℕ) → IsBytes bytes →
-    parts_in_version version bytes ≡ Ok (parts, rest) → (bytes ≡ bytes_in_version version parts ++ rest) × FitsParts parts
+pub parts_take : (version : ℕ) → version < 2 ^ 16 → (bytes : List ℕ) (parts : ImageParts) (rest : List ℕ) →
+    IsBytes bytes →
+    parts_in_version version bytes ≡ Ok (parts, rest) →
+    (bytes ≡ bytes_in_version version parts ++ rest) × FitsParts parts
 parts_take version low bytes parts rest fits e =
     let took = (parts_field version low).takes bytes parts rest fits e in (took.0.parts, took.1)
 

@@ -19,15 +19,18 @@ low_version : version < 2 ^ 16
 low_version = omega arith
 
 -- what is read is well formed, and these are its bytes
-pub is_read : (bytes : List ℕ) (image : ImageParts) → IsBytes bytes → image_of bytes ≡ Ok image → IsWellFormed image × (bytes ≡ image_bytes image)
+pub is_read : (bytes : List ℕ) (image : ImageParts) → IsBytes bytes → image_of bytes ≡ Ok image →
+    IsWellFormed image × (bytes ≡ image_bytes image)
 unfolding image_in_version
 is_read bytes image fits e =
-    let a = bind_ok (parts_in_version version bytes) (λ x. if_good Whole (length x.1 == 0 && keeps_rules x.0) x.0) image e in
+    let a = bind_ok (parts_in_version version bytes) (λ x.
+    if_good Whole (length x.1 == 0 && keeps_rules x.0) x.0) image e in
     let g = good_ok Whole (length a.0.1 == 0 && keeps_rules a.0.0) a.0.0 image a.2 in
     let tests = and_parts (length a.0.1 == 0) (keeps_rules a.0.0) g.0 in
     let took = parts_take version low_version bytes a.0.0 a.0.1 fits a.1 in
     let none : a.0.1 ≡ [] = nil_from_length a.0.1 (eqb-true _ _ tests.0) in
-    let all : bytes ≡ image_bytes a.0.0 = took.0 ∙ ap (λ (rest : List ℕ). image_bytes a.0.0 ++ rest) none ∙ append-nil (image_bytes a.0.0) in
+    let all : bytes ≡ image_bytes a.0.0 = took.0 ∙ ap (λ (rest : List ℕ). image_bytes a.0.0 ++ rest) none ∙
+    append-nil (image_bytes a.0.0) in
     subst (λ (x : ImageParts). IsWellFormed x × (bytes ≡ image_bytes x)) g.1 (whole_is a.0.0 took.1 tests.1, all)
 
 pub parts_are_few : (bytes : List ℕ) (parts : ImageParts) (rest : List ℕ) → IsBytes bytes →
@@ -45,10 +48,13 @@ is_read_again image formed =
 
 pub one_image_each : BytesNameOneImage
 one_image_each one other formed also same =
-    let p : ◌≡◌ {A = Result ImageParts BadImage} (Ok one) (Ok other) = sym (is_read_again one formed) ∙ ap image_of same ∙ is_read_again other also in cc p
+    let p : ◌≡◌ {A = Result ImageParts BadImage} (Ok one) (Ok other) =
+    sym (is_read_again one formed) ∙ ap image_of same ∙ is_read_again other also in cc p
 
-no_cause : (bytes : List ℕ) → IsBytes bytes → (read : Result ImageParts BadImage) → image_of bytes ≡ read → cause_of read ≡ None → IsImage bytes
-no_cause bytes fits (Ok image) e none = let h = is_read bytes image fits e in record { image = image; well_formed = h.0; bytes_are = h.1 }
+no_cause : (bytes : List ℕ) → IsBytes bytes → (read : Result ImageParts BadImage) → image_of bytes ≡ read →
+    cause_of read ≡ None → IsImage bytes
+no_cause bytes fits (Ok image) e none = let h = is_read bytes image fits e in
+    record { image = image; well_formed = h.0; bytes_are = h.1 }
 no_cause bytes fits (Err cause) e none = let never : ◌≡◌ {A = Option BadImage} (Some cause) None = none in cc never
 
 pub bad_or_image_each : BadOrImage

@@ -22,16 +22,20 @@ module _ {A : Type 0} (field : List ℕ → Read A) (count : ℕ) where
   pub begins : (bytes : List ℕ) → with_front [] (fields_at field (count - 0) bytes) ≡ fields_at field count bytes
   begins bytes = let all : count - 0 ≡ count = omega arith in rw all (alone (fields_at field count bytes))
 
-  pub goes_on : (front : List A) (i : ℕ) (bytes : List ℕ) (x : A) (after : List ℕ) (total : Read (List A)) → i < count → field bytes ≡ Ok (x, after) →
-      with_front front (fields_at field (count - i) bytes) ≡ total → with_front (front ++ x ∷ []) (fields_at field (count - (i + 1)) after) ≡ total
+  pub goes_on : (front : List A) (i : ℕ) (bytes : List ℕ) (x : A) (after : List ℕ) (total : Read (List A)) → i < count →
+      field bytes ≡ Ok (x, after) →
+      with_front front (fields_at field (count - i) bytes) ≡ total →
+      with_front (front ++ x ∷ []) (fields_at field (count - (i + 1)) after) ≡ total
   unfolding fields_at
   goes_on front i bytes x after total lt read so_far =
       let k : count - i ≡ suc (count - (i + 1)) = omega (arith, lt) in
-      let one : with_front front (fields_at field (count - i) bytes) ≡ with_front (front ++ x ∷ []) (fields_at field (count - (i + 1)) after) =
+      let one : with_front front (fields_at field (count - i) bytes) ≡
+      with_front (front ++ x ∷ []) (fields_at field (count - (i + 1)) after) =
       rw (k, read) (regroup front x (fields_at field (count - (i + 1)) after)) in
       sym one ∙ so_far
 
-  pub ends : (fault : ImageFault) (front : List A) (i : ℕ) (bytes : List ℕ) (total : Read (List A)) → i < count → Fails fault (field bytes) →
+  pub ends : (fault : ImageFault) (front : List A) (i : ℕ) (bytes : List ℕ) (total : Read (List A)) → i < count →
+      Fails fault (field bytes) →
       with_front front (fields_at field (count - i) bytes) ≡ total → Fails fault total
   unfolding fields_at
   ends faults.OutOfMemory front i bytes total lt read so_far = tt

@@ -57,7 +57,8 @@ only_there : (entry : ℕ) (comp : CompPart) → IsComp (only entry comp) 0 comp
 only_there entry comp h zero found at = let same : comp ≡ found = cc at in subst (IsComp (only entry comp) 0) same h
 only_there entry comp h (suc c) found at = let none : ◌≡◌ {A = Option CompPart} None (Some found) = at in cc none
 
-pub one_well_formed : (entry : ℕ) (comp : CompPart) → IsLone comp → IsSome (word_at (only entry comp) 0 entry) → IsWellFormed (only entry comp)
+pub one_well_formed : (entry : ℕ) (comp : CompPart) → IsLone comp → IsSome (word_at (only entry comp) 0 entry) →
+    IsWellFormed (only entry comp)
 one_well_formed entry comp lone at = record {
   few_comps = lit≤ tt;
   main = lit< tt;

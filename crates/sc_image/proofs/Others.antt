@@ -13,7 +13,7 @@ use Rattle.sc_image.specs.State.{State, Crossing, a0, sp, reg, saved_sp, written
 use Rattle.sc_image.specs.Cross.{called, returned, returned_to, arguments, given_back, input_at}
 use Rattle.sc_image.specs.Step.{Outcome, Goes, store_size, step}
 use Rattle.sc_image.specs.Own.{Running, kept_by, data_of, own}
-use Rattle.sc_image.specs.Isolation.{Adds, LeavesOthers, activates, shows_entry, shown_by, after_outcome}
+use Rattle.sc_image.specs.Isolation.{Adds, LeavesOthers, activates, shows_entry, observation_of, after_outcome}
 use Rattle.sc_event.specs.declared.event.Event.{Event}
 use Rattle.sc_event.specs.declared.event.Event.TheVariants.{Call, Ret}
 use Rattle.std.specs.Prelude.{drop, ◌==◌}
@@ -25,18 +25,23 @@ use Rattle.sc_image.specs.Steady.{IsChain, IsSteady}
 
 -- The compartments' addresses are apart.
 
-pub apart : (image : ImageParts) (c d a size x : ℕ) → IsWellFormed image → c ≢ d → are_data image c a size ≡ true → are_data image d x 1 ≡ true → a ≤ x → x < a + size → ⊥
+pub apart : (image : ImageParts) (c d a size x : ℕ) → IsWellFormed image → c ≢ d → are_data image c a size ≡ true →
+    are_data image d x 1 ≡ true → a ≤ x → x < a + size → ⊥
 apart image c d a size x formed differ mine others from upto =
     let m = data_bounds image c a size (omega (arith, from, upto)) mine in
     let o = data_bounds image d x 1 (omega arith) others in
     omega (arith, m.0, m.1, o.0, o.1, few_globals image c formed, few_globals image d formed)
 
-byte_kept : (image : ImageParts) (c d a size word x : ℕ) (memory : Memory) → IsWellFormed image → c ≢ d → are_data image c a size ≡ true →
-    (others : Bool) → are_data image d x 1 ≡ others → (if others then stored memory a size word x else None) ≡ (if others then memory x else None)
-byte_kept image c d a size word x memory formed differ mine true is = stored-apart memory a size word x (apart image c d a size x formed differ mine is)
+byte_kept : (image : ImageParts) (c d a size word x : ℕ) (memory : Memory) → IsWellFormed image → c ≢ d →
+    are_data image c a size ≡ true →
+    (others : Bool) → are_data image d x 1 ≡ others →
+    (if others then stored memory a size word x else None) ≡ (if others then memory x else None)
+byte_kept image c d a size word x memory formed differ mine true is =
+    stored-apart memory a size word x (apart image c d a size x formed differ mine is)
 byte_kept image c d a size word x memory formed differ mine false is = refl
 
-pub data_kept : (image : ImageParts) (c d a size word : ℕ) (memory : Memory) → IsWellFormed image → c ≢ d → are_data image c a size ≡ true →
+pub data_kept : (image : ImageParts) (c d a size word : ℕ) (memory : Memory) → IsWellFormed image → c ≢ d →
+    are_data image c a size ≡ true →
     data_of image d (stored memory a size word) ≡ data_of image d memory
 data_kept image c d a size word memory formed differ mine =
     λ i x. byte_kept image c d a size word x memory formed differ mine (are_data image d x 1) refl i
@@ -46,29 +51,42 @@ data_kept image c d a size word memory formed differ mine =
 idle : (c d : ℕ) (running : Running) → c ≢ d → (if nat_eq c d then Some running else None) ≡ None
 idle c d running differ = rw (ne_eqb c d differ) refl
 
-pub idle_both : (c e d : ℕ) (one other : Running) → c ≢ d → e ≢ d → (if nat_eq c d then Some one else None) ≡ (if nat_eq e d then Some other else None)
+pub idle_both : (c e d : ℕ) (one other : Running) → c ≢ d → e ≢ d →
+    (if nat_eq c d then Some one else None) ≡ (if nat_eq e d then Some other else None)
 idle_both c e d one other differ differs = idle c d one differ ∙ sym (idle e d other differs)
 
 not_in : (d : ℕ) (crossing : Crossing) → crossing.caller ≢ d → crossing.callee ≢ d → kept_by d crossing ≡ []
 not_in d crossing caller callee = rw (ne_eqb crossing.caller d caller, ne_eqb crossing.callee d callee) refl
 
-module _ (image : ImageParts) (inputs : List ℕ) (state : State) (d : ℕ) (formed : IsWellFormed image) (h : IsSteady image state) (differ : state.active ≢ d) where
+module _ (image : ImageParts) (inputs : List ℕ) (state : State) (d : ℕ) (formed : IsWellFormed image)
+    (h : IsSteady image state) (differ : state.active ≢ d) where
   abbrev Kept_after : Outcome → Type 0
-  Kept_after outcome = ((after_outcome state outcome).active ≢ d) → own image (after_outcome state outcome) d ≡ own image state d
+  Kept_after outcome = ((after_outcome state outcome).active ≢ d) →
+      own image (after_outcome state outcome) d ≡ own image state d
 
   return_keeps : (cross : List Crossing) → state.cross ≡ cross → Kept_after (Goes (returned image state cross))
-  return_keeps [] is = λ next i. record { bytes = data_of image d state.memory; saved = saved_sp state d; calls = flat_map (kept_by d) state.cross; running = idle_both state.active state.active d (record { regs = state.regs; pc = state.pc }) (record { regs = state.regs; pc = state.pc }) differ differ i }
+  return_keeps [] is = λ next i. record {
+    bytes = data_of image d state.memory;
+    saved = saved_sp state d;
+    calls = flat_map (kept_by d) state.cross;
+    running = idle_both state.active state.active d
+        (record { regs = state.regs; pc = state.pc }) (record { regs = state.regs; pc = state.pc }) differ differ i;
+  }
   return_keeps (x ∷ xs) is = λ next.
-      let chain : IsChain (length image.comps) state.active (x ∷ xs) = subst (IsChain (length image.comps) state.active) is h.chain in
+      let chain : IsChain (length image.comps) state.active (x ∷ xs) =
+      subst (IsChain (length image.comps) state.active) is h.chain in
       let callee : x.callee ≢ d = λ same. differ (sym chain.0 ∙ same) in
       let after = returned_to (has_result image x.callee x.entry) state x xs in
-      let calls : flat_map (kept_by d) xs ≡ flat_map (kept_by d) state.cross = sym (ap (flat_map (kept_by d)) is ∙ ap (λ kept. kept ++ flat_map (kept_by d) xs) (not_in d x next callee)) in
-      let saved : saved_sp after d ≡ saved_sp state d = get_or-set_other state.saved state.active d x.saved 0 (λ same. differ (sym same)) in
+      let calls : flat_map (kept_by d) xs ≡ flat_map (kept_by d) state.cross =
+      sym (ap (flat_map (kept_by d)) is ∙ ap (λ kept. kept ++ flat_map (kept_by d) xs) (not_in d x next callee)) in
+      let saved : saved_sp after d ≡ saved_sp state d =
+      get_or-set_other state.saved state.active d x.saved 0 (λ same. differ (sym same)) in
       λ i. record {
         bytes = data_of image d state.memory;
         saved = saved i;
         calls = calls i;
-        running = idle_both x.caller state.active d (record { regs = after.regs; pc = after.pc }) (record { regs = state.regs; pc = state.pc }) next differ i;
+        running = idle_both x.caller state.active d (record { regs = after.regs; pc = after.pc })
+            (record { regs = state.regs; pc = state.pc }) next differ i;
       }
 
   pub step_keeps : Kept_after (step image inputs state)
@@ -79,39 +97,55 @@ module _ (image : ImageParts) (inputs : List ℕ) (state : State) (d : ℕ) (for
       bytes = data_of image d state.memory;
       saved = saved_sp state d;
       calls = flat_map (kept_by d) state.cross;
-      running = idle_both state.active state.active d (record { regs = regs; pc = pc }) (record { regs = state.regs; pc = state.pc }) differ differ i;
+      running = idle_both state.active state.active d (record { regs = regs; pc = pc })
+          (record { regs = state.regs; pc = state.pc }) differ differ i;
     };
     stores = λ op a word allowed next i. record {
-      bytes = data_kept image state.active d a (store_size op) word state.memory formed differ (allowed_data image state.active (store_size op) a allowed) i;
+      bytes = data_kept image state.active d a (store_size op) word state.memory formed differ
+          (allowed_data image state.active (store_size op) a allowed) i;
       saved = saved_sp state d;
       calls = flat_map (kept_by d) state.cross;
-      running = idle_both state.active state.active d (record { regs = state.regs; pc = state.pc + 4 }) (record { regs = state.regs; pc = state.pc }) differ differ i;
+      running = idle_both state.active state.active d (record { regs = state.regs; pc = state.pc + 4 })
+          (record { regs = state.regs; pc = state.pc }) differ differ i;
     };
     calls = λ to index target at may next.
         let after = called state to index (params_of image to index) target in
-        let crossing : Crossing = record { caller = state.active; pc = state.pc + 4; sp = reg state sp; callee = to; entry = Export index; saved = saved_sp state to } in
+        let crossing : Crossing = record {
+          caller = state.active;
+          pc = state.pc + 4;
+          sp = reg state sp;
+          callee = to;
+          entry = Export index;
+          saved = saved_sp state to;
+        } in
         let calls : kept_by d crossing ++ flat_map (kept_by d) state.cross ≡ flat_map (kept_by d) state.cross =
         ap (λ kept. kept ++ flat_map (kept_by d) state.cross) (not_in d crossing differ next) in
-        let saved : saved_sp after d ≡ saved_sp state d = get_or-set_other state.saved state.active d (reg state sp) 0 (λ same. differ (sym same)) in
+        let saved : saved_sp after d ≡ saved_sp state d =
+        get_or-set_other state.saved state.active d (reg state sp) 0 (λ same. differ (sym same)) in
         λ i. record {
           bytes = data_of image d state.memory;
           saved = saved i;
           calls = calls i;
-          running = idle_both to state.active d (record { regs = after.regs; pc = after.pc }) (record { regs = state.regs; pc = state.pc }) next differ i;
+          running = idle_both to state.active d (record { regs = after.regs; pc = after.pc })
+              (record { regs = state.regs; pc = state.pc }) next differ i;
         };
     returns = return_keeps state.cross refl;
     outputs = λ may next i. record {
       bytes = data_of image d state.memory;
       saved = saved_sp state d;
       calls = flat_map (kept_by d) state.cross;
-      running = idle_both state.active state.active d (record { regs = state.regs; pc = state.pc + 4 }) (record { regs = state.regs; pc = state.pc }) differ differ i;
+      running = idle_both state.active state.active d (record { regs = state.regs; pc = state.pc + 4 })
+          (record { regs = state.regs; pc = state.pc }) differ differ i;
     };
     reads = λ may next i. record {
       bytes = data_of image d state.memory;
       saved = saved_sp state d;
       calls = flat_map (kept_by d) state.cross;
       running =
-          idle_both state.active state.active d (record { regs = written state.regs a0 (input_at inputs state.input); pc = state.pc + 4 })
+          idle_both state.active state.active d (record {
+            regs = written state.regs a0 (input_at inputs state.input);
+            pc = state.pc + 4;
+          })
           (record { regs = state.regs; pc = state.pc }) differ differ i;
     };
   })
@@ -119,19 +153,24 @@ module _ (image : ImageParts) (inputs : List ℕ) (state : State) (d : ℕ) (for
 -- Who is active after a step that shows no entry of d.
 
 entry_by : (to d : ℕ) → (to == d || false) ≡ false → to ≢ d
-entry_by to d none same = let yes : (to == d || false) ≡ true = rw (eq-eqb to d same) refl in let never : true ≡ false = sym yes ∙ none in cc never
+entry_by to d none same = let yes : (to == d || false) ≡ true = rw (eq-eqb to d same) refl in let never : true ≡ false =
+    sym yes ∙ none in cc never
 
-module _ (image : ImageParts) (inputs : List ℕ) (state : State) (d : ℕ) (formed : IsWellFormed image) (differ : state.active ≢ d) where
+module _ (image : ImageParts) (inputs : List ℕ) (state : State) (d : ℕ) (formed : IsWellFormed image)
+    (differ : state.active ≢ d) where
   abbrev Elsewhere : Outcome → Type 0
-  Elsewhere outcome = shows_entry d (shown_by state outcome) ≡ false → (after_outcome state outcome).active ≢ d
+  Elsewhere outcome = shows_entry d (observation_of state outcome) ≡ false → (after_outcome state outcome).active ≢ d
 
-  one_event : (event : Event) → shows_entry d (Adds (drop (length state.trace) (state.trace ++ event ∷ []))) ≡ false → (activates d event || false) ≡ false
-  one_event event none = sym (ap (λ events. shows_entry d (Adds events)) (drop-append_seam state.trace (event ∷ []))) ∙ none
+  one_event : (event : Event) → shows_entry d (Adds (drop (length state.trace) (state.trace ++ event ∷ []))) ≡ false →
+      (activates d event || false) ≡ false
+  one_event event none = sym (ap (λ events. shows_entry d (Adds events)) (drop-append_seam state.trace (event ∷ []))) ∙
+      none
 
   return_elsewhere : (cross : List Crossing) → Elsewhere (Goes (returned image state cross))
   return_elsewhere [] none = differ
   return_elsewhere (x ∷ xs) none =
-      entry_by x.caller d (one_event (Ret state.active x.caller (given_back (has_result image x.callee x.entry) state)) none)
+      entry_by x.caller d (one_event (Ret state.active x.caller
+      (given_back (has_result image x.callee x.entry) state)) none)
 
   pub step_elsewhere : Elsewhere (step image inputs state)
   step_elsewhere = step_of image inputs formed state Elsewhere (record {
@@ -139,7 +178,8 @@ module _ (image : ImageParts) (inputs : List ℕ) (state : State) (d : ℕ) (for
     traps = λ reason none. differ;
     quiet = λ regs pc moves none. differ;
     stores = λ op a word allowed none. differ;
-    calls = λ to index target at may none. entry_by to d (one_event (Call state.active to index (arguments (params_of image to index) state.regs)) none);
+    calls = λ to index target at may none. entry_by to d
+        (one_event (Call state.active to index (arguments (params_of image to index) state.regs)) none);
     returns = return_elsewhere state.cross;
     outputs = λ may none. differ;
     reads = λ may none. differ;

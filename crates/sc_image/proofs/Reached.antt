@@ -32,7 +32,8 @@ use Rattle.sc_image.proofs.Cases.{length-written, step_of}
 
 -- One more event.
 
-open_more : (trace : List Event) (event : Event) → open_calls (trace ++ event ∷ []) ≡ open_after (open_calls trace) event
+open_more : (trace : List Event) (event : Event) → open_calls (trace ++ event ∷ []) ≡
+    open_after (open_calls trace) event
 open_more trace event = fold-append open_after [] trace (event ∷ [])
 
 read_more : (trace : List Event) (event : Event) → inputs_in (trace ++ event ∷ []) ≡ count_read (inputs_in trace) event
@@ -49,14 +50,17 @@ length-stack_tops c (comp ∷ comps) = ap suc (length-stack_tops (suc c) comps)
 -- A call goes to another compartment of the image.
 
 some_export : (image : ImageParts) (to target index : ℕ) (comp : Option CompPart) → slice_get image.comps to ≡ comp →
-    position (λ export. export.entry == target) (option_map_or (λ comp. comp.exports) comp []) ≡ Some index → to < length image.comps
+    position (λ export. export.entry == target) (option_map_or (λ comp. comp.exports) comp []) ≡ Some index →
+    to < length image.comps
 some_export image to target index None is at = let never : ◌≡◌ {A = Option ℕ} None (Some index) = at in cc never
 some_export image to target index (Some comp) is at = slice_get_within image.comps to comp is
 
-pub called_there : (image : ImageParts) (to target index : ℕ) → export_at image to target ≡ Some index → to < length image.comps
+pub called_there : (image : ImageParts) (to target index : ℕ) → export_at image to target ≡ Some index →
+    to < length image.comps
 called_there image to target index at = some_export image to target index (slice_get image.comps to) refl at
 
-to_own_by : (image : ImageParts) (c to index : ℕ) (import : ImportPart) (rest : Bool) → import.comp ≢ c → (rest ≡ true → c ≢ to) →
+to_own_by : (image : ImageParts) (c to index : ℕ) (import : ImportPart) (rest : Bool) → import.comp ≢ c →
+    (rest ≡ true → c ≢ to) →
     (this : Bool) → (import.comp == to) ≡ this → (this && import.index == index || rest) ≡ true → c ≢ to
 to_own_by image c to index import rest other later true is some = λ same. other (eqb-true import.comp to is ∙ sym same)
 to_own_by image c to index import rest other later false is some = later some
@@ -65,15 +69,21 @@ none_to_own : (image : ImageParts) (c to index : ℕ) (imports : List ImportPart
     list_any (λ import. import.comp == to && import.index == index) imports ≡ true → c ≢ to
 none_to_own image c to index [] all some = λ same. let never : false ≡ true = some in cc never
 none_to_own image c to index (import ∷ imports) all some =
-    to_own_by image c to index import (list_any (λ import. import.comp == to && import.index == index) imports) (All-head (IsImport image c) import imports all).other
-    (none_to_own image c to index imports (All-tail (IsImport image c) import imports all)) (import.comp == to) refl some
+    to_own_by image c to index import (list_any (λ import. import.comp == to && import.index == index) imports)
+    (All-head (IsImport image c) import imports all).other
+    (none_to_own image c to index imports (All-tail (IsImport image c) import imports all))
+    (import.comp == to) refl some
 
-imports_other : (image : ImageParts) (c to index : ℕ) → IsWellFormed image → (comp : Option CompPart) → slice_get image.comps c ≡ comp →
-    list_any (λ import. import.comp == to && import.index == index) (option_map_or (λ comp. comp.imports) comp []) ≡ true → c ≢ to
+imports_other : (image : ImageParts) (c to index : ℕ) → IsWellFormed image → (comp : Option CompPart) →
+    slice_get image.comps c ≡ comp →
+    list_any (λ import. import.comp == to && import.index == index) (option_map_or (λ comp. comp.imports) comp []) ≡
+    true → c ≢ to
 imports_other image c to index formed None is some = none_to_own image c to index [] (All-nil (IsImport image c)) some
-imports_other image c to index formed (Some comp) is some = none_to_own image c to index comp.imports (formed.comps c comp is).imports some
+imports_other image c to index formed (Some comp) is some =
+    none_to_own image c to index comp.imports (formed.comps c comp is).imports some
 
-pub called_other : (image : ImageParts) (c to index : ℕ) → IsWellFormed image → may_call image c to index ≡ true → c ≢ to
+pub called_other : (image : ImageParts) (c to index : ℕ) → IsWellFormed image → may_call image c to index ≡ true →
+    c ≢ to
 called_other image c to index formed may = imports_other image c to index formed (slice_get image.comps c) refl may
 
 -- One more step.
@@ -83,7 +93,8 @@ SteadyAfter image (Goes next) = IsSteady image next
 SteadyAfter image (Traps reason) = Unit {0}
 
 -- an input is a word
-input_by : (inputs : List ℕ) (k : ℕ) → All IsWord inputs → (found : Option ℕ) → slice_get inputs k ≡ found → IsWord (unwrap_or found 0)
+input_by : (inputs : List ℕ) (k : ℕ) → All IsWord inputs → (found : Option ℕ) → slice_get inputs k ≡ found →
+    IsWord (unwrap_or found 0)
 input_by inputs k all None is = omega arith
 input_by inputs k all (Some word) is =
     subst IsWord (get_or_from_slice_get inputs k word word is) (all k word (slice_get_within inputs k word is))
@@ -91,12 +102,15 @@ input_by inputs k all (Some word) is =
 input_word : (inputs : List ℕ) (k : ℕ) → All IsWord inputs → IsWord (input_at inputs k)
 input_word inputs k all = input_by inputs k all (slice_get inputs k) refl
 
-module _ (image : ImageParts) (inputs : List ℕ) (formed : IsWellFormed image) (all : All IsWord inputs) (state : State) (h : IsSteady image state) where
+module _ (image : ImageParts) (inputs : List ℕ) (formed : IsWellFormed image) (all : All IsWord inputs) (state : State)
+    (h : IsSteady image state) where
   -- the events that open or close no call, and the one input
-  same_calls : (event : Event) → open_after (open_calls state.trace) event ≡ open_calls state.trace → map call_of state.cross ≡ open_calls (state.trace ++ event ∷ [])
+  same_calls : (event : Event) → open_after (open_calls state.trace) event ≡ open_calls state.trace →
+      map call_of state.cross ≡ open_calls (state.trace ++ event ∷ [])
   same_calls event same = h.calls ∙ sym (open_more state.trace event ∙ same)
 
-  same_input : (event : Event) → count_read (inputs_in state.trace) event ≡ inputs_in state.trace → state.input ≡ inputs_in (state.trace ++ event ∷ [])
+  same_input : (event : Event) → count_read (inputs_in state.trace) event ≡ inputs_in state.trace →
+      state.input ≡ inputs_in (state.trace ++ event ∷ [])
   same_input event same = h.input ∙ sym (read_more state.trace event ∙ same)
 
   steady_return : (cross : List Crossing) → state.cross ≡ cross → IsSteady image (returned image state cross)
@@ -115,16 +129,21 @@ module _ (image : ImageParts) (inputs : List ℕ) (formed : IsWellFormed image) 
     input = same_input (End state.active (reg state a0)) refl;
   }
   steady_return (x ∷ xs) is =
-      let chain : IsChain (length image.comps) state.active (x ∷ xs) = subst (IsChain (length image.comps) state.active) is h.chain in
+      let chain : IsChain (length image.comps) state.active (x ∷ xs) =
+      subst (IsChain (length image.comps) state.active) is h.chain in
       let keeps : All KeepsWords (x ∷ xs) = subst (All KeepsWords) is h.kept in
       let first : KeepsWords x = All-head KeepsWords x xs keeps in
       let result = has_result image x.callee x.entry in
       let event : Event = Ret state.active x.caller (given_back result state) in
-      let calls : map call_of (x ∷ xs) ≡ open_calls state.trace = subst (λ cross. map call_of cross ≡ open_calls state.trace) is h.calls in
+      let calls : map call_of (x ∷ xs) ≡ open_calls state.trace =
+      subst (λ cross. map call_of cross ≡ open_calls state.trace) is h.calls in
       record {
-        regs = length-written (kept (is_result result) state.regs) sp x.sp ∙ length-kept (is_result result) 0 state.regs ∙ h.regs;
-        words = written_words (kept (is_result result) state.regs) sp x.sp (kept_words (is_result result) 0 state.regs h.words) first.sp;
-        zero = written_zero (kept (is_result result) state.regs) sp x.sp (kept_zero (is_result result) 0 state.regs h.zero);
+        regs = length-written (kept (is_result result) state.regs) sp x.sp ∙
+            length-kept (is_result result) 0 state.regs ∙ h.regs;
+        words = written_words (kept (is_result result) state.regs) sp x.sp
+            (kept_words (is_result result) 0 state.regs h.words) first.sp;
+        zero = written_zero (kept (is_result result) state.regs) sp x.sp
+            (kept_zero (is_result result) 0 state.regs h.zero);
         pc = first.pc;
         active = chain.2;
         saved = length-set state.saved state.active x.saved ∙ h.saved;
@@ -137,32 +156,45 @@ module _ (image : ImageParts) (inputs : List ℕ) (formed : IsWellFormed image) 
       }
 
   module _ (here : IsWord (state.pc + 4)) where
-    steady_call : (to index target : ℕ) → export_at image to target ≡ Some index → may_call image state.active to index ≡ true →
+    steady_call : (to index target : ℕ) → export_at image to target ≡ Some index →
+        may_call image state.active to index ≡ true →
         IsSteady image (called state to index (params_of image to index) target)
     steady_call to index target at may =
         let event : Event = Call state.active to index (arguments (params_of image to index) state.regs) in
         let keeps = is_argument (params_of image to index) in
         let cleared = kept keeps state.regs in
-        let crossing : Crossing = record { caller = state.active; pc = state.pc + 4; sp = reg state sp; callee = to; entry = Export index; saved = saved_sp state to } in
+        let crossing : Crossing = record {
+          caller = state.active;
+          pc = state.pc + 4;
+          sp = reg state sp;
+          callee = to;
+          entry = Export index;
+          saved = saved_sp state to;
+        } in
         record {
-          regs = length-written (written cleared ra gate) sp (saved_sp state to) ∙ length-written cleared ra gate ∙ length-kept keeps 0 state.regs ∙ h.regs;
+          regs = length-written (written cleared ra gate) sp (saved_sp state to) ∙ length-written cleared ra gate ∙
+              length-kept keeps 0 state.regs ∙ h.regs;
           words =
               written_words (written cleared ra gate) sp (saved_sp state to)
               (written_words cleared ra gate (kept_words keeps 0 state.regs h.words) (omega arith)) (h.saved_words to);
-          zero = written_zero (written cleared ra gate) sp (saved_sp state to) (written_zero cleared ra gate (kept_zero keeps 0 state.regs h.zero));
+          zero = written_zero (written cleared ra gate) sp (saved_sp state to)
+              (written_zero cleared ra gate (kept_zero keeps 0 state.regs h.zero));
           pc = entry_address image formed to target index at;
           active = called_there image to target index at;
           saved = length-set state.saved state.active (reg state sp) ∙ h.saved;
           saved_words = set_words state.saved state.active (reg state sp) h.saved_words (h.words sp);
           bytes = h.bytes;
           chain = (refl, called_other image state.active to index formed may, h.active, h.chain);
-          kept = All-cons KeepsWords crossing state.cross (record { pc = here; sp = h.words sp; saved = h.saved_words to }) h.kept;
-          calls = ap (λ calls. record { caller = state.active; callee = to; entry = Export index } ∷ calls) h.calls ∙ sym (open_more state.trace event);
+          kept = All-cons KeepsWords crossing state.cross
+              (record { pc = here; sp = h.words sp; saved = h.saved_words to }) h.kept;
+          calls = ap (λ calls. record { caller = state.active; callee = to; entry = Export index } ∷ calls) h.calls ∙
+              sym (open_more state.trace event);
           input = same_input event refl;
         }
 
     -- with the registers and the pc that a step leads to
-    steady_move : (regs : List ℕ) (pc : ℕ) → length regs ≡ length state.regs → AreWords regs → slice_index regs 0 ≡ 0 → IsWord pc → IsSteady image (record state { regs = regs; pc = pc })
+    steady_move : (regs : List ℕ) (pc : ℕ) → length regs ≡ length state.regs → AreWords regs → slice_index regs 0 ≡ 0 →
+        IsWord pc → IsSteady image (record state { regs = regs; pc = pc })
     steady_move regs pc count words stays place = record {
       regs = count ∙ h.regs;
       words = words;
@@ -178,7 +210,8 @@ module _ (image : ImageParts) (inputs : List ℕ) (formed : IsWellFormed image) 
       input = h.input;
     }
 
-    steady_store : (memory : Memory) → HoldsBytes memory → IsSteady image (record state { pc = state.pc + 4; memory = memory })
+    steady_store : (memory : Memory) → HoldsBytes memory →
+        IsSteady image (record state { pc = state.pc + 4; memory = memory })
     steady_store memory bytes = record {
       regs = h.regs;
       words = h.words;
@@ -232,15 +265,18 @@ module _ (image : ImageParts) (inputs : List ℕ) (formed : IsWellFormed image) 
     steady_next = step_of image inputs formed state (SteadyAfter image) (record {
       same = λ a owned. refl;
       traps = λ reason. tt;
-      quiet = λ regs pc moves. steady_move regs pc moves.count (moves.words here h.words h.bytes) (moves.zero h.zero) (moves.goes here);
-      stores = λ op a word allowed. steady_store (stored state.memory a (store_size op) word) (stored_bytes image formed state.active a (store_size op) word state.memory h.active allowed h.bytes);
+      quiet = λ regs pc moves. steady_move regs pc moves.count (moves.words here h.words h.bytes) (moves.zero h.zero)
+          (moves.goes here);
+      stores = λ op a word allowed. steady_store (stored state.memory a (store_size op) word)
+          (stored_bytes image formed state.active a (store_size op) word state.memory h.active allowed h.bytes);
       calls = steady_call;
       returns = steady_return state.cross refl;
       outputs = λ may. steady_output;
       reads = λ may. steady_input;
     })
 
-  by_fetch : (word : Option ℕ) → word_at image state.active state.pc ≡ word → SteadyAfter image (step image inputs state)
+  by_fetch : (word : Option ℕ) → word_at image state.active state.pc ≡ word →
+      SteadyAfter image (step image inputs state)
   by_fetch None at = subst (SteadyAfter image) (sym (step_nowhere image inputs state at)) tt
   by_fetch (Some word) at = steady_next (in_code image formed state.active state.pc word at).next
 
@@ -249,22 +285,29 @@ module _ (image : ImageParts) (inputs : List ℕ) (formed : IsWellFormed image) 
 
 -- Runs.
 
-module _ (image : ImageParts) (inputs : List ℕ) (formed : IsWellFormed image) (all : All IsWord inputs) (events : ℕ) where
-  steady_by : (early : Option Stop) (state : State) (later : Run) → IsSteady image state → IsSteady image later.state → IsSteady image (stops_or early state later).state
+module _ (image : ImageParts) (inputs : List ℕ) (formed : IsWellFormed image) (all : All IsWord inputs)
+    (events : ℕ) where
+  steady_by : (early : Option Stop) (state : State) (later : Run) → IsSteady image state → IsSteady image later.state →
+      IsSteady image (stops_or early state later).state
   steady_by None state later h k = k
   steady_by (Some stop) state later h k = h
 
-  steady_after : (state : State) (outcome : Outcome) (go : State → Run) → IsSteady image state → SteadyAfter image outcome →
-      ((next : State) → IsSteady image next → IsSteady image (go next).state) → IsSteady image (after state outcome go).state
+  steady_after : (state : State) (outcome : Outcome) (go : State → Run) → IsSteady image state →
+      SteadyAfter image outcome →
+      ((next : State) → IsSteady image next → IsSteady image (go next).state) →
+      IsSteady image (after state outcome go).state
   steady_after state (Goes next) go h k later = later next k
   steady_after state (Traps reason) go h k later = h
 
-  steady_run : (steps : ℕ) (state : State) → IsSteady image state → IsSteady image (run image inputs events steps state).state
+  steady_run : (steps : ℕ) (state : State) → IsSteady image state →
+      IsSteady image (run image inputs events steps state).state
   unfolding run
   steady_run zero state h = steady_by (stopped events state.trace) state (record { state = state; stop = StepsOut }) h h
   steady_run (suc steps) state h =
-      steady_by (stopped events state.trace) state (after state (step image inputs state) (run image inputs events steps)) h
-      (steady_after state (step image inputs state) (run image inputs events steps) h (steady_step image inputs formed all state h) (steady_run steps))
+      steady_by (stopped events state.trace) state (after state (step image inputs state)
+      (run image inputs events steps)) h
+      (steady_after state (step image inputs state) (run image inputs events steps) h
+      (steady_step image inputs formed all state h) (steady_run steps))
 
 -- The start.
 
@@ -300,16 +343,21 @@ steady_start image formed = record {
   input = refl;
 }
 
-pub reached_steady : (image : ImageParts) (inputs : List ℕ) (state : State) → IsWellFormed image → All IsWord inputs → IsReached image inputs state → IsSteady image state
+pub reached_steady : (image : ImageParts) (inputs : List ℕ) (state : State) → IsWellFormed image → All IsWord inputs →
+    IsReached image inputs state → IsSteady image state
 reached_steady image inputs state formed all reached =
-    subst (IsSteady image) reached.1.1 (steady_run image inputs formed all reached.1.0 reached.0 (start image) (steady_start image formed))
+    subst (IsSteady image) reached.1.1 (steady_run image inputs formed all reached.1.0 reached.0 (start image)
+    (steady_start image formed))
 
-step_steady_by : (image : ImageParts) (state : State) (outcome : Outcome) → IsSteady image state → SteadyAfter image outcome → IsSteady image (after_outcome state outcome)
+step_steady_by : (image : ImageParts) (state : State) (outcome : Outcome) → IsSteady image state →
+    SteadyAfter image outcome → IsSteady image (after_outcome state outcome)
 step_steady_by image state (Goes next) h k = k
 step_steady_by image state (Traps reason) h k = h
 
-pub step_steady : (image : ImageParts) (inputs : List ℕ) (state : State) → IsWellFormed image → All IsWord inputs → IsSteady image state → IsSteady image (after_step image inputs state)
-step_steady image inputs state formed all h = step_steady_by image state (step image inputs state) h (steady_step image inputs formed all state h)
+pub step_steady : (image : ImageParts) (inputs : List ℕ) (state : State) → IsWellFormed image → All IsWord inputs →
+    IsSteady image state → IsSteady image (after_step image inputs state)
+step_steady image inputs state formed all h = step_steady_by image state (step image inputs state) h
+    (steady_step image inputs formed all state h)
 
 pub runs_are_steady : RunsAreSteady
 runs_are_steady = record { first = steady_start; step = step_steady; reached = reached_steady }

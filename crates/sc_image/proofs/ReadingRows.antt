@@ -13,7 +13,8 @@ use Rattle.sc_image.specs.Reading.{number_that, fields_at, name_at, comp_name_at
 
 abbrev from_start : List ℕ
 from_start = 1 ∷ 0x4d ∷ 2 ∷ 0 ∷ 0 ∷ 0 ∷ 0 ∷ 0x14 ∷ 0 ∷ 0 ∷ 0 ∷
-    0x13 ∷ 0x05 ∷ 0x70 ∷ 0 ∷ 0x93 ∷ 0x08 ∷ 0x20 ∷ 0 ∷ 0x73 ∷ 0 ∷ 0 ∷ 0 ∷ 0x13 ∷ 0x05 ∷ 0 ∷ 0 ∷ 0x67 ∷ 0x80 ∷ 0 ∷ 0 ∷ 0 ∷ 0 ∷ 0 ∷ 0 ∷ []
+    0x13 ∷ 0x05 ∷ 0x70 ∷ 0 ∷ 0x93 ∷ 0x08 ∷ 0x20 ∷ 0 ∷ 0x73 ∷ 0 ∷ 0 ∷ 0 ∷ 0x13 ∷ 0x05 ∷ 0 ∷ 0 ∷ 0x67 ∷ 0x80 ∷ 0 ∷ 0 ∷ 0 ∷
+    0 ∷ 0 ∷ 0 ∷ []
 
 -- the image of a compartment `M` that outputs 7 and returns 0
 abbrev seven : List ℕ
@@ -21,16 +22,19 @@ seven = 0x53 ∷ 0x43 ∷ 0x49 ∷ 0x4d ∷ 1 ∷ 0 ∷ 1 ∷ 0 ∷ 0 ∷ 0 ∷ 
 
 -- each front of it that is shorter, and one byte more
 fronts : (map (λ k. bad (take k seven)) (range_with_len 0 47) ≡
-    replicate 4 (Some Mark) ++ (replicate 2 (Some Version) ++ (replicate 1 (Some Count) ++ (replicate 5 (Some Start) ++ (replicate 3 (Some Compartment) ++
+    replicate 4 (Some Mark) ++ (replicate 2 (Some Version) ++
+    (replicate 1 (Some Count) ++ (replicate 5 (Some Start) ++ (replicate 3 (Some Compartment) ++
     (replicate 2 (Some Exports) ++ (replicate 2 (Some Imports) ++ replicate 28 (Some Contents)))))))) ×
     (bad seven ≡ None) ×
     (bad (seven ++ 0 ∷ []) ≡ Some Whole)
-unfolding image_in_version parts_in_version comp_at comp_name_at name_at exports_at imports_at code_at globals_at fields_at is_name word_at
+unfolding image_in_version parts_in_version comp_at comp_name_at name_at exports_at imports_at code_at globals_at
+    fields_at is_name word_at
 fronts = (refl, refl, refl)
 
 -- fields that are there and bad
 abbrev starting : (version count main entry : ℕ) → List ℕ
-starting version count main entry = 0x53 ∷ 0x43 ∷ 0x49 ∷ 0x4d ∷ version ∷ 0 ∷ count ∷ main ∷ entry ∷ 0 ∷ 0 ∷ 1 ∷ from_start
+starting version count main entry = 0x53 ∷ 0x43 ∷ 0x49 ∷ 0x4d ∷ version ∷ 0 ∷ count ∷ main ∷ entry ∷ 0 ∷ 0 ∷ 1 ∷
+    from_start
 
 starts : (bad (0x53 ∷ 0x43 ∷ 0x49 ∷ 0x4e ∷ []) ≡ Some Mark) ×
     (bad (starting 2 1 0 0) ≡ Some Version) ×
@@ -42,7 +46,8 @@ starts : (bad (0x53 ∷ 0x43 ∷ 0x49 ∷ 0x4e ∷ []) ≡ Some Mark) ×
     (bad (starting 1 1 0 20) ≡ Some Whole) ×
     (bad (starting 1 1 0 2) ≡ Some Whole) ×
     (bad (starting 1 1 0 16) ≡ None)
-unfolding image_in_version parts_in_version comp_at comp_name_at name_at exports_at imports_at code_at globals_at fields_at is_name word_at
+unfolding image_in_version parts_in_version comp_at comp_name_at name_at exports_at imports_at code_at globals_at
+    fields_at is_name word_at
 starts = (refl, refl, refl, refl, refl, refl, refl, refl, refl, refl)
 
 -- names of 1 to 63 bytes
@@ -59,7 +64,8 @@ names = (refl, refl, refl, refl, refl, refl, refl)
 -- the tables of a compartment, in an image of 2
 tables : (number_that (λ n. nat_le n 4096) Exports 2 (0 ∷ 16 ∷ []) ≡ Ok (4096, [])) ×
     (exports_at (1 ∷ 16 ∷ replicate 100 1) ≡ Err Exports) ×
-    (export_at (1 ∷ 65 ∷ 8 ∷ 1 ∷ 4 ∷ 3 ∷ 2 ∷ 1 ∷ []) ≡ Ok (record { name = 65 ∷ []; params = 8; result = true; entry = 0x01020304 }, [])) ×
+    (export_at (1 ∷ 65 ∷ 8 ∷ 1 ∷ 4 ∷ 3 ∷ 2 ∷ 1 ∷ []) ≡
+    Ok (record { name = 65 ∷ []; params = 8; result = true; entry = 0x01020304 }, [])) ×
     (export_at (1 ∷ 65 ∷ 9 ∷ 1 ∷ 4 ∷ 3 ∷ 2 ∷ 1 ∷ []) ≡ Err Exports) ×
     (export_at (1 ∷ 65 ∷ 8 ∷ 2 ∷ 4 ∷ 3 ∷ 2 ∷ 1 ∷ []) ≡ Err Exports) ×
     (imports_at 2 (1 ∷ 16 ∷ replicate 100 1) ≡ Err Imports) ×
@@ -78,12 +84,21 @@ pair imports name first second = record {
   main = 0;
   entry = 0x01000000;
   comps =
-      record { name = codes "A"; input = false; output = false; exports = []; imports = imports; code = 0 ∷ []; globals = [] } ∷
+      record {
+        name = codes "A";
+        input = false;
+        output = false;
+        exports = [];
+        imports = imports;
+        code = 0 ∷ [];
+        globals = [];
+      } ∷
       record {
         name = name;
         input = true;
         output = false;
-        exports = record { name = codes "f"; params = 0; result = true; entry = first } ∷ record { name = codes "g"; params = 1; result = false; entry = second } ∷ [];
+        exports = record { name = codes "f"; params = 0; result = true; entry = first } ∷
+            record { name = codes "g"; params = 1; result = false; entry = second } ∷ [];
         imports = [];
         code = 0 ∷ 0 ∷ [];
         globals = [];
@@ -111,5 +126,6 @@ rules = (refl, refl, refl, refl, refl, refl, refl, refl, refl)
 -- an image with every table is read from its bytes
 reads_all : image_of (image_bytes (pair (import 1 0 ∷ import 1 1 ∷ []) (codes "B") 0x01100000 0x01100004)) ≡
     Ok (pair (import 1 0 ∷ import 1 1 ∷ []) (codes "B") 0x01100000 0x01100004)
-unfolding image_in_version parts_in_version comp_at comp_name_at name_at exports_at export_at imports_at import_at code_at globals_at fields_at is_name word_at
+unfolding image_in_version parts_in_version comp_at comp_name_at name_at exports_at export_at imports_at import_at
+    code_at globals_at fields_at is_name word_at
 reads_all = refl

@@ -12,9 +12,12 @@ use Rattle.sc_image.specs.Machine.{Run, is_ended, stopped, stops_or, after, run,
 
 -- a run that stops before another step doesn't stop for want of steps
 stays_by : (ended full : Bool) (stop : Stop) (earlier later : Run) →
-    (if ended then Some Ended else if full then Some EventsOut else None) ≡ Some stop → unless_stopped stop earlier later ≡ earlier
-stays_by true full stop earlier later h = let same : Ended ≡ stop = cc h in subst (λ s. unless_stopped s earlier later ≡ earlier) same refl
-stays_by false true stop earlier later h = let same : EventsOut ≡ stop = cc h in subst (λ s. unless_stopped s earlier later ≡ earlier) same refl
+    (if ended then Some Ended else if full then Some EventsOut else None) ≡ Some stop →
+    unless_stopped stop earlier later ≡ earlier
+stays_by true full stop earlier later h = let same : Ended ≡ stop = cc h in
+    subst (λ s. unless_stopped s earlier later ≡ earlier) same refl
+stays_by false true stop earlier later h = let same : EventsOut ≡ stop = cc h in
+    subst (λ s. unless_stopped s earlier later ≡ earlier) same refl
 stays_by false false stop earlier later h = cc h
 
 stays : (events : ℕ) (trace : List Event) (stop : Stop) (earlier later : Run) →
@@ -36,7 +39,8 @@ unfolding run
 run_out image inputs events state early = rw early refl
 
 pub run_goes : (image : ImageParts) (inputs : List ℕ) (events n : ℕ) (state next : State) →
-    stopped events state.trace ≡ None → step image inputs state ≡ Goes next → run image inputs events (suc n) state ≡ run image inputs events n next
+    stopped events state.trace ≡ None → step image inputs state ≡ Goes next →
+    run image inputs events (suc n) state ≡ run image inputs events n next
 unfolding run
 run_goes image inputs events n state next early goes = rw (early, goes) refl
 
@@ -49,23 +53,30 @@ run_traps image inputs events n state reason early traps = rw (early, traps) ref
 module _ (image : ImageParts) (inputs : List ℕ) (events n : ℕ) where
   -- with no steps at first
   none_first : (state : State) (early : Option Stop) → stopped events state.trace ≡ early →
-      run image inputs events n state ≡ continued (run image inputs events n) (stops_or early state (record { state = state; stop = StepsOut }))
+      run image inputs events n state ≡ continued (run image inputs events n)
+      (stops_or early state (record { state = state; stop = StepsOut }))
   none_first state None h = refl
   none_first state (Some stop) h =
-      run_stopped image inputs events n state stop h ∙ sym (stays events state.trace stop (record { state = state; stop = stop }) (run image inputs events n state) h)
+      run_stopped image inputs events n state stop h ∙
+      sym (stays events state.trace stop (record { state = state; stop = stop })
+      (run image inputs events n state) h)
 
   -- with one step more, of which the outcome is given
   one_more : (m : ℕ) (state : State) (outcome : Outcome) →
-      ((next : State) → run image inputs events (m + n) next ≡ continued (run image inputs events n) (run image inputs events m next)) →
-      after state outcome (run image inputs events (m + n)) ≡ continued (run image inputs events n) (after state outcome (run image inputs events m))
+      ((next : State) → run image inputs events (m + n) next ≡
+      continued (run image inputs events n) (run image inputs events m next)) →
+      after state outcome (run image inputs events (m + n)) ≡
+      continued (run image inputs events n) (after state outcome (run image inputs events m))
   one_more m state (Goes next) later = later next
   one_more m state (Traps reason) later = refl
 
   -- and the stop before it
   one_first : (m : ℕ) (state : State) (early : Option Stop) → stopped events state.trace ≡ early →
-      ((next : State) → run image inputs events (m + n) next ≡ continued (run image inputs events n) (run image inputs events m next)) →
+      ((next : State) → run image inputs events (m + n) next ≡
+      continued (run image inputs events n) (run image inputs events m next)) →
       stops_or early state (after state (step image inputs state) (run image inputs events (m + n))) ≡
-      continued (run image inputs events n) (stops_or early state (after state (step image inputs state) (run image inputs events m)))
+      continued (run image inputs events n) (stops_or early state
+      (after state (step image inputs state) (run image inputs events m)))
   one_first m state None h later = one_more m state (step image inputs state) later
   one_first m state (Some stop) h later =
       sym (stays events state.trace stop (record { state = state; stop = stop }) (run image inputs events n state) h)
@@ -77,4 +88,5 @@ module _ (image : ImageParts) (inputs : List ℕ) (events n : ℕ) where
   run_more zero state =
       ap (λ k. run image inputs events k state) (zero-add n) ∙ none_first state (stopped events state.trace) refl
   run_more (suc m) state =
-      ap (λ k. run image inputs events k state) (suc-add m n) ∙ one_first m state (stopped events state.trace) refl (run_more m)
+      ap (λ k. run image inputs events k state) (suc-add m n) ∙
+      one_first m state (stopped events state.trace) refl (run_more m)

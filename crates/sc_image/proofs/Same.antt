@@ -15,7 +15,7 @@ use Rattle.sc_image.specs.State.{State, Crossing, a0, sp, reg, written, saved_sp
 use Rattle.sc_image.specs.Cross.{called, returned, returned_to, arguments, given_back, input_at}
 use Rattle.sc_image.specs.Step.{Outcome, Goes, Traps, store_size, step}
 use Rattle.sc_image.specs.Own.{Running, Waits, Entered, kept_by, data_of, own}
-use Rattle.sc_image.specs.Isolation.{Adds, LooksSame, FollowsFromOwn, GoesOnSame, IsSilent, AreSilent, shown_by, shown, after_outcome, after_step, after_steps}
+use Rattle.sc_image.specs.Isolation.{Adds, LooksSame, FollowsFromOwn, GoesOnSame, IsSilent, AreSilent, observation_of, observation, after_outcome, after_step, after_steps}
 use Rattle.sc_image.proofs.Cases.{one, other, Cases, step_both}
 use Rattle.sc_image.specs.Steady.{OpenCall, call_of, inputs_in, IsChain, IsSteady}
 use Rattle.sc_image.proofs.Reached.{called_other, steady_step, SteadyAfter}
@@ -34,22 +34,28 @@ loud trace event silent =
 
 -- The bytes of one compartment.
 
-same_at : (image : ImageParts) (c a : ℕ) (memory memory' : Memory) → data_of image c memory ≡ data_of image c memory' → are_data image c a 1 ≡ true → memory a ≡ memory' a
+same_at : (image : ImageParts) (c a : ℕ) (memory memory' : Memory) → data_of image c memory ≡ data_of image c memory' →
+    are_data image c a 1 ≡ true → memory a ≡ memory' a
 same_at image c a memory memory' same owned = rw owned at (ap (λ bytes. bytes a) same)
 
-stored_at : (image : ImageParts) (c a size word x : ℕ) (memory memory' : Memory) → ((b : ℕ) → are_data image c b 1 ≡ true → memory b ≡ memory' b) →
-    (owned : Bool) → are_data image c x 1 ≡ owned → (if owned then stored memory a size word x else None) ≡ (if owned then stored memory' a size word x else None)
+stored_at : (image : ImageParts) (c a size word x : ℕ) (memory memory' : Memory) →
+    ((b : ℕ) → are_data image c b 1 ≡ true → memory b ≡ memory' b) →
+    (owned : Bool) → are_data image c x 1 ≡ owned → (if owned then stored memory a size word x else None) ≡
+    (if owned then stored memory' a size word x else None)
 stored_at image c a size word x memory memory' same true is =
     ap (λ before. if nat_le a x && nat_lt x (a + size) then Some (byte_of word (x - a)) else before) (same x is)
 stored_at image c a size word x memory memory' same false is = refl
 
-stored_same : (image : ImageParts) (c a size word : ℕ) (memory memory' : Memory) → ((b : ℕ) → are_data image c b 1 ≡ true → memory b ≡ memory' b) →
+stored_same : (image : ImageParts) (c a size word : ℕ) (memory memory' : Memory) →
+    ((b : ℕ) → are_data image c b 1 ≡ true → memory b ≡ memory' b) →
     data_of image c (stored memory a size word) ≡ data_of image c (stored memory' a size word)
-stored_same image c a size word memory memory' same = λ i x. stored_at image c a size word x memory memory' same (are_data image c x 1) refl i
+stored_same image c a size word memory memory' same =
+    λ i x. stored_at image c a size word x memory memory' same (are_data image c x 1) refl i
 
 -- The two states, as the compartment can't tell them apart.
 
-module _ (image : ImageParts) (inputs : List ℕ) (formed : IsWellFormed image) (regs : List ℕ) (pc c place : ℕ) (trace : List Event) (saved saved' : List ℕ) (memory memory' : Memory) (cross cross' : List Crossing) where
+module _ (image : ImageParts) (inputs : List ℕ) (formed : IsWellFormed image) (regs : List ℕ) (pc c place : ℕ)
+    (trace : List Event) (saved saved' : List ℕ) (memory memory' : Memory) (cross cross' : List Crossing) where
   abbrev pub left : State
   left = one image inputs formed regs pc c place trace saved saved' memory memory' cross cross'
 
@@ -63,10 +69,11 @@ module _ (image : ImageParts) (inputs : List ℕ) (formed : IsWellFormed image) 
 
   -- what comes next in both
   pub record Follow (x x' : Outcome) : Type 0 where
-    pub shows : shown_by left x ≡ shown_by right x'
+    pub shows : observation_of left x ≡ observation_of right x'
     pub parts : own image (after_outcome left x) c ≡ own image (after_outcome right x') c
     pub traces : (after_outcome left x).trace ≡ (after_outcome right x').trace
-    pub stays : shown_by left x ≡ Adds [] → ((after_outcome left x).active ≡ c) × ((after_outcome right x').active ≡ c)
+    pub stays : observation_of left x ≡ Adds [] → ((after_outcome left x).active ≡ c) ×
+        ((after_outcome right x').active ≡ c)
 
   module _ (h : Alike) where
     bytes_same : data_of image c memory ≡ data_of image c memory'
@@ -82,28 +89,72 @@ module _ (image : ImageParts) (inputs : List ℕ) (formed : IsWellFormed image) 
     shapes_same = h.left_steady.calls ∙ sym h.right_steady.calls
 
     -- the same registers and pc, and perhaps one event more, with the compartment still active
-    on : (regs' : List ℕ) (pc' place' : ℕ) (more : List Event) (bytes : Memory → Memory) → data_of image c (bytes memory) ≡ data_of image c (bytes memory') →
+    on : (regs' : List ℕ) (pc' place' : ℕ) (more : List Event) (bytes : Memory → Memory) →
+        data_of image c (bytes memory) ≡ data_of image c (bytes memory') →
         Follow
-        (Goes (record { regs = regs'; pc = pc'; active = c; saved = saved; memory = bytes memory; cross = cross; input = place'; trace = more }))
-        (Goes (record { regs = regs'; pc = pc'; active = c; saved = saved'; memory = bytes memory'; cross = cross'; input = place'; trace = more }))
+        (Goes (record {
+          regs = regs';
+          pc = pc';
+          active = c;
+          saved = saved;
+          memory = bytes memory;
+          cross = cross;
+          input = place';
+          trace = more;
+        }))
+        (Goes (record {
+          regs = regs';
+          pc = pc';
+          active = c;
+          saved = saved';
+          memory = bytes memory';
+          cross = cross';
+          input = place';
+          trace = more;
+        }))
     on regs' pc' place' more bytes same = record {
       shows = refl;
-      parts = λ i. record { bytes = same i; saved = saved_same i; calls = calls_same i; running = if nat_eq c c then Some (record { regs = regs'; pc = pc' }) else None };
+      parts = λ i. record {
+        bytes = same i;
+        saved = saved_same i;
+        calls = calls_same i;
+        running = if nat_eq c c then Some (record { regs = regs'; pc = pc' }) else None;
+      };
       traces = refl;
       stays = λ silent. (refl, refl);
     }
 
     -- a call
-    kept_of_caller : (to : ℕ) (crossing : Crossing) → crossing.caller ≡ c → crossing.callee ≢ c → kept_by c crossing ≡ Waits crossing.pc crossing.sp ∷ []
-    kept_of_caller to crossing caller callee = rw (eq-eqb crossing.caller c caller, ne_eqb crossing.callee c callee) refl
+    kept_of_caller : (to : ℕ) (crossing : Crossing) → crossing.caller ≡ c → crossing.callee ≢ c →
+        kept_by c crossing ≡ Waits crossing.pc crossing.sp ∷ []
+    kept_of_caller to crossing caller callee = rw (
+      eq-eqb crossing.caller c caller,
+      ne_eqb crossing.callee c callee,
+    ) refl
 
-    calls_on : (to index params target : ℕ) → c ≢ to → Follow (Goes (called left to index params target)) (Goes (called right to index params target))
+    calls_on : (to index params target : ℕ) → c ≢ to →
+        Follow (Goes (called left to index params target)) (Goes (called right to index params target))
     calls_on to index params target differ =
         let to_other : to ≢ c = λ same. differ (sym same) in
-        let mine : Crossing = record { caller = c; pc = pc + 4; sp = reg left sp; callee = to; entry = Export index; saved = saved_sp left to } in
-        let theirs : Crossing = record { caller = c; pc = pc + 4; sp = reg left sp; callee = to; entry = Export index; saved = saved_sp right to } in
+        let mine : Crossing = record {
+          caller = c;
+          pc = pc + 4;
+          sp = reg left sp;
+          callee = to;
+          entry = Export index;
+          saved = saved_sp left to;
+        } in
+        let theirs : Crossing = record {
+          caller = c;
+          pc = pc + 4;
+          sp = reg left sp;
+          callee = to;
+          entry = Export index;
+          saved = saved_sp right to;
+        } in
         let kept : kept_by c mine ++ flat_map (kept_by c) cross ≡ kept_by c theirs ++ flat_map (kept_by c) cross' =
-        ap₂ (λ k ks. k ++ ks) (kept_of_caller to mine refl to_other ∙ sym (kept_of_caller to theirs refl to_other)) calls_same in
+        ap₂ (λ k ks. k ++ ks) (kept_of_caller to mine refl to_other ∙
+        sym (kept_of_caller to theirs refl to_other)) calls_same in
         let sps : saved_sp (called left to index params target) c ≡ saved_sp (called right to index params target) c =
         get_or-set_same saved c (reg left sp) 0 (omega (arith, h.left_steady.saved, h.left_steady.active)) ∙
         sym (get_or-set_same saved' c (reg left sp) 0 (omega (arith, h.right_steady.saved, h.right_steady.active))) in
@@ -115,7 +166,8 @@ module _ (image : ImageParts) (inputs : List ℕ) (formed : IsWellFormed image) 
             saved = sps i;
             calls = kept i;
             running =
-                idle_both to to c (record { regs = (called left to index params target).regs; pc = target }) (record { regs = (called right to index params target).regs; pc = target })
+                idle_both to to c (record { regs = (called left to index params target).regs; pc = target })
+                (record { regs = (called right to index params target).regs; pc = target })
                 to_other to_other i;
           };
           traces = refl;
@@ -123,20 +175,25 @@ module _ (image : ImageParts) (inputs : List ℕ) (formed : IsWellFormed image) 
         }
 
     -- a return
-    kept_of_callee : (crossing : Crossing) → crossing.caller ≢ c → crossing.callee ≡ c → kept_by c crossing ≡ Entered crossing.saved ∷ []
+    kept_of_callee : (crossing : Crossing) → crossing.caller ≢ c → crossing.callee ≡ c →
+        kept_by c crossing ≡ Entered crossing.saved ∷ []
     kept_of_callee crossing caller callee = rw (ne_eqb crossing.caller c caller, eq-eqb crossing.callee c callee) refl
 
     returns_on : (x x' : Crossing) (xs xs' : List Crossing) → cross ≡ x ∷ xs → cross' ≡ x' ∷ xs' →
         Follow (Goes (returned image left (x ∷ xs))) (Goes (returned image right (x' ∷ xs')))
     returns_on x x' xs xs' is is' =
-        let chain : IsChain (length image.comps) c (x ∷ xs) = subst (IsChain (length image.comps) c) is h.left_steady.chain in
-        let chain' : IsChain (length image.comps) c (x' ∷ xs') = subst (IsChain (length image.comps) c) is' h.right_steady.chain in
+        let chain : IsChain (length image.comps) c (x ∷ xs) =
+        subst (IsChain (length image.comps) c) is h.left_steady.chain in
+        let chain' : IsChain (length image.comps) c (x' ∷ xs') =
+        subst (IsChain (length image.comps) c) is' h.right_steady.chain in
         let caller : x.caller ≢ c = λ same. chain.1 (same ∙ sym chain.0) in
         let caller' : x'.caller ≢ c = λ same. chain'.1 (same ∙ sym chain'.0) in
-        let shapes : call_of x ∷ map call_of xs ≡ call_of x' ∷ map call_of xs' = sym (ap (map call_of) is) ∙ shapes_same ∙ ap (map call_of) is' in
+        let shapes : call_of x ∷ map call_of xs ≡ call_of x' ∷ map call_of xs' =
+        sym (ap (map call_of) is) ∙ shapes_same ∙ ap (map call_of) is' in
         let first : call_of x ≡ call_of x' = cc shapes in
         let numbers : Entered x.saved ∷ flat_map (kept_by c) xs ≡ Entered x'.saved ∷ flat_map (kept_by c) xs' =
-        ap (λ k. k ++ flat_map (kept_by c) xs) (sym (kept_of_callee x caller chain.0)) ∙ sym (ap (flat_map (kept_by c)) is) ∙ calls_same ∙ ap (flat_map (kept_by c)) is' ∙
+        ap (λ k. k ++ flat_map (kept_by c) xs) (sym (kept_of_callee x caller chain.0)) ∙
+        sym (ap (flat_map (kept_by c)) is) ∙ calls_same ∙ ap (flat_map (kept_by c)) is' ∙
         ap (λ k. k ++ flat_map (kept_by c) xs') (kept_of_callee x' caller' chain'.0) in
         let kept : x.saved ≡ x'.saved = cc numbers in
         let rest : flat_map (kept_by c) xs ≡ flat_map (kept_by c) xs' = cc numbers in
@@ -152,18 +209,22 @@ module _ (image : ImageParts) (inputs : List ℕ) (formed : IsWellFormed image) 
             bytes = bytes_same i;
             saved = sps i;
             calls = rest i;
-            running = idle_both x.caller x'.caller c (record { regs = after.regs; pc = after.pc }) (record { regs = after'.regs; pc = after'.pc }) caller caller' i;
+            running = idle_both x.caller x'.caller c (record { regs = after.regs; pc = after.pc })
+                (record { regs = after'.regs; pc = after'.pc }) caller caller' i;
           };
           traces = ap (λ o. trace ++ event o ∷ []) first;
           stays = λ silent. absurd (loud trace (event (call_of x)) silent);
         }
 
-    returns_both : (xs xs' : List Crossing) → cross ≡ xs → cross' ≡ xs' → Follow (Goes (returned image left xs)) (Goes (returned image right xs'))
+    returns_both : (xs xs' : List Crossing) → cross ≡ xs → cross' ≡ xs' →
+        Follow (Goes (returned image left xs)) (Goes (returned image right xs'))
     returns_both [] [] is is' = on regs pc place (trace ++ End c (reg left a0) ∷ []) (λ m. m) bytes_same
     returns_both [] (x' ∷ xs') is is' =
-        let never : ◌≡◌ {A = List OpenCall} [] (call_of x' ∷ map call_of xs') = sym (ap (map call_of) is) ∙ shapes_same ∙ ap (map call_of) is' in cc never
+        let never : ◌≡◌ {A = List OpenCall} [] (call_of x' ∷ map call_of xs') =
+        sym (ap (map call_of) is) ∙ shapes_same ∙ ap (map call_of) is' in cc never
     returns_both (x ∷ xs) [] is is' =
-        let never : call_of x ∷ map call_of xs ≡ [] = sym (ap (map call_of) is) ∙ shapes_same ∙ ap (map call_of) is' in cc never
+        let never : call_of x ∷ map call_of xs ≡ [] = sym (ap (map call_of) is) ∙ shapes_same ∙ ap (map call_of) is' in
+        cc never
     returns_both (x ∷ xs) (x' ∷ xs') is is' = returns_on x x' xs xs' is is'
 
     cases : Cases image inputs formed regs pc c place trace saved saved' memory memory' cross cross' Follow
@@ -172,11 +233,14 @@ module _ (image : ImageParts) (inputs : List ℕ) (formed : IsWellFormed image) 
       traps = λ reason. record { shows = refl; parts = h.own_parts; traces = refl; stays = λ silent. cc silent };
       quiet = λ regs' pc' same. on regs' pc' place trace (λ m. m) bytes_same;
       stores = λ op a word allowed. on regs (pc + 4) place trace (λ m. stored m a (store_size op) word)
-          (stored_same image c a (store_size op) word memory memory' (λ b owned. same_at image c b memory memory' bytes_same owned));
-      calls = λ to index target at may. calls_on to index (params_of image to index) target (called_other image c to index formed may);
+          (stored_same image c a (store_size op) word memory memory'
+          (λ b owned. same_at image c b memory memory' bytes_same owned));
+      calls = λ to index target at may. calls_on to index (params_of image to index) target
+          (called_other image c to index formed may);
       returns = returns_both cross cross' refl refl;
       outputs = λ may. on regs (pc + 4) place (trace ++ Out c (reg left a0) ∷ []) (λ m. m) bytes_same;
-      reads = λ may. on (written regs a0 (input_at inputs place)) (pc + 4) (suc place) (trace ++ In c (input_at inputs place) ∷ []) (λ m. m) bytes_same;
+      reads = λ may. on (written regs a0 (input_at inputs place)) (pc + 4) (suc place)
+          (trace ++ In c (input_at inputs place) ∷ []) (λ m. m) bytes_same;
     }
 
     pub follow : Follow (step image inputs left) (step image inputs right)
@@ -186,15 +250,17 @@ module _ (image : ImageParts) (inputs : List ℕ) (formed : IsWellFormed image) 
 
 -- what comes next in both
 pub record Next (image : ImageParts) (inputs : List ℕ) (c : ℕ) (s t : State) : Type 0 where
-  pub shows : shown image inputs s ≡ shown image inputs t
+  pub shows : observation image inputs s ≡ observation image inputs t
   pub parts : own image (after_step image inputs s) c ≡ own image (after_step image inputs t) c
   pub traces : (after_step image inputs s).trace ≡ (after_step image inputs t).trace
-  pub stays : IsSilent image inputs s → ((after_step image inputs s).active ≡ c) × ((after_step image inputs t).active ≡ c)
+  pub stays : IsSilent image inputs s → ((after_step image inputs s).active ≡ c) ×
+      ((after_step image inputs t).active ≡ c)
 
 abbrev running : State → Running
 running state = record { regs = state.regs; pc = state.pc }
 
-running_of : (c active : ℕ) (running : Running) → active ≡ c → (if nat_eq active c then Some running else None) ≡ Some running
+running_of : (c active : ℕ) (running : Running) → active ≡ c →
+    (if nat_eq active c then Some running else None) ≡ Some running
 running_of c active running same = rw (eq-eqb active c same) refl
 
 module _ (image : ImageParts) (inputs : List ℕ) (formed : IsWellFormed image) (all : All IsWord inputs) (c : ℕ) where
@@ -202,7 +268,8 @@ module _ (image : ImageParts) (inputs : List ℕ) (formed : IsWellFormed image) 
     running_same : running s ≡ running t
     running_same =
         let both : Some (running s) ≡ Some (running t) =
-        sym (running_of c s.active (running s) h.one_active) ∙ ap (λ o. o.running) h.own_parts ∙ running_of c t.active (running t) h.other_active in
+        sym (running_of c s.active (running s) h.one_active) ∙ ap (λ o. o.running) h.own_parts ∙
+        running_of c t.active (running t) h.other_active in
         cc both
 
     input_same : s.input ≡ t.input
@@ -213,7 +280,16 @@ module _ (image : ImageParts) (inputs : List ℕ) (formed : IsWellFormed image) 
     first = record s { active = c }
 
     abbrev second : State
-    second = record { regs = s.regs; pc = s.pc; active = c; saved = t.saved; memory = t.memory; cross = t.cross; input = s.input; trace = s.trace }
+    second = record {
+      regs = s.regs;
+      pc = s.pc;
+      active = c;
+      saved = t.saved;
+      memory = t.memory;
+      cross = t.cross;
+      input = s.input;
+      trace = s.trace;
+    }
 
     first_is : s ≡ first
     first_is = λ i. record s { active = h.one_active i }
@@ -232,28 +308,35 @@ module _ (image : ImageParts) (inputs : List ℕ) (formed : IsWellFormed image) 
 
     next_written : Next image inputs c first second
     next_written =
-        let alike : Alike image inputs formed s.regs s.pc c s.input s.trace s.saved t.saved s.memory t.memory s.cross t.cross = record {
+        let alike : Alike image inputs formed s.regs s.pc c s.input s.trace s.saved t.saved s.memory t.memory s.cross
+        t.cross = record {
           left_steady = subst (IsSteady image) first_is h.one_steady;
           right_steady = subst (IsSteady image) second_is h.other_steady;
           own_parts = ap (λ x. own image x c) (sym first_is) ∙ h.own_parts ∙ ap (λ x. own image x c) second_is;
         } in
-        let f = follow image inputs formed s.regs s.pc c s.input s.trace s.saved t.saved s.memory t.memory s.cross t.cross alike in
+        let f = follow image inputs formed s.regs s.pc c s.input s.trace s.saved t.saved s.memory t.memory s.cross
+        t.cross alike in
         record { shows = f.shows; parts = f.parts; traces = f.traces; stays = f.stays }
 
     pub next_same : Next image inputs c s t
-    next_same = subst (λ x. Next image inputs c x t) (sym first_is) (subst (λ x. Next image inputs c first x) (sym second_is) next_written)
+    next_same = subst (λ x. Next image inputs c x t) (sym first_is)
+        (subst (λ x. Next image inputs c first x) (sym second_is) next_written)
 
-  steady_after : (s : State) (outcome : Outcome) → IsSteady image s → SteadyAfter image outcome → IsSteady image (after_outcome s outcome)
+  steady_after : (s : State) (outcome : Outcome) → IsSteady image s → SteadyAfter image outcome →
+      IsSteady image (after_outcome s outcome)
   steady_after s (Goes next) h k = k
   steady_after s (Traps reason) h k = h
 
-  alike_after : (s t : State) → LooksSame image c s t → IsSilent image inputs s → LooksSame image c (after_step image inputs s) (after_step image inputs t)
+  alike_after : (s t : State) → LooksSame image c s t → IsSilent image inputs s →
+      LooksSame image c (after_step image inputs s) (after_step image inputs t)
   alike_after s t h silent =
       let n = next_same s t h in
       let stays = n.stays silent in
       record {
-        one_steady = steady_after s (step image inputs s) h.one_steady (steady_step image inputs formed all s h.one_steady);
-        other_steady = steady_after t (step image inputs t) h.other_steady (steady_step image inputs formed all t h.other_steady);
+        one_steady = steady_after s (step image inputs s) h.one_steady
+            (steady_step image inputs formed all s h.one_steady);
+        other_steady = steady_after t (step image inputs t) h.other_steady
+            (steady_step image inputs formed all t h.other_steady);
         trace = n.traces;
         one_active = stays.0;
         other_active = stays.1;
@@ -263,7 +346,8 @@ module _ (image : ImageParts) (inputs : List ℕ) (formed : IsWellFormed image) 
   abbrev Goal : ℕ → State → State → Type 0
   Goal steps s t =
       (AreSilent image inputs steps s ↔ AreSilent image inputs steps t) ×
-      (AreSilent image inputs steps s → GoesOnSame image inputs c (after_steps image inputs steps s) (after_steps image inputs steps t))
+      (AreSilent image inputs steps s → GoesOnSame image inputs c (after_steps image inputs steps s)
+      (after_steps image inputs steps t))
 
   goes_on : (steps : ℕ) (s t : State) → LooksSame image c s t → Goal steps s t
   goes_on zero s t h =
@@ -271,8 +355,11 @@ module _ (image : ImageParts) (inputs : List ℕ) (formed : IsWellFormed image) 
       (((λ p. tt), (λ p. tt)), λ p. record { own_parts = h.own_parts; next = n.shows; later_parts = n.parts })
   goes_on (suc steps) s t h =
       let n = next_same s t h in
-      let later = λ (silent : IsSilent image inputs s). goes_on steps (after_step image inputs s) (after_step image inputs t) (alike_after s t h silent) in
-      (((λ p. (sym n.shows ∙ p.0, (later p.0).0.0 p.1)), (λ p. (n.shows ∙ p.0, (later (n.shows ∙ p.0)).0.1 p.1))), λ p. (later p.0).1 p.1)
+      let later = λ (silent : IsSilent image inputs s).
+      goes_on steps (after_step image inputs s) (after_step image inputs t) (alike_after s t h silent) in (
+        ((λ p. (sym n.shows ∙ p.0, (later p.0).0.0 p.1)), (λ p. (n.shows ∙ p.0, (later (n.shows ∙ p.0)).0.1 p.1))),
+        λ p. (later p.0).1 p.1,
+      )
 
 pub follows_from_own : FollowsFromOwn
 follows_from_own image inputs c s t steps formed all looks = goes_on image inputs formed all c steps s t looks

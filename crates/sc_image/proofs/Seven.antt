@@ -32,11 +32,13 @@ parts name output = record { main = 0; entry = 0x01000000; comps = only_comp nam
 
 seven_bytes : image_bytes (parts (codes "M") true) ≡
     0x53 ∷ 0x43 ∷ 0x49 ∷ 0x4d ∷ 1 ∷ 0 ∷ 1 ∷ 0 ∷ 0 ∷ 0 ∷ 0 ∷ 1 ∷ 1 ∷ 0x4d ∷ 2 ∷ 0 ∷ 0 ∷ 0 ∷ 0 ∷ 0x14 ∷ 0 ∷ 0 ∷ 0 ∷
-    0x13 ∷ 0x05 ∷ 0x70 ∷ 0 ∷ 0x93 ∷ 0x08 ∷ 0x20 ∷ 0 ∷ 0x73 ∷ 0 ∷ 0 ∷ 0 ∷ 0x13 ∷ 0x05 ∷ 0 ∷ 0 ∷ 0x67 ∷ 0x80 ∷ 0 ∷ 0 ∷ 0 ∷ 0 ∷ 0 ∷ 0 ∷ []
+    0x13 ∷ 0x05 ∷ 0x70 ∷ 0 ∷ 0x93 ∷ 0x08 ∷ 0x20 ∷ 0 ∷ 0x73 ∷ 0 ∷ 0 ∷ 0 ∷ 0x13 ∷ 0x05 ∷ 0 ∷ 0 ∷ 0x67 ∷ 0x80 ∷ 0 ∷ 0 ∷ 0 ∷
+    0 ∷ 0 ∷ 0 ∷ []
 seven_bytes = refl
 
 -- five steps
-runs : ((machine (parts (codes "Main") true) [] 5 10).state.trace ≡ Out 0 7 ∷ End 0 0 ∷ []) × ((machine (parts (codes "Main") true) [] 5 10).stop ≡ Ended)
+runs : ((machine (parts (codes "Main") true) [] 5 10).state.trace ≡ Out 0 7 ∷ End 0 0 ∷ []) ×
+    ((machine (parts (codes "Main") true) [] 5 10).stop ≡ Ended)
 unfolding run step_by stopped execute_by word_at decoded jalr_in op_imm_in op_imm_op_of system_in
 runs = (refl, refl)
 
@@ -60,7 +62,8 @@ traps = (refl, refl, refl, refl)
 
 all_five : (P : ℕ → Type 0) (a b c d e : ℕ) → P a → P b → P c → P d → P e → All P (a ∷ b ∷ c ∷ d ∷ e ∷ [])
 all_five P a b c d e pa pb pc pd pe =
-    All-cons P a (b ∷ c ∷ d ∷ e ∷ []) pa (All-cons P b (c ∷ d ∷ e ∷ []) pb (All-cons P c (d ∷ e ∷ []) pc (All-cons P d (e ∷ []) pd (All-cons P e [] pe (All-nil P)))))
+    All-cons P a (b ∷ c ∷ d ∷ e ∷ []) pa (All-cons P b (c ∷ d ∷ e ∷ []) pb
+    (All-cons P c (d ∷ e ∷ []) pc (All-cons P d (e ∷ []) pd (All-cons P e [] pe (All-nil P)))))
 
 -- it is well formed, so that there is such an image
 only_is_lone : IsLone (only_comp (codes "M") true)
@@ -71,7 +74,8 @@ only_is_lone = record {
   exports = refl;
   imports = refl;
   short_code = lit≤ tt;
-  words = all_five IsWord 0x00700513 0x00200893 0x00000073 0x00000513 0x00008067 (lit< tt) (lit< tt) (lit< tt) (lit< tt) (lit< tt);
+  words = all_five IsWord 0x00700513 0x00200893 0x00000073 0x00000513 0x00008067 (lit< tt) (lit< tt) (lit< tt) (lit< tt)
+      (lit< tt);
   short_globals = lit≤ tt;
   bytes = All-nil IsByte;
 }

@@ -10,7 +10,8 @@ use Rattle.sc_image.specs.Step.{Traps, execute, step, step_by}
 
 -- an instruction
 pub step_executes : (image : ImageParts) (inputs : List ℕ) (state : State) (word : ℕ) (instr : Instr) →
-    word_at image state.active state.pc ≡ Some word → decoded word ≡ Some instr → step image inputs state ≡ execute image inputs state instr
+    word_at image state.active state.pc ≡ Some word → decoded word ≡ Some instr →
+    step image inputs state ≡ execute image inputs state instr
 unfolding step_by
 step_executes image inputs state word instr at is = rw (at, is) refl
 

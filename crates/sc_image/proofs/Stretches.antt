@@ -49,7 +49,11 @@ Adds_to trace (Traps reason) = Unit {0}
 return_adds : (image : ImageParts) (state : State) (cross : List Crossing) →
     IsFront state.trace (returned image state cross).trace
 return_adds image state [] = (End state.active (reg state a0) ∷ [], refl)
-return_adds image state (x ∷ xs) = (Ret state.active x.caller (given_back (has_result image x.callee x.entry) state) ∷ [], refl)
+return_adds image state (x ∷ xs) = (
+  Ret state.active x.caller (given_back (has_result image x.callee x.entry) state) ∷
+      [],
+  refl,
+)
 
 step_adds : (image : ImageParts) (inputs : List ℕ) (state : State) → IsWellFormed image →
     Adds_to state.trace (step image inputs state)
@@ -58,7 +62,10 @@ step_adds image inputs state formed = step_of image inputs formed state (Adds_to
   traps = λ reason. tt;
   quiet = λ regs pc moves. front_self state.trace;
   stores = λ op a word allowed. front_self state.trace;
-  calls = λ to index target at may. (Call state.active to index (arguments (params_of image to index) state.regs) ∷ [], refl);
+  calls = λ to index target at may. (
+    Call state.active to index (arguments (params_of image to index) state.regs) ∷ [],
+    refl,
+  );
   returns = return_adds image state state.cross;
   outputs = λ may. (Out state.active (reg state a0) ∷ [], refl);
   reads = λ may. (In state.active (input_at inputs state.input) ∷ [], refl);
@@ -71,12 +78,15 @@ module _ (image : ImageParts) (inputs : List ℕ) (formed : IsWellFormed image) 
   walked_adds : (n : ℕ) (state to : State) (outcome : Outcome) → step image inputs state ≡ outcome →
       then_on outcome (walk image inputs n) ≡ Goes to →
       ((next : State) → walk image inputs n next ≡ Goes to → IsFront next.trace to.trace) → IsFront state.trace to.trace
-  walked_adds n state to (Goes next) is goes later = front_on state.trace next.trace to.trace (goes_adds state next is) (later next goes)
+  walked_adds n state to (Goes next) is goes later = front_on state.trace next.trace to.trace (goes_adds state next is)
+      (later next goes)
   walked_adds n state to (Traps reason) is goes later = let never : Traps reason ≡ Goes to = goes in cc never
 
   pub walk_adds : (n : ℕ) (state to : State) → walk image inputs n state ≡ Goes to → IsFront state.trace to.trace
-  walk_adds zero state to goes = let same : state ≡ to = cc goes in subst (λ (t : State). IsFront state.trace t.trace) same (front_self state.trace)
-  walk_adds (suc n) state to goes = walked_adds n state to (step image inputs state) refl goes (λ next. walk_adds n next to)
+  walk_adds zero state to goes = let same : state ≡ to = cc goes in
+      subst (λ (t : State). IsFront state.trace t.trace) same (front_self state.trace)
+  walk_adds (suc n) state to goes = walked_adds n state to (step image inputs state) refl goes
+      (λ next. walk_adds n next to)
 
   module _ (events more : ℕ) where
     along : (n : ℕ) (from to : State) (outcome : Outcome) → step image inputs from ≡ outcome →
@@ -88,7 +98,9 @@ module _ (image : ImageParts) (inputs : List ℕ) (formed : IsWellFormed image) 
         run image inputs events (suc (n + more)) from ≡ run image inputs events more to
     along n from to (Goes next) is goes silent early later =
         let last : IsFront next.trace to.trace = walk_adds n next to goes in
-        let short : length next.trace ≤ length from.trace = subst (λ (t : List Event). length next.trace ≤ length t) (sym silent) (front_short next.trace to.trace last) in
+        let short : length next.trace ≤ length from.trace =
+        subst (λ (t : List Event). length next.trace ≤ length t) (sym silent)
+        (front_short next.trace to.trace last) in
         let same : from.trace ≡ next.trace = front_whole from.trace next.trace (goes_adds from next is) short in
         run_goes image inputs events (n + more) from next early is ∙
         later next goes (sym same ∙ silent) (subst (λ (t : List Event). stopped events t ≡ None) same early)
@@ -98,7 +110,8 @@ module _ (image : ImageParts) (inputs : List ℕ) (formed : IsWellFormed image) 
         stopped events from.trace ≡ None →
         run image inputs events (n + more) from ≡ run image inputs events more to
     run_along zero from to goes silent early =
-        let same : from ≡ to = cc goes in ap (λ k. run image inputs events k from) (zero-add more) ∙ ap (run image inputs events more) same
+        let same : from ≡ to = cc goes in ap (λ k. run image inputs events k from) (zero-add more) ∙
+        ap (run image inputs events more) same
     run_along (suc n) from to goes silent early =
         ap (λ k. run image inputs events k from) (suc-add n more) ∙
         along n from to (step image inputs from) refl goes silent early (λ next. run_along n next to)
@@ -108,14 +121,19 @@ module _ (image : ImageParts) (inputs : List ℕ) (formed : IsWellFormed image) 
   -- so many steps lead from one state to another, with no end before the last
   abbrev OpenWalk : ℕ → State → State → Type 0
   OpenWalk zero from to = from ≡ to
-  OpenWalk (suc n) from to = (is_ended from.trace ≡ false) × ((next : State) × ((step image inputs from ≡ Goes next) × OpenWalk n next to))
+  OpenWalk (suc n) from to = (is_ended from.trace ≡ false) ×
+      ((next : State) × ((step image inputs from ≡ Goes next) × OpenWalk n next to))
 
   -- one step more
   walk_more : (n : ℕ) (from middle to : State) → OpenWalk n from middle → is_ended middle.trace ≡ false →
       step image inputs middle ≡ Goes to → OpenWalk (suc n) from to
   walk_more zero from middle to same going goes =
-      subst (λ (m : State). (is_ended m.trace ≡ false) × ((next : State) × ((step image inputs m ≡ Goes next) × (next ≡ to)))) (sym same) (going, (to, (goes, refl)))
-  walk_more (suc n) from middle to h going goes = (h.0, (h.1.0, (h.1.1.0, walk_more n h.1.0 middle to h.1.1.1 going goes)))
+      subst (λ (m : State). (is_ended m.trace ≡ false) ×
+      ((next : State) × ((step image inputs m ≡ Goes next) × (next ≡ to)))) (sym same) (going, (to, (goes, refl)))
+  walk_more (suc n) from middle to h going goes = (
+    h.0,
+    (h.1.0, (h.1.1.0, walk_more n h.1.0 middle to h.1.1.1 going goes)),
+  )
 
   open_adds : (n : ℕ) (from to : State) → OpenWalk n from to → length from.trace ≤ length to.trace
   open_adds zero from to same = subst (λ (t : State). length from.trace ≤ length t.trace) same (omega arith)
@@ -149,10 +167,12 @@ module _ (image : ImageParts) (inputs : List ℕ) (formed : IsWellFormed image) 
 
   comes : (events steps : ℕ) (from : State) → Comes from (run image inputs events steps from).state
   unfolding run
-  comes events zero from = comes_by from (record { state = from; stop = StepsOut }) (stopped events from.trace) (λ early. (0, refl))
+  comes events zero from = comes_by from (record { state = from; stop = StepsOut }) (stopped events from.trace)
+      (λ early. (0, refl))
   comes events (suc steps) from =
       comes_by from (after from (step image inputs from) (run image inputs events steps)) (stopped events from.trace)
-      (λ early. comes_after from (step image inputs from) (run image inputs events steps) refl (goes_on events from.trace early) (comes events steps))
+      (λ early. comes_after from (step image inputs from) (run image inputs events steps) refl
+      (goes_on events from.trace early) (comes events steps))
 
   -- a run comes along such a stretch
   pub not_stopped : (events : ℕ) (trace : List Event) → is_ended trace ≡ false → length trace < events →
@@ -174,7 +194,8 @@ module _ (image : ImageParts) (inputs : List ℕ) (formed : IsWellFormed image) 
   open_run events zero from to same below = none_runs events from ∙ same
   open_run events (suc n) from to h below =
       let fewer = open_adds (suc n) from to h in
-      ap (λ (r : Run). r.state) (run_goes image inputs events n from h.1.0 (not_stopped events from.trace h.0 (omega (arith, fewer, below))) h.1.1.0) ∙
+      ap (λ (r : Run). r.state) (run_goes image inputs events n from h.1.0
+      (not_stopped events from.trace h.0 (omega (arith, fewer, below))) h.1.1.0) ∙
       open_run events n h.1.0 to h.1.1.1 below
 
   reached_open : (from : State) → IsReached image inputs from → Comes (start image) from
@@ -183,16 +204,24 @@ module _ (image : ImageParts) (inputs : List ℕ) (formed : IsWellFormed image) 
   reached_next : (from to : State) → IsReached image inputs from → is_ended from.trace ≡ false →
       step image inputs from ≡ Goes to → IsReached image inputs to
   reached_next from to h going goes =
-      let way = reached_open from h in
-      (suc way.0, (suc (length to.trace), open_run (suc (length to.trace)) (suc way.0) (start image) to (walk_more way.0 (start image) from to way.1 going goes) (omega arith)))
+      let way = reached_open from h in (
+        suc way.0,
+        (
+          suc (length to.trace),
+          open_run (suc (length to.trace)) (suc way.0) (start image) to
+              (walk_more way.0 (start image) from to way.1 going goes) (omega arith),
+        ),
+      )
 
 pub stretches_compose : StretchesCompose
 stretches_compose = record {
   one_step = walk_one;
   together = walk_together;
-  run_along = λ image inputs events steps more from to formed walks silent early. run_along image inputs formed events more steps from to walks.by silent early;
+  run_along = λ image inputs events steps more from to formed walks silent early.
+      run_along image inputs formed events more steps from to walks.by silent early;
   run_step = λ image inputs events more from to goes early. run_goes image inputs events more from to early goes;
-  run_trap = λ image inputs events more state reason traps early. run_traps image inputs events more state reason early traps;
+  run_trap = λ image inputs events more state reason traps early.
+      run_traps image inputs events more state reason early traps;
   run_stop = run_stopped;
   run_none = run_out;
   reached_next = λ image inputs from to formed. reached_next image inputs formed from to;

@@ -40,24 +40,31 @@ use Rattle.sc_image.proofs.Reached.{SteadyAfter, steady_start, steady_step}
 -- One more event.
 
 legal_more : (interfaces : Interfaces) (at : Option Standing) (trace : List Event) (event : Event) (now : Standing) →
-    is_legal_from interfaces at trace ≡ true → stands_behind at trace ≡ Some now → is_allowed interfaces now event ≡ true →
+    is_legal_from interfaces at trace ≡ true → stands_behind at trace ≡ Some now →
+    is_allowed interfaces now event ≡ true →
     is_legal_from interfaces at (trace ++ event ∷ []) ≡ true
-legal_more interfaces at [] event now legal stands allowed = rw stands (and_from (is_allowed interfaces now event) true allowed refl)
+legal_more interfaces at [] event now legal stands allowed =
+    rw stands (and_from (is_allowed interfaces now event) true allowed refl)
 legal_more interfaces None (first ∷ later) event now legal stands allowed = let never : false ≡ true = legal in cc never
 legal_more interfaces (Some at) (first ∷ later) event now legal stands allowed =
-    let both = and_parts (is_allowed interfaces at first) (is_legal_from interfaces (stands_after at first) later) legal in
-    and_from (is_allowed interfaces at first) (is_legal_from interfaces (stands_after at first) (later ++ event ∷ [])) both.0
+    let both = and_parts (is_allowed interfaces at first)
+    (is_legal_from interfaces (stands_after at first) later) legal in
+    and_from (is_allowed interfaces at first) (is_legal_from interfaces (stands_after at first)
+    (later ++ event ∷ [])) both.0
     (legal_more interfaces (stands_after at first) later event now both.1 stands allowed)
 
-stands_more : (at : Option Standing) (trace : List Event) (event : Event) (now : Standing) → stands_behind at trace ≡ Some now →
+stands_more : (at : Option Standing) (trace : List Event) (event : Event) (now : Standing) →
+    stands_behind at trace ≡ Some now →
     stands_behind at (trace ++ event ∷ []) ≡ stands_after now event
 stands_more at [] event now stands = rw stands refl
-stands_more None (first ∷ later) event now stands = let never : ◌≡◌ {A = Option Standing} None (Some now) = stands in cc never
+stands_more None (first ∷ later) event now stands = let never : ◌≡◌ {A = Option Standing} None (Some now) = stands in
+    cc never
 stands_more (Some at) (first ∷ later) event now stands = stands_more (stands_after at first) later event now stands
 
 -- the event at the end
 last_of : {A : Type 0} (xs : List A) (x : A) → slice_get (xs ++ x ∷ []) (length (xs ++ x ∷ []) - 1) ≡ Some x
-last_of xs x = let at : length (xs ++ x ∷ []) - 1 ≡ length xs = omega (arith, length-append xs (x ∷ [])) in rw at (by_length xs x)
+last_of xs x = let at : length (xs ++ x ∷ []) - 1 ≡ length xs = omega (arith, length-append xs (x ∷ [])) in
+    rw at (by_length xs x)
   where
     by_length : {A : Type 0} (xs : List A) (x : A) → slice_get (xs ++ x ∷ []) (length xs) ≡ Some x
     by_length [] x = refl
@@ -68,7 +75,8 @@ ended_by trace event = ap (λ (last : Option Event). option_map_or is_end last f
 
 -- The interfaces of the image.
 
-any_map : {A B : Type 0} (test : B → Bool) (f : A → B) (xs : List A) → list_any test (map f xs) ≡ list_any (λ x. test (f x)) xs
+any_map : {A B : Type 0} (test : B → Bool) (f : A → B) (xs : List A) →
+    list_any test (map f xs) ≡ list_any (λ x. test (f x)) xs
 any_map test f [] = refl
 any_map test f (x ∷ xs) = ap (λ (later : Bool). test (f x) || later) (any_map test f xs)
 
@@ -80,18 +88,23 @@ some_at (x ∷ xs) (suc k) within = some_at xs k (omega (arith, within))
 -- what the imports of a compartment allow
 abbrev allowed_by : Bool → Bool → List ImportPart → (Import → Bool) → Bool
 allowed_by input output others is_it =
-    list_any is_it ((if input then Input ∷ [] else []) ++ ((if output then Output ∷ [] else []) ++ map import_of others))
+    list_any is_it ((if input then Input ∷ [] else []) ++
+    ((if output then Output ∷ [] else []) ++ map import_of others))
 
-allowed_input : (output : Bool) (others : List ImportPart) (is_it : Import → Bool) → is_it Input ≡ true → allowed_by true output others is_it ≡ true
+allowed_input : (output : Bool) (others : List ImportPart) (is_it : Import → Bool) → is_it Input ≡ true →
+    allowed_by true output others is_it ≡ true
 allowed_input output others is_it is = or_left (is_it Input) _ is
 
-allowed_output : (input : Bool) (others : List ImportPart) (is_it : Import → Bool) → is_it Output ≡ true → allowed_by input true others is_it ≡ true
+allowed_output : (input : Bool) (others : List ImportPart) (is_it : Import → Bool) → is_it Output ≡ true →
+    allowed_by input true others is_it ≡ true
 allowed_output true others is_it is = or_right (is_it Input) _ (or_left (is_it Output) _ is)
 allowed_output false others is_it is = or_left (is_it Output) _ is
 
-allowed_function : (input output : Bool) (others : List ImportPart) (is_it : Import → Bool) → list_any (λ import. is_it (import_of import)) others ≡ true →
+allowed_function : (input output : Bool) (others : List ImportPart) (is_it : Import → Bool) →
+    list_any (λ import. is_it (import_of import)) others ≡ true →
     allowed_by input output others is_it ≡ true
-allowed_function true true others is_it is = or_right (is_it Input) _ (or_right (is_it Output) _ (any_map is_it import_of others ∙ is))
+allowed_function true true others is_it is = or_right (is_it Input) _
+    (or_right (is_it Output) _ (any_map is_it import_of others ∙ is))
 allowed_function true false others is_it is = or_right (is_it Input) _ (any_map is_it import_of others ∙ is)
 allowed_function false true others is_it is = or_right (is_it Output) _ (any_map is_it import_of others ∙ is)
 allowed_function false false others is_it is = any_map is_it import_of others ∙ is
@@ -100,29 +113,37 @@ module _ (image : ImageParts) where
   abbrev said : Interfaces
   said = interfaces_of image
 
-  comp_said : (c : ℕ) (comp : Option CompPart) → slice_get image.comps c ≡ comp → lookup.comp_at said c ≡ option_map interface_of comp
+  comp_said : (c : ℕ) (comp : Option CompPart) → slice_get image.comps c ≡ comp →
+      lookup.comp_at said c ≡ option_map interface_of comp
   comp_said c comp at = slice_get-map interface_of image.comps c ∙ ap (option_map interface_of) at
 
   imports_said : (c : ℕ) (comp : CompPart) (is_it : Import → Bool) → slice_get image.comps c ≡ Some comp →
       imports said c is_it ≡ allowed_by comp.input comp.output comp.imports is_it
   imports_said c comp is_it at =
-      ap (λ (found : Option Interface). list_any is_it (option_map_or (λ (i : Interface). i.imports) found [])) (comp_said c (Some comp) at)
+      ap (λ (found : Option Interface). list_any is_it (option_map_or (λ (i : Interface). i.imports) found []))
+      (comp_said c (Some comp) at)
 
-  input_said : (c : ℕ) (comp : Option CompPart) → slice_get image.comps c ≡ comp → option_map_or (λ (x : CompPart). x.input) comp false ≡ true → imports said c is_input ≡ true
+  input_said : (c : ℕ) (comp : Option CompPart) → slice_get image.comps c ≡ comp →
+      option_map_or (λ (x : CompPart). x.input) comp false ≡ true → imports said c is_input ≡ true
   input_said c None at may = let never : false ≡ true = may in cc never
   input_said c (Some comp) at may =
-      imports_said c comp is_input at ∙ subst (λ (input : Bool). allowed_by input comp.output comp.imports is_input ≡ true) (sym may) (allowed_input comp.output comp.imports is_input refl)
+      imports_said c comp is_input at ∙ subst (λ (input : Bool). allowed_by input comp.output comp.imports is_input ≡
+      true) (sym may) (allowed_input comp.output comp.imports is_input refl)
 
-  output_said : (c : ℕ) (comp : Option CompPart) → slice_get image.comps c ≡ comp → option_map_or (λ (x : CompPart). x.output) comp false ≡ true → imports said c is_output ≡ true
+  output_said : (c : ℕ) (comp : Option CompPart) → slice_get image.comps c ≡ comp →
+      option_map_or (λ (x : CompPart). x.output) comp false ≡ true → imports said c is_output ≡ true
   output_said c None at may = let never : false ≡ true = may in cc never
   output_said c (Some comp) at may =
-      imports_said c comp is_output at ∙ subst (λ (output : Bool). allowed_by comp.input output comp.imports is_output ≡ true) (sym may) (allowed_output comp.input comp.imports is_output refl)
+      imports_said c comp is_output at ∙ subst (λ (output : Bool). allowed_by comp.input output comp.imports is_output ≡
+      true) (sym may) (allowed_output comp.input comp.imports is_output refl)
 
   function_said : (c to index : ℕ) (comp : Option CompPart) → slice_get image.comps c ≡ comp →
-      list_any (λ import. import.comp == to && import.index == index) (option_map_or (λ (x : CompPart). x.imports) comp []) ≡ true → imports said c (is_function to index) ≡ true
+      list_any (λ import. import.comp == to && import.index == index)
+      (option_map_or (λ (x : CompPart). x.imports) comp []) ≡ true → imports said c (is_function to index) ≡ true
   function_said c to index None at may = let never : false ≡ true = may in cc never
   function_said c to index (Some comp) at may =
-      imports_said c comp (is_function to index) at ∙ allowed_function comp.input comp.output comp.imports (is_function to index) may
+      imports_said c comp (is_function to index) at ∙
+      allowed_function comp.input comp.output comp.imports (is_function to index) may
 
   -- an export of the image, as its interfaces say it
   record IsSaid (c index : ℕ) (export : ExportPart) : Type 0 where
@@ -130,10 +151,12 @@ module _ (image : ImageParts) where
     said_so : lookup.export_at said c index ≡ Some (proto_of export)
 
   export_of : (c index : ℕ) (comp : Option CompPart) → slice_get image.comps c ≡ comp → (export : ExportPart) →
-      slice_get (option_map_or (λ (x : CompPart). x.exports) comp []) index ≡ Some export → lookup.export_at said c index ≡ Some (proto_of export)
+      slice_get (option_map_or (λ (x : CompPart). x.exports) comp []) index ≡ Some export →
+      lookup.export_at said c index ≡ Some (proto_of export)
   export_of c index None at export is = let never : ◌≡◌ {A = Option ExportPart} None (Some export) = is in cc never
   export_of c index (Some comp) at export is =
-      ap (λ (found : Option Interface). option_and_then (λ (i : Interface). slice_get i.exports index) found) (comp_said c (Some comp) at) ∙
+      ap (λ (found : Option Interface). option_and_then (λ (i : Interface). slice_get i.exports index) found)
+      (comp_said c (Some comp) at) ∙
       (slice_get-map proto_of comp.exports index ∙ ap (option_map proto_of) is)
 
   said_at : (c index : ℕ) → index < length (exports_of image c) → (export : ExportPart) × IsSaid c index export
@@ -163,7 +186,10 @@ waiting_of [] = []
 waiting_of (x ∷ xs) = record { comp = x.caller; entry = entry_of xs } ∷ waiting_of xs
 
 abbrev standing_of : State → Standing
-standing_of state = record { active = record { comp = state.active; entry = entry_of state.cross }; waiting = waiting_of state.cross }
+standing_of state = record {
+  active = record { comp = state.active; entry = entry_of state.cross };
+  waiting = waiting_of state.cross;
+}
 
 -- each open call is one of an export
 abbrev IsOfExport : ImageParts → Crossing → Type 0
@@ -192,105 +218,146 @@ abbrev ToldAfter : ImageParts → Outcome → Type 0
 ToldAfter image (Goes next) = IsTold image next
 ToldAfter image (Traps reason) = Unit {0}
 
-position_within : (test : ExportPart → Bool) (exports : List ExportPart) (index : ℕ) → position test exports ≡ Some index → index < length exports
+position_within : (test : ExportPart → Bool) (exports : List ExportPart) (index : ℕ) →
+    position test exports ≡ Some index → index < length exports
 position_within test exports index is = by_test (ltb (position_or_len test exports) (length exports)) refl is
   where
-    by_test : (found : Bool) → ltb (position_or_len test exports) (length exports) ≡ found → cond found (Some (position_or_len test exports)) None ≡ Some index →
+    by_test : (found : Bool) → ltb (position_or_len test exports) (length exports) ≡ found →
+        cond found (Some (position_or_len test exports)) None ≡ Some index →
         index < length exports
-    by_test true at is = let same : position_or_len test exports ≡ index = cc is in subst (λ (k : ℕ). k < length exports) same (ltb-true _ _ at)
+    by_test true at is = let same : position_or_len test exports ≡ index = cc is in
+        subst (λ (k : ℕ). k < length exports) same (ltb-true _ _ at)
     by_test false at is = let never : ◌≡◌ {A = Option ℕ} None (Some index) = is in cc never
 
-module _ (image : ImageParts) (inputs : List ℕ) (formed : IsWellFormed image) (all : All IsWord inputs) (state : State) (h : IsTraced image state) where
+module _ (image : ImageParts) (inputs : List ℕ) (formed : IsWellFormed image) (all : All IsWord inputs) (state : State)
+    (h : IsTraced image state) where
   -- a state after an event that is allowed, where the run goes on
-  goes_on : (event : Event) (next : State) → IsSteady image next → AreOfExports image next.cross → next.trace ≡ state.trace ++ event ∷ [] →
-      is_allowed (interfaces_of image) (standing_of state) event ≡ true → stands_after (standing_of state) event ≡ Some (standing_of next) → IsTold image next
+  goes_on : (event : Event) (next : State) → IsSteady image next → AreOfExports image next.cross →
+      next.trace ≡ state.trace ++ event ∷ [] →
+      is_allowed (interfaces_of image) (standing_of state) event ≡ true →
+      stands_after (standing_of state) event ≡ Some (standing_of next) → IsTold image next
   goes_on event next steady exports trace allowed stands = inl (record {
     steady = steady;
     exports = exports;
     legal = ap (law.legal (interfaces_of image)) trace ∙
-        legal_more (interfaces_of image) (at_start image.main) state.trace event (standing_of state) h.legal h.stands allowed;
-    stands = ap (stands_behind (at_start image.main)) trace ∙ (stands_more (at_start image.main) state.trace event (standing_of state) h.stands ∙ stands);
+        legal_more (interfaces_of image) (at_start image.main) state.trace event
+        (standing_of state) h.legal h.stands allowed;
+    stands = ap (stands_behind (at_start image.main)) trace ∙
+        (stands_more (at_start image.main) state.trace event (standing_of state) h.stands ∙ stands);
   })
 
   fits_given : (result : Bool) → fits_result (if result then Some Int else None) (given_back result state) ≡ true
   fits_given true = refl
   fits_given false = refl
 
-  told_return : (cross : List Crossing) → state.cross ≡ cross → IsSteady image (returned image state cross) → IsTold image (returned image state cross)
+  told_return : (cross : List Crossing) → state.cross ≡ cross → IsSteady image (returned image state cross) →
+      IsTold image (returned image state cross)
   told_return [] is steady =
       let event = End state.active (reg state a0) in
       let outermost : is_allowed (interfaces_of image) (standing_of state) event ≡ true =
-      and_from (state.active == state.active) _ (eq-eqb state.active state.active refl) (ap (λ (cross : List Crossing). law.is_outermost (waiting_of cross)) is) in
+      and_from (state.active == state.active) _ (eq-eqb state.active state.active refl)
+      (ap (λ (cross : List Crossing). law.is_outermost (waiting_of cross)) is) in
       inr (record {
-        legal = legal_more (interfaces_of image) (at_start image.main) state.trace event (standing_of state) h.legal h.stands outermost;
+        legal = legal_more (interfaces_of image) (at_start image.main) state.trace event
+            (standing_of state) h.legal h.stands outermost;
         over = ended_by state.trace event;
       })
   told_return (x ∷ xs) is steady =
-      let chain : IsChain (length image.comps) state.active (x ∷ xs) = subst (IsChain (length image.comps) state.active) is h.steady.chain in
+      let chain : IsChain (length image.comps) state.active (x ∷ xs) =
+      subst (IsChain (length image.comps) state.active) is h.steady.chain in
       let exports : AreOfExports image (x ∷ xs) = subst (AreOfExports image) is h.exports in
       let index = exports.0.0 in
       let said = said_at image x.callee index exports.0.1.1 in
       let value = given_back (has_result image x.callee x.entry) state in
       let value_is : value ≡ given_back said.0.result state =
       ap (λ (entry : Entry). given_back (has_result image x.callee entry) state) exports.0.1.0 ∙
-      ap (λ (found : Option ExportPart). given_back (option_map_or (λ (e : ExportPart). e.result) found false) state) said.1.there in
+      ap (λ (found : Option ExportPart). given_back (option_map_or
+      (λ (e : ExportPart). e.result) found false) state) said.1.there in
       let returns : may_return (interfaces_of image) x.callee x.entry value ≡ true =
       ap (λ (entry : Entry). may_return (interfaces_of image) x.callee entry value) exports.0.1.0 ∙
-      (ap (λ (found : Option Proto). option_map_or (λ (p : Proto). fits_result p.result value) found false) said.1.said_so ∙
+      (ap (λ (found : Option Proto). option_map_or (λ (p : Proto).
+      fits_result p.result value) found false) said.1.said_so ∙
       (ap (fits_result (if said.0.result then Some Int else None)) value_is ∙ fits_given said.0.result)) in
       let here : may_return (interfaces_of image) state.active (entry_of state.cross) value ≡ true =
-      subst (λ (cross : List Crossing). may_return (interfaces_of image) state.active (entry_of cross) value ≡ true) (sym is)
+      subst (λ (cross : List Crossing). may_return (interfaces_of image) state.active (entry_of cross) value ≡ true)
+      (sym is)
       (subst (λ (c : ℕ). may_return (interfaces_of image) c x.entry value ≡ true) chain.0 returns) in
       let awaited : law.awaits (waiting_of state.cross) x.caller ≡ true =
-      subst (λ (cross : List Crossing). law.awaits (waiting_of cross) x.caller ≡ true) (sym is) (eq-eqb x.caller x.caller refl) in
+      subst (λ (cross : List Crossing). law.awaits (waiting_of cross) x.caller ≡ true) (sym is)
+      (eq-eqb x.caller x.caller refl) in
       goes_on (Ret state.active x.caller value) (returned image state (x ∷ xs)) steady exports.1 refl
       (and_from (state.active == state.active) _ (eq-eqb state.active state.active refl)
       (and_from (law.awaits (waiting_of state.cross) x.caller) _ awaited here))
       (ap (λ (cross : List Crossing). resumed (waiting_of cross)) is)
 
   told_step : ToldAfter image (step image inputs state)
-  told_step = step_of image inputs formed state (λ outcome. SteadyAfter image outcome → ToldAfter image outcome) (record {
-    same = λ a owned. refl;
-    traps = λ reason steady. tt;
-    quiet = λ regs pc same steady. inl (record { steady = steady; exports = h.exports; legal = h.legal; stands = h.stands });
-    stores = λ op a word allowed steady. inl (record { steady = steady; exports = h.exports; legal = h.legal; stands = h.stands });
-    calls = λ to index target at may steady.
-        let said = said_at image to index (position_within (λ export. export.entry == target) (exports_of image to) index at) in
-        let few = few_params image formed to index said.0 said.1 in
-        let params_is : params_of image to index ≡ said.0.params = ap (λ (found : Option ExportPart). option_map_or (λ (e : ExportPart). e.params) found 0) said.1.there in
-        let args = arguments (params_of image to index) state.regs in
-        let count : length args ≡ said.0.params =
-        length-take-le (params_of image to index) (drop a0 state.regs) (omega (arith, few, params_is, length-drop a0 state.regs, h.steady.regs)) ∙ params_is in
-        let taken : takes (interfaces_of image) to index (length args) ≡ true =
-        ap (λ (found : Option Proto). option_map_or (λ (p : Proto). length p.params == length args) found false) said.1.said_so ∙
-        eq-eqb (length (replicate said.0.params Int)) (length args) (length-replicate said.0.params Int ∙ sym count) in
-        goes_on (Call state.active to index args) _ steady ((index, (refl, position_within (λ export. export.entry == target) (exports_of image to) index at)), h.exports) refl
-        (and_from (state.active == state.active) _ (eq-eqb state.active state.active refl)
-        (and_from (imports (interfaces_of image) state.active (is_function to index)) _
-        (function_said image state.active to index (slice_get image.comps state.active) refl may) taken)) refl;
-    returns = λ steady. told_return state.cross refl steady;
-    outputs = λ may steady.
-        goes_on (Out state.active (reg state a0)) _ steady h.exports refl
-        (and_from (state.active == state.active) _ (eq-eqb state.active state.active refl) (output_said image state.active (slice_get image.comps state.active) refl may)) refl;
-    reads = λ may steady.
-        goes_on (In state.active (input_at inputs state.input)) _ steady h.exports refl
-        (and_from (state.active == state.active) _ (eq-eqb state.active state.active refl) (input_said image state.active (slice_get image.comps state.active) refl may)) refl;
-  }) (steady_step image inputs formed all state h.steady)
+  told_step = step_of image inputs formed state (λ outcome. SteadyAfter image outcome → ToldAfter image outcome)
+      (record {
+        same = λ a owned. refl;
+        traps = λ reason steady. tt;
+        quiet = λ regs pc same steady. inl (record {
+          steady = steady;
+          exports = h.exports;
+          legal = h.legal;
+          stands = h.stands;
+        });
+        stores = λ op a word allowed steady. inl (record {
+          steady = steady;
+          exports = h.exports;
+          legal = h.legal;
+          stands = h.stands;
+        });
+        calls = λ to index target at may steady.
+            let said = said_at image to index (position_within (λ export. export.entry == target)
+            (exports_of image to) index at) in
+            let few = few_params image formed to index said.0 said.1 in
+            let params_is : params_of image to index ≡ said.0.params =
+            ap (λ (found : Option ExportPart). option_map_or (λ (e : ExportPart). e.params) found 0) said.1.there in
+            let args = arguments (params_of image to index) state.regs in
+            let count : length args ≡ said.0.params =
+            length-take-le (params_of image to index) (drop a0 state.regs)
+            (omega (arith, few, params_is, length-drop a0 state.regs, h.steady.regs)) ∙ params_is in
+            let taken : takes (interfaces_of image) to index (length args) ≡ true =
+            ap (λ (found : Option Proto). option_map_or (λ (p : Proto).
+            length p.params == length args) found false) said.1.said_so ∙
+            eq-eqb (length (replicate said.0.params Int)) (length args)
+            (length-replicate said.0.params Int ∙ sym count) in
+            goes_on (Call state.active to index args) _ steady (
+              (index, (refl, position_within (λ export. export.entry == target) (exports_of image to) index at)),
+              h.exports,
+            ) refl
+            (and_from (state.active == state.active) _ (eq-eqb state.active state.active refl)
+            (and_from (imports (interfaces_of image) state.active (is_function to index)) _
+            (function_said image state.active to index (slice_get image.comps state.active) refl may) taken)) refl;
+        returns = λ steady. told_return state.cross refl steady;
+        outputs = λ may steady.
+            goes_on (Out state.active (reg state a0)) _ steady h.exports refl
+            (and_from (state.active == state.active) _ (eq-eqb state.active state.active refl)
+            (output_said image state.active (slice_get image.comps state.active) refl may)) refl;
+        reads = λ may steady.
+            goes_on (In state.active (input_at inputs state.input)) _ steady h.exports refl
+            (and_from (state.active == state.active) _ (eq-eqb state.active state.active refl)
+            (input_said image state.active (slice_get image.comps state.active) refl may)) refl;
+      }) (steady_step image inputs formed all state h.steady)
 
 -- Runs.
 
-module _ (image : ImageParts) (inputs : List ℕ) (formed : IsWellFormed image) (all : All IsWord inputs) (events : ℕ) where
+module _ (image : ImageParts) (inputs : List ℕ) (formed : IsWellFormed image) (all : All IsWord inputs)
+    (events : ℕ) where
   -- a run that has ended stops
-  not_over : (ended full : Bool) → (if ended then Some Ended else if full then Some EventsOut else None) ≡ None → ended ≡ false
+  not_over : (ended full : Bool) → (if ended then Some Ended else if full then Some EventsOut else None) ≡ None →
+      ended ≡ false
   not_over false full is = refl
   not_over true full is = let never : ◌≡◌ {A = Option Stop} (Some Ended) None = is in cc never
 
   goes : (state : State) → IsTold image state → stopped events state.trace ≡ None → IsTraced image state
   unfolding stopped
   goes state (inl traced) is = traced
-  goes state (inr over) is = absurd (true≢false (sym over.over ∙ not_over (is_ended state.trace) (nat_le events (length state.trace)) is))
+  goes state (inr over) is = absurd (true≢false (sym over.over ∙
+      not_over (is_ended state.trace) (nat_le events (length state.trace)) is))
 
-  told_by : (early : Option Stop) (state : State) (later : Run) → stopped events state.trace ≡ early → IsTold image state →
+  told_by : (early : Option Stop) (state : State) (later : Run) → stopped events state.trace ≡ early →
+      IsTold image state →
       (stopped events state.trace ≡ None → IsTold image later.state) → IsTold image (stops_or early state later).state
   told_by None state later is h k = k is
   told_by (Some stop) state later is h k = h
@@ -302,18 +369,23 @@ module _ (image : ImageParts) (inputs : List ℕ) (formed : IsWellFormed image) 
 
   told_run : (steps : ℕ) (state : State) → IsTold image state → IsTold image (run image inputs events steps state).state
   unfolding run
-  told_run zero state h = told_by (stopped events state.trace) state (record { state = state; stop = StepsOut }) refl h (λ is. h)
+  told_run zero state h = told_by (stopped events state.trace) state (record { state = state; stop = StepsOut }) refl h
+      (λ is. h)
   told_run (suc steps) state h =
-      told_by (stopped events state.trace) state (after state (step image inputs state) (run image inputs events steps)) refl h
-      (λ is. told_after state (step image inputs state) (run image inputs events steps) h (told_step image inputs formed all state (goes state h is)) (told_run steps))
+      told_by (stopped events state.trace) state (after state (step image inputs state)
+      (run image inputs events steps)) refl h
+      (λ is. told_after state (step image inputs state) (run image inputs events steps) h
+      (told_step image inputs formed all state (goes state h is)) (told_run steps))
 
 told_start : (image : ImageParts) → IsWellFormed image → IsTold image (start image)
 told_start image formed = inl (record { steady = steady_start image formed; exports = tt; legal = refl; stands = refl })
 
-told_legal : (image : ImageParts) (state : State) → IsTold image state → law.legal (interfaces_of image) state.trace ≡ true
+told_legal : (image : ImageParts) (state : State) → IsTold image state →
+    law.legal (interfaces_of image) state.trace ≡ true
 told_legal image state (inl traced) = traced.legal
 told_legal image state (inr over) = over.legal
 
 pub all_traces_legal : TracesAreLegal
 all_traces_legal image inputs steps events formed all =
-    told_legal image (machine image inputs steps events).state (told_run image inputs formed all events steps (start image) (told_start image formed))
+    told_legal image (machine image inputs steps events).state
+    (told_run image inputs formed all events steps (start image) (told_start image formed))

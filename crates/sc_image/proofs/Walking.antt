@@ -37,13 +37,16 @@ module _ (image : ImageParts) (inputs : List ℕ) where
   walk_on : (m n : ℕ) (from middle : State) → walk image inputs m from ≡ Goes middle →
       walk image inputs (m + n) from ≡ walk image inputs n middle
   walk_on zero n from middle goes =
-      let same : from ≡ middle = cc goes in ap (λ k. walk image inputs k from) (zero-add n) ∙ ap (walk image inputs n) same
+      let same : from ≡ middle = cc goes in ap (λ k. walk image inputs k from) (zero-add n) ∙
+      ap (walk image inputs n) same
   walk_on (suc m) n from middle goes =
-      ap (λ k. walk image inputs k from) (suc-add m n) ∙ walked_first m n (step image inputs from) middle goes (λ state. walk_on m n state middle)
+      ap (λ k. walk image inputs k from) (suc-add m n) ∙
+      walked_first m n (step image inputs from) middle goes (λ state. walk_on m n state middle)
 
 pub walk_together : (image : ImageParts) (inputs : List ℕ) (m n : ℕ) (from middle to : State) →
     Walks image inputs m from middle → Walks image inputs n middle to → Walks image inputs (m + n) from to
-walk_together image inputs m n from middle to first second = record { by = walk_on image inputs m n from middle first.by ∙ second.by }
+walk_together image inputs m n from middle to first second =
+    record { by = walk_on image inputs m n from middle first.by ∙ second.by }
 
 -- Steps by their instruction.
 
@@ -58,7 +61,8 @@ steps_by_instruction = record {
   auipc = λ image inputs state rd imm at. by_instr image inputs state _ at;
   jal = λ image inputs state rd imm target at same. by_instr image inputs state _ at ∙ rw same refl;
   jalr = λ image inputs state rd rs1 imm target at same. by_instr image inputs state _ at ∙ rw same refl;
-  branch_taken = λ image inputs state op rs1 rs2 imm target at taken same. by_instr image inputs state _ at ∙ rw (taken, same) refl;
+  branch_taken = λ image inputs state op rs1 rs2 imm target at taken same. by_instr image inputs state _ at ∙
+      rw (taken, same) refl;
   branch_not_taken = λ image inputs state op rs1 rs2 imm at taken. by_instr image inputs state _ at ∙ rw taken refl;
   loads = λ image inputs state op rd rs1 imm address at same. by_instr image inputs state _ at ∙ rw same refl;
   stores = λ image inputs state op rs1 rs2 imm address at same. by_instr image inputs state _ at ∙ rw same refl;
@@ -85,7 +89,8 @@ code_placed image c word before after is =
     let place : (code_start c + 4 * length before - code_start c) / 4 ≡ length before = omega arith in
     rw (aligned, from, place, is) (behind before word after)
 
-module _ (image : ImageParts) (c : ℕ) (comp : CompPart) (found : slice_get image.comps c ≡ Some comp) (offset : ℕ) (within : offset < stretch) where
+module _ (image : ImageParts) (c : ℕ) (comp : CompPart) (found : slice_get image.comps c ≡ Some comp) (offset : ℕ)
+    (within : offset < stretch) where
   data_placed : start_memory image (data_start c + offset) ≡ data_byte offset comp
   data_placed =
       let from : nat_lt (data_start c + offset) (data_start 0) ≡ false = le-ltb _ _ (omega arith) in
@@ -96,7 +101,8 @@ module _ (image : ImageParts) (c : ℕ) (comp : CompPart) (found : slice_get ima
 stack_placed : (image : ImageParts) (c : ℕ) (comp : CompPart) (k : ℕ) → slice_get image.comps c ≡ Some comp →
     k < stack_size → start_memory image (data_start c + k) ≡ Some 0
 stack_placed image c comp k found below =
-    let low : nat_lt k stack_size ≡ true = lt-ltb _ _ below in data_placed image c comp found k (omega (arith, below)) ∙ rw low refl
+    let low : nat_lt k stack_size ≡ true = lt-ltb _ _ below in
+    data_placed image c comp found k (omega (arith, below)) ∙ rw low refl
 
 globals_placed : (image : ImageParts) (c : ℕ) (comp : CompPart) (k : ℕ) → IsWellFormed image →
     slice_get image.comps c ≡ Some comp → k < length comp.globals →
@@ -105,7 +111,8 @@ globals_placed image c comp k formed found below =
     let at : stack_top c + k ≡ data_start c + (stack_size + k) = omega arith in
     let high : nat_lt (stack_size + k) stack_size ≡ false = le-ltb _ _ (omega arith) in
     let place : stack_size + k - stack_size ≡ k = omega arith in
-    ap (start_memory image) at ∙ data_placed image c comp found (stack_size + k) (omega (arith, below, (formed.comps c comp found).short_globals)) ∙
+    ap (start_memory image) at ∙ data_placed image c comp found (stack_size + k)
+    (omega (arith, below, (formed.comps c comp found).short_globals)) ∙
     rw (high, place) refl
 
 -- The bytes of words, one after the other.

@@ -35,10 +35,12 @@ equivalence {A} same decides = record {
 
 module _ {A : Type 0} (same : A → A → Bool) (decides : (a b : A) → Decides (same a b) (a ≡ b)) where
   distinct_by_test : (xs : List A) → are_distinct same xs ≡ true → IsDistinct xs
-  distinct_by_test xs is = AllPairs-from_IsDistinct decides xs (IsDistinct-from_count (equivalence same decides) xs (eqb-true _ _ is))
+  distinct_by_test xs is = AllPairs-from_IsDistinct decides xs
+      (IsDistinct-from_count (equivalence same decides) xs (eqb-true _ _ is))
 
   test_by_distinct : (xs : List A) → IsDistinct xs → are_distinct same xs ≡ true
-  test_by_distinct xs is = eq-eqb _ _ (distinct_count-from_IsDistinct (equivalence same decides) xs (IsDistinct-from_AllPairs decides xs is))
+  test_by_distinct xs is = eq-eqb _ _ (distinct_count-from_IsDistinct (equivalence same decides) xs
+      (IsDistinct-from_AllPairs decides xs is))
 
 pub names_decide : (a b : List ℕ) → Decides (is_same_name a b) (a ≡ b)
 names_decide a b = bytes_decides a b
@@ -48,24 +50,31 @@ entries_decide a b = unsigned_Decides a b
 
 pub imports_decide : (a b : ImportPart) → Decides (is_same_import a b) (a ≡ b)
 imports_decide a b =
-    Decides-like (is_same_import a b) (λ both. rejoin a b both.0 both.1) (λ same. (ap (λ (i : ImportPart). i.comp) same, ap (λ (i : ImportPart). i.index) same))
-    (Decides-and (a.comp == b.comp) (a.index == b.index) (unsigned_Decides a.comp b.comp) (unsigned_Decides a.index b.index))
+    Decides-like (is_same_import a b) (λ both. rejoin a b both.0 both.1)
+    (λ same. (ap (λ (i : ImportPart). i.comp) same, ap (λ (i : ImportPart). i.index) same))
+    (Decides-and (a.comp == b.comp) (a.index == b.index) (unsigned_Decides a.comp b.comp)
+    (unsigned_Decides a.index b.index))
   where
     rejoin : (a b : ImportPart) → a.comp ≡ b.comp → a.index ≡ b.index → a ≡ b
-    rejoin a b comp index = ap (λ (c : ℕ). record { comp = c; index = a.index }) comp ∙ ap (λ (k : ℕ). record { comp = b.comp; index = k }) index
+    rejoin a b comp index = ap (λ (c : ℕ). record { comp = c; index = a.index }) comp ∙
+        ap (λ (k : ℕ). record { comp = b.comp; index = k }) index
 
 -- Entries.
 
-some_within : (words : List ℕ) (k : ℕ) (found : Option ℕ) → slice_get words k ≡ found → is_some found ≡ true → k < length words
+some_within : (words : List ℕ) (k : ℕ) (found : Option ℕ) → slice_get words k ≡ found → is_some found ≡ true →
+    k < length words
 some_within words k None at some = let never : false ≡ true = some in cc never
 some_within words k (Some word) at some = slice_get_within words k word at
 
 entry_by : (image : ImageParts) (c entry : ℕ) (whole : Bool) →
-    is_some (cond whole (slice_get (code_of image c) ((entry - code_start c) / 4)) None) ≡ true → (entry - code_start c) / 4 < length (code_of image c)
-entry_by image c entry true some = some_within (code_of image c) ((entry - code_start c) / 4) (slice_get (code_of image c) ((entry - code_start c) / 4)) refl some
+    is_some (cond whole (slice_get (code_of image c) ((entry - code_start c) / 4)) None) ≡ true →
+    (entry - code_start c) / 4 < length (code_of image c)
+entry_by image c entry true some = some_within (code_of image c) ((entry - code_start c) / 4)
+    (slice_get (code_of image c) ((entry - code_start c) / 4)) refl some
 entry_by image c entry false some = let never : false ≡ true = some in cc never
 
-entry_is_short : (image : ImageParts) (c entry : ℕ) → c < 32 → 4 * length (code_of image c) ≤ stretch → is_entry image c entry ≡ true → entry < 2 ^ 32
+entry_is_short : (image : ImageParts) (c entry : ℕ) → c < 32 → 4 * length (code_of image c) ≤ stretch →
+    is_entry image c entry ≡ true → entry < 2 ^ 32
 unfolding word_at
 entry_is_short image c entry low short is =
     let within = entry_by image c entry (nat_eq (entry % 4) 0 && nat_le (code_start c) entry) is in
@@ -73,7 +82,8 @@ entry_is_short image c entry low short is =
 
 -- Imports.
 
-offered_by_test : (index : ℕ) (found : Option CompPart) → option_map_or (λ (comp : CompPart). nat_lt index (length comp.exports)) found false ≡ true →
+offered_by_test : (index : ℕ) (found : Option CompPart) →
+    option_map_or (λ (comp : CompPart). nat_lt index (length comp.exports)) found false ≡ true →
     IsSomeAnd found (λ comp. index < length comp.exports)
 offered_by_test index None is = let never : false ≡ true = is in cc never
 offered_by_test index (Some comp) is = ltb-true _ _ is
@@ -83,29 +93,38 @@ test_by_offered : (index : ℕ) (found : Option CompPart) → IsSomeAnd found (�
 test_by_offered index None is = absurd is
 test_by_offered index (Some comp) is = lt-ltb _ _ is
 
-import_by_test : (image : ImageParts) (c : ℕ) (import : ImportPart) → is_import image c import ≡ true → IsImport image c import
+import_by_test : (image : ImageParts) (c : ℕ) (import : ImportPart) → is_import image c import ≡ true →
+    IsImport image c import
 import_by_test image c import is =
     let tests = and_parts _ _ is in
-    record { other = eqb-false _ _ (not-true _ tests.0); offered = offered_by_test import.index (slice_get image.comps import.comp) tests.1 }
+    record {
+      other = eqb-false _ _ (not-true _ tests.0);
+      offered = offered_by_test import.index (slice_get image.comps import.comp) tests.1;
+    }
 
-test_by_import : (image : ImageParts) (c : ℕ) (import : ImportPart) → IsImport image c import → is_import image c import ≡ true
+test_by_import : (image : ImageParts) (c : ℕ) (import : ImportPart) → IsImport image c import →
+    is_import image c import ≡ true
 test_by_import image c import is =
-    and_from _ _ (not_from_false _ (ne_eqb _ _ is.other)) (test_by_offered import.index (slice_get image.comps import.comp) is.offered)
+    and_from _ _ (not_from_false _ (ne_eqb _ _ is.other))
+    (test_by_offered import.index (slice_get image.comps import.comp) is.offered)
 
 -- Lists.
 
-all_by_tests : {A : Type 0} (test : A → Bool) (F P : A → Type 0) → ((x : A) → F x → test x ≡ true → P x) → (xs : List A) →
+all_by_tests : {A : Type 0} (test : A → Bool) (F P : A → Type 0) → ((x : A) → F x → test x ≡ true → P x) →
+    (xs : List A) →
     AllByRecursion F xs → list_all test xs ≡ true → AllByRecursion P xs
 all_by_tests test F P each [] fits is = tt
 all_by_tests test F P each (x ∷ xs) fits is =
     let tests = and_parts _ _ is in
     (each x fits.0 tests.0, all_by_tests test F P each xs fits.1 tests.1)
 
-tests_by_all : {A : Type 0} (test : A → Bool) (P : A → Type 0) → ((x : A) → P x → test x ≡ true) → (xs : List A) → AllByRecursion P xs → list_all test xs ≡ true
+tests_by_all : {A : Type 0} (test : A → Bool) (P : A → Type 0) → ((x : A) → P x → test x ≡ true) → (xs : List A) →
+    AllByRecursion P xs → list_all test xs ≡ true
 tests_by_all test P each [] all = refl
 tests_by_all test P each (x ∷ xs) all = and_from _ _ (each x all.0) (tests_by_all test P each xs all.1)
 
-weaker : {A : Type 0} (P Q : A → Type 0) → ((x : A) → P x → Q x) → (xs : List A) → AllByRecursion P xs → AllByRecursion Q xs
+weaker : {A : Type 0} (P Q : A → Type 0) → ((x : A) → P x → Q x) → (xs : List A) → AllByRecursion P xs →
+    AllByRecursion Q xs
 weaker P Q each [] all = tt
 weaker P Q each (x ∷ xs) all = (each x all.0, weaker P Q each xs all.1)
 
@@ -118,11 +137,13 @@ exports_are image c exports fits is =
     (all_by_tests (λ (export : ExportPart). is_entry image c export.entry) FitsExport (IsExport image c)
     (λ export h entry. record { name = h.name; params = h.params; entry = entry }) exports fits is)
 
-imports_are : (image : ImageParts) (c comps : ℕ) (imports : List ImportPart) → AllByRecursion (FitsImport comps) imports →
+imports_are : (image : ImageParts) (c comps : ℕ) (imports : List ImportPart) →
+    AllByRecursion (FitsImport comps) imports →
     list_all (is_import image c) imports ≡ true → All (IsImport image c) imports
 imports_are image c comps imports fits is =
     All-from_recursion (IsImport image c) imports
-    (all_by_tests (is_import image c) (FitsImport comps) (IsImport image c) (λ import h test. import_by_test image c import test) imports fits is)
+    (all_by_tests (is_import image c) (FitsImport comps) (IsImport image c)
+    (λ import h test. import_by_test image c import test) imports fits is)
 
 abbrev pub keeps : ImageParts → ℕ → CompPart → Bool
 keeps image c comp = exports_keep image c comp.exports && imports_keep image c comp.imports
@@ -130,7 +151,8 @@ keeps image c comp = exports_keep image c comp.exports && imports_keep image c c
 all_bytes : (bytes : List ℕ) → IsBytes bytes → All IsByte bytes
 all_bytes bytes fits i d within = subst (λ (b : ℕ). b < 2 ^ 8) (get_or_default bytes i 0 d within) (fits i)
 
-comp_is : (image : ImageParts) (comps c : ℕ) (comp : CompPart) → FitsComp comps comp → keeps image c comp ≡ true → IsComp image c comp
+comp_is : (image : ImageParts) (comps c : ℕ) (comp : CompPart) → FitsComp comps comp → keeps image c comp ≡ true →
+    IsComp image c comp
 comp_is image comps c comp fits is =
     let both = and_parts _ _ is in
     let exports = and_parts _ _ both.0 in
@@ -158,23 +180,29 @@ kept_at image c [] is i comp at = let never : ◌≡◌ {A = Option CompPart} No
 kept_at image c (first ∷ comps) is zero comp at =
     let same : first ≡ comp = cc at in
     let c-is : c + 0 ≡ c = omega arith in
-    let first_keeps : keeps image (c + 0) first ≡ true = rw c-is (and_parts (keeps image c first) (comps_keep image (suc c) comps) is).0 in
+    let first_keeps : keeps image (c + 0) first ≡ true =
+    rw c-is (and_parts (keeps image c first) (comps_keep image (suc c) comps) is).0 in
     subst (λ (x : CompPart). keeps image (c + 0) x ≡ true) same first_keeps
 kept_at image c (first ∷ comps) is (suc i) comp at =
     let next : suc c + i ≡ c + suc i = omega arith in
-    subst (λ (k : ℕ). keeps image k comp ≡ true) next (kept_at image (suc c) comps (and_parts (keeps image c first) (comps_keep image (suc c) comps) is).1 i comp at)
+    subst (λ (k : ℕ). keeps image k comp ≡ true) next
+    (kept_at image (suc c) comps (and_parts (keeps image c first) (comps_keep image (suc c) comps) is).1 i comp at)
 
-keep_by : (image : ImageParts) (c : ℕ) (comps : List CompPart) → ((i : ℕ) (comp : CompPart) → slice_get comps i ≡ Some comp → keeps image (c + i) comp ≡ true) →
+keep_by : (image : ImageParts) (c : ℕ) (comps : List CompPart) →
+    ((i : ℕ) (comp : CompPart) → slice_get comps i ≡ Some comp → keeps image (c + i) comp ≡ true) →
     comps_keep image c comps ≡ true
 keep_by image c [] each = refl
 keep_by image c (first ∷ comps) each =
     let c-is : c + 0 ≡ c = omega arith in
-    and_from (keeps image c first) (comps_keep image (suc c) comps) (subst (λ (k : ℕ). keeps image k first ≡ true) c-is (each zero first refl))
-    (keep_by image (suc c) comps (λ i comp at. let next : c + suc i ≡ suc c + i = omega arith in subst (λ (k : ℕ). keeps image k comp ≡ true) next (each (suc i) comp at)))
+    and_from (keeps image c first) (comps_keep image (suc c) comps)
+    (subst (λ (k : ℕ). keeps image k first ≡ true) c-is (each zero first refl))
+    (keep_by image (suc c) comps (λ i comp at. let next : c + suc i ≡ suc c + i = omega arith in
+    subst (λ (k : ℕ). keeps image k comp ≡ true) next (each (suc i) comp at)))
 
 -- The whole.
 
-at_place : {A : Type 0} (P : A → Type 0) (xs : List A) → AllByRecursion P xs → (i : ℕ) (x : A) → slice_get xs i ≡ Some x → P x
+at_place : {A : Type 0} (P : A → Type 0) (xs : List A) → AllByRecursion P xs → (i : ℕ) (x : A) →
+    slice_get xs i ≡ Some x → P x
 at_place {A} P [] all i x at = let never : ◌≡◌ {A = Option A} None (Some x) = at in cc never
 at_place {A} P (y ∷ xs) all zero x at = let same : y ≡ x = cc at in subst P same all.0
 at_place {A} P (y ∷ xs) all (suc i) x at = at_place P xs all.1 i x at
@@ -188,7 +216,8 @@ whole_is image fits is =
       main = fits.main;
       entry = rest.0;
       comps = λ c comp at.
-          comp_is image (length image.comps) c comp (at_place (FitsComp (length image.comps)) image.comps fits.comps c comp at)
+          comp_is image (length image.comps) c comp (at_place
+          (FitsComp (length image.comps)) image.comps fits.comps c comp at)
           (subst (λ (k : ℕ). keeps image k comp ≡ true) (zero-add c) (kept_at image 0 image.comps rest.1 c comp at));
       names = distinct_by_test is_same_name names_decide (map (λ comp. comp.name) image.comps) names.0;
     }
@@ -199,31 +228,41 @@ module _ (image : ImageParts) (formed : IsWellFormed image) where
       let h = formed.comps c comp at in
       and_from _ _
       (and_from _ _
-      (tests_by_all (λ (export : ExportPart). is_entry image c export.entry) (IsExport image c) (λ export e. e.entry) comp.exports (recursion_from_All (IsExport image c) comp.exports h.exports))
-      (and_from _ _ (test_by_distinct is_same_name names_decide (map (λ export. export.name) comp.exports) h.export_names)
+      (tests_by_all (λ (export : ExportPart). is_entry image c export.entry) (IsExport image c)
+      (λ export e. e.entry) comp.exports (recursion_from_All (IsExport image c) comp.exports h.exports))
+      (and_from _ _ (test_by_distinct is_same_name names_decide
+      (map (λ export. export.name) comp.exports) h.export_names)
       (test_by_distinct ◌==◌ unsigned_Decides (map (λ export. export.entry) comp.exports) h.export_entries)))
       (and_from _ _
-      (tests_by_all (is_import image c) (IsImport image c) (test_by_import image c) comp.imports (recursion_from_All (IsImport image c) comp.imports h.imports))
+      (tests_by_all (is_import image c) (IsImport image c) (test_by_import image c) comp.imports
+      (recursion_from_All (IsImport image c) comp.imports h.imports))
       (test_by_distinct is_same_import imports_decide comp.imports h.distinct_imports))
 
   pub rules_are_kept : keeps_rules image ≡ true
   rules_are_kept =
       and_from _ _ (test_by_distinct is_same_name names_decide (map (λ comp. comp.name) image.comps) formed.names)
       (and_from _ _ formed.entry
-      (keep_by image 0 image.comps (λ i comp at. subst (λ (k : ℕ). keeps image k comp ≡ true) (sym (zero-add i)) (comp_keeps i comp at))))
+      (keep_by image 0 image.comps (λ i comp at. subst (λ (k : ℕ). keeps image k comp ≡ true) (sym (zero-add i))
+      (comp_keeps i comp at))))
 
-  code_is_short : (c : ℕ) (found : Option CompPart) → slice_get image.comps c ≡ found → 4 * length (code_of image c) ≤ stretch
+  code_is_short : (c : ℕ) (found : Option CompPart) → slice_get image.comps c ≡ found →
+      4 * length (code_of image c) ≤ stretch
   code_is_short c None at = rw at (lit≤ tt)
   code_is_short c (Some comp) at = rw at (formed.comps c comp at).short_code
 
   entry_fits : (c entry : ℕ) → c < length image.comps → is_entry image c entry ≡ true → entry < 2 ^ 32
   entry_fits c entry within is =
-      entry_is_short image c entry (omega (arith, within, formed.few_comps)) (code_is_short c (slice_get image.comps c) refl) is
+      entry_is_short image c entry (omega (arith, within, formed.few_comps))
+      (code_is_short c (slice_get image.comps c) refl) is
 
-  import_comp : (index : ℕ) (c : ℕ) (found : Option CompPart) → slice_get image.comps c ≡ found → IsSomeAnd found (λ comp. index < length comp.exports) →
+  import_comp : (index : ℕ) (c : ℕ) (found : Option CompPart) → slice_get image.comps c ≡ found →
+      IsSomeAnd found (λ comp. index < length comp.exports) →
       (c < length image.comps) × (index < 2 ^ 16)
   import_comp index c None at is = absurd is
-  import_comp index c (Some comp) at is = (slice_get_within image.comps c comp at, omega (arith, is, (formed.comps c comp at).few_exports))
+  import_comp index c (Some comp) at is = (
+    slice_get_within image.comps c comp at,
+    omega (arith, is, (formed.comps c comp at).few_exports),
+  )
 
   import_fits : (c : ℕ) (import : ImportPart) → IsImport image c import → FitsImport (length image.comps) import
   import_fits c import h =
@@ -235,15 +274,22 @@ module _ (image : ImageParts) (formed : IsWellFormed image) where
       let h = formed.comps c comp at in
       record {
         name = h.name;
-        no_environment = false_from_ne_true _ (λ same. h.no_environment ((names_decide comp.name (codes "Env")).0 same));
+        no_environment = false_from_ne_true _ (λ same.
+            h.no_environment ((names_decide comp.name (codes "Env")).0 same));
         exports = record {
           few = h.few_exports;
-          each = weaker (IsExport image c) FitsExport (λ export e. record { name = e.name; params = e.params; entry = entry_fits c export.entry (slice_get_within image.comps c comp at) e.entry })
+          each = weaker (IsExport image c) FitsExport
+              (λ export e. record {
+                name = e.name;
+                params = e.params;
+                entry = entry_fits c export.entry (slice_get_within image.comps c comp at) e.entry;
+              })
               comp.exports (recursion_from_All (IsExport image c) comp.exports h.exports);
         };
         imports = record {
           few = h.few_imports;
-          each = weaker (IsImport image c) (FitsImport (length image.comps)) (import_fits c) comp.imports (recursion_from_All (IsImport image c) comp.imports h.imports);
+          each = weaker (IsImport image c) (FitsImport (length image.comps)) (import_fits c) comp.imports
+              (recursion_from_All (IsImport image c) comp.imports h.imports);
         };
         code = record { short = h.short_code; each = recursion_from_All IsWord comp.code h.words };
         globals = record { short = h.short_globals; bytes = bytes_fit comp.globals h.bytes };
@@ -255,5 +301,6 @@ module _ (image : ImageParts) (formed : IsWellFormed image) where
     few = formed.few_comps;
     main = formed.main;
     entry = entry_fits image.main image.entry formed.main formed.entry;
-    comps = recursion_from_All (FitsComp (length image.comps)) image.comps (all_of (FitsComp (length image.comps)) image.comps comp_fits);
+    comps = recursion_from_All (FitsComp (length image.comps)) image.comps
+        (all_of (FitsComp (length image.comps)) image.comps comp_fits);
   }

@@ -27,36 +27,42 @@ module _ (interfaces : Interfaces) where
 
   -- imports
 
-  imports_by : (found : Option Interface) → option_map_or (λ (i : Interface). i.imports) (option_map word_interface found) [] ≡ option_map_or (λ (i : Interface). i.imports) found []
+  imports_by : (found : Option Interface) → option_map_or (λ (i : Interface). i.imports)
+      (option_map word_interface found) [] ≡ option_map_or (λ (i : Interface). i.imports) found []
   imports_by None = refl
   imports_by (Some i) = refl
 
   same_imports : (comp : ℕ) (is_it : Import → Bool) →
       imports (word_interfaces interfaces) comp is_it ≡ imports interfaces comp is_it
   same_imports comp is_it =
-      ap (list_any is_it) (ap (λ (found : Option Interface). option_map_or (λ (i : Interface). i.imports) found []) (same_comp comp) ∙ imports_by (comp_at interfaces comp))
+      ap (list_any is_it) (ap (λ (found : Option Interface). option_map_or (λ (i : Interface). i.imports) found [])
+      (same_comp comp) ∙ imports_by (comp_at interfaces comp))
 
   -- exports
 
   export_by : (index : ℕ) (found : Option Interface) →
-      option_and_then (λ (i : Interface). slice_get i.exports index) (option_map word_interface found) ≡ option_map word_proto (option_and_then (λ (i : Interface). slice_get i.exports index) found)
+      option_and_then (λ (i : Interface). slice_get i.exports index) (option_map word_interface found) ≡
+      option_map word_proto (option_and_then (λ (i : Interface). slice_get i.exports index) found)
   export_by index None = refl
   export_by index (Some i) = slice_get-map word_proto i.exports index
 
   same_export : (comp index : ℕ) →
       export_at (word_interfaces interfaces) comp index ≡ option_map word_proto (export_at interfaces comp index)
   same_export comp index =
-      ap (λ (found : Option Interface). option_and_then (λ (i : Interface). slice_get i.exports index) found) (same_comp comp) ∙ export_by index (comp_at interfaces comp)
+      ap (λ (found : Option Interface). option_and_then (λ (i : Interface). slice_get i.exports index) found)
+      (same_comp comp) ∙ export_by index (comp_at interfaces comp)
 
   takes_by : (count : ℕ) (found : Option Proto) →
-      option_map_or (λ (p : Proto). length p.params == count) (option_map word_proto found) false ≡ option_map_or (λ (p : Proto). length p.params == count) found false
+      option_map_or (λ (p : Proto). length p.params == count) (option_map word_proto found) false ≡
+      option_map_or (λ (p : Proto). length p.params == count) found false
   takes_by count None = refl
   takes_by count (Some proto) = ap (λ (n : ℕ). n == count) (length-map proto.params (λ param. Int))
 
   same_takes : (comp index count : ℕ) →
       takes (word_interfaces interfaces) comp index count ≡ takes interfaces comp index count
   same_takes comp index count =
-      ap (λ (found : Option Proto). option_map_or (λ (p : Proto). length p.params == count) found false) (same_export comp index) ∙ takes_by count (export_at interfaces comp index)
+      ap (λ (found : Option Proto). option_map_or (λ (p : Proto). length p.params == count) found false)
+      (same_export comp index) ∙ takes_by count (export_at interfaces comp index)
 
   fits_by : (result : Option Scalar) (value : Option ℕ) →
       fits_result (option_map (λ r. Int) result) value ≡ fits_result result value
@@ -66,7 +72,8 @@ module _ (interfaces : Interfaces) where
   fits_by (Some type) (Some word) = refl
 
   result_by : (value : Option ℕ) (found : Option Proto) →
-      option_map_or (λ (p : Proto). fits_result p.result value) (option_map word_proto found) false ≡ option_map_or (λ (p : Proto). fits_result p.result value) found false
+      option_map_or (λ (p : Proto). fits_result p.result value) (option_map word_proto found) false ≡
+      option_map_or (λ (p : Proto). fits_result p.result value) found false
   result_by value None = refl
   result_by value (Some proto) = fits_by proto.result value
 
@@ -74,13 +81,15 @@ module _ (interfaces : Interfaces) where
       may_return (word_interfaces interfaces) comp entry value ≡ may_return interfaces comp entry value
   same_return comp Main value = refl
   same_return comp (Export index) value =
-      ap (λ (found : Option Proto). option_map_or (λ (p : Proto). fits_result p.result value) found false) (same_export comp index) ∙ result_by value (export_at interfaces comp index)
+      ap (λ (found : Option Proto). option_map_or (λ (p : Proto). fits_result p.result value) found false)
+      (same_export comp index) ∙ result_by value (export_at interfaces comp index)
 
   -- events
 
   same_event : (at : Standing) (event : Event) →
       may_perform (word_interfaces interfaces) at event ≡ may_perform interfaces at event
-  same_event at (Call from to index args) = ap₂ (λ x y. x && y) (same_imports from (is_function to index)) (same_takes to index (length args))
+  same_event at (Call from to index args) = ap₂ (λ x y. x && y) (same_imports from (is_function to index))
+      (same_takes to index (length args))
   same_event at (Ret from to value) = ap (λ x. awaits at.waiting to && x) (same_return from at.active.entry value)
   same_event at (Out comp value) = same_imports comp is_output
   same_event at (In comp value) = same_imports comp is_input
@@ -91,7 +100,8 @@ module _ (interfaces : Interfaces) where
   same_from at [] = refl
   same_from None (event ∷ later) = refl
   same_from (Some at) (event ∷ later) =
-      ap₂ (λ x y. (performer event == at.active.comp && x) && y) (same_event at event) (same_from (stands_after at event) later)
+      ap₂ (λ x y. (performer event == at.active.comp && x) && y) (same_event at event)
+      (same_from (stands_after at event) later)
 
 pub legal_by_words : LegalByWords
 legal_by_words interfaces trace = same_from interfaces (at_start interfaces.main) trace

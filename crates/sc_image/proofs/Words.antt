@@ -117,7 +117,13 @@ two_bytes memory a h = omega (arith, byte_below memory (a + 0) h, byte_below mem
 
 four_bytes : (memory : Memory) (a : ℕ) → HoldsBytes memory → load_of memory a 4 < 2 ^ 32
 four_bytes memory a h =
-    omega (arith, byte_below memory (a + 0) h, byte_below memory (a + 1) h, byte_below memory (a + 2) h, byte_below memory (a + 3) h)
+    omega (
+      arith,
+      byte_below memory (a + 0) h,
+      byte_below memory (a + 1) h,
+      byte_below memory (a + 2) h,
+      byte_below memory (a + 3) h,
+    )
 
 pub loaded_word : (memory : Memory) (op : LoadOp) (a : ℕ) → HoldsBytes memory →
     IsWord (extended op (load_of memory a (load_size op)))
@@ -135,7 +141,8 @@ pub record IsInCode (address word : ℕ) : Type 0 where
 
 module _ (image : ImageParts) (formed : IsWellFormed image) (c address word : ℕ) where
   comp_by : (comp : Option CompPart) → slice_get image.comps c ≡ comp →
-      slice_get (option_map_or (λ comp. comp.code) comp []) ((address - code_start c) / 4) ≡ Some word → code_start c ≤ address → IsInCode address word
+      slice_get (option_map_or (λ comp. comp.code) comp []) ((address - code_start c) / 4) ≡ Some word →
+      code_start c ≤ address → IsInCode address word
   comp_by None is at from = let none : ◌≡◌ {A = Option ℕ} None (Some word) = at in cc none
   comp_by (Some comp) is at from =
       let well = formed.comps c comp is in
@@ -188,4 +195,5 @@ entry_code image formed c target index at = entry_by image formed c target index
 
 pub entry_address : (image : ImageParts) → IsWellFormed image → (c target index : ℕ) →
     export_at image c target ≡ Some index → IsWord target
-entry_address image formed c target index at = code_address image formed c target (entry_code image formed c target index at)
+entry_address image formed c target index at = code_address image formed c target
+    (entry_code image formed c target index at)

@@ -38,12 +38,14 @@ globals_bytes globals = little_bytes 4 (length globals) ++ globals
 
 abbrev pub comp_bytes : CompPart → List ℕ
 comp_bytes comp =
-    name_bytes comp.name ++ flags comp ∷ exports_bytes comp.exports ++ imports_bytes comp.imports ++ code_bytes comp.code ++ globals_bytes comp.globals
+    name_bytes comp.name ++ flags comp ∷ exports_bytes comp.exports ++ imports_bytes comp.imports ++
+    code_bytes comp.code ++ globals_bytes comp.globals
 
 -- the mark and the version, how many compartments, where the run starts, and the compartments
 abbrev pub bytes_in_version : (version : ℕ) → ImageParts → List ℕ
 bytes_in_version version image =
-    codes "SCIM" ++ little_bytes 2 version ++ length image.comps ∷ image.main ∷ little_bytes 4 image.entry ++ flat_map comp_bytes image.comps
+    codes "SCIM" ++ little_bytes 2 version ++ length image.comps ∷ image.main ∷ little_bytes 4 image.entry ++
+    flat_map comp_bytes image.comps
 
 abbrev pub version : ℕ
 version = 1

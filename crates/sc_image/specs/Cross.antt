@@ -59,7 +59,8 @@ called state to index params entry = record {
 abbrev pub given_back : (result : Bool) → State → Option ℕ
 given_back result state = if result then Some (reg state a0) else None
 
--- a return to a caller, where these calls still wait: it goes on there, and the compartment that is left has its saved sp of before
+-- a return to a caller, where these calls still wait: it goes on there, and the compartment that is left has its saved
+-- sp of before
 abbrev pub returned_to : (result : Bool) → State → Crossing → List Crossing → State
 returned_to result state crossing waiting = record {
   regs = written (cleared_for_return result state.regs) sp crossing.sp;
@@ -79,7 +80,8 @@ ended state = with_event state (End state.active (reg state a0))
 -- a return through the gate: to the latest caller that waits, and where none does the run ends
 abbrev pub returned : ImageParts → State → List Crossing → State
 returned image state [] = ended state
-returned image state (crossing ∷ waiting) = returned_to (has_result image crossing.callee crossing.entry) state crossing waiting
+returned image state (crossing ∷ waiting) = returned_to
+    (has_result image crossing.callee crossing.entry) state crossing waiting
 
 -- The environment.
 
@@ -95,4 +97,5 @@ input_at inputs k = unwrap_or (slice_get inputs k) 0
 abbrev pub input : List ℕ → State → State
 input inputs state =
     let word = input_at inputs state.input in
-    let read : State = record (with_reg state a0 word) { input = suc state.input } in with_event read (In state.active word)
+    let read : State = record (with_reg state a0 word) { input = suc state.input } in
+    with_event read (In state.active word)

@@ -18,7 +18,11 @@ use Rattle.sc_image.specs.WellFormed.{IsWord, IsWellFormed}
 use Rattle.sc_image.specs.Machine.{machine}
 
 abbrev pub proto_of : ExportPart → Proto
-proto_of export = record { name = export.name; params = replicate export.params Int; result = if export.result then Some Int else None }
+proto_of export = record {
+  name = export.name;
+  params = replicate export.params Int;
+  result = if export.result then Some Int else None;
+}
 
 abbrev pub import_of : ImportPart → Import
 import_of import = Function import.comp import.index
@@ -27,7 +31,8 @@ abbrev pub interface_of : CompPart → Interface
 interface_of comp = record {
   name = comp.name;
   exports = map proto_of comp.exports;
-  imports = (if comp.input then Input ∷ [] else []) ++ ((if comp.output then Output ∷ [] else []) ++ map import_of comp.imports);
+  imports = (if comp.input then Input ∷ [] else []) ++
+      ((if comp.output then Output ∷ [] else []) ++ map import_of comp.imports);
 }
 
 abbrev pub interfaces_of : ImageParts → Interfaces
@@ -42,14 +47,23 @@ TracesAreLegal =
 -- The same interfaces with `int` in place of every scalar, as an image says them.
 
 abbrev pub word_proto : Proto → Proto
-word_proto proto = record { name = proto.name; params = map (λ param. Int) proto.params; result = option_map (λ result. Int) proto.result }
+word_proto proto = record {
+  name = proto.name;
+  params = map (λ param. Int) proto.params;
+  result = option_map (λ result. Int) proto.result;
+}
 
 abbrev pub word_interface : Interface → Interface
-word_interface interface = record { name = interface.name; exports = map word_proto interface.exports; imports = interface.imports }
+word_interface interface = record {
+  name = interface.name;
+  exports = map word_proto interface.exports;
+  imports = interface.imports;
+}
 
 abbrev pub word_interfaces : Interfaces → Interfaces
 word_interfaces interfaces = record { comps = map word_interface interfaces.comps; main = interfaces.main }
 
 -- Which traces are legal doesn't look at the types of scalars.
 abbrev pub LegalByWords : Type 0
-LegalByWords = (interfaces : Interfaces) (trace : List Event) → legal (word_interfaces interfaces) trace ≡ legal interfaces trace
+LegalByWords = (interfaces : Interfaces) (trace : List Event) →
+    legal (word_interfaces interfaces) trace ≡ legal interfaces trace

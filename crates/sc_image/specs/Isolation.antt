@@ -17,16 +17,16 @@ abbrev pub IsReached : ImageParts → List ℕ → State → Type 0
 IsReached image inputs state = (steps : ℕ) × ((events : ℕ) × ((machine image inputs steps events).state ≡ state))
 
 -- what a step shows: the events that it adds, or its trap
-pub data Shown : Type 0 where
-  Adds : (events : List Event) → Shown
-  Stops : (reason : TrapReason) → Shown
+pub data Observation : Type 0 where
+  Adds : (events : List Event) → Observation
+  Stops : (reason : TrapReason) → Observation
 
-abbrev pub shown_by : State → Outcome → Shown
-shown_by state (Goes next) = Adds (drop (length state.trace) next.trace)
-shown_by state (Traps reason) = Stops reason
+abbrev pub observation_of : State → Outcome → Observation
+observation_of state (Goes next) = Adds (drop (length state.trace) next.trace)
+observation_of state (Traps reason) = Stops reason
 
-abbrev pub shown : ImageParts → List ℕ → State → Shown
-shown image inputs state = shown_by state (step image inputs state)
+abbrev pub observation : ImageParts → List ℕ → State → Observation
+observation image inputs state = observation_of state (step image inputs state)
 
 -- the state after a step: a trap leaves it
 abbrev pub after_outcome : State → Outcome → State
@@ -38,12 +38,13 @@ after_step image inputs state = after_outcome state (step image inputs state)
 
 -- a step is silent where it adds no event and doesn't trap
 abbrev pub IsSilent : ImageParts → List ℕ → State → Type 0
-IsSilent image inputs state = shown image inputs state ≡ Adds []
+IsSilent image inputs state = observation image inputs state ≡ Adds []
 
 -- so many steps from a state on are silent
 abbrev pub AreSilent : ImageParts → List ℕ → (steps : ℕ) → State → Type 0
 AreSilent image inputs zero state = Unit {0}
-AreSilent image inputs (suc steps) state = IsSilent image inputs state × AreSilent image inputs steps (after_step image inputs state)
+AreSilent image inputs (suc steps) state = IsSilent image inputs state ×
+    AreSilent image inputs steps (after_step image inputs state)
 
 -- the state after so many steps
 abbrev pub after_steps : ImageParts → List ℕ → (steps : ℕ) → State → State
@@ -59,7 +60,7 @@ activates d (In comp value) = false
 activates d (End comp value) = false
 
 -- a step shows an event that makes d active
-abbrev pub shows_entry : ℕ → Shown → Bool
+abbrev pub shows_entry : ℕ → Observation → Bool
 shows_entry d (Adds events) = list_any (activates d) events
 shows_entry d (Stops reason) = false
 
@@ -68,7 +69,8 @@ shows_entry d (Stops reason) = false
 abbrev pub LeavesOthers : Type 0
 LeavesOthers =
     (image : ImageParts) (inputs : List ℕ) (state : State) (d : ℕ) → IsWellFormed image → IsSteady image state →
-    d ≢ state.active → shows_entry d (shown image inputs state) ≡ false → own image (after_step image inputs state) d ≡ own image state d
+    d ≢ state.active → shows_entry d (observation image inputs state) ≡ false →
+    own image (after_step image inputs state) d ≡ own image state d
 
 -- Two states that a compartment can't tell apart: it is active in both, with the same events before and the same own
 -- parts. So the same
@@ -85,7 +87,7 @@ pub record LooksSame (image : ImageParts) (c : ℕ) (one other : State) : Type 0
 -- after so many silent steps from both, the compartment's own parts are the same, and so is what comes next
 pub record GoesOnSame (image : ImageParts) (inputs : List ℕ) (c : ℕ) (one other : State) : Type 0 where
   pub own_parts : own image one c ≡ own image other c
-  pub next : shown image inputs one ≡ shown image inputs other
+  pub next : observation image inputs one ≡ observation image inputs other
   pub later_parts : own image (after_step image inputs one) c ≡ own image (after_step image inputs other) c
 
 -- What a compartment does until the next event, and that event, follow from its own parts and the events before.
@@ -103,7 +105,7 @@ EntersByEvent =
     (image : ImageParts) (d : ℕ) → IsWellFormed image →
     (entered : Own → Event → Own) ×
     ((inputs : List ℕ) (state : State) (event : Event) → IsSteady image state → d ≢ state.active →
-    shown image inputs state ≡ Adds (event ∷ []) → activates d event ≡ true →
+    observation image inputs state ≡ Adds (event ∷ []) → activates d event ≡ true →
     own image (after_step image inputs state) d ≡ entered (own image state d) event)
 
 -- The start is steady, each step from a steady state leads to one, and so every state that a run reaches is steady.

@@ -1,4 +1,5 @@
--- Where things lie in memory. A compartment has a stretch of addresses for its code and one for its data, both found by its number.
+-- Where things lie in memory. A compartment has a stretch of addresses for its code and one for its data, both found by
+-- its number.
 use Rattle.std.specs.Prelude.{ℕ, zero, suc, ◌+◌, ◌-◌, ◌*◌, ◌/◌, ◌%◌, Bool, true, ◌&&◌, nat_le, nat_eq, List, [], ◌∷◌, length, map, slice_get, Option, None, if◌then◌else◌}
 use Rattle.std.specs.List.{list_any}
 use Rattle.std.specs.Option.{option_map_or}
@@ -50,7 +51,8 @@ globals_of image c = option_map_or (λ comp. comp.globals) (slice_get image.comp
 -- the word of c's code at an address, if the address is that of a whole word of it
 unfoldable pub word_at : ImageParts → (c address : ℕ) → Option ℕ
 word_at image c address =
-    if nat_eq (address % 4) 0 && nat_le (code_start c) address then slice_get (code_of image c) ((address - code_start c) / 4) else None
+    if nat_eq (address % 4) 0 && nat_le (code_start c) address then
+    slice_get (code_of image c) ((address - code_start c) / 4) else None
 
 -- a region of data, and what it holds at the start: these bytes, and then zeros
 pub record Filled : Type 0 where

@@ -24,7 +24,8 @@ is_ended trace = option_map_or is_end (slice_get trace (length trace - 1)) false
 
 -- why a run with room for so many events stops before another step, if it does
 unfoldable pub stopped : ℕ → List Event → Option Stop
-stopped events trace = if is_ended trace then Some Ended else if nat_le events (length trace) then Some EventsOut else None
+stopped events trace = if is_ended trace then Some Ended else if nat_le events (length trace) then Some EventsOut else
+    None
 
 -- a run from a state: it stops there, or goes on
 abbrev pub stops_or : Option Stop → State → Run → Run
@@ -38,7 +39,8 @@ after state (Traps reason) run = record { state = state; stop = Trap reason stat
 
 -- at most so many steps from a state on, with room for so many events in the whole trace
 unfoldable pub run : ImageParts → List ℕ → (events steps : ℕ) → State → Run
-run image inputs events zero state = stops_or (stopped events state.trace) state (record { state = state; stop = StepsOut })
+run image inputs events zero state = stops_or (stopped events state.trace) state
+    (record { state = state; stop = StepsOut })
 run image inputs events (suc steps) state =
     stops_or (stopped events state.trace) state (after state (step image inputs state) (run image inputs events steps))
 

@@ -13,7 +13,8 @@ pub data Kept : Type 0 where
 
 abbrev pub kept_by : ℕ → Crossing → List Kept
 kept_by c crossing =
-    (if nat_eq crossing.caller c then Waits crossing.pc crossing.sp ∷ [] else []) ++ (if nat_eq crossing.callee c then Entered crossing.saved ∷ [] else [])
+    (if nat_eq crossing.caller c then Waits crossing.pc crossing.sp ∷ [] else []) ++
+    (if nat_eq crossing.callee c then Entered crossing.saved ∷ [] else [])
 
 -- what the compartment whose code runs has besides: x0 to x31, and the pc
 pub record Running : Type 0 where

@@ -27,12 +27,14 @@ is_entry image c entry = is_some (word_at image c entry)
 -- compartment c may import it: an export of another compartment
 abbrev pub is_import : ImageParts → (c : ℕ) → ImportPart → Bool
 is_import image c import =
-    not (import.comp == c) && option_map_or (λ comp. nat_lt import.index (length comp.exports)) (slice_get image.comps import.comp) false
+    not (import.comp == c) && option_map_or (λ comp. nat_lt import.index (length comp.exports))
+    (slice_get image.comps import.comp) false
 
 abbrev pub exports_keep : ImageParts → (c : ℕ) → List ExportPart → Bool
 exports_keep image c exports =
     list_all (λ export. is_entry image c export.entry) exports &&
-    (are_distinct is_same_name (map (λ export. export.name) exports) && are_distinct ◌==◌ (map (λ export. export.entry) exports))
+    (are_distinct is_same_name (map (λ export. export.name) exports) &&
+    are_distinct ◌==◌ (map (λ export. export.entry) exports))
 
 abbrev pub imports_keep : ImageParts → (c : ℕ) → List ImportPart → Bool
 imports_keep image c imports = list_all (is_import image c) imports && are_distinct is_same_import imports

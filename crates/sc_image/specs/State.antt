@@ -77,7 +77,8 @@ with_event state event = record state { trace = state.trace ++ event ∷ [] }
 abbrev pub byte_at : List Filled → Memory
 byte_at [] address = None
 byte_at (filled ∷ others) address =
-    if is_in filled.region address then Some (slice_index filled.bytes (address - filled.region.start)) else byte_at others address
+    if is_in filled.region address then Some (slice_index filled.bytes (address - filled.region.start)) else
+    byte_at others address
 
 -- the bytes at the start: those of the compartment's data in whose stretch an address lies
 unfoldable pub start_memory : ImageParts → Memory

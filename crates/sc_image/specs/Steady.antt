@@ -49,7 +49,8 @@ inputs_in trace = fold count_read 0 trace
 -- before it made active
 abbrev pub IsChain : (count active : ℕ) → List Crossing → Type 0
 IsChain count active [] = Unit {0}
-IsChain count active (x ∷ xs) = (x.callee ≡ active) × (x.caller ≢ x.callee) × (x.caller < count) × IsChain count x.caller xs
+IsChain count active (x ∷ xs) = (x.callee ≡ active) × (x.caller ≢ x.callee) × (x.caller < count) ×
+    IsChain count x.caller xs
 
 -- what a call keeps are words
 pub record KeepsWords (crossing : Crossing) : Type 0 where

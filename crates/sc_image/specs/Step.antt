@@ -125,14 +125,16 @@ abbrev pub loaded : State → LoadOp → (address : ℕ) → ℕ
 loaded state op address = extended op (load_of state.memory address (load_size op))
 
 abbrev pub load_by : (allowed : Bool) → State → LoadOp → (rd address : ℕ) → Outcome
-load_by allowed state op rd address = unless (refused_by allowed (load_size op) address) (gives state rd (loaded state op address))
+load_by allowed state op rd address = unless (refused_by allowed (load_size op) address)
+    (gives state rd (loaded state op address))
 
 -- the state with the lowest bytes of a word at an address
 abbrev pub with_stored : State → StoreOp → (address word : ℕ) → State
 with_stored state op address word = record state { memory = stored state.memory address (store_size op) word }
 
 abbrev pub store_by : (allowed : Bool) → State → StoreOp → (address word : ℕ) → Outcome
-store_by allowed state op address word = unless (refused_by allowed (store_size op) address) (next (with_stored state op address word))
+store_by allowed state op address word = unless (refused_by allowed (store_size op) address)
+    (next (with_stored state op address word))
 
 -- Jumps.
 
@@ -163,7 +165,8 @@ pub record Protection : Type 0 where
 
 module _ (protection : Protection) where
   abbrev jump_in : State → (rd target : ℕ) → (elsewhere : Outcome) → Outcome
-  jump_in state rd target elsewhere = jump_by (is_some (protection.fetched state.active target)) state rd target elsewhere
+  jump_in state rd target elsewhere = jump_by (is_some
+      (protection.fetched state.active target)) state rd target elsewhere
 
   unfoldable pub execute_by : State → Instr → Outcome
   execute_by state (Upper Lui rd imm) = gives state rd imm
@@ -173,7 +176,8 @@ module _ (protection : Protection) where
   execute_by state (Jalr rd rs1 imm) =
       let target = jalr_target (reg state rs1) imm in jump_in state rd target (protection.jalr_leaves state rd target)
   execute_by state (Branch op rs1 rs2 imm) =
-      if compares op (reg state rs1) (reg state rs2) then jump_in state 0 (add_word state.pc (word_of imm)) (Traps BadJump) else next state
+      if compares op (reg state rs1) (reg state rs2) then
+      jump_in state 0 (add_word state.pc (word_of imm)) (Traps BadJump) else next state
   execute_by state (Load op rd rs1 imm) =
       let address = add_word (reg state rs1) (word_of imm) in
       load_by (protection.may_load state.active address (load_size op)) state op rd address
@@ -221,12 +225,14 @@ jump image state rd target elsewhere = jump_by (is_some (word_at image state.act
 abbrev pub export_called : ImageParts → State → (to target : ℕ) → Option ℕ → Outcome
 export_called image state to target None = Traps BadJump
 export_called image state to target (Some index) =
-    if may_call image state.active to index then Goes (called state to index (params_of image to index) target) else Traps NoImport
+    if may_call image state.active to index then Goes (called state to index (params_of image to index) target) else
+    Traps NoImport
 
 -- a jump out of the own code calls where rd is ra
 abbrev pub calls : ImageParts → State → (rd target : ℕ) → Outcome
 calls image state rd target =
-    if nat_eq rd ra then export_called image state (comp_of_code target) target (export_at image (comp_of_code target) target)
+    if nat_eq rd ra then export_called image state (comp_of_code target) target
+    (export_at image (comp_of_code target) target)
     else Traps BadJump
 
 -- JALR returns, too, where rd is x0 and the target is the gate

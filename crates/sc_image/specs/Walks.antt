@@ -67,12 +67,14 @@ pub record StretchesCompose : Type 0 where
       step image inputs state ≡ Traps reason → stopped events state.trace ≡ None →
       run image inputs events (suc more) state ≡ record { state = state; stop = Trap reason state.pc }
   pub run_stop : (image : ImageParts) (inputs : List ℕ) (events more : ℕ) (state : State) (stop : Stop) →
-      stopped events state.trace ≡ Some stop → run image inputs events more state ≡ record { state = state; stop = stop }
+      stopped events state.trace ≡ Some stop → run image inputs events more state ≡
+      record { state = state; stop = stop }
   pub run_none : (image : ImageParts) (inputs : List ℕ) (events : ℕ) (state : State) →
       stopped events state.trace ≡ None → run image inputs events 0 state ≡ record { state = state; stop = StepsOut }
   -- the state after one more step is reached, too
   pub reached_next : (image : ImageParts) (inputs : List ℕ) (from to : State) → IsWellFormed image →
-      IsReached image inputs from → is_ended from.trace ≡ false → step image inputs from ≡ Goes to → IsReached image inputs to
+      IsReached image inputs from → is_ended from.trace ≡ false → step image inputs from ≡ Goes to →
+      IsReached image inputs to
 
 -- what the step is by the instruction at the pc
 pub record StepsByInstruction : Type 0 where
@@ -86,23 +88,32 @@ pub record StepsByInstruction : Type 0 where
   pub jalr : (image : ImageParts) (inputs : List ℕ) (state : State) (rd rs1 : ℕ) (imm : ℤ) (target : ℕ) →
       IsAt image state (Jalr rd rs1 imm) → jalr_target (reg state rs1) imm ≡ target →
       step image inputs state ≡ jump image state rd target (leaves image state rd target)
-  pub branch_taken : (image : ImageParts) (inputs : List ℕ) (state : State) (op : BranchOp) (rs1 rs2 : ℕ) (imm : ℤ) (target : ℕ) →
-      IsAt image state (Branch op rs1 rs2 imm) → compares op (reg state rs1) (reg state rs2) ≡ true → add_word state.pc (word_of imm) ≡ target →
+  pub branch_taken : (image : ImageParts) (inputs : List ℕ) (state : State) (op : BranchOp) (rs1 rs2 : ℕ) (imm : ℤ)
+      (target : ℕ) →
+      IsAt image state (Branch op rs1 rs2 imm) → compares op (reg state rs1) (reg state rs2) ≡ true →
+      add_word state.pc (word_of imm) ≡ target →
       step image inputs state ≡ jump image state 0 target (Traps BadJump)
-  pub branch_not_taken : (image : ImageParts) (inputs : List ℕ) (state : State) (op : BranchOp) (rs1 rs2 : ℕ) (imm : ℤ) →
-      IsAt image state (Branch op rs1 rs2 imm) → compares op (reg state rs1) (reg state rs2) ≡ false → step image inputs state ≡ next state
-  pub loads : (image : ImageParts) (inputs : List ℕ) (state : State) (op : LoadOp) (rd rs1 : ℕ) (imm : ℤ) (address : ℕ) →
+  pub branch_not_taken : (image : ImageParts) (inputs : List ℕ) (state : State) (op : BranchOp) (rs1 rs2 : ℕ)
+      (imm : ℤ) →
+      IsAt image state (Branch op rs1 rs2 imm) → compares op (reg state rs1) (reg state rs2) ≡ false →
+      step image inputs state ≡ next state
+  pub loads : (image : ImageParts) (inputs : List ℕ) (state : State) (op : LoadOp) (rd rs1 : ℕ) (imm : ℤ)
+      (address : ℕ) →
       IsAt image state (Load op rd rs1 imm) → add_word (reg state rs1) (word_of imm) ≡ address →
       step image inputs state ≡ load image state op rd address
-  pub stores : (image : ImageParts) (inputs : List ℕ) (state : State) (op : StoreOp) (rs1 rs2 : ℕ) (imm : ℤ) (address : ℕ) →
+  pub stores : (image : ImageParts) (inputs : List ℕ) (state : State) (op : StoreOp) (rs1 rs2 : ℕ) (imm : ℤ)
+      (address : ℕ) →
       IsAt image state (Store op rs1 rs2 imm) → add_word (reg state rs1) (word_of imm) ≡ address →
       step image inputs state ≡ store image state op address (reg state rs2)
   pub op_imm : (image : ImageParts) (inputs : List ℕ) (state : State) (op : OpImmOp) (rd rs1 : ℕ) (imm : ℤ) →
-      IsAt image state (OpImm op rd rs1 imm) → step image inputs state ≡ gives state rd (computed (on_registers op) (reg state rs1) (word_of imm))
+      IsAt image state (OpImm op rd rs1 imm) → step image inputs state ≡
+      gives state rd (computed (on_registers op) (reg state rs1) (word_of imm))
   pub shift : (image : ImageParts) (inputs : List ℕ) (state : State) (op : ShiftOp) (rd rs1 amount : ℕ) →
-      IsAt image state (Shift op rd rs1 amount) → step image inputs state ≡ gives state rd (computed (shift_on_registers op) (reg state rs1) amount)
+      IsAt image state (Shift op rd rs1 amount) → step image inputs state ≡
+      gives state rd (computed (shift_on_registers op) (reg state rs1) amount)
   pub op : (image : ImageParts) (inputs : List ℕ) (state : State) (op : OpOp) (rd rs1 rs2 : ℕ) →
-      IsAt image state (Op op rd rs1 rs2) → step image inputs state ≡ gives state rd (computed op (reg state rs1) (reg state rs2))
+      IsAt image state (Op op rd rs1 rs2) → step image inputs state ≡
+      gives state rd (computed op (reg state rs1) (reg state rs2))
   pub fence : (image : ImageParts) (inputs : List ℕ) (state : State) (imm : ℤ) (rs1 rd : ℕ) →
       IsAt image state (Fence imm rs1 rd) → step image inputs state ≡ next state
   pub ecall : (image : ImageParts) (inputs : List ℕ) (state : State) → IsAt image state Ecall →

@@ -1,4 +1,5 @@
-//! Images read from their bytes. Behind the first two, each function takes a field from the front of the bytes that are left.
+//! Images read from their bytes. Behind the first two, each function takes a field from the front of the bytes that are
+//! left.
 
 ghost use Rattle.std.specs.Prelude.{◌≡◌, ◌≤◌, ◌==◌, nat_le, nat_lt, Some, None, IfOk, OnOk, IsErrOf};
 ghost use Rattle.sc_image.specs.Bytes.{version, image_bytes};

@@ -39,7 +39,8 @@ fn comps_keep(alloc: Global, parts: &ImageParts, comps: &[CompPart]) -> Result<b
 }
 
 fn comp_keeps(alloc: Global, parts: &ImageParts, c: u8, comp: &CompPart) -> Result<bool, AllocError>
-    ensures { IfOk result (λ keeps. keeps ≡ (exports_keep parts.now c comp.now.exports && imports_keep parts.now c comp.now.imports)) }
+    ensures { IfOk result (λ keeps. keeps ≡ (exports_keep parts.now c comp.now.exports &&
+        imports_keep parts.now c comp.now.imports)) }
 {
     Ok(
         exports_keep(alloc, parts, c, comp.exports.as_slice())?
@@ -172,7 +173,8 @@ fn are_distinct_imports(alloc: Global, imports: &[ImportPart]) -> Result<bool, A
 
 // Each import as the numbers that it is told apart by.
 fn pairs_of(alloc: Global, imports: &[ImportPart]) -> Result<HashSet<(u8, u16)>, AllocError>
-    ensures { IfOk result (IsFromIterResult (λ a b. a.0 == b.0 && a.1 == b.1) (map (λ import. (import.comp, import.index)) imports.now)) }
+    ensures { IfOk result (IsFromIterResult (λ a b. a.0 == b.0 && a.1 == b.1)
+        (map (λ import. (import.comp, import.index)) imports.now)) }
 {
     imports
         .iter()

@@ -42,7 +42,8 @@ type_symm a b = ap₂ (λ x y. x && y) (stars_symm a.stars b.stars) (base_symm a
 type_left : (a b c : TypeName) → same_type a b ≡ true → same_type a c ≡ same_type b c
 type_left a b c h =
     let parts = and_parts (nat_eq a.stars b.stars) (same_base a.base b.base) h in
-    ap₂ (λ x y. x && y) (ap (λ n. nat_eq n c.stars) (eqb-true a.stars b.stars parts.0)) (base_left a.base b.base c.base parts.1)
+    ap₂ (λ x y. x && y) (ap (λ n. nat_eq n c.stars) (eqb-true a.stars b.stars parts.0))
+    (base_left a.base b.base c.base parts.1)
 
 result_symm : (a b : Option TypeName) → same_result a b ≡ same_result b a
 result_symm None None = refl
@@ -78,4 +79,5 @@ agree_symm a b = ap₂ (λ x y. x && y) (result_symm a.result b.result) (params_
 pub agree_left : (a b c : HeadTree) → agree a b ≡ true → agree a c ≡ agree b c
 agree_left a b c h =
     let parts = and_parts (same_result a.result b.result) (same_params a.params b.params) h in
-    ap₂ (λ x y. x && y) (result_left a.result b.result c.result parts.0) (params_left a.params b.params c.params parts.1)
+    ap₂ (λ x y. x && y) (result_left a.result b.result c.result parts.0)
+    (params_left a.params b.params c.params parts.1)

@@ -33,17 +33,21 @@ numbered_by : (names : List Text) (name k : Text) (known : Bool) → is_numbered
 numbered_by names name k true there =
     or_absorbed (is_numbered names k) (bytes_eq k name) (λ same. ap (is_numbered names) (same_text k name same) ∙ there)
 numbered_by names name k false absent =
-    list_any-append (pointwise ◌==◌ k) names (name ∷ []) ∙ ap (λ last. is_numbered names k || last) (or-false (bytes_eq k name))
+    list_any-append (pointwise ◌==◌ k) names (name ∷ []) ∙
+    ap (λ last. is_numbered names k || last) (or-false (bytes_eq k name))
 
 -- a name is there after another came, where it was there or is that name
-pub is_numbered-numbered : (names : List Text) (name k : Text) → is_numbered (numbered names name) k ≡ (is_numbered names k || bytes_eq k name)
+pub is_numbered-numbered : (names : List Text) (name k : Text) →
+    is_numbered (numbered names name) k ≡ (is_numbered names k || bytes_eq k name)
 is_numbered-numbered names name k = numbered_by names name k (is_numbered names name) refl
 
-all_numbered_from : (names known : List Text) (k : Text) → is_numbered (all_numbered known names) k ≡ (is_numbered known k || is_numbered names k)
+all_numbered_from : (names known : List Text) (k : Text) →
+    is_numbered (all_numbered known names) k ≡ (is_numbered known k || is_numbered names k)
 all_numbered_from [] known k = sym (or-false (is_numbered known k))
 all_numbered_from (name ∷ names) known k =
     all_numbered_from names (numbered known name) k ∙
-    (ap (λ first. first || is_numbered names k) (is_numbered-numbered known name k) ∙ or-assoc (is_numbered known k) (bytes_eq k name) (is_numbered names k))
+    (ap (λ first. first || is_numbered names k) (is_numbered-numbered known name k) ∙
+    or-assoc (is_numbered known k) (bytes_eq k name) (is_numbered names k))
   where
     or-assoc : (a b c : Bool) → ((a || b) || c) ≡ (a || (b || c))
     or-assoc true b c = refl
@@ -54,7 +58,8 @@ all_numbered_same names k = all_numbered_from names [] k
 
 -- Heads.
 
-forbidden_bools : (there same other agrees : Bool) → other ≡ same → (not (there || same) && agrees) ≡ ((not there && agrees) && not other)
+forbidden_bools : (there same other agrees : Bool) → other ≡ same →
+    (not (there || same) && agrees) ≡ ((not there && agrees) && not other)
 forbidden_bools true same other agrees h = refl
 forbidden_bools false true true agrees h = cc (and-false agrees)
   where
@@ -68,8 +73,10 @@ forbidden_bools false false false agrees h = sym (and-true agrees)
 pub allowed_forbidden : (known : Agreements) (name : Text) (head : HeadTree) →
     allowed (forbidden known name) head ≡ (allowed known head && not (bytes_eq name head.name))
 allowed_forbidden known name head =
-    ap (λ there. not there && agrees_first (first_by_name known.firsts head.name) head) (is_numbered-numbered known.conflicts name head.name) ∙
-    forbidden_bools (among known.conflicts head.name) (bytes_eq head.name name) (bytes_eq name head.name) (agrees_first (first_by_name known.firsts head.name) head) (nat_list_eq_equiv.symm name head.name)
+    ap (λ there. not there && agrees_first (first_by_name known.firsts head.name) head)
+    (is_numbered-numbered known.conflicts name head.name) ∙
+    forbidden_bools (among known.conflicts head.name) (bytes_eq head.name name) (bytes_eq name head.name)
+    (agrees_first (first_by_name known.firsts head.name) head) (nat_list_eq_equiv.symm name head.name)
 
 abbrev or_last : Option HeadTree → Bool → HeadTree → Option HeadTree
 or_last (Some first) same head = Some first
@@ -83,14 +90,18 @@ first_by_name-last : (firsts : List (Text × HeadTree)) (name k : Text) (head : 
 first_by_name-last [] name k head = refl
 first_by_name-last (e ∷ firsts) name k head = at (bytes_eq k e.0) (first_by_name-last firsts name k head)
   where
-    at : (same : Bool) → first_by_name (firsts ++ (name, head) ∷ []) k ≡ or_last (first_by_name firsts k) (bytes_eq k name) head →
-        entry_or same e.1 (first_by_name (firsts ++ (name, head) ∷ []) k) ≡ or_last (entry_or same e.1 (first_by_name firsts k)) (bytes_eq k name) head
+    at : (same : Bool) → first_by_name (firsts ++ (name, head) ∷ []) k ≡
+        or_last (first_by_name firsts k) (bytes_eq k name) head →
+        entry_or same e.1 (first_by_name (firsts ++ (name, head) ∷ []) k) ≡
+        or_last (entry_or same e.1 (first_by_name firsts k)) (bytes_eq k name) head
     at true rest = refl
     at false rest = rest
 
-new_bools : (there same other agrees : Bool) → other ≡ same → (first : Option HeadTree) → (head added : HeadTree) → agree added head ≡ agrees →
+new_bools : (there same other agrees : Bool) → other ≡ same → (first : Option HeadTree) → (head added : HeadTree) →
+    agree added head ≡ agrees →
     (same ≡ true → first ≡ None) →
-    (not there && agrees_first (or_last first same added) head) ≡ ((not there && agrees_first first head) && (not other || agrees))
+    (not there && agrees_first (or_last first same added) head) ≡
+    ((not there && agrees_first first head) && (not other || agrees))
 new_bools true same other agrees o first head added a absent = refl
 new_bools false true true agrees o None head added a absent = a
 new_bools false true true agrees o (Some f) head added a absent = cc (absent refl)
@@ -104,18 +115,21 @@ old_bools true true agrees h = sym (h refl refl)
 old_bools true false agrees h = refl
 old_bools false same agrees h = refl
 
-conflict_bools : (x same agrees : Bool) → (same ≡ true → x ≡ true → agrees ≡ true → ⊥) → (x && not same) ≡ (x && (not same || agrees))
+conflict_bools : (x same agrees : Bool) → (same ≡ true → x ≡ true → agrees ≡ true → ⊥) →
+    (x && not same) ≡ (x && (not same || agrees))
 conflict_bools true true true h = absurd (h refl refl refl)
 conflict_bools true true false h = refl
 conflict_bools true false agrees h = refl
 conflict_bools false same agrees h = refl
 
 -- what an allowed head of the name agrees with
-allowed_first : (known : Agreements) (name : Text) (first head : HeadTree) → first_by_name known.firsts name ≡ Some first → bytes_eq name head.name ≡ true →
+allowed_first : (known : Agreements) (name : Text) (first head : HeadTree) →
+    first_by_name known.firsts name ≡ Some first → bytes_eq name head.name ≡ true →
     allowed known head ≡ true → agree first head ≡ true
 allowed_first known name first head there same holds =
     second (among known.conflicts head.name) (agree first head)
-    (ap (λ found. not (among known.conflicts head.name) && agrees_first found head) (sym there ∙ ap (first_by_name known.firsts) (same_text name head.name same)) ∙ holds)
+    (ap (λ found. not (among known.conflicts head.name) && agrees_first found head)
+    (sym there ∙ ap (first_by_name known.firsts) (same_text name head.name same)) ∙ holds)
   where
     second : (a b : Bool) → (not a && b) ≡ true → b ≡ true
     second true b h = cc
@@ -126,36 +140,46 @@ with_first_last : (firsts : List (Text × HeadTree)) (name : Text) (head : HeadT
 with_first_last firsts name head absent =
     ap (λ there. if is_some there then firsts else firsts ++ (name, head) ∷ []) absent
 
-beside : (known : Agreements) (name : Text) (added head : HeadTree) (first : Option HeadTree) → first_by_name known.firsts name ≡ first →
-    allowed (added_beside known name added first) head ≡ (allowed known head && (not (bytes_eq name head.name) || agree added head))
+beside : (known : Agreements) (name : Text) (added head : HeadTree) (first : Option HeadTree) →
+    first_by_name known.firsts name ≡ first →
+    allowed (added_beside known name added first) head ≡
+    (allowed known head && (not (bytes_eq name head.name) || agree added head))
 beside known name added head None absent =
     ap (λ firsts. not (among known.conflicts head.name) && agrees_first (first_by_name firsts head.name) head)
     (with_first_last known.firsts name added absent) ∙
-    ap (λ found. not (among known.conflicts head.name) && agrees_first found head) (first_by_name-last known.firsts name head.name added) ∙
-    new_bools (among known.conflicts head.name) (bytes_eq head.name name) (bytes_eq name head.name) (agree added head) (nat_list_eq_equiv.symm name head.name)
-    (first_by_name known.firsts head.name) head added refl (λ same. ap (first_by_name known.firsts) (same_text head.name name same) ∙ absent)
+    ap (λ found. not (among known.conflicts head.name) && agrees_first found head)
+    (first_by_name-last known.firsts name head.name added) ∙
+    new_bools (among known.conflicts head.name) (bytes_eq head.name name) (bytes_eq name head.name) (agree added head)
+    (nat_list_eq_equiv.symm name head.name)
+    (first_by_name known.firsts head.name) head added refl
+    (λ same. ap (first_by_name known.firsts) (same_text head.name name same) ∙ absent)
 beside known name added head (Some first) there = at (agree first added) refl
   where
     at : (agrees : Bool) → agree first added ≡ agrees →
-        allowed (if agrees then known else forbidden known name) head ≡ (allowed known head && (not (bytes_eq name head.name) || agree added head))
+        allowed (if agrees then known else forbidden known name) head ≡
+        (allowed known head && (not (bytes_eq name head.name) || agree added head))
     at true both =
         old_bools (allowed known head) (bytes_eq name head.name) (agree added head)
         (λ same holds. sym (agree_left first added head both) ∙ allowed_first known name first head there same holds)
     at false apart =
         allowed_forbidden known name head ∙
-        conflict_bools (allowed known head) (bytes_eq name head.name) (agree added head) (λ same holds agrees. clash same holds agrees)
+        conflict_bools (allowed known head) (bytes_eq name head.name) (agree added head)
+        (λ same holds agrees. clash same holds agrees)
       where
         clash : bytes_eq name head.name ≡ true → allowed known head ≡ true → agree added head ≡ true → ⊥
         clash same holds agrees =
             let first_agrees : agree first head ≡ true = allowed_first known name first head there same holds in
-            let joined : agree first added ≡ true = agree_left first head added first_agrees ∙ (agree_symm head added ∙ agrees) in
+            let joined : agree first added ≡ true = agree_left first head added first_agrees ∙
+            (agree_symm head added ∙ agrees) in
             cc
 
 pub allowed_added : (known : Agreements) (name : Text) (added_head head : HeadTree) →
-    allowed (added known name added_head) head ≡ (allowed known head && (not (bytes_eq name head.name) || agree added_head head))
+    allowed (added known name added_head) head ≡ (allowed known head &&
+    (not (bytes_eq name head.name) || agree added_head head))
 allowed_added known name added_head head = beside known name added_head head (first_by_name known.firsts name) refl
 
-pub allowed_all : (known : Agreements) (heads : List HeadTree) (head : HeadTree) → allowed (all_added known heads) head ≡ (allowed known head && agrees_with heads head)
+pub allowed_all : (known : Agreements) (heads : List HeadTree) (head : HeadTree) →
+    allowed (all_added known heads) head ≡ (allowed known head && agrees_with heads head)
 allowed_all known [] head = sym (and-true (allowed known head))
 allowed_all known (x ∷ heads) head =
     allowed_all (added known x.name x) heads head ∙
@@ -163,5 +187,6 @@ allowed_all known (x ∷ heads) head =
     and_assoc (allowed known head) (not (bytes_eq x.name head.name) || agree x head) (agrees_with heads head))
 
 -- a table of heads allows those that agree with all of them
-pub allowed_same : (heads : List HeadTree) (head : HeadTree) → allowed (all_added no_heads heads) head ≡ agrees_with heads head
+pub allowed_same : (heads : List HeadTree) (head : HeadTree) →
+    allowed (all_added no_heads heads) head ≡ agrees_with heads head
 allowed_same heads head = allowed_all no_heads heads head

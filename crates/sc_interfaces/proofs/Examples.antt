@@ -34,7 +34,12 @@ unnamed ty = record { ty = ty; name = None }
 -- `RESULT NAME(PARAMS) { }`
 abbrev function : Option TypeName → Text → List FunctionParam → ℕ → Decl
 function ty name params line =
-    Function (record { head = record { result = ty; name = name; params = params; line = line }; locals = []; body = []; close_line = line })
+    Function (record {
+      head = record { result = ty; name = name; params = params; line = line };
+      locals = [];
+      body = [];
+      close_line = line;
+    })
 
 -- `RESULT NAME(PARAMS);`
 abbrev proto : Option TypeName → Text → List ParamTree → ℕ → Decl
@@ -50,7 +55,13 @@ abbrev imported : (comp name : Text) → ℕ → ImportLine
 imported comp name line = record { comp = comp; name = name; line = line }
 
 abbrev section : Text → ℕ → List ExportLine → List ImportLine → List Decl → SectionTree
-section name line exports imports decls = record { name = name; line = line; exports = exports; imports = imports; decls = decls }
+section name line exports imports decls = record {
+  name = name;
+  line = line;
+  exports = exports;
+  imports = imports;
+  decls = decls;
+}
 
 -- `Main` calls `put` of `Net`, in lines 1 to 5 and 6 to 8 of the text
 abbrev client : List ImportLine → List Decl → SectionTree
@@ -80,7 +91,15 @@ its_interfaces :
     record {
       comps =
           record { name = codes "Main"; exports = []; imports = import.Function 1 0 ∷ [] } ∷
-          record { name = codes "Net"; exports = record { name = codes "put"; params = scalar.Unsigned ∷ []; result = Some scalar.Int } ∷ []; imports = [] } ∷ [];
+          record {
+            name = codes "Net";
+            exports = record {
+              name = codes "put";
+              params = scalar.Unsigned ∷ [];
+              result = Some scalar.Int;
+            } ∷ [];
+            imports = [];
+          } ∷ [];
       main = 0;
     }
 its_interfaces = refl
@@ -94,7 +113,8 @@ hidden : refused (client put_import put_decls ∷ net [] (put ∷ []) ∷ []) �
 unfolding noted_all
 hidden = refl
 
-exported_twice : refused (client put_import put_decls ∷ net (exported (codes "put") 2 ∷ exported (codes "put") 3 ∷ []) (put ∷ []) ∷ []) ≡ Some 8
+exported_twice : refused (client put_import put_decls ∷
+    net (exported (codes "put") 2 ∷ exported (codes "put") 3 ∷ []) (put ∷ []) ∷ []) ≡ Some 8
 unfolding noted_all
 exported_twice = refl
 
@@ -102,7 +122,8 @@ main_exported : refused (section (codes "Main") 1 (exported (codes "main") 2 ∷
 unfolding noted_all
 main_exported = refl
 
-prefix_exported : refused (section (codes "Main") 1 (exported (codes "bt_x") 2 ∷ []) [] (function None (codes "bt_x") [] 3 ∷ main 4 ∷ []) ∷ []) ≡ Some 2
+prefix_exported : refused (section (codes "Main") 1 (exported (codes "bt_x") 2 ∷ []) []
+    (function None (codes "bt_x") [] 3 ∷ main 4 ∷ []) ∷ []) ≡ Some 2
 unfolding noted_all
 prefix_exported = refl
 
@@ -120,12 +141,14 @@ unfolding noted_all
 no_prototype = refl
 
 -- `int put(int);` where `Net` defines `int put(unsigned v)`
-differs : refused (client put_import (proto (Some int) (codes "put") (unnamed int ∷ []) 3 ∷ main 4 ∷ []) ∷ net (exported (codes "put") 2 ∷ []) (put ∷ []) ∷ []) ≡ Some 3
+differs : refused (client put_import (proto (Some int) (codes "put") (unnamed int ∷ []) 3 ∷ main 4 ∷ []) ∷
+    net (exported (codes "put") 2 ∷ []) (put ∷ []) ∷ []) ≡ Some 3
 unfolding noted_all
 differs = refl
 
 -- `void input(int);`
-wrong_input : refused (client (imported (codes "Env") (codes "input") 2 ∷ []) (proto None (codes "input") (unnamed int ∷ []) 3 ∷ main 4 ∷ []) ∷ []) ≡ Some 3
+wrong_input : refused (client (imported (codes "Env") (codes "input") 2 ∷ [])
+    (proto None (codes "input") (unnamed int ∷ []) 3 ∷ main 4 ∷ []) ∷ []) ≡ Some 3
 unfolding noted_all
 wrong_input = refl
 
@@ -134,6 +157,8 @@ unfolding noted_all
 two_mains = refl
 
 pointer_crosses :
-    refused (section (codes "Main") 1 (exported (codes "get") 2 ∷ []) [] (function (Some int) (codes "get") (record { ty = int_pointer; name = codes "p" } ∷ []) 3 ∷ main 4 ∷ []) ∷ []) ≡ Some 3
+    refused (section (codes "Main") 1 (exported (codes "get") 2 ∷ []) []
+    (function (Some int) (codes "get") (record { ty = int_pointer; name = codes "p" } ∷ []) 3 ∷ main 4 ∷ []) ∷ []) ≡
+    Some 3
 unfolding noted_all
 pointer_crosses = refl

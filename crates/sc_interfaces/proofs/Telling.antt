@@ -33,9 +33,12 @@ use Rattle.sc_interfaces.proofs.Steps.{drop_item, drop_past}
 record Same (names others : List Text) : Type 0 where
   at : (name : Text) → among names name ≡ among others name
 
-same_numbered : (names others : List Text) (name : Text) → Same names others → Same (numbered names name) (others ++ name ∷ [])
+same_numbered : (names others : List Text) (name : Text) → Same names others →
+    Same (numbered names name) (others ++ name ∷ [])
 same_numbered names others name same = record {
-  at = λ k. is_numbered-numbered names name k ∙ (ap (λ first. first || bytes_eq k name) (same.at k) ∙ (ap (λ last. among others k || last) (sym (or-false (bytes_eq k name))) ∙ sym (list_any-append (bytes_eq k) others (name ∷ []))));
+  at = λ k. is_numbered-numbered names name k ∙ (ap (λ first. first || bytes_eq k name) (same.at k) ∙
+      (ap (λ last. among others k || last) (sym (or-false (bytes_eq k name))) ∙
+      sym (list_any-append (bytes_eq k) others (name ∷ []))));
 }
   where
     or-false : (a : Bool) → (a || false) ≡ a
@@ -51,21 +54,26 @@ same_none = record { at = λ k. refl }
 module _ (sections : List SectionTree) (number : ℕ) (section : SectionTree) where
   -- Exports.
 
-  exports_told_is : (functions seen before : List Text) (lines : List ExportLine) → Same functions (function_names section.decls) → Same seen before →
+  exports_told_is : (functions seen before : List Text) (lines : List ExportLine) →
+      Same functions (function_names section.decls) → Same seen before →
       exports_told functions seen lines ≡ Faces.exports_from sections number section before lines
   exports_told_is functions seen before [] known same = refl
   exports_told_is functions seen before (line ∷ lines) known same =
       ap₂ (λ these others. these ++ others)
       (ap (λ holds. unless holds line.line)
-      (ap₂ (λ defined twice. defined && (not twice && (not (bytes_eq line.name main_name) && is_plain line.name))) (known.at line.name) (same.at line.name)))
-      (exports_told_is functions (numbered seen line.name) (before ++ line.name ∷ []) lines known (same_numbered seen before line.name same))
+      (ap₂ (λ defined twice. defined && (not twice && (not (bytes_eq line.name main_name) && is_plain line.name)))
+      (known.at line.name) (same.at line.name)))
+      (exports_told_is functions (numbered seen line.name) (before ++ line.name ∷ []) lines known
+      (same_numbered seen before line.name same))
 
 -- Who offers an import.
 
 offers_is : (importer : ℕ) (line : ImportLine) (k : ℕ) (section : SectionTree) →
-    (bytes_eq (table_of section).name line.comp && (not (k == importer) && among (table_of section).exports line.name)) ≡ offers importer line k section
+    (bytes_eq (table_of section).name line.comp && (not (k == importer) &&
+    among (table_of section).exports line.name)) ≡ offers importer line k section
 offers_is importer line k section =
-    ap (λ exported. bytes_eq section.name line.comp && (not (k == importer) && exported)) (all_numbered_same (export_names section) line.name)
+    ap (λ exported. bytes_eq section.name line.comp && (not (k == importer) && exported))
+    (all_numbered_same (export_names section) line.name)
 
 abbrev pub number_in : Option (ℕ × SectionTree) → Option ℕ
 number_in None = None
@@ -79,11 +87,14 @@ pub offering_number_is : (importer : ℕ) (line : ImportLine) (k : ℕ) (section
     offering_number importer line k (map table_of sections) ≡ number_in (offering importer line k sections)
 offering_number_is importer line k [] = refl
 offering_number_is importer line k (section ∷ sections) =
-    ap (λ here. if here then Some k else offering_number importer line (suc k) (map table_of sections)) (offers_is importer line k section) ∙
+    ap (λ here. if here then Some k else offering_number importer line (suc k) (map table_of sections))
+    (offers_is importer line k section) ∙
     at (offers importer line k section) (offering_number_is importer line (suc k) sections)
   where
-    at : (here : Bool) → offering_number importer line (suc k) (map table_of sections) ≡ number_in (offering importer line (suc k) sections) →
-        (if here then Some k else offering_number importer line (suc k) (map table_of sections)) ≡ number_in (if here then Some (k, section) else offering importer line (suc k) sections)
+    at : (here : Bool) → offering_number importer line (suc k) (map table_of sections) ≡
+        number_in (offering importer line (suc k) sections) →
+        (if here then Some k else offering_number importer line (suc k) (map table_of sections)) ≡
+        number_in (if here then Some (k, section) else offering importer line (suc k) sections)
     at true rest = refl
     at false rest = rest
 
@@ -92,13 +103,16 @@ abbrev pub Stands : (k : ℕ) → List SectionTree → Option (ℕ × SectionTre
 Stands k sections None = Unit {0}
 Stands k sections (Some found) = (place : ℕ) × (found.0 ≡ k + place) × (slice_get sections place ≡ Some found.1)
 
-further : (k : ℕ) (section : SectionTree) (sections : List SectionTree) (found : Option (ℕ × SectionTree)) → Stands (suc k) sections found → Stands k (section ∷ sections) found
+further : (k : ℕ) (section : SectionTree) (sections : List SectionTree) (found : Option (ℕ × SectionTree)) →
+    Stands (suc k) sections found → Stands k (section ∷ sections) found
 further k section sections None h = tt
 further k section sections (Some found) h = (suc h.0, omega arith, h.2)
 
-pub offering_stands : (importer : ℕ) (line : ImportLine) (k : ℕ) (sections : List SectionTree) → Stands k sections (offering importer line k sections)
+pub offering_stands : (importer : ℕ) (line : ImportLine) (k : ℕ) (sections : List SectionTree) →
+    Stands k sections (offering importer line k sections)
 offering_stands importer line k [] = tt
-offering_stands importer line k (section ∷ sections) = at (offers importer line k section) (offering_stands importer line (suc k) sections)
+offering_stands importer line k (section ∷ sections) =
+    at (offers importer line k section) (offering_stands importer line (suc k) sections)
   where
     at : (here : Bool) → Stands (suc k) sections (offering importer line (suc k) sections) →
         Stands k (section ∷ sections) (if here then Some (k, section) else offering importer line (suc k) sections)
@@ -109,13 +123,15 @@ found_table : (sections : List SectionTree) (found : Option (ℕ × SectionTree)
     option_and_then (slice_get (map table_of sections)) (number_in found) ≡ option_map table_of (section_in found)
 found_table sections None h = refl
 found_table sections (Some found) h =
-    ap (slice_get (map table_of sections)) zero_first ∙ (slice_get-map table_of sections h.0 ∙ ap (option_map table_of) h.2)
+    ap (slice_get (map table_of sections)) zero_first ∙
+    (slice_get-map table_of sections h.0 ∙ ap (option_map table_of) h.2)
   where
     zero_first : found.0 ≡ h.0
     zero_first = omega arith
 
 offering_table_is : (sections : List SectionTree) (importer : ℕ) (line : ImportLine) →
-    offering_table (map table_of sections) importer line ≡ option_map table_of (section_in (offering importer line 0 sections))
+    offering_table (map table_of sections) importer line ≡
+    option_map table_of (section_in (offering importer line 0 sections))
 offering_table_is sections importer line =
     ap (option_and_then (slice_get (map table_of sections))) (offering_number_is importer line 0 sections) ∙
     found_table sections (offering importer line 0 sections) (offering_stands importer line 0 sections)
@@ -164,14 +180,16 @@ output_agrees head = ap₂ (λ x y. x && y) (gives head.result) (takes head.para
 
 -- what the environment asks of a name
 abbrev environment_asks : Text → HeadTree → Bool
-environment_asks name head = if bytes_eq name input_name then is_input head else if bytes_eq name output_name then is_output head else true
+environment_asks name head = if bytes_eq name input_name then is_input head else if bytes_eq name output_name then
+    is_output head else true
 
 guarded : (e x y : Bool) → (e ≡ true → x ≡ y) → (not e || x) ≡ (not e || y)
 guarded true x y h = h refl
 guarded false x y h = refl
 
 environment_added_allows : (known : Agreements) (name : Text) (head : HeadTree) →
-    allowed (environment_added known name) head ≡ (allowed known head && (not (bytes_eq name head.name) || environment_asks head.name head))
+    allowed (environment_added known name) head ≡ (allowed known head &&
+    (not (bytes_eq name head.name) || environment_asks head.name head))
 environment_added_allows known name head =
     first (bytes_eq name input_name) (bytes_eq name output_name) ∙
     ap (λ holds. allowed known head && holds)
@@ -179,60 +197,78 @@ environment_added_allows known name head =
     (λ same. ap (λ text. environment_asks text head) (same_text name head.name same)))
   where
     first : (input output : Bool) →
-        allowed (if input then added known name input_head else if output then added known name output_head else known) head ≡
-        (allowed known head && (not (bytes_eq name head.name) || (if input then is_input head else if output then is_output head else true)))
-    first true output = allowed_added known name input_head head ∙ ap (λ agrees. allowed known head && (not (bytes_eq name head.name) || agrees)) (input_agrees head)
-    first false true = allowed_added known name output_head head ∙ ap (λ agrees. allowed known head && (not (bytes_eq name head.name) || agrees)) (output_agrees head)
+        allowed (if input then added known name input_head else if output then added known name output_head else
+        known) head ≡
+        (allowed known head && (not (bytes_eq name head.name) ||
+        (if input then is_input head else if output then is_output head else true)))
+    first true output = allowed_added known name input_head head ∙
+        ap (λ agrees. allowed known head && (not (bytes_eq name head.name) || agrees)) (input_agrees head)
+    first false true = allowed_added known name output_head head ∙
+        ap (λ agrees. allowed known head && (not (bytes_eq name head.name) || agrees)) (output_agrees head)
     first false false = or_free (allowed known head) (bytes_eq name head.name)
 
-no_conflict : (conflict same : Bool) (x agrees : Bool) → conflict ≡ true → (x && not same) ≡ (x && (not same || (not conflict && agrees)))
+no_conflict : (conflict same : Bool) (x agrees : Bool) → conflict ≡ true →
+    (x && not same) ≡ (x && (not same || (not conflict && agrees)))
 no_conflict true true x agrees h = refl
 no_conflict true false x agrees h = refl
 no_conflict false same x agrees h = cc
 
 -- what a table of heads asks of a name
 table_asks : (heads : Agreements) (known : Agreements) (name : Text) (head : HeadTree) →
-    allowed (if among heads.conflicts name then forbidden known name else first_added known name (first_by_name heads.firsts name)) head ≡
-    (allowed known head && (not (bytes_eq name head.name) || (not (among heads.conflicts name) && agrees_first (first_by_name heads.firsts name) head)))
+    allowed (if among heads.conflicts name then forbidden known name else
+    first_added known name (first_by_name heads.firsts name)) head ≡
+    (allowed known head && (not (bytes_eq name head.name) ||
+    (not (among heads.conflicts name) && agrees_first (first_by_name heads.firsts name) head)))
 table_asks heads known name head = at (among heads.conflicts name) (first_by_name heads.firsts name)
   where
     at : (conflict : Bool) (found : Option HeadTree) →
         allowed (if conflict then forbidden known name else first_added known name found) head ≡
         (allowed known head && (not (bytes_eq name head.name) || (not conflict && agrees_first found head)))
-    at true found = allowed_forbidden known name head ∙ no_conflict true (bytes_eq name head.name) (allowed known head) (agrees_first found head) refl
+    at true found = allowed_forbidden known name head ∙
+        no_conflict true (bytes_eq name head.name) (allowed known head) (agrees_first found head) refl
     at false None = or_free (allowed known head) (bytes_eq name head.name)
     at false (Some first) = allowed_added known name first head
 
 abbrev heads_of : SectionTree → Agreements
 heads_of section = all_added no_heads (heads_in section.decls)
 
-others_added_allows : (number : ℕ) (known : Agreements) (name : Text) (head : HeadTree) (sections : List SectionTree) (section : SectionTree) (found : Option (ℕ × SectionTree)) →
+others_added_allows : (number : ℕ) (known : Agreements) (name : Text) (head : HeadTree) (sections : List SectionTree)
+    (section : SectionTree) (found : Option (ℕ × SectionTree)) →
     allowed (others_added known name (option_map table_of (section_in found))) head ≡
     (allowed known head && (not (bytes_eq name head.name) || Faces.agrees_there sections number section head found))
-others_added_allows number known name head sections section None = or_free (allowed known head) (bytes_eq name head.name)
+others_added_allows number known name head sections section None =
+    or_free (allowed known head) (bytes_eq name head.name)
 others_added_allows number known name head sections section (Some found) =
     table_asks (heads_of found.1) known name head ∙
     ap (λ holds. allowed known head && holds)
-    (guarded (bytes_eq name head.name) (not (among (heads_of found.1).conflicts name) && agrees_first (first_by_name (heads_of found.1).firsts name) head) (agrees_with (heads_in found.1.decls) head)
-    (λ same. ap (λ text. not (among (heads_of found.1).conflicts text) && agrees_first (first_by_name (heads_of found.1).firsts text) head) (same_text name head.name same) ∙ allowed_same (heads_in found.1.decls) head))
+    (guarded (bytes_eq name head.name) (not (among (heads_of found.1).conflicts name) &&
+    agrees_first (first_by_name (heads_of found.1).firsts name) head) (agrees_with (heads_in found.1.decls) head)
+    (λ same. ap (λ text. not (among (heads_of found.1).conflicts text) &&
+    agrees_first (first_by_name (heads_of found.1).firsts text) head) (same_text name head.name same) ∙
+    allowed_same (heads_in found.1.decls) head))
 
 module _ (sections : List SectionTree) (number : ℕ) (section : SectionTree) where
-  is_offered_is : (line : ImportLine) → is_offered_by (map table_of sections) number line ≡ Faces.is_offered sections number section line
+  is_offered_is : (line : ImportLine) → is_offered_by (map table_of sections) number line ≡
+      Faces.is_offered sections number section line
   is_offered_is line =
-      ap (λ found. if is_environment line then bytes_eq line.name input_name || bytes_eq line.name output_name else found)
+      ap (λ found. if is_environment line then bytes_eq line.name input_name || bytes_eq line.name output_name else
+      found)
       (ap is_some (offering_number_is number line 0 sections) ∙ is_some-number_in (offering number line 0 sections))
 
   imports_told_is : (functions protos seen before : List Text) (lines : List ImportLine) →
       Same functions (function_names section.decls) → Same protos (proto_names section.decls) → Same seen before →
-      imports_told (map table_of sections) number functions protos seen lines ≡ Faces.imports_from sections number section before lines
+      imports_told (map table_of sections) number functions protos seen lines ≡
+      Faces.imports_from sections number section before lines
   imports_told_is functions protos seen before [] defined declared same = refl
   imports_told_is functions protos seen before (line ∷ lines) defined declared same =
       ap₂ (λ these others. these ++ others)
       (ap (λ holds. unless holds line.line)
       (ap₂ (λ offered rest. offered && rest) (is_offered_is line)
       (ap₂ (λ twice rest. not twice && rest) (same.at line.name)
-      (ap₂ (λ here declares. not here && (declares && is_plain line.name)) (defined.at line.name) (declared.at line.name)))))
-      (imports_told_is functions protos (numbered seen line.name) (before ++ line.name ∷ []) lines defined declared (same_numbered seen before line.name same))
+      (ap₂ (λ here declares. not here && (declares && is_plain line.name)) (defined.at line.name)
+      (declared.at line.name)))))
+      (imports_told_is functions protos (numbered seen line.name) (before ++ line.name ∷ []) lines defined declared
+      (same_numbered seen before line.name same))
 
   import_added_allows : (known : Agreements) (line : ImportLine) (head : HeadTree) →
       allowed (import_added (map table_of sections) number known line) head ≡
@@ -240,9 +276,11 @@ module _ (sections : List SectionTree) (number : ℕ) (section : SectionTree) wh
   import_added_allows known line head = at (is_environment line)
     where
       at : (env : Bool) →
-          allowed (if env then environment_added known line.name else others_added known line.name (offering_table (map table_of sections) number line)) head ≡
+          allowed (if env then environment_added known line.name else
+          others_added known line.name (offering_table (map table_of sections) number line)) head ≡
           (allowed known head && (not (bytes_eq line.name head.name) ||
-          (if env then environment_asks head.name head else Faces.agrees_there sections number section head (offering number line 0 sections))))
+          (if env then environment_asks head.name head else
+          Faces.agrees_there sections number section head (offering number line 0 sections))))
       at true = environment_added_allows known line.name head
       at false =
           ap (λ table. allowed (others_added known line.name table) head) (offering_table_is sections number line) ∙
@@ -250,17 +288,22 @@ module _ (sections : List SectionTree) (number : ℕ) (section : SectionTree) wh
 
   imports_added_allows : (known : Agreements) (lines : List ImportLine) (head : HeadTree) →
       allowed (imports_added (map table_of sections) number known lines) head ≡
-      (allowed known head && list_all {X = ImportLine} (λ line. not (bytes_eq line.name head.name) || Faces.agrees_as sections number section head line) lines)
+      (allowed known head && list_all {X = ImportLine}
+      (λ line. not (bytes_eq line.name head.name) || Faces.agrees_as sections number section head line) lines)
   imports_added_allows known [] head = and_end (allowed known head)
   imports_added_allows known (line ∷ lines) head =
       imports_added_allows (import_added (map table_of sections) number known line) lines head ∙
-      (ap (λ first. first && list_all {X = ImportLine} (λ other. not (bytes_eq other.name head.name) || Faces.agrees_as sections number section head other) lines)
+      (ap (λ first. first && list_all {X = ImportLine}
+      (λ other. not (bytes_eq other.name head.name) || Faces.agrees_as sections number section head other) lines)
       (import_added_allows known line head) ∙
-      and_assoc (allowed known head) (not (bytes_eq line.name head.name) || Faces.agrees_as sections number section head line)
-      (list_all {X = ImportLine} (λ other. not (bytes_eq other.name head.name) || Faces.agrees_as sections number section head other) lines))
+      and_assoc (allowed known head) (not (bytes_eq line.name head.name) ||
+      Faces.agrees_as sections number section head line)
+      (list_all {X = ImportLine} (λ other. not (bytes_eq other.name head.name) ||
+      Faces.agrees_as sections number section head other) lines))
 
   -- what the section imports, by its table, is what it imports
-  imported_agrees_is : (head : HeadTree) → allowed (imported_by (map table_of sections) number section).heads head ≡ Faces.imported_agrees sections number section head
+  imported_agrees_is : (head : HeadTree) → allowed (imported_by (map table_of sections) number section).heads head ≡
+      Faces.imported_agrees sections number section head
   imported_agrees_is head = imports_added_allows no_heads section.imports head
 
 -- Declarations.
@@ -281,16 +324,20 @@ head_added_allows : (known : Agreements) (decl : Decl) (head : HeadTree) →
 head_added_allows known (Struct tree) head = and_end (allowed known head)
 head_added_allows known (Global tree) head = and_end (allowed known head)
 head_added_allows known (Proto other) head =
-    allowed_added known other.name other head ∙ ap (λ last. allowed known head && last) (and_end (not (bytes_eq other.name head.name) || agree other head))
+    allowed_added known other.name other head ∙ ap (λ last. allowed known head && last)
+    (and_end (not (bytes_eq other.name head.name) || agree other head))
 head_added_allows known (Function tree) head =
     allowed_added known tree.head.name (head_of tree.head) head ∙
-    ap (λ last. allowed known head && last) (and_end (not (bytes_eq tree.head.name head.name) || agree (head_of tree.head) head))
+    ap (λ last. allowed known head && last) (and_end (not (bytes_eq tree.head.name head.name) ||
+    agree (head_of tree.head) head))
 
-allows_more : (known : Agreements) (before : List Decl) (decl : Decl) → Allows known before → Allows (head_added known (head_in decl)) (before ++ decl ∷ [])
+allows_more : (known : Agreements) (before : List Decl) (decl : Decl) → Allows known before →
+    Allows (head_added known (head_in decl)) (before ++ decl ∷ [])
 allows_more known before decl allows = record {
   at = λ head. head_added_allows known decl head ∙
       (ap (λ first. first && agrees_with (heads_in (decl ∷ [])) head) (allows.at head) ∙
-      (sym (list_all-append {X = HeadTree} (λ other. not (bytes_eq other.name head.name) || agree other head) (heads_in before) (heads_in (decl ∷ []))) ∙
+      (sym (list_all-append {X = HeadTree} (λ other. not (bytes_eq other.name head.name) || agree other head)
+      (heads_in before) (heads_in (decl ∷ []))) ∙
       ap (λ heads. agrees_with heads head) (sym (heads_in-append before (decl ∷ [])))));
 }
 
@@ -299,71 +346,88 @@ allows_none = record { at = λ head. refl }
 
 module _ (sections : List SectionTree) (number : ℕ) (section : SectionTree) (mains : Bool) where
   head_holds_is : (known : Agreements) (before : List Decl) (head : HeadTree) → Allows known before →
-      head_fits_by (table_of section) (imported_by (map table_of sections) number section) known head ≡ Faces.head_holds sections number section before head
+      head_fits_by (table_of section) (imported_by (map table_of sections) number section) known head ≡
+      Faces.head_holds sections number section before head
   head_holds_is known before head allows =
       ap₂ (λ agrees fits. agrees && (head_crosses head || not fits)) (allows.at head)
-      (ap₂ (λ exported imported. exported || imported) (all_numbered_same (export_names section) head.name) (all_numbered_same (import_names section) head.name))
+      (ap₂ (λ exported imported. exported || imported) (all_numbered_same (export_names section) head.name)
+      (all_numbered_same (import_names section) head.name))
 
   decl_told_is : (known : Agreements) (before : List Decl) (decl : Decl) → Allows known before →
-      decl_told (table_of section) (imported_by (map table_of sections) number section) mains known decl ≡ Faces.decl_lines sections number section mains before decl
+      decl_told (table_of section) (imported_by (map table_of sections) number section) mains known decl ≡
+      Faces.decl_lines sections number section mains before decl
   decl_told_is known before (Struct tree) allows = refl
   decl_told_is known before (Global tree) allows = refl
   decl_told_is known before (Proto head) allows =
       ap (λ holds. unless holds head.line)
       (ap₂ (λ x y. x && y) (head_holds_is known before head allows) (imported_agrees_is sections number section head))
   decl_told_is known before (Function tree) allows =
-      ap (λ holds. unless (holds && main_holds mains (head_of tree.head)) tree.head.line) (head_holds_is known before (head_of tree.head) allows)
+      ap (λ holds. unless (holds && main_holds mains (head_of tree.head)) tree.head.line)
+      (head_holds_is known before (head_of tree.head) allows)
 
   decls_told_is : (known : Agreements) (before decls : List Decl) → Allows known before →
-      decls_told (table_of section) (imported_by (map table_of sections) number section) mains known decls ≡ Faces.decls_from sections number section mains before decls
+      decls_told (table_of section) (imported_by (map table_of sections) number section) mains known decls ≡
+      Faces.decls_from sections number section mains before decls
   decls_told_is known before [] allows = refl
   decls_told_is known before (decl ∷ decls) allows =
       ap₂ (λ these others. these ++ others) (decl_told_is known before decl allows)
-      (decls_told_is (head_added known (head_in decl)) (before ++ decl ∷ []) decls (allows_more known before decl allows))
+      (decls_told_is (head_added known (head_in decl)) (before ++ decl ∷ []) decls
+      (allows_more known before decl allows))
 
-  section_told_is : (seen : List Text) (before : List SectionTree) → Same seen (map {A = SectionTree} (λ other. other.name) before) →
-      section_told (map table_of sections) number (table_of section) mains seen section ≡ Faces.section_lines sections number section mains before
+  section_told_is : (seen : List Text) (before : List SectionTree) →
+      Same seen (map {A = SectionTree} (λ other. other.name) before) →
+      section_told (map table_of sections) number (table_of section) mains seen section ≡
+      Faces.section_lines sections number section mains before
   section_told_is seen before same =
       ap₂ (λ these others. these ++ others)
       (ap (λ twice. unless (not twice && not (bytes_eq section.name environment)) 1) (same.at section.name))
       (ap₂ (λ these others. these ++ others)
-      (exports_told_is sections number section (all_numbered [] (function_names section.decls)) [] [] section.exports (same_all (function_names section.decls)) same_none)
+      (exports_told_is sections number section (all_numbered [] (function_names section.decls)) [] [] section.exports
+      (same_all (function_names section.decls)) same_none)
       (ap₂ (λ these others. these ++ others)
-      (imports_told_is sections number section (all_numbered [] (function_names section.decls)) (all_numbered [] (proto_names section.decls)) [] [] section.imports
+      (imports_told_is sections number section (all_numbered [] (function_names section.decls))
+      (all_numbered [] (proto_names section.decls)) [] [] section.imports
       (same_all (function_names section.decls)) (same_all (proto_names section.decls)) same_none)
       (decls_told_is no_heads [] section.decls allows_none)))
 
 -- Sections.
 
 map_one : (before : List SectionTree) (section : SectionTree) →
-    map {A = SectionTree} (λ other. other.name) (before ++ section ∷ []) ≡ map {A = SectionTree} (λ other. other.name) before ++ section.name ∷ []
+    map {A = SectionTree} (λ other. other.name) (before ++ section ∷ []) ≡
+    map {A = SectionTree} (λ other. other.name) before ++ section.name ∷ []
 map_one [] section = refl
 map_one (other ∷ before) section = ap (λ rest. other.name ∷ rest) (map_one before section)
 
-same_sections : (seen : List Text) (before : List SectionTree) (section : SectionTree) → Same seen (map {A = SectionTree} (λ other. other.name) before) →
+same_sections : (seen : List Text) (before : List SectionTree) (section : SectionTree) →
+    Same seen (map {A = SectionTree} (λ other. other.name) before) →
     Same (numbered seen section.name) (map {A = SectionTree} (λ other. other.name) (before ++ section ∷ []))
 same_sections seen before section same = record {
-  at = λ k. (same_numbered seen (map {A = SectionTree} (λ other. other.name) before) section.name same).at k ∙ ap (λ names. among names k) (sym (map_one before section));
+  at = λ k. (same_numbered seen (map {A = SectionTree} (λ other. other.name) before) section.name same).at k ∙
+      ap (λ names. among names k) (sym (map_one before section));
 }
 
 mains_more : (mains : Bool) (before : List SectionTree) (section : SectionTree) → mains ≡ list_any defines_main before →
     (mains || among (table_of section).functions main_name) ≡ list_any defines_main (before ++ section ∷ [])
 mains_more mains before section same =
-    ap₂ (λ x y. x || y) same (all_numbered_same (function_names section.decls) main_name ∙ sym (or-false (among (function_names section.decls) main_name))) ∙
+    ap₂ (λ x y. x || y) same (all_numbered_same (function_names section.decls) main_name ∙
+    sym (or-false (among (function_names section.decls) main_name))) ∙
     sym (list_any-append defines_main before (section ∷ []))
   where
     or-false : (a : Bool) → (a || false) ≡ a
     or-false true = refl
     or-false false = refl
 
-lines_told_is : (sections : List SectionTree) (k : ℕ) (mains : Bool) (seen : List Text) (before rest : List SectionTree) → mains ≡ list_any defines_main before →
+lines_told_is : (sections : List SectionTree) (k : ℕ) (mains : Bool) (seen : List Text)
+    (before rest : List SectionTree) → mains ≡ list_any defines_main before →
     Same seen (map {A = SectionTree} (λ other. other.name) before) →
     lines_told (map table_of sections) k mains seen rest ≡ Faces.lines_from sections k before rest
 lines_told_is sections k mains seen before [] found same = refl
 lines_told_is sections k mains seen before (section ∷ rest) found same =
     ap₂ (λ these others. map (line_of_text section.line) these ++ others)
-    (section_told_is sections k section mains seen before same ∙ ap (λ one. Faces.section_lines sections k section one before) found)
-    (lines_told_is sections (suc k) (mains || among (table_of section).functions main_name) (numbered seen section.name) (before ++ section ∷ []) rest
+    (section_told_is sections k section mains seen before same ∙
+    ap (λ one. Faces.section_lines sections k section one before) found)
+    (lines_told_is sections (suc k) (mains || among (table_of section).functions main_name) (numbered seen section.name)
+    (before ++ section ∷ []) rest
     (mains_more mains before section found) (same_sections seen before section same))
 
 noted_all-append : (least : Option ℕ) (xs ys : List ℕ) → noted_all least (xs ++ ys) ≡ noted_all (noted_all least xs) ys
@@ -375,68 +439,98 @@ noted_none : (least : Option ℕ) → noted_all least [] ≡ least
 unfolding noted_all
 noted_none least = refl
 
-table_at : (sections : List SectionTree) (tables : List SectionTable) (k : ℕ) (section : SectionTree) (table : SectionTable) →
-    k < length sections → section ≡ get_or sections k section → tables ≡ map table_of sections → table ≡ get_or tables k table → table ≡ table_of section
+table_at : (sections : List SectionTree) (tables : List SectionTable) (k : ℕ) (section : SectionTree)
+    (table : SectionTable) →
+    k < length sections → section ≡ get_or sections k section → tables ≡ map table_of sections →
+    table ≡ get_or tables k table → table ≡ table_of section
 table_at sections tables k section table within is all its =
-    let there : slice_get sections k ≡ Some section = slice_get_read sections (length sections) k section refl within is in
+    let there : slice_get sections k ≡ Some section =
+    slice_get_read sections (length sections) k section refl within is in
     let as_long : length sections ≡ length tables = sym (ap length all ∙ length-map sections table_of) in
     let found : slice_get tables k ≡ Some table = slice_get_read tables (length sections) k table as_long within its in
-    let made : slice_get tables k ≡ Some (table_of section) = ap (λ xs. slice_get xs k) all ∙ (slice_get-map table_of sections k ∙ ap (option_map table_of) there) in
+    let made : slice_get tables k ≡ Some (table_of section) =
+    ap (λ xs. slice_get xs k) all ∙ (slice_get-map table_of sections k ∙ ap (option_map table_of) there) in
     cc
 
-turn_lines : (sections : List SectionTree) (tables : List SectionTable) (k : ℕ) (mains : Bool) (before : List Text) (section : SectionTree) (least : Option ℕ) →
+turn_lines : (sections : List SectionTree) (tables : List SectionTable) (k : ℕ) (mains : Bool) (before : List Text)
+    (section : SectionTree) (least : Option ℕ) →
     k < length sections → section ≡ get_or sections k section →
-    noted_all (noted_all least (map (line_of_text section.line) (section_told tables k (table_of section) mains before section)))
-    (lines_told tables (k + 1) (mains || among (table_of section).functions main_name) (numbered before section.name) (drop (k + 1) sections)) ≡
+    noted_all (noted_all least (map (line_of_text section.line)
+    (section_told tables k (table_of section) mains before section)))
+    (lines_told tables (k + 1) (mains || among (table_of section).functions main_name) (numbered before section.name)
+    (drop (k + 1) sections)) ≡
     noted_all least (lines_told tables k mains before (drop k sections))
 turn_lines sections tables k mains before section least within is =
-    sym (noted_all-append least (map (line_of_text section.line) (section_told tables k (table_of section) mains before section))
-    (lines_told tables (k + 1) (mains || among (table_of section).functions main_name) (numbered before section.name) (drop (k + 1) sections))) ∙
-    (ap (λ n. noted_all least (map (line_of_text section.line) (section_told tables k (table_of section) mains before section) ++
-    lines_told tables n (mains || among (table_of section).functions main_name) (numbered before section.name) (drop (k + 1) sections))) one_more ∙
+    sym (noted_all-append least (map (line_of_text section.line)
+    (section_told tables k (table_of section) mains before section))
+    (lines_told tables (k + 1) (mains || among (table_of section).functions main_name) (numbered before section.name)
+    (drop (k + 1) sections))) ∙
+    (ap (λ n. noted_all least (map (line_of_text section.line)
+    (section_told tables k (table_of section) mains before section) ++
+    lines_told tables n (mains || among (table_of section).functions main_name) (numbered before section.name)
+    (drop (k + 1) sections))) one_more ∙
     ap (λ xs. noted_all least (lines_told tables k mains before xs)) (sym (drop_item sections k section within is)))
   where
     one_more : k + 1 ≡ suc k
     one_more = omega arith
 
-turn_mains : (sections : List SectionTree) (k : ℕ) (mains : Bool) (section : SectionTree) → k < length sections → section ≡ get_or sections k section →
-    ((mains || among (table_of section).functions main_name) || list_any defines_main (drop (k + 1) sections)) ≡ (mains || list_any defines_main (drop k sections))
+turn_mains : (sections : List SectionTree) (k : ℕ) (mains : Bool) (section : SectionTree) → k < length sections →
+    section ≡ get_or sections k section →
+    ((mains || among (table_of section).functions main_name) || list_any defines_main (drop (k + 1) sections)) ≡
+    (mains || list_any defines_main (drop k sections))
 turn_mains sections k mains section within is =
     or_assoc mains (among (table_of section).functions main_name) (list_any defines_main (drop (k + 1) sections)) ∙
-    (ap (λ here. mains || (here || list_any defines_main (drop (k + 1) sections))) (all_numbered_same (function_names section.decls) main_name) ∙
+    (ap (λ here. mains || (here || list_any defines_main (drop (k + 1) sections)))
+    (all_numbered_same (function_names section.decls) main_name) ∙
     ap (λ xs. mains || list_any defines_main xs) (sym (drop_item sections k section within is)))
 
 -- one section more
-pub sections_turn : (sections : List SectionTree) (tables : List SectionTable) (k : ℕ) (mains more : Bool) (before after : List Text) (section : SectionTree) (table : SectionTable)
-    (least later total : Option ℕ) (whole : Bool) → k < length sections → section ≡ get_or sections k section → tables ≡ map table_of sections → table ≡ get_or tables k table →
+pub sections_turn : (sections : List SectionTree) (tables : List SectionTable) (k : ℕ) (mains more : Bool)
+    (before after : List Text) (section : SectionTree) (table : SectionTable)
+    (least later total : Option ℕ) (whole : Bool) → k < length sections → section ≡ get_or sections k section →
+    tables ≡ map table_of sections → table ≡ get_or tables k table →
     later ≡ noted_all least (map (line_of_text section.line) (section_told tables k table mains before section)) →
     more ≡ (mains || among table.functions main_name) → after ≡ numbered before section.name →
-    (noted_all least (lines_told tables k mains before (drop k sections)) ≡ total) × ((mains || list_any defines_main (drop k sections)) ≡ whole) →
-    (noted_all later (lines_told tables (k + 1) more after (drop (k + 1) sections)) ≡ total) × ((more || list_any defines_main (drop (k + 1) sections)) ≡ whole)
-sections_turn sections tables k mains more before after section table least later total whole within is all its told found added earlier =
+    (noted_all least (lines_told tables k mains before (drop k sections)) ≡ total) ×
+    ((mains || list_any defines_main (drop k sections)) ≡ whole) →
+    (noted_all later (lines_told tables (k + 1) more after (drop (k + 1) sections)) ≡ total) ×
+    ((more || list_any defines_main (drop (k + 1) sections)) ≡ whole)
+sections_turn sections tables k mains more before after section table least later total whole within is all its told
+    found added earlier =
     let table_is : table ≡ table_of section = table_at sections tables k section table within is all its in
-    let told_is : later ≡ noted_all least (map (line_of_text section.line) (section_told tables k (table_of section) mains before section)) =
-    told ∙ ap (λ t. noted_all least (map (line_of_text section.line) (section_told tables k t mains before section))) table_is in
-    let found_is : more ≡ (mains || among (table_of section).functions main_name) = found ∙ ap (λ (t : SectionTable). mains || among t.functions main_name) table_is in (
+    let told_is : later ≡ noted_all least (map (line_of_text section.line)
+    (section_told tables k (table_of section) mains before section)) =
+    told ∙ ap (λ t. noted_all least (map (line_of_text section.line)
+    (section_told tables k t mains before section))) table_is in
+    let found_is : more ≡ (mains || among (table_of section).functions main_name) =
+    found ∙ ap (λ (t : SectionTable). mains || among t.functions main_name) table_is in (
       ap (λ l. noted_all l (lines_told tables (k + 1) more after (drop (k + 1) sections))) told_is ∙
-          (ap₂ (λ m a. noted_all (noted_all least (map (line_of_text section.line) (section_told tables k (table_of section) mains before section))) (lines_told tables (k + 1) m a (drop (k + 1) sections))) found_is added ∙
+          (ap₂ (λ m a. noted_all (noted_all least (map (line_of_text section.line)
+          (section_told tables k (table_of section) mains before section)))
+          (lines_told tables (k + 1) m a (drop (k + 1) sections))) found_is added ∙
           (turn_lines sections tables k mains before section least within is ∙ earlier.0)),
-      ap (λ m. m || list_any defines_main (drop (k + 1) sections)) found_is ∙ (turn_mains sections k mains section within is ∙ earlier.1),
+      ap (λ m. m || list_any defines_main (drop (k + 1) sections)) found_is ∙
+          (turn_mains sections k mains section within is ∙ earlier.1),
     )
 
 -- no section is left
-pub sections_end : (sections : List SectionTree) (tables : List SectionTable) (k : ℕ) (mains : Bool) (before : List Text) (least last : Option ℕ) →
+pub sections_end : (sections : List SectionTree) (tables : List SectionTable) (k : ℕ) (mains : Bool)
+    (before : List Text) (least last : Option ℕ) →
     length sections ≤ k → tables ≡ map table_of sections → last ≡ noted_all least (unless mains 0) →
-    (noted_all least (lines_told tables k mains before (drop k sections)) ≡ noted_all None (lines_told tables 0 false [] sections)) × ((mains || list_any defines_main (drop k sections)) ≡ list_any defines_main sections) →
+    (noted_all least (lines_told tables k mains before (drop k sections)) ≡
+    noted_all None (lines_told tables 0 false [] sections)) ×
+    ((mains || list_any defines_main (drop k sections)) ≡ list_any defines_main sections) →
     last ≡ refused_at (Faces.interface_broken sections)
 sections_end sections tables k mains before least last past all told earlier =
     let none : drop k sections ≡ [] = drop_past sections k past in
     let least_is : least ≡ noted_all None (lines_told tables 0 false [] sections) =
-    sym (noted_none least) ∙ (ap (λ xs. noted_all least (lines_told tables k mains before xs)) (sym none) ∙ earlier.0) in
+    sym (noted_none least) ∙ (ap (λ xs. noted_all least (lines_told tables k mains before xs)) (sym none) ∙
+    earlier.0) in
     let mains_is : mains ≡ list_any defines_main sections =
     sym (or-none mains) ∙ (ap (λ xs. mains || list_any defines_main xs) (sym none) ∙ earlier.1) in
     let lines_are : lines_told tables 0 false [] sections ≡ Faces.lines_from sections 0 [] sections =
-    ap (λ all_tables. lines_told all_tables 0 false [] sections) all ∙ lines_told_is sections 0 false [] [] sections refl same_none in
+    ap (λ all_tables. lines_told all_tables 0 false [] sections) all ∙
+    lines_told_is sections 0 false [] [] sections refl same_none in
     told ∙
     (ap₂ (λ l m. noted_all l (unless m 0)) (least_is ∙ ap (noted_all None) lines_are) mains_is ∙
     sym (noted_all-append None (Faces.lines_from sections 0 [] sections) (unless (list_any defines_main sections) 0)))

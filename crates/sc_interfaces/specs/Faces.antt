@@ -43,7 +43,8 @@ agree a b = same_result a.result b.result && same_params a.params b.params
 
 -- a head agrees with all of its name among these
 abbrev pub agrees_with : List HeadTree → HeadTree → Bool
-agrees_with heads head = list_all {X = HeadTree} (λ other. not (bytes_eq other.name head.name) || agree other head) heads
+agrees_with heads head = list_all {X = HeadTree} (λ other. not (bytes_eq other.name head.name) ||
+    agree other head) heads
 
 -- What crosses.
 
@@ -106,11 +107,13 @@ module _ (sections : List SectionTree) (number : ℕ) (section : SectionTree) wh
   -- an export is a function that the section defines, exported once, and not `main`
   abbrev pub export_holds : (before : List Text) → ExportLine → Bool
   export_holds before line =
-      among (function_names section.decls) line.name && (not (among before line.name) && (not (bytes_eq line.name main_name) && is_plain line.name))
+      among (function_names section.decls) line.name &&
+      (not (among before line.name) && (not (bytes_eq line.name main_name) && is_plain line.name))
 
   abbrev pub exports_from : (before : List Text) → List ExportLine → List ℕ
   exports_from before [] = []
-  exports_from before (line ∷ lines) = unless (export_holds before line) line.line ++ exports_from (before ++ line.name ∷ []) lines
+  exports_from before (line ∷ lines) = unless (export_holds before line) line.line ++
+      exports_from (before ++ line.name ∷ []) lines
 
   -- another section, or the environment, offers what is imported
   abbrev pub is_offered : ImportLine → Bool
@@ -121,11 +124,14 @@ module _ (sections : List SectionTree) (number : ℕ) (section : SectionTree) wh
   -- an import is offered; its name is imported once and not defined here; and it has a prototype
   abbrev pub import_holds : (before : List Text) → ImportLine → Bool
   import_holds before line =
-      is_offered line && (not (among before line.name) && (not (among (function_names section.decls) line.name) && (among (proto_names section.decls) line.name && is_plain line.name)))
+      is_offered line && (not (among before line.name) &&
+      (not (among (function_names section.decls) line.name) &&
+      (among (proto_names section.decls) line.name && is_plain line.name)))
 
   abbrev pub imports_from : (before : List Text) → List ImportLine → List ℕ
   imports_from before [] = []
-  imports_from before (line ∷ lines) = unless (import_holds before line) line.line ++ imports_from (before ++ line.name ∷ []) lines
+  imports_from before (line ∷ lines) = unless (import_holds before line) line.line ++
+      imports_from (before ++ line.name ∷ []) lines
 
   -- a prototype agrees with what the offering section declares
   abbrev pub agrees_there : HeadTree → Option (ℕ × SectionTree) → Bool
@@ -135,11 +141,13 @@ module _ (sections : List SectionTree) (number : ℕ) (section : SectionTree) wh
   -- a prototype agrees with what it is imported as
   abbrev pub agrees_as : HeadTree → ImportLine → Bool
   agrees_as head line =
-      if is_environment line then (if bytes_eq head.name input_name then is_input head else if bytes_eq head.name output_name then is_output head else true)
+      if is_environment line then (if bytes_eq head.name input_name then is_input head else
+      if bytes_eq head.name output_name then is_output head else true)
       else agrees_there head (offering number line 0 sections)
 
   abbrev pub imported_agrees : HeadTree → Bool
-  imported_agrees head = list_all {X = ImportLine} (λ line. not (bytes_eq line.name head.name) || agrees_as head line) section.imports
+  imported_agrees head = list_all {X = ImportLine} (λ line. not (bytes_eq line.name head.name) ||
+      agrees_as head line) section.imports
 
   -- the types of a function that is exported or imported are those that cross
   abbrev pub head_fits : HeadTree → Bool
@@ -164,18 +172,21 @@ module _ (sections : List SectionTree) (number : ℕ) (section : SectionTree) wh
     -- names of sections are distinct, and none is the environment's; the compartment line is the section's line 1
     abbrev pub name_holds : (before : List SectionTree) → Bool
     name_holds before =
-        not (among (map {A = SectionTree} (λ other. other.name) before) section.name) && not (bytes_eq section.name environment)
+        not (among (map {A = SectionTree} (λ other. other.name) before) section.name) &&
+        not (bytes_eq section.name environment)
 
     -- the lines, counted in the section, at which rules of interfaces are broken, where these sections stand before it
     abbrev pub section_lines : (before : List SectionTree) → List ℕ
     section_lines before =
-        unless (name_holds before) 1 ++ (exports_from [] section.exports ++ (imports_from [] section.imports ++ decls_from [] section.decls))
+        unless (name_holds before) 1 ++ (exports_from [] section.exports ++
+        (imports_from [] section.imports ++ decls_from [] section.decls))
 
 -- the sections from number k on, where these stand before them
 abbrev pub lines_from : List SectionTree → ℕ → (before : List SectionTree) → List SectionTree → List ℕ
 lines_from sections k before [] = []
 lines_from sections k before (section ∷ rest) =
-    map (line_of_text section.line) (section_lines sections k section (list_any defines_main before) before) ++ lines_from sections (suc k) (before ++ section ∷ []) rest
+    map (line_of_text section.line) (section_lines sections k section (list_any defines_main before) before) ++
+    lines_from sections (suc k) (before ++ section ∷ []) rest
 
 -- the lines of the text at which rules of interfaces are broken; a missing `main` is broken at line 0
 abbrev pub interface_broken : List SectionTree → List ℕ

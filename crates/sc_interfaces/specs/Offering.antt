@@ -63,12 +63,17 @@ function_places decls = all_placed [] 0 (map function_name decls)
 
 -- a function by its name
 abbrev pub function_at : List Decl → Placed → Text → Option FunctionTree
-function_at decls places name = option_and_then (λ place. option_and_then function_in (slice_get decls place)) (first_by_name places name)
+function_at decls places name = option_and_then (λ place. option_and_then function_in (slice_get decls place))
+    (first_by_name places name)
 
 abbrev pub promised_by : Text → Option FunctionTree → Proto
 promised_by name None = record { name = name; params = []; result = None }
 promised_by name (Some tree) =
-    record { name = name; params = take 8 (map {A = FunctionParam} (λ param. scalar_of param.ty) tree.head.params); result = option_map scalar_of tree.head.result }
+    record {
+      name = name;
+      params = take 8 (map {A = FunctionParam} (λ param. scalar_of param.ty) tree.head.params);
+      result = option_map scalar_of tree.head.result;
+    }
 
 abbrev pub export_by : List Decl → Placed → ExportLine → Proto
 export_by decls places line = promised_by line.name (function_at decls places line.name)
@@ -77,7 +82,8 @@ export_by decls places line = promised_by line.name (function_at decls places li
 abbrev pub offered_by : List Placed → ImportLine → Option ℕ → Import
 offered_by places line None = import.Function 0 0
 offered_by places line (Some k) =
-    import.Function (min k 31) (min (number_or_zero (option_and_then (λ found. first_by_name found line.name) (slice_get places k))) 65535)
+    import.Function (min k 31) (min (number_or_zero (option_and_then (λ found. first_by_name found line.name)
+    (slice_get places k))) 65535)
 
 abbrev pub import_by : List SectionTable → List Placed → (importer : ℕ) → ImportLine → Import
 import_by tables places importer line =
@@ -86,11 +92,17 @@ import_by tables places importer line =
 
 abbrev pub interface_by : List SectionTable → List Placed → (number : ℕ) → SectionTree → Interface
 interface_by tables places number section =
-    record { name = section.name; exports = map (export_by section.decls (function_places section.decls)) section.exports; imports = map (import_by tables places number) section.imports }
+    record {
+      name = section.name;
+      exports = map (export_by section.decls
+          (function_places section.decls)) section.exports;
+      imports = map (import_by tables places number) section.imports;
+    }
 
 abbrev pub interfaces_by : List SectionTable → List Placed → ℕ → List SectionTree → List Interface
 interfaces_by tables places k [] = []
-interfaces_by tables places k (section ∷ rest) = interface_by tables places k section ∷ interfaces_by tables places (suc k) rest
+interfaces_by tables places k (section ∷ rest) = interface_by tables places k section ∷
+    interfaces_by tables places (suc k) rest
 
 -- the number of the first section that defines `main`, among those from number k on
 abbrev pub main_by : ℕ → List SectionTable → ℕ

@@ -78,7 +78,8 @@ offering_table tables importer line = option_and_then (slice_get tables) (offeri
 
 abbrev pub export_fits : (functions before : List Text) → ExportLine → Bool
 export_fits functions before line =
-    among functions line.name && (not (among before line.name) && (not (bytes_eq line.name main_name) && is_plain line.name))
+    among functions line.name && (not (among before line.name) &&
+    (not (bytes_eq line.name main_name) && is_plain line.name))
 
 abbrev pub exports_told : (functions before : List Text) → List ExportLine → List ℕ
 exports_told functions before [] = []
@@ -92,7 +93,12 @@ abbrev pub input_head : HeadTree
 input_head = record { result = Some int_type; name = input_name; params = []; line = 0 }
 
 abbrev pub output_head : HeadTree
-output_head = record { result = None; name = output_name; params = record { ty = int_type; name = None } ∷ []; line = 0 }
+output_head = record {
+  result = None;
+  name = output_name;
+  params = record { ty = int_type; name = None } ∷ [];
+  line = 0;
+}
 
 abbrev pub is_offered_by : List SectionTable → (importer : ℕ) → ImportLine → Bool
 is_offered_by tables importer line =
@@ -101,12 +107,15 @@ is_offered_by tables importer line =
 
 abbrev pub import_fits : List SectionTable → (importer : ℕ) → (functions protos before : List Text) → ImportLine → Bool
 import_fits tables importer functions protos before line =
-    is_offered_by tables importer line && (not (among before line.name) && (not (among functions line.name) && (among protos line.name && is_plain line.name)))
+    is_offered_by tables importer line && (not (among before line.name) &&
+    (not (among functions line.name) && (among protos line.name && is_plain line.name)))
 
-abbrev pub imports_told : List SectionTable → (importer : ℕ) → (functions protos before : List Text) → List ImportLine → List ℕ
+abbrev pub imports_told : List SectionTable → (importer : ℕ) → (functions protos before : List Text) → List ImportLine →
+    List ℕ
 imports_told tables importer functions protos before [] = []
 imports_told tables importer functions protos before (line ∷ lines) =
-    unless (import_fits tables importer functions protos before line) line.line ++ imports_told tables importer functions protos (numbered before line.name) lines
+    unless (import_fits tables importer functions protos before line) line.line ++
+    imports_told tables importer functions protos (numbered before line.name) lines
 
 -- what the environment promises of a name
 abbrev pub environment_added : Agreements → Text → Agreements
@@ -123,7 +132,8 @@ first_added known name (Some first) = added known name first
 abbrev pub others_added : Agreements → Text → Option SectionTable → Agreements
 others_added known name None = known
 others_added known name (Some other) =
-    if among other.heads.conflicts name then forbidden known name else first_added known name (first_by_name other.heads.firsts name)
+    if among other.heads.conflicts name then forbidden known name else
+    first_added known name (first_by_name other.heads.firsts name)
 
 abbrev pub import_added : List SectionTable → (importer : ℕ) → Agreements → ImportLine → Agreements
 import_added tables importer known line =
@@ -132,11 +142,15 @@ import_added tables importer known line =
 
 abbrev pub imports_added : List SectionTable → (importer : ℕ) → Agreements → List ImportLine → Agreements
 imports_added tables importer known [] = known
-imports_added tables importer known (line ∷ lines) = imports_added tables importer (import_added tables importer known line) lines
+imports_added tables importer known (line ∷ lines) = imports_added tables importer
+    (import_added tables importer known line) lines
 
 abbrev pub imported_by : List SectionTable → (importer : ℕ) → SectionTree → Imported
 imported_by tables importer section =
-    record { names = all_numbered [] (import_names section); heads = imports_added tables importer no_heads section.imports }
+    record {
+      names = all_numbered [] (import_names section);
+      heads = imports_added tables importer no_heads section.imports;
+    }
 
 -- Declarations.
 
@@ -148,7 +162,8 @@ abbrev pub decl_told : SectionTable → Imported → (mains : Bool) → Agreemen
 decl_told table imported mains known (Proto head) =
     unless (head_fits_by table imported known head && allowed imported.heads head) head.line
 decl_told table imported mains known (Function tree) =
-    unless (head_fits_by table imported known (head_of tree.head) && main_holds mains (head_of tree.head)) tree.head.line
+    unless (head_fits_by table imported known (head_of tree.head) &&
+    main_holds mains (head_of tree.head)) tree.head.line
 decl_told table imported mains known _ = []
 
 abbrev pub head_added : Agreements → Option HeadTree → Agreements
@@ -165,7 +180,8 @@ decls_told table imported mains known (decl ∷ decls) =
 abbrev pub name_fits : (before : List Text) → Text → Bool
 name_fits before name = not (among before name) && not (bytes_eq name environment)
 
-abbrev pub section_told : List SectionTable → (number : ℕ) → SectionTable → (mains : Bool) → (before : List Text) → SectionTree → List ℕ
+abbrev pub section_told : List SectionTable → (number : ℕ) → SectionTable → (mains : Bool) → (before : List Text) →
+    SectionTree → List ℕ
 section_told tables number table mains before section =
     unless (name_fits before section.name) 1 ++
     (exports_told table.functions [] section.exports ++
@@ -176,4 +192,5 @@ abbrev pub lines_told : List SectionTable → ℕ → (mains : Bool) → (before
 lines_told tables k mains before [] = []
 lines_told tables k mains before (section ∷ rest) =
     map (line_of_text section.line) (section_told tables k (table_of section) mains before section) ++
-    lines_told tables (suc k) (mains || among (table_of section).functions main_name) (numbered before section.name) rest
+    lines_told tables (suc k) (mains || among (table_of section).functions main_name)
+    (numbered before section.name) rest

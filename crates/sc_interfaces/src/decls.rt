@@ -24,7 +24,8 @@ pub(crate) fn decls_told(
     decls: &[Decl],
     lines: &mut BrokenLines,
 ) -> Result<(), OutOfMemory>
-    ensures { OnOk result (lines.new ≡ with_lines lines.old (decls_told table.now imported.now mains no_heads decls.now)) }
+    ensures { OnOk result (lines.new ≡ with_lines lines.old
+        (decls_told table.now imported.now mains no_heads decls.now)) }
 {
     let mut known = Agreements::new(alloc);
     for decl in decls {
@@ -43,7 +44,8 @@ fn decl_told(
     decl: &Decl,
     lines: &mut BrokenLines,
 ) -> Result<(), OutOfMemory>
-    ensures told { OnOk result (lines.new ≡ with_lines lines.old (decl_told table.now imported.now mains known.old decl.now)) }
+    ensures told { OnOk result (lines.new ≡ with_lines lines.old
+        (decl_told table.now imported.now mains known.old decl.now)) }
     ensures added { OnOk result (known.new ≡ head_added known.old (head_in decl.now)) }
 {
     match decl {
@@ -61,7 +63,9 @@ fn proto_told(
     head: &HeadTree,
     lines: &mut BrokenLines,
 ) -> Result<(), OutOfMemory>
-    ensures told { OnOk result (lines.new ≡ with_lines lines.old (unless (head_fits_by table.now imported.now known.old head.now && allowed imported.now.heads head.now) head.now.line)) }
+    ensures told { OnOk result (lines.new ≡ with_lines lines.old
+        (unless (head_fits_by table.now imported.now known.old head.now &&
+        allowed imported.now.heads head.now) head.now.line)) }
     ensures added { OnOk result (known.new ≡ head_added known.old (head_in (Proto head.now))) }
 {
     let holds = head_fits(table, imported, known, head) && imported.heads.allows(head);
@@ -78,7 +82,8 @@ fn function_told(
     tree: &FunctionTree,
     lines: &mut BrokenLines,
 ) -> Result<(), OutOfMemory>
-    ensures told { OnOk result (lines.new ≡ with_lines lines.old (decl_told table.now imported.now mains known.old (Function tree.now))) }
+    ensures told { OnOk result (lines.new ≡ with_lines lines.old
+        (decl_told table.now imported.now mains known.old (Function tree.now))) }
     ensures added { OnOk result (known.new ≡ head_added known.old (head_in (Function tree.now))) }
 {
     let head = prototype(alloc, &tree.head)?;

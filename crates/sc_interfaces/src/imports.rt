@@ -29,7 +29,8 @@ pub(crate) fn imports_told(
     imports: &[ImportLine],
     lines: &mut BrokenLines,
 ) -> Result<(), OutOfMemory>
-    ensures { OnOk result (lines.new ≡ with_lines lines.old (imports_told tables.now importer table.now.functions table.now.protos [] imports.now)) }
+    ensures { OnOk result (lines.new ≡ with_lines lines.old
+        (imports_told tables.now importer table.now.functions table.now.protos [] imports.now)) }
 {
     let mut before = NameTable::new(alloc);
     for line in imports {

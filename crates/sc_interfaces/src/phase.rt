@@ -62,7 +62,8 @@ fn next_least(
     section: &SectionTree,
     least: Option<u32>,
 ) -> Result<Option<u32>, OutOfMemory>
-    ensures { IfOk result (λ later. later ≡ noted_all least (map (line_of_text section.now.line) (section_told tables.now number table.now mains before.now section.now))) }
+    ensures { IfOk result (λ later. later ≡ noted_all least
+        (map (line_of_text section.now.line) (section_told tables.now number table.now mains before.now section.now))) }
 {
     let mut lines = BrokenLines {
         start: section.line,
@@ -85,7 +86,8 @@ fn section_told(
     section: &SectionTree,
     lines: &mut BrokenLines,
 ) -> Result<(), OutOfMemory>
-    ensures { OnOk result (lines.new ≡ with_lines lines.old (section_told tables.now number table.now mains before.now section.now)) }
+    ensures { OnOk result (lines.new ≡ with_lines lines.old
+        (section_told tables.now number table.now mains before.now section.now)) }
 {
     lines.unless(name_fits(before, &section.name), 1);
     exports_told(alloc, &table.functions, section.exports.as_slice(), lines)?;

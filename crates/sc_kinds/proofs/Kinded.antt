@@ -6,12 +6,15 @@ use Rattle.sc_kinds.proofs.Results.{returned_good, crosses_itself, asks_alone}
 pub values_have_kinds : ValuesHaveKinds
 values_have_kinds = record {
   value = λ arith structs here params scope e fits blocks. value_kind arith structs here params scope e fits blocks;
-  place = λ arith structs here params scope e fits names blocks. (sound arith structs here params scope e).place fits names blocks;
+  place = λ arith structs here params scope e fits names blocks.
+      (sound arith structs here params scope e).place fits names blocks;
 }
 
 pub results_have_kinds : ResultsHaveKinds
 results_have_kinds = record {
-  returned = λ arith program typed n number here f h s t v is. returned_good arith program typed n number here f h s t v is;
-  crosses = λ arith program typed n index number here proto h entry s t v is. crosses_itself arith program typed n index number here proto h entry s t v is;
+  returned = λ arith program typed n number here f h s t v is.
+      returned_good arith program typed n number here f h s t v is;
+  crosses = λ arith program typed n index number here proto h entry s t v is.
+      crosses_itself arith program typed n index number here proto h entry s t v is;
   allowed = λ arith program typed n number here f h s. asks_alone arith program typed n number here f h s;
 }

@@ -1,4 +1,5 @@
--- Two pieces of a run that are the same, and what is reached is good: what the words of the meaning make of such pieces.
+-- Two pieces of a run that are the same, and what is reached is good: what the words of the meaning make of such
+-- pieces.
 use Rattle.std.proofs.Common.{◌≡◌, ℕ, zero, suc, List, [], ◌∷◌, Option, Result, Ok, Err, refl, ap, ◌∙◌}
 use Rattle.std.specs.Prelude.{Bool, true, false, if◌then◌else◌}
 use Rattle.sc_core.specs.declared.cause.Cause.{Cause}
@@ -26,7 +27,8 @@ pub itself : {V : Type 0} (o : Piece V) → Same Any o o
 itself (Reached v s) = record { same = refl; good = tt }
 itself (Stopped end s) = record { same = refl; good = tt }
 
-pub then_same : {V W : Type 0} (G : V → Type 0) (H : W → Type 0) (o p : Piece V) (k l : V → State → Piece W) → Same G o p → ((v : V) → G v → (s : State) → Same H (k v s) (l v s)) → Same H (and_then o k) (and_then p l)
+pub then_same : {V W : Type 0} (G : V → Type 0) (H : W → Type 0) (o p : Piece V) (k l : V → State → Piece W) →
+    Same G o p → ((v : V) → G v → (s : State) → Same H (k v s) (l v s)) → Same H (and_then o k) (and_then p l)
 then_same G H (Reached v s) p k l h x =
     let rest = x v h.good s in record { same = ap (λ q. and_then q l) h.same ∙ rest.same; good = rest.good }
 then_same G H (Stopped end s) p k l h x = record { same = ap (λ q. and_then q l) h.same; good = tt }
@@ -36,11 +38,13 @@ weaken G H (Reached v s) p f h = record { same = h.same; good = f v h.good }
 weaken G H (Stopped end s) p f h = record { same = h.same; good = tt }
 
 -- what is computed is there
-pub computed_same : {V : Type 0} (here : Here) (line : ℕ) (r : Result V Cause) (s : State) → Same (λ v. r ≡ Ok v) (computed here line r s) (computed here line r s)
+pub computed_same : {V : Type 0} (here : Here) (line : ℕ) (r : Result V Cause) (s : State) →
+    Same (λ v. r ≡ Ok v) (computed here line r s) (computed here line r s)
 computed_same here line (Ok v) s = record { same = refl; good = refl }
 computed_same here line (Err cause) s = record { same = refl; good = tt }
 
-pub choose_same : {V : Type 0} (G : V → Type 0) (v : Value) (o p o' p' : Piece V) → Same G o p → Same G o' p' → Same G (choose v o o') (choose v p p')
+pub choose_same : {V : Type 0} (G : V → Type 0) (v : Value) (o p o' p' : Piece V) → Same G o p → Same G o' p' →
+    Same G (choose v o o') (choose v p p')
 choose_same G v o p o' p' h k = by (is_true v) where
   by : (b : Bool) → Same G (if b then o else o') (if b then p else p')
   by true = h
@@ -87,9 +91,12 @@ module _ (result : Option Ty) where
   take_same On f g ok h = h
   take_same (Out exit) f g ok h = leave_same exit ok
 
-  pub follow_same : (route : Exit → Route) → RoutesOk route → (o p : Piece (Left (Unit {0}))) (f g : Acts) → Same ExitOk o p → DoSame f g → Same ExitOk (follow route o f) (follow route p g)
+  pub follow_same : (route : Exit → Route) → RoutesOk route → (o p : Piece (Left (Unit {0}))) (f g : Acts) →
+      Same ExitOk o p → DoSame f g → Same ExitOk (follow route o f) (follow route p g)
   follow_same route ok o p f g h x =
-      then_same ExitOk ExitOk o p (λ left s. take (route left.exit) f left.carried s) (λ left s. take (route left.exit) g left.carried s) h (λ left good s. take_same (route left.exit) f g (ok left.exit good) x left.carried s)
+      then_same ExitOk ExitOk o p (λ left s. take (route left.exit) f left.carried s)
+      (λ left s. take (route left.exit) g left.carried s) h
+      (λ left good s. take_same (route left.exit) f g (ok left.exit good) x left.carried s)
 
   abbrev pub EachSame : List Acts → List Acts → Type 0
   EachSame [] [] = Unit {0}
@@ -108,10 +115,19 @@ module _ (result : Option Ty) where
     rounds_same : (n : ℕ) → DoSame (rounds n f f2 f3) (rounds n g g2 g3)
     rounds_same zero a s = record { same = refl; good = tt }
     rounds_same (suc n) a s =
-        follow_same in_loop in_loop_ok (f a s) (g a s) (λ a s. and_then (turn s) (λ _ s. follow in_loop (f2 a s) (λ a s. follow in_loop (f3 a s) (rounds n f f2 f3)))) (λ a s. and_then (turn s) (λ _ s. follow in_loop (g2 a s) (λ a s. follow in_loop (g3 a s) (rounds n g g2 g3)))) (head a s) (λ a s.
-        then_same Any ExitOk (turn s) (turn s) (λ _ s. follow in_loop (f2 a s) (λ a s. follow in_loop (f3 a s) (rounds n f f2 f3))) (λ _ s. follow in_loop (g2 a s) (λ a s. follow in_loop (g3 a s) (rounds n g g2 g3))) (itself (turn s)) (λ u any s.
-        follow_same in_loop in_loop_ok (f2 a s) (g2 a s) (λ a s. follow in_loop (f3 a s) (rounds n f f2 f3)) (λ a s. follow in_loop (g3 a s) (rounds n g g2 g3)) (body a s) (λ a s.
-        follow_same in_loop in_loop_ok (f3 a s) (g3 a s) (rounds n f f2 f3) (rounds n g g2 g3) (next a s) (rounds_same n))))
+        follow_same in_loop in_loop_ok (f a s) (g a s)
+        (λ a s. and_then (turn s) (λ _ s. follow in_loop (f2 a s)
+        (λ a s. follow in_loop (f3 a s) (rounds n f f2 f3))))
+        (λ a s. and_then (turn s) (λ _ s. follow in_loop (g2 a s)
+        (λ a s. follow in_loop (g3 a s) (rounds n g g2 g3)))) (head a s) (λ a s.
+        then_same Any ExitOk (turn s) (turn s) (λ _ s.
+        follow in_loop (f2 a s) (λ a s. follow in_loop (f3 a s) (rounds n f f2 f3)))
+        (λ _ s. follow in_loop (g2 a s) (λ a s. follow in_loop (g3 a s) (rounds n g g2 g3))) (itself (turn s))
+        (λ u any s.
+        follow_same in_loop in_loop_ok (f2 a s) (g2 a s) (λ a s. follow in_loop (f3 a s) (rounds n f f2 f3))
+        (λ a s. follow in_loop (g3 a s) (rounds n g g2 g3)) (body a s) (λ a s.
+        follow_same in_loop in_loop_ok (f3 a s) (g3 a s) (rounds n f f2 f3) (rounds n g g2 g3) (next a s)
+        (rounds_same n))))
 
     pub loop_same : DoSame (loop f f2 f3) (loop g g2 g3)
     loop_same a s = rounds_same (suc s.turns) a s

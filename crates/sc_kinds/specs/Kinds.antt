@@ -68,17 +68,21 @@ pub record ResultsHaveKinds : Type 0 where
   -- a function returns a value of its result's kind
   pub returned : (arith : Arith) (program : ProgramTree) → IsWellTyped program →
       (open_calls number : ℕ) (here : Here) (f : TypedFunction) → function_at program here.comp number ≡ Some f →
-      (s t : State) (v : Option Value) → within (run_step (library_of arith program)) open_calls number here s ≡ Reached v t →
+      (s t : State) (v : Option Value) → within (run_step (library_of arith program)) open_calls number here s ≡
+      Reached v t →
       returns_kind f.result v ≡ true
   -- what an export returns is what crosses: a word where its prototype has a result, and else nothing
   pub crosses : (arith : Arith) (program : ProgramTree) → IsWellTyped program →
-      (open_calls index number : ℕ) (here : Here) (proto : Proto) → export_at program.interfaces here.comp index ≡ Some proto →
+      (open_calls index number : ℕ) (here : Here) (proto : Proto) →
+      export_at program.interfaces here.comp index ≡ Some proto →
       entry_in program here.comp (Export index) ≡ Some number →
-      (s t : State) (v : Option Value) → within (run_step (library_of arith program)) open_calls number here s ≡ Reached v t →
+      (s t : State) (v : Option Value) → within (run_step (library_of arith program)) open_calls number here s ≡
+      Reached v t →
       option_value (crossing (Some proto) v) ≡ v
   -- a function makes only calls that may be made: it does the same where nobody asks whether they may
   pub allowed : (arith : Arith) (program : ProgramTree) → IsWellTyped program →
-      (open_calls number : ℕ) (here : Here) (f : Function) → function (library_of arith program) here.comp number ≡ Some f →
+      (open_calls number : ℕ) (here : Here) (f : Function) →
+      function (library_of arith program) here.comp number ≡ Some f →
       (s : State) →
       f.does (called (library_of arith program) (within (run_step (library_of arith program)) open_calls)) here s
       ≡ f.does (calls (library_of arith program) (within (run_step (library_of arith program)) open_calls)) here s

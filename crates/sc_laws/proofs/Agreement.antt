@@ -21,7 +21,7 @@ use Rattle.sc_core.specs.Calls.{Function, Library, Body, Step, function, leads, 
 use Rattle.sc_core.specs.Scripts.{Roles, rows_left, is_number, asks, acts, performs, scripted_step}
 use Rattle.sc_core.specs.Run.{reaches, stopped_at}
 use Rattle.sc_core.specs.Meaning.{run_to, first_state, run_by}
-use Rattle.sc_laws.specs.Agreement.{Meets, without_line, piece_without_line, PiecesAgree, CallsAgree, BodiesAgree, FunctionsAgree, LibrariesAgree, ShownAgree, RunsAgree, AgreeingRunAlike}
+use Rattle.sc_laws.specs.Agreement.{Meets, without_line, piece_without_line, PiecesAgree, CallsAgree, BodiesAgree, FunctionsAgree, LibrariesAgree, BehavioursAgree, RunsAgree, AgreeingRunAlike}
 
 pub itself : {V : Type 0} (o : Piece V) → PiecesAgree o o
 itself o = record { same = refl }
@@ -216,15 +216,16 @@ same_reach events run other EventsOut (Blamed c x l) is h = ap (λ t. nat_le eve
 same_reach events run other EventsOut TurnsOut is h = ap (λ t. nat_le events (length t)) is
 same_reach events run other EventsOut EventsOut is h = ap (λ t. nat_le events (length t)) is
 
-if_shown : (b c : Bool) (run other run' other' : SourceRun) → b ≡ c → ShownAgree run other → ShownAgree run' other' →
-    ShownAgree (if b then run else run') (if c then other else other')
+if_shown : (b c : Bool) (run other run' other' : SourceRun) → b ≡ c → BehavioursAgree run other →
+    BehavioursAgree run' other' →
+    BehavioursAgree (if b then run else run') (if c then other else other')
 if_shown true true run other run' other' is h k = h
 if_shown true false run other run' other' is h k = absurd (cc)
 if_shown false true run other run' other' is h k = absurd (cc)
 if_shown false false run other run' other' is h k = k
 
-pub stopped_agree : (events : ℕ) (run other : SourceRun) → ShownAgree run other →
-    ShownAgree (stopped_at events run) (stopped_at events other)
+pub stopped_agree : (events : ℕ) (run other : SourceRun) → BehavioursAgree run other →
+    BehavioursAgree (stopped_at events run) (stopped_at events other)
 stopped_agree events run other h =
     if_shown (reaches events run run.end) (reaches events other other.end) (record {
       trace = take events run.trace;
@@ -243,12 +244,12 @@ twice EventsOut = refl
 
 -- what a run shows, without the line, is told by its piece without the line
 trace_of : (main : ℕ) (o : Piece (Option Value)) →
-    (run_to main (piece_without_line o)).shown.trace ≡ (run_to main o).shown.trace
+    (run_to main (piece_without_line o)).behaviour.trace ≡ (run_to main o).behaviour.trace
 trace_of main (Reached v s) = refl
 trace_of main (Stopped end s) = refl
 
 end_of : (main : ℕ) (o : Piece (Option Value)) →
-    without_line (run_to main (piece_without_line o)).shown.end ≡ without_line (run_to main o).shown.end
+    without_line (run_to main (piece_without_line o)).behaviour.end ≡ without_line (run_to main o).behaviour.end
 end_of main (Reached v s) = refl
 end_of main (Stopped end s) = twice end
 
@@ -257,15 +258,16 @@ frames_of main (Reached v s) = refl
 frames_of main (Stopped end s) = refl
 
 whole_agree : (main : ℕ) (o p : Piece (Option Value)) → PiecesAgree o p →
-    ShownAgree (run_to main o).shown (run_to main p).shown
+    BehavioursAgree (run_to main o).behaviour (run_to main p).behaviour
 whole_agree main o p h = record {
-  trace = sym (trace_of main o) ∙ ap (λ x. (run_to main x).shown.trace) h.same ∙ trace_of main p;
-  end = sym (end_of main o) ∙ ap (λ x. without_line (run_to main x).shown.end) h.same ∙ end_of main p;
+  trace = sym (trace_of main o) ∙ ap (λ x. (run_to main x).behaviour.trace) h.same ∙ trace_of main p;
+  end = sym (end_of main o) ∙ ap (λ x. without_line (run_to main x).behaviour.end) h.same ∙ end_of main p;
 }
 
 pub run_agree : (main : ℕ) (o p : Piece (Option Value)) → PiecesAgree o p → RunsAgree (run_to main o) (run_to main p)
 run_agree main o p h = record {
-  shown = λ events. stopped_agree events (run_to main o).shown (run_to main p).shown (whole_agree main o p h);
+  behaviour = λ events. stopped_agree events (run_to main o).behaviour (run_to main p).behaviour
+      (whole_agree main o p h);
   whole = whole_agree main o p h;
   frames = sym (frames_of main o) ∙ ap (λ x. (run_to main x).frames) h.same ∙ frames_of main p;
 }

@@ -149,12 +149,12 @@ module _ (set : Set) where
         (within_spares n) number here s
 
     run_to_spares : (main : ℕ) (piece : Piece (Option Value)) → Kept sparing piece →
-        Spares (run_to main piece).shown.end
+        Spares (run_to main piece).behaviour.end
     run_to_spares main (Reached v s) h = tt
     run_to_spares main (Stopped end s) h = h.after
 
     run_by_spares : (globals : Memory) (inputs : List ℕ) (turns : ℕ) →
-        Spares (run_by library (scripted_step library roles (run_step library)) globals inputs turns).shown.end
+        Spares (run_by library (scripted_step library roles (run_step library)) globals inputs turns).behaviour.end
     run_by_spares globals inputs turns =
         run_to_spares library.interfaces.main _ (found_kept sparing (library.entered library.interfaces.main Main)
         (first_state globals inputs turns) _ tt (λ number is.
@@ -170,8 +170,9 @@ module _ (set : Set) where
 
 pub nobody_is_blamed : (library : Library) → Obedient library →
     (globals : Memory) (inputs : List ℕ) (turns events : ℕ) (roles : Roles) →
-    (comp : ℕ) (cause : Cause) (line : ℕ) → (stopped_at events (roles_run library globals inputs turns roles).shown).end
+    (comp : ℕ) (cause : Cause) (line : ℕ) → (stopped_at events
+    (roles_run library globals inputs turns roles).behaviour).end
     ≡ Blamed comp cause line → roles.scripted comp ≡ false
 nobody_is_blamed library obedient globals inputs turns events roles comp cause line ends =
     subst (Spares roles.scripted) ends (stopped_spares roles.scripted events (roles_run library globals inputs turns
-    roles).shown (run_by_spares roles.scripted library obedient roles.rows globals inputs turns))
+    roles).behaviour (run_by_spares roles.scripted library obedient roles.rows globals inputs turns))

@@ -42,13 +42,14 @@ with_has : (set : Set) (comp : ℕ) → with comp set comp ≡ true
 with_has set comp = ap (λ b. b || set comp) (eq-eqb comp comp refl)
 
 module _ (L : Library) (obedient : Obedient L) (globals : Memory) (inputs : List ℕ) (turns : ℕ) (t : List Event) where
-  abbrev shown : Set → SourceRun
-  shown set = performed_by L globals inputs turns t set
+  abbrev behaviour : Set → SourceRun
+  behaviour set = performed_by L globals inputs turns t set
 
-  blamed_early : (set : Set) (comp : ℕ) (cause : Cause) (line : ℕ) → (shown set).end ≡ Blamed comp cause line →
-      length (shown set).trace < length t
+  blamed_early : (set : Set) (comp : ℕ) (cause : Cause) (line : ℕ) → (behaviour set).end ≡ Blamed comp cause line →
+      length (behaviour set).trace < length t
   blamed_early set comp cause line ends =
-      early (length t) (roles_run L globals inputs turns (roles_in L.interfaces.main set t)).shown comp cause line ends
+      early (length t) (roles_run L globals inputs turns
+      (roles_in L.interfaces.main set t)).behaviour comp cause line ends
 
   -- where the next run is blamed it has told more
   told_more : (run other : SourceRun) (comp : ℕ) (cause : Cause) (line : ℕ) → other.end ≡ Blamed comp cause line →
@@ -64,20 +65,21 @@ module _ (L : Library) (obedient : Obedient L) (globals : Memory) (inputs : List
       )
 
   rises : (set : Set) (least : ℕ) (links : List Link) →
-      ((comp : ℕ) (cause : Cause) (line : ℕ) → (shown set).end ≡ Blamed comp cause line →
-      least ≤ length (shown set).trace)
+      ((comp : ℕ) (cause : Cause) (line : ℕ) → (behaviour set).end ≡ Blamed comp cause line →
+      least ≤ length (behaviour set).trace)
       → IsChain (performed_by L globals inputs turns t) t set links → IsRising least (length t) links
   rises set least [] h chain = tt
   rises set least (link ∷ links) h chain =
       let here = chain.0 in
-      let low : least ≤ length (shown set).trace = h link.comp link.cause link.line here.blamed in
-      let high : length (shown set).trace < length t = blamed_early set link.comp link.cause link.line here.blamed in
-      let same : length (shown set).trace ≡ link.after = here.after in (
+      let low : least ≤ length (behaviour set).trace = h link.comp link.cause link.line here.blamed in
+      let high : length (behaviour set).trace < length t =
+      blamed_early set link.comp link.cause link.line here.blamed in
+      let same : length (behaviour set).trace ≡ link.after = here.after in (
         omega (arith, low, same),
         omega (arith, high, same),
         rises (with link.comp set) (suc link.after) links (λ comp cause line ends.
-            let more : length (shown set).trace < length (shown (with link.comp set)).trace =
-            told_more (shown set) (shown (with link.comp set)) comp cause line ends
+            let more : length (behaviour set).trace < length (behaviour (with link.comp set)).trace =
+            told_more (behaviour set) (behaviour (with link.comp set)) comp cause line ends
             (passes_blames L obedient globals inputs turns t set (with link.comp set) (within_with set link.comp)
             link.comp link.cause link.line here.blamed here.front (with_has set link.comp)) in
             omega (arith, more, same)) chain.1,
@@ -92,7 +94,7 @@ module _ (L : Library) (obedient : Obedient L) (globals : Memory) (inputs : List
     are_fresh (with link.comp set) links chain.1,
   )
 
-  pub chain_rises : ChainRises t shown
+  pub chain_rises : ChainRises t behaviour
   chain_rises links chain =
       (rises nobody 0 links (λ comp cause line ends. omega arith) chain, are_fresh nobody links chain)
 

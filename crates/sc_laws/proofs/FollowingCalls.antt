@@ -106,9 +106,9 @@ module _ (L : Library) (main : ℕ) (t : List Event) (S S' : ℕ → Bool) (larg
       -- of a compartment that performs in neither run, in both, and in the second alone
       pub plain : (number : ℕ) (here : Here) (st : Standing) (s s' : State) → S' here.comp ≡ false → N st s s' →
           F st (a number here s) (second number here s')
-      pub given : (number comp first first' : ℕ) (st : Standing) (s s' : State) → S comp ≡ true → N st s s' →
+      pub enters : (number comp first first' : ℕ) (st : Standing) (s s' : State) → S comp ≡ true → N st s s' →
           F st (a number (at comp first) s) (second number (at comp first') s')
-      pub held : (number comp first k first' : ℕ) (st : Standing) (left : Piece (Option Value)) (s : State) →
+      pub resumes : (number comp first k first' : ℕ) (st : Standing) (left : Piece (Option Value)) (s : State) →
           S comp ≡ false → S' comp ≡ true → L.entered comp st.active.entry ≡ Some k → Held st k comp first' left s →
           P st k comp first' left (a number (at comp first) s)
 
@@ -441,7 +441,7 @@ module _ (L : Library) (main : ℕ) (t : List Event) (S S' : ℕ → Bool) (larg
             (enters second from to index number args f s')
         callee true b' set set' near along =
             let inner : F (inside st to index) (a number (at to first) x) (second number (at to first') x') =
-            bodies.given number to first first' (inside st to index) x x' set near in
+            bodies.enters number to first first' (inside st to index) x x' set near in
             both_return st from to index f first first' (a number (at to first) x) (second number (at to first') x')
             (λ clear. absurd (both_ways (S' to) clear (larger to set))) along
             (inner.follows (inner_in_line along)) where
@@ -454,7 +454,7 @@ module _ (L : Library) (main : ℕ) (t : List Event) (S S' : ℕ → Bool) (larg
         callee false true clear set' near along =
             let inner : P (inside st to index) number to first' (second number (at to first') x')
             (a number (at to first) x) =
-            bodies.held number to first number first' (inside st to index) (second number (at to first') x') x clear
+            bodies.resumes number to first number first' (inside st to index) (second number (at to first') x') x clear
             set' is_number (record { other = x'; near = near; is = refl }) in
             held_return st from to index f first first' number (a number (at to first) x)
             (second number (at to first') x') set' is_number (second_goes number (at to first')) along
@@ -756,7 +756,7 @@ module _ (L : Library) (main : ℕ) (t : List Event) (S S' : ℕ → Bool) (larg
           (λ v. second number (at comp theirs)) n (asks_go L a bodies.goes comp (Cross to index) args s)
           (asks_go L second second_goes comp (Cross to index) args s') (λ v. bodies.goes number (at comp mine))
           (λ v. second_goes number (at comp theirs)) (asked comp (Cross to index) args st s s' n
-          (turned_follows comp to index args st s s' n)) (λ v u u' up up' near. bodies.given number comp mine theirs st
+          (turned_follows comp to index args st s s' n)) (λ v u u' up up' near. bodies.enters number comp mine theirs st
           u u' set near)
       acts_follow (act.Ret v) next next' number comp mine theirs goes goes' set st h s s' n =
           (follow_kept main t S' st).reached (Option Value) (option_value v) s s' n
@@ -1040,7 +1040,8 @@ module _ (L : Library) (main : ℕ) (t : List Event) (S S' : ℕ → Bool) (larg
             λ v u. reached v u (done comp f first u) (done_goes comp f first u) in
             (perform_kept main t S' st left rest rest_goes).after (Option Value) (Option Value) start start o o ret ret
             (record { same = refl; stands = h_start }) (bodies.goes number (at comp first) start)
-            (bodies.goes number (at comp first) start) ret_goes ret_goes (bodies.held number comp first k theirs st left
+            (bodies.goes number (at comp first) start) ret_goes ret_goes
+            (bodies.resumes number comp first k theirs st left
             start clear set is_k h_start) (λ v u u' up up' one. record {
               performs = λ along. performing.here v
                   (done comp f first u) refl (h_done u one.stands);
@@ -1167,9 +1168,9 @@ module _ (L : Library) (main : ℕ) (t : List Event) (S S' : ℕ → Bool) (larg
             (function_twins (Abreast main t S' st) (Keeping main t S' st) (λ h. S' h.comp ≡ false) L L (follow_twins st)
             here.comp number) here clear s s' n))
 
-        step_given : (number comp mine theirs : ℕ) (st : Standing) (s s' : State) → S comp ≡ true → N st s s' →
+        step_enters : (number comp mine theirs : ℕ) (st : Standing) (s s' : State) → S comp ≡ true → N st s s' →
             F st (first_step a number (at comp mine) s) (second number (at comp theirs) s')
-        step_given number comp mine theirs st s s' set n =
+        step_enters number comp mine theirs st s s' set n =
             let rows : List Row = rows_left (roles_in main S t) comp s.trace in
             let same_rows : rows_left (roles_in main S' t) comp s'.trace ≡ rows =
             ap (λ u. drop (count_of comp u) (part main comp t)) n.trace in
@@ -1186,10 +1187,10 @@ module _ (L : Library) (main : ℕ) (t : List Event) (S S' : ℕ → Bool) (larg
             subst (λ u. MovesOrReturns main t S' u left) h.near.trace (subst (MovesOrReturns main t S' h.other.trace)
             (sym h.is) (second_passes k comp theirs h.other set))
 
-        step_held : (number comp mine k theirs : ℕ) (st : Standing) (left : Piece (Option Value)) (s : State) →
+        step_resumes : (number comp mine k theirs : ℕ) (st : Standing) (left : Piece (Option Value)) (s : State) →
             S comp ≡ false → S' comp ≡ true → L.entered comp st.active.entry ≡ Some k → Held st k comp theirs left s →
             P st k comp theirs left (first_step a number (at comp mine) s)
-        step_held number comp mine k theirs st left s clear set is_k h =
+        step_resumes number comp mine k theirs st left s clear set is_k h =
             subst (P st k comp theirs left) (sym (runs_here a S number (at comp mine) s clear))
             (by_function_held (function L comp number) (function L comp number)
             (function_twins (OneSided main t S' st left (Onward k comp theirs) (second_goes k (at comp theirs)))
@@ -1217,8 +1218,8 @@ module _ (L : Library) (main : ℕ) (t : List Event) (S S' : ℕ → Bool) (larg
               goes = scripted_goes L (roles_in main S t) (run_step L) (λ body goes. run_step_goes L body goes
                   library_goes) a bodies.goes;
               plain = step_plain;
-              given = step_given;
-              held = step_held;
+              enters = step_enters;
+              resumes = step_resumes;
             }
 
     -- where no call may be open the first run stops
@@ -1235,7 +1236,7 @@ module _ (L : Library) (main : ℕ) (t : List Event) (S S' : ℕ → Bool) (larg
                       passed = tt;
                     });
               };
-          given = λ number comp mine theirs st s s' set n. record {
+          enters = λ number comp mine theirs st s s' set n. record {
             follows =
                 λ along. follows.stop TurnsOut s refl (record {
                   front = on (second number (at comp theirs) s') s s' n.trace
@@ -1244,7 +1245,7 @@ module _ (L : Library) (main : ℕ) (t : List Event) (S S' : ℕ → Bool) (larg
                   passed = tt;
                 });
           };
-          held =
+          resumes =
               λ number comp mine k theirs st left s clear set is_k h. record {
                 performs = λ along. performing.stop TurnsOut s
                     refl (record {

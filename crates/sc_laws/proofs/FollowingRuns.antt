@@ -36,9 +36,9 @@ use Rattle.sc_laws.proofs.Following.{KeepsUp as follows, Performs as performing,
 use Rattle.sc_laws.proofs.FollowingCalls.{at, first_step, second_step, N, Bodies, Telling, performs_next, all_bodies}
 
 -- what is shown of a piece goes on from where it is
-shown_front : (main : ℕ) (o : Piece (Option Value)) → Front (last o).trace (run_to main o).shown.trace
-shown_front main (Reached v s) = record { more = event.End main (exit_word v) ∷ []; is = refl }
-shown_front main (Stopped end s) = front_same s.trace
+behaviour_front : (main : ℕ) (o : Piece (Option Value)) → Front (last o).trace (run_to main o).behaviour.trace
+behaviour_front main (Reached v s) = record { more = event.End main (exit_word v) ∷ []; is = refl }
+behaviour_front main (Stopped end s) = front_same s.trace
 
 module _ (t : List Event) (S' : Set) where
   -- the second run tells the whole trace; or it ends as the first; or it goes on where that stopped, by whether the
@@ -54,28 +54,29 @@ module _ (t : List Event) (S' : Set) where
   module _ (main : ℕ) where
     stays_blamed : (end : RunEnd) (u : State) (p : Piece (Option Value)) → Agreed main t S' (Option Value) end u p →
         (comp : ℕ) (cause : Cause) (line : ℕ) → end ≡ Blamed comp cause line → S' comp ≡ false →
-        (run_to main p).shown ≡ record { trace = u.trace; end = end }
+        (run_to main p).behaviour ≡ record { trace = u.trace; end = end }
     stays_blamed end u p by comp cause line is clear =
         let blame : Agreed main t S' (Option Value) (Blamed comp cause line) u p =
         subst (λ e. Agreed main t S' (Option Value) e u p) is by in
         let x = blame clear in
-        ap (λ y. (run_to main y).shown) x.1 ∙ (λ i. record { trace = x.2 i; end = sym is i })
+        ap (λ y. (run_to main y).behaviour) x.1 ∙ (λ i. record { trace = x.2 i; end = sym is i })
 
     passes_on : (x : SourceRun) (u : List Event) (p : Piece (Option Value)) → x.trace ≡ u →
-        MovesOn main t S' (Option Value) u p → PassesBlame x (run_to main p).shown
+        MovesOn main t S' (Option Value) u p → PassesBlame x (run_to main p).behaviour
     passes_on x u p same (passed.no_turn s' is told) =
-        turnless (ap (λ y. (run_to main y).shown) is ∙ ap (λ z. record { trace = z; end = TurnsOut }) (told ∙ sym same))
+        turnless (ap (λ y. (run_to main y).behaviour) is ∙
+        ap (λ z. record { trace = z; end = TurnsOut }) (told ∙ sym same))
     passes_on x u p same (passed.longer e front) =
-        longer e (subst (λ z. Front (z ++ e ∷ []) (run_to main p).shown.trace) (sym same)
-        (front_more (u ++ e ∷ []) (last p).trace (run_to main p).shown.trace front (shown_front main p)))
+        longer e (subst (λ z. Front (z ++ e ∷ []) (run_to main p).behaviour.trace) (sym same)
+        (front_more (u ++ e ∷ []) (last p).trace (run_to main p).behaviour.trace front (behaviour_front main p)))
 
     passes_in : (x : SourceRun) (u : List Event) (p : Piece (Option Value)) → x.trace ≡ u →
-        MovesOrReturns main t S' u p → PassesBlame x (run_to main p).shown
+        MovesOrReturns main t S' u p → PassesBlame x (run_to main p).behaviour
     passes_in x u p same (passing.passes h) = passes_on x u p same h
     passes_in x u p same (passing.hands_back v s' is told) =
         longer (event.End main (exit_word v)) (record {
           more = [];
-          is = ap (λ y. (run_to main y).shown.trace) is
+          is = ap (λ y. (run_to main y).behaviour.trace) is
               ∙ ap (λ z. z ++ event.End main (exit_word v) ∷ []) (told ∙ sym same)
               ∙ sym (append-nil (x.trace ++ event.End main (exit_word v) ∷ []));
         })
@@ -84,23 +85,26 @@ module _ (t : List Event) (S' : Set) where
     stops_by : (end : RunEnd) (u : State) (o p : Piece (Option Value)) → o ≡ Stopped end u → StopsSo o →
         Front u.trace (last p).trace → Agreed main t S' (Option Value) end u p →
         ((x : SourceRun) → x.trace ≡ u.trace → (comp : ℕ) (cause : Cause) (line : ℕ) → end ≡ Blamed comp cause line →
-        S' comp ≡ true → PassesBlame x (run_to main p).shown) → RunsFollow (run_to main o).shown (run_to main p).shown
+        S' comp ≡ true → PassesBlame x (run_to main p).behaviour) →
+        RunsFollow (run_to main o).behaviour (run_to main p).behaviour
     stops_by end u o p is stop front agreed passed =
-        let shown : (run_to main o).shown ≡ record { trace = u.trace; end = end } =
-        ap (λ y. (run_to main y).shown) is in
-        goes_by end (ap (λ y. (run_to main y).shown.end) is) (subst StopsSo is stop)
-        (subst (λ r. Front r.trace (run_to main p).shown.trace) (sym shown) (front_more u.trace (last p).trace
-        (run_to main p).shown.trace front (shown_front main p))) (λ comp cause line blame clear. stays_blamed end u p
-        agreed comp cause line blame clear ∙ sym shown) (passed (run_to main o).shown (ap (λ r. r.trace) shown))
+        let behaviour : (run_to main o).behaviour ≡ record { trace = u.trace; end = end } =
+        ap (λ y. (run_to main y).behaviour) is in
+        goes_by end (ap (λ y. (run_to main y).behaviour.end) is) (subst StopsSo is stop)
+        (subst (λ r. Front r.trace (run_to main p).behaviour.trace) (sym behaviour) (front_more u.trace (last p).trace
+        (run_to main p).behaviour.trace front (behaviour_front main p)))
+        (λ comp cause line blame clear. stays_blamed end u p
+        agreed comp cause line blame clear ∙ sym behaviour)
+        (passed (run_to main o).behaviour (ap (λ r. r.trace) behaviour))
 
     stops_so : (end : RunEnd) (u : State) (o p : Piece (Option Value)) → o ≡ Stopped end u → StopsSo o →
-        Beyond main t S' (Option Value) end u p → RunsFollow (run_to main o).shown (run_to main p).shown
+        Beyond main t S' (Option Value) end u p → RunsFollow (run_to main o).behaviour (run_to main p).behaviour
     stops_so end u o p is stop by =
         stops_by end u o p is stop by.front by.agreed (λ x same comp cause line blame set. passes_on x u.trace p same
         (subst (λ e. IfBlamed main t S' e (MovesOn main t S' (Option Value) u.trace p)) blame by.passed set))
 
     stops_in : (end : RunEnd) (u : State) (o p : Piece (Option Value)) → o ≡ Stopped end u → StopsSo o →
-        BeyondIn main t S' end u p → RunsFollow (run_to main o).shown (run_to main p).shown
+        BeyondIn main t S' end u p → RunsFollow (run_to main o).behaviour (run_to main p).behaviour
     stops_in end u o p is stop by =
         stops_by end u o p is stop by.front by.agreed (λ x same comp cause line blame set. passes_in x u.trace p same
         (subst (λ e. IfBlamed main t S' e (MovesOrReturns main t S' u.trace p)) blame by.passed set))
@@ -111,15 +115,15 @@ module _ (t : List Event) (S' : Set) where
         (let clash : Ended ≡ Blamed comp cause line = sym ended ∙ blame in absurd (cc))
 
     both_end : (st : Standing) (o p : Piece (Option Value)) → StopsSo o → KeepsUp main t S' st (Option Value) o p →
-        RunsFollow (run_to main o).shown (run_to main p).shown
+        RunsFollow (run_to main o).behaviour (run_to main p).behaviour
     both_end st o p stop (follows.done a b) =
-        tells_all (front_more t (last o).trace (run_to main o).shown.trace a (shown_front main o))
-        (front_more t (last p).trace (run_to main p).shown.trace b (shown_front main p))
+        tells_all (front_more t (last o).trace (run_to main o).behaviour.trace a (behaviour_front main o))
+        (front_more t (last p).trace (run_to main p).behaviour.trace b (behaviour_front main p))
     both_end st o p stop (follows.both v u u' is is' near) =
-        ends_so (ended_whole (run_to main o).shown (ap (λ y. (run_to main y).shown.end) is))
-        (ap (λ y. (run_to main y).shown) is'
+        ends_so (ended_whole (run_to main o).behaviour (ap (λ y. (run_to main y).behaviour.end) is))
+        (ap (λ y. (run_to main y).behaviour) is'
         ∙ ap (λ z. record { trace = z ++ event.End main (exit_word v) ∷ []; end = Ended }) near.trace
-        ∙ sym (ap (λ y. (run_to main y).shown) is))
+        ∙ sym (ap (λ y. (run_to main y).behaviour) is))
     both_end st o p stop (follows.stop end u is by) = stops_so end u o p is stop by
 
 module _ (L : Library) (obedient : Obedient L) (t : List Event) (S S' : Set) (larger : IsWithin S S') where
@@ -183,28 +187,29 @@ module _ (L : Library) (obedient : Obedient L) (t : List Event) (S S' : Set) (la
       ends v u = Reached v (done main f first u)
 
       -- the blocks of `main` end, and nothing is told
-      ended_shows : (o : Piece (Option Value)) → (run_to main (and_then o ends)).shown ≡ (run_to main o).shown
+      ended_shows : (o : Piece (Option Value)) → (run_to main (and_then o ends)).behaviour ≡ (run_to main o).behaviour
       ended_shows (Reached v s) = refl
       ended_shows (Stopped end s) = refl
 
-      held_end : Performs main t S' st p (λ u. now step' number (at main first) u) (later_goes number (at main first))
-          (Option Value) o → StopsSo o → S' main ≡ true → InLine t (run_to main o).shown.trace →
-          RunsFollow t S' (run_to main o).shown (run_to main p).shown
-      held_end (performing.done a b) stop set along =
-          tells_all (front_more t (last o).trace (run_to main o).shown.trace a (shown_front main o))
-          (front_more t (last p).trace (run_to main p).shown.trace b (shown_front main p))
-      held_end (performing.here v u is stands) stop set along =
-          subst (λ r. RunsFollow t S' r (run_to main p).shown) (sym (ap (λ y. (run_to main y).shown) is))
+      resumes_end : Performs main t S' st p (λ u. now step' number (at main first) u)
+          (later_goes number (at main first))
+          (Option Value) o → StopsSo o → S' main ≡ true → InLine t (run_to main o).behaviour.trace →
+          RunsFollow t S' (run_to main o).behaviour (run_to main p).behaviour
+      resumes_end (performing.done a b) stop set along =
+          tells_all (front_more t (last o).trace (run_to main o).behaviour.trace a (behaviour_front main o))
+          (front_more t (last p).trace (run_to main p).behaviour.trace b (behaviour_front main p))
+      resumes_end (performing.here v u is stands) stop set along =
+          subst (λ r. RunsFollow t S' r (run_to main p).behaviour) (sym (ap (λ y. (run_to main y).behaviour) is))
           (by_next (next_told_is t u.trace (event.End main (exit_word v)) stands.near.front
-          (subst (λ y. InLine t (run_to main y).shown.trace) is along))) where
+          (subst (λ y. InLine t (run_to main y).behaviour.trace) is along))) where
             by_next : NextIs t u.trace (event.End main (exit_word v)) →
-                RunsFollow t S' (run_to main (Reached v u)).shown (run_to main p).shown
+                RunsFollow t S' (run_to main (Reached v u)).behaviour (run_to main p).behaviour
             by_next (over all) =
                 tells_all (whole main t S' u.trace (u.trace ++ event.End main (exit_word v) ∷ []) all
                 (record { more = event.End main (exit_word v) ∷ []; is = refl }))
-                (whole main t S' u.trace (run_to main p).shown.trace all (front_more u.trace (last p).trace
-                (run_to main p).shown.trace (left_goes main t S' st p (λ u. now step' number (at main first) u)
-                (later_goes number (at main first)) u stands) (shown_front main p)))
+                (whole main t S' u.trace (run_to main p).behaviour.trace all (front_more u.trace (last p).trace
+                (run_to main p).behaviour.trace (left_goes main t S' st p (λ u. now step' number (at main first) u)
+                (later_goes number (at main first)) u stands) (behaviour_front main p)))
             by_next (next_told more all) =
                 let u' : State = stands.other in
                 let now_told : Telling L main t S S' larger step_fixed later_goes number main first
@@ -213,64 +218,66 @@ module _ (L : Library) (obedient : Obedient L) (t : List Event) (S S' : Set) (la
                 (event.End main (exit_word v)) more set is_number refl (all
                 ∙ ap (λ x. x ++ event.End main (exit_word v) ∷ more) (sym stands.near.trace))
                 (ap (stands_behind (at_start main)) stands.near.trace ∙ stands.near.stands) in
-                ends_so (λ comp cause line blame. absurd (cc)) (ap (λ y. (run_to main y).shown) (stands.is
+                ends_so (λ comp cause line blame. absurd (cc)) (ap (λ y. (run_to main y).behaviour) (stands.is
                 ∙ now_told.is) ∙ ap (λ z. record { trace = z ++ event.End main (exit_word v) ∷ []; end = Ended })
                 stands.near.trace)
-      held_end (performing.stop end u is by) stop set along = stops_in t S' main end u o p is stop by
+      resumes_end (performing.stop end u is by) stop set along = stops_in t S' main end u o p is stop by
 
       -- by whether `main` performs in both runs, in the second, or in neither
-      main_follows : (b b' : Bool) → S main ≡ b → S' main ≡ b' → InLine t (run_to main o).shown.trace →
-          RunsFollow t S' (run_to main o).shown (run_to main p).shown
+      main_follows : (b b' : Bool) → S main ≡ b → S' main ≡ b' → InLine t (run_to main o).behaviour.trace →
+          RunsFollow t S' (run_to main o).behaviour (run_to main p).behaviour
       main_follows true b' set set' along =
           both_end t S' main st o p ((bodies (suc turns)).goes number (at main first) start).stop
-          (((bodies (suc turns)).given number main first first st start start set (begins_near f)).follows
-          (in_line_before t (last o).trace (run_to main o).shown.trace (shown_front main o) along))
+          (((bodies (suc turns)).enters number main first first st start start set (begins_near f)).follows
+          (in_line_before t (last o).trace (run_to main o).behaviour.trace (behaviour_front main o) along))
       main_follows false true clear set' along =
-          held_end (((bodies (suc turns)).held number main first number first st p start clear set' is_number
+          resumes_end (((bodies (suc turns)).resumes number main first number first st p start clear set' is_number
           (record { other = start; near = begins_near f; is = refl })).performs (in_line_before t (last o).trace
-          (run_to main o).shown.trace (shown_front main o) along)) ((bodies (suc turns)).goes number (at main first)
+          (run_to main o).behaviour.trace (behaviour_front main o) along))
+          ((bodies (suc turns)).goes number (at main first)
           start).stop set' along
       main_follows false false clear clear' along =
           both_end t S' main st o p ((bodies (suc turns)).goes number (at main first) start).stop
           (((bodies (suc turns)).plain number (at main first) st start start clear' (begins_near f)).follows
-          (in_line_before t (last o).trace (run_to main o).shown.trace (shown_front main o) along))
+          (in_line_before t (last o).trace (run_to main o).behaviour.trace (behaviour_front main o) along))
 
-      main_runs : InLine t (run_to main (and_then o ends)).shown.trace →
-          RunsFollow t S' (run_to main (and_then o ends)).shown (run_to main (and_then p ends)).shown
+      main_runs : InLine t (run_to main (and_then o ends)).behaviour.trace →
+          RunsFollow t S' (run_to main (and_then o ends)).behaviour (run_to main (and_then p ends)).behaviour
       main_runs along =
-          subst (λ r. RunsFollow t S' r (run_to main (and_then p ends)).shown) (sym (ended_shows o))
-          (subst (RunsFollow t S' (run_to main o).shown) (sym (ended_shows p))
+          subst (λ r. RunsFollow t S' r (run_to main (and_then p ends)).behaviour) (sym (ended_shows o))
+          (subst (RunsFollow t S' (run_to main o).behaviour) (sym (ended_shows p))
           (main_follows (S main) (S' main) refl refl (subst (λ r. InLine t r.trace) (ended_shows o) along)))
 
     function_runs : (number : ℕ) → L.entered main Main ≡ Some number → (f : Option Function) →
         InLine t (run_to main
         (and_then (found f beginning)
         (λ f s. and_then (within step (suc turns) number (at main (length (s.memory main))) (begun main f [] s))
-        (λ v u. Reached v (done main f (length (s.memory main)) u))))).shown.trace
+        (λ v u. Reached v (done main f (length (s.memory main)) u))))).behaviour.trace
         → RunsFollow t S'
         (run_to main
         (and_then (found f beginning)
         (λ f s. and_then (within step (suc turns) number (at main (length (s.memory main))) (begun main f [] s))
-        (λ v u. Reached v (done main f (length (s.memory main)) u))))).shown
+        (λ v u. Reached v (done main f (length (s.memory main)) u))))).behaviour
         (run_to main
         (and_then (found f beginning)
         (λ f s. and_then (within step' (suc turns) number (at main (length (s.memory main))) (begun main f [] s))
-        (λ v u. Reached v (done main f (length (s.memory main)) u))))).shown
+        (λ v u. Reached v (done main f (length (s.memory main)) u))))).behaviour
     function_runs number is None along = ends_so (λ comp cause line blame. absurd (cc)) refl
     function_runs number is (Some f) along = main_runs number is f along
 
     number_runs : (number : Option ℕ) → L.entered main Main ≡ number →
         InLine t (run_to main (and_then (found number beginning) (λ number s. call_own L (within step (suc turns)) main
-        number [] s))).shown.trace
+        number [] s))).behaviour.trace
         → RunsFollow t S'
         (run_to main (and_then (found number beginning) (λ number s. call_own L (within step (suc turns)) main number []
-        s))).shown (run_to main (and_then (found number beginning) (λ number s. call_own L (within step' (suc turns))
-        main number [] s))).shown
+        s))).behaviour (run_to main (and_then (found number beginning)
+        (λ number s. call_own L (within step' (suc turns))
+        main number [] s))).behaviour
     number_runs None is along = ends_so (λ comp cause line blame. absurd (cc)) refl
     number_runs (Some number) is along = function_runs number is (function L main number) along
 
-    run_follows : InLine t (run_by L step globals inputs turns).shown.trace →
-        RunsFollow t S' (run_by L step globals inputs turns).shown (run_by L step' globals inputs turns).shown
+    run_follows : InLine t (run_by L step globals inputs turns).behaviour.trace →
+        RunsFollow t S' (run_by L step globals inputs turns).behaviour (run_by L step' globals inputs turns).behaviour
     run_follows along = number_runs (L.entered main Main) refl along
 
 -- LISTS
@@ -373,30 +380,30 @@ with_link set small comp larger has c is = by_test (c == comp) refl is where
   by_test false same is = larger c is
 
 module _ (L : Library) (obedient : Obedient L) (globals : Memory) (inputs : List ℕ) (turns : ℕ) (t : List Event) where
-  abbrev shown : Set → SourceRun
-  shown = performed_by L globals inputs turns t
+  abbrev behaviour : Set → SourceRun
+  behaviour = performed_by L globals inputs turns t
 
   -- the same, not stopped yet
   abbrev whole_run : Set → SourceRun
-  whole_run set = (roles_run L globals inputs turns (roles_in L.interfaces.main set t)).shown
+  whole_run set = (roles_run L globals inputs turns (roles_in L.interfaces.main set t)).behaviour
 
-  pub tells_with_more : TellsWithMore t shown
+  pub tells_with_more : TellsWithMore t behaviour
   tells_with_more small large larger tells =
       tells_too t _ _ large (run_follows L obedient t small large larger globals inputs turns) tells
 
-  pub keeps_blames : KeepsBlames t shown
+  pub keeps_blames : KeepsBlames t behaviour
   keeps_blames small large larger comp cause line ends front clear =
       stays_so t (whole_run small) (whole_run large) large (run_follows L obedient t small large larger globals inputs
       turns) comp cause line clear _ refl ends front
 
-  pub passes_blames : PassesBlames t shown
+  pub passes_blames : PassesBlames t behaviour
   passes_blames small large larger comp cause line ends front set =
       passes_so t (whole_run small) (whole_run large) large (run_follows L obedient t small large larger globals inputs
       turns) comp cause line set _ refl ends front
 
   module _ (set : Set) where
-    is_needed : (links : List Link) (small : Set) → IsWithin small set → IsChain shown t small links →
-        (shown set).trace ≡ t → Includes set links
+    is_needed : (links : List Link) (small : Set) → IsWithin small set → IsChain behaviour t small links →
+        (behaviour set).trace ≡ t → Includes set links
     is_needed [] small larger chain tells = tt
     is_needed (link ∷ links) small larger chain tells =
         by_test (set link.comp) refl (λ has. is_needed links (with link.comp small)
@@ -405,18 +412,18 @@ module _ (L : Library) (obedient : Obedient L) (globals : Memory) (inputs : List
               (set link.comp ≡ true) × Includes set links
           by_test true has rest = (has, rest has)
           by_test false clear rest =
-              let equal : shown set ≡ shown small =
+              let equal : behaviour set ≡ behaviour small =
               keeps_blames small set larger link.comp link.cause link.line chain.0.blamed chain.0.front clear in
-              absurd (blamed_below t (whole_run small) (shown small) link.comp link.cause link.line _ refl
+              absurd (blamed_below t (whole_run small) (behaviour small) link.comp link.cause link.line _ refl
               chain.0.blamed
               (ap (λ r. r.trace) (sym equal) ∙ tells))
 
-    is_enough : (links : List Link) (small : Set) → IsWithin small set → IsChain shown t small links →
-        Includes set links → (shown set).trace ≡ t
+    is_enough : (links : List Link) (small : Set) → IsWithin small set → IsChain behaviour t small links →
+        Includes set links → (behaviour set).trace ≡ t
     is_enough [] small larger chain all = tells_with_more small set larger chain
     is_enough (link ∷ links) small larger chain all =
         is_enough links (with link.comp small) (with_link set small link.comp larger all.0) chain.1 all.1
 
-  pub least_is_chain : LeastIsChain t shown
+  pub least_is_chain : LeastIsChain t behaviour
   least_is_chain links set chain =
       (is_needed set links nobody (λ c is. absurd (cc)) chain, is_enough set links nobody (λ c is. absurd (cc)) chain)

@@ -307,7 +307,7 @@ module _ (interfaces : Interfaces) where
     begins = record { active = record { comp = interfaces.main; entry = Main }; waiting = [] }
 
     piece_legal : (piece : Piece (Option Value)) → Kept (standing begins) piece →
-        legal interfaces (run_to interfaces.main piece).shown.trace ≡ true
+        legal interfaces (run_to interfaces.main piece).behaviour.trace ≡ true
     piece_legal (Reached v s) h =
         legal_more (at_start interfaces.main) s.trace begins (End interfaces.main (exit_word v)) h.after.stands
         h.after.is_legal (and_from (interfaces.main == interfaces.main) true (eq-eqb interfaces.main interfaces.main
@@ -315,11 +315,11 @@ module _ (interfaces : Interfaces) where
     piece_legal (Stopped end s) h = h.after.0
 
     run_legal : (step : Step) → StepGoes step → StepLegal step → (globals : Memory) (inputs : List ℕ) (turns : ℕ) →
-        legal interfaces (run_by library step globals inputs turns).shown.trace ≡ true
+        legal interfaces (run_by library step globals inputs turns).behaviour.trace ≡ true
     run_legal step step_goes legal_step globals inputs turns =
         subst (λ c. legal interfaces
         (run_to c.main (and_then (found (library.entered c.main Main) (first_state globals inputs turns))
-        (λ number s. call_own library (within step (suc turns)) c.main number [] s))).shown.trace ≡ true) (sym same)
+        (λ number s. call_own library (within step (suc turns)) c.main number [] s))).behaviour.trace ≡ true) (sym same)
         (piece_legal (and_then (found (library.entered interfaces.main Main) (first_state globals inputs turns))
         (λ number s. call_own library (within step (suc turns)) interfaces.main number [] s))
         (found_kept (standing begins) (library.entered interfaces.main Main) (first_state globals inputs turns)
@@ -334,14 +334,15 @@ stopped_legal interfaces n t end h = ap (legal interfaces) (trace_is n (record {
     ∙ legal_take interfaces n (at_start interfaces.main) t h
 
 module _ (library : Library) (obedient : Obedient library) (globals : Memory) (inputs : List ℕ) (turns events : ℕ) where
-  pub runs_legal : legal library.interfaces (stopped_at events (library_run library globals inputs turns).shown).trace
+  pub runs_legal : legal library.interfaces (stopped_at events
+      (library_run library globals inputs turns).behaviour).trace
       ≡ true
   runs_legal =
       stopped_legal library.interfaces events _ _ (run_legal library.interfaces library refl obedient (run_step library)
       (run_goes_on library obedient) (run_step_legal library.interfaces library refl obedient) globals inputs turns)
 
   pub scripts_legal : (roles : Roles) →
-      legal library.interfaces (stopped_at events (roles_run library globals inputs turns roles).shown).trace ≡ true
+      legal library.interfaces (stopped_at events (roles_run library globals inputs turns roles).behaviour).trace ≡ true
   scripts_legal roles =
       stopped_legal library.interfaces events _ _ (run_legal library.interfaces library refl obedient
       (scripted_step library roles (run_step library)) (scripted_goes_on library obedient roles)

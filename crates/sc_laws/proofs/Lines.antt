@@ -34,7 +34,7 @@ use Rattle.sc_core.specs.Types.{cells_of, variables}
 use Rattle.sc_core.specs.Value.{Arith, is_true}
 use Rattle.sc_core.specs.Words.{State, Here, Piece, computed, turn, Left, Exit, Next, Break, Continue, Return, Route, On, Out, Does, leave, stored, take, follow, in_order, in_loop, all_do, rounds, loop, choose, Calls}
 use Rattle.sc_core.specs.Calls.{functions_of, run_step}
-use Rattle.sc_core.specs.Tree.{Ways, Acts, at_place, variable_at, values, given, store_at, assign, test, store_result, call, assign_call, call_alone, ways, simple_does, part_does, kind_step, stmt_step, stmt_does, block_does}
+use Rattle.sc_core.specs.Tree.{Ways, Acts, at_place, variable_at, values, evaluated, store_at, assign, test, store_result, call, assign_call, call_alone, ways, simple_does, part_does, kind_step, stmt_step, stmt_does, block_does}
 use Rattle.sc_core.specs.Meaning.{main_name, at_brace, closed, init_does, inits_do, body_does, function_of, functions_in, place_named, place_of_export, entry_in, library_of, first_blocks, globals_of, run_by, run_of}
 use Rattle.sc_core.proofs.Layers.{on_line, layer_of, stmt_at}
 use Rattle.sc_core.proofs.Induction.{Each, everywhere, Inside, stmt_induction}
@@ -163,7 +163,7 @@ module _ (here : Here) where
       then_agree _ _ _ _ (computed_agree here line other (store (s.memory here.comp) q v) s) (λ blocks s. itself _)
 
   given_agree : (w : Want) (e : Ways) (line other : ℕ) (s : State) →
-      PiecesAgree (given here w e line s) (given here w e other s)
+      PiecesAgree (evaluated here w e line s) (evaluated here w e other s)
   given_agree w e line other s = computed_agree here line other (e w (s.memory here.comp)) s
 
   store_at_agree : (place : Ways) (v : Value) (line other : ℕ) →

@@ -33,13 +33,14 @@ use Rattle.sc_laws.proofs.Rooms.{deepest_more}
 -- MORE TURNS AND EVENTS
 module _ (d : ℕ) (one other : Run) (events more_events : ℕ) (le : events ≤ more_events) where
   abbrev shorter : SourceRun
-  shorter = one.shown
+  shorter = one.behaviour
 
   abbrev longer : SourceRun
-  longer = other.shown
+  longer = other.behaviour
 
   front_events : RunsBelow d Never (Unit {0}) one other → Front shorter.trace longer.trace
-  front_events (goes.same_run is) = subst (λ z. Front shorter.trace z.shown.trace) (sym is) (front_same shorter.trace)
+  front_events (goes.same_run is) = subst (λ z. Front shorter.trace z.behaviour.trace) (sym is)
+      (front_same shorter.trace)
   front_events (goes.goes_past end is stop passes front ended frames) = front
 
   final_at : (b : Bool) → reaches events shorter shorter.end ≡ b →
@@ -51,7 +52,7 @@ module _ (d : ℕ) (one other : Run) (events more_events : ℕ) (le : events ≤
       } else shorter)
   final_at true is final below = absurd final
   final_at false is final (goes.same_run equal) =
-      ap (λ z. stopped_at more_events z.shown) equal
+      ap (λ z. stopped_at more_events z.behaviour) equal
       ∙ ap (λ b. if b then record { trace = take more_events shorter.trace; end = EventsOut } else shorter)
       (still_unreached events more_events shorter shorter.end le is)
   final_at false is final (goes.goes_past end ends stop passes front ended frames) =
@@ -74,22 +75,23 @@ module _ (d : ℕ) (one other : Run) (events more_events : ℕ) (le : events ≤
 
 module _ (library : Library) (obedient : Obedient library) (globals : Memory) (inputs : List ℕ) where
   more_of : (step : Step) → StepGoes step → ((d : ℕ) → StepsBelow d Never (Unit {0}) (inr tt) step step) →
-      ExtendedByMore (λ turns events. stopped_at events (run_by library step globals inputs turns).shown)
+      ExtendedByMore (λ turns events. stopped_at events (run_by library step globals inputs turns).behaviour)
   more_of step goes steps turns more_turns events more_events le_turns le_events =
       let d : ℕ = more_turns - turns in
       let sum : turns + d ≡ more_turns = omega (arith, le_turns) in
-      subst (λ n. Extends (stopped_at events (run_by library step globals inputs turns).shown)
-      (stopped_at more_events (run_by library step globals inputs n).shown)) sum
+      subst (λ n. Extends (stopped_at events (run_by library step globals inputs turns).behaviour)
+      (stopped_at more_events (run_by library step globals inputs n).behaviour)) sum
       (extends d _ _ events more_events le_events (runs_below d Never (Unit {0}) (inr tt) library library obedient step
       step goes goes (steps d) globals inputs turns))
 
-  pub more_runs : ExtendedByMore (λ turns events. stopped_at events (library_run library globals inputs turns).shown)
+  pub more_runs : ExtendedByMore (λ turns events. stopped_at events
+      (library_run library globals inputs turns).behaviour)
   more_runs =
       more_of (run_step library) (run_goes_on library obedient) (λ d. run_steps d Never (Unit {0}) (inr tt) library
       library obedient)
 
   pub more_scripted : (roles : Roles) →
-      ExtendedByMore (λ turns events. stopped_at events (roles_run library globals inputs turns roles).shown)
+      ExtendedByMore (λ turns events. stopped_at events (roles_run library globals inputs turns roles).behaviour)
   more_scripted roles =
       more_of (scripted_step library roles (run_step library)) (scripted_goes_on library obedient roles)
       (λ d. scripted_steps d Never (Unit {0}) (inr tt) library library obedient roles)
@@ -102,10 +104,10 @@ wrapping_keeps =
 -- two runs with as many turns, of which the first may be blamed for arithmetic
 module _ (one other : Run) (events : ℕ) where
   abbrev x : SourceRun
-  x = one.shown
+  x = one.behaviour
 
   abbrev y : SourceRun
-  y = other.shown
+  y = other.behaviour
 
   reached_too : (end : RunEnd) → Front x.trace y.trace → (end ≡ Ended → length x.trace < length y.trace) →
       events ≤ length x.trace → reaches events y end ≡ true
@@ -141,7 +143,7 @@ module _ (one other : Run) (events : ℕ) where
       (take_fronts events events x.trace y.trace (omega arith) front)))
 
   agrees : RunsBelow 0 IsArithmetic ⊥ one other → AgreesUntilBlame (stopped_at events x) (stopped_at events y)
-  agrees (goes.same_run is) = same (ap (λ z. stopped_at events z.shown) is)
+  agrees (goes.same_run is) = same (ap (λ z. stopped_at events z.behaviour) is)
   agrees (goes.goes_past Ended ends stop passes front ended frames) = absurd passes
   agrees (goes.goes_past (Blamed comp cause line) ends stop passes front ended frames) =
       blamed_at comp cause line ends passes front ended (reaches events x x.end) refl
@@ -167,7 +169,7 @@ module _ (one other : Run) where
   pub in_room : RunsBelow 0 IsArithmetic ⊥ one other → AgreesInRoom one other
   in_room below = record {
     whole = whole_agrees below;
-    shown = λ events. agrees one other events below;
+    behaviour = λ events. agrees one other events below;
     depth = no_deeper (whole_agrees below);
   }
 

@@ -89,8 +89,9 @@ module _ (d : ℕ) (Soft : Cause → Type 0) (Turns : Type 0) where
   -- events
   pub data RunsBelow (x y : Run) : Type 0 where
     same_run : y ≡ x → RunsBelow x y
-    goes_past : (end : RunEnd) → x.shown.end ≡ end → IsStop end → Passes d Soft Turns end →
-        Front x.shown.trace y.shown.trace → (y.shown.end ≡ Ended → length x.shown.trace < length y.shown.trace) →
+    goes_past : (end : RunEnd) → x.behaviour.end ≡ end → IsStop end → Passes d Soft Turns end →
+        Front x.behaviour.trace y.behaviour.trace → (y.behaviour.end ≡ Ended →
+        length x.behaviour.trace < length y.behaviour.trace) →
         Front x.frames y.frames → RunsBelow x y
 
   run_to_same : (main : ℕ) (o : Piece (Option Value)) → run_to main (richer_piece d o) ≡ run_to main o
@@ -98,8 +99,8 @@ module _ (d : ℕ) (Soft : Cause → Type 0) (Turns : Type 0) where
   run_to_same main (Stopped end s) = refl
 
   past : (main : ℕ) (trace : List Event) (p : Piece (Option Value)) → StopsSo p → Front trace (last p).trace →
-      Front trace (run_to main p).shown.trace × ((run_to main p).shown.end ≡ Ended →
-      length trace < length (run_to main p).shown.trace)
+      Front trace (run_to main p).behaviour.trace × ((run_to main p).behaviour.end ≡ Ended →
+      length trace < length (run_to main p).behaviour.trace)
   past main trace (Reached v s) stop front =
       let long : length trace ≤ length s.trace = front_long trace s.trace front in
       let one : length (s.trace ++ End main (exit_word v) ∷ []) ≡ length s.trace + 1 =
@@ -122,11 +123,11 @@ module _ (d : ℕ) (Soft : Cause → Type 0) (Turns : Type 0) where
       Below d Soft Turns (Option Value) o p → RunsBelow (run_to main o) (run_to main p)
   run_to_below main o p stop stop' (along is) = same_run (ap (run_to main) is ∙ run_to_same main o)
   run_to_below main o p stop stop' (passed end s is passes on) =
-      let ends : (run_to main o).shown.trace ≡ s.trace = ap (λ x. (run_to main x).shown.trace) is in
+      let ends : (run_to main o).behaviour.trace ≡ s.trace = ap (λ x. (run_to main x).behaviour.trace) is in
       let more =
-      past main (run_to main o).shown.trace p stop' (subst (λ x. Front x (last p).trace) (sym ends) on.events) in
+      past main (run_to main o).behaviour.trace p stop' (subst (λ x. Front x (last p).trace) (sym ends) on.events) in
       let frames : (run_to main o).frames ≡ s.frames = ap (λ x. (run_to main x).frames) is in
-      goes_past end (ap (λ x. (run_to main x).shown.end) is) (subst StopsSo is stop) passes more.0 more.1
+      goes_past end (ap (λ x. (run_to main x).behaviour.end) is) (subst StopsSo is stop) passes more.0 more.1
       (subst (λ x. Front x (run_to main p).frames) (sym frames) (subst (Front s.frames) (sym (frames_are main p))
       on.frames))
 

@@ -23,7 +23,7 @@ use Rattle.sc_core.specs.declared.value.Want.TheVariants as want
 use Rattle.sc_core.specs.Memory.{Blocks}
 use Rattle.sc_core.specs.Value.{Arith}
 use Rattle.sc_core.specs.Words.{Here, Exit, Next, Break, Continue, Return, leave, stored, in_order, all_do, loop, choose, Calls}
-use Rattle.sc_core.specs.Tree.{Ways, Acts, variable_at, at_place, values, given, store_at, assign, test, store_result, call, assign_call, call_alone, ways, simple_does, part_does, kind_step, stmt_step, stmt_does, block_does}
+use Rattle.sc_core.specs.Tree.{Ways, Acts, variable_at, at_place, values, evaluated, store_at, assign, test, store_result, call, assign_call, call_alone, ways, simple_does, part_does, kind_step, stmt_step, stmt_does, block_does}
 use Rattle.sc_core.specs.Meaning.{at_brace, closed, init_does, inits_do, body_does}
 use Rattle.sc_core.proofs.Layers.{on_line, layer_of, stmt_at}
 use Rattle.sc_laws.specs.Interactions.{Doing, Match}
@@ -43,7 +43,7 @@ module _ (Soft : Cause → Type 0) (here : Here) where
   leave_matches exit = match_leave Soft here exit
 
   given_matches : (w : Want) (e e' : Ways) → WaysMatch e e' → (line : ℕ) →
-      Match Soft here (λ by. given here w e line) (λ by. given here w e' line)
+      Match Soft here (λ by. evaluated here w e line) (λ by. evaluated here w e' line)
   given_matches w e e' h line = match_computed Soft here line (e w) (e' w) (h w)
 
   store_at_matches : (place place' : Ways) → WaysMatch place place' → (v : Value) (line : ℕ) →

@@ -169,7 +169,8 @@ module _ (library : Library) where
         (first_state globals inputs turns) (omega arith))
 
     stops : (globals : Memory) (inputs : List ℕ) (turns : ℕ) (o : Piece (Option Value)) →
-        main_call library globals inputs turns ≡ o → Kept (fewer (suc turns)) o → (run_to main o).shown.end ≡ TurnsOut →
+        main_call library globals inputs turns ≡ o → Kept (fewer (suc turns)) o →
+        (run_to main o).behaviour.end ≡ TurnsOut →
         StopsSpent library globals inputs turns
     stops globals inputs turns (Reached v s) is h ends = absurd (cc)
     stops globals inputs turns (Stopped Ended s) is h ends = absurd (cc)

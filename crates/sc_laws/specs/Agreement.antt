@@ -59,14 +59,14 @@ pub record LibrariesAgree (L M : Library) : Type 0 where
   pub entered : (comp : ℕ) (entry : Entry) → L.entered comp entry ≡ M.entered comp entry
 
 -- what runs show is the same but for the line of a blame
-pub record ShownAgree (run other : SourceRun) : Type 0 where
+pub record BehavioursAgree (run other : SourceRun) : Type 0 where
   pub trace : run.trace ≡ other.trace
   pub end : without_line run.end ≡ without_line other.end
 
 -- runs that show the same, wherever they are stopped, and whose frames are the same, so that all depths are
 pub record RunsAgree (run other : Run) : Type 0 where
-  pub shown : (events : ℕ) → ShownAgree (stopped_at events run.shown) (stopped_at events other.shown)
-  pub whole : ShownAgree run.shown other.shown
+  pub behaviour : (events : ℕ) → BehavioursAgree (stopped_at events run.behaviour) (stopped_at events other.behaviour)
+  pub whole : BehavioursAgree run.behaviour other.behaviour
   pub frames : run.frames ≡ other.frames
 
 -- libraries that agree function by function show the same in the same room: in their meaning, and whoever performs

@@ -74,14 +74,14 @@ pub record EmptySetIsMeaning : Type 0 where
 -- more turns and more events extend a run in which some compartments perform a script
 pub record MoreGoesOn : Type 0 where
   pub libraries : (library : Library) → Obedient library → (globals : Memory) (inputs : List ℕ) (roles : Roles) →
-      ExtendedByMore (λ turns events. stopped_at events (roles_run library globals inputs turns roles).shown)
+      ExtendedByMore (λ turns events. stopped_at events (roles_run library globals inputs turns roles).behaviour)
   pub programs : (arith : Arith) (program : ProgramTree) (set : Set) (trace : List Event) (inputs : List ℕ) →
       ExtendedByMore (scripted_by arith program set trace inputs)
 
 -- and so the meaning goes on
 pub record MeaningGoesOn : Type 0 where
   pub libraries : (library : Library) → Obedient library → (globals : Memory) (inputs : List ℕ) →
-      ExtendedByMore (λ turns events. stopped_at events (library_run library globals inputs turns).shown)
+      ExtendedByMore (λ turns events. stopped_at events (library_run library globals inputs turns).behaviour)
   pub programs : (arith : Arith) (program : ProgramTree) (inputs : List ℕ) →
       ExtendedByMore (meaning_by arith program inputs)
 
@@ -106,10 +106,10 @@ pub record WrappedAgrees : Type 0 where
 -- what a run shows is allowed by the interfaces, also where compartments perform, whatever their scripts are
 pub record TracesAreLegal : Type 0 where
   pub libraries : (library : Library) → Obedient library → (globals : Memory) (inputs : List ℕ) (turns events : ℕ) →
-      legal library.interfaces (stopped_at events (library_run library globals inputs turns).shown).trace ≡ true
+      legal library.interfaces (stopped_at events (library_run library globals inputs turns).behaviour).trace ≡ true
   pub scripts : (library : Library) → Obedient library →
       (globals : Memory) (inputs : List ℕ) (turns events : ℕ) (roles : Roles) →
-      legal library.interfaces (stopped_at events (roles_run library globals inputs turns roles).shown).trace ≡ true
+      legal library.interfaces (stopped_at events (roles_run library globals inputs turns roles).behaviour).trace ≡ true
   pub meaning : (arith : Arith) (program : ProgramTree) (inputs : List ℕ) (turns events : ℕ) →
       legal program.interfaces (meaning_by arith program inputs turns events).trace ≡ true
   pub scripted : (arith : Arith) (program : ProgramTree) (set : Set) (trace : List Event) (inputs : List ℕ)
@@ -121,7 +121,7 @@ pub record NobodyWhoPerformsIsBlamed : Type 0 where
   pub libraries : (library : Library) → Obedient library →
       (globals : Memory) (inputs : List ℕ) (turns events : ℕ) (roles : Roles) →
       (comp : ℕ) (cause : Cause) (line : ℕ) →
-      (stopped_at events (roles_run library globals inputs turns roles).shown).end ≡ Blamed comp cause line →
+      (stopped_at events (roles_run library globals inputs turns roles).behaviour).end ≡ Blamed comp cause line →
       roles.scripted comp ≡ false
   pub programs : (arith : Arith) (program : ProgramTree) (set : Set) (trace : List Event) (inputs : List ℕ)
       (turns events : ℕ) →
@@ -198,7 +198,7 @@ DeepestIsReached = (events comp : ℕ) (before after : List FrameChange) → All
 
 -- each change of frames is of a moment within the trace
 abbrev pub AreTold : Run → Type 0
-AreTold run = AllBefore (suc (length run.shown.trace)) run.frames
+AreTold run = AllBefore (suc (length run.behaviour.trace)) run.frames
 
 -- a call that returns leaves the room of every compartment as it was
 abbrev pub LeavesRooms : Library → Step → Type 0

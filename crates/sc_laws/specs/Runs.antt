@@ -19,4 +19,4 @@ module _ (library : Library) (globals : Memory) (inputs : List ℕ) (turns : ℕ
 
   -- the run in which a set performs its part of a trace, stopped where it has as many events as the trace
   abbrev pub performed_by : List Event → (ℕ → Bool) → SourceRun
-  performed_by trace set = stopped_at (length trace) (roles_run (roles_in library.interfaces.main set trace)).shown
+  performed_by trace set = stopped_at (length trace) (roles_run (roles_in library.interfaces.main set trace)).behaviour

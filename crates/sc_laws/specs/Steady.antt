@@ -33,11 +33,11 @@ pub data AgreesUntilBlame (run other : SourceRun) : Type 0 where
 -- its events and its frames
 pub data RunsUntilBlame (run other : Run) : Type 0 where
   same_run : other ≡ run → RunsUntilBlame run other
-  blamed_run : (comp : ℕ) (cause : Cause) (line : ℕ) → run.shown.end ≡ Blamed comp cause line → IsArithmetic cause →
-      Front run.shown.trace other.shown.trace → Front run.frames other.frames → RunsUntilBlame run other
+  blamed_run : (comp : ℕ) (cause : Cause) (line : ℕ) → run.behaviour.end ≡ Blamed comp cause line → IsArithmetic cause →
+      Front run.behaviour.trace other.behaviour.trace → Front run.frames other.frames → RunsUntilBlame run other
 
 -- so they agree wherever they are stopped, and no compartment gets deeper in the first
 pub record AgreesInRoom (run other : Run) : Type 0 where
   pub whole : RunsUntilBlame run other
-  pub shown : (events : ℕ) → AgreesUntilBlame (stopped_at events run.shown) (stopped_at events other.shown)
+  pub behaviour : (events : ℕ) → AgreesUntilBlame (stopped_at events run.behaviour) (stopped_at events other.behaviour)
   pub depth : (events comp : ℕ) → depth_in run events comp ≤ depth_in other events comp

@@ -35,7 +35,7 @@ pub record SpendsTurns (library : Library) : Type 0 where
       IsSpent (now (run_step library) number here s)
   pub runs : (globals : Memory) (inputs : List ℕ) (turns : ℕ) →
       leads library library.interfaces.main (library.entered library.interfaces.main Main) ≡ true →
-      (library_run library globals inputs turns).shown.end ≡ TurnsOut → StopsSpent library globals inputs turns
+      (library_run library globals inputs turns).behaviour.end ≡ TurnsOut → StopsSpent library globals inputs turns
 
 pub record TurnsOutMeansTurns : Type 0 where
   pub libraries : (library : Library) → Obedient library → SpendsTurns library

@@ -4,7 +4,8 @@ ghost use Rattle.sc_laws.specs.Laws.{ChainExists, ChainsRise, BlameIsPassed, Bla
 ghost use Rattle.sc_laws.specs.Turns.{TurnsOutMeansTurns};
 ghost use Rattle.sc_laws.specs.Agreement.{AgreeingRunAlike, OtherLinesAgree};
 
-/// What the functions of a program do is a tree: what is given or blamed, what the blocks of the compartment decide, and
+/// What the functions of a program do is a tree: what is given or blamed, what the blocks of the compartment decide,
+/// and
 /// what comes after new blocks, after a turn and after a call. Libraries of such functions have all laws.
 pub fn programs_obey()
     ensures { ProgramsObey }
@@ -22,7 +23,8 @@ pub fn fixed_point()
     ensures { FixedPoint }
 {}
 
-/// More turns and more events extend a run in which some compartments perform a script, and change none that came to its
+/// More turns and more events extend a run in which some compartments perform a script, and change none that came to
+/// its
 /// end or to a blame.
 pub fn more_goes_on()
     ensures { MoreGoesOn }
@@ -84,7 +86,8 @@ pub fn chains_rise()
     ensures { ChainsRise }
 {}
 
-/// Where every set tells the trace or is blamed outside of itself along it, there is a chain, of at most as many links as
+/// Where every set tells the trace or is blamed outside of itself along it, there is a chain, of at most as many links
+/// as
 /// there are compartments.
 pub fn chain_exists()
     ensures { ChainExists }
@@ -105,7 +108,8 @@ pub fn turns_out_means_turns()
     ensures { TurnsOutMeansTurns }
 {}
 
-/// Two libraries whose functions agree, one by one, up to the lines of blames show the same up to that line and take the
+/// Two libraries whose functions agree, one by one, up to the lines of blames show the same up to that line and take
+/// the
 /// same room, whatever their functions carry and whichever compartments perform.
 pub fn agreeing_run_alike()
     ensures { AgreeingRunAlike }

@@ -1,4 +1,5 @@
-//! Laws of the meaning: what holds of every library of functions, whatever they are written in, and so of every program.
+//! Laws of the meaning: what holds of every library of functions, whatever they are written in, and so of every
+//! program.
 #![tactic(auto)]
 
 mod laws;

@@ -15,27 +15,37 @@ and-true false = refl
 not_empty : (word : List ℕ) → 0 < length word → is_empty word ≡ false
 not_empty word h = ne_eqb (length word) 0 (λ none. absurd (omega arith))
 
-export-words : (ws : List (List ℕ)) → (3 < length ws → 0 < length (get_or ws 3 [])) → is_export ws ≡ (bytes_eq (get_or ws 0 []) (codes "#pragma") && bytes_eq (get_or ws 1 []) (codes "export") && is_name (get_or ws 2 []) && is_empty (get_or ws 3 []))
+export-words : (ws : List (List ℕ)) → (3 < length ws → 0 < length (get_or ws 3 [])) →
+    is_export ws ≡ (bytes_eq (get_or ws 0 []) (codes "#pragma") && bytes_eq (get_or ws 1 []) (codes "export") &&
+    is_name (get_or ws 2 []) && is_empty (get_or ws 3 []))
 unfolding is_name
 export-words [] full = refl
 export-words (a ∷ []) full = simp and_false
 export-words (a ∷ b ∷ []) full = simp and_false
 export-words (a ∷ b ∷ c ∷ []) full = simp and-true
-export-words (a ∷ b ∷ c ∷ d ∷ ws) full = let some : is_empty d ≡ false = not_empty d (full (omega arith)) in rw some (sym (and_false _))
+export-words (a ∷ b ∷ c ∷ d ∷ ws) full = let some : is_empty d ≡ false = not_empty d (full (omega arith)) in
+    rw some (sym (and_false _))
 
-import-words : (ws : List (List ℕ)) → (4 < length ws → 0 < length (get_or ws 4 [])) → is_import ws ≡ (bytes_eq (get_or ws 0 []) (codes "#pragma") && bytes_eq (get_or ws 1 []) (codes "import") && is_name (get_or ws 2 []) && is_name (get_or ws 3 []) && is_empty (get_or ws 4 []))
+import-words : (ws : List (List ℕ)) → (4 < length ws → 0 < length (get_or ws 4 [])) →
+    is_import ws ≡ (bytes_eq (get_or ws 0 []) (codes "#pragma") && bytes_eq (get_or ws 1 []) (codes "import") &&
+    is_name (get_or ws 2 []) && is_name (get_or ws 3 []) && is_empty (get_or ws 4 []))
 unfolding is_name
 import-words [] full = refl
 import-words (a ∷ []) full = simp and_false
 import-words (a ∷ b ∷ []) full = simp and_false
 import-words (a ∷ b ∷ c ∷ []) full = simp and_false
 import-words (a ∷ b ∷ c ∷ d ∷ []) full = simp and-true
-import-words (a ∷ b ∷ c ∷ d ∷ e ∷ ws) full = let some : is_empty e ≡ false = not_empty e (full (omega arith)) in rw some (sym (and_false _))
+import-words (a ∷ b ∷ c ∷ d ∷ e ∷ ws) full = let some : is_empty e ≡ false = not_empty e (full (omega arith)) in
+    rw some (sym (and_false _))
 
-pub is_export-at : (line : List ℕ) → is_export (words line) ≡ (bytes_eq (get_or (words line) 0 []) (codes "#pragma") && bytes_eq (get_or (words line) 1 []) (codes "export") && is_name (get_or (words line) 2 []) && is_empty (get_or (words line) 3 []))
+pub is_export-at : (line : List ℕ) → is_export (words line) ≡
+    (bytes_eq (get_or (words line) 0 []) (codes "#pragma") && bytes_eq (get_or (words line) 1 []) (codes "export") &&
+    is_name (get_or (words line) 2 []) && is_empty (get_or (words line) 3 []))
 is_export-at line = export-words (words line) (words_full line 3)
 
-pub is_import-at : (line : List ℕ) → is_import (words line) ≡ (bytes_eq (get_or (words line) 0 []) (codes "#pragma") && bytes_eq (get_or (words line) 1 []) (codes "import") && is_name (get_or (words line) 2 []) && is_name (get_or (words line) 3 []) && is_empty (get_or (words line) 4 []))
+pub is_import-at : (line : List ℕ) → is_import (words line) ≡
+    (bytes_eq (get_or (words line) 0 []) (codes "#pragma") && bytes_eq (get_or (words line) 1 []) (codes "import") &&
+    is_name (get_or (words line) 2 []) && is_name (get_or (words line) 3 []) && is_empty (get_or (words line) 4 []))
 is_import-at line = import-words (words line) (words_full line 4)
 
 pub ruleset directives = (is_export-at, is_import-at)

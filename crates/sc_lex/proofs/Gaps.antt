@@ -34,14 +34,20 @@ one_gap {text} (white_space h) (block_comment at q low ends first) = absurd (whi
 one_gap {text} (white_space h) (line_comment q) = absurd (white_no_slash text h (slash_first text q))
 one_gap {text} (block_comment at h low ends first) (white_space q) = absurd (white_no_slash text q (star_first text h))
 one_gap {text} (block_comment at h low ends first) (block_comment bt q low' ends' first') =
-    let same : at ≡ bt = ⊎_elim (λ less. absurd (first' at low less ends)) (λ more. ⊎_elim (λ less. absurd (first bt low' less ends')) (λ le. omega arith) (cases_lt bt at)) (cases_lt at bt) in
+    let same : at ≡ bt = ⊎_elim (λ less. absurd (first' at low less ends))
+    (λ more. ⊎_elim (λ less. absurd (first bt low' less ends')) (λ le. omega arith) (cases_lt bt at))
+    (cases_lt at bt) in
     ap (λ k. k + 2) same
-one_gap {text} (block_comment at h low ends first) (line_comment q) = absurd (omega (arith, star_second text h, slash_second text q))
+one_gap {text} (block_comment at h low ends first) (line_comment q) =
+    absurd (omega (arith, star_second text h, slash_second text q))
 one_gap {text} (line_comment h) (white_space q) = absurd (white_no_slash text q (slash_first text h))
-one_gap {text} (line_comment h) (block_comment at q low ends first) = absurd (omega (arith, star_second text q, slash_second text h))
+one_gap {text} (line_comment h) (block_comment at q low ends first) =
+    absurd (omega (arith, star_second text q, slash_second text h))
 one_gap (line_comment h) (line_comment q) = refl
 
-pub no_gap : (text : List ℕ) → is_white_space (slice_index text 0) ≡ false → begins_line_comment text ≡ false → (IsTrue (begins_block_comment text) → (at : ℕ) → 2 ≤ at → IsTrue (ends_comment text at) → ⊥) → (len : ℕ) → IsGap text len → ⊥
+pub no_gap : (text : List ℕ) → is_white_space (slice_index text 0) ≡ false → begins_line_comment text ≡ false →
+    (IsTrue (begins_block_comment text) → (at : ℕ) → 2 ≤ at → IsTrue (ends_comment text at) → ⊥) → (len : ℕ) →
+    IsGap text len → ⊥
 no_gap text white line unended len (white_space h) = false≢true (sym white ∙ h)
 no_gap text white line unended len (block_comment at h low ends first) = unended h at low ends
 no_gap text white line unended len (line_comment h) = false≢true (sym line ∙ h)
@@ -61,7 +67,9 @@ gap_fits {text} (white_space h) = (omega arith, some text h)
     some (b ∷ bs) h = omega arith
 gap_fits {text} (block_comment at h low ends first) = (omega arith, ends_within text at ends)
 gap_fits {text} (line_comment h) =
-    let long = (begins_with text (codes "//") h).fits in
-    (run_positive is_inside_line text (omega arith) (ap is_inside_line (slash_first text h)), prefix_len-le-length is_inside_line text)
+    let long = (begins_with text (codes "//") h).fits in (
+      run_positive is_inside_line text (omega arith) (ap is_inside_line (slash_first text h)),
+      prefix_len-le-length is_inside_line text,
+    )
 
 pub ruleset gaps = (no_gap, white_gap, line_gap)

@@ -30,31 +30,45 @@ module _ (base : ℕ) where
   pub read_none : (digits : List ℕ) (greatest : ℕ) → IsRead digits 0 0 greatest
   read_none digits greatest = record { low = omega arith; value_is = refl; all = refl }
 
-  pub read_more : (digits : List ℕ) (i value greatest d : ℕ) → IsRead digits i value greatest → i < length digits → d ≡ digit_value (get_or digits i 0) → d < base → value * base + d ≤ greatest → IsRead digits (i + 1) (value * base + d) greatest
+  pub read_more : (digits : List ℕ) (i value greatest d : ℕ) → IsRead digits i value greatest → i < length digits →
+      d ≡ digit_value (get_or digits i 0) → d < base → value * base + d ≤ greatest →
+      IsRead digits (i + 1) (value * base + d) greatest
   read_more digits i value greatest d h less is digit low =
       let step = fold_more (λ value digit. value * base + digit_value digit) 0 digits i 0 less in
-      let passes : is_digit base (get_or digits i 0) ≡ true = lt-ltb (digit_value (get_or digits i 0)) base (rw is at digit) in
+      let passes : is_digit base (get_or digits i 0) ≡ true =
+      lt-ltb (digit_value (get_or digits i 0)) base (rw is at digit) in
       record {
         low = low;
         value_is = rw (is, h.value_is) (sym step);
-        all = ap (λ ds. list_all (λ digit. is_digit base digit) ds) (take_more digits i 0 less) ∙ list_all-append (λ digit. is_digit base digit) (take i digits) (get_or digits i 0 ∷ []) ∙ rw (h.all, passes);
+        all = ap (λ ds. list_all (λ digit. is_digit base digit) ds) (take_more digits i 0 less) ∙
+            list_all-append (λ digit. is_digit base digit) (take i digits) (get_or digits i 0 ∷ []) ∙
+            rw (h.all, passes);
       }
 
-  pub no_digit : (digits : List ℕ) (i greatest d : ℕ) → i < length digits → d ≡ digit_value (get_or digits i 0) → base ≤ d → is_number base greatest digits ≡ false
+  pub no_digit : (digits : List ℕ) (i greatest d : ℕ) → i < length digits → d ≡ digit_value (get_or digits i 0) →
+      base ≤ d → is_number base greatest digits ≡ false
   unfolding is_number
   no_digit digits i greatest d less is high =
-      let fails : is_digit base (get_or digits i 0) ≡ false = le-ltb (digit_value (get_or digits i 0)) base (rw is at high) in
+      let fails : is_digit base (get_or digits i 0) ≡ false =
+      le-ltb (digit_value (get_or digits i 0)) base (rw is at high) in
       and_left _ _ (and_right _ _ (list_all_at (λ digit. is_digit base digit) digits i 0 less fails))
 
-  pub too_great : (digits : List ℕ) (i value greatest d : ℕ) → 1 ≤ base → IsRead digits i value greatest → i < length digits → d ≡ digit_value (get_or digits i 0) → greatest < value * base + d → is_number base greatest digits ≡ false
+  pub too_great : (digits : List ℕ) (i value greatest d : ℕ) → 1 ≤ base → IsRead digits i value greatest →
+      i < length digits → d ≡ digit_value (get_or digits i 0) → greatest < value * base + d →
+      is_number base greatest digits ≡ false
   unfolding is_number
   too_great digits i value greatest d some h less is high =
       let step = fold_more (λ value digit. value * base + digit_value digit) 0 digits i 0 less in
       let front : number base (take (i + 1) digits) ≡ value * base + d = step ∙ rw (is, h.value_is) in
-      let whole : number base digits ≡ fold (λ value digit. value * base + digit_value digit) (number base (take (i + 1) digits)) (drop (i + 1) digits) = ap (number base) (sym (take-append-drop (i + 1) digits)) ∙ fold-append (λ value digit. value * base + digit_value digit) 0 (take (i + 1) digits) (drop (i + 1) digits) in
-      and_right _ _ (lt-leb (number base digits) greatest (omega (arith, number_grows some (drop (i + 1) digits) (number base (take (i + 1) digits)))))
+      let whole : number base digits ≡ fold (λ value digit. value * base + digit_value digit)
+      (number base (take (i + 1) digits)) (drop (i + 1) digits) =
+      ap (number base) (sym (take-append-drop (i + 1) digits)) ∙
+      fold-append (λ value digit. value * base + digit_value digit) 0 (take (i + 1) digits) (drop (i + 1) digits) in
+      and_right _ _ (lt-leb (number base digits) greatest
+      (omega (arith, number_grows some (drop (i + 1) digits) (number base (take (i + 1) digits)))))
 
-  pub all_read : (digits : List ℕ) (i value greatest : ℕ) → IsRead digits i value greatest → length digits ≤ i → is_number base greatest digits ≡ not (is_empty digits)
+  pub all_read : (digits : List ℕ) (i value greatest : ℕ) → IsRead digits i value greatest → length digits ≤ i →
+      is_number base greatest digits ≡ not (is_empty digits)
   unfolding is_number
   all_read digits i value greatest h past =
       let whole : take i digits ≡ digits = take_all i digits past in
@@ -67,16 +81,21 @@ module _ (base : ℕ) where
   abbrev answer : List ℕ → ℕ → Option ℕ
   answer digits greatest = cond (is_number base greatest digits) (Some (number base digits)) None
 
-  pub none_stands : (digits : List ℕ) (greatest : ℕ) → is_number base greatest digits ≡ false → None ≡ answer digits greatest
+  pub none_stands : (digits : List ℕ) (greatest : ℕ) → is_number base greatest digits ≡ false →
+      None ≡ answer digits greatest
   none_stands digits greatest h = ap (λ b. cond b (Some (number base digits)) None) (sym h)
 
-  pub empty_stands : (digits : List ℕ) (i value greatest : ℕ) → IsRead digits i value greatest → length digits ≤ i → is_empty digits ≡ true → None ≡ answer digits greatest
-  empty_stands digits i value greatest h past empty = none_stands digits greatest (all_read digits i value greatest h past ∙ ap (λ b. not b) empty)
+  pub empty_stands : (digits : List ℕ) (i value greatest : ℕ) → IsRead digits i value greatest → length digits ≤ i →
+      is_empty digits ≡ true → None ≡ answer digits greatest
+  empty_stands digits i value greatest h past empty =
+      none_stands digits greatest (all_read digits i value greatest h past ∙ ap (λ b. not b) empty)
 
-  pub some_stands : (digits : List ℕ) (i value greatest : ℕ) → IsRead digits i value greatest → length digits ≤ i → is_empty digits ≡ false → Some value ≡ answer digits greatest
+  pub some_stands : (digits : List ℕ) (i value greatest : ℕ) → IsRead digits i value greatest → length digits ≤ i →
+      is_empty digits ≡ false → Some value ≡ answer digits greatest
   some_stands digits i value greatest h past some =
       let whole : take i digits ≡ digits = take_all i digits past in
       let same : value ≡ number base digits = rw whole at h.value_is in
-      ap (λ k. Some k) same ∙ ap (λ b. cond b (Some (number base digits)) None) (sym (all_read digits i value greatest h past ∙ ap (λ b. not b) some))
+      ap (λ k. Some k) same ∙ ap (λ b. cond b (Some (number base digits)) None)
+      (sym (all_read digits i value greatest h past ∙ ap (λ b. not b) some))
 
 pub ruleset numbers = (product_fits)

@@ -13,7 +13,8 @@ use Rattle.sc_lex.specs.declared.token.TokenKind.{TokenKind}
 use Rattle.sc_lex.proofs.Texts.{IsRun, kind_of-nil, none_from}
 
 -- a token has a byte
-pub token_positive : {directives : Bool} {text : List ℕ} {kind : TokenKind} (len : ℕ) → IsToken directives text kind len → 0 < len
+pub token_positive : {directives : Bool} {text : List ℕ} {kind : TokenKind} (len : ℕ) →
+    IsToken directives text kind len → 0 < len
 token_positive {kind = kind} zero t = absurd (none-some kind (sym kind_of-nil ∙ t.spelled))
 token_positive (suc n) t = omega arith
 
@@ -22,7 +23,8 @@ module _ (p : ℕ → Bool) where
   run_all [] = refl
   run_all (b ∷ bs) = go (run_all bs) (p b) refl
     where
-      go : list_all p (take (prefix_len p bs) bs) ≡ true → (t : Bool) → p b ≡ t → list_all p (take (cond t (1 + prefix_len p bs) 0) (b ∷ bs)) ≡ true
+      go : list_all p (take (prefix_len p bs) bs) ≡ true → (t : Bool) → p b ≡ t →
+          list_all p (take (cond t (1 + prefix_len p bs) 0) (b ∷ bs)) ≡ true
       go h true q = rw (one-add, q) h
       go h false q = refl
 
@@ -30,18 +32,25 @@ module _ (p : ℕ → Bool) where
   run_positive [] h q = absurd (omega arith)
   run_positive (b ∷ bs) h q = rw q (omega arith)
 
-module _ (p : ℕ → Bool) (text : List ℕ) (runs : (m : ℕ) (kind : TokenKind) → 0 < m → kind_of (take m text) ≡ Some kind → IsRun p (take m text) kind) where
+module _ (p : ℕ → Bool) (text : List ℕ) (runs : (m : ℕ) (kind : TokenKind) → 0 < m → kind_of (take m text) ≡ Some kind →
+    IsRun p (take m text) kind) where
   run_longer : (m : ℕ) → prefix_len p text < m → m ≤ length text → list_all p (take m text) ≡ false
   run_longer m h within =
       let i : prefix_len p text < length (take m text) = omega (arith, length-take-le m text within) in
-      list_all_at p (take m text) (prefix_len p text) 0 i (ap p (get_or-take m text (prefix_len p text) 0 h) ∙ prefix_len_stops p text 0 (omega arith))
+      list_all_at p (take m text) (prefix_len p text) 0 i
+      (ap p (get_or-take m text (prefix_len p text) 0 h) ∙ prefix_len_stops p text 0 (omega arith))
 
-  pub run_token : (n : ℕ) (kind : TokenKind) (directives : Bool) → n ≡ prefix_len p text → 0 < n → kind_of (take n text) ≡ Some kind → (IsTrue (is_directive kind) → IsTrue directives) → (IsTrue (begins_block_comment text) → ⊥) → (IsTrue (begins_line_comment text) → ⊥) → IsToken directives text kind n
+  pub run_token : (n : ℕ) (kind : TokenKind) (directives : Bool) → n ≡ prefix_len p text → 0 < n →
+      kind_of (take n text) ≡ Some kind → (IsTrue (is_directive kind) → IsTrue directives) →
+      (IsTrue (begins_block_comment text) → ⊥) → (IsTrue (begins_line_comment text) → ⊥) →
+      IsToken directives text kind n
   run_token n kind directives is positive spelled allowed block line = record {
     within = omega (arith, prefix_len-le-length p text);
     spelled = spelled;
-    longest = λ m more inside. none_from (kind_of (take m text)) (λ k e. false≢true (sym (run_longer m (rw is at more) inside) ∙ (runs m k (omega arith) e).all));
-    apart = λ inside. (runs n kind positive spelled).follow (get_or text n 0) ∙ not_from_false (p (get_or text n 0)) (rw is (prefix_len_stops p text 0 (rw is at inside)));
+    longest = λ m more inside. none_from (kind_of (take m text))
+        (λ k e. false≢true (sym (run_longer m (rw is at more) inside) ∙ (runs m k (omega arith) e).all));
+    apart = λ inside. (runs n kind positive spelled).follow (get_or text n 0) ∙
+        not_from_false (p (get_or text n 0)) (rw is (prefix_len_stops p text 0 (rw is at inside)));
     allowed = allowed;
     no_block_comment = block;
     no_line_comment = line;
@@ -54,12 +63,14 @@ module _ (p : ℕ → Bool) (text : List ℕ) (runs : (m : ℕ) (kind : TokenKin
       let inside = prefix_len-le-length p text in
       ⊎_elim (λ longer. absurd (false≢true (sym (run_longer m longer t.within) ∙ run.all)))
       (λ low. ⊎_elim
-      (λ less. absurd (false≢true (sym (run.follow (get_or text m 0) ∙ not_from_true (p (get_or text m 0)) (prefix_len_passes p text m 0 less)) ∙ t.apart (omega arith))))
+      (λ less. absurd (false≢true (sym (run.follow (get_or text m 0) ∙
+      not_from_true (p (get_or text m 0)) (prefix_len_passes p text m 0 less)) ∙ t.apart (omega arith))))
       (λ le. omega arith) (cases_lt m (prefix_len p text)))
       (cases_lt (prefix_len p text) m)
 
   -- nothing of this class is a token, where its longest run is none
-  pub run_none : kind_of (take (prefix_len p text) text) ≡ None → (directives : Bool) (kind : TokenKind) (m : ℕ) → IsToken directives text kind m → ⊥
+  pub run_none : kind_of (take (prefix_len p text) text) ≡ None → (directives : Bool) (kind : TokenKind) (m : ℕ) →
+      IsToken directives text kind m → ⊥
   run_none none directives kind m t =
       let len = run_only directives kind m t in
       none-some kind (sym none ∙ (rw len at t.spelled))

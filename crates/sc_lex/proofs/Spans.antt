@@ -12,14 +12,16 @@ all_cons : (P : Token → Type 0) (t : Token) (ts : List Token) → P t → All 
 all_cons P t ts h q zero d k = h
 all_cons P t ts h q (suc i) d k = q i d (omega arith)
 
-pairs_cons : (R : Token → Token → Type 0) (t : Token) (ts : List Token) → All (R t) ts → AllPairs R ts → AllPairs R (t ∷ ts)
+pairs_cons : (R : Token → Token → Type 0) (t : Token) (ts : List Token) → All (R t) ts → AllPairs R ts →
+    AllPairs R (t ∷ ts)
 pairs_cons R t ts h q zero zero d k l = absurd (omega arith)
 pairs_cons R t ts h q zero (suc j) d k l = h j d (omega arith)
 pairs_cons R t ts h q (suc i) zero d k l = absurd (omega arith)
 pairs_cons R t ts h q (suc i) (suc j) d k l = q i j d (omega arith) (omega arith)
 
 module _ (bytes : List ℕ) where
-  span_of : {directives : Bool} (at : ℕ) (kind : TokenKind) (len : ℕ) → IsToken directives (drop at bytes) kind len → IsSpan bytes (token_at bytes at kind len)
+  span_of : {directives : Bool} (at : ℕ) (kind : TokenKind) (len : ℕ) → IsToken directives (drop at bytes) kind len →
+      IsSpan bytes (token_at bytes at kind len)
   span_of at kind len t =
       let positive = token_positive len t in
       let same : at + len - at ≡ len = omega arith in
@@ -30,10 +32,12 @@ module _ (bytes : List ℕ) where
         line = refl;
       }
 
-  begin_behind : {at to : ℕ} {tokens : List Token} → Cuts bytes at to tokens → (before : ℕ) → before ≤ at → All (λ t. before ≤ t.start) tokens
+  begin_behind : {at to : ℕ} {tokens : List Token} → Cuts bytes at to tokens → (before : ℕ) → before ≤ at →
+      All (λ t. before ≤ t.start) tokens
   begin_behind nothing before low = λ k d h. absurd (omega arith)
   begin_behind (gap n h c) before low = begin_behind c before (omega arith)
-  begin_behind {at} (token {tokens = ts} kind n h c) before low = all_cons (λ t. before ≤ t.start) (token_at bytes at kind n) ts low (begin_behind c before (omega arith))
+  begin_behind {at} (token {tokens = ts} kind n h c) before low =
+      all_cons (λ t. before ≤ t.start) (token_at bytes at kind n) ts low (begin_behind c before (omega arith))
 
   cut_spans : {at to : ℕ} {tokens : List Token} → Cuts bytes at to tokens → AreSpans bytes tokens
   cut_spans nothing = record { each = λ k d h. absurd (omega arith); apart = λ i j d h k. absurd (omega arith) }
@@ -42,7 +46,8 @@ module _ (bytes : List ℕ) where
       let rest = cut_spans c in
       record {
         each = all_cons (λ t. IsSpan bytes t) (token_at bytes at kind n) ts (span_of at kind n h) rest.each;
-        apart = pairs_cons (λ t later. t.end ≤ later.start) (token_at bytes at kind n) ts (begin_behind c (at + n) (omega arith)) rest.apart;
+        apart = pairs_cons (λ t later. t.end ≤ later.start) (token_at bytes at kind n) ts
+            (begin_behind c (at + n) (omega arith)) rest.apart;
       }
 
   -- what a function over tokens needs of them

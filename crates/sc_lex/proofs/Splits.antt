@@ -20,9 +20,11 @@ heading_within text at h =
     omega (arith, heading_fits (drop at text) begins, length-drop at text)
 
 pub take-range : (text : List ℕ) (a b : ℕ) → a ≤ b → take b text ≡ take a text ++ slice_range text a b
-take-range text a b h = let there : a + (b - a) ≡ b = omega arith in ap (λ n. take n text) (sym there) ∙ take-add a (b - a) text
+take-range text a b h = let there : a + (b - a) ≡ b = omega arith in
+    ap (λ n. take n text) (sym there) ∙ take-add a (b - a) text
 
-range-append : (text : List ℕ) (a b c : ℕ) → a ≤ b → b ≤ c → slice_range text a c ≡ slice_range text a b ++ slice_range text b c
+range-append : (text : List ℕ) (a b c : ℕ) → a ≤ b → b ≤ c →
+    slice_range text a c ≡ slice_range text a b ++ slice_range text b c
 range-append text a b c h k =
     let there : a + (b - a) ≡ b = omega arith in
     let far : c - a ≡ (b - a) + (c - b) = omega arith in
@@ -32,15 +34,18 @@ range-append text a b c h k =
 newlines-append : (xs ys : List ℕ) → newlines (xs ++ ys) ≡ newlines xs + newlines ys
 newlines-append xs ys = sum_by-append (λ byte. cond (byte == 10) 1 0) xs ys
 
-pub line_at_end : (text : List ℕ) (at end : ℕ) → at ≤ end → line_after (line_at text at) (newlines (slice_range text at end)) ≡ line_at text end
+pub line_at_end : (text : List ℕ) (at end : ℕ) → at ≤ end →
+    line_after (line_at text at) (newlines (slice_range text at end)) ≡ line_at text end
 line_at_end text at end h =
-    let whole : newlines (take end text) ≡ newlines (take at text) + newlines (slice_range text at end) = ap newlines (take-range text at end h) ∙ newlines-append (take at text) (slice_range text at end) in
+    let whole : newlines (take end text) ≡ newlines (take at text) + newlines (slice_range text at end) =
+    ap newlines (take-range text at end h) ∙ newlines-append (take at text) (slice_range text at end) in
     lines (newlines (take at text)) (newlines (slice_range text at end)) (newlines (take end text)) whole
   where
     lines : (n m k : ℕ) → k ≡ n + m → min (min (1 + n) 4294967295 + m) 4294967295 ≡ min (1 + k) 4294967295
     lines n m k e = omega arith
 
-sections_push : {text : List ℕ} {at end next : ℕ} {ss : List Section} → AreSections text at end ss → (s : Section) → IsSection text end next s → AreSections text at next (ss ++ s ∷ [])
+sections_push : {text : List ℕ} {at end next : ℕ} {ss : List Section} → AreSections text at end ss → (s : Section) →
+    IsSection text end next s → AreSections text at next (ss ++ s ∷ [])
 sections_push none s h = section s h none
 sections_push (section first g others) s h = section first g (sections_push others s h)
 
@@ -49,7 +54,8 @@ sections_rise none = omega arith
 sections_rise (section first g others) = omega (arith, g.within, sections_rise others)
 
 -- the bytes of sections that follow one another
-sections_join : {text : List ℕ} {at end : ℕ} {ss : List Section} → AreSections text at end ss → end ≤ length text → slice_range text at end ≡ flat_map (λ s. s.bytes.now) ss
+sections_join : {text : List ℕ} {at end : ℕ} {ss : List Section} → AreSections text at end ss → end ≤ length text →
+    slice_range text at end ≡ flat_map (λ s. s.bytes.now) ss
 sections_join {text} {at} none h = let nothing : at - at ≡ 0 = omega arith in rw nothing
 sections_join {text} {at} {end} (section {next = next} first g others) h =
     let low : at ≤ next = omega (arith, g.within) in
@@ -65,7 +71,9 @@ pub record Progress (text : List ℕ) (first at line : ℕ) (found : List Sectio
   pub so_far : AreSections text first at found
   pub good : (k : ℕ) → k < at → IsBadHeading text k → ⊥
 
-pub progress_start : (text : List ℕ) (first line : ℕ) → first ≤ length text → (first < length text → IsTrue (is_heading text first)) → NoHeading text 0 first → line ≡ line_after 1 (newlines (take first text)) → Progress text first first line []
+pub progress_start : (text : List ℕ) (first line : ℕ) → first ≤ length text →
+    (first < length text → IsTrue (is_heading text first)) → NoHeading text 0 first →
+    line ≡ line_after 1 (newlines (take first text)) → Progress text first first line []
 progress_start text first line fits heading before is = record {
   within = fits;
   heading = heading;
@@ -75,17 +83,24 @@ progress_start text first line fits heading before is = record {
   good = λ k low bad. before k (omega arith) low bad.heading;
 }
 
-pub progress_on : (text : List ℕ) (first at end line : ℕ) (found : List Section) (s : Section) → Progress text first at line found → IsSection text at end s → (end < length text → IsTrue (is_heading text end)) → Progress text first end (line_after line (newlines (slice_range text at end))) (found ++ s ∷ [])
+pub progress_on : (text : List ℕ) (first at end line : ℕ) (found : List Section) (s : Section) →
+    Progress text first at line found → IsSection text at end s → (end < length text → IsTrue (is_heading text end)) →
+    Progress text first end (line_after line (newlines (slice_range text at end))) (found ++ s ∷ [])
 progress_on text first at end line found s h g heading = record {
   within = g.within.1;
   heading = heading;
-  in_line = ap (λ l. line_after l (newlines (slice_range text at end))) h.in_line ∙ line_at_end text at end (omega (arith, g.within));
+  in_line = ap (λ l. line_after l (newlines (slice_range text at end))) h.in_line ∙
+      line_at_end text at end (omega (arith, g.within));
   before = h.before;
   so_far = sections_push h.so_far s g;
-  good = λ k low bad. ⊎_elim (λ less. h.good k less bad) (λ more. ⊎_elim (λ inside. g.whole k (omega arith) low bad.heading) (λ same. let e : k ≡ at = omega arith in none-some s.name (sym (rw e at bad.nameless) ∙ g.name)) (cases_lt at k)) (cases_lt k at);
+  good = λ k low bad. ⊎_elim (λ less. h.good k less bad)
+      (λ more. ⊎_elim (λ inside. g.whole k (omega arith) low bad.heading)
+      (λ same. let e : k ≡ at = omega arith in none-some s.name (sym (rw e at bad.nameless) ∙ g.name)) (cases_lt at k))
+      (cases_lt k at);
 }
 
-pub progress_split : (text : List ℕ) (first at line : ℕ) (found : List Section) → Progress text first at line found → length text ≤ at → IsSplit text (take first text) found
+pub progress_split : (text : List ℕ) (first at line : ℕ) (found : List Section) → Progress text first at line found →
+    length text ≤ at → IsSplit text (take first text) found
 progress_split text first at line found h past =
     let low = sections_rise h.so_far in
     let end : at ≡ length text = omega (arith, h.within) in
@@ -96,15 +111,20 @@ progress_split text first at line found h past =
       behind = rw (long, ← end) h.so_far;
     }
 
-pub progress_joined : (text : List ℕ) (first at line : ℕ) (found : List Section) → Progress text first at line found → length text ≤ at → take first text ++ flat_map (λ s. s.bytes.now) found ≡ text
+pub progress_joined : (text : List ℕ) (first at line : ℕ) (found : List Section) → Progress text first at line found →
+    length text ≤ at → take first text ++ flat_map (λ s. s.bytes.now) found ≡ text
 progress_joined text first at line found h past =
     let low = sections_rise h.so_far in
-    ap (λ more. take first text ++ more) (sym (sections_join h.so_far h.within)) ∙ sym (take-range text first at low) ∙ take_all at text past
+    ap (λ more. take first text ++ more) (sym (sections_join h.so_far h.within)) ∙ sym (take-range text first at low) ∙
+    take_all at text past
 
-pub progress_good : (text : List ℕ) (first at line : ℕ) (found : List Section) → Progress text first at line found → length text ≤ at → (k : ℕ) → IsBadHeading text k → ⊥
+pub progress_good : (text : List ℕ) (first at line : ℕ) (found : List Section) → Progress text first at line found →
+    length text ≤ at → (k : ℕ) → IsBadHeading text k → ⊥
 progress_good text first at line found h past k bad = h.good k (omega (arith, heading_within text k bad.heading)) bad
 
-pub progress_refused : (text : List ℕ) (first at line : ℕ) (found : List Section) (refusal : Refusal) → Progress text first at line found → at < length text → name_at text at ≡ None → refusal ≡ record { phase = Lex; line = line } → RefusesHeading text refusal
+pub progress_refused : (text : List ℕ) (first at line : ℕ) (found : List Section) (refusal : Refusal) →
+    Progress text first at line found → at < length text → name_at text at ≡ None →
+    refusal ≡ record { phase = Lex; line = line } → RefusesHeading text refusal
 progress_refused text first at line found refusal h more nameless is = record {
   at = at;
   bad = record { heading = h.heading more; nameless = nameless };

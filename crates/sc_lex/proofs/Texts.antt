@@ -21,11 +21,14 @@ use Rattle.sc_lex.specs.declared.token.TokenKind.{TokenKind}
 use Rattle.sc_lex.specs.declared.token.TokenKind.TheVariants.{Ident, Reserved, Integer, Compartment, Export, Import}
 
 -- what each entry of a table has, each text of the table has
-table_says : (p : List ℕ → Bool) (table : List (List ℕ)) (text : List ℕ) → list_all p table ≡ true → list_any (λ word. bytes_eq text word) table ≡ true → p text ≡ true
+table_says : (p : List ℕ → Bool) (table : List (List ℕ)) (text : List ℕ) → list_all p table ≡ true →
+    list_any (λ word. bytes_eq text word) table ≡ true → p text ≡ true
 table_says p [] text h q = absurd (false≢true q)
 table_says p (word ∷ table) text h q =
     let parts = and_parts (p word) (list_all p table) h in
-    ⊎_elim (λ same. let e : text ≡ word = (bytes_eq-Decides text word).0 same in rw e parts.0) (λ more. table_says p table text parts.1 more) (or_cases (bytes_eq text word) (list_any (λ w. bytes_eq text w) table) q)
+    ⊎_elim (λ same. let e : text ≡ word = (bytes_eq-Decides text word).0 same in rw e parts.0)
+    (λ more. table_says p table text parts.1 more)
+    (or_cases (bytes_eq text word) (list_any (λ w. bytes_eq text w) table) q)
 
 reserved_is_name : (text : List ℕ) → is_reserved text ≡ true → is_name text ≡ true
 unfolding is_reserved is_name
@@ -33,7 +36,8 @@ reserved_is_name text h = table_says is_name reserved_words text refl h
 
 -- the first byte of a mark, and how long a mark is
 abbrev mark_shape : List ℕ → Bool
-mark_shape text = not (is_name_byte (slice_index text 0)) && not (slice_index text 0 == 35) && not (is_white_space (slice_index text 0)) && nat_le (length text) 3
+mark_shape text = not (is_name_byte (slice_index text 0)) && not (slice_index text 0 == 35) &&
+    not (is_white_space (slice_index text 0)) && nat_le (length text) 3
 
 mark_shaped : (text : List ℕ) → is_mark text ≡ true → mark_shape text ≡ true
 unfolding is_mark
@@ -49,24 +53,32 @@ digit_is_name_byte base b low h = go (is_between 48 57 b) (is_between 97 102 b) 
         and_from (nat_le bottom b) (nat_le b far) parts.0 (le-leb b far (omega arith))
 
     letter : (is_between 65 90 b || is_between 97 122 b) ≡ true → is_name_byte b ≡ true
-    letter is = or_left (is_nondigit b) (is_between 48 57 b) (or_right (b == 95) (is_between 65 90 b || is_between 97 122 b) is)
+    letter is = or_left (is_nondigit b) (is_between 48 57 b)
+        (or_right (b == 95) (is_between 65 90 b || is_between 97 122 b) is)
 
-    go : (x y z : Bool) → is_between 48 57 b ≡ x → is_between 97 102 b ≡ y → is_between 65 70 b ≡ z → nat_lt (cond x (b - 48) (cond y (b - 87) (cond z (b - 55) 16))) base ≡ true → is_name_byte b ≡ true
+    go : (x y z : Bool) → is_between 48 57 b ≡ x → is_between 97 102 b ≡ y → is_between 65 70 b ≡ z →
+        nat_lt (cond x (b - 48) (cond y (b - 87) (cond z (b - 55) 16))) base ≡ true → is_name_byte b ≡ true
     go true y z p q r k = or_right (is_nondigit b) (is_between 48 57 b) p
-    go false true z p q r k = letter (or_right (is_between 65 90 b) (is_between 97 122 b) (wider 97 102 122 (omega arith) q))
-    go false false true p q r k = letter (or_left (is_between 65 90 b) (is_between 97 122 b) (wider 65 70 90 (omega arith) r))
+    go false true z p q r k = letter (or_right (is_between 65 90 b) (is_between 97 122 b)
+        (wider 97 102 122 (omega arith) q))
+    go false false true p q r k = letter (or_left (is_between 65 90 b) (is_between 97 122 b)
+        (wider 65 70 90 (omega arith) r))
     go false false false p q r k = let above = ltb-true 16 base k in absurd (omega arith)
 
-hexadecimal_bytes : (body : List ℕ) → is_hexadecimal body ≡ true → list_all is_name_byte (drop 2 body) ≡ true → list_all is_name_byte body ≡ true
+hexadecimal_bytes : (body : List ℕ) → is_hexadecimal body ≡ true → list_all is_name_byte (drop 2 body) ≡ true →
+    list_all is_name_byte body ≡ true
 hexadecimal_bytes [] h q = absurd (false≢true h)
 hexadecimal_bytes (a ∷ []) h q = absurd (false≢true (and_parts (a == 48) false h).1)
 hexadecimal_bytes (a ∷ b ∷ body) h q =
     let parts = and_parts (a == 48) (b == 120 || b == 88) h in
     let zero_is : is_name_byte a ≡ true = rw (eqb-true a 48 parts.0) in
-    let x_is : is_name_byte b ≡ true = ⊎_elim (λ e. rw (eqb-true b 120 e)) (λ e. rw (eqb-true b 88 e)) (or_cases (b == 120) (b == 88) parts.1) in
-    and_from (is_name_byte a) (list_all is_name_byte (b ∷ body)) zero_is (and_from (is_name_byte b) (list_all is_name_byte body) x_is q)
+    let x_is : is_name_byte b ≡ true = ⊎_elim (λ e. rw (eqb-true b 120 e)) (λ e. rw (eqb-true b 88 e))
+    (or_cases (b == 120) (b == 88) parts.1) in
+    and_from (is_name_byte a) (list_all is_name_byte (b ∷ body)) zero_is
+    (and_from (is_name_byte b) (list_all is_name_byte body) x_is q)
 
-suffix_bytes : (text : List ℕ) → has_suffix text ≡ true → list_all is_name_byte (take (length text - 1) text) ≡ true → list_all is_name_byte text ≡ true
+suffix_bytes : (text : List ℕ) → has_suffix text ≡ true → list_all is_name_byte (take (length text - 1) text) ≡ true →
+    list_all is_name_byte text ≡ true
 suffix_bytes [] h q = absurd (false≢true h)
 suffix_bytes (b ∷ bs) h q =
     let text = b ∷ bs in
@@ -74,8 +86,12 @@ suffix_bytes (b ∷ bs) h q =
     let last = get_or text n 0 in
     let nothing : drop (n + 1) text ≡ [] = drop_all (n + 1) text (omega arith) in
     let end : drop n text ≡ last ∷ [] = drop_more text n 0 (omega arith) ∙ ap (λ more. last ∷ more) nothing in
-    let is : is_name_byte last ≡ true = ⊎_elim (λ e. rw (eqb-true last 117 e)) (λ e. rw (eqb-true last 85 e)) (or_cases (last == 117) (last == 85) h) in
-    ap (list_all is_name_byte) (sym (take-append-drop n text)) ∙ list_all-append is_name_byte (take n text) (drop n text) ∙ and_from (list_all is_name_byte (take n text)) (list_all is_name_byte (drop n text)) q (rw end (and_from (is_name_byte last) true is refl))
+    let is : is_name_byte last ≡ true = ⊎_elim (λ e. rw (eqb-true last 117 e)) (λ e. rw (eqb-true last 85 e))
+    (or_cases (last == 117) (last == 85) h) in
+    ap (list_all is_name_byte) (sym (take-append-drop n text)) ∙
+    list_all-append is_name_byte (take n text) (drop n text) ∙
+    and_from (list_all is_name_byte (take n text)) (list_all is_name_byte (drop n text)) q
+    (rw end (and_from (is_name_byte last) true is refl))
 
 base_of_low : (body : List ℕ) → base_of body ≤ 16
 base_of_low body = go (is_hexadecimal body) (slice_index body 0 == 48)
@@ -90,15 +106,19 @@ unfolding is_integer is_number
 integer_bytes text h =
     let body = without_suffix text in
     let low = base_of_low body in
-    let digits = (and_parts (not (is_empty (digits_of body))) (list_all (is_digit (base_of body)) (digits_of body)) (and_parts (not (is_empty (digits_of body)) && list_all (is_digit (base_of body)) (digits_of body)) _ h).0).1 in
-    let named = list_all_along (is_digit (base_of body)) is_name_byte (λ b q. digit_is_name_byte (base_of body) b low q) (digits_of body) digits in
+    let digits = (and_parts (not (is_empty (digits_of body))) (list_all (is_digit (base_of body)) (digits_of body))
+    (and_parts (not (is_empty (digits_of body)) && list_all (is_digit (base_of body)) (digits_of body)) _ h).0).1 in
+    let named = list_all_along (is_digit (base_of body)) is_name_byte (λ b q. digit_is_name_byte (base_of body) b low q)
+    (digits_of body) digits in
     outer (has_suffix text) refl (inner body (is_hexadecimal body) refl named)
   where
-    inner : (body : List ℕ) (x : Bool) → is_hexadecimal body ≡ x → list_all is_name_byte (cond x (drop 2 body) body) ≡ true → list_all is_name_byte body ≡ true
+    inner : (body : List ℕ) (x : Bool) → is_hexadecimal body ≡ x →
+        list_all is_name_byte (cond x (drop 2 body) body) ≡ true → list_all is_name_byte body ≡ true
     inner body true e q = hexadecimal_bytes body e q
     inner body false e q = q
 
-    outer : (x : Bool) → has_suffix text ≡ x → list_all is_name_byte (cond x (take (length text - 1) text) text) ≡ true → list_all is_name_byte text ≡ true
+    outer : (x : Bool) → has_suffix text ≡ x → list_all is_name_byte (cond x (take (length text - 1) text) text) ≡
+        true → list_all is_name_byte text ≡ true
     outer true e q = suffix_bytes text e q
     outer false e q = q
 
@@ -108,7 +128,8 @@ name_bytes [] h = refl
 name_bytes (first ∷ rest) h =
     let parts = and_parts (is_nondigit first) (list_all is_name_byte rest && nat_lt (length rest) 63) h in
     let behind = (and_parts (list_all is_name_byte rest) (nat_lt (length rest) 63) parts.1).0 in
-    and_from (is_name_byte first) (list_all is_name_byte rest) (or_left (is_nondigit first) (is_between 48 57 first) parts.0) behind
+    and_from (is_name_byte first) (list_all is_name_byte rest)
+    (or_left (is_nondigit first) (is_between 48 57 first) parts.0) behind
 
 -- all bytes of a text pass, and a token of this kind may be followed by those that don't
 pub record IsRun (p : ℕ → Bool) (text : List ℕ) (kind : TokenKind) : Type 0 where
@@ -124,12 +145,16 @@ pub word_run : (text : List ℕ) (kind : TokenKind) → word_kind text ≡ Some 
 unfolding word_kind
 word_run text kind h = go (is_reserved text) (is_name text) (is_integer text) refl refl refl h
   where
-    made : list_all is_name_byte text ≡ true → (k : TokenKind) → ((byte : ℕ) → may_follow k byte ≡ not (is_name_byte byte)) → is_directive k ≡ false → ◌≡◌ {A = Option TokenKind} (Some k) (Some kind) → IsWord text kind
+    made : list_all is_name_byte text ≡ true → (k : TokenKind) →
+        ((byte : ℕ) → may_follow k byte ≡ not (is_name_byte byte)) → is_directive k ≡ false →
+        ◌≡◌ {A = Option TokenKind} (Some k) (Some kind) → IsWord text kind
     made all k follow none e =
         let same : k ≡ kind = cc in
         subst (IsWord text) same (record { run = record { all = all; follow = follow }; no_directive = none })
 
-    go : (r n i : Bool) → is_reserved text ≡ r → is_name text ≡ n → is_integer text ≡ i → ◌≡◌ {A = Option TokenKind} (cond r (Some Reserved) (cond n (Some Ident) (cond i (Some Integer) None))) (Some kind) → IsWord text kind
+    go : (r n i : Bool) → is_reserved text ≡ r → is_name text ≡ n → is_integer text ≡ i →
+        ◌≡◌ {A = Option TokenKind} (cond r (Some Reserved) (cond n (Some Ident) (cond i (Some Integer) None)))
+        (Some kind) → IsWord text kind
     go true n i p q r e = made (name_bytes text (reserved_is_name text p)) Reserved (λ b. refl) refl e
     go false true i p q r e = made (name_bytes text q) Ident (λ b. refl) refl e
     go false false true p q r e = made (integer_bytes text r) Integer (λ b. refl) refl e
@@ -149,13 +174,20 @@ pub directive_run : (text : List ℕ) (kind : TokenKind) → directive_kind text
 unfolding line_kind
 directive_run text kind h = outer (is_pragma text) refl h
   where
-    made : is_pragma text ≡ true → (k : TokenKind) → ((byte : ℕ) → may_follow k byte ≡ not (is_inside_line byte)) → is_directive k ≡ true → ◌≡◌ {A = Option TokenKind} (Some k) (Some kind) → IsDirective text kind
+    made : is_pragma text ≡ true → (k : TokenKind) → ((byte : ℕ) → may_follow k byte ≡ not (is_inside_line byte)) →
+        is_directive k ≡ true → ◌≡◌ {A = Option TokenKind} (Some k) (Some kind) → IsDirective text kind
     made pragma k follow is e =
         let parts = and_parts (slice_index text 0 == 35) (list_all is_inside_line text) pragma in
         let same : k ≡ kind = cc in
-        subst (IsDirective text) same (record { run = record { all = parts.1; follow = follow }; first = eqb-true (slice_index text 0) 35 parts.0; directive = is })
+        subst (IsDirective text) same (record {
+          run = record { all = parts.1; follow = follow };
+          first = eqb-true (slice_index text 0) 35 parts.0;
+          directive = is;
+        })
 
-    go : is_pragma text ≡ true → (x y z : Bool) → ◌≡◌ {A = Option TokenKind} (cond x (Some Compartment) (cond y (Some Export) (cond z (Some Import) None))) (Some kind) → IsDirective text kind
+    go : is_pragma text ≡ true → (x y z : Bool) → ◌≡◌ {A = Option TokenKind}
+        (cond x (Some Compartment) (cond y (Some Export) (cond z (Some Import) None))) (Some kind) →
+        IsDirective text kind
     go pragma true y z e = made pragma Compartment (λ b. not_twice (b == 10)) refl e
     go pragma false true z e = made pragma Export (λ b. not_twice (b == 10)) refl e
     go pragma false false true e = made pragma Import (λ b. not_twice (b == 10)) refl e
@@ -182,8 +214,10 @@ pub record IsMark (text : List ℕ) : Type 0 where
 
 pub mark_is : (text : List ℕ) → is_mark text ≡ true → IsMark text
 mark_is text h =
-    let a = and_parts (not (is_name_byte (slice_index text 0)) && not (slice_index text 0 == 35) && not (is_white_space (slice_index text 0))) (nat_le (length text) 3) (mark_shaped text h) in
-    let b = and_parts (not (is_name_byte (slice_index text 0)) && not (slice_index text 0 == 35)) (not (is_white_space (slice_index text 0))) a.0 in
+    let a = and_parts (not (is_name_byte (slice_index text 0)) && not (slice_index text 0 == 35) &&
+    not (is_white_space (slice_index text 0))) (nat_le (length text) 3) (mark_shaped text h) in
+    let b = and_parts (not (is_name_byte (slice_index text 0)) && not (slice_index text 0 == 35))
+    (not (is_white_space (slice_index text 0))) a.0 in
     let c = and_parts (not (is_name_byte (slice_index text 0))) (not (slice_index text 0 == 35)) b.0 in
     record {
       no_name = not-true _ c.0;
@@ -195,9 +229,11 @@ mark_is text h =
 pub no_mark : (text : List ℕ) → (is_mark text ≡ true → ⊥) → mark_kind text ≡ None
 no_mark text h = let none = false_from_ne_true (is_mark text) h in rw none
 
-word_starts : (text : List ℕ) (kind : TokenKind) → 0 < length text → word_kind text ≡ Some kind → is_name_byte (slice_index text 0) ≡ true
+word_starts : (text : List ℕ) (kind : TokenKind) → 0 < length text → word_kind text ≡ Some kind →
+    is_name_byte (slice_index text 0) ≡ true
 word_starts [] kind some h = absurd (omega arith)
-word_starts (b ∷ bs) kind some h = (and_parts (is_name_byte b) (list_all is_name_byte bs) (word_run (b ∷ bs) kind h).run.all).0
+word_starts (b ∷ bs) kind some h = (and_parts (is_name_byte b) (list_all is_name_byte bs)
+    (word_run (b ∷ bs) kind h).run.all).0
 
 no_word : (text : List ℕ) → 0 < length text → is_name_byte (slice_index text 0) ≡ false → word_kind text ≡ None
 no_word text some h = none_from (word_kind text) (λ kind e. false≢true (sym h ∙ word_starts text kind some e))
@@ -220,7 +256,8 @@ kind_of-directive (b ∷ bs) h =
     let word = no_word (b ∷ bs) (omega arith) (rw h) in
     rw (mark, word)
 
-pub kind_of-mark : (text : List ℕ) → 0 < length text → is_name_byte (slice_index text 0) ≡ false → (slice_index text 0 ≡ 35 → ⊥) → kind_of text ≡ mark_kind text
+pub kind_of-mark : (text : List ℕ) → 0 < length text → is_name_byte (slice_index text 0) ≡ false →
+    (slice_index text 0 ≡ 35 → ⊥) → kind_of text ≡ mark_kind text
 unfolding kind_of
 kind_of-mark text some h q = rw (no_word text some h, no_line text q) (or_none (mark_kind text))
 
@@ -244,5 +281,7 @@ NoStart b = (is_name_byte b ≡ false) × (b ≡ 35 → ⊥)
 pub kind_of-white_space : (text : List ℕ) → is_white_space (slice_index text 0) ≡ true → kind_of text ≡ None
 kind_of-white_space [] h = absurd (false≢true h)
 kind_of-white_space (b ∷ bs) h =
-    let no = white_space_is NoStart (refl, λ e. omega arith) (refl, λ e. omega arith) (refl, λ e. omega arith) (refl, λ e. omega arith) (refl, λ e. omega arith) (refl, λ e. omega arith) b h in
-    kind_of-mark (b ∷ bs) (omega arith) no.0 no.1 ∙ no_mark (b ∷ bs) (λ m. false≢true (sym (mark_is (b ∷ bs) m).no_white_space ∙ h))
+    let no = white_space_is NoStart (refl, λ e. omega arith) (refl, λ e. omega arith) (refl, λ e. omega arith)
+    (refl, λ e. omega arith) (refl, λ e. omega arith) (refl, λ e. omega arith) b h in
+    kind_of-mark (b ∷ bs) (omega arith) no.0 no.1 ∙ no_mark (b ∷ bs)
+    (λ m. false≢true (sym (mark_is (b ∷ bs) m).no_white_space ∙ h))

@@ -20,7 +20,8 @@ kept parts = filter (λ part. not (is_empty part)) parts
 
 kept-full : (part : List ℕ) (parts : List (List ℕ)) → 0 < length part → kept (part ∷ parts) ≡ part ∷ kept parts
 kept-full [] parts h = absurd (omega arith)
-kept-full (b ∷ part) parts h = let full : eqb (length (b ∷ part)) 0 ≡ false = ne_eqb (length (b ∷ part)) 0 (λ none. absurd (omega arith)) in rw full
+kept-full (b ∷ part) parts h = let full : eqb (length (b ∷ part)) 0 ≡ false =
+    ne_eqb (length (b ∷ part)) 0 (λ none. absurd (omega arith)) in rw full
 
 words-blank : (b : ℕ) (line : List ℕ) → is_blank b ≡ true → words (b ∷ line) ≡ words line
 unfolding words
@@ -30,12 +31,14 @@ words-skip : (line : List ℕ) → words (drop (prefix_len is_blank line) line) 
 words-skip [] = refl
 words-skip (b ∷ line) = go (words-skip line) (is_blank b) refl
   where
-    go : words (drop (prefix_len is_blank line) line) ≡ words line → (t : Bool) → is_blank b ≡ t → words (drop (cond t (1 + prefix_len is_blank line) 0) (b ∷ line)) ≡ words (b ∷ line)
+    go : words (drop (prefix_len is_blank line) line) ≡ words line → (t : Bool) → is_blank b ≡ t →
+        words (drop (cond t (1 + prefix_len is_blank line) 0) (b ∷ line)) ≡ words (b ∷ line)
     go so true h = rw one-add (so ∙ sym (words-blank b line h))
     go so false h = refl
 
 -- a first word, and what stands behind it
-words-front : (line : List ℕ) (len : ℕ) → len ≡ position_or_len is_blank line → 0 < len → words line ≡ take len line ∷ words (drop len line)
+words-front : (line : List ℕ) (len : ℕ) → len ≡ position_or_len is_blank line → 0 < len →
+    words line ≡ take len line ∷ words (drop len line)
 unfolding words
 words-front line len is some = ⊎_elim inside whole (cases_lt len (length line))
   where
@@ -47,14 +50,19 @@ words-front line len is some = ⊎_elim inside whole (cases_lt len (length line)
 
     inside : len < length line → words line ≡ take len line ∷ words (drop len line)
     inside less =
-        let blank : is_blank (get_or line len 0) ≡ true = not-false _ (rw is (prefix_len_stops (λ byte. not (is_blank byte)) line 0 (rw is at less))) in
-        let split : slice_split is_blank line ≡ take len line ∷ slice_split is_blank (drop (len + 1) line) = rw is (slice_split_first is_blank line 0 (rw is at less)) in
-        let behind : words (drop len line) ≡ words (drop (len + 1) line) = ap words (drop_more line len 0 less) ∙ words-blank (get_or line len 0) (drop (len + 1) line) blank in
-        ap kept split ∙ kept-full (take len line) (slice_split is_blank (drop (len + 1) line)) full ∙ ap (λ ws. take len line ∷ ws) (sym behind)
+        let blank : is_blank (get_or line len 0) ≡ true =
+        not-false _ (rw is (prefix_len_stops (λ byte. not (is_blank byte)) line 0 (rw is at less))) in
+        let split : slice_split is_blank line ≡ take len line ∷ slice_split is_blank (drop (len + 1) line) =
+        rw is (slice_split_first is_blank line 0 (rw is at less)) in
+        let behind : words (drop len line) ≡ words (drop (len + 1) line) =
+        ap words (drop_more line len 0 less) ∙ words-blank (get_or line len 0) (drop (len + 1) line) blank in
+        ap kept split ∙ kept-full (take len line) (slice_split is_blank (drop (len + 1) line)) full ∙
+        ap (λ ws. take len line ∷ ws) (sym behind)
 
     whole : length line ≤ len → words line ≡ take len line ∷ words (drop len line)
     whole past =
-        let none = slice_split_none is_blank line (λ k d h. not-true _ (prefix_len_passes (λ byte. not (is_blank byte)) line k d (omega arith))) in
+        let none = slice_split_none is_blank line (λ k d h.
+        not-true _ (prefix_len_passes (λ byte. not (is_blank byte)) line k d (omega arith))) in
         let all : take len line ≡ line = take_all len line past in
         let nothing : drop len line ≡ [] = drop_all len line past in
         rw (all, nothing) (ap kept none ∙ kept-full line [] (rw all at full))
@@ -72,20 +80,26 @@ unfolding words
 front_nil line zero h = rw h (record { word = refl; behind = refl })
 front_nil line (suc n) h = rw h (record { word = refl; behind = refl })
 
-front : (line : List ℕ) (b l : ℕ) → b ≡ prefix_len is_blank line → l ≡ position_or_len is_blank (drop b line) → Front (drop b line) l
+front : (line : List ℕ) (b l : ℕ) → b ≡ prefix_len is_blank line → l ≡ position_or_len is_blank (drop b line) →
+    Front (drop b line) l
 front line b l p q = ⊎_elim more (λ past. front_nil (drop b line) l (drop_all b line past)) (cases_lt b (length line))
   where
     more : b < length line → Front (drop b line) l
     more less =
         let solid : is_blank (get_or line b 0) ≡ false = rw p (prefix_len_stops is_blank line 0 (rw p at less)) in
-        let starts : position_or_len is_blank (drop b line) ≡ 1 + position_or_len is_blank (drop (b + 1) line) = ap (position_or_len is_blank) (drop_more line b 0 less) ∙ rw solid in
+        let starts : position_or_len is_blank (drop b line) ≡ 1 + position_or_len is_blank (drop (b + 1) line) =
+        ap (position_or_len is_blank) (drop_more line b 0 less) ∙ rw solid in
         front_some (drop b line) l (words-front (drop b line) l q (omega arith))
 
-pub first_word : (line : List ℕ) (b l : ℕ) → b ≡ prefix_len is_blank line → l ≡ position_or_len is_blank (drop b line) → take l (drop b line) ≡ get_or (words line) 0 []
-first_word line b l p q = (front line b l p q).word ∙ ap (λ ws. get_or ws 0 []) (ap (λ n. words (drop n line)) p ∙ words-skip line)
+pub first_word : (line : List ℕ) (b l : ℕ) → b ≡ prefix_len is_blank line → l ≡ position_or_len is_blank (drop b line) →
+    take l (drop b line) ≡ get_or (words line) 0 []
+first_word line b l p q = (front line b l p q).word ∙
+    ap (λ ws. get_or ws 0 []) (ap (λ n. words (drop n line)) p ∙ words-skip line)
 
-pub rest_words : (line : List ℕ) (b l : ℕ) → b ≡ prefix_len is_blank line → l ≡ position_or_len is_blank (drop b line) → words (drop l (drop b line)) ≡ drop 1 (words line)
-rest_words line b l p q = (front line b l p q).behind ∙ ap (λ ws. drop 1 ws) (ap (λ n. words (drop n line)) p ∙ words-skip line)
+pub rest_words : (line : List ℕ) (b l : ℕ) → b ≡ prefix_len is_blank line → l ≡ position_or_len is_blank (drop b line) →
+    words (drop l (drop b line)) ≡ drop 1 (words line)
+rest_words line b l p q = (front line b l p q).behind ∙
+    ap (λ ws. drop 1 ws) (ap (λ n. words (drop n line)) p ∙ words-skip line)
 
 pub ruleset wording = (first_word, rest_words, take_rest)
 
@@ -97,19 +111,23 @@ kept_full ((b ∷ part) ∷ parts) k h =
     let first = kept-full (b ∷ part) parts (omega arith) in
     rw first (go (kept_full parts) k (rw first at h))
   where
-    go : ((j : ℕ) → j < length (kept parts) → 0 < length (get_or (kept parts) j [])) → (k : ℕ) → k < length ((b ∷ part) ∷ kept parts) → 0 < length (get_or ((b ∷ part) ∷ kept parts) k [])
+    go : ((j : ℕ) → j < length (kept parts) → 0 < length (get_or (kept parts) j [])) → (k : ℕ) →
+        k < length ((b ∷ part) ∷ kept parts) → 0 < length (get_or ((b ∷ part) ∷ kept parts) k [])
     go on zero h = omega arith
     go on (suc k) h = on k (omega arith)
 
-only_name-full : (ws : List (List ℕ)) → (1 < length ws → 0 < length (get_or ws 1 [])) → only_name ws ≡ cond (is_empty (get_or ws 1 [])) (name_of (get_or ws 0 [])) None
+only_name-full : (ws : List (List ℕ)) → (1 < length ws → 0 < length (get_or ws 1 [])) →
+    only_name ws ≡ cond (is_empty (get_or ws 1 [])) (name_of (get_or ws 0 [])) None
 unfolding is_name
 only_name-full [] full = refl
 only_name-full (word ∷ []) full = refl
 only_name-full (word ∷ other ∷ ws) full =
-    let some : eqb (length other) 0 ≡ false = ne_eqb (length other) 0 (λ none. let l : 0 < length other = full (omega arith) in omega arith) in
+    let some : eqb (length other) 0 ≡ false = ne_eqb (length other) 0
+    (λ none. let l : 0 < length other = full (omega arith) in omega arith) in
     rw some
 
-pub only_word : (line : List ℕ) (word other : List ℕ) → word ≡ get_or (words line) 0 [] → other ≡ get_or (drop 1 (words line)) 0 [] → only_name (words line) ≡ cond (is_empty other) (name_of word) None
+pub only_word : (line : List ℕ) (word other : List ℕ) → word ≡ get_or (words line) 0 [] →
+    other ≡ get_or (drop 1 (words line)) 0 [] → only_name (words line) ≡ cond (is_empty other) (name_of word) None
 unfolding words
 only_word line word other p q =
     let second : other ≡ get_or (words line) 1 [] = q ∙ get_or-drop 1 (words line) 0 [] in
@@ -124,18 +142,23 @@ pub record Begins (text front : List ℕ) : Type 0 where
 
 pub begins_with : (text front : List ℕ) → starts_with nat_eq text front ≡ true → Begins text front
 begins_with text front h =
-    let same : front ≡ take (length front) text = (slice_eq-Decides Decides-eqb front (take (length front) text) (starts_with nat_eq text front) refl).0 h in
+    let same : front ≡ take (length front) text = (slice_eq-Decides Decides-eqb front (take (length front) text)
+    (starts_with nat_eq text front) refl).0 h in
     record { is = sym same; fits = omega (arith, length-take (length front) text, ap length same) }
 
-pub front_byte : (text front : List ℕ) (i : ℕ) → starts_with nat_eq text front ≡ true → i < length front → get_or text i 0 ≡ get_or front i 0
-front_byte text front i h k = sym (get_or-take (length front) text i 0 k) ∙ ap (λ t. get_or t i 0) (begins_with text front h).is
+pub front_byte : (text front : List ℕ) (i : ℕ) → starts_with nat_eq text front ≡ true → i < length front →
+    get_or text i 0 ≡ get_or front i 0
+front_byte text front i h k = sym (get_or-take (length front) text i 0 k) ∙
+    ap (λ t. get_or t i 0) (begins_with text front h).is
 
 pub heading_fits : (text : List ℕ) → begins_heading text ≡ true → 20 ≤ length text
 heading_fits text h = (begins_with text (codes "#pragma compartment ") h).fits
 
 -- the words behind the first one
-pub word-next : (line rest word : List ℕ) (k : ℕ) → words rest ≡ drop 1 (words line) → word ≡ get_or (words rest) k [] → word ≡ get_or (words line) (k + 1) []
-word-next line rest word k h q = let e : k + 1 ≡ 1 + k = omega arith in q ∙ ap (λ ws. get_or ws k []) h ∙ rw e (get_or-drop 1 (words line) k [])
+pub word-next : (line rest word : List ℕ) (k : ℕ) → words rest ≡ drop 1 (words line) → word ≡ get_or (words rest) k [] →
+    word ≡ get_or (words line) (k + 1) []
+word-next line rest word k h q = let e : k + 1 ≡ 1 + k = omega arith in
+    q ∙ ap (λ ws. get_or ws k []) h ∙ rw e (get_or-drop 1 (words line) k [])
 
 pub ruleset later_words = (word-next)
 

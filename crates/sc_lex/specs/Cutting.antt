@@ -23,7 +23,8 @@ ends_comment text at = starts_with nat_eq (drop at text) (codes "*/")
 -- behind its opening, or a comment up to the end of its line.
 pub data IsGap (text : List ℕ) : ℕ → Type 0 where
   white_space : IsTrue (is_white_space (slice_index text 0)) → IsGap text 1
-  block_comment : (at : ℕ) → IsTrue (begins_block_comment text) → 2 ≤ at → IsTrue (ends_comment text at) → ((before : ℕ) → 2 ≤ before → before < at → IsTrue (ends_comment text before) → ⊥) → IsGap text (at + 2)
+  block_comment : (at : ℕ) → IsTrue (begins_block_comment text) → 2 ≤ at → IsTrue (ends_comment text at) →
+      ((before : ℕ) → 2 ≤ before → before < at → IsTrue (ends_comment text before) → ⊥) → IsGap text (at + 2)
   line_comment : IsTrue (begins_line_comment text) → IsGap text (line_len text)
 
 -- The first bytes of a text, so many, are the token at its front. Directives are allowed in some places only.
@@ -47,8 +48,11 @@ token_at bytes at kind len = record { kind = kind; start = at; end = at + len; l
 -- From one place to another the bytes are tokens, these ones in their order, and gaps.
 pub data Cuts (bytes : List ℕ) : ℕ → ℕ → List Token → Type 0 where
   nothing : {at : ℕ} → Cuts bytes at at []
-  gap : {at to : ℕ} {tokens : List Token} (len : ℕ) → IsGap (drop at bytes) len → Cuts bytes (at + len) to tokens → Cuts bytes at to tokens
-  token : {at to : ℕ} {tokens : List Token} (kind : TokenKind) (len : ℕ) → IsToken (allows_directive bytes at) (drop at bytes) kind len → Cuts bytes (at + len) to tokens → Cuts bytes at to (token_at bytes at kind len ∷ tokens)
+  gap : {at to : ℕ} {tokens : List Token} (len : ℕ) → IsGap (drop at bytes) len → Cuts bytes (at + len) to tokens →
+      Cuts bytes at to tokens
+  token : {at to : ℕ} {tokens : List Token} (kind : TokenKind) (len : ℕ) →
+      IsToken (allows_directive bytes at) (drop at bytes) kind len → Cuts bytes (at + len) to tokens →
+      Cuts bytes at to (token_at bytes at kind len ∷ tokens)
 
 -- all of the bytes are cut into these tokens
 abbrev pub IsCut : List ℕ → List Token → Type 0

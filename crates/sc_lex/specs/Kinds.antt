@@ -14,12 +14,14 @@ use Rattle.sc_lex.specs.declared.token.TokenKind.TheVariants.{Ident, Reserved, I
 
 -- the words `#pragma export` and a name
 abbrev pub is_export : List (List ℕ) → Bool
-is_export (pragma ∷ verb ∷ name ∷ []) = bytes_eq pragma (codes "#pragma") && bytes_eq verb (codes "export") && is_name name
+is_export (pragma ∷ verb ∷ name ∷ []) = bytes_eq pragma (codes "#pragma") && bytes_eq verb (codes "export") &&
+    is_name name
 is_export _ = false
 
 -- the words `#pragma import` and two names
 abbrev pub is_import : List (List ℕ) → Bool
-is_import (pragma ∷ verb ∷ comp ∷ name ∷ []) = bytes_eq pragma (codes "#pragma") && bytes_eq verb (codes "import") && is_name comp && is_name name
+is_import (pragma ∷ verb ∷ comp ∷ name ∷ []) = bytes_eq pragma (codes "#pragma") && bytes_eq verb (codes "import") &&
+    is_name comp && is_name name
 is_import _ = false
 
 -- the kind of directive that a line is

@@ -23,7 +23,8 @@ pub record IsSection (text : List ℕ) (at end : ℕ) (section : Section) : Type
 -- the sections follow one another from this place to that one
 pub data AreSections (text : List ℕ) : ℕ → ℕ → List Section → Type 0 where
   none : {at : ℕ} → AreSections text at at []
-  section : {at next end : ℕ} {others : List Section} (first : Section) → IsSection text at next first → AreSections text next end others → AreSections text at end (first ∷ others)
+  section : {at next end : ℕ} {others : List Section} (first : Section) → IsSection text at next first →
+      AreSections text next end others → AreSections text at end (first ∷ others)
 
 -- the preamble ends where the first compartment line stands, and the sections go on to the end of the text
 pub record IsSplit (text preamble : List ℕ) (sections : List Section) : Type 0 where

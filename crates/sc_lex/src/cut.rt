@@ -32,8 +32,10 @@ pub fn tokens(alloc: Global, bytes: &[u8], line: u32) -> Result<Tokens, TextFaul
     ensures cut { IfOk result (IsCut bytes.now) }
 
     // Bytes are refused exactly where no tokens cut them, at the first place that begins neither gap nor token.
-    ensures refused { (refusal : Refusal) → IsErrOf result (TextFault.Refused refusal) → RefusesBytes bytes.now line refusal }
-    ensures uncut { (refusal : Refusal) → IsErrOf result (TextFault.Refused refusal) → (tokens : List Token) → IsCut bytes.now tokens → ⊥ }
+    ensures refused { (refusal : Refusal) → IsErrOf result (TextFault.Refused refusal) →
+        RefusesBytes bytes.now line refusal }
+    ensures uncut { (refusal : Refusal) → IsErrOf result (TextFault.Refused refusal) → (tokens : List Token) →
+        IsCut bytes.now tokens → ⊥ }
 {
     let mut found = Items::new(alloc);
     let mut at = 0;
@@ -104,10 +106,12 @@ pub fn slices_in_order()
 
 /// Bytes are cut into one list of tokens at most.
 pub fn one_cut()
-    ensures { (bytes : List ℕ) (tokens others : List Token) → IsCut bytes tokens → IsCut bytes others → tokens ≡ others }
+    ensures { (bytes : List ℕ) (tokens others : List Token) → IsCut bytes tokens → IsCut bytes others →
+        tokens ≡ others }
 {}
 
 /// Bytes are refused in one line at most, counted from the same line.
 pub fn one_refusal()
-    ensures { (bytes : List ℕ) (line : ℕ) (refusal other : Refusal) → RefusesBytes bytes line refusal → RefusesBytes bytes line other → refusal ≡ other }
+    ensures { (bytes : List ℕ) (line : ℕ) (refusal other : Refusal) → RefusesBytes bytes line refusal →
+        RefusesBytes bytes line other → refusal ≡ other }
 {}

@@ -41,11 +41,13 @@ pub struct Split<'a> {
 /// begins a section, and nothing else does. A name and any blanks follow on that line.
 pub fn sections(alloc: Global, text: &[u8]) -> Result<Split<'_>, TextFault>
     ensures split { IfOk result (λ split. IsSplit text.now split.preamble.now split.sections) }
-    ensures joined { IfOk result (λ split. split.preamble.now ++ flat_map (λ section. section.bytes.now) split.sections ≡ text.now) }
+    ensures joined { IfOk result (λ split. split.preamble.now ++
+        flat_map (λ section. section.bytes.now) split.sections ≡ text.now) }
 
     // A text is refused exactly where a compartment line is bad, at the first such line.
     ensures good { OnOk result ((at : ℕ) → IsBadHeading text.now at → ⊥) }
-    ensures refused { (refusal : Refusal) → IsErrOf result (TextFault.Refused refusal) → RefusesHeading text.now refusal }
+    ensures refused { (refusal : Refusal) → IsErrOf result (TextFault.Refused refusal) →
+        RefusesHeading text.now refusal }
 {
     let first = next_heading(text, 0);
     let mut sections = Items::new(alloc);

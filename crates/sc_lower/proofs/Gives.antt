@@ -10,7 +10,7 @@ use Rattle.sc_core.specs.Value.{Arith}
 use Rattle.sc_core.specs.Words.{State, Here, Piece, Reached, Stopped, and_then, computed, Left, Exit, Next, Break, Continue, Return, Does, leave, take, follow, in_order, Calls}
 use Rattle.sc_tac.specs.declared.stmt.TacOp.{TacOp}
 use Rattle.sc_tac.specs.declared.stmt.TacStmt.{TacStmt, TacStmt-F, map-TacStmt, roll-TacStmt, fold-roll-TacStmt}
-use Rattle.sc_tac.specs.Code.{Temps, Codes, given, known, operated, read, gets, op_does, code_step, stmt_does, code_does}
+use Rattle.sc_tac.specs.Code.{Temps, Codes, with_temp, known, operated, read, gets, op_does, code_step, stmt_does, code_does}
 
 abbrev pub Keeps : ℕ → Temps → Temps → Type 0
 Keeps n t u = (i : ℕ) → i < n → u i ≡ t i
@@ -51,11 +51,11 @@ module _ {A : Type 0} where
   follow_end (Reached left s) = taken_end left.exit left.carried s
   follow_end (Stopped end s) = refl
 
-pub given_same : (d : ℕ) (v : Value) (t : Temps) → given d v t d ≡ Some v
-given_same d v t = grind (numbers, common_steps)
+pub with_temp_same : (d : ℕ) (v : Value) (t : Temps) → with_temp d v t d ≡ Some v
+with_temp_same d v t = grind (numbers, common_steps)
 
-pub given_other : (d : ℕ) (v : Value) (t : Temps) (i : ℕ) → i < d → given d v t i ≡ t i
-given_other d v t i lt = grind (numbers, common_steps)
+pub with_temp_other : (d : ℕ) (v : Value) (t : Temps) (i : ℕ) → i < d → with_temp d v t i ≡ t i
+with_temp_other d v t i lt = grind (numbers, common_steps)
 
 module _ (arith : Arith) (here : Here) (calls : Calls) where
   abbrev pub run : List TacStmt → Codes
@@ -118,10 +118,10 @@ module _ (arith : Arith) (here : Here) (calls : Calls) where
   gets_gives n d t s (Err cause) le = refl
   gets_gives n d t s (Ok v) le =
       record {
-        temps = given d v t;
+        temps = with_temp d v t;
         comes = refl;
-        holds = given_same d v t;
-        keeps = λ i lt. given_other d v t i
+        holds = with_temp_same d v t;
+        keeps = λ i lt. with_temp_other d v t i
             (omega numbers);
       }
 

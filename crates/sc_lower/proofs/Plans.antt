@@ -129,7 +129,7 @@ module _ (arith : Arith) (interfaces : Interfaces) where
     abbrev pub quick_meaning : (inputs : List ℕ) (turns events : ℕ) → SourceRun
     quick_meaning inputs turns events =
         stopped_at events (run_by quick_library (run_step quick_library)
-        (code_globals (lowered_sections interfaces 0 (map section sheets))) inputs turns).shown
+        (code_globals (lowered_sections interfaces 0 (map section sheets))) inputs turns).behaviour
 
     -- what lowered code means, where it is this
     pub lowered_is : AllEmit sheets xs → (inputs : List ℕ) (turns events : ℕ) →
@@ -137,7 +137,7 @@ module _ (arith : Arith) (interfaces : Interfaces) where
         ≡ quick_meaning inputs turns events
     lowered_is h inputs turns events =
         ap (λ functions. stopped_at events (run_by (library functions) (run_step (library functions))
-        (code_globals (lowered_sections interfaces 0 (map section sheets))) inputs turns).shown)
+        (code_globals (lowered_sections interfaces 0 (map section sheets))) inputs turns).behaviour)
         (quick_sections_are 0 sheets xs h) where
           library : List (List Function) → Library
           library functions =

@@ -35,11 +35,11 @@ use Rattle.sc_core.proofs.Induction.{Each, Inside, stmt_induction}
 use Rattle.sc_tac.specs.declared.stmt.TacStmt.{TacStmt}
 use Rattle.sc_tac.specs.declared.stmt.TacStmt.TheOpen as tac
 use Rattle.sc_tac.specs.declared.stmt.TacStmt.TheVariants as emit
-use Rattle.sc_tac.specs.Code.{Temps, Codes, given, received, call_does, stmt_does}
+use Rattle.sc_tac.specs.Code.{Temps, Codes, with_temp, received, call_does, stmt_does}
 use Rattle.sc_lower.specs.Expressions.{Low, Forms, alone, at_place, place_code, forms}
 use Rattle.sc_lower.specs.Statements.{Part, Parts, just, in_turn, many, store_at, assign, first_of, call_code, call_alone, call_for, return_value, test, cycle, simple_code, part_code, kind_step, stmt_code, block_code}
 use Rattle.sc_lower.specs.Programs.{init_code, inits_code, body_code}
-use Rattle.sc_lower.proofs.Gives.{Keeps, run, given_same, run_append, first_is}
+use Rattle.sc_lower.proofs.Gives.{Keeps, run, with_temp_same, run_append, first_is}
 use Rattle.sc_lower.proofs.Expressions.{Computes, alone_computes, place_computes, place_gives, expr_fits}
 use Rattle.sc_lower.proofs.Matching.{answers, value_answers, none_answers, blamed, BackMatches, ends_then, Matches, ActsMatch, matches_along, leave_matches, follow_matches, if_matches, rounds_match, code_then, read_matches, computed_matches, one_matches, GivesAll, codes_then}
 
@@ -274,8 +274,8 @@ module _ (arith : Arith) (structs : List TypedStruct) (here : Here) (params : �
               (run arith here D (store_at (form place) d (suc d)).code (received (Some d) v u) s)
           by d None u s a good = absurd (false≢true good)
           by d (Some v) u s a good =
-              store_at_matches (form place) (way place) (fits_place place) (suc d) line d a (given d v u) s v
-              (omega numbers) (given_same d v u)
+              store_at_matches (form place) (way place) (fits_place place) (suc d) line d a (with_temp d v u) s v
+              (omega numbers) (with_temp_same d v u)
 
     simple_matches : (k : TypedSimpleKind) (n line : ℕ) → simple_fits scope callable result k ≡ true →
         Does (simple_does arith structs here params C k line) (run arith here D (simple_code structs params k n).code)
@@ -367,9 +367,10 @@ module _ (arith : Arith) (structs : List TypedStruct) (here : Here) (params : �
           by d None u s a good = absurd (false≢true good)
           by d (Some v) u s a good =
               one_matches has arith here D (leave (Return (Some v)) a s) (tac.Return (Some d)) (emit.Return (Some d))
-              (given d v u) s (emit.rolls-Return (Some d))
-              (read_matches has arith here D d v (given d v u) s (leave (Return (Some v)) a s) _ (given_same d v u)
-              (leave_matches has (Return (Some v)) (value_answers has v) a (given d v u) s))
+              (with_temp d v u) s (emit.rolls-Return (Some d))
+              (read_matches has arith here D d v (with_temp d v u) s (leave (Return (Some v)) a s) _
+              (with_temp_same d v u)
+              (leave_matches has (Return (Some v)) (value_answers has v) a (with_temp d v u) s))
 
     abbrev layer_acts : TypedStmtKind-F TypedStmtKind TypedStmt → ℕ → Acts
     layer_acts k = layer_of _ _ (kind_acts arith structs here params C) stmt_step k

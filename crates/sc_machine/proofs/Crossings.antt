@@ -24,43 +24,53 @@ module _ (image : ImageParts) (state : State) (target : ℕ) where
   pub no_call : (rd : ℕ) → rd ≢ ra → calls image state rd target ≡ Traps BadJump
   no_call rd h = rw (ne_eqb rd ra h) refl
 
-  linked : (rd : ℕ) → rd ≡ ra → calls image state rd target ≡ export_called image state (comp_of_code target) target (export_at image (comp_of_code target) target)
+  linked : (rd : ℕ) → rd ≡ ra → calls image state rd target ≡
+      export_called image state (comp_of_code target) target (export_at image (comp_of_code target) target)
   linked rd h = rw (eq-eqb rd ra h) refl
 
-  called_by : (comp index params : ℕ) → comp ≡ comp_of_code target → export_at image comp target ≡ Some index → params ≡ params_of image comp index →
+  called_by : (comp index params : ℕ) → comp ≡ comp_of_code target → export_at image comp target ≡ Some index →
+      params ≡ params_of image comp index →
       may_call image state.active comp index ≡ true →
-      export_called image state (comp_of_code target) target (export_at image (comp_of_code target) target) ≡ Goes (called state comp index params target)
+      export_called image state (comp_of_code target) target (export_at image (comp_of_code target) target) ≡
+      Goes (called state comp index params target)
   called_by comp index params to found takes may = rw (sym to, found, may, takes) refl
 
   pub call_made : (rd : ℕ) (callee : Callee) → rd ≡ ra → callee.entry ≡ target → IsCallee image state.active callee →
       calls image state rd target ≡ Goes (called state callee.comp callee.index callee.params callee.entry)
   call_made rd callee links at h =
-      linked rd links ∙ called_by callee.comp callee.index callee.params (rw at at h.comp) (rw at at h.index) h.params h.may ∙
+      linked rd links ∙ called_by callee.comp callee.index callee.params (rw at at h.comp)
+      (rw at at h.index) h.params h.may ∙
       ap (λ entry. Goes (called state callee.comp callee.index callee.params entry)) (sym at)
 
   pub call_refused : (rd : ℕ) (reason : TrapReason) → rd ≡ ra →
-      Traps reason ≡ export_called image state (comp_of_code target) target (export_at image (comp_of_code target) target) → Traps reason ≡ calls image state rd target
+      Traps reason ≡ export_called image state (comp_of_code target) target
+      (export_at image (comp_of_code target) target) → Traps reason ≡ calls image state rd target
   call_refused rd reason links is = is ∙ sym (linked rd links)
 
-  pub not_imported : (comp index : ℕ) → comp ≡ comp_of_code target → export_at image comp target ≡ Some index → may_call image state.active comp index ≡ false →
-      export_called image state (comp_of_code target) target (export_at image (comp_of_code target) target) ≡ Traps NoImport
+  pub not_imported : (comp index : ℕ) → comp ≡ comp_of_code target → export_at image comp target ≡ Some index →
+      may_call image state.active comp index ≡ false →
+      export_called image state (comp_of_code target) target (export_at image (comp_of_code target) target) ≡
+      Traps NoImport
   not_imported comp index to found may = rw (sym to, found, may) refl
 
   pub not_exported : (comp : ℕ) → comp ≡ comp_of_code target → export_at image comp target ≡ None →
-      export_called image state (comp_of_code target) target (export_at image (comp_of_code target) target) ≡ Traps BadJump
+      export_called image state (comp_of_code target) target (export_at image (comp_of_code target) target) ≡
+      Traps BadJump
   not_exported comp to none = rw (sym to, none) refl
 
 -- An export that is found is one of a compartment of the image.
 
 exporter_by : (image : ImageParts) (c target i : ℕ) (comp : Option CompPart) → slice_get image.comps c ≡ comp →
-    position (λ export. export.entry == target) (option_map_or (λ comp. comp.exports) comp []) ≡ Some i → (found : CompPart) × (slice_get image.comps c ≡ Some found)
+    position (λ export. export.entry == target) (option_map_or (λ comp. comp.exports) comp []) ≡ Some i →
+    (found : CompPart) × (slice_get image.comps c ≡ Some found)
 exporter_by image c target i None is at = let never : ◌≡◌ {A = Option ℕ} None (Some i) = at in cc never
 exporter_by image c target i (Some comp) is at = (comp, is)
 
 abbrev no_export : ExportPart
 no_export = record { name = []; params = 0; result = false; entry = 0 }
 
-module _ (image : ImageParts) (formed : IsWellFormed image) (c target i : ℕ) (at : export_at image c target ≡ Some i) where
+module _ (image : ImageParts) (formed : IsWellFormed image) (c target i : ℕ)
+    (at : export_at image c target ≡ Some i) where
   exporter : (found : CompPart) × (slice_get image.comps c ≡ Some found)
   exporter = exporter_by image c target i (slice_get image.comps c) refl at
 
@@ -71,7 +81,8 @@ module _ (image : ImageParts) (formed : IsWellFormed image) (c target i : ℕ) (
   exporter_few = omega (arith, exporter_within, formed.few_comps)
 
   pub export_within : i < length (exports_of image c)
-  export_within = (position-Some (λ (export : ExportPart). export.entry == target) (exports_of image c) i no_export at).0
+  export_within = (position-Some (λ (export : ExportPart). export.entry == target)
+      (exports_of image c) i no_export at).0
 
   own_within : i < length exporter.0.exports
   own_within =

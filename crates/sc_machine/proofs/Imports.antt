@@ -18,13 +18,16 @@ use Rattle.sc_machine.specs.Passing.{IsCallee}
 -- The first export at an entry is the one whose entry it is, since no two have the same.
 
 -- no two exports have one entry
-one_entry : (exports : List ExportPart) → IsDistinct (map (λ export. export.entry) exports) → (j k : ℕ) (d : ExportPart) → j < length exports → k < length exports →
+one_entry : (exports : List ExportPart) → IsDistinct (map (λ export. export.entry) exports) →
+    (j k : ℕ) (d : ExportPart) → j < length exports → k < length exports →
     (get_or exports j d).entry ≡ (get_or exports k d).entry → j ≡ k
 one_entry exports distinct j k d inside within same =
     ⊎_elim (λ before. absurd (apart j k before within same))
-    (λ rest. ⊎_elim (λ after. absurd (apart k j after inside (sym same))) (λ other. let both : j ≡ k = omega (arith, rest, other) in both) (cases_lt k j)) (cases_lt j k)
+    (λ rest. ⊎_elim (λ after. absurd (apart k j after inside (sym same)))
+    (λ other. let both : j ≡ k = omega (arith, rest, other) in both) (cases_lt k j)) (cases_lt j k)
   where
-    at : (i : ℕ) → i < length exports → get_or (map (λ export. export.entry) exports) i d.entry ≡ (get_or exports i d).entry
+    at : (i : ℕ) → i < length exports → get_or (map (λ export. export.entry) exports) i d.entry ≡
+        (get_or exports i d).entry
     at i h = get_or-map (λ (export : ExportPart). export.entry) exports i d d.entry h
 
     apart : (i l : ℕ) → i < l → l < length exports → (get_or exports i d).entry ≡ (get_or exports l d).entry → ⊥
@@ -38,36 +41,54 @@ has_word code k None at some = let never : false ≡ true = some in cc never
 has_word code k (Some word) at some = slice_get_within code k word at
 
 lies_by : (aligned low : Bool) (begin entry : ℕ) (code : List ℕ) → (low ≡ true → begin ≤ entry) →
-    IsSome (if aligned && low then slice_get code ((entry - begin) / 4) else None) → (begin ≤ entry) × ((entry - begin) / 4 < length code)
-lies_by true true begin entry code from some = (from refl, has_word code ((entry - begin) / 4) (slice_get code ((entry - begin) / 4)) refl some)
+    IsSome (if aligned && low then slice_get code ((entry - begin) / 4) else None) →
+    (begin ≤ entry) × ((entry - begin) / 4 < length code)
+lies_by true true begin entry code from some = (
+  from refl,
+  has_word code ((entry - begin) / 4) (slice_get code ((entry - begin) / 4)) refl some,
+)
 lies_by true false begin entry code from some = let never : false ≡ true = some in cc never
 lies_by false low begin entry code from some = let never : false ≡ true = some in cc never
 
 low_is : (x y : ℕ) → nat_le x y ≡ true → x ≤ y
 low_is x y h = leb-true x y h
 
-home_of : (image : ImageParts) (c entry : ℕ) → 4 * length (code_of image c) ≤ stretch → IsEntry image c entry → c ≡ comp_of_code entry
+home_of : (image : ImageParts) (c entry : ℕ) → 4 * length (code_of image c) ≤ stretch → IsEntry image c entry →
+    c ≡ comp_of_code entry
 unfolding word_at
 home_of image c entry short is =
-    let lies = lies_by (nat_eq (entry % 4) 0) (nat_le (code_start c) entry) (code_start c) entry (code_of image c) (low_is (code_start c) entry) is in
+    let lies = lies_by (nat_eq (entry % 4) 0) (nat_le (code_start c) entry) (code_start c) entry (code_of image c)
+    (low_is (code_start c) entry) is in
     omega (arith, short, lies.0, lies.1)
 
-pub imported : (image : ImageParts) (caller : ℕ) (import : ImportPart) (comp : CompPart) (export : ExportPart) → IsWellFormed image →
-    may_call image caller import.comp import.index ≡ true → slice_get image.comps import.comp ≡ Some comp → slice_get comp.exports import.index ≡ Some export →
-    IsCallee image caller (record { entry = export.entry; comp = import.comp; index = import.index; params = export.params })
+pub imported : (image : ImageParts) (caller : ℕ) (import : ImportPart) (comp : CompPart) (export : ExportPart) →
+    IsWellFormed image →
+    may_call image caller import.comp import.index ≡ true → slice_get image.comps import.comp ≡ Some comp →
+    slice_get comp.exports import.index ≡ Some export →
+    IsCallee image caller (record {
+      entry = export.entry;
+      comp = import.comp;
+      index = import.index;
+      params = export.params;
+    })
 imported image caller import comp export formed may at found =
     let rules = formed.comps import.comp comp at in
     let within = slice_get_within comp.exports import.index export found in
-    let is : get_or comp.exports import.index export ≡ export = get_or_from_slice_get comp.exports import.index export export found in
-    let keeps : IsExport image import.comp export = subst (IsExport image import.comp) is (rules.exports import.index export within) in
+    let is : get_or comp.exports import.index export ≡ export =
+    get_or_from_slice_get comp.exports import.index export export found in
+    let keeps : IsExport image import.comp export = subst (IsExport image import.comp) is
+    (rules.exports import.index export within) in
     let short : 4 * length (code_of image import.comp) ≤ stretch = rw at rules.short_code in
-    let entry_is : (get_or comp.exports import.index export).entry ≡ export.entry = ap (λ (e : ExportPart). e.entry) is in
+    let entry_is : (get_or comp.exports import.index export).entry ≡ export.entry =
+    ap (λ (e : ExportPart). e.entry) is in
     record {
       comp = home_of image import.comp export.entry short keeps.entry;
       within = slice_get_within image.comps import.comp comp at;
       index = rw at
-          (position_of_only (λ (e : ExportPart). e.entry == export.entry) comp.exports import.index export within (eq-eqb _ _ entry_is)
-          (λ j inside same. one_entry comp.exports rules.export_entries j import.index export inside within (eqb-true _ _ same ∙ sym entry_is)));
+          (position_of_only (λ (e : ExportPart). e.entry == export.entry) comp.exports import.index export within
+          (eq-eqb _ _ entry_is)
+          (λ j inside same. one_entry comp.exports rules.export_entries j import.index export inside within
+          (eqb-true _ _ same ∙ sym entry_is)));
       params = rw (at, found) refl;
       few = keeps.params;
       may = may;

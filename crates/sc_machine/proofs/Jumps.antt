@@ -27,7 +27,8 @@ pub jump_elsewhere : (image : ImageParts) (state : State) (rd target : ℕ) (oth
 jump_elsewhere image state rd target other e h = rw (eq-eqb _ _ e, h) refl
 
 -- JALR, by the sum of its register and its immediate
-leaves_by : (image : ImageParts) (state : State) (rd target : ℕ) → (rd ≡ 0 → target ≡ gate → ⊥) → leaves image state rd target ≡ calls image state rd target
+leaves_by : (image : ImageParts) (state : State) (rd target : ℕ) → (rd ≡ 0 → target ≡ gate → ⊥) →
+    leaves image state rd target ≡ calls image state rd target
 leaves_by image state rd target h =
     ⊎_elim
     (λ zero_is. let other : target ≢ gate = h zero_is in rw (eq-eqb rd 0 zero_is, ne_eqb target gate other) refl)
@@ -36,7 +37,8 @@ leaves_by image state rd target h =
 
 pub jalr_jumps : (image : ImageParts) (inputs : List ℕ) (state : State) (rd rs1 : ℕ) (imm : ℤ) (sum : ℕ) →
     sum ≡ add_word (reg state rs1) (word_of imm) → (rd ≡ 0 → sum / 2 * 2 ≡ gate → ⊥) →
-    execute image inputs state (Jalr rd rs1 imm) ≡ jump image state rd (sum / 2 * 2) (calls image state rd (sum / 2 * 2))
+    execute image inputs state (Jalr rd rs1 imm) ≡ jump image state rd (sum / 2 * 2)
+    (calls image state rd (sum / 2 * 2))
 unfolding execute_by
 jalr_jumps image inputs state rd rs1 imm sum is h =
     rw (sym is) (ap (jump image state rd (sum / 2 * 2)) (leaves_by image state rd (sum / 2 * 2) h))

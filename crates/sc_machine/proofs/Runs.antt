@@ -28,21 +28,27 @@ room_left events trace early = room_by events trace (is_ended trace) (nat_le eve
 -- the last steps of a run
 module _ (image : ImageParts) (inputs : List ℕ) (events : ℕ) (state : State) where
   no_more : (early : Option Stop) →
-      ◌≡◌ {A = Run} (stops_or early state (record { state = state; stop = StepsOut })) (record { state = state; stop = unwrap_or early StepsOut })
+      ◌≡◌ {A = Run} (stops_or early state (record { state = state; stop = StepsOut }))
+      (record { state = state; stop = unwrap_or early StepsOut })
   no_more None = refl
   no_more (Some stop) = refl
 
   pub no_steps : (left : ℕ) → left ≡ 0 →
-      run image inputs events left state ≡ record { state = state; stop = unwrap_or (stopped events state.trace) StepsOut }
+      run image inputs events left state ≡ record {
+        state = state;
+        stop = unwrap_or (stopped events state.trace) StepsOut;
+      }
   unfolding run
   no_steps left none = rw none (no_more (stopped events state.trace))
 
   -- one of the steps that are left
-  pub trapped : (left n : ℕ) (reason : TrapReason) → left ≡ suc n → stopped events state.trace ≡ None → Traps reason ≡ step image inputs state →
+  pub trapped : (left n : ℕ) (reason : TrapReason) → left ≡ suc n → stopped events state.trace ≡ None →
+      Traps reason ≡ step image inputs state →
       run image inputs events left state ≡ record { state = state; stop = Trap reason state.pc }
   trapped left n reason more early is = rw more (run_traps image inputs events n state reason early (sym is))
 
-  pub gone : (left n : ℕ) (next : State) → left ≡ suc n → stopped events state.trace ≡ None → Goes next ≡ step image inputs state →
+  pub gone : (left n : ℕ) (next : State) → left ≡ suc n → stopped events state.trace ≡ None →
+      Goes next ≡ step image inputs state →
       run image inputs events left state ≡ run image inputs events n next
   gone left n next more early is = rw more (run_goes image inputs events n state next early (sym is))
 
@@ -50,11 +56,14 @@ module _ (image : ImageParts) (inputs : List ℕ) (events : ℕ) (state : State)
 
 module _ (image : ImageParts) (inputs : List ℕ) (events : ℕ) (state : State) where
   later_calls : (n : ℕ) (more : List ℕ) →
-      fold (λ earlier m. continued (run image inputs events m) earlier) (run image inputs events n state) more ≡ run image inputs events (n + sum more) state
+      fold (λ earlier m. continued (run image inputs events m) earlier) (run image inputs events n state) more ≡
+      run image inputs events (n + sum more) state
   later_calls n [] = ap (λ k. run image inputs events k state) (sym (add-zero n))
   later_calls n (m ∷ more) =
-      ap (λ r. fold (λ earlier m. continued (run image inputs events m) earlier) r more) (sym (run_more image inputs events m n state)) ∙
-      later_calls (n + m) more ∙ ap (λ k. run image inputs events k state) (add_assoc n m (sum more) ∙ ap (λ k. n + k) (sym (sum_by-cons (λ x. x) m more)))
+      ap (λ r. fold (λ earlier m. continued (run image inputs events m) earlier) r more)
+      (sym (run_more image inputs events m n state)) ∙
+      later_calls (n + m) more ∙ ap (λ k. run image inputs events k state)
+      (add_assoc n m (sum more) ∙ ap (λ k. n + k) (sym (sum_by-cons (λ x. x) m more)))
 
 pub any_calls : (image : ImageParts) (inputs : List ℕ) (events first : ℕ) (more : List ℕ) →
     calls image inputs events (first ∷ more) ≡ machine image inputs (first + sum more) events

@@ -11,4 +11,5 @@ loaded image = record { state = start image; stop = StepsOut }
 
 -- the run after a list of calls, each with at most so many steps more
 abbrev pub calls : ImageParts → List ℕ → (events : ℕ) → (steps : List ℕ) → Run
-calls image inputs events steps = fold (λ earlier more. continued (run image inputs events more) earlier) (loaded image) steps
+calls image inputs events steps = fold (λ earlier more. continued (run image inputs events more) earlier)
+    (loaded image) steps

@@ -49,7 +49,8 @@ linked core rd target = record { registers = written core.registers rd (core.pc 
 abbrev pub advanced : Core → Core
 advanced core = record { registers = core.registers; pc = core.pc + 4 }
 
--- the active compartment and those that wait are the image's, each of its compartments has a saved sp, and each input that was read is in the trace
+-- the active compartment and those that wait are the image's, each of its compartments has a saved sp, and each input
+-- that was read is in the trace
 pub record IsSound (image : ImageParts) (hart : Hart) : Type 0 where
   pub place : IsPlace image hart.active
   pub callers : All (λ call. call.caller < length image.comps) hart.cross.calls
@@ -66,7 +67,8 @@ pub record HasRoomForOne (hart : Hart) : Type 0 where
   pub trace : length hart.trace.items < vec_capacity hart.trace
   pub cross : 0 < hart.cross.room
 
--- a hart that an instruction of this compartment's code can change: its code runs, and there is room for what the instruction shows
+-- a hart that an instruction of this compartment's code can change: its code runs, and there is room for what the
+-- instruction shows
 pub record IsReady (site : Site) (hart : Hart) : Type 0 where
   pub here : site.comp ≡ hart.active
   pub sound : IsSound site.image hart
@@ -78,7 +80,8 @@ pub record StaysSound (image : ImageParts) (before after : Hart) : Type 0 where
   pub room : (events : ℕ) → HasRoom events before → HasRoom events after
 
 -- what an instruction leaves, by its answer: a trap changes nothing
-pub record LeavesSound {A : Type 0} (image : ImageParts) (result : Result A TrapReason) (before after : Hart) : Type 0 where
+pub record LeavesSound {A : Type 0} (image : ImageParts) (result : Result A TrapReason)
+    (before after : Hart) : Type 0 where
   pub trap : OnErr result (after ≡ before)
   pub stays : StaysSound image before after
 

@@ -29,4 +29,7 @@ entered core params stack entry =
 
 -- and those that a caller goes on with
 abbrev pub resumed : Core → (has_result : Bool) → (stack pc : ℕ) → Core
-resumed core has_result stack pc = record { registers = written (cleared_for_return has_result core.registers) sp stack; pc = pc }
+resumed core has_result stack pc = record {
+  registers = written (cleared_for_return has_result core.registers) sp stack;
+  pc = pc;
+}

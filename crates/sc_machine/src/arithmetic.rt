@@ -17,7 +17,8 @@ use sc_word::{add, div, divu, mul, mulh, mulhsu, mulhu, rem, remu, sll, slt, slt
 /// LUI gives its immediate, AUIPC adds it to the pc.
 pub(crate) fn upper(core: &mut Core, op: UpperOp, rd: Reg, imm: UpperImmediate)
     requires { core.old.pc + 4 < 2 ^ 32 }
-    ensures { (image : ImageParts) (inputs : List ℕ) (state : State) → Goes (at state core.new) ≡ execute image inputs (at state core.old) (Instr.Upper op rd imm) }
+    ensures { (image : ImageParts) (inputs : List ℕ) (state : State) →
+        Goes (at state core.new) ≡ execute image inputs (at state core.old) (Instr.Upper op rd imm) }
 {
     match op {
         UpperOp::Lui => core.give(rd, imm.value()),
@@ -28,7 +29,8 @@ pub(crate) fn upper(core: &mut Core, op: UpperOp, rd: Reg, imm: UpperImmediate)
 /// An operation on a register and an immediate.
 pub(crate) fn op_imm(core: &mut Core, op: OpImmOp, rd: Reg, rs1: Reg, imm: Immediate)
     requires { core.old.pc + 4 < 2 ^ 32 }
-    ensures { (image : ImageParts) (inputs : List ℕ) (state : State) → Goes (at state core.new) ≡ execute image inputs (at state core.old) (Instr.OpImm op rd rs1 imm) }
+    ensures { (image : ImageParts) (inputs : List ℕ) (state : State) →
+        Goes (at state core.new) ≡ execute image inputs (at state core.old) (Instr.OpImm op rd rs1 imm) }
 {
     let word = with_immediate(op, core.register(rs1), word_of(imm));
     core.give(rd, word);
@@ -37,7 +39,8 @@ pub(crate) fn op_imm(core: &mut Core, op: OpImmOp, rd: Reg, rs1: Reg, imm: Immed
 /// A shift of a register by a constant.
 pub(crate) fn shift(core: &mut Core, op: ShiftOp, rd: Reg, rs1: Reg, amount: ShiftAmount)
     requires { core.old.pc + 4 < 2 ^ 32 }
-    ensures { (image : ImageParts) (inputs : List ℕ) (state : State) → Goes (at state core.new) ≡ execute image inputs (at state core.old) (Instr.Shift op rd rs1 amount) }
+    ensures { (image : ImageParts) (inputs : List ℕ) (state : State) →
+        Goes (at state core.new) ≡ execute image inputs (at state core.old) (Instr.Shift op rd rs1 amount) }
 {
     let word = shifted(op, core.register(rs1), amount.bits() as u32);
     core.give(rd, word);
@@ -46,7 +49,8 @@ pub(crate) fn shift(core: &mut Core, op: ShiftOp, rd: Reg, rs1: Reg, amount: Shi
 /// An operation on two registers.
 pub(crate) fn op(core: &mut Core, op: OpOp, rd: Reg, rs1: Reg, rs2: Reg)
     requires { core.old.pc + 4 < 2 ^ 32 }
-    ensures { (image : ImageParts) (inputs : List ℕ) (state : State) → Goes (at state core.new) ≡ execute image inputs (at state core.old) (Instr.Op op rd rs1 rs2) }
+    ensures { (image : ImageParts) (inputs : List ℕ) (state : State) →
+        Goes (at state core.new) ≡ execute image inputs (at state core.old) (Instr.Op op rd rs1 rs2) }
 {
     let word = computed(op, core.register(rs1), core.register(rs2));
     core.give(rd, word);

@@ -42,7 +42,8 @@ pub(crate) fn call_out(
 ) -> Result<(), TrapReason>
     requires pc { hart.old.core.pc + 4 < 2 ^ 32 }
     requires ready { IsReady here.now hart.old }
-    ensures outcome { (memory : Memory) → outcome_of result (state_in memory hart.new) ≡ calls here.now.image (state_in memory hart.old) rd target }
+    ensures outcome { (memory : Memory) → outcome_of result (state_in memory hart.new) ≡
+        calls here.now.image (state_in memory hart.old) rd target }
     ensures leaves { LeavesSound here.now.image result hart.old hart.new }
 {
     if rd as usize != RA {
@@ -66,7 +67,9 @@ fn find_callee(image: &Image, caller: CompId, target: u32) -> Result<Callee, Tra
     requires { IsWellFormed image.now }
     ensures callee { IfOk result (IsCallee image.now caller) }
     ensures entry { IfOk result (λ callee. callee.entry ≡ target) }
-    ensures trap { IfErr result (λ reason. (state : State) → state.active ≡ caller → Traps reason ≡ export_called image.now state (comp_of_code target) target (export_at image.now (comp_of_code target) target)) }
+    ensures trap { IfErr result (λ reason. (state : State) → state.active ≡ caller →
+        Traps reason ≡ export_called image.now state (comp_of_code target) target
+        (export_at image.now (comp_of_code target) target)) }
 {
     let comp = comp_of_code(target);
     let exports = exports(image, comp);
@@ -121,7 +124,8 @@ fn call(here: &Here<'_>, hart: &mut Hart, callee: &Callee)
     requires pc { hart.old.core.pc + 4 < 2 ^ 32 }
     requires ready { IsReady here.now hart.old }
     requires callee { IsCallee here.now.image here.now.comp callee.now }
-    ensures state { (memory : Memory) → state_in memory hart.new ≡ called (state_in memory hart.old) callee.now.comp callee.now.index callee.now.params callee.now.entry }
+    ensures state { (memory : Memory) → state_in memory hart.new ≡
+        called (state_in memory hart.old) callee.now.comp callee.now.index callee.now.params callee.now.entry }
     ensures stays { StaysSound here.now.image hart.old hart.new }
 {
     let caller = here.comp();

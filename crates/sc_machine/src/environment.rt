@@ -21,7 +21,8 @@ pub(crate) fn environment_call(
 ) -> Result<(), TrapReason>
     requires pc { hart.old.core.pc + 4 < 2 ^ 32 }
     requires ready { IsReady here.now hart.old }
-    ensures outcome { (memory : Memory) → outcome_of result (state_in memory hart.new) ≡ environment_call here.now.image (map word_of inputs.now) (state_in memory hart.old) }
+    ensures outcome { (memory : Memory) → outcome_of result (state_in memory hart.new) ≡
+        environment_call here.now.image (map word_of inputs.now) (state_in memory hart.old) }
     ensures leaves { LeavesSound here.now.image result hart.old hart.new }
 {
     match hart.core.registers[A7] {
@@ -66,7 +67,8 @@ fn input_at(inputs: &[i32], number: usize) -> u32
 fn input(here: &Here<'_>, inputs: &[i32], hart: &mut Hart)
     requires pc { hart.old.core.pc + 4 < 2 ^ 32 }
     requires ready { IsReady here.now hart.old }
-    ensures state { (memory : Memory) → Goes (state_in memory hart.new) ≡ next (input (map word_of inputs.now) (state_in memory hart.old)) }
+    ensures state { (memory : Memory) → Goes (state_in memory hart.new) ≡
+        next (input (map word_of inputs.now) (state_in memory hart.old)) }
     ensures stays { StaysSound here.now.image hart.old hart.new }
 {
     let word = input_at(inputs, hart.input);

@@ -24,7 +24,8 @@ pub(crate) fn step<S: Store>(
 ) -> Result<(), TrapReason>
     requires ready { IsReady here.now hart.old }
     requires backed { IsBacked here.now.image (S.bytes memory.old) }
-    ensures outcome { outcome_of result (state_in (S.bytes memory.new) hart.new) ≡ step here.now.image (map word_of inputs.now) (state_in (S.bytes memory.old) hart.old) }
+    ensures outcome { outcome_of result (state_in (S.bytes memory.new) hart.new) ≡
+        step here.now.image (map word_of inputs.now) (state_in (S.bytes memory.old) hart.old) }
     ensures leaves { LeavesSound here.now.image result hart.old hart.new }
     ensures memory { OnErr result (S.bytes memory.new ≡ S.bytes memory.old) }
     ensures backed { IsBacked here.now.image (S.bytes memory.new) }
@@ -48,7 +49,8 @@ fn execute<S: Store>(
     requires ready { IsReady here.now hart.old }
     requires backed { IsBacked here.now.image (S.bytes memory.old) }
     requires pc { hart.old.core.pc + 4 < 2 ^ 32 }
-    ensures outcome { outcome_of result (state_in (S.bytes memory.new) hart.new) ≡ execute here.now.image (map word_of inputs.now) (state_in (S.bytes memory.old) hart.old) instr.now }
+    ensures outcome { outcome_of result (state_in (S.bytes memory.new) hart.new) ≡
+        execute here.now.image (map word_of inputs.now) (state_in (S.bytes memory.old) hart.old) instr.now }
     ensures leaves { LeavesSound here.now.image result hart.old hart.new }
     ensures memory { OnErr result (S.bytes memory.new ≡ S.bytes memory.old) }
     ensures backed { IsBacked here.now.image (S.bytes memory.new) }

@@ -39,7 +39,9 @@ impl<'a> Model for Here<'a> {
 
     ghost view = { λ h. record { image = h.program.now; comp = h.comp } };
 
-    ghost invariant = { λ h. IsPlace h.program.now h.comp × IsLookedUp h.program.now h.comp h.code.now h.code_from h.data_from h.data_bytes × All (IsCallee h.program.now h.comp) h.callees.now };
+    ghost invariant = { λ h. IsPlace h.program.now h.comp ×
+        IsLookedUp h.program.now h.comp h.code.now h.code_from h.data_from h.data_bytes ×
+        All (IsCallee h.program.now h.comp) h.callees.now };
 }
 
 impl<'a> Here<'a> {

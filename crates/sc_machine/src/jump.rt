@@ -41,7 +41,9 @@ fn jump(here: &Here<'_>, hart: &mut Hart, rd: u8, target: u32) -> Result<(), Tra
     requires pc { hart.old.core.pc + 4 < 2 ^ 32 }
     requires ready { IsReady here.now hart.old }
     requires register { IsReg rd }
-    ensures outcome { (memory : Memory) → outcome_of result (state_in memory hart.new) ≡ jump here.now.image (state_in memory hart.old) rd target (calls here.now.image (state_in memory hart.old) rd target) }
+    ensures outcome { (memory : Memory) → outcome_of result (state_in memory hart.new) ≡
+        jump here.now.image (state_in memory hart.old) rd target
+        (calls here.now.image (state_in memory hart.old) rd target) }
     ensures leaves { LeavesSound here.now.image result hart.old hart.new }
 {
     if target % 4 != 0 {
@@ -56,7 +58,8 @@ fn jump(here: &Here<'_>, hart: &mut Hart, rd: u8, target: u32) -> Result<(), Tra
 
 /// Jumps to a place of the own code, as a branch does. There is no other place to branch to.
 fn jump_within(here: &Here<'_>, core: &mut Core, target: u32) -> Result<(), TrapReason>
-    ensures outcome { (state : State) → let there = comp_in here.now.comp state in outcome_of result (at there core.new) ≡ jump here.now.image (at there core.old) 0 target (Traps BadJump) }
+    ensures outcome { (state : State) → let there = comp_in here.now.comp state in
+        outcome_of result (at there core.new) ≡ jump here.now.image (at there core.old) 0 target (Traps BadJump) }
     ensures trap { OnErr result (core.new ≡ core.old) }
 {
     if target % 4 != 0 {
@@ -77,7 +80,9 @@ pub(crate) fn jal(
 ) -> Result<(), TrapReason>
     requires pc { hart.old.core.pc + 4 < 2 ^ 32 }
     requires ready { IsReady here.now hart.old }
-    ensures outcome { (inputs : List ℕ) (memory : Memory) → outcome_of result (state_in memory hart.new) ≡ execute here.now.image inputs (state_in memory hart.old) (Instr.Jal rd imm) }
+    ensures outcome { (inputs : List ℕ) (memory : Memory) →
+        outcome_of result (state_in memory hart.new) ≡
+        execute here.now.image inputs (state_in memory hart.old) (Instr.Jal rd imm) }
     ensures leaves { LeavesSound here.now.image result hart.old hart.new }
 {
     let target = jump_target(&hart.core, imm);
@@ -93,7 +98,9 @@ pub(crate) fn branch(
     imm: BranchOffset,
 ) -> Result<(), TrapReason>
     requires pc { core.old.pc + 4 < 2 ^ 32 }
-    ensures outcome { (inputs : List ℕ) (state : State) → let there = comp_in here.now.comp state in outcome_of result (at there core.new) ≡ execute here.now.image inputs (at there core.old) (Instr.Branch op rs1 rs2 imm) }
+    ensures outcome { (inputs : List ℕ) (state : State) → let there = comp_in here.now.comp state in
+        outcome_of result (at there core.new) ≡ execute here.now.image inputs (at there core.old)
+        (Instr.Branch op rs1 rs2 imm) }
     ensures trap { OnErr result (core.new ≡ core.old) }
 {
     if !compares(op, core.register(rs1), core.register(rs2)) {
@@ -114,7 +121,9 @@ pub(crate) fn jalr(
 ) -> Result<(), TrapReason>
     requires pc { hart.old.core.pc + 4 < 2 ^ 32 }
     requires ready { IsReady here.now hart.old }
-    ensures outcome { (inputs : List ℕ) (memory : Memory) → outcome_of result (state_in memory hart.new) ≡ execute here.now.image inputs (state_in memory hart.old) (Instr.Jalr rd rs1 imm) }
+    ensures outcome { (inputs : List ℕ) (memory : Memory) →
+        outcome_of result (state_in memory hart.new) ≡
+        execute here.now.image inputs (state_in memory hart.old) (Instr.Jalr rd rs1 imm) }
     ensures leaves { LeavesSound here.now.image result hart.old hart.new }
 {
     let target = hart.core.displaced(rs1, imm) / 2 * 2;

@@ -43,7 +43,20 @@ impl<S: Store> Model for Machine<S> {
 
     ghost use Rattle.sc_machine.specs.Hart.{CanRun};
 
-    ghost view = { λ m. record { image = m.program; inputs = map word_of m.inputs; events = m.events; registers = m.hart.core.registers; pc = m.hart.core.pc; active = m.hart.active; saved = m.hart.saved.items; cross = m.hart.cross.calls; input = m.hart.input; trace = m.hart.trace.items; store = m.memory; stop = m.stop } };
+    ghost view = { λ m. record {
+      image = m.program;
+      inputs = map word_of m.inputs;
+      events = m.events;
+      registers = m.hart.core.registers;
+      pc = m.hart.core.pc;
+      active = m.hart.active;
+      saved = m.hart.saved.items;
+      cross = m.hart.cross.calls;
+      input = m.hart.input;
+      trace = m.hart.trace.items;
+      store = m.memory;
+      stop = m.stop;
+    } };
 
     ghost invariant = { λ m. CanRun m.program m.events m.hart (S.bytes m.memory) };
 }
@@ -97,7 +110,8 @@ impl<S: Store> Machine<S> {
     /// Goes on for at most so many steps, and says why it stopped. A run that stopped for another
     /// reason than `StepsOut` stays so: the answer is the same, and nothing changes.
     pub fn run(&mut self, steps: u32) -> Stop
-        ensures run { run_of S.bytes self.new ≡ continued (run self.old.image self.old.inputs self.old.events steps) (run_of S.bytes self.old) }
+        ensures run { run_of S.bytes self.new ≡ continued (run self.old.image self.old.inputs self.old.events steps)
+            (run_of S.bytes self.old) }
         ensures answer { result ≡ self.new.stop }
         ensures image { self.new.image ≡ self.old.image }
         ensures inputs { self.new.inputs ≡ self.old.inputs }

@@ -23,7 +23,8 @@ pub(crate) fn load<S: Store>(
 ) -> Result<(), TrapReason>
     requires pc { core.old.pc + 4 < 2 ^ 32 }
     requires backed { IsBacked here.now.image (S.bytes memory.now) }
-    ensures outcome { (state : State) → let there = active_in here.now.comp (S.bytes memory.now) state in outcome_of result (at there core.new) ≡ load here.now.image (at there core.old) op rd address }
+    ensures outcome { (state : State) → let there = active_in here.now.comp (S.bytes memory.now) state in
+        outcome_of result (at there core.new) ≡ load here.now.image (at there core.old) op rd address }
     ensures trap { OnErr result (core.new ≡ core.old) }
 {
     if let Some(reason) = refused(here, load_size(op), address) {
@@ -44,7 +45,9 @@ pub(crate) fn store<S: Store>(
 ) -> Result<(), TrapReason>
     requires pc { core.old.pc + 4 < 2 ^ 32 }
     requires backed { IsBacked here.now.image (S.bytes memory.old) }
-    ensures outcome { (state : State) → outcome_of result (at (active_in here.now.comp (S.bytes memory.new) state) core.new) ≡ store here.now.image (at (active_in here.now.comp (S.bytes memory.old) state) core.old) op address word }
+    ensures outcome { (state : State) → outcome_of result
+        (at (active_in here.now.comp (S.bytes memory.new) state) core.new) ≡
+        store here.now.image (at (active_in here.now.comp (S.bytes memory.old) state) core.old) op address word }
     ensures trap { OnErr result (core.new ≡ core.old) }
     ensures memory { OnErr result (S.bytes memory.new ≡ S.bytes memory.old) }
     ensures backed { IsBacked here.now.image (S.bytes memory.new) }

@@ -42,7 +42,8 @@ impl<'a, S: Store> OwnView<'a, S> {
     /// The byte of the compartment's data at an address, `None` where the address isn't one of its
     /// data.
     pub fn byte(&self, at: u32) -> Option<u8>
-        ensures byte { result ≡ data_of self.now.machine.image self.now.comp (state_of S.bytes self.now.machine).memory at }
+        ensures byte { result ≡ data_of self.now.machine.image self.now.comp
+            (state_of S.bytes self.now.machine).memory at }
         ensures owned { IsSome result ↔ IsTrue (are_data self.now.machine.image self.now.comp at 1) }
     {
         self.machine.byte_of(self.comp, at)

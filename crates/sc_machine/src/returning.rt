@@ -18,7 +18,8 @@ use sc_image::layout::{A0, SP};
 /// Returns to the latest caller that waits. Where none does, the run ends.
 pub(crate) fn leave(here: &Here<'_>, hart: &mut Hart)
     requires ready { IsReady here.now hart.old }
-    ensures state { (memory : Memory) → state_in memory hart.new ≡ returned here.now.image (state_in memory hart.old) hart.old.cross.calls }
+    ensures state { (memory : Memory) → state_in memory hart.new ≡
+        returned here.now.image (state_in memory hart.old) hart.old.cross.calls }
     ensures stays { StaysSound here.now.image hart.old hart.new }
 {
     let leaving = here.comp();

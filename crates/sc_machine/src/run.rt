@@ -23,7 +23,8 @@ pub(crate) fn run<S: Store>(
     steps: u32,
 ) -> Stop
     requires ready { CanRun program.now events hart.old (S.bytes memory.old) }
-    ensures run { ◌≡◌ {A = Run} (record { state = state_in (S.bytes memory.new) hart.new; stop = result }) (run program.now (map word_of inputs.now) events steps (state_in (S.bytes memory.old) hart.old)) }
+    ensures run { ◌≡◌ {A = Run} (record { state = state_in (S.bytes memory.new) hart.new; stop = result })
+        (run program.now (map word_of inputs.now) events steps (state_in (S.bytes memory.old) hart.old)) }
     ensures ready { CanRun program.now events hart.new (S.bytes memory.new) }
 {
     let mut here = Here::of(program, hart.active);

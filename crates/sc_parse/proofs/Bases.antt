@@ -26,7 +26,8 @@ use Rattle.sc_parse.specs.Fronts.{keyword_by, keyword_at, is_int, past_int, inte
 use Rattle.sc_parse.specs.Readers.{base_by, base_at, type_name_at, elements_at, bracketed_length, length_at, declarator, declarator_at, type_of}
 use Rattle.sc_parse.proofs.Exact.{Taken, Exact, Any, took, glued}
 
-pub keyword_is : (s : Symbol) (word : Keyword) → keyword_by s ≡ Some word → IsKeyword word (record { symbol = s; line = 0 })
+pub keyword_is : (s : Symbol) (word : Keyword) → keyword_by s ≡ Some word →
+    IsKeyword word (record { symbol = s; line = 0 })
 keyword_is (symbol.Keyword other) word h = ap (λ w. symbol.Keyword w) (same_some h)
 keyword_is _ word h = absurd (none-some word h)
 
@@ -52,16 +53,25 @@ abbrev pub NoInt : List Lexeme → Type 0
 NoInt rest = is_int (keyword_at rest) ≡ false
 
 -- a word, and an `int` that may stand behind it
-sign_taken : (ts rest : List Lexeme) (sign : Keyword) (value x : BaseTree) → keyword_at ts ≡ Some sign → ((t : Lexeme) → IsKeyword sign t → SpellsBase (t ∷ []) value) → ((t u : Lexeme) → IsKeyword sign t → IsKeyword word.Int u → SpellsBase (t ∷ u ∷ []) value) → ◌≡◌ {A = Option (BaseTree × List Lexeme)} (Some (value, past_int (drop 1 ts))) (Some (x, rest)) → Taken SpellsBase ts x rest
+sign_taken : (ts rest : List Lexeme) (sign : Keyword) (value x : BaseTree) → keyword_at ts ≡ Some sign →
+    ((t : Lexeme) → IsKeyword sign t → SpellsBase (t ∷ []) value) →
+    ((t u : Lexeme) → IsKeyword sign t → IsKeyword word.Int u → SpellsBase (t ∷ u ∷ []) value) →
+    ◌≡◌ {A = Option (BaseTree × List Lexeme)} (Some (value, past_int (drop 1 ts))) (Some (x, rest)) →
+    Taken SpellsBase ts x rest
 sign_taken ts rest sign value x q alone both h =
     let first = word_ahead ts sign q in
     go first (is_int (keyword_at (drop 1 ts))) refl h
   where
-    go : Word ts sign → (b : Bool) → is_int (keyword_at (drop 1 ts)) ≡ b → ◌≡◌ {A = Option (BaseTree × List Lexeme)} (Some (value, cond b (drop 1 (drop 1 ts)) (drop 1 ts))) (Some (x, rest)) → Taken SpellsBase ts x rest
+    go : Word ts sign → (b : Bool) → is_int (keyword_at (drop 1 ts)) ≡ b →
+        ◌≡◌ {A = Option (BaseTree × List Lexeme)} (Some (value, cond b (drop 1 (drop 1 ts)) (drop 1 ts)))
+        (Some (x, rest)) → Taken SpellsBase ts x rest
     go first true e k =
         let second = int_ahead (drop 1 ts) e in
-        took SpellsBase ts (first.first ∷ second.first ∷ []) x value (drop 1 (drop 1 ts)) rest (first.is ∙ ap (λ l. first.first ∷ l) second.is) (both first.first second.first first.keyword second.keyword) k
-    go first false e k = took SpellsBase ts (first.first ∷ []) x value (drop 1 ts) rest first.is (alone first.first first.keyword) k
+        took SpellsBase ts (first.first ∷ second.first ∷ []) x value (drop 1 (drop 1 ts)) rest
+        (first.is ∙ ap (λ l. first.first ∷ l) second.is)
+        (both first.first second.first first.keyword second.keyword) k
+    go first false e k = took SpellsBase ts (first.first ∷ []) x value (drop 1 ts) rest first.is
+        (alone first.first first.keyword) k
 
 base_sound : (ts rest : List Lexeme) (x : BaseTree) → base_at ts ≡ Some (x, rest) → Taken SpellsBase ts x rest
 unfolding base_at
@@ -77,10 +87,12 @@ base_sound ts rest x h = go (keyword_at ts) refl h
         let first = word_ahead ts word.Struct q in
         let b = bound (λ x. Some (base.Struct x.0, x.1)) (name_at (drop 1 ts)) (x, rest) e in
         let tag = name_ahead (drop 1 ts) b.0.1 b.0.0 b.1 in
-        took SpellsBase ts (first.first ∷ tag.0 ∷ []) x (base.Struct b.0.0) b.0.1 rest (first.is ∙ ap (λ l. first.first ∷ l) tag.1) (struct first.first tag.0 b.0.0 first.keyword tag.2) b.2
+        took SpellsBase ts (first.first ∷ tag.0 ∷ []) x (base.Struct b.0.0) b.0.1 rest
+        (first.is ∙ ap (λ l. first.first ∷ l) tag.1) (struct first.first tag.0 b.0.0 first.keyword tag.2) b.2
     go _ q e = absurd (none-some (x, rest) e)
 
-base_complete : {ts : List Lexeme} {x : BaseTree} (d : SpellsBase ts x) (rest : List Lexeme) → NoInt rest → base_at (ts ++ rest) ≡ Some (x, rest)
+base_complete : {ts : List Lexeme} {x : BaseTree} (d : SpellsBase ts x) (rest : List Lexeme) → NoInt rest →
+    base_at (ts ++ rest) ≡ Some (x, rest)
 unfolding base_at
 base_complete (int t p) rest h = rw p
 base_complete (signed t p) rest h = rw (p, h)
@@ -108,12 +120,21 @@ unfolding star_count
 stars_ahead [] = record { taken = []; split = refl; spelled = none }
 stars_ahead (t ∷ ts) = go (stars_ahead ts) (is_mark mark.Star t.symbol) refl
   where
-    go : Taken SpellsStars ts (prefix_len (λ t. is_mark mark.Star t.symbol) ts) (drop (prefix_len (λ t. is_mark mark.Star t.symbol) ts) ts) → (b : Bool) → is_mark mark.Star t.symbol ≡ b → Taken SpellsStars (t ∷ ts) (cond b (1 + prefix_len (λ t. is_mark mark.Star t.symbol) ts) 0) (drop (cond b (1 + prefix_len (λ t. is_mark mark.Star t.symbol) ts) 0) (t ∷ ts))
+    go : Taken SpellsStars ts (prefix_len (λ t. is_mark mark.Star t.symbol) ts)
+        (drop (prefix_len (λ t. is_mark mark.Star t.symbol) ts) ts) → (b : Bool) → is_mark mark.Star t.symbol ≡ b →
+        Taken SpellsStars (t ∷ ts) (cond b (1 + prefix_len (λ t. is_mark mark.Star t.symbol) ts) 0)
+        (drop (cond b (1 + prefix_len (λ t. is_mark mark.Star t.symbol) ts) 0) (t ∷ ts))
     go more true q =
-        rw one-add (record { taken = t ∷ more.taken; split = ap (λ l. t ∷ l) more.split; spelled = subst (λ n. SpellsStars (t ∷ more.taken) n) (omega arith) (star t (mark_is mark.Star t q) more.spelled) })
+        rw one-add (record {
+          taken = t ∷ more.taken;
+          split = ap (λ l. t ∷ l) more.split;
+          spelled = subst (λ n. SpellsStars (t ∷ more.taken) n) (omega arith)
+              (star t (mark_is mark.Star t q) more.spelled);
+        })
     go more false q = record { taken = []; split = refl; spelled = none }
 
-pub stars_count : {ts : List Lexeme} {n : ℕ} (d : SpellsStars ts n) (rest : List Lexeme) → NoStar rest → (star_count (ts ++ rest) ≡ n) × (drop n (ts ++ rest) ≡ rest)
+pub stars_count : {ts : List Lexeme} {n : ℕ} (d : SpellsStars ts n) (rest : List Lexeme) → NoStar rest →
+    (star_count (ts ++ rest) ≡ n) × (drop n (ts ++ rest) ≡ rest)
 unfolding star_count
 stars_count none [] h = (refl, refl)
 stars_count none (t ∷ rest) h = (rw h, refl)
@@ -121,21 +142,27 @@ stars_count (star {ts = ts} {stars = n} t p d) rest h =
     let m = stars_count d rest h in
     (rw (p, m.0) (omega arith), let e : n + 1 ≡ suc n = omega arith in rw e m.1)
 
-type_name_sound : (ts rest : List Lexeme) (x : TypeName) → type_name_at ts ≡ Some (x, rest) → Taken SpellsTypeName ts x rest
+type_name_sound : (ts rest : List Lexeme) (x : TypeName) → type_name_at ts ≡ Some (x, rest) →
+    Taken SpellsTypeName ts x rest
 unfolding type_name_at
 type_name_sound ts rest x h =
-    let b = bound (λ x. Some (record { base = x.0; stars = star_count x.1 }, drop (star_count x.1) x.1)) (base_at ts) (x, rest) h in
+    let b = bound (λ x. Some (record { base = x.0; stars = star_count x.1 }, drop (star_count x.1) x.1)) (base_at ts)
+    (x, rest) h in
     let first = base_sound ts b.0.1 b.0.0 b.1 in
     let stars = stars_ahead b.0.1 in
-    took SpellsTypeName ts (first.taken ++ stars.taken) x (record { base = b.0.0; stars = star_count b.0.1 }) (drop (star_count b.0.1) b.0.1) rest
-    (glued ts b.0.1 (drop (star_count b.0.1) b.0.1) first.taken stars.taken first.split stars.split) (type_name first.spelled stars.spelled) b.2
+    took SpellsTypeName ts (first.taken ++ stars.taken) x (record { base = b.0.0; stars = star_count b.0.1 })
+    (drop (star_count b.0.1) b.0.1) rest
+    (glued ts b.0.1 (drop (star_count b.0.1) b.0.1) first.taken stars.taken first.split stars.split)
+    (type_name first.spelled stars.spelled) b.2
 
 -- no `int` stands at the front of `*` and what is no `int`
-pub stars_no_int : {ts : List Lexeme} {n : ℕ} (d : SpellsStars ts n) (rest : List Lexeme) → NoInt rest → NoInt (ts ++ rest)
+pub stars_no_int : {ts : List Lexeme} {n : ℕ} (d : SpellsStars ts n) (rest : List Lexeme) → NoInt rest →
+    NoInt (ts ++ rest)
 stars_no_int none rest h = h
 stars_no_int (star t p d) rest h = rw p
 
-type_name_complete : {ts : List Lexeme} {x : TypeName} (d : SpellsTypeName ts x) (rest : List Lexeme) → NoInt rest → NoStar rest → type_name_at (ts ++ rest) ≡ Some (x, rest)
+type_name_complete : {ts : List Lexeme} {x : TypeName} (d : SpellsTypeName ts x) (rest : List Lexeme) → NoInt rest →
+    NoStar rest → type_name_at (ts ++ rest) ≡ Some (x, rest)
 unfolding type_name_at
 type_name_complete (type_name {ts = ts} {us = us} {base = base} {stars = n} d g) rest h k =
     let stars = stars_count g rest k in
@@ -163,17 +190,26 @@ pub record Elements (ts rest : List Lexeme) (elements : ℕ) : Type 0 where
 elements_ahead : (ts rest : List Lexeme) (x : ℕ) → elements_at ts ≡ Some (x, rest) → Elements ts rest x
 elements_ahead [] rest x h = absurd (none-some _ h)
 elements_ahead (t ∷ ts) rest x h =
-    let b = bound (λ number. array_length number.value >>= (λ elements. Some (elements, ts))) (integer_by t.symbol) (x, rest) h in
+    let b = bound (λ number. array_length number.value >>= (λ elements. Some (elements, ts))) (integer_by t.symbol)
+    (x, rest) h in
     let c = bound (λ elements. Some (elements, ts)) (array_length b.0.value) (x, rest) b.2 in
     let same = same_some c.2 in
     let value : c.0 ≡ x = ap (λ p. p.0) same in
     let behind : ts ≡ rest = ap (λ p. p.1) same in
-    record { first = t; number = b.0; is = ap (λ l. t ∷ l) behind; integer = integer_is t.symbol b.0 b.1; fits = c.1 ∙ ap (λ n. Some n) value }
+    record {
+      first = t;
+      number = b.0;
+      is = ap (λ l. t ∷ l) behind;
+      integer = integer_is t.symbol b.0 b.1;
+      fits = c.1 ∙ ap (λ n. Some n) value;
+    }
 
 -- What may stand behind the name in a declarator.
 pub data IsLength : List Lexeme → Option ℕ → Type 0 where
   no_length : IsLength [] None
-  in_brackets : (u v w : Lexeme) (number : Number) (elements : ℕ) → IsMark mark.OpenSquare u → IsInteger number v → IsMark mark.CloseSquare w → array_length number.value ≡ Some elements → IsLength (u ∷ v ∷ w ∷ []) (Some elements)
+  in_brackets : (u v w : Lexeme) (number : Number) (elements : ℕ) → IsMark mark.OpenSquare u → IsInteger number v →
+      IsMark mark.CloseSquare w → array_length number.value ≡ Some elements →
+      IsLength (u ∷ v ∷ w ∷ []) (Some elements)
 
 abbrev pub NoBracket : List Lexeme → Type 0
 NoBracket rest = behind mark.OpenSquare rest ≡ None
@@ -182,18 +218,22 @@ length_sound : (ts rest : List Lexeme) (x : Option ℕ) → length_at ts ≡ Som
 unfolding length_at
 length_sound ts rest x h = go (behind mark.OpenSquare ts) refl h
   where
-    go : (o : Option (List Lexeme)) → behind mark.OpenSquare ts ≡ o → option_map_or bracketed_length o (Some (None, ts)) ≡ Some (x, rest) → Taken IsLength ts x rest
+    go : (o : Option (List Lexeme)) → behind mark.OpenSquare ts ≡ o →
+        option_map_or bracketed_length o (Some (None, ts)) ≡ Some (x, rest) → Taken IsLength ts x rest
     go None q e = took IsLength ts [] x None ts rest refl no_length e
     go (Some us) q e =
         let u = behind_mark mark.OpenSquare ts us q in
-        let b = bound (λ x. behind mark.CloseSquare x.1 >>= (λ rest. Some (Some x.0, rest))) (elements_at us) (x, rest) e in
+        let b = bound (λ x. behind mark.CloseSquare x.1 >>= (λ rest. Some (Some x.0, rest))) (elements_at us)
+        (x, rest) e in
         let c = bound (λ rest. Some (Some b.0.0, rest)) (behind mark.CloseSquare b.0.1) (x, rest) b.2 in
         let v = elements_ahead us b.0.1 b.0.0 b.1 in
         let w = behind_mark mark.CloseSquare b.0.1 c.0 c.1 in
-        took IsLength ts (u.0 ∷ v.first ∷ w.0 ∷ []) x (Some b.0.0) c.0 rest (u.1 ∙ ap (λ l. u.0 ∷ l) (v.is ∙ ap (λ l. v.first ∷ l) w.1))
+        took IsLength ts (u.0 ∷ v.first ∷ w.0 ∷ []) x (Some b.0.0) c.0 rest
+        (u.1 ∙ ap (λ l. u.0 ∷ l) (v.is ∙ ap (λ l. v.first ∷ l) w.1))
         (in_brackets u.0 v.first w.0 v.number b.0.0 u.2 v.integer w.2 v.fits) c.2
 
-length_complete : {ts : List Lexeme} {x : Option ℕ} (d : IsLength ts x) (rest : List Lexeme) → NoBracket rest → length_at (ts ++ rest) ≡ Some (x, rest)
+length_complete : {ts : List Lexeme} {x : Option ℕ} (d : IsLength ts x) (rest : List Lexeme) → NoBracket rest →
+    length_at (ts ++ rest) ≡ Some (x, rest)
 unfolding length_at
 length_complete no_length rest h = rw h
 length_complete (in_brackets u v w number elements p q r k) rest h = rw (p, q, k, r)
@@ -202,22 +242,28 @@ length_complete (in_brackets u v w number elements p q r k) rest h = rw (p, q, k
 abbrev pub IsDeclarator : List Lexeme → Declarator → Type 0
 IsDeclarator ts x = (base : BaseTree) → SpellsDeclarator base ts (type_of base x) x.name
 
-with_length : {ts us : List Lexeme} {stars : ℕ} {elements : Option ℕ} (t : Lexeme) (name : List ℕ) → IsIdent name t → SpellsStars ts stars → IsLength us elements → IsDeclarator (ts ++ t ∷ us) (declarator stars name elements)
+with_length : {ts us : List Lexeme} {stars : ℕ} {elements : Option ℕ} (t : Lexeme) (name : List ℕ) → IsIdent name t →
+    SpellsStars ts stars → IsLength us elements → IsDeclarator (ts ++ t ∷ us) (declarator stars name elements)
 with_length t name p d no_length base = plain t name p d
 with_length t name p d (in_brackets u v w number elements q r s k) base = array t u v w name number elements p q r s k d
 
-pub declarator_sound : (ts rest : List Lexeme) (x : Declarator) → declarator_at ts ≡ Some (x, rest) → Taken IsDeclarator ts x rest
+pub declarator_sound : (ts rest : List Lexeme) (x : Declarator) → declarator_at ts ≡ Some (x, rest) →
+    Taken IsDeclarator ts x rest
 unfolding declarator_at
 declarator_sound ts rest x h =
     let stars = stars_ahead ts in
-    let b = bound (λ x. length_at x.1 >>= (λ y. Some (declarator (star_count ts) x.0 y.0, y.1))) (name_at (drop (star_count ts) ts)) (x, rest) h in
+    let b = bound (λ x. length_at x.1 >>= (λ y. Some (declarator (star_count ts) x.0 y.0, y.1)))
+    (name_at (drop (star_count ts) ts)) (x, rest) h in
     let c = bound (λ y. Some (declarator (star_count ts) b.0.0 y.0, y.1)) (length_at b.0.1) (x, rest) b.2 in
     let t = name_ahead (drop (star_count ts) ts) b.0.1 b.0.0 b.1 in
     let l = length_sound b.0.1 c.0.1 c.0.0 c.1 in
     took IsDeclarator ts (stars.taken ++ t.0 ∷ l.taken) x (declarator (star_count ts) b.0.0 c.0.0) c.0.1 rest
-    (glued ts (drop (star_count ts) ts) c.0.1 stars.taken (t.0 ∷ l.taken) stars.split (t.1 ∙ ap (λ r. t.0 ∷ r) l.split)) (with_length t.0 b.0.0 t.2 stars.spelled l.spelled) c.2
+    (glued ts (drop (star_count ts) ts) c.0.1 stars.taken (t.0 ∷ l.taken) stars.split (t.1 ∙ ap (λ r. t.0 ∷ r) l.split))
+    (with_length t.0 b.0.0 t.2 stars.spelled l.spelled) c.2
 
-pub declarator_reads : {ts us : List Lexeme} {stars : ℕ} {elements : Option ℕ} (t : Lexeme) (name : List ℕ) (p : IsIdent name t) (d : SpellsStars ts stars) (l : IsLength us elements) (rest : List Lexeme) → NoBracket rest → declarator_at (ts ++ t ∷ (us ++ rest)) ≡ Some (declarator stars name elements, rest)
+pub declarator_reads : {ts us : List Lexeme} {stars : ℕ} {elements : Option ℕ} (t : Lexeme) (name : List ℕ)
+    (p : IsIdent name t) (d : SpellsStars ts stars) (l : IsLength us elements) (rest : List Lexeme) → NoBracket rest →
+    declarator_at (ts ++ t ∷ (us ++ rest)) ≡ Some (declarator stars name elements, rest)
 unfolding declarator_at
 declarator_reads {ts} {us} {stars} {elements} t name p d l rest h =
     let no_star : NoStar (t ∷ (us ++ rest)) = rw p in

@@ -22,7 +22,8 @@ use Rattle.sc_parse.proofs.Bases.{NoInt, NoBracket, base_exact, no_length, in_br
 abbrev pub Comma : List Lexeme → Option (List Lexeme)
 Comma = behind mark.Comma
 
-pub comma_ahead : (us vs : List Lexeme) → behind mark.Comma us ≡ Some vs → (t : Lexeme) × (us ≡ t ∷ vs) × IsMark mark.Comma t
+pub comma_ahead : (us vs : List Lexeme) → behind mark.Comma us ≡ Some vs →
+    (t : Lexeme) × (us ≡ t ∷ vs) × IsMark mark.Comma t
 comma_ahead us vs h = behind_mark mark.Comma us vs h
 
 -- a declarator of a type and a name is read as one that makes them of its base
@@ -32,18 +33,35 @@ pub record Reads (base : BaseTree) (ts rest : List Lexeme) (ty : TypeTree) (name
   pub ty_is : type_of base read ≡ ty
   pub name_is : read.name ≡ name
 
-pub declarator_complete : {base : BaseTree} {ts : List Lexeme} {ty : TypeTree} {name : List ℕ} (d : SpellsDeclarator base ts ty name) (rest : List Lexeme) → NoBracket rest → Reads base ts rest ty name
+pub declarator_complete : {base : BaseTree} {ts : List Lexeme} {ty : TypeTree} {name : List ℕ}
+    (d : SpellsDeclarator base ts ty name) (rest : List Lexeme) → NoBracket rest → Reads base ts rest ty name
 declarator_complete (plain {ts = ts} {stars = n} t name p d) rest h =
-    record { read = declarator n name None; is = ap declarator_at (append_assoc ts (t ∷ []) rest) ∙ declarator_reads t name p d no_length rest h; ty_is = refl; name_is = refl }
+    record {
+      read = declarator n name None;
+      is = ap declarator_at (append_assoc ts (t ∷ []) rest) ∙
+          declarator_reads t name p d no_length rest h;
+      ty_is = refl;
+      name_is = refl;
+    }
 declarator_complete (array {ts = ts} {stars = n} t u v w name number elements p q r s k d) rest h =
-    record { read = declarator n name (Some elements); is = ap declarator_at (append_assoc ts (t ∷ u ∷ v ∷ w ∷ []) rest) ∙ declarator_reads t name p d (in_brackets u v w number elements q r s k) rest h; ty_is = refl; name_is = refl }
+    record {
+      read = declarator n name (Some elements);
+      is = ap declarator_at (append_assoc ts (t ∷ u ∷ v ∷ w ∷ []) rest) ∙
+          declarator_reads t name p d (in_brackets u v w number elements q r s k) rest h;
+      ty_is = refl;
+      name_is = refl;
+    }
 
 -- no `int` stands at the front of a declarator
-pub declarator_no_int : {base : BaseTree} {ts : List Lexeme} {ty : TypeTree} {name : List ℕ} (d : SpellsDeclarator base ts ty name) (rest : List Lexeme) → NoInt (ts ++ rest)
-declarator_no_int (plain {ts = ts} t name p d) rest = subst NoInt (sym (append_assoc ts (t ∷ []) rest)) (stars_no_int d (t ∷ rest) (rw p))
-declarator_no_int (array {ts = ts} t u v w name number elements p q r s k d) rest = subst NoInt (sym (append_assoc ts (t ∷ u ∷ v ∷ w ∷ []) rest)) (stars_no_int d (t ∷ u ∷ v ∷ w ∷ rest) (rw p))
+pub declarator_no_int : {base : BaseTree} {ts : List Lexeme} {ty : TypeTree} {name : List ℕ}
+    (d : SpellsDeclarator base ts ty name) (rest : List Lexeme) → NoInt (ts ++ rest)
+declarator_no_int (plain {ts = ts} t name p d) rest =
+    subst NoInt (sym (append_assoc ts (t ∷ []) rest)) (stars_no_int d (t ∷ rest) (rw p))
+declarator_no_int (array {ts = ts} t u v w name number elements p q r s k d) rest =
+    subst NoInt (sym (append_assoc ts (t ∷ u ∷ v ∷ w ∷ []) rest)) (stars_no_int d (t ∷ u ∷ v ∷ w ∷ rest) (rw p))
 
-pub first_line_base : {ts : List Lexeme} {base : BaseTree} (d : SpellsBase ts base) (rest : List Lexeme) → first_line (ts ++ rest) ≡ first_line ts
+pub first_line_base : {ts : List Lexeme} {base : BaseTree} (d : SpellsBase ts base) (rest : List Lexeme) →
+    first_line (ts ++ rest) ≡ first_line ts
 first_line_base (int t p) rest = refl
 first_line_base (signed t p) rest = refl
 first_line_base (signed_int t u p q) rest = refl
@@ -57,22 +75,35 @@ semicolon_no_bracket t rest p = rw p
 pub comma_no_bracket : (t : Lexeme) (rest : List Lexeme) → IsMark mark.Comma t → NoBracket (t ∷ rest)
 comma_no_bracket t rest p = rw p
 
-pub separated_front : {A : Type 0} {Item : List Lexeme → A → Type 0} (P : List Lexeme → Type 0) (front : (ts rest : List Lexeme) (x : A) → Item ts x → P (ts ++ rest)) {ts : List Lexeme} {xs : List A} (d : Separated Item ts xs) (rest : List Lexeme) → P (ts ++ rest)
+pub separated_front : {A : Type 0} {Item : List Lexeme → A → Type 0} (P : List Lexeme → Type 0)
+    (front : (ts rest : List Lexeme) (x : A) → Item ts x → P (ts ++ rest)) {ts : List Lexeme} {xs : List A}
+    (d : Separated Item ts xs) (rest : List Lexeme) → P (ts ++ rest)
 separated_front P front (one {ts = ts} {x = x} d) rest = front ts rest x d
-separated_front P front (more {ts = ts} {us = us} {x = x} t p d g) rest = subst P (sym (append_assoc ts (t ∷ us) rest)) (front ts (t ∷ us ++ rest) x d)
+separated_front P front (more {ts = ts} {us = us} {x = x} t p d g) rest =
+    subst P (sym (append_assoc ts (t ∷ us) rest)) (front ts (t ∷ us ++ rest) x d)
 
-module _ {A : Type 0} (Fits : List Lexeme → Type 0) (fits_left : (ts us : List Lexeme) → Fits (ts ++ us) → Fits ts) (fits_right : (ts us : List Lexeme) → Fits (ts ++ us) → Fits us)
-    (Item : BaseTree → ℕ → List Lexeme → A → Type 0) (Ends : List Lexeme → Type 0) (item : BaseTree → ℕ → Reader A) (exact : (base : BaseTree) (line : ℕ) → Exact Fits (Item base line) Ends (item base line))
-    (before_comma : (t : Lexeme) (rest : List Lexeme) → IsMark mark.Comma t → Ends (t ∷ rest)) (before_semicolon : (t : Lexeme) (rest : List Lexeme) → IsMark mark.Semicolon t → Ends (t ∷ rest))
-    (no_int : (base : BaseTree) (line : ℕ) (ts rest : List Lexeme) (x : A) → Item base line ts x → NoInt (ts ++ rest)) where
-  items_exact : (base : BaseTree) (line : ℕ) → ExactAdder Fits (Separated (Item base line)) (λ rest. Ends rest × (behind mark.Comma rest ≡ None)) (all_separated (adds (item base line)))
-  items_exact base line = separated_exact Fits fits_left fits_right (behind mark.Comma) comma_ahead (Item base line) Ends (item base line) (exact base line) before_comma (λ t us rest zs p d. rw p)
+module _ {A : Type 0} (Fits : List Lexeme → Type 0) (fits_left : (ts us : List Lexeme) → Fits (ts ++ us) → Fits ts)
+    (fits_right : (ts us : List Lexeme) → Fits (ts ++ us) → Fits us)
+    (Item : BaseTree → ℕ → List Lexeme → A → Type 0) (Ends : List Lexeme → Type 0) (item : BaseTree → ℕ → Reader A)
+    (exact : (base : BaseTree) (line : ℕ) → Exact Fits (Item base line) Ends (item base line))
+    (before_comma : (t : Lexeme) (rest : List Lexeme) → IsMark mark.Comma t → Ends (t ∷ rest))
+    (before_semicolon : (t : Lexeme) (rest : List Lexeme) → IsMark mark.Semicolon t → Ends (t ∷ rest))
+    (no_int : (base : BaseTree) (line : ℕ) (ts rest : List Lexeme) (x : A) → Item base line ts x →
+    NoInt (ts ++ rest)) where
+  items_exact : (base : BaseTree) (line : ℕ) → ExactAdder Fits (Separated (Item base line))
+      (λ rest. Ends rest × (behind mark.Comma rest ≡ None)) (all_separated (adds (item base line)))
+  items_exact base line = separated_exact Fits fits_left fits_right (behind mark.Comma) comma_ahead
+      (Item base line) Ends (item base line) (exact base line) before_comma (λ t us rest zs p d. rw p)
 
-  declaration_sound : (xs ys : List A) (ts rest : List Lexeme) → declaration_at (λ base line. adds (item base line)) xs ts ≡ Some (ys, rest) → Added (Declares Item) xs ts ys rest
+  declaration_sound : (xs ys : List A) (ts rest : List Lexeme) →
+      declaration_at (λ base line. adds (item base line)) xs ts ≡ Some (ys, rest) →
+      Added (Declares Item) xs ts ys rest
   unfolding declaration_at
   declaration_sound xs ys ts rest h =
-      let b = bound (λ x. all_separated (adds (item x.0 (first_line ts))) xs x.1 >>= (λ y. behind mark.Semicolon y.1 >>= (λ rest. Some (y.0, rest)))) (base_at ts) (ys, rest) h in
-      let c = bound (λ y. behind mark.Semicolon y.1 >>= (λ rest. Some (y.0, rest))) (all_separated (adds (item b.0.0 (first_line ts))) xs b.0.1) (ys, rest) b.2 in
+      let b = bound (λ x. all_separated (adds (item x.0 (first_line ts))) xs x.1 >>=
+      (λ y. behind mark.Semicolon y.1 >>= (λ rest. Some (y.0, rest)))) (base_at ts) (ys, rest) h in
+      let c = bound (λ y. behind mark.Semicolon y.1 >>= (λ rest. Some (y.0, rest)))
+      (all_separated (adds (item b.0.0 (first_line ts))) xs b.0.1) (ys, rest) b.2 in
       let s = bound (λ rest. Some (c.0.0, rest)) (behind mark.Semicolon c.0.1) (ys, rest) c.2 in
       let same = same_some s.2 in
       let all : c.0.0 ≡ ys = ap (λ p. p.0) same in
@@ -80,29 +111,40 @@ module _ {A : Type 0} (Fits : List Lexeme → Type 0) (fits_left : (ts us : List
       let first = base_exact.sound ts b.0.1 b.0.0 b.1 in
       let items = (items_exact b.0.0 (first_line ts)).sound xs c.0.0 b.0.1 c.0.1 c.1 in
       let mark = behind_mark mark.Semicolon c.0.1 s.0 s.1 in
-      let line : first_line ts ≡ first_line first.taken = ap first_line first.split ∙ first_line_base first.spelled b.0.1 in
+      let line : first_line ts ≡ first_line first.taken =
+      ap first_line first.split ∙ first_line_base first.spelled b.0.1 in
       record {
         taken = first.taken ++ (items.taken ++ mark.0 ∷ []);
         added = items.added;
-        split = glued ts b.0.1 rest first.taken (items.taken ++ mark.0 ∷ []) first.split (glued b.0.1 c.0.1 rest items.taken (mark.0 ∷ []) items.split (mark.1 ∙ ap (λ l. mark.0 ∷ l) behind));
+        split = glued ts b.0.1 rest first.taken (items.taken ++ mark.0 ∷ []) first.split
+            (glued b.0.1 c.0.1 rest items.taken (mark.0 ∷ []) items.split (mark.1 ∙ ap (λ l. mark.0 ∷ l) behind));
         all = sym all ∙ items.all;
-        spelled = declares mark.0 mark.2 first.spelled (subst (λ n. Separated (Item b.0.0 n) items.taken items.added) line items.spelled);
+        spelled = declares mark.0 mark.2 first.spelled
+            (subst (λ n. Separated (Item b.0.0 n) items.taken items.added) line items.spelled);
       }
 
-  declaration_reads : {ts : List Lexeme} {zs : List A} (d : Declares Item ts zs) (xs : List A) (rest : List Lexeme) → Fits ts → declaration_at (λ base line. adds (item base line)) xs (ts ++ rest) ≡ Some (xs ++ zs, rest)
+  declaration_reads : {ts : List Lexeme} {zs : List A} (d : Declares Item ts zs) (xs : List A) (rest : List Lexeme) →
+      Fits ts → declaration_at (λ base line. adds (item base line)) xs (ts ++ rest) ≡ Some (xs ++ zs, rest)
   unfolding declaration_at
   declaration_reads (declares {ts = ts} {us = us} {base = base} {xs = zs} t p d g) xs rest fits =
       let tail = us ++ t ∷ rest in
-      let all : (ts ++ (us ++ t ∷ [])) ++ rest ≡ ts ++ (us ++ t ∷ rest) = append_assoc ts (us ++ t ∷ []) rest ∙ ap (λ l. ts ++ l) (append_assoc us (t ∷ []) rest) in
-      let first = base_exact.complete ts (us ++ t ∷ rest) base d tt (separated_front NoInt (no_int base (first_line ts)) g (t ∷ rest)) in
+      let all : (ts ++ (us ++ t ∷ [])) ++ rest ≡ ts ++ (us ++ t ∷ rest) =
+      append_assoc ts (us ++ t ∷ []) rest ∙ ap (λ l. ts ++ l) (append_assoc us (t ∷ []) rest) in
+      let first = base_exact.complete ts (us ++ t ∷ rest) base d tt
+      (separated_front NoInt (no_int base (first_line ts)) g (t ∷ rest)) in
       let no_comma : behind mark.Comma (t ∷ rest) ≡ None = rw p in
-      let items = (items_exact base (first_line ts)).complete xs zs us (t ∷ rest) g (fits_left us (t ∷ []) (fits_right ts (us ++ t ∷ []) fits)) (before_semicolon t rest p, no_comma) in
+      let items = (items_exact base (first_line ts)).complete xs zs us (t ∷ rest) g
+      (fits_left us (t ∷ []) (fits_right ts (us ++ t ∷ []) fits)) (before_semicolon t rest p, no_comma) in
       let semicolon : behind mark.Semicolon (t ∷ rest) ≡ Some rest = rw p in
       ap (λ l. declaration_at (λ base line. adds (item base line)) xs l) all
       ∙ rw (first, first_line_base d (us ++ t ∷ rest), items, semicolon)
 
-  pub declaration_exact : ExactAdder Fits (Declares Item) (λ rest. Unit {0}) (declaration_at (λ base line. adds (item base line)))
-  declaration_exact = record { sound = declaration_sound; complete = λ xs zs ts rest d fits h. declaration_reads d xs rest fits }
+  pub declaration_exact : ExactAdder Fits (Declares Item) (λ rest. Unit {0})
+      (declaration_at (λ base line. adds (item base line)))
+  declaration_exact = record {
+    sound = declaration_sound;
+    complete = λ xs zs ts rest d fits h. declaration_reads d xs rest fits;
+  }
 
 pub any_left : (ts us : List Lexeme) → Any (ts ++ us) → Any ts
 any_left ts us h = tt
@@ -110,20 +152,28 @@ any_left ts us h = tt
 pub any_right : (ts us : List Lexeme) → Any (ts ++ us) → Any us
 any_right ts us h = tt
 
-member_sound : (base : BaseTree) (line : ℕ) (ts rest : List Lexeme) (x : MemberTree) → member_at base ts ≡ Some (x, rest) → Taken (IsMember base line) ts x rest
+member_sound : (base : BaseTree) (line : ℕ) (ts rest : List Lexeme) (x : MemberTree) →
+    member_at base ts ≡ Some (x, rest) → Taken (IsMember base line) ts x rest
 unfolding member_at
 member_sound base line ts rest x h =
     let b = bound (λ x. Some (record { ty = type_of base x.0; name = x.0.name }, x.1)) (declarator_at ts) (x, rest) h in
     let d = declarator_sound ts b.0.1 b.0.0 b.1 in
-    took (IsMember base line) ts d.taken x (record { ty = type_of base b.0.0; name = b.0.0.name }) b.0.1 rest d.split (d.spelled base) b.2
+    took (IsMember base line) ts d.taken x (record { ty = type_of base b.0.0; name = b.0.0.name }) b.0.1 rest d.split
+    (d.spelled base) b.2
 
-member_complete : (base : BaseTree) (ts rest : List Lexeme) (x : MemberTree) → SpellsDeclarator base ts x.ty x.name → NoBracket rest → member_at base (ts ++ rest) ≡ Some (x, rest)
+member_complete : (base : BaseTree) (ts rest : List Lexeme) (x : MemberTree) → SpellsDeclarator base ts x.ty x.name →
+    NoBracket rest → member_at base (ts ++ rest) ≡ Some (x, rest)
 unfolding member_at
 member_complete base ts rest x d h = let r = declarator_complete d rest h in rw (r.is, r.ty_is, r.name_is)
 
 member_exact : (base : BaseTree) (line : ℕ) → Exact Any (IsMember base line) NoBracket (member_at base)
-member_exact base line = record { sound = member_sound base line; complete = λ ts rest x d fits h. member_complete base ts rest x d h }
+member_exact base line = record {
+  sound = member_sound base line;
+  complete = λ ts rest x d fits h. member_complete base ts rest x d h;
+}
 
 -- a declaration of members
 pub member_line_exact : ExactAdder Any (Declares IsMember) (λ rest. Unit {0}) (declaration_at members_behind)
-member_line_exact = declaration_exact Any any_left any_right IsMember NoBracket (λ base line. member_at base) member_exact comma_no_bracket semicolon_no_bracket (λ base line ts rest x d. declarator_no_int d rest)
+member_line_exact = declaration_exact Any any_left any_right IsMember NoBracket
+    (λ base line. member_at base) member_exact comma_no_bracket semicolon_no_bracket
+    (λ base line ts rest x d. declarator_no_int d rest)

@@ -20,7 +20,8 @@ use Rattle.sc_parse.proofs.Beginnings.{NoLine}
 -- A lexeme that is a directive.
 data IsLine (t : Lexeme) : Line → Type 0 where
   is_export : (name : List ℕ) → t.symbol ≡ symbol.Export name → IsLine t (line.Export (export_line name t.line))
-  is_import : (comp name : List ℕ) → t.symbol ≡ symbol.Import comp name → IsLine t (line.Import (import_line comp name t.line))
+  is_import : (comp name : List ℕ) → t.symbol ≡ symbol.Import comp name →
+      IsLine t (line.Import (import_line comp name t.line))
 
 line_is : (t : Lexeme) (l : Line) → line_by t.symbol t.line ≡ Some l → IsLine t l
 line_is t l h = go t.symbol refl h
@@ -50,7 +51,8 @@ pub record Directed (found : Directives) (ts : List Lexeme) (all : Directives) (
   pub all_exports : all.exports ≡ found.exports ++ exports
   pub all_imports : all.imports ≡ found.imports ++ imports
 
-one_more : {t : Lexeme} {l : Line} (d : IsLine t l) (found : Directives) (ts us : List Lexeme) (all : Directives) (rest : List Lexeme) → ts ≡ t ∷ us → Directed (with_line found l) us all rest → Directed found ts all rest
+one_more : {t : Lexeme} {l : Line} (d : IsLine t l) (found : Directives) (ts us : List Lexeme) (all : Directives)
+    (rest : List Lexeme) → ts ≡ t ∷ us → Directed (with_line found l) us all rest → Directed found ts all rest
 one_more {t} (is_export name p) found ts us all rest is others = record {
   taken = t ∷ others.taken;
   exports = export_line name t.line ∷ others.exports;
@@ -70,13 +72,16 @@ one_more {t} (is_import comp name p) found ts us all rest is others = record {
   all_imports = others.all_imports ∙ append_assoc found.imports (import_line comp name t.line ∷ []) others.imports;
 }
 
-pub lines_sound : (turns : ℕ) (found all : Directives) (ts rest : List Lexeme) → lines_at turns found ts ≡ Some (all, rest) → Directed found ts all rest
+pub lines_sound : (turns : ℕ) (found all : Directives) (ts rest : List Lexeme) →
+    lines_at turns found ts ≡ Some (all, rest) → Directed found ts all rest
 unfolding lines_at
 lines_sound zero found all ts rest h = absurd (none-some _ h)
 lines_sound (suc turns) found all ts rest h = go (line_at ts) refl h (lines_sound turns)
   where
-    go : (o : Option Line) → line_at ts ≡ o → option_map_or {U = Option (Directives × List Lexeme)} (λ l. lines_at turns (with_line found l) (drop 1 ts)) o (Some (found, ts)) ≡ Some (all, rest)
-        → ((found all : Directives) (ts rest : List Lexeme) → lines_at turns found ts ≡ Some (all, rest) → Directed found ts all rest) → Directed found ts all rest
+    go : (o : Option Line) → line_at ts ≡ o → option_map_or {U = Option (Directives × List Lexeme)}
+        (λ l. lines_at turns (with_line found l) (drop 1 ts)) o (Some (found, ts)) ≡ Some (all, rest)
+        → ((found all : Directives) (ts rest : List Lexeme) → lines_at turns found ts ≡ Some (all, rest) →
+        Directed found ts all rest) → Directed found ts all rest
     go None q e ih =
         let same = same_some e in
         let value : found ≡ all = ap (λ p. p.0) same in
@@ -94,15 +99,22 @@ lines_sound (suc turns) found all ts rest h = go (line_at ts) refl h (lines_soun
         let a = line_ahead ts l q in
         one_more a.line found ts (drop 1 ts) all rest a.is (ih (with_line found l) all (drop 1 ts) rest e)
 
-pub lines_complete : {ts : List Lexeme} {exports : List ExportLine} {imports : List ImportLine} (d : SpellsDirectives ts exports imports) (turns : ℕ) (before : List ExportLine) (ahead : List ImportLine) (rest : List Lexeme) → length ts < turns → NoLine rest → lines_at turns (directives before ahead) (ts ++ rest) ≡ Some (directives (before ++ exports) (ahead ++ imports), rest)
+pub lines_complete : {ts : List Lexeme} {exports : List ExportLine} {imports : List ImportLine}
+    (d : SpellsDirectives ts exports imports) (turns : ℕ) (before : List ExportLine) (ahead : List ImportLine)
+    (rest : List Lexeme) → length ts < turns → NoLine rest →
+    lines_at turns (directives before ahead) (ts ++ rest) ≡
+    Some (directives (before ++ exports) (ahead ++ imports), rest)
 unfolding lines_at
 lines_complete none zero before ahead rest h stop = absurd (omega arith)
 lines_complete none (suc turns) before ahead rest h stop = rw (stop, append-nil before, append-nil ahead)
 lines_complete (export t name p d) zero before ahead rest h stop = absurd (omega arith)
 lines_complete (export {exports = exports} {imports = imports} t name p d) (suc turns) before ahead rest h stop =
     let others = lines_complete d turns (before ++ export_line name t.line ∷ []) ahead rest (omega arith) stop in
-    rw p (others ∙ ap (λ l. Some (directives l (ahead ++ imports), rest)) (append_assoc before (export_line name t.line ∷ []) exports))
+    rw p (others ∙ ap (λ l. Some (directives l (ahead ++ imports), rest))
+    (append_assoc before (export_line name t.line ∷ []) exports))
 lines_complete (sections.«import» t comp name p d) zero before ahead rest h stop = absurd (omega arith)
-lines_complete (sections.«import» {exports = exports} {imports = imports} t comp name p d) (suc turns) before ahead rest h stop =
+lines_complete (sections.«import» {exports = exports} {imports = imports} t comp name p d)
+    (suc turns) before ahead rest h stop =
     let others = lines_complete d turns before (ahead ++ import_line comp name t.line ∷ []) rest (omega arith) stop in
-    rw p (others ∙ ap (λ l. Some (directives (before ++ exports) l, rest)) (append_assoc ahead (import_line comp name t.line ∷ []) imports))
+    rw p (others ∙ ap (λ l. Some (directives (before ++ exports) l, rest))
+    (append_assoc ahead (import_line comp name t.line ∷ []) imports))

@@ -13,13 +13,15 @@ use Rattle.sc_parse.specs.Fronts.{Reader}
 use Rattle.sc_parse.specs.Readers.{Adder, adds, separated, grouped}
 
 -- A front of the lexemes, with what it spells.
-pub record Taken {A : Type 0} (Item : List Lexeme → A → Type 0) (ts : List Lexeme) (x : A) (rest : List Lexeme) : Type 0 where
+pub record Taken {A : Type 0} (Item : List Lexeme → A → Type 0) (ts : List Lexeme) (x : A)
+    (rest : List Lexeme) : Type 0 where
   pub taken : List Lexeme
   pub split : ts ≡ taken ++ rest
   pub spelled : Item taken x
 
 -- A front of the lexemes, with what it adds to a list.
-pub record Added {A : Type 0} (Group : List Lexeme → List A → Type 0) (xs : List A) (ts : List Lexeme) (ys : List A) (rest : List Lexeme) : Type 0 where
+pub record Added {A : Type 0} (Group : List Lexeme → List A → Type 0) (xs : List A) (ts : List Lexeme) (ys : List A)
+    (rest : List Lexeme) : Type 0 where
   pub taken : List Lexeme
   pub added : List A
   pub split : ts ≡ taken ++ rest
@@ -27,28 +29,39 @@ pub record Added {A : Type 0} (Group : List Lexeme → List A → Type 0) (xs : 
   pub spelled : Group taken added
 
 -- What is read is spelled so, and what is spelled so is read, where it fits and ends there.
-pub record Exact {A : Type 0} (Fits : List Lexeme → Type 0) (Item : List Lexeme → A → Type 0) (Ends : List Lexeme → Type 0) (reader : Reader A) : Type 0 where
+pub record Exact {A : Type 0} (Fits : List Lexeme → Type 0) (Item : List Lexeme → A → Type 0)
+    (Ends : List Lexeme → Type 0) (reader : Reader A) : Type 0 where
   pub sound : (ts rest : List Lexeme) (x : A) → reader ts ≡ Some (x, rest) → Taken Item ts x rest
-  pub complete : (ts rest : List Lexeme) (x : A) → Item ts x → Fits ts → Ends rest → reader (ts ++ rest) ≡ Some (x, rest)
+  pub complete : (ts rest : List Lexeme) (x : A) → Item ts x → Fits ts → Ends rest →
+      reader (ts ++ rest) ≡ Some (x, rest)
 
 -- The same for what adds to a list.
-pub record ExactAdder {A : Type 0} (Fits : List Lexeme → Type 0) (Group : List Lexeme → List A → Type 0) (Ends : List Lexeme → Type 0) (adder : Adder A) : Type 0 where
+pub record ExactAdder {A : Type 0} (Fits : List Lexeme → Type 0) (Group : List Lexeme → List A → Type 0)
+    (Ends : List Lexeme → Type 0) (adder : Adder A) : Type 0 where
   pub sound : (xs ys : List A) (ts rest : List Lexeme) → adder xs ts ≡ Some (ys, rest) → Added Group xs ts ys rest
-  pub complete : (xs zs : List A) (ts rest : List Lexeme) → Group ts zs → Fits ts → Ends rest → adder xs (ts ++ rest) ≡ Some (xs ++ zs, rest)
+  pub complete : (xs zs : List A) (ts rest : List Lexeme) → Group ts zs → Fits ts → Ends rest →
+      adder xs (ts ++ rest) ≡ Some (xs ++ zs, rest)
 
 -- all lexemes fit
 abbrev pub Any : List Lexeme → Type 0
 Any ts = Unit {0}
 
-pub took : {A : Type 0} (Item : List Lexeme → A → Type 0) (ts taken : List Lexeme) (x y : A) (us rest : List Lexeme) → ts ≡ taken ++ us → Item taken y → ◌≡◌ {A = Option (A × List Lexeme)} (Some (y, us)) (Some (x, rest)) → Taken Item ts x rest
+pub took : {A : Type 0} (Item : List Lexeme → A → Type 0) (ts taken : List Lexeme) (x y : A) (us rest : List Lexeme) →
+    ts ≡ taken ++ us → Item taken y → ◌≡◌ {A = Option (A × List Lexeme)} (Some (y, us)) (Some (x, rest)) →
+    Taken Item ts x rest
 took Item ts taken x y us rest split spelled h =
     let same = same_some h in
     let value : y ≡ x = ap (λ p. p.0) same in
     let behind : us ≡ rest = ap (λ p. p.1) same in
-    record { taken = taken; split = split ∙ ap (λ l. taken ++ l) behind; spelled = subst (λ v. Item taken v) value spelled }
+    record {
+      taken = taken;
+      split = split ∙ ap (λ l. taken ++ l) behind;
+      spelled = subst (λ v. Item taken v) value spelled;
+    }
 
 -- one front behind another
-pub glued : (ts us rest first second : List Lexeme) → ts ≡ first ++ us → us ≡ second ++ rest → ts ≡ (first ++ second) ++ rest
+pub glued : (ts us rest first second : List Lexeme) → ts ≡ first ++ us → us ≡ second ++ rest →
+    ts ≡ (first ++ second) ++ rest
 glued ts us rest first second p q = p ∙ ap (λ l. first ++ l) q ∙ sym (append_assoc first second rest)
 
 -- one item of a list
@@ -57,7 +70,9 @@ pub record One {A : Type 0} (Item : List Lexeme → A → Type 0) (ts : List Lex
   pub is : xs ≡ item ∷ []
   pub spelled : Item ts item
 
-pub adds_exact : {A : Type 0} (Fits : List Lexeme → Type 0) (Item : List Lexeme → A → Type 0) (Ends : List Lexeme → Type 0) (reader : Reader A) → Exact Fits Item Ends reader → ExactAdder Fits (One Item) Ends (adds reader)
+pub adds_exact : {A : Type 0} (Fits : List Lexeme → Type 0) (Item : List Lexeme → A → Type 0)
+    (Ends : List Lexeme → Type 0) (reader : Reader A) → Exact Fits Item Ends reader →
+    ExactAdder Fits (One Item) Ends (adds reader)
 unfolding adds
 adds_exact {A} Fits Item Ends reader e = record {
   sound = λ xs ys ts rest h.
@@ -78,19 +93,27 @@ adds_exact {A} Fits Item Ends reader e = record {
       ∙ ap (λ l. Some (xs ++ l, rest)) (sym g.is);
 }
 
-module _ {A : Type 0} (Fits : List Lexeme → Type 0) (fits_left : (ts us : List Lexeme) → Fits (ts ++ us) → Fits ts) (fits_right : (ts us : List Lexeme) → Fits (ts ++ us) → Fits us) where
-  module _ (comma : List Lexeme → Option (List Lexeme)) (comma_ahead : (us vs : List Lexeme) → comma us ≡ Some vs → (t : Lexeme) × (us ≡ t ∷ vs) × IsMark mark.Comma t)
-      (Item : List Lexeme → A → Type 0) (Ends : List Lexeme → Type 0) (reader : Reader A) (exact : Exact Fits Item Ends reader) where
-    pub separated_sound : (turns : ℕ) (xs ys : List A) (ts rest : List Lexeme) → separated comma (adds reader) turns xs ts ≡ Some (ys, rest) → Added (Separated Item) xs ts ys rest
+module _ {A : Type 0} (Fits : List Lexeme → Type 0) (fits_left : (ts us : List Lexeme) → Fits (ts ++ us) → Fits ts)
+    (fits_right : (ts us : List Lexeme) → Fits (ts ++ us) → Fits us) where
+  module _ (comma : List Lexeme → Option (List Lexeme))
+      (comma_ahead : (us vs : List Lexeme) → comma us ≡ Some vs → (t : Lexeme) × (us ≡ t ∷ vs) × IsMark mark.Comma t)
+      (Item : List Lexeme → A → Type 0) (Ends : List Lexeme → Type 0) (reader : Reader A)
+      (exact : Exact Fits Item Ends reader) where
+    pub separated_sound : (turns : ℕ) (xs ys : List A) (ts rest : List Lexeme) →
+        separated comma (adds reader) turns xs ts ≡ Some (ys, rest) → Added (Separated Item) xs ts ys rest
     unfolding separated
     separated_sound zero xs ys ts rest h = absurd (none-some _ h)
     separated_sound (suc turns) xs ys ts rest h =
-        let b = bound (λ x. option_map_or (λ rest. separated comma (adds reader) turns x.0 rest) (comma x.1) (Some x)) (adds reader xs ts) (ys, rest) h in
+        let b = bound (λ x. option_map_or (λ rest. separated comma (adds reader) turns x.0 rest) (comma x.1) (Some x))
+        (adds reader xs ts) (ys, rest) h in
         let a = (adds_exact Fits Item Ends reader exact).sound xs b.0.0 ts b.0.1 b.1 in
         go b.0.0 b.0.1 a (comma b.0.1) refl b.2 (separated_sound turns)
       where
-        go : (zs : List A) (us : List Lexeme) → Added (One Item) xs ts zs us → (o : Option (List Lexeme)) → comma us ≡ o → option_map_or (λ rest. separated comma (adds reader) turns zs rest) o (Some (zs, us)) ≡ Some (ys, rest)
-            → ((xs ys : List A) (ts rest : List Lexeme) → separated comma (adds reader) turns xs ts ≡ Some (ys, rest) → Added (Separated Item) xs ts ys rest) → Added (Separated Item) xs ts ys rest
+        go : (zs : List A) (us : List Lexeme) → Added (One Item) xs ts zs us → (o : Option (List Lexeme)) →
+            comma us ≡ o → option_map_or (λ rest. separated comma (adds reader) turns zs rest) o (Some (zs, us)) ≡
+            Some (ys, rest)
+            → ((xs ys : List A) (ts rest : List Lexeme) → separated comma (adds reader) turns xs ts ≡ Some (ys, rest) →
+            Added (Separated Item) xs ts ys rest) → Added (Separated Item) xs ts ys rest
         go zs us a None q e ih =
             let same = same_some e in
             let all : zs ≡ ys = ap (λ p. p.0) same in
@@ -109,7 +132,8 @@ module _ {A : Type 0} (Fits : List Lexeme → Type 0) (fits_left : (ts us : List
               taken = a.taken ++ c.0 ∷ l.taken;
               added = a.spelled.item ∷ l.added;
               split = glued ts us rest a.taken (c.0 ∷ l.taken) a.split (c.1 ∙ ap (λ r. c.0 ∷ r) l.split);
-              all = l.all ∙ ap (λ r. r ++ l.added) (a.all ∙ ap (λ r. xs ++ r) a.spelled.is) ∙ append_assoc xs (a.spelled.item ∷ []) l.added;
+              all = l.all ∙ ap (λ r. r ++ l.added) (a.all ∙ ap (λ r. xs ++ r) a.spelled.is) ∙
+                  append_assoc xs (a.spelled.item ∷ []) l.added;
               spelled = more c.0 c.2 a.spelled.spelled l.spelled;
             }
 
@@ -117,41 +141,61 @@ module _ {A : Type 0} (Fits : List Lexeme → Type 0) (fits_left : (ts us : List
     separated_short (one d) = omega arith
     separated_short (more {ts = ts} {us = us} t p d g) = omega (arith, separated_short g, length-append ts (t ∷ us))
 
-    module _ (before_comma : (t : Lexeme) (rest : List Lexeme) → IsMark mark.Comma t → Ends (t ∷ rest)) (goes_on : (t : Lexeme) (us rest : List Lexeme) (zs : List A) → IsMark mark.Comma t → Separated Item us zs → comma (t ∷ (us ++ rest)) ≡ Some (us ++ rest)) where
-      pub separated_reads : {ts : List Lexeme} {zs : List A} (d : Separated Item ts zs) (turns : ℕ) (xs : List A) (rest : List Lexeme) → length zs ≤ turns → Fits ts → Ends rest → comma rest ≡ None → separated comma (adds reader) turns xs (ts ++ rest) ≡ Some (xs ++ zs, rest)
+    module _ (before_comma : (t : Lexeme) (rest : List Lexeme) → IsMark mark.Comma t → Ends (t ∷ rest))
+        (goes_on : (t : Lexeme) (us rest : List Lexeme) (zs : List A) → IsMark mark.Comma t → Separated Item us zs →
+        comma (t ∷ (us ++ rest)) ≡ Some (us ++ rest)) where
+      pub separated_reads : {ts : List Lexeme} {zs : List A} (d : Separated Item ts zs) (turns : ℕ) (xs : List A)
+          (rest : List Lexeme) → length zs ≤ turns → Fits ts → Ends rest → comma rest ≡ None →
+          separated comma (adds reader) turns xs (ts ++ rest) ≡ Some (xs ++ zs, rest)
       unfolding separated
       separated_reads (one d) zero xs rest h fits ends stop = absurd (omega arith)
       separated_reads (one {ts = ts} {x = x} d) (suc turns) xs rest h fits ends stop =
-          rw ((adds_exact Fits Item Ends reader exact).complete xs (x ∷ []) ts rest (record { item = x; is = refl; spelled = d }) fits ends, stop)
+          rw (
+            (adds_exact Fits Item Ends reader exact).complete xs (x ∷ []) ts rest
+                (record { item = x; is = refl; spelled = d }) fits ends,
+            stop,
+          )
       separated_reads (more t p d g) zero xs rest h fits ends stop = absurd (omega arith)
       separated_reads (more {ts = ts} {us = us} {x = x} {xs = zs} t p d g) (suc turns) xs rest h fits ends stop =
-          let first = (adds_exact Fits Item Ends reader exact).complete xs (x ∷ []) ts (t ∷ (us ++ rest)) (record { item = x; is = refl; spelled = d }) (fits_left ts (t ∷ us) fits) (before_comma t (us ++ rest) p) in
-          let others = separated_reads g turns (xs ++ x ∷ []) rest (omega arith) (fits_right (t ∷ []) us (fits_right ts (t ∷ us) fits)) ends stop in
+          let first = (adds_exact Fits Item Ends reader exact).complete xs (x ∷ []) ts (t ∷ (us ++ rest))
+          (record { item = x; is = refl; spelled = d }) (fits_left ts (t ∷ us) fits)
+          (before_comma t (us ++ rest) p) in
+          let others = separated_reads g turns (xs ++ x ∷ []) rest (omega arith)
+          (fits_right (t ∷ []) us (fits_right ts (t ∷ us) fits)) ends stop in
           ap (λ l. separated comma (adds reader) (suc turns) xs l) (append_assoc ts (t ∷ us) rest)
           ∙ rw (first, goes_on t us rest zs p g) (others ∙ ap (λ l. Some (l, rest)) (append_assoc xs (x ∷ []) zs))
 
       -- all that stands between the items is commas
-      pub separated_exact : ExactAdder Fits (Separated Item) (λ rest. Ends rest × (comma rest ≡ None)) (λ xs ts. separated comma (adds reader) (length ts + 1) xs ts)
+      pub separated_exact : ExactAdder Fits (Separated Item) (λ rest. Ends rest × (comma rest ≡ None))
+          (λ xs ts. separated comma (adds reader) (length ts + 1) xs ts)
       separated_exact = record {
         sound = λ xs ys ts rest h. separated_sound (length ts + 1) xs ys ts rest h;
         complete = λ xs zs ts rest g fits ends.
             let short = separated_short g in
-            separated_reads g (length (ts ++ rest) + 1) xs rest (omega (arith, length-append ts rest)) fits ends.0 ends.1;
+            separated_reads g (length (ts ++ rest) + 1) xs rest
+            (omega (arith, length-append ts rest)) fits ends.0 ends.1;
       }
 
-  module _ (ends : List Lexeme → Bool) (Group : List Lexeme → List A → Type 0) (Ends : List Lexeme → Type 0) (group : Adder A) (exact : ExactAdder Fits Group Ends group) where
-    pub grouped_sound : (turns : ℕ) (xs ys : List A) (ts rest : List Lexeme) → grouped ends group turns xs ts ≡ Some (ys, rest) → Added (Grouped Group) xs ts ys rest × (ends rest ≡ true)
+  module _ (ends : List Lexeme → Bool) (Group : List Lexeme → List A → Type 0) (Ends : List Lexeme → Type 0)
+      (group : Adder A) (exact : ExactAdder Fits Group Ends group) where
+    pub grouped_sound : (turns : ℕ) (xs ys : List A) (ts rest : List Lexeme) →
+        grouped ends group turns xs ts ≡ Some (ys, rest) → Added (Grouped Group) xs ts ys rest × (ends rest ≡ true)
     unfolding grouped
     grouped_sound zero xs ys ts rest h = absurd (none-some _ h)
     grouped_sound (suc turns) xs ys ts rest h = go (ends ts) refl h (grouped_sound turns)
       where
-        go : (b : Bool) → ends ts ≡ b → cond {A = Option (List A × List Lexeme)} b (Some (xs, ts)) (group xs ts >>= (λ x. grouped ends group turns x.0 x.1)) ≡ Some (ys, rest)
-            → ((xs ys : List A) (ts rest : List Lexeme) → grouped ends group turns xs ts ≡ Some (ys, rest) → Added (Grouped Group) xs ts ys rest × (ends rest ≡ true)) → Added (Grouped Group) xs ts ys rest × (ends rest ≡ true)
+        go : (b : Bool) → ends ts ≡ b → cond {A = Option (List A × List Lexeme)} b (Some (xs, ts))
+            (group xs ts >>= (λ x. grouped ends group turns x.0 x.1)) ≡ Some (ys, rest)
+            → ((xs ys : List A) (ts rest : List Lexeme) → grouped ends group turns xs ts ≡ Some (ys, rest) →
+            Added (Grouped Group) xs ts ys rest × (ends rest ≡ true)) →
+            Added (Grouped Group) xs ts ys rest × (ends rest ≡ true)
         go true q e ih =
             let same = same_some e in
             let all : xs ≡ ys = ap (λ p. p.0) same in
-            let behind : ts ≡ rest = ap (λ p. p.1) same in
-            (record { taken = []; added = []; split = behind; all = sym all ∙ sym (append-nil xs); spelled = none }, ap ends (sym behind) ∙ q)
+            let behind : ts ≡ rest = ap (λ p. p.1) same in (
+              record { taken = []; added = []; split = behind; all = sym all ∙ sym (append-nil xs); spelled = none },
+              ap ends (sym behind) ∙ q,
+            )
         go false q e ih =
             let b = bound (λ x. grouped ends group turns x.0 x.1) (group xs ts) (ys, rest) e in
             let a = exact.sound xs b.0.0 ts b.0.1 b.1 in
@@ -171,18 +215,25 @@ module _ {A : Type 0} (Fits : List Lexeme → Type 0) (fits_left : (ts us : List
     group_count none = 0
     group_count (next d g) = group_count g + 1
 
-    module _ (starts : (us rest : List Lexeme) (zs : List A) → Group us zs → ends (us ++ rest) ≡ false) (some : (us : List Lexeme) (zs : List A) → Group us zs → 0 < length us)
-        (at_end : (rest : List Lexeme) → ends rest ≡ true → Ends rest) (before_group : (us rest : List Lexeme) (zs : List A) → Group us zs → Ends (us ++ rest)) where
+    module _ (starts : (us rest : List Lexeme) (zs : List A) → Group us zs → ends (us ++ rest) ≡ false)
+        (some : (us : List Lexeme) (zs : List A) → Group us zs → 0 < length us)
+        (at_end : (rest : List Lexeme) → ends rest ≡ true → Ends rest)
+        (before_group : (us rest : List Lexeme) (zs : List A) → Group us zs → Ends (us ++ rest)) where
       group_short : {ts : List Lexeme} {zs : List A} (d : Grouped Group ts zs) → group_count d ≤ length ts
       unfolding group_count
       group_short none = omega arith
-      group_short (next {ts = ts} {us = us} {xs = xs} d g) = omega (arith, group_short g, some ts xs d, length-append ts us)
+      group_short (next {ts = ts} {us = us} {xs = xs} d g) =
+          omega (arith, group_short g, some ts xs d, length-append ts us)
 
-      before : {us : List Lexeme} {zs : List A} (g : Grouped Group us zs) (rest : List Lexeme) → ends rest ≡ true → Ends (us ++ rest)
+      before : {us : List Lexeme} {zs : List A} (g : Grouped Group us zs) (rest : List Lexeme) → ends rest ≡ true →
+          Ends (us ++ rest)
       before none rest h = at_end rest h
-      before (next {ts = ts} {us = us} {xs = xs} d g) rest h = subst Ends (sym (append_assoc ts us rest)) (before_group ts (us ++ rest) xs d)
+      before (next {ts = ts} {us = us} {xs = xs} d g) rest h =
+          subst Ends (sym (append_assoc ts us rest)) (before_group ts (us ++ rest) xs d)
 
-      grouped_reads : {ts : List Lexeme} {zs : List A} (d : Grouped Group ts zs) (turns : ℕ) (xs : List A) (rest : List Lexeme) → group_count d < turns → Fits ts → ends rest ≡ true → grouped ends group turns xs (ts ++ rest) ≡ Some (xs ++ zs, rest)
+      grouped_reads : {ts : List Lexeme} {zs : List A} (d : Grouped Group ts zs) (turns : ℕ) (xs : List A)
+          (rest : List Lexeme) → group_count d < turns → Fits ts → ends rest ≡ true →
+          grouped ends group turns xs (ts ++ rest) ≡ Some (xs ++ zs, rest)
       unfolding grouped group_count
       grouped_reads none zero xs rest h fits stop = absurd (omega arith)
       grouped_reads none (suc turns) xs rest h fits stop = rw stop (ap (λ l. Some (l, rest)) (sym (append-nil xs)))
@@ -193,7 +244,8 @@ module _ {A : Type 0} (Fits : List Lexeme → Type 0) (fits_left : (ts us : List
           ap (λ l. grouped ends group (suc turns) xs l) (append_assoc ts us rest)
           ∙ rw (starts ts (us ++ rest) zs d, first) (others ∙ ap (λ l. Some (l, rest)) (append_assoc xs zs ws))
 
-      pub grouped_exact : ExactAdder Fits (Grouped Group) (λ rest. ends rest ≡ true) (λ xs ts. grouped ends group (length ts + 1) xs ts)
+      pub grouped_exact : ExactAdder Fits (Grouped Group) (λ rest. ends rest ≡ true)
+          (λ xs ts. grouped ends group (length ts + 1) xs ts)
       grouped_exact = record {
         sound = λ xs ys ts rest h. (grouped_sound (length ts + 1) xs ys ts rest h).0;
         complete = λ xs zs ts rest g fits stop.

@@ -41,34 +41,63 @@ three = record { value = 3; unsigned = false }
 
 -- `int * a [ 3 ] , b ;` declares an array of three pointers and an `int`, both in the line of `int`
 pub two_globals : SpellsDecl
-    (in_line 1 (symbol.Keyword word.Int) ∷ the (symbol.Mark mark.Star) ∷ the a ∷ the (symbol.Mark mark.OpenSquare) ∷ the (symbol.Integer three) ∷ the (symbol.Mark mark.CloseSquare) ∷ the (symbol.Mark mark.Comma) ∷ the b ∷ the (symbol.Mark mark.Semicolon) ∷ [])
-    (decl.Global (record { ty = record { base = base.Int; stars = 1; length = Some 3 }; name = codes "a"; init = init.Absent; line = 1 }) ∷ decl.Global (record { ty = record { base = base.Int; stars = 0; length = None }; name = codes "b"; init = init.Absent; line = 1 }) ∷ [])
+    (in_line 1 (symbol.Keyword word.Int) ∷ the (symbol.Mark mark.Star) ∷ the a ∷ the (symbol.Mark mark.OpenSquare) ∷
+    the (symbol.Integer three) ∷ the (symbol.Mark mark.CloseSquare) ∷ the (symbol.Mark mark.Comma) ∷ the b ∷
+    the (symbol.Mark mark.Semicolon) ∷ [])
+    (decl.Global (record {
+      ty = record { base = base.Int; stars = 1; length = Some 3 };
+      name = codes "a";
+      init = init.Absent;
+      line = 1;
+    }) ∷ decl.Global
+    (record {
+      ty = record { base = base.Int; stars = 0; length = None };
+      name = codes "b";
+      init = init.Absent;
+      line = 1;
+    }) ∷ [])
 two_globals =
-    declarations.globals (declarations.declares (the (symbol.Mark mark.Semicolon)) refl (types.int (in_line 1 (symbol.Keyword word.Int)) refl)
+    declarations.globals (declarations.declares (the (symbol.Mark mark.Semicolon)) refl
+    (types.int (in_line 1 (symbol.Keyword word.Int)) refl)
     (lists.more (the (symbol.Mark mark.Comma)) refl
-    (declarations.global (types.array (the a) (the (symbol.Mark mark.OpenSquare)) (the (symbol.Integer three)) (the (symbol.Mark mark.CloseSquare)) (codes "a") three 3 refl refl refl refl refl (types.star (the (symbol.Mark mark.Star)) refl types.none)) declarations.absent)
+    (declarations.global (types.array (the a) (the (symbol.Mark mark.OpenSquare)) (the (symbol.Integer three))
+    (the (symbol.Mark mark.CloseSquare)) (codes "a") three 3 refl refl refl refl refl
+    (types.star (the (symbol.Mark mark.Star)) refl types.none)) declarations.absent)
     (lists.one (declarations.global (types.plain (the b) (codes "b") refl types.none) declarations.absent))))
 
 variable_spelled : (name : List ℕ) → Spells loosest_level (the (symbol.Ident name) ∷ []) (expr.Variable name)
-variable_spelled name = looser (looser (looser (looser (looser (looser (looser (looser (looser (looser (looser (variable (the (symbol.Ident name)) name refl)))))))))))
+variable_spelled name = looser (looser (looser (looser
+    (looser (looser (looser (looser (looser (looser (looser (variable (the (symbol.Ident name)) name refl)))))))))))
 
 a_place : is_place (expr.Variable (codes "a")) ≡ true
 a_place = search (rules, the_lemmas)
 
 -- `++ a` is `a = a + 1`
-pub a_step : SpellsKind (the (symbol.Mark mark.PlusPlus) ∷ the a ∷ []) (simple.Assign (expr.Variable (codes "a")) (expr.Binary binary.Add (expr.Variable (codes "a")) one))
-a_step = statements.step_before (the (symbol.Mark mark.PlusPlus)) mark.PlusPlus binary.Add refl refl (looser (variable (the a) (codes "a") refl), a_place)
+pub a_step : SpellsKind (the (symbol.Mark mark.PlusPlus) ∷ the a ∷ [])
+    (simple.Assign (expr.Variable (codes "a")) (expr.Binary binary.Add (expr.Variable (codes "a")) one))
+a_step = statements.step_before (the (symbol.Mark mark.PlusPlus)) mark.PlusPlus binary.Add refl refl
+    (looser (variable (the a) (codes "a") refl), a_place)
 
-a_condition : (name : List ℕ) → SpellsCondition (the (symbol.Mark mark.OpenParen) ∷ the (symbol.Ident name) ∷ the (symbol.Mark mark.CloseParen) ∷ []) (expr.Variable name)
-a_condition name = statements.condition (the (symbol.Mark mark.OpenParen)) (the (symbol.Mark mark.CloseParen)) refl refl (variable_spelled name)
+a_condition : (name : List ℕ) → SpellsCondition (the (symbol.Mark mark.OpenParen) ∷ the (symbol.Ident name) ∷
+    the (symbol.Mark mark.CloseParen) ∷ []) (expr.Variable name)
+a_condition name = statements.condition (the (symbol.Mark mark.OpenParen)) (the (symbol.Mark mark.CloseParen)) refl refl
+    (variable_spelled name)
 
 empty_block : SpellsBlock (the (symbol.Mark mark.OpenCurly) ∷ the (symbol.Mark mark.CloseCurly) ∷ []) []
-empty_block = statements.block (the (symbol.Mark mark.OpenCurly)) (the (symbol.Mark mark.CloseCurly)) refl refl statements.none
+empty_block = statements.block (the (symbol.Mark mark.OpenCurly))
+    (the (symbol.Mark mark.CloseCurly)) refl refl statements.none
 
 -- in `if (a) { } else if (b) { } else { }` the last part is that of the second `if`
 pub an_else_if : SpellsIf
-    (the (symbol.Keyword word.If) ∷ the (symbol.Mark mark.OpenParen) ∷ the a ∷ the (symbol.Mark mark.CloseParen) ∷ the (symbol.Mark mark.OpenCurly) ∷ the (symbol.Mark mark.CloseCurly) ∷ the (symbol.Keyword word.Else) ∷ in_line 3 (symbol.Keyword word.If) ∷ the (symbol.Mark mark.OpenParen) ∷ the b ∷ the (symbol.Mark mark.CloseParen) ∷ the (symbol.Mark mark.OpenCurly) ∷ the (symbol.Mark mark.CloseCurly) ∷ the (symbol.Keyword word.Else) ∷ the (symbol.Mark mark.OpenCurly) ∷ the (symbol.Mark mark.CloseCurly) ∷ [])
-    (stmt.If (expr.Variable (codes "a")) [] (record { line = 3; kind = stmt.If (expr.Variable (codes "b")) [] [] } ∷ []))
+    (the (symbol.Keyword word.If) ∷ the (symbol.Mark mark.OpenParen) ∷ the a ∷ the (symbol.Mark mark.CloseParen) ∷
+    the (symbol.Mark mark.OpenCurly) ∷ the (symbol.Mark mark.CloseCurly) ∷ the (symbol.Keyword word.Else) ∷
+    in_line 3 (symbol.Keyword word.If) ∷ the (symbol.Mark mark.OpenParen) ∷ the b ∷
+    the (symbol.Mark mark.CloseParen) ∷ the (symbol.Mark mark.OpenCurly) ∷ the (symbol.Mark mark.CloseCurly) ∷
+    the (symbol.Keyword word.Else) ∷ the (symbol.Mark mark.OpenCurly) ∷ the (symbol.Mark mark.CloseCurly) ∷ [])
+    (stmt.If (expr.Variable (codes "a")) [] (record { line = 3; kind = stmt.If (expr.Variable (codes "b")) [] [] } ∷
+    []))
 an_else_if =
-    statements.otherwise_if (the (symbol.Keyword word.If)) (the (symbol.Keyword word.Else)) refl refl (a_condition (codes "a")) empty_block
-    (statements.otherwise (in_line 3 (symbol.Keyword word.If)) (the (symbol.Keyword word.Else)) refl refl (a_condition (codes "b")) empty_block empty_block)
+    statements.otherwise_if (the (symbol.Keyword word.If)) (the (symbol.Keyword word.Else)) refl refl
+    (a_condition (codes "a")) empty_block
+    (statements.otherwise (in_line 3 (symbol.Keyword word.If)) (the (symbol.Keyword word.Else)) refl refl
+    (a_condition (codes "b")) empty_block empty_block)

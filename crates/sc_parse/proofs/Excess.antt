@@ -10,11 +10,13 @@ abbrev open_along : ℕ → List Lexeme → ℕ
 open_along n [] = n
 open_along n (t ∷ ts) = open_along (open_after t.symbol n) ts
 
-along_snoc : (n : ℕ) (ts : List Lexeme) (t : Lexeme) → open_along n (ts ++ t ∷ []) ≡ open_after t.symbol (open_along n ts)
+along_snoc : (n : ℕ) (ts : List Lexeme) (t : Lexeme) →
+    open_along n (ts ++ t ∷ []) ≡ open_after t.symbol (open_along n ts)
 along_snoc n [] t = refl
 along_snoc n (u ∷ ts) t = along_snoc (open_after u.symbol n) ts t
 
-most_snoc : (n : ℕ) (ts : List Lexeme) (t : Lexeme) → most_open n (ts ++ t ∷ []) ≡ max (most_open n ts) (open_after t.symbol (open_along n ts))
+most_snoc : (n : ℕ) (ts : List Lexeme) (t : Lexeme) →
+    most_open n (ts ++ t ∷ []) ≡ max (most_open n ts) (open_after t.symbol (open_along n ts))
 most_snoc n [] t = refl
 most_snoc n (u ∷ ts) t = let h = most_snoc (open_after u.symbol n) ts t in omega (arith, h)
 
@@ -27,21 +29,34 @@ pub record IsWithin (lexemes : List Lexeme) (at count : ℕ) : Type 0 where
 pub within_start : (lexemes : List Lexeme) → IsWithin lexemes 0 0
 within_start lexemes = record { count_is = refl; few = omega arith; low = omega arith }
 
-more_open : (lexemes : List Lexeme) (at count : ℕ) (t : Lexeme) → at < length lexemes → IsWithin lexemes at count → open_along 0 (take (at + 1) lexemes) ≡ open_after (get_or lexemes at t).symbol count
+more_open : (lexemes : List Lexeme) (at count : ℕ) (t : Lexeme) → at < length lexemes → IsWithin lexemes at count →
+    open_along 0 (take (at + 1) lexemes) ≡ open_after (get_or lexemes at t).symbol count
 more_open lexemes at count t h w =
-    ap (λ l. open_along 0 l) (take_more lexemes at t h) ∙ along_snoc 0 (take at lexemes) (get_or lexemes at t) ∙ ap (λ n. open_after (get_or lexemes at t).symbol n) (sym w.count_is)
+    ap (λ l. open_along 0 l) (take_more lexemes at t h) ∙ along_snoc 0 (take at lexemes) (get_or lexemes at t) ∙
+    ap (λ n. open_after (get_or lexemes at t).symbol n) (sym w.count_is)
 
-more_most : (lexemes : List Lexeme) (at count : ℕ) (t : Lexeme) → at < length lexemes → IsWithin lexemes at count → most_open 0 (take (at + 1) lexemes) ≡ max (most_open 0 (take at lexemes)) (open_after (get_or lexemes at t).symbol count)
+more_most : (lexemes : List Lexeme) (at count : ℕ) (t : Lexeme) → at < length lexemes → IsWithin lexemes at count →
+    most_open 0 (take (at + 1) lexemes) ≡ max (most_open 0 (take at lexemes))
+    (open_after (get_or lexemes at t).symbol count)
 more_most lexemes at count t h w =
-    ap (λ l. most_open 0 l) (take_more lexemes at t h) ∙ most_snoc 0 (take at lexemes) (get_or lexemes at t) ∙ ap (λ n. max (most_open 0 (take at lexemes)) (open_after (get_or lexemes at t).symbol n)) (sym w.count_is)
+    ap (λ l. most_open 0 l) (take_more lexemes at t h) ∙ most_snoc 0 (take at lexemes) (get_or lexemes at t) ∙
+    ap (λ n. max (most_open 0 (take at lexemes)) (open_after (get_or lexemes at t).symbol n)) (sym w.count_is)
 
-pub within_on : (lexemes : List Lexeme) (at count next : ℕ) (t : Lexeme) → at < length lexemes → IsWithin lexemes at count → t ≡ get_or lexemes at t → next ≡ open_after t.symbol count → next ≤ 1024 → IsWithin lexemes (at + 1) next
+pub within_on : (lexemes : List Lexeme) (at count next : ℕ) (t : Lexeme) → at < length lexemes →
+    IsWithin lexemes at count → t ≡ get_or lexemes at t → next ≡ open_after t.symbol count → next ≤ 1024 →
+    IsWithin lexemes (at + 1) next
 within_on lexemes at count next t h w is q few =
     let same : next ≡ open_after (get_or lexemes at t).symbol count = q ∙ ap (λ u. open_after u.symbol count) is in
     let most = more_most lexemes at count t h w in
-    record { count_is = same ∙ sym (more_open lexemes at count t h w); few = omega (arith, most, same, w.few, few); low = few }
+    record {
+      count_is = same ∙ sym (more_open lexemes at count t h w);
+      few = omega (arith, most, same, w.few, few);
+      low = few;
+    }
 
-pub excess : (lexemes : List Lexeme) (at count next : ℕ) (t : Lexeme) → at < length lexemes → IsWithin lexemes at count → t ≡ get_or lexemes at t → next ≡ open_after t.symbol count → 1024 < next → IsExcess lexemes at
+pub excess : (lexemes : List Lexeme) (at count next : ℕ) (t : Lexeme) → at < length lexemes →
+    IsWithin lexemes at count → t ≡ get_or lexemes at t → next ≡ open_after t.symbol count → 1024 < next →
+    IsExcess lexemes at
 excess lexemes at count next t h w is q many =
     let same : next ≡ open_after (get_or lexemes at t).symbol count = q ∙ ap (λ u. open_after u.symbol count) is in
     let most = more_most lexemes at count t h w in

@@ -54,7 +54,11 @@ after_more _ n k h = h
 
 most_more : (n k : ℕ) (ts : List Lexeme) → n ≤ k → most_open n ts ≤ most_open k ts
 most_more n k [] h = h
-most_more n k (t ∷ ts) h = omega (arith, most_more (open_after t.symbol n) (open_after t.symbol k) ts (after_more t.symbol n k h))
+most_more n k (t ∷ ts) h = omega (
+  arith,
+  most_more (open_after t.symbol n) (open_after t.symbol k) ts
+      (after_more t.symbol n k h),
+)
 
 most_right : (n : ℕ) (ts us : List Lexeme) → most_open 0 us ≤ most_open n (ts ++ us)
 most_right n [] us = most_more 0 n us (omega arith)
@@ -85,24 +89,35 @@ pub record Measured (room : ℕ) (ts : List Lexeme) (x : Found) : Type 0 where
   pub height : x.height ≡ expr_height x.tree
   pub low : x.height ≤ room
 
-pub measured : (free : ℕ) → (room : ℕ) (ts : List Lexeme) (x : Found) → read free room loosest_level ts ≡ Some x → Measured room ts x
-measured free room ts x h = let r = read_sound free room loosest_level ts x (omega arith) h in record { taken = r.taken; split = r.split; spelled = r.spelled; height = r.measured; low = r.low }
+pub measured : (free : ℕ) → (room : ℕ) (ts : List Lexeme) (x : Found) → read free room loosest_level ts ≡ Some x →
+    Measured room ts x
+measured free room ts x h = let r = read_sound free room loosest_level ts x (omega arith) h in
+    record { taken = r.taken; split = r.split; spelled = r.spelled; height = r.measured; low = r.low }
 
-pub expr_reads : (free : ℕ) → {level : ℕ} {ts : List Lexeme} {e : ExprTree} (d : Spells level ts e) (room : ℕ) (rest : List Lexeme) → level ≤ 11 → expr_height e ≤ room → Few free ts → NoExtension rest → read free room loosest_level (ts ++ rest) ≡ Some (found e (expr_height e) rest)
-expr_reads free d room rest inside low few ends = reads_all d free room loosest_level 0 rest inside low (omega arith) (λ ext at. absurd (none-some ext (sym ends ∙ at)))
+pub expr_reads : (free : ℕ) → {level : ℕ} {ts : List Lexeme} {e : ExprTree} (d : Spells level ts e) (room : ℕ)
+    (rest : List Lexeme) → level ≤ 11 → expr_height e ≤ room → Few free ts → NoExtension rest →
+    read free room loosest_level (ts ++ rest) ≡ Some (found e (expr_height e) rest)
+expr_reads free d room rest inside low few ends = reads_all d free room loosest_level 0 rest inside low (omega arith)
+    (λ ext at. absurd (none-some ext (sym ends ∙ at)))
 
 -- the same up to an operator between operands
-pub unary_reads : (free : ℕ) → {ts : List Lexeme} {e : ExprTree} (d : Spells unary_level ts e) (room : ℕ) (rest : List Lexeme) → expr_height e ≤ room → Few free ts → NoExtension rest → read free room unary_level (ts ++ rest) ≡ Some (found e (expr_height e) rest)
-unary_reads free d room rest low few ends = reads_all d free room unary_level 0 rest (omega arith) low (omega arith) (λ ext at. absurd (none-some ext (sym ends ∙ at)))
+pub unary_reads : (free : ℕ) → {ts : List Lexeme} {e : ExprTree} (d : Spells unary_level ts e) (room : ℕ)
+    (rest : List Lexeme) → expr_height e ≤ room → Few free ts → NoExtension rest →
+    read free room unary_level (ts ++ rest) ≡ Some (found e (expr_height e) rest)
+unary_reads free d room rest low few ends = reads_all d free room unary_level 0 rest (omega arith) low (omega arith)
+    (λ ext at. absurd (none-some ext (sym ends ∙ at)))
 
-expr_sound : (free : ℕ) → (room : ℕ) (ts rest : List Lexeme) (x : ExprTree) → expr_at free room ts ≡ Some (x, rest) → Taken (IsExpr room) ts x rest
+expr_sound : (free : ℕ) → (room : ℕ) (ts rest : List Lexeme) (x : ExprTree) → expr_at free room ts ≡ Some (x, rest) →
+    Taken (IsExpr room) ts x rest
 unfolding expr_at
 expr_sound free room ts rest x h =
     let b = bound (λ x. Some (x.tree, x.rest)) (read free room loosest_level ts) (x, rest) h in
     let m = measured free room ts b.0 b.1 in
-    took (IsExpr room) ts m.taken x b.0.tree b.0.rest rest m.split (record { spelled = m.spelled; low = let low = m.low in let height = m.height in omega arith }) b.2
+    took (IsExpr room) ts m.taken x b.0.tree b.0.rest rest m.split
+    (record { spelled = m.spelled; low = let low = m.low in let height = m.height in omega arith }) b.2
 
-expr_complete : (free : ℕ) → (room : ℕ) (ts rest : List Lexeme) (x : ExprTree) → IsExpr room ts x → Few free ts → NoExtension rest → expr_at free room (ts ++ rest) ≡ Some (x, rest)
+expr_complete : (free : ℕ) → (room : ℕ) (ts rest : List Lexeme) (x : ExprTree) → IsExpr room ts x → Few free ts →
+    NoExtension rest → expr_at free room (ts ++ rest) ≡ Some (x, rest)
 unfolding expr_at
 expr_complete free room ts rest x d few ends = rw (expr_reads free d.spelled room rest (omega arith) d.low few ends)
 
@@ -130,23 +145,29 @@ prefix_leads mark.Star p h = refl
 prefix_leads mark.And p h = refl
 prefix_leads _ p h = absurd (none-some p h)
 
-pub expr_starts : {level : ℕ} {ts : List Lexeme} {e : ExprTree} (d : Spells level ts e) (rest : List Lexeme) → begins_expr (ts ++ rest) ≡ true
+pub expr_starts : {level : ℕ} {ts : List Lexeme} {e : ExprTree} (d : Spells level ts e) (rest : List Lexeme) →
+    begins_expr (ts ++ rest) ≡ true
 unfolding begins_expr starts_expr
 expr_starts (literal t number p) rest = rw p
 expr_starts (variable t name p) rest = rw p
 expr_starts (parenthesised t u p q d) rest = rw p
-expr_starts (index {ts = ts} {us = us} t u p q d g) rest = ap begins_expr (append_assoc ts (t ∷ (us ++ u ∷ [])) rest) ∙ expr_starts d (t ∷ (us ++ u ∷ []) ++ rest)
-expr_starts (member {ts = ts} t u name p q d) rest = ap begins_expr (append_assoc ts (t ∷ u ∷ []) rest) ∙ expr_starts d (t ∷ u ∷ rest)
-expr_starts (arrow {ts = ts} t u name p q d) rest = ap begins_expr (append_assoc ts (t ∷ u ∷ []) rest) ∙ expr_starts d (t ∷ u ∷ rest)
+expr_starts (index {ts = ts} {us = us} t u p q d g) rest =
+    ap begins_expr (append_assoc ts (t ∷ (us ++ u ∷ [])) rest) ∙ expr_starts d (t ∷ (us ++ u ∷ []) ++ rest)
+expr_starts (member {ts = ts} t u name p q d) rest = ap begins_expr (append_assoc ts (t ∷ u ∷ []) rest) ∙
+    expr_starts d (t ∷ u ∷ rest)
+expr_starts (arrow {ts = ts} t u name p q d) rest = ap begins_expr (append_assoc ts (t ∷ u ∷ []) rest) ∙
+    expr_starts d (t ∷ u ∷ rest)
 expr_starts (prefix t m o p q d) rest = rw p (prefix_leads m o q)
-expr_starts (joined {ts = ts} {us = us} t m op p q k d g) rest = ap begins_expr (append_assoc ts (t ∷ us) rest) ∙ expr_starts d (t ∷ us ++ rest)
+expr_starts (joined {ts = ts} {us = us} t m op p q k d g) rest =
+    ap begins_expr (append_assoc ts (t ∷ us) rest) ∙ expr_starts d (t ∷ us ++ rest)
 expr_starts (looser d) rest = expr_starts d rest
 
 pub false-true : false ≡ true → ⊥
 false-true h = none-some {A = ℕ} 0 (ap (λ b. cond b (Some 0) None) h)
 
 -- a mark that begins no expression doesn't stand where one begins
-pub no_mark : (m : Mark) → is_some (lead_by m) ≡ false → (ts : List Lexeme) → begins_expr ts ≡ true → begins_with m ts ≡ false
+pub no_mark : (m : Mark) → is_some (lead_by m) ≡ false → (ts : List Lexeme) → begins_expr ts ≡ true →
+    begins_with m ts ≡ false
 unfolding begins_expr starts_expr
 no_mark m h [] e = refl
 no_mark m h (t ∷ ts) e = go (is_mark m t.symbol) refl
@@ -155,38 +176,53 @@ no_mark m h (t ∷ ts) e = go (is_mark m t.symbol) refl
     go false q = refl
     go true q = let is : t.symbol ≡ symbol.Mark m = mark_is m t q in absurd (false-true (sym h ∙ (rw is at e)))
 
-args_apart : {room : ℕ} {ts : List Lexeme} {es : List ExprTree} → Separated (IsExpr room) ts es → Separated (Spells loosest_level) ts es × (exprs_height es ≤ room)
+args_apart : {room : ℕ} {ts : List Lexeme} {es : List ExprTree} → Separated (IsExpr room) ts es →
+    Separated (Spells loosest_level) ts es × (exprs_height es ≤ room)
 args_apart (one d) = (one d.spelled, omega (arith, d.low))
 args_apart (more t p d g) = let others = args_apart g in (more t p d.spelled others.0, omega (arith, d.low, others.1))
 
-args_joined : {room : ℕ} {ts : List Lexeme} {es : List ExprTree} → Separated (Spells loosest_level) ts es → exprs_height es ≤ room → Separated (IsExpr room) ts es
+args_joined : {room : ℕ} {ts : List Lexeme} {es : List ExprTree} → Separated (Spells loosest_level) ts es →
+    exprs_height es ≤ room → Separated (IsExpr room) ts es
 args_joined (one d) h = one (record { spelled = d; low = omega arith })
 args_joined (more t p d g) h = more t p (record { spelled = d; low = omega arith }) (args_joined g (omega arith))
 
-all_args_exact : (free : ℕ) → (room : ℕ) → ExactAdder (Few free) (Separated (IsExpr room)) (λ rest. NoExtension rest × (behind mark.Comma rest ≡ None)) (all_separated (args_behind free room))
-all_args_exact free room = separated_exact (Few free) (few_left free) (few_right free) (behind mark.Comma) comma_ahead (IsExpr room) NoExtension (expr_at free room) (expr_exact free room) (λ t rest p. rw p) (λ t us rest zs p d. rw p)
+all_args_exact : (free : ℕ) → (room : ℕ) → ExactAdder (Few free) (Separated (IsExpr room))
+    (λ rest. NoExtension rest × (behind mark.Comma rest ≡ None)) (all_separated (args_behind free room))
+all_args_exact free room = separated_exact (Few free) (few_left free) (few_right free) (behind mark.Comma) comma_ahead
+    (IsExpr room) NoExtension (expr_at free room) (expr_exact free room) (λ t rest p. rw p) (λ t us rest zs p d. rw p)
 
-args_start : {ts : List Lexeme} {es : List ExprTree} (d : Separated (Spells loosest_level) ts es) (rest : List Lexeme) → begins_expr (ts ++ rest) ≡ true
+args_start : {ts : List Lexeme} {es : List ExprTree} (d : Separated (Spells loosest_level) ts es) (rest : List Lexeme) →
+    begins_expr (ts ++ rest) ≡ true
 args_start (one d) rest = expr_starts d rest
-args_start (more {ts = ts} {us = us} t p d g) rest = ap begins_expr (append_assoc ts (t ∷ us) rest) ∙ expr_starts d (t ∷ us ++ rest)
+args_start (more {ts = ts} {us = us} t p d g) rest = ap begins_expr (append_assoc ts (t ∷ us) rest) ∙
+    expr_starts d (t ∷ us ++ rest)
 
 -- arguments that are at most so high
 pub record IsArgs (room : ℕ) (ts : List Lexeme) (es : List ExprTree) : Type 0 where
   pub spelled : SpellsArgs ts es
   pub low : exprs_height es ≤ room
 
-args_sound : (free : ℕ) → (room : ℕ) (ts rest : List Lexeme) (x : List ExprTree) → args_at free room ts ≡ Some (x, rest) → Taken (IsArgs room) ts x rest
+args_sound : (free : ℕ) → (room : ℕ) (ts rest : List Lexeme) (x : List ExprTree) →
+    args_at free room ts ≡ Some (x, rest) → Taken (IsArgs room) ts x rest
 unfolding args_at
 args_sound free room ts rest x h = go (begins_with mark.CloseParen ts) h
   where
-    go : (b : Bool) → cond {A = Option (List ExprTree × List Lexeme)} b (Some ([], ts)) (all_separated (args_behind free room) [] ts) ≡ Some (x, rest) → Taken (IsArgs room) ts x rest
+    go : (b : Bool) → cond {A = Option (List ExprTree × List Lexeme)} b (Some ([], ts))
+        (all_separated (args_behind free room) [] ts) ≡ Some (x, rest) → Taken (IsArgs room) ts x rest
     go true e = took (IsArgs room) ts [] x [] ts rest refl (record { spelled = no_args; low = omega arith }) e
     go false e =
         let l = (all_args_exact free room).sound [] x ts rest e in
         let a = args_apart l.spelled in
-        record { taken = l.taken; split = l.split; spelled = subst (λ v. IsArgs room l.taken v) (sym l.all) (record { spelled = some_args a.0; low = a.1 }) }
+        record {
+          taken = l.taken;
+          split = l.split;
+          spelled = subst (λ v. IsArgs room l.taken v) (sym l.all)
+              (record { spelled = some_args a.0; low = a.1 });
+        }
 
-args_complete : (free : ℕ) → {room : ℕ} {ts : List Lexeme} {es : List ExprTree} (d : SpellsArgs ts es) (v : Lexeme) (rest : List Lexeme) → exprs_height es ≤ room → Few free ts → IsMark mark.CloseParen v → args_at free room (ts ++ v ∷ rest) ≡ Some (es, v ∷ rest)
+args_complete : (free : ℕ) → {room : ℕ} {ts : List Lexeme} {es : List ExprTree} (d : SpellsArgs ts es) (v : Lexeme)
+    (rest : List Lexeme) → exprs_height es ≤ room → Few free ts → IsMark mark.CloseParen v →
+    args_at free room (ts ++ v ∷ rest) ≡ Some (es, v ∷ rest)
 unfolding args_at
 args_complete free no_args v rest h few p = rw p
 args_complete free {room = room} (some_args {ts = ts} {args = es} d) v rest h few p =
@@ -198,23 +234,36 @@ pub record IsCall (room : ℕ) (ts : List Lexeme) (x : CallTree) : Type 0 where
   pub spelled : SpellsCall ts x
   pub low : call_height x ≤ room
 
-parens_sound : (free : ℕ) → (room : ℕ) (ts rest : List Lexeme) (x : List ExprTree) → args_in_parens free room ts ≡ Some (x, rest) → (u : Lexeme) × (taken : List Lexeme) × (v : Lexeme) × (ts ≡ u ∷ (taken ++ v ∷ rest)) × IsMark mark.OpenParen u × IsMark mark.CloseParen v × IsArgs room taken x
+parens_sound : (free : ℕ) → (room : ℕ) (ts rest : List Lexeme) (x : List ExprTree) →
+    args_in_parens free room ts ≡ Some (x, rest) → (u : Lexeme) × (taken : List Lexeme) × (v : Lexeme) ×
+    (ts ≡ u ∷ (taken ++ v ∷ rest)) × IsMark mark.OpenParen u × IsMark mark.CloseParen v × IsArgs room taken x
 parens_sound free room ts rest x h =
-    let o = bound (λ us. args_at free room us >>= (λ x. behind mark.CloseParen x.1 >>= (λ rest. Some (x.0, rest)))) (behind mark.OpenParen ts) (x, rest) h in
-    let b = bound (λ x. behind mark.CloseParen x.1 >>= (λ rest. Some (x.0, rest))) (args_at free room o.0) (x, rest) o.2 in
+    let o = bound (λ us. args_at free room us >>= (λ x. behind mark.CloseParen x.1 >>= (λ rest. Some (x.0, rest))))
+    (behind mark.OpenParen ts) (x, rest) h in
+    let b = bound (λ x. behind mark.CloseParen x.1 >>= (λ rest. Some (x.0, rest))) (args_at free room o.0)
+    (x, rest) o.2 in
     let c = bound (λ rest. Some (b.0.0, rest)) (behind mark.CloseParen b.0.1) (x, rest) b.2 in
     let same = same_some c.2 in
     let value : b.0.0 ≡ x = ap (λ p. p.0) same in
     let after : c.0 ≡ rest = ap (λ p. p.1) same in
     let u = behind_mark mark.OpenParen ts o.0 o.1 in
     let d = args_sound free room o.0 b.0.1 b.0.0 b.1 in
-    let v = behind_mark mark.CloseParen b.0.1 c.0 c.1 in
-    (u.0, d.taken, v.0, u.1 ∙ ap (λ l. u.0 ∷ l) (d.split ∙ ap (λ l. d.taken ++ l) (v.1 ∙ ap (λ l. v.0 ∷ l) after)), u.2, v.2, subst (λ z. IsArgs room d.taken z) value d.spelled)
+    let v = behind_mark mark.CloseParen b.0.1 c.0 c.1 in (
+      u.0,
+      d.taken,
+      v.0,
+      u.1 ∙ ap (λ l. u.0 ∷ l) (d.split ∙ ap (λ l. d.taken ++ l) (v.1 ∙ ap (λ l. v.0 ∷ l) after)),
+      u.2,
+      v.2,
+      subst (λ z. IsArgs room d.taken z) value d.spelled,
+    )
 
-call_sound : (free : ℕ) → (room : ℕ) (ts rest : List Lexeme) (x : CallTree) → call_at free room ts ≡ Some (x, rest) → Taken (IsCall room) ts x rest
+call_sound : (free : ℕ) → (room : ℕ) (ts rest : List Lexeme) (x : CallTree) → call_at free room ts ≡ Some (x, rest) →
+    Taken (IsCall room) ts x rest
 unfolding call_at
 call_sound free room ts rest x h =
-    let b = bound (λ x. args_in_parens free room x.1 >>= (λ y. Some (call_tree x.0 y.0, y.1))) (name_at ts) (x, rest) h in
+    let b = bound (λ x. args_in_parens free room x.1 >>= (λ y. Some (call_tree x.0 y.0, y.1))) (name_at ts)
+    (x, rest) h in
     let c = bound (λ y. Some (call_tree b.0.0 y.0, y.1)) (args_in_parens free room b.0.1) (x, rest) b.2 in
     let t = name_ahead ts b.0.1 b.0.0 b.1 in
     let p = parens_sound free room b.0.1 c.0.1 c.0.0 c.1 in
@@ -222,21 +271,28 @@ call_sound free room ts rest x h =
     (t.1 ∙ ap (λ l. t.0 ∷ l) (p.3 ∙ ap (λ l. p.0 ∷ l) (sym (append_assoc p.1 (p.2 ∷ []) c.0.1))))
     (record { spelled = call t.0 p.0 p.2 b.0.0 t.2 p.4 p.5 p.6.spelled; low = p.6.low }) c.2
 
-call_complete : (free : ℕ) → {room : ℕ} {ts : List Lexeme} {x : CallTree} (d : SpellsCall ts x) (rest : List Lexeme) → call_height x ≤ room → Few free ts → call_at free room (ts ++ rest) ≡ Some (x, rest)
+call_complete : (free : ℕ) → {room : ℕ} {ts : List Lexeme} {x : CallTree} (d : SpellsCall ts x) (rest : List Lexeme) →
+    call_height x ≤ room → Few free ts → call_at free room (ts ++ rest) ≡ Some (x, rest)
 unfolding call_at
 call_complete free {room = room} (call {ts = ts} t u v name p q r d) rest h few =
     let inner = few_left free ts (v ∷ []) (few_tail free u (ts ++ v ∷ []) (few_tail free t (u ∷ (ts ++ v ∷ [])) few)) in
-    ap (λ l. call_at free room (t ∷ u ∷ l)) (append_assoc ts (v ∷ []) rest) ∙ rw (p, q, args_complete free d v rest h inner r, r)
+    ap (λ l. call_at free room (t ∷ u ∷ l)) (append_assoc ts (v ∷ []) rest) ∙
+    rw (p, q, args_complete free d v rest h inner r, r)
 
 pub call_exact : (free : ℕ) → (room : ℕ) → Exact (Few free) (IsCall room) (λ rest. Unit {0}) (call_at free room)
-call_exact free room = record { sound = call_sound free room; complete = λ ts rest x d few ends. call_complete free d.spelled rest d.low few }
+call_exact free room = record {
+  sound = call_sound free room;
+  complete = λ ts rest x d few ends. call_complete free d.spelled rest d.low few;
+}
 
 -- an identifier and `(` begin a call
-pub call_begins : {ts : List Lexeme} {x : CallTree} (d : SpellsCall ts x) (rest : List Lexeme) → begins_call (ts ++ rest) ≡ true
+pub call_begins : {ts : List Lexeme} {x : CallTree} (d : SpellsCall ts x) (rest : List Lexeme) →
+    begins_call (ts ++ rest) ≡ true
 call_begins (call t u v name p q r d) rest = rw (p, q)
 
 -- no identifier and `(` begin an expression, where no `(` stands behind it
-binary_no_paren : (t : Lexeme) (m : Mark) (op : BinaryOp) → IsMark m t → binary_of m ≡ Some op → is_mark mark.OpenParen t.symbol ≡ false
+binary_no_paren : (t : Lexeme) (m : Mark) (op : BinaryOp) → IsMark m t → binary_of m ≡ Some op →
+    is_mark mark.OpenParen t.symbol ≡ false
 binary_no_paren t m op p q = go (is_mark mark.OpenParen t.symbol) refl
   where
     go : (b : Bool) → is_mark mark.OpenParen t.symbol ≡ b → b ≡ false
@@ -246,13 +302,18 @@ binary_no_paren t m op p q = go (is_mark mark.OpenParen t.symbol) refl
         let same : m ≡ mark.OpenParen = cc in
         absurd (none-some op (sym (ap binary_of same) ∙ q))
 
-pub no_call : {level : ℕ} {ts : List Lexeme} {e : ExprTree} (d : Spells level ts e) (rest : List Lexeme) → begins_with mark.OpenParen rest ≡ false → begins_call (ts ++ rest) ≡ false
+pub no_call : {level : ℕ} {ts : List Lexeme} {e : ExprTree} (d : Spells level ts e) (rest : List Lexeme) →
+    begins_with mark.OpenParen rest ≡ false → begins_call (ts ++ rest) ≡ false
 no_call (literal t number p) rest h = rw p
 no_call (variable t name p) rest h = rw (p, h)
 no_call (parenthesised t u p q d) rest h = rw p
-no_call (index {ts = ts} {us = us} t u p q d g) rest h = ap begins_call (append_assoc ts (t ∷ (us ++ u ∷ [])) rest) ∙ no_call d (t ∷ (us ++ u ∷ []) ++ rest) (rw p)
-no_call (member {ts = ts} t u name p q d) rest h = ap begins_call (append_assoc ts (t ∷ u ∷ []) rest) ∙ no_call d (t ∷ u ∷ rest) (rw p)
-no_call (arrow {ts = ts} t u name p q d) rest h = ap begins_call (append_assoc ts (t ∷ u ∷ []) rest) ∙ no_call d (t ∷ u ∷ rest) (rw p)
+no_call (index {ts = ts} {us = us} t u p q d g) rest h =
+    ap begins_call (append_assoc ts (t ∷ (us ++ u ∷ [])) rest) ∙ no_call d (t ∷ (us ++ u ∷ []) ++ rest) (rw p)
+no_call (member {ts = ts} t u name p q d) rest h = ap begins_call (append_assoc ts (t ∷ u ∷ []) rest) ∙
+    no_call d (t ∷ u ∷ rest) (rw p)
+no_call (arrow {ts = ts} t u name p q d) rest h = ap begins_call (append_assoc ts (t ∷ u ∷ []) rest) ∙
+    no_call d (t ∷ u ∷ rest) (rw p)
 no_call (prefix t m o p q d) rest h = rw p
-no_call (joined {ts = ts} {us = us} t m op p q k d g) rest h = ap begins_call (append_assoc ts (t ∷ us) rest) ∙ no_call d (t ∷ us ++ rest) (binary_no_paren t m op p q)
+no_call (joined {ts = ts} {us = us} t m op p q k d g) rest h =
+    ap begins_call (append_assoc ts (t ∷ us) rest) ∙ no_call d (t ∷ us ++ rest) (binary_no_paren t m op p q)
 no_call (looser d) rest h = no_call d rest h

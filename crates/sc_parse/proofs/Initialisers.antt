@@ -28,18 +28,27 @@ use Rattle.sc_parse.proofs.Structures.{non_empty_some, non_empty_is, separated_s
 -- Constants and a comma that may stand behind them.
 pub data IsListed : List Lexeme → List ConstTree → Type 0 where
   bare : {ts : List Lexeme} {values : List ConstTree} → Separated SpellsConst ts values → IsListed ts values
-  with_comma : {ts : List Lexeme} {values : List ConstTree} (t : Lexeme) → IsMark mark.Comma t → Separated SpellsConst ts values → IsListed (ts ++ t ∷ []) values
+  with_comma : {ts : List Lexeme} {values : List ConstTree} (t : Lexeme) → IsMark mark.Comma t →
+      Separated SpellsConst ts values → IsListed (ts ++ t ∷ []) values
 
-in_braces : {ts : List Lexeme} {values : List ConstTree} (d : IsListed ts values) (t u v : Lexeme) → IsMark mark.Equal t → IsMark mark.OpenCurly u → IsMark mark.CloseCurly v → SpellsInit (t ∷ u ∷ (ts ++ v ∷ [])) (init.Many values)
+in_braces : {ts : List Lexeme} {values : List ConstTree} (d : IsListed ts values) (t u v : Lexeme) →
+    IsMark mark.Equal t → IsMark mark.OpenCurly u → IsMark mark.CloseCurly v →
+    SpellsInit (t ∷ u ∷ (ts ++ v ∷ [])) (init.Many values)
 in_braces (bare d) t u v p q r = many t u v p q r d
-in_braces (with_comma {ts = ts} {values = values} w k d) t u v p q r = subst (λ l. SpellsInit (t ∷ u ∷ l) (init.Many values)) (sym (append_assoc ts (w ∷ []) (v ∷ []))) (many_comma t u w v p q k r d)
+in_braces (with_comma {ts = ts} {values = values} w k d) t u v p q r =
+    subst (λ l. SpellsInit (t ∷ u ∷ l) (init.Many values)) (sym (append_assoc ts (w ∷ []) (v ∷ [])))
+    (many_comma t u w v p q k r d)
 
 -- behind `{`
-consts_sound : (ts rest : List Lexeme) (x : InitTree) → consts_at ts ≡ Some (x, rest) → (taken : List Lexeme) × (values : List ConstTree) × (v : Lexeme) × (ts ≡ taken ++ v ∷ rest) × IsListed taken values × IsMark mark.CloseCurly v × (x ≡ init.Many values)
+consts_sound : (ts rest : List Lexeme) (x : InitTree) → consts_at ts ≡ Some (x, rest) →
+    (taken : List Lexeme) × (values : List ConstTree) × (v : Lexeme) × (ts ≡ taken ++ v ∷ rest) ×
+    IsListed taken values × IsMark mark.CloseCurly v × (x ≡ init.Many values)
 unfolding consts_at
 consts_sound ts rest x h =
-    let b = bound (λ x. behind mark.CloseCurly (past_comma x.1) >>= (λ rest. non_empty x.0 >>= (λ values. Some (init.Many values, rest)))) (all_consts ts) (x, rest) h in
-    let c = bound (λ rest. non_empty b.0.0 >>= (λ values. Some (init.Many values, rest))) (behind mark.CloseCurly (past_comma b.0.1)) (x, rest) b.2 in
+    let b = bound (λ x. behind mark.CloseCurly (past_comma x.1) >>=
+    (λ rest. non_empty x.0 >>= (λ values. Some (init.Many values, rest)))) (all_consts ts) (x, rest) h in
+    let c = bound (λ rest. non_empty b.0.0 >>= (λ values. Some (init.Many values, rest)))
+    (behind mark.CloseCurly (past_comma b.0.1)) (x, rest) b.2 in
     let n = bound (λ values. Some (init.Many values, c.0)) (non_empty b.0.0) (x, rest) c.2 in
     let same = same_some n.2 in
     let value : init.Many n.0 ≡ x = ap (λ p. p.0) same in
@@ -48,19 +57,31 @@ consts_sound ts rest x h =
     let full = non_empty_some b.0.0 n.0 n.1 in
     let values : l.added ≡ n.0 = sym l.all ∙ full.0 in
     let v = behind_mark mark.CloseCurly (past_comma b.0.1) c.0 c.1 in
-    go l.taken n.0 (subst (λ z. Separated SpellsConst l.taken z) values l.spelled) b.0.1 l.split v.0 (v.1 ∙ ap (λ r. v.0 ∷ r) after) v.2 (sym value) (behind mark.Comma b.0.1) refl
+    go l.taken n.0 (subst (λ z. Separated SpellsConst l.taken z) values l.spelled) b.0.1 l.split v.0
+    (v.1 ∙ ap (λ r. v.0 ∷ r) after) v.2 (sym value) (behind mark.Comma b.0.1) refl
   where
-    go : (taken : List Lexeme) (values : List ConstTree) → Separated SpellsConst taken values → (us : List Lexeme) → ts ≡ taken ++ us → (v : Lexeme) → past_comma us ≡ v ∷ rest → IsMark mark.CloseCurly v → x ≡ init.Many values → (o : Option (List Lexeme)) → behind mark.Comma us ≡ o
-        → (taken : List Lexeme) × (values : List ConstTree) × (v : Lexeme) × (ts ≡ taken ++ v ∷ rest) × IsListed taken values × IsMark mark.CloseCurly v × (x ≡ init.Many values)
+    go : (taken : List Lexeme) (values : List ConstTree) → Separated SpellsConst taken values → (us : List Lexeme) →
+        ts ≡ taken ++ us → (v : Lexeme) → past_comma us ≡ v ∷ rest → IsMark mark.CloseCurly v → x ≡ init.Many values →
+        (o : Option (List Lexeme)) → behind mark.Comma us ≡ o
+        → (taken : List Lexeme) × (values : List ConstTree) × (v : Lexeme) × (ts ≡ taken ++ v ∷ rest) ×
+        IsListed taken values × IsMark mark.CloseCurly v × (x ≡ init.Many values)
     go taken values d us split v e p value None q =
         let is : us ≡ v ∷ rest = (rw q at e) in
         (taken, values, v, split ∙ ap (λ l. taken ++ l) is, bare d, p, value)
     go taken values d us split v e p value (Some vs) q =
         let t = behind_mark mark.Comma us vs q in
-        let is : vs ≡ v ∷ rest = (rw q at e) in
-        (taken ++ t.0 ∷ [], values, v, glued ts us (v ∷ rest) taken (t.0 ∷ []) split (t.1 ∙ ap (λ l. t.0 ∷ l) is), with_comma t.0 t.2 d, p, value)
+        let is : vs ≡ v ∷ rest = (rw q at e) in (
+          taken ++ t.0 ∷ [],
+          values,
+          v,
+          glued ts us (v ∷ rest) taken (t.0 ∷ []) split (t.1 ∙ ap (λ l. t.0 ∷ l) is),
+          with_comma t.0 t.2 d,
+          p,
+          value,
+        )
 
-consts_complete : {ts : List Lexeme} {values : List ConstTree} (d : IsListed ts values) (v : Lexeme) (rest : List Lexeme) → IsMark mark.CloseCurly v → consts_at (ts ++ v ∷ rest) ≡ Some (init.Many values, rest)
+consts_complete : {ts : List Lexeme} {values : List ConstTree} (d : IsListed ts values) (v : Lexeme)
+    (rest : List Lexeme) → IsMark mark.CloseCurly v → consts_at (ts ++ v ∷ rest) ≡ Some (init.Many values, rest)
 unfolding consts_at
 consts_complete (bare {ts = ts} {values = values} d) v rest p =
     let no_comma : behind_inner_comma (v ∷ rest) ≡ None = closed (begins_with mark.CloseCurly rest) in
@@ -79,78 +100,99 @@ init_sound : (ts rest : List Lexeme) (x : InitTree) → init_at ts ≡ Some (x, 
 unfolding init_at init_behind
 init_sound ts rest x h = go (behind mark.Equal ts) refl h
   where
-    behind_equal : (us : List Lexeme) (t : Lexeme) → ts ≡ t ∷ us → IsMark mark.Equal t → (o : Option (List Lexeme)) → behind mark.OpenCurly us ≡ o → option_map_or consts_at o (one_at us) ≡ Some (x, rest) → Taken SpellsInit ts x rest
+    behind_equal : (us : List Lexeme) (t : Lexeme) → ts ≡ t ∷ us → IsMark mark.Equal t → (o : Option (List Lexeme)) →
+        behind mark.OpenCurly us ≡ o → option_map_or consts_at o (one_at us) ≡ Some (x, rest) →
+        Taken SpellsInit ts x rest
     behind_equal us t is p None q e =
         let b = bound (λ x. Some (init.One x.0, x.1)) (const_at us) (x, rest) e in
         let c = const_sound us b.0.1 b.0.0 b.1 in
-        took SpellsInit ts (t ∷ c.taken) x (init.One b.0.0) b.0.1 rest (is ∙ ap (λ l. t ∷ l) c.split) (one t p c.spelled) b.2
+        took SpellsInit ts (t ∷ c.taken) x (init.One b.0.0) b.0.1 rest (is ∙ ap (λ l. t ∷ l) c.split)
+        (one t p c.spelled) b.2
     behind_equal us t is p (Some vs) q e =
         let u = behind_mark mark.OpenCurly us vs q in
         let c = consts_sound vs rest x e in
         record {
           taken = t ∷ u.0 ∷ (c.0 ++ c.2 ∷ []);
           split = is ∙ ap (λ l. t ∷ l) (u.1 ∙ ap (λ l. u.0 ∷ l) (c.3 ∙ sym (append_assoc c.0 (c.2 ∷ []) rest)));
-          spelled = subst (λ v. SpellsInit (t ∷ u.0 ∷ (c.0 ++ c.2 ∷ [])) v) (sym c.6) (in_braces c.4 t u.0 c.2 p u.2 c.5);
+          spelled = subst (λ v. SpellsInit (t ∷ u.0 ∷ (c.0 ++ c.2 ∷ [])) v) (sym c.6)
+              (in_braces c.4 t u.0 c.2 p u.2 c.5);
         }
 
-    go : (o : Option (List Lexeme)) → behind mark.Equal ts ≡ o → option_map_or init_behind o (Some (init.Absent, ts)) ≡ Some (x, rest) → Taken SpellsInit ts x rest
+    go : (o : Option (List Lexeme)) → behind mark.Equal ts ≡ o →
+        option_map_or init_behind o (Some (init.Absent, ts)) ≡ Some (x, rest) → Taken SpellsInit ts x rest
     go None q e = took SpellsInit ts [] x init.Absent ts rest refl absent e
-    go (Some us) q e = let t = behind_mark mark.Equal ts us q in behind_equal us t.0 t.1 t.2 (behind mark.OpenCurly us) refl e
+    go (Some us) q e = let t = behind_mark mark.Equal ts us q in
+        behind_equal us t.0 t.1 t.2 (behind mark.OpenCurly us) refl e
 
 abbrev NoEqual : List Lexeme → Type 0
 NoEqual rest = behind mark.Equal rest ≡ None
 
-const_no_brace : {ts : List Lexeme} {x : ConstTree} (d : SpellsConst ts x) (rest : List Lexeme) → behind mark.OpenCurly (ts ++ rest) ≡ None
+const_no_brace : {ts : List Lexeme} {x : ConstTree} (d : SpellsConst ts x) (rest : List Lexeme) →
+    behind mark.OpenCurly (ts ++ rest) ≡ None
 const_no_brace (plain t number p) rest = rw p
 const_no_brace (negated t u number p q) rest = rw p
 
-init_complete : {ts : List Lexeme} {x : InitTree} (d : SpellsInit ts x) (rest : List Lexeme) → NoEqual rest → init_at (ts ++ rest) ≡ Some (x, rest)
+init_complete : {ts : List Lexeme} {x : InitTree} (d : SpellsInit ts x) (rest : List Lexeme) → NoEqual rest →
+    init_at (ts ++ rest) ≡ Some (x, rest)
 unfolding init_at init_behind
 init_complete absent rest h = rw h
 init_complete (one t p d) rest h = rw (p, const_no_brace d rest, const_complete d rest)
 init_complete (many {ts = ts} t u v p q r d) rest h =
     ap (λ l. init_at (t ∷ u ∷ l)) (append_assoc ts (v ∷ []) rest) ∙ rw (p, q, consts_complete (bare d) v rest r)
 init_complete (many_comma {ts = ts} t u v w p q r k d) rest h =
-    ap (λ l. init_at (t ∷ u ∷ l)) (append_assoc ts (v ∷ w ∷ []) rest ∙ sym (append_assoc ts (v ∷ []) (w ∷ rest))) ∙ rw (p, q, consts_complete (with_comma v r d) w rest k)
+    ap (λ l. init_at (t ∷ u ∷ l)) (append_assoc ts (v ∷ w ∷ []) rest ∙ sym (append_assoc ts (v ∷ []) (w ∷ rest))) ∙
+    rw (p, q, consts_complete (with_comma v r d) w rest k)
 
 -- A global as a declaration.
 pub data IsGlobalDecl (base : BaseTree) (line : ℕ) : List Lexeme → Decl → Type 0 where
-  a_global : {ts : List Lexeme} {tree : GlobalTree} → IsGlobal base line ts tree → IsGlobalDecl base line ts (decl.Global tree)
+  a_global : {ts : List Lexeme} {tree : GlobalTree} → IsGlobal base line ts tree →
+      IsGlobalDecl base line ts (decl.Global tree)
 
 abbrev pub EndsGlobal : List Lexeme → Type 0
 EndsGlobal rest = NoBracket rest × NoEqual rest
 
-global_sound : (base : BaseTree) (line : ℕ) (ts rest : List Lexeme) (x : Decl) → global_at base line ts ≡ Some (x, rest) → Taken (IsGlobalDecl base line) ts x rest
+global_sound : (base : BaseTree) (line : ℕ) (ts rest : List Lexeme) (x : Decl) →
+    global_at base line ts ≡ Some (x, rest) → Taken (IsGlobalDecl base line) ts x rest
 unfolding global_at
 global_sound base line ts rest x h =
-    let b = bound (λ x. init_at x.1 >>= (λ y. Some (global_decl base x.0 y.0 line, y.1))) (declarator_at ts) (x, rest) h in
+    let b = bound (λ x. init_at x.1 >>= (λ y. Some (global_decl base x.0 y.0 line, y.1))) (declarator_at ts)
+    (x, rest) h in
     let c = bound (λ y. Some (global_decl base b.0.0 y.0 line, y.1)) (init_at b.0.1) (x, rest) b.2 in
     let d = declarator_sound ts b.0.1 b.0.0 b.1 in
     let i = init_sound b.0.1 c.0.1 c.0.0 c.1 in
     took (IsGlobalDecl base line) ts (d.taken ++ i.taken) x (global_decl base b.0.0 c.0.0 line) c.0.1 rest
     (glued ts b.0.1 c.0.1 d.taken i.taken d.split i.split) (a_global (global (d.spelled base) i.spelled)) c.2
 
-init_no_bracket : {ts : List Lexeme} {x : InitTree} (d : SpellsInit ts x) (rest : List Lexeme) → NoBracket rest → NoBracket (ts ++ rest)
+init_no_bracket : {ts : List Lexeme} {x : InitTree} (d : SpellsInit ts x) (rest : List Lexeme) → NoBracket rest →
+    NoBracket (ts ++ rest)
 init_no_bracket absent rest h = h
 init_no_bracket (one t p d) rest h = rw p
 init_no_bracket (many t u v p q r d) rest h = rw p
 init_no_bracket (many_comma t u v w p q r k d) rest h = rw p
 
-global_reads : {base : BaseTree} {line : ℕ} {ts : List Lexeme} {x : GlobalTree} (d : IsGlobal base line ts x) (rest : List Lexeme) → EndsGlobal rest → global_at base line (ts ++ rest) ≡ Some (decl.Global x, rest)
+global_reads : {base : BaseTree} {line : ℕ} {ts : List Lexeme} {x : GlobalTree} (d : IsGlobal base line ts x)
+    (rest : List Lexeme) → EndsGlobal rest → global_at base line (ts ++ rest) ≡ Some (decl.Global x, rest)
 unfolding global_at
 global_reads {base = base} {line = line} (global {ts = ts} {us = us} {value = value} d i) rest h =
     let r = declarator_complete d (us ++ rest) (init_no_bracket i rest h.0) in
     ap (global_at base line) (append_assoc ts us rest) ∙ rw (r.is, init_complete i rest h.1, r.ty_is, r.name_is)
 
-global_complete : {base : BaseTree} {line : ℕ} {ts : List Lexeme} {x : Decl} (d : IsGlobalDecl base line ts x) (rest : List Lexeme) → EndsGlobal rest → global_at base line (ts ++ rest) ≡ Some (x, rest)
+global_complete : {base : BaseTree} {line : ℕ} {ts : List Lexeme} {x : Decl} (d : IsGlobalDecl base line ts x)
+    (rest : List Lexeme) → EndsGlobal rest → global_at base line (ts ++ rest) ≡ Some (x, rest)
 global_complete (a_global d) rest h = global_reads d rest h
 
-global_no_int : {base : BaseTree} {line : ℕ} {ts : List Lexeme} {x : Decl} (d : IsGlobalDecl base line ts x) (rest : List Lexeme) → NoInt (ts ++ rest)
-global_no_int (a_global (global {ts = ts} {us = us} d i)) rest = subst NoInt (sym (append_assoc ts us rest)) (declarator_no_int d (us ++ rest))
+global_no_int : {base : BaseTree} {line : ℕ} {ts : List Lexeme} {x : Decl} (d : IsGlobalDecl base line ts x)
+    (rest : List Lexeme) → NoInt (ts ++ rest)
+global_no_int (a_global (global {ts = ts} {us = us} d i)) rest =
+    subst NoInt (sym (append_assoc ts us rest)) (declarator_no_int d (us ++ rest))
 
 global_exact : (base : BaseTree) (line : ℕ) → Exact Any (IsGlobalDecl base line) EndsGlobal (global_at base line)
-global_exact base line = record { sound = global_sound base line; complete = λ ts rest x d fits h. global_complete d rest h }
+global_exact base line = record {
+  sound = global_sound base line;
+  complete = λ ts rest x d fits h. global_complete d rest h;
+}
 
 -- a declaration of globals
 pub globals_exact : ExactAdder Any (Declares IsGlobalDecl) (λ rest. Unit {0}) (declaration_at globals_behind)
-globals_exact = declaration_exact Any any_left any_right IsGlobalDecl EndsGlobal global_at global_exact (λ t rest p. (rw p, rw p)) (λ t rest p. (rw p, rw p)) (λ base line ts rest x d. global_no_int d rest)
+globals_exact = declaration_exact Any any_left any_right IsGlobalDecl EndsGlobal global_at global_exact
+    (λ t rest p. (rw p, rw p)) (λ t rest p. (rw p, rw p)) (λ base line ts rest x d. global_no_int d rest)

@@ -58,18 +58,26 @@ pub record IsBlock (room : ℕ) (ts : List Lexeme) (ss : List StmtTree) : Type 0
 -- what may stand behind the first block of an `if`
 pub data IsElse (room : ℕ) : List Lexeme → List StmtTree → Type 0 where
   nothing : IsElse room [] []
-  a_block : {ts : List Lexeme} {ss : List StmtTree} (u : Lexeme) → IsKeyword word.Else u → SpellsBlock ts ss → stmts_height ss ≤ room → IsElse room (u ∷ ts) ss
-  an_if : {ts : List Lexeme} {k : StmtKind} (u : Lexeme) → IsKeyword word.Else u → SpellsIf ts k → kind_height k < room → IsElse room (u ∷ ts) (stmt_tree (first_line ts) k ∷ [])
+  a_block : {ts : List Lexeme} {ss : List StmtTree} (u : Lexeme) → IsKeyword word.Else u → SpellsBlock ts ss →
+      stmts_height ss ≤ room → IsElse room (u ∷ ts) ss
+  an_if : {ts : List Lexeme} {k : StmtKind} (u : Lexeme) → IsKeyword word.Else u → SpellsIf ts k →
+      kind_height k < room → IsElse room (u ∷ ts) (stmt_tree (first_line ts) k ∷ [])
 
 -- statements, each at most so high
-stmts_more : {room : ℕ} {ts us : List Lexeme} {x : StmtTree} {ss : List StmtTree} (d : IsStmt room ts x) → SpellsStmts us ss × (stmts_height ss ≤ room) → SpellsStmts (ts ++ us) (x ∷ ss) × (stmts_height (x ∷ ss) ≤ room)
-stmts_more (a_stmt {ts = ts} {k = k} d h) others = let height = tree_height (first_line ts) k in (statements.next d others.0, omega (arith, others.1))
+stmts_more : {room : ℕ} {ts us : List Lexeme} {x : StmtTree} {ss : List StmtTree} (d : IsStmt room ts x) →
+    SpellsStmts us ss × (stmts_height ss ≤ room) → SpellsStmts (ts ++ us) (x ∷ ss) × (stmts_height (x ∷ ss) ≤ room)
+stmts_more (a_stmt {ts = ts} {k = k} d h) others = let height = tree_height (first_line ts) k in
+    (statements.next d others.0, omega (arith, others.1))
 
-stmts_apart : {room : ℕ} {ts : List Lexeme} {ss : List StmtTree} (d : Grouped (One (IsStmt room)) ts ss) → SpellsStmts ts ss × (stmts_height ss ≤ room)
+stmts_apart : {room : ℕ} {ts : List Lexeme} {ss : List StmtTree} (d : Grouped (One (IsStmt room)) ts ss) →
+    SpellsStmts ts ss × (stmts_height ss ≤ room)
 stmts_apart lists.none = (statements.none, omega arith)
-stmts_apart {room} (lists.next {ts = ts} {us = us} {ys = ys} d g) = subst (λ l. SpellsStmts (ts ++ us) (l ++ ys) × (stmts_height (l ++ ys) ≤ room)) (sym d.is) (stmts_more d.spelled (stmts_apart g))
+stmts_apart {room} (lists.next {ts = ts} {us = us} {ys = ys} d g) =
+    subst (λ l. SpellsStmts (ts ++ us) (l ++ ys) × (stmts_height (l ++ ys) ≤ room)) (sym d.is)
+    (stmts_more d.spelled (stmts_apart g))
 
-stmts_joined : {room : ℕ} {ts : List Lexeme} {ss : List StmtTree} (d : SpellsStmts ts ss) → stmts_height ss ≤ room → Grouped (One (IsStmt room)) ts ss
+stmts_joined : {room : ℕ} {ts : List Lexeme} {ss : List StmtTree} (d : SpellsStmts ts ss) → stmts_height ss ≤ room →
+    Grouped (One (IsStmt room)) ts ss
 stmts_joined statements.none h = lists.none
 stmts_joined {room} (statements.next {ts = ts} {kind = k} {stmts = ss} d g) h =
     let height = tree_height (first_line ts) k in
@@ -93,23 +101,28 @@ keyword_front : (ts rest : List Lexeme) → 0 < length ts → keyword_at (ts ++ 
 keyword_front [] rest h = absurd (omega arith)
 keyword_front (t ∷ ts) rest h = refl
 
-if_begins : {ts : List Lexeme} {k : StmtKind} (d : SpellsIf ts k) (rest : List Lexeme) → is_if (keyword_at (ts ++ rest)) ≡ true
+if_begins : {ts : List Lexeme} {k : StmtKind} (d : SpellsIf ts k) (rest : List Lexeme) →
+    is_if (keyword_at (ts ++ rest)) ≡ true
 if_begins (alone t p c b) rest = rw p
 if_begins (otherwise t u p q c b e) rest = rw p
 if_begins (otherwise_if t u p q c b e) rest = rw p
 
-block_no_if : {ts : List Lexeme} {ss : List StmtTree} (d : SpellsBlock ts ss) (rest : List Lexeme) → is_if (keyword_at (ts ++ rest)) ≡ false
+block_no_if : {ts : List Lexeme} {ss : List StmtTree} (d : SpellsBlock ts ss) (rest : List Lexeme) →
+    is_if (keyword_at (ts ++ rest)) ≡ false
 block_no_if (block t u p q d) rest = rw p
 
 -- what stands before a mark, and the mark
-record Before {A : Type 0} (Item : List Lexeme → A → Type 0) (m : Mark) (ts : List Lexeme) (x : A) (rest : List Lexeme) : Type 0 where
+record Before {A : Type 0} (Item : List Lexeme → A → Type 0) (m : Mark) (ts : List Lexeme) (x : A)
+    (rest : List Lexeme) : Type 0 where
   taken : List Lexeme
   ends : Lexeme
   split : ts ≡ taken ++ ends ∷ rest
   mark : IsMark m ends
   spelled : Item taken x
 
-part_ended : {A : Type 0} (m : Mark) (reader : Reader A) (Item : List Lexeme → A → Type 0) (sound : (ts rest : List Lexeme) (x : A) → reader ts ≡ Some (x, rest) → Taken Item ts x rest) (ts : List Lexeme) (y : A × List Lexeme) → before_mark m reader ts ≡ Some y → Before Item m ts y.0 y.1
+part_ended : {A : Type 0} (m : Mark) (reader : Reader A) (Item : List Lexeme → A → Type 0)
+    (sound : (ts rest : List Lexeme) (x : A) → reader ts ≡ Some (x, rest) → Taken Item ts x rest) (ts : List Lexeme)
+    (y : A × List Lexeme) → before_mark m reader ts ≡ Some y → Before Item m ts y.0 y.1
 part_ended m reader Item sound ts y h =
     let b = bound (λ x. behind m x.1 >>= (λ rest. Some (x.0, rest))) (reader ts) y h in
     let c = bound (λ rest. Some (b.0.0, rest)) (behind m b.0.1) y b.2 in
@@ -118,76 +131,117 @@ part_ended m reader Item sound ts y h =
     let after : c.0 ≡ y.1 = ap (λ p. p.1) same in
     let d = sound ts b.0.1 b.0.0 b.1 in
     let v = behind_mark m b.0.1 c.0 c.1 in
-    record { taken = d.taken; ends = v.0; split = d.split ∙ ap (λ l. d.taken ++ l) (v.1 ∙ ap (λ l. v.0 ∷ l) after); mark = v.2; spelled = subst (λ z. Item d.taken z) value d.spelled }
+    record {
+      taken = d.taken;
+      ends = v.0;
+      split = d.split ∙ ap (λ l. d.taken ++ l) (v.1 ∙ ap (λ l. v.0 ∷ l) after);
+      mark = v.2;
+      spelled = subst (λ z. Item d.taken z) value d.spelled;
+    }
 
-plain_ended : (free : ℕ) → (room : ℕ) (ts : List Lexeme) (t : Lexeme) (rest : List Lexeme) (k : SimpleKind) → IsMark mark.Semicolon t → keyword_at ts ≡ None → begins_with mark.Semicolon ts ≡ false → simple_at free room ts ≡ Some (k, t ∷ rest) → ended_at free room ts ≡ Some (kind_of k, rest)
+plain_ended : (free : ℕ) → (room : ℕ) (ts : List Lexeme) (t : Lexeme) (rest : List Lexeme) (k : SimpleKind) →
+    IsMark mark.Semicolon t → keyword_at ts ≡ None → begins_with mark.Semicolon ts ≡ false →
+    simple_at free room ts ≡ Some (k, t ∷ rest) → ended_at free room ts ≡ Some (kind_of k, rest)
 unfolding ended_at plain_at
 plain_ended free room ts t rest k p none other read = rw (none, other, read, p)
 
 module _ (free : ℕ) (room : ℕ) (inner : Reader StmtTree) (exact : Exact (Few free) (IsStmt room) NoElse inner) where
-  inner_exact : ExactAdder (Few free) (Grouped (One (IsStmt room))) (λ rest. begins_with mark.CloseCurly rest ≡ true) (λ xs ts. grouped (begins_with mark.CloseCurly) (adds inner) (length ts + 1) xs ts)
-  inner_exact = grouped_exact (Few free) (few_left free) (few_right free) (begins_with mark.CloseCurly) (One (IsStmt room)) NoElse (adds inner) (adds_exact (Few free) (IsStmt room) NoElse inner exact) (λ us rest zs d. (stmt_starts d.spelled).no_end rest) (λ us zs d. (stmt_starts d.spelled).some) end_no_else (λ us rest zs d. (stmt_starts d.spelled).no_else rest)
+  inner_exact : ExactAdder (Few free) (Grouped (One (IsStmt room))) (λ rest. begins_with mark.CloseCurly rest ≡ true)
+      (λ xs ts. grouped (begins_with mark.CloseCurly) (adds inner) (length ts + 1) xs ts)
+  inner_exact = grouped_exact (Few free) (few_left free) (few_right free) (begins_with mark.CloseCurly)
+      (One (IsStmt room)) NoElse (adds inner) (adds_exact (Few free) (IsStmt room) NoElse inner exact)
+      (λ us rest zs d. (stmt_starts d.spelled).no_end rest) (λ us zs d. (stmt_starts d.spelled).some) end_no_else
+      (λ us rest zs d. (stmt_starts d.spelled).no_else rest)
 
-  block_sound : (ts rest : List Lexeme) (x : List StmtTree) → block_at inner ts ≡ Some (x, rest) → Taken (IsBlock room) ts x rest
+  block_sound : (ts rest : List Lexeme) (x : List StmtTree) → block_at inner ts ≡ Some (x, rest) →
+      Taken (IsBlock room) ts x rest
   unfolding block_at
   block_sound ts rest x h =
       let o = bound (λ us. before_mark mark.CloseCurly (stmts_at inner) us) (behind mark.OpenCurly ts) (x, rest) h in
-      let b = bound (λ x. behind mark.CloseCurly x.1 >>= (λ rest. Some (x.0, rest))) (stmts_at inner o.0) (x, rest) o.2 in
+      let b = bound (λ x. behind mark.CloseCurly x.1 >>= (λ rest. Some (x.0, rest))) (stmts_at inner o.0)
+      (x, rest) o.2 in
       let c = bound (λ rest. Some (b.0.0, rest)) (behind mark.CloseCurly b.0.1) (x, rest) b.2 in
       let u = behind_mark mark.OpenCurly ts o.0 o.1 in
       let d = inner_exact.sound [] b.0.0 o.0 b.0.1 b.1 in
       let s = stmts_apart d.spelled in
       let v = behind_mark mark.CloseCurly b.0.1 c.0 c.1 in
-      took (IsBlock room) ts (u.0 ∷ (d.taken ++ v.0 ∷ [])) x b.0.0 c.0 rest (u.1 ∙ ap (λ l. u.0 ∷ l) (glued o.0 b.0.1 c.0 d.taken (v.0 ∷ []) d.split v.1))
-      (subst (λ z. IsBlock room (u.0 ∷ (d.taken ++ v.0 ∷ [])) z) (sym d.all) (record { spelled = block u.0 v.0 u.2 v.2 s.0; low = s.1 })) c.2
+      took (IsBlock room) ts (u.0 ∷ (d.taken ++ v.0 ∷ [])) x b.0.0 c.0 rest
+      (u.1 ∙ ap (λ l. u.0 ∷ l) (glued o.0 b.0.1 c.0 d.taken (v.0 ∷ []) d.split v.1))
+      (subst (λ z. IsBlock room (u.0 ∷ (d.taken ++ v.0 ∷ [])) z) (sym d.all)
+      (record { spelled = block u.0 v.0 u.2 v.2 s.0; low = s.1 })) c.2
 
-  block_complete : {ts : List Lexeme} {x : List StmtTree} (d : SpellsBlock ts x) (rest : List Lexeme) → stmts_height x ≤ room → Few free ts → block_at inner (ts ++ rest) ≡ Some (x, rest)
+  block_complete : {ts : List Lexeme} {x : List StmtTree} (d : SpellsBlock ts x) (rest : List Lexeme) →
+      stmts_height x ≤ room → Few free ts → block_at inner (ts ++ rest) ≡ Some (x, rest)
   unfolding block_at
   block_complete (block {ts = ts} {stmts = ss} t u p q d) rest low few =
       let less = few_left free ts (u ∷ []) (few_tail free t (ts ++ u ∷ []) few) in
       let read = inner_exact.complete [] ss ts (u ∷ rest) (stmts_joined d low) less (rw q) in
       ap (λ l. block_at inner (t ∷ l)) (append_assoc ts (u ∷ []) rest) ∙ rw (p, read, q)
 
-  if_inner : {ts : List Lexeme} {x : StmtTree} (u : Lexeme) → IsKeyword word.Else u → (d : IsStmt room ts x) → is_if (keyword_at ts) ≡ true → IsElse room (u ∷ ts) (x ∷ [])
+  if_inner : {ts : List Lexeme} {x : StmtTree} (u : Lexeme) → IsKeyword word.Else u → (d : IsStmt room ts x) →
+      is_if (keyword_at ts) ≡ true → IsElse room (u ∷ ts) (x ∷ [])
   if_inner u p (a_stmt d low) h = an_if u p (if_kind d h) low
 
-  else_sound : (ts rest : List Lexeme) (x : List StmtTree) → else_at inner ts ≡ Some (x, rest) → Taken (IsElse room) ts x rest
+  else_sound : (ts rest : List Lexeme) (x : List StmtTree) → else_at inner ts ≡ Some (x, rest) →
+      Taken (IsElse room) ts x rest
   unfolding else_at else_behind
   else_sound ts rest x h = go (is_else (keyword_at ts)) refl h
     where
-      by_if : (u : Lexeme) → ts ≡ u ∷ drop 1 ts → IsKeyword word.Else u → (b : Bool) → is_if (keyword_at (drop 1 ts)) ≡ b → cond {A = Option (List StmtTree × List Lexeme)} b (readers.alone inner (drop 1 ts)) (block_at inner (drop 1 ts)) ≡ Some (x, rest) → Taken (IsElse room) ts x rest
+      by_if : (u : Lexeme) → ts ≡ u ∷ drop 1 ts → IsKeyword word.Else u → (b : Bool) →
+          is_if (keyword_at (drop 1 ts)) ≡ b → cond {A = Option (List StmtTree × List Lexeme)} b
+          (readers.alone inner (drop 1 ts)) (block_at inner (drop 1 ts)) ≡ Some (x, rest) →
+          Taken (IsElse room) ts x rest
       by_if u is p true q e =
           let b = bound (λ x. Some (x.0 ∷ [], x.1)) (inner (drop 1 ts)) (x, rest) e in
           let d = exact.sound (drop 1 ts) b.0.1 b.0.0 b.1 in
-          let begins : is_if (keyword_at d.taken) ≡ true = ap is_if (sym (keyword_front d.taken b.0.1 (stmt_starts d.spelled).some) ∙ ap keyword_at (sym d.split)) ∙ q in
-          took (IsElse room) ts (u ∷ d.taken) x (b.0.0 ∷ []) b.0.1 rest (is ∙ ap (λ l. u ∷ l) d.split) (if_inner u p d.spelled begins) b.2
+          let begins : is_if (keyword_at d.taken) ≡ true =
+          ap is_if (sym (keyword_front d.taken b.0.1 (stmt_starts d.spelled).some) ∙ ap keyword_at (sym d.split)) ∙
+          q in
+          took (IsElse room) ts (u ∷ d.taken) x (b.0.0 ∷ []) b.0.1 rest (is ∙ ap (λ l. u ∷ l) d.split)
+          (if_inner u p d.spelled begins) b.2
       by_if u is p false q e =
           let d = block_sound (drop 1 ts) rest x e in
-          record { taken = u ∷ d.taken; split = is ∙ ap (λ l. u ∷ l) d.split; spelled = a_block u p d.spelled.spelled d.spelled.low }
+          record {
+            taken = u ∷ d.taken;
+            split = is ∙ ap (λ l. u ∷ l) d.split;
+            spelled = a_block u p d.spelled.spelled d.spelled.low;
+          }
 
-      go : (b : Bool) → is_else (keyword_at ts) ≡ b → cond {A = Option (List StmtTree × List Lexeme)} b (else_behind inner (drop 1 ts)) (Some ([], ts)) ≡ Some (x, rest) → Taken (IsElse room) ts x rest
+      go : (b : Bool) → is_else (keyword_at ts) ≡ b →
+          cond {A = Option (List StmtTree × List Lexeme)} b (else_behind inner (drop 1 ts)) (Some ([], ts)) ≡
+          Some (x, rest) → Taken (IsElse room) ts x rest
       go true q e = let t = else_ahead ts q in by_if t.first t.is t.keyword (is_if (keyword_at (drop 1 ts))) refl e
       go false q e = took (IsElse room) ts [] x [] ts rest refl nothing e
 
-  else_complete : {ts : List Lexeme} {x : List StmtTree} (d : IsElse room ts x) (rest : List Lexeme) → Few free ts → NoElse rest → else_at inner (ts ++ rest) ≡ Some (x, rest)
+  else_complete : {ts : List Lexeme} {x : List StmtTree} (d : IsElse room ts x) (rest : List Lexeme) → Few free ts →
+      NoElse rest → else_at inner (ts ++ rest) ≡ Some (x, rest)
   unfolding else_at else_behind
   else_complete nothing rest few ends = rw ends
-  else_complete (a_block {ts = ts} u p d low) rest few ends = rw (p, block_no_if d rest, block_complete d rest low (few_tail free u ts few))
+  else_complete (a_block {ts = ts} u p d low) rest few ends =
+      rw (p, block_no_if d rest, block_complete d rest low (few_tail free u ts few))
   else_complete (an_if {ts = ts} {k = k} u p d low) rest few ends =
-      let read = exact.complete ts rest (stmt_tree (first_line ts) k) (a_stmt (choice d) low) (few_tail free u ts few) ends in
+      let read = exact.complete ts rest (stmt_tree (first_line ts) k) (a_stmt (choice d) low)
+      (few_tail free u ts few) ends in
       rw (p, if_begins d rest, read)
 
-  if_made : {ts us vs : List Lexeme} {c : ExprTree} {th e : List StmtTree} (t : Lexeme) → IsKeyword word.If t → SpellsCondition ts c → SpellsBlock us th → (d : IsElse room vs e) → SpellsIf (t ∷ (ts ++ (us ++ vs))) (stmt.If c th e) × (stmts_height e ≤ room)
-  if_made {ts} {us} {c = c} {th = th} t p k b nothing = (subst (λ l. SpellsIf (t ∷ (ts ++ l)) (stmt.If c th [])) (sym (append-nil us)) (alone t p k b), omega arith)
+  if_made : {ts us vs : List Lexeme} {c : ExprTree} {th e : List StmtTree} (t : Lexeme) → IsKeyword word.If t →
+      SpellsCondition ts c → SpellsBlock us th → (d : IsElse room vs e) →
+      SpellsIf (t ∷ (ts ++ (us ++ vs))) (stmt.If c th e) × (stmts_height e ≤ room)
+  if_made {ts} {us} {c = c} {th = th} t p k b nothing =
+      (subst (λ l. SpellsIf (t ∷ (ts ++ l)) (stmt.If c th [])) (sym (append-nil us)) (alone t p k b), omega arith)
   if_made t p k b (a_block u q d low) = (otherwise t u p q k b d, low)
-  if_made t p k b (an_if {ts = ts} {k = kind} u q d low) = let height = tree_height (first_line ts) kind in (otherwise_if t u p q k b d, omega arith)
+  if_made t p k b (an_if {ts = ts} {k = kind} u q d low) = let height = tree_height (first_line ts) kind in
+      (otherwise_if t u p q k b d, omega arith)
 
-  if_sound : (ts rest : List Lexeme) (x : StmtKind) → keyword_at ts ≡ Some word.If → if_behind free inner room (drop 1 ts) ≡ Some (x, rest) → Taken (IsKind room) ts x rest
+  if_sound : (ts rest : List Lexeme) (x : StmtKind) → keyword_at ts ≡ Some word.If →
+      if_behind free inner room (drop 1 ts) ≡ Some (x, rest) → Taken (IsKind room) ts x rest
   unfolding if_behind
   if_sound ts rest x q h =
       let t = word_ahead ts word.If q in
-      let b = bound (λ x. block_at inner x.1 >>= (λ y. else_at inner y.1 >>= (λ z. Some (stmt.If x.0 y.0 z.0, z.1)))) (condition_at free room (drop 1 ts)) (x, rest) h in
-      let c = bound (λ y. else_at inner y.1 >>= (λ z. Some (stmt.If b.0.0 y.0 z.0, z.1))) (block_at inner b.0.1) (x, rest) b.2 in
+      let b = bound (λ x. block_at inner x.1 >>= (λ y. else_at inner y.1 >>= (λ z. Some (stmt.If x.0 y.0 z.0, z.1))))
+      (condition_at free room (drop 1 ts)) (x, rest) h in
+      let c = bound (λ y. else_at inner y.1 >>= (λ z. Some (stmt.If b.0.0 y.0 z.0, z.1))) (block_at inner b.0.1)
+      (x, rest) b.2 in
       let e = bound (λ z. Some (stmt.If b.0.0 c.0.0 z.0, z.1)) (else_at inner c.0.1) (x, rest) c.2 in
       let k = (condition_exact free room).sound (drop 1 ts) b.0.1 b.0.0 b.1 in
       let d = block_sound b.0.1 c.0.1 c.0.0 c.1 in
@@ -198,40 +252,59 @@ module _ (free : ℕ) (room : ℕ) (inner : Reader StmtTree) (exact : Exact (Few
       let second = d.spelled.low in
       let third = made.1 in
       took (IsKind room) ts (t.first ∷ (k.taken ++ (d.taken ++ f.taken))) x (stmt.If b.0.0 c.0.0 e.0.0) e.0.1 rest
-      (t.is ∙ ap (λ l. t.first ∷ l) (glued (drop 1 ts) b.0.1 e.0.1 k.taken (d.taken ++ f.taken) k.split (glued b.0.1 c.0.1 e.0.1 d.taken f.taken d.split f.split)))
+      (t.is ∙ ap (λ l. t.first ∷ l) (glued (drop 1 ts) b.0.1 e.0.1 k.taken (d.taken ++ f.taken) k.split
+      (glued b.0.1 c.0.1 e.0.1 d.taken f.taken d.split f.split)))
       (record { spelled = choice made.0; low = omega arith }) e.2
 
-  if_reads : {ts us vs : List Lexeme} {c : ExprTree} {th e : List StmtTree} (k : SpellsCondition ts c) (b : SpellsBlock us th) (d : IsElse room vs e) (rest : List Lexeme) → expr_height c ≤ room → stmts_height th ≤ room → Few free (ts ++ (us ++ vs)) → NoElse rest → if_behind free inner room ((ts ++ (us ++ vs)) ++ rest) ≡ Some (stmt.If c th e, rest)
+  if_reads : {ts us vs : List Lexeme} {c : ExprTree} {th e : List StmtTree} (k : SpellsCondition ts c)
+      (b : SpellsBlock us th) (d : IsElse room vs e) (rest : List Lexeme) → expr_height c ≤ room →
+      stmts_height th ≤ room → Few free (ts ++ (us ++ vs)) → NoElse rest →
+      if_behind free inner room ((ts ++ (us ++ vs)) ++ rest) ≡ Some (stmt.If c th e, rest)
   unfolding if_behind
   if_reads {ts} {us} {vs} {c} {th} {e} k b d rest low less few ends =
       let inside = few_right free ts (us ++ vs) few in
-      let first = (condition_exact free room).complete ts (us ++ (vs ++ rest)) c (record { spelled = k; low = low }) (few_left free ts (us ++ vs) few) tt in
+      let first = (condition_exact free room).complete ts (us ++ (vs ++ rest)) c (record { spelled = k; low = low })
+      (few_left free ts (us ++ vs) few) tt in
       let second = block_complete b (vs ++ rest) less (few_left free us vs inside) in
       let third = else_complete d rest (few_right free us vs inside) ends in
-      let all : (ts ++ (us ++ vs)) ++ rest ≡ ts ++ (us ++ (vs ++ rest)) = append_assoc ts (us ++ vs) rest ∙ ap (λ l. ts ++ l) (append_assoc us vs rest) in
+      let all : (ts ++ (us ++ vs)) ++ rest ≡ ts ++ (us ++ (vs ++ rest)) =
+      append_assoc ts (us ++ vs) rest ∙ ap (λ l. ts ++ l) (append_assoc us vs rest) in
       ap (if_behind free inner room) all ∙ rw (first, second, third)
 
-  if_complete : {ts : List Lexeme} {x : StmtKind} (d : SpellsIf ts x) (rest : List Lexeme) → kind_height x ≤ room → Few free ts → NoElse rest → (keyword_at (ts ++ rest) ≡ Some word.If) × (if_behind free inner room (drop 1 (ts ++ rest)) ≡ Some (x, rest))
+  if_complete : {ts : List Lexeme} {x : StmtKind} (d : SpellsIf ts x) (rest : List Lexeme) → kind_height x ≤ room →
+      Few free ts → NoElse rest → (keyword_at (ts ++ rest) ≡ Some word.If) ×
+      (if_behind free inner room (drop 1 (ts ++ rest)) ≡ Some (x, rest))
   if_complete (alone {ts = ts} {us = us} {cond = c} {then_part = th} t p k b) rest low few ends =
       let height = if_height c th [] in
       let same : us ++ [] ≡ us = append-nil us in
-      let read = if_reads k b nothing rest (omega arith) (omega arith) (subst (λ l. Few free (ts ++ l)) (sym same) (few_tail free t (ts ++ us) few)) ends in
+      let read = if_reads k b nothing rest (omega arith) (omega arith)
+      (subst (λ l. Few free (ts ++ l)) (sym same) (few_tail free t (ts ++ us) few)) ends in
       (rw p, ap (λ l. if_behind free inner room ((ts ++ l) ++ rest)) (sym same) ∙ read)
-  if_complete (otherwise {ts = ts} {us = us} {vs = vs} {cond = c} {then_part = th} {else_part = e} t u p q k b d) rest low few ends =
+  if_complete (otherwise {ts = ts} {us = us} {vs = vs} {cond = c} {then_part = th} {else_part = e} t u p q k b d) rest
+      low few ends =
       let height = if_height c th e in
-      let third : stmts_height e ≤ room = omega arith in
-      (rw p, if_reads k b (a_block u q d third) rest (omega arith) (omega arith) (few_tail free t (ts ++ (us ++ u ∷ vs)) few) ends)
-  if_complete (otherwise_if {ts = ts} {us = us} {vs = vs} {cond = c} {then_part = th} {kind = kind} t u p q k b d) rest low few ends =
+      let third : stmts_height e ≤ room = omega arith in (
+        rw p,
+        if_reads k b (a_block u q d third) rest (omega arith) (omega arith)
+            (few_tail free t (ts ++ (us ++ u ∷ vs)) few) ends,
+      )
+  if_complete (otherwise_if {ts = ts} {us = us} {vs = vs} {cond = c} {then_part = th} {kind = kind} t u p q k b d) rest
+      low few ends =
       let height = if_height c th (stmt_tree (first_line vs) kind ∷ []) in
       let one = tree_height (first_line vs) kind in
-      let third : kind_height kind < room = omega arith in
-      (rw p, if_reads k b (an_if u q d third) rest (omega arith) (omega arith) (few_tail free t (ts ++ (us ++ u ∷ vs)) few) ends)
+      let third : kind_height kind < room = omega arith in (
+        rw p,
+        if_reads k b (an_if u q d third) rest (omega arith) (omega arith)
+            (few_tail free t (ts ++ (us ++ u ∷ vs)) few) ends,
+      )
 
-  while_sound : (ts rest : List Lexeme) (x : StmtKind) → keyword_at ts ≡ Some word.While → while_behind free inner room (drop 1 ts) ≡ Some (x, rest) → Taken (IsKind room) ts x rest
+  while_sound : (ts rest : List Lexeme) (x : StmtKind) → keyword_at ts ≡ Some word.While →
+      while_behind free inner room (drop 1 ts) ≡ Some (x, rest) → Taken (IsKind room) ts x rest
   unfolding while_behind
   while_sound ts rest x q h =
       let t = word_ahead ts word.While q in
-      let b = bound (λ x. block_at inner x.1 >>= (λ y. Some (stmt.While x.0 y.0, y.1))) (condition_at free room (drop 1 ts)) (x, rest) h in
+      let b = bound (λ x. block_at inner x.1 >>= (λ y. Some (stmt.While x.0 y.0, y.1)))
+      (condition_at free room (drop 1 ts)) (x, rest) h in
       let c = bound (λ y. Some (stmt.While b.0.0 y.0, y.1)) (block_at inner b.0.1) (x, rest) b.2 in
       let k = (condition_exact free room).sound (drop 1 ts) b.0.1 b.0.0 b.1 in
       let d = block_sound b.0.1 c.0.1 c.0.0 c.1 in
@@ -242,31 +315,42 @@ module _ (free : ℕ) (room : ℕ) (inner : Reader StmtTree) (exact : Exact (Few
       (t.is ∙ ap (λ l. t.first ∷ l) (glued (drop 1 ts) b.0.1 c.0.1 k.taken d.taken k.split d.split))
       (record { spelled = while_loop t.first t.keyword k.spelled.spelled d.spelled.spelled; low = omega arith }) c.2
 
-  while_reads : {ts us : List Lexeme} {c : ExprTree} {body : List StmtTree} (k : SpellsCondition ts c) (b : SpellsBlock us body) (rest : List Lexeme) → expr_height c ≤ room → stmts_height body ≤ room → Few free (ts ++ us) → while_behind free inner room ((ts ++ us) ++ rest) ≡ Some (stmt.While c body, rest)
+  while_reads : {ts us : List Lexeme} {c : ExprTree} {body : List StmtTree} (k : SpellsCondition ts c)
+      (b : SpellsBlock us body) (rest : List Lexeme) → expr_height c ≤ room → stmts_height body ≤ room →
+      Few free (ts ++ us) → while_behind free inner room ((ts ++ us) ++ rest) ≡ Some (stmt.While c body, rest)
   unfolding while_behind
   while_reads {ts} {us} {c} {body} k b rest low less few =
-      let first = (condition_exact free room).complete ts (us ++ rest) c (record { spelled = k; low = low }) (few_left free ts us few) tt in
-      ap (while_behind free inner room) (append_assoc ts us rest) ∙ rw (first, block_complete b rest less (few_right free ts us few))
+      let first = (condition_exact free room).complete ts (us ++ rest) c (record { spelled = k; low = low })
+      (few_left free ts us few) tt in
+      ap (while_behind free inner room) (append_assoc ts us rest) ∙
+      rw (first, block_complete b rest less (few_right free ts us few))
 
   -- the body of a loop, and the loop
   abbrev in_block : ForHead × List Lexeme → Option (StmtKind × List Lexeme)
   in_block p = block_at inner p.1 >>= (λ z. Some (loop_of p.0 z.0, z.1))
 
-  for_sound : (ts rest : List Lexeme) (x : StmtKind) → keyword_at ts ≡ Some word.For → for_behind free inner room (drop 1 ts) ≡ Some (x, rest) → Taken (IsKind room) ts x rest
+  for_sound : (ts rest : List Lexeme) (x : StmtKind) → keyword_at ts ≡ Some word.For →
+      for_behind free inner room (drop 1 ts) ≡ Some (x, rest) → Taken (IsKind room) ts x rest
   unfolding for_behind for_head first_part middle_part last_part
   for_sound ts rest x q h =
       let t = word_ahead ts word.For q in
       let head = bound in_block (for_head free room (drop 1 ts)) (x, rest) h in
-      let a = bound (λ w. middle_part free room w.1 >>= (λ x. last_part free room x.1 >>= (λ y. Some (for_parts w.0 x.0 y.0, y.1)))) (first_part free room (drop 1 ts)) head.0 head.1 in
-      let b = bound (λ x. last_part free room x.1 >>= (λ y. Some (for_parts a.0.0 x.0 y.0, y.1))) (middle_part free room a.0.1) head.0 a.2 in
+      let a = bound (λ w. middle_part free room w.1 >>=
+      (λ x. last_part free room x.1 >>= (λ y. Some (for_parts w.0 x.0 y.0, y.1))))
+      (first_part free room (drop 1 ts)) head.0 head.1 in
+      let b = bound (λ x. last_part free room x.1 >>= (λ y. Some (for_parts a.0.0 x.0 y.0, y.1)))
+      (middle_part free room a.0.1) head.0 a.2 in
       let c = bound (λ y. Some (for_parts a.0.0 b.0.0 y.0, y.1)) (last_part free room b.0.1) head.0 b.2 in
       let behind_head = subst (λ p. in_block p ≡ Some (x, rest)) (sym (same_some c.2)) head.2 in
       let e = bound (λ z. Some (stmt.For a.0.0 b.0.0 c.0.0 z.0, z.1)) (block_at inner c.0.1) (x, rest) behind_head in
-      let o = bound (λ us. before_mark mark.Semicolon (part_at free room mark.Semicolon) us) (behind mark.OpenParen (drop 1 ts)) a.0 a.1 in
+      let o = bound (λ us. before_mark mark.Semicolon (part_at free room mark.Semicolon) us)
+      (behind mark.OpenParen (drop 1 ts)) a.0 a.1 in
       let u = behind_mark mark.OpenParen (drop 1 ts) o.0 o.1 in
-      let first = part_ended mark.Semicolon (part_at free room mark.Semicolon) (IsPart room) (part_sound free room mark.Semicolon) o.0 a.0 o.2 in
+      let first = part_ended mark.Semicolon (part_at free room mark.Semicolon) (IsPart room)
+      (part_sound free room mark.Semicolon) o.0 a.0 o.2 in
       let second = part_ended mark.Semicolon (test_at free room) (IsTest room) (test_sound free room) a.0.1 b.0 b.1 in
-      let third = part_ended mark.CloseParen (part_at free room mark.CloseParen) (IsPart room) (part_sound free room mark.CloseParen) b.0.1 c.0 c.1 in
+      let third = part_ended mark.CloseParen (part_at free room mark.CloseParen) (IsPart room)
+      (part_sound free room mark.CloseParen) b.0.1 c.0 c.1 in
       let body = block_sound c.0.1 e.0.1 e.0.0 e.1 in
       let height = for_height a.0.0 b.0.0 c.0.0 e.0.0 in
       let l1 = first.spelled.low in
@@ -274,39 +358,66 @@ module _ (free : ℕ) (room : ℕ) (inner : Reader StmtTree) (exact : Exact (Few
       let l3 = third.spelled.low in
       let l4 = body.spelled.low in
       let fourth : c.0.1 ≡ body.taken ++ e.0.1 = body.split in
-      let after3 : b.0.1 ≡ (third.taken ++ third.ends ∷ body.taken) ++ e.0.1 = glued b.0.1 (third.ends ∷ c.0.1) e.0.1 third.taken (third.ends ∷ body.taken) third.split (ap (λ l. third.ends ∷ l) fourth) in
-      let after2 : a.0.1 ≡ (second.taken ++ second.ends ∷ (third.taken ++ third.ends ∷ body.taken)) ++ e.0.1 = glued a.0.1 (second.ends ∷ b.0.1) e.0.1 second.taken (second.ends ∷ (third.taken ++ third.ends ∷ body.taken)) second.split (ap (λ l. second.ends ∷ l) after3) in
-      let after1 : o.0 ≡ (first.taken ++ first.ends ∷ (second.taken ++ second.ends ∷ (third.taken ++ third.ends ∷ body.taken))) ++ e.0.1 = glued o.0 (first.ends ∷ a.0.1) e.0.1 first.taken (first.ends ∷ (second.taken ++ second.ends ∷ (third.taken ++ third.ends ∷ body.taken))) first.split (ap (λ l. first.ends ∷ l) after2) in
-      took (IsKind room) ts (t.first ∷ u.0 ∷ (first.taken ++ first.ends ∷ (second.taken ++ second.ends ∷ (third.taken ++ third.ends ∷ body.taken)))) x (stmt.For a.0.0 b.0.0 c.0.0 e.0.0) e.0.1 rest
+      let after3 : b.0.1 ≡ (third.taken ++ third.ends ∷ body.taken) ++ e.0.1 =
+      glued b.0.1 (third.ends ∷ c.0.1) e.0.1 third.taken (third.ends ∷ body.taken) third.split
+      (ap (λ l. third.ends ∷ l) fourth) in
+      let after2 : a.0.1 ≡ (second.taken ++ second.ends ∷ (third.taken ++ third.ends ∷ body.taken)) ++ e.0.1 =
+      glued a.0.1 (second.ends ∷ b.0.1) e.0.1 second.taken
+      (second.ends ∷ (third.taken ++ third.ends ∷ body.taken)) second.split (ap (λ l. second.ends ∷ l) after3) in
+      let after1 : o.0 ≡ (first.taken ++ first.ends ∷
+      (second.taken ++ second.ends ∷ (third.taken ++ third.ends ∷ body.taken))) ++ e.0.1 =
+      glued o.0 (first.ends ∷ a.0.1) e.0.1 first.taken
+      (first.ends ∷ (second.taken ++ second.ends ∷ (third.taken ++ third.ends ∷ body.taken))) first.split
+      (ap (λ l. first.ends ∷ l) after2) in
+      took (IsKind room) ts (t.first ∷ u.0 ∷ (first.taken ++ first.ends ∷
+      (second.taken ++ second.ends ∷ (third.taken ++ third.ends ∷ body.taken)))) x
+      (stmt.For a.0.0 b.0.0 c.0.0 e.0.0) e.0.1 rest
       (t.is ∙ ap (λ l. t.first ∷ l) (u.1 ∙ ap (λ l. u.0 ∷ l) after1))
-      (record { spelled = for_loop t.first u.0 first.ends second.ends third.ends t.keyword u.2 first.mark second.mark third.mark first.spelled.spelled second.spelled.spelled third.spelled.spelled body.spelled.spelled; low = omega arith }) e.2
+      (record {
+        spelled = for_loop t.first u.0 first.ends second.ends third.ends t.keyword u.2 first.mark second.mark
+            third.mark first.spelled.spelled second.spelled.spelled third.spelled.spelled body.spelled.spelled;
+        low = omega arith;
+      }) e.2
 
-  for_reads : {ts us vs ws : List Lexeme} {first next : Option SimpleTree} {c : ExprTree} {body : List StmtTree} (u v w x : Lexeme) → IsMark mark.OpenParen u → IsMark mark.Semicolon v → IsMark mark.Semicolon w → IsMark mark.CloseParen x → (f : SpellsPart ts first) (k : SpellsTest us c) (n : SpellsPart vs next) (b : SpellsBlock ws body) (rest : List Lexeme) → option_height first ≤ room → expr_height c ≤ room → option_height next ≤ room → stmts_height body ≤ room → Few free (ts ++ v ∷ (us ++ w ∷ (vs ++ x ∷ ws))) → for_behind free inner room (u ∷ (ts ++ v ∷ (us ++ w ∷ (vs ++ x ∷ (ws ++ rest))))) ≡ Some (stmt.For first c next body, rest)
+  for_reads : {ts us vs ws : List Lexeme} {first next : Option SimpleTree} {c : ExprTree} {body : List StmtTree}
+      (u v w x : Lexeme) → IsMark mark.OpenParen u → IsMark mark.Semicolon v → IsMark mark.Semicolon w →
+      IsMark mark.CloseParen x → (f : SpellsPart ts first) (k : SpellsTest us c) (n : SpellsPart vs next)
+      (b : SpellsBlock ws body) (rest : List Lexeme) → option_height first ≤ room → expr_height c ≤ room →
+      option_height next ≤ room → stmts_height body ≤ room → Few free (ts ++ v ∷ (us ++ w ∷ (vs ++ x ∷ ws))) →
+      for_behind free inner room (u ∷ (ts ++ v ∷ (us ++ w ∷ (vs ++ x ∷ (ws ++ rest))))) ≡
+      Some (stmt.For first c next body, rest)
   unfolding for_behind for_head first_part middle_part last_part
   for_reads {ts} {us} {vs} {ws} {first} {next} {c} {body} u v w x p q r s f k n b rest l1 l2 l3 l4 few =
       let few2 = few_tail free v (us ++ w ∷ (vs ++ x ∷ ws)) (few_right free ts (v ∷ (us ++ w ∷ (vs ++ x ∷ ws))) few) in
       let few3 = few_tail free w (vs ++ x ∷ ws) (few_right free us (w ∷ (vs ++ x ∷ ws)) few2) in
       let few4 = few_tail free x ws (few_right free vs (x ∷ ws) few3) in
-      let r1 = part_reads free room mark.Semicolon refl refl f v (us ++ w ∷ (vs ++ x ∷ (ws ++ rest))) q l1 (few_left free ts (v ∷ (us ++ w ∷ (vs ++ x ∷ ws))) few) (rw q, rw q) (rw q) in
+      let r1 = part_reads free room mark.Semicolon refl refl f v (us ++ w ∷ (vs ++ x ∷ (ws ++ rest))) q l1
+      (few_left free ts (v ∷ (us ++ w ∷ (vs ++ x ∷ ws))) few) (rw q, rw q) (rw q) in
       let r2 = test_reads free room k w (vs ++ x ∷ (ws ++ rest)) r l2 (few_left free us (w ∷ (vs ++ x ∷ ws)) few2) in
-      let r3 = part_reads free room mark.CloseParen refl refl n x (ws ++ rest) s l3 (few_left free vs (x ∷ ws) few3) (rw s, rw s) (rw s) in
+      let r3 = part_reads free room mark.CloseParen refl refl n x (ws ++ rest) s l3 (few_left free vs (x ∷ ws) few3)
+      (rw s, rw s) (rw s) in
       rw (p, r1, q, r2, r, r3, s, block_complete b rest l4 few4)
 
-  kind_sound : (ts rest : List Lexeme) (x : StmtKind) → kind_by free inner room (keyword_at ts) ts ≡ Some (x, rest) → Taken (IsKind room) ts x rest
+  kind_sound : (ts rest : List Lexeme) (x : StmtKind) → kind_by free inner room (keyword_at ts) ts ≡ Some (x, rest) →
+      Taken (IsKind room) ts x rest
   kind_sound ts rest x h = go (keyword_at ts) refl h
     where
-      go : (o : Option Keyword) → keyword_at ts ≡ o → kind_by free inner room o ts ≡ Some (x, rest) → Taken (IsKind room) ts x rest
+      go : (o : Option Keyword) → keyword_at ts ≡ o → kind_by free inner room o ts ≡ Some (x, rest) →
+          Taken (IsKind room) ts x rest
       go (Some word.If) q e = if_sound ts rest x q e
       go (Some word.While) q e = while_sound ts rest x q e
       go (Some word.For) q e = for_sound ts rest x q e
       go _ q e = ended_sound free room ts rest x e
 
-  kind_complete : {ts : List Lexeme} {k : StmtKind} (d : SpellsStmtKind ts k) (rest : List Lexeme) → kind_height k ≤ room → Few free ts → NoElse rest → kind_by free inner room (keyword_at (ts ++ rest)) (ts ++ rest) ≡ Some (k, rest)
+  kind_complete : {ts : List Lexeme} {k : StmtKind} (d : SpellsStmtKind ts k) (rest : List Lexeme) →
+      kind_height k ≤ room → Few free ts → NoElse rest →
+      kind_by free inner room (keyword_at (ts ++ rest)) (ts ++ rest) ≡ Some (k, rest)
   unfolding ended_at plain_at returned
   kind_complete (empty t p) rest low few ends = rw p
   kind_complete (plain {ts = ts} {kind = k} t p d) rest low few ends =
       let height = plain_height k in
-      let read = (simple_exact free room).complete ts (t ∷ rest) k (record { spelled = d; low = omega arith }) (few_left free ts (t ∷ []) few) (rw p, rw p) in
+      let read = (simple_exact free room).complete ts (t ∷ rest) k (record { spelled = d; low = omega arith })
+      (few_left free ts (t ∷ []) few) (rw p, rw p) in
       let none = kind_no_word d (t ∷ rest) in
       ap (λ l. kind_by free inner room (keyword_at l) l) (append_assoc ts (t ∷ []) rest)
       ∙ ap (λ o. kind_by free inner room o (ts ++ t ∷ rest)) none
@@ -317,39 +428,53 @@ module _ (free : ℕ) (room : ℕ) (inner : Reader StmtTree) (exact : Exact (Few
   kind_complete (return_value {ts = ts} {value = e} t u p q d) rest low few ends =
       let height = value_height e in
       let inside = few_left free ts (u ∷ []) (few_tail free t (ts ++ u ∷ []) few) in
-      let read = (expr_exact free room).complete ts (u ∷ rest) e (record { spelled = d; low = omega arith }) inside (rw q) in
+      let read = (expr_exact free room).complete ts (u ∷ rest) e (record { spelled = d; low = omega arith }) inside
+      (rw q) in
       let other = no_mark mark.Semicolon refl (ts ++ u ∷ rest) (expr_starts d (u ∷ rest)) in
       let bare = no_call d (u ∷ rest) (rw q) in
-      ap (λ l. kind_by free inner room (keyword_at (t ∷ l)) (t ∷ l)) (append_assoc ts (u ∷ []) rest) ∙ rw (p, other, bare, read, q)
+      ap (λ l. kind_by free inner room (keyword_at (t ∷ l)) (t ∷ l)) (append_assoc ts (u ∷ []) rest) ∙
+      rw (p, other, bare, read, q)
   kind_complete (return_call {ts = ts} {call = c} t u p q d) rest low few ends =
       let height = return_call_height c in
       let inside = few_left free ts (u ∷ []) (few_tail free t (ts ++ u ∷ []) few) in
-      let read = (call_exact free room).complete ts (u ∷ rest) c (record { spelled = d; low = omega arith }) inside tt in
+      let read = (call_exact free room).complete ts (u ∷ rest) c
+      (record { spelled = d; low = omega arith }) inside tt in
       let other = call_no_mark mark.Semicolon d (u ∷ rest) in
-      ap (λ l. kind_by free inner room (keyword_at (t ∷ l)) (t ∷ l)) (append_assoc ts (u ∷ []) rest) ∙ rw (p, other, call_begins d (u ∷ rest), read, q)
+      ap (λ l. kind_by free inner room (keyword_at (t ∷ l)) (t ∷ l)) (append_assoc ts (u ∷ []) rest) ∙
+      rw (p, other, call_begins d (u ∷ rest), read, q)
   kind_complete (choice {ts = ts} d) rest low few ends = let r = if_complete d rest low few ends in rw r.0 r.1
   kind_complete (while_loop {ts = ts} {us = us} {cond = c} {body = body} t p k b) rest low few ends =
       let height = while_height c body in
       let read = while_reads k b rest (omega arith) (omega arith) (few_tail free t (ts ++ us) few) in
       rw p read
-  kind_complete (for_loop {ts = ts} {us = us} {vs = vs} {ws = ws} {first = first} {next = next} {cond = c} {body = body} t u v w x p q r s k f g n b) rest low few ends =
+  kind_complete (for_loop {ts = ts} {us = us} {vs = vs} {ws = ws} {first = first} {next = next} {cond = c} {body = body}
+      t u v w x p q r s k f g n b) rest low few ends =
       let height = for_height first c next body in
-      let tail = few_tail free u (ts ++ v ∷ (us ++ w ∷ (vs ++ x ∷ ws))) (few_tail free t (u ∷ (ts ++ v ∷ (us ++ w ∷ (vs ++ x ∷ ws)))) few) in
+      let tail = few_tail free u (ts ++ v ∷ (us ++ w ∷ (vs ++ x ∷ ws)))
+      (few_tail free t (u ∷ (ts ++ v ∷ (us ++ w ∷ (vs ++ x ∷ ws)))) few) in
       let read = for_reads u v w x q r s k f g n b rest (omega arith) (omega arith) (omega arith) (omega arith) tail in
       let all : (ts ++ v ∷ (us ++ w ∷ (vs ++ x ∷ ws))) ++ rest ≡ ts ++ v ∷ (us ++ w ∷ (vs ++ x ∷ (ws ++ rest))) =
-      append_assoc ts (v ∷ (us ++ w ∷ (vs ++ x ∷ ws))) rest ∙ ap (λ l. ts ++ v ∷ l) (append_assoc us (w ∷ (vs ++ x ∷ ws)) rest ∙ ap (λ l. us ++ w ∷ l) (append_assoc vs (x ∷ ws) rest)) in
+      append_assoc ts (v ∷ (us ++ w ∷ (vs ++ x ∷ ws))) rest ∙
+      ap (λ l. ts ++ v ∷ l) (append_assoc us (w ∷ (vs ++ x ∷ ws)) rest ∙
+      ap (λ l. us ++ w ∷ l) (append_assoc vs (x ∷ ws) rest)) in
       ap (λ l. kind_by free inner room (keyword_at (t ∷ u ∷ l)) (t ∷ u ∷ l)) all ∙ rw p read
 
-  within_sound : (ts rest : List Lexeme) (x : StmtTree) → stmt_within free inner room ts ≡ Some (x, rest) → Taken (IsStmt (suc room)) ts x rest
+  within_sound : (ts rest : List Lexeme) (x : StmtTree) → stmt_within free inner room ts ≡ Some (x, rest) →
+      Taken (IsStmt (suc room)) ts x rest
   unfolding stmt_within
   within_sound ts rest x h =
-      let b = bound (λ x. Some (stmt_tree (first_line ts) x.0, x.1)) (kind_by free inner room (keyword_at ts) ts) (x, rest) h in
+      let b = bound (λ x. Some (stmt_tree (first_line ts) x.0, x.1)) (kind_by free inner room (keyword_at ts) ts)
+      (x, rest) h in
       let k = kind_sound ts b.0.1 b.0.0 b.1 in
-      let line : first_line ts ≡ first_line k.taken = ap first_line k.split ∙ first_line_some k.taken b.0.1 (kind_starts k.spelled.spelled).some in
+      let line : first_line ts ≡ first_line k.taken =
+      ap first_line k.split ∙ first_line_some k.taken b.0.1 (kind_starts k.spelled.spelled).some in
       let low = k.spelled.low in
-      took (IsStmt (suc room)) ts k.taken x (stmt_tree (first_line ts) b.0.0) b.0.1 rest k.split (subst (λ n. IsStmt (suc room) k.taken (stmt_tree n b.0.0)) (sym line) (a_stmt k.spelled.spelled (omega arith))) b.2
+      took (IsStmt (suc room)) ts k.taken x (stmt_tree (first_line ts) b.0.0) b.0.1 rest k.split
+      (subst (λ n. IsStmt (suc room) k.taken (stmt_tree n b.0.0)) (sym line)
+      (a_stmt k.spelled.spelled (omega arith))) b.2
 
-  within_complete : {ts : List Lexeme} {x : StmtTree} (d : IsStmt (suc room) ts x) (rest : List Lexeme) → Few free ts → NoElse rest → stmt_within free inner room (ts ++ rest) ≡ Some (x, rest)
+  within_complete : {ts : List Lexeme} {x : StmtTree} (d : IsStmt (suc room) ts x) (rest : List Lexeme) → Few free ts →
+      NoElse rest → stmt_within free inner room (ts ++ rest) ≡ Some (x, rest)
   unfolding stmt_within
   within_complete (a_stmt {ts = ts} d low) rest few ends =
       rw (kind_complete d rest (omega arith) few ends, first_line_some ts rest (kind_starts d).some)
@@ -363,10 +488,16 @@ no_stmt (a_stmt d low) = omega arith
 -- a statement that is at most so high
 pub stmt_exact : (free : ℕ) → (room : ℕ) → Exact (Few free) (IsStmt room) NoElse (stmt_at free room)
 unfolding stmt_at
-stmt_exact free zero = record { sound = λ ts rest x h. absurd (none-some (x, rest) h); complete = λ ts rest x d few ends. absurd (no_stmt d) }
+stmt_exact free zero = record {
+  sound = λ ts rest x h. absurd (none-some (x, rest) h);
+  complete = λ ts rest x d few ends. absurd (no_stmt d);
+}
 stmt_exact free (suc room) =
     let w = within_exact free room (stmt_at free room) (stmt_exact free room) in
-    record { sound = λ ts rest x h. w.sound ts rest x h; complete = λ ts rest x d few ends. w.complete ts rest x d few ends }
+    record {
+      sound = λ ts rest x h. w.sound ts rest x h;
+      complete = λ ts rest x d few ends. w.complete ts rest x d few ends;
+    }
 
 -- statements up to `}`, each at most so high
 pub record IsStmts (room : ℕ) (ts : List Lexeme) (ss : List StmtTree) : Type 0 where
@@ -383,6 +514,11 @@ stmts_exact free room =
       sound = λ ts rest x h.
           let d = e.sound [] x ts rest h in
           let s = stmts_apart d.spelled in
-          record { taken = d.taken; split = d.split; spelled = subst (λ z. IsStmts room d.taken z) (sym d.all) (record { spelled = s.0; low = s.1 }) };
+          record {
+            taken = d.taken;
+            split = d.split;
+            spelled = subst (λ z. IsStmts room d.taken z) (sym d.all)
+                (record { spelled = s.0; low = s.1 });
+          };
       complete = λ ts rest x d few ends. e.complete [] x ts rest (stmts_joined d.spelled d.low) few ends;
     }

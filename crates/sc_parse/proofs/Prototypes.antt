@@ -34,16 +34,23 @@ EndsParam rest = NoType rest × NoName rest
 param_sound : (ts rest : List Lexeme) (x : ParamTree) → param_at ts ≡ Some (x, rest) → Taken SpellsParam ts x rest
 unfolding param_at
 param_sound ts rest x h =
-    let b = bound (λ x. option_map_or {U = Option (ParamTree × List Lexeme)} (λ y. Some (param_tree x.0 (Some y.0), y.1)) (name_at x.1) (Some (param_tree x.0 None, x.1))) (type_name_at ts) (x, rest) h in
+    let b = bound (λ x. option_map_or {U = Option (ParamTree × List Lexeme)}
+    (λ y. Some (param_tree x.0 (Some y.0), y.1)) (name_at x.1) (Some (param_tree x.0 None, x.1))) (type_name_at ts)
+    (x, rest) h in
     go b.0.0 b.0.1 (type_name_exact.sound ts b.0.1 b.0.0 b.1) (name_at b.0.1) refl b.2
   where
-    go : (ty : TypeName) (us : List Lexeme) → Taken SpellsTypeName ts ty us → (o : Option (List ℕ × List Lexeme)) → name_at us ≡ o → option_map_or {U = Option (ParamTree × List Lexeme)} (λ y. Some (param_tree ty (Some y.0), y.1)) o (Some (param_tree ty None, us)) ≡ Some (x, rest) → Taken SpellsParam ts x rest
+    go : (ty : TypeName) (us : List Lexeme) → Taken SpellsTypeName ts ty us → (o : Option (List ℕ × List Lexeme)) →
+        name_at us ≡ o → option_map_or {U = Option (ParamTree × List Lexeme)}
+        (λ y. Some (param_tree ty (Some y.0), y.1)) o (Some (param_tree ty None, us)) ≡ Some (x, rest) →
+        Taken SpellsParam ts x rest
     go ty us d None q e = took SpellsParam ts d.taken x (param_tree ty None) us rest d.split (nameless d.spelled) e
     go ty us d (Some y) q e =
         let t = name_ahead us y.1 y.0 q in
-        took SpellsParam ts (d.taken ++ t.0 ∷ []) x (param_tree ty (Some y.0)) y.1 rest (glued ts us y.1 d.taken (t.0 ∷ []) d.split t.1) (named t.0 y.0 t.2 d.spelled) e
+        took SpellsParam ts (d.taken ++ t.0 ∷ []) x (param_tree ty (Some y.0)) y.1 rest
+        (glued ts us y.1 d.taken (t.0 ∷ []) d.split t.1) (named t.0 y.0 t.2 d.spelled) e
 
-param_complete : {ts : List Lexeme} {x : ParamTree} (d : SpellsParam ts x) (rest : List Lexeme) → EndsParam rest → param_at (ts ++ rest) ≡ Some (x, rest)
+param_complete : {ts : List Lexeme} {x : ParamTree} (d : SpellsParam ts x) (rest : List Lexeme) → EndsParam rest →
+    param_at (ts ++ rest) ≡ Some (x, rest)
 unfolding param_at
 param_complete (named {ts = ts} {ty = ty} t name p d) rest h =
     let first = type_name_exact.complete ts (t ∷ rest) ty d tt (rw p, rw p) in
@@ -53,8 +60,11 @@ param_complete (nameless {ts = ts} {ty = ty} d) rest h = rw (type_name_exact.com
 param_exact : Exact Any SpellsParam EndsParam param_at
 param_exact = record { sound = param_sound; complete = λ ts rest x d fits h. param_complete d rest h }
 
-all_params_exact : ExactAdder Any (Separated SpellsParam) (λ rest. EndsParam rest × (behind mark.Comma rest ≡ None)) (all_separated (adds param_at))
-all_params_exact = separated_exact Any any_left any_right (behind mark.Comma) comma_ahead SpellsParam EndsParam param_at param_exact (λ t rest p. ((rw p, rw p), rw p)) (λ t us rest zs p d. rw p)
+all_params_exact : ExactAdder Any (Separated SpellsParam) (λ rest. EndsParam rest × (behind mark.Comma rest ≡ None))
+    (all_separated (adds param_at))
+all_params_exact = separated_exact Any any_left any_right
+    (behind mark.Comma) comma_ahead SpellsParam EndsParam param_at param_exact (λ t rest p. ((rw p, rw p), rw p))
+    (λ t us rest zs p d. rw p)
 
 -- a `void` at the front
 pub void_ahead : (ts : List Lexeme) → is_void (keyword_at ts) ≡ true → Word ts word.Void
@@ -64,7 +74,8 @@ void_ahead ts h = go (keyword_at ts) refl h
     go (Some word.Void) q e = word_ahead ts word.Void q
     go _ q e = absurd (none-some {A = ℕ} 0 (ap (λ b. cond b (Some 0) None) e))
 
-pub base_no_void : {ts : List Lexeme} {base : BaseTree} (d : SpellsBase ts base) (rest : List Lexeme) → is_void (keyword_at (ts ++ rest)) ≡ false
+pub base_no_void : {ts : List Lexeme} {base : BaseTree} (d : SpellsBase ts base) (rest : List Lexeme) →
+    is_void (keyword_at (ts ++ rest)) ≡ false
 base_no_void (int t p) rest = rw p
 base_no_void (signed t p) rest = rw p
 base_no_void (signed_int t u p q) rest = rw p
@@ -75,55 +86,79 @@ base_no_void (struct t u tag p q) rest = rw p
 abbrev NoVoid : List Lexeme → Type 0
 NoVoid ts = is_void (keyword_at ts) ≡ false
 
-type_name_no_void : {ts : List Lexeme} {ty : TypeName} (d : SpellsTypeName ts ty) (rest : List Lexeme) → NoVoid (ts ++ rest)
-type_name_no_void (type_name {ts = ts} {us = us} d g) rest = subst NoVoid (sym (append_assoc ts us rest)) (base_no_void d (us ++ rest))
+type_name_no_void : {ts : List Lexeme} {ty : TypeName} (d : SpellsTypeName ts ty) (rest : List Lexeme) →
+    NoVoid (ts ++ rest)
+type_name_no_void (type_name {ts = ts} {us = us} d g) rest =
+    subst NoVoid (sym (append_assoc ts us rest)) (base_no_void d (us ++ rest))
 
 param_no_void : {ts : List Lexeme} {x : ParamTree} (d : SpellsParam ts x) (rest : List Lexeme) → NoVoid (ts ++ rest)
-param_no_void (named {ts = ts} t name p d) rest = subst NoVoid (sym (append_assoc ts (t ∷ []) rest)) (type_name_no_void d (t ∷ rest))
+param_no_void (named {ts = ts} t name p d) rest = subst NoVoid (sym (append_assoc ts (t ∷ []) rest))
+    (type_name_no_void d (t ∷ rest))
 param_no_void (nameless d) rest = type_name_no_void d rest
 
-params_no_void : {ts : List Lexeme} {xs : List ParamTree} (d : Separated SpellsParam ts xs) (rest : List Lexeme) → NoVoid (ts ++ rest)
+params_no_void : {ts : List Lexeme} {xs : List ParamTree} (d : Separated SpellsParam ts xs) (rest : List Lexeme) →
+    NoVoid (ts ++ rest)
 params_no_void (lists.one d) rest = param_no_void d rest
-params_no_void (more {ts = ts} {us = us} t p d g) rest = subst NoVoid (sym (append_assoc ts (t ∷ us) rest)) (param_no_void d (t ∷ us ++ rest))
+params_no_void (more {ts = ts} {us = us} t p d g) rest =
+    subst NoVoid (sym (append_assoc ts (t ∷ us) rest)) (param_no_void d (t ∷ us ++ rest))
 
 abbrev EndsParams : List Lexeme → Type 0
 EndsParams rest = EndsParam rest × (behind mark.Comma rest ≡ None)
 
-params_sound : (ts rest : List Lexeme) (x : List ParamTree) → params_at ts ≡ Some (x, rest) → Taken SpellsParams ts x rest
+params_sound : (ts rest : List Lexeme) (x : List ParamTree) → params_at ts ≡ Some (x, rest) →
+    Taken SpellsParams ts x rest
 unfolding params_at
 params_sound ts rest x h = go (is_void (keyword_at ts)) refl h
   where
-    go : (b : Bool) → is_void (keyword_at ts) ≡ b → cond {A = Option (List ParamTree × List Lexeme)} b (Some ([], drop 1 ts)) (all_separated (adds param_at) [] ts) ≡ Some (x, rest) → Taken SpellsParams ts x rest
-    go true q e = let first = void_ahead ts q in took SpellsParams ts (first.first ∷ []) x [] (drop 1 ts) rest first.is (no_params first.first first.keyword) e
+    go : (b : Bool) → is_void (keyword_at ts) ≡ b → cond {A = Option (List ParamTree × List Lexeme)} b
+        (Some ([], drop 1 ts)) (all_separated (adds param_at) [] ts) ≡ Some (x, rest) → Taken SpellsParams ts x rest
+    go true q e = let first = void_ahead ts q in took SpellsParams ts (first.first ∷ []) x [] (drop 1 ts) rest first.is
+        (no_params first.first first.keyword) e
     go false q e =
         let l = all_params_exact.sound [] x ts rest e in
-        record { taken = l.taken; split = l.split; spelled = subst (λ v. SpellsParams l.taken v) (sym l.all) (some_params l.spelled) }
+        record {
+          taken = l.taken;
+          split = l.split;
+          spelled = subst (λ v. SpellsParams l.taken v) (sym l.all)
+              (some_params l.spelled);
+        }
 
-params_complete : {ts : List Lexeme} {x : List ParamTree} (d : SpellsParams ts x) (rest : List Lexeme) → EndsParams rest → params_at (ts ++ rest) ≡ Some (x, rest)
+params_complete : {ts : List Lexeme} {x : List ParamTree} (d : SpellsParams ts x) (rest : List Lexeme) →
+    EndsParams rest → params_at (ts ++ rest) ≡ Some (x, rest)
 unfolding params_at
 params_complete (no_params t p) rest h = rw p
-params_complete (some_params {ts = ts} {params = xs} d) rest h = rw (params_no_void d rest, all_params_exact.complete [] xs ts rest d tt h)
+params_complete (some_params {ts = ts} {params = xs} d) rest h =
+    rw (params_no_void d rest, all_params_exact.complete [] xs ts rest d tt h)
 
-result_sound : (ts rest : List Lexeme) (x : Option TypeName) → result_at ts ≡ Some (x, rest) → Taken SpellsResult ts x rest
+result_sound : (ts rest : List Lexeme) (x : Option TypeName) → result_at ts ≡ Some (x, rest) →
+    Taken SpellsResult ts x rest
 unfolding result_at
 result_sound ts rest x h = go (is_void (keyword_at ts)) refl h
   where
-    go : (b : Bool) → is_void (keyword_at ts) ≡ b → cond {A = Option (Option TypeName × List Lexeme)} b (Some (None, drop 1 ts)) (type_name_at ts >>= (λ x. Some (Some x.0, x.1))) ≡ Some (x, rest) → Taken SpellsResult ts x rest
-    go true q e = let first = void_ahead ts q in took SpellsResult ts (first.first ∷ []) x None (drop 1 ts) rest first.is (no_result first.first first.keyword) e
+    go : (b : Bool) → is_void (keyword_at ts) ≡ b → cond {A = Option (Option TypeName × List Lexeme)} b
+        (Some (None, drop 1 ts)) (type_name_at ts >>= (λ x. Some (Some x.0, x.1))) ≡ Some (x, rest) →
+        Taken SpellsResult ts x rest
+    go true q e = let first = void_ahead ts q in took SpellsResult ts (first.first ∷ []) x None
+        (drop 1 ts) rest first.is (no_result first.first first.keyword) e
     go false q e =
         let b = bound (λ x. Some (Some x.0, x.1)) (type_name_at ts) (x, rest) e in
         let d = type_name_exact.sound ts b.0.1 b.0.0 b.1 in
         took SpellsResult ts d.taken x (Some b.0.0) b.0.1 rest d.split (a_result d.spelled) b.2
 
-result_complete : {ts : List Lexeme} {x : Option TypeName} (d : SpellsResult ts x) (rest : List Lexeme) → NoType rest → result_at (ts ++ rest) ≡ Some (x, rest)
+result_complete : {ts : List Lexeme} {x : Option TypeName} (d : SpellsResult ts x) (rest : List Lexeme) → NoType rest →
+    result_at (ts ++ rest) ≡ Some (x, rest)
 unfolding result_at
 result_complete (no_result t p) rest h = rw p
-result_complete (a_result {ts = ts} {ty = ty} d) rest h = rw (type_name_no_void d rest, type_name_exact.complete ts rest ty d tt h)
+result_complete (a_result {ts = ts} {ty = ty} d) rest h =
+    rw (type_name_no_void d rest, type_name_exact.complete ts rest ty d tt h)
 
 -- parameters in their parentheses
-parens_sound : (ts rest : List Lexeme) (x : List ParamTree) → params_in_parens ts ≡ Some (x, rest) → (u : Lexeme) × (taken : List Lexeme) × (v : Lexeme) × (ts ≡ u ∷ (taken ++ v ∷ rest)) × IsMark mark.OpenParen u × IsMark mark.CloseParen v × SpellsParams taken x
+parens_sound : (ts rest : List Lexeme) (x : List ParamTree) → params_in_parens ts ≡ Some (x, rest) →
+    (u : Lexeme) × (taken : List Lexeme) × (v : Lexeme) × (ts ≡ u ∷ (taken ++ v ∷ rest)) × IsMark mark.OpenParen u ×
+    IsMark mark.CloseParen v × SpellsParams taken x
 parens_sound ts rest x h =
-    let o = bound (λ us. params_at us >>= (λ x. behind mark.CloseParen x.1 >>= (λ rest. Some (x.0, rest)))) (behind mark.OpenParen ts) (x, rest) h in
+    let o = bound (λ us. params_at us >>= (λ x. behind mark.CloseParen x.1 >>= (λ rest. Some (x.0, rest))))
+    (behind mark.OpenParen ts) (x, rest) h in
     let b = bound (λ x. behind mark.CloseParen x.1 >>= (λ rest. Some (x.0, rest))) (params_at o.0) (x, rest) o.2 in
     let c = bound (λ rest. Some (b.0.0, rest)) (behind mark.CloseParen b.0.1) (x, rest) b.2 in
     let same = same_some c.2 in
@@ -131,35 +166,52 @@ parens_sound ts rest x h =
     let after : c.0 ≡ rest = ap (λ p. p.1) same in
     let u = behind_mark mark.OpenParen ts o.0 o.1 in
     let d = params_sound o.0 b.0.1 b.0.0 b.1 in
-    let v = behind_mark mark.CloseParen b.0.1 c.0 c.1 in
-    (u.0, d.taken, v.0, u.1 ∙ ap (λ l. u.0 ∷ l) (d.split ∙ ap (λ l. d.taken ++ l) (v.1 ∙ ap (λ l. v.0 ∷ l) after)), u.2, v.2, subst (λ z. SpellsParams d.taken z) value d.spelled)
+    let v = behind_mark mark.CloseParen b.0.1 c.0 c.1 in (
+      u.0,
+      d.taken,
+      v.0,
+      u.1 ∙ ap (λ l. u.0 ∷ l) (d.split ∙ ap (λ l. d.taken ++ l) (v.1 ∙ ap (λ l. v.0 ∷ l) after)),
+      u.2,
+      v.2,
+      subst (λ z. SpellsParams d.taken z) value d.spelled,
+    )
 
-first_line_type : {ts : List Lexeme} {ty : TypeName} (d : SpellsTypeName ts ty) (rest : List Lexeme) → first_line (ts ++ rest) ≡ first_line ts
-first_line_type (type_name {ts = ts} {us = us} d g) rest = ap first_line (append_assoc ts us rest) ∙ first_line_base d (us ++ rest) ∙ sym (first_line_base d us)
+first_line_type : {ts : List Lexeme} {ty : TypeName} (d : SpellsTypeName ts ty) (rest : List Lexeme) →
+    first_line (ts ++ rest) ≡ first_line ts
+first_line_type (type_name {ts = ts} {us = us} d g) rest =
+    ap first_line (append_assoc ts us rest) ∙ first_line_base d (us ++ rest) ∙ sym (first_line_base d us)
 
-first_line_result : {ts : List Lexeme} {x : Option TypeName} (d : SpellsResult ts x) (rest : List Lexeme) → first_line (ts ++ rest) ≡ first_line ts
+first_line_result : {ts : List Lexeme} {x : Option TypeName} (d : SpellsResult ts x) (rest : List Lexeme) →
+    first_line (ts ++ rest) ≡ first_line ts
 first_line_result (no_result t p) rest = refl
 first_line_result (a_result d) rest = first_line_type d rest
 
 head_sound : (ts rest : List Lexeme) (x : HeadTree) → head_at ts ≡ Some (x, rest) → Taken SpellsHead ts x rest
 unfolding head_at
 head_sound ts rest x h =
-    let b = bound (λ x. name_at x.1 >>= (λ y. params_in_parens y.1 >>= (λ z. Some (head_tree x.0 y.0 z.0 (first_line ts), z.1)))) (result_at ts) (x, rest) h in
-    let n = bound (λ y. params_in_parens y.1 >>= (λ z. Some (head_tree b.0.0 y.0 z.0 (first_line ts), z.1))) (name_at b.0.1) (x, rest) b.2 in
+    let b = bound (λ x. name_at x.1 >>= (λ y. params_in_parens y.1 >>=
+    (λ z. Some (head_tree x.0 y.0 z.0 (first_line ts), z.1)))) (result_at ts) (x, rest) h in
+    let n = bound (λ y. params_in_parens y.1 >>= (λ z. Some (head_tree b.0.0 y.0 z.0 (first_line ts), z.1)))
+    (name_at b.0.1) (x, rest) b.2 in
     let c = bound (λ z. Some (head_tree b.0.0 n.0.0 z.0 (first_line ts), z.1)) (params_in_parens n.0.1) (x, rest) n.2 in
     let r = result_sound ts b.0.1 b.0.0 b.1 in
     let t = name_ahead b.0.1 n.0.1 n.0.0 n.1 in
     let p = parens_sound n.0.1 c.0.1 c.0.0 c.1 in
     let line : first_line ts ≡ first_line r.taken = ap first_line r.split ∙ first_line_result r.spelled b.0.1 in
     let made = head t.0 p.0 p.2 n.0.0 t.2 p.4 p.5 r.spelled p.6 in
-    took SpellsHead ts (r.taken ++ t.0 ∷ p.0 ∷ (p.1 ++ p.2 ∷ [])) x (head_tree b.0.0 n.0.0 c.0.0 (first_line ts)) c.0.1 rest
-    (glued ts b.0.1 c.0.1 r.taken (t.0 ∷ p.0 ∷ (p.1 ++ p.2 ∷ [])) r.split (t.1 ∙ ap (λ l. t.0 ∷ l) (p.3 ∙ ap (λ l. p.0 ∷ l) (sym (append_assoc p.1 (p.2 ∷ []) c.0.1)))))
-    (subst (λ k. SpellsHead (r.taken ++ t.0 ∷ p.0 ∷ (p.1 ++ p.2 ∷ [])) (head_tree b.0.0 n.0.0 c.0.0 k)) (sym line) made) c.2
+    took SpellsHead ts (r.taken ++ t.0 ∷ p.0 ∷ (p.1 ++ p.2 ∷ [])) x
+    (head_tree b.0.0 n.0.0 c.0.0 (first_line ts)) c.0.1 rest
+    (glued ts b.0.1 c.0.1 r.taken (t.0 ∷ p.0 ∷ (p.1 ++ p.2 ∷ [])) r.split
+    (t.1 ∙ ap (λ l. t.0 ∷ l) (p.3 ∙ ap (λ l. p.0 ∷ l) (sym (append_assoc p.1 (p.2 ∷ []) c.0.1)))))
+    (subst (λ k. SpellsHead (r.taken ++ t.0 ∷ p.0 ∷ (p.1 ++ p.2 ∷ [])) (head_tree b.0.0 n.0.0 c.0.0 k))
+    (sym line) made) c.2
 
-head_complete : {ts : List Lexeme} {x : HeadTree} (d : SpellsHead ts x) (rest : List Lexeme) → head_at (ts ++ rest) ≡ Some (x, rest)
+head_complete : {ts : List Lexeme} {x : HeadTree} (d : SpellsHead ts x) (rest : List Lexeme) →
+    head_at (ts ++ rest) ≡ Some (x, rest)
 unfolding head_at
 head_complete (head {ts = ts} {us = us} {result = result} {params = xs} t u v name p q r d g) rest =
-    let all : (ts ++ t ∷ u ∷ (us ++ v ∷ [])) ++ rest ≡ ts ++ t ∷ u ∷ (us ++ v ∷ rest) = append_assoc ts (t ∷ u ∷ (us ++ v ∷ [])) rest ∙ ap (λ l. ts ++ t ∷ u ∷ l) (append_assoc us (v ∷ []) rest) in
+    let all : (ts ++ t ∷ u ∷ (us ++ v ∷ [])) ++ rest ≡ ts ++ t ∷ u ∷ (us ++ v ∷ rest) =
+    append_assoc ts (t ∷ u ∷ (us ++ v ∷ [])) rest ∙ ap (λ l. ts ++ t ∷ u ∷ l) (append_assoc us (v ∷ []) rest) in
     let first = result_complete d (t ∷ u ∷ (us ++ v ∷ rest)) (rw p, rw p) in
     let inner = params_complete g (v ∷ rest) (((rw r, rw r), rw r), rw r) in
     ap head_at all ∙ rw (first, first_line_result d (t ∷ u ∷ (us ++ v ∷ rest)), p, q, inner, r)

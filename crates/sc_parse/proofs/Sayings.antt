@@ -55,11 +55,15 @@ integer_speaks text h = rw (h, typed (has_suffix text) (value_of text))
 alike : (xs ys : List ℕ) → bytes_eq xs ys ≡ true → bytes_eq ys xs ≡ true
 alike xs ys h = (bytes_eq-Decides ys xs).1 (sym ((bytes_eq-Decides xs ys).0 h))
 
-looked : (rows : List (List ℕ × Mark)) (text : List ℕ) → list_any (λ mark. bytes_eq text mark) (map (λ row. row.0) rows) ≡ true → is_some (look_up rows text) ≡ true
+looked : (rows : List (List ℕ × Mark)) (text : List ℕ) →
+    list_any (λ mark. bytes_eq text mark) (map (λ row. row.0) rows) ≡ true → is_some (look_up rows text) ≡ true
 looked [] text h = absurd (false-true h)
 looked (row ∷ rows) text h = go (bytes_eq text row.0) refl (bytes_eq row.0 text) refl (looked rows text) h
   where
-    go : (b : Bool) → bytes_eq text row.0 ≡ b → (a : Bool) → bytes_eq row.0 text ≡ a → (list_any (λ mark. bytes_eq text mark) (map (λ row. row.0) rows) ≡ true → is_some (look_up rows text) ≡ true) → (b || list_any (λ mark. bytes_eq text mark) (map (λ row. row.0) rows)) ≡ true → is_some (cond {A = Option Mark} a (Some row.1) (look_up rows text)) ≡ true
+    go : (b : Bool) → bytes_eq text row.0 ≡ b → (a : Bool) → bytes_eq row.0 text ≡ a →
+        (list_any (λ mark. bytes_eq text mark) (map (λ row. row.0) rows) ≡ true →
+        is_some (look_up rows text) ≡ true) → (b || list_any (λ mark. bytes_eq text mark) (map (λ row. row.0) rows)) ≡
+        true → is_some (cond {A = Option Mark} a (Some row.1) (look_up rows text)) ≡ true
     go b p true q more e = refl
     go true p false q more e = absurd (false-true (sym q ∙ alike text row.0 p))
     go false p false q more e = more e
@@ -75,19 +79,23 @@ export_speaks : (ws : List (List ℕ)) → is_export ws ≡ true → is_some (na
 export_speaks [] h = absurd (false-true h)
 export_speaks (a ∷ []) h = absurd (false-true h)
 export_speaks (a ∷ b ∷ []) h = absurd (false-true h)
-export_speaks (a ∷ b ∷ c ∷ []) h = named_word c (and_rest (bytes_eq a (codes "#pragma") && bytes_eq b (codes "export")) (is_name c) h)
+export_speaks (a ∷ b ∷ c ∷ []) h = named_word c (and_rest (bytes_eq a (codes "#pragma") && bytes_eq b (codes "export"))
+    (is_name c) h)
 export_speaks (a ∷ b ∷ c ∷ d ∷ more) h = absurd (false-true h)
 
-import_speaks : (ws : List (List ℕ)) → is_import ws ≡ true → is_some (import_of (name_of (get_or ws 2 [])) (name_of (get_or ws 3 []))) ≡ true
+import_speaks : (ws : List (List ℕ)) → is_import ws ≡ true →
+    is_some (import_of (name_of (get_or ws 2 [])) (name_of (get_or ws 3 []))) ≡ true
 import_speaks [] h = absurd (false-true h)
 import_speaks (a ∷ []) h = absurd (false-true h)
 import_speaks (a ∷ b ∷ []) h = absurd (false-true h)
 import_speaks (a ∷ b ∷ c ∷ []) h = absurd (false-true h)
 import_speaks (a ∷ b ∷ c ∷ d ∷ []) h =
     let words = bytes_eq a (codes "#pragma") && bytes_eq b (codes "import") in
-    both (is_name c) refl (is_name d) refl (and_rest words (is_name c) (and_first (words && is_name c) (is_name d) h)) (and_rest (words && is_name c) (is_name d) h)
+    both (is_name c) refl (is_name d) refl (and_rest words (is_name c) (and_first (words && is_name c) (is_name d) h))
+    (and_rest (words && is_name c) (is_name d) h)
   where
-    both : (x : Bool) → is_name c ≡ x → (y : Bool) → is_name d ≡ y → x ≡ true → y ≡ true → is_some (import_of (name_of c) (name_of d)) ≡ true
+    both : (x : Bool) → is_name c ≡ x → (y : Bool) → is_name d ≡ y → x ≡ true → y ≡ true →
+        is_some (import_of (name_of c) (name_of d)) ≡ true
     both true p true q e f = rw (p, q)
     both true p false q e f = absurd (false-true f)
     both false p y q e f = absurd (false-true e)
@@ -100,10 +108,14 @@ word_speaks : (text : List ℕ) (k : TokenKind) → (k ≡ kind.Reserved → ⊥
 unfolding word_kind says
 word_speaks text k free h = go (is_reserved text) refl (is_name text) refl (is_integer text) refl h
   where
-    go : (r : Bool) → is_reserved text ≡ r → (n : Bool) → is_name text ≡ n → (i : Bool) → is_integer text ≡ i → cond {A = Option TokenKind} r (Some kind.Reserved) (cond n (Some kind.Ident) (cond i (Some kind.Integer) None)) ≡ Some k → Speaks k text
+    go : (r : Bool) → is_reserved text ≡ r → (n : Bool) → is_name text ≡ n → (i : Bool) → is_integer text ≡ i →
+        cond {A = Option TokenKind} r (Some kind.Reserved)
+        (cond n (Some kind.Ident) (cond i (Some kind.Integer) None)) ≡ Some k → Speaks k text
     go true p n q i t e = absurd (free (sym (same_some e)))
-    go false p true q i t e = as_kind text k kind.Ident e (mapped (λ name. symbol.Ident name) (ident_in text) (ident_speaks text p q))
-    go false p false q true t e = as_kind text k kind.Integer e (mapped (λ number. symbol.Integer number) (number_in text) (integer_speaks text t))
+    go false p true q i t e = as_kind text k kind.Ident e
+        (mapped (λ name. symbol.Ident name) (ident_in text) (ident_speaks text p q))
+    go false p false q true t e = as_kind text k kind.Integer e
+        (mapped (λ number. symbol.Integer number) (number_in text) (integer_speaks text t))
     go false p false q false t e = absurd (none-some k e)
 
 mark_kind_speaks : (text : List ℕ) (k : TokenKind) → mark_kind text ≡ Some k → Speaks k text
@@ -116,11 +128,16 @@ mark_kind_speaks text k h = go (is_mark text) refl h
 
 line_speaks : (text : List ℕ) (k : TokenKind) → line_kind text ≡ Some k → Speaks k text
 unfolding line_kind says
-line_speaks text k h = go (is_some (heading_name text)) refl (is_export (words text)) refl (is_import (words text)) refl h
+line_speaks text k h = go (is_some (heading_name text)) refl (is_export (words text)) refl
+    (is_import (words text)) refl h
   where
-    go : (c : Bool) → is_some (heading_name text) ≡ c → (x : Bool) → is_export (words text) ≡ x → (i : Bool) → is_import (words text) ≡ i → cond {A = Option TokenKind} c (Some kind.Compartment) (cond x (Some kind.Export) (cond i (Some kind.Import) None)) ≡ Some k → Speaks k text
-    go true p x q i t e = as_kind text k kind.Compartment e (mapped (λ name. symbol.Compartment name) (heading_name text) p)
-    go false p true q i t e = as_kind text k kind.Export e (mapped (λ name. symbol.Export name) (third_word text) (export_speaks (words text) q))
+    go : (c : Bool) → is_some (heading_name text) ≡ c → (x : Bool) → is_export (words text) ≡ x → (i : Bool) →
+        is_import (words text) ≡ i → cond {A = Option TokenKind} c (Some kind.Compartment)
+        (cond x (Some kind.Export) (cond i (Some kind.Import) None)) ≡ Some k → Speaks k text
+    go true p x q i t e = as_kind text k kind.Compartment e
+        (mapped (λ name. symbol.Compartment name) (heading_name text) p)
+    go false p true q i t e = as_kind text k kind.Export e
+        (mapped (λ name. symbol.Export name) (third_word text) (export_speaks (words text) q))
     go false p false q true t e = as_kind text k kind.Import e (import_speaks (words text) t)
     go false p false q false t e = absurd (none-some k e)
 
@@ -135,7 +152,8 @@ kind_speaks : (text : List ℕ) (k : TokenKind) → (k ≡ kind.Reserved → ⊥
 unfolding kind_of
 kind_speaks text k free h = go (word_kind text) refl (mark_kind text) refl h
   where
-    go : (w : Option TokenKind) → word_kind text ≡ w → (m : Option TokenKind) → mark_kind text ≡ m → option_or w (option_or m (directive_kind text)) ≡ Some k → Speaks k text
+    go : (w : Option TokenKind) → word_kind text ≡ w → (m : Option TokenKind) → mark_kind text ≡ m →
+        option_or w (option_or m (directive_kind text)) ≡ Some k → Speaks k text
     go (Some w) p m q e = word_speaks text k free (p ∙ e)
     go None p (Some m) q e = mark_kind_speaks text k (q ∙ e)
     go None p None q e = directive_speaks text k e
@@ -145,5 +163,7 @@ said None h = absurd (false-true h)
 said (Some s) h = refl
 
 -- a token that is no reserved word is the lexeme that its text says
-pub token_says : (bytes : List ℕ) (token : Token) → IsSpan bytes token → (token.kind ≡ kind.Reserved → ⊥) → says token.kind (slice_range bytes token.start token.end) ≡ Some (symbol_of bytes token)
-token_says bytes token span free = said (says token.kind (slice_range bytes token.start token.end)) (kind_speaks (slice_range bytes token.start token.end) token.kind free span.kind)
+pub token_says : (bytes : List ℕ) (token : Token) → IsSpan bytes token → (token.kind ≡ kind.Reserved → ⊥) →
+    says token.kind (slice_range bytes token.start token.end) ≡ Some (symbol_of bytes token)
+token_says bytes token span free = said (says token.kind (slice_range bytes token.start token.end))
+    (kind_speaks (slice_range bytes token.start token.end) token.kind free span.kind)

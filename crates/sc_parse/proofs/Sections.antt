@@ -33,14 +33,20 @@ compartment_is : (s : Symbol) (name : List ℕ) → compartment_by s ≡ Some na
 compartment_is (symbol.Compartment other) name h = ap (λ n. symbol.Compartment n) (same_some h)
 compartment_is _ name h = absurd (none-some name h)
 
-compartment_ahead : (ts rest : List Lexeme) (name : List ℕ) → compartment_at ts ≡ Some (name, rest) → Compartment ts rest name
+compartment_ahead : (ts rest : List Lexeme) (name : List ℕ) → compartment_at ts ≡ Some (name, rest) →
+    Compartment ts rest name
 compartment_ahead [] rest name h = absurd (none-some _ h)
 compartment_ahead (t ∷ ts) rest name h =
     let b = bound (λ name. Some (name, ts)) (compartment_by t.symbol) (name, rest) h in
     let same = same_some b.2 in
     let value : b.0 ≡ name = ap (λ p. p.0) same in
     let after : ts ≡ rest = ap (λ p. p.1) same in
-    record { first = t; is = ap (λ l. t ∷ l) after; names = compartment_is t.symbol b.0 b.1 ∙ ap (λ n. symbol.Compartment n) value }
+    record {
+      first = t;
+      is = ap (λ l. t ∷ l) after;
+      names = compartment_is t.symbol b.0 b.1 ∙
+          ap (λ n. symbol.Compartment n) value;
+    }
 
 -- declarations up to the end, at most so high
 record Declared (limit : ℕ) (ts : List Lexeme) (zs : List Decl) : Type 0 where
@@ -51,24 +57,32 @@ ended : (rest : List Lexeme) → is_empty rest ≡ true → rest ≡ []
 ended [] h = refl
 ended (t ∷ rest) h = absurd (false-true h)
 
-decls_sound : (free limit : ℕ) (ts rest : List Lexeme) (zs : List Decl) → decls_at free limit ts ≡ Some (zs, rest) → Declared limit ts zs × (rest ≡ [])
+decls_sound : (free limit : ℕ) (ts rest : List Lexeme) (zs : List Decl) → decls_at free limit ts ≡ Some (zs, rest) →
+    Declared limit ts zs × (rest ≡ [])
 decls_sound free limit ts rest zs h =
-    let g = grouped_sound (Few free) (few_left free) (few_right free) is_empty (IsDecls limit) (λ rest. Unit {0}) (decl_at free limit) (decl_exact free limit) (length ts + 1) [] zs ts rest h in
+    let g = grouped_sound (Few free) (few_left free) (few_right free) is_empty (IsDecls limit) (λ rest. Unit {0})
+    (decl_at free limit) (decl_exact free limit) (length ts + 1) [] zs ts rest h in
     let apart = decls_apart limit g.0.spelled in
     let end = ended rest g.1 in
-    let taken : g.0.taken ≡ ts = sym (g.0.split ∙ ap (λ l. g.0.taken ++ l) end ∙ append-nil g.0.taken) in
-    (subst (λ l. Declared limit l zs) taken (subst (λ z. Declared limit g.0.taken z) (sym g.0.all) (record { spelled = apart.0; low = apart.1 })), end)
+    let taken : g.0.taken ≡ ts = sym (g.0.split ∙ ap (λ l. g.0.taken ++ l) end ∙ append-nil g.0.taken) in (
+      subst (λ l. Declared limit l zs) taken (subst (λ z. Declared limit g.0.taken z) (sym g.0.all)
+          (record { spelled = apart.0; low = apart.1 })),
+      end,
+    )
 
 -- a section that is at most so high
 pub record IsSection (limit line : ℕ) (ts : List Lexeme) (x : SectionTree) : Type 0 where
   pub spelled : SpellsSection line ts x
   pub low : section_height x ≤ limit
 
-within_sound : (free limit line : ℕ) (ts rest : List Lexeme) (x : SectionTree) → section_within free limit line ts ≡ Some (x, rest) → IsSection limit line ts x × (rest ≡ [])
+within_sound : (free limit line : ℕ) (ts rest : List Lexeme) (x : SectionTree) →
+    section_within free limit line ts ≡ Some (x, rest) → IsSection limit line ts x × (rest ≡ [])
 unfolding section_within
 within_sound free limit line ts rest x h =
-    let b = bound (λ x. directives_at x.1 >>= (λ y. decls_at free limit y.1 >>= (λ z. Some (section_tree x.0 line y.0 z.0, z.1)))) (compartment_at ts) (x, rest) h in
-    let c = bound (λ y. decls_at free limit y.1 >>= (λ z. Some (section_tree b.0.0 line y.0 z.0, z.1))) (directives_at b.0.1) (x, rest) b.2 in
+    let b = bound (λ x. directives_at x.1 >>= (λ y. decls_at free limit y.1 >>=
+    (λ z. Some (section_tree x.0 line y.0 z.0, z.1)))) (compartment_at ts) (x, rest) h in
+    let c = bound (λ y. decls_at free limit y.1 >>= (λ z. Some (section_tree b.0.0 line y.0 z.0, z.1)))
+    (directives_at b.0.1) (x, rest) b.2 in
     let d = bound (λ z. Some (section_tree b.0.0 line c.0.0 z.0, z.1)) (decls_at free limit c.0.1) (x, rest) c.2 in
     let same = same_some d.2 in
     let value : section_tree b.0.0 line c.0.0 d.0.0 ≡ x = ap (λ p. p.0) same in
@@ -77,32 +91,46 @@ within_sound free limit line ts rest x h =
     let lines = lines_sound (length b.0.1 + 1) (directives [] []) c.0.0 b.0.1 c.0.1 c.1 in
     let decls = decls_sound free limit c.0.1 d.0.1 d.0.0 d.1 in
     let found : directives lines.exports lines.imports ≡ c.0.0 = rw (sym lines.all_exports, sym lines.all_imports) in
-    let made : IsSection limit line (first.first ∷ (lines.taken ++ c.0.1)) (section_tree b.0.0 line (directives lines.exports lines.imports) d.0.0) = record { spelled = section first.first b.0.0 first.names lines.spelled decls.0.spelled; low = decls.0.low } in
-    let all : ts ≡ first.first ∷ (lines.taken ++ c.0.1) = first.is ∙ ap (λ l. first.first ∷ l) lines.split in
-    (subst (λ l. IsSection limit line l x) (sym all) (subst (IsSection limit line (first.first ∷ (lines.taken ++ c.0.1))) (ap (λ f. section_tree b.0.0 line f d.0.0) found ∙ value) made), sym after ∙ decls.1)
+    let made : IsSection limit line (first.first ∷ (lines.taken ++ c.0.1))
+    (section_tree b.0.0 line (directives lines.exports lines.imports) d.0.0) =
+    record { spelled = section first.first b.0.0 first.names lines.spelled decls.0.spelled; low = decls.0.low } in
+    let all : ts ≡ first.first ∷ (lines.taken ++ c.0.1) = first.is ∙ ap (λ l. first.first ∷ l) lines.split in (
+      subst (λ l. IsSection limit line l x) (sym all) (subst
+          (IsSection limit line (first.first ∷ (lines.taken ++ c.0.1)))
+          (ap (λ f. section_tree b.0.0 line f d.0.0) found ∙ value) made),
+      sym after ∙ decls.1,
+    )
 
 decls_no_line : {ts : List Lexeme} {zs : List Decl} (d : Grouped SpellsDecl ts zs) → NoLine ts
 decls_no_line lists.none = refl
 decls_no_line (lists.next {ts = ts} {us = us} d g) = decl_no_line d us
 
-within_complete : (free limit : ℕ) {line : ℕ} {ts : List Lexeme} {x : SectionTree} (d : SpellsSection line ts x) → section_height x ≤ limit → Few free ts → section_within free limit line ts ≡ Some (x, [])
+within_complete : (free limit : ℕ) {line : ℕ} {ts : List Lexeme} {x : SectionTree} (d : SpellsSection line ts x) →
+    section_height x ≤ limit → Few free ts → section_within free limit line ts ≡ Some (x, [])
 unfolding section_within
-within_complete free limit {line} (section {ts = ts} {us = us} {exports = exports} {imports = imports} {decls = decls} t name p d g) low few =
-    let lines = lines_complete d (length (ts ++ us) + 1) [] [] us (omega (arith, length-append ts us)) (decls_no_line g) in
+within_complete free limit {line} (section {ts = ts} {us = us} {exports = exports} {imports = imports} {decls = decls} t
+    name p d g) low few =
+    let lines = lines_complete d (length (ts ++ us) + 1) [] [] us (omega (arith, length-append ts us))
+    (decls_no_line g) in
     let fits = few_right free ts us (few_tail free t (ts ++ us) few) in
-    let read : decls_at free limit us ≡ Some (decls, []) = ap (decls_at free limit) (sym (append-nil us)) ∙ (all_exact free limit).complete [] decls us [] (decls_joined limit g low) fits refl in
+    let read : decls_at free limit us ≡ Some (decls, []) =
+    ap (decls_at free limit) (sym (append-nil us)) ∙
+    (all_exact free limit).complete [] decls us [] (decls_joined limit g low) fits refl in
     rw (p, lines, read)
 
 -- what is read as a section is spelled so, to the end, and is at most 256 high
-pub section_sound : (line : ℕ) (ts rest : List Lexeme) (x : SectionTree) → section_at line ts ≡ Some (x, rest) → IsSection 256 line ts x × (rest ≡ [])
+pub section_sound : (line : ℕ) (ts rest : List Lexeme) (x : SectionTree) → section_at line ts ≡ Some (x, rest) →
+    IsSection 256 line ts x × (rest ≡ [])
 section_sound line ts rest x h = within_sound 1024 256 line ts rest x h
 
 -- what is spelled as a section, at most 256 high and with 1,024 open brackets at most, is read so
-pub section_complete : {line : ℕ} {ts : List Lexeme} {x : SectionTree} (d : SpellsSection line ts x) → section_height x ≤ 256 → most_open 0 ts ≤ 1024 → section_at line ts ≡ Some (x, [])
+pub section_complete : {line : ℕ} {ts : List Lexeme} {x : SectionTree} (d : SpellsSection line ts x) →
+    section_height x ≤ 256 → most_open 0 ts ≤ 1024 → section_at line ts ≡ Some (x, [])
 section_complete d low few = within_complete 1024 256 d low few
 
 -- lexemes spell one section at most
-pub sections_agree : (line : ℕ) (ts : List Lexeme) (x y : SectionTree) → SpellsSection line ts x → SpellsSection line ts y → x ≡ y
+pub sections_agree : (line : ℕ) (ts : List Lexeme) (x y : SectionTree) → SpellsSection line ts x →
+    SpellsSection line ts y → x ≡ y
 sections_agree line ts x y d g =
     let free = most_open 0 ts in
     let limit = max (section_height x) (section_height y) in

@@ -58,10 +58,13 @@ data Changes : Mark → Change → Type 0 where
   by : (m : Mark) (op : BinaryOp) → compound_of m ≡ Some op → Changes m (change.By op)
   steps : (m : Mark) (op : BinaryOp) → step_of m ≡ Some op → Changes m (change.Step op)
 
-change_other : (m : Mark) (c : Change) → option_map_or (λ op. Some (change.By op)) (compound_of m) (option_map_or (λ op. Some (change.Step op)) (step_of m) None) ≡ Some c → Changes m c
+change_other : (m : Mark) (c : Change) → option_map_or (λ op. Some (change.By op)) (compound_of m)
+    (option_map_or (λ op. Some (change.Step op)) (step_of m) None) ≡ Some c → Changes m c
 change_other m c h = go (compound_of m) refl (step_of m) refl h
   where
-    go : (o : Option BinaryOp) → compound_of m ≡ o → (p : Option BinaryOp) → step_of m ≡ p → option_map_or (λ op. Some (change.By op)) o (option_map_or (λ op. Some (change.Step op)) p None) ≡ Some c → Changes m c
+    go : (o : Option BinaryOp) → compound_of m ≡ o → (p : Option BinaryOp) → step_of m ≡ p →
+        option_map_or (λ op. Some (change.By op)) o (option_map_or (λ op. Some (change.Step op)) p None) ≡ Some c →
+        Changes m c
     go (Some op) q p r e = subst (Changes m) (same_some e) (by m op q)
     go None q (Some op) r e = subst (Changes m) (same_some e) (steps m op r)
     go None q None r e = absurd (none-some c e)
@@ -94,33 +97,43 @@ record PlaceTaken (room : ℕ) (ts : List Lexeme) (x : Placed) (rest : List Lexe
   height : x.height ≡ expr_height x.place
   low : x.height ≤ room
 
-unary_place_sound : (free : ℕ) → (room : ℕ) (ts rest : List Lexeme) (x : Placed) → unary_place free room ts ≡ Some (x, rest) → PlaceTaken room ts x rest
+unary_place_sound : (free : ℕ) → (room : ℕ) (ts rest : List Lexeme) (x : Placed) →
+    unary_place free room ts ≡ Some (x, rest) → PlaceTaken room ts x rest
 unary_place_sound free room ts rest x h =
-    let b = bound (λ x. cond (is_place x.tree) (Some (placed x.tree x.height, x.rest)) None) (read free room unary_level ts) (x, rest) h in
+    let b = bound (λ x. cond (is_place x.tree) (Some (placed x.tree x.height, x.rest)) None)
+    (read free room unary_level ts) (x, rest) h in
     let m = read_sound free room unary_level ts b.0 (omega arith) b.1 in
     let c = cond_is (is_place b.0.tree) (Some (placed b.0.tree b.0.height, b.0.rest)) (x, rest) b.2 in
     let same = same_some c.1 in
     let value : placed b.0.tree b.0.height ≡ x = ap (λ p. p.0) same in
     let after : b.0.rest ≡ rest = ap (λ p. p.1) same in
-    let made : PlaceTaken room ts (placed b.0.tree b.0.height) b.0.rest = record { taken = m.taken; split = m.split; spelled = (m.spelled, c.0); height = m.measured; low = m.low } in
-    subst (λ y. PlaceTaken room ts y rest) value (subst (λ r. PlaceTaken room ts (placed b.0.tree b.0.height) r) after made)
+    let made : PlaceTaken room ts (placed b.0.tree b.0.height) b.0.rest =
+    record { taken = m.taken; split = m.split; spelled = (m.spelled, c.0); height = m.measured; low = m.low } in
+    subst (λ y. PlaceTaken room ts y rest) value (subst
+    (λ r. PlaceTaken room ts (placed b.0.tree b.0.height) r) after made)
 
-place_sound : (free : ℕ) → (room : ℕ) (ts rest : List Lexeme) (x : Placed) → place_at free room ts ≡ Some (x, rest) → PlaceTaken room ts x rest
+place_sound : (free : ℕ) → (room : ℕ) (ts rest : List Lexeme) (x : Placed) → place_at free room ts ≡ Some (x, rest) →
+    PlaceTaken room ts x rest
 unfolding place_at
 place_sound free room ts rest x h = go (begins_value ts) h
   where
-    go : (b : Bool) → cond {A = Option (Placed × List Lexeme)} b None (unary_place free room ts) ≡ Some (x, rest) → PlaceTaken room ts x rest
+    go : (b : Bool) → cond {A = Option (Placed × List Lexeme)} b None (unary_place free room ts) ≡ Some (x, rest) →
+        PlaceTaken room ts x rest
     go true e = absurd (none-some (x, rest) e)
     go false e = unary_place_sound free room ts rest x e
 
 -- a postfix expression begins with no operator
-postfix_begins : {level : ℕ} {ts : List Lexeme} {e : ExprTree} (d : Spells level ts e) (rest : List Lexeme) → level ≡ 0 → begins_value (ts ++ rest) ≡ false
+postfix_begins : {level : ℕ} {ts : List Lexeme} {e : ExprTree} (d : Spells level ts e) (rest : List Lexeme) →
+    level ≡ 0 → begins_value (ts ++ rest) ≡ false
 postfix_begins (literal t number p) rest h = rw p
 postfix_begins (variable t name p) rest h = rw p
 postfix_begins (parenthesised t u p q d) rest h = rw p
-postfix_begins (index {ts = ts} {us = us} t u p q d g) rest h = ap begins_value (append_assoc ts (t ∷ (us ++ u ∷ [])) rest) ∙ postfix_begins d (t ∷ (us ++ u ∷ []) ++ rest) refl
-postfix_begins (member {ts = ts} t u name p q d) rest h = ap begins_value (append_assoc ts (t ∷ u ∷ []) rest) ∙ postfix_begins d (t ∷ u ∷ rest) refl
-postfix_begins (arrow {ts = ts} t u name p q d) rest h = ap begins_value (append_assoc ts (t ∷ u ∷ []) rest) ∙ postfix_begins d (t ∷ u ∷ rest) refl
+postfix_begins (index {ts = ts} {us = us} t u p q d g) rest h =
+    ap begins_value (append_assoc ts (t ∷ (us ++ u ∷ [])) rest) ∙ postfix_begins d (t ∷ (us ++ u ∷ []) ++ rest) refl
+postfix_begins (member {ts = ts} t u name p q d) rest h =
+    ap begins_value (append_assoc ts (t ∷ u ∷ []) rest) ∙ postfix_begins d (t ∷ u ∷ rest) refl
+postfix_begins (arrow {ts = ts} t u name p q d) rest h =
+    ap begins_value (append_assoc ts (t ∷ u ∷ []) rest) ∙ postfix_begins d (t ∷ u ∷ rest) refl
 postfix_begins (prefix t m o p q d) rest h = absurd (omega arith)
 postfix_begins (joined t m op p q k d g) rest h = absurd (omega arith)
 postfix_begins (looser d) rest h = absurd (omega arith)
@@ -142,45 +155,61 @@ star_makes_none mark.Tilde h = cc
 star_makes_none mark.And h = cc
 star_makes_none _ h = refl
 
-no_value : (m : Mark) (p : Prefix) (e : ExprTree) → prefix_of m ≡ Some p → IsTrue (is_place (prefixed p e)) → makes_value m ≡ false
+no_value : (m : Mark) (p : Prefix) (e : ExprTree) → prefix_of m ≡ Some p → IsTrue (is_place (prefixed p e)) →
+    makes_value m ≡ false
 no_value m prefixes.Dereference e h place = star_makes_none m h
 no_value m prefixes.Address e h place = absurd (false-true (sym (address_no_place e) ∙ place))
 no_value m (prefixes.Operator op) e h place = absurd (false-true (sym (unary_no_place op e) ∙ place))
 
 -- of the operators `*` alone begins a place
-place_begins : {level : ℕ} {ts : List Lexeme} {e : ExprTree} (d : Spells level ts e) (rest : List Lexeme) → IsTrue (is_place e) → begins_value (ts ++ rest) ≡ false
+place_begins : {level : ℕ} {ts : List Lexeme} {e : ExprTree} (d : Spells level ts e) (rest : List Lexeme) →
+    IsTrue (is_place e) → begins_value (ts ++ rest) ≡ false
 place_begins (literal t number p) rest h = rw p
 place_begins (variable t name p) rest h = rw p
 place_begins (parenthesised t u p q d) rest h = rw p
-place_begins (index {ts = ts} {us = us} t u p q d g) rest h = ap begins_value (append_assoc ts (t ∷ (us ++ u ∷ [])) rest) ∙ postfix_begins d (t ∷ (us ++ u ∷ []) ++ rest) refl
-place_begins (member {ts = ts} t u name p q d) rest h = ap begins_value (append_assoc ts (t ∷ u ∷ []) rest) ∙ postfix_begins d (t ∷ u ∷ rest) refl
-place_begins (arrow {ts = ts} t u name p q d) rest h = ap begins_value (append_assoc ts (t ∷ u ∷ []) rest) ∙ postfix_begins d (t ∷ u ∷ rest) refl
+place_begins (index {ts = ts} {us = us} t u p q d g) rest h =
+    ap begins_value (append_assoc ts (t ∷ (us ++ u ∷ [])) rest) ∙ postfix_begins d (t ∷ (us ++ u ∷ []) ++ rest) refl
+place_begins (member {ts = ts} t u name p q d) rest h =
+    ap begins_value (append_assoc ts (t ∷ u ∷ []) rest) ∙ postfix_begins d (t ∷ u ∷ rest) refl
+place_begins (arrow {ts = ts} t u name p q d) rest h =
+    ap begins_value (append_assoc ts (t ∷ u ∷ []) rest) ∙ postfix_begins d (t ∷ u ∷ rest) refl
 place_begins (prefix {e = e} t m o p q d) rest h = rw p (no_value m o e q h)
 place_begins (joined {e = e} {f = f} t m op p q k d g) rest h = absurd (false-true (sym (binary_no_place op e f) ∙ h))
 place_begins (looser d) rest h = place_begins d rest h
 
-place_reads : (free : ℕ) → (room : ℕ) {ts : List Lexeme} {place : ExprTree} (d : SpellsPlace ts place) (rest : List Lexeme) → expr_height place ≤ room → Few free ts → NoExtension rest → place_at free room (ts ++ rest) ≡ Some (placed place (expr_height place), rest)
+place_reads : (free : ℕ) → (room : ℕ) {ts : List Lexeme} {place : ExprTree} (d : SpellsPlace ts place)
+    (rest : List Lexeme) → expr_height place ≤ room → Few free ts → NoExtension rest →
+    place_at free room (ts ++ rest) ≡ Some (placed place (expr_height place), rest)
 unfolding place_at
-place_reads free room d rest low few ends = rw (place_begins d.0 rest d.1, unary_reads free d.0 room rest low few ends, d.1)
+place_reads free room d rest low few ends = rw (
+  place_begins d.0 rest d.1,
+  unary_reads free d.0 room rest low few ends,
+  d.1,
+)
 
 pub one_height : expr_height one ≡ 1
 one_height = literal_height (record { value = 1; unsigned = false })
 
 -- the height of an assignment that an operator makes
-updates_height : (op : BinaryOp) (e f : ExprTree) → simple_kind_height (updates op e f) ≡ max (expr_height e) (max (expr_height e) (expr_height f) + 1)
+updates_height : (op : BinaryOp) (e f : ExprTree) → simple_kind_height (updates op e f) ≡
+    max (expr_height e) (max (expr_height e) (expr_height f) + 1)
 updates_height op e f = ap (λ n. max (expr_height e) n) (joined_height op e f)
 
-step_low : (op : BinaryOp) (e : ExprTree) (room : ℕ) → 1 ≤ expr_height e → expr_height e < room → simple_kind_height (updates op e one) ≤ room
+step_low : (op : BinaryOp) (e : ExprTree) (room : ℕ) → 1 ≤ expr_height e → expr_height e < room →
+    simple_kind_height (updates op e one) ≤ room
 step_low op e room some h = let a = updates_height op e one in let b = one_height in omega arith
 
-stepped_some : (room : ℕ) (op : BinaryOp) (x : Placed) (ts rest : List Lexeme) (k : SimpleKind) → stepped room op x ts ≡ Some (k, rest) → (x.height < room) × (k ≡ updates op x.place one) × (ts ≡ rest)
+stepped_some : (room : ℕ) (op : BinaryOp) (x : Placed) (ts rest : List Lexeme) (k : SimpleKind) →
+    stepped room op x ts ≡ Some (k, rest) → (x.height < room) × (k ≡ updates op x.place one) × (ts ≡ rest)
 unfolding stepped
 stepped_some room op x ts rest k h =
     let c = cond_is (ltb x.height room) (Some (updates op x.place one, ts)) (k, rest) h in
     let same = same_some c.1 in
     (ltb-true x.height room c.0, sym (ap (λ p. p.0) same), ap (λ p. p.1) same)
 
-step_before_sound : (free : ℕ) → (room : ℕ) (op : BinaryOp) (m : Mark) (ts rest : List Lexeme) (k : SimpleKind) → mark_at ts ≡ Some m → step_of m ≡ Some op → readers.step_before free room op (drop 1 ts) ≡ Some (k, rest) → Taken (IsSimple room) ts k rest
+step_before_sound : (free : ℕ) → (room : ℕ) (op : BinaryOp) (m : Mark) (ts rest : List Lexeme) (k : SimpleKind) →
+    mark_at ts ≡ Some m → step_of m ≡ Some op → readers.step_before free room op (drop 1 ts) ≡ Some (k, rest) →
+    Taken (IsSimple room) ts k rest
 unfolding readers.step_before
 step_before_sound free room op m ts rest k q r h =
     let t = mark_ahead ts m q in
@@ -189,93 +218,129 @@ step_before_sound free room op m ts rest k q r h =
     let s = stepped_some room op b.0.0 b.0.1 rest k b.2 in
     let height = p.height in
     let short = s.0 in
-    let low : simple_kind_height (updates op b.0.0.place one) ≤ room = step_low op b.0.0.place room (positive p.spelled.0) (omega arith) in
+    let low : simple_kind_height (updates op b.0.0.place one) ≤ room =
+    step_low op b.0.0.place room (positive p.spelled.0) (omega arith) in
     record {
       taken = t.first ∷ p.taken;
       split = t.is ∙ ap (λ l. t.first ∷ l) (p.split ∙ ap (λ l. p.taken ++ l) s.2);
-      spelled = subst (λ z. IsSimple room (t.first ∷ p.taken) z) (sym s.1) (record { spelled = step_before t.first m op t.mark r p.spelled; low = low });
+      spelled = subst (λ z. IsSimple room (t.first ∷ p.taken) z) (sym s.1)
+          (record { spelled = step_before t.first m op t.mark r p.spelled; low = low });
     }
 
-call_alone_sound : (free : ℕ) → (room : ℕ) (ts rest : List Lexeme) (k : SimpleKind) → call_alone free room ts ≡ Some (k, rest) → Taken (IsSimple room) ts k rest
+call_alone_sound : (free : ℕ) → (room : ℕ) (ts rest : List Lexeme) (k : SimpleKind) →
+    call_alone free room ts ≡ Some (k, rest) → Taken (IsSimple room) ts k rest
 call_alone_sound free room ts rest k h =
     let b = bound (λ x. Some (simple.Call x.0, x.1)) (call_at free room ts) (k, rest) h in
     let c = (call_exact free room).sound ts b.0.1 b.0.0 b.1 in
-    took (IsSimple room) ts c.taken k (simple.Call b.0.0) b.0.1 rest c.split (record { spelled = call c.spelled.spelled; low = c.spelled.low }) b.2
+    took (IsSimple room) ts c.taken k (simple.Call b.0.0) b.0.1 rest c.split
+    (record { spelled = call c.spelled.spelled; low = c.spelled.low }) b.2
 
-value_sound : (free : ℕ) → (room : ℕ) (place : ExprTree) (before : List Lexeme) (t : Lexeme) (ts rest : List Lexeme) (k : SimpleKind) → IsMark mark.Equal t → SpellsPlace before place → expr_height place ≤ room → value_behind free room place ts ≡ Some (k, rest) → Taken (λ us k. IsSimple room (before ++ t ∷ us) k) ts k rest
+value_sound : (free : ℕ) → (room : ℕ) (place : ExprTree) (before : List Lexeme) (t : Lexeme) (ts rest : List Lexeme)
+    (k : SimpleKind) → IsMark mark.Equal t → SpellsPlace before place → expr_height place ≤ room →
+    value_behind free room place ts ≡ Some (k, rest) → Taken (λ us k. IsSimple room (before ++ t ∷ us) k) ts k rest
 unfolding value_behind
 value_sound free room place before t ts rest k p d low h = go (begins_call ts) h
   where
-    go : (b : Bool) → cond {A = Option (SimpleKind × List Lexeme)} b (call_at free room ts >>= (λ x. Some (simple.AssignCall place x.0, x.1))) (expr_at free room ts >>= (λ x. Some (simple.Assign place x.0, x.1))) ≡ Some (k, rest) → Taken (λ us k. IsSimple room (before ++ t ∷ us) k) ts k rest
+    go : (b : Bool) → cond {A = Option (SimpleKind × List Lexeme)} b
+        (call_at free room ts >>= (λ x. Some (simple.AssignCall place x.0, x.1)))
+        (expr_at free room ts >>= (λ x. Some (simple.Assign place x.0, x.1))) ≡ Some (k, rest) →
+        Taken (λ us k. IsSimple room (before ++ t ∷ us) k) ts k rest
     go true e =
         let b = bound (λ x. Some (simple.AssignCall place x.0, x.1)) (call_at free room ts) (k, rest) e in
         let c = (call_exact free room).sound ts b.0.1 b.0.0 b.1 in
         let short = c.spelled.low in
-        took (λ us k. IsSimple room (before ++ t ∷ us) k) ts c.taken k (simple.AssignCall place b.0.0) b.0.1 rest c.split (record { spelled = assign_call t p d c.spelled.spelled; low = omega arith }) b.2
+        took (λ us k. IsSimple room (before ++ t ∷ us) k) ts c.taken k
+        (simple.AssignCall place b.0.0) b.0.1 rest c.split
+        (record { spelled = assign_call t p d c.spelled.spelled; low = omega arith }) b.2
     go false e =
         let b = bound (λ x. Some (simple.Assign place x.0, x.1)) (expr_at free room ts) (k, rest) e in
         let c = (expr_exact free room).sound ts b.0.1 b.0.0 b.1 in
         let short = c.spelled.low in
-        took (λ us k. IsSimple room (before ++ t ∷ us) k) ts c.taken k (simple.Assign place b.0.0) b.0.1 rest c.split (record { spelled = assign t p d c.spelled.spelled; low = omega arith }) b.2
+        took (λ us k. IsSimple room (before ++ t ∷ us) k) ts c.taken k (simple.Assign place b.0.0) b.0.1 rest c.split
+        (record { spelled = assign t p d c.spelled.spelled; low = omega arith }) b.2
 
-operand_sound : (free : ℕ) → (room : ℕ) (op : BinaryOp) (m : Mark) (x : Placed) (before : List Lexeme) (t : Lexeme) (ts rest : List Lexeme) (k : SimpleKind) → IsMark m t → compound_of m ≡ Some op → SpellsPlace before x.place → x.height ≡ expr_height x.place → operand_behind free room op x ts ≡ Some (k, rest) → Taken (λ us k. IsSimple room (before ++ t ∷ us) k) ts k rest
+operand_sound : (free : ℕ) → (room : ℕ) (op : BinaryOp) (m : Mark) (x : Placed) (before : List Lexeme) (t : Lexeme)
+    (ts rest : List Lexeme) (k : SimpleKind) → IsMark m t → compound_of m ≡ Some op → SpellsPlace before x.place →
+    x.height ≡ expr_height x.place → operand_behind free room op x ts ≡ Some (k, rest) →
+    Taken (λ us k. IsSimple room (before ++ t ∷ us) k) ts k rest
 unfolding operand_behind
 operand_sound free room op m x before t ts rest k p q d height h =
-    let c = cond_is (ltb x.height room) (expr_at free (room - 1) ts >>= (λ y. Some (updates op x.place y.0, y.1))) (k, rest) h in
+    let c = cond_is (ltb x.height room) (expr_at free (room - 1) ts >>= (λ y. Some (updates op x.place y.0, y.1)))
+    (k, rest) h in
     let short = ltb-true x.height room c.0 in
     let b = bound (λ y. Some (updates op x.place y.0, y.1)) (expr_at free (room - 1) ts) (k, rest) c.1 in
     let e = (expr_exact free (room - 1)).sound ts b.0.1 b.0.0 b.1 in
     let low = e.spelled.low in
     let made = updates_height op x.place b.0.0 in
-    took (λ us k. IsSimple room (before ++ t ∷ us) k) ts e.taken k (updates op x.place b.0.0) b.0.1 rest e.split (record { spelled = compound t m op p q d e.spelled.spelled; low = omega arith }) b.2
+    took (λ us k. IsSimple room (before ++ t ∷ us) k) ts e.taken k (updates op x.place b.0.0) b.0.1 rest e.split
+    (record { spelled = compound t m op p q d e.spelled.spelled; low = omega arith }) b.2
 
-assignment_sound : (free : ℕ) → (room : ℕ) (ts rest : List Lexeme) (k : SimpleKind) → assignment_at free room ts ≡ Some (k, rest) → Taken (IsSimple room) ts k rest
+assignment_sound : (free : ℕ) → (room : ℕ) (ts rest : List Lexeme) (k : SimpleKind) →
+    assignment_at free room ts ≡ Some (k, rest) → Taken (IsSimple room) ts k rest
 unfolding assignment_at
 assignment_sound free room ts rest k h =
     let b = bound (λ x. changed free room (change_at x.1) x.0 (drop 1 x.1)) (place_at free room ts) (k, rest) h in
     go b.0.0 b.0.1 (place_sound free room ts b.0.1 b.0.0 b.1) (mark_at b.0.1) refl b.2
   where
-    whole : (x : Placed) (us : List Lexeme) (p : PlaceTaken room ts x us) (t : Lexeme) → us ≡ t ∷ drop 1 us → Taken (λ vs k. IsSimple room (p.taken ++ t ∷ vs) k) (drop 1 us) k rest → Taken (IsSimple room) ts k rest
-    whole x us p t is v = record { taken = p.taken ++ t ∷ v.taken; split = glued ts us rest p.taken (t ∷ v.taken) p.split (is ∙ ap (λ l. t ∷ l) v.split); spelled = v.spelled }
+    whole : (x : Placed) (us : List Lexeme) (p : PlaceTaken room ts x us) (t : Lexeme) → us ≡ t ∷ drop 1 us →
+        Taken (λ vs k. IsSimple room (p.taken ++ t ∷ vs) k) (drop 1 us) k rest → Taken (IsSimple room) ts k rest
+    whole x us p t is v = record {
+      taken = p.taken ++ t ∷ v.taken;
+      split = glued ts us rest p.taken (t ∷ v.taken) p.split (is ∙ ap (λ l. t ∷ l) v.split);
+      spelled = v.spelled;
+    }
 
-    by_change : (x : Placed) (us : List Lexeme) (p : PlaceTaken room ts x us) (m : Mark) → Marked us m → (c : Change) → Changes m c → changed free room (Some c) x (drop 1 us) ≡ Some (k, rest) → Taken (IsSimple room) ts k rest
+    by_change : (x : Placed) (us : List Lexeme) (p : PlaceTaken room ts x us) (m : Mark) → Marked us m → (c : Change) →
+        Changes m c → changed free room (Some c) x (drop 1 us) ≡ Some (k, rest) → Taken (IsSimple room) ts k rest
     by_change x us p _ t _ sets e =
         let low = p.low in
         let height = p.height in
-        whole x us p t.first t.is (value_sound free room x.place p.taken t.first (drop 1 us) rest k t.mark p.spelled (omega arith) e)
-    by_change x us p _ t _ (by m op q) e = whole x us p t.first t.is (operand_sound free room op m x p.taken t.first (drop 1 us) rest k t.mark q p.spelled p.height e)
+        whole x us p t.first t.is (value_sound free room x.place p.taken t.first (drop 1 us) rest k t.mark p.spelled
+        (omega arith) e)
+    by_change x us p _ t _ (by m op q) e = whole x us p t.first t.is
+        (operand_sound free room op m x p.taken t.first (drop 1 us) rest k t.mark q p.spelled p.height e)
     by_change x us p _ t _ (steps m op q) e =
         let s = stepped_some room op x (drop 1 us) rest k e in
         let height = p.height in
         let short = s.0 in
-        let low : simple_kind_height (updates op x.place one) ≤ room = step_low op x.place room (positive p.spelled.0) (omega arith) in
+        let low : simple_kind_height (updates op x.place one) ≤ room =
+        step_low op x.place room (positive p.spelled.0) (omega arith) in
         record {
           taken = p.taken ++ t.first ∷ [];
           split = glued ts us rest p.taken (t.first ∷ []) p.split (t.is ∙ ap (λ l. t.first ∷ l) s.2);
-          spelled = subst (λ z. IsSimple room (p.taken ++ t.first ∷ []) z) (sym s.1) (record { spelled = step_behind t.first m op t.mark q p.spelled; low = low });
+          spelled = subst (λ z. IsSimple room (p.taken ++ t.first ∷ []) z) (sym s.1)
+              (record { spelled = step_behind t.first m op t.mark q p.spelled; low = low });
         }
 
-    by_mark : (x : Placed) (us : List Lexeme) (p : PlaceTaken room ts x us) (m : Mark) → Marked us m → (c : Option Change) → change_of m ≡ c → changed free room c x (drop 1 us) ≡ Some (k, rest) → Taken (IsSimple room) ts k rest
+    by_mark : (x : Placed) (us : List Lexeme) (p : PlaceTaken room ts x us) (m : Mark) → Marked us m →
+        (c : Option Change) → change_of m ≡ c → changed free room c x (drop 1 us) ≡ Some (k, rest) →
+        Taken (IsSimple room) ts k rest
     by_mark x us p m t None q e = absurd (none-some (k, rest) e)
     by_mark x us p m t (Some c) q e = by_change x us p m t c (changes m c q) e
 
-    go : (x : Placed) (us : List Lexeme) → PlaceTaken room ts x us → (o : Option Mark) → mark_at us ≡ o → changed free room (o >>= change_of) x (drop 1 us) ≡ Some (k, rest) → Taken (IsSimple room) ts k rest
+    go : (x : Placed) (us : List Lexeme) → PlaceTaken room ts x us → (o : Option Mark) → mark_at us ≡ o →
+        changed free room (o >>= change_of) x (drop 1 us) ≡ Some (k, rest) → Taken (IsSimple room) ts k rest
     go x us p None q e = absurd (none-some (k, rest) e)
     go x us p (Some m) q e = by_mark x us p m (mark_ahead us m q) (change_of m) refl e
 
-simple_sound : (free : ℕ) → (room : ℕ) (ts rest : List Lexeme) (k : SimpleKind) → simple_at free room ts ≡ Some (k, rest) → Taken (IsSimple room) ts k rest
+simple_sound : (free : ℕ) → (room : ℕ) (ts rest : List Lexeme) (k : SimpleKind) →
+    simple_at free room ts ≡ Some (k, rest) → Taken (IsSimple room) ts k rest
 unfolding simple_at
 simple_sound free room ts rest k h = go (mark_at ts) refl h
   where
-    other : (b : Bool) → cond {A = Option (SimpleKind × List Lexeme)} b (call_alone free room ts) (assignment_at free room ts) ≡ Some (k, rest) → Taken (IsSimple room) ts k rest
+    other : (b : Bool) → cond {A = Option (SimpleKind × List Lexeme)} b (call_alone free room ts)
+        (assignment_at free room ts) ≡ Some (k, rest) → Taken (IsSimple room) ts k rest
     other true e = call_alone_sound free room ts rest k e
     other false e = assignment_sound free room ts rest k e
 
-    by_step : (m : Mark) → mark_at ts ≡ Some m → (o : Option BinaryOp) → step_of m ≡ o → option_map_or (λ op. readers.step_before free room op (drop 1 ts)) o (unstepped free room ts) ≡ Some (k, rest) → Taken (IsSimple room) ts k rest
+    by_step : (m : Mark) → mark_at ts ≡ Some m → (o : Option BinaryOp) → step_of m ≡ o →
+        option_map_or (λ op. readers.step_before free room op (drop 1 ts)) o (unstepped free room ts) ≡
+        Some (k, rest) → Taken (IsSimple room) ts k rest
     by_step m q None r e = other (begins_call ts) e
     by_step m q (Some op) r e = step_before_sound free room op m ts rest k q r e
 
-    go : (o : Option Mark) → mark_at ts ≡ o → option_map_or (λ op. readers.step_before free room op (drop 1 ts)) (o >>= step_of) (unstepped free room ts) ≡ Some (k, rest) → Taken (IsSimple room) ts k rest
+    go : (o : Option Mark) → mark_at ts ≡ o → option_map_or (λ op. readers.step_before free room op (drop 1 ts))
+        (o >>= step_of) (unstepped free room ts) ≡ Some (k, rest) → Taken (IsSimple room) ts k rest
     go None q e = other (begins_call ts) e
     go (Some m) q e = by_step m q (step_of m) refl e
 
@@ -292,7 +357,8 @@ step_change _ op h = absurd (none-some op h)
 
 -- no expression goes on with this mark
 abbrev Stops : Mark → Type 0
-Stops m = (t : Lexeme) (rest : List Lexeme) → IsMark m t → NoExtension (t ∷ rest) × (begins_with mark.OpenParen (t ∷ rest) ≡ false)
+Stops m = (t : Lexeme) (rest : List Lexeme) → IsMark m t →
+    NoExtension (t ∷ rest) × (begins_with mark.OpenParen (t ∷ rest) ≡ false)
 
 compound_stops : (m : Mark) (op : BinaryOp) → compound_of m ≡ Some op → Stops m
 compound_stops mark.PlusEqual op h t rest p = (rw p, rw p)
@@ -328,14 +394,19 @@ unfolding begins_expr
 no_step [] h = refl
 no_step (t ∷ ts) h = symbol_no_step t.symbol h
 
-call_no_step : {ts : List Lexeme} {x : CallTree} (d : SpellsCall ts x) (rest : List Lexeme) → step_at (ts ++ rest) ≡ None
+call_no_step : {ts : List Lexeme} {x : CallTree} (d : SpellsCall ts x) (rest : List Lexeme) →
+    step_at (ts ++ rest) ≡ None
 call_no_step (statements.call t u v name p q r d) rest = rw p
 
 abbrev pub EndsSimple : List Lexeme → Type 0
 EndsSimple rest = NoExtension rest × (begins_with mark.OpenParen rest ≡ false)
 
 -- an assignment, where what stands behind its place is read
-assigned : (free : ℕ) → (room : ℕ) {ts : List Lexeme} {place : ExprTree} (d : SpellsPlace ts place) (m : Mark) (t : Lexeme) (us : List Lexeme) (c : Change) (k : SimpleKind) (rest : List Lexeme) → IsMark m t → change_of m ≡ Some c → Stops m → expr_height place ≤ room → Few free ts → changed free room (Some c) (placed place (expr_height place)) us ≡ Some (k, rest) → simple_at free room (ts ++ t ∷ us) ≡ Some (k, rest)
+assigned : (free : ℕ) → (room : ℕ) {ts : List Lexeme} {place : ExprTree} (d : SpellsPlace ts place) (m : Mark)
+    (t : Lexeme) (us : List Lexeme) (c : Change) (k : SimpleKind) (rest : List Lexeme) → IsMark m t →
+    change_of m ≡ Some c → Stops m → expr_height place ≤ room → Few free ts →
+    changed free room (Some c) (placed place (expr_height place)) us ≡ Some (k, rest) →
+    simple_at free room (ts ++ t ∷ us) ≡ Some (k, rest)
 unfolding simple_at assignment_at
 assigned free room {ts} d m t us c k rest p q stops low few h =
     let stop = stops t us p in
@@ -343,47 +414,75 @@ assigned free room {ts} d m t us c k rest p q stops low few h =
     let plain = no_call d.0 (t ∷ us) stop.1 in
     rw (none, plain, place_reads free room d (t ∷ us) low few stop.0, p, q) h
 
-before_complete : (free : ℕ) → (room : ℕ) {ts : List Lexeme} {place : ExprTree} (t : Lexeme) (m : Mark) (op : BinaryOp) → IsMark m t → step_of m ≡ Some op → (d : SpellsPlace ts place) (rest : List Lexeme) → simple_kind_height (updates op place one) ≤ room → Few free (t ∷ ts) → EndsSimple rest → simple_at free room (t ∷ (ts ++ rest)) ≡ Some (updates op place one, rest)
+before_complete : (free : ℕ) → (room : ℕ) {ts : List Lexeme} {place : ExprTree} (t : Lexeme) (m : Mark)
+    (op : BinaryOp) → IsMark m t → step_of m ≡ Some op → (d : SpellsPlace ts place) (rest : List Lexeme) →
+    simple_kind_height (updates op place one) ≤ room → Few free (t ∷ ts) → EndsSimple rest →
+    simple_at free room (t ∷ (ts ++ rest)) ≡ Some (updates op place one, rest)
 unfolding simple_at readers.step_before stepped
 before_complete free room {ts} {place} t m op p q d rest low few ends =
     let made = updates_height op place one in
     let height = one_height in
     let short : expr_height place < room = omega arith in
-    rw (p, q, place_reads free room d rest (omega arith) (few_tail free t ts few) ends.0, lt-ltb (expr_height place) room short)
+    rw (
+      p,
+      q,
+      place_reads free room d rest (omega arith) (few_tail free t ts few) ends.0,
+      lt-ltb (expr_height place) room short,
+    )
 
-call_alone_complete : (free : ℕ) → (room : ℕ) {ts : List Lexeme} {c : CallTree} (d : SpellsCall ts c) (rest : List Lexeme) → call_height c ≤ room → Few free ts → simple_at free room (ts ++ rest) ≡ Some (simple.Call c, rest)
+call_alone_complete : (free : ℕ) → (room : ℕ) {ts : List Lexeme} {c : CallTree} (d : SpellsCall ts c)
+    (rest : List Lexeme) → call_height c ≤ room → Few free ts →
+    simple_at free room (ts ++ rest) ≡ Some (simple.Call c, rest)
 unfolding simple_at
 call_alone_complete free room {ts} {c} d rest low few =
-    rw (call_no_step d rest, call_begins d rest, (call_exact free room).complete ts rest c (record { spelled = d; low = low }) few tt)
+    rw (
+      call_no_step d rest,
+      call_begins d rest,
+      (call_exact free room).complete ts rest c
+          (record { spelled = d; low = low }) few tt,
+    )
 
-simple_complete : (free : ℕ) → (room : ℕ) {ts : List Lexeme} {k : SimpleKind} (d : SpellsKind ts k) (rest : List Lexeme) → simple_kind_height k ≤ room → Few free ts → EndsSimple rest → simple_at free room (ts ++ rest) ≡ Some (k, rest)
+simple_complete : (free : ℕ) → (room : ℕ) {ts : List Lexeme} {k : SimpleKind} (d : SpellsKind ts k)
+    (rest : List Lexeme) → simple_kind_height k ≤ room → Few free ts → EndsSimple rest →
+    simple_at free room (ts ++ rest) ≡ Some (k, rest)
 unfolding value_behind operand_behind stepped
 simple_complete free room (assign {ts = ts} {us = us} {place = place} {value = value} t p d v) rest low few ends =
     let inner = few_tail free t us (few_right free ts (t ∷ us) few) in
     let read = (expr_exact free room).complete us rest value (record { spelled = v; low = omega arith }) inner ends.0 in
     ap (simple_at free room) (append_assoc ts (t ∷ us) rest)
-    ∙ assigned free room d mark.Equal t (us ++ rest) change.Set (simple.Assign place value) rest p refl (λ t rest p. (rw p, rw p)) (omega arith) (few_left free ts (t ∷ us) few) (rw (no_call v rest ends.1, read))
+    ∙ assigned free room d mark.Equal t (us ++ rest) change.Set (simple.Assign place value) rest p refl
+    (λ t rest p. (rw p, rw p)) (omega arith) (few_left free ts (t ∷ us) few) (rw (no_call v rest ends.1, read))
 simple_complete free room (assign_call {ts = ts} {us = us} {place = place} {call = c} t p d v) rest low few ends =
     let inner = few_tail free t us (few_right free ts (t ∷ us) few) in
     let read = (call_exact free room).complete us rest c (record { spelled = v; low = omega arith }) inner tt in
     ap (simple_at free room) (append_assoc ts (t ∷ us) rest)
-    ∙ assigned free room d mark.Equal t (us ++ rest) change.Set (simple.AssignCall place c) rest p refl (λ t rest p. (rw p, rw p)) (omega arith) (few_left free ts (t ∷ us) few) (rw (call_begins v rest, read))
-simple_complete free room (compound {ts = ts} {us = us} {place = place} {operand = operand} t m op p q d v) rest low few ends =
+    ∙ assigned free room d mark.Equal t (us ++ rest) change.Set (simple.AssignCall place c) rest p refl
+    (λ t rest p. (rw p, rw p)) (omega arith) (few_left free ts (t ∷ us) few) (rw (call_begins v rest, read))
+simple_complete free room (compound {ts = ts} {us = us} {place = place} {operand = operand} t m op p q d v) rest low few
+    ends =
     let inner = few_tail free t us (few_right free ts (t ∷ us) few) in
     let made = updates_height op place operand in
     let short : expr_height place < room = omega arith in
     let less : expr_height operand ≤ room - 1 = omega arith in
-    let read = (expr_exact free (room - 1)).complete us rest operand (record { spelled = v; low = less }) inner ends.0 in
+    let read = (expr_exact free (room - 1)).complete us rest operand
+    (record { spelled = v; low = less }) inner ends.0 in
     ap (simple_at free room) (append_assoc ts (t ∷ us) rest)
-    ∙ assigned free room d m t (us ++ rest) (change.By op) (updates op place operand) rest p (compound_change m op q) (compound_stops m op q) (omega arith) (few_left free ts (t ∷ us) few) (rw (lt-ltb (expr_height place) room short, read))
+    ∙ assigned free room d m t (us ++ rest) (change.By op) (updates op place operand) rest p (compound_change m op q)
+    (compound_stops m op q) (omega arith) (few_left free ts (t ∷ us) few)
+    (rw (lt-ltb (expr_height place) room short, read))
 simple_complete free room (step_behind {ts = ts} {place = place} t m op p q d) rest low few ends =
     let made = updates_height op place one in
     let height = one_height in
     let short : expr_height place < room = omega arith in
     ap (simple_at free room) (append_assoc ts (t ∷ []) rest)
-    ∙ assigned free room d m t rest (change.Step op) (updates op place one) rest p (step_change m op q) (step_stops m op q) (omega arith) (few_left free ts (t ∷ []) few) (rw (lt-ltb (expr_height place) room short))
-simple_complete free room (step_before t m op p q d) rest low few ends = before_complete free room t m op p q d rest low few ends
+    ∙ assigned free room d m t rest (change.Step op) (updates op place one) rest p (step_change m op q)
+    (step_stops m op q) (omega arith) (few_left free ts (t ∷ []) few) (rw (lt-ltb (expr_height place) room short))
+simple_complete free room (step_before t m op p q d) rest low few ends =
+    before_complete free room t m op p q d rest low few ends
 simple_complete free room (call {ts = ts} {call = c} d) rest low few ends = call_alone_complete free room d rest low few
 
 pub simple_exact : (free : ℕ) → (room : ℕ) → Exact (Few free) (IsSimple room) EndsSimple (simple_at free room)
-simple_exact free room = record { sound = simple_sound free room; complete = λ ts rest k d few ends. simple_complete free room d.spelled rest d.low few ends }
+simple_exact free room = record {
+  sound = simple_sound free room;
+  complete = λ ts rest k d few ends. simple_complete free room d.spelled rest d.low few ends;
+}

@@ -12,17 +12,21 @@ use Rattle.sc_parse.specs.SectionReaders.{line_at, with_line, lines_at}
 pub ruleset lengths = (prefix_len-le-length)
 
 module _ {A : Type 0} (comma : List Lexeme → Option (List Lexeme)) (adder : Adder A) where
-  pub item_last : (turns : ℕ) (xs ys : List A) (ts us : List Lexeme) → 0 < turns → adder xs ts ≡ Some (ys, us) → comma us ≡ None → separated comma adder turns xs ts ≡ Some (ys, us)
+  pub item_last : (turns : ℕ) (xs ys : List A) (ts us : List Lexeme) → 0 < turns → adder xs ts ≡ Some (ys, us) →
+      comma us ≡ None → separated comma adder turns xs ts ≡ Some (ys, us)
   unfolding separated
   item_last zero xs ys ts us h q r = absurd (omega arith)
   item_last (suc turns) xs ys ts us h q r = rw (q, r)
 
-  pub item_next : (turns fewer : ℕ) (xs ys : List A) (ts us vs : List Lexeme) → turns ≡ fewer + 1 → adder xs ts ≡ Some (ys, us) → comma us ≡ Some vs → separated comma adder turns xs ts ≡ separated comma adder fewer ys vs
+  pub item_next : (turns fewer : ℕ) (xs ys : List A) (ts us vs : List Lexeme) → turns ≡ fewer + 1 →
+      adder xs ts ≡ Some (ys, us) → comma us ≡ Some vs →
+      separated comma adder turns xs ts ≡ separated comma adder fewer ys vs
   unfolding separated
   item_next zero fewer xs ys ts us vs h q r = absurd (omega arith)
   item_next (suc turns) fewer xs ys ts us vs h q r = let e : turns ≡ fewer = omega arith in rw (q, r, e)
 
-  pub no_item : (turns : ℕ) (xs : List A) (ts : List Lexeme) → adder xs ts ≡ None → separated comma adder turns xs ts ≡ None
+  pub no_item : (turns : ℕ) (xs : List A) (ts : List Lexeme) → adder xs ts ≡ None →
+      separated comma adder turns xs ts ≡ None
   unfolding separated
   no_item zero xs ts q = refl
   no_item (suc turns) xs ts q = rw q
@@ -35,17 +39,20 @@ module _ {A : Type 0} (comma : List Lexeme → Option (List Lexeme)) (adder : Ad
 pub ruleset turns = (item_last, item_next, no_item, no_turn)
 
 module _ {A : Type 0} (ends : List Lexeme → Bool) (group : Adder A) where
-  pub group_last : (turns : ℕ) (xs : List A) (ts : List Lexeme) → 0 < turns → ends ts ≡ true → grouped ends group turns xs ts ≡ Some (xs, ts)
+  pub group_last : (turns : ℕ) (xs : List A) (ts : List Lexeme) → 0 < turns → ends ts ≡ true →
+      grouped ends group turns xs ts ≡ Some (xs, ts)
   unfolding grouped
   group_last zero xs ts h q = absurd (omega arith)
   group_last (suc turns) xs ts h q = rw q
 
-  pub group_next : (turns fewer : ℕ) (xs ys : List A) (ts us : List Lexeme) → turns ≡ fewer + 1 → ends ts ≡ false → group xs ts ≡ Some (ys, us) → grouped ends group turns xs ts ≡ grouped ends group fewer ys us
+  pub group_next : (turns fewer : ℕ) (xs ys : List A) (ts us : List Lexeme) → turns ≡ fewer + 1 → ends ts ≡ false →
+      group xs ts ≡ Some (ys, us) → grouped ends group turns xs ts ≡ grouped ends group fewer ys us
   unfolding grouped
   group_next zero fewer xs ys ts us h q r = absurd (omega arith)
   group_next (suc turns) fewer xs ys ts us h q r = let e : turns ≡ fewer = omega arith in rw (q, r, e)
 
-  pub no_group : (turns : ℕ) (xs : List A) (ts : List Lexeme) → ends ts ≡ false → group xs ts ≡ None → grouped ends group turns xs ts ≡ None
+  pub no_group : (turns : ℕ) (xs : List A) (ts : List Lexeme) → ends ts ≡ false → group xs ts ≡ None →
+      grouped ends group turns xs ts ≡ None
   unfolding grouped
   no_group zero xs ts q r = refl
   no_group (suc turns) xs ts q r = rw (q, r)
@@ -57,10 +64,12 @@ module _ {A : Type 0} (ends : List Lexeme → Bool) (group : Adder A) where
 
 pub ruleset groups = (group_last, group_next, no_group, no_round)
 
-pub stmt_step : (free : ℕ) → (room below : ℕ) (ts : List Lexeme) → room ≡ below + 1 → stmt_at free room ts ≡ stmt_within free (stmt_at free below) below ts
+pub stmt_step : (free : ℕ) → (room below : ℕ) (ts : List Lexeme) → room ≡ below + 1 →
+    stmt_at free room ts ≡ stmt_within free (stmt_at free below) below ts
 unfolding stmt_at
 stmt_step free zero below ts h = absurd (omega arith)
-stmt_step free (suc room) below ts h = let e : room ≡ below = omega arith in ap (λ k. stmt_within free (stmt_at free k) k ts) e
+stmt_step free (suc room) below ts h = let e : room ≡ below = omega arith in
+    ap (λ k. stmt_within free (stmt_at free k) k ts) e
 
 pub no_room : (free : ℕ) → (room : ℕ) (ts : List Lexeme) → room ≡ 0 → stmt_at free room ts ≡ None
 unfolding stmt_at
@@ -69,12 +78,14 @@ no_room free (suc room) ts h = absurd (omega arith)
 
 pub ruleset rooms = (stmt_step, no_room)
 
-pub lines_end : (turns : ℕ) (found : Directives) (ts : List Lexeme) → 0 < turns → line_at ts ≡ None → lines_at turns found ts ≡ Some (found, ts)
+pub lines_end : (turns : ℕ) (found : Directives) (ts : List Lexeme) → 0 < turns → line_at ts ≡ None →
+    lines_at turns found ts ≡ Some (found, ts)
 unfolding lines_at
 lines_end zero found ts h q = absurd (omega arith)
 lines_end (suc turns) found ts h q = rw q
 
-pub lines_on : (turns fewer : ℕ) (found : Directives) (ts : List Lexeme) (l : Line) → turns ≡ fewer + 1 → line_at ts ≡ Some l → lines_at turns found ts ≡ lines_at fewer (with_line found l) (drop 1 ts)
+pub lines_on : (turns fewer : ℕ) (found : Directives) (ts : List Lexeme) (l : Line) → turns ≡ fewer + 1 →
+    line_at ts ≡ Some l → lines_at turns found ts ≡ lines_at fewer (with_line found l) (drop 1 ts)
 unfolding lines_at
 lines_on zero fewer found ts l h q = absurd (omega arith)
 lines_on (suc turns) fewer found ts l h q = let e : turns ≡ fewer = omega arith in rw (q, e)

@@ -27,24 +27,29 @@ fewer n (suc k) (t ∷ ts) = omega (arith, fewer (open_after t.symbol n) k ts)
 
 pub too_many : (line : ℕ) (ts : List Lexeme) (at : ℕ) → IsExcess ts at → tree_of line ts ≡ None
 unfolding tree_of
-too_many line ts at e = ap (λ b. cond b (option_map (λ x. x.0) (section_at line ts)) None) (lt-leb (most_open 0 ts) 1024 (omega (arith, fewer 0 (at + 1) ts, e.many)))
+too_many line ts at e = ap (λ b. cond b (option_map (λ x. x.0) (section_at line ts)) None)
+    (lt-leb (most_open 0 ts) 1024 (omega (arith, fewer 0 (at + 1) ts, e.many)))
 
 pub unread : (line : ℕ) (ts : List Lexeme) → section_at line ts ≡ None → tree_of line ts ≡ None
 unfolding tree_of
 unread line ts h = go (leb (most_open 0 ts) 1024) (section_at line ts) h
   where
-    go : (b : Bool) (o : Option (SectionTree × List Lexeme)) → o ≡ None → cond {A = Option SectionTree} b (option_map (λ x. x.0) o) None ≡ None
+    go : (b : Bool) (o : Option (SectionTree × List Lexeme)) → o ≡ None →
+        cond {A = Option SectionTree} b (option_map (λ x. x.0) o) None ≡ None
     go true o q = ap (λ o. option_map (λ x. x.0) o) q
     go false o q = refl
 
-pub tree_found : (line : ℕ) (ts rest : List Lexeme) (x : SectionTree) → section_at line ts ≡ Some (x, rest) → most_open 0 ts ≤ 1024 → tree_of line ts ≡ Some x
+pub tree_found : (line : ℕ) (ts rest : List Lexeme) (x : SectionTree) → section_at line ts ≡ Some (x, rest) →
+    most_open 0 ts ≤ 1024 → tree_of line ts ≡ Some x
 unfolding tree_of
 tree_found line ts rest x h few =
-    ap (λ b. cond {A = Option SectionTree} b (option_map (λ x. x.0) (section_at line ts)) None) (le-leb (most_open 0 ts) 1024 few) ∙ ap (λ o. option_map (λ x. x.0) o) h
+    ap (λ b. cond {A = Option SectionTree} b (option_map (λ x. x.0) (section_at line ts)) None)
+    (le-leb (most_open 0 ts) 1024 few) ∙ ap (λ o. option_map (λ x. x.0) o) h
 
 pub ruleset trees = (too_many, unread, tree_found)
 
-pub parsed : (line : ℕ) (ts : List Lexeme) (result : Result SectionTree TextFault) → Parses line ts result → IfOk result (λ tree. IsParsed line ts tree)
+pub parsed : (line : ℕ) (ts : List Lexeme) (result : Result SectionTree TextFault) → Parses line ts result →
+    IfOk result (λ tree. IsParsed line ts tree)
 unfolding tree_of
 parsed line ts (Err e) h = tt
 parsed line ts (Ok tree) h =
@@ -52,9 +57,11 @@ parsed line ts (Ok tree) h =
     go (section_at line ts) refl c.1
   where
     few : tree_of line ts ≡ Some tree → most_open 0 ts ≤ 1024
-    few h = leb-true (most_open 0 ts) 1024 (cond_is (leb (most_open 0 ts) 1024) (option_map (λ x. x.0) (section_at line ts)) tree h).0
+    few h = leb-true (most_open 0 ts) 1024 (cond_is (leb (most_open 0 ts) 1024)
+        (option_map (λ x. x.0) (section_at line ts)) tree h).0
 
-    go : (o : Option (SectionTree × List Lexeme)) → section_at line ts ≡ o → option_map (λ x. x.0) o ≡ Some tree → IsParsed line ts tree
+    go : (o : Option (SectionTree × List Lexeme)) → section_at line ts ≡ o → option_map (λ x. x.0) o ≡ Some tree →
+        IsParsed line ts tree
     go None q e = absurd (none-some tree e)
     go (Some x) q e =
         let s = (section_sound line ts x.1 tree (q ∙ ap (λ t. Some (t, x.1)) (same_some e))).0 in
@@ -65,16 +72,22 @@ abbrev IsRefusal : Result SectionTree TextFault → Type 0
 IsRefusal (Err (fault.Refused refusal)) = Unit {0}
 IsRefusal _ = ⊥
 
-pub unparsed : (line : ℕ) (ts : List Lexeme) (result : Result SectionTree TextFault) → Parses line ts result → (refusal : Refusal) → IsErrOf result (fault.Refused refusal) → (tree : SectionTree) → IsParsed line ts tree → ⊥
+pub unparsed : (line : ℕ) (ts : List Lexeme) (result : Result SectionTree TextFault) → Parses line ts result →
+    (refusal : Refusal) → IsErrOf result (fault.Refused refusal) → (tree : SectionTree) → IsParsed line ts tree → ⊥
 unparsed line ts (Ok x) h refusal e tree p = subst IsRefusal (sym e) tt
 unparsed line ts (Err fault.OutOfMemory) h refusal e tree p = subst IsRefusal (sym e) tt
-unparsed line ts (Err (fault.Refused other)) h refusal e tree p = none-some tree (sym h ∙ tree_found line ts [] tree (section_complete p.spelled p.low p.few) p.few)
+unparsed line ts (Err (fault.Refused other)) h refusal e tree p =
+    none-some tree (sym h ∙ tree_found line ts [] tree (section_complete p.spelled p.low p.few) p.few)
 
 any_mapped : {A B : Type 0} (f : A → B) (P : B → Type 0) (xs : List A) → Any P (map f xs) → Any (λ x. P (f x)) xs
 any_mapped f P [] (k, x, h, is, p) = absurd (omega (arith, h))
 any_mapped f P (y ∷ ys) (zero, x, h, is, p) = (0, y, omega arith, refl, subst P (sym is) p)
-any_mapped f P (y ∷ ys) (suc k, x, h, is, p) = let r = any_mapped f P ys (k, x, omega (arith, h), is, p) in (suc r.0, r.1, omega (arith, r.2), r.3, r.4)
+any_mapped f P (y ∷ ys) (suc k, x, h, is, p) = let r = any_mapped f P ys (k, x, omega (arith, h), is, p) in
+    (suc r.0, r.1, omega (arith, r.2), r.3, r.4)
 
 -- a line of a lexeme is that of a token
-pub line_token : (line : ℕ) (bytes : List ℕ) (tokens : List Token) (at : ℕ) → (0 < length (lexemes_of bytes tokens) → Any (λ t. at ≡ whole_line line t) (lexemes_of bytes tokens)) → 0 < length tokens → Any (λ token. at ≡ line_after line (token.line - 1)) tokens
-line_token line bytes tokens at h some = any_mapped (lexeme_of bytes) (λ t. at ≡ whole_line line t) tokens (h (omega (arith, some, length-map tokens (lexeme_of bytes))))
+pub line_token : (line : ℕ) (bytes : List ℕ) (tokens : List Token) (at : ℕ) →
+    (0 < length (lexemes_of bytes tokens) → Any (λ t. at ≡ whole_line line t) (lexemes_of bytes tokens)) →
+    0 < length tokens → Any (λ token. at ≡ line_after line (token.line - 1)) tokens
+line_token line bytes tokens at h some = any_mapped (lexeme_of bytes) (λ t. at ≡ whole_line line t) tokens
+    (h (omega (arith, some, length-map tokens (lexeme_of bytes))))

@@ -40,7 +40,9 @@ pub record IsDecls (limit : ℕ) (ts : List Lexeme) (ds : List Decl) : Type 0 wh
 abbrev IsOne : (limit : ℕ) → List Lexeme → Decl → Type 0
 IsOne limit ts d = IsDecls limit ts (d ∷ [])
 
-one_added : (limit : ℕ) → (reader : Reader Decl) (xs ys : List Decl) (ts rest : List Lexeme) → ((x : Decl) (rest : List Lexeme) → reader ts ≡ Some (x, rest) → Taken (IsOne limit) ts x rest) → adds reader xs ts ≡ Some (ys, rest) → Added (IsDecls limit) xs ts ys rest
+one_added : (limit : ℕ) → (reader : Reader Decl) (xs ys : List Decl) (ts rest : List Lexeme) →
+    ((x : Decl) (rest : List Lexeme) → reader ts ≡ Some (x, rest) → Taken (IsOne limit) ts x rest) →
+    adds reader xs ts ≡ Some (ys, rest) → Added (IsDecls limit) xs ts ys rest
 unfolding adds
 one_added limit reader xs ys ts rest sound h =
     let b = bound (λ x. Some (xs ++ x.0 ∷ [], x.1)) (reader ts) (ys, rest) h in
@@ -48,41 +50,62 @@ one_added limit reader xs ys ts rest sound h =
     let same = same_some b.2 in
     let all : xs ++ b.0.0 ∷ [] ≡ ys = ap (λ p. p.0) same in
     let after : b.0.1 ≡ rest = ap (λ p. p.1) same in
-    record { taken = t.taken; added = b.0.0 ∷ []; split = t.split ∙ ap (λ l. t.taken ++ l) after; all = sym all; spelled = t.spelled }
+    record {
+      taken = t.taken;
+      added = b.0.0 ∷ [];
+      split = t.split ∙ ap (λ l. t.taken ++ l) after;
+      all = sym all;
+      spelled = t.spelled;
+    }
 
 struct_word : (ts : List Lexeme) → begins_struct ts ≡ true → keyword_at ts ≡ Some word.Struct
 struct_word ts h = go (keyword_at ts) refl h
   where
-    go : (o : Option Keyword) → keyword_at ts ≡ o → cond (is_struct_word o) (names_struct (drop 1 ts)) false ≡ true → keyword_at ts ≡ Some word.Struct
+    go : (o : Option Keyword) → keyword_at ts ≡ o → cond (is_struct_word o) (names_struct (drop 1 ts)) false ≡ true →
+        keyword_at ts ≡ Some word.Struct
     go (Some word.Struct) q e = q
     go _ q e = absurd (false-true e)
 
-struct_one : (limit : ℕ) → (ts rest : List Lexeme) (x : Decl) → keyword_at ts ≡ Some word.Struct → struct_decl_at ts ≡ Some (x, rest) → Taken (IsOne limit) ts x rest
+struct_one : (limit : ℕ) → (ts rest : List Lexeme) (x : Decl) → keyword_at ts ≡ Some word.Struct →
+    struct_decl_at ts ≡ Some (x, rest) → Taken (IsOne limit) ts x rest
 unfolding struct_decl_at
 struct_one limit ts rest x q h =
     let b = bound (λ x. Some (decl.Struct x.0, x.1)) (struct_at ts) (x, rest) h in
     let t = struct_sound ts b.0.1 b.0.0 q b.1 in
-    took (IsOne limit) ts t.taken x (decl.Struct b.0.0) b.0.1 rest t.split (record { spelled = a_struct t.spelled; low = omega arith }) b.2
+    took (IsOne limit) ts t.taken x (decl.Struct b.0.0) b.0.1 rest t.split
+    (record { spelled = a_struct t.spelled; low = omega arith }) b.2
 
-function_made : (limit : ℕ) → {ts us : List Lexeme} {head : FunctionHead} {x : FunctionTree} (d : SpellsHead ts (head_of head)) (b : IsBody limit head us x) → IsOne limit (ts ++ us) (decl.Function x)
-function_made limit d (a_body t u p q g s low less) = record { spelled = a_function (function t u p q d g s); low = omega arith }
+function_made : (limit : ℕ) → {ts us : List Lexeme} {head : FunctionHead} {x : FunctionTree}
+    (d : SpellsHead ts (head_of head)) (b : IsBody limit head us x) → IsOne limit (ts ++ us) (decl.Function x)
+function_made limit d (a_body t u p q g s low less) =
+    record { spelled = a_function (function t u p q d g s); low = omega arith }
 
-headed_one : (free limit : ℕ) → (ts rest : List Lexeme) (x : Decl) → headed_at free limit ts ≡ Some (x, rest) → Taken (IsOne limit) ts x rest
+headed_one : (free limit : ℕ) → (ts rest : List Lexeme) (x : Decl) → headed_at free limit ts ≡ Some (x, rest) →
+    Taken (IsOne limit) ts x rest
 unfolding headed_at function_behind
 headed_one free limit ts rest x h =
     let b = bound (λ x. behind_head free limit x.0 x.1) (head_at ts) (x, rest) h in
     go b.0.0 b.0.1 (head_exact.sound ts b.0.1 b.0.0 b.1) (behind mark.Semicolon b.0.1) refl b.2
   where
-    go : (head : HeadTree) (us : List Lexeme) → Taken SpellsHead ts head us → (o : Option (List Lexeme)) → behind mark.Semicolon us ≡ o → option_map_or {U = Option (Decl × List Lexeme)} (λ rest. Some (decl.Proto head, rest)) o (named_head head >>= (λ named. body_behind free limit named us >>= (λ x. Some (decl.Function x.0, x.1)))) ≡ Some (x, rest) → Taken (IsOne limit) ts x rest
+    go : (head : HeadTree) (us : List Lexeme) → Taken SpellsHead ts head us → (o : Option (List Lexeme)) →
+        behind mark.Semicolon us ≡ o → option_map_or {U = Option (Decl × List Lexeme)}
+        (λ rest. Some (decl.Proto head, rest)) o (named_head head >>=
+        (λ named. body_behind free limit named us >>= (λ x. Some (decl.Function x.0, x.1)))) ≡ Some (x, rest) →
+        Taken (IsOne limit) ts x rest
     go head us d (Some vs) q e =
         let t = behind_mark mark.Semicolon us vs q in
-        took (IsOne limit) ts (d.taken ++ t.0 ∷ []) x (decl.Proto head) vs rest (glued ts us vs d.taken (t.0 ∷ []) d.split t.1) (record { spelled = prototype t.0 t.2 d.spelled; low = omega arith }) e
+        took (IsOne limit) ts (d.taken ++ t.0 ∷ []) x (decl.Proto head) vs rest
+        (glued ts us vs d.taken (t.0 ∷ []) d.split t.1)
+        (record { spelled = prototype t.0 t.2 d.spelled; low = omega arith }) e
     go head us d None q e =
-        let n = bound (λ named. body_behind free limit named us >>= (λ x. Some (decl.Function x.0, x.1))) (named_head head) (x, rest) e in
+        let n = bound (λ named. body_behind free limit named us >>= (λ x. Some (decl.Function x.0, x.1)))
+        (named_head head) (x, rest) e in
         let b = bound (λ x. Some (decl.Function x.0, x.1)) (body_behind free limit n.0 us) (x, rest) n.2 in
         let body = body_sound free limit n.0 us b.0.1 b.0.0 b.1 in
         let named = named_sound head n.0 n.1 in
-        took (IsOne limit) ts (d.taken ++ body.taken) x (decl.Function b.0.0) b.0.1 rest (glued ts us b.0.1 d.taken body.taken d.split body.split) (function_made limit (subst (λ h. SpellsHead d.taken h) (sym named) d.spelled) body.spelled) b.2
+        took (IsOne limit) ts (d.taken ++ body.taken) x (decl.Function b.0.0) b.0.1 rest
+        (glued ts us b.0.1 d.taken body.taken d.split body.split)
+        (function_made limit (subst (λ h. SpellsHead d.taken h) (sym named) d.spelled) body.spelled) b.2
 
 -- globals as trees
 record AreGlobals (base : BaseTree) (line : ℕ) (ts : List Lexeme) (ds : List Decl) : Type 0 where
@@ -90,15 +113,25 @@ record AreGlobals (base : BaseTree) (line : ℕ) (ts : List Lexeme) (ds : List D
   is : ds ≡ map (λ tree. decl.Global tree) trees
   spelled : Separated (IsGlobal base line) ts trees
 
-first_global : {base : BaseTree} {line : ℕ} {ts : List Lexeme} {x : Decl} (d : IsGlobalDecl base line ts x) → (tree : GlobalTree) × (x ≡ decl.Global tree) × IsGlobal base line ts tree
+first_global : {base : BaseTree} {line : ℕ} {ts : List Lexeme} {x : Decl} (d : IsGlobalDecl base line ts x) →
+    (tree : GlobalTree) × (x ≡ decl.Global tree) × IsGlobal base line ts tree
 first_global (a_global {tree = tree} g) = (tree, refl, g)
 
-as_globals : {base : BaseTree} {line : ℕ} {ts : List Lexeme} {ds : List Decl} (d : Separated (IsGlobalDecl base line) ts ds) → AreGlobals base line ts ds
-as_globals (lists.one d) = let g = first_global d in record { trees = g.0 ∷ []; is = ap (λ x. x ∷ []) g.1; spelled = lists.one g.2 }
+as_globals : {base : BaseTree} {line : ℕ} {ts : List Lexeme} {ds : List Decl}
+    (d : Separated (IsGlobalDecl base line) ts ds) → AreGlobals base line ts ds
+as_globals (lists.one d) = let g = first_global d in record {
+  trees = g.0 ∷ [];
+  is = ap (λ x. x ∷ []) g.1;
+  spelled = lists.one g.2;
+}
 as_globals (more {xs = xs} t p d s) =
     let g = first_global d in
     let others = as_globals s in
-    record { trees = g.0 ∷ others.trees; is = ap (λ x. x ∷ xs) g.1 ∙ ap (λ l. decl.Global g.0 ∷ l) others.is; spelled = more t p g.2 others.spelled }
+    record {
+      trees = g.0 ∷ others.trees;
+      is = ap (λ x. x ∷ xs) g.1 ∙ ap (λ l. decl.Global g.0 ∷ l) others.is;
+      spelled = more t p g.2 others.spelled;
+    }
 
 globals_low : (trees : List GlobalTree) → decls_height (map (λ tree. decl.Global tree) trees) ≡ 0
 globals_low [] = refl
@@ -107,19 +140,32 @@ globals_low (tree ∷ trees) = omega (arith, globals_low trees)
 globals_made : (limit : ℕ) → {ts : List Lexeme} {ds : List Decl} (d : Declares IsGlobalDecl ts ds) → IsDecls limit ts ds
 globals_made limit (declares {ts = ts} {us = us} t p b d) =
     let g = as_globals d in
-    subst (λ l. IsDecls limit (ts ++ (us ++ t ∷ [])) l) (sym g.is) (record { spelled = globals (declares t p b g.spelled); low = omega (arith, globals_low g.trees) })
+    subst (λ l. IsDecls limit (ts ++ (us ++ t ∷ [])) l) (sym g.is)
+    (record { spelled = globals (declares t p b g.spelled); low = omega (arith, globals_low g.trees) })
 
 -- what is read as a declaration is spelled so, and within the limit of height
-pub decl_sound : (free limit : ℕ) → (xs ys : List Decl) (ts rest : List Lexeme) → decl_at free limit xs ts ≡ Some (ys, rest) → Added (IsDecls limit) xs ts ys rest
+pub decl_sound : (free limit : ℕ) → (xs ys : List Decl) (ts rest : List Lexeme) →
+    decl_at free limit xs ts ≡ Some (ys, rest) → Added (IsDecls limit) xs ts ys rest
 unfolding decl_at
 decl_sound free limit xs ys ts rest h = go (begins_struct ts) refl h
   where
-    other : (b : Bool) → cond {A = Option (List Decl × List Lexeme)} b (adds (headed_at free limit) xs ts) (declaration_at globals_behind xs ts) ≡ Some (ys, rest) → Added (IsDecls limit) xs ts ys rest
-    other true e = one_added limit (headed_at free limit) xs ys ts rest (λ x rest h. headed_one free limit ts rest x h) e
+    other : (b : Bool) → cond {A = Option (List Decl × List Lexeme)} b (adds (headed_at free limit) xs ts)
+        (declaration_at globals_behind xs ts) ≡ Some (ys, rest) → Added (IsDecls limit) xs ts ys rest
+    other true e = one_added limit (headed_at free limit) xs ys ts rest
+        (λ x rest h. headed_one free limit ts rest x h) e
     other false e =
         let d = globals_exact.sound xs ys ts rest e in
-        record { taken = d.taken; added = d.added; split = d.split; all = d.all; spelled = globals_made limit d.spelled }
+        record {
+          taken = d.taken;
+          added = d.added;
+          split = d.split;
+          all = d.all;
+          spelled = globals_made limit d.spelled;
+        }
 
-    go : (b : Bool) → begins_struct ts ≡ b → cond {A = Option (List Decl × List Lexeme)} b (adds struct_decl_at xs ts) (cond {A = Option (List Decl × List Lexeme)} (begins_head ts) (adds (headed_at free limit) xs ts) (declaration_at globals_behind xs ts)) ≡ Some (ys, rest) → Added (IsDecls limit) xs ts ys rest
-    go true q e = one_added limit struct_decl_at xs ys ts rest (λ x rest h. struct_one limit ts rest x (struct_word ts q) h) e
+    go : (b : Bool) → begins_struct ts ≡ b → cond {A = Option (List Decl × List Lexeme)} b (adds struct_decl_at xs ts)
+        (cond {A = Option (List Decl × List Lexeme)} (begins_head ts) (adds (headed_at free limit) xs ts)
+        (declaration_at globals_behind xs ts)) ≡ Some (ys, rest) → Added (IsDecls limit) xs ts ys rest
+    go true q e = one_added limit struct_decl_at xs ys ts rest
+        (λ x rest h. struct_one limit ts rest x (struct_word ts q) h) e
     go false q e = other (begins_head ts) e

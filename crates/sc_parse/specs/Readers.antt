@@ -42,7 +42,8 @@ type_name_at ts = base_at ts >>= (λ x. Some (record { base = x.0; stars = star_
 -- an integer that an array may have as its length
 abbrev pub elements_at : Reader ℕ
 elements_at [] = None
-elements_at (t ∷ ts) = integer_by t.symbol >>= (λ number. array_length number.value >>= (λ elements. Some (elements, ts)))
+elements_at (t ∷ ts) = integer_by t.symbol >>= (λ number.
+    array_length number.value >>= (λ elements. Some (elements, ts)))
 
 abbrev pub bracketed_length : Reader (Option ℕ)
 bracketed_length ts = elements_at ts >>= (λ x. behind mark.CloseSquare x.1 >>= (λ rest. Some (Some x.0, rest)))
@@ -83,12 +84,14 @@ all_separated adder xs ts = separated (behind mark.Comma) adder (length ts + 1) 
 -- Groups up to where they end, in at most so many turns.
 unfoldable pub grouped : {A : Type 0} → (List Lexeme → Bool) → Adder A → ℕ → Adder A
 grouped ends group zero xs ts = None
-grouped ends group (suc turns) xs ts = if ends ts then Some (xs, ts) else (group xs ts >>= (λ x. grouped ends group turns x.0 x.1))
+grouped ends group (suc turns) xs ts = if ends ts then Some (xs, ts) else
+    (group xs ts >>= (λ x. grouped ends group turns x.0 x.1))
 
 -- a base, the items behind it, and `;`
 unfoldable pub declaration_at : {A : Type 0} → (BaseTree → ℕ → Adder A) → Adder A
 declaration_at adder xs ts =
-    base_at ts >>= (λ x. all_separated (adder x.0 (first_line ts)) xs x.1 >>= (λ y. behind mark.Semicolon y.1 >>= (λ rest. Some (y.0, rest))))
+    base_at ts >>= (λ x. all_separated (adder x.0 (first_line ts)) xs x.1 >>=
+    (λ y. behind mark.Semicolon y.1 >>= (λ rest. Some (y.0, rest))))
 
 unfoldable pub member_at : BaseTree → Reader MemberTree
 member_at base ts = declarator_at ts >>= (λ x. Some (record { ty = type_of base x.0; name = x.0.name }, x.1))
@@ -97,17 +100,20 @@ abbrev pub members_behind : BaseTree → ℕ → Adder MemberTree
 members_behind base line = adds (member_at base)
 
 unfoldable pub members_at : Reader (List MemberTree)
-members_at ts = grouped (begins_with mark.CloseCurly) (declaration_at members_behind) (length ts + 1) [] ts >>= (λ x. non_empty x.0 >>= (λ members. Some (members, x.1)))
+members_at ts = grouped (begins_with mark.CloseCurly) (declaration_at members_behind) (length ts + 1) [] ts >>=
+    (λ x. non_empty x.0 >>= (λ members. Some (members, x.1)))
 
 abbrev pub struct_tree : List ℕ → List MemberTree → ℕ → StructTree
 struct_tree tag members line = record { name = tag; members = members; line = line }
 
 abbrev pub members_in_braces : Reader (List MemberTree)
-members_in_braces ts = behind mark.OpenCurly ts >>= (λ us. members_at us >>= (λ x. behind mark.CloseCurly x.1 >>= (λ rest. Some (x.0, rest))))
+members_in_braces ts = behind mark.OpenCurly ts >>= (λ us.
+    members_at us >>= (λ x. behind mark.CloseCurly x.1 >>= (λ rest. Some (x.0, rest))))
 
 -- a struct, whose first word was looked at before
 unfoldable pub struct_at : Reader StructTree
-struct_at ts = name_at (drop 1 ts) >>= (λ x. members_in_braces x.1 >>= (λ y. behind mark.Semicolon y.1 >>= (λ rest. Some (struct_tree x.0 y.0 (first_line ts), rest))))
+struct_at ts = name_at (drop 1 ts) >>= (λ x. members_in_braces x.1 >>=
+    (λ y. behind mark.Semicolon y.1 >>= (λ rest. Some (struct_tree x.0 y.0 (first_line ts), rest))))
 
 abbrev pub const_tree : Bool → Number → ConstTree
 const_tree negative number = record { negative = negative; literal = number }
@@ -128,7 +134,8 @@ all_consts ts = separated behind_inner_comma (adds const_at) (length ts + 1) [] 
 unfoldable pub consts_at : Reader InitTree
 consts_at ts =
     all_consts ts
-    >>= (λ x. behind mark.CloseCurly (past_comma x.1) >>= (λ rest. non_empty x.0 >>= (λ values. Some (init.Many values, rest))))
+    >>= (λ x. behind mark.CloseCurly (past_comma x.1) >>=
+    (λ rest. non_empty x.0 >>= (λ values. Some (init.Many values, rest))))
 
 abbrev pub one_at : Reader InitTree
 one_at ts = const_at ts >>= (λ x. Some (init.One x.0, x.1))
@@ -154,22 +161,26 @@ param_tree ty name = record { ty = ty; name = name }
 
 -- a parameter's type, and its name if one stands there
 unfoldable pub param_at : Reader ParamTree
-param_at ts = type_name_at ts >>= (λ x. option_map_or (λ y. Some (param_tree x.0 (Some y.0), y.1)) (name_at x.1) (Some (param_tree x.0 None, x.1)))
+param_at ts = type_name_at ts >>= (λ x. option_map_or (λ y. Some (param_tree x.0 (Some y.0), y.1)) (name_at x.1)
+    (Some (param_tree x.0 None, x.1)))
 
 unfoldable pub params_at : Reader (List ParamTree)
 params_at ts = if is_void (keyword_at ts) then Some ([], drop 1 ts) else all_separated (adds param_at) [] ts
 
 unfoldable pub result_at : Reader (Option TypeName)
-result_at ts = if is_void (keyword_at ts) then Some (None, drop 1 ts) else (type_name_at ts >>= (λ x. Some (Some x.0, x.1)))
+result_at ts = if is_void (keyword_at ts) then Some (None, drop 1 ts) else
+    (type_name_at ts >>= (λ x. Some (Some x.0, x.1)))
 
 abbrev pub params_in_parens : Reader (List ParamTree)
-params_in_parens ts = behind mark.OpenParen ts >>= (λ us. params_at us >>= (λ x. behind mark.CloseParen x.1 >>= (λ rest. Some (x.0, rest))))
+params_in_parens ts = behind mark.OpenParen ts >>= (λ us.
+    params_at us >>= (λ x. behind mark.CloseParen x.1 >>= (λ rest. Some (x.0, rest))))
 
 abbrev pub head_tree : Option TypeName → List ℕ → List ParamTree → ℕ → HeadTree
 head_tree result name params line = record { result = result; name = name; params = params; line = line }
 
 unfoldable pub head_at : Reader HeadTree
-head_at ts = result_at ts >>= (λ x. name_at x.1 >>= (λ y. params_in_parens y.1 >>= (λ z. Some (head_tree x.0 y.0 z.0 (first_line ts), z.1))))
+head_at ts = result_at ts >>= (λ x. name_at x.1 >>= (λ y.
+    params_in_parens y.1 >>= (λ z. Some (head_tree x.0 y.0 z.0 (first_line ts), z.1))))
 
 -- `struct`, an identifier and `{` stand at the front
 abbrev pub names_struct : List Lexeme → Bool

@@ -34,13 +34,15 @@ use Rattle.sc_parse.specs.StmtReaders.{expr_at, stmt_at, stmts_at}
 
 -- what a local begins with
 unfoldable pub value_at : (free limit : ℕ) → Reader (Option ExprTree)
-value_at free limit ts = option_map_or (λ us. expr_at free limit us >>= (λ x. Some (Some x.0, x.1))) (behind mark.Equal ts) (Some (None, ts))
+value_at free limit ts = option_map_or (λ us. expr_at free limit us >>= (λ x. Some (Some x.0, x.1)))
+    (behind mark.Equal ts) (Some (None, ts))
 
 abbrev pub local_tree : BaseTree → Declarator → Option ExprTree → ℕ → LocalTree
 local_tree base x value line = record { ty = type_of base x; name = x.name; init = value; line = line }
 
 unfoldable pub local_at : (free limit : ℕ) → BaseTree → ℕ → Reader LocalTree
-local_at free limit base line ts = declarator_at ts >>= (λ x. value_at free limit x.1 >>= (λ y. Some (local_tree base x.0 y.0 line, y.1)))
+local_at free limit base line ts = declarator_at ts >>=
+    (λ x. value_at free limit x.1 >>= (λ y. Some (local_tree base x.0 y.0 line, y.1)))
 
 abbrev pub locals_behind : (free limit : ℕ) → BaseTree → ℕ → Adder LocalTree
 locals_behind free limit base line = adds (local_at free limit base line)
@@ -58,7 +60,8 @@ function_param ty name = record { ty = ty; name = name }
 -- the parameters of a function, where each has a name
 abbrev pub named_params : List ParamTree → Option (List FunctionParam)
 named_params [] = Some []
-named_params (param ∷ rest) = param.name >>= (λ name. named_params rest >>= (λ others. Some (function_param param.ty name ∷ others)))
+named_params (param ∷ rest) = param.name >>= (λ name.
+    named_params rest >>= (λ others. Some (function_param param.ty name ∷ others)))
 
 abbrev pub function_head : HeadTree → List FunctionParam → FunctionHead
 function_head head params = record { result = head.result; name = head.name; params = params; line = head.line }
@@ -67,18 +70,27 @@ abbrev pub named_head : HeadTree → Option FunctionHead
 named_head head = named_params head.params >>= (λ params. Some (function_head head params))
 
 abbrev pub function_tree : FunctionHead → List LocalTree → List StmtTree → ℕ → FunctionTree
-function_tree head locals body close_line = record { head = head; locals = locals; body = body; close_line = close_line }
+function_tree head locals body close_line = record {
+  head = head;
+  locals = locals;
+  body = body;
+  close_line = close_line;
+}
 
 -- a function behind its head
 unfoldable pub body_behind : (free limit : ℕ) → FunctionHead → Reader FunctionTree
 body_behind free limit head ts =
-    behind mark.OpenCurly ts >>= (λ us. locals_at free limit us >>= (λ x. stmts_at (stmt_at free limit) x.1 >>= (λ y. behind mark.CloseCurly y.1 >>= (λ rest. Some (function_tree head x.0 y.0 (first_line y.1), rest)))))
+    behind mark.OpenCurly ts >>= (λ us. locals_at free limit us >>=
+    (λ x. stmts_at (stmt_at free limit) x.1 >>= (λ y.
+    behind mark.CloseCurly y.1 >>= (λ rest. Some (function_tree head x.0 y.0 (first_line y.1), rest)))))
 
 unfoldable pub function_behind : (free limit : ℕ) → HeadTree → Reader Decl
-function_behind free limit head ts = named_head head >>= (λ named. body_behind free limit named ts >>= (λ x. Some (decl.Function x.0, x.1)))
+function_behind free limit head ts = named_head head >>=
+    (λ named. body_behind free limit named ts >>= (λ x. Some (decl.Function x.0, x.1)))
 
 abbrev pub behind_head : (free limit : ℕ) → HeadTree → Reader Decl
-behind_head free limit head ts = option_map_or (λ rest. Some (decl.Proto head, rest)) (behind mark.Semicolon ts) (function_behind free limit head ts)
+behind_head free limit head ts = option_map_or (λ rest. Some (decl.Proto head, rest)) (behind mark.Semicolon ts)
+    (function_behind free limit head ts)
 
 -- a prototype or a function
 unfoldable pub headed_at : (free limit : ℕ) → Reader Decl
@@ -126,7 +138,8 @@ with_line found (line.Import l) = directives found.exports (found.imports ++ l �
 -- Export lines and import lines, in at most so many turns.
 unfoldable pub lines_at : ℕ → Directives → Reader Directives
 lines_at zero found ts = None
-lines_at (suc turns) found ts = option_map_or (λ l. lines_at turns (with_line found l) (drop 1 ts)) (line_at ts) (Some (found, ts))
+lines_at (suc turns) found ts = option_map_or (λ l. lines_at turns (with_line found l) (drop 1 ts)) (line_at ts)
+    (Some (found, ts))
 
 abbrev pub directives_at : Reader Directives
 directives_at ts = lines_at (length ts + 1) (directives [] []) ts
@@ -140,12 +153,20 @@ compartment_at [] = None
 compartment_at (t ∷ ts) = compartment_by t.symbol >>= (λ name. Some (name, ts))
 
 abbrev pub section_tree : List ℕ → ℕ → Directives → List Decl → SectionTree
-section_tree name at found decls = record { name = name; line = at; exports = found.exports; imports = found.imports; decls = decls }
+section_tree name at found decls = record {
+  name = name;
+  line = at;
+  exports = found.exports;
+  imports = found.imports;
+  decls = decls;
+}
 
--- a section whose compartment line is this one of the whole text, where so many brackets may be open and trees may be so high
+-- a section whose compartment line is this one of the whole text, where so many brackets may be open and trees may be
+-- so high
 unfoldable pub section_within : (free limit : ℕ) → ℕ → Reader SectionTree
 section_within free limit at ts =
-    compartment_at ts >>= (λ x. directives_at x.1 >>= (λ y. decls_at free limit y.1 >>= (λ z. Some (section_tree x.0 at y.0 z.0, z.1))))
+    compartment_at ts >>= (λ x. directives_at x.1 >>=
+    (λ y. decls_at free limit y.1 >>= (λ z. Some (section_tree x.0 at y.0 z.0, z.1))))
 
 -- a section within the limits of the language
 abbrev pub section_at : ℕ → Reader SectionTree

@@ -40,13 +40,15 @@ abbrev pub args_behind : (free : ℕ) → ℕ → Adder ExprTree
 args_behind free room = adds (expr_at free room)
 
 unfoldable pub args_at : (free : ℕ) → ℕ → Reader (List ExprTree)
-args_at free room ts = if begins_with mark.CloseParen ts then Some ([], ts) else all_separated (args_behind free room) [] ts
+args_at free room ts = if begins_with mark.CloseParen ts then Some ([], ts) else
+    all_separated (args_behind free room) [] ts
 
 abbrev pub call_tree : List ℕ → List ExprTree → CallTree
 call_tree name args = record { name = name; args = args }
 
 abbrev pub args_in_parens : (free : ℕ) → ℕ → Reader (List ExprTree)
-args_in_parens free room ts = behind mark.OpenParen ts >>= (λ us. args_at free room us >>= (λ x. behind mark.CloseParen x.1 >>= (λ rest. Some (x.0, rest))))
+args_in_parens free room ts = behind mark.OpenParen ts >>=
+    (λ us. args_at free room us >>= (λ x. behind mark.CloseParen x.1 >>= (λ rest. Some (x.0, rest))))
 
 unfoldable pub call_at : (free : ℕ) → ℕ → Reader CallTree
 call_at free room ts = name_at ts >>= (λ x. args_in_parens free room x.1 >>= (λ y. Some (call_tree x.0 y.0, y.1)))
@@ -63,7 +65,8 @@ mark_at (t ∷ ts) = mark_by t.symbol
 -- what a mark behind a place does to it
 abbrev pub change_of : Mark → Option Change
 change_of mark.Equal = Some change.Set
-change_of m = option_map_or (λ op. Some (change.By op)) (compound_of m) (option_map_or (λ op. Some (change.Step op)) (step_of m) None)
+change_of m = option_map_or (λ op. Some (change.By op)) (compound_of m)
+    (option_map_or (λ op. Some (change.Step op)) (step_of m) None)
 
 abbrev pub change_at : List Lexeme → Option Change
 change_at ts = mark_at ts >>= change_of
@@ -89,7 +92,8 @@ abbrev pub begins_value : List Lexeme → Bool
 begins_value ts = option_map_or makes_value (mark_at ts) false
 
 abbrev pub unary_place : (free : ℕ) → ℕ → Reader Placed
-unary_place free room ts = read free room unary_level ts >>= (λ x. if is_place x.tree then Some (placed x.tree x.height, x.rest) else None)
+unary_place free room ts = read free room unary_level ts >>=
+    (λ x. if is_place x.tree then Some (placed x.tree x.height, x.rest) else None)
 
 -- a place, with its height
 unfoldable pub place_at : (free : ℕ) → ℕ → Reader Placed
@@ -98,11 +102,13 @@ place_at free room ts = if begins_value ts then None else unary_place free room 
 -- what stands behind `=`
 unfoldable pub value_behind : (free : ℕ) → ℕ → ExprTree → Reader SimpleKind
 value_behind free room place ts =
-    if begins_call ts then (call_at free room ts >>= (λ x. Some (simple.AssignCall place x.0, x.1))) else (expr_at free room ts >>= (λ x. Some (simple.Assign place x.0, x.1)))
+    if begins_call ts then (call_at free room ts >>= (λ x. Some (simple.AssignCall place x.0, x.1))) else
+    (expr_at free room ts >>= (λ x. Some (simple.Assign place x.0, x.1)))
 
 -- what stands behind the operator of a compound assignment, where the tree that is made has one level more
 unfoldable pub operand_behind : (free : ℕ) → ℕ → BinaryOp → Placed → Reader SimpleKind
-operand_behind free room op x ts = if nat_lt x.height room then (expr_at free (room - 1) ts >>= (λ y. Some (updates op x.place y.0, y.1))) else None
+operand_behind free room op x ts = if nat_lt x.height room then
+    (expr_at free (room - 1) ts >>= (λ y. Some (updates op x.place y.0, y.1))) else None
 
 unfoldable pub stepped : ℕ → BinaryOp → Placed → Reader SimpleKind
 stepped room op x ts = if nat_lt x.height room then Some (updates op x.place one, ts) else None
@@ -127,7 +133,8 @@ unstepped free room ts = if begins_call ts then call_alone free room ts else ass
 
 -- what may stand in the head of a `for`, where its parts may be so high
 unfoldable pub simple_at : (free : ℕ) → ℕ → Reader SimpleKind
-simple_at free room ts = option_map_or (λ op. step_before free room op (drop 1 ts)) (step_at ts) (unstepped free room ts)
+simple_at free room ts = option_map_or (λ op. step_before free room op (drop 1 ts)) (step_at ts)
+    (unstepped free room ts)
 
 abbrev pub simple_tree : ℕ → SimpleKind → SimpleTree
 simple_tree line kind = record { line = line; kind = kind }
@@ -136,7 +143,8 @@ simple_tree line kind = record { line = line; kind = kind }
 unfoldable pub part_at : (free : ℕ) → ℕ → Mark → Reader (Option SimpleTree)
 part_at free room ends ts =
     if begins_with ends ts then Some (None, ts)
-    else (if nat_le 1 room then (simple_at free (room - 1) ts >>= (λ x. Some (Some (simple_tree (first_line ts) x.0), x.1))) else None)
+    else (if nat_le 1 room then (simple_at free (room - 1) ts >>=
+    (λ x. Some (Some (simple_tree (first_line ts) x.0), x.1))) else None)
 
 -- the literal 1
 abbrev pub always : ℕ → Reader ExprTree
@@ -147,18 +155,21 @@ unfoldable pub test_at : (free : ℕ) → ℕ → Reader ExprTree
 test_at free room ts = if begins_with mark.Semicolon ts then always room ts else expr_at free room ts
 
 unfoldable pub condition_at : (free : ℕ) → ℕ → Reader ExprTree
-condition_at free room ts = behind mark.OpenParen ts >>= (λ us. expr_at free room us >>= (λ x. behind mark.CloseParen x.1 >>= (λ rest. Some (x.0, rest))))
+condition_at free room ts = behind mark.OpenParen ts >>=
+    (λ us. expr_at free room us >>= (λ x. behind mark.CloseParen x.1 >>= (λ rest. Some (x.0, rest))))
 
 abbrev pub value_returned : (free : ℕ) → ℕ → Reader StmtKind
 value_returned free room ts =
-    if begins_call ts then (call_at free room ts >>= (λ x. Some (stmt.ReturnCall x.0, x.1))) else (expr_at free room ts >>= (λ x. Some (stmt.ReturnValue x.0, x.1)))
+    if begins_call ts then (call_at free room ts >>= (λ x. Some (stmt.ReturnCall x.0, x.1))) else
+    (expr_at free room ts >>= (λ x. Some (stmt.ReturnValue x.0, x.1)))
 
 -- what stands behind `return`, without the `;`
 unfoldable pub returned : (free : ℕ) → ℕ → Reader StmtKind
 returned free room ts = if begins_with mark.Semicolon ts then Some (stmt.Return, ts) else value_returned free room ts
 
 abbrev pub simple_or_none : (free : ℕ) → ℕ → Reader StmtKind
-simple_or_none free room ts = if begins_with mark.Semicolon ts then Some (stmt.Empty, ts) else (simple_at free room ts >>= (λ x. Some (kind_of x.0, x.1)))
+simple_or_none free room ts = if begins_with mark.Semicolon ts then Some (stmt.Empty, ts) else
+    (simple_at free room ts >>= (λ x. Some (kind_of x.0, x.1)))
 
 -- a statement that is no `if` and no loop, without its `;`
 unfoldable pub plain_at : (free : ℕ) → ℕ → Option Keyword → Reader StmtKind
@@ -168,13 +179,15 @@ plain_at free room (Some word.Return) ts = returned free room (drop 1 ts)
 plain_at free room _ ts = simple_or_none free room ts
 
 unfoldable pub ended_at : (free : ℕ) → ℕ → Reader StmtKind
-ended_at free room ts = plain_at free room (keyword_at ts) ts >>= (λ x. behind mark.Semicolon x.1 >>= (λ rest. Some (x.0, rest)))
+ended_at free room ts = plain_at free room (keyword_at ts) ts >>=
+    (λ x. behind mark.Semicolon x.1 >>= (λ rest. Some (x.0, rest)))
 
 abbrev pub before_mark : {A : Type 0} → Mark → Reader A → Reader A
 before_mark m reader ts = reader ts >>= (λ x. behind m x.1 >>= (λ rest. Some (x.0, rest)))
 
 unfoldable pub first_part : (free : ℕ) → ℕ → Reader (Option SimpleTree)
-first_part free room ts = behind mark.OpenParen ts >>= (λ us. before_mark mark.Semicolon (part_at free room mark.Semicolon) us)
+first_part free room ts = behind mark.OpenParen ts >>=
+    (λ us. before_mark mark.Semicolon (part_at free room mark.Semicolon) us)
 
 unfoldable pub middle_part : (free : ℕ) → ℕ → Reader ExprTree
 middle_part free room ts = before_mark mark.Semicolon (test_at free room) ts
@@ -188,7 +201,8 @@ for_parts first cond next = record { first = first; cond = cond; next = next }
 -- what stands behind `for`, up to its body
 unfoldable pub for_head : (free : ℕ) → ℕ → Reader ForHead
 for_head free room ts =
-    first_part free room ts >>= (λ w. middle_part free room w.1 >>= (λ x. last_part free room x.1 >>= (λ y. Some (for_parts w.0 x.0 y.0, y.1))))
+    first_part free room ts >>= (λ w. middle_part free room w.1 >>=
+    (λ x. last_part free room x.1 >>= (λ y. Some (for_parts w.0 x.0 y.0, y.1))))
 
 abbrev pub loop_of : ForHead → List StmtTree → StmtKind
 loop_of head body = stmt.For head.first head.cond head.next body
@@ -218,7 +232,8 @@ module _ (inner : Reader StmtTree) where
 module _ (free : ℕ) (inner : Reader StmtTree) (room : ℕ) where
   -- behind `if`
   unfoldable pub if_behind : Reader StmtKind
-  if_behind ts = condition_at free room ts >>= (λ x. block_at inner x.1 >>= (λ y. else_at inner y.1 >>= (λ z. Some (stmt.If x.0 y.0 z.0, z.1))))
+  if_behind ts = condition_at free room ts >>= (λ x. block_at inner x.1 >>=
+      (λ y. else_at inner y.1 >>= (λ z. Some (stmt.If x.0 y.0 z.0, z.1))))
 
   -- behind `while`
   unfoldable pub while_behind : Reader StmtKind
@@ -239,7 +254,8 @@ stmt_tree line kind = record { line = line; kind = kind }
 
 -- a statement, where its parts may be so high
 unfoldable pub stmt_within : (free : ℕ) → Reader StmtTree → ℕ → Reader StmtTree
-stmt_within free inner room ts = kind_by free inner room (keyword_at ts) ts >>= (λ x. Some (stmt_tree (first_line ts) x.0, x.1))
+stmt_within free inner room ts = kind_by free inner room (keyword_at ts) ts >>=
+    (λ x. Some (stmt_tree (first_line ts) x.0, x.1))
 
 -- a statement, at most so high
 unfoldable pub stmt_at : (free : ℕ) → ℕ → Reader StmtTree

@@ -17,19 +17,28 @@ pub data SpellsBase : List Lexeme → BaseTree → Type 0 where
   signed : (t : Lexeme) → IsKeyword word.Signed t → SpellsBase (t ∷ []) base.Int
   signed_int : (t u : Lexeme) → IsKeyword word.Signed t → IsKeyword word.Int u → SpellsBase (t ∷ u ∷ []) base.Int
   unsigned : (t : Lexeme) → IsKeyword word.Unsigned t → SpellsBase (t ∷ []) base.Unsigned
-  unsigned_int : (t u : Lexeme) → IsKeyword word.Unsigned t → IsKeyword word.Int u → SpellsBase (t ∷ u ∷ []) base.Unsigned
-  struct : (t u : Lexeme) (tag : List ℕ) → IsKeyword word.Struct t → IsIdent tag u → SpellsBase (t ∷ u ∷ []) (base.Struct tag)
+  unsigned_int : (t u : Lexeme) → IsKeyword word.Unsigned t → IsKeyword word.Int u →
+      SpellsBase (t ∷ u ∷ []) base.Unsigned
+  struct : (t u : Lexeme) (tag : List ℕ) → IsKeyword word.Struct t → IsIdent tag u →
+      SpellsBase (t ∷ u ∷ []) (base.Struct tag)
 
 -- So many `*`.
 pub data SpellsStars : List Lexeme → ℕ → Type 0 where
   none : SpellsStars [] 0
-  star : {ts : List Lexeme} {stars : ℕ} (t : Lexeme) → IsMark mark.Star t → SpellsStars ts stars → SpellsStars (t ∷ ts) (stars + 1)
+  star : {ts : List Lexeme} {stars : ℕ} (t : Lexeme) → IsMark mark.Star t → SpellsStars ts stars →
+      SpellsStars (t ∷ ts) (stars + 1)
 
 -- The type of a parameter or a result, which is no array.
 pub data SpellsTypeName : List Lexeme → TypeName → Type 0 where
-  type_name : {ts us : List Lexeme} {base : BaseTree} {stars : ℕ} → SpellsBase ts base → SpellsStars us stars → SpellsTypeName (ts ++ us) (record { base = base; stars = stars })
+  type_name : {ts us : List Lexeme} {base : BaseTree} {stars : ℕ} → SpellsBase ts base → SpellsStars us stars →
+      SpellsTypeName (ts ++ us) (record { base = base; stars = stars })
 
 -- What a declarator behind this base declares: a type and a name.
 pub data SpellsDeclarator (base : BaseTree) : List Lexeme → TypeTree → List ℕ → Type 0 where
-  plain : {ts : List Lexeme} {stars : ℕ} (t : Lexeme) (name : List ℕ) → IsIdent name t → SpellsStars ts stars → SpellsDeclarator base (ts ++ t ∷ []) (record { base = base; stars = stars; length = None }) name
-  array : {ts : List Lexeme} {stars : ℕ} (t u v w : Lexeme) (name : List ℕ) (number : Number) (elements : ℕ) → IsIdent name t → IsMark mark.OpenSquare u → IsInteger number v → IsMark mark.CloseSquare w → array_length number.value ≡ Some elements → SpellsStars ts stars → SpellsDeclarator base (ts ++ t ∷ u ∷ v ∷ w ∷ []) (record { base = base; stars = stars; length = Some elements }) name
+  plain : {ts : List Lexeme} {stars : ℕ} (t : Lexeme) (name : List ℕ) → IsIdent name t → SpellsStars ts stars →
+      SpellsDeclarator base (ts ++ t ∷ []) (record { base = base; stars = stars; length = None }) name
+  array : {ts : List Lexeme} {stars : ℕ} (t u v w : Lexeme) (name : List ℕ) (number : Number) (elements : ℕ) →
+      IsIdent name t → IsMark mark.OpenSquare u → IsInteger number v → IsMark mark.CloseSquare w →
+      array_length number.value ≡ Some elements → SpellsStars ts stars →
+      SpellsDeclarator base (ts ++ t ∷ u ∷ v ∷ w ∷ [])
+      (record { base = base; stars = stars; length = Some elements }) name

@@ -79,7 +79,8 @@ fn with_locals(
     mut locals: LocalTrees,
     rest: &mut &[Lexeme],
 ) -> Result<LocalTrees, SyntaxFault>
-    ensures { Agrees (λ x. (x, rest.new.now)) result (all_separated (locals_behind 1024 256 base.now line) locals rest.old.now) }
+    ensures { Agrees (λ x. (x, rest.new.now)) result (all_separated
+        (locals_behind 1024 256 base.now line) locals rest.old.now) }
 {
     for _ in 0..rest.len() + 1 {
         locals = with_local(alloc, base, line, locals, rest)?;

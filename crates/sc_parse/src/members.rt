@@ -68,7 +68,8 @@ fn member_line(members: Members, rest: &mut &[Lexeme]) -> Result<Members, Syntax
 
 #[tactic(auto, using(crate::proofs::Steps::groups))]
 fn member_lines(mut members: Members, rest: &mut &[Lexeme]) -> Result<Members, SyntaxFault>
-    ensures { Agrees (λ x. (x, rest.new.now)) result (grouped (begins_with CloseCurly) (declaration_at members_behind) (length rest.old.now + 1) members rest.old.now) }
+    ensures { Agrees (λ x. (x, rest.new.now)) result (grouped (begins_with CloseCurly) (declaration_at members_behind)
+        (length rest.old.now + 1) members rest.old.now) }
 {
     for _ in 0..rest.len() + 1 {
         if begins_with(Mark::CloseCurly, rest) {

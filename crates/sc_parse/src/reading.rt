@@ -41,7 +41,8 @@ fn refused_at(line: u32, lexemes: &[Lexeme], at: usize) -> Refusal
 fn parse_lexemes(alloc: Global, line: u32, lexemes: &[Lexeme]) -> Result<SectionTree, TextFault>
     ensures parses { Parses line lexemes.now result }
     ensures phase { (refusal : Refusal) → IsErrOf result (TextFault.Refused refusal) → refusal.phase ≡ Syntax }
-    ensures line { (refusal : Refusal) → IsErrOf result (TextFault.Refused refusal) → 0 < length lexemes.now → Any (λ t. refusal.line ≡ whole_line line t) lexemes.now }
+    ensures line { (refusal : Refusal) → IsErrOf result (TextFault.Refused refusal) → 0 < length lexemes.now →
+        Any (λ t. refusal.line ≡ whole_line line t) lexemes.now }
 {
     let excess = first_excess(lexemes);
     let mut rest = lexemes;
@@ -69,12 +70,15 @@ pub fn parse(
     tokens: &[Token],
 ) -> Result<SectionTree, TextFault>
     requires { IsCut section.now.bytes.now tokens.now }
-    ensures parsed { IfOk result (λ tree. IsParsed section.now.line (lexemes_of section.now.bytes.now tokens.now) tree) }
+    ensures parsed { IfOk result (λ tree. IsParsed section.now.line
+        (lexemes_of section.now.bytes.now tokens.now) tree) }
 
     // Tokens are refused exactly where they are no tree within the limits, with the line of one of them.
-    ensures refused { (refusal : Refusal) → IsErrOf result (TextFault.Refused refusal) → (tree : SectionTree) → IsParsed section.now.line (lexemes_of section.now.bytes.now tokens.now) tree → ⊥ }
+    ensures refused { (refusal : Refusal) → IsErrOf result (TextFault.Refused refusal) → (tree : SectionTree) →
+        IsParsed section.now.line (lexemes_of section.now.bytes.now tokens.now) tree → ⊥ }
     ensures phase { (refusal : Refusal) → IsErrOf result (TextFault.Refused refusal) → refusal.phase ≡ Syntax }
-    ensures line { (refusal : Refusal) → IsErrOf result (TextFault.Refused refusal) → 0 < length tokens.now → Any (λ token. refusal.line ≡ line_after section.now.line (token.line - 1)) tokens.now }
+    ensures line { (refusal : Refusal) → IsErrOf result (TextFault.Refused refusal) → 0 < length tokens.now →
+        Any (λ token. refusal.line ≡ line_after section.now.line (token.line - 1)) tokens.now }
 {
     slices_in_order();
     let lexemes = lexemes(alloc, section.bytes, tokens)?;

@@ -10,5 +10,6 @@ ghost use Rattle.sc_expr.specs.Lexemes.{says, symbol_of};
 /// place in the grammar.
 #[tactic(auto, using(crate::proofs::Sayings::token_says))]
 pub fn tokens_say()
-    ensures { (bytes : List ℕ) (token : Token) → IsSpan bytes token → (token.kind ≡ Reserved → ⊥) → says token.kind (slice_range bytes token.start token.end) ≡ Some (symbol_of bytes token) }
+    ensures { (bytes : List ℕ) (token : Token) → IsSpan bytes token → (token.kind ≡ Reserved → ⊥) →
+        says token.kind (slice_range bytes token.start token.end) ≡ Some (symbol_of bytes token) }
 {}

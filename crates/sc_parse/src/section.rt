@@ -212,5 +212,6 @@ pub fn section_at(
 /// Lexemes spell one section at most, whatever their height and their brackets.
 #[tactic(auto, using(crate::proofs::Sections::sections_agree))]
 pub fn one_section()
-    ensures { (line : ℕ) (lexemes : List Lexeme) (s t : SectionTree) → SpellsSection line lexemes s → SpellsSection line lexemes t → s ≡ t }
+    ensures { (line : ℕ) (lexemes : List Lexeme) (s t : SectionTree) → SpellsSection line lexemes s →
+        SpellsSection line lexemes t → s ≡ t }
 {}

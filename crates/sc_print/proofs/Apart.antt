@@ -28,19 +28,22 @@ pub record IsWord (text rest : List ℕ) : Type 0 where
 abbrev pub Calm : List ℕ → Type 0
 Calm text = is_name_byte (slice_index text 0) ≡ false
 
-pub run_is : (p : ℕ → Bool) (text rest : List ℕ) → list_all p text ≡ true → p (slice_index rest 0) ≡ false → prefix_len p (text ++ rest) ≡ length text
+pub run_is : (p : ℕ → Bool) (text rest : List ℕ) → list_all p text ≡ true → p (slice_index rest 0) ≡ false →
+    prefix_len p (text ++ rest) ≡ length text
 run_is p [] [] all calm = refl
 run_is p [] (b ∷ rest) all calm = rw calm
 run_is p (x ∷ text) rest all calm =
     let parts = and_parts (p x) (list_all p text) all in
     rw (parts.0, run_is p text rest parts.1 calm) (omega arith)
 
-pub starts : (text rest : List ℕ) → 0 < length text → list_all is_name_byte text ≡ true → is_name_byte (slice_index (text ++ rest) 0) ≡ true
+pub starts : (text rest : List ℕ) → 0 < length text → list_all is_name_byte text ≡ true →
+    is_name_byte (slice_index (text ++ rest) 0) ≡ true
 starts [] rest some all = absurd (omega (arith, some))
 starts (x ∷ text) rest some all = (and_parts (is_name_byte x) (list_all is_name_byte text) all).0
 
 -- identifiers, integers and reserved words
-pub plain_word : (text rest : List ℕ) (k : TokenKind) → 0 < length text → word_kind text ≡ Some k → Calm rest → IsWord text rest
+pub plain_word : (text rest : List ℕ) (k : TokenKind) → 0 < length text → word_kind text ≡ Some k → Calm rest →
+    IsWord text rest
 plain_word text rest k some is calm =
     let all = (word_run text k is).run.all in
     let long = length-append text rest in
@@ -48,38 +51,55 @@ plain_word text rest k some is calm =
     let back : take (length text) (text ++ rest) ≡ text = take-append_seam text rest in
     record {
       kind = k;
-      token = λ here. word_found (text ++ rest) (starts text rest some all) (length text) k here (omega (arith, long, some)) (sym run) (sym is ∙ ap word_kind (sym back));
+      token = λ here. word_found (text ++ rest) (starts text rest some all) (length text) k here
+          (omega (arith, long, some)) (sym run) (sym is ∙ ap word_kind (sym back));
     }
 
-one_two : (c : ℕ) (rest : List ℕ) → is_mark (c ∷ slice_index rest 0 ∷ []) ≡ false → (nat_le 2 (length (c ∷ rest)) && is_mark (take 2 (c ∷ rest))) ≡ false
+one_two : (c : ℕ) (rest : List ℕ) → is_mark (c ∷ slice_index rest 0 ∷ []) ≡ false →
+    (nat_le 2 (length (c ∷ rest)) && is_mark (take 2 (c ∷ rest))) ≡ false
 one_two c [] h = refl
-one_two c (b ∷ rest) h = ap (λ x. nat_le 2 (length (c ∷ b ∷ rest)) && x) h ∙ and_false (nat_le 2 (length (c ∷ b ∷ rest)))
+one_two c (b ∷ rest) h = ap (λ x. nat_le 2 (length (c ∷ b ∷ rest)) && x) h ∙
+    and_false (nat_le 2 (length (c ∷ b ∷ rest)))
 
-one_three : (c : ℕ) (rest : List ℕ) → ((d : ℕ) → is_mark (c ∷ slice_index rest 0 ∷ d ∷ []) ≡ false) → (nat_le 3 (length (c ∷ rest)) && is_mark (take 3 (c ∷ rest))) ≡ false
+one_three : (c : ℕ) (rest : List ℕ) → ((d : ℕ) → is_mark (c ∷ slice_index rest 0 ∷ d ∷ []) ≡ false) →
+    (nat_le 3 (length (c ∷ rest)) && is_mark (take 3 (c ∷ rest))) ≡ false
 one_three c [] h = refl
 one_three c (b ∷ []) h = refl
-one_three c (b ∷ d ∷ rest) h = ap (λ x. nat_le 3 (length (c ∷ b ∷ d ∷ rest)) && x) (h d) ∙ and_false (nat_le 3 (length (c ∷ b ∷ d ∷ rest)))
+one_three c (b ∷ d ∷ rest) h = ap (λ x. nat_le 3 (length (c ∷ b ∷ d ∷ rest)) && x) (h d) ∙
+    and_false (nat_le 3 (length (c ∷ b ∷ d ∷ rest)))
 
-two_three : (c e : ℕ) (rest : List ℕ) → is_mark (c ∷ e ∷ slice_index rest 0 ∷ []) ≡ false → (nat_le 3 (length (c ∷ e ∷ rest)) && is_mark (take 3 (c ∷ e ∷ rest))) ≡ false
+two_three : (c e : ℕ) (rest : List ℕ) → is_mark (c ∷ e ∷ slice_index rest 0 ∷ []) ≡ false →
+    (nat_le 3 (length (c ∷ e ∷ rest)) && is_mark (take 3 (c ∷ e ∷ rest))) ≡ false
 two_three c e [] h = refl
-two_three c e (d ∷ rest) h = ap (λ x. nat_le 3 (length (c ∷ e ∷ d ∷ rest)) && x) h ∙ and_false (nat_le 3 (length (c ∷ e ∷ d ∷ rest)))
+two_three c e (d ∷ rest) h = ap (λ x. nat_le 3 (length (c ∷ e ∷ d ∷ rest)) && x) h ∙
+    and_false (nat_le 3 (length (c ∷ e ∷ d ∷ rest)))
 
 -- a mark of one byte
-pub one_word : (c : ℕ) (rest : List ℕ) → is_mark (c ∷ []) ≡ true → is_name_byte c ≡ false → (c ≡ 35 → ⊥) → begins_block_comment (c ∷ rest) ≡ false → begins_line_comment (c ∷ rest) ≡ false → is_mark (c ∷ slice_index rest 0 ∷ []) ≡ false → ((d : ℕ) → is_mark (c ∷ slice_index rest 0 ∷ d ∷ []) ≡ false) → IsWord (c ∷ []) rest
+pub one_word : (c : ℕ) (rest : List ℕ) → is_mark (c ∷ []) ≡ true → is_name_byte c ≡ false → (c ≡ 35 → ⊥) →
+    begins_block_comment (c ∷ rest) ≡ false → begins_line_comment (c ∷ rest) ≡ false →
+    is_mark (c ∷ slice_index rest 0 ∷ []) ≡ false → ((d : ℕ) → is_mark (c ∷ slice_index rest 0 ∷ d ∷ []) ≡ false) →
+    IsWord (c ∷ []) rest
 one_word c rest is name line block comment two three =
     let some : 0 < length (c ∷ rest) = omega arith in
     record {
       kind = kind.Mark;
-      token = λ here. mark_one (c ∷ rest) some name line (one_three c rest three) (one_two c rest two) (and_from (nat_le 1 (length (c ∷ rest))) (is_mark (c ∷ [])) (le-leb 1 (length (c ∷ rest)) (omega arith)) is) (λ b. false≢true (sym block ∙ b)) (λ b. false≢true (sym comment ∙ b)) here;
+      token = λ here. mark_one (c ∷ rest) some name line (one_three c rest three) (one_two c rest two)
+          (and_from (nat_le 1 (length (c ∷ rest))) (is_mark (c ∷ [])) (le-leb 1 (length (c ∷ rest)) (omega arith)) is)
+          (λ b. false≢true (sym block ∙ b)) (λ b. false≢true (sym comment ∙ b)) here;
     }
 
 -- a mark of two bytes
-pub two_word : (c e : ℕ) (rest : List ℕ) → is_mark (c ∷ e ∷ []) ≡ true → is_name_byte c ≡ false → (c ≡ 35 → ⊥) → begins_block_comment (c ∷ e ∷ rest) ≡ false → begins_line_comment (c ∷ e ∷ rest) ≡ false → is_mark (c ∷ e ∷ slice_index rest 0 ∷ []) ≡ false → IsWord (c ∷ e ∷ []) rest
+pub two_word : (c e : ℕ) (rest : List ℕ) → is_mark (c ∷ e ∷ []) ≡ true → is_name_byte c ≡ false → (c ≡ 35 → ⊥) →
+    begins_block_comment (c ∷ e ∷ rest) ≡ false → begins_line_comment (c ∷ e ∷ rest) ≡ false →
+    is_mark (c ∷ e ∷ slice_index rest 0 ∷ []) ≡ false → IsWord (c ∷ e ∷ []) rest
 two_word c e rest is name line block comment three =
     let some : 0 < length (c ∷ e ∷ rest) = omega arith in
     record {
       kind = kind.Mark;
-      token = λ here. mark_two (c ∷ e ∷ rest) some name line (two_three c e rest three) (and_from (nat_le 2 (length (c ∷ e ∷ rest))) (is_mark (c ∷ e ∷ [])) (le-leb 2 (length (c ∷ e ∷ rest)) (omega arith)) is) (λ b. false≢true (sym block ∙ b)) (λ b. false≢true (sym comment ∙ b)) here;
+      token = λ here. mark_two (c ∷ e ∷ rest) some name line (two_three c e rest three)
+          (and_from (nat_le 2 (length (c ∷ e ∷ rest))) (is_mark (c ∷ e ∷ []))
+          (le-leb 2 (length (c ∷ e ∷ rest)) (omega arith)) is) (λ b. false≢true (sym block ∙ b))
+          (λ b. false≢true (sym comment ∙ b)) here;
     }
 
 -- brackets and what else no longer mark begins with
@@ -154,11 +174,17 @@ pub data Opens (before text : List ℕ) : Type 0 where
 
 -- an operator in front of an operand
 abbrev Pairs : ℕ → Type 0
-Pairs c = (b : ℕ) → IsSign b → ((c ∷ []) ≡ b ∷ [] → ⊥) → (is_mark (c ∷ b ∷ []) ≡ false) × ((d : ℕ) → is_mark (c ∷ b ∷ d ∷ []) ≡ false)
+Pairs c = (b : ℕ) → IsSign b → ((c ∷ []) ≡ b ∷ [] → ⊥) →
+    (is_mark (c ∷ b ∷ []) ≡ false) × ((d : ℕ) → is_mark (c ∷ b ∷ d ∷ []) ≡ false)
 
-sign_word : (c : ℕ) (rest : List ℕ) → is_mark (c ∷ []) ≡ true → is_name_byte c ≡ false → (c ≡ 35 → ⊥) → begins_block_comment (c ∷ rest) ≡ false → begins_line_comment (c ∷ rest) ≡ false → Pairs c → Opens (c ∷ []) rest → IsWord (c ∷ []) rest
-sign_word c rest is name line block comment pairs (quiet q) = one_word c rest is name line block comment (no_mark c (slice_index rest 0) [] q) (λ d. no_mark c (slice_index rest 0) (d ∷ []) q)
-sign_word c rest is name line block comment pairs (sign s other) = let p = pairs (slice_index rest 0) s other in one_word c rest is name line block comment p.0 p.1
+sign_word : (c : ℕ) (rest : List ℕ) → is_mark (c ∷ []) ≡ true → is_name_byte c ≡ false → (c ≡ 35 → ⊥) →
+    begins_block_comment (c ∷ rest) ≡ false → begins_line_comment (c ∷ rest) ≡ false → Pairs c → Opens (c ∷ []) rest →
+    IsWord (c ∷ []) rest
+sign_word c rest is name line block comment pairs (quiet q) =
+    one_word c rest is name line block comment (no_mark c (slice_index rest 0) [] q)
+    (λ d. no_mark c (slice_index rest 0) (d ∷ []) q)
+sign_word c rest is name line block comment pairs (sign s other) = let p = pairs (slice_index rest 0) s other in
+    one_word c rest is name line block comment p.0 p.1
 
 pairs_minus : Pairs 45
 unfolding is_mark

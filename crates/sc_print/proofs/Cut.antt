@@ -24,10 +24,13 @@ pub record Found (bytes : List ℕ) (at : ℕ) (ss : List Symbol) : Type 0 where
 
 module _ (bytes : List ℕ) where
   -- what a token says is what its text says
-  pub token_says : (front text rest : List ℕ) (kind : TokenKind) → bytes ≡ front ++ (text ++ rest) → kind_of (take (length text) (text ++ rest)) ≡ Some kind → symbol_of bytes (token_at bytes (length front) kind (length text)) ≡ word_symbol text
+  pub token_says : (front text rest : List ℕ) (kind : TokenKind) → bytes ≡ front ++ (text ++ rest) →
+      kind_of (take (length text) (text ++ rest)) ≡ Some kind →
+      symbol_of bytes (token_at bytes (length front) kind (length text)) ≡ word_symbol text
   unfolding word_symbol
   token_says front text rest kind whole spelled =
-      let behind : drop (length front) bytes ≡ text ++ rest = ap (drop (length front)) whole ∙ drop-append_seam front (text ++ rest) in
+      let behind : drop (length front) bytes ≡ text ++ rest =
+      ap (drop (length front)) whole ∙ drop-append_seam front (text ++ rest) in
       let back = take-append_seam text rest in
       let long : length front + length text - length front ≡ length text = omega arith in
       let slice : slice_range bytes (length front) (length front + length text) ≡ text = rw (behind, long) back in
@@ -35,9 +38,11 @@ module _ (bytes : List ℕ) where
       ap (λ x. or_unused (says kind x)) slice ∙ ap (λ k. or_unused (option_and_then (λ j. says j text) k)) (sym kind_is)
 
   -- one byte of white space
-  pub skipped : (byte : ℕ) → is_white_space byte ≡ true → (front : List ℕ) (ss : List Symbol) (rest : List ℕ) → bytes ≡ front ++ byte ∷ rest → Found bytes (length (front ++ byte ∷ [])) ss → Found bytes (length front) ss
+  pub skipped : (byte : ℕ) → is_white_space byte ≡ true → (front : List ℕ) (ss : List Symbol) (rest : List ℕ) →
+      bytes ≡ front ++ byte ∷ rest → Found bytes (length (front ++ byte ∷ [])) ss → Found bytes (length front) ss
   skipped byte white front ss rest whole on =
-      let behind : drop (length front) bytes ≡ byte ∷ rest = ap (drop (length front)) whole ∙ drop-append_seam front (byte ∷ rest) in
+      let behind : drop (length front) bytes ≡ byte ∷ rest =
+      ap (drop (length front)) whole ∙ drop-append_seam front (byte ∷ rest) in
       let long = length-append front (byte ∷ []) in
       let is : IsTrue (is_white_space (slice_index (drop (length front) bytes) 0)) = rw behind white in
       record {
@@ -47,30 +52,44 @@ module _ (bytes : List ℕ) where
       }
 
   -- so many blanks
-  indented : (count : ℕ) (front : List ℕ) (ss : List Symbol) (rest : List ℕ) → bytes ≡ front ++ (replicate count 32 ++ rest) → ((before : List ℕ) → bytes ≡ before ++ rest → Found bytes (length before) ss) → Found bytes (length front) ss
+  indented : (count : ℕ) (front : List ℕ) (ss : List Symbol) (rest : List ℕ) →
+      bytes ≡ front ++ (replicate count 32 ++ rest) →
+      ((before : List ℕ) → bytes ≡ before ++ rest → Found bytes (length before) ss) → Found bytes (length front) ss
   indented zero front ss rest whole on = on front whole
   indented (suc count) front ss rest whole on =
-      skipped 32 refl front ss (replicate count 32 ++ rest) whole (indented count (front ++ 32 ∷ []) ss rest (whole ∙ sym (append_assoc front (32 ∷ []) (replicate count 32 ++ rest))) on)
+      skipped 32 refl front ss (replicate count 32 ++ rest) whole
+      (indented count (front ++ 32 ∷ []) ss rest (whole ∙
+      sym (append_assoc front (32 ∷ []) (replicate count 32 ++ rest))) on)
 
-  pub found_from : {pieces : List Piece} {rest : List ℕ} → Tidy pieces rest → rest ≡ [] → (front : List ℕ) → bytes ≡ front ++ text_of pieces → Found bytes (length front) (symbols pieces)
+  pub found_from : {pieces : List Piece} {rest : List ℕ} → Tidy pieces rest → rest ≡ [] → (front : List ℕ) →
+      bytes ≡ front ++ text_of pieces → Found bytes (length front) (symbols pieces)
   found_from spacing.none e front whole =
       let all : length bytes ≡ length front = ap (λ x. length x) (whole ∙ append-nil front) in
       record { tokens = []; cuts = subst (λ n. Cuts bytes (length front) n []) (sym all) nothing; says = refl }
   found_from (spacing.gap {pieces = pieces} t) e front whole =
-      skipped 32 refl front (symbols pieces) (text_of pieces) whole (found_from t e (front ++ 32 ∷ []) (whole ∙ sym (append_assoc front (32 ∷ []) (text_of pieces))))
+      skipped 32 refl front (symbols pieces) (text_of pieces) whole
+      (found_from t e (front ++ 32 ∷ []) (whole ∙ sym (append_assoc front (32 ∷ []) (text_of pieces))))
   found_from (spacing.line_end {pieces = pieces} t) e front whole =
-      skipped 10 refl front (symbols pieces) (text_of pieces) whole (found_from t e (front ++ 10 ∷ []) (whole ∙ sym (append_assoc front (10 ∷ []) (text_of pieces))))
+      skipped 10 refl front (symbols pieces) (text_of pieces) whole
+      (found_from t e (front ++ 10 ∷ []) (whole ∙ sym (append_assoc front (10 ∷ []) (text_of pieces))))
   found_from (spacing.at_level {pieces = pieces} levels t) e front whole =
       indented (2 * levels) front (symbols pieces) (text_of pieces) whole (found_from t e)
   found_from (spacing.next {text = text} {pieces = pieces} {rest = rest} w t) e front whole =
-      let after : text_of pieces ++ rest ≡ text_of pieces = ap (λ x. text_of pieces ++ x) e ∙ append-nil (text_of pieces) in
-      let behind : drop (length front) bytes ≡ text ++ (text_of pieces ++ rest) = ap (drop (length front)) whole ∙ drop-append_seam front (text ++ text_of pieces) ∙ ap (λ x. text ++ x) (sym after) in
+      let after : text_of pieces ++ rest ≡ text_of pieces =
+      ap (λ x. text_of pieces ++ x) e ∙ append-nil (text_of pieces) in
+      let behind : drop (length front) bytes ≡ text ++ (text_of pieces ++ rest) =
+      ap (drop (length front)) whole ∙ drop-append_seam front (text ++ text_of pieces) ∙
+      ap (λ x. text ++ x) (sym after) in
       let on = found_from t e (front ++ text) (whole ∙ sym (append_assoc front text (text_of pieces))) in
       let long = length-append front text in
-      let first = token_says front text (text_of pieces ++ rest) w.kind (whole ∙ ap (λ x. front ++ (text ++ x)) (sym after)) (w.token true).spelled in
+      let first = token_says front text (text_of pieces ++ rest) w.kind
+      (whole ∙ ap (λ x. front ++ (text ++ x)) (sym after)) (w.token true).spelled in
       record {
         tokens = token_at bytes (length front) w.kind (length text) ∷ on.tokens;
-        cuts = token w.kind (length text) (subst (λ x. IsToken (allows_directive bytes (length front)) x w.kind (length text)) (sym behind) (w.token (allows_directive bytes (length front)))) (subst (λ n. Cuts bytes n (length bytes) on.tokens) long on.cuts);
+        cuts = token w.kind (length text) (subst (λ x.
+            IsToken (allows_directive bytes (length front)) x w.kind (length text)) (sym behind)
+            (w.token (allows_directive bytes (length front))))
+            (subst (λ n. Cuts bytes n (length bytes) on.tokens) long on.cuts);
         says = ap₂ (λ s ss. s ∷ ss) first on.says;
       }
 

@@ -40,8 +40,10 @@ use Rattle.sc_print.proofs.Decls.{length_fits}
 name_tidy : (name : List ℕ) → IsTrue (is_ident name) → (rest : List ℕ) → Calm rest → IsWord name rest
 name_tidy name ident rest calm = plain_word name rest kind.Ident (name_some name ident) (name_kind name ident) calm
 
-literal_tidy : (number : Number) → IsTrue (fits number) → (rest : List ℕ) → Calm rest → IsWord (literal_text number) rest
-literal_tidy number k rest calm = plain_word (literal_text number) rest kind.Integer (literal_some number k) (literal_kind number k) calm
+literal_tidy : (number : Number) → IsTrue (fits number) → (rest : List ℕ) → Calm rest →
+    IsWord (literal_text number) rest
+literal_tidy number k rest calm = plain_word (literal_text number) rest kind.Integer (literal_some number k)
+    (literal_kind number k) calm
 
 base_tidy : (b : BaseTree) → IsTrue (kept_base b) → Sound (base_words b)
 base_tidy base.Int k rest calm = next (int_word _ calm) none
@@ -56,51 +58,72 @@ stars_tidy : (stars : ℕ) (rest : List ℕ) → Quiet rest → Tidy (star_words
 stars_tidy zero rest q = none
 stars_tidy (suc n) rest q = next (star_word _ (quiet (stars_quiet n rest q))) (stars_tidy n rest q)
 
-name_first : (name : List ℕ) (more : List Piece) → IsTrue (is_ident name) → (rest : List ℕ) → Quiet (text_of (word name ∷ more) ++ rest)
-name_first name more ident rest = subst (λ x. Quiet x) (sym (append_assoc name (text_of more) rest)) (word_quiet name (text_of more ++ rest) kind.Ident (name_some name ident) (name_kind name ident))
+name_first : (name : List ℕ) (more : List Piece) → IsTrue (is_ident name) → (rest : List ℕ) →
+    Quiet (text_of (word name ∷ more) ++ rest)
+name_first name more ident rest = subst (λ x. Quiet x) (sym (append_assoc name (text_of more) rest))
+    (word_quiet name (text_of more ++ rest) kind.Ident (name_some name ident) (name_kind name ident))
 
-length_tidy : (name : List ℕ) (len : Option ℕ) → IsTrue (is_ident name) → IsTrue (kept_length len) → Sound (word name ∷ length_words len)
+length_tidy : (name : List ℕ) (len : Option ℕ) → IsTrue (is_ident name) → IsTrue (kept_length len) →
+    Sound (word name ∷ length_words len)
 length_tidy name None ident k rest calm = next (name_tidy name ident _ calm) none
 length_tidy name (Some elements) ident k rest calm =
     let high = leb-true elements 4294967295 (and_parts (nat_le 1 elements) (nat_le elements 4294967295) k).1 in
-    next (name_tidy name ident _ refl) (next (open_square _) (next (literal_tidy (length_number elements) (length_fits elements high) _ refl) (next (close_square _) none)))
+    next (name_tidy name ident _ refl) (next (open_square _)
+    (next (literal_tidy (length_number elements) (length_fits elements high) _ refl) (next (close_square _) none)))
 
-declared_tidy : (ty : TypeTree) (name : List ℕ) → IsTrue (kept_type ty) → IsTrue (is_ident name) → Sound (declared_words ty name)
+declared_tidy : (ty : TypeTree) (name : List ℕ) → IsTrue (kept_type ty) → IsTrue (is_ident name) →
+    Sound (declared_words ty name)
 declared_tidy ty name k ident rest calm =
     let parts = and_parts (kept_base ty.base) (kept_length ty.length) k in
-    tidy_append (base_words ty.base) _ rest (base_tidy ty.base parts.0 _ refl) (gap (tidy_append (star_words ty.stars) (word name ∷ length_words ty.length) rest (stars_tidy ty.stars _ (name_first name (length_words ty.length) ident rest)) (length_tidy name ty.length ident parts.1 rest calm)))
+    tidy_append (base_words ty.base) _ rest (base_tidy ty.base parts.0 _ refl)
+    (gap (tidy_append (star_words ty.stars) (word name ∷ length_words ty.length) rest
+    (stars_tidy ty.stars _ (name_first name (length_words ty.length) ident rest))
+    (length_tidy name ty.length ident parts.1 rest calm)))
 
 line_tidy : (depth : ℕ) (pieces : List Piece) → Free pieces → Free (line_of depth pieces)
 line_tidy depth pieces t rest = at_level depth (tidy_append pieces (newline ∷ []) rest (t _) (line_end none))
 
 member_tidy : (m : MemberTree) → IsTrue (kept_member m) → Free (member_line m)
-member_tidy m k = let parts = and_parts (kept_type m.ty) (is_ident m.name) k in line_tidy 1 _ (ended_tidy _ (declared_tidy m.ty m.name parts.0 parts.1))
+member_tidy m k = let parts = and_parts (kept_type m.ty) (is_ident m.name) k in
+    line_tidy 1 _ (ended_tidy _ (declared_tidy m.ty m.name parts.0 parts.1))
 
 -- many in a row
-pub each_tidy : {A : Type 0} (words : A → List Piece) (kept : A → Bool) → ((x : A) → IsTrue (kept x) → Free (words x)) → (xs : List A) → list_all kept xs ≡ true → Free (flat_map words xs)
+pub each_tidy : {A : Type 0} (words : A → List Piece) (kept : A → Bool) → ((x : A) → IsTrue (kept x) → Free (words x)) →
+    (xs : List A) → list_all kept xs ≡ true → Free (flat_map words xs)
 each_tidy words kept t [] k rest = none
 each_tidy words kept t (x ∷ xs) k rest =
     let parts = and_parts (kept x) (list_all kept xs) k in
     tidy_append (words x) (flat_map words xs) rest (t x parts.0 _) (each_tidy words kept t xs parts.1 rest)
 
 -- with commas between them
-joined_tidy : {A : Type 0} (words : A → List Piece) (kept : A → Bool) → ((x : A) → IsTrue (kept x) → (rest : List ℕ) → Calm rest → Quiet rest → Tidy (words x) rest) → (x : A) (xs : List A) → IsTrue (kept x) → list_all kept xs ≡ true → (rest : List ℕ) → Calm rest → Quiet rest → Tidy (join_by words comma (x ∷ xs)) rest
+joined_tidy : {A : Type 0} (words : A → List Piece) (kept : A → Bool) →
+    ((x : A) → IsTrue (kept x) → (rest : List ℕ) → Calm rest → Quiet rest → Tidy (words x) rest) →
+    (x : A) (xs : List A) → IsTrue (kept x) → list_all kept xs ≡ true → (rest : List ℕ) → Calm rest → Quiet rest →
+    Tidy (join_by words comma (x ∷ xs)) rest
 joined_tidy words kept t x [] k all rest calm q = tidy_append (words x) [] rest (t x k rest calm q) none
 joined_tidy words kept t x (y ∷ ys) k all rest calm q =
     let parts = and_parts (kept y) (list_all kept ys) all in
-    tidy_append (words x) (word (codes ",") ∷ blank ∷ join_by words comma (y ∷ ys)) rest (t x k _ refl refl) (next (comma_word _) (gap (joined_tidy words kept t y ys parts.0 parts.1 rest calm q)))
+    tidy_append (words x) (word (codes ",") ∷ blank ∷ join_by words comma (y ∷ ys)) rest (t x k _ refl refl)
+    (next (comma_word _) (gap (joined_tidy words kept t y ys parts.0 parts.1 rest calm q)))
 
 struct_tidy : (tree : StructTree) → IsTrue (kept_struct tree) → Free (struct_words tree)
 struct_tidy tree k rest =
     let parts = and_parts (is_ident tree.name) (some_kept kept_member tree.members) k in
-    next (struct_word _ refl) (gap (next (name_tidy tree.name parts.0 _ refl) (gap (next (open_curly _) (line_end (tidy_append (flat_map member_line tree.members) (word (codes "}") ∷ word (codes ";") ∷ newline ∷ []) rest (each_tidy member_line kept_member member_tidy tree.members (all_of tree.members parts.1) _) (next (close_curly _) (next (semicolon _) (line_end none)))))))))
+    next (struct_word _ refl) (gap (next (name_tidy tree.name parts.0 _ refl)
+    (gap (next (open_curly _) (line_end (tidy_append (flat_map member_line tree.members) (word (codes "}") ∷
+    word (codes ";") ∷ newline ∷ []) rest (each_tidy member_line kept_member member_tidy tree.members
+    (all_of tree.members parts.1) _) (next (close_curly _) (next (semicolon _) (line_end none)))))))))
   where
     all_of : (ms : List MemberTree) → IsTrue (some_kept kept_member ms) → list_all kept_member ms ≡ true
     all_of [] h = absurd (false≢true h)
     all_of (m ∷ ms) h = h
 
-const_from : (negative : Bool) (literal : Number) → IsTrue (fits literal) → Sound (minus_words negative ++ word (literal_text literal) ∷ [])
-const_from true literal k rest calm = next (minus_word _ (quiet (subst (λ x. Quiet (x ++ rest)) (sym (append-nil (literal_text literal))) (word_quiet (literal_text literal) rest kind.Integer (literal_some literal k) (literal_kind literal k))))) (next (literal_tidy literal k _ calm) none)
+const_from : (negative : Bool) (literal : Number) → IsTrue (fits literal) →
+    Sound (minus_words negative ++ word (literal_text literal) ∷ [])
+const_from true literal k rest calm = next (minus_word _
+    (quiet (subst (λ x. Quiet (x ++ rest)) (sym (append-nil (literal_text literal)))
+    (word_quiet (literal_text literal) rest kind.Integer (literal_some literal k) (literal_kind literal k)))))
+    (next (literal_tidy literal k _ calm) none)
 const_from false literal k rest calm = next (literal_tidy literal k _ calm) none
 
 init_tidy : (i : InitTree) → IsTrue (kept_init i) → Sound (init_words i)
@@ -109,9 +132,13 @@ init_tidy (init.One c) k rest calm = gap (next (equal_word _) (gap (const_from c
 init_tidy (init.Many []) k rest calm = absurd (false≢true k)
 init_tidy (init.Many (c ∷ cs)) k rest calm =
     let parts = and_parts (kept_const c) (list_all kept_const cs) k in
-    gap (next (equal_word _) (gap (next (open_curly _) (tidy_append (join_by const_words comma (c ∷ cs)) (word (codes "}") ∷ []) rest (joined_tidy const_words kept_const (λ x h r calm2 q. const_from x.negative x.literal h r calm2) c cs parts.0 parts.1 _ refl refl) (next (close_curly _) none)))))
+    gap (next (equal_word _) (gap (next (open_curly _)
+    (tidy_append (join_by const_words comma (c ∷ cs)) (word (codes "}") ∷ []) rest
+    (joined_tidy const_words kept_const (λ x h r calm2 q.
+    const_from x.negative x.literal h r calm2) c cs parts.0 parts.1 _ refl refl) (next (close_curly _) none)))))
 
-both_tidy : (a b : List Piece) → Sound a → Sound b → ((rest : List ℕ) → Calm rest → Calm (text_of b ++ rest)) → Sound (a ++ b)
+both_tidy : (a b : List Piece) → Sound a → Sound b → ((rest : List ℕ) → Calm rest → Calm (text_of b ++ rest)) →
+    Sound (a ++ b)
 both_tidy a b s t calm_at rest calm = tidy_append a b rest (s _ (calm_at rest calm)) (t rest calm)
 
 init_calm : (i : InitTree) (rest : List ℕ) → Calm rest → Calm (text_of (init_words i) ++ rest)
@@ -123,7 +150,9 @@ global_tidy : (g : GlobalTree) → IsTrue (kept_global g) → Free (global_words
 global_tidy g k rest =
     let parts = and_parts (kept_type g.ty) (is_ident g.name && kept_init g.init) k in
     let more = and_parts (is_ident g.name) (kept_init g.init) parts.1 in
-    tidy_append (ended (declared_words g.ty g.name ++ init_words g.init)) (newline ∷ []) rest (ended_tidy _ (both_tidy (declared_words g.ty g.name) (init_words g.init) (declared_tidy g.ty g.name parts.0 more.0) (init_tidy g.init more.1) (init_calm g.init)) _) (line_end none)
+    tidy_append (ended (declared_words g.ty g.name ++ init_words g.init)) (newline ∷ []) rest
+    (ended_tidy _ (both_tidy (declared_words g.ty g.name) (init_words g.init)
+    (declared_tidy g.ty g.name parts.0 more.0) (init_tidy g.init more.1) (init_calm g.init)) _) (line_end none)
 
 value_tidy : (v : Option ExprTree) → IsTrue (kept_value v) → Sound (value_words v)
 value_tidy None k rest calm = none
@@ -137,57 +166,79 @@ local_tidy : (l : LocalTree) → IsTrue (kept_local l) → Free (local_line l)
 local_tidy l k =
     let parts = and_parts (kept_type l.ty) (is_ident l.name && kept_value l.init) k in
     let more = and_parts (is_ident l.name) (kept_value l.init) parts.1 in
-    line_tidy 1 _ (ended_tidy _ (both_tidy (declared_words l.ty l.name) (value_words l.init) (declared_tidy l.ty l.name parts.0 more.0) (value_tidy l.init more.1) (value_calm l.init)))
+    line_tidy 1 _ (ended_tidy _ (both_tidy (declared_words l.ty l.name) (value_words l.init)
+    (declared_tidy l.ty l.name parts.0 more.0) (value_tidy l.init more.1) (value_calm l.init)))
 
 -- a result ends before a name
 result_tidy : (r : Option TypeName) → IsTrue (kept_result r) → (rest : List ℕ) → Quiet rest → Tidy (result_words r) rest
 result_tidy None k rest q = next (void_word _ refl) (gap none)
-result_tidy (Some ty) k rest q = tidy_append (base_words ty.base) (blank ∷ star_words ty.stars) rest (base_tidy ty.base k _ refl) (gap (stars_tidy ty.stars rest q))
+result_tidy (Some ty) k rest q = tidy_append (base_words ty.base) (blank ∷ star_words ty.stars) rest
+    (base_tidy ty.base k _ refl) (gap (stars_tidy ty.stars rest q))
 
-gap_if : (wanted : Bool) (pieces : List Piece) (rest : List ℕ) → Tidy pieces rest → Tidy (blank_if wanted ++ pieces) rest
+gap_if : (wanted : Bool) (pieces : List Piece) (rest : List ℕ) → Tidy pieces rest →
+    Tidy (blank_if wanted ++ pieces) rest
 gap_if true pieces rest t = gap t
 gap_if false pieces rest t = t
 
-calm_if : (wanted : Bool) (pieces : List Piece) (rest : List ℕ) → Calm (text_of pieces ++ rest) → Calm (text_of (blank_if wanted ++ pieces) ++ rest)
+calm_if : (wanted : Bool) (pieces : List Piece) (rest : List ℕ) → Calm (text_of pieces ++ rest) →
+    Calm (text_of (blank_if wanted ++ pieces) ++ rest)
 calm_if true pieces rest calm = refl
 calm_if false pieces rest calm = calm
 
-param_from : (b : BaseTree) (stars : ℕ) (name : Option (List ℕ)) → IsTrue (kept_base b) → IsTrue (kept_name name) → (rest : List ℕ) → Calm rest → Quiet rest → Tidy (base_words b ++ (blank_if (nat_lt 0 stars || is_some name) ++ (star_words stars ++ name_words name))) rest
+param_from : (b : BaseTree) (stars : ℕ) (name : Option (List ℕ)) → IsTrue (kept_base b) → IsTrue (kept_name name) →
+    (rest : List ℕ) → Calm rest → Quiet rest → Tidy (base_words b ++
+    (blank_if (nat_lt 0 stars || is_some name) ++ (star_words stars ++ name_words name))) rest
 param_from b zero None k ident rest calm q = tidy_append (base_words b) [] rest (base_tidy b k rest calm) none
 param_from b (suc n) None k ident rest calm q =
     let wanted = nat_lt 0 (suc n) || false in
     let pieces : List Piece = star_words (suc n) ++ [] in
-    tidy_append (base_words b) (blank_if wanted ++ pieces) rest (base_tidy b k _ (calm_if wanted pieces rest refl)) (gap_if wanted pieces rest (tidy_append (star_words (suc n)) [] rest (stars_tidy (suc n) rest q) none))
-param_from b zero (Some name) k ident rest calm q = tidy_append (base_words b) _ rest (base_tidy b k _ refl) (gap (next (name_tidy name ident _ calm) none))
+    tidy_append (base_words b) (blank_if wanted ++ pieces) rest (base_tidy b k _ (calm_if wanted pieces rest refl))
+    (gap_if wanted pieces rest (tidy_append (star_words (suc n)) [] rest (stars_tidy (suc n) rest q) none))
+param_from b zero (Some name) k ident rest calm q = tidy_append (base_words b) _ rest (base_tidy b k _ refl)
+    (gap (next (name_tidy name ident _ calm) none))
 param_from b (suc n) (Some name) k ident rest calm q =
     let wanted = nat_lt 0 (suc n) || true in
     let pieces : List Piece = star_words (suc n) ++ word name ∷ [] in
-    tidy_append (base_words b) (blank_if wanted ++ pieces) rest (base_tidy b k _ (calm_if wanted pieces rest refl)) (gap_if wanted pieces rest (tidy_append (star_words (suc n)) (word name ∷ []) rest (stars_tidy (suc n) _ (name_first name [] ident rest)) (next (name_tidy name ident _ calm) none)))
+    tidy_append (base_words b) (blank_if wanted ++ pieces) rest (base_tidy b k _ (calm_if wanted pieces rest refl))
+    (gap_if wanted pieces rest (tidy_append (star_words (suc n)) (word name ∷ []) rest
+    (stars_tidy (suc n) _ (name_first name [] ident rest)) (next (name_tidy name ident _ calm) none)))
 
-param_tidy : (p : ParamTree) → IsTrue (kept_param p) → (rest : List ℕ) → Calm rest → Quiet rest → Tidy (param_words p) rest
-param_tidy p k rest calm q = let parts = and_parts (kept_base p.ty.base) (kept_name p.name) k in param_from p.ty.base p.ty.stars p.name parts.0 parts.1 rest calm q
+param_tidy : (p : ParamTree) → IsTrue (kept_param p) → (rest : List ℕ) → Calm rest → Quiet rest →
+    Tidy (param_words p) rest
+param_tidy p k rest calm q = let parts = and_parts (kept_base p.ty.base) (kept_name p.name) k in
+    param_from p.ty.base p.ty.stars p.name parts.0 parts.1 rest calm q
 
-params_tidy : (ps : List ParamTree) → list_all kept_param ps ≡ true → (rest : List ℕ) → Calm rest → Quiet rest → Tidy (params_words ps) rest
+params_tidy : (ps : List ParamTree) → list_all kept_param ps ≡ true → (rest : List ℕ) → Calm rest → Quiet rest →
+    Tidy (params_words ps) rest
 params_tidy [] k rest calm q = next (void_word _ calm) none
-params_tidy (p ∷ ps) k rest calm q = let parts = and_parts (kept_param p) (list_all kept_param ps) k in joined_tidy param_words kept_param param_tidy p ps parts.0 parts.1 rest calm q
+params_tidy (p ∷ ps) k rest calm q = let parts = and_parts (kept_param p) (list_all kept_param ps) k in
+    joined_tidy param_words kept_param param_tidy p ps parts.0 parts.1 rest calm q
 
 head_tidy : (head : HeadTree) → IsTrue (kept_head head) → Free (head_words head)
 head_tidy head k rest =
     let parts = and_parts (kept_result head.result) (is_ident head.name && list_all kept_param head.params) k in
     let more = and_parts (is_ident head.name) (list_all kept_param head.params) parts.1 in
-    tidy_append (result_words head.result) _ rest (result_tidy head.result parts.0 _ (name_first head.name (word (codes "(") ∷ (params_words head.params ++ word (codes ")") ∷ [])) more.0 rest)) (next (name_tidy head.name more.0 _ refl) (next (open_paren _) (tidy_append (params_words head.params) (word (codes ")") ∷ []) rest (params_tidy head.params more.1 _ refl refl) (next (close_paren _) none))))
+    tidy_append (result_words head.result) _ rest (result_tidy head.result parts.0 _
+    (name_first head.name (word (codes "(") ∷ (params_words head.params ++ word (codes ")") ∷ [])) more.0 rest))
+    (next (name_tidy head.name more.0 _ refl) (next (open_paren _)
+    (tidy_append (params_words head.params) (word (codes ")") ∷ []) rest
+    (params_tidy head.params more.1 _ refl refl) (next (close_paren _) none))))
 
 function_tidy : (f : FunctionTree) → IsTrue (kept_function f) → Free (function_words f)
 function_tidy f k rest =
     let parts = and_parts (kept_head (head_of f.head)) (list_all kept_local f.locals && are_kept f.body) k in
     let more = and_parts (list_all kept_local f.locals) (are_kept f.body) parts.1 in
-    let body = tidy_append (lines_at 1 (layouts f.body)) (word (codes "}") ∷ newline ∷ []) rest (stmts_tidy f.body more.1 1 _) (next (close_curly _) (line_end none)) in
-    line_end (tidy_append (head_words (head_of f.head)) _ rest (head_tidy (head_of f.head) parts.0 _) (gap (next (open_curly _) (line_end (tidy_append (flat_map local_line f.locals) _ rest (each_tidy local_line kept_local local_tidy f.locals more.0 _) body)))))
+    let body = tidy_append (lines_at 1 (layouts f.body)) (word (codes "}") ∷ newline ∷ []) rest
+    (stmts_tidy f.body more.1 1 _) (next (close_curly _) (line_end none)) in
+    line_end (tidy_append (head_words (head_of f.head)) _ rest (head_tidy (head_of f.head) parts.0 _)
+    (gap (next (open_curly _) (line_end (tidy_append (flat_map local_line f.locals) _ rest
+    (each_tidy local_line kept_local local_tidy f.locals more.0 _) body)))))
 
 pub decl_tidy : (d : Decl) → IsTrue (is_kept_decl d) → Free (decl_words d)
 decl_tidy (decl.Struct tree) k rest = struct_tidy tree k rest
 decl_tidy (decl.Global tree) k rest = global_tidy tree k rest
-decl_tidy (decl.Proto tree) k rest = tidy_append (ended (head_words tree)) (newline ∷ []) rest (ended_tidy (head_words tree) (λ r calm. head_tidy tree k r) _) (line_end none)
+decl_tidy (decl.Proto tree) k rest = tidy_append (ended (head_words tree)) (newline ∷ []) rest
+    (ended_tidy (head_words tree) (λ r calm. head_tidy tree k r) _) (line_end none)
 decl_tidy (decl.Function tree) k rest = function_tidy tree k rest
 
 pub decls_tidy : (ds : List Decl) → list_all is_kept_decl ds ≡ true → Free (flat_map decl_words ds)

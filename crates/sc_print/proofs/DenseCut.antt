@@ -40,7 +40,8 @@ decl_symbols (decl.Function tree) = refl
 decls_symbols : (ds : List Decl) → symbols (flat_map dense_decl ds) ≡ symbols (flat_map decl_words ds)
 decls_symbols [] = refl
 decls_symbols (d ∷ ds) =
-    joined_symbols (dense_decl d) (flat_map dense_decl ds) ∙ ap₂ (λ a b. a ++ b) (decl_symbols d) (decls_symbols ds) ∙ sym (joined_symbols (decl_words d) (flat_map decl_words ds))
+    joined_symbols (dense_decl d) (flat_map dense_decl ds) ∙ ap₂ (λ a b. a ++ b) (decl_symbols d) (decls_symbols ds) ∙
+    sym (joined_symbols (decl_words d) (flat_map decl_words ds))
 
 section_symbols : (tree : SectionTree) → symbols (dense_words tree) ≡ symbols (section_words tree)
 section_symbols tree =
@@ -49,15 +50,23 @@ section_symbols tree =
     let dense : List Piece = flat_map dense_decl tree.decls in
     let decls : List Piece = flat_map decl_words tree.decls in
     let heading : List Piece = heading_words tree.name in
-    let inner : symbols (imports ++ dense) ≡ symbols (imports ++ decls) = joined_symbols imports dense ∙ ap (λ s. symbols imports ++ s) (decls_symbols tree.decls) ∙ sym (joined_symbols imports decls) in
-    let outer : symbols (exports ++ (imports ++ dense)) ≡ symbols (exports ++ (imports ++ decls)) = joined_symbols exports (imports ++ dense) ∙ ap (λ s. symbols exports ++ s) inner ∙ sym (joined_symbols exports (imports ++ decls)) in
-    joined_symbols heading (exports ++ (imports ++ dense)) ∙ ap (λ s. symbols heading ++ s) outer ∙ sym (joined_symbols heading (exports ++ (imports ++ decls)))
+    let inner : symbols (imports ++ dense) ≡ symbols (imports ++ decls) =
+    joined_symbols imports dense ∙ ap (λ s. symbols imports ++ s) (decls_symbols tree.decls) ∙
+    sym (joined_symbols imports decls) in
+    let outer : symbols (exports ++ (imports ++ dense)) ≡ symbols (exports ++ (imports ++ decls)) =
+    joined_symbols exports (imports ++ dense) ∙ ap (λ s. symbols exports ++ s) inner ∙
+    sym (joined_symbols exports (imports ++ decls)) in
+    joined_symbols heading (exports ++ (imports ++ dense)) ∙ ap (λ s. symbols heading ++ s) outer ∙
+    sym (joined_symbols heading (exports ++ (imports ++ decls)))
 
-pub dense_cut : (tree : SectionTree) → IsTrue (kept_section tree) → SaysAll (dense_text tree) (symbols (section_words tree))
+pub dense_cut : (tree : SectionTree) → IsTrue (kept_section tree) →
+    SaysAll (dense_text tree) (symbols (section_words tree))
 dense_cut tree k =
     let kept = keeps tree k in
     let decls = each_tidy dense_decl is_kept_decl dense_tidy tree.decls kept.decls [] in
-    let lined : Lined (dense_words tree) = line (heading_line_is tree.name kept.name) (exports_lined tree.exports kept.exports _ (imports_lined tree.imports kept.imports _ (tidy decls))) in
-    let behind : List Piece = flat_map export_words tree.exports ++ (flat_map import_words tree.imports ++ flat_map dense_decl tree.decls) in
+    let lined : Lined (dense_words tree) = line (heading_line_is tree.name kept.name)
+    (exports_lined tree.exports kept.exports _ (imports_lined tree.imports kept.imports _ (tidy decls))) in
+    let behind : List Piece = flat_map export_words tree.exports ++
+    (flat_map import_words tree.imports ++ flat_map dense_decl tree.decls) in
     let found = found_lines (dense_text tree) (heading_front tree.name (10 ∷ text_of behind)) lined [] refl refl in
     record { tokens = found.tokens; cut = found.cuts; says = found.says ∙ section_symbols tree }

@@ -20,13 +20,15 @@ use Rattle.sc_ast.proofs.Statements.{bare_stmt, tree_height, if_height, while_he
 use Rattle.sc_ast.proofs.Induction.{Each, Inside, everywhere, stmt_induction}
 
 -- kinds with statements inside
-bare_if : (c : ExprTree) (t e : List StmtTree) → lineless_kind (stmt.If c t e) ≡ stmt.If c (lineless_stmts t) (lineless_stmts e)
+bare_if : (c : ExprTree) (t e : List StmtTree) → lineless_kind (stmt.If c t e) ≡
+    stmt.If c (lineless_stmts t) (lineless_stmts e)
 bare_if c t e = search (rules, kinds.the_lemmas, trees.the_lemmas)
 
 bare_while : (c : ExprTree) (b : List StmtTree) → lineless_kind (stmt.While c b) ≡ stmt.While c (lineless_stmts b)
 bare_while c b = search (rules, kinds.the_lemmas, trees.the_lemmas)
 
-bare_for : (f : Option SimpleTree) (c : ExprTree) (n : Option SimpleTree) (b : List StmtTree) → lineless_kind (stmt.For f c n b) ≡ stmt.For (lineless_option f) c (lineless_option n) (lineless_stmts b)
+bare_for : (f : Option SimpleTree) (c : ExprTree) (n : Option SimpleTree) (b : List StmtTree) →
+    lineless_kind (stmt.For f c n b) ≡ stmt.For (lineless_option f) c (lineless_option n) (lineless_stmts b)
 bare_for f c n b = search (rules, kinds.the_lemmas, trees.the_lemmas)
 
 bare_option : (s : Option SimpleTree) → option_height (lineless_option s) ≡ option_height s
@@ -40,18 +42,22 @@ each_same : (stmts : List StmtTree) → Each Same stmts → stmts_height (linele
 each_same [] h = refl
 each_same (s ∷ stmts) h = ap₂ max h.0 (each_same stmts h.1)
 
-kind_same : (k : StmtKind-F StmtKind StmtTree) → Inside Same k → kind_height (lineless_kind (roll-StmtKind k)) ≡ kind_height (roll-StmtKind k)
+kind_same : (k : StmtKind-F StmtKind StmtTree) → Inside Same k →
+    kind_height (lineless_kind (roll-StmtKind k)) ≡ kind_height (roll-StmtKind k)
 unfolding roll-StmtKind denote.Hole.Carrier.roll
 kind_same layer.Empty h = search (rules, kinds.the_lemmas, trees.the_lemmas)
 kind_same (layer.Assign place value) h = search (rules, kinds.the_lemmas, trees.the_lemmas)
 kind_same (layer.AssignCall place call) h = search (rules, kinds.the_lemmas, trees.the_lemmas)
 kind_same (layer.Call call) h = search (rules, kinds.the_lemmas, trees.the_lemmas)
-kind_same (layer.If c t e) h = ap kind_height (bare_if c t e) ∙ if_height c (lineless_stmts t) (lineless_stmts e) ∙ ap₂ (λ a b. max (expr_height c) (max a b)) (each_same t h.0) (each_same e h.1) ∙ sym (if_height c t e)
-kind_same (layer.While c b) h = ap kind_height (bare_while c b) ∙ while_height c (lineless_stmts b) ∙ ap (λ a. max (expr_height c) a) (each_same b h) ∙ sym (while_height c b)
+kind_same (layer.If c t e) h = ap kind_height (bare_if c t e) ∙ if_height c (lineless_stmts t) (lineless_stmts e) ∙
+    ap₂ (λ a b. max (expr_height c) (max a b)) (each_same t h.0) (each_same e h.1) ∙ sym (if_height c t e)
+kind_same (layer.While c b) h = ap kind_height (bare_while c b) ∙ while_height c (lineless_stmts b) ∙
+    ap (λ a. max (expr_height c) a) (each_same b h) ∙ sym (while_height c b)
 kind_same (layer.For f c n b) h =
     ap kind_height (bare_for f c n b) ∙ for_height (lineless_option f) c (lineless_option n) (lineless_stmts b)
     ∙ ap₂ (λ x y. max (max x y) (max (expr_height c) (stmts_height (lineless_stmts b)))) (bare_option f) (bare_option n)
-    ∙ ap (λ a. max (max (option_height f) (option_height n)) (max (expr_height c) a)) (each_same b h) ∙ sym (for_height f c n b)
+    ∙ ap (λ a. max (max (option_height f) (option_height n)) (max (expr_height c) a)) (each_same b h) ∙
+    sym (for_height f c n b)
 kind_same layer.Break h = search (rules, kinds.the_lemmas, trees.the_lemmas)
 kind_same layer.Continue h = search (rules, kinds.the_lemmas, trees.the_lemmas)
 kind_same layer.Return h = search (rules, kinds.the_lemmas, trees.the_lemmas)
@@ -59,7 +65,9 @@ kind_same (layer.ReturnValue value) h = search (rules, kinds.the_lemmas, trees.t
 kind_same (layer.ReturnCall call) h = search (rules, kinds.the_lemmas, trees.the_lemmas)
 
 stmt_same : (s : StmtTree) → Same s
-stmt_same = stmt_induction Same (λ line k h. ap stmt_height (bare_stmt line (roll-StmtKind k)) ∙ tree_height 0 (lineless_kind (roll-StmtKind k)) ∙ ap (λ n. n + 1) (kind_same k h) ∙ sym (tree_height line (roll-StmtKind k)))
+stmt_same = stmt_induction Same (λ line k h. ap stmt_height (bare_stmt line (roll-StmtKind k)) ∙
+    tree_height 0 (lineless_kind (roll-StmtKind k)) ∙ ap (λ n. n + 1) (kind_same k h) ∙
+    sym (tree_height line (roll-StmtKind k)))
 
 locals_same : (locals : List LocalTree) → locals_height (map lineless_local locals) ≡ locals_height locals
 locals_same [] = refl
@@ -69,7 +77,8 @@ decl_same : (d : Decl) → decl_height (lineless_decl d) ≡ decl_height d
 decl_same (decl.Struct tree) = refl
 decl_same (decl.Global tree) = refl
 decl_same (decl.Proto tree) = refl
-decl_same (decl.Function tree) = ap₂ max (locals_same tree.locals) (each_same tree.body (everywhere Same stmt_same tree.body))
+decl_same (decl.Function tree) = ap₂ max (locals_same tree.locals)
+    (each_same tree.body (everywhere Same stmt_same tree.body))
 
 decls_same : (ds : List Decl) → decls_height (map lineless_decl ds) ≡ decls_height ds
 decls_same [] = refl

@@ -53,4 +53,5 @@ parts_of (s ∷ ss) us ts h =
 -- what is spelled at a level is spelled at each looser one
 pub up_to : (a b : ℕ) (ts : List Lexeme) (e : ExprTree) → a ≤ b → Spells a ts e → Spells b ts e
 up_to a zero ts e h d = subst (λ n. Spells n ts e) (omega (arith, h)) d
-up_to a (suc b) ts e h d = ⊎_elim (λ less. looser (up_to a b ts e (omega (arith, less)) d)) (λ le. subst (λ n. Spells n ts e) (omega (arith, h, le)) d) (cases_lt a (suc b))
+up_to a (suc b) ts e h d = ⊎_elim (λ less. looser (up_to a b ts e (omega (arith, less)) d))
+    (λ le. subst (λ n. Spells n ts e) (omega (arith, h, le)) d) (cases_lt a (suc b))

@@ -42,7 +42,8 @@ digit_of d h =
     (value, ap (λ x. nat_lt x 10) value ∙ lt-ltb d 10 h)
 
 pushed : (ds : List ℕ) (d : ℕ) → d < 10 → number 10 (ds ++ (48 + d) ∷ []) ≡ number 10 ds * 10 + d
-pushed ds d h = fold-append (λ value digit. value * 10 + digit_value digit) 0 ds ((48 + d) ∷ []) ∙ ap (λ x. number 10 ds * 10 + x) (digit_of d h).0
+pushed ds d h = fold-append (λ value digit. value * 10 + digit_value digit) 0 ds ((48 + d) ∷ []) ∙
+    ap (λ x. number 10 ds * 10 + x) (digit_of d h).0
 
 first_kept : (ds es : List ℕ) → 0 < length ds → slice_index (ds ++ es) 0 ≡ slice_index ds 0
 first_kept [] es h = absurd (omega (arith, h))
@@ -53,7 +54,8 @@ decimal_is = decimal_by_steps Decimal
     (λ n h. record {
       some = omega arith;
       digits = rw (digit_of n h).1;
-      value = let v = (digit_of n h).0 in let plus : 0 * 10 + digit_value (48 + n) ≡ digit_value (48 + n) = omega arith in plus ∙ v;
+      value = let v = (digit_of n h).0 in let plus : 0 * 10 + digit_value (48 + n) ≡ digit_value (48 + n) =
+          omega arith in plus ∙ v;
       no_zero = λ positive e. omega (arith, positive, e);
       low = omega (arith, h);
       high = omega arith;
@@ -65,7 +67,8 @@ decimal_is = decimal_by_steps Decimal
     let whole : n / 10 * 10 + n % 10 ≡ n = omega arith in
     let long : length (ds ++ (48 + n % 10) ∷ []) ≡ length ds + 1 = length-append ds ((48 + n % 10) ∷ []) in
     let before : length ds + 1 - 1 ≡ length ds = omega arith in
-    let end : slice_index (ds ++ (48 + n % 10) ∷ []) (length (ds ++ (48 + n % 10) ∷ []) - 1) ≡ 48 + n % 10 = rw (long, before) (get_or-append_seam ds (48 + n % 10) [] 0) in
+    let end : slice_index (ds ++ (48 + n % 10) ∷ []) (length (ds ++ (48 + n % 10) ∷ []) - 1) ≡ 48 + n % 10 =
+    rw (long, before) (get_or-append_seam ds (48 + n % 10) [] 0) in
     record {
       some = omega (arith, long);
       digits = list_all-append (λ x. is_digit 10 x) ds ((48 + n % 10) ∷ []) ∙ rw (d.digits, (digit_of (n % 10) rest).1);
@@ -77,11 +80,13 @@ decimal_is = decimal_by_steps Decimal
     })
 
 -- no word of the table begins with such a byte
-pub no_table : (p : List ℕ → Bool) (table : List (List ℕ)) (text : List ℕ) → list_all p table ≡ true → p text ≡ false → list_any (λ w. bytes_eq text w) table ≡ false
+pub no_table : (p : List ℕ → Bool) (table : List (List ℕ)) (text : List ℕ) → list_all p table ≡ true → p text ≡ false →
+    list_any (λ w. bytes_eq text w) table ≡ false
 no_table p [] text h q = refl
 no_table p (w ∷ table) text h q =
     let parts = and_parts (p w) (list_all p table) h in
-    let other : bytes_eq text w ≡ false = false_from_ne_true (bytes_eq text w) (λ same. let e : text ≡ w = (bytes_eq-Decides text w).0 same in false≢true (sym q ∙ ap p e ∙ parts.0)) in
+    let other : bytes_eq text w ≡ false = false_from_ne_true (bytes_eq text w)
+    (λ same. let e : text ≡ w = (bytes_eq-Decides text w).0 same in false≢true (sym q ∙ ap p e ∙ parts.0)) in
     rw (other, no_table p table text parts.1 q)
 
 no_first : (b : ℕ) → b ≤ 57 → is_nondigit b ≡ false
@@ -96,7 +101,8 @@ no_first b h = false_from_ne_true (is_nondigit b) (λ q.
 -- a constant is no reserved word and no name
 no_reserved : (text : List ℕ) → slice_index text 0 ≤ 57 → is_reserved text ≡ false
 unfolding is_reserved
-no_reserved text h = no_table (λ w. is_nondigit (slice_index w 0)) reserved_words text refl (no_first (slice_index text 0) h)
+no_reserved text h = no_table (λ w. is_nondigit (slice_index w 0)) reserved_words text refl
+    (no_first (slice_index text 0) h)
 
 no_name : (text : List ℕ) → slice_index text 0 ≤ 57 → is_name text ≡ false
 unfolding is_name
@@ -106,7 +112,8 @@ no_name (b ∷ text) h = ap (λ x. x && (list_all is_name_byte text && nat_lt (l
 abbrev suffix : Bool → List ℕ
 suffix u = if u then codes "u" else []
 
-made : (v w : ℕ) (a b : Bool) → v ≡ w → a ≡ b → ◌≡◌ {A = Option IntegerConstant} (Some (record { value = v; unsigned = a })) (Some (record { value = w; unsigned = b }))
+made : (v w : ℕ) (a b : Bool) → v ≡ w → a ≡ b → ◌≡◌ {A = Option IntegerConstant}
+    (Some (record { value = v; unsigned = a })) (Some (record { value = w; unsigned = b }))
 made v w a b p q = rw (p, q)
 
 module _ (n : ℕ) (ds : List ℕ) (positive : 0 < n) (d : Decimal n ds) where
@@ -161,36 +168,46 @@ module _ (n : ℕ) (ds : List ℕ) (positive : 0 < n) (d : Decimal n ds) where
   value_is : (u : Bool) → value_of (ds ++ suffix u) ≡ n
   value_is u = rw (body_is u, base_is, digits_are) d.value
 
-  constant_is : (u : Bool) → IsTrue (fits (record { value = n; unsigned = u })) → integer_of (ds ++ suffix u) ≡ Some (record { value = n; unsigned = u })
+  constant_is : (u : Bool) → IsTrue (fits (record { value = n; unsigned = u })) →
+      integer_of (ds ++ suffix u) ≡ Some (record { value = n; unsigned = u })
   unfolding integer_of
   constant_is u h =
-      let e : is_unsigned (ds ++ suffix u) ≡ u = ap (λ x. x || nat_lt 2147483647 (value_of (ds ++ suffix u))) (suffix_is u) ∙ ap (λ x. u || nat_lt 2147483647 x) (value_is u) ∙ not_unsigned u h in
+      let e : is_unsigned (ds ++ suffix u) ≡ u = ap (λ x. x || nat_lt 2147483647 (value_of (ds ++ suffix u)))
+      (suffix_is u) ∙ ap (λ x. u || nat_lt 2147483647 x) (value_is u) ∙ not_unsigned u h in
       rw (is_constant u h) (made _ _ _ _ (value_is u) e)
 
-  number_is : (u : Bool) → IsTrue (fits (record { value = n; unsigned = u })) → number_of n u ≡ Some (record { value = n; unsigned = u })
+  number_is : (u : Bool) → IsTrue (fits (record { value = n; unsigned = u })) →
+      number_of n u ≡ Some (record { value = n; unsigned = u })
   number_is true h = refl
   number_is false h = let e = in_range false h in rw e
 
   low_text : (u : Bool) → slice_index (ds ++ suffix u) 0 ≤ 57
   low_text u = let e = first_kept ds (suffix u) d.some in rw e d.low
 
-  positive_says : (u : Bool) → IsTrue (fits (record { value = n; unsigned = u })) → word_symbol (ds ++ suffix u) ≡ symbol.Integer (record { value = n; unsigned = u })
+  positive_says : (u : Bool) → IsTrue (fits (record { value = n; unsigned = u })) →
+      word_symbol (ds ++ suffix u) ≡ symbol.Integer (record { value = n; unsigned = u })
   unfolding word_symbol kind_of word_kind says
   positive_says u h =
       let free = no_reserved (ds ++ suffix u) (low_text u) in
       let unnamed = no_name (ds ++ suffix u) (low_text u) in
       rw (free, unnamed, is_constant u h) (rw (constant_is u h) (rw (number_is u h)))
 
-  positive_kind : (u : Bool) → IsTrue (fits (record { value = n; unsigned = u })) → word_kind (ds ++ suffix u) ≡ Some kind.Integer
+  positive_kind : (u : Bool) → IsTrue (fits (record { value = n; unsigned = u })) →
+      word_kind (ds ++ suffix u) ≡ Some kind.Integer
   unfolding word_kind
-  positive_kind u h = rw (no_reserved (ds ++ suffix u) (low_text u), no_name (ds ++ suffix u) (low_text u), is_constant u h)
+  positive_kind u h = rw (
+    no_reserved (ds ++ suffix u) (low_text u),
+    no_name (ds ++ suffix u) (low_text u),
+    is_constant u h,
+  )
 
 zero_kind : (u : Bool) → word_kind ((48 ∷ []) ++ suffix u) ≡ Some kind.Integer
 unfolding word_kind is_reserved is_name is_integer is_number
 zero_kind true = refl
 zero_kind false = refl
 
-value_kind : (n : ℕ) (u : Bool) → IsTrue (fits (record { value = n; unsigned = u })) → word_kind (decimal n ++ suffix u) ≡ Some kind.Integer
+value_kind : (n : ℕ) (u : Bool) → IsTrue (fits (record { value = n; unsigned = u })) →
+    word_kind (decimal n ++ suffix u) ≡ Some kind.Integer
 value_kind zero u h = rw (decimal_digit 0 (omega arith)) (zero_kind u)
 value_kind (suc n) u h =
     let le = leb-true (suc n) 4294967295 (and_parts (u || nat_le (suc n) 2147483647) (nat_le (suc n) 4294967295) h).1 in
@@ -202,7 +219,8 @@ literal_kind number h = value_kind number.value number.unsigned h
 
 pub literal_some : (number : Number) → IsTrue (fits number) → 0 < length (literal_text number)
 literal_some number h =
-    let le = leb-true number.value 4294967295 (and_parts (number.unsigned || nat_le number.value 2147483647) (nat_le number.value 4294967295) h).1 in
+    let le = leb-true number.value 4294967295 (and_parts (number.unsigned || nat_le number.value 2147483647)
+    (nat_le number.value 4294967295) h).1 in
     let some = (decimal_is number.value (omega (arith, le))).some in
     let long = length-append (decimal number.value) (suffix number.unsigned) in
     omega (arith, some, long)
@@ -212,7 +230,8 @@ unfolding word_symbol kind_of word_kind is_reserved is_name is_integer is_number
 zero_says true = refl
 zero_says false = refl
 
-value_says : (n : ℕ) (u : Bool) → IsTrue (fits (record { value = n; unsigned = u })) → word_symbol (decimal n ++ suffix u) ≡ symbol.Integer (record { value = n; unsigned = u })
+value_says : (n : ℕ) (u : Bool) → IsTrue (fits (record { value = n; unsigned = u })) →
+    word_symbol (decimal n ++ suffix u) ≡ symbol.Integer (record { value = n; unsigned = u })
 value_says zero u h = rw (decimal_digit 0 (omega arith)) (zero_says u)
 value_says (suc n) u h =
     let le = leb-true (suc n) 4294967295 (and_parts (u || nat_le (suc n) 2147483647) (nat_le (suc n) 4294967295) h).1 in

@@ -32,18 +32,21 @@ pub data Tidy : List Piece → List ℕ → Type 0 where
   gap : {pieces : List Piece} {rest : List ℕ} → Tidy pieces rest → Tidy (blank ∷ pieces) rest
   at_level : {pieces : List Piece} {rest : List ℕ} (levels : ℕ) → Tidy pieces rest → Tidy (indent levels ∷ pieces) rest
   line_end : {pieces : List Piece} {rest : List ℕ} → Tidy pieces rest → Tidy (newline ∷ pieces) rest
-  next : {text : List ℕ} {pieces : List Piece} {rest : List ℕ} → IsWord text (text_of pieces ++ rest) → Tidy pieces rest → Tidy (word text ∷ pieces) rest
+  next : {text : List ℕ} {pieces : List Piece} {rest : List ℕ} → IsWord text (text_of pieces ++ rest) →
+      Tidy pieces rest → Tidy (word text ∷ pieces) rest
 
 behind : (a b : List Piece) (rest : List ℕ) → text_of (a ++ b) ++ rest ≡ text_of a ++ (text_of b ++ rest)
 behind a b rest = ap (λ x. x ++ rest) (flat_map-append piece_text a b) ∙ append_assoc (text_of a) (text_of b) rest
 
-go_on : (b : List Piece) (rest : List ℕ) {a : List Piece} {r : List ℕ} → Tidy a r → r ≡ text_of b ++ rest → Tidy b rest → Tidy (a ++ b) rest
+go_on : (b : List Piece) (rest : List ℕ) {a : List Piece} {r : List ℕ} → Tidy a r → r ≡ text_of b ++ rest →
+    Tidy b rest → Tidy (a ++ b) rest
 go_on b rest none e d = d
 go_on b rest (gap t) e d = gap (go_on b rest t e d)
 go_on b rest (at_level levels t) e d = at_level levels (go_on b rest t e d)
 go_on b rest (line_end t) e d = line_end (go_on b rest t e d)
 go_on b rest (next {text = text} {pieces = pieces} {rest = r} w t) e d =
-    next (subst (λ x. IsWord text x) (ap (λ x. text_of pieces ++ x) e ∙ sym (behind pieces b rest)) w) (go_on b rest t e d)
+    next (subst (λ x. IsWord text x) (ap (λ x. text_of pieces ++ x) e ∙ sym (behind pieces b rest)) w)
+    (go_on b rest t e d)
 
 pub tidy_append : (a b : List Piece) (rest : List ℕ) → Tidy a (text_of b ++ rest) → Tidy b rest → Tidy (a ++ b) rest
 tidy_append a b rest t d = go_on b rest t refl d
@@ -53,10 +56,19 @@ pub other : (b n : ℕ) → is_name_byte b ≡ true → is_name_byte n ≡ false
 other b n h q = ne_eqb b n (λ e. false≢true (sym q ∙ ap is_name_byte (sym e) ∙ h))
 
 name_quiet : (b : ℕ) → is_name_byte b ≡ true → is_loud b ≡ false
-name_quiet b h = rw (other b 43 h refl, other b 45 h refl, other b 38 h refl, other b 124 h refl, other b 60 h refl, other b 61 h refl, other b 62 h refl)
+name_quiet b h = rw (
+  other b 43 h refl,
+  other b 45 h refl,
+  other b 38 h refl,
+  other b 124 h refl,
+  other b 60 h refl,
+  other b 61 h refl,
+  other b 62 h refl,
+)
 
 pub word_quiet : (text rest : List ℕ) (k : TokenKind) → 0 < length text → word_kind text ≡ Some k → Quiet (text ++ rest)
-word_quiet text rest k some is = name_quiet (slice_index (text ++ rest) 0) (starts text rest some (word_run text k is).run.all)
+word_quiet text rest k some is = name_quiet (slice_index (text ++ rest) 0)
+    (starts text rest some (word_run text k is).run.all)
 
 -- what is told of the front of an expression of the two tightest levels
 abbrev Leads : List ℕ → ℕ → List ℕ → Type 0
@@ -65,7 +77,8 @@ Leads before level text = (level ≡ 0 → Quiet text) × (level ≡ 1 → Opens
 from_quiet : (before : List ℕ) (level : ℕ) (text : List ℕ) → Quiet text → Leads before level text
 from_quiet before level text q = (λ e. q, λ e. quiet q)
 
-quiet_append : (a b : List Piece) (rest : List ℕ) → Quiet (text_of a ++ (text_of b ++ rest)) → Quiet (text_of (a ++ b) ++ rest)
+quiet_append : (a b : List Piece) (rest : List ℕ) → Quiet (text_of a ++ (text_of b ++ rest)) →
+    Quiet (text_of (a ++ b) ++ rest)
 quiet_append a b rest q = subst (λ x. Quiet x) (sym (behind a b rest)) q
 
 -- pieces that stand apart, whatever calm text is behind them
@@ -73,11 +86,15 @@ abbrev pub Sound : List Piece → Type 0
 Sound pieces = (rest : List ℕ) → Calm rest → Tidy pieces rest
 
 parens_tidy : (wanted : Bool) (pieces : List Piece) → Sound pieces → Sound (in_parens wanted pieces)
-parens_tidy true pieces t rest calm = next (open_paren _) (tidy_append pieces (word (codes ")") ∷ []) rest (t (text_of (word (codes ")") ∷ []) ++ rest) refl) (next (close_paren _) none))
+parens_tidy true pieces t rest calm = next (open_paren _) (tidy_append pieces (word (codes ")") ∷ []) rest
+    (t (text_of (word (codes ")") ∷ []) ++ rest) refl) (next (close_paren _) none))
 parens_tidy false pieces t rest calm = subst (λ x. Tidy x rest) (sym (append-nil pieces)) (t rest calm)
 
 -- an operator in front of an operand
-module _ (c : ℕ) (word_at : (rest : List ℕ) → Opens (c ∷ []) rest → IsWord (c ∷ []) rest) (opens : (before text : List ℕ) → (bytes_eq before (c ∷ []) && is_doubled (c ∷ [])) ≡ false → Opens before (c ∷ text)) (of : Printed) (inner : (rest : List ℕ) → Calm rest → Tidy (of (c ∷ []) 1) rest × Opens (c ∷ []) (text_of (of (c ∷ []) 1) ++ rest)) where
+module _ (c : ℕ) (word_at : (rest : List ℕ) → Opens (c ∷ []) rest → IsWord (c ∷ []) rest)
+    (opens : (before text : List ℕ) → (bytes_eq before (c ∷ []) && is_doubled (c ∷ [])) ≡ false →
+    Opens before (c ∷ text)) (of : Printed) (inner : (rest : List ℕ) → Calm rest →
+    Tidy (of (c ∷ []) 1) rest × Opens (c ∷ []) (text_of (of (c ∷ []) 1) ++ rest)) where
   signed : List Piece
   signed = word (c ∷ []) ∷ of (c ∷ []) 1
 
@@ -88,52 +105,76 @@ module _ (c : ℕ) (word_at : (rest : List ℕ) → Opens (c ∷ []) rest → Is
   with_gap true rest calm = let i = inner rest calm in gap (next (word_at _ i.1) i.0)
   with_gap false rest calm = let i = inner rest calm in next (word_at _ i.1) i.0
 
-  opens_at : (before : List ℕ) (wanted : Bool) → (bytes_eq before (c ∷ []) && is_doubled (c ∷ [])) ≡ wanted → (rest : List ℕ) → Opens before (text_of (in_parens false ((if wanted then blank ∷ [] else []) ++ word (c ∷ []) ∷ of (c ∷ []) 1)) ++ rest)
+  opens_at : (before : List ℕ) (wanted : Bool) → (bytes_eq before (c ∷ []) && is_doubled (c ∷ [])) ≡ wanted →
+      (rest : List ℕ) → Opens before (text_of (in_parens false
+      ((if wanted then blank ∷ [] else []) ++ word (c ∷ []) ∷ of (c ∷ []) 1)) ++ rest)
   opens_at before true q rest = quiet refl
   opens_at before false q rest = opens before _ q
 
-  prefix_tidy : (before : List ℕ) (level : ℕ) (rest : List ℕ) → Calm rest → Tidy (prefix_words (c ∷ []) of before level) rest × Leads before level (text_of (prefix_words (c ∷ []) of before level) ++ rest)
+  prefix_tidy : (before : List ℕ) (level : ℕ) (rest : List ℕ) → Calm rest →
+      Tidy (prefix_words (c ∷ []) of before level) rest ×
+      Leads before level (text_of (prefix_words (c ∷ []) of before level) ++ rest)
   prefix_tidy before level rest calm = (
     parens_tidy (nat_lt level 1) _ (with_gap (bytes_eq before (c ∷ []) && is_doubled (c ∷ []))) rest calm,
     (
       λ e. subst (λ n. Quiet (text_of (prefix_words (c ∷ []) of before n) ++ rest)) (sym e) refl,
-      λ e. subst (λ n. Opens before (text_of (prefix_words (c ∷ []) of before n) ++ rest)) (sym e) (opens_at before (bytes_eq before (c ∷ []) && is_doubled (c ∷ [])) refl rest),
+      λ e. subst (λ n. Opens before (text_of (prefix_words (c ∷ []) of before n) ++ rest)) (sym e)
+          (opens_at before (bytes_eq before (c ∷ []) && is_doubled (c ∷ [])) refl rest),
     ),
   )
 
 abbrev Holds : ExprTree → Type 0
-Holds e = IsTrue (is_kept e) → (before : List ℕ) (level : ℕ) (rest : List ℕ) → Calm rest → Tidy (words_at e before level) rest × Leads before level (text_of (words_at e before level) ++ rest)
+Holds e = IsTrue (is_kept e) → (before : List ℕ) (level : ℕ) (rest : List ℕ) → Calm rest →
+    Tidy (words_at e before level) rest × Leads before level (text_of (words_at e before level) ++ rest)
 
 abbrev Fits : Printed → Type 0
-Fits p = (before : List ℕ) (level : ℕ) (rest : List ℕ) → Calm rest → Tidy (p before level) rest × Leads before level (text_of (p before level) ++ rest)
+Fits p = (before : List ℕ) (level : ℕ) (rest : List ℕ) → Calm rest →
+    Tidy (p before level) rest × Leads before level (text_of (p before level) ++ rest)
 
 -- an operator between its operands
 binary_tidy : (op : BinaryOp) (left right : Printed) → Fits left → Fits right → Fits (binary_words op left right)
-binary_tidy op left right at_left at_right before level rest calm =
-    (parens_tidy (nat_lt level (levels.level_of op)) _ plain rest calm, (λ e. front (omega (arith, e)), λ e. quiet (front (omega (arith, e)))))
+binary_tidy op left right at_left at_right before level rest calm = (
+  parens_tidy (nat_lt level (levels.level_of op)) _ plain rest calm,
+  (λ e. front (omega (arith, e)), λ e. quiet (front (omega (arith, e)))),
+)
   where
-    plain : Sound (left [] (levels.level_of op) ++ blank ∷ word (binary_text op) ∷ blank ∷ right [] (levels.level_of op - 1))
-    plain r c = tidy_append (left [] (levels.level_of op)) _ r (at_left [] (levels.level_of op) _ refl).0 (gap (next (binary_word op _) (gap (at_right [] (levels.level_of op - 1) r c).0)))
+    plain : Sound (left [] (levels.level_of op) ++ blank ∷ word (binary_text op) ∷ blank ∷
+        right [] (levels.level_of op - 1))
+    plain r c = tidy_append (left [] (levels.level_of op)) _ r (at_left [] (levels.level_of op) _ refl).0
+        (gap (next (binary_word op _) (gap (at_right [] (levels.level_of op - 1) r c).0)))
 
     front : level ≤ 1 → Quiet (text_of (binary_words op left right before level) ++ rest)
     front low =
         let high = at_least_2 op in
-        let wanted : nat_lt level (levels.level_of op) ≡ true = lt-ltb level (levels.level_of op) (omega (arith, low, high)) in
-        subst (λ b. Quiet (text_of (in_parens b (left [] (levels.level_of op) ++ blank ∷ word (binary_text op) ∷ blank ∷ right [] (levels.level_of op - 1))) ++ rest)) (sym wanted) refl
+        let wanted : nat_lt level (levels.level_of op) ≡ true =
+        lt-ltb level (levels.level_of op) (omega (arith, low, high)) in
+        subst (λ b. Quiet (text_of (in_parens b (left [] (levels.level_of op) ++ blank ∷ word (binary_text op) ∷ blank ∷
+        right [] (levels.level_of op - 1))) ++ rest)) (sym wanted) refl
 
 -- what stands behind a postfix expression
-behind_tidy : (base : Printed) (more : List Piece) → Fits base → ((rest : List ℕ) → Calm rest → Calm (text_of more ++ rest) × Tidy more rest) → (before : List ℕ) (level : ℕ) (rest : List ℕ) → Calm rest → Tidy (base [] 0 ++ more) rest × Leads before level (text_of (base [] 0 ++ more) ++ rest)
+behind_tidy : (base : Printed) (more : List Piece) → Fits base →
+    ((rest : List ℕ) → Calm rest → Calm (text_of more ++ rest) × Tidy more rest) →
+    (before : List ℕ) (level : ℕ) (rest : List ℕ) → Calm rest →
+    Tidy (base [] 0 ++ more) rest × Leads before level (text_of (base [] 0 ++ more) ++ rest)
 behind_tidy base more fit on before level rest calm =
     let o = on rest calm in
-    let b = fit [] 0 (text_of more ++ rest) o.0 in
-    (tidy_append (base [] 0) more rest b.0 o.1, from_quiet before level _ (quiet_append (base [] 0) more rest (b.1.0 refl)))
+    let b = fit [] 0 (text_of more ++ rest) o.0 in (
+      tidy_append (base [] 0) more rest b.0 o.1,
+      from_quiet before level _
+          (quiet_append (base [] 0) more rest (b.1.0 refl)),
+    )
 
-doubled : (c : ℕ) → IsSign c → (before text : List ℕ) → (bytes_eq before (c ∷ []) && is_doubled (c ∷ [])) ≡ false → Opens before (c ∷ text)
-doubled c plus before text q = sign plus (λ e. false≢true (sym q ∙ ap (λ x. bytes_eq x (43 ∷ []) && is_doubled (43 ∷ [])) e))
-doubled c minus before text q = sign minus (λ e. false≢true (sym q ∙ ap (λ x. bytes_eq x (45 ∷ []) && is_doubled (45 ∷ [])) e))
-doubled c ampersand before text q = sign ampersand (λ e. false≢true (sym q ∙ ap (λ x. bytes_eq x (38 ∷ []) && is_doubled (38 ∷ [])) e))
+doubled : (c : ℕ) → IsSign c → (before text : List ℕ) → (bytes_eq before (c ∷ []) && is_doubled (c ∷ [])) ≡ false →
+    Opens before (c ∷ text)
+doubled c plus before text q = sign plus (λ e. false≢true
+    (sym q ∙ ap (λ x. bytes_eq x (43 ∷ []) && is_doubled (43 ∷ [])) e))
+doubled c minus before text q = sign minus (λ e. false≢true
+    (sym q ∙ ap (λ x. bytes_eq x (45 ∷ []) && is_doubled (45 ∷ [])) e))
+doubled c ampersand before text q = sign ampersand (λ e.
+    false≢true (sym q ∙ ap (λ x. bytes_eq x (38 ∷ []) && is_doubled (38 ∷ [])) e))
 
-operand : (c : ℕ) (of : Printed) → Fits of → (rest : List ℕ) → Calm rest → Tidy (of (c ∷ []) 1) rest × Opens (c ∷ []) (text_of (of (c ∷ []) 1) ++ rest)
+operand : (c : ℕ) (of : Printed) → Fits of → (rest : List ℕ) → Calm rest →
+    Tidy (of (c ∷ []) 1) rest × Opens (c ∷ []) (text_of (of (c ∷ []) 1) ++ rest)
 operand c of fit rest calm = let f = fit (c ∷ []) 1 rest calm in (f.0, f.1.1 refl)
 
 unary_tidy : (op : UnaryOp) (of : Printed) → Fits of → Fits (prefix_words (unary_text op) of)
@@ -142,36 +183,57 @@ unary_tidy unary.Plus of fit = prefix_tidy 43 plus_word (doubled 43 plus) of (op
 unary_tidy unary.Not of fit = prefix_tidy 33 not_word (λ before text q. quiet refl) of (operand 33 of fit)
 unary_tidy unary.BitNot of fit = prefix_tidy 126 tilde_word (λ before text q. quiet refl) of (operand 126 of fit)
 
-one_word_tidy : (text : List ℕ) (k : TokenKind) → 0 < length text → word_kind text ≡ Some k → (before : List ℕ) (level : ℕ) (rest : List ℕ) → Calm rest → Tidy (word text ∷ []) rest × Leads before level (text_of (word text ∷ []) ++ rest)
+one_word_tidy : (text : List ℕ) (k : TokenKind) → 0 < length text → word_kind text ≡ Some k →
+    (before : List ℕ) (level : ℕ) (rest : List ℕ) → Calm rest →
+    Tidy (word text ∷ []) rest × Leads before level (text_of (word text ∷ []) ++ rest)
 one_word_tidy text k some is before level rest calm =
-    let e = append-nil text in
-    (next (plain_word text rest k some is calm) none, from_quiet before level _ (subst (λ x. Quiet (x ++ rest)) (sym e) (word_quiet text rest k some is)))
+    let e = append-nil text in (
+      next (plain_word text rest k some is calm) none,
+      from_quiet before level _ (subst (λ x. Quiet (x ++ rest)) (sym e) (word_quiet text rest k some is)),
+    )
 
-named_tidy : (mark : List ℕ) (name : List ℕ) → ((rest : List ℕ) → IsWord mark rest) → ((rest : List ℕ) → Calm (mark ++ rest)) → IsTrue (is_ident name) → (rest : List ℕ) → Calm rest → Calm (text_of (word mark ∷ word name ∷ []) ++ rest) × Tidy (word mark ∷ word name ∷ []) rest
-named_tidy mark name at calm_at ident rest calm =
-    (subst (λ x. Calm x) (sym (append_assoc mark (name ++ []) rest)) (calm_at ((name ++ []) ++ rest)), next (at _) (next (plain_word name rest kind.Ident (name_some name ident) (name_kind name ident) calm) none))
+named_tidy : (mark : List ℕ) (name : List ℕ) → ((rest : List ℕ) → IsWord mark rest) →
+    ((rest : List ℕ) → Calm (mark ++ rest)) → IsTrue (is_ident name) → (rest : List ℕ) → Calm rest →
+    Calm (text_of (word mark ∷ word name ∷ []) ++ rest) × Tidy (word mark ∷ word name ∷ []) rest
+named_tidy mark name at calm_at ident rest calm = (
+  subst (λ x. Calm x) (sym (append_assoc mark (name ++ []) rest)) (calm_at ((name ++ []) ++ rest)),
+  next (at _) (next (plain_word name rest kind.Ident (name_some name ident) (name_kind name ident) calm) none),
+)
 
 -- each form of expression
-form : (t : ExprTree-F ExprTree) → Under Holds t → IsTrue (kept_step (map-ExprTree _ _ is_kept t)) → Fits (expr_step (map-ExprTree _ _ words_at t))
-form (term.Literal number) u k before level rest calm = one_word_tidy (literal_text number) kind.Integer (literal_some number k) (literal_kind number k) before level rest calm
-form (term.Variable name) u k before level rest calm = one_word_tidy name kind.Ident (name_some name k) (name_kind name k) before level rest calm
+form : (t : ExprTree-F ExprTree) → Under Holds t → IsTrue (kept_step (map-ExprTree _ _ is_kept t)) →
+    Fits (expr_step (map-ExprTree _ _ words_at t))
+form (term.Literal number) u k before level rest calm =
+    one_word_tidy (literal_text number) kind.Integer (literal_some number k)
+    (literal_kind number k) before level rest calm
+form (term.Variable name) u k before level rest calm =
+    one_word_tidy name kind.Ident (name_some name k) (name_kind name k) before level rest calm
 form (term.Unary op of) u k before level rest calm = unary_tidy op (words_at of) (u k) before level rest calm
 form (term.Binary op left right) u k before level rest calm =
     let parts = and_parts (is_kept left) (is_kept right) k in
     binary_tidy op (words_at left) (words_at right) (u.0 parts.0) (u.1 parts.1) before level rest calm
 form (term.Index base place) u k before level rest calm =
     let parts = and_parts (is_kept base) (is_kept place) k in
-    behind_tidy (words_at base) _ (u.0 parts.0) (λ r c. (refl, next (open_square _) (tidy_append (words_at place [] 11) (word (codes "]") ∷ []) r (u.1 parts.1 [] 11 _ refl).0 (next (close_square _) none)))) before level rest calm
+    behind_tidy (words_at base) _ (u.0 parts.0) (λ r c. (
+      refl,
+      next (open_square _) (tidy_append (words_at place [] 11) (word (codes "]") ∷ []) r
+          (u.1 parts.1 [] 11 _ refl).0 (next (close_square _) none)),
+    )) before level rest calm
 form (term.Member base name) u k before level rest calm =
     let parts = and_parts (is_kept base) (is_ident name) k in
-    behind_tidy (words_at base) _ (u parts.0) (named_tidy (codes ".") name dot (λ r. refl) parts.1) before level rest calm
+    behind_tidy (words_at base) _ (u parts.0) (named_tidy (codes ".") name dot
+    (λ r. refl) parts.1) before level rest calm
 form (term.Arrow base name) u k before level rest calm =
     let parts = and_parts (is_kept base) (is_ident name) k in
-    behind_tidy (words_at base) _ (u parts.0) (named_tidy (codes "->") name arrow (λ r. refl) parts.1) before level rest calm
-form (term.Deref of) u k before level rest calm = prefix_tidy 42 star_word (λ b t q. quiet refl) (words_at of) (operand 42 (words_at of) (u k)) before level rest calm
-form (term.Address of) u k before level rest calm = prefix_tidy 38 and_word (doubled 38 ampersand) (words_at of) (operand 38 (words_at of) (u k)) before level rest calm
+    behind_tidy (words_at base) _ (u parts.0) (named_tidy (codes "->") name arrow
+    (λ r. refl) parts.1) before level rest calm
+form (term.Deref of) u k before level rest calm = prefix_tidy 42 star_word (λ b t q. quiet refl) (words_at of)
+    (operand 42 (words_at of) (u k)) before level rest calm
+form (term.Address of) u k before level rest calm = prefix_tidy 38 and_word (doubled 38 ampersand) (words_at of)
+    (operand 38 (words_at of) (u k)) before level rest calm
 
 pub tidy_at : (e : ExprTree) → Holds e
 tidy_at = expr_induction Holds (λ t u kept before level rest calm.
     let eq = expr_at expr_step t in
-    subst (λ f. Tidy (f before level) rest × Leads before level (text_of (f before level) ++ rest)) (sym eq) (form t u (subst (λ b. IsTrue b) (expr_at kept_step t) kept) before level rest calm))
+    subst (λ f. Tidy (f before level) rest × Leads before level (text_of (f before level) ++ rest)) (sym eq)
+    (form t u (subst (λ b. IsTrue b) (expr_at kept_step t) kept) before level rest calm))

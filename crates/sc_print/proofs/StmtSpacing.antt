@@ -40,37 +40,51 @@ place_tidy : (e : ExprTree) → IsTrue (kept_place e) → Sound (place_words e)
 place_tidy e k rest calm = (tidy_at e (and_parts (is_place e) (is_kept e) k).1 [] 1 rest calm).0
 
 -- pieces and a word behind them that anything may follow
-pub closing : (pieces : List Piece) (text : List ℕ) → Sound pieces → ((rest : List ℕ) → Calm (text ++ rest)) → ((rest : List ℕ) → IsWord text rest) → Free (pieces ++ word text ∷ [])
-closing pieces text t calm w rest = tidy_append pieces (word text ∷ []) rest (t _ (subst (λ x. Calm (x ++ rest)) (sym (append-nil text)) (calm rest))) (next (w _) none)
+pub closing : (pieces : List Piece) (text : List ℕ) → Sound pieces → ((rest : List ℕ) → Calm (text ++ rest)) →
+    ((rest : List ℕ) → IsWord text rest) → Free (pieces ++ word text ∷ [])
+closing pieces text t calm w rest = tidy_append pieces (word text ∷ []) rest
+    (t _ (subst (λ x. Calm (x ++ rest)) (sym (append-nil text)) (calm rest))) (next (w _) none)
 
-args_from : (e : ExprTree) (es : List ExprTree) → IsTrue (is_kept e) → list_all is_kept es ≡ true → Sound (join_by expr_words comma (e ∷ es))
+args_from : (e : ExprTree) (es : List ExprTree) → IsTrue (is_kept e) → list_all is_kept es ≡ true →
+    Sound (join_by expr_words comma (e ∷ es))
 args_from e [] k all rest calm = tidy_append (expr_words e) [] rest (expr_tidy e k rest calm) none
 args_from e (x ∷ xs) k all rest calm =
     let parts = and_parts (is_kept x) (list_all is_kept xs) all in
-    tidy_append (expr_words e) (word (codes ",") ∷ blank ∷ join_by expr_words comma (x ∷ xs)) rest (expr_tidy e k _ refl) (next (comma_word _) (gap (args_from x xs parts.0 parts.1 rest calm)))
+    tidy_append (expr_words e) (word (codes ",") ∷ blank ∷ join_by expr_words comma (x ∷ xs)) rest
+    (expr_tidy e k _ refl) (next (comma_word _) (gap (args_from x xs parts.0 parts.1 rest calm)))
 
 args_tidy : (args : List ExprTree) → list_all is_kept args ≡ true → Sound (join_by expr_words comma args)
 args_tidy [] all rest calm = none
-args_tidy (e ∷ es) all rest calm = let parts = and_parts (is_kept e) (list_all is_kept es) all in args_from e es parts.0 parts.1 rest calm
+args_tidy (e ∷ es) all rest calm = let parts = and_parts (is_kept e) (list_all is_kept es) all in
+    args_from e es parts.0 parts.1 rest calm
 
 pub call_tidy : (c : CallTree) → IsTrue (kept_call c) → Free (call_words c)
 call_tidy c k rest =
     let parts = and_parts (is_ident c.name) (list_all is_kept c.args) k in
-    next (plain_word c.name _ kind.Ident (name_some c.name parts.0) (name_kind c.name parts.0) refl) (next (open_paren _) (closing (join_by expr_words comma c.args) (codes ")") (args_tidy c.args parts.1) (λ r. refl) close_paren rest))
+    next (plain_word c.name _ kind.Ident (name_some c.name parts.0) (name_kind c.name parts.0) refl)
+    (next (open_paren _) (closing (join_by expr_words comma c.args) (codes ")") (args_tidy c.args parts.1)
+    (λ r. refl) close_paren rest))
 
-pub assigned_tidy : (place : ExprTree) (value : List Piece) → IsTrue (kept_place place) → Sound value → Sound (place_words place ++ (equals ++ value))
-assigned_tidy place value k t rest calm = tidy_append (place_words place) (equals ++ value) rest (place_tidy place k _ refl) (gap (next (equal_word _) (gap (t rest calm))))
+pub assigned_tidy : (place : ExprTree) (value : List Piece) → IsTrue (kept_place place) → Sound value →
+    Sound (place_words place ++ (equals ++ value))
+assigned_tidy place value k t rest calm = tidy_append (place_words place) (equals ++ value) rest
+    (place_tidy place k _ refl) (gap (next (equal_word _) (gap (t rest calm))))
 
 pub simple_tidy : (k : SimpleKind) → IsTrue (kept_simple k) → Sound (simple_words k)
-simple_tidy (simple.Assign place value) k = let parts = and_parts (kept_place place) (is_kept value) k in assigned_tidy place (expr_words value) parts.0 (expr_tidy value parts.1)
-simple_tidy (simple.AssignCall place call) k = let parts = and_parts (kept_place place) (kept_call call) k in assigned_tidy place (call_words call) parts.0 (λ rest calm. call_tidy call parts.1 rest)
+simple_tidy (simple.Assign place value) k = let parts = and_parts (kept_place place) (is_kept value) k in
+    assigned_tidy place (expr_words value) parts.0 (expr_tidy value parts.1)
+simple_tidy (simple.AssignCall place call) k = let parts = and_parts (kept_place place) (kept_call call) k in
+    assigned_tidy place (call_words call) parts.0 (λ rest calm. call_tidy call parts.1 rest)
 simple_tidy (simple.Call call) k = λ rest calm. call_tidy call k rest
 
 pub ended_tidy : (pieces : List Piece) → Sound pieces → Free (ended pieces)
 ended_tidy pieces t = closing pieces (codes ";") t (λ r. refl) semicolon
 
-pub condition_tidy : (keyword : List ℕ) (cond : ExprTree) → ((rest : List ℕ) → Calm rest → IsWord keyword rest) → IsTrue (is_kept cond) → Free (condition_words keyword cond)
-condition_tidy keyword cond w k rest = next (w _ refl) (gap (next (open_paren _) (tidy_append (expr_words cond) (word (codes ")") ∷ blank ∷ []) rest (expr_tidy cond k _ refl) (next (close_paren _) (gap none)))))
+pub condition_tidy : (keyword : List ℕ) (cond : ExprTree) → ((rest : List ℕ) → Calm rest → IsWord keyword rest) →
+    IsTrue (is_kept cond) → Free (condition_words keyword cond)
+condition_tidy keyword cond w k rest = next (w _ refl)
+    (gap (next (open_paren _) (tidy_append (expr_words cond) (word (codes ")") ∷ blank ∷ []) rest
+    (expr_tidy cond k _ refl) (next (close_paren _) (gap none)))))
 
 pub return_tidy : (value : List Piece) → Sound value → Free (return_words value)
 return_tidy value t rest = next (return_word _ refl) (gap (ended_tidy value t rest))
@@ -83,63 +97,89 @@ next_tidy : (o : Option SimpleTree) → IsTrue (kept_option o) → Sound (next_w
 next_tidy None k rest calm = none
 next_tidy (Some s) k rest calm = gap (simple_tidy s.kind k rest calm)
 
-for_tidy : (f : Option SimpleTree) (c : ExprTree) (n : Option SimpleTree) → IsTrue (kept_option f) → IsTrue (is_kept c) → IsTrue (kept_option n) → Free (for_words f c n)
+for_tidy : (f : Option SimpleTree) (c : ExprTree) (n : Option SimpleTree) → IsTrue (kept_option f) →
+    IsTrue (is_kept c) → IsTrue (kept_option n) → Free (for_words f c n)
 for_tidy f c n kf kc kn rest =
-    let turn = tidy_append (next_words n) (word (codes ")") ∷ blank ∷ []) rest (next_tidy n kn _ refl) (next (close_paren _) (gap none)) in
+    let turn = tidy_append (next_words n) (word (codes ")") ∷ blank ∷ []) rest (next_tidy n kn _ refl)
+    (next (close_paren _) (gap none)) in
     let test = tidy_append (expr_words c) _ rest (expr_tidy c kc _ refl) (next (semicolon _) turn) in
-    next (for_word _ refl) (gap (next (open_paren _) (tidy_append (first_words f) _ rest (first_tidy f kf _ refl) (next (semicolon _) (gap test)))))
+    next (for_word _ refl) (gap (next (open_paren _) (tidy_append (first_words f) _ rest (first_tidy f kf _ refl)
+    (next (semicolon _) (gap test)))))
 
 abbrev Holds : StmtTree → Type 0
 Holds s = IsTrue (is_kept_stmt s) → (depth : ℕ) → Free ((stmt_layout s).words depth)
 
-lines_tidy : (depth : ℕ) (stmts : List StmtTree) → Each Holds stmts → list_all is_kept_stmt stmts ≡ true → Free (lines_at depth (layouts stmts))
+lines_tidy : (depth : ℕ) (stmts : List StmtTree) → Each Holds stmts → list_all is_kept_stmt stmts ≡ true →
+    Free (lines_at depth (layouts stmts))
 lines_tidy depth [] each k rest = none
 lines_tidy depth (s ∷ stmts) each k rest =
     let parts = and_parts (is_kept_stmt s) (list_all is_kept_stmt stmts) k in
-    tidy_append (line_of depth ((stmt_layout s).words depth)) (lines_at depth (layouts stmts)) rest (at_level depth (tidy_append ((stmt_layout s).words depth) (newline ∷ []) _ (each.0 parts.0 depth _) (line_end none))) (lines_tidy depth stmts each.1 parts.1 rest)
+    tidy_append (line_of depth ((stmt_layout s).words depth)) (lines_at depth (layouts stmts)) rest
+    (at_level depth (tidy_append ((stmt_layout s).words depth) (newline ∷ []) _ (each.0 parts.0 depth _)
+    (line_end none))) (lines_tidy depth stmts each.1 parts.1 rest)
 
-block_tidy : (depth : ℕ) (stmts : List StmtTree) → Each Holds stmts → list_all is_kept_stmt stmts ≡ true → Free (block_words depth (layouts stmts))
-block_tidy depth stmts each k rest = next (open_curly _) (line_end (tidy_append (lines_at (deeper depth) (layouts stmts)) (indent depth ∷ word (codes "}") ∷ []) rest (lines_tidy (deeper depth) stmts each k _) (at_level depth (next (close_curly _) none))))
+block_tidy : (depth : ℕ) (stmts : List StmtTree) → Each Holds stmts → list_all is_kept_stmt stmts ≡ true →
+    Free (block_words depth (layouts stmts))
+block_tidy depth stmts each k rest = next (open_curly _)
+    (line_end (tidy_append (lines_at (deeper depth) (layouts stmts)) (indent depth ∷ word (codes "}") ∷ []) rest
+    (lines_tidy (deeper depth) stmts each k _) (at_level depth (next (close_curly _) none))))
 
-chain_tidy : (depth : ℕ) (stmts : List StmtTree) → Each Holds stmts → list_all is_kept_stmt stmts ≡ true → Free (chain_words depth (layouts stmts))
+chain_tidy : (depth : ℕ) (stmts : List StmtTree) → Each Holds stmts → list_all is_kept_stmt stmts ≡ true →
+    Free (chain_words depth (layouts stmts))
 chain_tidy depth [] each k rest = none
 chain_tidy depth (s ∷ stmts) each k rest =
     let parts = and_parts (is_kept_stmt s) (list_all is_kept_stmt stmts) k in
-    tidy_append ((stmt_layout s).words depth) (chain_words depth (layouts stmts)) rest (each.0 parts.0 depth _) (chain_tidy depth stmts each.1 parts.1 rest)
+    tidy_append ((stmt_layout s).words depth) (chain_words depth (layouts stmts)) rest (each.0 parts.0 depth _)
+    (chain_tidy depth stmts each.1 parts.1 rest)
 
 choice_tidy : (wanted : Bool) (a b : List Piece) → Free a → Free b → Free (if wanted then a else b)
 choice_tidy true a b s t = s
 choice_tidy false a b s t = t
 
 -- what stands behind an `else` begins with a word or with `{`, and a blank stands before it
-else_tidy : (depth : ℕ) (stmts : List StmtTree) → Each Holds stmts → list_all is_kept_stmt stmts ≡ true → Free (else_words depth (layouts stmts))
+else_tidy : (depth : ℕ) (stmts : List StmtTree) → Each Holds stmts → list_all is_kept_stmt stmts ≡ true →
+    Free (else_words depth (layouts stmts))
 else_tidy depth stmts each k =
-    choice_tidy (length (layouts stmts) == 0) [] _ (λ rest. none) (λ rest. gap (next (else_word _ refl) (gap (choice_tidy (is_chain (layouts stmts)) (chain_words depth (layouts stmts)) (block_words depth (layouts stmts)) (chain_tidy depth stmts each k) (block_tidy depth stmts each k) rest))))
+    choice_tidy (length (layouts stmts) == 0) [] _ (λ rest. none)
+    (λ rest. gap (next (else_word _ refl) (gap (choice_tidy (is_chain (layouts stmts))
+    (chain_words depth (layouts stmts)) (block_words depth (layouts stmts)) (chain_tidy depth stmts each k)
+    (block_tidy depth stmts each k) rest))))
 
-form : (k : StmtKind-F StmtKind StmtTree) → Inside Holds k → IsTrue (kept.kind_step (map-StmtKind _ _ _ _ kept_kind is_kept_stmt k)) → (depth : ℕ) → Free ((printing.kind_step (map-StmtKind _ _ _ _ kind_layout stmt_layout k)).words depth)
+form : (k : StmtKind-F StmtKind StmtTree) → Inside Holds k →
+    IsTrue (kept.kind_step (map-StmtKind _ _ _ _ kept_kind is_kept_stmt k)) → (depth : ℕ) →
+    Free ((printing.kind_step (map-StmtKind _ _ _ _ kind_layout stmt_layout k)).words depth)
 form layer.Empty inside k depth rest = next (semicolon _) none
 form (layer.Assign place value) inside k depth rest = ended_tidy _ (simple_tidy (simple.Assign place value) k) rest
-form (layer.AssignCall place call) inside k depth rest = ended_tidy _ (simple_tidy (simple.AssignCall place call) k) rest
+form (layer.AssignCall place call) inside k depth rest =
+    ended_tidy _ (simple_tidy (simple.AssignCall place call) k) rest
 form (layer.Call call) inside k depth rest = ended_tidy _ (simple_tidy (simple.Call call) k) rest
 form (layer.If cond then_part else_part) inside k depth rest =
-    let parts = and_parts (is_kept cond) (all_kept (map is_kept_stmt then_part) && all_kept (map is_kept_stmt else_part)) k in
+    let parts = and_parts (is_kept cond) (all_kept (map is_kept_stmt then_part) &&
+    all_kept (map is_kept_stmt else_part)) k in
     let both = and_parts (all_kept (map is_kept_stmt then_part)) (all_kept (map is_kept_stmt else_part)) parts.1 in
-    tidy_append (condition_words (codes "if") cond) _ rest (condition_tidy (codes "if") cond if_word parts.0 _) (tidy_append (block_words depth (layouts then_part)) (else_words depth (layouts else_part)) rest (block_tidy depth then_part inside.0 (all_at then_part both.0) _) (else_tidy depth else_part inside.1 (all_at else_part both.1) rest))
+    tidy_append (condition_words (codes "if") cond) _ rest (condition_tidy (codes "if") cond if_word parts.0 _)
+    (tidy_append (block_words depth (layouts then_part)) (else_words depth (layouts else_part)) rest
+    (block_tidy depth then_part inside.0 (all_at then_part both.0) _)
+    (else_tidy depth else_part inside.1 (all_at else_part both.1) rest))
 form (layer.While cond body) inside k depth rest =
     let parts = and_parts (is_kept cond) (all_kept (map is_kept_stmt body)) k in
-    tidy_append (condition_words (codes "while") cond) _ rest (condition_tidy (codes "while") cond while_word parts.0 _) (block_tidy depth body inside (all_at body parts.1) rest)
+    tidy_append (condition_words (codes "while") cond) _ rest (condition_tidy (codes "while") cond while_word parts.0 _)
+    (block_tidy depth body inside (all_at body parts.1) rest)
 form (layer.For first cond after body) inside k depth rest =
-    let parts = and_parts (kept_option first) (is_kept cond && (kept_option after && all_kept (map is_kept_stmt body))) k in
+    let parts = and_parts (kept_option first) (is_kept cond &&
+    (kept_option after && all_kept (map is_kept_stmt body))) k in
     let more = and_parts (is_kept cond) (kept_option after && all_kept (map is_kept_stmt body)) parts.1 in
     let last = and_parts (kept_option after) (all_kept (map is_kept_stmt body)) more.1 in
-    tidy_append (for_words first cond after) _ rest (for_tidy first cond after parts.0 more.0 last.0 _) (block_tidy depth body inside (all_at body last.1) rest)
+    tidy_append (for_words first cond after) _ rest (for_tidy first cond after parts.0 more.0 last.0 _)
+    (block_tidy depth body inside (all_at body last.1) rest)
 form layer.Break inside k depth rest = next (break_word _ refl) (next (semicolon _) none)
 form layer.Continue inside k depth rest = next (continue_word _ refl) (next (semicolon _) none)
 form layer.Return inside k depth rest = next (return_word _ refl) (next (semicolon _) none)
 form (layer.ReturnValue value) inside k depth rest = return_tidy (expr_words value) (expr_tidy value k) rest
 form (layer.ReturnCall call) inside k depth rest = return_tidy (call_words call) (λ r calm. call_tidy call k r) rest
 
-at_line : (line : ℕ) (k : StmtKind-F StmtKind StmtTree) → Inside Holds k → Holds (record { line = line; kind = roll-StmtKind k })
+at_line : (line : ℕ) (k : StmtKind-F StmtKind StmtTree) → Inside Holds k →
+    Holds (record { line = line; kind = roll-StmtKind k })
 at_line line k inside kept_s depth rest =
     let eq = stmt_at Layout Layout printing.kind_step printing.stmt_step line k in
     let kept_eq = stmt_at Bool Bool kept.kind_step kept.stmt_step line k in

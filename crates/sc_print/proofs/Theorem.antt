@@ -28,7 +28,8 @@ use Rattle.sc_print.specs.KeptSections.{kept_section}
 use Rattle.sc_print.specs.SectionsRead.{SectionReadsAs}
 use Rattle.sc_print.proofs.Whole.{section_reads, section_cut}
 
-said : (bytes : List ℕ) (tokens : List Token) → map (λ t. t.symbol) (map (λ token. lexeme_of bytes token) tokens) ≡ map (λ t. symbol_of bytes t) tokens
+said : (bytes : List ℕ) (tokens : List Token) → map (λ t. t.symbol) (map (λ token. lexeme_of bytes token) tokens) ≡
+    map (λ t. symbol_of bytes t) tokens
 said bytes [] = refl
 said bytes (t ∷ ts) = ap (λ x. symbol_of bytes t ∷ x) (said bytes ts)
 
@@ -41,7 +42,8 @@ reads_back expr kept =
       spelled = words_spell expr kept _ (said (expr_text expr) found.tokens ∙ found.says);
     }
 
-pub stmts_read_back : (stmts : List StmtTree) → IsTrue (are_kept stmts) → (depth : ℕ) → StmtsReadAs (stmts_text depth stmts) stmts
+pub stmts_read_back : (stmts : List StmtTree) → IsTrue (are_kept stmts) → (depth : ℕ) →
+    StmtsReadAs (stmts_text depth stmts) stmts
 stmts_read_back stmts kept depth =
     let found = cut_of (lines_at depth (layouts stmts)) (stmts_tidy stmts kept depth []) in
     let spelled = stmts_spell stmts kept depth _ (said (stmts_text depth stmts) found.tokens ∙ found.says) in

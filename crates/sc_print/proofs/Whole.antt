@@ -34,9 +34,16 @@ record Directed (ts : List Lexeme) (exports : List ExportLine) (imports : List I
   same_exports : map lineless_export other_exports ≡ map lineless_export exports
   same_imports : map lineless_import other_imports ≡ map lineless_import imports
 
-imports_read : (imports : List ImportLine) → list_all kept_import imports ≡ true → (ts : List Lexeme) → Say (symbols (flat_map import_words imports)) ts → Directed ts [] imports
+imports_read : (imports : List ImportLine) → list_all kept_import imports ≡ true → (ts : List Lexeme) →
+    Say (symbols (flat_map import_words imports)) ts → Directed ts [] imports
 unfolding import_words
-imports_read [] k ts h = record { other_exports = []; other_imports = []; spelled = subst (λ us. SpellsDirectives us [] []) (sym (none_of ts h)) spell.none; same_exports = refl; same_imports = refl }
+imports_read [] k ts h = record {
+  other_exports = [];
+  other_imports = [];
+  spelled = subst (λ us. SpellsDirectives us [] []) (sym (none_of ts h)) spell.none;
+  same_exports = refl;
+  same_imports = refl;
+}
 imports_read (l ∷ imports) k ts h =
     let parts = and_parts (kept_import l) (list_all kept_import imports) k in
     let names = and_parts (is_name l.comp) (is_name l.name) parts.0 in
@@ -46,28 +53,44 @@ imports_read (l ∷ imports) k ts h =
     record {
       other_exports = rest.other_exports;
       other_imports = other ∷ rest.other_imports;
-      spelled = subst (λ us. SpellsDirectives us rest.other_exports (other ∷ rest.other_imports)) (sym f.whole) (spell.«import» f.first l.comp l.name (f.is ∙ import_says l.comp l.name names.0 names.1) rest.spelled);
+      spelled = subst (λ us. SpellsDirectives us rest.other_exports (other ∷ rest.other_imports)) (sym f.whole)
+          (spell.«import» f.first l.comp l.name (f.is ∙ import_says l.comp l.name names.0 names.1) rest.spelled);
       same_exports = rest.same_exports;
       same_imports = ap (λ xs. lineless_import l ∷ xs) rest.same_imports;
     }
 
-exports_read : (exports : List ExportLine) (imports : List ImportLine) → list_all kept_export exports ≡ true → list_all kept_import imports ≡ true → (ts : List Lexeme) → Say (symbols (flat_map export_words exports) ++ symbols (flat_map import_words imports)) ts → Directed ts exports imports
+exports_read : (exports : List ExportLine) (imports : List ImportLine) → list_all kept_export exports ≡ true →
+    list_all kept_import imports ≡ true → (ts : List Lexeme) →
+    Say (symbols (flat_map export_words exports) ++ symbols (flat_map import_words imports)) ts →
+    Directed ts exports imports
 unfolding export_words
 exports_read [] imports k j ts h = imports_read imports j ts h
 exports_read (l ∷ exports) imports k j ts h =
     let parts = and_parts (kept_export l) (list_all kept_export exports) k in
-    let f = first_of (word_symbol (export_text l.name)) (symbols (flat_map export_words exports) ++ symbols (flat_map import_words imports)) ts h in
+    let f = first_of (word_symbol (export_text l.name))
+    (symbols (flat_map export_words exports) ++ symbols (flat_map import_words imports)) ts h in
     let rest = exports_read exports imports parts.1 j f.rest f.others in
     let other : ExportLine = record { name = l.name; line = f.first.line } in
     record {
       other_exports = other ∷ rest.other_exports;
       other_imports = rest.other_imports;
-      spelled = subst (λ us. SpellsDirectives us (other ∷ rest.other_exports) rest.other_imports) (sym f.whole) (spell.export f.first l.name (f.is ∙ export_says l.name parts.0) rest.spelled);
+      spelled = subst (λ us. SpellsDirectives us (other ∷ rest.other_exports) rest.other_imports) (sym f.whole)
+          (spell.export f.first l.name (f.is ∙ export_says l.name parts.0) rest.spelled);
       same_exports = ap (λ xs. lineless_export l ∷ xs) rest.same_exports;
       same_imports = rest.same_imports;
     }
 
-same_section : (tree : SectionTree) (exports : List ExportLine) (imports : List ImportLine) (decls : List Decl) → map lineless_export exports ≡ map lineless_export tree.exports → map lineless_import imports ≡ map lineless_import tree.imports → map lineless_decl decls ≡ map lineless_decl tree.decls → SameButLines (record { name = tree.name; line = tree.line; exports = exports; imports = imports; decls = decls }) tree
+same_section : (tree : SectionTree) (exports : List ExportLine) (imports : List ImportLine) (decls : List Decl) →
+    map lineless_export exports ≡ map lineless_export tree.exports →
+    map lineless_import imports ≡ map lineless_import tree.imports →
+    map lineless_decl decls ≡ map lineless_decl tree.decls →
+    SameButLines (record {
+      name = tree.name;
+      line = tree.line;
+      exports = exports;
+      imports = imports;
+      decls = decls;
+    }) tree
 same_section tree exports imports decls p q r = rw (p, q, r)
 
 -- what a section keeps, part by part
@@ -79,8 +102,10 @@ pub record Keeps (tree : SectionTree) : Type 0 where
 
 pub keeps : (tree : SectionTree) → IsTrue (kept_section tree) → Keeps tree
 keeps tree k =
-    let a = and_parts (is_name tree.name) (list_all kept_export tree.exports && (list_all kept_import tree.imports && list_all is_kept_decl tree.decls)) k in
-    let b = and_parts (list_all kept_export tree.exports) (list_all kept_import tree.imports && list_all is_kept_decl tree.decls) a.1 in
+    let a = and_parts (is_name tree.name) (list_all kept_export tree.exports &&
+    (list_all kept_import tree.imports && list_all is_kept_decl tree.decls)) k in
+    let b = and_parts (list_all kept_export tree.exports)
+    (list_all kept_import tree.imports && list_all is_kept_decl tree.decls) a.1 in
     let c = and_parts (list_all kept_import tree.imports) (list_all is_kept_decl tree.decls) b.1 in
     record { name = a.0; exports = b.0; imports = c.0; decls = c.1 }
 
@@ -91,22 +116,36 @@ section_reads tree k ts h =
     let imports : List Piece = flat_map import_words tree.imports in
     let decls : List Piece = flat_map decl_words tree.decls in
     let f = first_of (word_symbol (heading_text tree.name)) (symbols (exports ++ (imports ++ decls))) ts h in
-    let seam = joined_symbols exports (imports ++ decls) ∙ ap (λ ss. symbols exports ++ ss) (joined_symbols imports decls) ∙ sym (append_assoc (symbols exports) (symbols imports) (symbols decls)) in
+    let seam = joined_symbols exports (imports ++ decls) ∙
+    ap (λ ss. symbols exports ++ ss) (joined_symbols imports decls) ∙
+    sym (append_assoc (symbols exports) (symbols imports) (symbols decls)) in
     let p = parts_of (symbols exports ++ symbols imports) (symbols decls) f.rest (f.others ∙ seam) in
     let d = exports_read tree.exports tree.imports kept.exports kept.imports p.front p.first in
     let ds = decls_read tree.decls kept.decls p.back p.second in
-    let other : SectionTree = record { name = tree.name; line = tree.line; exports = d.other_exports; imports = d.other_imports; decls = ds.0 } in
-    let whole : ts ≡ f.first ∷ (p.front ++ p.back) = f.whole ∙ ap (λ us. f.first ∷ us) p.whole in
-    (other, subst (λ us. SpellsSection tree.line us other) (sym whole) (spell.section f.first tree.name (f.is ∙ heading_says tree.name kept.name) d.spelled ds.1), same_section tree d.other_exports d.other_imports ds.0 d.same_exports d.same_imports ds.2)
+    let other : SectionTree = record {
+      name = tree.name;
+      line = tree.line;
+      exports = d.other_exports;
+      imports = d.other_imports;
+      decls = ds.0;
+    } in
+    let whole : ts ≡ f.first ∷ (p.front ++ p.back) = f.whole ∙ ap (λ us. f.first ∷ us) p.whole in (
+      other,
+      subst (λ us. SpellsSection tree.line us other) (sym whole)
+          (spell.section f.first tree.name (f.is ∙ heading_says tree.name kept.name) d.spelled ds.1),
+      same_section tree d.other_exports d.other_imports ds.0 d.same_exports d.same_imports ds.2,
+    )
 
-pub exports_lined : (exports : List ExportLine) → list_all kept_export exports ≡ true → (more : List Piece) → Lined more → Lined (flat_map export_words exports ++ more)
+pub exports_lined : (exports : List ExportLine) → list_all kept_export exports ≡ true → (more : List Piece) →
+    Lined more → Lined (flat_map export_words exports ++ more)
 unfolding export_words
 exports_lined [] k more l = l
 exports_lined (x ∷ exports) k more l =
     let parts = and_parts (kept_export x) (list_all kept_export exports) k in
     line (export_line_is x.name parts.0) (exports_lined exports parts.1 more l)
 
-pub imports_lined : (imports : List ImportLine) → list_all kept_import imports ≡ true → (more : List Piece) → Lined more → Lined (flat_map import_words imports ++ more)
+pub imports_lined : (imports : List ImportLine) → list_all kept_import imports ≡ true → (more : List Piece) →
+    Lined more → Lined (flat_map import_words imports ++ more)
 unfolding import_words
 imports_lined [] k more l = l
 imports_lined (x ∷ imports) k more l =
@@ -117,9 +156,13 @@ imports_lined (x ∷ imports) k more l =
 pub heading_front : (name more : List ℕ) → begins_heading (heading_text name ++ more) ≡ true
 heading_front name more = heading_begins (name ++ more)
 
-pub section_cut : (tree : SectionTree) → IsTrue (kept_section tree) → Found (printed tree) 0 (symbols (section_words tree))
+pub section_cut : (tree : SectionTree) → IsTrue (kept_section tree) →
+    Found (printed tree) 0 (symbols (section_words tree))
 section_cut tree k =
     let kept = keeps tree k in
-    let lined : Lined (section_words tree) = line (heading_line_is tree.name kept.name) (exports_lined tree.exports kept.exports _ (imports_lined tree.imports kept.imports _ (tidy (decls_tidy tree.decls kept.decls [])))) in
-    let behind : List Piece = flat_map export_words tree.exports ++ (flat_map import_words tree.imports ++ flat_map decl_words tree.decls) in
+    let lined : Lined (section_words tree) = line (heading_line_is tree.name kept.name)
+    (exports_lined tree.exports kept.exports _ (imports_lined tree.imports kept.imports _
+    (tidy (decls_tidy tree.decls kept.decls [])))) in
+    let behind : List Piece = flat_map export_words tree.exports ++
+    (flat_map import_words tree.imports ++ flat_map decl_words tree.decls) in
     found_lines (printed tree) (heading_front tree.name (10 ∷ text_of behind)) lined [] refl refl

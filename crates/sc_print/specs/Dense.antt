@@ -18,7 +18,8 @@ dense_decl decl = decl_words decl
 
 abbrev pub dense_words : SectionTree → List Piece
 dense_words tree =
-    heading_words tree.name ++ (flat_map export_words tree.exports ++ (flat_map import_words tree.imports ++ flat_map dense_decl tree.decls))
+    heading_words tree.name ++ (flat_map export_words tree.exports ++
+    (flat_map import_words tree.imports ++ flat_map dense_decl tree.decls))
 
 -- the bytes of the section without empty lines
 abbrev pub dense_text : SectionTree → List ℕ

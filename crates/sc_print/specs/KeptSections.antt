@@ -14,4 +14,5 @@ abbrev pub kept_import : ImportLine → Bool
 kept_import line = is_name line.comp && is_name line.name
 
 abbrev pub kept_section : SectionTree → Bool
-kept_section tree = is_name tree.name && (list_all kept_export tree.exports && (list_all kept_import tree.imports && list_all is_kept_decl tree.decls))
+kept_section tree = is_name tree.name && (list_all kept_export tree.exports &&
+    (list_all kept_import tree.imports && list_all is_kept_decl tree.decls))

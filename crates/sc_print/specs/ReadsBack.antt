@@ -13,7 +13,8 @@ use Rattle.sc_print.specs.Symbols.{symbols}
 
 -- lexemes that say what the words of the expression say spell it, whatever their lines
 abbrev pub WordsSpell : ExprTree → Type 0
-WordsSpell expr = (lexemes : List Lexeme) → map (λ t. t.symbol) lexemes ≡ symbols (expr_words expr) → Spells loosest_level lexemes expr
+WordsSpell expr = (lexemes : List Lexeme) → map (λ t. t.symbol) lexemes ≡ symbols (expr_words expr) →
+    Spells loosest_level lexemes expr
 
 -- the bytes of the expression as it is printed
 abbrev pub expr_text : ExprTree → List ℕ

@@ -54,7 +54,8 @@ pub fn words_of_statements_spell_them()
 
 /// The text of printed statements is cut into tokens that spell the statements, lines aside.
 pub fn printed_statements_read_back()
-    ensures { (stmts : List StmtTree) → IsTrue (are_kept stmts) → (depth : ℕ) → StmtsReadAs (stmts_text depth stmts) stmts }
+    ensures { (stmts : List StmtTree) → IsTrue (are_kept stmts) → (depth : ℕ) →
+        StmtsReadAs (stmts_text depth stmts) stmts }
 {}
 
 /// The same of statements in hand, whose leaves keep what is asked of them.
@@ -100,7 +101,8 @@ pub fn section_reads_back(tree: &SectionTree)
 
 /// The text of a section without empty lines is cut into tokens that say the words of the printed section.
 pub fn dense_sections_are_cut()
-    ensures { (tree : SectionTree) → IsTrue (kept_section tree) → SaysAll (dense_text tree) (symbols (section_words tree)) }
+    ensures { (tree : SectionTree) → IsTrue (kept_section tree) →
+        SaysAll (dense_text tree) (symbols (section_words tree)) }
 {}
 
 /// Sections that are the same, lines aside, are of one height.

@@ -52,13 +52,27 @@ module _ (text : List ℕ) where
         clear = f.1.first;
       },
     )
-    | inr nowhere ↦ (length text, record { low = low; high = omega arith; heading = λ inside. absurd (omega arith); clear = λ at l h is. nowhere at l (omega arith) is })
+    | inr nowhere ↦ (
+      length text,
+      record {
+        low = low;
+        high = omega arith;
+        heading = λ inside. absurd (omega arith);
+        clear = λ at l h is. nowhere at l (omega arith) is;
+      },
+    )
   ]
 
   abbrev section_at : (at next : ℕ) (name : List ℕ) → Section
-  section_at at next name = record { name = name; start = at; line = line_at text at; bytes = record { ref_ptr = (0, 0); now = slice_range text at next } }
+  section_at at next name = record {
+    name = name;
+    start = at;
+    line = line_at text at;
+    bytes = record { ref_ptr = (0, 0); now = slice_range text at next };
+  }
 
-  is_section : (at next : ℕ) (name : List ℕ) → IsTrue (is_heading text at) → name_at text at ≡ Some name → IsNext (at + 1) next → IsSection text at next (section_at at next name)
+  is_section : (at next : ℕ) (name : List ℕ) → IsTrue (is_heading text at) → name_at text at ≡ Some name →
+      IsNext (at + 1) next → IsSection text at next (section_at at next name)
   is_section at next name h is n = record {
     heading = h;
     name = is;
@@ -70,12 +84,16 @@ module _ (text : List ℕ) where
   }
 
   -- a bad line behind a section is the first one
-  bad_behind : (at next : ℕ) (name : List ℕ) → name_at text at ≡ Some name → IsNext (at + 1) next → IsFirstBad next → IsFirstBad at
+  bad_behind : (at next : ℕ) (name : List ℕ) → name_at text at ≡ Some name → IsNext (at + 1) next → IsFirstBad next →
+      IsFirstBad at
   bad_behind at next name is n b = record {
     at = b.at;
     low = let low = n.low in let more = b.low in omega arith;
     bad = b.bad;
-    first = λ before low high bad. ⊎_elim (λ inside. ⊎_elim (λ less. n.clear before (omega arith) inside bad.heading) (λ le. let same : before ≡ at = omega arith in none-some name (sym (subst (λ k. name_at text k ≡ None) same bad.nameless) ∙ is)) (cases_lt at before)) (λ behind. b.first before behind high bad) (cases_lt before next);
+    first = λ before low high bad. ⊎_elim (λ inside. ⊎_elim (λ less. n.clear before (omega arith) inside bad.heading)
+        (λ le. let same : before ≡ at = omega arith in
+        none-some name (sym (subst (λ k. name_at text k ≡ None) same bad.nameless) ∙ is)) (cases_lt at before))
+        (λ behind. b.first before behind high bad) (cases_lt before next);
   }
 
   abbrev Splits : ℕ → Type 0
@@ -84,20 +102,35 @@ module _ (text : List ℕ) where
   all_split : (at : ℕ) → at ≡ length text → Splits at
   all_split at e = inl ([], subst (λ to. AreSections text at to []) e none)
 
-  sections_here : (fuel at : ℕ) → at < length text → length text ≤ at + suc fuel → IsTrue (is_heading text at) → ((next : ℕ) → next ≤ length text → length text ≤ next + fuel → (next < length text → IsTrue (is_heading text next)) → Splits next) → (o : Option (List ℕ)) → name_at text at ≡ o → Splits at
-  sections_here fuel at more high heading next None e = inr (record { at = at; low = omega arith; bad = record { heading = heading; nameless = e }; first = λ before l h bad. omega arith })
+  sections_here : (fuel at : ℕ) → at < length text → length text ≤ at + suc fuel → IsTrue (is_heading text at) →
+      ((next : ℕ) → next ≤ length text → length text ≤ next + fuel →
+      (next < length text → IsTrue (is_heading text next)) → Splits next) → (o : Option (List ℕ)) →
+      name_at text at ≡ o → Splits at
+  sections_here fuel at more high heading next None e =
+      inr (record {
+        at = at;
+        low = omega arith;
+        bad = record { heading = heading; nameless = e };
+        first = λ before l h bad. omega arith;
+      })
   sections_here fuel at more high heading next (Some name) e =
       let n = next_heading (at + 1) (omega arith) in
       let below = n.1.low in
       elim (next n.0 n.1.high (omega arith) n.1.heading) [
-        | inl s ↦ inl (section_at at n.0 name ∷ s.0, section (section_at at n.0 name) (is_section at n.0 name heading e n.1) s.1)
+        | inl s ↦ inl (
+          section_at at n.0 name ∷ s.0,
+          section (section_at at n.0 name)
+              (is_section at n.0 name heading e n.1) s.1,
+        )
         | inr bad ↦ inr (bad_behind at n.0 name e n.1 bad)
       ]
 
-  sections_from : (fuel at : ℕ) → at ≤ length text → length text ≤ at + fuel → (at < length text → IsTrue (is_heading text at)) → Splits at
+  sections_from : (fuel at : ℕ) → at ≤ length text → length text ≤ at + fuel →
+      (at < length text → IsTrue (is_heading text at)) → Splits at
   sections_from zero at low high heading = all_split at (omega arith)
   sections_from (suc fuel) at low high heading =
-      ⊎_elim (λ more. sections_here fuel at more high (heading more) (sections_from fuel) (name_at text at) refl) (λ past. all_split at (omega arith)) (cases_lt at (length text))
+      ⊎_elim (λ more. sections_here fuel at more high (heading more) (sections_from fuel) (name_at text at) refl)
+      (λ past. all_split at (omega arith)) (cases_lt at (length text))
 
   abbrev Divided : Type 0
   Divided = (preamble : List ℕ) × (ss : List Section) × IsSplit text preamble ss
@@ -121,7 +154,8 @@ module _ (text : List ℕ) where
           bad_heading (record { phase = phase.Lex; line = line_at text b.at }) (record {
             at = b.at;
             bad = b.bad;
-            first = λ before high bad. ⊎_elim (λ less. n.1.clear before (omega arith) less bad.heading) (λ le. b.first before le high bad) (cases_lt before n.0);
+            first = λ before high bad. ⊎_elim (λ less. n.1.clear before (omega arith) less bad.heading)
+                (λ le. b.first before le high bad) (cases_lt before n.0);
             phase = refl;
             line = refl;
           }) refl,
@@ -131,35 +165,47 @@ module _ (text : List ℕ) where
   abbrev AreCutInto : List Part → List (List Token) → Type 0
   AreCutInto parts cuts = AllZip (λ part tokens. IsCut part.bytes tokens) parts cuts
 
-  cut_parts : (parts : List Part) → ((cuts : List (List Token)) × AreCutInto parts cuts) ⊎ ((line : ℕ) × First HasTokens (IsUncut text line) parts)
+  cut_parts : (parts : List Part) → ((cuts : List (List Token)) × AreCutInto parts cuts) ⊎
+      ((line : ℕ) × First HasTokens (IsUncut text line) parts)
   cut_parts [] = inl ([], tt)
   cut_parts (part ∷ parts) = elim (decide_cut part.bytes) [
     | inl c ↦ elim (cut_parts parts) [
       | inl cs ↦ inl (c.0 ∷ cs.0, (c.1, cs.1))
       | inr f ↦ inr (f.0, later c f.1)
     ]
-    | inr s ↦ inr (line_after (line_at text part.start) (newlines (take s.to part.bytes)), here (record { at = s.to; tokens = s.tokens; front = s.cuts; stuck = s.stuck; phase = refl; line = refl }))
+    | inr s ↦ inr (
+      line_after (line_at text part.start) (newlines (take s.to part.bytes)),
+      here (record { at = s.to; tokens = s.tokens; front = s.cuts; stuck = s.stuck; phase = refl; line = refl }),
+    )
   ]
 
   -- whether lexemes are a tree can be decided
-  decide_tree : (line : ℕ) (ts : List Lexeme) → ((tree : SectionTree) × IsParsed line ts tree) ⊎ ((tree : SectionTree) → IsParsed line ts tree → ⊥)
+  decide_tree : (line : ℕ) (ts : List Lexeme) → ((tree : SectionTree) × IsParsed line ts tree) ⊎
+      ((tree : SectionTree) → IsParsed line ts tree → ⊥)
   decide_tree line ts = go (tree_of line ts) refl
     where
-      go : (o : Option SectionTree) → tree_of line ts ≡ o → ((tree : SectionTree) × IsParsed line ts tree) ⊎ ((tree : SectionTree) → IsParsed line ts tree → ⊥)
-      go None e = inr (unparsed line ts (Err (fault.Refused (record { phase = phase.Syntax; line = 0 }))) e (record { phase = phase.Syntax; line = 0 }) refl)
+      go : (o : Option SectionTree) → tree_of line ts ≡ o →
+          ((tree : SectionTree) × IsParsed line ts tree) ⊎ ((tree : SectionTree) → IsParsed line ts tree → ⊥)
+      go None e = inr (unparsed line ts (Err (fault.Refused (record { phase = phase.Syntax; line = 0 }))) e
+          (record { phase = phase.Syntax; line = 0 }) refl)
       go (Some tree) e = inl (tree, parsed line ts (Ok tree) e)
 
-  some_line : (start : ℕ) (tokens : List Token) → 0 < length tokens → (line : ℕ) × Any (λ token. line ≡ line_after (line_at text start) (token.line - 1)) tokens
+  some_line : (start : ℕ) (tokens : List Token) → 0 < length tokens →
+      (line : ℕ) × Any (λ token. line ≡ line_after (line_at text start) (token.line - 1)) tokens
   some_line start [] some = absurd (omega arith)
   some_line start (t ∷ tokens) some = (line_after (line_at text start) (t.line - 1), (0, t, omega arith, refl, refl))
 
-  read_section : (s : Section) (tokens : List Token) → InText text s → IsCut s.bytes.now tokens → ((tree : SectionTree) × IsRead text (part_of s) tree) ⊎ ((line : ℕ) × IsUnread text line (part_of s))
+  read_section : (s : Section) (tokens : List Token) → InText text s → IsCut s.bytes.now tokens →
+      ((tree : SectionTree) × IsRead text (part_of s) tree) ⊎ ((line : ℕ) × IsUnread text line (part_of s))
   read_section s tokens i cut = elim (decide_tree (line_at text s.start) (lexemes_of s.bytes.now tokens)) [
     | inl p ↦ inl (p.0, record { tokens = tokens; cut = cut; parsed = p.1 })
-    | inr never ↦ let l = some_line s.start tokens (has_token text s tokens i cut) in inr (l.0, record { tokens = tokens; cut = cut; treeless = never; in_line = l.1 })
+    | inr never ↦ let l = some_line s.start tokens (has_token text s tokens i cut) in
+        inr (l.0, record { tokens = tokens; cut = cut; treeless = never; in_line = l.1 })
   ]
 
-  read_sections : (ss : List Section) (cuts : List (List Token)) → AllByRecursion (InText text) ss → AreCutInto (map part_of ss) cuts → ((trees : List SectionTree) × AllZip (IsRead text) (map part_of ss) trees) ⊎ ((line : ℕ) × First (HasTree text) (IsUnread text line) (map part_of ss))
+  read_sections : (ss : List Section) (cuts : List (List Token)) → AllByRecursion (InText text) ss →
+      AreCutInto (map part_of ss) cuts → ((trees : List SectionTree) × AllZip (IsRead text) (map part_of ss) trees) ⊎
+      ((line : ℕ) × First (HasTree text) (IsUnread text line) (map part_of ss))
   read_sections [] [] i h = inl ([], tt)
   read_sections [] (c ∷ cuts) i h = absurd h
   read_sections (s ∷ ss) [] i h = absurd h
@@ -174,15 +220,38 @@ module _ (text : List ℕ) where
   abbrev Either : Type 0
   Either = ((trees : List SectionTree) × Reads text trees) ⊎ ((which : Phase) × (line : ℕ) × Fails text which line)
 
-  after_lex : (preamble : List ℕ) (ss : List Section) (before : List Token) (cuts : List (List Token)) → IsSplit text preamble ss → IsCut preamble before → AreCutInto (map part_of ss) cuts → Either
+  after_lex : (preamble : List ℕ) (ss : List Section) (before : List Token) (cuts : List (List Token)) →
+      IsSplit text preamble ss → IsCut preamble before → AreCutInto (map part_of ss) cuts → Either
   after_lex preamble ss [] cuts split cut each =
-      let passes : PassesLex text [] (map part_of ss) = record { preamble = preamble; found = ss; cuts = cuts; split = split; parts = refl; cut = cut; each = each } in
+      let passes : PassesLex text [] (map part_of ss) =
+      record {
+        preamble = preamble;
+        found = ss;
+        cuts = cuts;
+        split = split;
+        parts = refl;
+        cut = cut;
+        each = each;
+      } in
       elim (read_sections ss cuts (in_text split.behind) each) [
         | inl t ↦ inl (t.0, record { sections = map part_of ss; lexed = passes; each = t.1 })
         | inr f ↦ inr (phase.Syntax, f.0, in_section (map part_of ss) passes f.1)
       ]
   after_lex preamble ss (t ∷ more) cuts split cut each =
-      inr (phase.Syntax, t.line, in_preamble t more (map part_of ss) (record { preamble = preamble; found = ss; cuts = cuts; split = split; parts = refl; cut = cut; each = each }) refl)
+      inr (
+        phase.Syntax,
+        t.line,
+        in_preamble t more (map part_of ss)
+            (record {
+              preamble = preamble;
+              found = ss;
+              cuts = cuts;
+              split = split;
+              parts = refl;
+              cut = cut;
+              each = each;
+            }) refl,
+      )
 
   after_split : (preamble : List ℕ) (ss : List Section) → IsSplit text preamble ss → Either
   after_split preamble ss split = elim (cut_parts (parts_of preamble ss)) [

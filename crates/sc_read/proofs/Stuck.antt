@@ -13,7 +13,8 @@ use Rattle.sc_lex.proofs.Fronts.{white_none}
 use Rattle.sc_lex.proofs.Cuts.{token_le}
 
 -- a gap begins no token
-gap_and_token : {directives : Bool} {text : List ℕ} {kind : TokenKind} {n m : ℕ} → IsGap text n → IsToken directives text kind m → ⊥
+gap_and_token : {directives : Bool} {text : List ℕ} {kind : TokenKind} {n m : ℕ} → IsGap text n →
+    IsToken directives text kind m → ⊥
 gap_and_token {directives} {text} {kind} {m = m} (white_space h) t = white_none text h directives kind m t
 gap_and_token (block_comment at h low ends first) t = t.no_block_comment h
 gap_and_token (line_comment h) t = t.no_line_comment h
@@ -22,15 +23,18 @@ module _ (bytes : List ℕ) where
   no_gap_behind : {n : ℕ} (at : ℕ) → length bytes ≤ at → IsGap (drop at bytes) n → ⊥
   no_gap_behind at past h = let fits = gap_fits h in omega (arith, length-drop at bytes)
 
-  no_token_behind : {directives : Bool} {kind : TokenKind} (n at : ℕ) → length bytes ≤ at → IsToken directives (drop at bytes) kind n → ⊥
-  no_token_behind n at past t = let some = token_positive n t in let within = t.within in omega (arith, length-drop at bytes)
+  no_token_behind : {directives : Bool} {kind : TokenKind} (n at : ℕ) → length bytes ≤ at →
+      IsToken directives (drop at bytes) kind n → ⊥
+  no_token_behind n at past t = let some = token_positive n t in let within = t.within in
+      omega (arith, length-drop at bytes)
 
   -- a token stands at this place
   abbrev TokenAt : ℕ → TokenKind → ℕ → Type 0
   TokenAt at kind n = IsToken (allows_directive bytes at) (drop at bytes) kind n
 
   -- pieces from a place don't lead both to where nothing goes on and to the end
-  apart : {at stuck from end : ℕ} {tokens others : List Token} → Cuts bytes at stuck tokens → Cuts bytes from end others → at ≡ from → IsStuck bytes stuck → length bytes ≤ end → ⊥
+  apart : {at stuck from end : ℕ} {tokens others : List Token} → Cuts bytes at stuck tokens →
+      Cuts bytes from end others → at ≡ from → IsStuck bytes stuck → length bytes ≤ end → ⊥
   apart nothing nothing same s past = let more = s.more in omega arith
   apart nothing (gap n h d) same s past = s.no_gap n (subst (λ k. IsGap (drop k bytes) n) (sym same) h)
   apart nothing (token kind n t d) same s past = s.no_token kind n (subst (λ k. TokenAt k kind n) (sym same) t)
@@ -40,12 +44,14 @@ module _ (bytes : List ℕ) where
       apart c d (omega arith) s past
   apart {at} (gap n h c) (token kind m t d) same s past = gap_and_token h (subst (λ k. TokenAt k kind m) (sym same) t)
   apart {at} (token kind n t c) nothing same s past = no_token_behind n at (omega arith) t
-  apart {at} (token kind n t c) (gap m g d) same s past = gap_and_token (subst (λ k. IsGap (drop k bytes) m) (sym same) g) t
+  apart {at} (token kind n t c) (gap m g d) same s past =
+      gap_and_token (subst (λ k. IsGap (drop k bytes) m) (sym same) g) t
   apart {at} (token kind n t c) (token other m u d) same s past =
       let v = subst (λ k. TokenAt k other m) (sym same) u in
       let low : n ≤ m = token_le n m t v in
       let high : m ≤ n = token_le m n v t in
       apart c d (omega arith) s past
 
-  pub cut_refused : (line : ℕ) (refusal : Refusal) → RefusesBytes bytes line refusal → (tokens : List Token) → IsCut bytes tokens → ⊥
+  pub cut_refused : (line : ℕ) (refusal : Refusal) → RefusesBytes bytes line refusal → (tokens : List Token) →
+      IsCut bytes tokens → ⊥
   cut_refused line refusal r tokens c = apart r.front c refl r.stuck (omega arith)

@@ -20,69 +20,91 @@ use Rattle.sc_read.proofs.Stuck.{cut_refused}
 use Rattle.sc_read.proofs.Splits.{same_preamble, same_parts, split_good}
 
 -- where each item is good, none is the first bad one
-no_first : {A B : Type 0} {Good Bad : A → Type 0} {R : A → B → Type 0} → ((x : A) (y : B) → R x y → Bad x → ⊥) → {xs : List A} → First Good Bad xs → (ys : List B) → AllZip R xs ys → ⊥
+no_first : {A B : Type 0} {Good Bad : A → Type 0} {R : A → B → Type 0} → ((x : A) (y : B) → R x y → Bad x → ⊥) →
+    {xs : List A} → First Good Bad xs → (ys : List B) → AllZip R xs ys → ⊥
 no_first not (here bad) [] h = h
 no_first not (here {x = x} bad) (y ∷ ys) h = not x y h.0 bad
 no_first not (later good f) [] h = h
 no_first not (later good f) (y ∷ ys) h = no_first not f ys h.1
 
 -- one item is the first bad one
-one_first : {A : Type 0} {Good Bad Worse : A → Type 0} {Same : Type 0} → ((x : A) → Bad x → Worse x → Same) → ((x : A) → Good x → Bad x → ⊥) → ((x : A) → Good x → Worse x → ⊥) → {xs : List A} → First Good Bad xs → First Good Worse xs → Same
+one_first : {A : Type 0} {Good Bad Worse : A → Type 0} {Same : Type 0} → ((x : A) → Bad x → Worse x → Same) →
+    ((x : A) → Good x → Bad x → ⊥) → ((x : A) → Good x → Worse x → ⊥) → {xs : List A} → First Good Bad xs →
+    First Good Worse xs → Same
 one_first same bad worse (here {x = x} b) (here w) = same x b w
 one_first same bad worse (here {x = x} b) (later good g) = absurd (bad x good b)
 one_first same bad worse (later {x = x} good f) (here w) = absurd (worse x good w)
 one_first same bad worse (later good f) (later fine g) = one_first same bad worse f g
 
 -- the first bad compartment line is one
-same_bad : {text : List ℕ} {refusal other : Refusal} → RefusesHeading text refusal → RefusesHeading text other → refusal.line ≡ other.line
+same_bad : {text : List ℕ} {refusal other : Refusal} → RefusesHeading text refusal → RefusesHeading text other →
+    refusal.line ≡ other.line
 same_bad {text} r q =
-    let place : r.at ≡ q.at = ⊎_elim (λ less. absurd (q.first r.at less r.bad)) (λ le. ⊎_elim (λ less. absurd (r.first q.at less q.bad)) (λ ge. omega arith) (cases_lt q.at r.at)) (cases_lt r.at q.at) in
+    let place : r.at ≡ q.at = ⊎_elim (λ less. absurd (q.first r.at less r.bad))
+    (λ le. ⊎_elim (λ less. absurd (r.first q.at less q.bad)) (λ ge. omega arith) (cases_lt q.at r.at))
+    (cases_lt r.at q.at) in
     r.line ∙ ap (λ at. line_at text at) place ∙ sym q.line
 
-parts_agree : {text p q : List ℕ} {ss ss' : List Section} → IsSplit text p ss → IsSplit text q ss' → parts_of p ss ≡ parts_of q ss'
+parts_agree : {text p q : List ℕ} {ss ss' : List Section} → IsSplit text p ss → IsSplit text q ss' →
+    parts_of p ss ≡ parts_of q ss'
 parts_agree {p = p} {q = q} {ss = ss} {ss' = ss'} c d =
     let front : p ≡ q = same_preamble c d in
     let behind : map part_of ss ≡ map part_of ss' = same_parts c d in
     ap₂ (λ b parts. record { start = 0; bytes = b } ∷ parts) front behind
 
 -- a text that passes phase Lex doesn't fail it
-lexed_or_fails : (text : List ℕ) (before : List Token) (sections : List Part) (line : ℕ) → PassesLex text before sections → FailsLex text line → ⊥
+lexed_or_fails : (text : List ℕ) (before : List Token) (sections : List Part) (line : ℕ) →
+    PassesLex text before sections → FailsLex text line → ⊥
 lexed_or_fails text before sections line p (bad_heading refusal r e) = split_good p.split r.at r.bad
 lexed_or_fails text before sections line p (uncut preamble found split f) =
-    no_first (λ part tokens c bad. cut_refused part.bytes (line_at text part.start) (record { phase = phase.Lex; line = line }) bad tokens c)
+    no_first (λ part tokens c bad. cut_refused part.bytes (line_at text part.start)
+    (record { phase = phase.Lex; line = line }) bad tokens c)
     (subst (λ parts. First HasTokens (IsUncut text line) parts) (parts_agree split p.split) f)
     (before ∷ p.cuts)
     (p.cut, subst (λ parts. AllZip (λ part tokens. IsCut part.bytes tokens) parts p.cuts) p.parts p.each)
 
-sections_agree : {text : List ℕ} {before more : List Token} {sections others : List Part} → PassesLex text before sections → PassesLex text more others → sections ≡ others
+sections_agree : {text : List ℕ} {before more : List Token} {sections others : List Part} →
+    PassesLex text before sections → PassesLex text more others → sections ≡ others
 sections_agree p q = p.parts ∙ same_parts p.split q.split ∙ sym q.parts
 
-module _ (one_cut : (bytes : List ℕ) (tokens others : List Token) → IsCut bytes tokens → IsCut bytes others → tokens ≡ others) where
-  preambles_agree : {text : List ℕ} {before more : List Token} {sections others : List Part} → PassesLex text before sections → PassesLex text more others → before ≡ more
-  preambles_agree {before = before} {more = more} p q = one_cut q.preamble before more (subst (λ b. IsCut b before) (same_preamble p.split q.split) p.cut) q.cut
+module _ (one_cut : (bytes : List ℕ) (tokens others : List Token) → IsCut bytes tokens → IsCut bytes others →
+    tokens ≡ others) where
+  preambles_agree : {text : List ℕ} {before more : List Token} {sections others : List Part} →
+      PassesLex text before sections → PassesLex text more others → before ≡ more
+  preambles_agree {before = before} {more = more} p q =
+      one_cut q.preamble before more (subst (λ b. IsCut b before) (same_preamble p.split q.split) p.cut) q.cut
 
   -- a section that is read isn't refused
-  read_or_unread : (text : List ℕ) (line : ℕ) (section : Part) (tree : SectionTree) → IsRead text section tree → IsUnread text line section → ⊥
+  read_or_unread : (text : List ℕ) (line : ℕ) (section : Part) (tree : SectionTree) → IsRead text section tree →
+      IsUnread text line section → ⊥
   read_or_unread text line section tree r u =
-      u.treeless tree (subst (λ tokens. IsParsed (line_at text section.start) (lexemes_of section.bytes tokens) tree) (one_cut section.bytes r.tokens u.tokens r.cut u.cut) r.parsed)
+      u.treeless tree (subst (λ tokens. IsParsed (line_at text section.start) (lexemes_of section.bytes tokens) tree)
+      (one_cut section.bytes r.tokens u.tokens r.cut u.cut) r.parsed)
 
-  pub read_or_refused : (text : List ℕ) (trees : List SectionTree) (which : Phase) (line : ℕ) → Reads text trees → Fails text which line → ⊥
+  pub read_or_refused : (text : List ℕ) (trees : List SectionTree) (which : Phase) (line : ℕ) → Reads text trees →
+      Fails text which line → ⊥
   read_or_refused text trees phase.Lex line r f = lexed_or_fails text [] r.sections line r.lexed f
-  read_or_refused text trees phase.Syntax line r (in_preamble first more sections p e) = let same = preambles_agree r.lexed p in absurd (cc)
+  read_or_refused text trees phase.Syntax line r (in_preamble first more sections p e) = let same =
+      preambles_agree r.lexed p in absurd (cc)
   read_or_refused text trees phase.Syntax line r (in_section sections p f) =
-      no_first (read_or_unread text line) (subst (λ parts. First (HasTree text) (IsUnread text line) parts) (sections_agree p r.lexed) f) trees r.each
+      no_first (read_or_unread text line) (subst (λ parts. First (HasTree text) (IsUnread text line) parts)
+      (sections_agree p r.lexed) f) trees r.each
   read_or_refused text trees phase.Names line r f = f
   read_or_refused text trees phase.Types line r f = f
   read_or_refused text trees phase.Interface line r f = f
   read_or_refused text trees phase.Count line r f = f
 
-  module _ (one_section : (line : ℕ) (lexemes : List Lexeme) (s t : SectionTree) → SpellsSection line lexemes s → SpellsSection line lexemes t → s ≡ t) where
-    one_tree : (text : List ℕ) (section : Part) (x y : SectionTree) → IsRead text section x → IsRead text section y → x ≡ y
+  module _ (one_section : (line : ℕ) (lexemes : List Lexeme) (s t : SectionTree) → SpellsSection line lexemes s →
+      SpellsSection line lexemes t → s ≡ t) where
+    one_tree : (text : List ℕ) (section : Part) (x y : SectionTree) → IsRead text section x → IsRead text section y →
+        x ≡ y
     one_tree text section x y r q =
-        let here = subst (λ tokens. IsParsed (line_at text section.start) (lexemes_of section.bytes tokens) x) (one_cut section.bytes r.tokens q.tokens r.cut q.cut) r.parsed in
+        let here = subst (λ tokens. IsParsed (line_at text section.start) (lexemes_of section.bytes tokens) x)
+        (one_cut section.bytes r.tokens q.tokens r.cut q.cut) r.parsed in
         one_section (line_at text section.start) (lexemes_of section.bytes q.tokens) x y here.spelled q.parsed.spelled
 
-    one_list : (text : List ℕ) (sections : List Part) (xs ys : List SectionTree) → AllZip (IsRead text) sections xs → AllZip (IsRead text) sections ys → xs ≡ ys
+    one_list : (text : List ℕ) (sections : List Part) (xs ys : List SectionTree) → AllZip (IsRead text) sections xs →
+        AllZip (IsRead text) sections ys → xs ≡ ys
     one_list text [] [] [] r q = refl
     one_list text [] [] (y ∷ ys) r q = absurd q
     one_list text [] (x ∷ xs) ys r q = absurd r
@@ -93,29 +115,39 @@ module _ (one_cut : (bytes : List ℕ) (tokens others : List Token) → IsCut by
         let more : xs ≡ ys = one_list text sections xs ys r.1 q.1 in
         ap (λ z. z ∷ xs) first ∙ ap (λ zs. y ∷ zs) more
 
-    pub one_reading : (text : List ℕ) (trees others : List SectionTree) → Reads text trees → Reads text others → trees ≡ others
+    pub one_reading : (text : List ℕ) (trees others : List SectionTree) → Reads text trees → Reads text others →
+        trees ≡ others
     one_reading text trees others r q =
-        one_list text q.sections trees others (subst (λ parts. AllZip (IsRead text) parts trees) (sections_agree r.lexed q.lexed) r.each) q.each
+        one_list text q.sections trees others (subst (λ parts. AllZip (IsRead text) parts trees)
+        (sections_agree r.lexed q.lexed) r.each) q.each
 
-module _ (one_refusal : (bytes : List ℕ) (line : ℕ) (refusal other : Refusal) → RefusesBytes bytes line refusal → RefusesBytes bytes line other → refusal ≡ other) where
+module _ (one_refusal : (bytes : List ℕ) (line : ℕ) (refusal other : Refusal) → RefusesBytes bytes line refusal →
+    RefusesBytes bytes line other → refusal ≡ other) where
   one_lex_line : (text : List ℕ) (line second : ℕ) → FailsLex text line → FailsLex text second → line ≡ second
   one_lex_line text line second (bad_heading r h e) (bad_heading q g i) = e ∙ same_bad h g ∙ sym i
-  one_lex_line text line second (bad_heading r h e) (uncut preamble sections split f) = absurd (split_good split h.at h.bad)
-  one_lex_line text line second (uncut preamble sections split f) (bad_heading r h e) = absurd (split_good split h.at h.bad)
+  one_lex_line text line second (bad_heading r h e) (uncut preamble sections split f) =
+      absurd (split_good split h.at h.bad)
+  one_lex_line text line second (uncut preamble sections split f) (bad_heading r h e) =
+      absurd (split_good split h.at h.bad)
   one_lex_line text line second (uncut preamble sections split f) (uncut other others divided g) =
-      one_first (λ part b w. ap (λ r. r.line) (one_refusal part.bytes (line_at text part.start) (record { phase = phase.Lex; line = line }) (record { phase = phase.Lex; line = second }) b w))
-      (λ part good b. cut_refused part.bytes (line_at text part.start) (record { phase = phase.Lex; line = line }) b good.0 good.1)
-      (λ part good w. cut_refused part.bytes (line_at text part.start) (record { phase = phase.Lex; line = second }) w good.0 good.1)
+      one_first (λ part b w. ap (λ r. r.line) (one_refusal part.bytes (line_at text part.start)
+      (record { phase = phase.Lex; line = line }) (record { phase = phase.Lex; line = second }) b w))
+      (λ part good b. cut_refused part.bytes (line_at text part.start)
+      (record { phase = phase.Lex; line = line }) b good.0 good.1)
+      (λ part good w. cut_refused part.bytes (line_at text part.start)
+      (record { phase = phase.Lex; line = second }) w good.0 good.1)
       f (subst (λ parts. First HasTokens (IsUncut text second) parts) (parts_agree divided split) g)
 
-  lexed : (text : List ℕ) (line : ℕ) → FailsSyntax text line → (before : List Token) × (sections : List Part) × PassesLex text before sections
+  lexed : (text : List ℕ) (line : ℕ) → FailsSyntax text line →
+      (before : List Token) × (sections : List Part) × PassesLex text before sections
   lexed text line (in_preamble first more sections p e) = (first ∷ more, sections, p)
   lexed text line (in_section sections p f) = ([], sections, p)
 
   lex_or_syntax : (text : List ℕ) (line second : ℕ) → FailsLex text line → FailsSyntax text second → ⊥
   lex_or_syntax text line second f g = let p = lexed text second g in lexed_or_fails text p.0 p.1 line p.2 f
 
-  pub one_phase : (text : List ℕ) (which other : Phase) (line second : ℕ) → Fails text which line → Fails text other second → (which ≡ other) × (which ≡ phase.Lex → line ≡ second)
+  pub one_phase : (text : List ℕ) (which other : Phase) (line second : ℕ) → Fails text which line →
+      Fails text other second → (which ≡ other) × (which ≡ phase.Lex → line ≡ second)
   one_phase text phase.Lex phase.Lex line second f g = (refl, λ e. one_lex_line text line second f g)
   one_phase text phase.Lex phase.Syntax line second f g = absurd (lex_or_syntax text line second f g)
   one_phase text phase.Syntax phase.Lex line second f g = absurd (lex_or_syntax text second line g f)

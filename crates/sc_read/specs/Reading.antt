@@ -1,4 +1,5 @@
--- How a text is read: it is split into its preamble and its sections, these parts are cut into tokens, and the tokens of
+-- How a text is read: it is split into its preamble and its sections, these parts are cut into tokens, and the tokens
+-- of
 -- each section spell its tree.
 use Rattle.std.specs.Prelude.{◌≡◌, ℕ, ◌-◌, List, [], ◌∷◌, map, Any}
 use Rattle.std.specs.List.{AllZip}
@@ -29,7 +30,8 @@ parts_of preamble sections = record { start = 0; bytes = preamble } ∷ map part
 abbrev pub HasTokens : Part → Type 0
 HasTokens part = (tokens : List Token) × IsCut part.bytes tokens
 
--- A text passes phase Lex: it is a preamble that is cut into these tokens, and these sections, each of which is cut too.
+-- A text passes phase Lex: it is a preamble that is cut into these tokens, and these sections, each of which is cut
+-- too.
 pub record PassesLex (text : List ℕ) (before : List Token) (sections : List Part) : Type 0 where
   pub preamble : List ℕ
   pub found : List Section
@@ -52,7 +54,8 @@ pub record Reads (text : List ℕ) (trees : List SectionTree) : Type 0 where
   pub lexed : PassesLex text [] sections
   pub each : AllZip (IsRead text) sections trees
 
--- The part isn't cut: in this line of the text stands the first place that begins neither white space, nor a comment, nor
+-- The part isn't cut: in this line of the text stands the first place that begins neither white space, nor a comment,
+-- nor
 -- a token.
 abbrev pub IsUncut : List ℕ → ℕ → Part → Type 0
 IsUncut text line part = RefusesBytes part.bytes (line_at text part.start) (record { phase = phase.Lex; line = line })
@@ -61,7 +64,8 @@ IsUncut text line part = RefusesBytes part.bytes (line_at text part.start) (reco
 -- place at which a part isn't cut.
 pub data FailsLex (text : List ℕ) (line : ℕ) : Type 0 where
   bad_heading : (refusal : Refusal) → RefusesHeading text refusal → line ≡ refusal.line → FailsLex text line
-  uncut : (preamble : List ℕ) (sections : List Section) → IsSplit text preamble sections → First HasTokens (IsUncut text line) (parts_of preamble sections) → FailsLex text line
+  uncut : (preamble : List ℕ) (sections : List Section) → IsSplit text preamble sections →
+      First HasTokens (IsUncut text line) (parts_of preamble sections) → FailsLex text line
 
 abbrev pub HasTree : List ℕ → Part → Type 0
 HasTree text section = (tree : SectionTree) × IsRead text section tree
@@ -76,8 +80,10 @@ pub record IsUnread (text : List ℕ) (line : ℕ) (section : Part) : Type 0 whe
 -- A text passes phase Lex and fails phase Syntax in a line: that of the preamble's first token, or, where it has none,
 -- that of a token of the first section that isn't read.
 pub data FailsSyntax (text : List ℕ) (line : ℕ) : Type 0 where
-  in_preamble : (first : Token) (more : List Token) (sections : List Part) → PassesLex text (first ∷ more) sections → line ≡ first.line → FailsSyntax text line
-  in_section : (sections : List Part) → PassesLex text [] sections → First (HasTree text) (IsUnread text line) sections → FailsSyntax text line
+  in_preamble : (first : Token) (more : List Token) (sections : List Part) → PassesLex text (first ∷ more) sections →
+      line ≡ first.line → FailsSyntax text line
+  in_section : (sections : List Part) → PassesLex text [] sections →
+      First (HasTree text) (IsUnread text line) sections → FailsSyntax text line
 
 -- a text fails a phase of reading in a line
 abbrev pub Fails : List ℕ → Phase → ℕ → Type 0

@@ -11,7 +11,8 @@ use sc_parse::one_section;
 
 /// A text is read as one list of trees at most.
 pub fn one_reading()
-    ensures { (text : List ℕ) (trees others : List SectionTree) → Reads text trees → Reads text others → trees ≡ others }
+    ensures { (text : List ℕ) (trees others : List SectionTree) → Reads text trees → Reads text others →
+        trees ≡ others }
 {
     one_cut();
     one_section();
@@ -19,19 +20,22 @@ pub fn one_reading()
 
 /// A text that is read fails no phase.
 pub fn read_or_refused()
-    ensures { (text : List ℕ) (trees : List SectionTree) (phase : Phase) (line : ℕ) → Reads text trees → Fails text phase line → ⊥ }
+    ensures { (text : List ℕ) (trees : List SectionTree) (phase : Phase) (line : ℕ) → Reads text trees →
+        Fails text phase line → ⊥ }
 {
     one_cut();
 }
 
 /// A text fails one phase at most, and phase Lex in one line at most.
 pub fn one_phase()
-    ensures { (text : List ℕ) (phase other : Phase) (line later : ℕ) → Fails text phase line → Fails text other later → (phase ≡ other) × (phase ≡ Lex → line ≡ later) }
+    ensures { (text : List ℕ) (phase other : Phase) (line later : ℕ) → Fails text phase line → Fails text other later →
+        (phase ≡ other) × (phase ≡ Lex → line ≡ later) }
 {
     one_refusal();
 }
 
 /// Each text is read, or fails a phase.
 pub fn read_or_fails()
-    ensures { (text : List ℕ) → ((trees : List SectionTree) × Reads text trees) ⊎ ((phase : Phase) × (line : ℕ) × Fails text phase line) }
+    ensures { (text : List ℕ) → ((trees : List SectionTree) × Reads text trees) ⊎
+        ((phase : Phase) × (line : ℕ) × Fails text phase line) }
 {}

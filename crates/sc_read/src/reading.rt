@@ -19,7 +19,8 @@ pub type Trees = Items<SectionTree>;
 /// Reads a text: the trees of its sections, or the first phase that it fails, and the line.
 pub fn read_trees(alloc: Global, text: &[u8]) -> Result<Trees, TextFault>
     ensures read { IfOk result (Reads text.now) }
-    ensures refused { (refusal : Refusal) → IsErrOf result (TextFault.Refused refusal) → Fails text.now refusal.phase refusal.line }
+    ensures refused { (refusal : Refusal) → IsErrOf result (TextFault.Refused refusal) →
+        Fails text.now refusal.phase refusal.line }
 {
     let Split { preamble, sections } = sections(alloc, text)?;
     let before = tokens(alloc, preamble, 1)?;
@@ -36,7 +37,8 @@ pub fn read_trees(alloc: Global, text: &[u8]) -> Result<Trees, TextFault>
 // The tokens of each section.
 fn cut_sections(alloc: Global, sections: &[Section<'_>]) -> Result<Items<Tokens>, TextFault>
     ensures cut { IfOk result (AllZip IsCutInto sections.now) }
-    ensures refused { (refusal : Refusal) → IsErrOf result (TextFault.Refused refusal) → First IsCuttable (λ section. RefusesBytes section.bytes.now section.line refusal) sections.now }
+    ensures refused { (refusal : Refusal) → IsErrOf result (TextFault.Refused refusal) →
+        First IsCuttable (λ section. RefusesBytes section.bytes.now section.line refusal) sections.now }
 {
     let mut cuts = Items::new(alloc);
     for section in sections {
@@ -53,7 +55,8 @@ fn parse_sections(
 ) -> Result<Trees, TextFault>
     requires { AllZip IsCutInto sections.now cuts.now }
     ensures read { IfOk result (AllZip IsTreeOf sections.now) }
-    ensures refused { (refusal : Refusal) → IsErrOf result (TextFault.Refused refusal) → (refusal.phase ≡ Syntax) × First IsParsable (RefusesTokens refusal.line) sections.now }
+    ensures refused { (refusal : Refusal) → IsErrOf result (TextFault.Refused refusal) →
+        (refusal.phase ≡ Syntax) × First IsParsable (RefusesTokens refusal.line) sections.now }
 {
     let mut trees = Items::new(alloc);
     for at in 0..sections.len() {
@@ -69,7 +72,8 @@ fn parse_section(
 ) -> Result<SectionTree, TextFault>
     requires { IsCut section.now.bytes.now tokens.now }
     ensures read { IfOk result (IsTreeOf section.now) }
-    ensures refused { (refusal : Refusal) → IsErrOf result (TextFault.Refused refusal) → (refusal.phase ≡ Syntax) × RefusesTokens refusal.line section.now }
+    ensures refused { (refusal : Refusal) → IsErrOf result (TextFault.Refused refusal) →
+        (refusal.phase ≡ Syntax) × RefusesTokens refusal.line section.now }
 {
     Ok(parse(alloc, section, tokens)?)
 }

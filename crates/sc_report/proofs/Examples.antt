@@ -9,11 +9,17 @@ abbrev store : Interfaces
 store = record {
   comps =
       record { name = codes "Main"; exports = []; imports = Function 1 0 ∷ Output ∷ [] } ∷
-      record { name = codes "Net"; exports = record { name = codes "put"; params = Int ∷ Int ∷ []; result = Some Int } ∷ record { name = codes "end"; params = Unsigned ∷ []; result = None } ∷ []; imports = Input ∷ [] } ∷ [];
+      record {
+        name = codes "Net";
+        exports = record { name = codes "put"; params = Int ∷ Int ∷ []; result = Some Int } ∷
+            record { name = codes "end"; params = Unsigned ∷ []; result = None } ∷ [];
+        imports = Input ∷ [];
+      } ∷ [];
   main = 0;
 }
 
 interfaces_told :
     check_text store ≡
-    codes "compartment Main\nimport Net put int int int\nimport Env output void int\ncompartment Net\nexport put int int int\nexport end void unsigned\nimport Env input int\nmain Main\n"
+    codes
+    "compartment Main\nimport Net put int int int\nimport Env output void int\ncompartment Net\nexport put int int int\nexport end void unsigned\nimport Env input int\nmain Main\n"
 interfaces_told = refl

@@ -42,18 +42,21 @@ function_line comp proto = codes "import " ++ (comp ++ function_end proto)
 abbrev pub import_line : Interfaces → Import → List ℕ
 import_line interfaces Input = codes "import Env input int\n"
 import_line interfaces Output = codes "import Env output void int\n"
-import_line interfaces (Function comp index) = option_map_or (function_line (comp_name interfaces comp)) (export_at interfaces comp index) (codes "")
+import_line interfaces (Function comp index) = option_map_or (function_line (comp_name interfaces comp))
+    (export_at interfaces comp index) (codes "")
 
 abbrev pub comp_line : List ℕ → List ℕ
 comp_line name = codes "compartment " ++ (name ++ codes "\n")
 
 -- a compartment, what it exports and what it imports
 abbrev pub interface_text : Interfaces → Interface → List ℕ
-interface_text interfaces comp = comp_line comp.name ++ (flat_map export_line comp.exports ++ flat_map (import_line interfaces) comp.imports)
+interface_text interfaces comp = comp_line comp.name ++
+    (flat_map export_line comp.exports ++ flat_map (import_line interfaces) comp.imports)
 
 abbrev pub main_line : List ℕ → List ℕ
 main_line name = codes "main " ++ (name ++ codes "\n")
 
 -- all compartments, and the one that defines `main`
 abbrev pub check_text : Interfaces → List ℕ
-check_text interfaces = flat_map (interface_text interfaces) interfaces.comps ++ main_line (comp_name interfaces interfaces.main)
+check_text interfaces = flat_map (interface_text interfaces) interfaces.comps ++
+    main_line (comp_name interfaces interfaces.main)

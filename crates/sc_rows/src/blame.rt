@@ -1,4 +1,5 @@
-// Which undefined behaviour a run is blamed for, and at which line of its section, where the compartment line is line 1.
+// Which undefined behaviour a run is blamed for, and at which line of its section, where the compartment line is line
+// 1.
 use crate::program::Run;
 use std::alloc::Global;
 use std::test::Fail;
@@ -92,7 +93,16 @@ const POINTERS: [Blamed; 22] = [
         b"OutOfBounds 4",
     ),
     (
-        b"int *keep(void) {\n  int x = 1;\n  return &x;\n}\nint main(void) {\n  int *p;\n  p = keep();\n  return *p;\n}\n",
+        b"int *keep(void) {
+  int x = 1;
+  return &x;
+}
+int main(void) {
+  int *p;
+  p = keep();
+  return *p;
+}
+",
         b"Dangling 9",
     ),
     (
@@ -141,7 +151,13 @@ const POINTERS: [Blamed; 22] = [
         b"BadPointer 5",
     ),
     (
-        b"struct S { int a; int b; };\nstruct T { struct S s; int x; struct S t; };\nstruct T v;\nint main(void) {\n  return &v.t - &v.s;\n}\n",
+        b"struct S { int a; int b; };
+struct T { struct S s; int x; struct S t; };
+struct T v;
+int main(void) {
+  return &v.t - &v.s;
+}
+",
         b"BadPointer 6",
     ),
     (

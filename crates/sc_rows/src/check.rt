@@ -2,24 +2,60 @@
 use crate::program::Run;
 use std::test::Fail;
 
-const STORE: &[u8] =
-    b"#pragma compartment Main\n#pragma import Net put\n#pragma import Env output\nint put(int i, int v);\nvoid output(int v);\nint main(void) {\n  int r;\n  r = put(4, 9);\n  output(r);\n  return 0;\n}\n#pragma compartment Net\n#pragma export put\nint buf[4];\nint key;\nint put(int i, int v) {\n  buf[i] = v;\n  return key;\n}\n";
+const STORE: &[u8] = b"#pragma compartment Main
+#pragma import Net put
+#pragma import Env output
+int put(int i, int v);
+void output(int v);
+int main(void) {
+  int r;
+  r = put(4, 9);
+  output(r);
+  return 0;
+}
+#pragma compartment Net
+#pragma export put
+int buf[4];
+int key;
+int put(int i, int v) {
+  buf[i] = v;
+  return key;
+}
+";
 
-const STORE_FACES: &[u8] =
-    b"compartment Main\nimport Net put int int int\nimport Env output void int\ncompartment Net\nexport put int int int\nmain Main\n";
+const STORE_FACES: &[u8] = b"compartment Main
+import Net put int int int
+import Env output void int
+compartment Net
+export put int int int
+main Main
+";
 
-const POINTER_EXPORT: &[u8] =
-    b"#pragma compartment A\n#pragma export f\nint f(int *p) {\n  return 0;\n}\n#pragma compartment Main\nint main(void) { return 0; }\n";
+const POINTER_EXPORT: &[u8] = b"#pragma compartment A
+#pragma export f
+int f(int *p) {
+  return 0;
+}
+#pragma compartment Main
+int main(void) { return 0; }
+";
 
-const TWO_MAINS: &[u8] =
-    b"#pragma compartment Main\nint main(void) { return 0; }\n#pragma compartment Main\n";
+const TWO_MAINS: &[u8] = b"#pragma compartment Main
+int main(void) { return 0; }
+#pragma compartment Main
+";
 
 #[test]
 fn the_interfaces_of_a_text_are_told(rt: HostRuntime) -> Result<(), Fail> {
     let cases: [(&[u8], &[u8]); 2] = [
         (STORE, STORE_FACES),
         (
-            b"#pragma compartment A\n#pragma export f\nvoid f(unsigned a) {}\n#pragma compartment B\nint main(void) {}\n",
+            b"#pragma compartment A
+#pragma export f
+void f(unsigned a) {}
+#pragma compartment B
+int main(void) {}
+",
             b"compartment A\nexport f void unsigned\ncompartment B\nmain B\n",
         ),
     ];
@@ -48,15 +84,27 @@ fn a_text_is_refused_by_each_phase(rt: HostRuntime) -> Result<(), Fail> {
             b"secomp: refused syntax line 2\n",
         ),
         (
-            b"#pragma compartment A\nint main(void) {\n  return x;\n}\n",
+            b"#pragma compartment A
+int main(void) {
+  return x;
+}
+",
             b"secomp: refused names line 3\n",
         ),
         (
-            b"#pragma compartment A\nint main(void) {\n  int *p;\n  return p;\n}\n",
+            b"#pragma compartment A
+int main(void) {
+  int *p;
+  return p;
+}
+",
             b"secomp: refused types line 4\n",
         ),
         (
-            b"#pragma compartment A\nint x[1048577];\nint main(void) { return 0; }\n",
+            b"#pragma compartment A
+int x[1048577];
+int main(void) { return 0; }
+",
             b"secomp: refused count line 2\n",
         ),
     ];

@@ -29,7 +29,8 @@ const PAST_IMPORT: &[u8] = &[
     0x10, 0x01, 0, 0, 8, 0, 0, 0, 0x67, 0x80, 0, 0, 0x67, 0x80, 0, 0, 0, 0, 0, 0,
 ];
 
-// `A` imports `f`, calls it, and then the environment by a number that there isn't: lui t0,0x1100; jalr ra,0(t0); ecall.
+// `A` imports `f`, calls it, and then the environment by a number that there isn't: lui t0,0x1100; jalr ra,0(t0);
+// ecall.
 const CALL: &[u8] = &[
     0x53, 0x43, 0x49, 0x4d, 1, 0, 2, 0, 0, 0, 0, 1, 1, 0x41, 0, 0, 0, 1, 0, 1, 0, 0, 12, 0, 0, 0,
     0xb7, 0x02, 0x10, 0x01, 0xe7, 0x80, 0x02, 0, 0x73, 0, 0, 0, 0, 0, 0, 0, 1, 0x42, 0, 1, 0, 1,

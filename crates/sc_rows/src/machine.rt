@@ -2,11 +2,23 @@
 use crate::program::Run;
 use std::test::Fail;
 
-const SEVEN: &[u8] =
-    b"#pragma compartment Main\n#pragma import Env output\nvoid output(int v);\nint main(void) {\n  output(7);\n  return 0;\n}\n";
+const SEVEN: &[u8] = b"#pragma compartment Main
+#pragma import Env output
+void output(int v);
+int main(void) {
+  output(7);
+  return 0;
+}
+";
 
-const GREATEST: &[u8] =
-    b"#pragma compartment Main\n#pragma import Env output\nvoid output(int v);\nint main(void) {\n  output(2147483647);\n  return 0;\n}\n";
+const GREATEST: &[u8] = b"#pragma compartment Main
+#pragma import Env output
+void output(int v);
+int main(void) {
+  output(2147483647);
+  return 0;
+}
+";
 
 #[test]
 fn a_compiled_program_is_run_and_explained(rt: HostRuntime) -> Result<(), Fail> {

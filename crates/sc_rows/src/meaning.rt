@@ -3,11 +3,20 @@ use crate::program::Run;
 use std::alloc::{AllocError, Global};
 use std::test::Fail;
 
-const HEAD: &[u8] =
-    b"#pragma compartment Main\n#pragma import Env output\nvoid output(int v);\nint main(void) {\n";
+const HEAD: &[u8] = b"#pragma compartment Main
+#pragma import Env output
+void output(int v);
+int main(void) {
+";
 
-const SEVEN: &[u8] =
-    b"#pragma compartment Main\n#pragma import Env output\nvoid output(int v);\nint main(void) {\n  output(7);\n  return 0;\n}\n";
+const SEVEN: &[u8] = b"#pragma compartment Main
+#pragma import Env output
+void output(int v);
+int main(void) {
+  output(7);
+  return 0;
+}
+";
 
 const TOLD: &[u8] = b"out Main 7\nend Main 0\nstop ended\n";
 
@@ -46,7 +55,12 @@ fn texts_beyond_the_thin_ones_are_not_built(rt: HostRuntime) -> Result<(), Fail>
         &[b"  output(2147483648u);\n", b"  return 0;\n}\n"],
         &[b"  output(-1);\n", b"  return 0;\n}\n"],
         &[b"  return 0;\n}"],
-        &[b"  return 0;\n}\n#pragma compartment Other\n"],
+        &[
+            b"  return 0;
+}
+#pragma compartment Other
+",
+        ],
     ];
     for statements in cases {
         let text = text(rt.alloc(), statements)?;

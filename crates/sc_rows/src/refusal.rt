@@ -2,13 +2,27 @@
 use crate::program::Run;
 use std::test::Fail;
 
-const WITHOUT_ITS_BRACE: &[u8] =
-    b"#pragma compartment Main\n#pragma import Env output\nvoid output(int v);\nint main(void) {\n  output(7);\n  return 0;\n";
+const WITHOUT_ITS_BRACE: &[u8] = b"#pragma compartment Main
+#pragma import Env output
+void output(int v);
+int main(void) {
+  output(7);
+  return 0;
+";
 
-const WITH_A_WIDE_NUMBER: &[u8] =
-    b"#pragma compartment Main\n#pragma import Env output\nvoid output(int v);\nint main(void) {\n  output(4294967296);\n  return 0;\n}\n";
+const WITH_A_WIDE_NUMBER: &[u8] = b"#pragma compartment Main
+#pragma import Env output
+void output(int v);
+int main(void) {
+  output(4294967296);
+  return 0;
+}
+";
 
-const SECTION_IN_A_COMMENT: &[u8] = b"/*\n#pragma compartment Main\n*/\n";
+const SECTION_IN_A_COMMENT: &[u8] = b"/*
+#pragma compartment Main
+*/
+";
 
 #[test]
 fn a_text_is_refused_at_the_first_phase_that_it_fails(rt: HostRuntime) -> Result<(), Fail> {

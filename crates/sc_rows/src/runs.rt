@@ -2,77 +2,439 @@
 use crate::program::Run;
 use std::test::Fail;
 
-const STORE: &[u8] =
-    b"#pragma compartment Main\n#pragma import Net put\n#pragma import Env output\nint put(int i, int v);\nvoid output(int v);\nint main(void) {\n  int r;\n  r = put(4, 9);\n  output(r);\n  return 0;\n}\n#pragma compartment Net\n#pragma export put\nint buf[4];\nint key;\nint put(int i, int v) {\n  buf[i] = v;\n  return key;\n}\n";
+const STORE: &[u8] = b"#pragma compartment Main
+#pragma import Net put
+#pragma import Env output
+int put(int i, int v);
+void output(int v);
+int main(void) {
+  int r;
+  r = put(4, 9);
+  output(r);
+  return 0;
+}
+#pragma compartment Net
+#pragma export put
+int buf[4];
+int key;
+int put(int i, int v) {
+  buf[i] = v;
+  return key;
+}
+";
 
-const TWO_STORES: &[u8] =
-    b"#pragma compartment Main\n#pragma import A f\n#pragma import B g\n#pragma import Env output\nint f(int i);\nint g(int i);\nvoid output(int v);\nint main(void) {\n  int r;\n  r = f(2);\n  output(r);\n  r = g(2);\n  output(r);\n  return 0;\n}\n#pragma compartment A\n#pragma export f\nint x[2];\nint y;\nint f(int i) {\n  x[i] = 5;\n  return y;\n}\n#pragma compartment B\n#pragma export g\nint x[2];\nint y;\nint g(int i) {\n  x[i] = 5;\n  return y;\n}\n";
+const TWO_STORES: &[u8] = b"#pragma compartment Main
+#pragma import A f
+#pragma import B g
+#pragma import Env output
+int f(int i);
+int g(int i);
+void output(int v);
+int main(void) {
+  int r;
+  r = f(2);
+  output(r);
+  r = g(2);
+  output(r);
+  return 0;
+}
+#pragma compartment A
+#pragma export f
+int x[2];
+int y;
+int f(int i) {
+  x[i] = 5;
+  return y;
+}
+#pragma compartment B
+#pragma export g
+int x[2];
+int y;
+int g(int i) {
+  x[i] = 5;
+  return y;
+}
+";
 
-const REENTRY: &[u8] =
-    b"#pragma compartment Main\n#pragma import A f\n#pragma import Env output\nint f(int i);\nvoid output(int v);\nint main(void) {\n  int r;\n  r = f(1);\n  output(r);\n  return 0;\n}\n#pragma compartment A\n#pragma export f\n#pragma export h\n#pragma import B g\nint g(int v);\nint x[2];\nint y;\nint f(int i) {\n  int r;\n  x[i] = 5;\n  r = g(y);\n  return r + y;\n}\nint h(int v) {\n  y = y + v;\n  return y;\n}\n#pragma compartment B\n#pragma export g\n#pragma import A h\nint h(int v);\nint g(int v) {\n  int r;\n  r = h(v + 1);\n  return r;\n}\n";
+const REENTRY: &[u8] = b"#pragma compartment Main
+#pragma import A f
+#pragma import Env output
+int f(int i);
+void output(int v);
+int main(void) {
+  int r;
+  r = f(1);
+  output(r);
+  return 0;
+}
+#pragma compartment A
+#pragma export f
+#pragma export h
+#pragma import B g
+int g(int v);
+int x[2];
+int y;
+int f(int i) {
+  int r;
+  x[i] = 5;
+  r = g(y);
+  return r + y;
+}
+int h(int v) {
+  y = y + v;
+  return y;
+}
+#pragma compartment B
+#pragma export g
+#pragma import A h
+int h(int v);
+int g(int v) {
+  int r;
+  r = h(v + 1);
+  return r;
+}
+";
 
 // The same, where A stores behind the end of its array.
-const REENTRY_BLAMED: &[u8] =
-    b"#pragma compartment Main\n#pragma import A f\n#pragma import Env output\nint f(int i);\nvoid output(int v);\nint main(void) {\n  int r;\n  r = f(2);\n  output(r);\n  return 0;\n}\n#pragma compartment A\n#pragma export f\n#pragma export h\n#pragma import B g\nint g(int v);\nint x[2];\nint y;\nint f(int i) {\n  int r;\n  x[i] = 5;\n  r = g(y);\n  return r + y;\n}\nint h(int v) {\n  y = y + v;\n  return y;\n}\n#pragma compartment B\n#pragma export g\n#pragma import A h\nint h(int v);\nint g(int v) {\n  int r;\n  r = h(v + 1);\n  return r;\n}\n";
+const REENTRY_BLAMED: &[u8] = b"#pragma compartment Main
+#pragma import A f
+#pragma import Env output
+int f(int i);
+void output(int v);
+int main(void) {
+  int r;
+  r = f(2);
+  output(r);
+  return 0;
+}
+#pragma compartment A
+#pragma export f
+#pragma export h
+#pragma import B g
+int g(int v);
+int x[2];
+int y;
+int f(int i) {
+  int r;
+  x[i] = 5;
+  r = g(y);
+  return r + y;
+}
+int h(int v) {
+  y = y + v;
+  return y;
+}
+#pragma compartment B
+#pragma export g
+#pragma import A h
+int h(int v);
+int g(int v) {
+  int r;
+  r = h(v + 1);
+  return r;
+}
+";
 
 // Requests are read into an array that holds four numbers, and the third request has five.
-const ACCOUNTS: &[u8] =
-    b"#pragma compartment Reader\n#pragma import Accounts apply\n#pragma import Log note\n#pragma import Env input\nint apply(int kind, int who, int amount);\nvoid note(int what, int value);\nint input(void);\nint req[4];\nint served;\n\nvoid read_request(int n) {\n  int i;\n  int v;\n  for (i = 0; i < n; i++) {\n    v = input();\n    req[i] = v;\n  }\n}\n\nint main(void) {\n  int n;\n  int r;\n  n = input();\n  while (n != 0) {\n    read_request(n);\n    r = apply(req[0], req[1], req[2]);\n    note(req[0], r);\n    served = served + 1;\n    n = input();\n  }\n  note(0, served);\n  return 0;\n}\n#pragma compartment Accounts\n#pragma export apply\nstruct Account {\n  int balance;\n  unsigned int moves;\n};\nstruct Account table[8];\n\nint apply(int kind, int who, int amount) {\n  struct Account *a;\n  if (who < 0 || who >= 8 || amount < 0 || amount > 1000000) {\n    return -1;\n  }\n  a = &table[who];\n  if (kind == 1) {\n    a->balance = a->balance + amount;\n  } else if (kind == 2 && a->balance >= amount) {\n    a->balance = a->balance - amount;\n  } else {\n    return -2;\n  }\n  a->moves = a->moves + 1u;\n  return a->balance;\n}\n#pragma compartment Log\n#pragma export note\n#pragma import Env output\nvoid output(int v);\nunsigned int lines;\n\nvoid note(int what, int value) {\n  lines = lines + 1u;\n  if (what == 0) {\n    output(1000 + value);\n  } else {\n    output(value);\n  }\n}\n";
+const ACCOUNTS: &[u8] = b"#pragma compartment Reader
+#pragma import Accounts apply
+#pragma import Log note
+#pragma import Env input
+int apply(int kind, int who, int amount);
+void note(int what, int value);
+int input(void);
+int req[4];
+int served;
+
+void read_request(int n) {
+  int i;
+  int v;
+  for (i = 0; i < n; i++) {
+    v = input();
+    req[i] = v;
+  }
+}
+
+int main(void) {
+  int n;
+  int r;
+  n = input();
+  while (n != 0) {
+    read_request(n);
+    r = apply(req[0], req[1], req[2]);
+    note(req[0], r);
+    served = served + 1;
+    n = input();
+  }
+  note(0, served);
+  return 0;
+}
+#pragma compartment Accounts
+#pragma export apply
+struct Account {
+  int balance;
+  unsigned int moves;
+};
+struct Account table[8];
+
+int apply(int kind, int who, int amount) {
+  struct Account *a;
+  if (who < 0 || who >= 8 || amount < 0 || amount > 1000000) {
+    return -1;
+  }
+  a = &table[who];
+  if (kind == 1) {
+    a->balance = a->balance + amount;
+  } else if (kind == 2 && a->balance >= amount) {
+    a->balance = a->balance - amount;
+  } else {
+    return -2;
+  }
+  a->moves = a->moves + 1u;
+  return a->balance;
+}
+#pragma compartment Log
+#pragma export note
+#pragma import Env output
+void output(int v);
+unsigned int lines;
+
+void note(int what, int value) {
+  lines = lines + 1u;
+  if (what == 0) {
+    output(1000 + value);
+  } else {
+    output(value);
+  }
+}
+";
 
 const REQUESTS: &str = "3,1,2,500,3,2,2,200,5,1,3,40,7,99,3,2,5,10,0";
 
-const REQUESTS_TOLD: &[u8] =
-    b"in Reader 3\nin Reader 1\nin Reader 2\nin Reader 500\ncall Reader Accounts apply 1 2 500\nret Accounts Reader 500\ncall Reader Log note 1 500\nout Log 500\nret Log Reader\nin Reader 3\nin Reader 2\nin Reader 2\nin Reader 200\ncall Reader Accounts apply 2 2 200\nret Accounts Reader 300\ncall Reader Log note 2 300\nout Log 300\nret Log Reader\nin Reader 5\nin Reader 1\nin Reader 3\nin Reader 40\nin Reader 7\nin Reader 99\nstop blamed Reader OutOfBounds 16\n";
+const REQUESTS_TOLD: &[u8] = b"in Reader 3
+in Reader 1
+in Reader 2
+in Reader 500
+call Reader Accounts apply 1 2 500
+ret Accounts Reader 500
+call Reader Log note 1 500
+out Log 500
+ret Log Reader
+in Reader 3
+in Reader 2
+in Reader 2
+in Reader 200
+call Reader Accounts apply 2 2 200
+ret Accounts Reader 300
+call Reader Log note 2 300
+out Log 300
+ret Log Reader
+in Reader 5
+in Reader 1
+in Reader 3
+in Reader 40
+in Reader 7
+in Reader 99
+stop blamed Reader OutOfBounds 16
+";
 
-const MISSING_RETURN: &[u8] =
-    b"#pragma compartment Main\nint f(void) {\n}\nint main(void) {\n  int r;\n  r = f();\n  return r;\n}\n";
+const MISSING_RETURN: &[u8] = b"#pragma compartment Main
+int f(void) {
+}
+int main(void) {
+  int r;
+  r = f();
+  return r;
+}
+";
 
-const LEAK: &[u8] =
-    b"#pragma compartment Main\nint *leak(void) {\n  int x;\n  x = 1;\n  return &x;\n}\nint main(void) {\n  int *p;\n  int v;\n  p = leak();\n  v = *p;\n  return v;\n}\n";
+const LEAK: &[u8] = b"#pragma compartment Main
+int *leak(void) {
+  int x;
+  x = 1;
+  return &x;
+}
+int main(void) {
+  int *p;
+  int v;
+  p = leak();
+  v = *p;
+  return v;
+}
+";
 
-const MIN_BY_MINUS_ONE: &[u8] =
-    b"#pragma compartment Main\n#pragma import Env output\nvoid output(int v);\nint main(void) {\n  int a;\n  int b;\n  a = -2147483647 - 1;\n  b = -1;\n  output(a / b);\n  return 0;\n}\n";
+const MIN_BY_MINUS_ONE: &[u8] = b"#pragma compartment Main
+#pragma import Env output
+void output(int v);
+int main(void) {
+  int a;
+  int b;
+  a = -2147483647 - 1;
+  b = -1;
+  output(a / b);
+  return 0;
+}
+";
 
-const UNINITIALISED: &[u8] =
-    b"#pragma compartment Main\n#pragma import Env output\nvoid output(int v);\nint main(void) {\n  int x;\n  output(1);\n  output(x & 0);\n  return 0;\n}\n";
+const UNINITIALISED: &[u8] = b"#pragma compartment Main
+#pragma import Env output
+void output(int v);
+int main(void) {
+  int x;
+  output(1);
+  output(x & 0);
+  return 0;
+}
+";
 
-const INPUTS: &[u8] =
-    b"#pragma compartment Main\n#pragma import Env input\n#pragma import Env output\nint input(void);\nvoid output(int v);\nint main(void) {\n  int a;\n  int b;\n  int c;\n  a = input();\n  b = input();\n  c = input();\n  output(a + b + c);\n  return 0;\n}\n";
+const INPUTS: &[u8] = b"#pragma compartment Main
+#pragma import Env input
+#pragma import Env output
+int input(void);
+void output(int v);
+int main(void) {
+  int a;
+  int b;
+  int c;
+  a = input();
+  b = input();
+  c = input();
+  output(a + b + c);
+  return 0;
+}
+";
 
 // A loop of three rounds, each with a call.
-const ROUNDS: &[u8] =
-    b"#pragma compartment M\nint f(int a) {\n  return a;\n}\nint main(void) {\n  int i;\n  int r = 0;\n  for (i = 0; i < 3; i++) {\n    r = f(i);\n  }\n  return r;\n}\n";
+const ROUNDS: &[u8] = b"#pragma compartment M
+int f(int a) {
+  return a;
+}
+int main(void) {
+  int i;
+  int r = 0;
+  for (i = 0; i < 3; i++) {
+    r = f(i);
+  }
+  return r;
+}
+";
 
-const OUTPUTS: &[u8] =
-    b"#pragma compartment M\n#pragma import Env output\nvoid output(int v);\nint main(void) {\n  output(1);\n  output(2);\n  return 3;\n}\n";
+const OUTPUTS: &[u8] = b"#pragma compartment M
+#pragma import Env output
+void output(int v);
+int main(void) {
+  output(1);
+  output(2);
+  return 3;
+}
+";
 
-const ENDLESS: &[u8] = b"#pragma compartment M\nint main(void) {\n  while (1) {\n  }\n}\n";
+const ENDLESS: &[u8] = b"#pragma compartment M
+int main(void) {
+  while (1) {
+  }
+}
+";
 
-const DEEP: &[u8] =
-    b"#pragma compartment M\nint f(int n) {\n  int r = 0;\n  if (n > 1) {\n    r = f(n - 1);\n  }\n  return r + 1;\n}\nint main(void) {\n  int r;\n  r = f(10000);\n  return r;\n}\n";
+const DEEP: &[u8] = b"#pragma compartment M
+int f(int n) {
+  int r = 0;
+  if (n > 1) {
+    r = f(n - 1);
+  }
+  return r + 1;
+}
+int main(void) {
+  int r;
+  r = f(10000);
+  return r;
+}
+";
 
 // A place is evaluated after the call whose result it takes.
-const PLACE_AFTER_CALL: &[u8] =
-    b"#pragma compartment M\nint *p;\nint g[2];\nint f(void) {\n  p = &g[1];\n  return 5;\n}\nint main(void) {\n  *p = f();\n  return g[1];\n}\n";
+const PLACE_AFTER_CALL: &[u8] = b"#pragma compartment M
+int *p;
+int g[2];
+int f(void) {
+  p = &g[1];
+  return 5;
+}
+int main(void) {
+  *p = f();
+  return g[1];
+}
+";
 
 // What `&&` and `||` leave out isn't evaluated.
-const LEFT_OUT: &[u8] =
-    b"#pragma compartment M\nint main(void) {\n  return (0 && 1 / 0) + (2 || 1 / 0) + (3 && 4);\n}\n";
+const LEFT_OUT: &[u8] = b"#pragma compartment M
+int main(void) {
+  return (0 && 1 / 0) + (2 || 1 / 0) + (3 && 4);
+}
+";
 
 // Cells of structs and arrays, one behind another.
-const LAYOUT: &[u8] =
-    b"#pragma compartment M\nstruct S {\n  int a;\n  int b[2];\n};\nstruct S s[2];\nint main(void) {\n  int *p = &s[0].a;\n  int i;\n  for (i = 0; i < 6; i++) {\n    *(p + i) = i + 1;\n  }\n  return s[1].b[1] * 100 + s[1].a * 10 + (s + 1)->b[0];\n}\n";
+const LAYOUT: &[u8] = b"#pragma compartment M
+struct S {
+  int a;
+  int b[2];
+};
+struct S s[2];
+int main(void) {
+  int *p = &s[0].a;
+  int i;
+  for (i = 0; i < 6; i++) {
+    *(p + i) = i + 1;
+  }
+  return s[1].b[1] * 100 + s[1].a * 10 + (s + 1)->b[0];
+}
+";
 
 // One past the end of a variable is a pointer as good as others, as long as nothing is loaded.
-const PAST_THE_END: &[u8] =
-    b"#pragma compartment M\nint a[3];\nint *n;\nint main(void) {\n  int *p = a;\n  int *end = a + 3;\n  int count = 0;\n  while (p != end) {\n    count++;\n    p++;\n  }\n  return count + (end - a) + (&*n == 0);\n}\n";
+const PAST_THE_END: &[u8] = b"#pragma compartment M
+int a[3];
+int *n;
+int main(void) {
+  int *p = a;
+  int *end = a + 3;
+  int count = 0;
+  while (p != end) {
+    count++;
+    p++;
+  }
+  return count + (end - a) + (&*n == 0);
+}
+";
 
 // `break`, `continue` and the last part of a `for`.
-const LOOPS: &[u8] =
-    b"#pragma compartment M\nint main(void) {\n  int i;\n  int sum = 0;\n  for (i = 0; i < 10; i++) {\n    if (i == 2) {\n      continue;\n    }\n    if (i == 5) {\n      break;\n    }\n    sum = sum + i;\n  }\n  while (sum) {\n    sum--;\n    if (sum == 3) {\n      return i * 10 + sum;\n    }\n  }\n}\n";
+const LOOPS: &[u8] = b"#pragma compartment M
+int main(void) {
+  int i;
+  int sum = 0;
+  for (i = 0; i < 10; i++) {
+    if (i == 2) {
+      continue;
+    }
+    if (i == 5) {
+      break;
+    }
+    sum = sum + i;
+  }
+  while (sum) {
+    sum--;
+    if (sum == 3) {
+      return i * 10 + sum;
+    }
+  }
+}
+";
 
-const UNSIGNED: &[u8] =
-    b"#pragma compartment M\nunsigned u;\nint main(void) {\n  u = u - 1;\n  return (u > 0) + (-1 < 1u) * 10 + (-8 >> 1) * 100;\n}\n";
+const UNSIGNED: &[u8] = b"#pragma compartment M
+unsigned u;
+int main(void) {
+  u = u - 1;
+  return (u > 0) + (-1 < 1u) * 10 + (-8 >> 1) * 100;
+}
+";
 
 // The words of a command, the text and what is written.
 const PROGRAMS: [(&[&str], &[u8], &[u8]); 32] = [
@@ -89,7 +451,16 @@ const PROGRAMS: [(&[&str], &[u8], &[u8]); 32] = [
     (
         &["meaning"],
         REENTRY,
-        b"call Main A f 1\ncall A B g 0\ncall B A h 1\nret A B 1\nret B A 1\nret A Main 2\nout Main 2\nend Main 0\nstop ended\n",
+        b"call Main A f 1
+call A B g 0
+call B A h 1
+ret A B 1
+ret B A 1
+ret A Main 2
+out Main 2
+end Main 0
+stop ended
+",
     ),
     (
         &["meaning"],

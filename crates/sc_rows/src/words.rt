@@ -2,8 +2,14 @@
 use crate::program::Run;
 use std::test::Fail;
 
-const SEVEN: &[u8] =
-    b"#pragma compartment Main\n#pragma import Env output\nvoid output(int v);\nint main(void) {\n  output(7);\n  return 0;\n}\n";
+const SEVEN: &[u8] = b"#pragma compartment Main
+#pragma import Env output
+void output(int v);
+int main(void) {
+  output(7);
+  return 0;
+}
+";
 
 #[test]
 fn words_that_are_no_command_leave_the_input_unread(rt: HostRuntime) -> Result<(), Fail> {

@@ -21,7 +21,8 @@ use Rattle.sc_run.specs.Entering.{Begun, body_acts}
 use Rattle.sc_run.proofs.Blank.{blank}
 use Rattle.sc_run.proofs.Calling.{frame_at, enter_is, begun_seen, frame_is}
 
-globals_live : (zeros : List (List Cell)) (gs : List TypedGlobal) → blank (map (global_block zeros) gs) ≡ map (global_block zeros) gs
+globals_live : (zeros : List (List Cell)) (gs : List TypedGlobal) →
+    blank (map (global_block zeros) gs) ≡ map (global_block zeros) gs
 globals_live zeros [] = refl
 globals_live zeros (g ∷ gs) = ap (λ bs. global_block zeros g ∷ bs) (globals_live zeros gs)
 
@@ -38,36 +39,66 @@ module _ (program : ProgramTree) (inputs : List ℕ) (turns : ℕ) where
 
   first_seen_is : seen_of at_start ≡ seen_first
   first_seen_is = λ i.
-      record { memory = λ comp. first_live (slice_get program.sections comp) i; trace = []; turns = turns; inputs = inputs }
+      record {
+        memory = λ comp. first_live (slice_get program.sections comp) i;
+        trace = [];
+        turns = turns;
+        inputs = inputs;
+      }
 
   -- what `main` does from the start
   abbrev main_does : State → Piece (Option Value)
   main_does s =
-      and_then (found (entry_in program program.interfaces.main Main) s) (λ number s. call_own (library program) (within (run_step (library program)) (suc turns)) program.interfaces.main number [] s)
+      and_then (found (entry_in program program.interfaces.main Main) s)
+      (λ number s. call_own (library program) (within (run_step (library program))
+      (suc turns)) program.interfaces.main number [] s)
 
-  pub no_main : entry_in program program.interfaces.main Main ≡ None → (run_of c_arith program inputs turns).shown ≡ record { trace = []; end = TurnsOut }
+  pub no_main : entry_in program program.interfaces.main Main ≡ None →
+      (run_of c_arith program inputs turns).behaviour ≡ record { trace = []; end = TurnsOut }
   no_main is =
-      ap (λ o. (run_to program.interfaces.main (and_then (found o at_start) (λ number s. call_own (library program) (within (run_step (library program)) (suc turns)) program.interfaces.main number [] s))).shown) is
+      ap (λ o. (run_to program.interfaces.main (and_then (found o at_start)
+      (λ number s. call_own (library program) (within (run_step (library program))
+      (suc turns)) program.interfaces.main number [] s))).behaviour) is
 
-  pub main_missing : (number : ℕ) → entry_in program program.interfaces.main Main ≡ Some number → function (library program) program.interfaces.main number ≡ None → (run_of c_arith program inputs turns).shown ≡ record { trace = []; end = TurnsOut }
+  pub main_missing : (number : ℕ) → entry_in program program.interfaces.main Main ≡ Some number →
+      function (library program) program.interfaces.main number ≡ None →
+      (run_of c_arith program inputs turns).behaviour ≡ record { trace = []; end = TurnsOut }
   main_missing number at is =
-      ap (λ o. (run_to program.interfaces.main (and_then (found o at_start) (λ number s. call_own (library program) (within (run_step (library program)) (suc turns)) program.interfaces.main number [] s))).shown) at
-      ∙ ap (λ o. (run_to program.interfaces.main (and_then (found o at_start) (λ f s. and_then (bodies program (suc turns) number (record { comp = program.interfaces.main; first = length (s.memory program.interfaces.main) }) (begun program.interfaces.main f [] s)) (λ v t. back_own v (done program.interfaces.main f (length (s.memory program.interfaces.main)) t))))).shown) is
+      ap (λ o. (run_to program.interfaces.main (and_then (found o at_start)
+      (λ number s. call_own (library program) (within (run_step (library program))
+      (suc turns)) program.interfaces.main number [] s))).behaviour) at
+      ∙ ap (λ o. (run_to program.interfaces.main (and_then (found o at_start)
+      (λ f s. and_then (bodies program (suc turns) number
+      (record { comp = program.interfaces.main; first = length (s.memory program.interfaces.main) })
+      (begun program.interfaces.main f [] s)) (λ v t.
+      back_own v (done program.interfaces.main f (length (s.memory program.interfaces.main)) t))))).behaviour) is
 
   module _ (callee : Callee) (number : ℕ) (after : Seen) (f : Frame) where
-    pub begins : entry_in program program.interfaces.main Main ≡ Some number → callee.comp.now ≡ program.interfaces.main → callee.number ≡ number → function (library program) callee.comp.now callee.number ≡ Some (function_of c_arith program.interfaces.main callee.structs.now callee.function.now) → Begun callee [] seen_first after f → Standing program (run_of c_arith program inputs turns).shown after [] f (λ n s. body_acts program n f tt s)
+    pub begins : entry_in program program.interfaces.main Main ≡ Some number →
+        callee.comp.now ≡ program.interfaces.main → callee.number ≡ number →
+        function (library program) callee.comp.now callee.number ≡
+        Some (function_of c_arith program.interfaces.main callee.structs.now callee.function.now) →
+        Begun callee [] seen_first after f → Standing program
+        (run_of c_arith program inputs turns).behaviour after [] f (λ n s. body_acts program n f tt s)
     begins at here place there b =
-        subst (λ g. Standing program (run_of c_arith program inputs turns).shown after [] g (λ n s. body_acts program n g tt s)) (sym same) (record {
+        subst (λ g. Standing program (run_of c_arith program inputs turns).behaviour after [] g
+        (λ n s. body_acts program n g tt s)) (sym same) (record {
           open_calls = turns;
-          state = begun callee.comp.now (function_of c_arith program.interfaces.main callee.structs.now callee.function.now) [] at_start;
+          state = begun callee.comp.now (function_of c_arith program.interfaces.main callee.structs.now
+              callee.function.now) [] at_start;
           shows = begun_seen program f callee [] Nowhere at_start seen_first first_seen_is ∙ sym b.seen;
           enough = omega arith;
-          rest = ap (λ p. (run_to program.interfaces.main p).shown) (sym (enter_is program f callee [] Nowhere there back_own turns at_start)) ∙ ap (λ p. (run_to program.interfaces.main p).shown) called_is;
+          rest = ap (λ p. (run_to program.interfaces.main p).behaviour)
+              (sym (enter_is program f callee [] Nowhere there back_own turns at_start)) ∙
+              ap (λ p. (run_to program.interfaces.main p).behaviour) called_is;
         }) where
           same : f ≡ frame_at program f callee [] Nowhere (length (at_start.memory callee.comp.now))
           same = frame_is program f callee [] Nowhere at_start seen_first after f first_seen_is b
 
-          called_is : run_in (library program) (bodies program (suc turns)) callee.comp.now callee.number [] back_own at_start ≡ main_does at_start
+          called_is : run_in (library program) (bodies program
+              (suc turns)) callee.comp.now callee.number [] back_own at_start ≡ main_does at_start
           called_is =
               (λ i. run_in (library program) (bodies program (suc turns)) (here i) (place i) [] back_own at_start)
-              ∙ ap (λ o. and_then (found o at_start) (λ number s. call_own (library program) (within (run_step (library program)) (suc turns)) program.interfaces.main number [] s)) (sym at)
+              ∙ ap (λ o. and_then (found o at_start) (λ number s.
+              call_own (library program) (within (run_step (library program))
+              (suc turns)) program.interfaces.main number [] s)) (sym at)

@@ -24,7 +24,9 @@ given_live : (live : Bool) (cells : List Cell) → (given_back (record { live = 
 given_live true cells = refl
 given_live false cells = refl
 
-given_cells : (live : Bool) (cells : List Cell) → live_cells (Some (given_back (record { live = live; cells = cells }))) ≡ live_cells (Some (record { live = live; cells = cells }))
+given_cells : (live : Bool) (cells : List Cell) → live_cells
+    (Some (given_back (record { live = live; cells = cells }))) ≡
+    live_cells (Some (record { live = live; cells = cells }))
 given_cells true cells = refl
 given_cells false cells = refl
 
@@ -54,23 +56,36 @@ load_same bs pointer (Word w) = refl
 load_same bs pointer Null = refl
 load_same bs pointer (Ptr p) =
     ap (λ c. bind c (λ cells. loaded (blank bs) pointer (slice_get cells p.index))) (cells_same bs p.block)
-    ∙ by_ok (cells_at bs p.block) (λ cells. loaded (blank bs) pointer (slice_get cells p.index)) (λ cells. loaded bs pointer (slice_get cells p.index)) (λ cells. loaded_same bs pointer (slice_get cells p.index))
+    ∙ by_ok (cells_at bs p.block) (λ cells. loaded (blank bs) pointer (slice_get cells p.index))
+    (λ cells. loaded bs pointer (slice_get cells p.index))
+    (λ cells. loaded_same bs pointer (slice_get cells p.index))
 
 abbrev pub blanked : Result Blocks Cause → Result Blocks Cause
 blanked r = bind r (λ bs. Ok (blank bs))
 
-with_same : (bs : Blocks) (p : Pointer) (v : Value) (cells : List Cell) (b : Bool) → (if b then Ok (slice_set (blank bs) p.block (record { live = true; cells = slice_set cells p.index (cell_of v) })) else Err OutOfBounds) ≡ blanked (if b then Ok (slice_set bs p.block (record { live = true; cells = slice_set cells p.index (cell_of v) })) else Err OutOfBounds)
-with_same bs p v cells true = ap Ok (sym (map-set given_back bs p.block (record { live = true; cells = slice_set cells p.index (cell_of v) })))
+with_same : (bs : Blocks) (p : Pointer) (v : Value) (cells : List Cell) (b : Bool) →
+    (if b then Ok (slice_set (blank bs) p.block (record {
+      live = true;
+      cells = slice_set cells p.index (cell_of v);
+    })) else Err OutOfBounds) ≡
+    blanked (if b then Ok (slice_set bs p.block (record {
+      live = true;
+      cells = slice_set cells p.index (cell_of v);
+    })) else Err OutOfBounds)
+with_same bs p v cells true = ap Ok (sym (map-set given_back bs p.block
+    (record { live = true; cells = slice_set cells p.index (cell_of v) })))
 with_same bs p v cells false = refl
 
-stored_same : (bs : Blocks) (p : Pointer) (v : Value) (c : Result (List Cell) Cause) → bind c (with_cell (blank bs) p v) ≡ blanked (bind c (with_cell bs p v))
+stored_same : (bs : Blocks) (p : Pointer) (v : Value) (c : Result (List Cell) Cause) →
+    bind c (with_cell (blank bs) p v) ≡ blanked (bind c (with_cell bs p v))
 stored_same bs p v (Err cause) = refl
 stored_same bs p v (Ok cells) = with_same bs p v cells (nat_lt p.index (length cells))
 
 pub store_same : (bs : Blocks) (q v : Value) → store (blank bs) q v ≡ blanked (store bs q v)
 store_same bs (Word w) v = refl
 store_same bs Null v = refl
-store_same bs (Ptr p) v = ap (λ c. bind c (with_cell (blank bs) p v)) (cells_same bs p.block) ∙ stored_same bs p v (cells_at bs p.block)
+store_same bs (Ptr p) v = ap (λ c. bind c (with_cell (blank bs) p v)) (cells_same bs p.block) ∙
+    stored_same bs p v (cells_at bs p.block)
 
 pub blank_more : (bs cs : Blocks) → blank (bs ++ cs) ≡ blank bs ++ blank cs
 blank_more bs cs = map-append given_back bs cs
@@ -80,7 +95,8 @@ blank_new [] args = refl
 blank_new (n ∷ sizes) [] = ap (λ bs. record { live = true; cells = replicate n cell.Undef } ∷ bs) (blank_new sizes [])
 blank_new (n ∷ sizes) (v ∷ args) = ap (λ bs. record { live = true; cells = cell_of v ∷ [] } ∷ bs) (blank_new sizes args)
 
-given_twice : (live : Bool) (cells : List Cell) → given_back (given_back (record { live = live; cells = cells })) ≡ given_back (record { live = live; cells = cells })
+given_twice : (live : Bool) (cells : List Cell) → given_back (given_back (record { live = live; cells = cells })) ≡
+    given_back (record { live = live; cells = cells })
 given_twice true cells = refl
 given_twice false cells = refl
 
@@ -98,5 +114,6 @@ with_if true bs cs = refl
 with_if false bs cs = refl
 
 -- the memory as it is seen, with other blocks in a compartment
-pub memory_with : (comp : ℕ) (bs : Blocks) (memory : Memory) → (λ c. blank (with_blocks comp bs memory c)) ≡ with_blocks comp (blank bs) (λ c. blank (memory c))
+pub memory_with : (comp : ℕ) (bs : Blocks) (memory : Memory) →
+    (λ c. blank (with_blocks comp bs memory c)) ≡ with_blocks comp (blank bs) (λ c. blank (memory c))
 memory_with comp bs memory = λ i c. with_if (c == comp) bs (memory c) i

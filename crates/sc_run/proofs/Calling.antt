@@ -33,9 +33,15 @@ use Rattle.sc_run.proofs.Standing.{step_stops, step_ends, newest_first}
 use Rattle.sc_run.proofs.Looping.{assoc, steps_as}
 
 -- a result that can't be stored
-pub unstored : (program : ProgramTree) (before after : Seen) (work : List Work) (f : Frame) (to : To) (result : Option Value) (place : Bor TypedExpr) (line : ℕ) (v : Value) (end : RunEnd) → to ≡ Place place line → result ≡ Some v → Comes before after (Err end) (store_at (here_of f.scope) (way_in f place.now) v line tt) → Steps program before work f (λ n s. result_goes program f to result s) (Stop end) after work f
+pub unstored : (program : ProgramTree) (before after : Seen) (work : List Work) (f : Frame) (to : To)
+    (result : Option Value) (place : Bor TypedExpr) (line : ℕ) (v : Value) (end : RunEnd) → to ≡ Place place line →
+    result ≡ Some v → Comes before after (Err end) (store_at (here_of f.scope) (way_in f place.now) v line tt) →
+    Steps program before work f (λ n s. result_goes program f to result s) (Stop end) after work f
 unstored program before after work f to result place line v end is has c =
-    subst (λ x. Steps program before work f (λ n s. result_goes program f x result s) (Stop end) after work f) (sym is) (subst (λ x. Steps program before work f (λ n s. result_goes program f (Place place line) x s) (Stop end) after work f) (sym has) (step_ends program before after work f end (store_at (here_of f.scope) (way_in f place.now) v line tt) c))
+    subst (λ x. Steps program before work f (λ n s. result_goes program f x result s) (Stop end) after work f) (sym is)
+    (subst (λ x. Steps program before work f (λ n s. result_goes program f (Place place line) x s)
+    (Stop end) after work f) (sym has) (step_ends program before after work f end
+    (store_at (here_of f.scope) (way_in f place.now) v line tt) c))
 
 module _ (program : ProgramTree) (caller : Frame) (callee : Callee) (args : List Value) (to : To) where
   abbrev pub called_function : Function
@@ -44,7 +50,15 @@ module _ (program : ProgramTree) (caller : Frame) (callee : Callee) (args : List
   -- the frame of the call, where the compartment had so many blocks
   abbrev pub frame_at : ℕ → Frame
   frame_at first =
-      record { scope = record { structs = callee.structs; comp = callee.comp; first = first; params = length callee.function.now.params }; function = callee.function }
+      record {
+        scope = record {
+          structs = callee.structs;
+          comp = callee.comp;
+          first = first;
+          params = length callee.function.now.params;
+        };
+        function = callee.function;
+      }
 
   abbrev pub Found : Type 0
   Found = function (library program) callee.comp.now callee.number ≡ Some called_function
@@ -53,27 +67,58 @@ module _ (program : ProgramTree) (caller : Frame) (callee : Callee) (args : List
   abbrev pub entering : (Option Value → State → Piece (Option Value)) → ℕ → State → Piece (Option Value)
   entering back n s = run_in (library program) (bodies program n) callee.comp.now callee.number args back s
 
-  pub enter_is : Found → (back : Option Value → State → Piece (Option Value)) (m : ℕ) (t : State) → entering back (suc m) t ≡ returned program (frame_at (length (t.memory callee.comp.now))) back (body_acts program m (frame_at (length (t.memory callee.comp.now))) tt (begun callee.comp.now called_function args t))
+  pub enter_is : Found → (back : Option Value → State → Piece (Option Value)) (m : ℕ) (t : State) →
+      entering back (suc m) t ≡ returned program (frame_at (length (t.memory callee.comp.now))) back
+      (body_acts program m (frame_at (length (t.memory callee.comp.now))) tt
+      (begun callee.comp.now called_function args t))
   enter_is there back m t =
-      ap (λ o. and_then (found o t) (λ f s. and_then (bodies program (suc m) callee.number (record { comp = callee.comp.now; first = length (s.memory callee.comp.now) }) (begun callee.comp.now f args s)) (λ v u. back v (done callee.comp.now f (length (s.memory callee.comp.now)) u)))) there
-      ∙ ap (λ o. and_then (and_then (found o (begun callee.comp.now called_function args t)) (λ f s. f.does (calls_in program m) (record { comp = callee.comp.now; first = length (t.memory callee.comp.now) }) s)) (λ v u. back v (done callee.comp.now called_function (length (t.memory callee.comp.now)) u))) there
+      ap (λ o. and_then (found o t) (λ f s. and_then (bodies program (suc m) callee.number
+      (record { comp = callee.comp.now; first = length (s.memory callee.comp.now) })
+      (begun callee.comp.now f args s)) (λ v u. back v
+      (done callee.comp.now f (length (s.memory callee.comp.now)) u)))) there
+      ∙ ap (λ o. and_then (and_then (found o (begun callee.comp.now called_function args t))
+      (λ f s. f.does (calls_in program m) (record {
+        comp = callee.comp.now;
+        first = length (t.memory callee.comp.now);
+      }) s))
+      (λ v u. back v (done callee.comp.now called_function (length (t.memory callee.comp.now)) u))) there
 
-  pub begun_seen : (t : State) (mid : Seen) → seen_of t ≡ mid → seen_of (begun callee.comp.now called_function args t) ≡ with_memory mid (with_variables callee args mid.memory)
+  pub begun_seen : (t : State) (mid : Seen) → seen_of t ≡ mid →
+      seen_of (begun callee.comp.now called_function args t) ≡ with_memory mid (with_variables callee args mid.memory)
   begun_seen t mid shows =
-      seen_with t mid callee.comp.now (t.memory callee.comp.now ++ blocks_for (variables callee.structs.now callee.function.now) args) shows
-      ∙ ap (λ bs. with_memory mid (with_blocks callee.comp.now bs mid.memory)) (blank_more (t.memory callee.comp.now) (blocks_for (variables callee.structs.now callee.function.now) args) ∙ (λ i. blocks_seen t mid callee.comp.now shows i ++ blank_new (variables callee.structs.now callee.function.now) args i))
+      seen_with t mid callee.comp.now (t.memory callee.comp.now ++
+      blocks_for (variables callee.structs.now callee.function.now) args) shows
+      ∙ ap (λ bs. with_memory mid (with_blocks callee.comp.now bs mid.memory))
+      (blank_more (t.memory callee.comp.now) (blocks_for (variables callee.structs.now callee.function.now) args) ∙
+      (λ i. blocks_seen t mid callee.comp.now shows i ++
+      blank_new (variables callee.structs.now callee.function.now) args i))
 
-  first_seen : (t : State) (mid : Seen) → seen_of t ≡ mid → length (mid.memory callee.comp.now) ≡ length (t.memory callee.comp.now)
-  first_seen t mid shows = ap length (sym (blocks_seen t mid callee.comp.now shows)) ∙ length_same (t.memory callee.comp.now)
+  first_seen : (t : State) (mid : Seen) → seen_of t ≡ mid →
+      length (mid.memory callee.comp.now) ≡ length (t.memory callee.comp.now)
+  first_seen t mid shows = ap length (sym (blocks_seen t mid callee.comp.now shows)) ∙
+      length_same (t.memory callee.comp.now)
 
-  pub frame_is : (t : State) (mid after : Seen) (g : Frame) → seen_of t ≡ mid → Begun callee args mid after g → g ≡ frame_at (length (t.memory callee.comp.now))
+  pub frame_is : (t : State) (mid after : Seen) (g : Frame) → seen_of t ≡ mid → Begun callee args mid after g →
+      g ≡ frame_at (length (t.memory callee.comp.now))
   frame_is t mid after g shows b = λ i.
-      record { scope = record { structs = b.structs i; comp = b.comp i; first = (b.first ∙ first_seen t mid shows) i; params = b.params i }; function = b.function i }
+      record {
+        scope = record {
+          structs = b.structs i;
+          comp = b.comp i;
+          first = (b.first ∙ first_seen t mid shows) i;
+          params = b.params i;
+        };
+        function = b.function i;
+      }
 
-  entry_seen : (crossing : Option ℕ) (s : State) (seen : Seen) → seen_of s ≡ seen → seen_of (entry_from caller callee args crossing s) ≡ told_call caller callee args crossing seen
+  entry_seen : (crossing : Option ℕ) (s : State) (seen : Seen) → seen_of s ≡ seen →
+      seen_of (entry_from caller callee args crossing s) ≡ told_call caller callee args crossing seen
   entry_seen None s seen shows = shows
   entry_seen (Some index) s seen shows =
-      ap {A = Seen} (λ x. record x { trace = x.trace ++ Call caller.scope.comp.now callee.comp.now index (map word_in args) ∷ [] }) shows
+      ap {A = Seen} (λ x. record x {
+        trace = x.trace ++
+            Call caller.scope.comp.now callee.comp.now index (map word_in args) ∷ [];
+      }) shows
 
   entry_turns : (crossing : Option ℕ) (s : State) → (entry_from caller callee args crossing s).turns ≡ s.turns
   entry_turns None s = refl
@@ -81,51 +126,112 @@ module _ (program : ProgramTree) (caller : Frame) (callee : Callee) (args : List
 
   -- a function runs once its call was told
   abbrev from_call : Option ℕ → ℕ → State → Piece (Option Value)
-  from_call crossing n s = entering (back_from program caller callee crossing) n (entry_from caller callee args crossing s)
+  from_call crossing n s = entering (back_from program caller callee crossing) n
+      (entry_from caller callee args crossing s)
 
-  module _ (whole : SourceRun) (work later : List Work) (crossing : Option ℕ) (mid begun_to : Seen) (g : Frame) (there : Found) (b : Begun callee args (told_call caller callee args crossing mid) begun_to g) where
+  module _ (whole : SourceRun) (work later : List Work) (crossing : Option ℕ) (mid begun_to : Seen) (g : Frame)
+      (there : Found) (b : Begun callee args (told_call caller callee args crossing mid) begun_to g) where
     abbrev Entered : Type 0
     Entered = Standing program whole begun_to later g (λ n s. body_acts program n g tt s)
 
-    enter_at : (m : ℕ) (t : State) → later ≡ work ++ Caller caller to crossing ∷ [] → seen_of t ≡ told_call caller callee args crossing mid → ((n : ℕ) (p : Piece (Left (Unit {0}))) (f : Frame) → f ≡ frame_at (length (t.memory callee.comp.now)) → resume program n (Caller caller to crossing ∷ reverse work) f p ≡ resume program (suc n) (reverse work) caller (and_then (returned program f (back_from program caller callee crossing) p) (result_goes program caller to))) → t.turns ≤ m → (resume program (suc m) (reverse work) caller (and_then (entering (back_from program caller callee crossing) (suc m) t) (result_goes program caller to))).shown ≡ whole → Entered
+    enter_at : (m : ℕ) (t : State) → later ≡ work ++ Caller caller to crossing ∷ [] →
+        seen_of t ≡ told_call caller callee args crossing mid →
+        ((n : ℕ) (p : Piece (Left (Unit {0}))) (f : Frame) → f ≡ frame_at (length (t.memory callee.comp.now)) →
+        resume program n (Caller caller to crossing ∷ reverse work) f p ≡
+        resume program (suc n) (reverse work) caller
+        (and_then (returned program f (back_from program caller callee crossing) p)
+        (result_goes program caller to))) → t.turns ≤ m →
+        (resume program (suc m) (reverse work) caller
+        (and_then (entering (back_from program caller callee crossing) (suc m) t)
+        (result_goes program caller to))).behaviour ≡ whole → Entered
     enter_at m t pushed shows waits enough rest =
-        let same : g ≡ frame_at (length (t.memory callee.comp.now)) = frame_is t (told_call caller callee args crossing mid) begun_to g shows b in
+        let same : g ≡ frame_at (length (t.memory callee.comp.now)) =
+        frame_is t (told_call caller callee args crossing mid) begun_to g shows b in
         subst (λ f. Standing program whole begun_to later f (λ n s. body_acts program n f tt s)) (sym same) (record {
           open_calls = m;
           state = begun callee.comp.now called_function args t;
           shows = begun_seen t (told_call caller callee args crossing mid) shows ∙ sym b.seen;
           enough = enough;
-          rest = ap (λ ws. (resume program m ws (frame_at (length (t.memory callee.comp.now))) entered_piece).shown) (ap reverse pushed ∙ newest_first work (Caller caller to crossing)) ∙ ap (λ x. x.shown) (waits m entered_piece (frame_at (length (t.memory callee.comp.now))) refl) ∙ ap (λ q. (resume program (suc m) (reverse work) caller (and_then q (result_goes program caller to))).shown) (sym (enter_is there (back_from program caller callee crossing) m t)) ∙ rest;
+          rest = ap (λ ws. (resume program m ws (frame_at (length (t.memory callee.comp.now))) entered_piece).behaviour)
+              (ap reverse pushed ∙ newest_first work (Caller caller to crossing)) ∙
+              ap (λ x. x.behaviour) (waits m entered_piece (frame_at (length (t.memory callee.comp.now))) refl) ∙
+              ap (λ q. (resume program (suc m) (reverse work) caller
+              (and_then q (result_goes program caller to))).behaviour)
+              (sym (enter_is there (back_from program caller callee crossing) m t)) ∙ rest;
         }) where
           entered_piece : Piece (Left (Unit {0}))
-          entered_piece = body_acts program m (frame_at (length (t.memory callee.comp.now))) tt (begun callee.comp.now called_function args t)
+          entered_piece = body_acts program m (frame_at (length (t.memory callee.comp.now))) tt
+              (begun callee.comp.now called_function args t)
 
-    waits_at : (cross : Option ℕ) (first : ℕ) (n : ℕ) (p : Piece (Left (Unit {0}))) (f : Frame) → f ≡ frame_at first → resume program n (Caller caller to cross ∷ reverse work) f p ≡ resume program (suc n) (reverse work) caller (and_then (returned program f (back_from program caller callee cross) p) (result_goes program caller to))
+    waits_at : (cross : Option ℕ) (first : ℕ) (n : ℕ) (p : Piece (Left (Unit {0}))) (f : Frame) → f ≡ frame_at first →
+        resume program n (Caller caller to cross ∷ reverse work) f p ≡
+        resume program (suc n) (reverse work) caller
+        (and_then (returned program f (back_from program caller callee cross) p) (result_goes program caller to))
     waits_at None first n p f is = refl
     waits_at (Some index) first n p f is =
-        subst (λ f. resume program n (Caller caller to (Some index) ∷ reverse work) f p ≡ resume program (suc n) (reverse work) caller (and_then (returned program f (back_from program caller callee (Some index)) p) (result_goes program caller to))) (sym is) refl
+        subst (λ f. resume program n (Caller caller to (Some index) ∷ reverse work) f p ≡
+        resume program (suc n) (reverse work) caller
+        (and_then (returned program f (back_from program caller callee (Some index)) p)
+        (result_goes program caller to))) (sym is) refl
 
-    entered_from : (before : Seen) → later ≡ work ++ Caller caller to crossing ∷ [] → before.turns ≡ suc mid.turns → Comes before mid (Ok tt) turn → Standing program whole before work caller (λ n s. and_then (and_then (turn s) (λ _ s. from_call crossing n s)) (result_goes program caller to)) → Entered
+    entered_from : (before : Seen) → later ≡ work ++ Caller caller to crossing ∷ [] → before.turns ≡ suc mid.turns →
+        Comes before mid (Ok tt) turn → Standing program whole before work caller
+        (λ n s. and_then (and_then (turn s) (λ _ s. from_call crossing n s)) (result_goes program caller to)) →
+        Entered
     entered_from before pushed taken c h =
-        by_turn h.open_calls (turn h.state) (c.comes h.state h.shows) (more (ap (λ x. x.turns) h.shows) taken h.enough) h.rest where
-          more : h.state.turns ≡ before.turns → before.turns ≡ suc mid.turns → h.state.turns ≤ h.open_calls → suc mid.turns ≤ h.open_calls
+        by_turn h.open_calls (turn h.state) (c.comes h.state h.shows)
+        (more (ap (λ x. x.turns) h.shows) taken h.enough) h.rest where
+          more : h.state.turns ≡ before.turns → before.turns ≡ suc mid.turns → h.state.turns ≤ h.open_calls →
+              suc mid.turns ≤ h.open_calls
           more x y z = omega (arith, x, y, z)
 
-          by_turn : (n : ℕ) (x : Piece (Unit {0})) → CameTo (Ok tt) mid x → suc mid.turns ≤ n → (resume program n (reverse work) caller (and_then (and_then x (λ _ s. from_call crossing n s)) (result_goes program caller to))).shown ≡ whole → Entered
+          by_turn : (n : ℕ) (x : Piece (Unit {0})) → CameTo (Ok tt) mid x → suc mid.turns ≤ n →
+              (resume program n (reverse work) caller
+              (and_then (and_then x (λ _ s. from_call crossing n s)) (result_goes program caller to))).behaviour ≡
+              whole → Entered
           by_turn zero x e le rest = absurd (none mid.turns le) where
             none : (k : ℕ) → suc k ≤ 0 → ⊥
             none k z = omega (arith, z)
           by_turn (suc m) (Reached u t) e le rest =
-              enter_at m (entry_from caller callee args crossing t) pushed (entry_seen crossing t mid e.1) (λ n p f is. waits_at crossing (length ((entry_from caller callee args crossing t).memory callee.comp.now)) n p f is) (less (entry_turns crossing t) (ap (λ x. x.turns) e.1) le) rest where
-                less : (entry_from caller callee args crossing t).turns ≡ t.turns → t.turns ≡ mid.turns → suc mid.turns ≤ suc m → (entry_from caller callee args crossing t).turns ≤ m
+              enter_at m (entry_from caller callee args crossing t) pushed (entry_seen crossing t mid e.1)
+              (λ n p f is. waits_at crossing (length
+              ((entry_from caller callee args crossing t).memory callee.comp.now)) n p f is)
+              (less (entry_turns crossing t) (ap (λ x. x.turns) e.1) le) rest where
+                less : (entry_from caller callee args crossing t).turns ≡ t.turns → t.turns ≡ mid.turns →
+                    suc mid.turns ≤ suc m → (entry_from caller callee args crossing t).turns ≤ m
                 less x y z = omega (arith, x, y, z)
           by_turn (suc m) (Stopped end t) e le rest = elim e [ ]
 
-  pub enter_steps : (crossing : Option ℕ) (work later : List Work) (before mid told begun_to : Seen) (g : Frame) (step : Step) (last : Seen) (last_work : List Work) (last_frame : Frame) → function (library program) callee.comp.now callee.number ≡ Some (function_of c_arith program.interfaces.main callee.structs.now callee.function.now) → Comes before mid (Ok tt) turn → before.turns ≡ suc mid.turns → told ≡ told_call caller callee args crossing mid → Begun callee args told begun_to g → later ≡ work ++ Caller caller to crossing ∷ [] → Steps program begun_to later g (λ n s. body_acts program n g tt s) step last last_work last_frame → Steps program before work caller (λ n s. and_then (and_then (turn s) (λ _ s. run_in (library program) (bodies program n) callee.comp.now callee.number args (back_from program caller callee crossing) (entry_from caller callee args crossing s))) (result_goes program caller to)) step last last_work last_frame
-  enter_steps crossing work later before mid told begun_to g step last last_work last_frame there c taken tells b pushed h =
-      record { stands = λ whole standing. h.stands whole (entered_from whole work later crossing mid begun_to g there (subst (λ x. Begun callee args x begun_to g) tells b) before pushed taken c standing) }
+  pub enter_steps : (crossing : Option ℕ) (work later : List Work) (before mid told begun_to : Seen) (g : Frame)
+      (step : Step) (last : Seen) (last_work : List Work) (last_frame : Frame) →
+      function (library program) callee.comp.now callee.number ≡
+      Some (function_of c_arith program.interfaces.main callee.structs.now callee.function.now) →
+      Comes before mid (Ok tt) turn → before.turns ≡ suc mid.turns →
+      told ≡ told_call caller callee args crossing mid → Begun callee args told begun_to g →
+      later ≡ work ++ Caller caller to crossing ∷ [] →
+      Steps program begun_to later g (λ n s. body_acts program n g tt s) step last last_work last_frame →
+      Steps program before work caller (λ n s. and_then
+      (and_then (turn s) (λ _ s. run_in (library program) (bodies program n) callee.comp.now callee.number args
+      (back_from program caller callee crossing) (entry_from caller callee args crossing s)))
+      (result_goes program caller to)) step last last_work last_frame
+  enter_steps crossing work later before mid told begun_to g step last last_work last_frame there c taken tells b pushed
+      h =
+      record {
+        stands = λ whole standing. h.stands whole
+            (entered_from whole work later crossing mid begun_to g there
+            (subst (λ x. Begun callee args x begun_to g) tells b) before pushed taken c standing);
+      }
 
   -- a call that has no turn left
-  pub enter_stops : (crossing : Option ℕ) (work : List Work) (before after : Seen) (end : RunEnd) → Comes before after (Err end) turn → Steps program before work caller (λ n s. and_then (and_then (turn s) (λ _ s. run_in (library program) (bodies program n) callee.comp.now callee.number args (back_from program caller callee crossing) (entry_from caller callee args crossing s))) (result_goes program caller to)) (Stop end) after work caller
+  pub enter_stops : (crossing : Option ℕ) (work : List Work) (before after : Seen) (end : RunEnd) →
+      Comes before after (Err end) turn → Steps program before work caller
+      (λ n s. and_then (and_then (turn s) (λ _ s. run_in (library program)
+      (bodies program n) callee.comp.now callee.number args (back_from program caller callee crossing)
+      (entry_from caller callee args crossing s))) (result_goes program caller to)) (Stop end) after work caller
   enter_stops crossing work before after end c =
-      steps_as program before work caller (λ n s. and_then (and_then (turn s) (λ _ s. from_call crossing n s)) (result_goes program caller to)) (λ n s. and_then (turn s) (λ _ s. and_then (from_call crossing n s) (result_goes program caller to))) (Stop end) after work caller (λ n s. assoc (turn s) (λ _ s. from_call crossing n s) (result_goes program caller to)) (step_stops program before after work caller end turn (λ n u s. and_then (from_call crossing n s) (result_goes program caller to)) c)
+      steps_as program before work caller (λ n s. and_then (and_then (turn s) (λ _ s. from_call crossing n s))
+      (result_goes program caller to)) (λ n s. and_then (turn s)
+      (λ _ s. and_then (from_call crossing n s) (result_goes program caller to))) (Stop end) after work caller
+      (λ n s. assoc (turn s) (λ _ s. from_call crossing n s) (result_goes program caller to))
+      (step_stops program before after work caller end turn
+      (λ n u s. and_then (from_call crossing n s) (result_goes program caller to)) c)

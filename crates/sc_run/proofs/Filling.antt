@@ -14,36 +14,50 @@ use Rattle.sc_core.specs.Meaning.{repeated, zeros_of, member_zeros, struct_zeros
 use Rattle.sc_run.specs.Starting.{cell_with}
 use Rattle.sc_run.proofs.Making.{with_twice, with_none, at_itself}
 
-repeated_more : (zeros : List (List Cell)) (n : ℕ) (cells : List Cell) → cells ++ repeated zeros n cells ≡ repeated zeros n cells ++ cells
+repeated_more : (zeros : List (List Cell)) (n : ℕ) (cells : List Cell) →
+    cells ++ repeated zeros n cells ≡ repeated zeros n cells ++ cells
 repeated_more zeros zero cells = append-nil cells
-repeated_more zeros (suc n) cells = ap (λ cs. cells ++ cs) (repeated_more zeros n cells) ∙ sym (append_assoc cells (repeated zeros n cells) cells)
+repeated_more zeros (suc n) cells = ap (λ cs. cells ++ cs) (repeated_more zeros n cells) ∙
+    sym (append_assoc cells (repeated zeros n cells) cells)
 
 -- the cells once more
-pub once_more : (zeros : List (List Cell)) (n : ℕ) (cells more so_far : List Cell) → so_far ≡ repeated zeros n cells → more ≡ cells → so_far ++ more ≡ repeated zeros (n + 1) cells
+pub once_more : (zeros : List (List Cell)) (n : ℕ) (cells more so_far : List Cell) → so_far ≡ repeated zeros n cells →
+    more ≡ cells → so_far ++ more ≡ repeated zeros (n + 1) cells
 once_more zeros n cells more so_far is same =
-    (λ i. is i ++ same i) ∙ sym (repeated_more zeros n cells) ∙ ap (λ k. repeated zeros k cells) (sym (plus_one n)) where
+    (λ i. is i ++ same i) ∙ sym (repeated_more zeros n cells) ∙
+    ap (λ k. repeated zeros k cells) (sym (plus_one n)) where
       plus_one : (k : ℕ) → k + 1 ≡ suc k
       plus_one k = omega arith
 
-members_more : (zeros : List (List Cell)) (ms : List TypedMember) (m : TypedMember) → member_zeros zeros (ms ++ m ∷ []) ≡ member_zeros zeros ms ++ zeros_of zeros m.ty
+members_more : (zeros : List (List Cell)) (ms : List TypedMember) (m : TypedMember) →
+    member_zeros zeros (ms ++ m ∷ []) ≡ member_zeros zeros ms ++ zeros_of zeros m.ty
 members_more zeros [] m = append-nil (zeros_of zeros m.ty)
 members_more zeros (x ∷ ms) m =
-    ap (λ cs. zeros_of zeros x.ty ++ cs) (members_more zeros ms m) ∙ sym (append_assoc (zeros_of zeros x.ty) (member_zeros zeros ms) (zeros_of zeros m.ty))
+    ap (λ cs. zeros_of zeros x.ty ++ cs) (members_more zeros ms m) ∙
+    sym (append_assoc (zeros_of zeros x.ty) (member_zeros zeros ms) (zeros_of zeros m.ty))
 
 -- one more member
-pub member_more : (zeros : List (List Cell)) (ms : List TypedMember) (i : ℕ) (m : TypedMember) (so_far : List Cell) → i < length ms → m ≡ get_or ms i m → so_far ≡ member_zeros zeros (take i ms) → so_far ++ zeros_of zeros m.ty ≡ member_zeros zeros (take (i + 1) ms)
+pub member_more : (zeros : List (List Cell)) (ms : List TypedMember) (i : ℕ) (m : TypedMember) (so_far : List Cell) →
+    i < length ms → m ≡ get_or ms i m → so_far ≡ member_zeros zeros (take i ms) →
+    so_far ++ zeros_of zeros m.ty ≡ member_zeros zeros (take (i + 1) ms)
 member_more zeros ms i m so_far there item is =
-    ap (λ cs. cs ++ zeros_of zeros m.ty) is ∙ sym (members_more zeros (take i ms) m) ∙ ap (member_zeros zeros) (ap (λ x. take i ms ++ x ∷ []) item ∙ sym (take_more ms i m there))
+    ap (λ cs. cs ++ zeros_of zeros m.ty) is ∙ sym (members_more zeros (take i ms) m) ∙
+    ap (member_zeros zeros) (ap (λ x. take i ms ++ x ∷ []) item ∙ sym (take_more ms i m there))
 
-struct_next : (structs : List TypedStruct) (i : ℕ) (s : TypedStruct) → i < length structs → s ≡ get_or structs i s → drop i structs ≡ s ∷ drop (i + 1) structs
+struct_next : (structs : List TypedStruct) (i : ℕ) (s : TypedStruct) → i < length structs → s ≡ get_or structs i s →
+    drop i structs ≡ s ∷ drop (i + 1) structs
 struct_next structs i s there item = rw (add-one, drop-cons structs i s) (λ k. sym item k ∷ drop (suc i) structs)
 
 -- one more struct
-pub struct_more : (structs : List TypedStruct) (i : ℕ) (s : TypedStruct) (known : List (List Cell)) (cells : List Cell) (whole : List (List Cell)) → i < length structs → s ≡ get_or structs i s → cells ≡ member_zeros known s.members → struct_zeros known (drop i structs) ≡ whole → struct_zeros (known ++ cells ∷ []) (drop (i + 1) structs) ≡ whole
+pub struct_more : (structs : List TypedStruct) (i : ℕ) (s : TypedStruct) (known : List (List Cell)) (cells : List Cell)
+    (whole : List (List Cell)) → i < length structs → s ≡ get_or structs i s → cells ≡ member_zeros known s.members →
+    struct_zeros known (drop i structs) ≡ whole → struct_zeros (known ++ cells ∷ []) (drop (i + 1) structs) ≡ whole
 struct_more structs i s known cells whole there item is so_far =
-    ap (λ cs. struct_zeros (known ++ cs ∷ []) (drop (i + 1) structs)) is ∙ sym (ap (struct_zeros known) (struct_next structs i s there item)) ∙ so_far
+    ap (λ cs. struct_zeros (known ++ cs ∷ []) (drop (i + 1) structs)) is ∙
+    sym (ap (struct_zeros known) (struct_next structs i s there item)) ∙ so_far
 
-word_first : (ws : List ℕ) (c : Cell) (cs : List Cell) → with_words ws (c ∷ cs) ≡ cell_with (slice_get ws 0) c ∷ with_words (drop 1 ws) cs
+word_first : (ws : List ℕ) (c : Cell) (cs : List Cell) →
+    with_words ws (c ∷ cs) ≡ cell_with (slice_get ws 0) c ∷ with_words (drop 1 ws) cs
 word_first [] c cs = ap (λ xs. c ∷ xs) (no_words cs) where
   no_words : (xs : List Cell) → xs ≡ with_words [] xs
   no_words xs = refl
@@ -65,11 +79,18 @@ rest_of_rest (w ∷ ws) zero = refl
 rest_of_rest (w ∷ ws) (suc i) = rest_of_rest ws i
 
 -- one more cell
-pub word_more : (ws : List ℕ) (cs : List Cell) (i : ℕ) (c new : Cell) (word : Option ℕ) (so_far whole : List Cell) → i < length cs → c ≡ get_or cs i Undef → word ≡ slice_get ws i → new ≡ cell_with word c → so_far ++ with_words (drop i ws) (drop i cs) ≡ whole → (so_far ++ new ∷ []) ++ with_words (drop (i + 1) ws) (drop (i + 1) cs) ≡ whole
-word_more ws cs i c new word so_far whole there item is gives held =
+pub word_more : (ws : List ℕ) (cs : List Cell) (i : ℕ) (c new : Cell) (word : Option ℕ) (so_far whole : List Cell) →
+    i < length cs → c ≡ get_or cs i Undef → word ≡ slice_get ws i → new ≡ cell_with word c →
+    so_far ++ with_words (drop i ws) (drop i cs) ≡ whole →
+    (so_far ++ new ∷ []) ++ with_words (drop (i + 1) ws) (drop (i + 1) cs) ≡ whole
+word_more ws cs i c new word so_far whole there item is gives stands_so =
     append_assoc so_far (new ∷ []) (with_words (drop (i + 1) ws) (drop (i + 1) cs))
-    ∙ ap (λ xs. so_far ++ xs) ((λ k. (gives ∙ ap (λ o. cell_with o c) (is ∙ sym (first_of_rest ws i))) k ∷ with_words (drop (plus_one i k) ws) (drop (i + 1) cs)) ∙ ap (λ xs. cell_with (slice_get (drop i ws) 0) c ∷ with_words xs (drop (i + 1) cs)) (sym (rest_of_rest ws i)) ∙ sym (word_first (drop i ws) c (drop (i + 1) cs)) ∙ ap (with_words (drop i ws)) (sym (rw (add-one, drop-cons cs i Undef) (λ k. sym item k ∷ drop (suc i) cs))))
-    ∙ held where
+    ∙ ap (λ xs. so_far ++ xs) ((λ k. (gives ∙ ap (λ o. cell_with o c) (is ∙ sym (first_of_rest ws i))) k ∷
+    with_words (drop (plus_one i k) ws) (drop (i + 1) cs)) ∙
+    ap (λ xs. cell_with (slice_get (drop i ws) 0) c ∷ with_words xs (drop (i + 1) cs)) (sym (rest_of_rest ws i)) ∙
+    sym (word_first (drop i ws) c (drop (i + 1) cs)) ∙
+    ap (with_words (drop i ws)) (sym (rw (add-one, drop-cons cs i Undef) (λ k. sym item k ∷ drop (suc i) cs))))
+    ∙ stands_so where
       plus_one : (k : ℕ) → k + 1 ≡ suc k
       plus_one k = omega arith
 
@@ -78,40 +99,62 @@ no_more [] = refl
 no_more (w ∷ ws) = refl
 
 -- all cells
-pub words_all : (ws : List ℕ) (cs : List Cell) (i : ℕ) (so_far whole : List Cell) → length cs ≤ i → so_far ++ with_words (drop i ws) (drop i cs) ≡ whole → so_far ≡ whole
-words_all ws cs i so_far whole past held =
-    sym (append-nil so_far) ∙ ap (λ xs. so_far ++ xs) (sym (ap (with_words (drop i ws)) (drop_all i cs past) ∙ no_more (drop i ws))) ∙ held
+pub words_all : (ws : List ℕ) (cs : List Cell) (i : ℕ) (so_far whole : List Cell) → length cs ≤ i →
+    so_far ++ with_words (drop i ws) (drop i cs) ≡ whole → so_far ≡ whole
+words_all ws cs i so_far whole past stands_so =
+    sym (append-nil so_far) ∙ ap (λ xs. so_far ++ xs)
+    (sym (ap (with_words (drop i ws)) (drop_all i cs past) ∙ no_more (drop i ws))) ∙ stands_so
 
 -- one more global
-pub global_more : (zeros : List (List Cell)) (gs : List TypedGlobal) (i : ℕ) (g : TypedGlobal) (comp : ℕ) (memory now later : Memory) → i < length gs → g ≡ get_or gs i g → now ≡ with_blocks comp (memory comp ++ map (global_block zeros) (take i gs)) memory → later ≡ with_blocks comp (now comp ++ global_block zeros g ∷ []) now → later ≡ with_blocks comp (memory comp ++ map (global_block zeros) (take (i + 1) gs)) memory
+pub global_more : (zeros : List (List Cell)) (gs : List TypedGlobal) (i : ℕ) (g : TypedGlobal) (comp : ℕ)
+    (memory now later : Memory) → i < length gs → g ≡ get_or gs i g →
+    now ≡ with_blocks comp (memory comp ++ map (global_block zeros) (take i gs)) memory →
+    later ≡ with_blocks comp (now comp ++ global_block zeros g ∷ []) now →
+    later ≡ with_blocks comp (memory comp ++ map (global_block zeros) (take (i + 1) gs)) memory
 global_more zeros gs i g comp memory now later there item is gives =
-    let held : now comp ≡ memory comp ++ map (global_block zeros) (take i gs) = (λ k. is k comp) ∙ at_itself comp (memory comp ++ map (global_block zeros) (take i gs)) memory in
-    let more : map (global_block zeros) (take i gs) ++ global_block zeros g ∷ [] ≡ map (global_block zeros) (take (i + 1) gs) = sym (map-append (global_block zeros) (take i gs) (g ∷ [])) ∙ ap (map (global_block zeros)) (ap (λ x. take i gs ++ x ∷ []) item ∙ sym (take_more gs i g there)) in
-    gives ∙ (λ k. with_blocks comp (held k ++ global_block zeros g ∷ []) (is k)) ∙ with_twice comp ((memory comp ++ map (global_block zeros) (take i gs)) ++ global_block zeros g ∷ []) (memory comp ++ map (global_block zeros) (take i gs)) memory
-    ∙ ap (λ bs. with_blocks comp bs memory) (append_assoc (memory comp) (map (global_block zeros) (take i gs)) (global_block zeros g ∷ []) ∙ ap (λ bs. memory comp ++ bs) more)
+    let stands_so : now comp ≡ memory comp ++ map (global_block zeros) (take i gs) =
+    (λ k. is k comp) ∙ at_itself comp (memory comp ++ map (global_block zeros) (take i gs)) memory in
+    let more : map (global_block zeros) (take i gs) ++ global_block zeros g ∷ [] ≡
+    map (global_block zeros) (take (i + 1) gs) = sym (map-append (global_block zeros) (take i gs) (g ∷ [])) ∙
+    ap (map (global_block zeros)) (ap (λ x. take i gs ++ x ∷ []) item ∙ sym (take_more gs i g there)) in
+    gives ∙ (λ k. with_blocks comp (stands_so k ++ global_block zeros g ∷ []) (is k)) ∙
+    with_twice comp ((memory comp ++ map (global_block zeros) (take i gs)) ++ global_block zeros g ∷ [])
+    (memory comp ++ map (global_block zeros) (take i gs)) memory
+    ∙ ap (λ bs. with_blocks comp bs memory) (append_assoc (memory comp) (map (global_block zeros) (take i gs))
+    (global_block zeros g ∷ []) ∙ ap (λ bs. memory comp ++ bs) more)
 
-pub no_global : (zeros : List (List Cell)) (comp : ℕ) (memory : Memory) → memory ≡ with_blocks comp (memory comp ++ []) memory
+pub no_global : (zeros : List (List Cell)) (comp : ℕ) (memory : Memory) →
+    memory ≡ with_blocks comp (memory comp ++ []) memory
 no_global zeros comp memory = sym (with_none comp [] memory)
 
 module _ (section : TypedSection) where
   abbrev its_blocks : Blocks
   its_blocks = first_blocks (Some section)
 
-  at_next : (sections : List TypedSection) (c : ℕ) → first_blocks (slice_get (sections ++ section ∷ []) c) ≡ (if c == length sections then its_blocks else first_blocks (slice_get sections c))
+  at_next : (sections : List TypedSection) (c : ℕ) → first_blocks (slice_get (sections ++ section ∷ []) c) ≡
+      (if c == length sections then its_blocks else first_blocks (slice_get sections c))
   at_next [] zero = refl
   at_next [] (suc c) = ap (λ b. if b then its_blocks else []) (sym (eqb-suc-zero c))
-  at_next (s ∷ sections) zero = ap (λ b. if b then its_blocks else first_blocks (Some s)) (sym (eqb-zero-suc (length sections)))
-  at_next (s ∷ sections) (suc c) = at_next sections c ∙ ap (λ b. if b then its_blocks else first_blocks (slice_get sections c)) (sym (eqb-suc-suc c (length sections)))
+  at_next (s ∷ sections) zero = ap (λ b. if b then its_blocks else first_blocks (Some s))
+      (sym (eqb-zero-suc (length sections)))
+  at_next (s ∷ sections) (suc c) = at_next sections c ∙
+      ap (λ b. if b then its_blocks else first_blocks (slice_get sections c)) (sym (eqb-suc-suc c (length sections)))
 
   past : (sections : List TypedSection) → first_blocks (slice_get sections (length sections)) ≡ []
   past [] = refl
   past (s ∷ sections) = past sections
 
 -- the globals of one more section
-pub section_more : (sections : List TypedSection) (at comp : ℕ) (section : TypedSection) (now later : Memory) → at < length sections → section ≡ get_or sections at section → comp ≡ at → now ≡ globals_of (take at sections) → later ≡ with_blocks comp (now comp ++ first_blocks (Some section)) now → later ≡ globals_of (take (at + 1) sections)
+pub section_more : (sections : List TypedSection) (at comp : ℕ) (section : TypedSection) (now later : Memory) →
+    at < length sections → section ≡ get_or sections at section → comp ≡ at → now ≡ globals_of (take at sections) →
+    later ≡ with_blocks comp (now comp ++ first_blocks (Some section)) now → later ≡ globals_of (take (at + 1) sections)
 section_more sections at comp section now later there item same is gives =
     let short : length (take at sections) ≡ at = omega (arith, length-take at sections, there) in
-    let here : now comp ≡ [] = (λ k. is k comp) ∙ ap (λ n. globals_of (take at sections) n) (same ∙ sym short) ∙ past section (take at sections) in
-    let next : globals_of (take at sections ++ section ∷ []) ≡ with_blocks at (first_blocks (Some section)) (globals_of (take at sections)) = (λ k c. at_next section (take at sections) c k) ∙ ap (λ n. with_blocks n (first_blocks (Some section)) (globals_of (take at sections))) short in
+    let here : now comp ≡ [] = (λ k. is k comp) ∙ ap (λ n. globals_of (take at sections) n) (same ∙ sym short) ∙
+    past section (take at sections) in
+    let next : globals_of (take at sections ++ section ∷ []) ≡
+    with_blocks at (first_blocks (Some section)) (globals_of (take at sections)) =
+    (λ k c. at_next section (take at sections) c k) ∙
+    ap (λ n. with_blocks n (first_blocks (Some section)) (globals_of (take at sections))) short in
     gives ∙ (λ k. with_blocks (same k) (here k ++ first_blocks (Some section)) (is k)) ∙ sym next
     ∙ ap globals_of (ap (λ x. take at sections ++ x ∷ []) item ∙ sym (take_more sections at section there))

@@ -86,28 +86,55 @@ module _ (program : ProgramTree) (before : Seen) (work : List Work) (f : Frame) 
   abbrev making : CallTarget → List Value → ℕ → State → Piece (Left (Unit {0}))
   making target args n s = and_then (called (library program) (bodies program n) f.scope.comp.now target args s) rg
 
-  pub refused : (target : CallTarget) (args : List Value) (end : RunEnd) → end ≡ refusal → may_call (library program) f.scope.comp.now target args ≡ false → Steps program before work f (λ n s. and_then (calls_in program n f.scope.comp.now target args s) rg) (Stop end) before work f
+  pub refused : (target : CallTarget) (args : List Value) (end : RunEnd) → end ≡ refusal →
+      may_call (library program) f.scope.comp.now target args ≡ false →
+      Steps program before work f (λ n s. and_then (calls_in program n f.scope.comp.now target args s) rg)
+      (Stop end) before work f
   refused target args end same is =
-      subst (λ e. Steps program before work f (calling target args) (Stop e) before work f) (sym same) (steps_as program before work f (calling target args) (λ n s. and_then (stops_here {V = Option Value} s) rg) (Stop refusal) before work f (λ n s. ap (λ b. and_then (if b then called (library program) (bodies program n) f.scope.comp.now target args s else Stopped refusal s) rg) is) (step_stops program before before work f refusal (stops_here {V = Option Value}) (λ n. rg) halts))
+      subst (λ e. Steps program before work f (calling target args) (Stop e) before work f) (sym same)
+      (steps_as program before work f (calling target args) (λ n s. and_then (stops_here {V = Option Value} s) rg)
+      (Stop refusal) before work f (λ n s. ap (λ b.
+      and_then (if b then called (library program) (bodies program n) f.scope.comp.now target args s else
+      Stopped refusal s) rg) is) (step_stops program before before work f refusal (stops_here {V = Option Value})
+      (λ n. rg) halts))
 
-  allowed : (target : CallTarget) (args : List Value) (step : Step) (after : Seen) (later : List Work) (g : Frame) → may_call (library program) f.scope.comp.now target args ≡ true → Steps program before work f (making target args) step after later g → Steps program before work f (calling target args) step after later g
+  allowed : (target : CallTarget) (args : List Value) (step : Step) (after : Seen) (later : List Work) (g : Frame) →
+      may_call (library program) f.scope.comp.now target args ≡ true →
+      Steps program before work f (making target args) step after later g →
+      Steps program before work f (calling target args) step after later g
   allowed target args step after later g is h =
-      steps_as program before work f (calling target args) (making target args) step after later g (λ n s. ap (λ b. and_then (if b then called (library program) (bodies program n) f.scope.comp.now target args s else Stopped refusal s) rg) is) h
+      steps_as program before work f (calling target args) (making target args) step after later g
+      (λ n s. ap (λ b. and_then (if b then called (library program)
+      (bodies program n) f.scope.comp.now target args s else Stopped refusal s) rg) is) h
 
-  pub own_missing : (number : ℕ) (args : List Value) (end : RunEnd) → end ≡ refusal → function (library program) f.scope.comp.now number ≡ None → Steps program before work f (λ n s. and_then (calls_in program n f.scope.comp.now (Own number) args s) rg) (Stop end) before work f
+  pub own_missing : (number : ℕ) (args : List Value) (end : RunEnd) → end ≡ refusal →
+      function (library program) f.scope.comp.now number ≡ None →
+      Steps program before work f (λ n s. and_then (calls_in program n f.scope.comp.now (Own number) args s) rg)
+      (Stop end) before work f
   own_missing number args end same is = refused (Own number) args end same (ap is_some is)
 
   -- a function that is entered, as a call sees it
   abbrev entering : Callee → List Value → Option ℕ → ℕ → State → Piece (Left (Unit {0}))
   entering callee args crossing n s =
-      and_then (and_then (turn s) (λ _ s. run_in (library program) (bodies program n) callee.comp.now callee.number args (back_from program f callee crossing) (entry_from f callee args crossing s))) rg
+      and_then (and_then (turn s) (λ _ s. run_in (library program) (bodies program n) callee.comp.now callee.number args
+      (back_from program f callee crossing) (entry_from f callee args crossing s))) rg
 
-  is_there : (callee : Callee) (comp number : ℕ) → callee.comp.now ≡ comp → callee.number ≡ number → {g : Function} → function (library program) callee.comp.now callee.number ≡ Some g → is_some (function (library program) comp number) ≡ true
-  is_there callee comp number here place there = (λ i. is_some (function (library program) (sym here i) (sym place i))) ∙ ap is_some there
+  is_there : (callee : Callee) (comp number : ℕ) → callee.comp.now ≡ comp → callee.number ≡ number → {g : Function} →
+      function (library program) callee.comp.now callee.number ≡ Some g →
+      is_some (function (library program) comp number) ≡ true
+  is_there callee comp number here place there = (λ i.
+      is_some (function (library program) (sym here i) (sym place i))) ∙ ap is_some there
 
-  pub own_enters : (callee : Callee) (number : ℕ) (args : List Value) (step : Step) (after : Seen) (later : List Work) (g : Frame) → FoundAt program f.scope.comp.now number (Some callee) → Steps program before work f (entering callee args None) step after later g → Steps program before work f (λ n s. and_then (calls_in program n f.scope.comp.now (Own number) args s) rg) step after later g
+  pub own_enters : (callee : Callee) (number : ℕ) (args : List Value) (step : Step) (after : Seen) (later : List Work)
+      (g : Frame) → FoundAt program f.scope.comp.now number (Some callee) →
+      Steps program before work f (entering callee args None) step after later g →
+      Steps program before work f (λ n s. and_then (calls_in program n f.scope.comp.now
+      (Own number) args s) rg) step after later g
   own_enters callee number args step after later g found h =
-      allowed (Own number) args step after later g (is_there callee f.scope.comp.now number found.0 found.1 found.2) (steps_as program before work f (making (Own number) args) (entering callee args None) step after later g (λ n s i. and_then (and_then (turn s) (λ _ s. run_in (library program) (bodies program n) (sym found.0 i) (sym found.1 i) args back_own s)) rg) h)
+      allowed (Own number) args step after later g (is_there callee f.scope.comp.now number found.0 found.1 found.2)
+      (steps_as program before work f (making (Own number) args) (entering callee args None) step after later g
+      (λ n s i. and_then (and_then (turn s) (λ _ s.
+      run_in (library program) (bodies program n) (sym found.0 i) (sym found.1 i) args back_own s)) rg) h)
 
   module _ (comp index : ℕ) (args : List Value) where
     abbrev imported : Bool
@@ -129,54 +156,108 @@ module _ (program : ProgramTree) (before : Seen) (work : List Work) (f : Frame) 
     abbrev pub MayCross : Bool → Type 0
     MayCross may = may ≡ (imported && (taken && words))
 
-    pub cross_refused : (end : RunEnd) → end ≡ refusal → MayCross false → Steps program before work f (λ n s. and_then (calls_in program n f.scope.comp.now (Cross comp index) args s) rg) (Stop end) before work f
-    cross_refused end same may = refused (Cross comp index) args end same (first_fails imported taken words leads_on (sym may))
+    pub cross_refused : (end : RunEnd) → end ≡ refusal → MayCross false →
+        Steps program before work f (λ n s. and_then
+        (calls_in program n f.scope.comp.now (Cross comp index) args s) rg) (Stop end) before work f
+    cross_refused end same may = refused (Cross comp index) args end same
+        (first_fails imported taken words leads_on (sym may))
 
-    no_lead : (o : Option ℕ) → entry_in program comp (Export index) ≡ o → EntryAt program comp (Export index) None → leads_there o ≡ false
+    no_lead : (o : Option ℕ) → entry_in program comp (Export index) ≡ o → EntryAt program comp (Export index) None →
+        leads_there o ≡ false
     no_lead None is h = refl
     no_lead (Some number) is h = ap is_some (h number is)
 
-    pub cross_missing : (end : RunEnd) → end ≡ refusal → EntryAt program comp (Export index) None → Steps program before work f (λ n s. and_then (calls_in program n f.scope.comp.now (Cross comp index) args s) rg) (Stop end) before work f
-    cross_missing end same none = refused (Cross comp index) args end same (last_fails imported taken words leads_on (no_lead (entry_in program comp (Export index)) refl none))
+    pub cross_missing : (end : RunEnd) → end ≡ refusal → EntryAt program comp (Export index) None →
+        Steps program before work f (λ n s. and_then
+        (calls_in program n f.scope.comp.now (Cross comp index) args s) rg) (Stop end) before work f
+    cross_missing end same none = refused (Cross comp index) args end same
+        (last_fails imported taken words leads_on (no_lead (entry_in program comp (Export index)) refl none))
 
-    pub cross_enters : (callee : Callee) (step : Step) (after : Seen) (later : List Work) (g : Frame) → MayCross true → EntryAt program comp (Export index) (Some callee) → Steps program before work f (entering callee args (Some index)) step after later g → Steps program before work f (λ n s. and_then (calls_in program n f.scope.comp.now (Cross comp index) args s) rg) step after later g
+    pub cross_enters : (callee : Callee) (step : Step) (after : Seen) (later : List Work) (g : Frame) → MayCross true →
+        EntryAt program comp (Export index) (Some callee) →
+        Steps program before work f (entering callee args (Some index)) step after later g →
+        Steps program before work f (λ n s. and_then
+        (calls_in program n f.scope.comp.now (Cross comp index) args s) rg) step after later g
     cross_enters callee step after later g may entry h =
         allowed (Cross comp index) args step after later g
-        (all_hold imported taken words leads_on (sym may) (ap leads_there entry.0 ∙ is_there callee comp callee.number entry.1.0 refl entry.1.2))
-        (steps_as program before work f (making (Cross comp index) args) (entering callee args (Some index)) step after later g same h) where
+        (all_hold imported taken words leads_on (sym may)
+        (ap leads_there entry.0 ∙ is_there callee comp callee.number entry.1.0 refl entry.1.2))
+        (steps_as program before work f (making (Cross comp index) args)
+        (entering callee args (Some index)) step after later g same h) where
           as_words : crossed args ≡ args
           as_words = words_cross args (and_rest taken words (and_rest imported (taken && words) (sym may)))
 
           same : (n : ℕ) (s : State) → making (Cross comp index) args n s ≡ entering callee args (Some index) n s
           same n s =
-              (λ i. and_then (and_then (turn s) (λ _ s. and_then (found (entry.0 i) s) (λ number s. run_in (library program) (bodies program n) comp number (as_words i) (back_cross program.interfaces f.scope.comp.now comp index) (tell (Call f.scope.comp.now comp index (map word_in args)) s)))) rg)
-              ∙ (λ i. and_then (and_then (turn s) (λ _ s. run_in (library program) (bodies program n) (sym entry.1.0 i) callee.number args (back_cross program.interfaces f.scope.comp.now (sym entry.1.0 i) index) (tell (Call f.scope.comp.now (sym entry.1.0 i) index (map word_in args)) s))) rg)
+              (λ i. and_then (and_then (turn s) (λ _ s.
+              and_then (found (entry.0 i) s) (λ number s.
+              run_in (library program) (bodies program n) comp number (as_words i)
+              (back_cross program.interfaces f.scope.comp.now comp index)
+              (tell (Call f.scope.comp.now comp index (map word_in args)) s)))) rg)
+              ∙ (λ i. and_then (and_then (turn s) (λ _ s.
+              run_in (library program) (bodies program n) (sym entry.1.0 i) callee.number args
+              (back_cross program.interfaces f.scope.comp.now (sym entry.1.0 i) index)
+              (tell (Call f.scope.comp.now (sym entry.1.0 i) index (map word_in args)) s))) rg)
 
   -- the next input
-  input_made : (args : List Value) (word : ℕ) (middle told after : Seen) (step : Step) → word ≡ next_input before.inputs → middle ≡ record before { inputs = drop 1 before.inputs } → told ≡ record middle { trace = middle.trace ++ In f.scope.comp.now word ∷ [] } → Steps program told work f (λ n s. rg (Some (Word word)) s) step after work f → Steps program before work f (λ n s. and_then (called (library program) (bodies program n) f.scope.comp.now Input args s) rg) step after work f
+  input_made : (args : List Value) (word : ℕ) (middle told after : Seen) (step : Step) →
+      word ≡ next_input before.inputs → middle ≡ record before { inputs = drop 1 before.inputs } →
+      told ≡ record middle { trace = middle.trace ++ In f.scope.comp.now word ∷ [] } →
+      Steps program told work f (λ n s. rg (Some (Word word)) s) step after work f →
+      Steps program before work f (λ n s. and_then (called (library program)
+      (bodies program n) f.scope.comp.now Input args s) rg) step after work f
   input_made args word middle told after step is rest tells h =
-      steps_on program before work f told after (Some (Word word)) (λ s. Reached (Some (Word (next_input s.inputs))) (read_input f.scope.comp.now s)) (λ n. rg) step work f (record {
+      steps_on program before work f told after (Some (Word word))
+      (λ s. Reached (Some (Word (next_input s.inputs))) (read_input f.scope.comp.now s)) (λ n. rg) step work f
+      (record {
         comes = λ s shows. (ap (λ w. Some (Word w)) (ap (λ x. next_input x.inputs) shows ∙ sym is), seen s shows);
         fewer = omega (arith, ap (λ x. x.turns) tells, ap (λ x. x.turns) rest);
       }) h where
         seen : (s : State) → seen_of s ≡ before → seen_of (read_input f.scope.comp.now s) ≡ told
         seen s shows =
-            ap {A = Seen} (λ x. record x { trace = x.trace ++ In f.scope.comp.now (next_input x.inputs) ∷ []; inputs = drop 1 x.inputs }) shows
-            ∙ (λ i. record before { trace = before.trace ++ In f.scope.comp.now (sym is i) ∷ []; inputs = drop 1 before.inputs })
+            ap {A = Seen} (λ x. record x {
+              trace = x.trace ++ In f.scope.comp.now (next_input x.inputs) ∷ [];
+              inputs = drop 1 x.inputs;
+            }) shows
+            ∙ (λ i. record before {
+              trace = before.trace ++ In f.scope.comp.now (sym is i) ∷ [];
+              inputs = drop 1 before.inputs;
+            })
             ∙ ap {A = Seen} (λ x. record x { trace = x.trace ++ In f.scope.comp.now word ∷ [] }) (sym rest) ∙ sym tells
 
-  output_made : (args : List Value) (word : ℕ) (told after : Seen) (step : Step) → word ≡ first_word args → told ≡ record before { trace = before.trace ++ Out f.scope.comp.now word ∷ [] } → Steps program told work f (λ n s. rg None s) step after work f → Steps program before work f (λ n s. and_then (called (library program) (bodies program n) f.scope.comp.now Output args s) rg) step after work f
+  output_made : (args : List Value) (word : ℕ) (told after : Seen) (step : Step) → word ≡ first_word args →
+      told ≡ record before { trace = before.trace ++ Out f.scope.comp.now word ∷ [] } →
+      Steps program told work f (λ n s. rg None s) step after work f →
+      Steps program before work f (λ n s. and_then (called (library program)
+      (bodies program n) f.scope.comp.now Output args s) rg) step after work f
   output_made args word told after step is tells h =
-      steps_on program before work f told after None (λ s. Reached None (tell (Out f.scope.comp.now (first_word args)) s)) (λ n. rg) step work f (record {
-        comes = λ s shows. (refl, ap {A = Seen} (λ x. record x { trace = x.trace ++ Out f.scope.comp.now (first_word args) ∷ [] }) shows ∙ (λ i. record before { trace = before.trace ++ Out f.scope.comp.now (sym is i) ∷ [] }) ∙ sym tells);
+      steps_on program before work f told after None (λ s.
+      Reached None (tell (Out f.scope.comp.now (first_word args)) s)) (λ n. rg) step work f (record {
+        comes = λ s shows. (
+          refl,
+          ap {A = Seen} (λ x.
+              record x { trace = x.trace ++ Out f.scope.comp.now (first_word args) ∷ [] }) shows ∙
+              (λ i. record before { trace = before.trace ++ Out f.scope.comp.now (sym is i) ∷ [] }) ∙ sym tells,
+        );
         fewer = omega (arith, ap (λ x. x.turns) tells);
       }) h
 
-  pub input_steps : (args : List Value) (word : ℕ) (middle told after : Seen) (step : Step) → may_call (library program) f.scope.comp.now Input args ≡ true → word ≡ next_input before.inputs → middle ≡ record before { inputs = drop 1 before.inputs } → told ≡ record middle { trace = middle.trace ++ In f.scope.comp.now word ∷ [] } → Steps program told work f (λ n s. rg (Some (Word word)) s) step after work f → Steps program before work f (λ n s. and_then (calls_in program n f.scope.comp.now Input args s) rg) step after work f
+  pub input_steps : (args : List Value) (word : ℕ) (middle told after : Seen) (step : Step) →
+      may_call (library program) f.scope.comp.now Input args ≡ true → word ≡ next_input before.inputs →
+      middle ≡ record before { inputs = drop 1 before.inputs } →
+      told ≡ record middle { trace = middle.trace ++ In f.scope.comp.now word ∷ [] } →
+      Steps program told work f (λ n s. rg (Some (Word word)) s) step after work f →
+      Steps program before work f (λ n s. and_then (calls_in program n f.scope.comp.now Input args s) rg) step after
+      work f
   input_steps args word middle told after step may is rest tells h =
       allowed Input args step after work f may (input_made args word middle told after step is rest tells h)
 
-  pub output_steps : (args : List Value) (word : ℕ) (told after : Seen) (step : Step) → may_call (library program) f.scope.comp.now Output args ≡ true → word ≡ first_word args → told ≡ record before { trace = before.trace ++ Out f.scope.comp.now word ∷ [] } → Steps program told work f (λ n s. rg None s) step after work f → Steps program before work f (λ n s. and_then (calls_in program n f.scope.comp.now Output args s) rg) step after work f
+  pub output_steps : (args : List Value) (word : ℕ) (told after : Seen) (step : Step) →
+      may_call (library program) f.scope.comp.now Output args ≡ true → word ≡ first_word args →
+      told ≡ record before { trace = before.trace ++ Out f.scope.comp.now word ∷ [] } →
+      Steps program told work f (λ n s. rg None s) step after work f →
+      Steps program before work f (λ n s. and_then (calls_in program n f.scope.comp.now Output args s) rg) step after
+      work f
   output_steps args word told after step may is tells h =
       allowed Output args step after work f may (output_made args word told after step is tells h)
 
@@ -193,32 +274,70 @@ module _ (program : ProgramTree) (before : Seen) (work : List Work) (f : Frame) 
     by_assoc : (n : ℕ) (s : State) → whole_call n s ≡ stepwise n s
     by_assoc n s = assoc (given_args s) (λ vs s. calls_in program n f.scope.comp.now target vs s) rg
 
-    pub call_blamed : (end : RunEnd) → Comes before before (Err end) given_args → Steps program before work f whole_call (Stop end) before work f
+    pub call_blamed : (end : RunEnd) → Comes before before (Err end) given_args →
+        Steps program before work f whole_call (Stop end) before work f
     call_blamed end c =
-        steps_as program before work f whole_call stepwise (Stop end) before work f by_assoc (step_stops program before before work f end given_args (λ n vs s. and_then (calls_in program n f.scope.comp.now target vs s) rg) c)
+        steps_as program before work f whole_call stepwise (Stop end) before work f by_assoc
+        (step_stops program before before work f end given_args
+        (λ n vs s. and_then (calls_in program n f.scope.comp.now target vs s) rg) c)
 
-    pub call_steps : (vs : List Value) (step : Step) (after : Seen) (later : List Work) (g : Frame) → Comes before before (Ok vs) given_args → Steps program before work f (λ n s. and_then (calls_in program n f.scope.comp.now target vs s) rg) step after later g → Steps program before work f whole_call step after later g
+    pub call_steps : (vs : List Value) (step : Step) (after : Seen) (later : List Work) (g : Frame) →
+        Comes before before (Ok vs) given_args → Steps program before work f
+        (λ n s. and_then (calls_in program n f.scope.comp.now target vs s) rg) step after later g →
+        Steps program before work f whole_call step after later g
     call_steps vs step after later g c h =
-        steps_as program before work f whole_call stepwise step after later g by_assoc (steps_on program before work f before after vs given_args (λ n vs s. and_then (calls_in program n f.scope.comp.now target vs s) rg) step later g c h)
+        steps_as program before work f whole_call stepwise step after later g by_assoc
+        (steps_on program before work f before after vs given_args
+        (λ n vs s. and_then (calls_in program n f.scope.comp.now target vs s) rg) step later g c h)
 
-  pub as_called : (target t : CallTarget) (args : List Value) (step : Step) (after : Seen) (later : List Work) (g : Frame) → target ≡ t → Steps program before work f (λ n s. and_then (calls_in program n f.scope.comp.now t args s) rg) step after later g → Steps program before work f (λ n s. and_then (calls_in program n f.scope.comp.now target args s) rg) step after later g
+  pub as_called : (target t : CallTarget) (args : List Value) (step : Step) (after : Seen) (later : List Work)
+      (g : Frame) → target ≡ t → Steps program before work f
+      (λ n s. and_then (calls_in program n f.scope.comp.now t args s) rg) step after later g →
+      Steps program before work f (λ n s. and_then (calls_in program n f.scope.comp.now target args s) rg) step after
+      later g
   as_called target t args step after later g is h =
-      subst (λ x. Steps program before work f (λ n s. and_then (calls_in program n f.scope.comp.now x args s) rg) step after later g) (sym is) h
+      subst (λ x. Steps program before work f (λ n s.
+      and_then (calls_in program n f.scope.comp.now x args s) rg) step after later g) (sym is) h
 
-  pub call_steps_by : (target : CallTarget) (es given_es : List TypedExpr) (line : ℕ) (r : Result (List Value) RunEnd) (vs given_vs : List Value) (step : Step) (after : Seen) (later : List Work) (g : Frame) → given_es ≡ es → r ≡ Ok vs → given_vs ≡ vs → Comes before before r (given_args target given_es line) → Steps program before work f (λ n s. and_then (calls_in program n f.scope.comp.now target given_vs s) rg) step after later g → Steps program before work f (whole_call target es line) step after later g
+  pub call_steps_by : (target : CallTarget) (es given_es : List TypedExpr) (line : ℕ) (r : Result (List Value) RunEnd)
+      (vs given_vs : List Value) (step : Step) (after : Seen) (later : List Work) (g : Frame) → given_es ≡ es →
+      r ≡ Ok vs → given_vs ≡ vs → Comes before before r (given_args target given_es line) →
+      Steps program before work f (λ n s. and_then (calls_in program n f.scope.comp.now target given_vs s) rg) step
+      after later g → Steps program before work f (whole_call target es line) step after later g
   call_steps_by target es given_es line r vs given_vs step after later g same is values_is c h =
-      call_steps target es line vs step after later g (subst (λ x. Comes before before (Ok vs) (given_args target x line)) same (subst (λ x. Comes before before x (given_args target given_es line)) is c)) (subst (λ x. Steps program before work f (λ n s. and_then (calls_in program n f.scope.comp.now target x s) rg) step after later g) values_is h)
+      call_steps target es line vs step after later g
+      (subst (λ x. Comes before before (Ok vs) (given_args target x line)) same
+      (subst (λ x. Comes before before x (given_args target given_es line)) is c))
+      (subst (λ x. Steps program before work f (λ n s.
+      and_then (calls_in program n f.scope.comp.now target x s) rg) step after later g) values_is h)
 
-  pub call_blamed_by : (target : CallTarget) (es given_es : List TypedExpr) (line : ℕ) (r : Result (List Value) RunEnd) (end : RunEnd) → given_es ≡ es → r ≡ Err end → Comes before before r (given_args target given_es line) → Steps program before work f (whole_call target es line) (Stop end) before work f
+  pub call_blamed_by : (target : CallTarget) (es given_es : List TypedExpr) (line : ℕ) (r : Result (List Value) RunEnd)
+      (end : RunEnd) → given_es ≡ es → r ≡ Err end → Comes before before r (given_args target given_es line) →
+      Steps program before work f (whole_call target es line) (Stop end) before work f
   call_blamed_by target es given_es line r end same is c =
-      call_blamed target es line end (subst (λ x. Comes before before (Err end) (given_args target x line)) same (subst (λ x. Comes before before x (given_args target given_es line)) is c))
+      call_blamed target es line end (subst (λ x. Comes before before (Err end) (given_args target x line)) same
+      (subst (λ x. Comes before before x (given_args target given_es line)) is c))
 
 -- a statement in the head of a `for`, by its kind
-pub simple_as : (program : ProgramTree) (before : Seen) (work : List Work) (f : Frame) (kind k : TypedSimpleKind) (line : ℕ) (step : Step) (after : Seen) (later : List Work) (g : Frame) → kind ≡ k → Steps program before work f (λ n. simple_does c_arith f.scope.structs.now (here_of f.scope) f.scope.params (calls_in program n) k line tt) step after later g → Steps program before work f (λ n. simple_does c_arith f.scope.structs.now (here_of f.scope) f.scope.params (calls_in program n) kind line tt) step after later g
+pub simple_as : (program : ProgramTree) (before : Seen) (work : List Work) (f : Frame) (kind k : TypedSimpleKind)
+    (line : ℕ) (step : Step) (after : Seen) (later : List Work) (g : Frame) → kind ≡ k →
+    Steps program before work f (λ n. simple_does c_arith f.scope.structs.now (here_of f.scope) f.scope.params
+    (calls_in program n) k line tt) step after later g →
+    Steps program before work f (λ n. simple_does c_arith f.scope.structs.now (here_of f.scope) f.scope.params
+    (calls_in program n) kind line tt) step after later g
 simple_as program before work f kind k line step after later g is h =
-    subst (λ x. Steps program before work f (λ n. simple_does c_arith f.scope.structs.now (here_of f.scope) f.scope.params (calls_in program n) x line tt) step after later g) (sym is) h
+    subst (λ x. Steps program before work f (λ n. simple_does c_arith f.scope.structs.now
+    (here_of f.scope) f.scope.params (calls_in program n) x line tt) step after later g) (sym is) h
 
 -- a call whose result is stored
-pub stored_call : (program : ProgramTree) (before : Seen) (work : List Work) (f : Frame) (ref : Bor TypedExpr) (place : TypedExpr) (made : TypedCall) (line : ℕ) (step : Step) (after : Seen) (later : List Work) (g : Frame) → ref.now ≡ place → Steps program before work f (λ n s. and_then (call (here_of f.scope) (calls_in program n) made.target (map (way_in f) made.args) line s) (result_goes program f (Place ref line))) step after later g → Steps program before work f (λ n s. assign_call (here_of f.scope) (calls_in program n) (way_in f place) made.target (map (way_in f) made.args) line tt s) step after later g
+pub stored_call : (program : ProgramTree) (before : Seen) (work : List Work) (f : Frame) (ref : Bor TypedExpr)
+    (place : TypedExpr) (made : TypedCall) (line : ℕ) (step : Step) (after : Seen) (later : List Work) (g : Frame) →
+    ref.now ≡ place → Steps program before work f (λ n s.
+    and_then (call (here_of f.scope) (calls_in program n) made.target (map (way_in f) made.args) line s)
+    (result_goes program f (Place ref line))) step after later g →
+    Steps program before work f (λ n s. assign_call (here_of f.scope) (calls_in program n) (way_in f place) made.target
+    (map (way_in f) made.args) line tt s) step after later g
 stored_call program before work f ref place made line step after later g same h =
-    subst (λ x. Steps program before work f (λ n s. and_then (call (here_of f.scope) (calls_in program n) made.target (map (way_in f) made.args) line s) (λ result s. store_result (here_of f.scope) (way_in f x) result line tt s)) step after later g) same h
+    subst (λ x. Steps program before work f (λ n s. and_then
+    (call (here_of f.scope) (calls_in program n) made.target (map (way_in f) made.args) line s)
+    (λ result s. store_result (here_of f.scope) (way_in f x) result line tt s)) step after later g) same h

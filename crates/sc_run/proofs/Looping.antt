@@ -10,7 +10,7 @@ use Rattle.sc_core.specs.declared.value.Value.{Value}
 use Rattle.sc_core.specs.declared.value.Want.TheVariants as want
 use Rattle.sc_core.specs.Value.{c_arith, is_true}
 use Rattle.sc_core.specs.Words.{State, Piece, Reached, Stopped, and_then, turn, Exit, Next, Break, Left, leave, in_order, in_loop, follow, take, choose}
-use Rattle.sc_core.specs.Tree.{Acts, given, test}
+use Rattle.sc_core.specs.Tree.{Acts, evaluated, test}
 use Rattle.sc_run.proofs.Keeping.{CallsKeep, test_kept, block_kept, part_kept}
 use Rattle.sc_run.proofs.Opening.{library_is_open}
 use Rattle.sc_value.specs.Where.{here_of}
@@ -29,90 +29,160 @@ use Rattle.sc_run.proofs.Going.{going, is_going, calls_go_on, within_goes}
 use Rattle.sc_run.proofs.Rounds.{loop_again}
 use Rattle.sc_run.proofs.Standing.{Acting, told_as, goes_on, step_stops, moved, newest_first}
 
-pub assoc : {U V W : Type 0} (p : Piece U) (f : U → State → Piece V) (g : V → State → Piece W) → and_then (and_then p f) g ≡ and_then p (λ u s. and_then (f u s) g)
+pub assoc : {U V W : Type 0} (p : Piece U) (f : U → State → Piece V) (g : V → State → Piece W) →
+    and_then (and_then p f) g ≡ and_then p (λ u s. and_then (f u s) g)
 assoc (Reached u s) f g = refl
 assoc (Stopped end s) f g = refl
 
 module _ (program : ProgramTree) (f : Frame) where
-  pub calls_keep : (t : List Event) (n k : ℕ) → CallsKeep (going t k) (here_of f.scope) (is_going t k (here_of f.scope)) (calls_in program n)
+  pub calls_keep : (t : List Event) (n k : ℕ) → CallsKeep (going t k) (here_of f.scope) (is_going t k (here_of f.scope))
+      (calls_in program n)
   calls_keep t n k target args s h =
-      calls_go_on (library program) (bodies program n) (within_goes (library program) (library_is_open c_arith program) n) t k (here_of f.scope).comp target args s h
+      calls_go_on (library program) (bodies program n)
+      (within_goes (library program) (library_is_open c_arith program) n) t k (here_of f.scope).comp target args s h
 
   module _ (l : Loop) where
     -- a loop once its condition was looked at
     abbrev pub tested : ℕ → Bool → State → Piece (Left (Unit {0}))
-    tested n true s = and_then (turn s) (λ _ s. follow in_loop (block_acts program n f l.body.now tt s) (λ a s. follow in_loop (next_acts program n f l a s) (loop_acts program n f l)))
+    tested n true s = and_then (turn s) (λ _ s. follow in_loop (block_acts program n f l.body.now tt s)
+        (λ a s. follow in_loop (next_acts program n f l a s) (loop_acts program n f l)))
     tested n false s = leave Next tt s
 
-    by_truth : (n : ℕ) (b : Bool) (s : State) → follow in_loop (if b then leave Next tt s else leave Break tt s) (λ a s. and_then (turn s) (λ _ s. follow in_loop (block_acts program n f l.body.now a s) (λ a s. follow in_loop (next_acts program n f l a s) (loop_acts program n f l)))) ≡ tested n b s
+    by_truth : (n : ℕ) (b : Bool) (s : State) → follow in_loop (if b then leave Next tt s else leave Break tt s)
+        (λ a s. and_then (turn s) (λ _ s. follow in_loop (block_acts program n f l.body.now a s)
+        (λ a s. follow in_loop (next_acts program n f l a s) (loop_acts program n f l)))) ≡ tested n b s
     by_truth n true s = refl
     by_truth n false s = refl
 
-    then_same : {V W : Type 0} (p : Piece V) (g h : V → State → Piece W) → ((v : V) (s : State) → g v s ≡ h v s) → and_then p g ≡ and_then p h
+    then_same : {V W : Type 0} (p : Piece V) (g h : V → State → Piece W) → ((v : V) (s : State) → g v s ≡ h v s) →
+        and_then p g ≡ and_then p h
     then_same (Reached v s) g h e = e v s
     then_same (Stopped end s) g h e = refl
 
-    abbrev pub cond_given : State → Piece Value
-    cond_given s = given (here_of f.scope) want.Value (way_in f l.cond.now) l.line s
+    abbrev pub cond_evaluated : State → Piece Value
+    cond_evaluated s = evaluated (here_of f.scope) want.Value (way_in f l.cond.now) l.line s
 
     abbrev pub rest_of_round : ℕ → Acts
     rest_of_round n a s =
-        and_then (turn s) (λ _ s. follow in_loop (block_acts program n f l.body.now a s) (λ a s. follow in_loop (next_acts program n f l a s) (loop_acts program n f l)))
+        and_then (turn s) (λ _ s. follow in_loop (block_acts program n f l.body.now a s)
+        (λ a s. follow in_loop (next_acts program n f l a s) (loop_acts program n f l)))
 
     -- a loop: its condition, a turn, its body, and the loop again
-    pub round_is : (n : ℕ) (s : State) → loop_acts program n f l tt s ≡ and_then (cond_given s) (λ v s. tested n (is_true v) s)
+    pub round_is : (n : ℕ) (s : State) → loop_acts program n f l tt s ≡
+        and_then (cond_evaluated s) (λ v s. tested n (is_true v) s)
     round_is n s =
-        loop_again (test (here_of f.scope) (way_in f l.cond.now) l.line) (block_acts program n f l.body.now) (next_acts program n f l) (λ k. test_kept (going [] k) (here_of f.scope) (is_going [] k (here_of f.scope)) (way_in f l.cond.now) l.line) (λ k. block_kept (going [] k) (here_of f.scope) (is_going [] k (here_of f.scope)) (calls_in program n) (calls_keep [] n k) c_arith f.scope.structs.now f.scope.params l.body.now) (λ k. part_kept (going [] k) (here_of f.scope) (is_going [] k (here_of f.scope)) (calls_in program n) (calls_keep [] n k) c_arith f.scope.structs.now f.scope.params (option_copied l.next)) tt s
-        ∙ assoc (cond_given s) (λ v s. choose v (leave Next tt s) (leave Break tt s)) (λ left s. take (in_loop left.exit) (rest_of_round n) left.carried s)
-        ∙ then_same (cond_given s) (λ v s. follow in_loop (choose v (leave Next tt s) (leave Break tt s)) (rest_of_round n)) (λ v s. tested n (is_true v) s) (λ v s. by_truth n (is_true v) s)
+        loop_again (test (here_of f.scope) (way_in f l.cond.now) l.line) (block_acts program n f l.body.now)
+        (next_acts program n f l) (λ k. test_kept (going [] k) (here_of f.scope) (is_going [] k (here_of f.scope))
+        (way_in f l.cond.now) l.line) (λ k. block_kept (going [] k) (here_of f.scope)
+        (is_going [] k (here_of f.scope)) (calls_in program n)
+        (calls_keep [] n k) c_arith f.scope.structs.now f.scope.params l.body.now)
+        (λ k. part_kept (going [] k) (here_of f.scope) (is_going [] k (here_of f.scope)) (calls_in program n)
+        (calls_keep [] n k) c_arith f.scope.structs.now f.scope.params (option_copied l.next)) tt s
+        ∙ assoc (cond_evaluated s) (λ v s. choose v (leave Next tt s) (leave Break tt s))
+        (λ left s. take (in_loop left.exit) (rest_of_round n) left.carried s)
+        ∙ then_same (cond_evaluated s) (λ v s. follow in_loop (choose v (leave Next tt s) (leave Break tt s))
+        (rest_of_round n)) (λ v s. tested n (is_true v) s) (λ v s. by_truth n (is_true v) s)
 
 module _ (program : ProgramTree) (before : Seen) (work : List Work) (f : Frame) where
-  pub steps_as : (p q : Acting) (step : Step) (after : Seen) (later : List Work) (g : Frame) → ((n : ℕ) (s : State) → p n s ≡ q n s) → Steps program before work f q step after later g → Steps program before work f p step after later g
+  pub steps_as : (p q : Acting) (step : Step) (after : Seen) (later : List Work) (g : Frame) →
+      ((n : ℕ) (s : State) → p n s ≡ q n s) → Steps program before work f q step after later g →
+      Steps program before work f p step after later g
   steps_as p q step after later g same h =
       record { stands = λ whole standing. h.stands whole (told_as program whole work f before p q same standing) }
 
   -- a piece that came to a value, before the rest of a step
-  pub steps_on : {V : Type 0} (middle after : Seen) (v : V) (p : State → Piece V) (go : ℕ → V → State → Piece (Left (Unit {0}))) (step : Step) (later : List Work) (g : Frame) → Comes before middle (Ok v) p → Steps program middle work f (λ n s. go n v s) step after later g → Steps program before work f (λ n s. and_then (p s) (go n)) step after later g
+  pub steps_on : {V : Type 0} (middle after : Seen) (v : V) (p : State → Piece V)
+      (go : ℕ → V → State → Piece (Left (Unit {0}))) (step : Step) (later : List Work) (g : Frame) →
+      Comes before middle (Ok v) p → Steps program middle work f (λ n s. go n v s) step after later g →
+      Steps program before work f (λ n s. and_then (p s) (go n)) step after later g
   steps_on middle after v p go step later g c h =
-      record { stands = λ whole standing. h.stands whole (goes_on program whole work f before middle v p go c standing) }
+      record {
+        stands = λ whole standing. h.stands whole
+            (goes_on program whole work f before middle v p go c standing);
+      }
 
   -- something more that waits
-  pub steps_wait : (w : Work) (later : List Work) (p q : Acting) (step : Step) (after : Seen) (last : List Work) (g : Frame) → later ≡ work ++ w ∷ [] → ((n : ℕ) (s : State) → resume program n (reverse work) f (p n s) ≡ resume program n (w ∷ reverse work) f (q n s)) → Steps program before later f q step after last g → Steps program before work f p step after last g
+  pub steps_wait : (w : Work) (later : List Work) (p q : Acting) (step : Step) (after : Seen) (last : List Work)
+      (g : Frame) → later ≡ work ++ w ∷ [] → ((n : ℕ) (s : State) →
+      resume program n (reverse work) f (p n s) ≡ resume program n (w ∷ reverse work) f (q n s)) →
+      Steps program before later f q step after last g → Steps program before work f p step after last g
   steps_wait w later p q step after last g is same h =
-      record { stands = λ whole standing. h.stands whole (moved program whole before work later f p q (λ n s. same n s ∙ ap (λ ws. resume program n ws f (q n s)) (sym (ap reverse is ∙ newest_first work w))) standing) }
+      record {
+        stands = λ whole standing. h.stands whole
+            (moved program whole before work later f p q
+            (λ n s. same n s ∙ ap (λ ws. resume program n ws f (q n s))
+            (sym (ap reverse is ∙ newest_first work w))) standing);
+      }
 
   -- something that waited is taken up
-  pub steps_resume : (w : Work) (earlier : List Work) (p q : Acting) (step : Step) (after : Seen) (last : List Work) (g : Frame) → work ≡ earlier ++ w ∷ [] → ((n : ℕ) (s : State) → resume program n (w ∷ reverse earlier) f (p n s) ≡ resume program n (reverse earlier) f (q n s)) → Steps program before earlier f q step after last g → Steps program before work f p step after last g
+  pub steps_resume : (w : Work) (earlier : List Work) (p q : Acting) (step : Step) (after : Seen) (last : List Work)
+      (g : Frame) → work ≡ earlier ++ w ∷ [] → ((n : ℕ) (s : State) →
+      resume program n (w ∷ reverse earlier) f (p n s) ≡ resume program n (reverse earlier) f (q n s)) →
+      Steps program before earlier f q step after last g → Steps program before work f p step after last g
   steps_resume w earlier p q step after last g is same h =
-      record { stands = λ whole standing. h.stands whole (moved program whole before work earlier f p q (λ n s. ap (λ ws. resume program n ws f (p n s)) (ap reverse is ∙ newest_first earlier w) ∙ same n s) standing) }
+      record {
+        stands = λ whole standing. h.stands whole
+            (moved program whole before work earlier f p q
+            (λ n s. ap (λ ws. resume program n ws f (p n s)) (ap reverse is ∙ newest_first earlier w) ∙
+            same n s) standing);
+      }
 
   -- what is left to do is done by a later step
-  pub steps_later : (now : Now) (p : Acting) → ((n : ℕ) (s : State) → p n s ≡ does_now program f now n s) → Steps program before work f p (Go now) before work f
+  pub steps_later : (now : Now) (p : Acting) → ((n : ℕ) (s : State) → p n s ≡ does_now program f now n s) →
+      Steps program before work f p (Go now) before work f
   steps_later now p same = record { stands = λ whole standing. told_as program whole work f before p _ same standing }
 
   module _ (l : Loop) where
-    pub round_err : (end : RunEnd) → Comes before before (Err end) (cond_given program f l) → Steps program before work f (λ n. loop_acts program n f l tt) (Stop end) before work f
+    pub round_err : (end : RunEnd) → Comes before before (Err end) (cond_evaluated program f l) →
+        Steps program before work f (λ n. loop_acts program n f l tt) (Stop end) before work f
     round_err end c =
-        steps_as (λ n. loop_acts program n f l tt) (λ n s. and_then (cond_given program f l s) (λ v s. tested program f l n (is_true v) s)) (Stop end) before work f (round_is program f l) (step_stops program before before work f end (cond_given program f l) (λ n v s. tested program f l n (is_true v) s) c)
+        steps_as (λ n. loop_acts program n f l tt) (λ n s.
+        and_then (cond_evaluated program f l s) (λ v s. tested program f l n (is_true v) s))
+        (Stop end) before work f (round_is program f l)
+        (step_stops program before before work f end (cond_evaluated program f l)
+        (λ n v s. tested program f l n (is_true v) s) c)
 
-    pub round_goes : (v : Value) (after : Seen) (step : Step) (later : List Work) → Comes before before (Ok v) (cond_given program f l) → is_true v ≡ true → Steps program before work f (λ n s. tested program f l n true s) step after later f → Steps program before work f (λ n. loop_acts program n f l tt) step after later f
+    pub round_goes : (v : Value) (after : Seen) (step : Step) (later : List Work) →
+        Comes before before (Ok v) (cond_evaluated program f l) → is_true v ≡ true →
+        Steps program before work f (λ n s. tested program f l n true s) step after later f →
+        Steps program before work f (λ n. loop_acts program n f l tt) step after later f
     round_goes v after step later c true_is h =
-        steps_as (λ n. loop_acts program n f l tt) (λ n s. and_then (cond_given program f l s) (λ v s. tested program f l n (is_true v) s)) step after later f (round_is program f l) (steps_on before after v (cond_given program f l) (λ n v s. tested program f l n (is_true v) s) step later f c (steps_as (λ n s. tested program f l n (is_true v) s) (λ n s. tested program f l n true s) step after later f (λ n s. ap (λ b. tested program f l n b s) true_is) h))
+        steps_as (λ n. loop_acts program n f l tt) (λ n s.
+        and_then (cond_evaluated program f l s) (λ v s. tested program f l n (is_true v) s)) step after later f
+        (round_is program f l) (steps_on before after v (cond_evaluated program f l)
+        (λ n v s. tested program f l n (is_true v) s) step later f c
+        (steps_as (λ n s. tested program f l n (is_true v) s)
+        (λ n s. tested program f l n true s) step after later f
+        (λ n s. ap (λ b. tested program f l n b s) true_is) h))
 
     abbrev in_body : ℕ → Unit {0} → State → Piece (Left (Unit {0}))
-    in_body n u s = follow in_loop (block_acts program n f l.body.now tt s) (λ a s. follow in_loop (next_acts program n f l a s) (loop_acts program n f l))
+    in_body n u s = follow in_loop (block_acts program n f l.body.now tt s)
+        (λ a s. follow in_loop (next_acts program n f l a s) (loop_acts program n f l))
 
-    pub round_out : (v : Value) (after : Seen) (end : RunEnd) → Comes before before (Ok v) (cond_given program f l) → is_true v ≡ true → Comes before after (Err end) turn → Steps program before work f (λ n. loop_acts program n f l tt) (Stop end) after work f
+    pub round_out : (v : Value) (after : Seen) (end : RunEnd) →
+        Comes before before (Ok v) (cond_evaluated program f l) → is_true v ≡ true →
+        Comes before after (Err end) turn → Steps program before work f (λ n. loop_acts program n f l tt)
+        (Stop end) after work f
     round_out v after end c true_is t =
         round_goes v after (Stop end) work c true_is (step_stops program before after work f end turn in_body t)
 
 module _ (program : ProgramTree) (before after : Seen) (work later : List Work) (f : Frame) (l : Loop) where
-  pub round_in : (v : Value) → Comes before before (Ok v) (cond_given program f l) → is_true v ≡ true → Comes before after (Ok tt) turn → later ≡ work ++ Body' l ∷ [] → Steps program before work f (λ n. loop_acts program n f l tt) (Go (Run' l.body)) after later f
+  pub round_in : (v : Value) → Comes before before (Ok v) (cond_evaluated program f l) → is_true v ≡ true →
+      Comes before after (Ok tt) turn → later ≡ work ++ Body' l ∷ [] →
+      Steps program before work f (λ n. loop_acts program n f l tt) (Go (Run' l.body)) after later f
   round_in v c true_is t is =
-      round_goes program before work f l v after (Go (Run' l.body)) later c true_is (steps_on program before work f after after tt turn (in_body program before work f l) (Go (Run' l.body)) later f t (steps_wait program after work f (Body' l) later (λ n s. in_body program before work f l n tt s) (λ n s. block_acts program n f l.body.now tt s) (Go (Run' l.body)) after later f is (λ n s. refl) (steps_later program after later f (Run' l.body) (λ n s. block_acts program n f l.body.now tt s) (λ n s. refl))))
+      round_goes program before work f l v after (Go (Run' l.body)) later c true_is
+      (steps_on program before work f after after tt turn (in_body program before work f l)
+      (Go (Run' l.body)) later f t (steps_wait program after work f (Body' l) later
+      (λ n s. in_body program before work f l n tt s) (λ n s. block_acts program n f l.body.now tt s)
+      (Go (Run' l.body)) after later f is (λ n s. refl)
+      (steps_later program after later f (Run' l.body) (λ n s. block_acts program n f l.body.now tt s)
+      (λ n s. refl))))
 
 -- nothing waits
-pub nothing_waits : (program : ProgramTree) (before : Seen) (work later : List Work) (f : Frame) (p : Acting) (step : Step) (after : Seen) (g : Frame) → length work ≡ 0 → length later ≡ 0 → Steps program before [] f p step after [] g → Steps program before work f p step after later g
+pub nothing_waits : (program : ProgramTree) (before : Seen) (work later : List Work) (f : Frame) (p : Acting)
+    (step : Step) (after : Seen) (g : Frame) → length work ≡ 0 → length later ≡ 0 →
+    Steps program before [] f p step after [] g → Steps program before work f p step after later g
 nothing_waits program before [] [] f p step after g a b h = h
 nothing_waits program before [] (w ∷ later) f p step after g a b h = absurd (some (length later) b) where
   some : (n : ℕ) → suc n ≡ 0 → ⊥
@@ -121,26 +191,47 @@ nothing_waits program before (w ∷ work) later f p step after g a b h = absurd 
   some : (n : ℕ) → suc n ≡ 0 → ⊥
   some n e = omega (arith, e)
 
-module _ (program : ProgramTree) (before : Seen) (work earlier : List Work) (f : Frame) (w : Work) (step : Step) (after : Seen) (later : List Work) (g : Frame) (popped : work ≡ earlier ++ w ∷ []) where
+module _ (program : ProgramTree) (before : Seen) (work earlier : List Work) (f : Frame) (w : Work) (step : Step)
+    (after : Seen) (later : List Work) (g : Frame) (popped : work ≡ earlier ++ w ∷ []) where
   abbrev leaving : Exit → Acting
   leaving exit n s = leave exit tt s
 
-  pub rest_taken : (exit : Exit) (stmts : Bor (List TypedStmt)) → w ≡ Rest stmts → Steps program before earlier f (λ n s. follow in_order (leave exit tt s) (block_acts program n f stmts.now)) step after later g → Steps program before work f (leaving exit) step after later g
+  pub rest_taken : (exit : Exit) (stmts : Bor (List TypedStmt)) → w ≡ Rest stmts →
+      Steps program before earlier f (λ n s. follow in_order (leave exit tt s)
+      (block_acts program n f stmts.now)) step after later g →
+      Steps program before work f (leaving exit) step after later g
   rest_taken exit stmts is h =
-      steps_resume program before work f (Rest stmts) earlier (leaving exit) (λ n s. follow in_order (leave exit tt s) (block_acts program n f stmts.now)) step after later g (popped ∙ ap (λ x. earlier ++ x ∷ []) is) (λ n s. refl) h
+      steps_resume program before work f (Rest stmts) earlier (leaving exit)
+      (λ n s. follow in_order (leave exit tt s) (block_acts program n f stmts.now)) step after later g
+      (popped ∙ ap (λ x. earlier ++ x ∷ []) is) (λ n s. refl) h
 
-  pub first_taken : (exit : Exit) (l : Loop) → w ≡ First l → Steps program before earlier f (λ n s. follow in_order (leave exit tt s) (loop_acts program n f l)) step after later g → Steps program before work f (leaving exit) step after later g
+  pub first_taken : (exit : Exit) (l : Loop) → w ≡ First l →
+      Steps program before earlier f (λ n s. follow in_order (leave exit tt s)
+      (loop_acts program n f l)) step after later g → Steps program before work f (leaving exit) step after later g
   first_taken exit l is h =
-      steps_resume program before work f (First l) earlier (leaving exit) (λ n s. follow in_order (leave exit tt s) (loop_acts program n f l)) step after later g (popped ∙ ap (λ x. earlier ++ x ∷ []) is) (λ n s. refl) h
+      steps_resume program before work f (First l) earlier (leaving exit)
+      (λ n s. follow in_order (leave exit tt s) (loop_acts program n f l)) step after later g
+      (popped ∙ ap (λ x. earlier ++ x ∷ []) is) (λ n s. refl) h
 
-  pub again_taken : (exit : Exit) (l : Loop) → w ≡ Again l → Steps program before earlier f (λ n s. follow in_loop (leave exit tt s) (loop_acts program n f l)) step after later g → Steps program before work f (leaving exit) step after later g
+  pub again_taken : (exit : Exit) (l : Loop) → w ≡ Again l →
+      Steps program before earlier f (λ n s. follow in_loop (leave exit tt s)
+      (loop_acts program n f l)) step after later g → Steps program before work f (leaving exit) step after later g
   again_taken exit l is h =
-      steps_resume program before work f (Again l) earlier (leaving exit) (λ n s. follow in_loop (leave exit tt s) (loop_acts program n f l)) step after later g (popped ∙ ap (λ x. earlier ++ x ∷ []) is) (λ n s. refl) h
+      steps_resume program before work f (Again l) earlier (leaving exit)
+      (λ n s. follow in_loop (leave exit tt s) (loop_acts program n f l)) step after later g
+      (popped ∙ ap (λ x. earlier ++ x ∷ []) is) (λ n s. refl) h
 
-  pub body_taken : (exit : Exit) (l : Loop) → w ≡ Body' l → Steps program before earlier f (λ n s. follow in_loop (leave exit tt s) (λ a s. follow in_loop (next_acts program n f l a s) (loop_acts program n f l))) step after later g → Steps program before work f (leaving exit) step after later g
+  pub body_taken : (exit : Exit) (l : Loop) → w ≡ Body' l →
+      Steps program before earlier f (λ n s. follow in_loop (leave exit tt s)
+      (λ a s. follow in_loop (next_acts program n f l a s) (loop_acts program n f l))) step after later g →
+      Steps program before work f (leaving exit) step after later g
   body_taken exit l is h =
-      steps_resume program before work f (Body' l) earlier (leaving exit) (λ n s. follow in_loop (leave exit tt s) (λ a s. follow in_loop (next_acts program n f l a s) (loop_acts program n f l))) step after later g (popped ∙ ap (λ x. earlier ++ x ∷ []) is) (λ n s. refl) h
+      steps_resume program before work f (Body' l) earlier (leaving exit)
+      (λ n s. follow in_loop (leave exit tt s) (λ a s.
+      follow in_loop (next_acts program n f l a s) (loop_acts program n f l))) step after later g
+      (popped ∙ ap (λ x. earlier ++ x ∷ []) is) (λ n s. refl) h
 
-  pub caller_taken : (p : Acting) (x : Work) → w ≡ x → Steps program before (earlier ++ x ∷ []) f p step after later g → Steps program before work f p step after later g
+  pub caller_taken : (p : Acting) (x : Work) → w ≡ x → Steps program before (earlier ++ x ∷ []) f p step after later g →
+      Steps program before work f p step after later g
   caller_taken p x is h =
       subst (λ ws. Steps program before ws f p step after later g) (sym (popped ∙ ap (λ y. earlier ++ y ∷ []) is)) h

@@ -11,7 +11,7 @@ use Rattle.sc_core.specs.declared.value.Want.TheVariants as want
 use Rattle.sc_core.specs.declared.stmt.TypedSimple.{TypedSimple}
 use Rattle.sc_core.specs.Value.{c_arith}
 use Rattle.sc_core.specs.Words.{State, Piece, Left, and_then, choose, leave, loop, Next, in_order, in_loop, follow}
-use Rattle.sc_core.specs.Tree.{Acts, assign, given, test, kind_step, stmt_step, part_does, simple_does}
+use Rattle.sc_core.specs.Tree.{Acts, assign, evaluated, test, kind_step, stmt_step, part_does, simple_does}
 use Rattle.sc_core.proofs.Layers.{stmt_at, layer_of}
 use Rattle.sc_value.specs.Where.{here_of}
 use Rattle.sc_run.specs.declared.work.Frame.{Frame}
@@ -24,19 +24,29 @@ use Rattle.sc_run.specs.Resume.{way_in, calls_in, stmt_acts, block_acts, part_ac
 use Rattle.sc_run.proofs.Standing.{Acting}
 use Rattle.sc_run.proofs.Looping.{steps_as, steps_wait}
 
-abbrev pub layer_acts : ProgramTree → ℕ → Frame → TypedStmtKind-F TypedStmtKind TypedStmt → ℕ → State → Piece (Left (Unit {0}))
+abbrev pub layer_acts : ProgramTree → ℕ → Frame → TypedStmtKind-F TypedStmtKind TypedStmt → ℕ → State →
+    Piece (Left (Unit {0}))
 layer_acts program n f k line s =
-    layer_of _ _ (kind_step c_arith f.scope.structs.now (here_of f.scope) f.scope.params (calls_in program n)) stmt_step k line tt s
+    layer_of _ _ (kind_step c_arith f.scope.structs.now (here_of f.scope) f.scope.params
+    (calls_in program n)) stmt_step k line tt s
 
-stmt_is : (program : ProgramTree) (f : Frame) (stmt : TypedStmt) (k : TypedStmtKind-F TypedStmtKind TypedStmt) → stmt.kind ≡ roll-TypedStmtKind k → (n : ℕ) (s : State) → stmt_acts program n f stmt tt s ≡ layer_acts program n f k stmt.line s
+stmt_is : (program : ProgramTree) (f : Frame) (stmt : TypedStmt) (k : TypedStmtKind-F TypedStmtKind TypedStmt) →
+    stmt.kind ≡ roll-TypedStmtKind k → (n : ℕ) (s : State) →
+    stmt_acts program n f stmt tt s ≡ layer_acts program n f k stmt.line s
 stmt_is program f stmt k is n s =
     ap (λ x. stmt_acts program n f (record { line = stmt.line; kind = x }) tt s) is
-    ∙ (λ i. stmt_at _ _ (kind_step c_arith f.scope.structs.now (here_of f.scope) f.scope.params (calls_in program n)) stmt_step stmt.line k i tt s)
+    ∙ (λ i. stmt_at _ _ (kind_step c_arith f.scope.structs.now (here_of f.scope) f.scope.params
+    (calls_in program n)) stmt_step stmt.line k i tt s)
 
 -- a statement does what its layer does
-pub stmt_as : (program : ProgramTree) (before : Seen) (work : List Work) (f : Frame) (stmt : TypedStmt) (k : TypedStmtKind-F TypedStmtKind TypedStmt) (step : Step) (after : Seen) (later : List Work) (g : Frame) → stmt.kind ≡ roll-TypedStmtKind k → Steps program before work f (λ n. layer_acts program n f k stmt.line) step after later g → Steps program before work f (λ n. stmt_acts program n f stmt tt) step after later g
+pub stmt_as : (program : ProgramTree) (before : Seen) (work : List Work) (f : Frame) (stmt : TypedStmt)
+    (k : TypedStmtKind-F TypedStmtKind TypedStmt) (step : Step) (after : Seen) (later : List Work) (g : Frame) →
+    stmt.kind ≡ roll-TypedStmtKind k → Steps program before work f
+    (λ n. layer_acts program n f k stmt.line) step after later g →
+    Steps program before work f (λ n. stmt_acts program n f stmt tt) step after later g
 stmt_as program before work f stmt k step after later g is h =
-    steps_as program before work f (λ n. stmt_acts program n f stmt tt) (λ n. layer_acts program n f k stmt.line) step after later g (stmt_is program f stmt k is) h
+    steps_as program before work f (λ n. stmt_acts program n f stmt tt)
+    (λ n. layer_acts program n f k stmt.line) step after later g (stmt_is program f stmt k is) h
 
 pub first_and_rest : {A : Type 0} (xs : List A) (x : A) → 1 ≤ length xs → x ≡ get_or xs 0 x → xs ≡ x ∷ drop 1 xs
 first_and_rest [] x h is = absurd (omega (arith, h))
@@ -46,50 +56,122 @@ pub rest_of : {A : Type 0} (xs : List A) → take (length xs - 1) (drop 1 xs) �
 rest_of xs = take_all (length xs - 1) (drop 1 xs) (omega (arith, length-drop 1 xs))
 
 -- the first statement, while the others wait
-pub list_steps : (program : ProgramTree) (before : Seen) (work later : List Work) (f : Frame) (stmts : List TypedStmt) (stmt : TypedStmt) (rest : Bor (List TypedStmt)) (step : Step) (after : Seen) (last : List Work) (g : Frame) → stmts ≡ stmt ∷ drop 1 stmts → rest.now ≡ drop 1 stmts → later ≡ work ++ Rest rest ∷ [] → Steps program before later f (λ n. stmt_acts program n f stmt tt) step after last g → Steps program before work f (λ n s. block_acts program n f stmts tt s) step after last g
+pub list_steps : (program : ProgramTree) (before : Seen) (work later : List Work) (f : Frame) (stmts : List TypedStmt)
+    (stmt : TypedStmt) (rest : Bor (List TypedStmt)) (step : Step) (after : Seen) (last : List Work) (g : Frame) →
+    stmts ≡ stmt ∷ drop 1 stmts → rest.now ≡ drop 1 stmts → later ≡ work ++ Rest rest ∷ [] →
+    Steps program before later f (λ n. stmt_acts program n f stmt tt) step after last g →
+    Steps program before work f (λ n s. block_acts program n f stmts tt s) step after last g
 list_steps program before work later f stmts stmt rest step after last g split same pushed h =
-    steps_as program before work f (λ n s. block_acts program n f stmts tt s) (λ n s. block_acts program n f (stmt ∷ rest.now) tt s) step after last g (λ n s. ap (λ xs. block_acts program n f xs tt s) (split ∙ ap (λ xs. stmt ∷ xs) (sym same))) (steps_wait program before work f (Rest rest) later (λ n s. block_acts program n f (stmt ∷ rest.now) tt s) (λ n. stmt_acts program n f stmt tt) step after last g pushed (λ n s. refl) h)
+    steps_as program before work f (λ n s. block_acts program n f stmts tt s)
+    (λ n s. block_acts program n f (stmt ∷ rest.now) tt s) step after last g
+    (λ n s. ap (λ xs. block_acts program n f xs tt s) (split ∙ ap (λ xs. stmt ∷ xs) (sym same)))
+    (steps_wait program before work f (Rest rest) later (λ n s. block_acts program n f (stmt ∷ rest.now) tt s)
+    (λ n. stmt_acts program n f stmt tt) step after last g pushed (λ n s. refl) h)
 
 -- the first part of a `for`, while the loop waits
-pub first_steps : (program : ProgramTree) (before : Seen) (work later : List Work) (f : Frame) (first : Option TypedSimple) (part : TypedSimple) (l : Loop) (step : Step) (after : Seen) (last : List Work) (g : Frame) → first ≡ Some part → later ≡ work ++ First l ∷ [] → Steps program before later f (λ n. simple_does c_arith f.scope.structs.now (here_of f.scope) f.scope.params (calls_in program n) part.kind part.line tt) step after last g → Steps program before work f (λ n s. follow in_order (part_does c_arith f.scope.structs.now (here_of f.scope) f.scope.params (calls_in program n) first tt s) (loop_acts program n f l)) step after last g
+pub first_steps : (program : ProgramTree) (before : Seen) (work later : List Work) (f : Frame)
+    (first : Option TypedSimple) (part : TypedSimple) (l : Loop) (step : Step) (after : Seen) (last : List Work)
+    (g : Frame) → first ≡ Some part → later ≡ work ++ First l ∷ [] →
+    Steps program before later f (λ n. simple_does c_arith f.scope.structs.now (here_of f.scope) f.scope.params
+    (calls_in program n) part.kind part.line tt) step after last g →
+    Steps program before work f (λ n s. follow in_order
+    (part_does c_arith f.scope.structs.now (here_of f.scope) f.scope.params (calls_in program n) first tt s)
+    (loop_acts program n f l)) step after last g
 first_steps program before work later f first part l step after last g is pushed h =
-    steps_as program before work f (λ n s. follow in_order (part_does c_arith f.scope.structs.now (here_of f.scope) f.scope.params (calls_in program n) first tt s) (loop_acts program n f l)) (λ n s. follow in_order (simple_does c_arith f.scope.structs.now (here_of f.scope) f.scope.params (calls_in program n) part.kind part.line tt s) (loop_acts program n f l)) step after last g (λ n s. ap (λ o. follow in_order (part_does c_arith f.scope.structs.now (here_of f.scope) f.scope.params (calls_in program n) o tt s) (loop_acts program n f l)) is) (steps_wait program before work f (First l) later (λ n s. follow in_order (simple_does c_arith f.scope.structs.now (here_of f.scope) f.scope.params (calls_in program n) part.kind part.line tt s) (loop_acts program n f l)) (λ n. simple_does c_arith f.scope.structs.now (here_of f.scope) f.scope.params (calls_in program n) part.kind part.line tt) step after last g pushed (λ n s. refl) h)
+    steps_as program before work f (λ n s. follow in_order
+    (part_does c_arith f.scope.structs.now (here_of f.scope) f.scope.params (calls_in program n) first tt s)
+    (loop_acts program n f l)) (λ n s. follow in_order
+    (simple_does c_arith f.scope.structs.now (here_of f.scope) f.scope.params
+    (calls_in program n) part.kind part.line tt s) (loop_acts program n f l)) step after last g
+    (λ n s. ap (λ o. follow in_order (part_does c_arith f.scope.structs.now (here_of f.scope) f.scope.params
+    (calls_in program n) o tt s) (loop_acts program n f l)) is)
+    (steps_wait program before work f (First l) later
+    (λ n s. follow in_order (simple_does c_arith f.scope.structs.now (here_of f.scope) f.scope.params
+    (calls_in program n) part.kind part.line tt s) (loop_acts program n f l))
+    (λ n. simple_does c_arith f.scope.structs.now (here_of f.scope) f.scope.params
+    (calls_in program n) part.kind part.line tt) step after last g pushed (λ n s. refl) h)
 
 -- what comes before the next round, while the loop waits
-pub next_steps : (program : ProgramTree) (before : Seen) (work later : List Work) (f : Frame) (first : Option TypedSimple) (part : TypedSimple) (l : Loop) (step : Step) (after : Seen) (last : List Work) (g : Frame) → first ≡ Some part → later ≡ work ++ Again l ∷ [] → Steps program before later f (λ n. simple_does c_arith f.scope.structs.now (here_of f.scope) f.scope.params (calls_in program n) part.kind part.line tt) step after last g → Steps program before work f (λ n s. follow in_loop (part_does c_arith f.scope.structs.now (here_of f.scope) f.scope.params (calls_in program n) first tt s) (loop_acts program n f l)) step after last g
+pub next_steps : (program : ProgramTree) (before : Seen) (work later : List Work) (f : Frame)
+    (first : Option TypedSimple) (part : TypedSimple) (l : Loop) (step : Step) (after : Seen) (last : List Work)
+    (g : Frame) → first ≡ Some part → later ≡ work ++ Again l ∷ [] →
+    Steps program before later f (λ n. simple_does c_arith f.scope.structs.now (here_of f.scope) f.scope.params
+    (calls_in program n) part.kind part.line tt) step after last g →
+    Steps program before work f (λ n s. follow in_loop
+    (part_does c_arith f.scope.structs.now (here_of f.scope) f.scope.params (calls_in program n) first tt s)
+    (loop_acts program n f l)) step after last g
 next_steps program before work later f first part l step after last g is pushed h =
-    steps_as program before work f (λ n s. follow in_loop (part_does c_arith f.scope.structs.now (here_of f.scope) f.scope.params (calls_in program n) first tt s) (loop_acts program n f l)) (λ n s. follow in_loop (simple_does c_arith f.scope.structs.now (here_of f.scope) f.scope.params (calls_in program n) part.kind part.line tt s) (loop_acts program n f l)) step after last g (λ n s. ap (λ o. follow in_loop (part_does c_arith f.scope.structs.now (here_of f.scope) f.scope.params (calls_in program n) o tt s) (loop_acts program n f l)) is) (steps_wait program before work f (Again l) later (λ n s. follow in_loop (simple_does c_arith f.scope.structs.now (here_of f.scope) f.scope.params (calls_in program n) part.kind part.line tt s) (loop_acts program n f l)) (λ n. simple_does c_arith f.scope.structs.now (here_of f.scope) f.scope.params (calls_in program n) part.kind part.line tt) step after last g pushed (λ n s. refl) h)
+    steps_as program before work f (λ n s. follow in_loop
+    (part_does c_arith f.scope.structs.now (here_of f.scope) f.scope.params (calls_in program n) first tt s)
+    (loop_acts program n f l)) (λ n s. follow in_loop
+    (simple_does c_arith f.scope.structs.now (here_of f.scope) f.scope.params
+    (calls_in program n) part.kind part.line tt s) (loop_acts program n f l)) step after last g
+    (λ n s. ap (λ o. follow in_loop (part_does c_arith f.scope.structs.now (here_of f.scope) f.scope.params
+    (calls_in program n) o tt s) (loop_acts program n f l)) is)
+    (steps_wait program before work f (Again l) later
+    (λ n s. follow in_loop (simple_does c_arith f.scope.structs.now (here_of f.scope) f.scope.params
+    (calls_in program n) part.kind part.line tt s) (loop_acts program n f l))
+    (λ n. simple_does c_arith f.scope.structs.now (here_of f.scope) f.scope.params
+    (calls_in program n) part.kind part.line tt) step after last g pushed (λ n s. refl) h)
 
 -- a loop at once, where there is no first part
-pub no_first : (program : ProgramTree) (before : Seen) (work : List Work) (f : Frame) (first : Option TypedSimple) (l : Loop) (step : Step) (after : Seen) (last : List Work) (g : Frame) → first ≡ None → Steps program before work f (λ n. loop_acts program n f l tt) step after last g → Steps program before work f (λ n s. follow in_order (part_does c_arith f.scope.structs.now (here_of f.scope) f.scope.params (calls_in program n) first tt s) (loop_acts program n f l)) step after last g
+pub no_first : (program : ProgramTree) (before : Seen) (work : List Work) (f : Frame) (first : Option TypedSimple)
+    (l : Loop) (step : Step) (after : Seen) (last : List Work) (g : Frame) → first ≡ None →
+    Steps program before work f (λ n. loop_acts program n f l tt) step after last g →
+    Steps program before work f (λ n s. follow in_order
+    (part_does c_arith f.scope.structs.now (here_of f.scope) f.scope.params (calls_in program n) first tt s)
+    (loop_acts program n f l)) step after last g
 no_first program before work f first l step after last g is h =
-    steps_as program before work f (λ n s. follow in_order (part_does c_arith f.scope.structs.now (here_of f.scope) f.scope.params (calls_in program n) first tt s) (loop_acts program n f l)) (λ n. loop_acts program n f l tt) step after last g (λ n s. ap (λ o. follow in_order (part_does c_arith f.scope.structs.now (here_of f.scope) f.scope.params (calls_in program n) o tt s) (loop_acts program n f l)) is) h
+    steps_as program before work f (λ n s. follow in_order
+    (part_does c_arith f.scope.structs.now (here_of f.scope) f.scope.params (calls_in program n) first tt s)
+    (loop_acts program n f l)) (λ n. loop_acts program n f l tt) step after last g
+    (λ n s. ap (λ o. follow in_order (part_does c_arith f.scope.structs.now (here_of f.scope) f.scope.params
+    (calls_in program n) o tt s) (loop_acts program n f l)) is) h
 
-module _ (program : ProgramTree) (before : Seen) (work : List Work) (f : Frame) (line : ℕ) (step : Step) (after : Seen) (later : List Work) (g : Frame) where
+module _ (program : ProgramTree) (before : Seen) (work : List Work) (f : Frame) (line : ℕ) (step : Step) (after : Seen)
+    (later : List Work) (g : Frame) where
   abbrev StepsBy : Acting → Type 0
   StepsBy p = Steps program before work f p step after later g
 
-  pub assign_layer : (ref place e : TypedExpr) → ref ≡ place → StepsBy (λ n. assign (here_of f.scope) (way_in f ref) (way_in f e) line tt) → StepsBy (λ n. layer_acts program n f (layer.Assign place e) line)
-  assign_layer ref place e same h = subst (λ x. StepsBy (λ n. assign (here_of f.scope) (way_in f x) (way_in f e) line tt)) same h
+  pub assign_layer : (ref place e : TypedExpr) → ref ≡ place →
+      StepsBy (λ n. assign (here_of f.scope) (way_in f ref) (way_in f e) line tt) →
+      StepsBy (λ n. layer_acts program n f (layer.Assign place e) line)
+  assign_layer ref place e same h = subst (λ x. StepsBy
+      (λ n. assign (here_of f.scope) (way_in f x) (way_in f e) line tt)) same h
 
-  pub if_layer : (cond : TypedExpr) (x x' y y' : List TypedStmt) → x' ≡ x → y' ≡ y → StepsBy (λ n s. and_then (given (here_of f.scope) want.Value (way_in f cond) line s) (λ v s. choose v (block_acts program n f x' tt s) (block_acts program n f y' tt s))) → StepsBy (λ n. layer_acts program n f (layer.If cond x y) line)
+  pub if_layer : (cond : TypedExpr) (x x' y y' : List TypedStmt) → x' ≡ x → y' ≡ y →
+      StepsBy (λ n s. and_then (evaluated (here_of f.scope) want.Value (way_in f cond) line s)
+      (λ v s. choose v (block_acts program n f x' tt s) (block_acts program n f y' tt s))) →
+      StepsBy (λ n. layer_acts program n f (layer.If cond x y) line)
   if_layer cond x x' y y' first second h =
-      subst (λ b. StepsBy (λ n s. and_then (given (here_of f.scope) want.Value (way_in f cond) line s) (λ v s. choose v (block_acts program n f x tt s) (block_acts program n f b tt s)))) second (subst (λ b. StepsBy (λ n s. and_then (given (here_of f.scope) want.Value (way_in f cond) line s) (λ v s. choose v (block_acts program n f b tt s) (block_acts program n f y' tt s)))) first h)
+      subst (λ b. StepsBy (λ n s. and_then (evaluated (here_of f.scope) want.Value (way_in f cond) line s)
+      (λ v s. choose v (block_acts program n f x tt s) (block_acts program n f b tt s)))) second
+      (subst (λ b. StepsBy (λ n s. and_then (evaluated (here_of f.scope) want.Value (way_in f cond) line s)
+      (λ v s. choose v (block_acts program n f b tt s) (block_acts program n f y' tt s)))) first h)
 
   -- the loop that a statement is
   abbrev looped : TypedExpr → List TypedStmt → Option TypedSimple → ℕ → Acts
   looped cond body next n =
       loop (test (here_of f.scope) (way_in f cond) line) (block_acts program n f body) (part_acts program n f next)
 
-  pub while_layer : (cond : TypedExpr) (body given_body : List TypedStmt) → given_body ≡ body → StepsBy (λ n. loop (test (here_of f.scope) (way_in f cond) line) (block_acts program n f given_body) (leave Next) tt) → StepsBy (λ n. layer_acts program n f (layer.While cond body) line)
+  pub while_layer : (cond : TypedExpr) (body given_body : List TypedStmt) → given_body ≡ body →
+      StepsBy (λ n. loop (test (here_of f.scope) (way_in f cond) line) (block_acts program n f given_body)
+      (leave Next) tt) → StepsBy (λ n. layer_acts program n f (layer.While cond body) line)
   while_layer cond body given_body same h =
-      subst (λ b. StepsBy (λ n. loop (test (here_of f.scope) (way_in f cond) line) (block_acts program n f b) (leave Next) tt)) same h
+      subst (λ b. StepsBy (λ n. loop (test (here_of f.scope) (way_in f cond) line) (block_acts program n f b)
+      (leave Next) tt)) same h
 
-  pub for_layer : (first : Option TypedSimple) (cond : TypedExpr) (next : Option TypedSimple) (body given_body : List TypedStmt) → given_body ≡ body → StepsBy (λ n s. follow in_order (part_acts program n f first tt s) (looped cond given_body next n)) → StepsBy (λ n. layer_acts program n f (layer.For first cond next body) line)
+  pub for_layer : (first : Option TypedSimple) (cond : TypedExpr) (next : Option TypedSimple)
+      (body given_body : List TypedStmt) → given_body ≡ body →
+      StepsBy (λ n s. follow in_order (part_acts program n f first tt s) (looped cond given_body next n)) →
+      StepsBy (λ n. layer_acts program n f (layer.For first cond next body) line)
   for_layer first cond next body given_body same h =
       subst (λ b. StepsBy (λ n s. follow in_order (part_acts program n f first tt s) (looped cond b next n))) same h
 
   -- the part before the next round, by reference
-  pub next_as : (first : Option TypedSimple) (cond : TypedExpr) (next given_next : Option TypedSimple) (body : List TypedStmt) → given_next ≡ next → StepsBy (λ n s. follow in_order (part_acts program n f first tt s) (looped cond body given_next n)) → StepsBy (λ n s. follow in_order (part_acts program n f first tt s) (looped cond body next n))
+  pub next_as : (first : Option TypedSimple) (cond : TypedExpr) (next given_next : Option TypedSimple)
+      (body : List TypedStmt) → given_next ≡ next →
+      StepsBy (λ n s. follow in_order (part_acts program n f first tt s) (looped cond body given_next n)) →
+      StepsBy (λ n s. follow in_order (part_acts program n f first tt s) (looped cond body next n))
   next_as first cond next given_next body same h =
       subst (λ o. StepsBy (λ n s. follow in_order (part_acts program n f first tt s) (looped cond body o n))) same h

@@ -25,7 +25,8 @@ block_for count (Some v) = record { live = true; cells = cell_of v ∷ [] }
 -- the blocks of the variables of a function, behind those of its compartment
 abbrev pub with_variables : Callee → List Value → Memory → Memory
 with_variables callee args memory =
-    with_blocks callee.comp.now (memory callee.comp.now ++ blocks_for (variables callee.structs.now callee.function.now) args) memory
+    with_blocks callee.comp.now (memory callee.comp.now ++
+    blocks_for (variables callee.structs.now callee.function.now) args) memory
 
 -- the frame of a call whose variables begin
 pub record Begun (callee : Callee) (args : List Value) (before after : Seen) (f : Frame) : Type 0 where
@@ -45,12 +46,14 @@ told_call caller callee args (Some index) seen =
 
 abbrev pub entry_from : Frame → Callee → List Value → Option ℕ → State → State
 entry_from caller callee args None s = s
-entry_from caller callee args (Some index) s = tell (Call caller.scope.comp.now callee.comp.now index (map word_in args)) s
+entry_from caller callee args (Some index) s = tell (Call caller.scope.comp.now callee.comp.now index
+    (map word_in args)) s
 
 -- a return inside the compartment, or one from an export to the function that called
 abbrev pub back_from : ProgramTree → Frame → Callee → Option ℕ → Option Value → State → Piece (Option Value)
 back_from program caller callee None v s = back_own v s
-back_from program caller callee (Some index) v s = back_cross program.interfaces caller.scope.comp.now callee.comp.now index v s
+back_from program caller callee (Some index) v s = back_cross program.interfaces caller.scope.comp.now callee.comp.now
+    index v s
 
 -- the initialisers and the statements of the function that runs
 abbrev pub body_acts : ProgramTree → ℕ → Frame → Acts

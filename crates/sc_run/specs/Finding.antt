@@ -12,7 +12,9 @@ use Rattle.sc_run.specs.Resume.{library}
 abbrev pub FoundAt : ProgramTree → ℕ → ℕ → Option Callee → Type 0
 FoundAt program comp number None = function (library program) comp number ≡ None
 FoundAt program comp number (Some callee) =
-    (callee.comp.now ≡ comp) × (callee.number ≡ number) × (function (library program) callee.comp.now callee.number ≡ Some (function_of c_arith program.interfaces.main callee.structs.now callee.function.now))
+    (callee.comp.now ≡ comp) × (callee.number ≡ number) ×
+    (function (library program) callee.comp.now callee.number ≡
+    Some (function_of c_arith program.interfaces.main callee.structs.now callee.function.now))
 
 -- the function that an entry of a compartment leads to, if there is one
 abbrev pub EntryAt : ProgramTree → ℕ → Entry → Option Callee → Type 0

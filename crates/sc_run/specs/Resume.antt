@@ -76,10 +76,14 @@ module _ (program : ProgramTree) where
   -- the call ends once control left the body
   abbrev pub closes : Frame → Left (Unit {0}) → State → Piece (Option Value)
   closes f left s =
-      closed left.exit (is_some f.function.now.result) (f.scope.comp.now == program.interfaces.main && bytes_eq f.function.now.name main_name) f.function.now.close_line (here_of f.scope) s
+      closed left.exit (is_some f.function.now.result)
+      (f.scope.comp.now == program.interfaces.main &&
+      bytes_eq f.function.now.name main_name) f.function.now.close_line (here_of f.scope) s
 
-  abbrev pub returned : Frame → (Option Value → State → Piece (Option Value)) → Piece (Left (Unit {0})) → Piece (Option Value)
-  returned f back p = and_then (and_then p (closes f)) (λ v t. back v (done f.scope.comp.now (function_in f) f.scope.first t))
+  abbrev pub returned : Frame → (Option Value → State → Piece (Option Value)) → Piece (Left (Unit {0})) →
+      Piece (Option Value)
+  returned f back p = and_then (and_then p (closes f))
+      (λ v t. back v (done f.scope.comp.now (function_in f) f.scope.first t))
 
   -- a return inside the compartment, or one from an export
   abbrev pub back_to : Frame → Frame → Option ℕ → Option Value → State → Piece (Option Value)
@@ -92,7 +96,8 @@ module _ (program : ProgramTree) where
   result_goes f (Place place line) v s = store_result (here_of f.scope) (way_in f place.now) v line tt s
   result_goes f Back v s = leave (Return v) tt s
 
-  -- what is left of a run where this waits, the newest first, and the statements that run in this function come to a piece
+  -- what is left of a run where this waits, the newest first, and the statements that run in this function come to a
+  -- piece
   abbrev pub resume : ℕ → List Work → Frame → Piece (Left (Unit {0})) → Run
   resume n [] f p = run_to program.interfaces.main (returned f back_own p)
   resume n (Rest stmts ∷ work) f p = resume n work f (follow in_order p (block_acts n f stmts.now))
@@ -109,17 +114,19 @@ module _ (program : ProgramTree) where
   does_now f (Leave exit) n s = leave (exit_of exit) tt s
 
   -- a run stands here: of some state this is seen, and what is left from there on is the whole
-  pub record Standing (whole : SourceRun) (seen : Seen) (work : List Work) (f : Frame) (piece : ℕ → State → Piece (Left (Unit {0}))) : Type 0 where
+  pub record Standing (whole : SourceRun) (seen : Seen) (work : List Work) (f : Frame)
+      (piece : ℕ → State → Piece (Left (Unit {0}))) : Type 0 where
     pub open_calls : ℕ
     pub state : State
     pub shows : seen_of state ≡ seen
     pub enough : state.turns ≤ open_calls
-    pub rest : (resume open_calls (reverse work) f (piece open_calls state)).shown ≡ whole
+    pub rest : (resume open_calls (reverse work) f (piece open_calls state)).behaviour ≡ whole
 
   -- stopped at a number of events, a run that stands here is this one
   abbrev pub EndsAs : Now → Seen → Frame → ℕ → List Event → RunEnd → Type 0
   EndsAs first seen f events trace end =
-      (whole : SourceRun) → Standing whole seen [] f (does_now f first) → stopped_at events whole ≡ stopped_at events (record { trace = trace; end = end })
+      (whole : SourceRun) → Standing whole seen [] f (does_now f first) →
+      stopped_at events whole ≡ stopped_at events (record { trace = trace; end = end })
 
   -- after a step a run stands somewhere, or is over
   abbrev pub Stands : SourceRun → Step → Seen → List Work → Frame → Type 0
@@ -127,10 +134,12 @@ module _ (program : ProgramTree) where
   Stands whole (Stop end) seen work f = whole ≡ record { trace = seen.trace; end = end }
 
   -- a step, whatever the whole run is
-  pub record Steps (before : Seen) (work : List Work) (f : Frame) (piece : ℕ → State → Piece (Left (Unit {0}))) (step : Step) (after : Seen) (later : List Work) (g : Frame) : Type 0 where
+  pub record Steps (before : Seen) (work : List Work) (f : Frame) (piece : ℕ → State → Piece (Left (Unit {0})))
+      (step : Step) (after : Seen) (later : List Work) (g : Frame) : Type 0 where
     pub stands : (whole : SourceRun) → Standing whole before work f piece → Stands whole step after later g
 
   -- the same of a run that was here before the step, and is there after it
   abbrev pub Advances : Run'' → (ℕ → State → Piece (Left (Unit {0}))) → Step → Run'' → Type 0
   Advances run piece step later =
-      Steps (kept_by run.machine) run.work.items run.frame piece step (kept_by later.machine) later.work.items later.frame
+      Steps (kept_by run.machine) run.work.items run.frame piece step
+      (kept_by later.machine) later.work.items later.frame

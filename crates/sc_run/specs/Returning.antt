@@ -26,7 +26,8 @@ variable_count f = length (variables f.scope.structs.now f.function.now)
 abbrev pub left_by : Frame → Seen → Seen
 left_by f seen =
     record seen {
-      memory = with_blocks f.scope.comp.now (cleared f.scope.first (variable_count f) (seen.memory f.scope.comp.now)) seen.memory;
+      memory = with_blocks f.scope.comp.now (cleared f.scope.first (variable_count f)
+          (seen.memory f.scope.comp.now)) seen.memory;
     }
 
 -- what crosses at a return from an export
@@ -37,7 +38,10 @@ word_crossing program f index v = crossing (export_at program.interfaces f.scope
 abbrev pub told_back : ProgramTree → Frame → Frame → Option ℕ → Option Value → Seen → Seen
 told_back program caller f None v seen = seen
 told_back program caller f (Some index) v seen =
-    record seen { trace = seen.trace ++ Ret f.scope.comp.now caller.scope.comp.now (word_crossing program f index v) ∷ [] }
+    record seen {
+      trace = seen.trace ++ Ret f.scope.comp.now caller.scope.comp.now (word_crossing program f index v) ∷
+          [];
+    }
 
 -- what the function that called gets
 abbrev pub back_value : ProgramTree → Frame → Option ℕ → Option Value → Option Value

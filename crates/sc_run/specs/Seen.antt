@@ -1,4 +1,5 @@
--- Helping: what of a state is kept while a program runs: the changes of frames are not, nor the cells of variables that have ended.
+-- Helping: what of a state is kept while a program runs: the changes of frames are not, nor the cells of variables that
+-- have ended.
 use Rattle.std.specs.Prelude.{ℕ, List, map}
 use Rattle.sc_event.specs.declared.event.Event.{Event}
 use Rattle.sc_word.specs.Word.{word_of}
@@ -15,7 +16,12 @@ pub record Seen : Type 0 where
 
 -- what is seen of a state
 abbrev pub seen_of : State → Seen
-seen_of s = record { memory = λ comp. map given_back (s.memory comp); trace = s.trace; turns = s.turns; inputs = s.inputs }
+seen_of s = record {
+  memory = λ comp. map given_back (s.memory comp);
+  trace = s.trace;
+  turns = s.turns;
+  inputs = s.inputs;
+}
 
 -- what the machine keeps
 abbrev pub kept_by : Machine → Seen

@@ -26,7 +26,9 @@ pub fn hand_back<'a>(
     to: To<'a>,
     result_value: Option<Value>,
 ) -> Step<'a>
-    ensures { Steps program.now (kept_by machine.old) work.now.items frame.now (λ n s. result_goes program.now frame.now to.entry result_value s) result (kept_by machine.new) work.now.items frame.now }
+    ensures { Steps program.now (kept_by machine.old) work.now.items frame.now
+        (λ n s. result_goes program.now frame.now to.entry result_value s) result
+        (kept_by machine.new) work.now.items frame.now }
 {
     match to {
         To::Nowhere => Step::Go(Now::Leave(Leaving::Next)),
@@ -49,7 +51,8 @@ pub fn start<'a>(
     frame: &Frame<'a>,
 ) -> Step<'a>
     requires { length frame.now.function.now.locals < 2 ^ 32 }
-    ensures { Steps program.now (kept_by machine.old) work.now.items frame.now (λ n s. body_acts program.now n frame.now tt s) result (kept_by machine.new) work.now.items frame.now }
+    ensures { Steps program.now (kept_by machine.old) work.now.items frame.now
+        (λ n s. body_acts program.now n frame.now tt s) result (kept_by machine.new) work.now.items frame.now }
 {
     match init_all(machine, frame) {
         Ok(()) => Step::Go(Now::Run(frame.function.body.as_slice())),
@@ -96,7 +99,8 @@ fn tell_call<'a>(
     args: &[Value],
     crossing: Option<u16>,
 ) -> Result<(), OutOfMemory>
-    ensures { OnOk result (kept_by machine.new ≡ told_call frame.now callee.now args.now crossing (kept_by machine.old)) }
+    ensures { OnOk result (kept_by machine.new ≡ told_call frame.now callee.now args.now crossing
+        (kept_by machine.old)) }
 {
     match crossing {
         Some(index) => {
@@ -149,8 +153,14 @@ pub fn enter<'a>(
     to: To<'a>,
     crossing: Option<u16>,
 ) -> Result<Step<'a>, OutOfMemory>
-    requires { function (library program.now) callee.now.comp.now callee.now.number ≡ Some (function_of c_arith program.now.interfaces.main callee.now.structs.now callee.now.function.now) }
-    ensures { IfOk result (λ step. Advances program.now run.old (λ n s. and_then (and_then (turn s) (λ _ s. run_in (library program.now) (bodies program.now n) callee.now.comp.now callee.now.number args.now (back_from program.now run.old.frame callee.now crossing) (entry_from run.old.frame callee.now args.now crossing s))) (result_goes program.now run.old.frame to.entry)) step run.new) }
+    requires { function (library program.now) callee.now.comp.now callee.now.number ≡
+        Some (function_of c_arith program.now.interfaces.main callee.now.structs.now callee.now.function.now) }
+    ensures { IfOk result (λ step. Advances program.now run.old
+        (λ n s. and_then (and_then (turn s) (λ _ s. run_in (library program.now)
+        (bodies program.now n) callee.now.comp.now callee.now.number args.now
+        (back_from program.now run.old.frame callee.now crossing)
+        (entry_from run.old.frame callee.now args.now crossing s)))
+        (result_goes program.now run.old.frame to.entry)) step run.new) }
 {
     match take_turn(&mut run.machine) {
         Err(end) => Ok(Step::Stop(end)),

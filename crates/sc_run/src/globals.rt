@@ -168,7 +168,8 @@ fn make_global(
     zeros: &[Items<Cell>],
     global: &TypedGlobal,
 ) -> Result<(), OutOfMemory>
-    ensures { OnOk result (memory_of blocks.new ≡ with_blocks comp (memory_of blocks.old comp ++ global_block zeros.now global.now ∷ []) (memory_of blocks.old)) }
+    ensures { OnOk result (memory_of blocks.new ≡ with_blocks comp
+        (memory_of blocks.old comp ++ global_block zeros.now global.now ∷ []) (memory_of blocks.old)) }
 {
     let cells = zeros_of(alloc, zeros, global.ty)?;
     let cells = with_words(alloc, global.init.as_slice(), cells.as_slice())?;
@@ -186,7 +187,9 @@ fn make_globals(
     comp: CompId,
     section: &TypedSection,
 ) -> Result<(), OutOfMemory>
-    ensures { OnOk result (memory_of blocks.new ≡ with_blocks comp (memory_of blocks.old comp ++ map (global_block (struct_zeros [] section.now.structs)) section.now.globals) (memory_of blocks.old)) }
+    ensures { OnOk result (memory_of blocks.new ≡ with_blocks comp
+        (memory_of blocks.old comp ++ map (global_block (struct_zeros [] section.now.structs)) section.now.globals)
+        (memory_of blocks.old)) }
 {
     let zeros = struct_zeros(alloc, section.structs.as_slice())?;
     for global in section.globals.as_slice() {

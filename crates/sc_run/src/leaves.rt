@@ -23,7 +23,8 @@ fn leave_before_rest<'a>(
     rest: &'a [TypedStmt],
     exit: Leaving,
 ) -> Step<'a>
-    ensures { Advances program.now run.now (λ n s. follow in_order (leave (exit_of exit) tt s) (block_acts program.now n run.now.frame rest.now)) result run.now }
+    ensures { Advances program.now run.now (λ n s. follow in_order (leave (exit_of exit) tt s)
+        (block_acts program.now n run.now.frame rest.now)) result run.now }
 {
     match exit {
         Leaving::Next => Step::Go(Now::Run(rest)),
@@ -40,7 +41,9 @@ fn leave_first<'a>(
     whole: &Loop<'a>,
     exit: Leaving,
 ) -> Result<Step<'a>, OutOfMemory>
-    ensures { IfOk result (λ step. Advances program.now run.old (λ n s. follow in_order (leave (exit_of exit) tt s) (loop_acts program.now n run.old.frame whole.now)) step run.new) }
+    ensures { IfOk result (λ step. Advances program.now run.old
+        (λ n s. follow in_order (leave (exit_of exit) tt s)
+        (loop_acts program.now n run.old.frame whole.now)) step run.new) }
 {
     match exit {
         Leaving::Next => round(program, run, whole),
@@ -57,7 +60,9 @@ fn leave_before_round<'a>(
     whole: &Loop<'a>,
     exit: Leaving,
 ) -> Result<Step<'a>, OutOfMemory>
-    ensures { IfOk result (λ step. Advances program.now run.old (λ n s. follow in_loop (leave (exit_of exit) tt s) (loop_acts program.now n run.old.frame whole.now)) step run.new) }
+    ensures { IfOk result (λ step. Advances program.now run.old
+        (λ n s. follow in_loop (leave (exit_of exit) tt s)
+        (loop_acts program.now n run.old.frame whole.now)) step run.new) }
 {
     match exit {
         Leaving::Next => round(program, run, whole),
@@ -73,7 +78,9 @@ fn next_part<'a>(
     run: &mut Run<'a, '_>,
     whole: &Loop<'a>,
 ) -> Result<Step<'a>, OutOfMemory>
-    ensures { IfOk result (λ step. Advances program.now run.old (λ n s. follow in_loop (next_acts program.now n run.old.frame whole.now tt s) (loop_acts program.now n run.old.frame whole.now)) step run.new) }
+    ensures { IfOk result (λ step. Advances program.now run.old
+        (λ n s. follow in_loop (next_acts program.now n run.old.frame whole.now tt s)
+        (loop_acts program.now n run.old.frame whole.now)) step run.new) }
 {
     match whole.next {
         None => round(program, run, whole),
@@ -91,7 +98,10 @@ fn leave_body<'a>(
     whole: &Loop<'a>,
     exit: Leaving,
 ) -> Result<Step<'a>, OutOfMemory>
-    ensures { IfOk result (λ step. Advances program.now run.old (λ n s. follow in_loop (leave (exit_of exit) tt s) (λ a s. follow in_loop (next_acts program.now n run.old.frame whole.now a s) (loop_acts program.now n run.old.frame whole.now))) step run.new) }
+    ensures { IfOk result (λ step. Advances program.now run.old
+        (λ n s. follow in_loop (leave (exit_of exit) tt s)
+        (λ a s. follow in_loop (next_acts program.now n run.old.frame whole.now a s)
+        (loop_acts program.now n run.old.frame whole.now))) step run.new) }
 {
     match exit {
         Leaving::Next => next_part(program, run, whole),
@@ -102,7 +112,8 @@ fn leave_body<'a>(
 }
 
 fn is_main(program: &ProgramTree, frame: &Frame) -> bool
-    ensures { result ≡ (frame.now.scope.comp.now == program.now.interfaces.main && bytes_eq frame.now.function.now.name main_name) }
+    ensures { result ≡ (frame.now.scope.comp.now == program.now.interfaces.main &&
+        bytes_eq frame.now.function.now.name main_name) }
 {
     frame.scope.comp.number() == program.interfaces.main.number()
         && frame.function.name.as_bytes() == b"main".as_slice()
@@ -110,7 +121,8 @@ fn is_main(program: &ProgramTree, frame: &Frame) -> bool
 
 // How a call ends, once control left the body of its function.
 fn closed(program: &ProgramTree, frame: &Frame, exit: Leaving) -> Result<Option<Value>, RunEnd>
-    ensures { (s : State) → closes program.now frame.now (record { exit = exit_of exit; carried = tt }) s ≡ ended_as result s }
+    ensures { (s : State) → closes program.now frame.now (record { exit = exit_of exit; carried = tt }) s ≡
+        ended_as result s }
 {
     if let Leaving::Return(value) = exit {
         return Ok(value);
@@ -177,7 +189,8 @@ fn tell_back(
     value: Option<Value>,
 ) -> Result<Option<Value>, OutOfMemory>
     ensures value { IfOk result (λ back. back ≡ back_value program.now frame.now crossed value) }
-    ensures told { OnOk result (kept_by machine.new ≡ told_back program.now caller.now frame.now crossed value (kept_by machine.old)) }
+    ensures told { OnOk result (kept_by machine.new ≡
+        told_back program.now caller.now frame.now crossed value (kept_by machine.old)) }
 {
     match crossed {
         None => Ok(value),
@@ -208,7 +221,9 @@ fn return_to<'a>(
     crossed: Option<u16>,
     exit: Leaving,
 ) -> Result<Step<'a>, OutOfMemory>
-    ensures { IfOk result (λ step. Steps program.now (kept_by run.old.machine) (run.old.work.items ++ Work.Caller caller.now to.entry crossed ∷ []) run.old.frame (λ n s. leave (exit_of exit) tt s) step (kept_by run.new.machine) run.new.work.items run.new.frame) }
+    ensures { IfOk result (λ step. Steps program.now (kept_by run.old.machine)
+        (run.old.work.items ++ Work.Caller caller.now to.entry crossed ∷ []) run.old.frame
+        (λ n s. leave (exit_of exit) tt s) step (kept_by run.new.machine) run.new.work.items run.new.frame) }
 {
     match closed(program, &run.frame, exit) {
         Err(end) => Ok(Step::Stop(end)),
@@ -244,7 +259,8 @@ fn finish<'a>(
     frame: &Frame<'a>,
     exit: Leaving,
 ) -> Result<Step<'a>, OutOfMemory>
-    ensures { IfOk result (λ step. Steps program.now (kept_by machine.old) [] frame.now (λ n s. leave (exit_of exit) tt s) step (kept_by machine.new) [] frame.now) }
+    ensures { IfOk result (λ step. Steps program.now (kept_by machine.old) [] frame.now
+        (λ n s. leave (exit_of exit) tt s) step (kept_by machine.new) [] frame.now) }
 {
     match closed(program, frame, exit) {
         Err(end) => Ok(Step::Stop(end)),

@@ -5,7 +5,7 @@ ghost use Rattle.sc_core.specs.declared.value.Want.TheVariants as want;
 ghost use Rattle.sc_core.specs.Memory.{with_blocks};
 ghost use Rattle.sc_core.specs.Value.{c_arith};
 ghost use Rattle.sc_core.specs.Words.{Next, turn, stored, all_do};
-ghost use Rattle.sc_core.specs.Tree.{given, store_at, assign};
+ghost use Rattle.sc_core.specs.Tree.{evaluated, store_at, assign};
 ghost use Rattle.sc_core.specs.Meaning.{init_does, inits_do};
 ghost use Rattle.sc_blocks.specs.Rows.{memory_of};
 ghost use Rattle.sc_value.specs.Where.{here_of};
@@ -43,14 +43,15 @@ pub fn blamed(frame: &Frame, cause: Cause, line: u32) -> RunEnd
 }
 
 /// The place or value of an expression.
-pub fn given(
+pub fn evaluated(
     machine: &Machine,
     frame: &Frame,
     want: Want,
     expr: &TypedExpr,
     line: u32,
 ) -> Result<Value, RunEnd>
-    ensures { Comes (kept_by machine.now) (kept_by machine.now) result (given (here_of frame.now.scope) want (way_in frame.now expr.now) line) }
+    ensures { Comes (kept_by machine.now) (kept_by machine.now) result
+        (evaluated (here_of frame.now.scope) want (way_in frame.now expr.now) line) }
 {
     match sc_value::evaluate(&machine.blocks, &frame.scope, want, expr) {
         Ok(value) => Ok(value),
@@ -66,7 +67,8 @@ pub fn stored(
     value: Value,
     line: u32,
 ) -> Result<(), RunEnd>
-    ensures { Comes (kept_by machine.old) (kept_by machine.new) (with_exit Next result) (stored (here_of frame.now.scope) place value line tt) }
+    ensures { Comes (kept_by machine.old) (kept_by machine.new) (with_exit Next result)
+        (stored (here_of frame.now.scope) place value line tt) }
 {
     match sc_value::store(&mut machine.blocks, *frame.scope.comp, place, value) {
         Ok(()) => Ok(()),
@@ -82,9 +84,10 @@ pub fn store_at(
     value: Value,
     line: u32,
 ) -> Result<(), RunEnd>
-    ensures { Comes (kept_by machine.old) (kept_by machine.new) (with_exit Next result) (store_at (here_of frame.now.scope) (way_in frame.now place.now) value line tt) }
+    ensures { Comes (kept_by machine.old) (kept_by machine.new) (with_exit Next result)
+        (store_at (here_of frame.now.scope) (way_in frame.now place.now) value line tt) }
 {
-    match given(machine, frame, Want::Place, place, line) {
+    match evaluated(machine, frame, Want::Place, place, line) {
         Ok(place) => stored(machine, frame, place, value, line),
         Err(end) => Err(end),
     }
@@ -98,9 +101,10 @@ pub fn assign(
     value: &TypedExpr,
     line: u32,
 ) -> Result<(), RunEnd>
-    ensures { Comes (kept_by machine.old) (kept_by machine.new) (with_exit Next result) (assign (here_of frame.now.scope) (way_in frame.now place.now) (way_in frame.now value.now) line tt) }
+    ensures { Comes (kept_by machine.old) (kept_by machine.new) (with_exit Next result)
+        (assign (here_of frame.now.scope) (way_in frame.now place.now) (way_in frame.now value.now) line tt) }
 {
-    match given(machine, frame, Want::Value, value, line) {
+    match evaluated(machine, frame, Want::Value, value, line) {
         Ok(value) => store_at(machine, frame, place, value, line),
         Err(end) => Err(end),
     }
@@ -125,7 +129,8 @@ fn make_block(
     count: u64,
     arg: Option<Value>,
 ) -> Result<(), OutOfMemory>
-    ensures { OnOk result (memory_of blocks.new ≡ with_blocks comp (memory_of blocks.old comp ++ block_for count arg ∷ []) (memory_of blocks.old)) }
+    ensures { OnOk result (memory_of blocks.new ≡ with_blocks comp
+        (memory_of blocks.old comp ++ block_for count arg ∷ []) (memory_of blocks.old)) }
 {
     match arg {
         Some(value) => {
@@ -174,11 +179,13 @@ pub fn make_blocks(blocks: &mut Blocks, callee: &Callee, args: &[Value]) -> Resu
 
 // The initialiser of a local, if it has one.
 fn init(machine: &mut Machine, frame: &Frame, number: u32, local: &TypedLocal) -> Result<(), RunEnd>
-    ensures { Comes (kept_by machine.old) (kept_by machine.new) (with_exit Next result) (init_does c_arith frame.now.scope.structs.now (here_of frame.now.scope) frame.now.scope.params number local.now local.now.init tt) }
+    ensures { Comes (kept_by machine.old) (kept_by machine.new) (with_exit Next result)
+        (init_does c_arith frame.now.scope.structs.now
+        (here_of frame.now.scope) frame.now.scope.params number local.now local.now.init tt) }
 {
     match &local.init {
         None => Ok(()),
-        Some(expr) => match given(machine, frame, Want::Value, expr, local.line) {
+        Some(expr) => match evaluated(machine, frame, Want::Value, expr, local.line) {
             Ok(value) => {
                 let place = sc_value::variable_at(&frame.scope, VarRef::Local(number));
                 stored(machine, frame, place, value, local.line)
@@ -191,7 +198,9 @@ fn init(machine: &mut Machine, frame: &Frame, number: u32, local: &TypedLocal) -
 /// The initialisers of the locals, in order.
 pub fn init_all(machine: &mut Machine, frame: &Frame) -> Result<(), RunEnd>
     requires { length frame.now.function.now.locals < 2 ^ 32 }
-    ensures { Comes (kept_by machine.old) (kept_by machine.new) (with_exit Next result) (all_do (inits_do c_arith frame.now.scope.structs.now (here_of frame.now.scope) frame.now.scope.params 0 frame.now.function.now.locals) tt) }
+    ensures { Comes (kept_by machine.old) (kept_by machine.new) (with_exit Next result)
+        (all_do (inits_do c_arith frame.now.scope.structs.now
+        (here_of frame.now.scope) frame.now.scope.params 0 frame.now.function.now.locals) tt) }
 {
     let locals = frame.function.locals.as_slice();
     for at in 0..locals.len() {
@@ -205,7 +214,8 @@ pub fn init_all(machine: &mut Machine, frame: &Frame) -> Result<(), RunEnd>
 
 /// One more event.
 pub fn tell(machine: &mut Machine, event: Event) -> Result<(), AllocError>
-    ensures { OnOk result (kept_by machine.new ≡ record (kept_by machine.old) { trace = machine.old.trace ++ event ∷ [] }) }
+    ensures { OnOk result (kept_by machine.new ≡ record
+        (kept_by machine.old) { trace = machine.old.trace ++ event ∷ [] }) }
 {
     machine.trace.push(event)
 }

@@ -25,7 +25,8 @@ fn proceed<'a>(
     run: &mut Run<'a, '_>,
     now: Now<'a>,
 ) -> Result<Step<'a>, OutOfMemory>
-    ensures { IfOk result (λ step. Advances program.now run.old (does_now program.now run.old.frame now.entry) step run.new) }
+    ensures { IfOk result (λ step. Advances program.now run.old
+        (does_now program.now run.old.frame now.entry) step run.new) }
 {
     match now {
         Now::Run(stmts) => run_list(program, run, stmts),
@@ -45,7 +46,7 @@ fn first_events(trace: Trace, events: usize) -> Trace
 }
 
 // The run that ends so, stopped at a number of events.
-fn shown(machine: Machine, end: RunEnd, events: u32) -> SourceRun
+fn behaviour(machine: Machine, end: RunEnd, events: u32) -> SourceRun
     ensures { result ≡ stopped_at events (record { trace = machine.entry.trace; end = end }) }
 {
     let Machine { trace, .. } = machine;
@@ -71,7 +72,8 @@ fn run_on<'a>(
     events: u32,
 ) -> Result<RunEnd, OutOfMemory>
     requires { run.old.work.items ≡ [] }
-    ensures { IfOk result (λ end. EndsAs program.now first.entry (kept_by run.old.machine) run.old.frame events run.new.machine.trace end) }
+    ensures { IfOk result (λ end. EndsAs program.now first.entry
+        (kept_by run.old.machine) run.old.frame events run.new.machine.trace end) }
 {
     let mut now = first;
     for _step in 0..u64::MAX {
@@ -107,12 +109,12 @@ pub fn run_source(
         inputs,
     };
     let Some(callee) = entry_callee(tree, &tree.interfaces.main, Entry::Main) else {
-        return Ok(shown(machine, RunEnd::TurnsOut, events));
+        return Ok(behaviour(machine, RunEnd::TurnsOut, events));
     };
     let frame = begin(&mut machine, &callee, &[])?;
     let work = Vec::new(alloc);
     match start(tree, &mut machine, &work, &frame) {
-        Step::Stop(end) => Ok(shown(machine, end, events)),
+        Step::Stop(end) => Ok(behaviour(machine, end, events)),
         Step::Go(now) => {
             let mut run = Run {
                 machine,
@@ -121,7 +123,7 @@ pub fn run_source(
             };
             let end = run_on(tree, &mut run, now, events)?;
             let Run { machine, .. } = run;
-            Ok(shown(machine, end, events))
+            Ok(behaviour(machine, end, events))
         }
     }
 }

@@ -33,7 +33,9 @@ fn given_all(
     exprs: &[TypedExpr],
     line: u32,
 ) -> Result<Result<Items<Value>, RunEnd>, AllocError>
-    ensures { IfOk result (λ found. Comes (kept_by machine.now) (kept_by machine.now) found (λ s. computed (here_of frame.now.scope) line (values (map (way_in frame.now) exprs.now) (s.memory frame.now.scope.comp.now)) s)) }
+    ensures { IfOk result (λ found. Comes (kept_by machine.now) (kept_by machine.now) found
+        (λ s. computed (here_of frame.now.scope) line
+        (values (map (way_in frame.now) exprs.now) (s.memory frame.now.scope.comp.now)) s)) }
 {
     match sc_value::evaluate_all(machine.alloc, &machine.blocks, &frame.scope, exprs)? {
         Ok(found) => Ok(Ok(found)),
@@ -56,7 +58,9 @@ fn call_own<'a>(
     args: &[Value],
     to: To<'a>,
 ) -> Result<Step<'a>, OutOfMemory>
-    ensures { IfOk result (λ step. Advances program.now run.old (λ n s. and_then (calls_in program.now n run.old.frame.scope.comp.now (CallTarget.Own number) args.now s) (result_goes program.now run.old.frame to.entry)) step run.new) }
+    ensures { IfOk result (λ step. Advances program.now run.old
+        (λ n s. and_then (calls_in program.now n run.old.frame.scope.comp.now (CallTarget.Own number) args.now s)
+        (result_goes program.now run.old.frame to.entry)) step run.new) }
 {
     let comp = run.frame.scope.comp;
     match callee_at(program, comp, number) {
@@ -67,7 +71,8 @@ fn call_own<'a>(
 
 // Whether a call across may be made, but for its function.
 fn may_cross(interfaces: &Interfaces, from: CompId, to: CompId, index: u16, args: &[Value]) -> bool
-    ensures { result ≡ (imports interfaces.now from (is_function to index) && (takes interfaces.now to index (length args.now) && list_all is_word args.now)) }
+    ensures { result ≡ (imports interfaces.now from (is_function to index) &&
+        (takes interfaces.now to index (length args.now) && list_all is_word args.now)) }
 {
     interfaces.imports_function(from, to, index)
         && (interfaces.takes(to, index, args.len()) && are_words(args))
@@ -82,7 +87,9 @@ fn call_cross<'a>(
     args: &[Value],
     to: To<'a>,
 ) -> Result<Step<'a>, OutOfMemory>
-    ensures { IfOk result (λ step. Advances program.now run.old (λ n s. and_then (calls_in program.now n run.old.frame.scope.comp.now (CallTarget.Cross comp.now index) args.now s) (result_goes program.now run.old.frame to.entry)) step run.new) }
+    ensures { IfOk result (λ step. Advances program.now run.old
+        (λ n s. and_then (calls_in program.now n run.old.frame.scope.comp.now
+        (CallTarget.Cross comp.now index) args.now s) (result_goes program.now run.old.frame to.entry)) step run.new) }
 {
     if !may_cross(
         &program.interfaces,
@@ -131,7 +138,9 @@ fn call_input<'a>(
     args: &[Value],
     to: To<'a>,
 ) -> Result<Step<'a>, OutOfMemory>
-    ensures { IfOk result (λ step. Steps program.now (kept_by machine.old) work.now.items frame.now (λ n s. and_then (calls_in program.now n frame.now.scope.comp.now CallTarget.Input args.now s) (result_goes program.now frame.now to.entry)) step (kept_by machine.new) work.now.items frame.now) }
+    ensures { IfOk result (λ step. Steps program.now (kept_by machine.old) work.now.items frame.now
+        (λ n s. and_then (calls_in program.now n frame.now.scope.comp.now CallTarget.Input args.now s)
+        (result_goes program.now frame.now to.entry)) step (kept_by machine.new) work.now.items frame.now) }
 {
     let comp = *frame.scope.comp;
     if !program.interfaces.imports_input(comp) {
@@ -157,7 +166,9 @@ fn call_output<'a>(
     args: &[Value],
     to: To<'a>,
 ) -> Result<Step<'a>, OutOfMemory>
-    ensures { IfOk result (λ step. Steps program.now (kept_by machine.old) work.now.items frame.now (λ n s. and_then (calls_in program.now n frame.now.scope.comp.now CallTarget.Output args.now s) (result_goes program.now frame.now to.entry)) step (kept_by machine.new) work.now.items frame.now) }
+    ensures { IfOk result (λ step. Steps program.now (kept_by machine.old) work.now.items frame.now
+        (λ n s. and_then (calls_in program.now n frame.now.scope.comp.now CallTarget.Output args.now s)
+        (result_goes program.now frame.now to.entry)) step (kept_by machine.new) work.now.items frame.now) }
 {
     let comp = *frame.scope.comp;
     if !may_output(program, comp, args) {
@@ -176,7 +187,9 @@ fn called<'a>(
     args: &[Value],
     to: To<'a>,
 ) -> Result<Step<'a>, OutOfMemory>
-    ensures { IfOk result (λ step. Advances program.now run.old (λ n s. and_then (calls_in program.now n run.old.frame.scope.comp.now target.now args.now s) (result_goes program.now run.old.frame to.entry)) step run.new) }
+    ensures { IfOk result (λ step. Advances program.now run.old
+        (λ n s. and_then (calls_in program.now n run.old.frame.scope.comp.now target.now args.now s)
+        (result_goes program.now run.old.frame to.entry)) step run.new) }
 {
     match target {
         CallTarget::Own(number) => { call_own(program, run, *number as usize, args, to) }
@@ -201,7 +214,10 @@ pub fn call<'a>(
     to: To<'a>,
     line: u32,
 ) -> Result<Step<'a>, OutOfMemory>
-    ensures { IfOk result (λ step. Advances program.now run.old (λ n s. and_then (call (here_of run.old.frame.scope) (calls_in program.now n) made.now.target (map (way_in run.old.frame) made.now.args) line s) (result_goes program.now run.old.frame to.entry)) step run.new) }
+    ensures { IfOk result (λ step. Advances program.now run.old
+        (λ n s. and_then (call (here_of run.old.frame.scope) (calls_in program.now n) made.now.target
+        (map (way_in run.old.frame) made.now.args) line s)
+        (result_goes program.now run.old.frame to.entry)) step run.new) }
 {
     match given_all(&run.machine, &run.frame, made.args.as_slice(), line)? {
         Ok(args) => called(program, run, &made.target, args.as_slice(), to),
@@ -217,7 +233,8 @@ pub fn assigned<'a>(
     value: &TypedExpr,
     line: u32,
 ) -> Step<'a>
-    ensures { Advances program.now run.old (λ n. assign (here_of run.old.frame.scope) (way_in run.old.frame place.now) (way_in run.old.frame value.now) line tt) result run.new }
+    ensures { Advances program.now run.old (λ n. assign (here_of run.old.frame.scope) (way_in run.old.frame place.now)
+        (way_in run.old.frame value.now) line tt) result run.new }
 {
     match assign(&mut run.machine, &run.frame, place, value, line) {
         Ok(()) => Step::Go(Now::Leave(Leaving::Next)),
@@ -231,7 +248,10 @@ pub fn simple<'a>(
     run: &mut Run<'a, '_>,
     part: &'a TypedSimple,
 ) -> Result<Step<'a>, OutOfMemory>
-    ensures { IfOk result (λ step. Advances program.now run.old (λ n. simple_does c_arith run.old.frame.scope.structs.now (here_of run.old.frame.scope) run.old.frame.scope.params (calls_in program.now n) part.now.kind part.now.line tt) step run.new) }
+    ensures { IfOk result (λ step. Advances program.now run.old
+        (λ n. simple_does c_arith run.old.frame.scope.structs.now
+        (here_of run.old.frame.scope) run.old.frame.scope.params
+        (calls_in program.now n) part.now.kind part.now.line tt) step run.new) }
 {
     match &part.kind {
         TypedSimpleKind::Assign { place, value } => Ok(assigned(

@@ -3,11 +3,11 @@
 ghost use Rattle.std.specs.Prelude.{IfOk, Some};
 ghost use Rattle.sc_core.specs.declared.value.Want.TheVariants as want;
 ghost use Rattle.sc_core.specs.Words.{Next, Return, and_then, leave, follow, in_order, loop, choose};
-ghost use Rattle.sc_core.specs.Tree.{given, test};
+ghost use Rattle.sc_core.specs.Tree.{evaluated, test};
 ghost use Rattle.sc_value.specs.Where.{here_of};
 ghost use Rattle.sc_run.specs.Resume.{way_in, stmt_acts, block_acts, part_acts, loop_acts, Advances};
 
-use crate::machine::{given, take_turn};
+use crate::machine::{evaluated, take_turn};
 use crate::simple::{assigned, call, simple};
 use crate::work::{Leaving, Loop, Now, Run, Step, To, Work};
 use sc_base::OutOfMemory;
@@ -23,9 +23,12 @@ fn branch<'a>(
     first: &'a [TypedStmt],
     second: &'a [TypedStmt],
 ) -> Step<'a>
-    ensures { Advances program.now run.now (λ n s. and_then (given (here_of run.now.frame.scope) want.Value (way_in run.now.frame cond.now) line s) (λ v s. choose v (block_acts program.now n run.now.frame first.now tt s) (block_acts program.now n run.now.frame second.now tt s))) result run.now }
+    ensures { Advances program.now run.now (λ n s. and_then
+        (evaluated (here_of run.now.frame.scope) want.Value (way_in run.now.frame cond.now) line s)
+        (λ v s. choose v (block_acts program.now n run.now.frame first.now tt s)
+        (block_acts program.now n run.now.frame second.now tt s))) result run.now }
 {
-    match given(&run.machine, &run.frame, Want::Value, cond, line) {
+    match evaluated(&run.machine, &run.frame, Want::Value, cond, line) {
         Ok(value) => {
             if is_true(value) {
                 Step::Go(Now::Run(first))
@@ -43,9 +46,10 @@ pub fn round<'a>(
     run: &mut Run<'a, '_>,
     whole: &Loop<'a>,
 ) -> Result<Step<'a>, OutOfMemory>
-    ensures { IfOk result (λ step. Advances program.now run.old (λ n. loop_acts program.now n run.old.frame whole.now tt) step run.new) }
+    ensures { IfOk result (λ step. Advances program.now run.old
+        (λ n. loop_acts program.now n run.old.frame whole.now tt) step run.new) }
 {
-    match given(
+    match evaluated(
         &run.machine,
         &run.frame,
         Want::Value,
@@ -76,7 +80,9 @@ fn while_loop<'a>(
     body: &'a [TypedStmt],
     line: u32,
 ) -> Result<Step<'a>, OutOfMemory>
-    ensures { IfOk result (λ step. Advances program.now run.old (λ n. loop (test (here_of run.old.frame.scope) (way_in run.old.frame cond.now) line) (block_acts program.now n run.old.frame body.now) (leave Next) tt) step run.new) }
+    ensures { IfOk result (λ step. Advances program.now run.old
+        (λ n. loop (test (here_of run.old.frame.scope) (way_in run.old.frame cond.now) line)
+        (block_acts program.now n run.old.frame body.now) (leave Next) tt) step run.new) }
 {
     let whole = Loop {
         cond,
@@ -94,7 +100,9 @@ fn first_part<'a>(
     first: &'a Option<TypedSimple>,
     whole: &Loop<'a>,
 ) -> Result<Step<'a>, OutOfMemory>
-    ensures { IfOk result (λ step. Advances program.now run.old (λ n s. follow in_order (part_acts program.now n run.old.frame first.now tt s) (loop_acts program.now n run.old.frame whole.now)) step run.new) }
+    ensures { IfOk result (λ step. Advances program.now run.old
+        (λ n s. follow in_order (part_acts program.now n run.old.frame first.now tt s)
+        (loop_acts program.now n run.old.frame whole.now)) step run.new) }
 {
     match first {
         None => round(program, run, whole),
@@ -112,9 +120,11 @@ fn returned_value<'a>(
     value: &TypedExpr,
     line: u32,
 ) -> Step<'a>
-    ensures { Advances program.now run.now (λ n s. and_then (given (here_of run.now.frame.scope) want.Value (way_in run.now.frame value.now) line s) (λ v s. leave (Return (Some v)) tt s)) result run.now }
+    ensures { Advances program.now run.now (λ n s. and_then
+        (evaluated (here_of run.now.frame.scope) want.Value (way_in run.now.frame value.now) line s)
+        (λ v s. leave (Return (Some v)) tt s)) result run.now }
 {
-    match given(&run.machine, &run.frame, Want::Value, value, line) {
+    match evaluated(&run.machine, &run.frame, Want::Value, value, line) {
         Ok(value) => Step::Go(Now::Leave(Leaving::Return(Some(value)))),
         Err(end) => Step::Stop(end),
     }
@@ -126,7 +136,8 @@ fn statement<'a>(
     run: &mut Run<'a, '_>,
     stmt: &'a TypedStmt,
 ) -> Result<Step<'a>, OutOfMemory>
-    ensures { IfOk result (λ step. Advances program.now run.old (λ n. stmt_acts program.now n run.old.frame stmt.now tt) step run.new) }
+    ensures { IfOk result (λ step. Advances program.now run.old
+        (λ n. stmt_acts program.now n run.old.frame stmt.now tt) step run.new) }
 {
     let line = stmt.line;
     match &stmt.kind {
@@ -187,7 +198,8 @@ pub fn run_list<'a>(
     run: &mut Run<'a, '_>,
     stmts: &'a [TypedStmt],
 ) -> Result<Step<'a>, OutOfMemory>
-    ensures { IfOk result (λ step. Advances program.now run.old (λ n s. block_acts program.now n run.old.frame stmts.now tt s) step run.new) }
+    ensures { IfOk result (λ step. Advances program.now run.old
+        (λ n s. block_acts program.now n run.old.frame stmts.now tt s) step run.new) }
 {
     match stmts {
         [] => Ok(Step::Go(Now::Leave(Leaving::Next))),

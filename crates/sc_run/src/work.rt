@@ -51,7 +51,8 @@ pub enum Work<'a> {
     Body(Loop<'a>),
     /// A loop, where what comes before its next round runs.
     Again(Loop<'a>),
-    /// The function that called, what it does with the result, and the place of the export that it called, if it is one.
+    /// The function that called, what it does with the result, and the place of the export that it called, if it is
+    /// one.
     Caller(Frame<'a>, To<'a>, Option<u16>),
 }
 

@@ -43,7 +43,12 @@ holder tag ty line = Struct (record { name = tag; members = record { ty = ty; na
 
 abbrev function : Text → List FunctionParam → List LocalTree → List StmtTree → Decl
 function name params locals body =
-    Function (record { head = record { result = None; name = name; params = params; line = 2 }; locals = locals; body = body; close_line = 9 })
+    Function (record {
+      head = record { result = None; name = name; params = params; line = 2 };
+      locals = locals;
+      body = body;
+      close_line = 9;
+    })
 
 abbrev param : Text → FunctionParam
 param name = record { ty = record { base = base.Int; stars = 0 }; name = name }
@@ -82,7 +87,8 @@ equal_params : section_lines (section (function f (param x ∷ param x ∷ []) [
 equal_params = refl
 
 -- a local may not have the name of a parameter, but that of a global
-equal_locals : section_lines (section (global g 1 ∷ function f (param x ∷ []) (local g None 3 ∷ local x None 4 ∷ []) [] ∷ [])) ≡ 4 ∷ []
+equal_locals : section_lines (section (global g 1 ∷ function f (param x ∷ [])
+    (local g None 3 ∷ local x None 4 ∷ []) [] ∷ [])) ≡ 4 ∷ []
 equal_locals = refl
 
 -- a global before its use and after it
@@ -93,7 +99,8 @@ later_global : section_lines (section (function f [] [] (use_of x 3 ∷ []) ∷ 
 later_global = search (rules, terms.the_lemmas, kinds.the_lemmas, stmts.the_lemmas)
 
 -- `int g = x; int x;` uses a local before its declaration, and `int x = x;` doesn't
-later_local : section_lines (section (function f [] (local g (Some (term.Variable x)) 3 ∷ local x None 4 ∷ []) [] ∷ [])) ≡ 3 ∷ []
+later_local : section_lines (section (function f [] (local g (Some (term.Variable x)) 3 ∷ local x None 4 ∷ []) [] ∷
+    [])) ≡ 3 ∷ []
 later_local = search (rules, terms.the_lemmas)
 
 own_initialiser : section_lines (section (function f [] (local x (Some (term.Variable x)) 3 ∷ []) [] ∷ [])) ≡ []
@@ -103,11 +110,17 @@ own_initialiser = search (rules, terms.the_lemmas)
 later_function : section_lines (section (function f [] [] (call_of g 3 ∷ []) ∷ function g [] [] [] ∷ [])) ≡ []
 later_function = search (rules, terms.the_lemmas, kinds.the_lemmas, stmts.the_lemmas)
 
-hidden_function : section_lines (section (function f (param g ∷ []) [] (call_of g 3 ∷ []) ∷ function g [] [] [] ∷ [])) ≡ 3 ∷ []
+hidden_function : section_lines (section (function f (param g ∷ []) [] (call_of g 3 ∷ []) ∷ function g [] [] [] ∷ [])) ≡
+    3 ∷ []
 hidden_function = search (rules, terms.the_lemmas, kinds.the_lemmas, stmts.the_lemmas)
 
 -- `break;` in a loop and outside
-break_in_a_loop : section_lines (section (global x 1 ∷ function f [] [] (record { line = 3; kind = stmt.While (term.Variable x) (record { line = 4; kind = stmt.Break } ∷ []) } ∷ []) ∷ [])) ≡ []
+break_in_a_loop : section_lines (section (global x 1 ∷
+    function f [] [] (record {
+      line = 3;
+      kind = stmt.While (term.Variable x)
+          (record { line = 4; kind = stmt.Break } ∷ []);
+    } ∷ []) ∷ [])) ≡ []
 break_in_a_loop = search (rules, terms.the_lemmas, kinds.the_lemmas, stmts.the_lemmas)
 
 break_outside : section_lines (section (function f [] [] (record { line = 3; kind = stmt.Break } ∷ []) ∷ [])) ≡ 3 ∷ []

@@ -12,14 +12,17 @@ pub nothing : (old : BrokenLines) (xs : List ℕ) → xs ≡ [] → old ≡ with
 nothing old xs e = sym (with_lines-nil old) ∙ ap (with_lines old) (sym e)
 
 -- some lines, and then others
-pub then : (old a b : BrokenLines) (xs ys : List ℕ) → a ≡ with_lines old xs → b ≡ with_lines a ys → b ≡ with_lines old (xs ++ ys)
+pub then : (old a b : BrokenLines) (xs ys : List ℕ) → a ≡ with_lines old xs → b ≡ with_lines a ys →
+    b ≡ with_lines old (xs ++ ys)
 then old a b xs ys p q = q ∙ (ap (λ x. with_lines x ys) p ∙ sym (with_lines-append old xs ys))
 
 -- the lines noted and those of what is left are those of all, also after one step more
-pub step : (old a b : BrokenLines) (xs ys all : List ℕ) → with_lines a (xs ++ ys) ≡ with_lines old all → b ≡ with_lines a xs → with_lines b ys ≡ with_lines old all
+pub step : (old a b : BrokenLines) (xs ys all : List ℕ) → with_lines a (xs ++ ys) ≡ with_lines old all →
+    b ≡ with_lines a xs → with_lines b ys ≡ with_lines old all
 step old a b xs ys all p q = ap (λ x. with_lines x ys) q ∙ (sym (with_lines-append a xs ys) ∙ p)
 
-pub done : (old a : BrokenLines) (xs all : List ℕ) → with_lines a xs ≡ with_lines old all → xs ≡ [] → a ≡ with_lines old all
+pub done : (old a : BrokenLines) (xs all : List ℕ) → with_lines a xs ≡ with_lines old all → xs ≡ [] →
+    a ≡ with_lines old all
 done old a xs all p e = nothing a xs e ∙ p
 
 -- a name is among the names of two lists

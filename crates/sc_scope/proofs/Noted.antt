@@ -22,7 +22,8 @@ use Rattle.sc_scope.proofs.Noting.{noted_all-append}
 use Rattle.sc_base.proofs.Lists.{drop-step, take-step}
 
 -- what is there and what is left to add, one item further
-pub pushed : {A B : Type 0} (f : A → B) (xs : List A) (i : ℕ) (x : A) (a b all : List B) → i < length xs → x ≡ get_or xs i x → a ++ map f (drop i xs) ≡ all → b ≡ a ++ f x ∷ [] → b ++ map f (drop (i + 1) xs) ≡ all
+pub pushed : {A B : Type 0} (f : A → B) (xs : List A) (i : ℕ) (x : A) (a b all : List B) → i < length xs →
+    x ≡ get_or xs i x → a ++ map f (drop i xs) ≡ all → b ≡ a ++ f x ∷ [] → b ++ map f (drop (i + 1) xs) ≡ all
 pushed f xs i x a b all lt is p q =
     ap (λ c. c ++ map f (drop (i + 1) xs)) q
     ∙ (append_assoc a (f x ∷ []) (map f (drop (i + 1) xs))
@@ -30,14 +31,22 @@ pushed f xs i x a b all lt is p q =
 
 -- Locals.
 
-pub local-noted : (names : SectionNames) (own more : List Text) (locals : List LocalTree) (i : ℕ) (local : LocalTree) (holds : Bool) (old a b : BrokenLines) (all : List ℕ) → i < length locals → local ≡ get_or locals i local → with_lines a (locals_from names.structs names.globals own (drop i locals)) ≡ with_lines old all → holds ≡ local_known names.structs names.globals own local → more ≡ own ++ local.name ∷ [] → b ≡ with_lines a (unless holds local.line) → with_lines b (locals_from names.structs names.globals more (drop (i + 1) locals)) ≡ with_lines old all
+pub local-noted : (names : SectionNames) (own more : List Text) (locals : List LocalTree) (i : ℕ) (local : LocalTree)
+    (holds : Bool) (old a b : BrokenLines) (all : List ℕ) → i < length locals → local ≡ get_or locals i local →
+    with_lines a (locals_from names.structs names.globals own (drop i locals)) ≡ with_lines old all →
+    holds ≡ local_known names.structs names.globals own local → more ≡ own ++ local.name ∷ [] →
+    b ≡ with_lines a (unless holds local.line) → with_lines b
+    (locals_from names.structs names.globals more (drop (i + 1) locals)) ≡ with_lines old all
 local-noted names own more locals i local holds old a b all lt is p h m q =
     ap (λ o. with_lines b (locals_from names.structs names.globals o (drop (i + 1) locals))) m
     ∙ step old a b (unless (local_known names.structs names.globals own local) local.line) _ all
-    (ap (λ rest. with_lines a (locals_from names.structs names.globals own rest)) (sym (drop-step locals i local lt is)) ∙ p)
+    (ap (λ rest. with_lines a (locals_from names.structs names.globals own rest))
+    (sym (drop-step locals i local lt is)) ∙ p)
     (q ∙ ap (λ v. with_lines a (unless v local.line)) h)
 
-pub locals-noted : (names : SectionNames) (own : List Text) (locals : List LocalTree) (i : ℕ) (old a : BrokenLines) (all : List ℕ) → length locals ≤ i → with_lines a (locals_from names.structs names.globals own (drop i locals)) ≡ with_lines old all → a ≡ with_lines old all
+pub locals-noted : (names : SectionNames) (own : List Text) (locals : List LocalTree) (i : ℕ) (old a : BrokenLines)
+    (all : List ℕ) → length locals ≤ i → with_lines a (locals_from names.structs names.globals own (drop i locals)) ≡
+    with_lines old all → a ≡ with_lines old all
 locals-noted names own locals i old a all le p =
     done old a _ all p (ap (locals_from names.structs names.globals own) (drop_all i locals le))
 
@@ -50,61 +59,95 @@ module _ (names : SectionNames) (tree : FunctionTree) where
   abbrev local_part : List Text → List ℕ
   local_part own = locals_from names.structs names.globals own tree.locals
 
-  pub function-noted : (holds : Bool) (own all : List Text) (old a b c : BrokenLines) → holds ≡ head_of_known names tree → own ≡ param_names tree → all ≡ own ++ local_names tree → a ≡ with_lines old (unless holds tree.head.line) → b ≡ with_lines a (local_part own) → c ≡ with_lines b (body_of all) → c ≡ with_lines old (function_lines names tree)
+  pub function-noted : (holds : Bool) (own all : List Text) (old a b c : BrokenLines) →
+      holds ≡ head_of_known names tree → own ≡ param_names tree → all ≡ own ++ local_names tree →
+      a ≡ with_lines old (unless holds tree.head.line) → b ≡ with_lines a (local_part own) →
+      c ≡ with_lines b (body_of all) → c ≡ with_lines old (function_lines names tree)
   function-noted holds own all old a b c h o l p q r =
       let all-is : all ≡ param_names tree ++ local_names tree = l ∙ ap (λ x. x ++ local_names tree) o in
       then old a c _ _ (p ∙ ap (λ v. with_lines old (unless v tree.head.line)) h)
       (then a b c _ _ (q ∙ ap (λ x. with_lines a (local_part x)) o)
-      (r ∙ ap (with_lines b) (ap body_of all-is ∙ body-lines (known names (param_names tree ++ local_names tree)) tree.body)))
+      (r ∙ ap (with_lines b) (ap body_of all-is ∙ body-lines
+      (known names (param_names tree ++ local_names tree)) tree.body)))
 
 -- Declarations.
 
-struct_names-more : (before : List Decl) (decl : Decl) → struct_names (before ++ decl ∷ []) ≡ struct_names before ++ struct_names (decl ∷ [])
+struct_names-more : (before : List Decl) (decl : Decl) →
+    struct_names (before ++ decl ∷ []) ≡ struct_names before ++ struct_names (decl ∷ [])
 struct_names-more before decl =
-    ap (map {A = StructTree} (λ tree. tree.name)) (filter_map-append struct_in before (decl ∷ [])) ∙ map-append {A = StructTree} (λ tree. tree.name) (filter_map struct_in before) (filter_map struct_in (decl ∷ []))
+    ap (map {A = StructTree} (λ tree. tree.name)) (filter_map-append struct_in before (decl ∷ [])) ∙
+    map-append {A = StructTree} (λ tree. tree.name) (filter_map struct_in before) (filter_map struct_in (decl ∷ []))
 
-global_names-more : (before : List Decl) (decl : Decl) → global_names (before ++ decl ∷ []) ≡ global_names before ++ global_names (decl ∷ [])
+global_names-more : (before : List Decl) (decl : Decl) →
+    global_names (before ++ decl ∷ []) ≡ global_names before ++ global_names (decl ∷ [])
 global_names-more before decl =
-    ap (map {A = GlobalTree} (λ tree. tree.name)) (filter_map-append global_in before (decl ∷ [])) ∙ map-append {A = GlobalTree} (λ tree. tree.name) (filter_map global_in before) (filter_map global_in (decl ∷ []))
+    ap (map {A = GlobalTree} (λ tree. tree.name)) (filter_map-append global_in before (decl ∷ [])) ∙
+    map-append {A = GlobalTree} (λ tree. tree.name) (filter_map global_in before) (filter_map global_in (decl ∷ []))
 
-proto_names-more : (before : List Decl) (decl : Decl) → proto_names (before ++ decl ∷ []) ≡ proto_names before ++ proto_names (decl ∷ [])
+proto_names-more : (before : List Decl) (decl : Decl) →
+    proto_names (before ++ decl ∷ []) ≡ proto_names before ++ proto_names (decl ∷ [])
 proto_names-more before decl =
-    ap (map {A = HeadTree} (λ head. head.name)) (filter_map-append proto_in before (decl ∷ [])) ∙ map-append {A = HeadTree} (λ head. head.name) (filter_map proto_in before) (filter_map proto_in (decl ∷ []))
+    ap (map {A = HeadTree} (λ head. head.name)) (filter_map-append proto_in before (decl ∷ [])) ∙
+    map-append {A = HeadTree} (λ head. head.name) (filter_map proto_in before) (filter_map proto_in (decl ∷ []))
 
-function_names-more : (before : List Decl) (decl : Decl) → function_names (before ++ decl ∷ []) ≡ function_names before ++ function_names (decl ∷ [])
+function_names-more : (before : List Decl) (decl : Decl) →
+    function_names (before ++ decl ∷ []) ≡ function_names before ++ function_names (decl ∷ [])
 function_names-more before decl =
-    ap (map {A = FunctionTree} (λ tree. tree.head.name)) (filter_map-append function_in before (decl ∷ [])) ∙ map-append {A = FunctionTree} (λ tree. tree.head.name) (filter_map function_in before) (filter_map function_in (decl ∷ []))
+    ap (map {A = FunctionTree} (λ tree. tree.head.name)) (filter_map-append function_in before (decl ∷ [])) ∙
+    map-append {A = FunctionTree} (λ tree. tree.head.name) (filter_map function_in before)
+    (filter_map function_in (decl ∷ []))
 
-made : (names : SectionNames) (structs globals functions protos : List Text) → names.structs ≡ structs → names.globals ≡ globals → names.functions ≡ functions → names.protos ≡ protos → names ≡ record names { structs = structs; globals = globals; functions = functions; protos = protos }
+made : (names : SectionNames) (structs globals functions protos : List Text) → names.structs ≡ structs →
+    names.globals ≡ globals → names.functions ≡ functions → names.protos ≡ protos →
+    names ≡ record names { structs = structs; globals = globals; functions = functions; protos = protos }
 made names structs globals functions protos s g f p =
     ap (λ x. record names { structs = x }) s
     ∙ (ap (λ x. record names { structs = structs; globals = x }) g
     ∙ (ap (λ x. record names { structs = structs; globals = globals; functions = x }) f
     ∙ ap (λ x. record names { structs = structs; globals = globals; functions = functions; protos = x }) p))
 
-declared-more : (section : SectionTree) (before : List Decl) (decl : Decl) → declared section (before ++ decl ∷ []) ≡ with_decl (declared section before) decl
+declared-more : (section : SectionTree) (before : List Decl) (decl : Decl) →
+    declared section (before ++ decl ∷ []) ≡ with_decl (declared section before) decl
 declared-more section before (Struct tree) =
-    made (declared section (before ++ Struct tree ∷ [])) _ _ _ _ (struct_names-more before (Struct tree)) (global_names-more before (Struct tree) ∙ append-nil _) (function_names-more before (Struct tree) ∙ append-nil _) (proto_names-more before (Struct tree) ∙ append-nil _)
+    made (declared section (before ++ Struct tree ∷ [])) _ _ _ _ (struct_names-more before (Struct tree))
+    (global_names-more before (Struct tree) ∙ append-nil _)
+    (function_names-more before (Struct tree) ∙ append-nil _) (proto_names-more before (Struct tree) ∙ append-nil _)
 declared-more section before (Global tree) =
-    made (declared section (before ++ Global tree ∷ [])) _ _ _ _ (struct_names-more before (Global tree) ∙ append-nil _) (global_names-more before (Global tree)) (function_names-more before (Global tree) ∙ append-nil _) (proto_names-more before (Global tree) ∙ append-nil _)
+    made (declared section (before ++ Global tree ∷ [])) _ _ _ _ (struct_names-more before (Global tree) ∙ append-nil _)
+    (global_names-more before (Global tree)) (function_names-more before (Global tree) ∙ append-nil _)
+    (proto_names-more before (Global tree) ∙ append-nil _)
 declared-more section before (Proto head) =
-    made (declared section (before ++ Proto head ∷ [])) _ _ _ _ (struct_names-more before (Proto head) ∙ append-nil _) (global_names-more before (Proto head) ∙ append-nil _) (function_names-more before (Proto head) ∙ append-nil _) (proto_names-more before (Proto head))
+    made (declared section (before ++ Proto head ∷ [])) _ _ _ _ (struct_names-more before (Proto head) ∙ append-nil _)
+    (global_names-more before (Proto head) ∙ append-nil _) (function_names-more before (Proto head) ∙ append-nil _)
+    (proto_names-more before (Proto head))
 declared-more section before (Function tree) =
-    made (declared section (before ++ Function tree ∷ [])) _ _ _ _ (struct_names-more before (Function tree) ∙ append-nil _) (global_names-more before (Function tree) ∙ append-nil _) (function_names-more before (Function tree)) (proto_names-more before (Function tree) ∙ append-nil _)
+    made (declared section (before ++ Function tree ∷ [])) _ _ _ _
+    (struct_names-more before (Function tree) ∙ append-nil _)
+    (global_names-more before (Function tree) ∙ append-nil _) (function_names-more before (Function tree))
+    (proto_names-more before (Function tree) ∙ append-nil _)
 
 -- the names before the next declaration
-pub declared-step : (section : SectionTree) (decls : List Decl) (i : ℕ) (decl : Decl) (names more : SectionNames) → i < length decls → decl ≡ get_or decls i decl → names ≡ declared section (take i decls) → more ≡ with_decl names decl → more ≡ declared section (take (i + 1) decls)
+pub declared-step : (section : SectionTree) (decls : List Decl) (i : ℕ) (decl : Decl) (names more : SectionNames) →
+    i < length decls → decl ≡ get_or decls i decl → names ≡ declared section (take i decls) →
+    more ≡ with_decl names decl → more ≡ declared section (take (i + 1) decls)
 declared-step section decls i decl names more lt is n m =
-    m ∙ (ap (λ x. with_decl x decl) n ∙ (sym (declared-more section (take i decls) decl) ∙ ap (declared section) (sym (take-step decls i decl lt is))))
+    m ∙ (ap (λ x. with_decl x decl) n ∙ (sym (declared-more section (take i decls) decl) ∙
+    ap (declared section) (sym (take-step decls i decl lt is))))
 
-pub decl-noted : (section : SectionTree) (decls : List Decl) (i : ℕ) (decl : Decl) (names : SectionNames) (old a b : BrokenLines) (all : List ℕ) → i < length decls → decl ≡ get_or decls i decl → names ≡ declared section (take i decls) → with_lines a (lines_from section (take i decls) (drop i decls)) ≡ with_lines old all → b ≡ with_lines a (decl_lines names decl) → with_lines b (lines_from section (take (i + 1) decls) (drop (i + 1) decls)) ≡ with_lines old all
+pub decl-noted : (section : SectionTree) (decls : List Decl) (i : ℕ) (decl : Decl) (names : SectionNames)
+    (old a b : BrokenLines) (all : List ℕ) → i < length decls → decl ≡ get_or decls i decl →
+    names ≡ declared section (take i decls) → with_lines a (lines_from section (take i decls) (drop i decls)) ≡
+    with_lines old all → b ≡ with_lines a (decl_lines names decl) →
+    with_lines b (lines_from section (take (i + 1) decls) (drop (i + 1) decls)) ≡ with_lines old all
 decl-noted section decls i decl names old a b all lt is n p q =
     ap (λ before. with_lines b (lines_from section before (drop (i + 1) decls))) (take-step decls i decl lt is)
     ∙ step old a b (decl_lines (declared section (take i decls)) decl) _ all
     (ap (λ rest. with_lines a (lines_from section (take i decls) rest)) (sym (drop-step decls i decl lt is)) ∙ p)
     (q ∙ ap (λ x. with_lines a (decl_lines x decl)) n)
 
-pub decls-noted : (section : SectionTree) (decls : List Decl) (i : ℕ) (old a : BrokenLines) (all : List ℕ) → length decls ≤ i → with_lines a (lines_from section (take i decls) (drop i decls)) ≡ with_lines old all → a ≡ with_lines old all
+pub decls-noted : (section : SectionTree) (decls : List Decl) (i : ℕ) (old a : BrokenLines) (all : List ℕ) →
+    length decls ≤ i → with_lines a (lines_from section (take i decls) (drop i decls)) ≡ with_lines old all →
+    a ≡ with_lines old all
 decls-noted section decls i old a all le p =
     done old a _ all p (ap (lines_from section (take i decls)) (drop_all i decls le))
 
@@ -114,12 +157,18 @@ noted-none : (least : Option ℕ) → noted_all least [] ≡ least
 unfolding noted_all
 noted-none least = refl
 
-pub section-noted : (sections : List SectionTree) (i : ℕ) (section : SectionTree) (least : Option ℕ) (lines : BrokenLines) (all : Option ℕ) → i < length sections → section ≡ get_or sections i section → noted_all least (names_broken (drop i sections)) ≡ all → lines ≡ with_lines (record { start = section.line; least = least }) (section_lines section) → noted_all lines.least (names_broken (drop (i + 1) sections)) ≡ all
+pub section-noted : (sections : List SectionTree) (i : ℕ) (section : SectionTree) (least : Option ℕ)
+    (lines : BrokenLines) (all : Option ℕ) → i < length sections → section ≡ get_or sections i section →
+    noted_all least (names_broken (drop i sections)) ≡ all →
+    lines ≡ with_lines (record { start = section.line; least = least }) (section_lines section) →
+    noted_all lines.least (names_broken (drop (i + 1) sections)) ≡ all
 section-noted sections i section least lines all lt is p q =
     ap (λ l. noted_all l.least (names_broken (drop (i + 1) sections))) q
-    ∙ (sym (noted_all-append least (map (line_of_text section.line) (section_lines section)) (names_broken (drop (i + 1) sections)))
+    ∙ (sym (noted_all-append least (map (line_of_text section.line) (section_lines section))
+    (names_broken (drop (i + 1) sections)))
     ∙ (ap (λ rest. noted_all least (names_broken rest)) (sym (drop-step sections i section lt is)) ∙ p))
 
-pub sections-noted : (sections : List SectionTree) (i : ℕ) (least : Option ℕ) (all : Option ℕ) → length sections ≤ i → noted_all least (names_broken (drop i sections)) ≡ all → least ≡ all
+pub sections-noted : (sections : List SectionTree) (i : ℕ) (least : Option ℕ) (all : Option ℕ) → length sections ≤ i →
+    noted_all least (names_broken (drop i sections)) ≡ all → least ≡ all
 sections-noted sections i least all le p =
     sym (noted-none least) ∙ (ap (λ rest. noted_all least (names_broken rest)) (sym (drop_all i sections le)) ∙ p)

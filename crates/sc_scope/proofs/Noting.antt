@@ -4,7 +4,8 @@ use Rattle.sc_scope.specs.declared.broken.BrokenLines.{BrokenLines}
 use Rattle.sc_scope.specs.Broken.{line_of_text, noted, noted_all, with_lines}
 use Rattle.std.proofs.lemmas.List.{map-append}
 
-pub noted_all-append : (least : Option ℕ) (xs ys : List ℕ) → noted_all least (xs ++ ys) ≡ noted_all (noted_all least xs) ys
+pub noted_all-append : (least : Option ℕ) (xs ys : List ℕ) →
+    noted_all least (xs ++ ys) ≡ noted_all (noted_all least xs) ys
 unfolding noted_all
 noted_all-append least [] ys = refl
 noted_all-append least (x ∷ xs) ys = noted_all-append (noted least x) xs ys
@@ -13,7 +14,9 @@ pub with_lines-nil : (broken : BrokenLines) → with_lines broken [] ≡ broken
 unfolding noted_all
 with_lines-nil broken = refl
 
-pub with_lines-append : (broken : BrokenLines) (xs ys : List ℕ) → with_lines broken (xs ++ ys) ≡ with_lines (with_lines broken xs) ys
+pub with_lines-append : (broken : BrokenLines) (xs ys : List ℕ) →
+    with_lines broken (xs ++ ys) ≡ with_lines (with_lines broken xs) ys
 with_lines-append broken xs ys =
     ap (λ lines. record broken { least = noted_all broken.least lines }) (map-append (line_of_text broken.start) xs ys)
-    ∙ ap (λ least. record broken { least = least }) (noted_all-append broken.least (map (line_of_text broken.start) xs) (map (line_of_text broken.start) ys))
+    ∙ ap (λ least. record broken { least = least }) (noted_all-append broken.least (map (line_of_text broken.start) xs)
+    (map (line_of_text broken.start) ys))

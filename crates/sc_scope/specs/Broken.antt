@@ -24,7 +24,8 @@ unfoldable pub noted_all : Option ℕ → List ℕ → Option ℕ
 noted_all least [] = least
 noted_all least (line ∷ lines) = noted_all (noted least line) lines
 
--- a phase whose rules are broken at these lines refuses the text where there is one: at the least positive line, or at 0
+-- a phase whose rules are broken at these lines refuses the text where there is one: at the least positive line, or at
+-- 0
 abbrev pub refused_at : List ℕ → Option ℕ
 refused_at lines = noted_all None lines
 

@@ -70,14 +70,22 @@ function_named name (tree ∷ trees) = if bytes_eq tree.head.name name then Some
 abbrev pub promised : Text → Option FunctionTree → Proto
 promised name None = record { name = name; params = []; result = None }
 promised name (Some tree) =
-    record { name = name; params = map (λ param. scalar_of param.ty) tree.head.params; result = option_map scalar_of tree.head.result }
+    record {
+      name = name;
+      params = map (λ param. scalar_of param.ty) tree.head.params;
+      result = option_map scalar_of tree.head.result;
+    }
 
 abbrev pub proto_of : SectionTree → ExportLine → Proto
 proto_of section line = promised line.name (function_named line.name (functions_in section.decls))
 
 abbrev pub interface_of : List SectionTree → (number : ℕ) → SectionTree → Interface
 interface_of sections number section =
-    record { name = section.name; exports = map (proto_of section) section.exports; imports = map (import_of sections number) section.imports }
+    record {
+      name = section.name;
+      exports = map (proto_of section) section.exports;
+      imports = map (import_of sections number) section.imports;
+    }
 
 -- those of the sections from number k on
 abbrev pub interfaces_from : List SectionTree → ℕ → List SectionTree → List Interface

@@ -135,7 +135,8 @@ init_known variables (Some init) = knows variables init
 -- a local's name is new in its function; its initialiser sees it (C11 6.2.1p7)
 abbrev pub local_known : (tags globals own : List Text) → LocalTree → Bool
 local_known tags globals own local =
-    not (among own local.name) && (base_known tags local.ty.base && init_known (globals ++ (own ++ local.name ∷ [])) local.init)
+    not (among own local.name) && (base_known tags local.ty.base &&
+    init_known (globals ++ (own ++ local.name ∷ [])) local.init)
 
 abbrev pub locals_from : (tags globals own : List Text) → List LocalTree → List ℕ
 locals_from tags globals own [] = []
@@ -177,12 +178,15 @@ module _ (names : SectionNames) where
   -- tags are distinct, and so are the members of one struct
   abbrev pub struct_known : StructTree → Bool
   struct_known tree =
-      not (among names.structs tree.name) && (are_distinct (member_names tree.members) && list_all (member_known names.structs tree.name) tree.members)
+      not (among names.structs tree.name) && (are_distinct (member_names tree.members) &&
+      list_all (member_known names.structs tree.name) tree.members)
 
   -- a global shares its name with no other global, function, prototype or import
   abbrev pub global_known : GlobalTree → Bool
   global_known tree =
-      not (among names.globals tree.name) && (not (among names.functions tree.name) && (not (among names.protos tree.name) && (not (among names.imports tree.name) && base_known names.structs tree.ty.base)))
+      not (among names.globals tree.name) && (not (among names.functions tree.name) &&
+      (not (among names.protos tree.name) && (not (among names.imports tree.name) &&
+      base_known names.structs tree.ty.base)))
 
   abbrev pub proto_known : HeadTree → Bool
   proto_known head = not (among names.globals head.name) && head_known names.structs head
@@ -190,11 +194,13 @@ module _ (names : SectionNames) where
   -- a name has one definition at most
   abbrev pub head_of_known : FunctionTree → Bool
   head_of_known tree =
-      not (among names.globals tree.head.name) && (not (among names.functions tree.head.name) && (head_known names.structs (head_of tree.head) && are_distinct (param_names tree)))
+      not (among names.globals tree.head.name) && (not (among names.functions tree.head.name) &&
+      (head_known names.structs (head_of tree.head) && are_distinct (param_names tree)))
 
   abbrev pub function_lines : FunctionTree → List ℕ
   function_lines tree =
-      unless (head_of_known tree) tree.head.line ++ (locals_from names.structs names.globals (param_names tree) tree.locals ++ body_lines (known_in tree) tree.body)
+      unless (head_of_known tree) tree.head.line ++ (locals_from names.structs names.globals
+      (param_names tree) tree.locals ++ body_lines (known_in tree) tree.body)
 
   abbrev pub decl_lines : Decl → List ℕ
   decl_lines (Struct tree) = unless (struct_known tree) tree.line
@@ -205,7 +211,8 @@ module _ (names : SectionNames) where
 -- the lines of declarations, where these stand before
 abbrev pub lines_from : SectionTree → (before : List Decl) → List Decl → List ℕ
 lines_from section before [] = []
-lines_from section before (decl ∷ decls) = decl_lines (declared section before) decl ++ lines_from section (before ++ decl ∷ []) decls
+lines_from section before (decl ∷ decls) = decl_lines (declared section before) decl ++
+    lines_from section (before ++ decl ∷ []) decls
 
 -- the lines, counted in the section, at which rules of names are broken
 abbrev pub section_lines : SectionTree → List ℕ

@@ -21,7 +21,8 @@ pub fn all_lines(
     looping: bool,
     lines: &mut BrokenLines,
 )
-    ensures { lines.new ≡ with_lines lines.old (all_in (known names.now own.now) looping (map (stmt_lines (known names.now own.now)) stmts.now)) }
+    ensures { lines.new ≡ with_lines lines.old (all_in (known names.now own.now) looping
+        (map (stmt_lines (known names.now own.now)) stmts.now)) }
 {
     for stmt in stmts.as_slice() {
         stmt_lines(names, own, stmt, looping, lines);

@@ -119,7 +119,8 @@ fn locals_lines(
     locals: &LocalTrees,
     lines: &mut BrokenLines,
 ) -> Result<(), OutOfMemory>
-    ensures lines { OnOk result (lines.new ≡ with_lines lines.old (locals_from names.now.structs names.now.globals own.old locals.now)) }
+    ensures lines { OnOk result (lines.new ≡ with_lines lines.old
+        (locals_from names.now.structs names.now.globals own.old locals.now)) }
     ensures own { OnOk result (own.new ≡ own.old ++ map {A = LocalTree} (λ local. local.name) locals.now) }
 {
     for local in locals.as_slice() {

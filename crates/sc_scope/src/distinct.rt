@@ -33,7 +33,8 @@ fn push_distinct(names: &mut NameList, name: Name, distinct: bool) -> Result<boo
 /// Adds the names of parameters to none, and answers whether they are distinct.
 pub fn push_params(names: &mut NameList, params: &[FunctionParam]) -> Result<bool, OutOfMemory>
     requires { names.old ≡ [] }
-    ensures distinct { IfOk result (λ distinct. distinct ≡ are_distinct (map {A = FunctionParam} (λ param. param.name) params.now)) }
+    ensures distinct { IfOk result (λ distinct. distinct ≡
+        are_distinct (map {A = FunctionParam} (λ param. param.name) params.now)) }
     ensures pushed { OnOk result (names.new ≡ map {A = FunctionParam} (λ param. param.name) params.now) }
 {
     let mut distinct = true;

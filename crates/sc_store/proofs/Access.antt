@@ -15,13 +15,15 @@ nothing_at m a b = written-apart m a [] b (λ l u. omega arith)
 pub written_nothing : (m : Memory) (a : ℕ) → written m a [] ≡ m
 written_nothing m a = λ k b. nothing_at m a b k
 
-more_at : (m : Memory) (a : ℕ) (bs : List ℕ) (k : ℕ) → k < length bs → (b : ℕ) → written (written m a (take k bs)) (a + k) (get_or bs k 0 ∷ []) b ≡ written m a (take (k + 1) bs) b
+more_at : (m : Memory) (a : ℕ) (bs : List ℕ) (k : ℕ) → k < length bs → (b : ℕ) →
+    written (written m a (take k bs)) (a + k) (get_or bs k 0 ∷ []) b ≡ written m a (take (k + 1) bs) b
 more_at m a bs k h b =
     let front : length (take k bs) ≡ k = length-take-le k bs (omega arith) in
     let more : length (take (k + 1) bs) ≡ k + 1 = length-take-le (k + 1) bs (omega arith) in
     ⊎_elim
     (λ low. written-apart (written m a (take k bs)) (a + k) (get_or bs k 0 ∷ []) b (λ l u. omega arith) ∙ ⊎_elim
-    (λ before. written-apart m a (take k bs) b (λ l u. omega arith) ∙ sym (written-apart m a (take (k + 1) bs) b (λ l u. omega arith)))
+    (λ before. written-apart m a (take k bs) b (λ l u. omega arith) ∙
+    sym (written-apart m a (take (k + 1) bs) b (λ l u. omega arith)))
     (λ from.
     written-in m a (take k bs) b from (omega arith)
     ∙ ap Some (get_or-take k bs (b - a) 0 (omega arith) ∙ sym (get_or-take (k + 1) bs (b - a) 0 (omega arith)))
@@ -31,7 +33,8 @@ more_at m a bs k h b =
     (λ here.
     written-in (written m a (take k bs)) (a + k) (get_or bs k 0 ∷ []) b (omega arith) (omega arith)
     ∙ ap (λ i. Some (get_or (get_or bs k 0 ∷ []) i 0)) (let z : b - (a + k) ≡ 0 = omega arith in z)
-    ∙ ap Some (ap (λ i. get_or bs i 0) (let z : k ≡ b - a = omega arith in z) ∙ sym (get_or-take (k + 1) bs (b - a) 0 (omega arith)))
+    ∙ ap Some (ap (λ i. get_or bs i 0) (let z : k ≡ b - a = omega arith in z) ∙
+    sym (get_or-take (k + 1) bs (b - a) 0 (omega arith)))
     ∙ sym (written-in m a (take (k + 1) bs) b (omega arith) (omega arith)))
     (λ other.
     written-apart (written m a (take k bs)) (a + k) (get_or bs k 0 ∷ []) b (λ l u. omega arith)
@@ -40,32 +43,41 @@ more_at m a bs k h b =
     (cases_eq b (a + k)))
     (cases_lt b (a + k))
 
-pub written_more : (m : Memory) (a : ℕ) (bs : List ℕ) (k : ℕ) → k < length bs → written (written m a (take k bs)) (a + k) (get_or bs k 0 ∷ []) ≡ written m a (take (k + 1) bs)
+pub written_more : (m : Memory) (a : ℕ) (bs : List ℕ) (k : ℕ) → k < length bs →
+    written (written m a (take k bs)) (a + k) (get_or bs k 0 ∷ []) ≡ written m a (take (k + 1) bs)
 written_more m a bs k h = λ i b. more_at m a bs k h b i
 
 -- the next byte's address is as it was
-pub next_there : (m m' : Memory) (a : ℕ) (bs : List ℕ) (k : ℕ) → m' ≡ written m a (take k bs) → k < length bs → HasBytes m a (length bs) → IsSome (m' (a + k))
+pub next_there : (m m' : Memory) (a : ℕ) (bs : List ℕ) (k : ℕ) → m' ≡ written m a (take k bs) → k < length bs →
+    HasBytes m a (length bs) → IsSome (m' (a + k))
 next_there m m' a bs k e h has =
     let front : length (take k bs) ≡ k = length-take-le k bs (omega arith) in
-    subst (λ o. IsSome o) (sym (ap (λ f. f (a + k)) e ∙ written-apart m a (take k bs) (a + k) (λ l u. omega arith))) (has k h)
+    subst (λ o. IsSome o) (sym (ap (λ f. f (a + k)) e ∙ written-apart m a (take k bs) (a + k) (λ l u. omega arith)))
+    (has k h)
 
 -- ---- numbers and their bytes
-pub load_of-read : (m : Memory) (a : ℕ) (bs : List ℕ) (n : ℕ) → ((k : ℕ) → k < suc n → m (a + k) ≡ Some (get_or bs k 0)) → load_of m a (suc n) ≡ sum_through (λ i. byte_worth i (get_or bs i 0)) n
+pub load_of-read : (m : Memory) (a : ℕ) (bs : List ℕ) (n : ℕ) →
+    ((k : ℕ) → k < suc n → m (a + k) ≡ Some (get_or bs k 0)) →
+    load_of m a (suc n) ≡ sum_through (λ i. byte_worth i (get_or bs i 0)) n
 load_of-read m a bs zero h = ap (λ o. 0 + unwrap_or o 0 * 256 ^ 0) (h 0 (omega arith)) ∙ omega arith
 load_of-read m a bs (suc n) h =
     ap (λ w. w + unwrap_or (m (a + suc n)) 0 * 256 ^ suc n) (load_of-read m a bs n (λ k l. h k (omega arith)))
-    ∙ ap (λ o. sum_through (λ i. byte_worth i (get_or bs i 0)) n + unwrap_or o 0 * 256 ^ suc n) (h (suc n) (omega arith))
+    ∙ ap (λ o. sum_through (λ i. byte_worth i (get_or bs i 0)) n + unwrap_or o 0 * 256 ^ suc n)
+    (h (suc n) (omega arith))
 
-stored_at : (m : Memory) (a : ℕ) (bs : List ℕ) (v : ℕ) → ((k : ℕ) → k < length bs → get_or bs k 0 ≡ byte_of v k) → (b : ℕ) → written m a bs b ≡ stored m a (length bs) v b
+stored_at : (m : Memory) (a : ℕ) (bs : List ℕ) (v : ℕ) → ((k : ℕ) → k < length bs → get_or bs k 0 ≡ byte_of v k) →
+    (b : ℕ) → written m a bs b ≡ stored m a (length bs) v b
 stored_at m a bs v h b = ⊎_elim
     (λ low. written-apart m a bs b (λ l u. omega arith) ∙ sym (stored-apart m a (length bs) v b (λ l u. omega arith)))
     (λ from. ⊎_elim
-    (λ below. written-in m a bs b from below ∙ ap Some (h (b - a) (omega arith)) ∙ sym (stored-in m a (length bs) v b from below))
+    (λ below. written-in m a bs b from below ∙ ap Some (h (b - a) (omega arith)) ∙
+    sym (stored-in m a (length bs) v b from below))
     (λ above. written-apart m a bs b (λ l u. omega arith) ∙ sym (stored-apart m a (length bs) v b (λ l u. omega arith)))
     (cases_lt b (a + length bs)))
     (cases_lt b a)
 
-pub written-stored : (m : Memory) (a : ℕ) (bs : List ℕ) (v : ℕ) → ((k : ℕ) → k < length bs → get_or bs k 0 ≡ byte_of v k) → written m a bs ≡ stored m a (length bs) v
+pub written-stored : (m : Memory) (a : ℕ) (bs : List ℕ) (v : ℕ) →
+    ((k : ℕ) → k < length bs → get_or bs k 0 ≡ byte_of v k) → written m a bs ≡ stored m a (length bs) v
 written-stored m a bs v h = λ i b. stored_at m a bs v h b i
 
 -- the bytes of a number of 32 bits, one by one
@@ -79,8 +91,10 @@ byte_place v (suc (suc (suc (suc k)))) h = absurd (omega arith)
 pub first_stored : (m : Memory) (a v n : ℕ) → n ≤ 4 → written m a (take n (to_le_bytes w32 v)) ≡ stored m a n v
 first_stored m a v n h =
     let len : length (take n (to_le_bytes w32 v)) ≡ n = length-take-le n (to_le_bytes w32 v) h in
-    written-stored m a (take n (to_le_bytes w32 v)) v (λ k l. get_or-take n (to_le_bytes w32 v) k 0 (omega arith) ∙ byte_place v k (omega arith))
+    written-stored m a (take n (to_le_bytes w32 v)) v
+    (λ k l. get_or-take n (to_le_bytes w32 v) k 0 (omega arith) ∙ byte_place v k (omega arith))
     ∙ ap (λ j. stored m a j v) len
 
-pub store_written : (m m' : Memory) (a v n : ℕ) (bs : List ℕ) → n ≤ 4 → m' ≡ written m a (take n bs) → bs ≡ to_le_bytes w32 v → m' ≡ stored m a n v
+pub store_written : (m m' : Memory) (a v n : ℕ) (bs : List ℕ) → n ≤ 4 → m' ≡ written m a (take n bs) →
+    bs ≡ to_le_bytes w32 v → m' ≡ stored m a n v
 store_written m m' a v n bs h w e = w ∙ ap (λ b. written m a (take n b)) e ∙ first_stored m a v n h

@@ -41,12 +41,14 @@ tail_apart : (p : Part) (ps : List Part) → AreApart (regions_of (p ∷ ps)) �
 tail_apart p ps apart = λ i j d l h. apart (suc i) (suc j) d (omega arith) (omega arith)
 
 -- an address in a later part isn't in the first
-head_apart : (p : Part) (ps : List Part) (i : ℕ) (d : Part) (a : ℕ) → AreApart (regions_of (p ∷ ps)) → i < length ps → IsIn (region_of (get_or ps i d)) a → IsIn (region_of p) a → ⊥
+head_apart : (p : Part) (ps : List Part) (i : ℕ) (d : Part) (a : ℕ) → AreApart (regions_of (p ∷ ps)) → i < length ps →
+    IsIn (region_of (get_or ps i d)) a → IsIn (region_of p) a → ⊥
 head_apart p ps i d a apart h inside first =
     apart 0 (suc i) (region_of d) (omega arith) (omega (arith, length-map ps region_of)) a first
     (subst (λ r. IsIn r a) (sym (get_or-map region_of ps i d (region_of d) h)) inside)
 
-pub bytes_of-at : (ps : List Part) (i : ℕ) (d : Part) (a : ℕ) → AreApart (regions_of ps) → i < length ps → IsIn (region_of (get_or ps i d)) a → bytes_of ps a ≡ piece_of (get_or ps i d) a
+pub bytes_of-at : (ps : List Part) (i : ℕ) (d : Part) (a : ℕ) → AreApart (regions_of ps) → i < length ps →
+    IsIn (region_of (get_or ps i d)) a → bytes_of ps a ≡ piece_of (get_or ps i d) a
 bytes_of-at [] i d a apart h inside = absurd (omega arith)
 bytes_of-at (p ∷ ps) zero d a apart h inside =
     ap (λ o. option_or o (bytes_of ps a)) (piece_in p a inside) ∙ sym (piece_in p a inside)
@@ -55,7 +57,8 @@ bytes_of-at (p ∷ ps) (suc i) d a apart h inside =
     ∙ bytes_of-at ps i d a (tail_apart p ps apart) (omega arith) inside
 
 -- where there is a byte, there is a part with its address
-somewhere : (ps : List Part) (d : Part) (a : ℕ) → IsSome (bytes_of ps a) → (i : ℕ) × (i < length ps) × IsIn (region_of (get_or ps i d)) a
+somewhere : (ps : List Part) (d : Part) (a : ℕ) → IsSome (bytes_of ps a) →
+    (i : ℕ) × (i < length ps) × IsIn (region_of (get_or ps i d)) a
 somewhere [] d a some = absurd (cc)
 somewhere (p ∷ ps) d a some = ⊎_elim
     (λ inside. (0, omega arith, inside))
@@ -65,7 +68,8 @@ somewhere (p ∷ ps) d a some = ⊎_elim
     (in_cases (region_of p) a)
 
 -- what passes at a place is found
-passes : {X : Type 0} (test : X → Bool) (xs : List X) (i : ℕ) (d : X) → i < length xs → test (get_or xs i d) ≡ true → IsSome (position test xs)
+passes : {X : Type 0} (test : X → Bool) (xs : List X) (i : ℕ) (d : X) → i < length xs → test (get_or xs i d) ≡ true →
+    IsSome (position test xs)
 passes test xs i d h t = ⊎_elim
     (λ below. rw (lt-ltb (position_or_len test xs) (length xs) below) refl)
     (λ above. absurd (let f = fails_before_first test xs i d (omega arith) in cc))
@@ -78,31 +82,43 @@ found (p ∷ ps) a some =
     passes (spans a 1) (p ∷ ps) w.0 p w.1 (in_spans a (get_or (p ∷ ps) w.0 p) w.2)
 
 -- ---- a write
-pub written-in : (m : Memory) (a : ℕ) (bs : List ℕ) (b : ℕ) → a ≤ b → b < a + length bs → written m a bs b ≡ Some (get_or bs (b - a) 0)
-written-in m a bs b h k = let t : (nat_le a b && nat_lt b (a + length bs)) ≡ true = grind (arith, nat_tests) in rw t refl
+pub written-in : (m : Memory) (a : ℕ) (bs : List ℕ) (b : ℕ) → a ≤ b → b < a + length bs →
+    written m a bs b ≡ Some (get_or bs (b - a) 0)
+written-in m a bs b h k = let t : (nat_le a b && nat_lt b (a + length bs)) ≡ true = grind (arith, nat_tests) in
+    rw t refl
 
-pub written-apart : (m : Memory) (a : ℕ) (bs : List ℕ) (b : ℕ) → (a ≤ b → b < a + length bs → ⊥) → written m a bs b ≡ m b
-written-apart m a bs b h = let t : (nat_le a b && nat_lt b (a + length bs)) ≡ false = grind (arith, nat_tests) in rw t refl
+pub written-apart : (m : Memory) (a : ℕ) (bs : List ℕ) (b : ℕ) → (a ≤ b → b < a + length bs → ⊥) →
+    written m a bs b ≡ m b
+written-apart m a bs b h = let t : (nat_le a b && nat_lt b (a + length bs)) ≡ false = grind (arith, nat_tests) in
+    rw t refl
 
 written-same : (m m' : Memory) (a : ℕ) (bs : List ℕ) (b : ℕ) → m b ≡ m' b → written m a bs b ≡ written m' a bs b
 written-same m m' a bs b e = ap (λ o. cond (nat_le a b && nat_lt b (a + length bs)) (Some (get_or bs (b - a) 0)) o) e
 
 -- a part put in place of one with the same region changes nothing outside that
-elsewhere : (ps : List Part) (i : ℕ) (p d : Part) (b : ℕ) → region_of p ≡ region_of (get_or ps i d) → i < length ps → (IsIn (region_of (get_or ps i d)) b → ⊥) → bytes_of (set ps i p) b ≡ bytes_of ps b
+elsewhere : (ps : List Part) (i : ℕ) (p d : Part) (b : ℕ) → region_of p ≡ region_of (get_or ps i d) → i < length ps →
+    (IsIn (region_of (get_or ps i d)) b → ⊥) → bytes_of (set ps i p) b ≡ bytes_of ps b
 elsewhere [] i p d b e h out = absurd (omega arith)
 elsewhere (q ∷ ps) zero p d b e h out =
-    ap (λ o. option_or o (bytes_of ps b)) (piece_out p b (subst (λ r. IsIn r b → ⊥) (sym e) out) ∙ sym (piece_out q b out))
-elsewhere (q ∷ ps) (suc i) p d b e h out = ap (λ o. option_or (piece_of q b) o) (elsewhere ps i p d b e (omega arith) out)
+    ap (λ o. option_or o (bytes_of ps b)) (piece_out p b (subst (λ r. IsIn r b → ⊥) (sym e) out) ∙
+    sym (piece_out q b out))
+elsewhere (q ∷ ps) (suc i) p d b e h out = ap (λ o. option_or (piece_of q b) o)
+    (elsewhere ps i p d b e (omega arith) out)
 
-pub regions_of-set : (ps : List Part) (i : ℕ) (p d : Part) → region_of p ≡ region_of (get_or ps i d) → regions_of (set ps i p) ≡ regions_of ps
+pub regions_of-set : (ps : List Part) (i : ℕ) (p d : Part) → region_of p ≡ region_of (get_or ps i d) →
+    regions_of (set ps i p) ≡ regions_of ps
 regions_of-set ps i p d e = map-set_same region_of ps i p d e
 
 -- a write to the part that has all of its addresses is the same write to all parts
-write_at : (ps : List Part) (i : ℕ) (p d : Part) (a : ℕ) (bs : List ℕ) → AreApart (regions_of ps) → i < length ps → region_of p ≡ region_of (get_or ps i d) → spans a (length bs) (get_or ps i d) ≡ true → piece_of p ≡ written (piece_of (get_or ps i d)) a bs → (b : ℕ) → bytes_of (set ps i p) b ≡ written (bytes_of ps) a bs b
+write_at : (ps : List Part) (i : ℕ) (p d : Part) (a : ℕ) (bs : List ℕ) → AreApart (regions_of ps) → i < length ps →
+    region_of p ≡ region_of (get_or ps i d) → spans a (length bs) (get_or ps i d) ≡ true →
+    piece_of p ≡ written (piece_of (get_or ps i d)) a bs → (b : ℕ) →
+    bytes_of (set ps i p) b ≡ written (bytes_of ps) a bs b
 write_at ps i p d a bs apart h e sp w b = ⊎_elim
     (λ inside.
     let same : get_or (set ps i p) i d ≡ p = get_or-set_same ps i p d h in
-    bytes_of-at (set ps i p) i d b (subst AreApart (sym (regions_of-set ps i p d e)) apart) (omega (arith, length-set ps i p))
+    bytes_of-at (set ps i p) i d b (subst AreApart (sym (regions_of-set ps i p d e)) apart)
+    (omega (arith, length-set ps i p))
     (subst (λ r. IsIn r b) (sym e ∙ sym (ap region_of same)) inside)
     ∙ ap (λ q. piece_of q b) same
     ∙ ap (λ m. m b) w
@@ -113,7 +129,9 @@ write_at ps i p d a bs apart h e sp w b = ⊎_elim
     out (spans_in a (length bs) b (get_or ps i d) sp low high))))
     (in_cases (region_of (get_or ps i d)) b)
 
-pub bytes_of-set : (ps : List Part) (i : ℕ) (p d : Part) (a : ℕ) (bs : List ℕ) → AreApart (regions_of ps) → i < length ps → region_of p ≡ region_of (get_or ps i d) → spans a (length bs) (get_or ps i d) ≡ true → piece_of p ≡ written (piece_of (get_or ps i d)) a bs → bytes_of (set ps i p) ≡ written (bytes_of ps) a bs
+pub bytes_of-set : (ps : List Part) (i : ℕ) (p d : Part) (a : ℕ) (bs : List ℕ) → AreApart (regions_of ps) →
+    i < length ps → region_of p ≡ region_of (get_or ps i d) → spans a (length bs) (get_or ps i d) ≡ true →
+    piece_of p ≡ written (piece_of (get_or ps i d)) a bs → bytes_of (set ps i p) ≡ written (bytes_of ps) a bs
 bytes_of-set ps i p d a bs apart h e sp w = λ k b. write_at ps i p d a bs apart h e sp w b k
 
 some_value : (o : Option ℕ) → IsSome o → (y : ℕ) × (o ≡ Some y)
@@ -121,7 +139,8 @@ some_value None h = absurd (cc)
 some_value (Some y) h = (y, refl)
 
 -- bytes written where memory is leave bytes of memory
-pub written_holds : (m : Memory) (a : ℕ) (bs : List ℕ) → HasBytes m a (length bs) → ((k : ℕ) → get_or bs k 0 < 256) → HoldsBytes m → HoldsBytes (written m a bs)
+pub written_holds : (m : Memory) (a : ℕ) (bs : List ℕ) → HasBytes m a (length bs) → ((k : ℕ) → get_or bs k 0 < 256) →
+    HoldsBytes m → HoldsBytes (written m a bs)
 written_holds m a bs has fit holds = λ b x e. ⊎_elim
     (λ low. holds b x (sym (written-apart m a bs b (λ l u. omega arith)) ∙ e))
     (λ from. ⊎_elim
@@ -152,36 +171,45 @@ zeros_of ps rs all e = subst (λ r. bytes_of ps ≡ zeros r) e (λ k b. zeros_at
 
 -- ---- the part that a search found
 -- the part at the place that passes is the one that was read there
-found_part : (a n : ℕ) (ps : List Part) (i : ℕ) (x : Part) → position (spans a n) ps ≡ Some i → x ≡ get_or ps i x → (i < length ps) × (spans a n x ≡ true)
+found_part : (a n : ℕ) (ps : List Part) (i : ℕ) (x : Part) → position (spans a n) ps ≡ Some i → x ≡ get_or ps i x →
+    (i < length ps) × (spans a n x ≡ true)
 found_part a n ps i x at is =
     let at_place = position-Some (spans a n) ps i x at in
     (at_place.0, subst (λ q. spans a n q ≡ true) (sym is) at_place.1)
 
 -- the found part passes
-pub found_spans : (a n : ℕ) (ps : List Part) (o : Option ℕ) (i : ℕ) (x : Part) → o ≡ position (spans a n) ps → o ≡ Some i → x ≡ get_or ps i x → spans a n x ≡ true
+pub found_spans : (a n : ℕ) (ps : List Part) (o : Option ℕ) (i : ℕ) (x : Part) → o ≡ position (spans a n) ps →
+    o ≡ Some i → x ≡ get_or ps i x → spans a n x ≡ true
 found_spans a n ps o i x e at is = (found_part a n ps i x (sym e ∙ at) is).1
 
 -- its bytes are those of all parts
-pub found_bytes : (a n : ℕ) (ps : List Part) (o : Option ℕ) (i : ℕ) (x : Part) → AreApart (regions_of ps) → o ≡ position (spans a n) ps → o ≡ Some i → x ≡ get_or ps i x → (b : ℕ) → a ≤ b → b < a + n → bytes_of ps b ≡ piece_of x b
+pub found_bytes : (a n : ℕ) (ps : List Part) (o : Option ℕ) (i : ℕ) (x : Part) → AreApart (regions_of ps) →
+    o ≡ position (spans a n) ps → o ≡ Some i → x ≡ get_or ps i x → (b : ℕ) → a ≤ b → b < a + n →
+    bytes_of ps b ≡ piece_of x b
 found_bytes a n ps o i x apart e at is b low high =
     let f = found_part a n ps i x (sym e ∙ at) is in
     bytes_of-at ps i x b apart f.0 (subst (λ q. IsIn (region_of q) b) is (spans_in a n b x f.1 low high))
     ∙ ap (λ q. piece_of q b) (sym is)
 
 -- a write to it is a write to all parts
-pub found_written : (a : ℕ) (bs : List ℕ) (ps : List Part) (o : Option ℕ) (i : ℕ) (x y : Part) → AreApart (regions_of ps) → o ≡ position (spans a (length bs)) ps → o ≡ Some i → x ≡ get_or ps i x → region_of y ≡ region_of x → piece_of y ≡ written (piece_of x) a bs → bytes_of (set ps i y) ≡ written (bytes_of ps) a bs
+pub found_written : (a : ℕ) (bs : List ℕ) (ps : List Part) (o : Option ℕ) (i : ℕ) (x y : Part) →
+    AreApart (regions_of ps) → o ≡ position (spans a (length bs)) ps → o ≡ Some i → x ≡ get_or ps i x →
+    region_of y ≡ region_of x → piece_of y ≡ written (piece_of x) a bs →
+    bytes_of (set ps i y) ≡ written (bytes_of ps) a bs
 found_written a bs ps o i x y apart e at is same w =
     let f = found_part a (length bs) ps i x (sym e ∙ at) is in
     bytes_of-set ps i y x a bs apart f.0 (same ∙ ap region_of is) (subst (λ q. spans a (length bs) q ≡ true) is f.1)
     (w ∙ ap (λ q. written (piece_of q) a bs) is)
 
 -- and it leaves the regions as they are
-pub found_regions : (a n : ℕ) (ps : List Part) (i : ℕ) (x y : Part) → x ≡ get_or ps i x → region_of y ≡ region_of x → AreApart (regions_of ps) → AreApart (regions_of (set ps i y))
+pub found_regions : (a n : ℕ) (ps : List Part) (i : ℕ) (x y : Part) → x ≡ get_or ps i x → region_of y ≡ region_of x →
+    AreApart (regions_of ps) → AreApart (regions_of (set ps i y))
 found_regions a n ps i x y is same apart =
     subst AreApart (sym (regions_of-set ps i y x (same ∙ ap region_of is))) apart
 
 -- an address has a byte exactly where a part with it is found
-pub has_found : (ps : List Part) (a : ℕ) → AreApart (regions_of ps) → IsSome (position (spans a 1) ps) ↔ IsSome (bytes_of ps a)
+pub has_found : (ps : List Part) (a : ℕ) → AreApart (regions_of ps) →
+    IsSome (position (spans a 1) ps) ↔ IsSome (bytes_of ps a)
 has_found ps a apart =
     (λ some. by_place ps apart some, λ some. found ps a some)
   where

@@ -25,7 +25,8 @@ in_cases r a = ⊎_elim
     (cases_lt a r.start)
 
 -- ---- zeros
-pub zeros-in : (rs : List Region) (i : ℕ) (d : Region) (a : ℕ) → i < length rs → IsIn (get_or rs i d) a → zeros rs a ≡ Some 0
+pub zeros-in : (rs : List Region) (i : ℕ) (d : Region) (a : ℕ) → i < length rs → IsIn (get_or rs i d) a →
+    zeros rs a ≡ Some 0
 zeros-in [] i d a h inside = absurd (omega arith)
 zeros-in (r ∷ rs) zero d a h inside = ap (λ t. cond t (Some 0) (zeros rs a)) (in_true r a inside)
 zeros-in (r ∷ rs) (suc i) d a h inside = ⊎_elim
@@ -33,7 +34,8 @@ zeros-in (r ∷ rs) (suc i) d a h inside = ⊎_elim
     (λ out. ap (λ t. cond t (Some 0) (zeros rs a)) (in_false r a out) ∙ zeros-in rs i d a (omega arith) inside)
     (in_cases r a)
 
-pub zeros-out : (rs : List Region) (a : ℕ) → ((i : ℕ) (d : Region) → i < length rs → IsIn (get_or rs i d) a → ⊥) → zeros rs a ≡ None
+pub zeros-out : (rs : List Region) (a : ℕ) → ((i : ℕ) (d : Region) → i < length rs → IsIn (get_or rs i d) a → ⊥) →
+    zeros rs a ≡ None
 zeros-out [] a h = refl
 zeros-out (r ∷ rs) a h =
     ap (λ t. cond t (Some 0) (zeros rs a)) (in_false r a (h 0 r (omega arith)))
@@ -45,5 +47,6 @@ zeros_hold (r ∷ rs) below b x e = ⊎_elim
     (λ inside.
     let zero_there : 0 ≡ x = same_Some _ _ (sym (ap (λ t. cond t (Some 0) (zeros rs b)) (in_true r b inside)) ∙ e) in
     (omega (arith, below 0 r (omega arith)), omega arith))
-    (λ out. zeros_hold rs (λ k d h. below (suc k) d (omega arith)) b x (sym (ap (λ t. cond t (Some 0) (zeros rs b)) (in_false r b out)) ∙ e))
+    (λ out. zeros_hold rs (λ k d h. below (suc k) d (omega arith)) b x
+    (sym (ap (λ t. cond t (Some 0) (zeros rs b)) (in_false r b out)) ∙ e))
     (in_cases r b)

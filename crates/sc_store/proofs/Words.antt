@@ -43,13 +43,15 @@ pub load_of-stored : (m : Memory) (a n v : ℕ) → load_of (stored m a n v) a n
 load_of-stored m a n v = front_stored m a n v n (omega arith)
 
 -- two memories with the same bytes there give the same number
-pub load_of-same : (m m' : Memory) (a n : ℕ) → ((k : ℕ) → k < n → m (a + k) ≡ m' (a + k)) → load_of m a n ≡ load_of m' a n
+pub load_of-same : (m m' : Memory) (a n : ℕ) → ((k : ℕ) → k < n → m (a + k) ≡ m' (a + k)) →
+    load_of m a n ≡ load_of m' a n
 load_of-same m m' a zero h = refl
 load_of-same m m' a (suc n) h =
     ap (λ w. w + unwrap_or (m (a + n)) 0 * 256 ^ n) (load_of-same m m' a n (λ k l. h k (omega arith)))
     ∙ ap (λ o. load_of m' a n + unwrap_or o 0 * 256 ^ n) (h n (omega arith))
 
-pub load_of-apart : (m : Memory) (a n v b j : ℕ) → (b + j ≤ a) ⊎ (a + n ≤ b) → load_of (stored m a n v) b j ≡ load_of m b j
+pub load_of-apart : (m : Memory) (a n v b j : ℕ) → (b + j ≤ a) ⊎ (a + n ≤ b) →
+    load_of (stored m a n v) b j ≡ load_of m b j
 load_of-apart m a n v b j h =
     load_of-same (stored m a n v) m b j (λ k l. stored-apart m a n v (b + k) (λ p q. omega (arith, h)))
 
@@ -57,7 +59,8 @@ pub address_kept : (m : Memory) (a n v b : ℕ) → HasBytes m a n → is_some (
 address_kept m a n v b has = ⊎_elim
     (λ low. ap is_some (stored-apart m a n v b (λ p q. omega arith)))
     (λ from. ⊎_elim
-    (λ below. ap is_some (stored-in m a n v b from below) ∙ sym (subst (λ i. is_some (m i) ≡ true) (omega arith) (has (b - a) (omega arith))))
+    (λ below. ap is_some (stored-in m a n v b from below) ∙
+    sym (subst (λ i. is_some (m i) ≡ true) (omega arith) (has (b - a) (omega arith))))
     (λ above. ap is_some (stored-apart m a n v b (λ p q. omega arith)))
     (cases_lt b (a + n)))
     (cases_lt b a)

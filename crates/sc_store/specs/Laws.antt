@@ -9,7 +9,8 @@ GivesStored = (m : Memory) (a size value : ℕ) → load_of (stored m a size val
 -- a load apart from a store gives what it gave before
 abbrev pub KeepsApart : Type 0
 KeepsApart =
-    (m : Memory) (a size value b n : ℕ) → (b + n ≤ a) ⊎ (a + size ≤ b) → load_of (stored m a size value) b n ≡ load_of m b n
+    (m : Memory) (a size value b n : ℕ) → (b + n ≤ a) ⊎ (a + size ≤ b) →
+    load_of (stored m a size value) b n ≡ load_of m b n
 
 -- a store where memory is leaves it with the same addresses
 abbrev pub KeepsAddresses : Type 0

@@ -27,7 +27,7 @@ use Rattle.sc_tac.specs.declared.stmt.TacOp.{TacOp}
 use Rattle.sc_tac.specs.declared.stmt.TacOp.TheVariants as tacop
 use Rattle.sc_tac.specs.declared.stmt.TacStmt.{TacStmt, TacStmt-F, fold-roll-TacStmt, map-TacStmt, roll-TacStmt}
 use Rattle.sc_tac.specs.declared.stmt.TacStmt.TheOpen as tac
-use Rattle.sc_tac.specs.Code.{Temps, Codes, given, constant_value, is_unsigned, operated, start_of, received, known, read, second, read_all, gets, op_does, store_does, call_does, return_does, code_step, stmt_does, code_does, no_temps, code_function, code_functions, code_library, code_globals}
+use Rattle.sc_tac.specs.Code.{Temps, Codes, with_temp, constant_value, is_unsigned, operated, start_of, received, known, read, second, read_all, gets, op_does, store_does, call_does, return_does, code_step, stmt_does, code_does, no_temps, code_function, code_functions, code_library, code_globals}
 use Rattle.sc_tac.specs.Laws.{CodeObeys, WrappedCodeAgrees}
 use Rattle.sc_tac.specs.Programs.{same_entry}
 use Rattle.sc_core.proofs.Induction.{Each, everywhere}
@@ -63,9 +63,10 @@ module _ (Soft : Cause → Type 0) (here : Here) where
       Match Soft here (λ by s. gets here dest (e (s.memory here.comp)) temps s)
       (λ by s. gets here dest (e' (s.memory here.comp)) temps s)
   gets_matches dest e e' h temps =
-      match_then Soft here _ _ (λ v by. leave Next (given dest v temps)) (λ v by. leave Next (given dest v temps))
+      match_then Soft here _ _ (λ v by. leave Next (with_temp dest v temps))
+      (λ v by. leave Next (with_temp dest v temps))
       (match_computed Soft here 0 e e' h) (λ v.
-      match_leave Soft here Next (given dest v temps))
+      match_leave Soft here Next (with_temp dest v temps))
 
   store_matches : (place value : ℕ) →
       CodesMatch (λ by. store_does here place value) (λ by. store_does here place value)
@@ -141,14 +142,15 @@ module _ (Soft : Cause → Type 0) (ar br : Arith) (arith : ArithKeeps Soft ar b
     layered layer arith by = code_step arith here by (map-TacStmt _ _ (stmt_does arith here by) layer)
 
     assigned : (dest : ℕ) (v : Value) →
-        CodesMatch Soft here (λ by temps. leave Next (given dest v temps))
-        (λ by temps. leave Next (given dest v temps))
-    assigned dest v temps = match_leave Soft here Next (given dest v temps)
+        CodesMatch Soft here (λ by temps. leave Next (with_temp dest v temps))
+        (λ by temps. leave Next (with_temp dest v temps))
+    assigned dest v temps = match_leave Soft here Next (with_temp dest v temps)
 
     layer_matches : (layer : TacStmt-F TacStmt) → Inside Both layer → Alikes (layered layer)
     layer_matches (tac.Const dest value) h temps = assigned dest (constant_value value) temps
     layer_matches (tac.Copy dest from) h temps =
-        match_then Soft here _ _ (λ v by. leave Next (given dest v temps)) (λ v by. leave Next (given dest v temps))
+        match_then Soft here _ _ (λ v by. leave Next (with_temp dest v temps))
+        (λ v by. leave Next (with_temp dest v temps))
         (read_matches Soft here from temps) (λ v. assigned dest v temps)
     layer_matches (tac.Op dest o left right) h temps = op_matches dest o left right temps
     layer_matches (tac.ObjectPlace dest object) h temps = assigned dest (start_of (here.first + object)) temps

@@ -153,23 +153,23 @@ module _ (arith : Arith) (interfaces : Interfaces) (sheets : List Sheet) where
     abbrev pub quick_meaning : SourceRun
     quick_meaning =
         stopped_at events
-        (run_by quick_library (run_step quick_library) (code_globals (map section sheets)) inputs turns).shown
+        (run_by quick_library (run_step quick_library) (code_globals (map section sheets)) inputs turns).behaviour
 
     pub meaning_is : code_meaning_by arith (program interfaces sheets) inputs turns events ≡ quick_meaning
     meaning_is =
         ap (λ library. stopped_at events
-        (run_by library (run_step library) (code_globals (map section sheets)) inputs turns).shown) library_is
+        (run_by library (run_step library) (code_globals (map section sheets)) inputs turns).behaviour) library_is
 
     abbrev pub quick_scripted : (ℕ → Bool) → List Event → SourceRun
     quick_scripted set trace =
         stopped_at events
         (run_by quick_library
         (scripted_step quick_library (roles_in interfaces.main set trace) (run_step quick_library))
-        (code_globals (map section sheets)) inputs turns).shown
+        (code_globals (map section sheets)) inputs turns).behaviour
 
     pub scripted_is : (set : ℕ → Bool) (trace : List Event) →
         scripted_code_by arith (program interfaces sheets) set trace inputs turns events ≡ quick_scripted set trace
     scripted_is set trace =
         ap (λ library. stopped_at events
         (run_by library (scripted_step library (roles_in interfaces.main set trace) (run_step library))
-        (code_globals (map section sheets)) inputs turns).shown) library_is
+        (code_globals (map section sheets)) inputs turns).behaviour) library_is

@@ -45,8 +45,8 @@ Codes = Does Temps
 abbrev pub no_temps : Temps
 no_temps t = None
 
-abbrev pub given : ℕ → Value → Temps → Temps
-given dest v temps t = if t == dest then Some v else temps t
+abbrev pub with_temp : ℕ → Value → Temps → Temps
+with_temp dest v temps t = if t == dest then Some v else temps t
 
 abbrev pub is_unsigned : Scalar → Bool
 is_unsigned Int = false
@@ -73,7 +73,7 @@ start_of block = Ptr (record { block = block; index = 0 })
 
 -- what a call gave goes where it is wanted
 abbrev pub received : Option ℕ → Option Value → Temps → Temps
-received (Some dest) (Some v) temps = given dest v temps
+received (Some dest) (Some v) temps = with_temp dest v temps
 received (Some dest) None temps = temps
 received None v temps = temps
 
@@ -99,7 +99,7 @@ module _ (here : Here) where
 
   -- a temporary gets what is computed
   abbrev pub gets : ℕ → Result Value Cause → Codes
-  gets dest result temps s = and_then (computed here 0 result s) (λ v s. leave Next (given dest v temps) s)
+  gets dest result temps s = and_then (computed here 0 result s) (λ v s. leave Next (with_temp dest v temps) s)
 
   abbrev pub op_does : Arith → ℕ → TacOp → ℕ → Option ℕ → Codes
   op_does arith dest o left right temps s =
@@ -124,11 +124,12 @@ module _ (here : Here) where
 module _ (arith : Arith) (here : Here) (calls : Calls) where
   -- what a statement does, from what the statements inside do
   abbrev pub code_step : TacStmt-F Codes → Codes
-  code_step (tac.Const dest value) temps s = leave Next (given dest (constant_value value) temps) s
-  code_step (tac.Copy dest from) temps s = and_then (read here from temps s) (λ v s. leave Next (given dest v temps) s)
+  code_step (tac.Const dest value) temps s = leave Next (with_temp dest (constant_value value) temps) s
+  code_step (tac.Copy dest from) temps s = and_then (read here from temps s)
+      (λ v s. leave Next (with_temp dest v temps) s)
   code_step (tac.Op dest o left right) temps s = op_does here arith dest o left right temps s
-  code_step (tac.ObjectPlace dest object) temps s = leave Next (given dest (start_of (here.first + object)) temps) s
-  code_step (tac.GlobalPlace dest global) temps s = leave Next (given dest (start_of global) temps) s
+  code_step (tac.ObjectPlace dest object) temps s = leave Next (with_temp dest (start_of (here.first + object)) temps) s
+  code_step (tac.GlobalPlace dest global) temps s = leave Next (with_temp dest (start_of global) temps) s
   code_step (tac.Load dest place pointer) temps s =
       and_then (read here place temps s) (λ q s. gets here dest (load (s.memory here.comp) pointer q) temps s)
   code_step (tac.Store place value) temps s = store_does here place value temps s
@@ -205,11 +206,11 @@ module _ (arith : Arith) (program : TacTree) (inputs : List ℕ) (turns : ℕ) w
 
 -- what code shows under an arithmetic, stopped at a number of events
 abbrev pub code_meaning_by : Arith → TacTree → List ℕ → ℕ → ℕ → SourceRun
-code_meaning_by arith program inputs turns events = stopped_at events (code_run arith program inputs turns).shown
+code_meaning_by arith program inputs turns events = stopped_at events (code_run arith program inputs turns).behaviour
 
 abbrev pub scripted_code_by : Arith → TacTree → (ℕ → Bool) → List Event → List ℕ → ℕ → ℕ → SourceRun
 scripted_code_by arith program set trace inputs turns events =
-    stopped_at events (scripted_code_run arith program inputs turns set trace).shown
+    stopped_at events (scripted_code_run arith program inputs turns set trace).behaviour
 
 abbrev pub code_meaning : TacTree → List ℕ → ℕ → ℕ → SourceRun
 code_meaning program inputs turns events = code_meaning_by c_arith program inputs turns events

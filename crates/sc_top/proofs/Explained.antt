@@ -17,7 +17,7 @@ use Rattle.sc_words.specs.declared.command.Command.{Command}
 use Rattle.sc_words.specs.declared.command.Command.TheVariants as commands
 use Rattle.sc_words.specs.declared.command.RunOptions.{RunOptions}
 use Rattle.sc_top.specs.Names.{thin_interfaces}
-use Rattle.sc_top.specs.Output.{shown, machine_text, compiles, HasImage, output, IsAccounted, IsTextOutput, IsExecuted, IsOutput}
+use Rattle.sc_top.specs.Output.{machine_run, machine_text, compiles, HasImage, output, IsAccounted, IsTextOutput, IsExecuted, IsOutput}
 use Rattle.sc_top.specs.declared.failure.Failure.{Failure}
 use Rattle.sc_top.specs.declared.failure.Failure.TheVariants as failure
 use Rattle.sc_top.specs.Answer.{Refuses}
@@ -39,7 +39,7 @@ pub accounted : (options : RunOptions) (bytes : List ℕ) (program : ProgramTree
     IsThinText bytes program thin → IsThinMeant options thin →
     IsAccounted (commands.Explain options show) program (thin_image thin)
 accounted options bytes program thin show is meant =
-    let n = length (shown options (thin_image thin)).state.trace in
+    let n = length (machine_run options (thin_image thin)).state.trace in
     ap (λ run. run.trace) (is.same.means (map word_of options.inputs) options.steps n) ∙ meant
 
 -- the image that stands where a command compiles none

@@ -24,7 +24,7 @@ use Rattle.sc_image.specs.Interfaces.{interface_of, interfaces_of, TracesAreLega
 use Rattle.sc_image.specs.WellFormed.{IsWord, IsWellFormed}
 use Rattle.sc_words.specs.declared.command.MeaningOptions.{MeaningOptions}
 use Rattle.sc_words.specs.declared.command.RunOptions.{RunOptions}
-use Rattle.sc_top.specs.Output.{meant, shown, machine_text, IsExecuted}
+use Rattle.sc_top.specs.Output.{meant, machine_run, machine_text, IsExecuted}
 
 within : {A : Type 0} (xs : List A) (n : ℕ) → n < length xs → IsSome (slice_get xs n)
 within [] n lt = absurd (omega arith)
@@ -72,17 +72,17 @@ meant_known legal options program typed =
     (legal.meaning c_arith program (map word_of options.inputs) options.turns options.events)
 
 -- what the machine shows on an image is known by the image's names: such traces are legal
-pub shown_known : TracesAreLegal → (options : RunOptions) (image : ImageParts) → IsWellFormed image →
-    All (IsKnown (interfaces_of image)) (shown options image).state.trace
-shown_known legal options image formed =
-    legal_is_known (interfaces_of image) (shown options image).state.trace (main_known image formed)
+pub machine_run_known : TracesAreLegal → (options : RunOptions) (image : ImageParts) → IsWellFormed image →
+    All (IsKnown (interfaces_of image)) (machine_run options image).state.trace
+machine_run_known legal options image formed =
+    legal_is_known (interfaces_of image) (machine_run options image).state.trace (main_known image formed)
     (legal image (map word_of options.inputs) options.steps options.events formed
     (All-map IsWord word_of options.inputs (λ i d within. word_of-lt (get_or options.inputs i d))))
 
 -- the run's text, from what was found of the run
 pub shown_text : {E : Type 0} (r : Result (List ℕ) E) (names : Interfaces) (options : RunOptions) (image : ImageParts)
     (trace : List Event) (stop : Stop) →
-    trace ≡ (shown options image).state.trace → stop ≡ (shown options image).stop →
+    trace ≡ (machine_run options image).state.trace → stop ≡ (machine_run options image).stop →
     IfOk r (λ text. text ≡ run_text names trace stop) → IfOk r (λ text. text ≡ machine_text names options image)
 shown_text (Ok text) names options image trace stop events why told = told ∙ rw (events, why) refl
 shown_text (Err fault) names options image trace stop events why told = tt

@@ -13,45 +13,55 @@ use Rattle.sc_image.specs.WellFormed.{IsComp, IsExport, IsWellFormed}
 use Rattle.sc_image.proofs.Fits.{short_name}
 
 -- pieces of at most so many bytes
-module _ {A : Type 0} (f : A → List ℕ) (most : ℕ) (bound : ℕ → ℕ) (step : (n : ℕ) → most + bound n ≤ bound (suc n)) where
+module _ {A : Type 0} (f : A → List ℕ) (most : ℕ) (bound : ℕ → ℕ)
+    (step : (n : ℕ) → most + bound n ≤ bound (suc n)) where
   many : (xs : List A) → AllByRecursion (λ x. length (f x) ≤ most) xs → length (flat_map f xs) ≤ bound (length xs)
   many [] each = omega arith
   many (x ∷ xs) each =
       let first = each.0 in
       let others = many xs each.1 in
       let more = step (length xs) in
-      let whole : length (flat_map f (x ∷ xs)) ≡ length (f x) + length (flat_map f xs) = length-append (f x) (flat_map f xs) in
+      let whole : length (flat_map f (x ∷ xs)) ≡ length (f x) + length (flat_map f xs) =
+      length-append (f x) (flat_map f xs) in
       omega arith
 
 every : {A : Type 0} (P : A → Type 0) (xs : List A) → ((x : A) → P x) → AllByRecursion P xs
 every P [] each = tt
 every P (x ∷ xs) each = (each x, every P xs each)
 
-each_of : {A : Type 0} (P Q : A → Type 0) (xs : List A) → ((x : A) → P x → Q x) → AllByRecursion P xs → AllByRecursion Q xs
+each_of : {A : Type 0} (P Q : A → Type 0) (xs : List A) → ((x : A) → P x → Q x) → AllByRecursion P xs →
+    AllByRecursion Q xs
 each_of P Q [] imply all = tt
 each_of P Q (x ∷ xs) imply all = (imply x all.0, each_of P Q xs imply all.1)
 
-each_at : {A : Type 0} (P : A → Type 0) (xs : List A) → ((i : ℕ) (x : A) → slice_get xs i ≡ Some x → P x) → AllByRecursion P xs
+each_at : {A : Type 0} (P : A → Type 0) (xs : List A) → ((i : ℕ) (x : A) → slice_get xs i ≡ Some x → P x) →
+    AllByRecursion P xs
 each_at P [] at = tt
 each_at P (x ∷ xs) at = (at 0 x refl, each_at P xs (λ i y e. at (suc i) y e))
 
-export_is_short : (image : ImageParts) (c : ℕ) (export : ExportPart) → IsExport image c export → length (export_bytes export) ≤ 70
+export_is_short : (image : ImageParts) (c : ℕ) (export : ExportPart) → IsExport image c export →
+    length (export_bytes export) ≤ 70
 export_is_short image c export is =
     let name = short_name export.name is.name in
-    let whole = length-append (name_bytes export.name) (export.params ∷ bit export.result ∷ little_bytes 4 export.entry) in
+    let whole = length-append (name_bytes export.name)
+    (export.params ∷ bit export.result ∷ little_bytes 4 export.entry) in
     omega arith
 
 pieces : (name : List ℕ) (flag : ℕ) (exports imports code globals : List ℕ) →
-    length (name ++ flag ∷ exports ++ imports ++ code ++ globals) ≡ length name + suc (length exports + (length imports + (length code + length globals)))
+    length (name ++ flag ∷ exports ++ imports ++ code ++ globals) ≡
+    length name + suc (length exports + (length imports + (length code + length globals)))
 pieces name flag exports imports code globals = simp length-append (omega arith)
 
-bounded : (name exports imports code globals : ℕ) → name ≤ 63 → exports ≤ 286722 → imports ≤ 12290 → code ≤ 1048580 → globals ≤ 458756 →
+bounded : (name exports imports code globals : ℕ) → name ≤ 63 → exports ≤ 286722 → imports ≤ 12290 → code ≤ 1048580 →
+    globals ≤ 458756 →
     suc (name + suc (exports + (imports + (code + globals)))) ≤ 2000000
 bounded name exports imports code globals a b c d e = omega arith
 
-exports_are_short : (image : ImageParts) (c : ℕ) (exports : List ExportPart) → AllByRecursion (IsExport image c) exports → length exports ≤ 4096 → length (exports_bytes exports) ≤ 286722
+exports_are_short : (image : ImageParts) (c : ℕ) (exports : List ExportPart) →
+    AllByRecursion (IsExport image c) exports → length exports ≤ 4096 → length (exports_bytes exports) ≤ 286722
 exports_are_short image c exports all few =
-    let each = many export_bytes 70 (λ n. 70 * n) (λ n. omega arith) exports (each_of (IsExport image c) _ exports (export_is_short image c) all) in
+    let each = many export_bytes 70 (λ n. 70 * n) (λ n. omega arith) exports
+    (each_of (IsExport image c) _ exports (export_is_short image c) all) in
     let whole = length-append (little_bytes 2 (length exports)) (flat_map export_bytes exports) in
     omega arith
 
@@ -70,10 +80,13 @@ code_is_short code short =
 globals_are_short : (globals : List ℕ) → length globals ≤ 458752 → length (globals_bytes globals) ≤ 458756
 globals_are_short globals short = let whole = length-append (little_bytes 4 (length globals)) globals in omega arith
 
-comp_is_short : (image : ImageParts) (c : ℕ) (comp : CompPart) → IsComp image c comp → length (comp_bytes comp) ≤ 2000000
+comp_is_short : (image : ImageParts) (c : ℕ) (comp : CompPart) → IsComp image c comp →
+    length (comp_bytes comp) ≤ 2000000
 comp_is_short image c comp is =
-    subst (λ n. n ≤ 2000000) (sym (ap suc (pieces comp.name (flags comp) (exports_bytes comp.exports) (imports_bytes comp.imports) (code_bytes comp.code) (globals_bytes comp.globals))))
-    (bounded (length comp.name) (length (exports_bytes comp.exports)) (length (imports_bytes comp.imports)) (length (code_bytes comp.code)) (length (globals_bytes comp.globals))
+    subst (λ n. n ≤ 2000000) (sym (ap suc (pieces comp.name (flags comp) (exports_bytes comp.exports)
+    (imports_bytes comp.imports) (code_bytes comp.code) (globals_bytes comp.globals))))
+    (bounded (length comp.name) (length (exports_bytes comp.exports)) (length (imports_bytes comp.imports))
+    (length (code_bytes comp.code)) (length (globals_bytes comp.globals))
     (short_name comp.name is.name)
     (exports_are_short image c comp.exports (recursion_from_All _ _ is.exports) is.few_exports)
     (imports_are_short comp.imports is.few_imports)

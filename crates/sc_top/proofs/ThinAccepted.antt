@@ -26,15 +26,32 @@ use Rattle.sc_top.proofs.ThinMeaning.{program, thin_means}
 lines_long : (outputs : List ℕ) → length outputs ≤ length (flat_map output_line outputs)
 lines_long [] = omega arith
 lines_long (value ∷ outputs) =
-    omega (arith, lines_long outputs, length-append (output_line value) (flat_map output_line outputs), length-append (codes "  output(") (decimal value ++ codes ");\n"))
+    omega (
+      arith,
+      lines_long outputs,
+      length-append (output_line value) (flat_map output_line outputs),
+      length-append (codes "  output(") (decimal value ++ codes ");\n"),
+    )
 
 few_outputs : (text : List ℕ) (thin : ThinProgram) → IsThin text thin → length thin.outputs ≤ 16384
 few_outputs text thin h =
-    let whole : length text ≡ length (head ++ (flat_map output_line thin.outputs ++ (return_line thin.result ++ codes "}\n"))) = ap length (h.whole ∙ ap (λ b. head ++ b) h.body.spelled) in
-    omega (arith, whole, h.short, lines_long thin.outputs, length-append head (flat_map output_line thin.outputs ++ (return_line thin.result ++ codes "}\n")), length-append (flat_map output_line thin.outputs) (return_line thin.result ++ codes "}\n"))
+    let whole : length text ≡ length (head ++ (flat_map output_line thin.outputs ++
+    (return_line thin.result ++ codes "}\n"))) = ap length (h.whole ∙ ap (λ b. head ++ b) h.body.spelled) in
+    omega (
+      arith,
+      whole,
+      h.short,
+      lines_long thin.outputs,
+      length-append head (flat_map output_line thin.outputs ++ (return_line thin.result ++ codes "}\n")),
+      length-append (flat_map output_line thin.outputs) (return_line thin.result ++ codes "}\n"),
+    )
 
-module _ (cut : (tree : SectionTree) → IsTrue (kept_section tree) → SaysAll (dense_text tree) (symbols (section_words tree))) (spell : (tree : SectionTree) → IsTrue (kept_section tree) → SectionSpells tree) (height : (tree other : SectionTree) → SameButLines tree other → section_height tree ≡ section_height other) where
-  pub thin_accepted : (text : List ℕ) (thin : ThinProgram) → IsThin text thin → (accepted : ProgramTree) × Accepts text accepted × IsThinProgram accepted thin
+module _ (cut : (tree : SectionTree) → IsTrue (kept_section tree) →
+    SaysAll (dense_text tree) (symbols (section_words tree)))
+    (spell : (tree : SectionTree) → IsTrue (kept_section tree) → SectionSpells tree)
+    (height : (tree other : SectionTree) → SameButLines tree other → section_height tree ≡ section_height other) where
+  pub thin_accepted : (text : List ℕ) (thin : ThinProgram) → IsThin text thin →
+      (accepted : ProgramTree) × Accepts text accepted × IsThinProgram accepted thin
   thin_accepted text thin h =
       let r : ThinReading text thin.outputs thin.result = thin_reading cut spell height text thin h in
       let t : IsThinTree thin.outputs thin.result r.tree = thin_tree thin.outputs thin.result r.tree r.same in
@@ -53,6 +70,7 @@ module _ (cut : (tree : SectionTree) → IsTrue (kept_section tree) → SaysAll 
         },
         record {
           interfaces = thin_faces t.lines t.body;
-          means = λ inputs turns events. thin_means t.lines t.body inputs turns thin.outputs thin.result t.statements events;
+          means = λ inputs turns events. thin_means t.lines t.body inputs turns thin.outputs thin.result t.statements
+              events;
         },
       )

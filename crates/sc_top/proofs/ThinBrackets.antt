@@ -65,7 +65,8 @@ pub record AtMost (count : ℕ) (ss : List Symbol) (most : ℕ) : Type 0 where
 none_more : (count most : ℕ) → count ≤ most → AtMost count [] most
 none_more count most low = record { within = low }
 
-step : {s : Symbol} {ss : List Symbol} {most : ℕ} (count next : ℕ) → open_after s count ≡ next → count ≤ most → AtMost next ss most → AtMost count (s ∷ ss) most
+step : {s : Symbol} {ss : List Symbol} {most : ℕ} (count next : ℕ) → open_after s count ≡ next → count ≤ most →
+    AtMost next ss most → AtMost count (s ∷ ss) most
 step {s} {ss} {most} count next e low rest =
     let here : opens (open_after s count) ss ≡ opens next ss = ap (λ n. opens n ss) e in
     let more = rest.within in
@@ -83,33 +84,48 @@ v_ident : IsTrue (is_ident (codes "v"))
 unfolding is_name is_reserved
 v_ident = refl
 
-body_opens : (outputs : List ℕ) (result : ℕ) → AreSmall outputs → result ≤ 2147483647 → AtMost 1 (symbols (body_words outputs result) ++ (word_symbol (codes "}") ∷ [])) 2
+body_opens : (outputs : List ℕ) (result : ℕ) → AreSmall outputs → result ≤ 2147483647 →
+    AtMost 1 (symbols (body_words outputs result) ++ (word_symbol (codes "}") ∷ [])) 2
 body_opens [] result small low =
-    step 1 1 (even_return 1) (omega arith) (step 1 1 (even_number result low 1) (omega arith) (step 1 1 (even_semicolon 1) (omega arith) (step 1 0 (uncurly 1) (omega arith) (none_more 0 2 (omega arith)))))
+    step 1 1 (even_return 1) (omega arith) (step 1 1 (even_number result low 1) (omega arith)
+    (step 1 1 (even_semicolon 1) (omega arith) (step 1 0 (uncurly 1) (omega arith) (none_more 0 2 (omega arith)))))
 body_opens (value ∷ outputs) result small low =
-    let all : symbols (line_of 1 (output_words value) ++ body_words outputs result) ≡ symbols (line_of 1 (output_words value)) ++ symbols (body_words outputs result) = joined_symbols (line_of 1 (output_words value)) (body_words outputs result) in
+    let all : symbols (line_of 1 (output_words value) ++ body_words outputs result) ≡
+    symbols (line_of 1 (output_words value)) ++ symbols (body_words outputs result) =
+    joined_symbols (line_of 1 (output_words value)) (body_words outputs result) in
     let rest = body_opens outputs result small.1 low in
-    let line : AtMost 1 (word_symbol (codes "output") ∷ word_symbol (codes "(") ∷ word_symbol (literal_text (number value)) ∷ word_symbol (codes ")") ∷ word_symbol (codes ";") ∷ (symbols (body_words outputs result) ++ (word_symbol (codes "}") ∷ []))) 2 =
-    step 1 1 (even_ident (codes "output") output_ident 1) (omega arith) (step 1 2 (opening 1) (omega arith) (step 2 2 (even_number value small.0 2) (omega arith) (step 2 1 (closing 2) (omega arith) (step 1 1 (even_semicolon 1) (omega arith) rest)))) in
+    let line : AtMost 1 (word_symbol (codes "output") ∷
+    word_symbol (codes "(") ∷ word_symbol (literal_text (number value)) ∷ word_symbol (codes ")") ∷
+    word_symbol (codes ";") ∷ (symbols (body_words outputs result) ++ (word_symbol (codes "}") ∷ []))) 2 =
+    step 1 1 (even_ident (codes "output") output_ident 1) (omega arith)
+    (step 1 2 (opening 1) (omega arith) (step 2 2 (even_number value small.0 2) (omega arith)
+    (step 2 1 (closing 2) (omega arith) (step 1 1 (even_semicolon 1) (omega arith) rest)))) in
     subst (λ ss. AtMost 1 (ss ++ (word_symbol (codes "}") ∷ [])) 2) (sym all) line
 
 -- the symbols in front of the body
 abbrev front : List Symbol
 front =
     word_symbol (codes "#pragma compartment Main") ∷ word_symbol (codes "#pragma import Env output") ∷
-    word_symbol (codes "void") ∷ word_symbol (codes "output") ∷ word_symbol (codes "(") ∷ word_symbol (codes "int") ∷ word_symbol (codes "v") ∷ word_symbol (codes ")") ∷ word_symbol (codes ";") ∷
-    word_symbol (codes "int") ∷ word_symbol (codes "main") ∷ word_symbol (codes "(") ∷ word_symbol (codes "void") ∷ word_symbol (codes ")") ∷ word_symbol (codes "{") ∷ []
+    word_symbol (codes "void") ∷ word_symbol (codes "output") ∷
+    word_symbol (codes "(") ∷ word_symbol (codes "int") ∷ word_symbol (codes "v") ∷ word_symbol (codes ")") ∷
+    word_symbol (codes ";") ∷
+    word_symbol (codes "int") ∷ word_symbol (codes "main") ∷
+    word_symbol (codes "(") ∷ word_symbol (codes "void") ∷ word_symbol (codes ")") ∷ word_symbol (codes "{") ∷ []
 
 abbrev close : List Piece
 close = word (codes "}") ∷ newline ∷ []
 
-split_symbols : (outputs : List ℕ) (result : ℕ) → symbols (section_words (tree_of outputs result)) ≡ front ++ symbols ((lines_at 1 (layouts (body_of outputs result)) ++ close) ++ [])
+split_symbols : (outputs : List ℕ) (result : ℕ) → symbols (section_words (tree_of outputs result)) ≡ front ++
+    symbols ((lines_at 1 (layouts (body_of outputs result)) ++ close) ++ [])
 unfolding import_words
 split_symbols outputs result = refl
 
-all_symbols : (outputs : List ℕ) (result : ℕ) → symbols (section_words (tree_of outputs result)) ≡ front ++ (symbols (body_words outputs result) ++ (word_symbol (codes "}") ∷ []))
+all_symbols : (outputs : List ℕ) (result : ℕ) → symbols (section_words (tree_of outputs result)) ≡ front ++
+    (symbols (body_words outputs result) ++ (word_symbol (codes "}") ∷ []))
 all_symbols outputs result =
-    split_symbols outputs result ∙ ap (λ pieces. front ++ symbols pieces) (append-nil (lines_at 1 (layouts (body_of outputs result)) ++ close) ∙ ap (λ pieces. pieces ++ close) (lines_are outputs result))
+    split_symbols outputs result ∙ ap (λ pieces. front ++ symbols pieces)
+    (append-nil (lines_at 1 (layouts (body_of outputs result)) ++ close) ∙
+    ap (λ pieces. pieces ++ close) (lines_are outputs result))
     ∙ ap (λ ss. front ++ ss) (joined_symbols (body_words outputs result) close)
 
 even_heading : Even (word_symbol (codes "#pragma compartment Main"))
@@ -120,12 +136,18 @@ even_import : Even (word_symbol (codes "#pragma import Env output"))
 unfolding is_name
 even_import count = ap (λ s. open_after s count) (import_says (codes "Env") (codes "output") refl refl)
 
-pub few_open : (outputs : List ℕ) (result : ℕ) → AreSmall outputs → result ≤ 2147483647 → opens 0 (symbols (section_words (tree_of outputs result))) ≤ 1024
+pub few_open : (outputs : List ℕ) (result : ℕ) → AreSmall outputs → result ≤ 2147483647 →
+    opens 0 (symbols (section_words (tree_of outputs result))) ≤ 1024
 few_open outputs result small low =
     let rest = body_opens outputs result small low in
     let all : AtMost 0 (front ++ (symbols (body_words outputs result) ++ (word_symbol (codes "}") ∷ []))) 2 =
     step 0 0 (even_heading 0) (omega arith) (step 0 0 (even_import 0) (omega arith)
-    (step 0 0 (even_void 0) (omega arith) (step 0 0 (even_ident (codes "output") output_ident 0) (omega arith) (step 0 1 (opening 0) (omega arith) (step 1 1 (even_int 1) (omega arith) (step 1 1 (even_ident (codes "v") v_ident 1) (omega arith) (step 1 0 (closing 1) (omega arith) (step 0 0 (even_semicolon 0) (omega arith)
-    (step 0 0 (even_int 0) (omega arith) (step 0 0 (even_ident (codes "main") main_ident 0) (omega arith) (step 0 1 (opening 0) (omega arith) (step 1 1 (even_void 1) (omega arith) (step 1 0 (closing 1) (omega arith) (step 0 1 (curly 0) (omega arith) rest)))))))))))))) in
+    (step 0 0 (even_void 0) (omega arith) (step 0 0 (even_ident (codes "output") output_ident 0) (omega arith)
+    (step 0 1 (opening 0) (omega arith) (step 1 1 (even_int 1) (omega arith)
+    (step 1 1 (even_ident (codes "v") v_ident 1) (omega arith)
+    (step 1 0 (closing 1) (omega arith) (step 0 0 (even_semicolon 0) (omega arith)
+    (step 0 0 (even_int 0) (omega arith) (step 0 0 (even_ident (codes "main") main_ident 0) (omega arith)
+    (step 0 1 (opening 0) (omega arith) (step 1 1 (even_void 1) (omega arith)
+    (step 1 0 (closing 1) (omega arith) (step 0 1 (curly 0) (omega arith) rest)))))))))))))) in
     let bound = (subst (λ ss. AtMost 0 ss 2) (sym (all_symbols outputs result)) all).within in
     omega arith

@@ -41,26 +41,51 @@ module _ (lines : Lines) (whole : List StmtTree) where
 
   module _ (body' : Body) (here : Here) (at_main : here.comp ≡ 0) where
     abbrev does : StmtTree → Acts
-    does s = stmt_does c_arith [] here 0 (calls library body') (typed_stmt (visible lines whole) (callees lines whole) (Some ty.Int) s)
+    does s = stmt_does c_arith [] here 0 (calls library body')
+        (typed_stmt (visible lines whole) (callees lines whole) (Some ty.Int) s)
 
     output_does : (line value : ℕ) (s : State) → does (output_at line value) tt s ≡ leave Next tt (tell (Out 0 value) s)
-    output_does line value s = search (rules, exprs.the_lemmas, kinds.the_lemmas, stmts.the_lemmas, typed_exprs.the_lemmas, typed_kinds.the_lemmas, typed_stmts.the_lemmas, typed_stmt_kinds.the_lemmas, at_main)
+    output_does line value s = search (
+      rules,
+      exprs.the_lemmas,
+      kinds.the_lemmas,
+      stmts.the_lemmas,
+      typed_exprs.the_lemmas,
+      typed_kinds.the_lemmas,
+      typed_stmts.the_lemmas,
+      typed_stmt_kinds.the_lemmas,
+      at_main,
+    )
 
-    return_does : (line value : ℕ) (s : State) → does (return_at line value) tt s ≡ leave (Return (Some (Word value))) tt s
-    return_does line value s = search (rules, exprs.the_lemmas, kinds.the_lemmas, stmts.the_lemmas, typed_exprs.the_lemmas, typed_kinds.the_lemmas, typed_stmts.the_lemmas, typed_stmt_kinds.the_lemmas)
+    return_does : (line value : ℕ) (s : State) → does (return_at line value) tt s ≡
+        leave (Return (Some (Word value))) tt s
+    return_does line value s = search (
+      rules,
+      exprs.the_lemmas,
+      kinds.the_lemmas,
+      stmts.the_lemmas,
+      typed_exprs.the_lemmas,
+      typed_kinds.the_lemmas,
+      typed_stmts.the_lemmas,
+      typed_stmt_kinds.the_lemmas,
+    )
 
     -- all statements of a body: the outputs, and then control leaves with the result
     abbrev block : List StmtTree → Acts
     block body =
-        block_does c_arith [] here 0 (calls library body') (map (typed_stmt (visible lines whole) (callees lines whole) (Some ty.Int)) body)
+        block_does c_arith [] here 0 (calls library body')
+        (map (typed_stmt (visible lines whole) (callees lines whole) (Some ty.Int)) body)
 
-    block_is : (outputs : List ℕ) (result : ℕ) (body : List StmtTree) → IsThinBody outputs result body → (s : State) → block body tt s ≡ leave (Return (Some (Word result))) tt (record s { trace = s.trace ++ outs outputs })
+    block_is : (outputs : List ℕ) (result : ℕ) (body : List StmtTree) → IsThinBody outputs result body → (s : State) →
+        block body tt s ≡ leave (Return (Some (Word result))) tt (record s { trace = s.trace ++ outs outputs })
     block_is outputs result body (last line value) s =
-        ap (λ p. follow in_order p (all_do [])) (return_does line value s) ∙ ap (λ t. leave (Return (Some (Word value))) tt (record s { trace = t })) (sym (append-nil s.trace))
+        ap (λ p. follow in_order p (all_do [])) (return_does line value s) ∙
+        ap (λ t. leave (Return (Some (Word value))) tt (record s { trace = t })) (sym (append-nil s.trace))
     block_is outputs result body (more {outputs = others} {body = rest} line value more_is) s =
         ap (λ p. follow in_order p (block rest)) (output_does line value s)
         ∙ block_is others result rest more_is (tell (Out 0 value) s)
-        ∙ ap (λ t. leave (Return (Some (Word result))) tt (record s { trace = t })) (append_assoc s.trace (Out 0 value ∷ []) (outs others))
+        ∙ ap (λ t. leave (Return (Some (Word result))) tt (record s { trace = t }))
+        (append_assoc s.trace (Out 0 value ∷ []) (outs others))
 
   module _ (inputs : List ℕ) (turns : ℕ) where
     abbrev main_typed : TypedFunction
@@ -77,14 +102,19 @@ module _ (lines : Lines) (whole : List StmtTree) where
 
     abbrev finish : Piece (Left (Unit {0})) → SourceRun
     finish p =
-        (run_to 0 (and_then (and_then p (λ left s. closed left.exit true true lines.closed here_main s)) (λ v t. back_own v (done 0 main_function 0 t)))).shown
+        (run_to 0 (and_then (and_then p (λ left s. closed left.exit true true lines.closed here_main s))
+        (λ v t. back_own v (done 0 main_function 0 t)))).behaviour
 
-    run_is : (run_of c_arith program inputs turns).shown ≡ finish (block (within (run_step library) turns) here_main refl whole tt start)
+    run_is : (run_of c_arith program inputs turns).behaviour ≡
+        finish (block (within (run_step library) turns) here_main refl whole tt start)
     unfolding sections.typed_structs sections.typed_locals
     run_is = refl
 
-    pub thin_run : (outputs : List ℕ) (result : ℕ) → IsThinBody outputs result whole → (run_of c_arith program inputs turns).shown ≡ whole_run (record { outputs = outputs; result = result })
-    thin_run outputs result h = run_is ∙ ap finish (block_is (within (run_step library) turns) here_main refl outputs result whole h start)
+    pub thin_run : (outputs : List ℕ) (result : ℕ) → IsThinBody outputs result whole →
+        (run_of c_arith program inputs turns).behaviour ≡ whole_run (record { outputs = outputs; result = result })
+    thin_run outputs result h = run_is ∙ ap finish (block_is
+        (within (run_step library) turns) here_main refl outputs result whole h start)
 
-    pub thin_means : (outputs : List ℕ) (result : ℕ) → IsThinBody outputs result whole → (events : ℕ) → meaning program inputs turns events ≡ thin_meaning events (record { outputs = outputs; result = result })
+    pub thin_means : (outputs : List ℕ) (result : ℕ) → IsThinBody outputs result whole → (events : ℕ) →
+        meaning program inputs turns events ≡ thin_meaning events (record { outputs = outputs; result = result })
     thin_means outputs result h events = ap (stopped_at events) (thin_run outputs result h)

@@ -42,16 +42,21 @@ output_known line value = search (rules, exprs.the_lemmas, kinds.the_lemmas, stm
 return_known : (line value : ℕ) → names.stmt_lines known_main (return_at line value) false ≡ []
 return_known line value = search (rules, exprs.the_lemmas, kinds.the_lemmas, stmts.the_lemmas)
 
-body_known : (outputs : List ℕ) (result : ℕ) (body : List StmtTree) → IsThinBody outputs result body → names.body_lines known_main body ≡ []
+body_known : (outputs : List ℕ) (result : ℕ) (body : List StmtTree) → IsThinBody outputs result body →
+    names.body_lines known_main body ≡ []
 body_known outputs result body (last line value) = ap (λ x. x ++ []) (return_known line value)
-body_known outputs result body (more line value rest) = ap₂ (λ x y. x ++ y) (output_known line value) (body_known _ result _ rest)
+body_known outputs result body (more line value rest) =
+    ap₂ (λ x y. x ++ y) (output_known line value) (body_known _ result _ rest)
 
-names_are : (lines : Lines) (body : List StmtTree) → names.section_lines (tree_at lines body) ≡ names.body_lines known_main body ++ []
+names_are : (lines : Lines) (body : List StmtTree) → names.section_lines (tree_at lines body) ≡
+    names.body_lines known_main body ++ []
 names_are lines body = refl
 
-pub thin_names : (outputs : List ℕ) (result : ℕ) (lines : Lines) (body : List StmtTree) → IsThinBody outputs result body → names_broken (tree_at lines body ∷ []) ≡ []
+pub thin_names : (outputs : List ℕ) (result : ℕ) (lines : Lines) (body : List StmtTree) →
+    IsThinBody outputs result body → names_broken (tree_at lines body ∷ []) ≡ []
 thin_names outputs result lines body h =
-    ap (λ x. concat (map (line_of_text lines.heading) x ∷ [])) (names_are lines body ∙ ap (λ x. x ++ []) (body_known outputs result body h))
+    ap (λ x. concat (map (line_of_text lines.heading) x ∷ []))
+    (names_are lines body ∙ ap (λ x. x ++ []) (body_known outputs result body h))
 
 -- Interfaces.
 pub thin_interface : (lines : Lines) (body : List StmtTree) → interface_broken (tree_at lines body ∷ []) ≡ []
@@ -74,35 +79,80 @@ module _ (lines : Lines) (whole : List StmtTree) where
   abbrev scope : Scope
   scope = scope_in tree main
 
-  output_typed : (line value : ℕ) → nat_le value 2147483647 ≡ true → elab.stmt_lines visible callees scope (Some ty.Int) (output_at line value) ≡ []
-  output_typed line value small = search (rules, exprs.the_lemmas, kinds.the_lemmas, stmts.the_lemmas, typed_exprs.the_lemmas, typed_kinds.the_lemmas, small)
+  output_typed : (line value : ℕ) → nat_le value 2147483647 ≡ true →
+      elab.stmt_lines visible callees scope (Some ty.Int) (output_at line value) ≡ []
+  output_typed line value small = search (
+    rules,
+    exprs.the_lemmas,
+    kinds.the_lemmas,
+    stmts.the_lemmas,
+    typed_exprs.the_lemmas,
+    typed_kinds.the_lemmas,
+    small,
+  )
 
-  return_typed : (line value : ℕ) → nat_le value 2147483647 ≡ true → elab.stmt_lines visible callees scope (Some ty.Int) (return_at line value) ≡ []
-  return_typed line value small = search (rules, exprs.the_lemmas, kinds.the_lemmas, stmts.the_lemmas, typed_exprs.the_lemmas, typed_kinds.the_lemmas, small)
+  return_typed : (line value : ℕ) → nat_le value 2147483647 ≡ true →
+      elab.stmt_lines visible callees scope (Some ty.Int) (return_at line value) ≡ []
+  return_typed line value small = search (
+    rules,
+    exprs.the_lemmas,
+    kinds.the_lemmas,
+    stmts.the_lemmas,
+    typed_exprs.the_lemmas,
+    typed_kinds.the_lemmas,
+    small,
+  )
 
   output_nodes : (line value : ℕ) → stmt_nodes (typed_stmt visible callees (Some ty.Int) (output_at line value)) ≡ 2
-  output_nodes line value = search (arith, rules, exprs.the_lemmas, kinds.the_lemmas, stmts.the_lemmas, typed_exprs.the_lemmas, typed_kinds.the_lemmas, typed_stmts.the_lemmas, typed_stmt_kinds.the_lemmas)
+  output_nodes line value = search (
+    arith,
+    rules,
+    exprs.the_lemmas,
+    kinds.the_lemmas,
+    stmts.the_lemmas,
+    typed_exprs.the_lemmas,
+    typed_kinds.the_lemmas,
+    typed_stmts.the_lemmas,
+    typed_stmt_kinds.the_lemmas,
+  )
 
   return_nodes : (line value : ℕ) → stmt_nodes (typed_stmt visible callees (Some ty.Int) (return_at line value)) ≡ 2
-  return_nodes line value = search (arith, rules, exprs.the_lemmas, kinds.the_lemmas, stmts.the_lemmas, typed_exprs.the_lemmas, typed_kinds.the_lemmas, typed_stmts.the_lemmas, typed_stmt_kinds.the_lemmas)
+  return_nodes line value = search (
+    arith,
+    rules,
+    exprs.the_lemmas,
+    kinds.the_lemmas,
+    stmts.the_lemmas,
+    typed_exprs.the_lemmas,
+    typed_kinds.the_lemmas,
+    typed_stmts.the_lemmas,
+    typed_stmt_kinds.the_lemmas,
+  )
 
-  body_typed : (outputs : List ℕ) (result : ℕ) (body : List StmtTree) → AreSmall outputs → result ≤ 2147483647 → IsThinBody outputs result body → concat (map (elab.stmt_lines visible callees scope (Some ty.Int)) body) ≡ []
-  body_typed outputs result body small low (last line value) = ap (λ x. x ++ []) (return_typed line value (le-leb value 2147483647 low))
+  body_typed : (outputs : List ℕ) (result : ℕ) (body : List StmtTree) → AreSmall outputs → result ≤ 2147483647 →
+      IsThinBody outputs result body → concat (map (elab.stmt_lines visible callees scope (Some ty.Int)) body) ≡ []
+  body_typed outputs result body small low (last line value) =
+      ap (λ x. x ++ []) (return_typed line value (le-leb value 2147483647 low))
   body_typed outputs result body small low (more line value rest) =
-      ap₂ (λ x y. x ++ y) (output_typed line value (le-leb value 2147483647 small.0)) (body_typed _ result _ small.1 low rest)
+      ap₂ (λ x y. x ++ y) (output_typed line value (le-leb value 2147483647 small.0))
+      (body_typed _ result _ small.1 low rest)
 
-  types_are : sections.section_lines tree callees ≡ concat (map (elab.stmt_lines visible callees scope (Some ty.Int)) whole) ++ []
+  types_are : sections.section_lines tree callees ≡ concat
+      (map (elab.stmt_lines visible callees scope (Some ty.Int)) whole) ++ []
   types_are = refl
 
-  pub thin_types : (outputs : List ℕ) (result : ℕ) → AreSmall outputs → result ≤ 2147483647 → IsThinBody outputs result whole → types_broken (tree ∷ []) ≡ []
+  pub thin_types : (outputs : List ℕ) (result : ℕ) → AreSmall outputs → result ≤ 2147483647 →
+      IsThinBody outputs result whole → types_broken (tree ∷ []) ≡ []
   thin_types outputs result small low h =
-      ap (λ x. concat (map (line_of_text lines.heading) x ∷ [])) (types_are ∙ ap (λ x. x ++ []) (body_typed outputs result whole small low h))
+      ap (λ x. concat (map (line_of_text lines.heading) x ∷ []))
+      (types_are ∙ ap (λ x. x ++ []) (body_typed outputs result whole small low h))
 
   -- Counts.
   abbrev body_nodes : List StmtTree → ℕ
   body_nodes body = total (map stmt_nodes (map (typed_stmt visible callees (Some ty.Int)) body))
 
-  nodes_of_body : (outputs : List ℕ) (result : ℕ) (body : List StmtTree) → IsThinBody outputs result body → body_nodes body ≡ 2 * length outputs + 2
+  nodes_of_body : (outputs : List ℕ) (result : ℕ) (body : List StmtTree) → IsThinBody outputs result body →
+      body_nodes body ≡ 2 * length outputs + 2
   nodes_of_body outputs result body (last line value) = omega (arith, return_nodes line value)
   nodes_of_body outputs result body (more {outputs = others} {body = body'} line value rest) =
       omega (arith, output_nodes line value, nodes_of_body others result body' rest)
@@ -111,20 +161,27 @@ module _ (lines : Lines) (whole : List StmtTree) where
   unfolding sections.typed_locals
   nodes_are = refl
 
-  counts_are : counts.section_lines tree callees ≡ unless (nat_le (counts.section_nodes tree callees) most_nodes && true) 1 ++ []
+  counts_are : counts.section_lines tree callees ≡ unless
+      (nat_le (counts.section_nodes tree callees) most_nodes && true) 1 ++ []
   counts_are = refl
 
-  few_nodes : (outputs : List ℕ) (result : ℕ) → length outputs ≤ 16384 → IsThinBody outputs result whole → nat_le (counts.section_nodes tree callees) most_nodes ≡ true
-  few_nodes outputs result few h = le-leb (counts.section_nodes tree callees) most_nodes (omega (arith, nodes_are, nodes_of_body outputs result whole h, few))
+  few_nodes : (outputs : List ℕ) (result : ℕ) → length outputs ≤ 16384 → IsThinBody outputs result whole →
+      nat_le (counts.section_nodes tree callees) most_nodes ≡ true
+  few_nodes outputs result few h = le-leb (counts.section_nodes tree callees) most_nodes
+      (omega (arith, nodes_are, nodes_of_body outputs result whole h, few))
 
-  within_counts : (outputs : List ℕ) (result : ℕ) → length outputs ≤ 16384 → IsThinBody outputs result whole → counts.section_lines tree callees ≡ []
-  within_counts outputs result few h = counts_are ∙ ap (λ b. unless (b && true) 1 ++ []) (few_nodes outputs result few h)
+  within_counts : (outputs : List ℕ) (result : ℕ) → length outputs ≤ 16384 → IsThinBody outputs result whole →
+      counts.section_lines tree callees ≡ []
+  within_counts outputs result few h = counts_are ∙ ap (λ b. unless (b && true) 1 ++ [])
+      (few_nodes outputs result few h)
 
   counted : counts_broken (tree ∷ []) ≡ map (line_of_text lines.heading) (counts.section_lines tree callees) ++ []
   counted = refl
 
-  pub thin_counts : (outputs : List ℕ) (result : ℕ) → length outputs ≤ 16384 → IsThinBody outputs result whole → counts_broken (tree ∷ []) ≡ []
-  thin_counts outputs result few h = counted ∙ ap (λ x. map (line_of_text lines.heading) x ++ []) (within_counts outputs result few h)
+  pub thin_counts : (outputs : List ℕ) (result : ℕ) → length outputs ≤ 16384 → IsThinBody outputs result whole →
+      counts_broken (tree ∷ []) ≡ []
+  thin_counts outputs result few h = counted ∙ ap (λ x. map (line_of_text lines.heading) x ++ [])
+      (within_counts outputs result few h)
 
   pub thin_faces : (program_of (tree ∷ [])).interfaces ≡ thin_interfaces
   thin_faces = refl

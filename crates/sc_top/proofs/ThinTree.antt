@@ -31,7 +31,11 @@ abbrev pub number : ℕ → Number
 number value = record { value = value; unsigned = false }
 
 abbrev output_stmt : ℕ → StmtTree
-output_stmt value = record { line = 1; kind = stmt.Call (record { name = codes "output"; args = expr.Literal (number value) ∷ [] }) }
+output_stmt value = record {
+  line = 1;
+  kind = stmt.Call
+      (record { name = codes "output"; args = expr.Literal (number value) ∷ [] });
+}
 
 abbrev return_stmt : ℕ → StmtTree
 return_stmt value = record { line = 1; kind = stmt.ReturnValue (expr.Literal (number value)) }
@@ -47,14 +51,30 @@ tree_of outputs result = record {
   exports = [];
   imports = record { comp = codes "Env"; name = codes "output"; line = 1 } ∷ [];
   decls =
-      decl.Proto (record { result = None; name = codes "output"; params = record { ty = record { base = base.Int; stars = 0 }; name = Some (codes "v") } ∷ []; line = 1 }) ∷
-      decl.Function (record { head = record { result = Some (record { base = base.Int; stars = 0 }); name = codes "main"; params = []; line = 1 }; locals = []; body = body_of outputs result; close_line = 1 }) ∷
+      decl.Proto (record {
+        result = None;
+        name = codes "output";
+        params = record { ty = record { base = base.Int; stars = 0 }; name = Some (codes "v") } ∷ [];
+        line = 1;
+      }) ∷
+      decl.Function (record {
+        head = record {
+          result = Some (record { base = base.Int; stars = 0 });
+          name = codes "main";
+          params = [];
+          line = 1;
+        };
+        locals = [];
+        body = body_of outputs result;
+        close_line = 1;
+      }) ∷
       [];
 }
 
 -- the words of each statement
 abbrev pub output_words : ℕ → List Piece
-output_words value = word (codes "output") ∷ word (codes "(") ∷ word (literal_text (number value)) ∷ word (codes ")") ∷ word (codes ";") ∷ []
+output_words value = word (codes "output") ∷ word (codes "(") ∷ word (literal_text (number value)) ∷ word (codes ")") ∷
+    word (codes ";") ∷ []
 
 abbrev pub return_words : ℕ → List Piece
 return_words value = word (codes "return") ∷ blank ∷ word (literal_text (number value)) ∷ word (codes ";") ∷ []
@@ -70,8 +90,10 @@ abbrev pub body_words : List ℕ → ℕ → List Piece
 body_words [] result = line_of 1 (return_words result)
 body_words (value ∷ outputs) result = line_of 1 (output_words value) ++ body_words outputs result
 
-pub lines_are : (outputs : List ℕ) (result : ℕ) → lines_at 1 (layouts (body_of outputs result)) ≡ body_words outputs result
-lines_are [] result = append-nil (line_of 1 ((stmt_layout (return_stmt result)).words 1)) ∙ ap (line_of 1) (return_is result)
+pub lines_are : (outputs : List ℕ) (result : ℕ) → lines_at 1 (layouts (body_of outputs result)) ≡
+    body_words outputs result
+lines_are [] result = append-nil (line_of 1 ((stmt_layout (return_stmt result)).words 1)) ∙
+    ap (line_of 1) (return_is result)
 lines_are (value ∷ outputs) result = ap₂ (λ a b. line_of 1 a ++ b) (output_is value) (lines_are outputs result)
 
 output_text : (value : ℕ) → text_of (line_of 1 (output_words value)) ≡ output_line value
@@ -80,7 +102,8 @@ output_text value = ap (λ d. codes "  output(" ++ (d ++ codes ");\n")) (append-
 return_text : (value : ℕ) → text_of (line_of 1 (return_words value)) ≡ return_line value
 return_text value = ap (λ d. codes "  return " ++ (d ++ codes ";\n")) (append-nil (decimal value))
 
-body_text : (outputs : List ℕ) (result : ℕ) → text_of (body_words outputs result) ≡ flat_map output_line outputs ++ return_line result
+body_text : (outputs : List ℕ) (result : ℕ) → text_of (body_words outputs result) ≡ flat_map output_line outputs ++
+    return_line result
 body_text [] result = return_text result
 body_text (value ∷ outputs) result =
     flat_map-append piece_text (line_of 1 (output_words value)) (body_words outputs result)
@@ -90,15 +113,20 @@ body_text (value ∷ outputs) result =
 abbrev close : List Piece
 close = word (codes "}") ∷ newline ∷ []
 
-split_text : (outputs : List ℕ) (result : ℕ) → dense_text (tree_of outputs result) ≡ head ++ text_of ((lines_at 1 (layouts (body_of outputs result)) ++ close) ++ [])
+split_text : (outputs : List ℕ) (result : ℕ) → dense_text (tree_of outputs result) ≡ head ++
+    text_of ((lines_at 1 (layouts (body_of outputs result)) ++ close) ++ [])
 unfolding head import_words
 split_text outputs result = refl
 
-pub thin_text : (outputs : List ℕ) (result : ℕ) → dense_text (tree_of outputs result) ≡ head ++ (flat_map output_line outputs ++ (return_line result ++ codes "}\n"))
+pub thin_text : (outputs : List ℕ) (result : ℕ) → dense_text (tree_of outputs result) ≡ head ++
+    (flat_map output_line outputs ++ (return_line result ++ codes "}\n"))
 thin_text outputs result =
     split_text outputs result
-    ∙ ap (λ pieces. head ++ text_of pieces) (append-nil (lines_at 1 (layouts (body_of outputs result)) ++ close) ∙ ap (λ pieces. pieces ++ close) (lines_are outputs result))
-    ∙ ap (λ text. head ++ text) (flat_map-append piece_text (body_words outputs result) close ∙ ap (λ text. text ++ codes "}\n") (body_text outputs result) ∙ append_assoc (flat_map output_line outputs) (return_line result) (codes "}\n"))
+    ∙ ap (λ pieces. head ++ text_of pieces) (append-nil (lines_at 1 (layouts (body_of outputs result)) ++ close) ∙
+    ap (λ pieces. pieces ++ close) (lines_are outputs result))
+    ∙ ap (λ text. head ++ text) (flat_map-append piece_text (body_words outputs result) close ∙
+    ap (λ text. text ++ codes "}\n") (body_text outputs result) ∙
+    append_assoc (flat_map output_line outputs) (return_line result) (codes "}\n"))
 
 -- leaves are kept
 pub small_fits : (value : ℕ) → value ≤ 2147483647 → fits (number value) ≡ true
@@ -111,11 +139,16 @@ output_kept value k = search (rules, exprs.the_lemmas, kinds.the_lemmas, stmts.t
 return_kept : (value : ℕ) → fits (number value) ≡ true → is_kept_stmt (return_stmt value) ≡ true
 return_kept value k = search (rules, exprs.the_lemmas, kinds.the_lemmas, stmts.the_lemmas, k)
 
-body_kept : (outputs : List ℕ) (result : ℕ) → AreSmall outputs → result ≤ 2147483647 → are_kept (body_of outputs result) ≡ true
+body_kept : (outputs : List ℕ) (result : ℕ) → AreSmall outputs → result ≤ 2147483647 →
+    are_kept (body_of outputs result) ≡ true
 body_kept [] result small low = rw (return_kept result (small_fits result low))
-body_kept (value ∷ outputs) result small low = rw (output_kept value (small_fits value small.0), body_kept outputs result small.1 low)
+body_kept (value ∷ outputs) result small low = rw (
+  output_kept value (small_fits value small.0),
+  body_kept outputs result small.1 low,
+)
 
-pub tree_kept : (outputs : List ℕ) (result : ℕ) → AreSmall outputs → result ≤ 2147483647 → IsTrue (kept_section (tree_of outputs result))
+pub tree_kept : (outputs : List ℕ) (result : ℕ) → AreSmall outputs → result ≤ 2147483647 →
+    IsTrue (kept_section (tree_of outputs result))
 unfolding is_name is_reserved
 tree_kept outputs result small low = rw (body_kept outputs result small low)
 

@@ -26,12 +26,13 @@ abbrev pub meant : MeaningOptions → ProgramTree → SourceRun
 meant options program = meaning program (map word_of options.inputs) options.turns options.events
 
 -- what the machine shows on an image
-abbrev pub shown : RunOptions → ImageParts → Run
-shown options image = machine image (map word_of options.inputs) options.steps options.events
+abbrev pub machine_run : RunOptions → ImageParts → Run
+machine_run options image = machine image (map word_of options.inputs) options.steps options.events
 
 -- the same in words, by these names
 abbrev pub machine_text : Interfaces → RunOptions → ImageParts → List ℕ
-machine_text names options image = run_text names (shown options image).state.trace (shown options image).stop
+machine_text names options image = run_text names (machine_run options image).state.trace
+    (machine_run options image).stop
 
 -- the image that a program of this text has: so far only a thin text has one
 pub record HasImage (bytes : List ℕ) (image : ImageParts) : Type 0 where
@@ -63,7 +64,7 @@ output (commands.Make options) bytes program image = []
 -- program's own meaning has just this trace, so that nothing has to be replaced
 abbrev pub IsAccounted : Command → ProgramTree → ImageParts → Type 0
 IsAccounted (commands.Explain options show) program image =
-    let trace = (shown options image).state.trace in
+    let trace = (machine_run options image).state.trace in
     (meaning program (map word_of options.inputs) options.steps (length trace)).trace ≡ trace
 IsAccounted _ program image = Unit {0}
 

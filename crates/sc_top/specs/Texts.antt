@@ -8,7 +8,7 @@ use Rattle.sc_top.specs.declared.failure.Failure.TheVariants.{Refused, OutOfMemo
 use Rattle.sc_core.specs.Thin.{thin_meaning}
 use Rattle.sc_compile.specs.Image.{thin_image}
 use Rattle.sc_words.specs.declared.command.RunOptions.{RunOptions}
-use Rattle.sc_top.specs.Output.{shown}
+use Rattle.sc_top.specs.Output.{machine_run}
 use Rattle.sc_top.specs.Thin.{IsThin}
 use Rattle.sc_top.specs.ThinMeaning.{IsThinProgram}
 
@@ -40,4 +40,4 @@ pub record IsThinText (bytes : List ℕ) (program : ProgramTree) (thin : ThinPro
 -- within so many events as the machine shows, the meaning that a thin program has by itself has just this trace
 abbrev pub IsThinMeant : RunOptions → ThinProgram → Type 0
 IsThinMeant options thin =
-    let trace = (shown options (thin_image thin)).state.trace in (thin_meaning (length trace) thin).trace ≡ trace
+    let trace = (machine_run options (thin_image thin)).state.trace in (thin_meaning (length trace) thin).trace ≡ trace

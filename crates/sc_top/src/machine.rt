@@ -2,7 +2,7 @@ ghost use Rattle.std.specs.Prelude.{◌≡◌, ◌≤◌, length, All, IfOk, OnO
 ghost use Rattle.sc_event.specs.Lookup.{IsKnown};
 ghost use Rattle.sc_compile.specs.Image.{thin_image};
 ghost use Rattle.sc_top.specs.Names.{thin_interfaces};
-ghost use Rattle.sc_top.specs.Output.{shown, machine_text};
+ghost use Rattle.sc_top.specs.Output.{machine_run, machine_text};
 ghost use Rattle.sc_top.specs.Texts.{IsThinMeant};
 
 use sc_base::{OutOfMemory, Text};
@@ -22,7 +22,7 @@ pub(crate) fn machine_text(
     options: &RunOptions,
     image: Image,
 ) -> Result<Text, OutOfMemory>
-    requires { All (IsKnown names.now) (shown options.now image).state.trace }
+    requires { All (IsKnown names.now) (machine_run options.now image).state.trace }
     ensures { IfOk result (λ text. text ≡ machine_text names.now options.now image) }
 {
     let inputs = options.inputs.as_slice();

@@ -41,8 +41,8 @@ pub fn secomp<S: Source, O: Sink, E: Sink>(
       write_faults_after = O.faults out.new;
     }) result }
 
-    // Words that are no command, or one that reads nothing, leave the source; nothing is written unless the whole output
-    // is there and taken at least in part.
+    // Words that are no command, or one that reads nothing, leave the source; nothing is written unless the whole
+    // output is there and taken at least in part.
     ensures unread { IsSilent (command (map string_bytes words.now)) → source.new ≡ source.old }
     ensures untouched { result ≢ Status.Done → result ≢ Status.WriteFault → out.new ≡ out.old }
 

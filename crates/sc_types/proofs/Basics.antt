@@ -24,9 +24,9 @@ pub some_item : {A B : Type 0} (x : A) (xs : List A) → x ∷ xs ≡ [] → B
 some_item x xs h = absurd (false≢true (ap is_empty h))
 
 -- a rule that is broken at no line holds
-pub held : (b : Bool) (line : ℕ) → unless b line ≡ [] → b ≡ true
-held true line h = refl
-held false line h = some_item line [] h
+pub rule_holds : (b : Bool) (line : ℕ) → unless b line ≡ [] → b ≡ true
+rule_holds true line h = refl
+rule_holds false line h = some_item line [] h
 
 pub front_empty : {A : Type 0} (xs ys : List A) → xs ++ ys ≡ [] → xs ≡ []
 front_empty [] ys h = refl
@@ -47,7 +47,10 @@ Each P (x ∷ xs) = P x × Each P xs
 
 pub each_empty : {A : Type 0} (f : A → List ℕ) (xs : List A) → concat (map f xs) ≡ [] → Each (λ x. f x ≡ []) xs
 each_empty f [] h = tt
-each_empty f (x ∷ xs) h = (front_empty (f x) (concat (map f xs)) h, each_empty f xs (back_empty (f x) (concat (map f xs)) h))
+each_empty f (x ∷ xs) h = (
+  front_empty (f x) (concat (map f xs)) h,
+  each_empty f xs (back_empty (f x) (concat (map f xs)) h),
+)
 
 pub each_passes : {A : Type 0} (p : A → Bool) (xs : List A) → list_all p xs ≡ true → Each (λ x. p x ≡ true) xs
 each_passes p [] h = tt
@@ -57,7 +60,8 @@ pub all_pass : {A : Type 0} (p : A → Bool) (xs : List A) → Each (λ x. p x �
 all_pass p [] h = refl
 all_pass p (x ∷ xs) h = and_from (p x) (list_all p xs) h.0 (all_pass p xs h.1)
 
-pub each_with : {A : Type 0} (P Q R : A → Type 0) → ((x : A) → P x → Q x → R x) → (xs : List A) → Each P xs → Each Q xs → Each R xs
+pub each_with : {A : Type 0} (P Q R : A → Type 0) → ((x : A) → P x → Q x → R x) → (xs : List A) → Each P xs →
+    Each Q xs → Each R xs
 each_with P Q R f [] h k = tt
 each_with P Q R f (x ∷ xs) h k = (f x h.0 k.0, each_with P Q R f xs h.1 k.1)
 
@@ -70,12 +74,12 @@ each_map P f [] h = tt
 each_map P f (x ∷ xs) h = (h.0, each_map P f xs h.1)
 
 -- what is in an option
-abbrev pub or_given : {A : Type 0} → A → Option A → A
-or_given given None = given
-or_given given (Some x) = x
+abbrev pub or_present : {A : Type 0} → A → Option A → A
+or_present present None = present
+or_present present (Some x) = x
 
 pub some_is : {A : Type 0} (x y : A) → Some x ≡ Some y → x ≡ y
-some_is x y h = ap (or_given x) h
+some_is x y h = ap (or_present x) h
 
 abbrev pub is_there : {A : Type 0} → Option A → Bool
 is_there None = false
@@ -93,11 +97,15 @@ shift : (i : ℕ) (o : Option ℕ) → option_map (λ k. k + (i + 1)) o ≡ opti
 shift i None = refl
 shift i (Some k) = ap Some (omega arith)
 
-find_at : {A : Type 0} (p : A → Bool) (i : ℕ) (xs : List A) (b : Bool) → position_from p (i + 1) xs ≡ option_map (λ k. k + (i + 1)) (find p xs) → cond b (Some i) (position_from p (i + 1) xs) ≡ option_map (λ k. k + i) (if b then Some 0 else option_map suc (find p xs))
+find_at : {A : Type 0} (p : A → Bool) (i : ℕ) (xs : List A) (b : Bool) →
+    position_from p (i + 1) xs ≡ option_map (λ k. k + (i + 1)) (find p xs) →
+    cond b (Some i) (position_from p (i + 1) xs) ≡ option_map (λ k. k + i)
+    (if b then Some 0 else option_map suc (find p xs))
 find_at p i xs true h = ap Some (omega arith)
 find_at p i xs false h = h ∙ shift i (find p xs)
 
-find_from : {A : Type 0} (p : A → Bool) (i : ℕ) (xs : List A) → position_from p i xs ≡ option_map (λ k. k + i) (find p xs)
+find_from : {A : Type 0} (p : A → Bool) (i : ℕ) (xs : List A) →
+    position_from p i xs ≡ option_map (λ k. k + i) (find p xs)
 find_from p i [] = refl
 find_from p i (x ∷ xs) = find_at p i xs (p x) (find_from p (i + 1) xs)
 

@@ -29,121 +29,197 @@ use Rattle.sc_scope.specs.Names.{Known, is_callable, call_known, expr_known, sim
 use Rattle.sc_elab.specs.Scopes.{Visible}
 use Rattle.sc_elab.specs.Expressions as elab
 use Rattle.sc_elab.specs.Statements.{Callees, typed_args, typed_call, typed_value, going_to_some, typed_simple, typed_simple_kind, kind_step, stmt_step, typed_stmt, call_holds, assign_call_holds, cond_holds, return_call_holds, simple_holds, part_lines, kind_lines, stmt_lines}
-use Rattle.sc_types.proofs.Basics.{held, front_empty, back_empty}
+use Rattle.sc_types.proofs.Basics.{rule_holds, front_empty, back_empty}
 use Rattle.std.proofs.lemmas.Bool.{and_from}
 use Rattle.sc_base.proofs.Bools.{and_first, and_rest}
 
 -- the type of a judged expression is its own
 pub judged_ty : (scope : Scope) (e : TypedExpr) → (judged scope e).ty ≡ e.ty
-judged_ty scope = expr_induction (λ e. (judged scope e).ty ≡ e.ty) (λ t k under. ap (λ j. j.ty) (expr_at _ _ (term_judged scope) (λ e. e.kind e.ty) t k) ∙ of_layer t _) where
-  of_layer : (t : Ty) (k : TypedKind-F (Ty → Judged) Judged) → (term_judged scope k t).ty ≡ t
-  of_layer t (term.Literal word) = refl
-  of_layer t (term.Variable v) = refl
-  of_layer t (term.Unary o a) = refl
-  of_layer t (term.Binary o a b) = refl
-  of_layer t (term.Index a b) = refl
-  of_layer t (term.Member a offset) = refl
-  of_layer t (term.Arrow a offset) = refl
-  of_layer t (term.Deref a) = refl
-  of_layer t (term.Address a) = refl
+judged_ty scope = expr_induction (λ e. (judged scope e).ty ≡ e.ty)
+    (λ t k under. ap (λ j. j.ty) (expr_at _ _ (term_judged scope) (λ e. e.kind e.ty) t k) ∙ of_layer t _) where
+      of_layer : (t : Ty) (k : TypedKind-F (Ty → Judged) Judged) → (term_judged scope k t).ty ≡ t
+      of_layer t (term.Literal word) = refl
+      of_layer t (term.Variable v) = refl
+      of_layer t (term.Unary o a) = refl
+      of_layer t (term.Binary o a b) = refl
+      of_layer t (term.Index a b) = refl
+      of_layer t (term.Member a offset) = refl
+      of_layer t (term.Arrow a offset) = refl
+      of_layer t (term.Deref a) = refl
+      of_layer t (term.Address a) = refl
 
-module _ (known : Known) (visible : Visible) (callees : Callees) (scope : Scope) (callable : Callable) (same : (name : List ℕ) → is_callable known name ≡ true → target_signature callable (callees.target name) ≡ callees.signature name) (result : Option Ty) where
+module _ (known : Known) (visible : Visible) (callees : Callees) (scope : Scope) (callable : Callable)
+    (same : (name : List ℕ) → is_callable known name ≡ true →
+    target_signature callable (callees.target name) ≡ callees.signature name) (result : Option Ty) where
   -- Calls.
 
-  call_is : (call : CallTree) → call_known known call ≡ true → call_holds visible callees scope result call ≡ true → call_fits callable (typed_call visible callees call).target (map (judged scope) (typed_call visible callees call).args) ≡ true
+  call_is : (call : CallTree) → call_known known call ≡ true → call_holds visible callees scope result call ≡ true →
+      call_fits callable (typed_call visible callees call).target
+      (map (judged scope) (typed_call visible callees call).args) ≡ true
   call_is call in_names holds =
-      ap (λ signature. args_fit signature (map (judged scope) (typed_args visible callees call))) (same call.name (and_first (is_callable known call.name) _ in_names)) ∙ holds
+      ap (λ signature. args_fit signature (map (judged scope) (typed_args visible callees call)))
+      (same call.name (and_first (is_callable known call.name) _ in_names)) ∙ holds
 
-  assign_call_is : (place : ExprTree) (call : CallTree) → (expr_known known place && call_known known call) ≡ true → assign_call_holds visible callees scope result place call ≡ true → assign_call_fits callable (judged scope (elab.typed visible place)) (typed_call visible callees call).target (map (judged scope) (typed_call visible callees call).args) ≡ true
+  assign_call_is : (place : ExprTree) (call : CallTree) → (expr_known known place && call_known known call) ≡ true →
+      assign_call_holds visible callees scope result place call ≡ true →
+      assign_call_fits callable (judged scope (elab.typed visible place)) (typed_call visible callees call).target
+      (map (judged scope) (typed_call visible callees call).args) ≡ true
   assign_call_is place call in_names holds =
       let called : call_known known call ≡ true = and_rest (expr_known known place) (call_known known call) in_names in
-      let rest : (call_holds visible callees scope result call && result_goes (callees.signature call.name) (elab.typed visible place).ty) ≡ true = and_rest (is_target (judged scope (elab.typed visible place))) _ holds in
-      let goes : result_goes (target_signature callable (callees.target call.name)) (judged scope (elab.typed visible place)).ty ≡ result_goes (callees.signature call.name) (elab.typed visible place).ty = λ i. result_goes (same call.name (and_first (is_callable known call.name) _ called) i) (judged_ty scope (elab.typed visible place) i) in
-      and_from (is_target (judged scope (elab.typed visible place))) _ (and_first (is_target (judged scope (elab.typed visible place))) _ holds) (and_from _ _ (call_is call called (and_first (call_holds visible callees scope result call) _ rest)) (goes ∙ and_rest (call_holds visible callees scope result call) _ rest))
+      let rest : (call_holds visible callees scope result call &&
+      result_goes (callees.signature call.name) (elab.typed visible place).ty) ≡ true =
+      and_rest (is_target (judged scope (elab.typed visible place))) _ holds in
+      let goes : result_goes (target_signature callable (callees.target call.name))
+      (judged scope (elab.typed visible place)).ty ≡
+      result_goes (callees.signature call.name) (elab.typed visible place).ty =
+      λ i. result_goes (same call.name (and_first (is_callable known call.name) _ called) i)
+      (judged_ty scope (elab.typed visible place) i) in
+      and_from (is_target (judged scope (elab.typed visible place))) _
+      (and_first (is_target (judged scope (elab.typed visible place))) _ holds)
+      (and_from _ _ (call_is call called (and_first (call_holds visible callees scope result call) _ rest))
+      (goes ∙ and_rest (call_holds visible callees scope result call) _ rest))
 
-  return_call_is : (given : Option Ty) (call : CallTree) → call_known known call ≡ true → return_call_holds visible callees scope result given call ≡ true → returned_call_fits callable given (typed_call visible callees call).target (map (judged scope) (typed_call visible callees call).args) ≡ true
+  return_call_is : (present : Option Ty) (call : CallTree) → call_known known call ≡ true →
+      return_call_holds visible callees scope result present call ≡ true →
+      returned_call_fits callable present (typed_call visible callees call).target
+      (map (judged scope) (typed_call visible callees call).args) ≡ true
   return_call_is None call in_names holds = holds
   return_call_is (Some t) call in_names holds =
-      and_from _ _ (call_is call in_names (and_first (call_holds visible callees scope result call) _ holds)) (ap (λ signature. result_goes signature t) (same call.name (and_first (is_callable known call.name) _ in_names)) ∙ and_rest (call_holds visible callees scope result call) _ holds)
+      and_from _ _ (call_is call in_names (and_first (call_holds visible callees scope result call) _ holds))
+      (ap (λ signature. result_goes signature t) (same call.name
+      (and_first (is_callable known call.name) _ in_names)) ∙
+      and_rest (call_holds visible callees scope result call) _ holds)
 
   -- Statements.
 
-  simple_is : (s : SimpleKind) → simple_known known s ≡ true → simple_holds visible callees scope result s ≡ true → simple_fits scope callable result (typed_simple_kind visible callees s) ≡ true
+  simple_is : (s : SimpleKind) → simple_known known s ≡ true → simple_holds visible callees scope result s ≡ true →
+      simple_fits scope callable result (typed_simple_kind visible callees s) ≡ true
   simple_is (simple.Assign place value) in_names holds = holds
   simple_is (simple.AssignCall place call) in_names holds = assign_call_is place call in_names holds
   simple_is (simple.Call call) in_names holds = call_is call in_names holds
 
-  part_is : (part : Option SimpleTree) → names.part_lines known part ≡ [] → part_lines visible callees scope result part ≡ [] → part_fits scope callable result (option_map (typed_simple visible callees) part) ≡ true
+  part_is : (part : Option SimpleTree) → names.part_lines known part ≡ [] →
+      part_lines visible callees scope result part ≡ [] →
+      part_fits scope callable result (option_map (typed_simple visible callees) part) ≡ true
   part_is None in_names holds = refl
-  part_is (Some s) in_names holds = simple_is s.kind (held _ s.line in_names) (held _ s.line holds)
+  part_is (Some s) in_names holds = simple_is s.kind (rule_holds _ s.line in_names) (rule_holds _ s.line holds)
 
   abbrev Fits : StmtTree → Type 0
   Fits s =
-      (looping : Bool) → names.stmt_lines known s looping ≡ [] → stmt_lines visible callees scope result s ≡ [] → stmt_fits scope callable result (typed_stmt visible callees result s) looping ≡ true
+      (looping : Bool) → names.stmt_lines known s looping ≡ [] → stmt_lines visible callees scope result s ≡ [] →
+      stmt_fits scope callable result (typed_stmt visible callees result s) looping ≡ true
 
   -- statements in order, where each fits
-  all_fit : (looping : Bool) (stmts : List StmtTree) → tree_induction.Each Fits stmts → names.all_in known looping (map (names.stmt_lines known) stmts) ≡ [] → concat (map (stmt_lines visible callees scope result) stmts) ≡ [] → list_all {X = Bool → Bool} (λ s. s looping) (map (stmt_fits scope callable result) (map (typed_stmt visible callees result) stmts)) ≡ true
+  all_fit : (looping : Bool) (stmts : List StmtTree) → tree_induction.Each Fits stmts →
+      names.all_in known looping (map (names.stmt_lines known) stmts) ≡ [] →
+      concat (map (stmt_lines visible callees scope result) stmts) ≡ [] →
+      list_all {X = Bool → Bool} (λ s. s looping) (map (stmt_fits scope callable result)
+      (map (typed_stmt visible callees result) stmts)) ≡ true
   all_fit looping [] each in_names holds = refl
   all_fit looping (s ∷ stmts) each in_names holds =
-      and_from _ _ (each.0 looping (front_empty (names.stmt_lines known s looping) _ in_names) (front_empty (stmt_lines visible callees scope result s) _ holds)) (all_fit looping stmts each.1 (back_empty (names.stmt_lines known s looping) _ in_names) (back_empty (stmt_lines visible callees scope result s) _ holds))
+      and_from _ _ (each.0 looping (front_empty (names.stmt_lines known s looping) _ in_names)
+      (front_empty (stmt_lines visible callees scope result s) _ holds))
+      (all_fit looping stmts each.1 (back_empty (names.stmt_lines known s looping) _ in_names)
+      (back_empty (stmt_lines visible callees scope result s) _ holds))
 
   -- the layer of a statement, where the statements inside have their types
   abbrev Layer : Type 0
   Layer = StmtKind-F StmtKind StmtTree
 
   abbrev in_names_at : Layer → ℕ → Bool → List ℕ
-  in_names_at k = tree_layers.layer_of (ℕ → Bool → List ℕ) (Bool → List ℕ) (names.kind_lines known) (λ s. s.kind s.line) k
+  in_names_at k = tree_layers.layer_of (ℕ → Bool → List ℕ) (Bool → List ℕ) (names.kind_lines known)
+      (λ s. s.kind s.line) k
 
   abbrev lines_at : Layer → ℕ → List ℕ
-  lines_at k = tree_layers.layer_of (ℕ → List ℕ) (List ℕ) (kind_lines visible callees scope result) (λ s. s.kind s.line) k
+  lines_at k = tree_layers.layer_of (ℕ → List ℕ) (List ℕ) (kind_lines visible callees scope result)
+      (λ s. s.kind s.line) k
 
   abbrev typed_at : Layer → TypedStmtKind
-  typed_at k = tree_layers.layer_of TypedStmtKind TypedStmt (kind_step visible callees result) (stmt_step visible callees result) k
+  typed_at k = tree_layers.layer_of TypedStmtKind TypedStmt (kind_step visible callees result)
+      (stmt_step visible callees result) k
 
   module _ (line : ℕ) (k : TypedStmtKind-F TypedStmtKind TypedStmt) (looping : Bool) where
     -- a statement of this layer
-    fits_at : stmt_fits scope callable result (on_line line k) looping ≡ layer_of (Bool → Bool) (Bool → Bool) (kind_fits scope callable result) (λ s. s.kind) k looping
+    fits_at : stmt_fits scope callable result (on_line line k) looping ≡
+        layer_of (Bool → Bool) (Bool → Bool) (kind_fits scope callable result) (λ s. s.kind) k looping
     fits_at = ap (λ fits. fits looping) (stmt_at _ _ (kind_fits scope callable result) (λ s. s.kind) line k)
 
-  by_kind : (line : ℕ) (k : Layer) → Inside Fits k → (looping : Bool) → in_names_at k line looping ≡ [] → lines_at k line ≡ [] → stmt_fits scope callable result (record { line = line; kind = typed_at k }) looping ≡ true
+  by_kind : (line : ℕ) (k : Layer) → Inside Fits k → (looping : Bool) → in_names_at k line looping ≡ [] →
+      lines_at k line ≡ [] → stmt_fits scope callable result (record { line = line; kind = typed_at k }) looping ≡
+      true
   unfolding roll-TypedStmtKind denote.Hole.Carrier.roll
   by_kind line tree.Empty under looping in_names holds = fits_at line layer.Empty looping
   by_kind line (tree.Assign place value) under looping in_names holds =
-      fits_at line (layer.Assign (elab.typed visible place) (typed_value visible callees place value)) looping ∙ held _ line holds
+      fits_at line (layer.Assign (elab.typed visible place) (typed_value visible callees place value)) looping ∙
+      rule_holds _ line holds
   by_kind line (tree.AssignCall place call) under looping in_names holds =
-      fits_at line (layer.AssignCall (elab.typed visible place) (typed_call visible callees call)) looping ∙ assign_call_is place call (held _ line in_names) (held _ line holds)
+      fits_at line (layer.AssignCall (elab.typed visible place) (typed_call visible callees call)) looping ∙
+      assign_call_is place call (rule_holds _ line in_names) (rule_holds _ line holds)
   by_kind line (tree.Call call) under looping in_names holds =
-      fits_at line (layer.Call (typed_call visible callees call)) looping ∙ call_is call (held _ line in_names) (held _ line holds)
+      fits_at line (layer.Call (typed_call visible callees call)) looping ∙
+      call_is call (rule_holds _ line in_names) (rule_holds _ line holds)
   by_kind line (tree.If cond first second) under looping in_names holds =
-      fits_at line (layer.If (elab.typed visible cond) (map (typed_stmt visible callees result) first) (map (typed_stmt visible callees result) second)) looping
-      ∙ and_from _ _ (held _ line (front_empty (unless (cond_holds visible callees scope result cond) line) _ holds)) (and_from _ _ (all_fit looping first under.0 (front_empty _ _ names_inside) (front_empty _ _ inside)) (all_fit looping second under.1 (back_empty (names.all_in known looping (map (names.stmt_lines known) first)) _ names_inside) (back_empty (concat (map (stmt_lines visible callees scope result) first)) _ inside))) where
-        names_inside : names.all_in known looping (map (names.stmt_lines known) first) ++ names.all_in known looping (map (names.stmt_lines known) second) ≡ []
+      fits_at line (layer.If (elab.typed visible cond) (map (typed_stmt visible callees result) first)
+      (map (typed_stmt visible callees result) second)) looping
+      ∙ and_from _ _ (rule_holds _ line (front_empty (unless
+      (cond_holds visible callees scope result cond) line) _ holds))
+      (and_from _ _ (all_fit looping first under.0 (front_empty _ _ names_inside) (front_empty _ _ inside))
+      (all_fit looping second under.1 (back_empty
+      (names.all_in known looping (map (names.stmt_lines known) first)) _ names_inside)
+      (back_empty (concat (map (stmt_lines visible callees scope result) first)) _ inside))) where
+        names_inside : names.all_in known looping (map (names.stmt_lines known) first) ++
+            names.all_in known looping (map (names.stmt_lines known) second) ≡ []
         names_inside = back_empty (unless (expr_known known cond) line) _ in_names
 
-        inside : concat (map (stmt_lines visible callees scope result) first) ++ concat (map (stmt_lines visible callees scope result) second) ≡ []
+        inside : concat (map (stmt_lines visible callees scope result) first) ++
+            concat (map (stmt_lines visible callees scope result) second) ≡ []
         inside = back_empty (unless (cond_holds visible callees scope result cond) line) _ holds
   by_kind line (tree.While cond body) under looping in_names holds =
       fits_at line (layer.While (elab.typed visible cond) (map (typed_stmt visible callees result) body)) looping
-      ∙ and_from _ _ (held _ line (front_empty (unless (cond_holds visible callees scope result cond) line) _ holds)) (all_fit true body under (back_empty (unless (expr_known known cond) line) _ in_names) (back_empty (unless (cond_holds visible callees scope result cond) line) _ holds))
+      ∙ and_from _ _ (rule_holds _ line (front_empty (unless
+      (cond_holds visible callees scope result cond) line) _ holds))
+      (all_fit true body under (back_empty (unless (expr_known known cond) line) _ in_names)
+      (back_empty (unless (cond_holds visible callees scope result cond) line) _ holds))
   by_kind line (tree.For first cond next body) under looping in_names holds =
-      fits_at line (layer.For (option_map (typed_simple visible callees) first) (elab.typed visible cond) (option_map (typed_simple visible callees) next) (map (typed_stmt visible callees result) body)) looping
-      ∙ and_from _ _ (part_is first (front_empty (names.part_lines known first) _ in_names) (front_empty (part_lines visible callees scope result first) _ holds)) (and_from _ _ (held _ line (front_empty (unless (cond_holds visible callees scope result cond) line) _ behind_first)) (and_from _ _ (part_is next (front_empty (names.part_lines known next) _ names_behind) (front_empty (part_lines visible callees scope result next) _ behind)) (all_fit true body under (back_empty (names.part_lines known next) _ names_behind) (back_empty (part_lines visible callees scope result next) _ behind)))) where
+      fits_at line (layer.For (option_map (typed_simple visible callees) first) (elab.typed visible cond)
+      (option_map (typed_simple visible callees) next) (map (typed_stmt visible callees result) body)) looping
+      ∙ and_from _ _ (part_is first (front_empty (names.part_lines known first) _ in_names)
+      (front_empty (part_lines visible callees scope result first) _ holds))
+      (and_from _ _ (rule_holds _ line (front_empty
+      (unless (cond_holds visible callees scope result cond) line) _ behind_first))
+      (and_from _ _ (part_is next (front_empty (names.part_lines known next) _ names_behind)
+      (front_empty (part_lines visible callees scope result next) _ behind))
+      (all_fit true body under (back_empty (names.part_lines known next) _ names_behind)
+      (back_empty (part_lines visible callees scope result next) _ behind)))) where
         names_behind : names.part_lines known next ++ names.all_in known true (map (names.stmt_lines known) body) ≡ []
-        names_behind = back_empty (unless (expr_known known cond) line) _ (back_empty (names.part_lines known first) _ in_names)
+        names_behind = back_empty (unless (expr_known known cond) line) _
+            (back_empty (names.part_lines known first) _ in_names)
 
-        behind_first : unless (cond_holds visible callees scope result cond) line ++ (part_lines visible callees scope result next ++ concat (map (stmt_lines visible callees scope result) body)) ≡ []
+        behind_first : unless (cond_holds visible callees scope result cond) line ++
+            (part_lines visible callees scope result next ++
+            concat (map (stmt_lines visible callees scope result) body)) ≡ []
         behind_first = back_empty (part_lines visible callees scope result first) _ holds
 
-        behind : part_lines visible callees scope result next ++ concat (map (stmt_lines visible callees scope result) body) ≡ []
+        behind : part_lines visible callees scope result next ++
+            concat (map (stmt_lines visible callees scope result) body) ≡ []
         behind = back_empty (unless (cond_holds visible callees scope result cond) line) _ behind_first
-  by_kind line tree.Break under looping in_names holds = fits_at line layer.Break looping ∙ held looping line in_names
-  by_kind line tree.Continue under looping in_names holds = fits_at line layer.Continue looping ∙ held looping line in_names
-  by_kind line tree.Return under looping in_names holds = fits_at line layer.Return looping ∙ held _ line holds
+  by_kind line tree.Break under looping in_names holds =
+      fits_at line layer.Break looping ∙ rule_holds looping line in_names
+  by_kind line tree.Continue under looping in_names holds =
+      fits_at line layer.Continue looping ∙ rule_holds looping line in_names
+  by_kind line tree.Return under looping in_names holds = fits_at line layer.Return looping ∙ rule_holds _ line holds
   by_kind line (tree.ReturnValue value) under looping in_names holds =
-      fits_at line (layer.ReturnValue (going_to_some result (elab.typed visible value))) looping ∙ held _ line holds
+      fits_at line (layer.ReturnValue (going_to_some result (elab.typed visible value))) looping ∙
+      rule_holds _ line holds
   by_kind line (tree.ReturnCall call) under looping in_names holds =
-      fits_at line (layer.ReturnCall (typed_call visible callees call)) looping ∙ return_call_is result call (held _ line in_names) (held _ line holds)
+      fits_at line (layer.ReturnCall (typed_call visible callees call)) looping ∙
+      return_call_is result call (rule_holds _ line in_names) (rule_holds _ line holds)
 
   pub fits : (s : StmtTree) → Fits s
   fits =
-      stmt_induction Fits (λ line k under looping in_names holds. ap (λ s. stmt_fits scope callable result s looping) (tree_layers.stmt_at _ _ (kind_step visible callees result) (stmt_step visible callees result) line k) ∙ by_kind line k under looping (sym (ap (λ lines. lines looping) (tree_layers.stmt_at _ _ (names.kind_lines known) (λ s. s.kind s.line) line k)) ∙ in_names) (sym (tree_layers.stmt_at _ _ (kind_lines visible callees scope result) (λ s. s.kind s.line) line k) ∙ holds))
+      stmt_induction Fits (λ line k under looping in_names holds.
+      ap (λ s. stmt_fits scope callable result s looping)
+      (tree_layers.stmt_at _ _ (kind_step visible callees result) (stmt_step visible callees result) line k) ∙
+      by_kind line k under looping (sym (ap (λ lines. lines looping)
+      (tree_layers.stmt_at _ _ (names.kind_lines known) (λ s. s.kind s.line) line k)) ∙ in_names)
+      (sym (tree_layers.stmt_at _ _ (kind_lines visible callees scope result) (λ s. s.kind s.line) line k) ∙ holds))

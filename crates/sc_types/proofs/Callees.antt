@@ -55,14 +55,19 @@ other_of : (a b : Bool) → (a || b) ≡ true → a ≡ false → b ≡ true
 other_of true b h q = absurd (false≢true (sym q))
 other_of false b h q = h
 
-names_append : (a b : List Text) (name : Text) → is_numbered (a ++ b) name ≡ true → is_numbered a name ≡ false → is_numbered b name ≡ true
+names_append : (a b : List Text) (name : Text) → is_numbered (a ++ b) name ≡ true → is_numbered a name ≡ false →
+    is_numbered b name ≡ true
 names_append [] b name h q = h
 names_append (x ∷ a) b name h q = by_case (bytes_eq name x) h q (names_append a b name) where
-  by_case : (c : Bool) → (c || is_numbered (a ++ b) name) ≡ true → (c || is_numbered a name) ≡ false → (is_numbered (a ++ b) name ≡ true → is_numbered a name ≡ false → is_numbered b name ≡ true) → is_numbered b name ≡ true
+  by_case : (c : Bool) → (c || is_numbered (a ++ b) name) ≡ true → (c || is_numbered a name) ≡ false →
+      (is_numbered (a ++ b) name ≡ true → is_numbered a name ≡ false → is_numbered b name ≡ true) →
+      is_numbered b name ≡ true
   by_case true h q f = absurd (false≢true (sym q))
   by_case false h q f = f h q
 
-module _ (sections : List SectionTree) (hold : (j : ℕ) (s : SectionTree) → slice_get sections j ≡ Some s → FaceFacts sections j s) (number : ℕ) (section : SectionTree) (there : slice_get sections number ≡ Some section) where
+module _ (sections : List SectionTree) (hold : (j : ℕ) (s : SectionTree) → slice_get sections j ≡ Some s →
+    FaceFacts sections j s) (number : ℕ) (section : SectionTree)
+    (there : slice_get sections number ≡ Some section) where
   abbrev pub callees : Callees
   callees = callees_of sections number section
 
@@ -73,11 +78,15 @@ module _ (sections : List SectionTree) (hold : (j : ℕ) (s : SectionTree) → s
   facts = hold number section there
 
   -- what is imported is among the imports
-  imported : (at : ℕ) (line : ImportLine) → slice_get section.imports at ≡ Some line → list_any (same_import (import_of sections number line)) callable.imports ≡ true
+  imported : (at : ℕ) (line : ImportLine) → slice_get section.imports at ≡ Some line →
+      list_any (same_import (import_of sections number line)) callable.imports ≡ true
   imported at line got =
-      any_at (same_import (import_of sections number line)) (map (import_of sections number) section.imports) at (import_of sections number line) (get_map (import_of sections number) section.imports at ∙ ap (option_map (import_of sections number)) got) (same_import_refl (import_of sections number line))
+      any_at (same_import (import_of sections number line)) (map (import_of sections number) section.imports) at
+      (import_of sections number line) (get_map (import_of sections number) section.imports at ∙
+      ap (option_map (import_of sections number)) got) (same_import_refl (import_of sections number line))
 
-  module _ (name : Text) (f : FoundImport (ImportFacts sections number section) name section.imports) (h : FoundHead (DeclFacts sections number section facts.mains) name section.decls) where
+  module _ (name : Text) (f : FoundImport (ImportFacts sections number section) name section.imports)
+      (h : FoundHead (DeclFacts sections number section facts.mains) name section.decls) where
     abbrev line : ImportLine
     line = f.line
 
@@ -89,7 +98,12 @@ module _ (sections : List SectionTree) (hold : (j : ℕ) (s : SectionTree) → s
 
     as_line : agrees_as sections number section head line ≡ true
     as_line =
-        unless_other (bytes_eq line.name head.name) _ (each_at (λ line. (not (bytes_eq line.name head.name) || agrees_as sections number section head line) ≡ true) section.imports f.at line (each_passes {A = ImportLine} (λ line. not (bytes_eq line.name head.name) || agrees_as sections number section head line) section.imports h.holds.1) f.got) (subst (λ n. bytes_eq line.name n ≡ true) same_name (same_refl line.name))
+        unless_other (bytes_eq line.name head.name) _
+        (each_at (λ line. (not (bytes_eq line.name head.name) || agrees_as sections number section head line) ≡
+        true) section.imports f.at line (each_passes {A = ImportLine}
+        (λ line. not (bytes_eq line.name head.name) ||
+        agrees_as sections number section head line) section.imports h.holds.1) f.got)
+        (subst (λ n. bytes_eq line.name n ≡ true) same_name (same_refl line.name))
 
     abbrev Goal : Import → Type 0
     Goal i = target_signature callable (import_target i) ≡ Some (signature_by (tags section) head)
@@ -97,11 +111,15 @@ module _ (sections : List SectionTree) (hold : (j : ℕ) (s : SectionTree) → s
     -- the environment's
     input_goal : import_of sections number line ≡ import.Input → is_input head ≡ true → Goal import.Input
     input_goal is agrees =
-        ap (λ b. allowed b (Some (record { params = []; result = Some ty.Int }))) (subst (λ i. list_any (same_import i) callable.imports ≡ true) is (imported f.at line f.got)) ∙ ap Some (sym (input_signature (tags section) head agrees))
+        ap (λ b. allowed b (Some (record { params = []; result = Some ty.Int })))
+        (subst (λ i. list_any (same_import i) callable.imports ≡ true) is (imported f.at line f.got)) ∙
+        ap Some (sym (input_signature (tags section) head agrees))
 
     output_goal : import_of sections number line ≡ import.Output → is_output head ≡ true → Goal import.Output
     output_goal is agrees =
-        ap (λ b. allowed b (Some (record { params = ty.Int ∷ []; result = None }))) (subst (λ i. list_any (same_import i) callable.imports ≡ true) is (imported f.at line f.got)) ∙ ap Some (sym (output_signature (tags section) head agrees))
+        ap (λ b. allowed b (Some (record { params = ty.Int ∷ []; result = None })))
+        (subst (λ i. list_any (same_import i) callable.imports ≡ true) is (imported f.at line f.got)) ∙
+        ap Some (sym (output_signature (tags section) head agrees))
 
     abbrev import_by : Bool → Bool → Import
     import_by env input =
@@ -109,16 +127,22 @@ module _ (sections : List SectionTree) (hold : (j : ℕ) (s : SectionTree) → s
 
     abbrev agrees_by : Bool → Bool → Bool → Bool
     agrees_by env input output =
-        if env then (if input then is_input head else if output then is_output head else true) else agrees_there sections number section head (offering number line 0 sections)
+        if env then (if input then is_input head else if output then is_output head else true) else
+        agrees_there sections number section head (offering number line 0 sections)
 
     abbrev offered_by : Bool → Bool → Bool → Bool
     offered_by env input output = if env then input || output else is_some (offering number line 0 sections)
 
-    env_goal : (env input output : Bool) → is_environment line ≡ env → bytes_eq line.name input_name ≡ input → bytes_eq line.name output_name ≡ output → offered_by env input output ≡ true → agrees_by env input output ≡ true → (env ≡ false → Goal (import_of sections number line)) → Goal (import_of sections number line)
+    env_goal : (env input output : Bool) → is_environment line ≡ env → bytes_eq line.name input_name ≡ input →
+        bytes_eq line.name output_name ≡ output → offered_by env input output ≡ true →
+        agrees_by env input output ≡ true → (env ≡ false → Goal (import_of sections number line)) →
+        Goal (import_of sections number line)
     env_goal true true output e i o off agrees f =
-        let is : import_of sections number line ≡ import.Input = λ k. import_by (e k) (i k) in subst Goal (sym is) (input_goal is agrees)
+        let is : import_of sections number line ≡ import.Input = λ k. import_by (e k) (i k) in
+        subst Goal (sym is) (input_goal is agrees)
     env_goal true false true e i o off agrees f =
-        let is : import_of sections number line ≡ import.Output = λ k. import_by (e k) (i k) in subst Goal (sym is) (output_goal is agrees)
+        let is : import_of sections number line ≡ import.Output = λ k. import_by (e k) (i k) in
+        subst Goal (sym is) (output_goal is agrees)
     env_goal true false false e i o off agrees f = absurd (false≢true off)
     env_goal false input output e i o off agrees f = f refl
 
@@ -132,7 +156,8 @@ module _ (sections : List SectionTree) (hold : (j : ℕ) (s : SectionTree) → s
 
       export : FoundBy {A = ExportLine} (λ line. line.name) line.name other.exports
       export =
-          found_by {A = ExportLine} (λ line. line.name) line.name other.exports (and_rest (not (o.number == number)) _ (and_rest (bytes_eq other.name line.comp) _ o.offers))
+          found_by {A = ExportLine} (λ line. line.name) line.name other.exports
+          (and_rest (not (o.number == number)) _ (and_rest (bytes_eq other.name line.comp) _ o.offers))
 
       abbrev export_line : ExportLine
       export_line = export.item
@@ -142,62 +167,102 @@ module _ (sections : List SectionTree) (hold : (j : ℕ) (s : SectionTree) → s
 
       defined : is_numbered (function_names other.decls) export_line.name ≡ true
       defined =
-          (each_at (ExportFacts sections o.number other) other.exports export.at export_line there_facts.exports export.got).defined
+          (each_at (ExportFacts sections o.number other) other.exports export.at export_line there_facts.exports
+          export.got).defined
 
       g : FoundFunction export_line.name (functions_in other.decls)
       g = find_function export_line.name (functions_in other.decls) defined
 
       import_is : import_of sections number line ≡ import.Function o.number export.at
       import_is =
-          ap (λ b. import_by b (bytes_eq line.name input_name)) env ∙ ap (offered line) o.is ∙ ap (λ n. import.Function o.number (number_or_zero n)) export.place
+          ap (λ b. import_by b (bytes_eq line.name input_name)) env ∙ ap (offered line) o.is ∙
+          ap (λ n. import.Function o.number (number_or_zero n)) export.place
 
       with_all : agrees_with (heads_in other.decls) head ≡ true
       with_all =
-          sym (ap (agrees_there sections number section head) o.is) ∙ sym (ap (λ b. agrees_by b (bytes_eq head.name input_name) (bytes_eq head.name output_name)) env) ∙ as_line
+          sym (ap (agrees_there sections number section head) o.is) ∙
+          sym (ap (λ b. agrees_by b (bytes_eq head.name input_name) (bytes_eq head.name output_name)) env) ∙ as_line
 
       agrees : agree (head_of g.tree.head) head ≡ true
       agrees =
-          unless_other (bytes_eq g.tree.head.name head.name) _ (each_at (λ tree. (not (bytes_eq tree.head.name head.name) || agree (head_of tree.head) head) ≡ true) (functions_in other.decls) g.at g.tree (heads_of_functions (λ other. not (bytes_eq other.name head.name) || agree other head) other.decls with_all) g.got) (subst (λ n. bytes_eq g.tree.head.name n ≡ true) (sym export_name ∙ same_name) g.named)
+          unless_other (bytes_eq g.tree.head.name head.name) _
+          (each_at (λ tree. (not (bytes_eq tree.head.name head.name) || agree (head_of tree.head) head) ≡ true)
+          (functions_in other.decls) g.at g.tree (heads_of_functions
+          (λ other. not (bytes_eq other.name head.name) || agree other head) other.decls with_all) g.got)
+          (subst (λ n. bytes_eq g.tree.head.name n ≡ true) (sym export_name ∙ same_name) g.named)
 
       there_name : is_numbered (import_names section) head.name ≡ true
       there_name =
-          any_at (bytes_eq head.name) (import_names section) f.at line.name (get_map {A = ImportLine} (λ line. line.name) section.imports f.at ∙ ap (option_map {T = ImportLine} (λ line. line.name)) f.got) (subst (λ n. bytes_eq n line.name ≡ true) same_name (same_refl line.name))
+          any_at (bytes_eq head.name) (import_names section) f.at line.name
+          (get_map {A = ImportLine} (λ line. line.name) section.imports f.at ∙
+          ap (option_map {T = ImportLine} (λ line. line.name)) f.got)
+          (subst (λ n. bytes_eq n line.name ≡ true) same_name (same_refl line.name))
 
       head_is : head_crosses head ≡ true
       head_is = or_not (head_crosses head) _ h.holds.0 (or_right _ _ there_name)
 
       proto_is : export_at (interfaces_of sections) o.number export.at ≡ Some (promised export_line.name (Some g.tree))
       proto_is =
-          export_is sections o.number other export.at export_line o.got export.got ∙ ap (λ t. Some (promised export_line.name t)) g.first
+          export_is sections o.number other export.at export_line o.got export.got ∙
+          ap (λ t. Some (promised export_line.name t)) g.first
 
       other_goal : Goal (import_of sections number line)
       other_goal =
-          subst Goal (sym import_is) (ap (λ b. allowed b (option_signature proto_signature (export_at (interfaces_of sections) o.number export.at))) (subst (λ i. list_any (same_import i) callable.imports ≡ true) import_is (imported f.at line f.got)) ∙ ap (option_signature proto_signature) proto_is ∙ ap Some (agreed_signature (tags section) export_line.name g.tree head agrees head_is))
+          subst Goal (sym import_is) (ap (λ b. allowed b
+          (option_signature proto_signature (export_at (interfaces_of sections) o.number export.at)))
+          (subst (λ i. list_any (same_import i) callable.imports ≡ true) import_is (imported f.at line f.got)) ∙
+          ap (option_signature proto_signature) proto_is ∙
+          ap Some (agreed_signature (tags section) export_line.name g.tree head agrees head_is))
 
     offered_line : is_offered sections number section line ≡ true
     offered_line = f.holds.offered
 
     import_goal : Goal (import_of sections number line)
     import_goal =
-        env_goal (is_environment line) (bytes_eq line.name input_name) (bytes_eq line.name output_name) refl refl refl offered_line (ap (λ n. agrees_by (is_environment line) (bytes_eq n input_name) (bytes_eq n output_name)) same_name ∙ as_line) (λ env. other_goal (find_offering number line sections (sym (ap (λ b. offered_by b (bytes_eq line.name input_name) (bytes_eq line.name output_name)) env) ∙ offered_line)) env)
+        env_goal (is_environment line) (bytes_eq line.name input_name)
+        (bytes_eq line.name output_name) refl refl refl offered_line
+        (ap (λ n. agrees_by (is_environment line) (bytes_eq n input_name) (bytes_eq n output_name)) same_name ∙
+        as_line) (λ env. other_goal (find_offering number line sections
+        (sym (ap (λ b. offered_by b (bytes_eq line.name input_name) (bytes_eq line.name output_name)) env) ∙
+        offered_line)) env)
 
   -- by the name
-  own_goal : (name : Text) → is_numbered (function_names section.decls) name ≡ true → target_signature callable (callees.target name) ≡ callees.signature name
+  own_goal : (name : Text) → is_numbered (function_names section.decls) name ≡ true →
+      target_signature callable (callees.target name) ≡ callees.signature name
   own_goal name h =
       let f : FoundFunction name (functions_in section.decls) = find_function name (functions_in section.decls) h in
-      ap (λ n. target_signature callable (target_or n (imported_target sections number (import_named name section.imports)))) f.number ∙ own_at section callees name f ∙ sym (ap (λ t. option_map (signature_by (tags section)) (or_first t (head_named name (heads_in section.decls)))) f.first)
+      ap (λ n. target_signature callable (target_or n
+      (imported_target sections number (import_named name section.imports)))) f.number ∙
+      own_at section callees name f ∙ sym (ap (λ t.
+      option_map (signature_by (tags section)) (or_first t (head_named name (heads_in section.decls)))) f.first)
 
-  import_case : (name : Text) → is_numbered (function_names section.decls) name ≡ false → is_numbered (import_names section) name ≡ true → target_signature callable (callees.target name) ≡ callees.signature name
+  import_case : (name : Text) → is_numbered (function_names section.decls) name ≡ false →
+      is_numbered (import_names section) name ≡ true →
+      target_signature callable (callees.target name) ≡ callees.signature name
   import_case name none h =
-      let f : FoundImport (ImportFacts sections number section) name section.imports = find_import (ImportFacts sections number section) name section.imports facts.imports h in
+      let f : FoundImport (ImportFacts sections number section) name section.imports =
+      find_import (ImportFacts sections number section) name section.imports facts.imports h in
       let named : f.line.name ≡ name = same_text f.line.name name f.named in
-      let head : FoundHead (DeclFacts sections number section facts.mains) name section.decls = find_head (DeclFacts sections number section facts.mains) name section.decls facts.decls (subst (λ n. is_numbered (proto_names section.decls) n ≡ true) named f.holds.declared) none in
-      ap (λ n. target_signature callable (target_or n (imported_target sections number (import_named name section.imports)))) (no_place (function_names section.decls) name none) ∙ ap (λ l. target_signature callable (imported_target sections number l)) f.first ∙ import_goal name f head ∙ sym (λ i. option_map (signature_by (tags section)) (or_first (no_function name (functions_in section.decls) none i) (head.first i)))
+      let head : FoundHead (DeclFacts sections number section facts.mains) name section.decls =
+      find_head (DeclFacts sections number section facts.mains) name section.decls facts.decls
+      (subst (λ n. is_numbered (proto_names section.decls) n ≡ true) named f.holds.declared) none in
+      ap (λ n. target_signature callable (target_or n
+      (imported_target sections number (import_named name section.imports))))
+      (no_place (function_names section.decls) name none) ∙
+      ap (λ l. target_signature callable (imported_target sections number l)) f.first ∙ import_goal name f head ∙
+      sym (λ i. option_map (signature_by (tags section))
+      (or_first (no_function name (functions_in section.decls) none i) (head.first i)))
 
-  by_name : (name : Text) (b : Bool) → is_numbered (function_names section.decls) name ≡ b → is_numbered (function_names section.decls ++ import_names section) name ≡ true → target_signature callable (callees.target name) ≡ callees.signature name
+  by_name : (name : Text) (b : Bool) → is_numbered (function_names section.decls) name ≡ b →
+      is_numbered (function_names section.decls ++ import_names section) name ≡ true →
+      target_signature callable (callees.target name) ≡ callees.signature name
   by_name name true q h = own_goal name q
-  by_name name false q h = import_case name q (names_append (function_names section.decls) (import_names section) name h q)
+  by_name name false q h = import_case name q (names_append (function_names section.decls)
+      (import_names section) name h q)
 
   -- what may be called has the signature of its target
-  pub same_signature_called : (before : List Decl) (tree : FunctionTree) (name : Text) → is_callable (known_in (declared section before) tree) name ≡ true → target_signature callable (callees.target name) ≡ callees.signature name
-  same_signature_called before tree name h = by_name name (is_numbered (function_names section.decls) name) refl (and_first _ _ h)
+  pub same_signature_called : (before : List Decl) (tree : FunctionTree) (name : Text) →
+      is_callable (known_in (declared section before) tree) name ≡ true →
+      target_signature callable (callees.target name) ≡ callees.signature name
+  same_signature_called before tree name h = by_name name (is_numbered (function_names section.decls) name) refl
+      (and_first _ _ h)

@@ -37,14 +37,16 @@ use Rattle.sc_base.proofs.Bools.{and_first, and_rest}
 zero_is : (n : ℕ) → nat_eq n 0 ≡ true → n ≡ 0
 zero_is n h = (Decides-eqb n 0).0 h
 
-crossing_base : (tags : List Text) (b : BaseTree) → (same_base b base_tree.Int || same_base b base_tree.Unsigned) ≡ true → starred 0 (base_of tags b) ≡ scalar_ty (base_scalar b)
+crossing_base : (tags : List Text) (b : BaseTree) → (same_base b base_tree.Int || same_base b base_tree.Unsigned) ≡
+    true → starred 0 (base_of tags b) ≡ scalar_ty (base_scalar b)
 crossing_base tags base_tree.Int h = refl
 crossing_base tags base_tree.Unsigned h = refl
 crossing_base tags (base_tree.Struct tag) h = absurd (false≢true h)
 
 pub crossing_ty : (tags : List Text) (t : TypeName) → crosses t ≡ true → type_of_name tags t ≡ scalar_ty (scalar_of t)
 crossing_ty tags t h =
-    ap (λ stars. starred stars (base_of tags t.base)) (zero_is t.stars (and_first _ _ h)) ∙ crossing_base tags t.base (and_rest (nat_eq t.stars 0) _ h)
+    ap (λ stars. starred stars (base_of tags t.base)) (zero_is t.stars (and_first _ _ h)) ∙
+    crossing_base tags t.base (and_rest (nat_eq t.stars 0) _ h)
 
 same_scalar : (a b : BaseTree) → same_base a b ≡ true → base_scalar a ≡ base_scalar b
 same_scalar base_tree.Int base_tree.Int h = refl
@@ -58,33 +60,47 @@ same_scalar (base_tree.Struct tag) base_tree.Unsigned h = absurd (false≢true h
 same_scalar (base_tree.Struct tag) (base_tree.Struct other) h = refl
 
 -- a type that crosses and agrees with another
-agreed_ty : (tags : List Text) (a b : TypeName) → same_type a b ≡ true → crosses b ≡ true → type_of_name tags b ≡ scalar_ty (scalar_of a)
+agreed_ty : (tags : List Text) (a b : TypeName) → same_type a b ≡ true → crosses b ≡ true →
+    type_of_name tags b ≡ scalar_ty (scalar_of a)
 agreed_ty tags a b same h =
     crossing_ty tags b h ∙ ap scalar_ty (sym (same_scalar a.base b.base (and_rest (nat_eq a.stars b.stars) _ same)))
 
-agreed_params : (tags : List Text) (a b : List ParamTree) → same_params a b ≡ true → list_all {X = ParamTree} (λ param. crosses param.ty) b ≡ true → map (param_ty tags) b ≡ map scalar_ty (map (λ param. scalar_of param.ty) a)
+agreed_params : (tags : List Text) (a b : List ParamTree) → same_params a b ≡ true →
+    list_all {X = ParamTree} (λ param. crosses param.ty) b ≡ true →
+    map (param_ty tags) b ≡ map scalar_ty (map (λ param. scalar_of param.ty) a)
 agreed_params tags [] [] same h = refl
 agreed_params tags [] (p ∷ b) same h = absurd (false≢true same)
 agreed_params tags (p ∷ a) [] same h = absurd (false≢true same)
 agreed_params tags (p ∷ a) (q ∷ b) same h = λ i.
-    agreed_ty tags p.ty q.ty (and_first _ _ same) (and_first _ _ h) i ∷ agreed_params tags a b (and_rest (same_type p.ty q.ty) _ same) (and_rest (crosses q.ty) _ h) i
+    agreed_ty tags p.ty q.ty (and_first _ _ same) (and_first _ _ h) i ∷
+    agreed_params tags a b (and_rest (same_type p.ty q.ty) _ same) (and_rest (crosses q.ty) _ h) i
 
-agreed_result : (tags : List Text) (a b : Option TypeName) → same_result a b ≡ true → result_crosses b ≡ true → option_map (type_of_name tags) b ≡ result_ty (option_map scalar_of a)
+agreed_result : (tags : List Text) (a b : Option TypeName) → same_result a b ≡ true → result_crosses b ≡ true →
+    option_map (type_of_name tags) b ≡ result_ty (option_map scalar_of a)
 agreed_result tags None None same h = refl
 agreed_result tags None (Some t) same h = absurd (false≢true same)
 agreed_result tags (Some t) None same h = absurd (false≢true same)
 agreed_result tags (Some t) (Some u) same h = ap Some (agreed_ty tags t u same h)
 
-scalars_of : (params : List FunctionParam) → map {A = ParamTree} (λ param. scalar_of param.ty) (map param_of params) ≡ map {A = FunctionParam} (λ param. scalar_of param.ty) params
+scalars_of : (params : List FunctionParam) → map {A = ParamTree} (λ param. scalar_of param.ty) (map param_of params) ≡
+    map {A = FunctionParam} (λ param. scalar_of param.ty) params
 scalars_of [] = refl
 scalars_of (p ∷ params) = ap (λ rest. scalar_of p.ty ∷ rest) (scalars_of params)
 
 -- the signature of a head that agrees with a function and whose types cross
-pub agreed_signature : (tags : List Text) (name : Text) (tree : FunctionTree) (head : HeadTree) → agree (head_of tree.head) head ≡ true → head_crosses head ≡ true → proto_signature (promised name (Some tree)) ≡ signature_by tags head
+pub agreed_signature : (tags : List Text) (name : Text) (tree : FunctionTree) (head : HeadTree) →
+    agree (head_of tree.head) head ≡ true → head_crosses head ≡ true →
+    proto_signature (promised name (Some tree)) ≡ signature_by tags head
 agreed_signature tags name tree head same h = λ i.
-    record { params = sym (agreed_params tags (map param_of tree.head.params) head.params (and_rest (same_result tree.head.result head.result) _ same) (and_rest (result_crosses head.result) _ h) ∙ ap (map scalar_ty) (scalars_of tree.head.params)) i; result = sym (agreed_result tags tree.head.result head.result (and_first _ _ same) (and_first _ _ h)) i }
+    record {
+      params = sym (agreed_params tags (map param_of tree.head.params) head.params
+          (and_rest (same_result tree.head.result head.result) _ same) (and_rest (result_crosses head.result) _ h) ∙
+          ap (map scalar_ty) (scalars_of tree.head.params)) i;
+      result = sym (agreed_result tags tree.head.result head.result (and_first _ _ same) (and_first _ _ h)) i;
+    }
 
-int_by : (tags : List Text) (stars : ℕ) (b : BaseTree) → nat_eq stars 0 ≡ true → same_base b base_tree.Int ≡ true → starred stars (base_of tags b) ≡ ty.Int
+int_by : (tags : List Text) (stars : ℕ) (b : BaseTree) → nat_eq stars 0 ≡ true → same_base b base_tree.Int ≡ true →
+    starred stars (base_of tags b) ≡ ty.Int
 int_by tags stars base_tree.Int h k = ap (λ n. starred n (base_of tags base_tree.Int)) (zero_is stars h)
 int_by tags stars base_tree.Unsigned h k = absurd (false≢true k)
 int_by tags stars (base_tree.Struct tag) h k = absurd (false≢true k)
@@ -92,11 +108,13 @@ int_by tags stars (base_tree.Struct tag) h k = absurd (false≢true k)
 pub int_ty : (tags : List Text) (t : TypeName) → is_int t ≡ true → type_of_name tags t ≡ ty.Int
 int_ty tags t h = int_by tags t.stars t.base (and_first _ _ h) (and_rest (nat_eq t.stars 0) _ h)
 
-int_result : (tags : List Text) (result : Option TypeName) → gives_int result ≡ true → option_map (type_of_name tags) result ≡ Some ty.Int
+int_result : (tags : List Text) (result : Option TypeName) → gives_int result ≡ true →
+    option_map (type_of_name tags) result ≡ Some ty.Int
 int_result tags None h = absurd (false≢true h)
 int_result tags (Some t) h = ap Some (int_ty tags t h)
 
-no_result : (tags : List Text) (result : Option TypeName) → not (is_some result) ≡ true → option_map (type_of_name tags) result ≡ None
+no_result : (tags : List Text) (result : Option TypeName) → not (is_some result) ≡ true →
+    option_map (type_of_name tags) result ≡ None
 no_result tags None h = refl
 no_result tags (Some t) h = absurd (false≢true h)
 
@@ -104,18 +122,27 @@ no_params : (tags : List Text) (params : List ParamTree) → takes_nothing param
 no_params tags [] h = refl
 no_params tags (p ∷ params) h = absurd (false≢true h)
 
-int_params : (tags : List Text) (params : List ParamTree) → takes_int params ≡ true → map (param_ty tags) params ≡ ty.Int ∷ []
+int_params : (tags : List Text) (params : List ParamTree) → takes_int params ≡ true →
+    map (param_ty tags) params ≡ ty.Int ∷ []
 int_params tags [] h = absurd (false≢true h)
 int_params tags (p ∷ []) h = ap (λ t. t ∷ []) (int_ty tags p.ty h)
 int_params tags (p ∷ q ∷ params) h = absurd (false≢true h)
 
-pub input_signature : (tags : List Text) (head : HeadTree) → is_input head ≡ true → signature_by tags head ≡ record { params = []; result = Some ty.Int }
+pub input_signature : (tags : List Text) (head : HeadTree) → is_input head ≡ true →
+    signature_by tags head ≡ record { params = []; result = Some ty.Int }
 input_signature tags head h = λ i.
-    record { params = no_params tags head.params (and_rest (gives_int head.result) _ h) i; result = int_result tags head.result (and_first _ _ h) i }
+    record {
+      params = no_params tags head.params (and_rest (gives_int head.result) _ h) i;
+      result = int_result tags head.result (and_first _ _ h) i;
+    }
 
-pub output_signature : (tags : List Text) (head : HeadTree) → is_output head ≡ true → signature_by tags head ≡ record { params = ty.Int ∷ []; result = None }
+pub output_signature : (tags : List Text) (head : HeadTree) → is_output head ≡ true →
+    signature_by tags head ≡ record { params = ty.Int ∷ []; result = None }
 output_signature tags head h = λ i.
-    record { params = int_params tags head.params (and_rest (not (is_some head.result)) _ h) i; result = no_result tags head.result (and_first _ _ h) i }
+    record {
+      params = int_params tags head.params (and_rest (not (is_some head.result)) _ h) i;
+      result = no_result tags head.result (and_first _ _ h) i;
+    }
 
 -- Lists of what is named.
 
@@ -135,12 +162,29 @@ module _ {A : Type 0} (name_in : A → Text) (name : Text) where
     got : slice_get xs at ≡ Some item
     named : bytes_eq name (name_in item) ≡ true
 
-  by_at : (x : A) (xs : List A) (b : Bool) → bytes_eq name (name_in x) ≡ b → (list_any (bytes_eq name) (map name_in xs) ≡ true → FindBy xs) → (b || list_any (bytes_eq name) (map name_in xs)) ≡ true → FindBy (x ∷ xs)
+  by_at : (x : A) (xs : List A) (b : Bool) → bytes_eq name (name_in x) ≡ b →
+      (list_any (bytes_eq name) (map name_in xs) ≡ true → FindBy xs) →
+      (b || list_any (bytes_eq name) (map name_in xs)) ≡ true → FindBy (x ∷ xs)
   by_at x xs true q f h =
-      record { at = 0; item = x; place = ap (λ c. if c then Some 0 else option_map suc (find (bytes_eq name) (map name_in xs))) q; got = refl; named = q }
+      record {
+        at = 0;
+        item = x;
+        place = ap (λ c. if c then Some 0 else
+            option_map suc (find (bytes_eq name) (map name_in xs))) q;
+        got = refl;
+        named = q;
+      }
   by_at x xs false q f h =
       let rest : FindBy xs = f h in
-      record { at = suc rest.at; item = rest.item; place = ap (λ c. if c then Some 0 else option_map suc (find (bytes_eq name) (map name_in xs))) q ∙ ap (option_map suc) rest.place; got = rest.got; named = rest.named }
+      record {
+        at = suc rest.at;
+        item = rest.item;
+        place = ap
+            (λ c. if c then Some 0 else option_map suc (find (bytes_eq name) (map name_in xs))) q ∙
+            ap (option_map suc) rest.place;
+        got = rest.got;
+        named = rest.named;
+      }
 
   find_by : (xs : List A) → list_any (bytes_eq name) (map name_in xs) ≡ true → FindBy xs
   find_by [] h = absurd (false≢true h)
@@ -149,7 +193,13 @@ module _ {A : Type 0} (name_in : A → Text) (name : Text) where
   pub found_by : (xs : List A) → is_numbered (map name_in xs) name ≡ true → FoundBy name_in name xs
   found_by xs h =
       let f : FindBy xs = find_by xs h in
-      record { at = f.at; item = f.item; place = number_is (map name_in xs) name ∙ f.place; got = f.got; named = f.named }
+      record {
+        at = f.at;
+        item = f.item;
+        place = number_is (map name_in xs) name ∙ f.place;
+        got = f.got;
+        named = f.named;
+      }
 
 pub get_map : {A B : Type 0} (f : A → B) (xs : List A) (i : ℕ) → slice_get (map f xs) i ≡ option_map f (slice_get xs i)
 get_map f [] i = refl
@@ -160,26 +210,35 @@ or_true : (a b : Bool) → b ≡ true → (a || b) ≡ true
 or_true true b k = refl
 or_true false b k = k
 
-pub any_at : {A : Type 0} (p : A → Bool) (xs : List A) (i : ℕ) (x : A) → slice_get xs i ≡ Some x → p x ≡ true → list_any p xs ≡ true
+pub any_at : {A : Type 0} (p : A → Bool) (xs : List A) (i : ℕ) (x : A) → slice_get xs i ≡ Some x → p x ≡ true →
+    list_any p xs ≡ true
 any_at p [] i x got h = none_some x got
 any_at p (y ∷ xs) zero x got h = ap (λ b. b || list_any p xs) (ap p (some_is y x got) ∙ h)
 any_at p (y ∷ xs) (suc i) x got h = or_true (p y) (list_any p xs) (any_at p xs i x got h)
 
 -- Own functions.
 
-types_of_params : (tags : List Text) (params : List FunctionParam) → map {A = TypedParam} (λ p. p.ty) (map (typed_param tags) params) ≡ map (param_ty tags) (map param_of params)
+types_of_params : (tags : List Text) (params : List FunctionParam) →
+    map {A = TypedParam} (λ p. p.ty) (map (typed_param tags) params) ≡ map (param_ty tags) (map param_of params)
 types_of_params tags [] = refl
 types_of_params tags (p ∷ params) = ap (λ rest. type_of_name tags p.ty ∷ rest) (types_of_params tags params)
 
 module _ (section : SectionTree) (callees : Callees) where
   -- a typed function has the signature of its head
-  pub own_signature : (tree : FunctionTree) → signature_of (typed_function section callees tree) ≡ signature_by (tags section) (head_of tree.head)
-  own_signature tree = λ i. record { params = types_of_params (tags section) tree.head.params i; result = result_of section tree }
+  pub own_signature : (tree : FunctionTree) → signature_of (typed_function section callees tree) ≡
+      signature_by (tags section) (head_of tree.head)
+  own_signature tree = λ i. record {
+    params = types_of_params (tags section) tree.head.params i;
+    result = result_of section tree;
+  }
 
-  pub own_at : (name : Text) (f : FoundFunction name (functions_in section.decls)) → slice_get (map signature_of (map (typed_function section callees) (functions_in section.decls))) f.at ≡ Some (signature_by (tags section) (head_of f.tree.head))
+  pub own_at : (name : Text) (f : FoundFunction name (functions_in section.decls)) →
+      slice_get (map signature_of (map (typed_function section callees) (functions_in section.decls))) f.at ≡
+      Some (signature_by (tags section) (head_of f.tree.head))
   own_at name f =
       get_map signature_of (map (typed_function section callees) (functions_in section.decls)) f.at
-      ∙ ap (option_map signature_of) (get_map (typed_function section callees) (functions_in section.decls) f.at ∙ ap (option_map (typed_function section callees)) f.got)
+      ∙ ap (option_map signature_of) (get_map (typed_function section callees) (functions_in section.decls) f.at ∙
+      ap (option_map (typed_function section callees)) f.got)
       ∙ ap Some (own_signature f.tree)
 
 -- Imports.
@@ -193,7 +252,10 @@ pub record FoundImport (P : ImportLine → Type 0) (name : Text) (lines : List I
   pub holds : P line
 
 module _ (P : ImportLine → Type 0) (name : Text) where
-  import_at : (line : ImportLine) (lines : List ImportLine) (b : Bool) → bytes_eq name line.name ≡ b → P line → (list_any (bytes_eq name) (map {A = ImportLine} (λ line. line.name) lines) ≡ true → FoundImport P name lines) → (b || list_any (bytes_eq name) (map {A = ImportLine} (λ line. line.name) lines)) ≡ true → FoundImport P name (line ∷ lines)
+  import_at : (line : ImportLine) (lines : List ImportLine) (b : Bool) → bytes_eq name line.name ≡ b → P line →
+      (list_any (bytes_eq name) (map {A = ImportLine} (λ line. line.name) lines) ≡ true → FoundImport P name lines) →
+      (b || list_any (bytes_eq name) (map {A = ImportLine} (λ line. line.name) lines)) ≡ true →
+      FoundImport P name (line ∷ lines)
   import_at line lines true q holds f h = record {
     at = 0;
     line = line;
@@ -212,9 +274,11 @@ module _ (P : ImportLine → Type 0) (name : Text) where
         holds = rest.holds;
       }
 
-  pub find_import : (lines : List ImportLine) → Each P lines → list_any (bytes_eq name) (map {A = ImportLine} (λ line. line.name) lines) ≡ true → FoundImport P name lines
+  pub find_import : (lines : List ImportLine) → Each P lines →
+      list_any (bytes_eq name) (map {A = ImportLine} (λ line. line.name) lines) ≡ true → FoundImport P name lines
   find_import [] each h = absurd (false≢true h)
-  find_import (line ∷ lines) each h = import_at line lines (bytes_eq name line.name) refl each.0 (find_import lines each.1) h
+  find_import (line ∷ lines) each h = import_at line lines (bytes_eq name line.name) refl each.0
+      (find_import lines each.1) h
 
 -- The section that offers what is imported.
 
@@ -240,24 +304,39 @@ module _ (importer : ℕ) (line : ImportLine) where
   abbrev pick : Bool → ℕ → SectionTree → List SectionTree → Option (ℕ × SectionTree)
   pick b k section rest = if b then Some (k, section) else offering importer line (suc k) rest
 
-  offering_at : (front : List SectionTree) (section : SectionTree) (rest : List SectionTree) (b : Bool) → offers importer line (length front) section ≡ b → (is_some (offering importer line (length (front ++ section ∷ [])) rest) ≡ true → OfferingFrom importer line (front ++ section ∷ []) rest) → is_some (pick b (length front) section rest) ≡ true → OfferingFrom importer line front (section ∷ rest)
+  offering_at : (front : List SectionTree) (section : SectionTree) (rest : List SectionTree) (b : Bool) →
+      offers importer line (length front) section ≡ b →
+      (is_some (offering importer line (length (front ++ section ∷ [])) rest) ≡ true →
+      OfferingFrom importer line (front ++ section ∷ []) rest) → is_some (pick b (length front) section rest) ≡ true →
+      OfferingFrom importer line front (section ∷ rest)
   offering_at front section rest true q f h =
-      record { number = length front; section = section; is = ap (λ b. pick b (length front) section rest) q; got = get_behind front section rest; offers = q }
+      record {
+        number = length front;
+        section = section;
+        is = ap (λ b. pick b (length front) section rest) q;
+        got = get_behind front section rest;
+        offers = q;
+      }
   offering_at front section rest false q f h =
-      let next : OfferingFrom importer line (front ++ section ∷ []) rest = f (ap (λ k. is_some (offering importer line k rest)) (length_snoc front section) ∙ h) in record {
+      let next : OfferingFrom importer line (front ++ section ∷ []) rest =
+      f (ap (λ k. is_some (offering importer line k rest)) (length_snoc front section) ∙ h) in record {
         number = next.number;
         section = next.section;
-        is = ap (λ b. pick b (length front) section rest) q ∙ ap (λ k. offering importer line k rest) (sym (length_snoc front section)) ∙ next.is;
+        is = ap (λ b. pick b (length front) section rest) q ∙
+            ap (λ k. offering importer line k rest) (sym (length_snoc front section)) ∙ next.is;
         got = ap (λ list. slice_get list next.number) (sym (append_assoc front (section ∷ []) rest)) ∙ next.got;
         offers = next.offers;
       }
 
-  offering_from : (front rest : List SectionTree) → is_some (offering importer line (length front) rest) ≡ true → OfferingFrom importer line front rest
+  offering_from : (front rest : List SectionTree) → is_some (offering importer line (length front) rest) ≡ true →
+      OfferingFrom importer line front rest
   offering_from front [] h = absurd (false≢true h)
   offering_from front (section ∷ rest) h =
-      offering_at front section rest (offers importer line (length front) section) refl (offering_from (front ++ section ∷ []) rest) h
+      offering_at front section rest (offers importer line (length front) section) refl
+      (offering_from (front ++ section ∷ []) rest) h
 
-  pub find_offering : (sections : List SectionTree) → is_some (offering importer line 0 sections) ≡ true → Offering importer line sections
+  pub find_offering : (sections : List SectionTree) → is_some (offering importer line 0 sections) ≡ true →
+      Offering importer line sections
   find_offering sections h =
       let f : OfferingFrom importer line [] sections = offering_from [] sections h in
       record { number = f.number; section = f.section; is = f.is; got = f.got; offers = f.offers }
@@ -265,7 +344,8 @@ module _ (importer : ℕ) (line : ImportLine) where
 -- Interfaces by their numbers.
 
 module _ (sections : List SectionTree) where
-  interface_from : (k : ℕ) (rest : List SectionTree) (j : ℕ) (section : SectionTree) → slice_get rest j ≡ Some section → slice_get (interfaces_from sections k rest) j ≡ Some (interface_of sections (k + j) section)
+  interface_from : (k : ℕ) (rest : List SectionTree) (j : ℕ) (section : SectionTree) → slice_get rest j ≡ Some section →
+      slice_get (interfaces_from sections k rest) j ≡ Some (interface_of sections (k + j) section)
   interface_from k [] j section got = none_some section got
   interface_from k (s ∷ rest) zero section got =
       λ i. Some (interface_of sections (plus_zero k i) (some_is s section got i)) where
@@ -274,10 +354,14 @@ module _ (sections : List SectionTree) where
   interface_from k (s ∷ rest) (suc j) section got =
       interface_from (suc k) rest j section got ∙ ap (λ n. Some (interface_of sections n section)) (omega arith)
 
-  pub comp_is : (j : ℕ) (section : SectionTree) → slice_get sections j ≡ Some section → comp_at (interfaces_of sections) j ≡ Some (interface_of sections j section)
-  comp_is j section got = interface_from 0 sections j section got ∙ ap (λ n. Some (interface_of sections n section)) (omega arith)
+  pub comp_is : (j : ℕ) (section : SectionTree) → slice_get sections j ≡ Some section →
+      comp_at (interfaces_of sections) j ≡ Some (interface_of sections j section)
+  comp_is j section got = interface_from 0 sections j section got ∙
+      ap (λ n. Some (interface_of sections n section)) (omega arith)
 
-  pub export_is : (j : ℕ) (section : SectionTree) (index : ℕ) (line : ExportLine) → slice_get sections j ≡ Some section → slice_get section.exports index ≡ Some line → export_at (interfaces_of sections) j index ≡ Some (proto_of section line)
+  pub export_is : (j : ℕ) (section : SectionTree) (index : ℕ) (line : ExportLine) →
+      slice_get sections j ≡ Some section → slice_get section.exports index ≡ Some line →
+      export_at (interfaces_of sections) j index ≡ Some (proto_of section line)
   export_is j section index line got there =
       ap (option_and_then (λ found. slice_get found.exports index)) (comp_is j section got)
       ∙ get_map (proto_of section) section.exports index

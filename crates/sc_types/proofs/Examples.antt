@@ -32,8 +32,33 @@ section decls = record { name = codes "A"; line = 10; exports = []; imports = []
 -- `struct a { int m[elements]; };` and `struct b { struct a m[3]; int *n; };`
 abbrev two_structs : ℕ → List Decl
 two_structs elements =
-    Struct (record { name = codes "a"; members = record { ty = record { base = base.Int; stars = 0; length = Some elements }; name = codes "m" } ∷ []; line = 2 })
-    ∷ (Struct (record { name = codes "b"; members = record { ty = record { base = base.Struct (codes "a"); stars = 0; length = Some 3 }; name = codes "m" } ∷ (record { ty = record { base = base.Int; stars = 1; length = None }; name = codes "n" } ∷ []); line = 3 })
+    Struct (record {
+      name = codes "a";
+      members = record {
+        ty = record {
+          base = base.Int;
+          stars = 0;
+          length = Some elements;
+        };
+        name = codes "m";
+      } ∷ [];
+      line = 2;
+    })
+    ∷ (Struct (record {
+      name = codes "b";
+      members = record {
+        ty = record {
+          base = base.Struct (codes "a");
+          stars = 0;
+          length = Some 3;
+        };
+        name = codes "m";
+      } ∷ (record {
+        ty = record { base = base.Int; stars = 1; length = None };
+        name = codes "n";
+      } ∷ []);
+      line = 3;
+    })
     ∷ [])
 
 cells_of_structs : map (λ s. s.cells) (structs (section (two_structs 10))) ≡ 10 ∷ (31 ∷ [])
@@ -51,7 +76,12 @@ large_struct = refl
 
 -- a prototype with so many parameters
 abbrev proto : ℕ → Decl
-proto count = Proto (record { result = None; name = y; params = replicate {A = ParamTree} count (record { ty = int; name = None }); line = 4 })
+proto count = Proto (record {
+  result = None;
+  name = y;
+  params = replicate {A = ParamTree} count (record { ty = int; name = None });
+  line = 4;
+})
 
 eight_params : concat (map (head_lines (section [])) (heads_in (proto 8 ∷ []))) ≡ []
 eight_params = refl
@@ -59,12 +89,22 @@ eight_params = refl
 nine_params : concat (map (head_lines (section [])) (heads_in (proto 9 ∷ []))) ≡ 4 ∷ []
 nine_params = refl
 
--- `void f(int y) { int z = y + y; while (z) { break; } }` has a node for itself, one for y, four for z and three for its statement
+-- `void f(int y) { int z = y + y; while (z) { break; } }` has a node for itself, one for y, four for z and three for
+-- its statement
 abbrev counted : FunctionTree
 counted = record {
   head = record { result = None; name = codes "f"; params = record { ty = int; name = y } ∷ []; line = 2 };
-  locals = record { ty = record { base = base.Int; stars = 0; length = None }; name = codes "z"; init = Some (term.Binary binary.Add (term.Variable y) (term.Variable y)); line = 3 } ∷ [];
-  body = record { line = 4; kind = stmt.While (term.Variable (codes "z")) (record { line = 5; kind = stmt.Break } ∷ []) } ∷ [];
+  locals = record {
+    ty = record { base = base.Int; stars = 0; length = None };
+    name = codes "z";
+    init = Some (term.Binary binary.Add (term.Variable y) (term.Variable y));
+    line = 3;
+  } ∷ [];
+  body = record {
+    line = 4;
+    kind = stmt.While (term.Variable (codes "z"))
+        (record { line = 5; kind = stmt.Break } ∷ []);
+  } ∷ [];
   close_line = 6;
 }
 

@@ -13,7 +13,7 @@ use Rattle.sc_scope.specs.Declarations.{among, are_distinct, function_names, pro
 use Rattle.sc_scope.specs.Interfaces.{main_name}
 use Rattle.sc_scope.specs.Broken.{unless}
 use Rattle.sc_interfaces.specs.Faces.{is_plain, export_holds, exports_from, is_offered, import_holds, imports_from, head_holds, head_fits, imported_agrees, main_holds, agrees_with, decls_from, name_holds, section_lines}
-use Rattle.sc_types.proofs.Basics.{not_true, held, front_empty, back_empty, Each}
+use Rattle.sc_types.proofs.Basics.{not_true, rule_holds, front_empty, back_empty, Each}
 use Rattle.sc_types.proofs.Places.{Text, same_refl, numbered_front}
 use Rattle.sc_base.proofs.Texts.{same_text}
 use Rattle.sc_base.proofs.Bools.{and_first, and_rest}
@@ -24,26 +24,35 @@ abbrev pub Fresh : (before : List Text) → List Text → Type 0
 Fresh before [] = Unit {0}
 Fresh before (name ∷ names) = (is_numbered before name ≡ false) × Fresh (before ++ name ∷ []) names
 
-last_there : (before : List Text) (name : Text) → bytes_eq name name ≡ true → is_numbered (before ++ name ∷ []) name ≡ true
+last_there : (before : List Text) (name : Text) → bytes_eq name name ≡ true →
+    is_numbered (before ++ name ∷ []) name ≡ true
 last_there [] name h = ap (λ b. b || false) h
 last_there (x ∷ before) name h = by_case (bytes_eq name x) (last_there before name h) where
-  by_case : (b : Bool) → is_numbered (before ++ name ∷ []) name ≡ true → (b || is_numbered (before ++ name ∷ []) name) ≡ true
+  by_case : (b : Bool) → is_numbered (before ++ name ∷ []) name ≡ true →
+      (b || is_numbered (before ++ name ∷ []) name) ≡ true
   by_case true k = refl
   by_case false k = k
 
-not_again_at : (name : Text) (before : List Text) (x : Text) (names : List Text) (b : Bool) → bytes_eq name x ≡ b → is_numbered before x ≡ false → is_numbered before name ≡ true → is_numbered names name ≡ false → (b || is_numbered names name) ≡ false
-not_again_at name before x names true q new there rest = absurd (false≢true (sym new ∙ ap (is_numbered before) (sym (same_text name x q)) ∙ there))
+not_again_at : (name : Text) (before : List Text) (x : Text) (names : List Text) (b : Bool) → bytes_eq name x ≡ b →
+    is_numbered before x ≡ false → is_numbered before name ≡ true → is_numbered names name ≡ false →
+    (b || is_numbered names name) ≡ false
+not_again_at name before x names true q new there rest =
+    absurd (false≢true (sym new ∙ ap (is_numbered before) (sym (same_text name x q)) ∙ there))
 not_again_at name before x names false q new there rest = rest
 
-pub not_again : (name : Text) (before names : List Text) → Fresh before names → is_numbered before name ≡ true → is_numbered names name ≡ false
+pub not_again : (name : Text) (before names : List Text) → Fresh before names → is_numbered before name ≡ true →
+    is_numbered names name ≡ false
 not_again name before [] fresh there = refl
 not_again name before (x ∷ names) fresh there =
-    not_again_at name before x names (bytes_eq name x) refl fresh.0 there (not_again name (before ++ x ∷ []) names fresh.1 (numbered_front before (x ∷ []) name there))
+    not_again_at name before x names (bytes_eq name x) refl fresh.0 there
+    (not_again name (before ++ x ∷ []) names fresh.1 (numbered_front before (x ∷ []) name there))
 
 pub fresh_distinct : (before names : List Text) → Fresh before names → are_distinct names ≡ true
 fresh_distinct before [] fresh = refl
 fresh_distinct before (name ∷ names) fresh =
-    and_from (not (is_numbered names name)) (are_distinct names) (ap not (not_again name (before ++ name ∷ []) names fresh.1 (last_there before name (same_refl name)))) (fresh_distinct (before ++ name ∷ []) names fresh.1)
+    and_from (not (is_numbered names name)) (are_distinct names)
+    (ap not (not_again name (before ++ name ∷ []) names fresh.1 (last_there before name (same_refl name))))
+    (fresh_distinct (before ++ name ∷ []) names fresh.1)
 
 -- Exports, imports and declarations.
 
@@ -66,35 +75,90 @@ module _ (sections : List SectionTree) (number : ℕ) (section : SectionTree) wh
       (head_fits sections number section (head_of tree.head) ≡ true) × (main_holds mains (head_of tree.head) ≡ true)
   DeclFacts mains _ = Unit {0}
 
-  exports_each : (before : List Text) (lines : List ExportLine) → exports_from sections number section before lines ≡ [] → Each ExportFacts lines × Fresh before (map {A = ExportLine} (λ line. line.name) lines)
+  exports_each : (before : List Text) (lines : List ExportLine) →
+      exports_from sections number section before lines ≡ [] →
+      Each ExportFacts lines × Fresh before (map {A = ExportLine} (λ line. line.name) lines)
   exports_each before [] h = (tt, tt)
   exports_each before (line ∷ lines) h =
-      let holds : export_holds sections number section before line ≡ true = held _ line.line (front_empty _ _ h) in
-      let new : (not (among before line.name) && (not (bytes_eq line.name main_name) && is_plain line.name)) ≡ true = and_rest (among (function_names section.decls) line.name) _ holds in
-      let other : (not (bytes_eq line.name main_name) && is_plain line.name) ≡ true = and_rest (not (among before line.name)) _ new in
-      let rest : Each ExportFacts lines × Fresh (before ++ line.name ∷ []) (map {A = ExportLine} (λ line. line.name) lines) = exports_each (before ++ line.name ∷ []) lines (back_empty (unless (export_holds sections number section before line) line.line) _ h) in
-      ((record { defined = and_first _ _ holds; no_main = not_true _ (and_first _ _ other); plain = and_rest (not (bytes_eq line.name main_name)) _ other }, rest.0), (not_true _ (and_first _ _ new), rest.1))
+      let holds : export_holds sections number section before line ≡ true =
+      rule_holds _ line.line (front_empty _ _ h) in
+      let new : (not (among before line.name) && (not (bytes_eq line.name main_name) && is_plain line.name)) ≡ true =
+      and_rest (among (function_names section.decls) line.name) _ holds in
+      let other : (not (bytes_eq line.name main_name) && is_plain line.name) ≡ true =
+      and_rest (not (among before line.name)) _ new in
+      let rest : Each ExportFacts lines × Fresh (before ++ line.name ∷ [])
+      (map {A = ExportLine} (λ line. line.name) lines) =
+      exports_each (before ++ line.name ∷ []) lines
+      (back_empty (unless (export_holds sections number section before line) line.line) _ h) in (
+        (
+          record {
+            defined = and_first _ _ holds;
+            no_main = not_true _ (and_first _ _ other);
+            plain = and_rest (not (bytes_eq line.name main_name)) _ other;
+          },
+          rest.0,
+        ),
+        (not_true _ (and_first _ _ new), rest.1),
+      )
 
-  imports_each : (before : List Text) (lines : List ImportLine) → imports_from sections number section before lines ≡ [] → Each ImportFacts lines × Fresh before (map {A = ImportLine} (λ line. line.name) lines)
+  imports_each : (before : List Text) (lines : List ImportLine) →
+      imports_from sections number section before lines ≡ [] →
+      Each ImportFacts lines × Fresh before (map {A = ImportLine} (λ line. line.name) lines)
   imports_each before [] h = (tt, tt)
   imports_each before (line ∷ lines) h =
-      let holds : import_holds sections number section before line ≡ true = held _ line.line (front_empty _ _ h) in
-      let new : (not (among before line.name) && (not (among (function_names section.decls) line.name) && (among (proto_names section.decls) line.name && is_plain line.name))) ≡ true = and_rest (is_offered sections number section line) _ holds in
-      let other : (not (among (function_names section.decls) line.name) && (among (proto_names section.decls) line.name && is_plain line.name)) ≡ true = and_rest (not (among before line.name)) _ new in
-      let last : (among (proto_names section.decls) line.name && is_plain line.name) ≡ true = and_rest (not (among (function_names section.decls) line.name)) _ other in
-      let rest : Each ImportFacts lines × Fresh (before ++ line.name ∷ []) (map {A = ImportLine} (λ line. line.name) lines) = imports_each (before ++ line.name ∷ []) lines (back_empty (unless (import_holds sections number section before line) line.line) _ h) in
-      ((record { offered = and_first _ _ holds; not_defined = not_true _ (and_first _ _ other); declared = and_first _ _ last; plain = and_rest (among (proto_names section.decls) line.name) _ last }, rest.0), (not_true _ (and_first _ _ new), rest.1))
+      let holds : import_holds sections number section before line ≡ true =
+      rule_holds _ line.line (front_empty _ _ h) in
+      let new : (not (among before line.name) && (not (among (function_names section.decls) line.name) &&
+      (among (proto_names section.decls) line.name && is_plain line.name))) ≡ true =
+      and_rest (is_offered sections number section line) _ holds in
+      let other : (not (among (function_names section.decls) line.name) &&
+      (among (proto_names section.decls) line.name && is_plain line.name)) ≡ true =
+      and_rest (not (among before line.name)) _ new in
+      let last : (among (proto_names section.decls) line.name && is_plain line.name) ≡ true =
+      and_rest (not (among (function_names section.decls) line.name)) _ other in
+      let rest : Each ImportFacts lines × Fresh (before ++ line.name ∷ [])
+      (map {A = ImportLine} (λ line. line.name) lines) =
+      imports_each (before ++ line.name ∷ []) lines
+      (back_empty (unless (import_holds sections number section before line) line.line) _ h) in (
+        (
+          record {
+            offered = and_first _ _ holds;
+            not_defined = not_true _ (and_first _ _ other);
+            declared = and_first _ _ last;
+            plain = and_rest (among (proto_names section.decls) line.name) _ last;
+          },
+          rest.0,
+        ),
+        (not_true _ (and_first _ _ new), rest.1),
+      )
 
-  decls_each : (mains : Bool) (before decls : List Decl) → decls_from sections number section mains before decls ≡ [] → Each (DeclFacts mains) decls
+  decls_each : (mains : Bool) (before decls : List Decl) → decls_from sections number section mains before decls ≡ [] →
+      Each (DeclFacts mains) decls
   decls_each mains before [] h = tt
   decls_each mains before (Struct tree ∷ decls) h = (tt, decls_each mains (before ++ Struct tree ∷ []) decls h)
   decls_each mains before (Global tree ∷ decls) h = (tt, decls_each mains (before ++ Global tree ∷ []) decls h)
   decls_each mains before (Proto head ∷ decls) h =
-      let holds : (head_holds sections number section before head && imported_agrees sections number section head) ≡ true = held _ head.line (front_empty _ _ h) in
-      ((and_rest (agrees_with _ head) _ (and_first _ _ holds), and_rest (head_holds sections number section before head) _ holds), decls_each mains (before ++ Proto head ∷ []) decls (back_empty (unless (head_holds sections number section before head && imported_agrees sections number section head) head.line) _ h))
+      let holds : (head_holds sections number section before head && imported_agrees sections number section head) ≡
+      true = rule_holds _ head.line (front_empty _ _ h) in (
+        (
+          and_rest (agrees_with _ head) _ (and_first _ _ holds),
+          and_rest (head_holds sections number section before head) _ holds,
+        ),
+        decls_each mains (before ++ Proto head ∷ []) decls
+            (back_empty (unless (head_holds sections number section before head &&
+            imported_agrees sections number section head) head.line) _ h),
+      )
   decls_each mains before (Function tree ∷ decls) h =
-      let holds : (head_holds sections number section before (head_of tree.head) && main_holds mains (head_of tree.head)) ≡ true = held _ tree.head.line (front_empty _ _ h) in
-      ((and_rest (agrees_with _ (head_of tree.head)) _ (and_first _ _ holds), and_rest (head_holds sections number section before (head_of tree.head)) _ holds), decls_each mains (before ++ Function tree ∷ []) decls (back_empty (unless (head_holds sections number section before (head_of tree.head) && main_holds mains (head_of tree.head)) tree.head.line) _ h))
+      let holds : (head_holds sections number section before (head_of tree.head) &&
+      main_holds mains (head_of tree.head)) ≡ true = rule_holds _ tree.head.line (front_empty _ _ h) in (
+        (
+          and_rest (agrees_with _ (head_of tree.head)) _ (and_first _ _ holds),
+          and_rest (head_holds sections number section before (head_of tree.head)) _ holds,
+        ),
+        decls_each mains (before ++ Function tree ∷ []) decls
+            (back_empty (unless (head_holds sections number section before (head_of tree.head) &&
+            main_holds mains (head_of tree.head)) tree.head.line) _ h),
+      )
 
   -- what a section keeps, where some sections before it define `main` or not
   pub record FaceFacts : Type 0 where
@@ -105,15 +169,34 @@ module _ (sections : List SectionTree) (number : ℕ) (section : SectionTree) wh
     pub mains : Bool
     pub decls : Each (DeclFacts mains) section.decls
 
-  pub face_facts : (mains : Bool) (before : List SectionTree) → section_lines sections number section mains before ≡ [] → FaceFacts
+  pub face_facts : (mains : Bool) (before : List SectionTree) →
+      section_lines sections number section mains before ≡ [] → FaceFacts
   face_facts mains before h =
-      let behind_name : exports_from sections number section [] section.exports ++ (imports_from sections number section [] section.imports ++ decls_from sections number section mains [] section.decls) ≡ [] = back_empty (unless (name_holds sections number section mains before) 1) _ h in
-      let behind_exports : imports_from sections number section [] section.imports ++ decls_from sections number section mains [] section.decls ≡ [] = back_empty (exports_from sections number section [] section.exports) _ behind_name in
-      let out : Each ExportFacts section.exports × Fresh [] (export_names section) = exports_each [] section.exports (front_empty _ _ behind_name) in
-      let imported : Each ImportFacts section.imports × Fresh [] (import_names section) = imports_each [] section.imports (front_empty _ _ behind_exports) in
-      record { exports = out.0; fresh_exports = out.1; imports = imported.0; fresh_imports = imported.1; mains = mains; decls = decls_each mains [] section.decls (back_empty (imports_from sections number section [] section.imports) _ behind_exports) }
+      let behind_name : exports_from sections number section [] section.exports ++
+      (imports_from sections number section [] section.imports ++
+      decls_from sections number section mains [] section.decls) ≡ [] =
+      back_empty (unless (name_holds sections number section mains before) 1) _ h in
+      let behind_exports : imports_from sections number section [] section.imports ++
+      decls_from sections number section mains [] section.decls ≡ [] =
+      back_empty (exports_from sections number section [] section.exports) _ behind_name in
+      let out : Each ExportFacts section.exports × Fresh [] (export_names section) =
+      exports_each [] section.exports (front_empty _ _ behind_name) in
+      let imported : Each ImportFacts section.imports × Fresh [] (import_names section) =
+      imports_each [] section.imports (front_empty _ _ behind_exports) in
+      record {
+        exports = out.0;
+        fresh_exports = out.1;
+        imports = imported.0;
+        fresh_imports = imported.1;
+        mains = mains;
+        decls = decls_each mains [] section.decls (back_empty
+            (imports_from sections number section [] section.imports) _ behind_exports);
+      }
 
   -- its declarations, under these mains
-  pub decls_hold : (mains : Bool) (before : List SectionTree) → section_lines sections number section mains before ≡ [] → Each (DeclFacts mains) section.decls
+  pub decls_hold : (mains : Bool) (before : List SectionTree) →
+      section_lines sections number section mains before ≡ [] → Each (DeclFacts mains) section.decls
   decls_hold mains before h =
-      decls_each mains [] section.decls (back_empty (imports_from sections number section [] section.imports) _ (back_empty (exports_from sections number section [] section.exports) _ (back_empty (unless (name_holds sections number section mains before) 1) _ h)))
+      decls_each mains [] section.decls (back_empty (imports_from sections number section [] section.imports) _
+      (back_empty (exports_from sections number section [] section.exports) _
+      (back_empty (unless (name_holds sections number section mains before) 1) _ h)))

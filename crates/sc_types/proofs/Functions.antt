@@ -49,7 +49,7 @@ use Rattle.sc_elab.specs.Statements.{Callees, typed_stmt, stmt_lines}
 use Rattle.sc_elab.specs.Sections.{is_sized, base_of, type_of_name, type_of, is_null, word_of_const, init_words, init_holds, typed_global, typed_param, tags, structs, visible_of, visible_in, scope_in, typed_init, typed_local, typed_locals, result_of, typed_function, typed_section, local_holds, locals_from, function_lines, struct_lines, decl_lines}
 use Rattle.sc_types.specs.Counts as counts
 use Rattle.sc_types.specs.Counts.{is_small, type_in, structs_from}
-use Rattle.sc_types.proofs.Basics.{not_true, held, front_empty, back_empty}
+use Rattle.sc_types.proofs.Basics.{not_true, rule_holds, front_empty, back_empty}
 use Rattle.sc_types.proofs.Places.{Text, is_at_most, at_most, numbered_front}
 use Rattle.sc_types.proofs.Structs.{Known, AllKnown, AllSmall, structs_length, type_is_within, name_is_within, is_less}
 use Rattle.sc_types.proofs.Bodies.{fits}
@@ -69,9 +69,11 @@ low_right a b n h = at_most b n (omega (arith, le-max_right a b, is_at_most (max
 
 -- Tags.
 
-pub struct_names_append : (before decls : List Decl) → struct_names (before ++ decls) ≡ struct_names before ++ struct_names decls
+pub struct_names_append : (before decls : List Decl) →
+    struct_names (before ++ decls) ≡ struct_names before ++ struct_names decls
 struct_names_append before decls =
-    ap (map {A = StructTree} (λ tree. tree.name)) (filter_map-append struct_in before decls) ∙ map-append {A = StructTree} (λ tree. tree.name) (structs_in before) (structs_in decls)
+    ap (map {A = StructTree} (λ tree. tree.name)) (filter_map-append struct_in before decls) ∙
+    map-append {A = StructTree} (λ tree. tree.name) (structs_in before) (structs_in decls)
 
 known_front : (some more : List Text) (b : BaseTree) → base_known some b ≡ true → base_known (some ++ more) b ≡ true
 known_front some more base_tree.Int h = refl
@@ -80,52 +82,76 @@ known_front some more (base_tree.Struct tag) h = numbered_front some more tag h
 
 module _ (section : SectionTree) where
   -- what is known among the first declarations is known in the section
-  known_whole : (before decls : List Decl) → before ++ decls ≡ section.decls → (b : BaseTree) → base_known (struct_names before) b ≡ true → base_known (tags section) b ≡ true
+  known_whole : (before decls : List Decl) → before ++ decls ≡ section.decls → (b : BaseTree) →
+      base_known (struct_names before) b ≡ true → base_known (tags section) b ≡ true
   known_whole before decls whole b h =
-      subst (λ names. base_known names b ≡ true) (sym (struct_names_append before decls) ∙ ap struct_names whole) (known_front (struct_names before) (struct_names decls) b h)
+      subst (λ names. base_known names b ≡ true) (sym (struct_names_append before decls) ∙ ap struct_names whole)
+      (known_front (struct_names before) (struct_names decls) b h)
 
   count_is : length (structs section) ≡ length (tags section)
   count_is = structs_length (structs_in section.decls)
 
-  within_is : (t : Ty) → type_within (length (tags section)) (length (tags section)) t ≡ true → is_small section t ≡ true → variable_fits (structs section) t ≡ true
+  within_is : (t : Ty) → type_within (length (tags section)) (length (tags section)) t ≡ true →
+      is_small section t ≡ true → variable_fits (structs section) t ≡ true
   within_is t h small = and_from _ _ (subst (λ n. type_within n n t ≡ true) (sym count_is) h) small
 
-  pub tree_fits : (t : TypeTree) → is_sized t ≡ true → base_known (tags section) t.base ≡ true → is_small section (type_of (tags section) t) ≡ true → variable_fits (structs section) (type_of (tags section) t) ≡ true
+  pub tree_fits : (t : TypeTree) → is_sized t ≡ true → base_known (tags section) t.base ≡ true →
+      is_small section (type_of (tags section) t) ≡ true →
+      variable_fits (structs section) (type_of (tags section) t) ≡ true
   tree_fits t sized known small =
-      within_is (type_of (tags section) t) (subst (λ all. type_within (length (tags section)) (length (tags section)) (type_of all t) ≡ true) (append-nil (tags section)) (type_is_within (tags section) [] t sized known)) small
+      within_is (type_of (tags section) t) (subst (λ all.
+      type_within (length (tags section)) (length (tags section)) (type_of all t) ≡ true)
+      (append-nil (tags section)) (type_is_within (tags section) [] t sized known)) small
 
-  pub name_fits : (t : TypeName) → base_known (tags section) t.base ≡ true → is_small section (type_of_name (tags section) t) ≡ true → variable_fits (structs section) (type_of_name (tags section) t) ≡ true
+  pub name_fits : (t : TypeName) → base_known (tags section) t.base ≡ true →
+      is_small section (type_of_name (tags section) t) ≡ true →
+      variable_fits (structs section) (type_of_name (tags section) t) ≡ true
   name_fits t known small =
-      within_is (type_of_name (tags section) t) (subst (λ all. type_within (length (tags section)) (length (tags section)) (type_of_name all t) ≡ true) (append-nil (tags section)) (name_is_within (tags section) [] t known)) small
+      within_is (type_of_name (tags section) t) (subst
+      (λ all. type_within (length (tags section)) (length (tags section)) (type_of_name all t) ≡ true)
+      (append-nil (tags section)) (name_is_within (tags section) [] t known)) small
 
   -- Structs are small.
 
-  pub small_from : (k : ℕ) (trees : List StructTree) → structs_from section k trees ≡ [] → AllSmall (structs section) k trees
+  pub small_from : (k : ℕ) (trees : List StructTree) → structs_from section k trees ≡ [] →
+      AllSmall (structs section) k trees
   small_from k [] h = tt
-  small_from k (tree ∷ trees) h =
-      (held _ tree.line (front_empty _ _ h), small_from (suc k) trees (back_empty (unless (is_small section (ty.Struct k)) tree.line) _ h))
+  small_from k (tree ∷ trees) h = (
+    rule_holds _ tree.line (front_empty _ _ h),
+    small_from (suc k) trees
+        (back_empty (unless (is_small section (ty.Struct k)) tree.line) _ h),
+  )
 
-  small_at : (k : ℕ) (trees : List StructTree) (n : ℕ) → AllSmall (structs section) k trees → n < length trees → nat_le (struct_cells (slice_get (structs section) (k + n))) most_cells ≡ true
+  small_at : (k : ℕ) (trees : List StructTree) (n : ℕ) → AllSmall (structs section) k trees → n < length trees →
+      nat_le (struct_cells (slice_get (structs section) (k + n))) most_cells ≡ true
   small_at k [] n h less = absurd (omega (arith, less))
-  small_at k (tree ∷ trees) zero h less = ap (λ m. nat_le (struct_cells (slice_get (structs section) m)) most_cells) (omega arith) ∙ h.0
+  small_at k (tree ∷ trees) zero h less = ap (λ m. nat_le (struct_cells (slice_get (structs section) m)) most_cells)
+      (omega arith) ∙ h.0
   small_at k (tree ∷ trees) (suc n) h less =
-      ap (λ m. nat_le (struct_cells (slice_get (structs section) m)) most_cells) (omega arith) ∙ small_at (suc k) trees n h.1 (omega (arith, less))
+      ap (λ m. nat_le (struct_cells (slice_get (structs section) m)) most_cells) (omega arith) ∙
+      small_at (suc k) trees n h.1 (omega (arith, less))
 
   module _ (small : AllSmall (structs section) 0 (structs_in section.decls)) where
     small_struct : (n : ℕ) → n < length (tags section) → is_small section (ty.Struct n) ≡ true
     small_struct n less =
-        ap (λ m. nat_le (struct_cells (slice_get (structs section) m)) most_cells) (omega arith) ∙ small_at 0 (structs_in section.decls) n small (subst (λ m. n < m) (map_length {A = StructTree} (λ tree. tree.name) (structs_in section.decls)) less)
+        ap (λ m. nat_le (struct_cells (slice_get (structs section) m)) most_cells) (omega arith) ∙
+        small_at 0 (structs_in section.decls) n small
+        (subst (λ m. n < m) (map_length {A = StructTree} (λ tree. tree.name) (structs_in section.decls)) less)
 
-    small_starred : (stars : ℕ) (b : BaseTy) → type_within (length (tags section)) (length (tags section)) (starred stars b) ≡ true → is_small section (starred stars b) ≡ true
+    small_starred : (stars : ℕ) (b : BaseTy) → type_within (length (tags section)) (length (tags section))
+        (starred stars b) ≡ true → is_small section (starred stars b) ≡ true
     small_starred zero base.Int h = refl
     small_starred zero base.Unsigned h = refl
     small_starred zero (base.Struct n) h = small_struct n (is_less n (length (tags section)) h)
     small_starred (suc stars) b h = refl
 
     -- a type name over known tags
-    named_fits : (t : TypeName) → base_known (tags section) t.base ≡ true → variable_fits (structs section) (type_of_name (tags section) t) ≡ true
+    named_fits : (t : TypeName) → base_known (tags section) t.base ≡ true →
+        variable_fits (structs section) (type_of_name (tags section) t) ≡ true
     named_fits t known =
-        name_fits t known (small_starred t.stars (base_of (tags section) t.base) (subst (λ all. type_within (length (tags section)) (length (tags section)) (type_of_name all t) ≡ true) (append-nil (tags section)) (name_is_within (tags section) [] t known)))
+        name_fits t known (small_starred t.stars (base_of (tags section) t.base)
+        (subst (λ all. type_within (length (tags section)) (length (tags section)) (type_of_name all t) ≡ true)
+        (append-nil (tags section)) (name_is_within (tags section) [] t known)))
 
     no_array : (stars : ℕ) (b : BaseTy) → is_array (starred stars b) ≡ false
     no_array zero base.Int = refl
@@ -133,22 +159,29 @@ module _ (section : SectionTree) where
     no_array zero (base.Struct n) = refl
     no_array (suc stars) b = refl
 
-    pub passed : (t : TypeName) → base_known (tags section) t.base ≡ true → passed_fits (structs section) (type_of_name (tags section) t) ≡ true
+    pub passed : (t : TypeName) → base_known (tags section) t.base ≡ true →
+        passed_fits (structs section) (type_of_name (tags section) t) ≡ true
     passed t known = and_from _ _ (ap not (no_array t.stars (base_of (tags section) t.base))) (named_fits t known)
 
-    pub result_passed : (result : Option TypeName) → result_known (tags section) result ≡ true → result_fits (structs section) (option_map (type_of_name (tags section)) result) ≡ true
+    pub result_passed : (result : Option TypeName) → result_known (tags section) result ≡ true →
+        result_fits (structs section) (option_map (type_of_name (tags section)) result) ≡ true
     result_passed None known = refl
     result_passed (Some t) known = passed t known
 
-    pub params_passed : (params : List FunctionParam) → list_all {X = ParamTree} (λ param. base_known (tags section) param.ty.base) (map param_of params) ≡ true → list_all {X = TypedParam} (λ p. passed_fits (structs section) p.ty) (map (typed_param (tags section)) params) ≡ true
+    pub params_passed : (params : List FunctionParam) →
+        list_all {X = ParamTree} (λ param. base_known (tags section) param.ty.base) (map param_of params) ≡ true →
+        list_all {X = TypedParam} (λ p. passed_fits (structs section) p.ty)
+        (map (typed_param (tags section)) params) ≡ true
     params_passed [] known = refl
-    params_passed (p ∷ params) known = and_from _ _ (passed p.ty (and_first _ _ known)) (params_passed params (and_rest (base_known (tags section) p.ty.base) _ known))
+    params_passed (p ∷ params) known = and_from _ _ (passed p.ty (and_first _ _ known))
+        (params_passed params (and_rest (base_known (tags section) p.ty.base) _ known))
 
   -- Globals.
 
   first_null : (const : ConstTree) → is_null const ≡ true → (word_of_const const == 0) ≡ true
   first_null const h = by_sign const.negative const.literal.value h where
-    by_sign : (negative : Bool) (value : ℕ) → (not negative && nat_eq value 0) ≡ true → ((if negative then (2 ^ 32 - value) % 2 ^ 32 else value) == 0) ≡ true
+    by_sign : (negative : Bool) (value : ℕ) → (not negative && nat_eq value 0) ≡ true →
+        ((if negative then (2 ^ 32 - value) % 2 ^ 32 else value) == 0) ≡ true
     by_sign true value h = absurd (false≢true h)
     by_sign false value h = h
 
@@ -167,10 +200,12 @@ module _ (section : SectionTree) where
   words_are (ty.Pointer stars b) (Many consts) h = absurd (false≢true h)
   words_are (ty.Array zero base.Int count) Absent h = at_most 0 count (omega arith)
   words_are (ty.Array zero base.Int count) (One const) h = absurd (false≢true h)
-  words_are (ty.Array zero base.Int count) (Many consts) h = ap (λ n. nat_le n count) (map_length word_of_const consts) ∙ h
+  words_are (ty.Array zero base.Int count) (Many consts) h =
+      ap (λ n. nat_le n count) (map_length word_of_const consts) ∙ h
   words_are (ty.Array zero base.Unsigned count) Absent h = at_most 0 count (omega arith)
   words_are (ty.Array zero base.Unsigned count) (One const) h = absurd (false≢true h)
-  words_are (ty.Array zero base.Unsigned count) (Many consts) h = ap (λ n. nat_le n count) (map_length word_of_const consts) ∙ h
+  words_are (ty.Array zero base.Unsigned count) (Many consts) h =
+      ap (λ n. nat_le n count) (map_length word_of_const consts) ∙ h
   words_are (ty.Array zero (base.Struct n) count) Absent h = refl
   words_are (ty.Array zero (base.Struct n) count) (One const) h = absurd (false≢true h)
   words_are (ty.Array zero (base.Struct n) count) (Many consts) h = absurd (false≢true h)
@@ -178,116 +213,268 @@ module _ (section : SectionTree) where
   words_are (ty.Array (suc stars) b count) (One const) h = absurd (false≢true h)
   words_are (ty.Array (suc stars) b count) (Many consts) h = absurd (false≢true h)
 
-  pub global_is : (tree : GlobalTree) → base_known (tags section) tree.ty.base ≡ true → (is_sized tree.ty && init_holds (type_of (tags section) tree.ty) tree.init) ≡ true → is_small section (type_of (tags section) tree.ty) ≡ true → global_fits (structs section) (typed_global (tags section) tree) ≡ true
+  pub global_is : (tree : GlobalTree) → base_known (tags section) tree.ty.base ≡ true →
+      (is_sized tree.ty && init_holds (type_of (tags section) tree.ty) tree.init) ≡ true →
+      is_small section (type_of (tags section) tree.ty) ≡ true →
+      global_fits (structs section) (typed_global (tags section) tree) ≡ true
   global_is tree known holds small =
-      and_from _ _ (tree_fits tree.ty (and_first _ _ holds) known small) (words_are (type_of (tags section) tree.ty) tree.init (and_rest (is_sized tree.ty) _ holds))
+      and_from _ _ (tree_fits tree.ty (and_first _ _ holds) known small)
+      (words_are (type_of (tags section) tree.ty) tree.init (and_rest (is_sized tree.ty) _ holds))
 
   -- A function's variables.
 
-  local_types : (tree : FunctionTree) (place : ℕ) (locals : List LocalTree) → map {A = TypedLocal} (λ l. l.ty) (typed_locals section tree place locals) ≡ map {A = LocalTree} (λ local. type_of (tags section) local.ty) locals
+  local_types : (tree : FunctionTree) (place : ℕ) (locals : List LocalTree) →
+      map {A = TypedLocal} (λ l. l.ty) (typed_locals section tree place locals) ≡
+      map {A = LocalTree} (λ local. type_of (tags section) local.ty) locals
   unfolding typed_locals
   local_types tree place [] = refl
-  local_types tree place (local ∷ locals) = ap (λ rest. type_of (tags section) local.ty ∷ rest) (local_types tree (suc place) locals)
+  local_types tree place (local ∷ locals) = ap (λ rest. type_of (tags section) local.ty ∷ rest)
+      (local_types tree (suc place) locals)
 
-  pub scope_is : (callees : Callees) (tree : FunctionTree) → scope_of (typed_section section callees) (typed_function section callees tree) ≡ scope_in section tree
+  pub scope_is : (callees : Callees) (tree : FunctionTree) →
+      scope_of (typed_section section callees) (typed_function section callees tree) ≡ scope_in section tree
   scope_is callees tree = λ i. record {
     structs = structs section;
-    globals = map_twice {A = GlobalTree} {B = TypedGlobal} (λ g. g.ty) (typed_global (tags section)) (globals_in section.decls) i;
+    globals = map_twice {A = GlobalTree} {B = TypedGlobal} (λ g. g.ty) (typed_global (tags section))
+        (globals_in section.decls) i;
     params = map_twice {A = FunctionParam} {B = TypedParam} (λ p. p.ty) (typed_param (tags section)) tree.head.params i;
     locals = local_types tree 0 tree.locals i;
   }
 
-  init_low : (tree : FunctionTree) (place : ℕ) (t : Ty) (init : Option ExprTree) → init_height (typed_init section tree place t init) ≡ surface.init_height init
+  init_low : (tree : FunctionTree) (place : ℕ) (t : Ty) (init : Option ExprTree) →
+      init_height (typed_init section tree place t init) ≡ surface.init_height init
   init_low tree place t None = refl
-  init_low tree place t (Some init) = heights.going_height t _ ∙ heights.typed_height (visible_in section tree (suc place)) init
+  init_low tree place t (Some init) = heights.going_height t _ ∙
+      heights.typed_height (visible_in section tree (suc place)) init
 
-  local_is : (callees : Callees) (tree : FunctionTree) (place : ℕ) (local : LocalTree) → local_holds section callees tree place local ≡ true → base_known (tags section) local.ty.base ≡ true → is_small section (type_of (tags section) local.ty) ≡ true → nat_le (surface.local_height local) 256 ≡ true → local_fits (scope_in section tree) (typed_local section tree place local) ≡ true
+  local_is : (callees : Callees) (tree : FunctionTree) (place : ℕ) (local : LocalTree) →
+      local_holds section callees tree place local ≡ true → base_known (tags section) local.ty.base ≡ true →
+      is_small section (type_of (tags section) local.ty) ≡ true → nat_le (surface.local_height local) 256 ≡ true →
+      local_fits (scope_in section tree) (typed_local section tree place local) ≡ true
   local_is callees tree place local holds known small low =
-      and_from _ _ (tree_fits local.ty (and_first _ _ holds) known small) (and_from _ _ (and_rest (is_sized local.ty) _ holds) (ap (λ n. nat_le n most_height) (init_low tree place (type_of (tags section) local.ty) local.init) ∙ low))
+      and_from _ _ (tree_fits local.ty (and_first _ _ holds) known small)
+      (and_from _ _ (and_rest (is_sized local.ty) _ holds)
+      (ap (λ n. nat_le n most_height) (init_low tree place (type_of (tags section) local.ty) local.init) ∙ low))
 
-  locals_are : (callees : Callees) (before decls : List Decl) → before ++ decls ≡ section.decls → (globals own : List Text) (tree : FunctionTree) (place : ℕ) (locals : List LocalTree) → locals_from section callees tree place locals ≡ [] → names.locals_from (struct_names before) globals own locals ≡ [] → concat (map (counts.local_lines section) locals) ≡ [] → nat_le (surface.locals_height locals) 256 ≡ true → list_all (local_fits (scope_in section tree)) (typed_locals section tree place locals) ≡ true
+  locals_are : (callees : Callees) (before decls : List Decl) → before ++ decls ≡ section.decls →
+      (globals own : List Text) (tree : FunctionTree) (place : ℕ) (locals : List LocalTree) →
+      locals_from section callees tree place locals ≡ [] →
+      names.locals_from (struct_names before) globals own locals ≡ [] →
+      concat (map (counts.local_lines section) locals) ≡ [] → nat_le (surface.locals_height locals) 256 ≡ true →
+      list_all (local_fits (scope_in section tree)) (typed_locals section tree place locals) ≡ true
   unfolding typed_locals
   locals_are callees before decls whole globals own tree place [] holds known small low = refl
   locals_are callees before decls whole globals own tree place (local ∷ locals) holds known small low =
-      let in_names : names.local_known (struct_names before) globals own local ≡ true = held _ local.line (front_empty _ _ known) in
-      and_from _ _ (local_is callees tree place local (held _ local.line (front_empty _ _ holds)) (known_whole before decls whole local.ty.base (and_first _ _ (and_rest (not (is_numbered own local.name)) _ in_names))) (held _ local.line (front_empty _ _ small)) (low_left (surface.local_height local) (surface.locals_height locals) 256 low)) (locals_are callees before decls whole globals (own ++ local.name ∷ []) tree (suc place) locals (back_empty (unless (local_holds section callees tree place local) local.line) _ holds) (back_empty (unless (names.local_known (struct_names before) globals own local) local.line) _ known) (back_empty (counts.local_lines section local) _ small) (low_right (surface.local_height local) (surface.locals_height locals) 256 low))
+      let in_names : names.local_known (struct_names before) globals own local ≡ true =
+      rule_holds _ local.line (front_empty _ _ known) in
+      and_from _ _ (local_is callees tree place local (rule_holds _ local.line (front_empty _ _ holds))
+      (known_whole before decls whole local.ty.base
+      (and_first _ _ (and_rest (not (is_numbered own local.name)) _ in_names)))
+      (rule_holds _ local.line (front_empty _ _ small))
+      (low_left (surface.local_height local) (surface.locals_height locals) 256 low))
+      (locals_are callees before decls whole globals (own ++ local.name ∷ []) tree (suc place) locals
+      (back_empty (unless (local_holds section callees tree place local) local.line) _ holds)
+      (back_empty (unless (names.local_known (struct_names before) globals own local) local.line) _ known)
+      (back_empty (counts.local_lines section local) _ small)
+      (low_right (surface.local_height local) (surface.locals_height locals) 256 low))
 
   -- Bodies.
 
-  module _ (callees : Callees) (callable : Callable) (same : (before : List Decl) (tree : FunctionTree) (name : Text) → is_callable (known_in (names.declared section before) tree) name ≡ true → target_signature callable (callees.target name) ≡ callees.signature name) where
-    body_is : (before : List Decl) (tree : FunctionTree) (body : List StmtTree) → names.body_lines (known_in (names.declared section before) tree) body ≡ [] → concat (map (stmt_lines (visible_of section tree) callees (scope_in section tree) (result_of section tree)) body) ≡ [] → body_fits (scope_in section tree) callable (result_of section tree) (map (typed_stmt (visible_of section tree) callees (result_of section tree)) body) ≡ true
+  module _ (callees : Callees) (callable : Callable) (same : (before : List Decl) (tree : FunctionTree) (name : Text) →
+      is_callable (known_in (names.declared section before) tree) name ≡ true →
+      target_signature callable (callees.target name) ≡ callees.signature name) where
+    body_is : (before : List Decl) (tree : FunctionTree) (body : List StmtTree) →
+        names.body_lines (known_in (names.declared section before) tree) body ≡ [] →
+        concat (map (stmt_lines (visible_of section tree) callees (scope_in section tree)
+        (result_of section tree)) body) ≡ [] → body_fits (scope_in section tree) callable (result_of section tree)
+        (map (typed_stmt (visible_of section tree) callees (result_of section tree)) body) ≡ true
     body_is before tree [] known holds = refl
     body_is before tree (s ∷ body) known holds =
-        and_from _ _ (fits (known_in (names.declared section before) tree) (visible_of section tree) callees (scope_in section tree) callable (same before tree) (result_of section tree) s false (front_empty _ _ known) (front_empty _ _ holds)) (body_is before tree body (back_empty (names.stmt_lines (known_in (names.declared section before) tree) s false) _ known) (back_empty (stmt_lines (visible_of section tree) callees (scope_in section tree) (result_of section tree) s) _ holds))
+        and_from _ _ (fits (known_in (names.declared section before) tree) (visible_of section tree) callees
+        (scope_in section tree) callable (same before tree) (result_of section tree) s false (front_empty _ _ known)
+        (front_empty _ _ holds)) (body_is before tree body
+        (back_empty (names.stmt_lines (known_in (names.declared section before) tree) s false) _ known)
+        (back_empty (stmt_lines (visible_of section tree) callees (scope_in section tree)
+        (result_of section tree) s) _ holds))
 
-    body_low : (tree : FunctionTree) (body : List StmtTree) → nat_le (surface.stmts_height body) 256 ≡ true → list_all {X = TypedStmt} (λ s. nat_le (stmt_height s) most_height) (map (typed_stmt (visible_of section tree) callees (result_of section tree)) body) ≡ true
+    body_low : (tree : FunctionTree) (body : List StmtTree) → nat_le (surface.stmts_height body) 256 ≡ true →
+        list_all {X = TypedStmt} (λ s. nat_le (stmt_height s) most_height)
+        (map (typed_stmt (visible_of section tree) callees (result_of section tree)) body) ≡ true
     body_low tree [] low = refl
     body_low tree (s ∷ body) low =
-        and_from _ _ (ap (λ n. nat_le n most_height) (heights.stmt_is (visible_of section tree) callees (result_of section tree) s) ∙ low_left (surface.stmt_height s) (surface.stmts_height body) 256 low) (body_low tree body (low_right (surface.stmt_height s) (surface.stmts_height body) 256 low))
+        and_from _ _ (ap (λ n. nat_le n most_height) (heights.stmt_is (visible_of section tree) callees
+        (result_of section tree) s) ∙ low_left (surface.stmt_height s) (surface.stmts_height body) 256 low)
+        (body_low tree body (low_right (surface.stmt_height s) (surface.stmts_height body) 256 low))
 
-    result_whole : (before decls : List Decl) → before ++ decls ≡ section.decls → (result : Option TypeName) → result_known (struct_names before) result ≡ true → result_known (tags section) result ≡ true
+    result_whole : (before decls : List Decl) → before ++ decls ≡ section.decls → (result : Option TypeName) →
+        result_known (struct_names before) result ≡ true → result_known (tags section) result ≡ true
     result_whole before decls whole None h = refl
     result_whole before decls whole (Some t) h = known_whole before decls whole t.base h
 
-    params_whole : (before decls : List Decl) → before ++ decls ≡ section.decls → (params : List ParamTree) → list_all {X = ParamTree} (λ param. base_known (struct_names before) param.ty.base) params ≡ true → list_all {X = ParamTree} (λ param. base_known (tags section) param.ty.base) params ≡ true
+    params_whole : (before decls : List Decl) → before ++ decls ≡ section.decls → (params : List ParamTree) →
+        list_all {X = ParamTree} (λ param. base_known (struct_names before) param.ty.base) params ≡ true →
+        list_all {X = ParamTree} (λ param. base_known (tags section) param.ty.base) params ≡ true
     params_whole before decls whole [] h = refl
     params_whole before decls whole (p ∷ params) h =
-        and_from _ _ (known_whole before decls whole p.ty.base (and_first _ _ h)) (params_whole before decls whole params (and_rest (base_known (struct_names before) p.ty.base) _ h))
+        and_from _ _ (known_whole before decls whole p.ty.base (and_first _ _ h))
+        (params_whole before decls whole params (and_rest (base_known (struct_names before) p.ty.base) _ h))
 
-    function_is : (before decls : List Decl) → before ++ decls ≡ section.decls → AllSmall (structs section) 0 (structs_in section.decls) → (tree : FunctionTree) → names.function_lines (names.declared section before) tree ≡ [] → function_lines section callees tree ≡ [] → counts.function_lines section tree ≡ [] → counts.head_lines section (head_of tree.head) ≡ [] → nat_le (surface.function_height tree) 256 ≡ true → function_fits callable (typed_section section callees) (typed_function section callees tree) ≡ true
+    function_is : (before decls : List Decl) → before ++ decls ≡ section.decls →
+        AllSmall (structs section) 0 (structs_in section.decls) → (tree : FunctionTree) →
+        names.function_lines (names.declared section before) tree ≡ [] → function_lines section callees tree ≡ [] →
+        counts.function_lines section tree ≡ [] → counts.head_lines section (head_of tree.head) ≡ [] →
+        nat_le (surface.function_height tree) 256 ≡ true →
+        function_fits callable (typed_section section callees) (typed_function section callees tree) ≡ true
     function_is before decls whole small tree in_names holds sizes count low =
-        let head : names.head_of_known (names.declared section before) tree ≡ true = held _ tree.head.line (front_empty _ _ in_names) in
-        let behind_head : names.locals_from (struct_names before) (global_names before) (param_names tree) tree.locals ++ names.body_lines (known_in (names.declared section before) tree) tree.body ≡ [] = back_empty (unless (names.head_of_known (names.declared section before) tree) tree.head.line) _ in_names in
-        let tags_known : head_known (struct_names before) (head_of tree.head) ≡ true = and_first _ _ (and_rest (not (is_numbered (function_names before) tree.head.name)) _ (and_rest (not (is_numbered (global_names before) tree.head.name)) _ head)) in
-        and_from _ _ (ap (λ n. nat_le n most_params) (map_length (typed_param (tags section)) tree.head.params ∙ sym (map_length param_of tree.head.params)) ∙ held _ tree.head.line count) (and_from _ _ (params_passed small tree.head.params (params_whole before decls whole (map param_of tree.head.params) (and_rest (result_known (struct_names before) tree.head.result) _ tags_known))) (and_from _ _ (result_passed small tree.head.result (result_whole before decls whole tree.head.result (and_first _ _ tags_known))) (and_from _ _ (subst (λ scope. list_all (local_fits scope) (typed_locals section tree 0 tree.locals) ≡ true) (sym (scope_is callees tree)) (locals_are callees before decls whole (global_names before) (param_names tree) tree 0 tree.locals (front_empty _ _ holds) (front_empty _ _ behind_head) (back_empty (unless (list_all (counts.param_small section) tree.head.params) tree.head.line) _ sizes) (low_left (surface.locals_height tree.locals) (surface.stmts_height tree.body) 256 low))) (and_from _ _ (subst (λ scope. body_fits scope callable (result_of section tree) (map (typed_stmt (visible_of section tree) callees (result_of section tree)) tree.body) ≡ true) (sym (scope_is callees tree)) (body_is before tree tree.body (back_empty (names.locals_from (struct_names before) (global_names before) (param_names tree) tree.locals) _ behind_head) (back_empty (locals_from section callees tree 0 tree.locals) _ holds))) (body_low tree tree.body (low_right (surface.locals_height tree.locals) (surface.stmts_height tree.body) 256 low))))))
+        let head : names.head_of_known (names.declared section before) tree ≡ true =
+        rule_holds _ tree.head.line (front_empty _ _ in_names) in
+        let behind_head : names.locals_from (struct_names before) (global_names before)
+        (param_names tree) tree.locals ++ names.body_lines
+        (known_in (names.declared section before) tree) tree.body ≡ [] =
+        back_empty (unless (names.head_of_known (names.declared section before) tree) tree.head.line) _ in_names in
+        let tags_known : head_known (struct_names before) (head_of tree.head) ≡ true =
+        and_first _ _ (and_rest (not (is_numbered (function_names before) tree.head.name)) _
+        (and_rest (not (is_numbered (global_names before) tree.head.name)) _ head)) in
+        and_from _ _ (ap (λ n. nat_le n most_params) (map_length (typed_param (tags section)) tree.head.params ∙
+        sym (map_length param_of tree.head.params)) ∙ rule_holds _ tree.head.line count)
+        (and_from _ _ (params_passed small tree.head.params
+        (params_whole before decls whole (map param_of tree.head.params)
+        (and_rest (result_known (struct_names before) tree.head.result) _ tags_known)))
+        (and_from _ _ (result_passed small tree.head.result
+        (result_whole before decls whole tree.head.result (and_first _ _ tags_known)))
+        (and_from _ _ (subst (λ scope. list_all (local_fits scope) (typed_locals section tree 0 tree.locals) ≡ true)
+        (sym (scope_is callees tree)) (locals_are callees before decls whole (global_names before)
+        (param_names tree) tree 0 tree.locals (front_empty _ _ holds) (front_empty _ _ behind_head)
+        (back_empty (unless (list_all (counts.param_small section) tree.head.params) tree.head.line) _ sizes)
+        (low_left (surface.locals_height tree.locals) (surface.stmts_height tree.body) 256 low)))
+        (and_from _ _ (subst (λ scope. body_fits scope callable (result_of section tree)
+        (map (typed_stmt (visible_of section tree) callees (result_of section tree)) tree.body) ≡ true)
+        (sym (scope_is callees tree)) (body_is before tree tree.body
+        (back_empty (names.locals_from (struct_names before) (global_names before)
+        (param_names tree) tree.locals) _ behind_head)
+        (back_empty (locals_from section callees tree 0 tree.locals) _ holds)))
+        (body_low tree tree.body (low_right (surface.locals_height tree.locals)
+        (surface.stmts_height tree.body) 256 low))))))
 
     -- All declarations, those before one after another.
 
-    next_whole : (before : List Decl) (decl : Decl) (decls : List Decl) → before ++ decl ∷ decls ≡ section.decls → (before ++ decl ∷ []) ++ decls ≡ section.decls
+    next_whole : (before : List Decl) (decl : Decl) (decls : List Decl) → before ++ decl ∷ decls ≡ section.decls →
+        (before ++ decl ∷ []) ++ decls ≡ section.decls
     next_whole before decl decls whole = append_assoc before (decl ∷ []) decls ∙ whole
 
-    pub functions_are : AllSmall (structs section) 0 (structs_in section.decls) → (before decls : List Decl) → before ++ decls ≡ section.decls → names.lines_from section before decls ≡ [] → concat (map (decl_lines section callees) decls) ≡ [] → concat (map (counts.head_lines section) (heads_in decls)) ≡ [] → concat (map (counts.function_lines section) (functions_in decls)) ≡ [] → nat_le (surface.decls_height decls) 256 ≡ true → list_all (function_fits callable (typed_section section callees)) (map (typed_function section callees) (functions_in decls)) ≡ true
+    pub functions_are : AllSmall (structs section) 0 (structs_in section.decls) → (before decls : List Decl) →
+        before ++ decls ≡ section.decls → names.lines_from section before decls ≡ [] →
+        concat (map (decl_lines section callees) decls) ≡ [] →
+        concat (map (counts.head_lines section) (heads_in decls)) ≡ [] →
+        concat (map (counts.function_lines section) (functions_in decls)) ≡ [] →
+        nat_le (surface.decls_height decls) 256 ≡ true →
+        list_all (function_fits callable (typed_section section callees))
+        (map (typed_function section callees) (functions_in decls)) ≡ true
     functions_are small before [] whole in_names holds heads sizes low = refl
     functions_are small before (Struct tree ∷ decls) whole in_names holds heads sizes low =
-        functions_are small (before ++ Struct tree ∷ []) decls (next_whole before (Struct tree) decls whole) (back_empty (names.decl_lines (names.declared section before) (Struct tree)) _ in_names) (back_empty (decl_lines section callees (Struct tree)) _ holds) heads sizes (low_right 0 (surface.decls_height decls) 256 low)
+        functions_are small (before ++ Struct tree ∷ []) decls (next_whole before (Struct tree) decls whole)
+        (back_empty (names.decl_lines (names.declared section before) (Struct tree)) _ in_names)
+        (back_empty (decl_lines section callees (Struct tree)) _ holds) heads sizes
+        (low_right 0 (surface.decls_height decls) 256 low)
     functions_are small before (Global tree ∷ decls) whole in_names holds heads sizes low =
-        functions_are small (before ++ Global tree ∷ []) decls (next_whole before (Global tree) decls whole) (back_empty (names.decl_lines (names.declared section before) (Global tree)) _ in_names) (back_empty (decl_lines section callees (Global tree)) _ holds) heads sizes (low_right 0 (surface.decls_height decls) 256 low)
+        functions_are small (before ++ Global tree ∷ []) decls (next_whole before (Global tree) decls whole)
+        (back_empty (names.decl_lines (names.declared section before) (Global tree)) _ in_names)
+        (back_empty (decl_lines section callees (Global tree)) _ holds) heads sizes
+        (low_right 0 (surface.decls_height decls) 256 low)
     functions_are small before (Proto head ∷ decls) whole in_names holds heads sizes low =
-        functions_are small (before ++ Proto head ∷ []) decls (next_whole before (Proto head) decls whole) (back_empty (names.decl_lines (names.declared section before) (Proto head)) _ in_names) (back_empty (decl_lines section callees (Proto head)) _ holds) (back_empty (counts.head_lines section head) _ heads) sizes (low_right 0 (surface.decls_height decls) 256 low)
+        functions_are small (before ++ Proto head ∷ []) decls (next_whole before (Proto head) decls whole)
+        (back_empty (names.decl_lines (names.declared section before) (Proto head)) _ in_names)
+        (back_empty (decl_lines section callees (Proto head)) _ holds)
+        (back_empty (counts.head_lines section head) _ heads) sizes
+        (low_right 0 (surface.decls_height decls) 256 low)
     functions_are small before (Function tree ∷ decls) whole in_names holds heads sizes low =
-        and_from _ _ (function_is before (Function tree ∷ decls) whole small tree (front_empty _ _ in_names) (front_empty _ _ holds) (front_empty _ _ sizes) (front_empty _ _ heads) (low_left (surface.function_height tree) (surface.decls_height decls) 256 low)) (functions_are small (before ++ Function tree ∷ []) decls (next_whole before (Function tree) decls whole) (back_empty (names.decl_lines (names.declared section before) (Function tree)) _ in_names) (back_empty (decl_lines section callees (Function tree)) _ holds) (back_empty (counts.head_lines section (head_of tree.head)) _ heads) (back_empty (counts.function_lines section tree) _ sizes) (low_right (surface.function_height tree) (surface.decls_height decls) 256 low))
+        and_from _ _ (function_is before (Function tree ∷ decls) whole small tree (front_empty _ _ in_names)
+        (front_empty _ _ holds) (front_empty _ _ sizes) (front_empty _ _ heads)
+        (low_left (surface.function_height tree) (surface.decls_height decls) 256 low))
+        (functions_are small (before ++ Function tree ∷ []) decls (next_whole before (Function tree) decls whole)
+        (back_empty (names.decl_lines (names.declared section before) (Function tree)) _ in_names)
+        (back_empty (decl_lines section callees (Function tree)) _ holds)
+        (back_empty (counts.head_lines section (head_of tree.head)) _ heads)
+        (back_empty (counts.function_lines section tree) _ sizes)
+        (low_right (surface.function_height tree) (surface.decls_height decls) 256 low))
 
   module _ (callees : Callees) where
-    pub globals_are : (before decls : List Decl) → before ++ decls ≡ section.decls → names.lines_from section before decls ≡ [] → concat (map (decl_lines section callees) decls) ≡ [] → concat (map (counts.global_lines section) (globals_in decls)) ≡ [] → list_all (global_fits (structs section)) (map (typed_global (tags section)) (globals_in decls)) ≡ true
+    pub globals_are : (before decls : List Decl) → before ++ decls ≡ section.decls →
+        names.lines_from section before decls ≡ [] → concat (map (decl_lines section callees) decls) ≡ [] →
+        concat (map (counts.global_lines section) (globals_in decls)) ≡ [] →
+        list_all (global_fits (structs section)) (map (typed_global (tags section)) (globals_in decls)) ≡ true
     globals_are before [] whole in_names holds sizes = refl
     globals_are before (Struct tree ∷ decls) whole in_names holds sizes =
-        globals_are (before ++ Struct tree ∷ []) decls (append_assoc before (Struct tree ∷ []) decls ∙ whole) (back_empty (names.decl_lines (names.declared section before) (Struct tree)) _ in_names) (back_empty (decl_lines section callees (Struct tree)) _ holds) sizes
+        globals_are (before ++ Struct tree ∷ []) decls (append_assoc before (Struct tree ∷ []) decls ∙ whole)
+        (back_empty (names.decl_lines (names.declared section before) (Struct tree)) _ in_names)
+        (back_empty (decl_lines section callees (Struct tree)) _ holds) sizes
     globals_are before (Global tree ∷ decls) whole in_names holds sizes =
-        let known : names.global_known (names.declared section before) tree ≡ true = held _ tree.line (front_empty _ _ in_names) in
-        let tag : base_known (struct_names before) tree.ty.base ≡ true = and_rest (not (is_numbered (import_names section) tree.name)) _ (and_rest (not (is_numbered (proto_names before) tree.name)) _ (and_rest (not (is_numbered (function_names before) tree.name)) _ (and_rest (not (is_numbered (global_names before) tree.name)) _ known))) in
-        and_from _ _ (global_is tree (known_whole before (Global tree ∷ decls) whole tree.ty.base tag) (held _ tree.line (front_empty _ _ holds)) (held _ tree.line (front_empty _ _ sizes))) (globals_are (before ++ Global tree ∷ []) decls (append_assoc before (Global tree ∷ []) decls ∙ whole) (back_empty (names.decl_lines (names.declared section before) (Global tree)) _ in_names) (back_empty (decl_lines section callees (Global tree)) _ holds) (back_empty (counts.global_lines section tree) _ sizes))
+        let known : names.global_known (names.declared section before) tree ≡ true =
+        rule_holds _ tree.line (front_empty _ _ in_names) in
+        let tag : base_known (struct_names before) tree.ty.base ≡ true =
+        and_rest (not (is_numbered (import_names section) tree.name)) _
+        (and_rest (not (is_numbered (proto_names before) tree.name)) _
+        (and_rest (not (is_numbered (function_names before) tree.name)) _
+        (and_rest (not (is_numbered (global_names before) tree.name)) _ known))) in
+        and_from _ _ (global_is tree (known_whole before (Global tree ∷ decls) whole tree.ty.base tag)
+        (rule_holds _ tree.line (front_empty _ _ holds)) (rule_holds _ tree.line (front_empty _ _ sizes)))
+        (globals_are (before ++ Global tree ∷ []) decls (append_assoc before (Global tree ∷ []) decls ∙ whole)
+        (back_empty (names.decl_lines (names.declared section before) (Global tree)) _ in_names)
+        (back_empty (decl_lines section callees (Global tree)) _ holds)
+        (back_empty (counts.global_lines section tree) _ sizes))
     globals_are before (Proto head ∷ decls) whole in_names holds sizes =
-        globals_are (before ++ Proto head ∷ []) decls (append_assoc before (Proto head ∷ []) decls ∙ whole) (back_empty (names.decl_lines (names.declared section before) (Proto head)) _ in_names) (back_empty (decl_lines section callees (Proto head)) _ holds) sizes
+        globals_are (before ++ Proto head ∷ []) decls (append_assoc before (Proto head ∷ []) decls ∙ whole)
+        (back_empty (names.decl_lines (names.declared section before) (Proto head)) _ in_names)
+        (back_empty (decl_lines section callees (Proto head)) _ holds) sizes
     globals_are before (Function tree ∷ decls) whole in_names holds sizes =
-        globals_are (before ++ Function tree ∷ []) decls (append_assoc before (Function tree ∷ []) decls ∙ whole) (back_empty (names.decl_lines (names.declared section before) (Function tree)) _ in_names) (back_empty (decl_lines section callees (Function tree)) _ holds) sizes
+        globals_are (before ++ Function tree ∷ []) decls (append_assoc before (Function tree ∷ []) decls ∙ whole)
+        (back_empty (names.decl_lines (names.declared section before) (Function tree)) _ in_names)
+        (back_empty (decl_lines section callees (Function tree)) _ holds) sizes
 
-    struct_is : (before : List Decl) (tree : StructTree) → names.decl_lines (names.declared section before) (Struct tree) ≡ [] → struct_lines section tree ≡ [] → Known (struct_names before) tree
+    struct_is : (before : List Decl) (tree : StructTree) →
+        names.decl_lines (names.declared section before) (Struct tree) ≡ [] → struct_lines section tree ≡ [] →
+        Known (struct_names before) tree
     struct_is before tree in_names holds =
-        let known : names.struct_known (names.declared section before) tree ≡ true = held _ tree.line in_names in
-        let shape : (nat_le 1 (length tree.members) && list_all {X = MemberTree} (λ member. is_sized member.ty) tree.members) ≡ true = held _ tree.line holds in
-        record { new = not_true _ (and_first _ _ known); members = and_rest (are_distinct (map {A = MemberTree} (λ member. member.name) tree.members)) _ (and_rest (not (is_numbered (struct_names before) tree.name)) _ known); sized = and_rest (nat_le 1 (length tree.members)) _ shape; some = and_first _ _ shape }
+        let known : names.struct_known (names.declared section before) tree ≡ true = rule_holds _ tree.line in_names in
+        let shape : (nat_le 1 (length tree.members) &&
+        list_all {X = MemberTree} (λ member. is_sized member.ty) tree.members) ≡ true =
+        rule_holds _ tree.line holds in
+        record {
+          new = not_true _ (and_first _ _ known);
+          members = and_rest (are_distinct (map {A = MemberTree} (λ member. member.name) tree.members)) _
+              (and_rest (not (is_numbered (struct_names before) tree.name)) _ known);
+          sized = and_rest (nat_le 1 (length tree.members)) _ shape;
+          some = and_first _ _ shape;
+        }
 
-    same_names : (before : List Decl) (decl : Decl) → struct_names (decl ∷ []) ≡ [] → struct_names (before ++ decl ∷ []) ≡ struct_names before
+    same_names : (before : List Decl) (decl : Decl) → struct_names (decl ∷ []) ≡ [] →
+        struct_names (before ++ decl ∷ []) ≡ struct_names before
     same_names before decl h =
-        struct_names_append before (decl ∷ []) ∙ ap (λ more. struct_names before ++ more) h ∙ append-nil (struct_names before)
+        struct_names_append before (decl ∷ []) ∙ ap (λ more. struct_names before ++ more) h ∙
+        append-nil (struct_names before)
 
-    pub structs_known : (before decls : List Decl) → names.lines_from section before decls ≡ [] → concat (map (decl_lines section callees) decls) ≡ [] → AllKnown (struct_names before) (structs_in decls)
+    pub structs_known : (before decls : List Decl) → names.lines_from section before decls ≡ [] →
+        concat (map (decl_lines section callees) decls) ≡ [] → AllKnown (struct_names before) (structs_in decls)
     structs_known before [] in_names holds = tt
-    structs_known before (Struct tree ∷ decls) in_names holds =
-        (struct_is before tree (front_empty _ _ in_names) (front_empty _ _ holds), subst (λ all. AllKnown all (structs_in decls)) (struct_names_append before (Struct tree ∷ [])) (structs_known (before ++ Struct tree ∷ []) decls (back_empty (names.decl_lines (names.declared section before) (Struct tree)) _ in_names) (back_empty (decl_lines section callees (Struct tree)) _ holds)))
+    structs_known before (Struct tree ∷ decls) in_names holds = (
+      struct_is before tree (front_empty _ _ in_names) (front_empty _ _ holds),
+      subst (λ all. AllKnown all (structs_in decls)) (struct_names_append before (Struct tree ∷ []))
+          (structs_known (before ++ Struct tree ∷ []) decls
+          (back_empty (names.decl_lines (names.declared section before) (Struct tree)) _ in_names)
+          (back_empty (decl_lines section callees (Struct tree)) _ holds)),
+    )
     structs_known before (Global tree ∷ decls) in_names holds =
-        subst (λ all. AllKnown all (structs_in decls)) (same_names before (Global tree) refl) (structs_known (before ++ Global tree ∷ []) decls (back_empty (names.decl_lines (names.declared section before) (Global tree)) _ in_names) (back_empty (decl_lines section callees (Global tree)) _ holds))
+        subst (λ all. AllKnown all (structs_in decls)) (same_names before (Global tree) refl)
+        (structs_known (before ++ Global tree ∷ []) decls
+        (back_empty (names.decl_lines (names.declared section before) (Global tree)) _ in_names)
+        (back_empty (decl_lines section callees (Global tree)) _ holds))
     structs_known before (Proto head ∷ decls) in_names holds =
-        subst (λ all. AllKnown all (structs_in decls)) (same_names before (Proto head) refl) (structs_known (before ++ Proto head ∷ []) decls (back_empty (names.decl_lines (names.declared section before) (Proto head)) _ in_names) (back_empty (decl_lines section callees (Proto head)) _ holds))
+        subst (λ all. AllKnown all (structs_in decls)) (same_names before (Proto head) refl)
+        (structs_known (before ++ Proto head ∷ []) decls
+        (back_empty (names.decl_lines (names.declared section before) (Proto head)) _ in_names)
+        (back_empty (decl_lines section callees (Proto head)) _ holds))
     structs_known before (Function tree ∷ decls) in_names holds =
-        subst (λ all. AllKnown all (structs_in decls)) (same_names before (Function tree) refl) (structs_known (before ++ Function tree ∷ []) decls (back_empty (names.decl_lines (names.declared section before) (Function tree)) _ in_names) (back_empty (decl_lines section callees (Function tree)) _ holds))
+        subst (λ all. AllKnown all (structs_in decls)) (same_names before (Function tree) refl)
+        (structs_known (before ++ Function tree ∷ []) decls
+        (back_empty (names.decl_lines (names.declared section before) (Function tree)) _ in_names)
+        (back_empty (decl_lines section callees (Function tree)) _ holds))

@@ -35,11 +35,14 @@ one_more : (n : ℕ) → suc n ≡ n + 1
 one_more n = omega arith
 
 -- the height doesn't depend on the type
-type_aside : (t u : Ty) (k : TypedKind) → expr_height (record { ty = t; kind = k }) ≡ expr_height (record { ty = u; kind = k })
+type_aside : (t u : Ty) (k : TypedKind) → expr_height (record { ty = t; kind = k }) ≡
+    expr_height (record { ty = u; kind = k })
 type_aside t u k =
-    fold-roll-TypedExpr ℕ ℕ term_height (λ e. e.kind) (record { ty = t; kind = k }) ∙ sym (fold-roll-TypedExpr ℕ ℕ term_height (λ e. e.kind) (record { ty = u; kind = k }))
+    fold-roll-TypedExpr ℕ ℕ term_height (λ e. e.kind) (record { ty = t; kind = k }) ∙
+    sym (fold-roll-TypedExpr ℕ ℕ term_height (λ e. e.kind) (record { ty = u; kind = k }))
 
-going_by : (b : Bool) (t : Ty) (e : TypedExpr) → expr_height (if b then record { ty = t; kind = e.kind } else e) ≡ expr_height e
+going_by : (b : Bool) (t : Ty) (e : TypedExpr) → expr_height (if b then record { ty = t; kind = e.kind } else e) ≡
+    expr_height e
 going_by true t e = type_aside t e.ty e.kind
 going_by false t e = refl
 
@@ -67,7 +70,8 @@ beside_height tree_op.Div other e = refl
 beside_height tree_op.Rem other e = refl
 
 -- an expression of this layer
-height_at : (t : Ty) (k : TypedKind-F TypedKind TypedExpr) → expr_height (typed t k) ≡ term_of ℕ ℕ term_height (λ e. e.kind) k
+height_at : (t : Ty) (k : TypedKind-F TypedKind TypedExpr) →
+    expr_height (typed t k) ≡ term_of ℕ ℕ term_height (λ e. e.kind) k
 height_at t k = expr_at ℕ ℕ term_height (λ e. e.kind) t k
 
 module _ (visible : Visible) where
@@ -80,29 +84,38 @@ module _ (visible : Visible) where
   variable_height (Some f) = height_at _ (term.Variable f.variable)
 
   -- by the layer of the tree
-  by_term : (t : ExprTree-F ExprTree) → Under Same t → expr_height (elab.step visible (map-ExprTree _ _ (elab.typed visible) t)) ≡ surface.expr_step (map-ExprTree _ _ surface.expr_height t)
+  by_term : (t : ExprTree-F ExprTree) → Under Same t →
+      expr_height (elab.step visible (map-ExprTree _ _ (elab.typed visible) t)) ≡
+      surface.expr_step (map-ExprTree _ _ surface.expr_height t)
   unfolding roll-TypedKind denote.Hole.Carrier.roll
   by_term (tree_term.Literal number) under = height_at _ (term.Literal number.value)
   by_term (tree_term.Variable name) under = variable_height (found visible name)
   by_term (tree_term.Unary o e) under =
       height_at _ (term.Unary o (elab.typed visible e)) ∙ ap suc under ∙ one_more _
   by_term (tree_term.Binary o a b) under =
-      height_at _ (term.Binary o (beside o (elab.typed visible b).ty (elab.typed visible a)) (beside o (elab.typed visible a).ty (elab.typed visible b)))
-      ∙ (λ i. suc (max ((beside_height o (elab.typed visible b).ty (elab.typed visible a) ∙ under.0) i) ((beside_height o (elab.typed visible a).ty (elab.typed visible b) ∙ under.1) i)))
+      height_at _ (term.Binary o (beside o (elab.typed visible b).ty (elab.typed visible a))
+      (beside o (elab.typed visible a).ty (elab.typed visible b)))
+      ∙ (λ i. suc (max ((beside_height o (elab.typed visible b).ty (elab.typed visible a) ∙ under.0) i)
+      ((beside_height o (elab.typed visible a).ty (elab.typed visible b) ∙ under.1) i)))
       ∙ one_more _
   by_term (tree_term.Index a b) under =
-      height_at _ (term.Index (elab.typed visible a) (elab.typed visible b)) ∙ (λ i. suc (max (under.0 i) (under.1 i))) ∙ one_more _
-  by_term (tree_term.Member e name) under = height_at _ (term.Member (elab.typed visible e) _) ∙ ap suc under ∙ one_more _
+      height_at _ (term.Index (elab.typed visible a) (elab.typed visible b)) ∙
+      (λ i. suc (max (under.0 i) (under.1 i))) ∙ one_more _
+  by_term (tree_term.Member e name) under = height_at _ (term.Member (elab.typed visible e) _) ∙ ap suc under ∙
+      one_more _
   by_term (tree_term.Arrow e name) under = height_at _ (term.Arrow (elab.typed visible e) _) ∙ ap suc under ∙ one_more _
   by_term (tree_term.Deref e) under = height_at _ (term.Deref (elab.typed visible e)) ∙ ap suc under ∙ one_more _
   by_term (tree_term.Address e) under = height_at _ (term.Address (elab.typed visible e)) ∙ ap suc under ∙ one_more _
 
   pub typed_height : (e : ExprTree) → Same e
   typed_height =
-      expr_induction Same (λ t under. ap expr_height (tree_layers.expr_at (elab.step visible) t) ∙ by_term t under ∙ sym (tree_layers.expr_at surface.expr_step t))
+      expr_induction Same (λ t under. ap expr_height (tree_layers.expr_at (elab.step visible) t) ∙ by_term t under ∙
+      sym (tree_layers.expr_at surface.expr_step t))
 
   module _ (callees : Callees) where
-    args_height : (types : List Ty) (args : List ExprTree) → highest (map expr_height (going_to_all types (map (elab.typed visible) args))) ≡ surface.highest (map surface.expr_height args)
+    args_height : (types : List Ty) (args : List ExprTree) →
+        highest (map expr_height (going_to_all types (map (elab.typed visible) args))) ≡
+        surface.highest (map surface.expr_height args)
     args_height [] [] = refl
     args_height [] (e ∷ args) = λ i. max (typed_height e i) (args_height [] args i)
     args_height (t ∷ types) [] = refl
@@ -112,7 +125,8 @@ module _ (visible : Visible) where
     call_is : (call : CallTree) → call_height (typed_call visible callees call) ≡ surface.call_height call
     call_is call = args_height (params_of (callees.signature call.name)) call.args
 
-    value_is : (place value : ExprTree) → expr_height (typed_value visible callees place value) ≡ surface.expr_height value
+    value_is : (place value : ExprTree) → expr_height (typed_value visible callees place value) ≡
+        surface.expr_height value
     value_is place value = going_height _ (elab.typed visible value) ∙ typed_height value
 
     simple_is : (s : SimpleKind) → simple_height (typed_simple_kind visible callees s) ≡ surface.simple_kind_height s
@@ -120,7 +134,8 @@ module _ (visible : Visible) where
     simple_is (simple.AssignCall place call) = λ i. max (typed_height place i) (call_is call i)
     simple_is (simple.Call call) = call_is call
 
-    part_is : (part : Option SimpleTree) → part_height (option_map (typed_simple visible callees) part) ≡ surface.option_height part
+    part_is : (part : Option SimpleTree) → part_height (option_map (typed_simple visible callees) part) ≡
+        surface.option_height part
     part_is None = refl
     part_is (Some s) = ap suc (simple_is s.kind) ∙ one_more _
 
@@ -132,7 +147,9 @@ module _ (visible : Visible) where
       abbrev SameStmt : StmtTree → Type 0
       SameStmt s = stmt_height (typed_stmt visible callees result s) ≡ surface.stmt_height s
 
-      all_heights : (stmts : List StmtTree) → tree_induction.Each SameStmt stmts → highest (map stmt_height (map (typed_stmt visible callees result) stmts)) ≡ surface.highest (map surface.stmt_height stmts)
+      all_heights : (stmts : List StmtTree) → tree_induction.Each SameStmt stmts →
+          highest (map stmt_height (map (typed_stmt visible callees result) stmts)) ≡
+          surface.highest (map surface.stmt_height stmts)
       all_heights [] each = refl
       all_heights (s ∷ stmts) each = λ i. max (each.0 i) (all_heights stmts each.1 i)
 
@@ -140,36 +157,54 @@ module _ (visible : Visible) where
       Layer = StmtKind-F StmtKind StmtTree
 
       abbrev typed_kind : Layer → TypedStmtKind
-      typed_kind k = tree_layers.layer_of TypedStmtKind TypedStmt (kind_step visible callees result) (stmt_step visible callees result) k
+      typed_kind k = tree_layers.layer_of TypedStmtKind TypedStmt (kind_step visible callees result)
+          (stmt_step visible callees result) k
 
       abbrev height_of : Layer → ℕ
       height_of k = tree_layers.layer_of ℕ ℕ surface.kind_step surface.stmt_step k
 
       -- a statement of this layer
-      stmt_of : (line : ℕ) (k : TypedStmtKind-F TypedStmtKind TypedStmt) → stmt_height (on_line line k) ≡ suc (layer_of ℕ ℕ kind_height (λ s. suc s.kind) k)
+      stmt_of : (line : ℕ) (k : TypedStmtKind-F TypedStmtKind TypedStmt) →
+          stmt_height (on_line line k) ≡ suc (layer_of ℕ ℕ kind_height (λ s. suc s.kind) k)
       stmt_of line k = stmt_at ℕ ℕ kind_height (λ s. suc s.kind) line k
 
-      by_kind : (line : ℕ) (k : Layer) → Inside SameStmt k → stmt_height (record { line = line; kind = typed_kind k }) ≡ suc (height_of k)
+      by_kind : (line : ℕ) (k : Layer) → Inside SameStmt k →
+          stmt_height (record { line = line; kind = typed_kind k }) ≡ suc (height_of k)
       unfolding roll-TypedStmtKind denote.Hole.Carrier.roll
       by_kind line tree.Empty inside = stmt_of line layer.Empty
       by_kind line (tree.Assign place value) inside =
-          stmt_of line (layer.Assign (elab.typed visible place) (typed_value visible callees place value)) ∙ (λ i. suc (max (typed_height place i) (value_is place value i)))
+          stmt_of line (layer.Assign (elab.typed visible place) (typed_value visible callees place value)) ∙
+          (λ i. suc (max (typed_height place i) (value_is place value i)))
       by_kind line (tree.AssignCall place call) inside =
-          stmt_of line (layer.AssignCall (elab.typed visible place) (typed_call visible callees call)) ∙ (λ i. suc (max (typed_height place i) (call_is call i)))
-      by_kind line (tree.Call call) inside = stmt_of line (layer.Call (typed_call visible callees call)) ∙ ap suc (call_is call)
+          stmt_of line (layer.AssignCall (elab.typed visible place) (typed_call visible callees call)) ∙
+          (λ i. suc (max (typed_height place i) (call_is call i)))
+      by_kind line (tree.Call call) inside = stmt_of line (layer.Call (typed_call visible callees call)) ∙
+          ap suc (call_is call)
       by_kind line (tree.If cond first second) inside =
-          stmt_of line (layer.If (elab.typed visible cond) (map (typed_stmt visible callees result) first) (map (typed_stmt visible callees result) second)) ∙ (λ i. suc (max (typed_height cond i) (max (all_heights first inside.0 i) (all_heights second inside.1 i))))
+          stmt_of line (layer.If (elab.typed visible cond) (map (typed_stmt visible callees result) first)
+          (map (typed_stmt visible callees result) second)) ∙
+          (λ i. suc (max (typed_height cond i) (max (all_heights first inside.0 i)
+          (all_heights second inside.1 i))))
       by_kind line (tree.While cond body) inside =
-          stmt_of line (layer.While (elab.typed visible cond) (map (typed_stmt visible callees result) body)) ∙ (λ i. suc (max (typed_height cond i) (all_heights body inside i)))
+          stmt_of line (layer.While (elab.typed visible cond) (map (typed_stmt visible callees result) body)) ∙
+          (λ i. suc (max (typed_height cond i) (all_heights body inside i)))
       by_kind line (tree.For first cond next body) inside =
-          stmt_of line (layer.For (option_map (typed_simple visible callees) first) (elab.typed visible cond) (option_map (typed_simple visible callees) next) (map (typed_stmt visible callees result) body)) ∙ (λ i. suc (max (max (part_is first i) (part_is next i)) (max (typed_height cond i) (all_heights body inside i))))
+          stmt_of line (layer.For (option_map (typed_simple visible callees) first) (elab.typed visible cond)
+          (option_map (typed_simple visible callees) next) (map (typed_stmt visible callees result) body)) ∙
+          (λ i. suc (max (max (part_is first i) (part_is next i))
+          (max (typed_height cond i) (all_heights body inside i))))
       by_kind line tree.Break inside = stmt_of line layer.Break
       by_kind line tree.Continue inside = stmt_of line layer.Continue
       by_kind line tree.Return inside = stmt_of line layer.Return
       by_kind line (tree.ReturnValue value) inside =
-          stmt_of line (layer.ReturnValue (going_to_some result (elab.typed visible value))) ∙ ap suc (some_height result (elab.typed visible value) ∙ typed_height value)
-      by_kind line (tree.ReturnCall call) inside = stmt_of line (layer.ReturnCall (typed_call visible callees call)) ∙ ap suc (call_is call)
+          stmt_of line (layer.ReturnValue (going_to_some result (elab.typed visible value))) ∙
+          ap suc (some_height result (elab.typed visible value) ∙ typed_height value)
+      by_kind line (tree.ReturnCall call) inside = stmt_of line (layer.ReturnCall (typed_call visible callees call)) ∙
+          ap suc (call_is call)
 
       pub stmt_is : (s : StmtTree) → SameStmt s
       stmt_is =
-          stmt_induction SameStmt (λ line k inside. ap stmt_height (tree_layers.stmt_at _ _ (kind_step visible callees result) (stmt_step visible callees result) line k) ∙ by_kind line k inside ∙ one_more _ ∙ sym (tree_layers.stmt_at _ _ surface.kind_step surface.stmt_step line k))
+          stmt_induction SameStmt (λ line k inside. ap stmt_height
+          (tree_layers.stmt_at _ _ (kind_step visible callees result) (stmt_step visible callees result) line k) ∙
+          by_kind line k inside ∙ one_more _ ∙ sym
+          (tree_layers.stmt_at _ _ surface.kind_step surface.stmt_step line k))

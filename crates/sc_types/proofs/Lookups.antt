@@ -54,7 +54,9 @@ pub record FoundPlace (name : Text) (trees : List FunctionTree) : Type 0 where
   pub first : function_named name trees ≡ Some tree
   pub named : bytes_eq tree.head.name name ≡ true
 
-place_at : (name : Text) (tree : FunctionTree) (trees : List FunctionTree) (b : Bool) → bytes_eq name tree.head.name ≡ b → (list_any (bytes_eq name) (names_of trees) ≡ true → FoundPlace name trees) → (b || list_any (bytes_eq name) (names_of trees)) ≡ true → FoundPlace name (tree ∷ trees)
+place_at : (name : Text) (tree : FunctionTree) (trees : List FunctionTree) (b : Bool) →
+    bytes_eq name tree.head.name ≡ b → (list_any (bytes_eq name) (names_of trees) ≡ true → FoundPlace name trees) →
+    (b || list_any (bytes_eq name) (names_of trees)) ≡ true → FoundPlace name (tree ∷ trees)
 place_at name tree trees true q f h = record {
   at = 0;
   tree = tree;
@@ -67,36 +69,54 @@ place_at name tree trees false q f h =
     let rest : FoundPlace name trees = f h in record {
       at = suc rest.at;
       tree = rest.tree;
-      place = ap (λ c. if c then Some 0 else option_map suc (find (bytes_eq name) (names_of trees))) q ∙ ap (option_map suc) rest.place;
+      place = ap (λ c. if c then Some 0 else option_map suc (find (bytes_eq name) (names_of trees))) q ∙
+          ap (option_map suc) rest.place;
       got = rest.got;
-      first = ap (λ c. if c then Some tree else function_named name trees) (same_sym tree.head.name name ∙ q) ∙ rest.first;
+      first = ap (λ c. if c then Some tree else function_named name trees) (same_sym tree.head.name name ∙ q) ∙
+          rest.first;
       named = rest.named;
     }
 
-find_place : (name : Text) (trees : List FunctionTree) → list_any (bytes_eq name) (names_of trees) ≡ true → FoundPlace name trees
+find_place : (name : Text) (trees : List FunctionTree) → list_any (bytes_eq name) (names_of trees) ≡ true →
+    FoundPlace name trees
 find_place name [] h = absurd (false≢true h)
-find_place name (tree ∷ trees) h = place_at name tree trees (bytes_eq name tree.head.name) refl (find_place name trees) h
+find_place name (tree ∷ trees) h = place_at name tree trees (bytes_eq name tree.head.name) refl
+    (find_place name trees) h
 
-pub find_function : (name : Text) (trees : List FunctionTree) → is_numbered (names_of trees) name ≡ true → FoundFunction name trees
+pub find_function : (name : Text) (trees : List FunctionTree) → is_numbered (names_of trees) name ≡ true →
+    FoundFunction name trees
 find_function name trees h =
     let f : FoundPlace name trees = find_place name trees h in
-    record { at = f.at; tree = f.tree; number = number_is (names_of trees) name ∙ f.place; got = f.got; first = f.first; named = f.named }
+    record {
+      at = f.at;
+      tree = f.tree;
+      number = number_is (names_of trees) name ∙ f.place;
+      got = f.got;
+      first = f.first;
+      named = f.named;
+    }
 
 -- no function of a name
-no_function_at : (name : Text) (tree : FunctionTree) (trees : List FunctionTree) (b : Bool) → bytes_eq name tree.head.name ≡ b → (list_any (bytes_eq name) (names_of trees) ≡ false → function_named name trees ≡ None) → (b || list_any (bytes_eq name) (names_of trees)) ≡ false → function_named name (tree ∷ trees) ≡ None
+no_function_at : (name : Text) (tree : FunctionTree) (trees : List FunctionTree) (b : Bool) →
+    bytes_eq name tree.head.name ≡ b → (list_any (bytes_eq name) (names_of trees) ≡ false →
+    function_named name trees ≡ None) → (b || list_any (bytes_eq name) (names_of trees)) ≡ false →
+    function_named name (tree ∷ trees) ≡ None
 no_function_at name tree trees true q f h = absurd (false≢true (sym h))
 no_function_at name tree trees false q f h =
     ap (λ c. if c then Some tree else function_named name trees) (same_sym tree.head.name name ∙ q) ∙ f h
 
-pub no_function : (name : Text) (trees : List FunctionTree) → is_numbered (names_of trees) name ≡ false → function_named name trees ≡ None
+pub no_function : (name : Text) (trees : List FunctionTree) → is_numbered (names_of trees) name ≡ false →
+    function_named name trees ≡ None
 no_function name [] h = refl
-no_function name (tree ∷ trees) h = no_function_at name tree trees (bytes_eq name tree.head.name) refl (no_function name trees) h
+no_function name (tree ∷ trees) h = no_function_at name tree trees (bytes_eq name tree.head.name) refl
+    (no_function name trees) h
 
 -- a name that isn't numbered is found nowhere
 pub no_number : {A : Type 0} (p : A → Bool) (xs : List A) → list_any p xs ≡ false → find p xs ≡ None
 no_number p [] h = refl
 no_number p (x ∷ xs) h = by_case (p x) h (no_number p xs) where
-  by_case : (b : Bool) → (b || list_any p xs) ≡ false → (list_any p xs ≡ false → find p xs ≡ None) → (if b then Some 0 else option_map suc (find p xs)) ≡ None
+  by_case : (b : Bool) → (b || list_any p xs) ≡ false → (list_any p xs ≡ false → find p xs ≡ None) →
+      (if b then Some 0 else option_map suc (find p xs)) ≡ None
   by_case true h f = absurd (false≢true (sym h))
   by_case false h f = ap (option_map suc) (f h)
 
@@ -106,7 +126,8 @@ no_place names name h = number_is names name ∙ no_number (bytes_eq name) names
 -- Heads.
 
 -- P of each declaration's function
-pub each_function : (P : Decl → Type 0) (decls : List Decl) → Each P decls → Each (λ tree. P (Function tree)) (functions_in decls)
+pub each_function : (P : Decl → Type 0) (decls : List Decl) → Each P decls →
+    Each (λ tree. P (Function tree)) (functions_in decls)
 each_function P [] h = tt
 each_function P (Struct tree ∷ decls) h = each_function P decls h.1
 each_function P (Global tree ∷ decls) h = each_function P decls h.1
@@ -114,7 +135,8 @@ each_function P (Proto head ∷ decls) h = each_function P decls h.1
 each_function P (Function tree ∷ decls) h = (h.0, each_function P decls h.1)
 
 -- a test that all heads pass, functions' heads pass
-pub heads_of_functions : (p : HeadTree → Bool) (decls : List Decl) → list_all p (heads_in decls) ≡ true → Each (λ tree. p (head_of tree.head) ≡ true) (functions_in decls)
+pub heads_of_functions : (p : HeadTree → Bool) (decls : List Decl) → list_all p (heads_in decls) ≡ true →
+    Each (λ tree. p (head_of tree.head) ≡ true) (functions_in decls)
 heads_of_functions p [] h = tt
 heads_of_functions p (Struct tree ∷ decls) h = heads_of_functions p decls h
 heads_of_functions p (Global tree ∷ decls) h = heads_of_functions p decls h
@@ -136,7 +158,9 @@ abbrev some_function : Text → List Decl → Bool
 some_function name decls = list_any (bytes_eq name) (function_names decls)
 
 module _ (P : Decl → Type 0) (name : Text) where
-  head_at : (head : HeadTree) (decls : List Decl) (b : Bool) → bytes_eq name head.name ≡ b → P (Proto head) → (some_proto name decls ≡ true → FoundHead P name decls) → (b || some_proto name decls) ≡ true → FoundHead P name (Proto head ∷ decls)
+  head_at : (head : HeadTree) (decls : List Decl) (b : Bool) → bytes_eq name head.name ≡ b → P (Proto head) →
+      (some_proto name decls ≡ true → FoundHead P name decls) → (b || some_proto name decls) ≡ true →
+      FoundHead P name (Proto head ∷ decls)
   head_at head decls true q holds f h = record {
     head = head;
     first = ap (λ c. if c then Some head else head_named name (heads_in decls)) (same_sym head.name name ∙ q);
@@ -146,23 +170,28 @@ module _ (P : Decl → Type 0) (name : Text) where
   head_at head decls false q holds f h =
       let rest : FoundHead P name decls = f h in record {
         head = rest.head;
-        first = ap (λ c. if c then Some head else head_named name (heads_in decls)) (same_sym head.name name ∙ q) ∙ rest.first;
+        first = ap (λ c. if c then Some head else head_named name (heads_in decls)) (same_sym head.name name ∙ q) ∙
+            rest.first;
         named = rest.named;
         holds = rest.holds;
       }
 
   -- a function of another name is passed over
-  over_at : (tree : FunctionTree) (decls : List Decl) (b : Bool) → bytes_eq name tree.head.name ≡ b → (b || some_function name decls) ≡ false → (some_function name decls ≡ false → FoundHead P name decls) → FoundHead P name (Function tree ∷ decls)
+  over_at : (tree : FunctionTree) (decls : List Decl) (b : Bool) → bytes_eq name tree.head.name ≡ b →
+      (b || some_function name decls) ≡ false → (some_function name decls ≡ false → FoundHead P name decls) →
+      FoundHead P name (Function tree ∷ decls)
   over_at tree decls true q h f = absurd (false≢true (sym h))
   over_at tree decls false q h f =
       let rest : FoundHead P name decls = f h in record {
         head = rest.head;
-        first = ap (λ c. if c then Some (head_of tree.head) else head_named name (heads_in decls)) (same_sym tree.head.name name ∙ q) ∙ rest.first;
+        first = ap (λ c. if c then Some (head_of tree.head) else head_named name (heads_in decls))
+            (same_sym tree.head.name name ∙ q) ∙ rest.first;
         named = rest.named;
         holds = rest.holds;
       }
 
-  pub find_head : (decls : List Decl) → Each P decls → some_proto name decls ≡ true → some_function name decls ≡ false → FoundHead P name decls
+  pub find_head : (decls : List Decl) → Each P decls → some_proto name decls ≡ true → some_function name decls ≡ false →
+      FoundHead P name decls
   find_head [] each h none = absurd (false≢true h)
   find_head (Struct tree ∷ decls) each h none =
       let rest : FoundHead P name decls = find_head decls each.1 h none in

@@ -22,7 +22,7 @@ use Rattle.sc_interfaces.specs.Offering.{IsWithinCounts, HasFewExports, HasFewPa
 use Rattle.sc_types.specs.Counts as counts
 use Rattle.sc_types.specs.Counts.{counts_broken}
 use Rattle.sc_types.specs.Acceptance.{FailsRules, AreLow}
-use Rattle.sc_types.proofs.Basics.{Each, held, front_empty, back_empty, map_empty}
+use Rattle.sc_types.proofs.Basics.{Each, rule_holds, front_empty, back_empty, map_empty}
 use Rattle.sc_types.proofs.Places.{is_at_most}
 use Rattle.sc_types.proofs.Functions.{map_length}
 use Rattle.sc_types.proofs.Sections.{none_beyond}
@@ -30,17 +30,29 @@ use Rattle.sc_types.proofs.Refusals.{no_line}
 use Rattle.sc_types.proofs.Whole.{well_typed}
 
 -- sections that are refused at a line fail that phase
-pub names_fail : (sections : List SectionTree) (refusal : Refusal) (in_phase : Phase) (line : Option ℕ) → in_phase ≡ phase.Names → line ≡ refused_at (names_broken sections) → (in_phase ≡ refusal.phase) × (line ≡ Some refusal.line) → FailsRules sections refusal.phase refusal.line
-names_fail sections refusal in_phase line p is h = subst (λ q. FailsRules sections q refusal.line) (sym p ∙ h.0) (sym is ∙ h.1)
+pub names_fail : (sections : List SectionTree) (refusal : Refusal) (in_phase : Phase) (line : Option ℕ) →
+    in_phase ≡ phase.Names → line ≡ refused_at (names_broken sections) →
+    (in_phase ≡ refusal.phase) × (line ≡ Some refusal.line) → FailsRules sections refusal.phase refusal.line
+names_fail sections refusal in_phase line p is h = subst (λ q. FailsRules sections q refusal.line) (sym p ∙ h.0)
+    (sym is ∙ h.1)
 
-pub types_fail : (sections : List SectionTree) (refusal : Refusal) (in_phase : Phase) (line : Option ℕ) → names_broken sections ≡ [] → in_phase ≡ phase.Types → line ≡ refused_at (types_broken sections) → (in_phase ≡ refusal.phase) × (line ≡ Some refusal.line) → FailsRules sections refusal.phase refusal.line
-types_fail sections refusal in_phase line names p is h = subst (λ q. FailsRules sections q refusal.line) (sym p ∙ h.0) (names, sym is ∙ h.1)
+pub types_fail : (sections : List SectionTree) (refusal : Refusal) (in_phase : Phase) (line : Option ℕ) →
+    names_broken sections ≡ [] → in_phase ≡ phase.Types → line ≡ refused_at (types_broken sections) →
+    (in_phase ≡ refusal.phase) × (line ≡ Some refusal.line) → FailsRules sections refusal.phase refusal.line
+types_fail sections refusal in_phase line names p is h =
+    subst (λ q. FailsRules sections q refusal.line) (sym p ∙ h.0) (names, sym is ∙ h.1)
 
-pub interfaces_fail : (sections : List SectionTree) (refusal : Refusal) (in_phase : Phase) (line : Option ℕ) → names_broken sections ≡ [] → types_broken sections ≡ [] → in_phase ≡ phase.Interface → line ≡ refused_at (interface_broken sections) → (in_phase ≡ refusal.phase) × (line ≡ Some refusal.line) → FailsRules sections refusal.phase refusal.line
+pub interfaces_fail : (sections : List SectionTree) (refusal : Refusal) (in_phase : Phase) (line : Option ℕ) →
+    names_broken sections ≡ [] → types_broken sections ≡ [] → in_phase ≡ phase.Interface →
+    line ≡ refused_at (interface_broken sections) → (in_phase ≡ refusal.phase) × (line ≡ Some refusal.line) →
+    FailsRules sections refusal.phase refusal.line
 interfaces_fail sections refusal in_phase line names types p is h =
     subst (λ q. FailsRules sections q refusal.line) (sym p ∙ h.0) (names, types, sym is ∙ h.1)
 
-pub counts_fail : (sections : List SectionTree) (refusal : Refusal) (in_phase : Phase) (line : Option ℕ) → names_broken sections ≡ [] → types_broken sections ≡ [] → interface_broken sections ≡ [] → in_phase ≡ phase.Count → line ≡ refused_at (counts_broken sections) → (in_phase ≡ refusal.phase) × (line ≡ Some refusal.line) → FailsRules sections refusal.phase refusal.line
+pub counts_fail : (sections : List SectionTree) (refusal : Refusal) (in_phase : Phase) (line : Option ℕ) →
+    names_broken sections ≡ [] → types_broken sections ≡ [] → interface_broken sections ≡ [] → in_phase ≡ phase.Count →
+    line ≡ refused_at (counts_broken sections) → (in_phase ≡ refusal.phase) × (line ≡ Some refusal.line) →
+    FailsRules sections refusal.phase refusal.line
 counts_fail sections refusal in_phase line names types interfaces p is h =
     subst (λ q. FailsRules sections q refusal.line) (sym p ∙ h.0) (names, types, interfaces, sym is ∙ h.1)
 
@@ -49,12 +61,15 @@ pub holds : (lines : List ℕ) (line : Option ℕ) → line ≡ refused_at lines
 holds lines line is h = no_line lines (sym is ∙ h)
 
 -- where a phase is passed, its rules hold
-pub passes : {T E : Type 0} (lines : List ℕ) (line : Option ℕ) (r : Result T E) → line ≡ refused_at lines → OnOk r (line ≡ None) → OnOk r (lines ≡ [])
+pub passes : {T E : Type 0} (lines : List ℕ) (line : Option ℕ) (r : Result T E) → line ≡ refused_at lines →
+    OnOk r (line ≡ None) → OnOk r (lines ≡ [])
 passes lines line (Ok x) is h = holds lines line is h
 passes lines line (Err e) is h = tt
 
 -- what is built of sections that break no rule is well typed
-pub built_well : (sections : List SectionTree) (tree : ProgramTree) → AreLow sections → names_broken sections ≡ [] → types_broken sections ≡ [] → interface_broken sections ≡ [] → counts_broken sections ≡ [] → tree ≡ program_of sections → IsWellTyped tree
+pub built_well : (sections : List SectionTree) (tree : ProgramTree) → AreLow sections → names_broken sections ≡ [] →
+    types_broken sections ≡ [] → interface_broken sections ≡ [] → counts_broken sections ≡ [] →
+    tree ≡ program_of sections → IsWellTyped tree
 built_well sections tree low names types interfaces counted is =
     subst IsWellTyped (sym is) (well_typed sections low names types interfaces counted)
 
@@ -65,31 +80,66 @@ all_of P [] h k d less = absurd (omega (arith, less))
 all_of P (x ∷ xs) h zero d less = h.0
 all_of P (x ∷ xs) h (suc k) d less = all_of P xs h.1 k d (omega (arith, less))
 
-few_params : (section : SectionTree) (decls : List Decl) → concat (map (counts.head_lines section) (heads_in decls)) ≡ [] → Each HasFewParams (functions_in decls)
+few_params : (section : SectionTree) (decls : List Decl) →
+    concat (map (counts.head_lines section) (heads_in decls)) ≡ [] → Each HasFewParams (functions_in decls)
 few_params section [] h = tt
 few_params section (decl.Struct tree ∷ decls) h = few_params section decls h
 few_params section (decl.Global tree ∷ decls) h = few_params section decls h
-few_params section (decl.Proto head ∷ decls) h = few_params section decls (back_empty (counts.head_lines section head) _ h)
-few_params section (decl.Function tree ∷ decls) h =
-    (is_at_most (length tree.head.params) most_params (ap (λ n. nat_le n most_params) (sym (map_length param_of tree.head.params)) ∙ held _ tree.head.line (front_empty _ _ h)), few_params section decls (back_empty (counts.head_lines section (head_of tree.head)) _ h))
+few_params section (decl.Proto head ∷ decls) h = few_params section decls
+    (back_empty (counts.head_lines section head) _ h)
+few_params section (decl.Function tree ∷ decls) h = (
+  is_at_most (length tree.head.params) most_params
+      (ap (λ n. nat_le n most_params) (sym (map_length param_of tree.head.params)) ∙
+      rule_holds _ tree.head.line (front_empty _ _ h)),
+  few_params section decls (back_empty (counts.head_lines section (head_of tree.head)) _ h),
+)
 
 abbrev Params : SectionTree → Type 0
 Params section = All HasFewParams (functions_in section.decls)
 
-section_counts : (sections : List SectionTree) (k : ℕ) (section : SectionTree) → counts.section_lines section (callees_of sections k section) ≡ [] → HasFewExports section × Params section
+section_counts : (sections : List SectionTree) (k : ℕ) (section : SectionTree) →
+    counts.section_lines section (callees_of sections k section) ≡ [] → HasFewExports section × Params section
 section_counts sections k section h =
-    let behind : counts.line_beyond {A = ExportLine} (λ line. line.line) most_exports section.exports ++ (counts.line_beyond {A = ImportLine} (λ line. line.line) most_exports section.imports ++ (counts.structs_from section 0 (structs_in section.decls) ++ (concat (map (counts.global_lines section) (globals_in section.decls)) ++ (concat (map (counts.head_lines section) (heads_in section.decls)) ++ concat (map (counts.function_lines section) (functions_in section.decls)))))) ≡ [] = back_empty (unless (nat_le (counts.section_nodes section (callees_of sections k section)) most_nodes && nat_le (length section.decls) most_nodes) 1) _ h in
-    let heads : concat (map (counts.head_lines section) (heads_in section.decls)) ++ concat (map (counts.function_lines section) (functions_in section.decls)) ≡ [] = back_empty (concat (map (counts.global_lines section) (globals_in section.decls))) _ (back_empty (counts.structs_from section 0 (structs_in section.decls)) _ (back_empty (counts.line_beyond {A = ImportLine} (λ line. line.line) most_exports section.imports) _ (back_empty (counts.line_beyond {A = ExportLine} (λ line. line.line) most_exports section.exports) _ behind))) in
-    (is_at_most (length section.exports) most_exports (none_beyond {A = ExportLine} (λ line. line.line) most_exports section.exports (front_empty _ _ behind)), all_of HasFewParams (functions_in section.decls) (few_params section section.decls (front_empty _ _ heads)))
+    let behind : counts.line_beyond {A = ExportLine} (λ line. line.line) most_exports section.exports ++
+    (counts.line_beyond {A = ImportLine} (λ line. line.line) most_exports section.imports ++
+    (counts.structs_from section 0 (structs_in section.decls) ++
+    (concat (map (counts.global_lines section) (globals_in section.decls)) ++
+    (concat (map (counts.head_lines section) (heads_in section.decls)) ++
+    concat (map (counts.function_lines section) (functions_in section.decls)))))) ≡ [] =
+    back_empty (unless (nat_le (counts.section_nodes section (callees_of sections k section)) most_nodes &&
+    nat_le (length section.decls) most_nodes) 1) _ h in
+    let heads : concat (map (counts.head_lines section) (heads_in section.decls)) ++
+    concat (map (counts.function_lines section) (functions_in section.decls)) ≡ [] =
+    back_empty (concat (map (counts.global_lines section) (globals_in section.decls))) _
+    (back_empty (counts.structs_from section 0 (structs_in section.decls)) _
+    (back_empty (counts.line_beyond {A = ImportLine} (λ line. line.line) most_exports section.imports) _
+    (back_empty (counts.line_beyond {A = ExportLine}
+    (λ line. line.line) most_exports section.exports) _ behind))) in (
+      is_at_most (length section.exports) most_exports
+          (none_beyond {A = ExportLine} (λ line. line.line) most_exports section.exports (front_empty _ _ behind)),
+      all_of HasFewParams (functions_in section.decls) (few_params section section.decls (front_empty _ _ heads)),
+    )
 
-all_counts : (sections : List SectionTree) (k : ℕ) (rest : List SectionTree) → counts.lines_from sections k rest ≡ [] → Each HasFewExports rest × Each Params rest
+all_counts : (sections : List SectionTree) (k : ℕ) (rest : List SectionTree) → counts.lines_from sections k rest ≡ [] →
+    Each HasFewExports rest × Each Params rest
 all_counts sections k [] h = (tt, tt)
 all_counts sections k (section ∷ rest) h =
-    let here : HasFewExports section × Params section = section_counts sections k section (map_empty _ _ (front_empty _ _ h)) in
-    let later : Each HasFewExports rest × Each Params rest = all_counts sections (suc k) rest (back_empty (map (line_of_text section.line) (counts.section_lines section (callees_of sections k section))) _ h) in
+    let here : HasFewExports section × Params section =
+    section_counts sections k section (map_empty _ _ (front_empty _ _ h)) in
+    let later : Each HasFewExports rest × Each Params rest =
+    all_counts sections (suc k) rest (back_empty (map (line_of_text section.line)
+    (counts.section_lines section (callees_of sections k section))) _ h) in
     ((here.0, later.0), (here.1, later.1))
 
 pub within_counts : (sections : List SectionTree) → counts_broken sections ≡ [] → IsWithinCounts sections
 within_counts sections h =
-    let c : Each HasFewExports sections × Each Params sections = all_counts sections 0 sections (back_empty (counts.line_beyond {A = SectionTree} (λ section. line_of_text section.line 1) most_compartments sections) _ h) in
-    record { sections = is_at_most (length sections) most_compartments (none_beyond {A = SectionTree} (λ section. line_of_text section.line 1) most_compartments sections (front_empty _ _ h)); exports = all_of HasFewExports sections c.0; params = all_of Params sections c.1 }
+    let c : Each HasFewExports sections × Each Params sections =
+    all_counts sections 0 sections (back_empty (counts.line_beyond {A = SectionTree}
+    (λ section. line_of_text section.line 1) most_compartments sections) _ h) in
+    record {
+      sections = is_at_most (length sections) most_compartments
+          (none_beyond {A = SectionTree} (λ section. line_of_text section.line 1) most_compartments sections
+          (front_empty _ _ h));
+      exports = all_of HasFewExports sections c.0;
+      params = all_of Params sections c.1;
+    }

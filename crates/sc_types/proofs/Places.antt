@@ -47,18 +47,36 @@ pub record Found {A : Type 0} (p : A → Bool) (xs : List A) : Type 0 where
   pub passes : p item ≡ true
 
 module _ {A : Type 0} (p : A → Bool) where
-  found_at : (x : A) (xs : List A) (b : Bool) → p x ≡ b → (list_any p xs ≡ true → Found p xs) → (b || list_any p xs) ≡ true → Found p (x ∷ xs)
+  found_at : (x : A) (xs : List A) (b : Bool) → p x ≡ b → (list_any p xs ≡ true → Found p xs) →
+      (b || list_any p xs) ≡ true → Found p (x ∷ xs)
   found_at x xs true q f h =
-      record { at = 0; item = x; is = ap (λ c. if c then Some 0 else option_map suc (find p xs)) q; within = omega arith; got = refl; passes = q }
+      record {
+        at = 0;
+        item = x;
+        is = ap (λ c. if c then Some 0 else option_map suc (find p xs)) q;
+        within = omega arith;
+        got = refl;
+        passes = q;
+      }
   found_at x xs false q f h =
       let rest : Found p xs = f h in
-      record { at = suc rest.at; item = rest.item; is = ap (λ c. if c then Some 0 else option_map suc (find p xs)) q ∙ ap (option_map suc) rest.is; within = omega (arith, rest.within); got = rest.got; passes = rest.passes }
+      record {
+        at = suc rest.at;
+        item = rest.item;
+        is = ap (λ c. if c then Some 0 else option_map suc (find p xs)) q ∙
+            ap (option_map suc) rest.is;
+        within = omega (arith, rest.within);
+        got = rest.got;
+        passes = rest.passes;
+      }
 
   pub any_found : (xs : List A) → list_any p xs ≡ true → Found p xs
   any_found [] h = absurd (false≢true h)
   any_found (x ∷ xs) h = found_at x xs (p x) refl (any_found xs) h
 
-  front_at : (x : A) (xs ys : List A) (b : Bool) → (list_any p xs ≡ true → find p (xs ++ ys) ≡ find p xs) → (b || list_any p xs) ≡ true → (if b then Some 0 else option_map suc (find p (xs ++ ys))) ≡ (if b then Some 0 else option_map suc (find p xs))
+  front_at : (x : A) (xs ys : List A) (b : Bool) → (list_any p xs ≡ true → find p (xs ++ ys) ≡ find p xs) →
+      (b || list_any p xs) ≡ true → (if b then Some 0 else option_map suc (find p (xs ++ ys))) ≡
+      (if b then Some 0 else option_map suc (find p xs))
   front_at x xs ys true f h = refl
   front_at x xs ys false f h = ap (option_map suc) (f h)
 
@@ -67,7 +85,8 @@ module _ {A : Type 0} (p : A → Bool) where
   find_front [] ys h = absurd (false≢true h)
   find_front (x ∷ xs) ys h = front_at x xs ys (p x) (find_front xs ys) h
 
-  next_at : (x : A) (rest : Option ℕ) (n : ℕ) (b : Bool) → b ≡ false → rest ≡ Some n → (if b then Some 0 else option_map suc rest) ≡ Some (suc n)
+  next_at : (x : A) (rest : Option ℕ) (n : ℕ) (b : Bool) → b ≡ false → rest ≡ Some n →
+      (if b then Some 0 else option_map suc rest) ≡ Some (suc n)
   next_at x rest n true q h = absurd (false≢true (sym q))
   next_at x rest n false q h = ap (option_map suc) h
 
@@ -80,10 +99,12 @@ module _ {A : Type 0} (p : A → Bool) where
   none_right false b h = h
 
   -- the first one behind a front in which nothing is found
-  pub find_next : (xs : List A) (y : A) (ys : List A) → list_any p xs ≡ false → p y ≡ true → find p (xs ++ y ∷ ys) ≡ Some (length xs)
+  pub find_next : (xs : List A) (y : A) (ys : List A) → list_any p xs ≡ false → p y ≡ true →
+      find p (xs ++ y ∷ ys) ≡ Some (length xs)
   find_next [] y ys h k = ap (λ c. if c then Some 0 else option_map suc (find p ys)) k
   find_next (x ∷ xs) y ys h k =
-      next_at x (find p (xs ++ y ∷ ys)) (length xs) (p x) (none_left (p x) (list_any p xs) h) (find_next xs y ys (none_right (p x) (list_any p xs) h) k)
+      next_at x (find p (xs ++ y ∷ ys)) (length xs) (p x) (none_left (p x) (list_any p xs) h)
+      (find_next xs y ys (none_right (p x) (list_any p xs) h) k)
 
 -- the number of a name is where it is found
 pub number_is : (names : List Text) (name : Text) → number_of names name ≡ find (bytes_eq name) names
@@ -95,23 +116,29 @@ placed names name h =
     record { at = f.at; is = number_is names name ∙ f.is; within = f.within }
 
 -- the number of a name that is there
-pub number_within : (names : List Text) (name : Text) → is_numbered names name ≡ true → number_or_zero (number_of names name) < length names
+pub number_within : (names : List Text) (name : Text) → is_numbered names name ≡ true →
+    number_or_zero (number_of names name) < length names
 number_within names name h =
     let p : Placed names name = placed names name h in subst (λ o. number_or_zero o < length names) (sym p.is) p.within
 
-pub number_front : (names more : List Text) (name : Text) → is_numbered names name ≡ true → number_of (names ++ more) name ≡ number_of names name
+pub number_front : (names more : List Text) (name : Text) → is_numbered names name ≡ true →
+    number_of (names ++ more) name ≡ number_of names name
 number_front names more name h =
     number_is (names ++ more) name ∙ find_front (bytes_eq name) names more h ∙ sym (number_is names name)
 
-pub number_next : (names : List Text) (name : Text) (more : List Text) → is_numbered names name ≡ false → number_of (names ++ name ∷ more) name ≡ Some (length names)
-number_next names name more h = number_is (names ++ name ∷ more) name ∙ find_next (bytes_eq name) names name more h (same_refl name)
+pub number_next : (names : List Text) (name : Text) (more : List Text) → is_numbered names name ≡ false →
+    number_of (names ++ name ∷ more) name ≡ Some (length names)
+number_next names name more h = number_is (names ++ name ∷ more) name ∙
+    find_next (bytes_eq name) names name more h (same_refl name)
 
 list_any-append : {A : Type 0} (p : A → Bool) (xs ys : List A) → list_any p xs ≡ true → list_any p (xs ++ ys) ≡ true
 list_any-append p [] ys h = absurd (false≢true h)
 list_any-append p (x ∷ xs) ys h = either_way (p x) h (list_any-append p xs ys) where
-  either_way : (b : Bool) → (b || list_any p xs) ≡ true → (list_any p xs ≡ true → list_any p (xs ++ ys) ≡ true) → (b || list_any p (xs ++ ys)) ≡ true
+  either_way : (b : Bool) → (b || list_any p xs) ≡ true → (list_any p xs ≡ true → list_any p (xs ++ ys) ≡ true) →
+      (b || list_any p (xs ++ ys)) ≡ true
   either_way true h f = refl
   either_way false h f = f h
 
-pub numbered_front : (names more : List Text) (name : Text) → is_numbered names name ≡ true → is_numbered (names ++ more) name ≡ true
+pub numbered_front : (names more : List Text) (name : Text) → is_numbered names name ≡ true →
+    is_numbered (names ++ more) name ≡ true
 numbered_front names more name h = list_any-append (bytes_eq name) names more h

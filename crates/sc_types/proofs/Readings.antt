@@ -29,12 +29,14 @@ use Rattle.sc_types.proofs.Places.{at_most}
 use Rattle.sc_types.proofs.Refusals.{no_line}
 use Rattle.std.proofs.lemmas.Bool.{and_from}
 
-low_from : (text : List ℕ) (parts : List Part) (trees : List SectionTree) → AllZip (IsRead text) parts trees → list_all {X = SectionTree} (λ tree. nat_le (section_height tree) 256) trees ≡ true
+low_from : (text : List ℕ) (parts : List Part) (trees : List SectionTree) → AllZip (IsRead text) parts trees →
+    list_all {X = SectionTree} (λ tree. nat_le (section_height tree) 256) trees ≡ true
 low_from text [] [] h = refl
 low_from text [] (tree ∷ trees) h = absurd h
 low_from text (part ∷ parts) [] h = absurd h
 low_from text (part ∷ parts) (tree ∷ trees) h =
-    and_from (nat_le (section_height tree) 256) _ (at_most (section_height tree) 256 h.0.parsed.low) (low_from text parts trees h.1)
+    and_from (nat_le (section_height tree) 256) _ (at_most (section_height tree) 256 h.0.parsed.low)
+    (low_from text parts trees h.1)
 
 -- no tree of a text is high
 pub reads_low : (text : List ℕ) (trees : List SectionTree) → Reads text trees → AreLow trees
@@ -53,7 +55,8 @@ range_within : (text : List ℕ) (a b : ℕ) → b ≤ length text → length (s
 range_within text a b h = omega (arith, h, length-take (b - a) (drop a text))
 
 -- a text that isn't read fails
-pub unread_fails : (text : List ℕ) (in_phase : Phase) (line : ℕ) → reading.Fails text in_phase line → Fails text in_phase line
+pub unread_fails : (text : List ℕ) (in_phase : Phase) (line : ℕ) → reading.Fails text in_phase line →
+    Fails text in_phase line
 unread_fails text phase.Lex line f = f
 unread_fails text phase.Syntax line f = f
 unread_fails text phase.Names line f = absurd f
@@ -62,7 +65,8 @@ unread_fails text phase.Interface line f = absurd f
 unread_fails text phase.Count line f = absurd f
 
 -- a text whose trees break a rule fails
-pub untyped_fails : (text : List ℕ) (trees : List SectionTree) (in_phase : Phase) (line : ℕ) → Reads text trees → FailsRules trees in_phase line → Fails text in_phase line
+pub untyped_fails : (text : List ℕ) (trees : List SectionTree) (in_phase : Phase) (line : ℕ) → Reads text trees →
+    FailsRules trees in_phase line → Fails text in_phase line
 untyped_fails text trees phase.Lex line r f = absurd f
 untyped_fails text trees phase.Syntax line r f = absurd f
 untyped_fails text trees phase.Names line r f = record { sections = trees; reads = r; fails = f }
@@ -71,7 +75,8 @@ untyped_fails text trees phase.Interface line r f = record { sections = trees; r
 untyped_fails text trees phase.Count line r f = record { sections = trees; reads = r; fails = f }
 
 -- a text whose trees have their types is accepted
-pub typed_accepted : {E : Type 0} (text : List ℕ) (trees : List SectionTree) (r : Result ProgramTree E) → Reads text trees → IfOk r (IsTyped trees) → IfOk r (Accepts text)
+pub typed_accepted : {E : Type 0} (text : List ℕ) (trees : List SectionTree) (r : Result ProgramTree E) →
+    Reads text trees → IfOk r (IsTyped trees) → IfOk r (Accepts text)
 typed_accepted text trees (Ok program) read h = record { sections = trees; reads = read; typed = h }
 typed_accepted text trees (Err e) read h = tt
 
@@ -98,7 +103,13 @@ judge trees = elim (decide (names_broken trees)) [
       | inr i ↦ inr (phase.Interface, i.0, (names, types, i.1))
       | inl interfaces ↦ elim (decide (counts_broken trees)) [
         | inr c ↦ inr (phase.Count, c.0, (names, types, interfaces, c.1))
-        | inl counts ↦ inl (record { names = names; types = types; interfaces = interfaces; counts = counts; is = refl })
+        | inl counts ↦ inl (record {
+          names = names;
+          types = types;
+          interfaces = interfaces;
+          counts = counts;
+          is = refl;
+        })
       ]
     ]
   ]
@@ -109,7 +120,8 @@ Verdict text =
     ((program : ProgramTree) × Accepts text program) ⊎ ((in_phase : Phase) × (line : ℕ) × Fails text in_phase line)
 
 -- each text is accepted or fails
-pub accepted_or_fails_of : ((text : List ℕ) → ((trees : List SectionTree) × Reads text trees) ⊎ ((in_phase : Phase) × (line : ℕ) × reading.Fails text in_phase line)) → (text : List ℕ) → Verdict text
+pub accepted_or_fails_of : ((text : List ℕ) → ((trees : List SectionTree) × Reads text trees) ⊎
+    ((in_phase : Phase) × (line : ℕ) × reading.Fails text in_phase line)) → (text : List ℕ) → Verdict text
 accepted_or_fails_of read_or_fails text = elim (read_or_fails text) [
   | inr f ↦ inr (f.0, f.1, unread_fails text f.0 f.1 f.2)
   | inl r ↦ elim (judge r.0) [

@@ -31,7 +31,8 @@ none_refused : {C : Type 0} (lines : List ℕ) (line : ℕ) → lines ≡ [] →
 unfolding noted_all
 none_refused lines line h k = none_some line (sym (ap refused_at h) ∙ k)
 
-pub typed_passes : (sections : List SectionTree) (program : ProgramTree) (in_phase : Phase) (line : ℕ) → IsTyped sections program → FailsRules sections in_phase line → ⊥
+pub typed_passes : (sections : List SectionTree) (program : ProgramTree) (in_phase : Phase) (line : ℕ) →
+    IsTyped sections program → FailsRules sections in_phase line → ⊥
 typed_passes sections program phase.Lex line t f = f
 typed_passes sections program phase.Syntax line t f = f
 typed_passes sections program phase.Names line t f = none_refused (names_broken sections) line t.names f
@@ -40,7 +41,8 @@ typed_passes sections program phase.Interface line t f = none_refused (interface
 typed_passes sections program phase.Count line t f = none_refused (counts_broken sections) line t.counts f.3
 
 -- an earlier phase passes where a later one fails
-pub one_refusal : (sections : List SectionTree) (p q : Phase) (line other : ℕ) → FailsRules sections p line → FailsRules sections q other → (p ≡ q) × (line ≡ other)
+pub one_refusal : (sections : List SectionTree) (p q : Phase) (line other : ℕ) → FailsRules sections p line →
+    FailsRules sections q other → (p ≡ q) × (line ≡ other)
 one_refusal sections phase.Lex q line other f g = absurd f
 one_refusal sections phase.Syntax q line other f g = absurd f
 one_refusal sections phase.Names phase.Lex line other f g = absurd g
@@ -70,19 +72,26 @@ one_refusal sections phase.Count phase.Count line other f g = (refl, some_is lin
 
 -- Texts, where reading is unique.
 
-module _ (one_reading : (text : List ℕ) (trees others : List SectionTree) → Reads text trees → Reads text others → trees ≡ others) where
-  pub one_program_of : (text : List ℕ) (program other : ProgramTree) → Accepts text program → Accepts text other → program ≡ other
+module _ (one_reading : (text : List ℕ) (trees others : List SectionTree) → Reads text trees → Reads text others →
+    trees ≡ others) where
+  pub one_program_of : (text : List ℕ) (program other : ProgramTree) → Accepts text program → Accepts text other →
+      program ≡ other
   one_program_of text program other a b =
       a.typed.is ∙ ap program_of (one_reading text a.sections b.sections a.reads b.reads) ∙ sym b.typed.is
 
-  pub accepted_of : (text : List ℕ) (program : ProgramTree) (in_phase : Phase) (line : ℕ) → Accepts text program → FailsTyped text in_phase line → ⊥
+  pub accepted_of : (text : List ℕ) (program : ProgramTree) (in_phase : Phase) (line : ℕ) → Accepts text program →
+      FailsTyped text in_phase line → ⊥
   accepted_of text program in_phase line a f =
-      typed_passes a.sections program in_phase line a.typed (subst (λ s. FailsRules s in_phase line) (one_reading text f.sections a.sections f.reads a.reads) f.fails)
+      typed_passes a.sections program in_phase line a.typed
+      (subst (λ s. FailsRules s in_phase line) (one_reading text f.sections a.sections f.reads a.reads) f.fails)
 
-  module _ (read_or_refused : (text : List ℕ) (trees : List SectionTree) (in_phase : Phase) (line : ℕ) → Reads text trees → reading.Fails text in_phase line → ⊥) where
-    pub accepted_or_refused_of : (text : List ℕ) (program : ProgramTree) (in_phase : Phase) (line : ℕ) → Accepts text program → Fails text in_phase line → ⊥
+  module _ (read_or_refused : (text : List ℕ) (trees : List SectionTree) (in_phase : Phase) (line : ℕ) →
+      Reads text trees → reading.Fails text in_phase line → ⊥) where
+    pub accepted_or_refused_of : (text : List ℕ) (program : ProgramTree) (in_phase : Phase) (line : ℕ) →
+        Accepts text program → Fails text in_phase line → ⊥
     accepted_or_refused_of text program phase.Lex line a f = read_or_refused text a.sections phase.Lex line a.reads f
-    accepted_or_refused_of text program phase.Syntax line a f = read_or_refused text a.sections phase.Syntax line a.reads f
+    accepted_or_refused_of text program phase.Syntax line a f =
+        read_or_refused text a.sections phase.Syntax line a.reads f
     accepted_or_refused_of text program phase.Names line a f = accepted_of text program phase.Names line a f
     accepted_or_refused_of text program phase.Types line a f = accepted_of text program phase.Types line a f
     accepted_or_refused_of text program phase.Interface line a f = accepted_of text program phase.Interface line a f

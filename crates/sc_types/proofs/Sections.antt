@@ -43,7 +43,7 @@ use Rattle.sc_elab.specs.Sections.{callees_of, signature_by, tags, structs, type
 use Rattle.sc_interfaces.specs.Faces.{head_fits, head_crosses, agree, same_type, input_name, output_name, is_offered}
 use Rattle.sc_interfaces.specs.Faces as faces
 use Rattle.sc_types.specs.Counts as counts
-use Rattle.sc_types.proofs.Basics.{not_true, held, front_empty, back_empty, Each, none_some, some_item}
+use Rattle.sc_types.proofs.Basics.{not_true, rule_holds, front_empty, back_empty, Each, none_some, some_item}
 use Rattle.sc_types.proofs.Places.{Text, same_refl, eq_refl, at_most}
 use Rattle.sc_types.proofs.Lookups.{each_at, each_function, FoundFunction, find_function}
 use Rattle.sc_types.proofs.Facts.{Fresh, fresh_distinct, ExportFacts, ImportFacts, DeclFacts, FaceFacts}
@@ -65,7 +65,8 @@ ty_refl ty.Int = refl
 ty_refl ty.Unsigned = refl
 ty_refl (ty.Struct n) = eq_refl n
 ty_refl (ty.Pointer stars b) = and_from (stars == stars) (same_base b b) (eq_refl stars) (base_refl b)
-ty_refl (ty.Array stars b count) = and_from (stars == stars) _ (eq_refl stars) (and_from _ _ (base_refl b) (eq_refl count))
+ty_refl (ty.Array stars b count) = and_from (stars == stars) _ (eq_refl stars)
+    (and_from _ _ (base_refl b) (eq_refl count))
 
 types_refl : (types : List Ty) → same_types types types ≡ true
 types_refl [] = refl
@@ -99,7 +100,9 @@ result_agrees (Some t) = type_agrees t
 agrees : (head : HeadTree) → agree head head ≡ true
 agrees head = and_from _ _ (result_agrees head.result) (params_agree head.params)
 
-types_same : (sections : List SectionTree) (number : ℕ) (section : SectionTree) → elab.section_lines section (callees_of sections 0 section) ≡ elab.section_lines section (callees_of sections number section)
+types_same : (sections : List SectionTree) (number : ℕ) (section : SectionTree) →
+    elab.section_lines section (callees_of sections 0 section) ≡
+    elab.section_lines section (callees_of sections number section)
 types_same sections number section = refl
 
 within : {A : Type 0} (xs : List A) (n : ℕ) → slice_get xs n ≡ None → length xs ≤ n
@@ -107,11 +110,13 @@ within [] n h = omega arith
 within (x ∷ xs) zero h = none_some x (sym h)
 within (x ∷ xs) (suc n) h = omega (arith, within xs n h)
 
-by_item : {A : Type 0} (line_of : A → ℕ) (most : ℕ) (items : List A) (o : Option A) → slice_get items most ≡ o → counts.line_of_some line_of o ≡ [] → nat_le (length items) most ≡ true
+by_item : {A : Type 0} (line_of : A → ℕ) (most : ℕ) (items : List A) (o : Option A) → slice_get items most ≡ o →
+    counts.line_of_some line_of o ≡ [] → nat_le (length items) most ≡ true
 by_item line_of most items None q h = at_most (length items) most (within items most q)
 by_item line_of most items (Some x) q h = some_item (line_of x) [] h
 
-pub none_beyond : {A : Type 0} (line_of : A → ℕ) (most : ℕ) (items : List A) → counts.line_beyond line_of most items ≡ [] → nat_le (length items) most ≡ true
+pub none_beyond : {A : Type 0} (line_of : A → ℕ) (most : ℕ) (items : List A) →
+    counts.line_beyond line_of most items ≡ [] → nat_le (length items) most ≡ true
 none_beyond line_of most items h = by_item line_of most items (slice_get items most) refl h
 
 -- Names that a list doesn't have are distinct from its own.
@@ -120,40 +125,61 @@ none_there : (a b : Bool) → (a || b) ≡ false → (a ≡ false) × (b ≡ fal
 none_there true b h = absurd (false≢true (sym h))
 none_there false b h = (refl, h)
 
-not_in_append : (name : Text) (xs ys : List Text) → is_numbered xs name ≡ false → is_numbered ys name ≡ false → is_numbered (xs ++ ys) name ≡ false
+not_in_append : (name : Text) (xs ys : List Text) → is_numbered xs name ≡ false → is_numbered ys name ≡ false →
+    is_numbered (xs ++ ys) name ≡ false
 not_in_append name [] ys h k = k
 not_in_append name (x ∷ xs) ys h k =
-    let parts : (bytes_eq name x ≡ false) × (is_numbered xs name ≡ false) = none_there (bytes_eq name x) (is_numbered xs name) h in
+    let parts : (bytes_eq name x ≡ false) × (is_numbered xs name ≡ false) =
+    none_there (bytes_eq name x) (is_numbered xs name) h in
     ap (λ b. b || is_numbered (xs ++ ys) name) parts.0 ∙ not_in_append name xs ys parts.1 k
 
-both_distinct : (xs ys : List Text) → decls.are_distinct xs ≡ true → Each (λ x. is_numbered ys x ≡ false) xs → decls.are_distinct ys ≡ true → decls.are_distinct (xs ++ ys) ≡ true
+both_distinct : (xs ys : List Text) → decls.are_distinct xs ≡ true → Each (λ x. is_numbered ys x ≡ false) xs →
+    decls.are_distinct ys ≡ true → decls.are_distinct (xs ++ ys) ≡ true
 both_distinct [] ys h none k = k
 both_distinct (x ∷ xs) ys h none k =
-    and_from _ _ (ap not (not_in_append x xs ys (not_true _ (and_first _ _ h)) none.0)) (both_distinct xs ys (and_rest (not (is_numbered xs x)) _ h) none.1 k)
+    and_from _ _ (ap not (not_in_append x xs ys (not_true _ (and_first _ _ h)) none.0))
+    (both_distinct xs ys (and_rest (not (is_numbered xs x)) _ h) none.1 k)
 
 -- Functions are distinct.
 
-names_append : (before more : List Decl) → function_names (before ++ more) ≡ function_names before ++ function_names more
+names_append : (before more : List Decl) → function_names (before ++ more) ≡ function_names before ++
+    function_names more
 names_append before more =
-    ap (map {A = FunctionTree} (λ tree. tree.head.name)) (filter_map-append decls.function_in before more) ∙ map-append {A = FunctionTree} (λ tree. tree.head.name) (functions_in before) (functions_in more)
+    ap (map {A = FunctionTree} (λ tree. tree.head.name)) (filter_map-append decls.function_in before more) ∙
+    map-append {A = FunctionTree} (λ tree. tree.head.name) (functions_in before) (functions_in more)
 
-names_same : (before : List Decl) (decl : Decl) → function_names (decl ∷ []) ≡ [] → function_names (before ++ decl ∷ []) ≡ function_names before
+names_same : (before : List Decl) (decl : Decl) → function_names (decl ∷ []) ≡ [] →
+    function_names (before ++ decl ∷ []) ≡ function_names before
 names_same before decl h =
     names_append before (decl ∷ []) ∙ ap (λ more. function_names before ++ more) h ∙ append-nil (function_names before)
 
-functions_fresh : (section : SectionTree) (before rest : List Decl) → names.lines_from section before rest ≡ [] → Fresh (function_names before) (function_names rest)
+functions_fresh : (section : SectionTree) (before rest : List Decl) → names.lines_from section before rest ≡ [] →
+    Fresh (function_names before) (function_names rest)
 functions_fresh section before [] h = tt
 functions_fresh section before (Struct tree ∷ rest) h =
-    subst (λ all. Fresh all (function_names rest)) (names_same before (Struct tree) refl) (functions_fresh section (before ++ Struct tree ∷ []) rest (back_empty (names.decl_lines (names.declared section before) (Struct tree)) _ h))
+    subst (λ all. Fresh all (function_names rest)) (names_same before (Struct tree) refl)
+    (functions_fresh section (before ++ Struct tree ∷ []) rest
+    (back_empty (names.decl_lines (names.declared section before) (Struct tree)) _ h))
 functions_fresh section before (Global tree ∷ rest) h =
-    subst (λ all. Fresh all (function_names rest)) (names_same before (Global tree) refl) (functions_fresh section (before ++ Global tree ∷ []) rest (back_empty (names.decl_lines (names.declared section before) (Global tree)) _ h))
+    subst (λ all. Fresh all (function_names rest)) (names_same before (Global tree) refl)
+    (functions_fresh section (before ++ Global tree ∷ []) rest
+    (back_empty (names.decl_lines (names.declared section before) (Global tree)) _ h))
 functions_fresh section before (Proto head ∷ rest) h =
-    subst (λ all. Fresh all (function_names rest)) (names_same before (Proto head) refl) (functions_fresh section (before ++ Proto head ∷ []) rest (back_empty (names.decl_lines (names.declared section before) (Proto head)) _ h))
+    subst (λ all. Fresh all (function_names rest)) (names_same before (Proto head) refl)
+    (functions_fresh section (before ++ Proto head ∷ []) rest
+    (back_empty (names.decl_lines (names.declared section before) (Proto head)) _ h))
 functions_fresh section before (Function tree ∷ rest) h =
-    let known : names.head_of_known (names.declared section before) tree ≡ true = held _ tree.head.line (front_empty _ _ (front_empty _ _ h)) in
-    (not_true _ (and_first _ _ (and_rest (not (is_numbered (decls.global_names before) tree.head.name)) _ known)), subst (λ all. Fresh all (function_names rest)) (names_append before (Function tree ∷ [])) (functions_fresh section (before ++ Function tree ∷ []) rest (back_empty (names.decl_lines (names.declared section before) (Function tree)) _ h)))
+    let known : names.head_of_known (names.declared section before) tree ≡ true =
+    rule_holds _ tree.head.line (front_empty _ _ (front_empty _ _ h)) in (
+      not_true _ (and_first _ _ (and_rest (not (is_numbered (decls.global_names before) tree.head.name)) _ known)),
+      subst (λ all. Fresh all (function_names rest)) (names_append before (Function tree ∷ []))
+          (functions_fresh section (before ++ Function tree ∷ []) rest
+          (back_empty (names.decl_lines (names.declared section before) (Function tree)) _ h)),
+    )
 
-module _ (sections : List SectionTree) (hold : (j : ℕ) (s : SectionTree) → slice_get sections j ≡ Some s → FaceFacts sections j s) (number : ℕ) (section : SectionTree) (there : slice_get sections number ≡ Some section) where
+module _ (sections : List SectionTree) (hold : (j : ℕ) (s : SectionTree) → slice_get sections j ≡ Some s →
+    FaceFacts sections j s) (number : ℕ) (section : SectionTree)
+    (there : slice_get sections number ≡ Some section) where
   abbrev callees : Callees
   callees = callees_of sections number section
 
@@ -172,50 +198,71 @@ module _ (sections : List SectionTree) (hold : (j : ℕ) (s : SectionTree) → s
   promised_name name None = refl
   promised_name name (Some tree) = refl
 
-  other_name : (line : ImportLine) → Offering number line sections → import_name (interfaces_of sections) (offered line (offering number line 0 sections)) ≡ line.name
+  other_name : (line : ImportLine) → Offering number line sections →
+      import_name (interfaces_of sections) (offered line (offering number line 0 sections)) ≡ line.name
   other_name line o =
-      let export : FoundBy {A = ExportLine} (λ line. line.name) line.name o.section.exports = found_by {A = ExportLine} (λ line. line.name) line.name o.section.exports (and_rest (not (o.number == number)) _ (and_rest (bytes_eq o.section.name line.comp) _ o.offers)) in
+      let export : FoundBy {A = ExportLine} (λ line. line.name) line.name o.section.exports =
+      found_by {A = ExportLine} (λ line. line.name) line.name o.section.exports
+      (and_rest (not (o.number == number)) _ (and_rest (bytes_eq o.section.name line.comp) _ o.offers)) in
       ap (λ found. import_name (interfaces_of sections) (offered line found)) o.is
       ∙ ap (λ index. export_name (export_at (interfaces_of sections) o.number (number_or_zero index))) export.place
       ∙ ap export_name (export_is sections o.number o.section export.at export.item o.got export.got)
       ∙ promised_name export.item.name (function_named export.item.name (functions_in o.section.decls))
       ∙ sym (same_text line.name export.item.name export.named)
 
-  name_by : (line : ImportLine) (env input output : Bool) → bytes_eq line.name input_name ≡ input → bytes_eq line.name output_name ≡ output → (if env then input || output else is_some (offering number line 0 sections)) ≡ true → import_name (interfaces_of sections) (if env then (if input then import.Input else import.Output) else offered line (offering number line 0 sections)) ≡ line.name
+  name_by : (line : ImportLine) (env input output : Bool) → bytes_eq line.name input_name ≡ input →
+      bytes_eq line.name output_name ≡ output → (if env then input || output else
+      is_some (offering number line 0 sections)) ≡ true →
+      import_name (interfaces_of sections) (if env then (if input then import.Input else import.Output) else
+      offered line (offering number line 0 sections)) ≡ line.name
   name_by line true true output i o h = sym (same_text line.name input_name i)
   name_by line true false true i o h = sym (same_text line.name output_name o)
   name_by line true false false i o h = absurd (false≢true h)
   name_by line false input output i o h = other_name line (find_offering number line sections h)
 
-  import_named_is : (line : ImportLine) → ImportFacts sections number section line → import_name (interfaces_of sections) (import_of sections number line) ≡ line.name
+  import_named_is : (line : ImportLine) → ImportFacts sections number section line →
+      import_name (interfaces_of sections) (import_of sections number line) ≡ line.name
   import_named_is line f =
-      name_by line (is_environment line) (bytes_eq line.name input_name) (bytes_eq line.name output_name) refl refl f.offered
+      name_by line (is_environment line) (bytes_eq line.name input_name)
+      (bytes_eq line.name output_name) refl refl f.offered
 
-  imports_named : (lines : List ImportLine) → Each (ImportFacts sections number section) lines → map (import_name (interfaces_of sections)) (map (import_of sections number) lines) ≡ map {A = ImportLine} (λ line. line.name) lines
+  imports_named : (lines : List ImportLine) → Each (ImportFacts sections number section) lines →
+      map (import_name (interfaces_of sections)) (map (import_of sections number) lines) ≡
+      map {A = ImportLine} (λ line. line.name) lines
   imports_named [] each = refl
   imports_named (line ∷ lines) each = λ i. import_named_is line each.0 i ∷ imports_named lines each.1 i
 
-  not_defined : (lines : List ImportLine) → Each (ImportFacts sections number section) lines → Each (λ name. is_numbered (function_names section.decls) name ≡ false) (map {A = ImportLine} (λ line. line.name) lines)
+  not_defined : (lines : List ImportLine) → Each (ImportFacts sections number section) lines →
+      Each (λ name. is_numbered (function_names section.decls) name ≡ false)
+      (map {A = ImportLine} (λ line. line.name) lines)
   not_defined [] each = tt
   not_defined (line ∷ lines) each = (each.0.not_defined, not_defined lines each.1)
 
   functions_named : map {A = TypedFunction} (λ f. f.name) typed.functions ≡ function_names section.decls
-  functions_named = map_twice {A = FunctionTree} {B = TypedFunction} (λ f. f.name) (typed_function section callees) (functions_in section.decls)
+  functions_named = map_twice {A = FunctionTree} {B = TypedFunction} (λ f. f.name) (typed_function section callees)
+      (functions_in section.decls)
 
-  all_distinct : names.section_lines section ≡ [] → are_distinct (map (import_name (interfaces_of sections)) interface.imports ++ map {A = TypedFunction} (λ f. f.name) typed.functions) ≡ true
+  all_distinct : names.section_lines section ≡ [] → are_distinct
+      (map (import_name (interfaces_of sections)) interface.imports ++
+      map {A = TypedFunction} (λ f. f.name) typed.functions) ≡ true
   all_distinct in_names =
-      subst (λ all. are_distinct all ≡ true) (λ i. sym (imports_named section.imports facts.imports) i ++ sym functions_named i) (both_distinct (import_names section) (function_names section.decls) (fresh_distinct [] (import_names section) facts.fresh_imports) (not_defined section.imports facts.imports) (fresh_distinct [] (function_names section.decls) (functions_fresh section [] section.decls in_names)))
+      subst (λ all. are_distinct all ≡ true) (λ i. sym (imports_named section.imports facts.imports) i ++
+      sym functions_named i) (both_distinct (import_names section) (function_names section.decls)
+      (fresh_distinct [] (import_names section) facts.fresh_imports) (not_defined section.imports facts.imports)
+      (fresh_distinct [] (function_names section.decls) (functions_fresh section [] section.decls in_names)))
 
   -- Exports.
 
-  exports_named : (lines : List ExportLine) → map {A = event.Proto} (λ p. p.name) (map (proto_of section) lines) ≡ map {A = ExportLine} (λ line. line.name) lines
+  exports_named : (lines : List ExportLine) → map {A = event.Proto} (λ p. p.name) (map (proto_of section) lines) ≡
+      map {A = ExportLine} (λ line. line.name) lines
   exports_named [] = refl
   exports_named (line ∷ lines) =
       λ i. promised_name line.name (function_named line.name (functions_in section.decls)) i ∷ exports_named lines i
 
   exports_distinct : are_distinct (map {A = event.Proto} (λ p. p.name) interface.exports) ≡ true
   exports_distinct =
-      subst (λ all. are_distinct all ≡ true) (sym (exports_named section.exports)) (fresh_distinct [] (export_names section) facts.fresh_exports)
+      subst (λ all. are_distinct all ≡ true) (sym (exports_named section.exports))
+      (fresh_distinct [] (export_names section) facts.fresh_exports)
 
   or_not : (a b : Bool) → (a || not b) ≡ true → b ≡ true → a ≡ true
   or_not true b h q = refl
@@ -227,17 +274,22 @@ module _ (sections : List SectionTree) (hold : (j : ℕ) (s : SectionTree) → s
   or_left false b h = absurd (false≢true h)
 
   -- an export line at its place
-  module _ (at : ℕ) (line : ExportLine) (got : slice_get section.exports at ≡ Some line) (f : ExportFacts sections number section line) where
+  module _ (at : ℕ) (line : ExportLine) (got : slice_get section.exports at ≡ Some line)
+      (f : ExportFacts sections number section line) where
     g : FoundFunction line.name (functions_in section.decls)
     g = find_function line.name (functions_in section.decls) f.defined
 
     exported : is_numbered (export_names section) g.tree.head.name ≡ true
     exported =
-        any_at (bytes_eq g.tree.head.name) (export_names section) at line.name (get_map {A = ExportLine} (λ line. line.name) section.exports at ∙ ap (option_map {T = ExportLine} (λ line. line.name)) got) g.named
+        any_at (bytes_eq g.tree.head.name) (export_names section) at line.name
+        (get_map {A = ExportLine} (λ line. line.name) section.exports at ∙
+        ap (option_map {T = ExportLine} (λ line. line.name)) got) g.named
 
     fits : head_fits sections number section (head_of g.tree.head) ≡ true
     fits =
-        (each_at (λ tree. DeclFacts sections number section facts.mains (Function tree)) (functions_in section.decls) g.at g.tree (each_function (DeclFacts sections number section facts.mains) section.decls facts.decls) g.got).0
+        (each_at (λ tree. DeclFacts sections number section facts.mains (Function tree))
+        (functions_in section.decls) g.at g.tree (each_function
+        (DeclFacts sections number section facts.mains) section.decls facts.decls) g.got).0
 
     crossing : head_crosses (head_of g.tree.head) ≡ true
     crossing = or_not (head_crosses (head_of g.tree.head)) _ fits (or_left _ _ exported)
@@ -247,43 +299,81 @@ module _ (sections : List SectionTree) (hold : (j : ℕ) (s : SectionTree) → s
 
     signatures : signature_of (typed_function section callees g.tree) ≡ proto_signature (proto_of section line)
     signatures =
-        own_signature section callees g.tree ∙ sym (agreed_signature (tags section) line.name g.tree (head_of g.tree.head) (agrees (head_of g.tree.head)) crossing) ∙ ap proto_signature (sym promise)
+        own_signature section callees g.tree ∙ sym (agreed_signature (tags section) line.name g.tree
+        (head_of g.tree.head) (agrees (head_of g.tree.head)) crossing) ∙ ap proto_signature (sym promise)
 
-    is_function : list_any {X = TypedFunction} (λ f. bytes_eq f.name (proto_of section line).name && same_signature (signature_of f) (proto_signature (proto_of section line))) typed.functions ≡ true
+    is_function : list_any {X = TypedFunction} (λ f. bytes_eq f.name (proto_of section line).name &&
+        same_signature (signature_of f) (proto_signature (proto_of section line))) typed.functions ≡ true
     is_function =
-        any_at {A = TypedFunction} (λ f. bytes_eq f.name (proto_of section line).name && same_signature (signature_of f) (proto_signature (proto_of section line))) typed.functions g.at (typed_function section callees g.tree) (get_map (typed_function section callees) (functions_in section.decls) g.at ∙ ap (option_map (typed_function section callees)) g.got) (and_from _ _ (ap (bytes_eq g.tree.head.name) (promised_name line.name (function_named line.name (functions_in section.decls))) ∙ g.named) (ap (λ s. same_signature s (proto_signature (proto_of section line))) signatures ∙ signature_refl (proto_signature (proto_of section line))))
+        any_at {A = TypedFunction} (λ f. bytes_eq f.name (proto_of section line).name &&
+        same_signature (signature_of f) (proto_signature (proto_of section line))) typed.functions g.at
+        (typed_function section callees g.tree) (get_map (typed_function section callees)
+        (functions_in section.decls) g.at ∙ ap (option_map (typed_function section callees)) g.got)
+        (and_from _ _ (ap (bytes_eq g.tree.head.name)
+        (promised_name line.name (function_named line.name (functions_in section.decls))) ∙ g.named)
+        (ap (λ s. same_signature s (proto_signature (proto_of section line))) signatures ∙
+        signature_refl (proto_signature (proto_of section line))))
 
     export_is_function : export_fits typed.functions (proto_of section line) ≡ true
     export_is_function =
-        and_from _ _ (ap is_plain_name (promised_name line.name (function_named line.name (functions_in section.decls))) ∙ f.plain) (and_from _ _ (ap not (ap (λ n. bytes_eq n main_name) (promised_name line.name (function_named line.name (functions_in section.decls))) ∙ f.no_main)) is_function)
+        and_from _ _ (ap is_plain_name (promised_name line.name
+        (function_named line.name (functions_in section.decls))) ∙ f.plain)
+        (and_from _ _ (ap not (ap (λ n. bytes_eq n main_name)
+        (promised_name line.name (function_named line.name (functions_in section.decls))) ∙ f.no_main)) is_function)
 
-  exports_are : (before lines : List ExportLine) → before ++ lines ≡ section.exports → Each (ExportFacts sections number section) lines → list_all (export_fits typed.functions) (map (proto_of section) lines) ≡ true
+  exports_are : (before lines : List ExportLine) → before ++ lines ≡ section.exports →
+      Each (ExportFacts sections number section) lines →
+      list_all (export_fits typed.functions) (map (proto_of section) lines) ≡ true
   exports_are before [] whole each = refl
   exports_are before (line ∷ lines) whole each =
-      and_from _ _ (export_is_function (length before) line (ap (λ list. slice_get list (length before)) (sym whole) ∙ get_behind before line lines) each.0) (exports_are (before ++ line ∷ []) lines (append_assoc before (line ∷ []) lines ∙ whole) each.1)
+      and_from _ _ (export_is_function (length before) line
+      (ap (λ list. slice_get list (length before)) (sym whole) ∙ get_behind before line lines) each.0)
+      (exports_are (before ++ line ∷ []) lines (append_assoc before (line ∷ []) lines ∙ whole) each.1)
 
   -- Imports lead to exports of other sections.
 
-  other_fits : (line : ImportLine) → Offering number line sections → import_fits (interfaces_of sections) number (offered line (offering number line 0 sections)) ≡ true
+  other_fits : (line : ImportLine) → Offering number line sections →
+      import_fits (interfaces_of sections) number (offered line (offering number line 0 sections)) ≡ true
   other_fits line o =
-      let export : FoundBy {A = ExportLine} (λ line. line.name) line.name o.section.exports = found_by {A = ExportLine} (λ line. line.name) line.name o.section.exports (and_rest (not (o.number == number)) _ (and_rest (bytes_eq o.section.name line.comp) _ o.offers)) in
+      let export : FoundBy {A = ExportLine} (λ line. line.name) line.name o.section.exports =
+      found_by {A = ExportLine} (λ line. line.name) line.name o.section.exports
+      (and_rest (not (o.number == number)) _ (and_rest (bytes_eq o.section.name line.comp) _ o.offers)) in
       ap (λ found. import_fits (interfaces_of sections) number (offered line found)) o.is
-      ∙ ap (λ index. import_fits (interfaces_of sections) number (import.Function o.number (number_or_zero index))) export.place
-      ∙ and_from _ _ (and_first _ _ (and_rest (bytes_eq o.section.name line.comp) _ o.offers)) (ap is_some (export_is sections o.number o.section export.at export.item o.got export.got))
+      ∙ ap (λ index. import_fits (interfaces_of sections) number
+      (import.Function o.number (number_or_zero index))) export.place
+      ∙ and_from _ _ (and_first _ _ (and_rest (bytes_eq o.section.name line.comp) _ o.offers))
+      (ap is_some (export_is sections o.number o.section export.at export.item o.got export.got))
 
-  fits_by : (line : ImportLine) (env input output : Bool) → (if env then input || output else is_some (offering number line 0 sections)) ≡ true → import_fits (interfaces_of sections) number (if env then (if input then import.Input else import.Output) else offered line (offering number line 0 sections)) ≡ true
+  fits_by : (line : ImportLine) (env input output : Bool) →
+      (if env then input || output else is_some (offering number line 0 sections)) ≡ true →
+      import_fits (interfaces_of sections) number (if env then (if input then import.Input else import.Output) else
+      offered line (offering number line 0 sections)) ≡ true
   fits_by line true true output h = refl
   fits_by line true false output h = refl
   fits_by line false input output h = other_fits line (find_offering number line sections h)
 
-  imports_are : (lines : List ImportLine) → Each (ImportFacts sections number section) lines → list_all (import_fits (interfaces_of sections) number) (map (import_of sections number) lines) ≡ true
+  imports_are : (lines : List ImportLine) → Each (ImportFacts sections number section) lines →
+      list_all (import_fits (interfaces_of sections) number) (map (import_of sections number) lines) ≡ true
   imports_are [] each = refl
   imports_are (line ∷ lines) each =
-      and_from _ _ (fits_by line (is_environment line) (bytes_eq line.name input_name) (bytes_eq line.name output_name) each.0.offered) (imports_are lines each.1)
+      and_from _ _ (fits_by line (is_environment line) (bytes_eq line.name input_name)
+      (bytes_eq line.name output_name) each.0.offered) (imports_are lines each.1)
 
   -- Counts.
 
-  pub interface_is : names.section_lines section ≡ [] → counts.section_lines section callees ≡ [] → interface_fits (interfaces_of sections) number interface typed ≡ true
+  pub interface_is : names.section_lines section ≡ [] → counts.section_lines section callees ≡ [] →
+      interface_fits (interfaces_of sections) number interface typed ≡ true
   interface_is in_names count =
-      let behind : counts.line_beyond {A = ExportLine} (λ line. line.line) most_exports section.exports ++ (counts.line_beyond {A = ImportLine} (λ line. line.line) most_exports section.imports ++ _) ≡ [] = back_empty (unless (nat_le (counts.section_nodes section callees) most_nodes && nat_le (length section.decls) most_nodes) 1) _ count in
-      and_from _ _ (all_distinct in_names) (and_from _ _ exports_distinct (and_from _ _ (exports_are [] section.exports refl facts.exports) (and_from _ _ (imports_are section.imports facts.imports) (and_from _ _ (ap (λ n. nat_le n most_exports) (map_length (proto_of section) section.exports) ∙ none_beyond {A = ExportLine} (λ line. line.line) most_exports section.exports (front_empty _ _ behind)) (ap (λ n. nat_le n most_exports) (map_length (import_of sections number) section.imports) ∙ none_beyond {A = ImportLine} (λ line. line.line) most_exports section.imports (front_empty _ _ (back_empty (counts.line_beyond {A = ExportLine} (λ line. line.line) most_exports section.exports) _ behind)))))))
+      let behind : counts.line_beyond {A = ExportLine} (λ line. line.line) most_exports section.exports ++
+      (counts.line_beyond {A = ImportLine} (λ line. line.line) most_exports section.imports ++ _) ≡ [] =
+      back_empty (unless (nat_le (counts.section_nodes section callees) most_nodes &&
+      nat_le (length section.decls) most_nodes) 1) _ count in
+      and_from _ _ (all_distinct in_names) (and_from _ _ exports_distinct
+      (and_from _ _ (exports_are [] section.exports refl facts.exports)
+      (and_from _ _ (imports_are section.imports facts.imports)
+      (and_from _ _ (ap (λ n. nat_le n most_exports) (map_length (proto_of section) section.exports) ∙
+      none_beyond {A = ExportLine} (λ line. line.line) most_exports section.exports (front_empty _ _ behind))
+      (ap (λ n. nat_le n most_exports) (map_length (import_of sections number) section.imports) ∙
+      none_beyond {A = ImportLine} (λ line. line.line) most_exports section.imports
+      (front_empty _ _ (back_empty (counts.line_beyond {A = ExportLine}
+      (λ line. line.line) most_exports section.exports) _ behind)))))))

@@ -21,20 +21,24 @@ use Rattle.sc_types.proofs.Functions.{map_length}
 abbrev bytes_of : Section → List ℕ
 bytes_of s = s.bytes.now
 
-first_is : {text : List ℕ} {at end : ℕ} {found : List Section} → AreSections text at end found → end ≡ length text → first_start text (map start_of found) ≡ at
+first_is : {text : List ℕ} {at end : ℕ} {found : List Section} → AreSections text at end found → end ≡ length text →
+    first_start text (map start_of found) ≡ at
 first_is none e = sym e
 first_is (section first g others) e = g.start
 
-parts_are : {text : List ℕ} {at end : ℕ} {found : List Section} → AreSections text at end found → end ≡ length text → parts_from text (map start_of found) ≡ map bytes_of found
+parts_are : {text : List ℕ} {at end : ℕ} {found : List Section} → AreSections text at end found → end ≡ length text →
+    parts_from text (map start_of found) ≡ map bytes_of found
 parts_are none e = refl
 parts_are {text} (section first g others) e =
-    ap₂ (λ x xs. x ∷ xs) (ap₂ (λ a b. slice_range text a b) g.start (first_is others e) ∙ sym g.bytes) (parts_are others e)
+    ap₂ (λ x xs. x ∷ xs) (ap₂ (λ a b. slice_range text a b) g.start (first_is others e) ∙ sym g.bytes)
+    (parts_are others e)
 
 concat_is : (found : List Section) → concat (map bytes_of found) ≡ flat_map bytes_of found
 concat_is [] = refl
 concat_is (s ∷ found) = ap (λ more. bytes_of s ++ more) (concat_is found)
 
-joined : {text preamble : List ℕ} {found : List Section} → IsSplit text preamble found → take (length preamble) text ++ flat_map bytes_of found ≡ text
+joined : {text preamble : List ℕ} {found : List Section} → IsSplit text preamble found →
+    take (length preamble) text ++ flat_map bytes_of found ≡ text
 joined {text} {preamble} {found} split =
     progress_joined text (length preamble) (length text) (line_at text (length text)) found (record {
       within = omega arith;
@@ -45,12 +49,14 @@ joined {text} {preamble} {found} split =
       good = λ k low bad. split_good split k bad;
     }) (omega arith)
 
-interfaces_length : (sections : List SectionTree) (k : ℕ) (rest : List SectionTree) → length (interfaces_from sections k rest) ≡ length rest
+interfaces_length : (sections : List SectionTree) (k : ℕ) (rest : List SectionTree) →
+    length (interfaces_from sections k rest) ≡ length rest
 interfaces_length sections k [] = refl
 interfaces_length sections k (tree ∷ rest) = ap suc (interfaces_length sections (suc k) rest)
 
 -- as many sections as compartments
-each_has_one : {text preamble : List ℕ} {found : List Section} (program : ProgramTree) → IsSplit text preamble found → Accepts text program → length found ≡ length program.interfaces.comps
+each_has_one : {text preamble : List ℕ} {found : List Section} (program : ProgramTree) → IsSplit text preamble found →
+    Accepts text program → length found ≡ length program.interfaces.comps
 each_has_one {text} {preamble} {found} program split a =
     let r : Reads text a.sections = a.reads in
     sym (map_length part_of found)
@@ -80,28 +86,35 @@ module _ (text starts : List ℕ) (program : ProgramTree) (k : IsKept text start
       bytes = bytes_are;
     };
     joined =
-        ap₂ (λ a b. a ++ b) (ap (λ n. take n text) front_is) (ap concat bytes_are ∙ concat_is k.starts_are.found) ∙ joined k.starts_are.split;
+        ap₂ (λ a b. a ++ b) (ap (λ n. take n text) front_is) (ap concat bytes_are ∙ concat_is k.starts_are.found) ∙
+        joined k.starts_are.split;
     each =
-        ap length bytes_are ∙ map_length bytes_of k.starts_are.found ∙ each_has_one program k.starts_are.split k.accepted;
+        ap length bytes_are ∙ map_length bytes_of k.starts_are.found ∙
+        each_has_one program k.starts_are.split k.accepted;
   }
 
   pub starts_long : length starts ≡ length program.interfaces.comps
   starts_long =
-      ap length k.starts_are.places ∙ map_length start_of k.starts_are.found ∙ each_has_one program k.starts_are.split k.accepted
+      ap length k.starts_are.places ∙ map_length start_of k.starts_are.found ∙
+      each_has_one program k.starts_are.split k.accepted
 
 -- What stands at a place of the starts.
-pub start_some : (text starts : List ℕ) (at start : ℕ) → slice_get starts at ≡ Some start → first_start text (drop at starts) ≡ start
+pub start_some : (text starts : List ℕ) (at start : ℕ) → slice_get starts at ≡ Some start →
+    first_start text (drop at starts) ≡ start
 start_some text [] at start h = absurd (cc)
 start_some text (x ∷ starts) zero start h = cc
 start_some text (x ∷ starts) (suc at) start h = start_some text starts at start h
 
-pub start_none : (text starts : List ℕ) (at : ℕ) → slice_get starts at ≡ None → first_start text (drop at starts) ≡ length text
+pub start_none : (text starts : List ℕ) (at : ℕ) → slice_get starts at ≡ None →
+    first_start text (drop at starts) ≡ length text
 start_none text [] zero h = refl
 start_none text [] (suc at) h = refl
 start_none text (x ∷ starts) zero h = absurd (cc)
 start_none text (x ∷ starts) (suc at) h = start_none text starts at h
 
-part_here : (text starts : List ℕ) (at : ℕ) → at < length starts → slice_get (parts_from text starts) at ≡ Some (slice_range text (first_start text (drop at starts)) (first_start text (drop (suc at) starts)))
+part_here : (text starts : List ℕ) (at : ℕ) → at < length starts →
+    slice_get (parts_from text starts) at ≡ Some (slice_range text (first_start text (drop at starts))
+    (first_start text (drop (suc at) starts)))
 part_here text [] at h = absurd (omega arith)
 part_here text (x ∷ starts) zero h = refl
 part_here text (x ∷ starts) (suc at) h = part_here text starts at (omega arith)
@@ -110,7 +123,8 @@ record IsRange (text starts : List ℕ) (at : ℕ) : Type 0 where
   low : first_start text (drop at starts) ≤ first_start text (drop (suc at) starts)
   high : first_start text (drop (suc at) starts) ≤ length text
 
-ranges : {text : List ℕ} {from end : ℕ} {found : List Section} → AreSections text from end found → end ≡ length text → (at : ℕ) → IsRange text (map start_of found) at
+ranges : {text : List ℕ} {from end : ℕ} {found : List Section} → AreSections text from end found → end ≡ length text →
+    (at : ℕ) → IsRange text (map start_of found) at
 ranges none e zero = record { low = omega arith; high = omega arith }
 ranges none e (suc at) = record { low = omega arith; high = omega arith }
 ranges {text} (section first g others) e zero = record {
@@ -122,28 +136,40 @@ ranges (section first g others) e (suc at) =
     record { low = r.low; high = r.high }
 
 -- The section at a place lies between its start and the next one.
-pub section_is : (text starts : List ℕ) (at start end : ℕ) (bytes : List ℕ) → at < length starts → start ≡ first_start text (drop at starts) → end ≡ first_start text (drop (at + 1) starts) → bytes ≡ slice_range text start end → slice_get (parts_from text starts) at ≡ Some bytes
+pub section_is : (text starts : List ℕ) (at start end : ℕ) (bytes : List ℕ) → at < length starts →
+    start ≡ first_start text (drop at starts) → end ≡ first_start text (drop (at + 1) starts) →
+    bytes ≡ slice_range text start end → slice_get (parts_from text starts) at ≡ Some bytes
 section_is text starts at start end bytes within from to is =
     part_here text starts at within
-    ∙ ap Some (ap₂ (λ a b. slice_range text a b) (sym from) (ap (λ n. first_start text (drop n starts)) (sym (add-one at)) ∙ sym to) ∙ sym is)
+    ∙ ap Some (ap₂ (λ a b. slice_range text a b) (sym from)
+    (ap (λ n. first_start text (drop n starts)) (sym (add-one at)) ∙ sym to) ∙ sym is)
 
-pub section_lies : (text starts : List ℕ) (at start end : ℕ) → AreStarts text starts → start ≡ first_start text (drop at starts) → end ≡ first_start text (drop (at + 1) starts) → (start ≤ end) × (end ≤ length text)
+pub section_lies : (text starts : List ℕ) (at start end : ℕ) → AreStarts text starts →
+    start ≡ first_start text (drop at starts) → end ≡ first_start text (drop (at + 1) starts) →
+    (start ≤ end) × (end ≤ length text)
 section_lies text starts at start end a from to =
     let r : IsRange text starts at = subst (λ s. IsRange text s at) (sym a.places) (ranges a.split.behind refl at) in
-    let last : end ≡ first_start text (drop (suc at) starts) = to ∙ ap (λ n. first_start text (drop n starts)) (add-one at) in
+    let last : end ≡ first_start text (drop (suc at) starts) =
+    to ∙ ap (λ n. first_start text (drop n starts)) (add-one at) in
     (omega (arith, r.low, from, last), omega (arith, r.high, last))
 
 -- The preamble ends where the first section begins.
-pub preamble_lies : (text starts : List ℕ) (end : ℕ) → AreStarts text starts → end ≡ first_start text (drop 0 starts) → (0 ≤ end) × (end ≤ length text)
+pub preamble_lies : (text starts : List ℕ) (end : ℕ) → AreStarts text starts → end ≡ first_start text (drop 0 starts) →
+    (0 ≤ end) × (end ≤ length text)
 preamble_lies text starts end a to =
-    let is : first_start text starts ≡ length a.preamble = ap (first_start text) a.places ∙ first_is a.split.behind refl in
+    let is : first_start text starts ≡ length a.preamble =
+    ap (first_start text) a.places ∙ first_is a.split.behind refl in
     (omega arith, omega (arith, to, is, sections_rise a.split.behind))
 
-pub preamble_ends : (text starts : List ℕ) (end : ℕ) (bytes : List ℕ) → end ≡ first_start text (drop 0 starts) → bytes ≡ slice_range text 0 end → bytes ≡ take (first_start text starts) text
-preamble_ends text starts end bytes to is = let whole : end - 0 ≡ end = omega arith in is ∙ ap (λ n. take n text) (whole ∙ to)
+pub preamble_ends : (text starts : List ℕ) (end : ℕ) (bytes : List ℕ) → end ≡ first_start text (drop 0 starts) →
+    bytes ≡ slice_range text 0 end → bytes ≡ take (first_start text starts) text
+preamble_ends text starts end bytes to is = let whole : end - 0 ≡ end = omega arith in
+    is ∙ ap (λ n. take n text) (whole ∙ to)
 
 -- one more start
-pub starts_more : (sections : List Section) (starts : List ℕ) (at : ℕ) (s : Section) → at < length sections → s ≡ get_or sections at s → starts ≡ map start_of (take at sections) → starts ++ start_of s ∷ [] ≡ map start_of (take (at + 1) sections)
+pub starts_more : (sections : List Section) (starts : List ℕ) (at : ℕ) (s : Section) → at < length sections →
+    s ≡ get_or sections at s → starts ≡ map start_of (take at sections) →
+    starts ++ start_of s ∷ [] ≡ map start_of (take (at + 1) sections)
 starts_more sections starts at s low is h =
     ap₂ (λ a b. a ++ start_of b ∷ []) h is
     ∙ sym (map-append start_of (take at sections) (get_or sections at s ∷ []))

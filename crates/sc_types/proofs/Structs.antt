@@ -32,11 +32,13 @@ use Rattle.sc_base.proofs.Bools.{and_first, and_rest}
 -- Tags.
 
 -- a base that is known among the first tags has a number below theirs
-pub base_is_within : (tags more : List Text) (b : BaseTree) → base_known tags b ≡ true → base_within (length tags) (base_of (tags ++ more) b) ≡ true
+pub base_is_within : (tags more : List Text) (b : BaseTree) → base_known tags b ≡ true →
+    base_within (length tags) (base_of (tags ++ more) b) ≡ true
 base_is_within tags more base_tree.Int h = refl
 base_is_within tags more base_tree.Unsigned h = refl
 base_is_within tags more (base_tree.Struct tag) h =
-    less (number_or_zero (number_of (tags ++ more) tag)) (length tags) (subst (λ o. number_or_zero o < length tags) (sym (number_front tags more tag h)) (number_within tags tag h))
+    less (number_or_zero (number_of (tags ++ more) tag)) (length tags)
+    (subst (λ o. number_or_zero o < length tags) (sym (number_front tags more tag h)) (number_within tags tag h))
 
 pub is_less : (i n : ℕ) → nat_lt i n ≡ true → i < n
 is_less i n h = ltb-true i n h
@@ -48,28 +50,37 @@ more_within n m (base.Struct i) h k = less i m (omega (arith, h, is_less i n k))
 
 -- Types by their parts.
 
-starred_within_is : (whole pointed stars : ℕ) (b : BaseTy) → starred_within whole pointed stars b ≡ true → type_within whole pointed (starred stars b) ≡ true
+starred_within_is : (whole pointed stars : ℕ) (b : BaseTy) → starred_within whole pointed stars b ≡ true →
+    type_within whole pointed (starred stars b) ≡ true
 starred_within_is whole pointed zero base.Int h = refl
 starred_within_is whole pointed zero base.Unsigned h = refl
 starred_within_is whole pointed zero (base.Struct n) h = h
-starred_within_is whole pointed (suc stars) b h = and_from (nat_le 1 (suc stars)) (base_within pointed b) (at_most 1 (suc stars) (omega arith)) h
+starred_within_is whole pointed (suc stars) b h = and_from (nat_le 1 (suc stars)) (base_within pointed b)
+    (at_most 1 (suc stars) (omega arith)) h
 
-with_within : (tags : List Text) (whole pointed : ℕ) (size : Option ℕ) (stars : ℕ) (b : BaseTy) → option_map_or (λ n. nat_le 1 n) size true ≡ true → starred_within whole pointed stars b ≡ true → type_within whole pointed (type_with tags size stars b) ≡ true
+with_within : (tags : List Text) (whole pointed : ℕ) (size : Option ℕ) (stars : ℕ) (b : BaseTy) →
+    option_map_or (λ n. nat_le 1 n) size true ≡ true → starred_within whole pointed stars b ≡ true →
+    type_within whole pointed (type_with tags size stars b) ≡ true
 with_within tags whole pointed None stars b sized h = starred_within_is whole pointed stars b h
-with_within tags whole pointed (Some n) stars b sized h = and_from (nat_le 1 n) (starred_within whole pointed stars b) sized h
+with_within tags whole pointed (Some n) stars b sized h =
+    and_from (nat_le 1 n) (starred_within whole pointed stars b) sized h
 
 all_within : (n stars : ℕ) (b : BaseTy) → base_within n b ≡ true → starred_within n n stars b ≡ true
 all_within n zero b h = h
 all_within n (suc stars) b h = h
 
 -- a type over tags that are all known
-pub type_is_within : (tags more : List Text) (t : TypeTree) → is_sized t ≡ true → base_known tags t.base ≡ true → type_within (length tags) (length tags) (type_of (tags ++ more) t) ≡ true
+pub type_is_within : (tags more : List Text) (t : TypeTree) → is_sized t ≡ true → base_known tags t.base ≡ true →
+    type_within (length tags) (length tags) (type_of (tags ++ more) t) ≡ true
 type_is_within tags more t sized h =
-    with_within (tags ++ more) (length tags) (length tags) t.length t.stars (base_of (tags ++ more) t.base) sized (all_within (length tags) t.stars (base_of (tags ++ more) t.base) (base_is_within tags more t.base h))
+    with_within (tags ++ more) (length tags) (length tags) t.length t.stars (base_of (tags ++ more) t.base) sized
+    (all_within (length tags) t.stars (base_of (tags ++ more) t.base) (base_is_within tags more t.base h))
 
-pub name_is_within : (tags more : List Text) (t : TypeName) → base_known tags t.base ≡ true → type_within (length tags) (length tags) (type_of_name (tags ++ more) t) ≡ true
+pub name_is_within : (tags more : List Text) (t : TypeName) → base_known tags t.base ≡ true →
+    type_within (length tags) (length tags) (type_of_name (tags ++ more) t) ≡ true
 name_is_within tags more t h =
-    starred_within_is (length tags) (length tags) t.stars (base_of (tags ++ more) t.base) (all_within (length tags) t.stars (base_of (tags ++ more) t.base) (base_is_within tags more t.base h))
+    starred_within_is (length tags) (length tags) t.stars (base_of (tags ++ more) t.base)
+    (all_within (length tags) t.stars (base_of (tags ++ more) t.base) (base_is_within tags more t.base h))
 
 -- Members, of the struct behind the first ones.
 
@@ -80,26 +91,35 @@ module _ (names : List Text) (self : Text) (more : List Text) (new : is_numbered
   abbrev k : ℕ
   k = length names
 
-  known_within : (stars : ℕ) (b : BaseTree) → base_known names b ≡ true → starred_within k (suc k) stars (base_of tags b) ≡ true
+  known_within : (stars : ℕ) (b : BaseTree) → base_known names b ≡ true →
+      starred_within k (suc k) stars (base_of tags b) ≡ true
   known_within zero b h = base_is_within names (self ∷ more) b h
-  known_within (suc stars) b h = more_within k (suc k) (base_of tags b) (omega arith) (base_is_within names (self ∷ more) b h)
+  known_within (suc stars) b h = more_within k (suc k) (base_of tags b) (omega arith)
+      (base_is_within names (self ∷ more) b h)
 
   self_number : (tag : Text) → bytes_eq tag self ≡ true → number_or_zero (number_of tags tag) ≡ k
-  self_number tag h = ap (λ t. number_or_zero (number_of tags t)) (same_text tag self h) ∙ ap number_or_zero (number_next names self more new)
+  self_number tag h = ap (λ t. number_or_zero (number_of tags t)) (same_text tag self h) ∙
+      ap number_or_zero (number_next names self more new)
 
-  pointed_within : (stars : ℕ) (b : BaseTree) → pointed_known self stars b ≡ true → starred_within k (suc k) stars (base_of tags b) ≡ true
+  pointed_within : (stars : ℕ) (b : BaseTree) → pointed_known self stars b ≡ true →
+      starred_within k (suc k) stars (base_of tags b) ≡ true
   pointed_within stars base_tree.Int h = absurd (false≢true h)
   pointed_within stars base_tree.Unsigned h = absurd (false≢true h)
   pointed_within zero (base_tree.Struct tag) h = absurd (false≢true (and_rest (bytes_eq tag self) false h))
   pointed_within (suc stars) (base_tree.Struct tag) h =
-      less (number_or_zero (number_of tags tag)) (suc k) (omega (arith, self_number tag (and_first (bytes_eq tag self) (not (nat_eq (suc stars) 0)) h)))
+      less (number_or_zero (number_of tags tag)) (suc k)
+      (omega (arith, self_number tag (and_first (bytes_eq tag self) (not (nat_eq (suc stars) 0)) h)))
 
-  member_starred : (m : MemberTree) → member_known names self m ≡ true → starred_within k (suc k) m.ty.stars (base_of tags m.ty.base) ≡ true
+  member_starred : (m : MemberTree) → member_known names self m ≡ true →
+      starred_within k (suc k) m.ty.stars (base_of tags m.ty.base) ≡ true
   member_starred m h =
-      either (base_known names m.ty.base) (pointed_known self m.ty.stars m.ty.base) h (known_within m.ty.stars m.ty.base) (λ no. pointed_within m.ty.stars m.ty.base)
+      either (base_known names m.ty.base) (pointed_known self m.ty.stars m.ty.base) h
+      (known_within m.ty.stars m.ty.base) (λ no. pointed_within m.ty.stars m.ty.base)
 
-  member_within : (m : MemberTree) → member_known names self m ≡ true → is_sized m.ty ≡ true → type_within k (suc k) (type_of tags m.ty) ≡ true
-  member_within m h sized = with_within tags k (suc k) m.ty.length m.ty.stars (base_of tags m.ty.base) sized (member_starred m h)
+  member_within : (m : MemberTree) → member_known names self m ≡ true → is_sized m.ty ≡ true →
+      type_within k (suc k) (type_of tags m.ty) ≡ true
+  member_within m h sized = with_within tags k (suc k) m.ty.length m.ty.stars (base_of tags m.ty.base) sized
+      (member_starred m h)
 
 -- Cells over the first structs are those over all.
 
@@ -114,7 +134,8 @@ module _ (done more : List TypedStruct) (n : ℕ) (size : length done ≡ n) whe
   base_cells_same base.Unsigned h = refl
   base_cells_same (base.Struct i) h = ap struct_cells (get_front done more i (omega (arith, size, is_less i n h)))
 
-  starred_cells_same : (pointed stars : ℕ) (b : BaseTy) → starred_within n pointed stars b ≡ true → starred_cells (done ++ more) stars b ≡ starred_cells done stars b
+  starred_cells_same : (pointed stars : ℕ) (b : BaseTy) → starred_within n pointed stars b ≡ true →
+      starred_cells (done ++ more) stars b ≡ starred_cells done stars b
   starred_cells_same pointed zero b h = base_cells_same b h
   starred_cells_same pointed (suc stars) b h = refl
 
@@ -124,7 +145,8 @@ module _ (done more : List TypedStruct) (n : ℕ) (size : length done ≡ n) whe
   cells_same pointed (ty.Struct i) h = ap struct_cells (get_front done more i (omega (arith, size, is_less i n h)))
   cells_same pointed (ty.Pointer stars b) h = refl
   cells_same pointed (ty.Array stars b count) h =
-      ap (λ cells. count * cells) (starred_cells_same pointed stars b (and_rest (nat_le 1 count) (starred_within n pointed stars b) h))
+      ap (λ cells. count * cells) (starred_cells_same pointed stars b
+      (and_rest (nat_le 1 count) (starred_within n pointed stars b) h))
 
 -- A struct over those before it.
 
@@ -135,13 +157,15 @@ pub record Known (names : List Text) (tree : StructTree) : Type 0 where
   pub sized : list_all {X = MemberTree} (λ member. is_sized member.ty) tree.members ≡ true
   pub some : nat_le 1 (length tree.members) ≡ true
 
-module _ (names : List Text) (self : Text) (after : List Text) (new : is_numbered names self ≡ false) (done more : List TypedStruct) (size : length done ≡ length names) where
+module _ (names : List Text) (self : Text) (after : List Text) (new : is_numbered names self ≡ false)
+    (done more : List TypedStruct) (size : length done ≡ length names) where
   abbrev every : List Text
   every = names ++ self ∷ after
 
   abbrev Fits : ℕ → List MemberTree → Type 0
   Fits offset members =
-      members_fit (done ++ more) (length names) offset (members_from every done offset members) (cells_from every done offset members) ≡ true
+      members_fit (done ++ more) (length names) offset (members_from every done offset members)
+      (cells_from every done offset members) ≡ true
 
   -- the offset behind a member
   abbrev end : ℕ → MemberTree → ℕ
@@ -153,45 +177,69 @@ module _ (names : List Text) (self : Text) (after : List Text) (new : is_numbere
   below : (offset : ℕ) (members : List MemberTree) → offset ≤ 4294967295 → offset ≤ cells_from every done offset members
   below offset [] within = omega arith
   below offset (m ∷ members) within =
-      let behind : end offset m ≤ cells_from every done (end offset m) members = below (end offset m) members (end_within offset m) in
+      let behind : end offset m ≤ cells_from every done (end offset m) members =
+      below (end offset m) members (end_within offset m) in
       omega (arith, within, behind)
 
   -- in a small struct no offset stops
-  exact : (offset : ℕ) (m : MemberTree) (members : List MemberTree) → cells_from every done (end offset m) members ≤ 1048576 → end offset m ≡ offset + cells_of done (type_of every m.ty)
+  exact : (offset : ℕ) (m : MemberTree) (members : List MemberTree) →
+      cells_from every done (end offset m) members ≤ 1048576 →
+      end offset m ≡ offset + cells_of done (type_of every m.ty)
   exact offset m members small =
-      let behind : end offset m ≤ cells_from every done (end offset m) members = below (end offset m) members (end_within offset m) in
+      let behind : end offset m ≤ cells_from every done (end offset m) members =
+      below (end offset m) members (end_within offset m) in
       omega (arith, small, behind)
 
-  member_is : (offset : ℕ) (m : MemberTree) (members : List MemberTree) → member_known names self m ≡ true → is_sized m.ty ≡ true → end offset m ≡ offset + cells_of done (type_of every m.ty) → Fits (end offset m) members → Fits offset (m ∷ members)
+  member_is : (offset : ℕ) (m : MemberTree) (members : List MemberTree) → member_known names self m ≡ true →
+      is_sized m.ty ≡ true → end offset m ≡ offset + cells_of done (type_of every m.ty) →
+      Fits (end offset m) members → Fits offset (m ∷ members)
   member_is offset m members known sized same rest =
-      let within : type_within (length names) (suc (length names)) (type_of every m.ty) ≡ true = member_within names self after new m known sized in
-      and_from (offset == offset) _ (eq_refl offset) (and_from _ _ within (subst (λ start. members_fit (done ++ more) (length names) start (members_from every done (end offset m) members) (cells_from every done (end offset m) members) ≡ true) (same ∙ ap (λ cells. offset + cells) (sym (cells_same done more (length names) size (suc (length names)) (type_of every m.ty) within))) rest))
+      let within : type_within (length names) (suc (length names)) (type_of every m.ty) ≡ true =
+      member_within names self after new m known sized in
+      and_from (offset == offset) _ (eq_refl offset) (and_from _ _ within
+      (subst (λ start. members_fit (done ++ more) (length names) start
+      (members_from every done (end offset m) members) (cells_from every done (end offset m) members) ≡ true)
+      (same ∙ ap (λ cells. offset + cells) (sym (cells_same done more (length names) size (suc (length names))
+      (type_of every m.ty) within))) rest))
 
-  members_are : (offset : ℕ) (members : List MemberTree) → list_all (member_known names self) members ≡ true → list_all {X = MemberTree} (λ member. is_sized member.ty) members ≡ true → cells_from every done offset members ≤ 1048576 → Fits offset members
+  members_are : (offset : ℕ) (members : List MemberTree) → list_all (member_known names self) members ≡ true →
+      list_all {X = MemberTree} (λ member. is_sized member.ty) members ≡ true →
+      cells_from every done offset members ≤ 1048576 → Fits offset members
   members_are offset [] known sized small = eq_refl offset
   members_are offset (m ∷ members) known sized small =
-      member_is offset m members (and_first (member_known names self m) (list_all (member_known names self) members) known) (and_first (is_sized m.ty) (list_all {X = MemberTree} (λ member. is_sized member.ty) members) sized) (exact offset m members small) (members_are (end offset m) members (and_rest (member_known names self m) (list_all (member_known names self) members) known) (and_rest (is_sized m.ty) (list_all {X = MemberTree} (λ member. is_sized member.ty) members) sized) small)
+      member_is offset m members (and_first (member_known names self m)
+      (list_all (member_known names self) members) known)
+      (and_first (is_sized m.ty) (list_all {X = MemberTree} (λ member. is_sized member.ty) members) sized)
+      (exact offset m members small) (members_are (end offset m) members
+      (and_rest (member_known names self m) (list_all (member_known names self) members) known)
+      (and_rest (is_sized m.ty) (list_all {X = MemberTree} (λ member. is_sized member.ty) members) sized) small)
 
 map_length : {A B : Type 0} (f : A → B) (xs : List A) → length (map f xs) ≡ length xs
 map_length f [] = refl
 map_length f (x ∷ xs) = ap suc (map_length f xs)
 
-members_length : (all : List Text) (structs : List TypedStruct) (offset : ℕ) (members : List MemberTree) → length (members_from all structs offset members) ≡ length members
+members_length : (all : List Text) (structs : List TypedStruct) (offset : ℕ) (members : List MemberTree) →
+    length (members_from all structs offset members) ≡ length members
 members_length all structs offset [] = refl
-members_length all structs offset (m ∷ members) = ap suc (members_length all structs (end_of_member all structs offset m) members)
+members_length all structs offset (m ∷ members) = ap suc
+    (members_length all structs (end_of_member all structs offset m) members)
 
 -- All structs.
 
 -- the structs behind those that are done
 abbrev pub rest_of : (all : List Text) → List TypedStruct → List StructTree → List TypedStruct
 rest_of all done [] = []
-rest_of all done (tree ∷ trees) = typed_struct all done tree ∷ rest_of all (done ++ typed_struct all done tree ∷ []) trees
+rest_of all done (tree ∷ trees) = typed_struct all done tree ∷
+    rest_of all (done ++ typed_struct all done tree ∷ []) trees
 
-pub structs_are : (all : List Text) (done : List TypedStruct) (trees : List StructTree) → typed_structs all done trees ≡ done ++ rest_of all done trees
+pub structs_are : (all : List Text) (done : List TypedStruct) (trees : List StructTree) →
+    typed_structs all done trees ≡ done ++ rest_of all done trees
 unfolding typed_structs
 structs_are all done [] = sym (append-nil done)
 structs_are all done (tree ∷ trees) =
-    structs_are all (done ++ typed_struct all done tree ∷ []) trees ∙ append_assoc done (typed_struct all done tree ∷ []) (rest_of all (done ++ typed_struct all done tree ∷ []) trees)
+    structs_are all (done ++ typed_struct all done tree ∷ []) trees ∙
+    append_assoc done (typed_struct all done tree ∷ [])
+    (rest_of all (done ++ typed_struct all done tree ∷ []) trees)
 
 abbrev pub tags_of : List StructTree → List Text
 tags_of trees = map {A = StructTree} (λ tree. tree.name) trees
@@ -212,37 +260,69 @@ length_next [] y = refl
 length_next (x ∷ xs) y = ap suc (length_next xs y)
 
 module _ (all : List Text) where
-  struct_is : (names after : List Text) (tree : StructTree) (done more structs : List TypedStruct) → names ++ tree.name ∷ after ≡ all → length done ≡ length names → structs ≡ done ++ (typed_struct all done tree ∷ more) → Known names tree → nat_le (struct_cells (slice_get structs (length names))) most_cells ≡ true → struct_fits structs (length names) (typed_struct all done tree) ≡ true
+  struct_is : (names after : List Text) (tree : StructTree) (done more structs : List TypedStruct) →
+      names ++ tree.name ∷ after ≡ all → length done ≡ length names →
+      structs ≡ done ++ (typed_struct all done tree ∷ more) → Known names tree →
+      nat_le (struct_cells (slice_get structs (length names))) most_cells ≡ true →
+      struct_fits structs (length names) (typed_struct all done tree) ≡ true
   struct_is names after tree done more structs is size whole known small =
-      and_from _ _ (ap (nat_le 1) (members_length all done 0 tree.members) ∙ known.some) (and_from _ _ members (subst (λ o. nat_le (struct_cells o) most_cells ≡ true) got small)) where
+      and_from _ _ (ap (nat_le 1) (members_length all done 0 tree.members) ∙ known.some)
+      (and_from _ _ members (subst (λ o. nat_le (struct_cells o) most_cells ≡ true) got small)) where
         got : slice_get structs (length names) ≡ Some (typed_struct all done tree)
-        got = ap (λ s. slice_get s (length names)) whole ∙ ap (slice_get (done ++ typed_struct all done tree ∷ more)) (sym size) ∙ get_behind done (typed_struct all done tree) more
+        got = ap (λ s. slice_get s (length names)) whole ∙
+            ap (slice_get (done ++ typed_struct all done tree ∷ more)) (sym size) ∙
+            get_behind done (typed_struct all done tree) more
 
         whole_cells : nat_le (cells_from all done 0 tree.members) most_cells ≡ true
         whole_cells = subst (λ o. nat_le (struct_cells o) most_cells ≡ true) got small
 
         within : cells_from (names ++ tree.name ∷ after) done 0 tree.members ≤ 1048576
-        within = subst (λ a. cells_from a done 0 tree.members ≤ 1048576) (sym is) (is_at_most (cells_from all done 0 tree.members) most_cells whole_cells)
+        within = subst (λ a. cells_from a done 0 tree.members ≤ 1048576) (sym is)
+            (is_at_most (cells_from all done 0 tree.members) most_cells whole_cells)
 
-        members : members_fit structs (length names) 0 (members_from all done 0 tree.members) (cells_from all done 0 tree.members) ≡ true
+        members : members_fit structs (length names) 0 (members_from all done 0 tree.members)
+            (cells_from all done 0 tree.members) ≡ true
         members =
-            subst (λ s. members_fit s (length names) 0 (members_from all done 0 tree.members) (cells_from all done 0 tree.members) ≡ true) (sym whole) (subst (λ a. members_fit (done ++ typed_struct all done tree ∷ more) (length names) 0 (members_from a done 0 tree.members) (cells_from a done 0 tree.members) ≡ true) is (members_are names tree.name after known.new done (typed_struct all done tree ∷ more) size 0 tree.members known.members known.sized within))
+            subst (λ s. members_fit s (length names) 0 (members_from all done 0 tree.members)
+            (cells_from all done 0 tree.members) ≡ true) (sym whole)
+            (subst (λ a. members_fit (done ++ typed_struct all done tree ∷ more) (length names) 0
+            (members_from a done 0 tree.members) (cells_from a done 0 tree.members) ≡ true) is
+            (members_are names tree.name after known.new done
+            (typed_struct all done tree ∷ more) size 0 tree.members known.members known.sized within))
 
-  rest_fit : (names : List Text) (trees : List StructTree) (done structs : List TypedStruct) → names ++ tags_of trees ≡ all → length done ≡ length names → structs ≡ done ++ rest_of all done trees → AllKnown names trees → AllSmall structs (length names) trees → structs_fit structs (length names) (rest_of all done trees) ≡ true
+  rest_fit : (names : List Text) (trees : List StructTree) (done structs : List TypedStruct) →
+      names ++ tags_of trees ≡ all → length done ≡ length names → structs ≡ done ++ rest_of all done trees →
+      AllKnown names trees → AllSmall structs (length names) trees →
+      structs_fit structs (length names) (rest_of all done trees) ≡ true
   rest_fit names [] done structs is size whole known small = refl
   rest_fit names (tree ∷ trees) done structs is size whole known small =
-      and_from _ _ (struct_is names (tags_of trees) tree done (rest_of all (done ++ typed_struct all done tree ∷ []) trees) structs is size whole known.0 small.0) (subst (λ n. structs_fit structs n (rest_of all (done ++ typed_struct all done tree ∷ []) trees) ≡ true) (length_next names tree.name) (rest_fit (names ++ tree.name ∷ []) trees (done ++ typed_struct all done tree ∷ []) structs (append_assoc names (tree.name ∷ []) (tags_of trees) ∙ is) (length_next done (typed_struct all done tree) ∙ ap suc size ∙ sym (length_next names tree.name)) (whole ∙ sym (append_assoc done (typed_struct all done tree ∷ []) (rest_of all (done ++ typed_struct all done tree ∷ []) trees))) known.1 (subst (λ n. AllSmall structs n trees) (sym (length_next names tree.name)) small.1)))
+      and_from _ _ (struct_is names (tags_of trees) tree done
+      (rest_of all (done ++ typed_struct all done tree ∷ []) trees) structs is size whole known.0 small.0)
+      (subst (λ n. structs_fit structs n (rest_of all (done ++ typed_struct all done tree ∷ []) trees) ≡ true)
+      (length_next names tree.name) (rest_fit (names ++ tree.name ∷ []) trees
+      (done ++ typed_struct all done tree ∷ []) structs (append_assoc names (tree.name ∷ []) (tags_of trees) ∙ is)
+      (length_next done (typed_struct all done tree) ∙ ap suc size ∙ sym (length_next names tree.name))
+      (whole ∙ sym (append_assoc done (typed_struct all done tree ∷ [])
+      (rest_of all (done ++ typed_struct all done tree ∷ []) trees))) known.1
+      (subst (λ n. AllSmall structs n trees) (sym (length_next names tree.name)) small.1)))
 
 -- structs that are known and small fit
-pub structs_all_fit : (trees : List StructTree) → AllKnown [] trees → AllSmall (typed_structs (tags_of trees) [] trees) 0 trees → structs_fit (typed_structs (tags_of trees) [] trees) 0 (typed_structs (tags_of trees) [] trees) ≡ true
+pub structs_all_fit : (trees : List StructTree) → AllKnown [] trees →
+    AllSmall (typed_structs (tags_of trees) [] trees) 0 trees →
+    structs_fit (typed_structs (tags_of trees) [] trees) 0 (typed_structs (tags_of trees) [] trees) ≡ true
 structs_all_fit trees known small =
-    subst (λ s. structs_fit (typed_structs (tags_of trees) [] trees) 0 s ≡ true) (sym (structs_are (tags_of trees) [] trees)) (rest_fit (tags_of trees) [] trees [] (typed_structs (tags_of trees) [] trees) refl refl (structs_are (tags_of trees) [] trees) known small)
+    subst (λ s. structs_fit (typed_structs (tags_of trees) [] trees) 0 s ≡ true)
+    (sym (structs_are (tags_of trees) [] trees)) (rest_fit (tags_of trees) [] trees []
+    (typed_structs (tags_of trees) [] trees) refl refl (structs_are (tags_of trees) [] trees) known small)
 
 -- there are as many as tags
-rest_length : (all : List Text) (done : List TypedStruct) (trees : List StructTree) → length (rest_of all done trees) ≡ length trees
+rest_length : (all : List Text) (done : List TypedStruct) (trees : List StructTree) →
+    length (rest_of all done trees) ≡ length trees
 rest_length all done [] = refl
 rest_length all done (tree ∷ trees) = ap suc (rest_length all (done ++ typed_struct all done tree ∷ []) trees)
 
-pub structs_length : (trees : List StructTree) → length (typed_structs (tags_of trees) [] trees) ≡ length (tags_of trees)
+pub structs_length : (trees : List StructTree) → length (typed_structs (tags_of trees) [] trees) ≡
+    length (tags_of trees)
 structs_length trees =
-    ap length (structs_are (tags_of trees) [] trees) ∙ rest_length (tags_of trees) [] trees ∙ sym (map_length {A = StructTree} (λ tree. tree.name) trees)
+    ap length (structs_are (tags_of trees) [] trees) ∙ rest_length (tags_of trees) [] trees ∙
+    sym (map_length {A = StructTree} (λ tree. tree.name) trees)

@@ -50,19 +50,24 @@ module _ (t : Ty) where
   variable-at : (v : VarRef) → core.expr_nodes (record { ty = t; kind = term.Variable v }) ≡ 1
   variable-at v = search (rules, the_lemmas)
 
-  unary-at : (o : UnaryOp) (a : TypedExpr) → core.expr_nodes (record { ty = t; kind = term.Unary o a }) ≡ suc (core.expr_nodes a)
+  unary-at : (o : UnaryOp) (a : TypedExpr) → core.expr_nodes (record { ty = t; kind = term.Unary o a }) ≡
+      suc (core.expr_nodes a)
   unary-at o a = search (rules, the_lemmas)
 
-  binary-at : (o : core_op.BinaryOp) (a b : TypedExpr) → core.expr_nodes (record { ty = t; kind = term.Binary o a b }) ≡ suc (core.expr_nodes a + core.expr_nodes b)
+  binary-at : (o : core_op.BinaryOp) (a b : TypedExpr) →
+      core.expr_nodes (record { ty = t; kind = term.Binary o a b }) ≡ suc (core.expr_nodes a + core.expr_nodes b)
   binary-at o a b = search (rules, the_lemmas)
 
-  index-at : (a b : TypedExpr) → core.expr_nodes (record { ty = t; kind = term.Index a b }) ≡ suc (core.expr_nodes a + core.expr_nodes b)
+  index-at : (a b : TypedExpr) → core.expr_nodes (record { ty = t; kind = term.Index a b }) ≡
+      suc (core.expr_nodes a + core.expr_nodes b)
   index-at a b = search (rules, the_lemmas)
 
-  member-at : (a : TypedExpr) (offset : ℕ) → core.expr_nodes (record { ty = t; kind = term.Member a offset }) ≡ suc (core.expr_nodes a)
+  member-at : (a : TypedExpr) (offset : ℕ) → core.expr_nodes (record { ty = t; kind = term.Member a offset }) ≡
+      suc (core.expr_nodes a)
   member-at a offset = search (rules, the_lemmas)
 
-  arrow-at : (a : TypedExpr) (offset : ℕ) → core.expr_nodes (record { ty = t; kind = term.Arrow a offset }) ≡ suc (core.expr_nodes a)
+  arrow-at : (a : TypedExpr) (offset : ℕ) → core.expr_nodes (record { ty = t; kind = term.Arrow a offset }) ≡
+      suc (core.expr_nodes a)
   arrow-at a offset = search (rules, the_lemmas)
 
   deref-at : (a : TypedExpr) → core.expr_nodes (record { ty = t; kind = term.Deref a }) ≡ suc (core.expr_nodes a)
@@ -72,10 +77,12 @@ module _ (t : Ty) where
   address-at a = search (rules, the_lemmas)
 
 -- its type doesn't count
-kind-alone : (t u : Ty) (k : TypedKind) → core.expr_nodes (record { ty = t; kind = k }) ≡ core.expr_nodes (record { ty = u; kind = k })
+kind-alone : (t u : Ty) (k : TypedKind) → core.expr_nodes (record { ty = t; kind = k }) ≡
+    core.expr_nodes (record { ty = u; kind = k })
 kind-alone t u k = search (rules, the_lemmas)
 
-going-if : (b : Bool) (place : Ty) (e : TypedExpr) → core.expr_nodes (cond b (record { ty = decayed place; kind = e.kind }) e) ≡ core.expr_nodes e
+going-if : (b : Bool) (place : Ty) (e : TypedExpr) → core.expr_nodes
+    (cond b (record { ty = decayed place; kind = e.kind }) e) ≡ core.expr_nodes e
 going-if true place e = kind-alone (decayed place) e.ty e.kind
 going-if false place e = refl
 
@@ -86,7 +93,8 @@ going-some : (place : Option Ty) (e : TypedExpr) → core.expr_nodes (going_to_s
 going-some None e = refl
 going-some (Some place) e = going place e
 
-going-all : (types : List Ty) (exprs : List TypedExpr) → total (map core.expr_nodes (going_to_all types exprs)) ≡ total (map core.expr_nodes exprs)
+going-all : (types : List Ty) (exprs : List TypedExpr) →
+    total (map core.expr_nodes (going_to_all types exprs)) ≡ total (map core.expr_nodes exprs)
 going-all [] exprs = refl
 going-all (t ∷ types) [] = refl
 going-all (t ∷ types) (e ∷ exprs) = ap₂ (λ a b. a + b) (going t e) (going-all types exprs)
@@ -104,13 +112,15 @@ module _ (visible : Visible) where
   abbrev AsTree : ExprTree → Type 0
   AsTree e = core.expr_nodes (typed visible e) ≡ expr_nodes e
 
-  step-nodes : (t : ExprTree-F ExprTree) → Under AsTree t → core.expr_nodes (step visible (map-ExprTree _ _ (typed visible) t)) ≡ expr_step (map-ExprTree _ _ expr_nodes t)
+  step-nodes : (t : ExprTree-F ExprTree) → Under AsTree t →
+      core.expr_nodes (step visible (map-ExprTree _ _ (typed visible) t)) ≡ expr_step (map-ExprTree _ _ expr_nodes t)
   step-nodes (tree.Literal number) h = literal-at _ number.value
   step-nodes (tree.Variable name) h = variable-nodes (found visible name)
   step-nodes (tree.Unary o a) h = unary-at _ _ (typed visible a) ∙ ap suc h
   step-nodes (tree.Binary o a b) h =
       binary-at _ _ (beside o (typed visible b).ty (typed visible a)) (beside o (typed visible a).ty (typed visible b))
-      ∙ ap₂ (λ m n. suc (m + n)) (beside-nodes o (typed visible b).ty (typed visible a) ∙ h.0) (beside-nodes o (typed visible a).ty (typed visible b) ∙ h.1)
+      ∙ ap₂ (λ m n. suc (m + n)) (beside-nodes o (typed visible b).ty (typed visible a) ∙ h.0)
+      (beside-nodes o (typed visible a).ty (typed visible b) ∙ h.1)
   step-nodes (tree.Index a b) h = index-at _ (typed visible a) (typed visible b) ∙ ap₂ (λ m n. suc (m + n)) h.0 h.1
   step-nodes (tree.Member a name) h = member-at _ (typed visible a) _ ∙ ap suc h
   step-nodes (tree.Arrow a name) h = arrow-at _ (typed visible a) _ ∙ ap suc h
@@ -119,9 +129,11 @@ module _ (visible : Visible) where
 
   pub typed-nodes : (e : ExprTree) → core.expr_nodes (typed visible e) ≡ expr_nodes e
   typed-nodes =
-      expr_induction AsTree (λ t h. ap core.expr_nodes (layers.expr_at (step visible) t) ∙ (step-nodes t h ∙ sym (layers.expr_at expr_step t)))
+      expr_induction AsTree (λ t h. ap core.expr_nodes (layers.expr_at (step visible) t) ∙
+      (step-nodes t h ∙ sym (layers.expr_at expr_step t)))
 
-  exprs-nodes : (exprs : List ExprTree) → total (map core.expr_nodes (map (typed visible) exprs)) ≡ total (map expr_nodes exprs)
+  exprs-nodes : (exprs : List ExprTree) → total (map core.expr_nodes (map (typed visible) exprs)) ≡
+      total (map expr_nodes exprs)
   exprs-nodes [] = refl
   exprs-nodes (e ∷ exprs) = ap₂ (λ a b. a + b) (typed-nodes e) (exprs-nodes exprs)
 
@@ -130,15 +142,18 @@ module _ (visible : Visible) where
     call-nodes call =
         going-all (params_of (callees.signature call.name)) (map (typed visible) call.args) ∙ exprs-nodes call.args
 
-    value-nodes : (place value : ExprTree) → core.expr_nodes (going_to (typed visible place).ty (typed visible value)) ≡ expr_nodes value
+    value-nodes : (place value : ExprTree) → core.expr_nodes (going_to (typed visible place).ty (typed visible value)) ≡
+        expr_nodes value
     value-nodes place value = going (typed visible place).ty (typed visible value) ∙ typed-nodes value
 
     simple-nodes : (s : SimpleKind) → core.simple_nodes (typed_simple_kind visible callees s) ≡ simple_nodes s
-    simple-nodes (simple_tree.Assign place value) = ap₂ (λ a b. suc (a + b)) (typed-nodes place) (value-nodes place value)
+    simple-nodes (simple_tree.Assign place value) = ap₂ (λ a b. suc (a + b)) (typed-nodes place)
+        (value-nodes place value)
     simple-nodes (simple_tree.AssignCall place call) = ap₂ (λ a b. suc (a + b)) (typed-nodes place) (call-nodes call)
     simple-nodes (simple_tree.Call call) = ap suc (call-nodes call)
 
-    part-nodes : (part : Option SimpleTree) → core.part_nodes (option_map (typed_simple visible callees) part) ≡ part_nodes part
+    part-nodes : (part : Option SimpleTree) → core.part_nodes (option_map (typed_simple visible callees) part) ≡
+        part_nodes part
     part-nodes None = refl
     part-nodes (Some s) = simple-nodes s.kind
 
@@ -148,22 +163,32 @@ module _ (line : ℕ) where
   empty-at : core.stmt_nodes (record { line = line; kind = kind.Empty }) ≡ 1
   empty-at = search (rules, kind.the_lemmas)
 
-  assign-at : (place value : TypedExpr) → core.stmt_nodes (record { line = line; kind = kind.Assign place value }) ≡ suc (core.expr_nodes place + core.expr_nodes value)
+  assign-at : (place value : TypedExpr) → core.stmt_nodes (record { line = line; kind = kind.Assign place value }) ≡
+      suc (core.expr_nodes place + core.expr_nodes value)
   assign-at place value = search (rules, kind.the_lemmas)
 
-  assign-call-at : (place : TypedExpr) (call : TypedCall) → core.stmt_nodes (record { line = line; kind = kind.AssignCall place call }) ≡ suc (core.expr_nodes place + core.call_nodes call)
+  assign-call-at : (place : TypedExpr) (call : TypedCall) →
+      core.stmt_nodes (record { line = line; kind = kind.AssignCall place call }) ≡
+      suc (core.expr_nodes place + core.call_nodes call)
   assign-call-at place call = search (rules, kind.the_lemmas)
 
-  call-at : (call : TypedCall) → core.stmt_nodes (record { line = line; kind = kind.Call call }) ≡ suc (core.call_nodes call)
+  call-at : (call : TypedCall) → core.stmt_nodes (record { line = line; kind = kind.Call call }) ≡
+      suc (core.call_nodes call)
   call-at call = search (rules, kind.the_lemmas)
 
-  if-at : (c : TypedExpr) (first second : List TypedStmt) → core.stmt_nodes (record { line = line; kind = kind.If c first second }) ≡ suc (core.expr_nodes c + total (map core.stmt_nodes first) + total (map core.stmt_nodes second))
+  if-at : (c : TypedExpr) (first second : List TypedStmt) →
+      core.stmt_nodes (record { line = line; kind = kind.If c first second }) ≡
+      suc (core.expr_nodes c + total (map core.stmt_nodes first) + total (map core.stmt_nodes second))
   if-at c first second = search (rules, kind.the_lemmas)
 
-  while-at : (c : TypedExpr) (body : List TypedStmt) → core.stmt_nodes (record { line = line; kind = kind.While c body }) ≡ suc (core.expr_nodes c + total (map core.stmt_nodes body))
+  while-at : (c : TypedExpr) (body : List TypedStmt) →
+      core.stmt_nodes (record { line = line; kind = kind.While c body }) ≡
+      suc (core.expr_nodes c + total (map core.stmt_nodes body))
   while-at c body = search (rules, kind.the_lemmas)
 
-  for-at : (first : Option TypedSimple) (c : TypedExpr) (next : Option TypedSimple) (body : List TypedStmt) → core.stmt_nodes (record { line = line; kind = kind.For first c next body }) ≡ suc (core.part_nodes first + core.expr_nodes c + core.part_nodes next + total (map core.stmt_nodes body))
+  for-at : (first : Option TypedSimple) (c : TypedExpr) (next : Option TypedSimple) (body : List TypedStmt) →
+      core.stmt_nodes (record { line = line; kind = kind.For first c next body }) ≡
+      suc (core.part_nodes first + core.expr_nodes c + core.part_nodes next + total (map core.stmt_nodes body))
   for-at first c next body = search (rules, kind.the_lemmas)
 
   break-at : core.stmt_nodes (record { line = line; kind = kind.Break }) ≡ 1
@@ -175,10 +200,12 @@ module _ (line : ℕ) where
   return-at : core.stmt_nodes (record { line = line; kind = kind.Return }) ≡ 1
   return-at = search (rules, kind.the_lemmas)
 
-  return-value-at : (value : TypedExpr) → core.stmt_nodes (record { line = line; kind = kind.ReturnValue value }) ≡ suc (core.expr_nodes value)
+  return-value-at : (value : TypedExpr) → core.stmt_nodes (record { line = line; kind = kind.ReturnValue value }) ≡
+      suc (core.expr_nodes value)
   return-value-at value = search (rules, kind.the_lemmas)
 
-  return-call-at : (call : TypedCall) → core.stmt_nodes (record { line = line; kind = kind.ReturnCall call }) ≡ suc (core.call_nodes call)
+  return-call-at : (call : TypedCall) → core.stmt_nodes (record { line = line; kind = kind.ReturnCall call }) ≡
+      suc (core.call_nodes call)
   return-call-at call = search (rules, kind.the_lemmas)
 
 four : (a b c d a' b' c' d' : ℕ) → a ≡ a' → b ≡ b' → c ≡ c' → d ≡ d' → suc (a + b + c + d) ≡ suc (a' + b' + c' + d')
@@ -188,26 +215,32 @@ module _ (visible : Visible) (callees : Callees) (result : Option Ty) where
   abbrev StmtAsTree : StmtTree → Type 0
   StmtAsTree s = core.stmt_nodes (typed_stmt visible callees result s) ≡ stmt_nodes s
 
-  each-nodes : (stmts : List StmtTree) → Each StmtAsTree stmts → total (map core.stmt_nodes (map (typed_stmt visible callees result) stmts)) ≡ total (map stmt_nodes stmts)
+  each-nodes : (stmts : List StmtTree) → Each StmtAsTree stmts →
+      total (map core.stmt_nodes (map (typed_stmt visible callees result) stmts)) ≡ total (map stmt_nodes stmts)
   each-nodes [] h = refl
   each-nodes (s ∷ stmts) h = ap₂ (λ a b. a + b) h.0 (each-nodes stmts h.1)
 
   abbrev typed_layer : StmtKind-F StmtKind StmtTree → TypedStmtKind
-  typed_layer k = layers.layer_of TypedStmtKind TypedStmt (typed_kind_step visible callees result) (typed_stmt_step visible callees result) k
+  typed_layer k = layers.layer_of TypedStmtKind TypedStmt (typed_kind_step visible callees result)
+      (typed_stmt_step visible callees result) k
 
-  layer-nodes : (line : ℕ) (k : StmtKind-F StmtKind StmtTree) → Inside StmtAsTree k → core.stmt_nodes (record { line = line; kind = typed_layer k }) ≡ layers.layer_of ℕ ℕ kind_step stmt_step k
+  layer-nodes : (line : ℕ) (k : StmtKind-F StmtKind StmtTree) → Inside StmtAsTree k →
+      core.stmt_nodes (record { line = line; kind = typed_layer k }) ≡ layers.layer_of ℕ ℕ kind_step stmt_step k
   layer-nodes line layer.Empty h = empty-at line
   layer-nodes line (layer.Assign place value) h =
-      assign-at line _ _ ∙ ap₂ (λ a b. suc (a + b)) (typed-nodes visible place) (value-nodes visible callees place value)
+      assign-at line _ _ ∙ ap₂ (λ a b. suc (a + b)) (typed-nodes visible place)
+      (value-nodes visible callees place value)
   layer-nodes line (layer.AssignCall place call) h =
       assign-call-at line _ _ ∙ ap₂ (λ a b. suc (a + b)) (typed-nodes visible place) (call-nodes visible callees call)
   layer-nodes line (layer.Call call) h = call-at line _ ∙ ap suc (call-nodes visible callees call)
   layer-nodes line (layer.If c first second) h =
-      if-at line _ _ _ ∙ ap₂ (λ a b. suc (a + b)) (ap₂ (λ a b. a + b) (typed-nodes visible c) (each-nodes first h.0)) (each-nodes second h.1)
+      if-at line _ _ _ ∙ ap₂ (λ a b. suc (a + b)) (ap₂ (λ a b. a + b) (typed-nodes visible c) (each-nodes first h.0))
+      (each-nodes second h.1)
   layer-nodes line (layer.While c body) h =
       while-at line _ _ ∙ ap₂ (λ a b. suc (a + b)) (typed-nodes visible c) (each-nodes body h)
   layer-nodes line (layer.For first c next body) h =
-      for-at line _ _ _ _ ∙ four _ _ _ _ _ _ _ _ (part-nodes visible callees first) (typed-nodes visible c) (part-nodes visible callees next) (each-nodes body h)
+      for-at line _ _ _ _ ∙ four _ _ _ _ _ _ _ _ (part-nodes visible callees first) (typed-nodes visible c)
+      (part-nodes visible callees next) (each-nodes body h)
   layer-nodes line layer.Break h = break-at line
   layer-nodes line layer.Continue h = continue-at line
   layer-nodes line layer.Return h = return-at line
@@ -218,22 +251,27 @@ module _ (visible : Visible) (callees : Callees) (result : Option Ty) where
   pub stmt-nodes : (s : StmtTree) → core.stmt_nodes (typed_stmt visible callees result s) ≡ stmt_nodes s
   stmt-nodes =
       stmt_induction StmtAsTree
-      (λ line k h. ap core.stmt_nodes (layers.stmt_at TypedStmtKind TypedStmt (typed_kind_step visible callees result) (typed_stmt_step visible callees result) line k)
+      (λ line k h. ap core.stmt_nodes (layers.stmt_at TypedStmtKind TypedStmt (typed_kind_step visible callees result)
+      (typed_stmt_step visible callees result) line k)
       ∙ (layer-nodes line k h ∙ sym (layers.stmt_at ℕ ℕ kind_step stmt_step line k)))
 
-  stmts-nodes : (stmts : List StmtTree) → total (map core.stmt_nodes (map (typed_stmt visible callees result) stmts)) ≡ total (map stmt_nodes stmts)
+  stmts-nodes : (stmts : List StmtTree) → total (map core.stmt_nodes (map (typed_stmt visible callees result) stmts)) ≡
+      total (map stmt_nodes stmts)
   stmts-nodes [] = refl
   stmts-nodes (s ∷ stmts) = ap₂ (λ a b. a + b) (stmt-nodes s) (stmts-nodes stmts)
 
 -- Functions and sections.
 
 module _ (section : SectionTree) where
-  init-nodes : (tree : FunctionTree) (place : ℕ) (t : Ty) (init : Option ExprTree) → core.init_nodes (typed_init section tree place t init) ≡ init_nodes init
+  init-nodes : (tree : FunctionTree) (place : ℕ) (t : Ty) (init : Option ExprTree) →
+      core.init_nodes (typed_init section tree place t init) ≡ init_nodes init
   init-nodes tree place t None = refl
   init-nodes tree place t (Some init) =
-      going t (typed (visible_in section tree (suc place)) init) ∙ typed-nodes (visible_in section tree (suc place)) init
+      going t (typed (visible_in section tree (suc place)) init) ∙
+      typed-nodes (visible_in section tree (suc place)) init
 
-  locals-nodes : (tree : FunctionTree) (place : ℕ) (locals : List LocalTree) → total (map core.local_nodes (typed_locals section tree place locals)) ≡ total (map local_nodes locals)
+  locals-nodes : (tree : FunctionTree) (place : ℕ) (locals : List LocalTree) →
+      total (map core.local_nodes (typed_locals section tree place locals)) ≡ total (map local_nodes locals)
   unfolding typed_locals
   locals-nodes tree place [] = refl
   locals-nodes tree place (local ∷ locals) =
@@ -245,7 +283,8 @@ module _ (section : SectionTree) where
         ap₂ (λ a b. a + b) (ap₂ (λ a b. suc a + b) (length-map tree.head.params _) (locals-nodes tree 0 tree.locals))
         (stmts-nodes (visible_of section tree) callees (result_of section tree) tree.body)
 
-    functions-nodes : (trees : List FunctionTree) → total (map nodes (map (typed_function section callees) trees)) ≡ total (map function_nodes trees)
+    functions-nodes : (trees : List FunctionTree) → total (map nodes (map (typed_function section callees) trees)) ≡
+        total (map function_nodes trees)
     functions-nodes [] = refl
     functions-nodes (tree ∷ trees) = ap₂ (λ a b. a + b) (function-nodes tree) (functions-nodes trees)
 

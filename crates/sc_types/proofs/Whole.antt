@@ -34,7 +34,7 @@ use Rattle.sc_interfaces.specs.Faces.{interface_broken, name_holds}
 use Rattle.sc_types.specs.Counts as counts
 use Rattle.sc_types.specs.Counts.{counts_broken}
 use Rattle.sc_types.specs.Acceptance.{AreLow}
-use Rattle.sc_types.proofs.Basics.{not_true, held, front_empty, back_empty, map_empty, Each, each_empty, each_passes, some_is, none_some}
+use Rattle.sc_types.proofs.Basics.{not_true, rule_holds, front_empty, back_empty, map_empty, Each, each_empty, each_passes, some_is, none_some}
 use Rattle.sc_types.proofs.Places.{Text, at_most, is_at_most}
 use Rattle.sc_types.proofs.Structs.{AllSmall, structs_all_fit, structs_length}
 use Rattle.sc_types.proofs.Lookups.{each_at, each_function, same_sym, FoundFunction, find_function}
@@ -116,59 +116,85 @@ name_of section = section.name
 
 module _ (sections : List SectionTree) where
   -- the rules of interfaces, by the section's number
-  face_from : (k : ℕ) (before rest : List SectionTree) (j : ℕ) (section : SectionTree) → faces.lines_from sections k before rest ≡ [] → slice_get rest j ≡ Some section → FaceFacts sections (k + j) section
+  face_from : (k : ℕ) (before rest : List SectionTree) (j : ℕ) (section : SectionTree) →
+      faces.lines_from sections k before rest ≡ [] → slice_get rest j ≡ Some section →
+      FaceFacts sections (k + j) section
   face_from k before [] j section h got = none_some section got
   face_from k before (s ∷ rest) zero section h got =
-      subst (λ n. FaceFacts sections n section) (plus_zero k) (subst (λ t. FaceFacts sections k t) (some_is s section got) (face_facts sections k s (list_any defines_main before) before (map_empty _ _ (front_empty _ _ h)))) where
+      subst (λ n. FaceFacts sections n section) (plus_zero k)
+      (subst (λ t. FaceFacts sections k t) (some_is s section got)
+      (face_facts sections k s (list_any defines_main before) before (map_empty _ _ (front_empty _ _ h)))) where
         plus_zero : (n : ℕ) → n ≡ n + 0
         plus_zero n = omega arith
   face_from k before (s ∷ rest) (suc j) section h got =
-      subst (λ n. FaceFacts sections n section) (plus_one k j) (face_from (suc k) (before ++ s ∷ []) rest j section (back_empty (map (line_of_text s.line) (faces.section_lines sections k s (list_any defines_main before) before)) _ h) got) where
+      subst (λ n. FaceFacts sections n section) (plus_one k j)
+      (face_from (suc k) (before ++ s ∷ []) rest j section
+      (back_empty (map (line_of_text s.line) (faces.section_lines sections k s
+      (list_any defines_main before) before)) _ h) got) where
         plus_one : (n m : ℕ) → suc n + m ≡ n + suc m
         plus_one n m = omega arith
 
   plus_none : (n : ℕ) → 0 + n ≡ n
   plus_none n = omega arith
 
-  hold : interface_broken sections ≡ [] → (j : ℕ) (section : SectionTree) → slice_get sections j ≡ Some section → FaceFacts sections j section
+  hold : interface_broken sections ≡ [] → (j : ℕ) (section : SectionTree) → slice_get sections j ≡ Some section →
+      FaceFacts sections j section
   hold h j section got =
-      subst (λ n. FaceFacts sections n section) (plus_none j) (face_from 0 [] sections j section (front_empty _ _ h) got)
+      subst (λ n. FaceFacts sections n section) (plus_none j)
+      (face_from 0 [] sections j section (front_empty _ _ h) got)
 
   -- the rules of counts, by the section's number
-  count_from : (k : ℕ) (rest : List SectionTree) (j : ℕ) (section : SectionTree) → counts.lines_from sections k rest ≡ [] → slice_get rest j ≡ Some section → counts.section_lines section (callees_of sections (k + j) section) ≡ []
+  count_from : (k : ℕ) (rest : List SectionTree) (j : ℕ) (section : SectionTree) →
+      counts.lines_from sections k rest ≡ [] → slice_get rest j ≡ Some section →
+      counts.section_lines section (callees_of sections (k + j) section) ≡ []
   count_from k [] j section h got = none_some section got
   count_from k (s ∷ rest) zero section h got =
-      subst (λ n. counts.section_lines section (callees_of sections n section) ≡ []) (plus_zero k) (subst (λ t. counts.section_lines t (callees_of sections k t) ≡ []) (some_is s section got) (map_empty _ _ (front_empty _ _ h))) where
+      subst (λ n. counts.section_lines section (callees_of sections n section) ≡ []) (plus_zero k)
+      (subst (λ t. counts.section_lines t (callees_of sections k t) ≡ []) (some_is s section got)
+      (map_empty _ _ (front_empty _ _ h))) where
         plus_zero : (n : ℕ) → n ≡ n + 0
         plus_zero n = omega arith
   count_from k (s ∷ rest) (suc j) section h got =
-      subst (λ n. counts.section_lines section (callees_of sections n section) ≡ []) (plus_one k j) (count_from (suc k) rest j section (back_empty (map (line_of_text s.line) (counts.section_lines s (callees_of sections k s))) _ h) got) where
+      subst (λ n. counts.section_lines section (callees_of sections n section) ≡ []) (plus_one k j)
+      (count_from (suc k) rest j section (back_empty
+      (map (line_of_text s.line) (counts.section_lines s (callees_of sections k s))) _ h) got) where
         plus_one : (n m : ℕ) → suc n + m ≡ n + suc m
         plus_one n m = omega arith
 
-  count_at : counts.lines_from sections 0 sections ≡ [] → (j : ℕ) (section : SectionTree) → slice_get sections j ≡ Some section → counts.section_lines section (callees_of sections j section) ≡ []
+  count_at : counts.lines_from sections 0 sections ≡ [] → (j : ℕ) (section : SectionTree) →
+      slice_get sections j ≡ Some section → counts.section_lines section (callees_of sections j section) ≡ []
   count_at h j section got =
-      subst (λ n. counts.section_lines section (callees_of sections n section) ≡ []) (plus_none j) (count_from 0 sections j section h got)
+      subst (λ n. counts.section_lines section (callees_of sections n section) ≡ []) (plus_none j)
+      (count_from 0 sections j section h got)
 
-  module _ (low : AreLow sections) (in_names : names_broken sections ≡ []) (in_types : types_broken sections ≡ []) (in_faces : interface_broken sections ≡ []) (in_counts : counts_broken sections ≡ []) where
+  module _ (low : AreLow sections) (in_names : names_broken sections ≡ []) (in_types : types_broken sections ≡ [])
+      (in_faces : interface_broken sections ≡ []) (in_counts : counts_broken sections ≡ []) where
     counts_of : counts.lines_from sections 0 sections ≡ []
-    counts_of = back_empty (counts.line_beyond {A = SectionTree} (λ section. line_of_text section.line 1) most_compartments sections) _ in_counts
+    counts_of = back_empty (counts.line_beyond {A = SectionTree}
+        (λ section. line_of_text section.line 1) most_compartments sections) _ in_counts
 
     -- The section of a number.
     module _ (number : ℕ) (section : SectionTree) (there : slice_get sections number ≡ Some section) where
       names_at : names.section_lines section ≡ []
       names_at =
-          map_empty _ _ (each_at (λ section. map (line_of_text section.line) (names.section_lines section) ≡ []) sections number section (each_empty {A = SectionTree} (λ section. map (line_of_text section.line) (names.section_lines section)) sections in_names) there)
+          map_empty _ _ (each_at (λ section. map (line_of_text section.line) (names.section_lines section) ≡
+          []) sections number section (each_empty {A = SectionTree}
+          (λ section. map (line_of_text section.line) (names.section_lines section)) sections in_names) there)
 
       types_at : elab.section_lines section (callees_of sections number section) ≡ []
       types_at =
-          map_empty _ _ (each_at (λ section. map (line_of_text section.line) (elab.section_lines section (callees_of sections 0 section)) ≡ []) sections number section (each_empty {A = SectionTree} (λ section. map (line_of_text section.line) (elab.section_lines section (callees_of sections 0 section))) sections in_types) there)
+          map_empty _ _ (each_at (λ section. map (line_of_text section.line)
+          (elab.section_lines section (callees_of sections 0 section)) ≡ []) sections number section
+          (each_empty {A = SectionTree} (λ section.
+          map (line_of_text section.line) (elab.section_lines section
+          (callees_of sections 0 section))) sections in_types) there)
 
       counted : counts.section_lines section (callees_of sections number section) ≡ []
       counted = count_at counts_of number section there
 
       low_at : nat_le (section_height section) 256 ≡ true
-      low_at = each_at (λ section. nat_le (section_height section) 256 ≡ true) sections number section (each_passes {A = SectionTree} (λ section. nat_le (section_height section) 256) sections low) there
+      low_at = each_at (λ section. nat_le (section_height section) 256 ≡ true) sections number section
+          (each_passes {A = SectionTree} (λ section. nat_le (section_height section) 256) sections low) there
 
       abbrev typed : TypedSection
       typed = typed_section section (callees_of sections number section)
@@ -176,109 +202,182 @@ module _ (sections : List SectionTree) where
       abbrev callees : Callees
       callees = callees_of sections number section
 
-      behind_nodes : counts.line_beyond {A = ExportLine} (λ line. line.line) most_exports section.exports ++ (counts.line_beyond {A = ImportLine} (λ line. line.line) most_exports section.imports ++ (counts.structs_from section 0 (structs_in section.decls) ++ (concat (map (counts.global_lines section) (globals_in section.decls)) ++ (concat (map (counts.head_lines section) (heads_in section.decls)) ++ concat (map (counts.function_lines section) (functions_in section.decls)))))) ≡ []
-      behind_nodes = back_empty (unless (nat_le (counts.section_nodes section callees) most_nodes && nat_le (length section.decls) most_nodes) 1) _ counted
+      behind_nodes : counts.line_beyond {A = ExportLine} (λ line. line.line) most_exports section.exports ++
+          (counts.line_beyond {A = ImportLine} (λ line. line.line) most_exports section.imports ++
+          (counts.structs_from section 0 (structs_in section.decls) ++
+          (concat (map (counts.global_lines section) (globals_in section.decls)) ++
+          (concat (map (counts.head_lines section) (heads_in section.decls)) ++
+          concat (map (counts.function_lines section) (functions_in section.decls)))))) ≡ []
+      behind_nodes = back_empty (unless (nat_le (counts.section_nodes section callees) most_nodes &&
+          nat_le (length section.decls) most_nodes) 1) _ counted
 
-      behind_imports : counts.structs_from section 0 (structs_in section.decls) ++ (concat (map (counts.global_lines section) (globals_in section.decls)) ++ (concat (map (counts.head_lines section) (heads_in section.decls)) ++ concat (map (counts.function_lines section) (functions_in section.decls)))) ≡ []
+      behind_imports : counts.structs_from section 0 (structs_in section.decls) ++
+          (concat (map (counts.global_lines section) (globals_in section.decls)) ++
+          (concat (map (counts.head_lines section) (heads_in section.decls)) ++
+          concat (map (counts.function_lines section) (functions_in section.decls)))) ≡ []
       behind_imports =
-          back_empty (counts.line_beyond {A = ImportLine} (λ line. line.line) most_exports section.imports) _ (back_empty (counts.line_beyond {A = ExportLine} (λ line. line.line) most_exports section.exports) _ behind_nodes)
+          back_empty (counts.line_beyond {A = ImportLine} (λ line. line.line) most_exports section.imports) _
+          (back_empty (counts.line_beyond {A = ExportLine}
+          (λ line. line.line) most_exports section.exports) _ behind_nodes)
 
-      behind_structs : concat (map (counts.global_lines section) (globals_in section.decls)) ++ (concat (map (counts.head_lines section) (heads_in section.decls)) ++ concat (map (counts.function_lines section) (functions_in section.decls))) ≡ []
+      behind_structs : concat (map (counts.global_lines section) (globals_in section.decls)) ++
+          (concat (map (counts.head_lines section) (heads_in section.decls)) ++
+          concat (map (counts.function_lines section) (functions_in section.decls))) ≡ []
       behind_structs = back_empty (counts.structs_from section 0 (structs_in section.decls)) _ behind_imports
 
-      behind_globals : concat (map (counts.head_lines section) (heads_in section.decls)) ++ concat (map (counts.function_lines section) (functions_in section.decls)) ≡ []
-      behind_globals = back_empty (concat (map (counts.global_lines section) (globals_in section.decls))) _ behind_structs
+      behind_globals : concat (map (counts.head_lines section) (heads_in section.decls)) ++
+          concat (map (counts.function_lines section) (functions_in section.decls)) ≡ []
+      behind_globals = back_empty (concat (map (counts.global_lines section)
+          (globals_in section.decls))) _ behind_structs
 
       small : AllSmall (structs section) 0 (structs_in section.decls)
       small = small_from section 0 (structs_in section.decls) (front_empty _ _ behind_imports)
 
-      few_nodes : (nat_le (counts.section_nodes section callees) most_nodes && nat_le (length section.decls) most_nodes) ≡ true
-      few_nodes = held _ 1 (front_empty _ _ counted)
+      few_nodes : (nat_le (counts.section_nodes section callees) most_nodes &&
+          nat_le (length section.decls) most_nodes) ≡ true
+      few_nodes = rule_holds _ 1 (front_empty _ _ counted)
 
       section_is : section_fits (interfaces_of sections) number (interface_of sections number section) typed ≡ true
       section_is =
-          and_from _ _ (structs_all_fit (structs_in section.decls) (structs_known section callees [] section.decls names_at types_at) small) (and_from _ _ (globals_are section callees [] section.decls refl names_at types_at (front_empty _ _ behind_structs)) (and_from _ _ (functions_are section callees (called.callable sections (hold in_faces) number section there) (called.same_signature_called sections (hold in_faces) number section there) small [] section.decls refl names_at types_at (front_empty _ _ behind_globals) (back_empty (concat (map (counts.head_lines section) (heads_in section.decls))) _ behind_globals) low_at) (and_from _ _ (and_first _ _ few_nodes) (few_kept section callees (and_rest (nat_le (counts.section_nodes section callees) most_nodes) _ few_nodes)))))
+          and_from _ _ (structs_all_fit (structs_in section.decls)
+          (structs_known section callees [] section.decls names_at types_at) small)
+          (and_from _ _ (globals_are section callees [] section.decls refl names_at types_at
+          (front_empty _ _ behind_structs)) (and_from _ _
+          (functions_are section callees (called.callable sections (hold in_faces) number section there)
+          (called.same_signature_called sections (hold in_faces) number section there) small [] section.decls refl
+          names_at types_at (front_empty _ _ behind_globals)
+          (back_empty (concat (map (counts.head_lines section) (heads_in section.decls))) _ behind_globals) low_at)
+          (and_from _ _ (and_first _ _ few_nodes)
+          (few_kept section callees (and_rest (nat_le
+          (counts.section_nodes section callees) most_nodes) _ few_nodes)))))
 
       faces_is : interface_fits (interfaces_of sections) number (interface_of sections number section) typed ≡ true
       faces_is = interface_is sections (hold in_faces) number section there names_at counted
 
     -- All sections.
-    sections_are : (front rest : List SectionTree) → front ++ rest ≡ sections → sections_fit (interfaces_of sections) (length front) (interfaces_from sections (length front) rest) (sections_from sections (length front) rest) ≡ true
+    sections_are : (front rest : List SectionTree) → front ++ rest ≡ sections →
+        sections_fit (interfaces_of sections) (length front) (interfaces_from sections (length front) rest)
+        (sections_from sections (length front) rest) ≡ true
     sections_are front [] whole = refl
     sections_are front (section ∷ rest) whole =
-        let there : slice_get sections (length front) ≡ Some section = ap (λ list. slice_get list (length front)) (sym whole) ∙ get_behind front section rest in
-        and_from _ _ (section_is (length front) section there) (and_from _ _ (faces_is (length front) section there) (subst (λ n. sections_fit (interfaces_of sections) n (interfaces_from sections n rest) (sections_from sections n rest) ≡ true) (length_snoc front section) (sections_are (front ++ section ∷ []) rest (append_assoc front (section ∷ []) rest ∙ whole))))
+        let there : slice_get sections (length front) ≡ Some section =
+        ap (λ list. slice_get list (length front)) (sym whole) ∙ get_behind front section rest in
+        and_from _ _ (section_is (length front) section there)
+        (and_from _ _ (faces_is (length front) section there)
+        (subst (λ n. sections_fit (interfaces_of sections) n (interfaces_from sections n rest)
+        (sections_from sections n rest) ≡ true) (length_snoc front section)
+        (sections_are (front ++ section ∷ []) rest (append_assoc front (section ∷ []) rest ∙ whole))))
 
     -- Names of compartments.
-    compartments : (k : ℕ) (before rest : List SectionTree) → faces.lines_from sections k before rest ≡ [] → Fresh (map name_of before) (map name_of rest) × Each (λ name. bytes_eq name environment ≡ false) (map name_of rest)
+    compartments : (k : ℕ) (before rest : List SectionTree) → faces.lines_from sections k before rest ≡ [] →
+        Fresh (map name_of before) (map name_of rest) ×
+        Each (λ name. bytes_eq name environment ≡ false) (map name_of rest)
     compartments k before [] h = (tt, tt)
     compartments k before (section ∷ rest) h =
-        let holds : name_holds sections k section (list_any defines_main before) before ≡ true = held _ 1 (front_empty _ _ (map_empty _ _ (front_empty _ _ h))) in
-        let next : Fresh (map name_of (before ++ section ∷ [])) (map name_of rest) × Each (λ name. bytes_eq name environment ≡ false) (map name_of rest) = compartments (suc k) (before ++ section ∷ []) rest (back_empty (map (line_of_text section.line) (faces.section_lines sections k section (list_any defines_main before) before)) _ h) in
-        ((not_true _ (and_first _ _ holds), subst (λ all. Fresh all (map name_of rest)) (map-append name_of before (section ∷ [])) next.0), (not_true _ (and_rest (not (is_numbered (map name_of before) section.name)) _ holds), next.1))
+        let holds : name_holds sections k section (list_any defines_main before) before ≡ true =
+        rule_holds _ 1 (front_empty _ _ (map_empty _ _ (front_empty _ _ h))) in
+        let next : Fresh (map name_of (before ++ section ∷ [])) (map name_of rest) ×
+        Each (λ name. bytes_eq name environment ≡ false) (map name_of rest) =
+        compartments (suc k) (before ++ section ∷ []) rest
+        (back_empty (map (line_of_text section.line)
+        (faces.section_lines sections k section (list_any defines_main before) before)) _ h) in (
+          (
+            not_true _ (and_first _ _ holds),
+            subst (λ all. Fresh all (map name_of rest))
+                (map-append name_of before (section ∷ [])) next.0,
+          ),
+          (not_true _ (and_rest (not (is_numbered (map name_of before) section.name)) _ holds), next.1),
+        )
 
-    no_environment : (all : List Text) → Each (λ name. bytes_eq name environment ≡ false) all → is_numbered all environment ≡ false
+    no_environment : (all : List Text) → Each (λ name. bytes_eq name environment ≡ false) all →
+        is_numbered all environment ≡ false
     no_environment [] each = refl
     no_environment (name ∷ all) each =
         ap (λ b. b || is_numbered all environment) (same_sym environment name ∙ each.0) ∙ no_environment all each.1
 
-    interface_names : (k : ℕ) (rest : List SectionTree) → map {A = Interface} (λ i. i.name) (interfaces_from sections k rest) ≡ map name_of rest
+    interface_names : (k : ℕ) (rest : List SectionTree) →
+        map {A = Interface} (λ i. i.name) (interfaces_from sections k rest) ≡ map name_of rest
     interface_names k [] = refl
     interface_names k (section ∷ rest) = ap (λ more. section.name ∷ more) (interface_names (suc k) rest)
 
-    names_distinct : are_distinct (codes "Env" ∷ map {A = Interface} (λ i. i.name) (interfaces_of sections).comps) ≡ true
+    names_distinct : are_distinct (codes "Env" ∷ map {A = Interface} (λ i. i.name) (interfaces_of sections).comps) ≡
+        true
     names_distinct =
-        let c : Fresh [] (map name_of sections) × Each (λ name. bytes_eq name environment ≡ false) (map name_of sections) = compartments 0 [] sections (front_empty _ _ in_faces) in
-        subst (λ all. are_distinct (codes "Env" ∷ all) ≡ true) (sym (interface_names 0 sections)) (and_from _ _ (ap not (no_environment (map name_of sections) c.1)) (fresh_distinct [] (map name_of sections) c.0))
+        let c : Fresh [] (map name_of sections) × Each (λ name. bytes_eq name environment ≡ false)
+        (map name_of sections) = compartments 0 [] sections (front_empty _ _ in_faces) in
+        subst (λ all. are_distinct (codes "Env" ∷ all) ≡ true) (sym (interface_names 0 sections))
+        (and_from _ _ (ap not (no_environment (map name_of sections) c.1))
+        (fresh_distinct [] (map name_of sections) c.0))
 
     -- `main`.
 
-    mains_same : (section : SectionTree) (of : Callees) (trees : List FunctionTree) → list_any is_main (map (typed_function section of) trees) ≡ is_numbered (map {A = FunctionTree} (λ tree. tree.head.name) trees) main_name
+    mains_same : (section : SectionTree) (of : Callees) (trees : List FunctionTree) →
+        list_any is_main (map (typed_function section of) trees) ≡
+        is_numbered (map {A = FunctionTree} (λ tree. tree.head.name) trees) main_name
     mains_same section of [] = refl
     mains_same section of (tree ∷ trees) =
         λ i. same_sym tree.head.name main_name i || mains_same section of trees i
 
-    section_mains : (section : SectionTree) (callees : Callees) → list_any is_main (typed_section section callees).functions ≡ defines_main section
+    section_mains : (section : SectionTree) (callees : Callees) →
+        list_any is_main (typed_section section callees).functions ≡ defines_main section
     section_mains section callees = mains_same section callees (functions_in section.decls)
 
     -- the function `main` of a section
-    module _ (k : ℕ) (section : SectionTree) (mains : Bool) (each : Each (DeclFacts sections k section mains) section.decls) (has : defines_main section ≡ true) where
+    module _ (k : ℕ) (section : SectionTree) (mains : Bool)
+        (each : Each (DeclFacts sections k section mains) section.decls) (has : defines_main section ≡ true) where
       main_found : FoundFunction main_name (functions_in section.decls)
       main_found = find_function main_name (functions_in section.decls) has
 
       main_rule : faces.main_holds mains (head_of main_found.tree.head) ≡ true
       main_rule =
-          (each_at (λ tree. DeclFacts sections k section mains (Function tree)) (functions_in section.decls) main_found.at main_found.tree (each_function (DeclFacts sections k section mains) section.decls each) main_found.got).1
+          (each_at (λ tree. DeclFacts sections k section mains (Function tree))
+          (functions_in section.decls) main_found.at main_found.tree
+          (each_function (DeclFacts sections k section mains) section.decls each) main_found.got).1
 
       main_alone : (not mains && faces.is_main (head_of main_found.tree.head)) ≡ true
       main_alone = by_name (bytes_eq main_found.tree.head.name main_name) main_found.named main_rule where
-        by_name : (b : Bool) → b ≡ true → (not b || (not mains && faces.is_main (head_of main_found.tree.head))) ≡ true → (not mains && faces.is_main (head_of main_found.tree.head)) ≡ true
+        by_name : (b : Bool) → b ≡ true → (not b || (not mains && faces.is_main (head_of main_found.tree.head))) ≡
+            true → (not mains && faces.is_main (head_of main_found.tree.head)) ≡ true
         by_name true q h = h
         by_name false q h = absurd (false≢true q)
 
-    main_typed : (k : ℕ) (section : SectionTree) → slice_get sections k ≡ Some section → defines_main section ≡ true → main_fits (Some (typed_section section (callees_of sections k section))) ≡ true
+    main_typed : (k : ℕ) (section : SectionTree) → slice_get sections k ≡ Some section → defines_main section ≡ true →
+        main_fits (Some (typed_section section (callees_of sections k section))) ≡ true
     main_typed k section got has =
         let facts : FaceFacts sections k section = hold in_faces k section got in
-        let g : FoundFunction main_name (functions_in section.decls) = main_found k section facts.mains facts.decls has in
-        let is : faces.is_main (head_of g.tree.head) ≡ true = and_rest (not facts.mains) _ (main_alone k section facts.mains facts.decls has) in
-        any_at {A = TypedFunction} (λ f. is_main f && same_signature (signature_of f) (record { params = []; result = Some ty.Int })) (typed_section section (callees_of sections k section)).functions g.at (typed_function section (callees_of sections k section) g.tree) (get_map (typed_function section (callees_of sections k section)) (functions_in section.decls) g.at ∙ ap (option_map (typed_function section (callees_of sections k section))) g.got) (and_from _ _ g.named (ap (λ s. same_signature s (record { params = []; result = Some ty.Int })) (own_signature section (callees_of sections k section) g.tree ∙ input_signature (tags section) (head_of g.tree.head) is)))
+        let g : FoundFunction main_name (functions_in section.decls) =
+        main_found k section facts.mains facts.decls has in
+        let is : faces.is_main (head_of g.tree.head) ≡ true =
+        and_rest (not facts.mains) _ (main_alone k section facts.mains facts.decls has) in
+        any_at {A = TypedFunction} (λ f. is_main f &&
+        same_signature (signature_of f) (record { params = []; result = Some ty.Int }))
+        (typed_section section (callees_of sections k section)).functions g.at
+        (typed_function section (callees_of sections k section) g.tree)
+        (get_map (typed_function section (callees_of sections k section)) (functions_in section.decls) g.at ∙
+        ap (option_map (typed_function section (callees_of sections k section))) g.got)
+        (and_from _ _ g.named (ap (λ s. same_signature s (record { params = []; result = Some ty.Int }))
+        (own_signature section (callees_of sections k section) g.tree ∙
+        input_signature (tags section) (head_of g.tree.head) is)))
 
     or_false : (a b : Bool) → (a || b) ≡ false → a ≡ false
     or_false true b h = h
     or_false false b h = refl
 
-    any_append : (before : List SectionTree) (section : SectionTree) → list_any defines_main (before ++ section ∷ []) ≡ (list_any defines_main before || defines_main section)
+    any_append : (before : List SectionTree) (section : SectionTree) →
+        list_any defines_main (before ++ section ∷ []) ≡ (list_any defines_main before || defines_main section)
     any_append [] section = or_none (defines_main section) where
       or_none : (b : Bool) → (b || false) ≡ b
       or_none true = refl
       or_none false = refl
     any_append (s ∷ before) section =
-        ap (λ b. defines_main s || b) (any_append before section) ∙ sym (or_assoc (defines_main s) (list_any defines_main before) (defines_main section)) where
+        ap (λ b. defines_main s || b) (any_append before section) ∙
+        sym (or_assoc (defines_main s) (list_any defines_main before) (defines_main section)) where
           or_assoc : (a b c : Bool) → ((a || b) || c) ≡ (a || (b || c))
           or_assoc true b c = refl
           or_assoc false b c = refl
 
-    count_by : (b d more : Bool) (n : ℕ) → (d ≡ true → not b ≡ true) → n ≡ (if b || d then 0 else truth more) → truth d + n ≡ (if b then 0 else truth (d || more))
+    count_by : (b d more : Bool) (n : ℕ) → (d ≡ true → not b ≡ true) → n ≡ (if b || d then 0 else truth more) →
+        truth d + n ≡ (if b then 0 else truth (d || more))
     count_by true true more n alone h = absurd (false≢true (alone refl))
     count_by true false more n alone h = ap (λ m. 0 + m) h ∙ omega arith
     count_by false true more n alone h = ap (λ m. 1 + m) h ∙ omega arith
@@ -288,13 +387,25 @@ module _ (sections : List SectionTree) where
     none_more true = refl
     none_more false = refl
 
-    mains_count : (k : ℕ) (before rest : List SectionTree) → faces.lines_from sections k before rest ≡ [] → mains_in (sections_from sections k rest) ≡ (if list_any defines_main before then 0 else truth (list_any defines_main rest))
+    mains_count : (k : ℕ) (before rest : List SectionTree) → faces.lines_from sections k before rest ≡ [] →
+        mains_in (sections_from sections k rest) ≡ (if list_any defines_main before then 0 else
+        truth (list_any defines_main rest))
     mains_count k before [] h = none_more (list_any defines_main before)
     mains_count k before (section ∷ rest) h =
-        ap (λ b. truth b + mains_in (sections_from sections (suc k) rest)) (section_mains section (callees_of sections k section)) ∙ count_by (list_any defines_main before) (defines_main section) (list_any defines_main rest) (mains_in (sections_from sections (suc k) rest)) (λ has. and_first _ _ (main_alone k section (list_any defines_main before) (decls_hold sections k section (list_any defines_main before) before (map_empty _ _ (front_empty _ _ h))) has)) (mains_count (suc k) (before ++ section ∷ []) rest (back_empty (map (line_of_text section.line) (faces.section_lines sections k section (list_any defines_main before) before)) _ h) ∙ ap (λ b. if b then 0 else truth (list_any defines_main rest)) (any_append before section))
+        ap (λ b. truth b + mains_in (sections_from sections (suc k) rest))
+        (section_mains section (callees_of sections k section)) ∙
+        count_by (list_any defines_main before) (defines_main section) (list_any defines_main rest)
+        (mains_in (sections_from sections (suc k) rest))
+        (λ has. and_first _ _ (main_alone k section (list_any defines_main before)
+        (decls_hold sections k section (list_any defines_main before) before
+        (map_empty _ _ (front_empty _ _ h))) has))
+        (mains_count (suc k) (before ++ section ∷ []) rest
+        (back_empty (map (line_of_text section.line)
+        (faces.section_lines sections k section (list_any defines_main before) before)) _ h) ∙
+        ap (λ b. if b then 0 else truth (list_any defines_main rest)) (any_append before section))
 
     has_main : list_any defines_main sections ≡ true
-    has_main = held _ 0 (back_empty (faces.lines_from sections 0 [] sections) _ in_faces)
+    has_main = rule_holds _ 0 (back_empty (faces.lines_from sections 0 [] sections) _ in_faces)
 
     one_main : (mains_in (sections_from sections 0 sections) == 1) ≡ true
     one_main = ap (λ n. n == 1) (mains_count 0 [] sections (front_empty _ _ in_faces) ∙ ap truth has_main)
@@ -308,28 +419,49 @@ module _ (sections : List SectionTree) where
       got : slice_get rest at ≡ Some section
       has : defines_main section ≡ true
 
-    main_by : (k : ℕ) (section : SectionTree) (rest : List SectionTree) (b : Bool) → defines_main section ≡ b → (list_any defines_main rest ≡ true → MainAt (suc k) rest) → (b || list_any defines_main rest) ≡ true → MainAt k (section ∷ rest)
+    main_by : (k : ℕ) (section : SectionTree) (rest : List SectionTree) (b : Bool) → defines_main section ≡ b →
+        (list_any defines_main rest ≡ true → MainAt (suc k) rest) → (b || list_any defines_main rest) ≡ true →
+        MainAt k (section ∷ rest)
     main_by k section rest true q f h =
-        record { at = 0; section = section; is = ap (λ b. if b then k else main_from (suc k) rest) q ∙ omega arith; got = refl; has = q }
+        record {
+          at = 0;
+          section = section;
+          is = ap (λ b. if b then k else main_from (suc k) rest) q ∙ omega arith;
+          got = refl;
+          has = q;
+        }
     main_by k section rest false q f h =
         let next : MainAt (suc k) rest = f h in
-        record { at = suc next.at; section = next.section; is = ap (λ b. if b then k else main_from (suc k) rest) q ∙ next.is ∙ omega arith; got = next.got; has = next.has }
+        record {
+          at = suc next.at;
+          section = next.section;
+          is = ap (λ b. if b then k else main_from (suc k) rest) q ∙ next.is ∙ omega arith;
+          got = next.got;
+          has = next.has;
+        }
 
     main_at : (k : ℕ) (rest : List SectionTree) → list_any defines_main rest ≡ true → MainAt k rest
     main_at k [] h = absurd (false≢true h)
     main_at k (section ∷ rest) h = main_by k section rest (defines_main section) refl (main_at (suc k) rest) h
 
-    typed_from : (k : ℕ) (rest : List SectionTree) (j : ℕ) (section : SectionTree) → slice_get rest j ≡ Some section → slice_get (sections_from sections k rest) j ≡ Some (typed_section section (callees_of sections (k + j) section))
+    typed_from : (k : ℕ) (rest : List SectionTree) (j : ℕ) (section : SectionTree) → slice_get rest j ≡ Some section →
+        slice_get (sections_from sections k rest) j ≡
+        Some (typed_section section (callees_of sections (k + j) section))
     typed_from k [] j section got = none_some section got
     typed_from k (s ∷ rest) zero section got =
-        ap (λ t. Some (typed_section t (callees_of sections k t))) (some_is s section got) ∙ ap (λ n. Some (typed_section section (callees_of sections n section))) (omega arith)
+        ap (λ t. Some (typed_section t (callees_of sections k t))) (some_is s section got) ∙
+        ap (λ n. Some (typed_section section (callees_of sections n section))) (omega arith)
     typed_from k (s ∷ rest) (suc j) section got =
-        typed_from (suc k) rest j section got ∙ ap (λ n. Some (typed_section section (callees_of sections n section))) (omega arith)
+        typed_from (suc k) rest j section got ∙ ap (λ n. Some (typed_section section (callees_of sections n section)))
+        (omega arith)
 
     main_is : main_fits (slice_get (sections_from sections 0 sections) (interfaces_of sections).main) ≡ true
     main_is =
         let m : MainAt 0 sections = main_at 0 sections has_main in
-        ap (λ n. main_fits (slice_get (sections_from sections 0 sections) n)) (m.is ∙ plus_none m.at) ∙ ap main_fits (typed_from 0 sections m.at m.section m.got) ∙ ap (λ n. main_fits (Some (typed_section m.section (callees_of sections n m.section)))) (plus_none m.at) ∙ main_typed m.at m.section m.got m.has
+        ap (λ n. main_fits (slice_get (sections_from sections 0 sections) n)) (m.is ∙ plus_none m.at) ∙
+        ap main_fits (typed_from 0 sections m.at m.section m.got) ∙
+        ap (λ n. main_fits (Some (typed_section m.section (callees_of sections n m.section)))) (plus_none m.at) ∙
+        main_typed m.at m.section m.got m.has
 
     -- The whole.
 
@@ -339,12 +471,18 @@ module _ (sections : List SectionTree) where
 
     few : nat_le (length (sections_from sections 0 sections)) most_compartments ≡ true
     few =
-        ap (λ n. nat_le n most_compartments) (typed_length 0 sections) ∙ none_beyond {A = SectionTree} (λ section. line_of_text section.line 1) most_compartments sections (front_empty _ _ in_counts)
+        ap (λ n. nat_le n most_compartments) (typed_length 0 sections) ∙
+        none_beyond {A = SectionTree} (λ section. line_of_text section.line 1) most_compartments sections
+        (front_empty _ _ in_counts)
 
     is_typed : is_well_typed (program_of sections) ≡ true
     is_typed =
-        and_from _ _ few (and_from _ _ names_distinct (and_from _ _ (sections_are [] sections refl) (and_from _ _ main_is one_main)))
+        and_from _ _ few (and_from _ _ names_distinct
+        (and_from _ _ (sections_are [] sections refl) (and_from _ _ main_is one_main)))
 
 -- trees that break no rule are those of a well-typed program
-pub well_typed : (sections : List SectionTree) → AreLow sections → names_broken sections ≡ [] → types_broken sections ≡ [] → interface_broken sections ≡ [] → counts_broken sections ≡ [] → IsWellTyped (program_of sections)
-well_typed sections low in_names in_types in_faces in_counts = is_typed sections low in_names in_types in_faces in_counts
+pub well_typed : (sections : List SectionTree) → AreLow sections → names_broken sections ≡ [] →
+    types_broken sections ≡ [] → interface_broken sections ≡ [] → counts_broken sections ≡ [] →
+    IsWellTyped (program_of sections)
+well_typed sections low in_names in_types in_faces in_counts =
+    is_typed sections low in_names in_types in_faces in_counts

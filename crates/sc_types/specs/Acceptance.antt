@@ -33,7 +33,8 @@ FailsRules sections phase.Types line = (names_broken sections ≡ []) × (refuse
 FailsRules sections phase.Interface line =
     (names_broken sections ≡ []) × (types_broken sections ≡ []) × (refused_at (interface_broken sections) ≡ Some line)
 FailsRules sections phase.Count line =
-    (names_broken sections ≡ []) × (types_broken sections ≡ []) × (interface_broken sections ≡ []) × (refused_at (counts_broken sections) ≡ Some line)
+    (names_broken sections ≡ []) × (types_broken sections ≡ []) × (interface_broken sections ≡ []) ×
+    (refused_at (counts_broken sections) ≡ Some line)
 FailsRules sections _ line = ⊥
 
 -- A text is accepted as a program: it is read, and what is read has its types.

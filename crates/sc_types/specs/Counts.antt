@@ -55,7 +55,8 @@ module _ (section : SectionTree) where
   param_small param = is_small (type_of_name (struct_names section.decls) param.ty)
 
   abbrev pub function_lines : FunctionTree → List ℕ
-  function_lines tree = unless (list_all param_small tree.head.params) tree.head.line ++ concat (map local_lines tree.locals)
+  function_lines tree = unless (list_all param_small tree.head.params) tree.head.line ++
+      concat (map local_lines tree.locals)
 
   -- the nodes of all functions, where this stands for what is called
   abbrev pub section_nodes : Callees → ℕ
@@ -64,15 +65,23 @@ module _ (section : SectionTree) where
   -- the lines, counted in the section, of what is beyond a count
   abbrev pub section_lines : Callees → List ℕ
   section_lines callees =
-      unless (nat_le (section_nodes callees) most_nodes && nat_le (length section.decls) most_nodes) 1 ++ (line_beyond {A = ExportLine} (λ line. line.line) most_exports section.exports ++ (line_beyond {A = ImportLine} (λ line. line.line) most_exports section.imports ++ (structs_from 0 (structs_in section.decls) ++ (concat (map global_lines (globals_in section.decls)) ++ (concat (map head_lines (heads_in section.decls)) ++ concat (map function_lines (functions_in section.decls)))))))
+      unless (nat_le (section_nodes callees) most_nodes && nat_le (length section.decls) most_nodes) 1 ++
+      (line_beyond {A = ExportLine} (λ line. line.line) most_exports section.exports ++
+      (line_beyond {A = ImportLine} (λ line. line.line) most_exports section.imports ++
+      (structs_from 0 (structs_in section.decls) ++
+      (concat (map global_lines (globals_in section.decls)) ++
+      (concat (map head_lines (heads_in section.decls)) ++
+      concat (map function_lines (functions_in section.decls)))))))
 
 -- the sections from number k on
 abbrev pub lines_from : List SectionTree → ℕ → List SectionTree → List ℕ
 lines_from sections k [] = []
 lines_from sections k (section ∷ rest) =
-    map (line_of_text section.line) (section_lines section (callees_of sections k section)) ++ lines_from sections (suc k) rest
+    map (line_of_text section.line) (section_lines section (callees_of sections k section)) ++
+    lines_from sections (suc k) rest
 
 -- the lines of the text of what is beyond a count
 abbrev pub counts_broken : List SectionTree → List ℕ
 counts_broken sections =
-    line_beyond {A = SectionTree} (λ section. line_of_text section.line 1) most_compartments sections ++ lines_from sections 0 sections
+    line_beyond {A = SectionTree} (λ section. line_of_text section.line 1) most_compartments sections ++
+    lines_from sections 0 sections

@@ -1,4 +1,5 @@
--- Helping: how many nodes a tree has: one for each expression, statement, local, parameter and function in it, itself included.
+-- Helping: how many nodes a tree has: one for each expression, statement, local, parameter and function in it, itself
+-- included.
 use Rattle.std.specs.Prelude.{ℕ, suc, ◌+◌, List, length, map, Option, Some, None}
 use Rattle.sc_ast.specs.declared.expr.ExprTree.{ExprTree, ExprTree-F, fold-ExprTree}
 use Rattle.sc_ast.specs.declared.expr.ExprTree.TheOpen as term

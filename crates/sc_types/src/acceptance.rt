@@ -16,12 +16,13 @@ use sc_read::TextFault;
 use sc_scope::broken_name;
 use std::alloc::Global;
 
-/// The program of a text's sections, or the first of the phases names, types, interface and count that they fail, and the
-/// line: the least positive one at which a rule of that phase is broken, or 0 where a `main` is missing alone.
+/// The program of a text's sections, or the first of the phases names, types, interface and count that they fail, and
+/// the line: the least positive one at which a rule of that phase is broken, or 0 where a `main` is missing alone.
 pub fn type_program(alloc: Global, sections: &[SectionTree]) -> Result<Program, TextFault>
     requires { AreLow sections.now }
     ensures accepted { IfOk result (IsTyped sections.now) }
-    ensures refused { (refusal : Refusal) → IsErrOf result (TextFault.Refused refusal) → FailsRules sections.now refusal.phase refusal.line }
+    ensures refused { (refusal : Refusal) → IsErrOf result (TextFault.Refused refusal) →
+        FailsRules sections.now refusal.phase refusal.line }
 {
     check_names(alloc, sections)?;
     check_types(alloc, sections)?;
@@ -33,7 +34,8 @@ pub fn type_program(alloc: Global, sections: &[SectionTree]) -> Result<Program, 
 #[tactic(auto, using(crate::proofs::Phases::passes))]
 fn check_names(alloc: Global, sections: &[SectionTree]) -> Result<(), TextFault>
     ensures ok { OnOk result (names_broken sections.now ≡ []) }
-    ensures refused { (refusal : Refusal) → IsErrOf result (TextFault.Refused refusal) → FailsRules sections.now refusal.phase refusal.line }
+    ensures refused { (refusal : Refusal) → IsErrOf result (TextFault.Refused refusal) →
+        FailsRules sections.now refusal.phase refusal.line }
 {
     pass(
         Phase::Names,
@@ -45,7 +47,8 @@ fn check_names(alloc: Global, sections: &[SectionTree]) -> Result<(), TextFault>
 fn check_types(alloc: Global, sections: &[SectionTree]) -> Result<(), TextFault>
     requires { names_broken sections.now ≡ [] }
     ensures ok { OnOk result (types_broken sections.now ≡ []) }
-    ensures refused { (refusal : Refusal) → IsErrOf result (TextFault.Refused refusal) → FailsRules sections.now refusal.phase refusal.line }
+    ensures refused { (refusal : Refusal) → IsErrOf result (TextFault.Refused refusal) →
+        FailsRules sections.now refusal.phase refusal.line }
 {
     pass(
         Phase::Types,
@@ -58,7 +61,8 @@ fn check_interfaces(alloc: Global, sections: &[SectionTree]) -> Result<(), TextF
     requires names { names_broken sections.now ≡ [] }
     requires types { types_broken sections.now ≡ [] }
     ensures ok { OnOk result (interface_broken sections.now ≡ []) }
-    ensures refused { (refusal : Refusal) → IsErrOf result (TextFault.Refused refusal) → FailsRules sections.now refusal.phase refusal.line }
+    ensures refused { (refusal : Refusal) → IsErrOf result (TextFault.Refused refusal) →
+        FailsRules sections.now refusal.phase refusal.line }
 {
     pass(
         Phase::Interface,
@@ -72,7 +76,8 @@ fn check_counts(alloc: Global, sections: &[SectionTree]) -> Result<(), TextFault
     requires types { types_broken sections.now ≡ [] }
     requires interfaces { interface_broken sections.now ≡ [] }
     ensures ok { OnOk result (counts_broken sections.now ≡ []) }
-    ensures refused { (refusal : Refusal) → IsErrOf result (TextFault.Refused refusal) → FailsRules sections.now refusal.phase refusal.line }
+    ensures refused { (refusal : Refusal) → IsErrOf result (TextFault.Refused refusal) →
+        FailsRules sections.now refusal.phase refusal.line }
 {
     pass(
         Phase::Count,
@@ -83,7 +88,8 @@ fn check_counts(alloc: Global, sections: &[SectionTree]) -> Result<(), TextFault
 // Sections that break no rule of a phase pass it, and others are refused at this line.
 fn pass(phase: Phase, line: Option<u32>) -> Result<(), TextFault>
     ensures ok { OnOk result (line ≡ None) }
-    ensures refused { (refusal : Refusal) → IsErrOf result (TextFault.Refused refusal) → (phase ≡ refusal.phase) × (line ≡ Some refusal.line) }
+    ensures refused { (refusal : Refusal) → IsErrOf result (TextFault.Refused refusal) →
+        (phase ≡ refusal.phase) × (line ≡ Some refusal.line) }
 {
     match line {
         None => Ok(()),

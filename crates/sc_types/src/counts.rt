@@ -42,7 +42,8 @@ pub fn broken_count(alloc: Global, sections: &[SectionTree]) -> Result<Option<u3
 }
 
 fn section_beyond(sections: &[SectionTree]) -> Option<u32>
-    ensures { result ≡ refused_at (line_beyond {A = SectionTree} (λ section. line_of_text section.line 1) most_compartments sections.now) }
+    ensures { result ≡ refused_at (line_beyond {A = SectionTree}
+        (λ section. line_of_text section.line 1) most_compartments sections.now) }
 {
     match at(sections, MOST_COMPARTMENTS) {
         None => None,

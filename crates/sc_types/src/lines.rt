@@ -22,7 +22,8 @@ const MOST_EXPORTS: usize = 4096;
 
 /// Notes the first export beyond their count.
 pub fn export_lines(exports: &ExportLines, lines: &mut BrokenLines)
-    ensures { lines.new ≡ with_lines lines.old (line_beyond {A = ExportLine} (λ line. line.line) most_exports exports.now) }
+    ensures { lines.new ≡ with_lines lines.old (line_beyond {A = ExportLine}
+        (λ line. line.line) most_exports exports.now) }
 {
     match exports.get(MOST_EXPORTS) {
         None => {}
@@ -32,7 +33,8 @@ pub fn export_lines(exports: &ExportLines, lines: &mut BrokenLines)
 
 /// Notes the first import beyond their count.
 pub fn import_lines(imports: &ImportLines, lines: &mut BrokenLines)
-    ensures { lines.new ≡ with_lines lines.old (line_beyond {A = ImportLine} (λ line. line.line) most_exports imports.now) }
+    ensures { lines.new ≡ with_lines lines.old (line_beyond {A = ImportLine}
+        (λ line. line.line) most_exports imports.now) }
 {
     match imports.get(MOST_EXPORTS) {
         None => {}
@@ -62,7 +64,8 @@ fn struct_lines(
     decl: &Decl,
     lines: &mut BrokenLines,
 ) -> Result<u32, OutOfMemory>
-    ensures lines { OnOk result (lines.new ≡ with_lines lines.old (structs_from sizes.now number (structs_in (decl.now ∷ [])))) }
+    ensures lines { OnOk result (lines.new ≡ with_lines lines.old
+        (structs_from sizes.now number (structs_in (decl.now ∷ [])))) }
     ensures number { IfOk result (λ next. next ≡ number + length (structs_in (decl.now ∷ []))) }
 {
     match decl {
@@ -126,7 +129,8 @@ pub fn functions_lines(sizes: &Sizes, decls: &Decls, lines: &mut BrokenLines)
 }
 
 fn if_function(sizes: &Sizes, decl: &Decl, lines: &mut BrokenLines)
-    ensures { lines.new ≡ with_lines lines.old (concat (map (function_lines sizes.now) (functions_in (decl.now ∷ [])))) }
+    ensures { lines.new ≡ with_lines lines.old (concat
+        (map (function_lines sizes.now) (functions_in (decl.now ∷ [])))) }
 {
     match decl {
         Decl::Function(tree) => function_lines(sizes, tree, lines),

@@ -43,7 +43,8 @@ impl SourceText {
     pub fn read(alloc: Global, bytes: &[u8]) -> Result<SourceText, TextFault>
         ensures bytes { IfOk result (λ source. source.bytes ≡ bytes.now) }
         ensures source { IfOk result IsSource }
-        ensures refused { (refusal : Refusal) → IsErrOf result (TextFault.Refused refusal) → Fails bytes.now refusal.phase refusal.line }
+        ensures refused { (refusal : Refusal) → IsErrOf result (TextFault.Refused refusal) →
+            Fails bytes.now refusal.phase refusal.line }
     {
         let program = read_program(alloc, bytes)?;
         let starts = section_starts(alloc, bytes)?;
@@ -95,7 +96,8 @@ impl SourceText {
 
 fn read_program(alloc: Global, text: &[u8]) -> Result<Program, TextFault>
     ensures accepted { IfOk result (Accepts text.now) }
-    ensures refused { (refusal : Refusal) → IsErrOf result (TextFault.Refused refusal) → Fails text.now refusal.phase refusal.line }
+    ensures refused { (refusal : Refusal) → IsErrOf result (TextFault.Refused refusal) →
+        Fails text.now refusal.phase refusal.line }
 {
     let trees = read_trees(alloc, text)?;
     type_program(alloc, trees.as_slice())
@@ -103,7 +105,8 @@ fn read_program(alloc: Global, text: &[u8]) -> Result<Program, TextFault>
 
 fn section_starts(alloc: Global, text: &[u8]) -> Result<Items<usize>, TextFault>
     ensures starts { IfOk result (AreStarts text.now) }
-    ensures refused { (refusal : Refusal) → IsErrOf result (TextFault.Refused refusal) → Fails text.now refusal.phase refusal.line }
+    ensures refused { (refusal : Refusal) → IsErrOf result (TextFault.Refused refusal) →
+        Fails text.now refusal.phase refusal.line }
 {
     let Split {
         preamble: _,

@@ -27,11 +27,13 @@ by_first : (r : Result Value Cause) (f g : Value → Result Value Cause) → ((v
 by_first (Err cause) f g h = refl
 by_first (Ok v) f g h = h v
 
-and_is : (b : Bool) (r : Result Value Cause) → (if b then r else Ok (Word 0)) ≡ or_else (if b then None else Some (Word 0)) r
+and_is : (b : Bool) (r : Result Value Cause) → (if b then r else Ok (Word 0)) ≡
+    or_else (if b then None else Some (Word 0)) r
 and_is true r = refl
 and_is false r = refl
 
-or_is : (b : Bool) (r : Result Value Cause) → (if b then Ok (Word 1) else r) ≡ or_else (if b then Some (Word 1) else None) r
+or_is : (b : Bool) (r : Result Value Cause) → (if b then Ok (Word 1) else r) ≡
+    or_else (if b then Some (Word 1) else None) r
 or_is true r = refl
 or_is false r = refl
 
@@ -39,13 +41,17 @@ module _ (structs : List TypedStruct) where
   -- an operator between two operands, by what the first one decides
   abbrev stepwise : BinaryOp → Meant → Meant → Blocks → Result Value Cause
   stepwise o a b blocks =
-      bind (a.way want.Value blocks) (λ v. or_else (decided o v) (bind (b.way want.Value blocks) (joined structs blocks o a.ty b.ty v)))
+      bind (a.way want.Value blocks) (λ v. or_else (decided o v)
+      (bind (b.way want.Value blocks) (joined structs blocks o a.ty b.ty v)))
 
-  binary_is : (o : BinaryOp) (a b : Meant) (blocks : Blocks) → binary c_arith structs o a b blocks ≡ stepwise o a b blocks
+  binary_is : (o : BinaryOp) (a b : Meant) (blocks : Blocks) →
+      binary c_arith structs o a b blocks ≡ stepwise o a b blocks
   binary_is op.AndAlso a b blocks =
-      by_first (a.way want.Value blocks) _ _ (λ v. and_is (is_true v) (bind (b.way want.Value blocks) (λ w. Ok (of_bool (is_true w)))))
+      by_first (a.way want.Value blocks) _ _ (λ v. and_is (is_true v)
+      (bind (b.way want.Value blocks) (λ w. Ok (of_bool (is_true w)))))
   binary_is op.OrElse a b blocks =
-      by_first (a.way want.Value blocks) _ _ (λ v. or_is (is_true v) (bind (b.way want.Value blocks) (λ w. Ok (of_bool (is_true w)))))
+      by_first (a.way want.Value blocks) _ _ (λ v. or_is (is_true v)
+      (bind (b.way want.Value blocks) (λ w. Ok (of_bool (is_true w)))))
   binary_is op.BitOr a b blocks = refl
   binary_is op.BitXor a b blocks = refl
   binary_is op.BitAnd a b blocks = refl
@@ -67,47 +73,82 @@ module _ (structs : List TypedStruct) where
     abbrev way : TypedExpr → Ways
     way e = ways c_arith structs here params e
 
-    meant_at : (e : TypedExpr) (k : TypedKind-F TypedKind TypedExpr) → e.kind ≡ roll-TypedKind k → meant c_arith structs here params e ≡ record { ty = e.ty; way = term_of _ _ (term_step c_arith structs here params) meant_step k e.ty }
+    meant_at : (e : TypedExpr) (k : TypedKind-F TypedKind TypedExpr) → e.kind ≡ roll-TypedKind k →
+        meant c_arith structs here params e ≡ record {
+          ty = e.ty;
+          way = term_of _ _ (term_step c_arith structs here params) meant_step k e.ty;
+        }
     meant_at e k is =
-        ap (λ x. meant c_arith structs here params (record { ty = e.ty; kind = x })) is ∙ expr_at _ _ (term_step c_arith structs here params) meant_step e.ty k
+        ap (λ x. meant c_arith structs here params (record { ty = e.ty; kind = x })) is ∙
+        expr_at _ _ (term_step c_arith structs here params) meant_step e.ty k
 
-    way_at : (e : TypedExpr) (k : TypedKind-F TypedKind TypedExpr) → e.kind ≡ roll-TypedKind k → way e ≡ term_of _ _ (term_step c_arith structs here params) meant_step k e.ty
+    way_at : (e : TypedExpr) (k : TypedKind-F TypedKind TypedExpr) → e.kind ≡ roll-TypedKind k →
+        way e ≡ term_of _ _ (term_step c_arith structs here params) meant_step k e.ty
     way_at e k is = ap (λ m. m.way) (meant_at e k is)
 
     ty_is : (e : TypedExpr) → (meant c_arith structs here params e).ty ≡ e.ty
     ty_is e =
-        ap (λ m. m.ty) (fold-roll-TypedExpr (Ty → Ways) Meant (term_step c_arith structs here params) meant_step (record { ty = e.ty; kind = e.kind }))
+        ap (λ m. m.ty) (fold-roll-TypedExpr (Ty → Ways) Meant (term_step c_arith structs here params) meant_step
+        (record { ty = e.ty; kind = e.kind }))
 
-    pub literal_gives : (e : TypedExpr) (word : ℕ) (wish : Want) (blocks : Blocks) → e.kind ≡ Literal word → way e wish blocks ≡ Ok (literal e.ty word)
-    literal_gives e word wish blocks is = λ i. way_at e (term.Literal word) (is ∙ sym (rolls-Literal word)) i wish blocks
+    pub literal_gives : (e : TypedExpr) (word : ℕ) (wish : Want) (blocks : Blocks) → e.kind ≡ Literal word →
+        way e wish blocks ≡ Ok (literal e.ty word)
+    literal_gives e word wish blocks is = λ i. way_at e (term.Literal word)
+        (is ∙ sym (rolls-Literal word)) i wish blocks
 
-    pub variable_gives : (e : TypedExpr) (v : VarRef) (wish : Want) (blocks : Blocks) → e.kind ≡ Variable v → way e wish blocks ≡ wanted e.ty (variable_at here params v) wish blocks
+    pub variable_gives : (e : TypedExpr) (v : VarRef) (wish : Want) (blocks : Blocks) → e.kind ≡ Variable v →
+        way e wish blocks ≡ wanted e.ty (variable_at here params v) wish blocks
     variable_gives e v wish blocks is = λ i. way_at e (term.Variable v) (is ∙ sym (rolls-Variable v)) i wish blocks
 
-    pub unary_gives : (e : TypedExpr) (o : UnaryOp) (a : TypedExpr) (wish : Want) (blocks : Blocks) → e.kind ≡ Unary o a → way e wish blocks ≡ bind (way a want.Value blocks) (applied_one c_arith (is_unsigned a.ty) o)
+    pub unary_gives : (e : TypedExpr) (o : UnaryOp) (a : TypedExpr) (wish : Want) (blocks : Blocks) →
+        e.kind ≡ Unary o a → way e wish blocks ≡ bind (way a want.Value blocks)
+        (applied_one c_arith (is_unsigned a.ty) o)
     unary_gives e o a wish blocks is =
-        (λ i. way_at e (term.Unary o a) (is ∙ sym (rolls-Unary o a)) i wish blocks) ∙ ap (λ t. bind (way a want.Value blocks) (applied_one c_arith (is_unsigned t) o)) (ty_is a)
+        (λ i. way_at e (term.Unary o a) (is ∙ sym (rolls-Unary o a)) i wish blocks) ∙
+        ap (λ t. bind (way a want.Value blocks) (applied_one c_arith (is_unsigned t) o)) (ty_is a)
 
-    pub binary_gives : (e : TypedExpr) (o : BinaryOp) (a b : TypedExpr) (wish : Want) (blocks : Blocks) → e.kind ≡ Binary o a b → way e wish blocks ≡ bind (way a want.Value blocks) (λ v. or_else (decided o v) (bind (way b want.Value blocks) (joined structs blocks o a.ty b.ty v)))
+    pub binary_gives : (e : TypedExpr) (o : BinaryOp) (a b : TypedExpr) (wish : Want) (blocks : Blocks) →
+        e.kind ≡ Binary o a b → way e wish blocks ≡
+        bind (way a want.Value blocks) (λ v. or_else (decided o v)
+        (bind (way b want.Value blocks) (joined structs blocks o a.ty b.ty v)))
     binary_gives e o a b wish blocks is =
-        (λ i. way_at e (term.Binary o a b) (is ∙ sym (rolls-Binary o a b)) i wish blocks) ∙ binary_is o (meant c_arith structs here params a) (meant c_arith structs here params b) blocks
-        ∙ ap (λ t. bind (way a want.Value blocks) (λ v. or_else (decided o v) (bind (way b want.Value blocks) (joined structs blocks o t (meant c_arith structs here params b).ty v)))) (ty_is a)
-        ∙ ap (λ t. bind (way a want.Value blocks) (λ v. or_else (decided o v) (bind (way b want.Value blocks) (joined structs blocks o a.ty t v)))) (ty_is b)
+        (λ i. way_at e (term.Binary o a b) (is ∙ sym (rolls-Binary o a b)) i wish blocks) ∙
+        binary_is o (meant c_arith structs here params a) (meant c_arith structs here params b) blocks
+        ∙ ap (λ t. bind (way a want.Value blocks) (λ v.
+        or_else (decided o v) (bind (way b want.Value blocks)
+        (joined structs blocks o t (meant c_arith structs here params b).ty v)))) (ty_is a)
+        ∙ ap (λ t. bind (way a want.Value blocks) (λ v.
+        or_else (decided o v) (bind (way b want.Value blocks) (joined structs blocks o a.ty t v)))) (ty_is b)
 
-    pub index_gives : (e a b : TypedExpr) (wish : Want) (blocks : Blocks) → e.kind ≡ Index a b → way e wish blocks ≡ bind (bind (way a want.Value blocks) (λ v. bind (way b want.Value blocks) (at_pointer structs blocks op.Add a.ty b.ty v))) (λ q. wanted e.ty q wish blocks)
+    pub index_gives : (e a b : TypedExpr) (wish : Want) (blocks : Blocks) → e.kind ≡ Index a b →
+        way e wish blocks ≡ bind (bind (way a want.Value blocks)
+        (λ v. bind (way b want.Value blocks) (at_pointer structs blocks op.Add a.ty b.ty v)))
+        (λ q. wanted e.ty q wish blocks)
     index_gives e a b wish blocks is =
         (λ i. way_at e (term.Index a b) (is ∙ sym (rolls-Index a b)) i wish blocks)
-        ∙ ap (λ t. bind (bind (way a want.Value blocks) (λ v. bind (way b want.Value blocks) (at_pointer structs blocks op.Add t (meant c_arith structs here params b).ty v))) (λ q. wanted e.ty q wish blocks)) (ty_is a)
-        ∙ ap (λ t. bind (bind (way a want.Value blocks) (λ v. bind (way b want.Value blocks) (at_pointer structs blocks op.Add a.ty t v))) (λ q. wanted e.ty q wish blocks)) (ty_is b)
+        ∙ ap (λ t. bind (bind (way a want.Value blocks)
+        (λ v. bind (way b want.Value blocks) (at_pointer structs blocks op.Add t
+        (meant c_arith structs here params b).ty v))) (λ q. wanted e.ty q wish blocks)) (ty_is a)
+        ∙ ap (λ t. bind (bind (way a want.Value blocks)
+        (λ v. bind (way b want.Value blocks) (at_pointer structs blocks op.Add a.ty t v)))
+        (λ q. wanted e.ty q wish blocks)) (ty_is b)
 
-    pub member_gives : (e a : TypedExpr) (offset : ℕ) (wish : Want) (blocks : Blocks) → e.kind ≡ Member a offset → way e wish blocks ≡ bind (bind (way a want.Place blocks) (moved blocks (pos offset))) (λ q. wanted e.ty q wish blocks)
-    member_gives e a offset wish blocks is = λ i. way_at e (term.Member a offset) (is ∙ sym (rolls-Member a offset)) i wish blocks
+    pub member_gives : (e a : TypedExpr) (offset : ℕ) (wish : Want) (blocks : Blocks) → e.kind ≡ Member a offset →
+        way e wish blocks ≡ bind (bind (way a want.Place blocks) (moved blocks (pos offset)))
+        (λ q. wanted e.ty q wish blocks)
+    member_gives e a offset wish blocks is = λ i. way_at e (term.Member a offset)
+        (is ∙ sym (rolls-Member a offset)) i wish blocks
 
-    pub arrow_gives : (e a : TypedExpr) (offset : ℕ) (wish : Want) (blocks : Blocks) → e.kind ≡ Arrow a offset → way e wish blocks ≡ bind (bind (way a want.Value blocks) (moved blocks (pos offset))) (λ q. wanted e.ty q wish blocks)
-    arrow_gives e a offset wish blocks is = λ i. way_at e (term.Arrow a offset) (is ∙ sym (rolls-Arrow a offset)) i wish blocks
+    pub arrow_gives : (e a : TypedExpr) (offset : ℕ) (wish : Want) (blocks : Blocks) → e.kind ≡ Arrow a offset →
+        way e wish blocks ≡ bind (bind (way a want.Value blocks) (moved blocks (pos offset)))
+        (λ q. wanted e.ty q wish blocks)
+    arrow_gives e a offset wish blocks is = λ i. way_at e (term.Arrow a offset)
+        (is ∙ sym (rolls-Arrow a offset)) i wish blocks
 
-    pub deref_gives : (e a : TypedExpr) (wish : Want) (blocks : Blocks) → e.kind ≡ Deref a → way e wish blocks ≡ bind (way a want.Value blocks) (λ q. wanted e.ty q wish blocks)
+    pub deref_gives : (e a : TypedExpr) (wish : Want) (blocks : Blocks) → e.kind ≡ Deref a →
+        way e wish blocks ≡ bind (way a want.Value blocks) (λ q. wanted e.ty q wish blocks)
     deref_gives e a wish blocks is = λ i. way_at e (term.Deref a) (is ∙ sym (rolls-Deref a)) i wish blocks
 
-    pub address_gives : (e a : TypedExpr) (wish : Want) (blocks : Blocks) → e.kind ≡ Address a → way e wish blocks ≡ way a want.Place blocks
+    pub address_gives : (e a : TypedExpr) (wish : Want) (blocks : Blocks) → e.kind ≡ Address a →
+        way e wish blocks ≡ way a want.Place blocks
     address_gives e a wish blocks is = λ i. way_at e (term.Address a) (is ∙ sym (rolls-Address a)) i wish blocks

@@ -77,7 +77,8 @@ fn at_pointer(
     place: Value,
     by: Value,
 ) -> Result<Value, Cause>
-    ensures { result ≡ at_pointer scope.now.structs.now (memory_of blocks.now scope.now.comp.now) op types.0 types.1 place by }
+    ensures { result ≡ at_pointer scope.now.structs.now
+        (memory_of blocks.now scope.now.comp.now) op types.0 types.1 place by }
 {
     let (pointer, index) = types;
     let cells = target_cells(scope.structs, pointer);
@@ -96,7 +97,8 @@ fn applied(
     left: Value,
     right: Value,
 ) -> Result<Value, Cause>
-    ensures { result ≡ applied c_arith scope.now.structs.now (memory_of blocks.now scope.now.comp.now) op types.0 types.1 left right }
+    ensures { result ≡ applied c_arith scope.now.structs.now
+        (memory_of blocks.now scope.now.comp.now) op types.0 types.1 left right }
 {
     if is_pointer(types.0) {
         if is_pointer(types.1) {
@@ -149,7 +151,8 @@ fn joined(
     left: Value,
     right: Value,
 ) -> Result<Value, Cause>
-    ensures { result ≡ joined scope.now.structs.now (memory_of blocks.now scope.now.comp.now) op types.0 types.1 left right }
+    ensures { result ≡ joined scope.now.structs.now (memory_of blocks.now scope.now.comp.now) op types.0 types.1 left
+        right }
 {
     match op {
         BinaryOp::AndAlso => Ok(of_bool(is_true(right))),
@@ -165,7 +168,8 @@ pub fn evaluate(
     want: Want,
     expr: &TypedExpr,
 ) -> Result<Value, Cause>
-    ensures { result ≡ ways c_arith scope.now.structs.now (here_of scope.now) scope.now.params expr.now want (memory_of blocks.now scope.now.comp.now) }
+    ensures { result ≡ ways c_arith scope.now.structs.now (here_of scope.now) scope.now.params expr.now want
+        (memory_of blocks.now scope.now.comp.now) }
 {
     match &expr.kind {
         TypedKind::Literal { value } => Ok(literal(expr.ty, *value)),
@@ -217,7 +221,9 @@ pub fn evaluate_all(
     scope: &Scope,
     exprs: &[TypedExpr],
 ) -> Result<Result<Items<Value>, Cause>, AllocError>
-    ensures { IfOk result (λ found. found ≡ values (map (ways c_arith scope.now.structs.now (here_of scope.now) scope.now.params) exprs.now) (memory_of blocks.now scope.now.comp.now)) }
+    ensures { IfOk result (λ found. found ≡ values (map
+        (ways c_arith scope.now.structs.now (here_of scope.now) scope.now.params) exprs.now)
+        (memory_of blocks.now scope.now.comp.now)) }
 {
     let mut found = Items::new(alloc);
     for expr in exprs {

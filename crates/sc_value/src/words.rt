@@ -8,10 +8,10 @@ use sc_base::{BinaryOp, UnaryOp};
 use sc_core::{Cause, Value};
 use sc_word::WordFault;
 
-fn or_cause(given: Result<u32, WordFault>) -> Result<u32, Cause>
-    ensures { result ≡ or_cause given }
+fn or_cause(answer: Result<u32, WordFault>) -> Result<u32, Cause>
+    ensures { result ≡ or_cause answer }
 {
-    match given {
+    match answer {
         Ok(word) => Ok(word),
         Err(WordFault::Overflow) => Err(Cause::Overflow),
         Err(WordFault::ZeroDivisor) => Err(Cause::ZeroDivisor),

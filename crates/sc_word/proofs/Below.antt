@@ -55,13 +55,15 @@ pub mulhu_word-lt : (a b : ℕ) → a < 2 ^ 32 → b < 2 ^ 32 → mulhu_word a b
 mulhu_word-lt a b h k = high (a * b) (mul-lt a b (2 ^ 32) (2 ^ 32) h k)
 
 pub div_word-lt : (a b : ℕ) → div_word a b < 2 ^ 32
-div_word-lt a b = either (b == 0) (2 ^ 32 - 1) (word_of (int_div (signed_of a) (signed_of b))) (omega arith) (word_of-lt (int_div (signed_of a) (signed_of b)))
+div_word-lt a b = either (b == 0) (2 ^ 32 - 1) (word_of (int_div (signed_of a) (signed_of b))) (omega arith)
+    (word_of-lt (int_div (signed_of a) (signed_of b)))
 
 pub divu_word-lt : (a b : ℕ) → a < 2 ^ 32 → divu_word a b < 2 ^ 32
 divu_word-lt a b h = either (b == 0) (2 ^ 32 - 1) (a / b) (omega arith) (omega (arith, h, div-le_self a b))
 
 pub rem_word-lt : (a b : ℕ) → a < 2 ^ 32 → rem_word a b < 2 ^ 32
-rem_word-lt a b h = either (b == 0) a (word_of (int_rem (signed_of a) (signed_of b))) h (word_of-lt (int_rem (signed_of a) (signed_of b)))
+rem_word-lt a b h = either (b == 0) a (word_of (int_rem (signed_of a) (signed_of b))) h
+    (word_of-lt (int_rem (signed_of a) (signed_of b)))
 
 pub remu_word-lt : (a b : ℕ) → a < 2 ^ 32 → remu_word a b < 2 ^ 32
 remu_word-lt a b h = either (b == 0) a (a % b) h (omega (arith, h, mod-le a b))

@@ -24,12 +24,14 @@ word_of_minus zero k h = omega arith
 word_of_minus (suc n) k h = omega (arith, h)
 
 -- a times k, a read as signed
-times_by : (a k : ℕ) → a < 2 ^ 32 → (below : Bool) → nat_lt a (2 ^ 31) ≡ below → word_of (signed_of a *ℤ pos k) ≡ (a * k) % 2 ^ 32
+times_by : (a k : ℕ) → a < 2 ^ 32 → (below : Bool) → nat_lt a (2 ^ 31) ≡ below →
+    word_of (signed_of a *ℤ pos k) ≡ (a * k) % 2 ^ 32
 times_by a k p true is = let same : signed_of a ≡ pos a = grind arith in rw same refl
 times_by a k p false is =
     let same : signed_of a ≡ neg_ℤ (pos (2 ^ 32 - a)) = grind arith in
     let whole : (2 ^ 32 - a + a) * k ≡ (2 ^ 32 - a) * k + a * k = add-mul (2 ^ 32 - a) a k in
-    let full : (2 ^ 32 - a + a) * k ≡ k * 2 ^ 32 = ap (λ n. n * k) (let n : 2 ^ 32 - a + a ≡ 2 ^ 32 = omega (arith, p) in n) ∙ mul_comm (2 ^ 32) k in
+    let full : (2 ^ 32 - a + a) * k ≡ k * 2 ^ 32 = ap (λ n. n * k)
+    (let n : 2 ^ 32 - a + a ≡ 2 ^ 32 = omega (arith, p) in n) ∙ mul_comm (2 ^ 32) k in
     let rest : k * 2 ^ 32 - (2 ^ 32 - a) * k ≡ a * k = omega (arith, whole, full) in
     let bound : (2 ^ 32 - a) * k ≤ k * 2 ^ 32 = omega (arith, whole, full) in
     let product : signed_of a *ℤ pos k ≡ neg_ℤ (pos ((2 ^ 32 - a) * k)) = rw same (neg-times (2 ^ 32 - a) k) in

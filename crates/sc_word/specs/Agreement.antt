@@ -1,4 +1,5 @@
--- The machine computes what C computes: where a C operator answers a word, the instruction that is emitted for it answers the same one.
+-- The machine computes what C computes: where a C operator answers a word, the instruction that is emitted for it
+-- answers the same one.
 use Rattle.std.specs.Prelude.{ℕ, ◌≡◌, ◌^◌, ◌<◌, Result, Ok}
 use Rattle.sc_word.specs.declared.fault.WordFault.{WordFault}
 use Rattle.sc_word.specs.CArithmetic.{add_signed, sub_signed, mul_signed, neg_signed, div_signed, rem_signed, shl_signed, shr_signed, div_unsigned, rem_unsigned, shl_unsigned, shr_unsigned}

@@ -1,4 +1,5 @@
--- What C's operators compute on `int` and `unsigned int` of 32 bits, and the fault where they compute nothing (C11 6.5.5 to 6.5.8, 6.5.3.3).
+-- What C's operators compute on `int` and `unsigned int` of 32 bits, and the fault where they compute nothing (C11
+-- 6.5.5 to 6.5.8, 6.5.3.3).
 -- Signed arithmetic is that of the whole numbers, as far as the result fits. Unsigned arithmetic is modulo 2 ^ 32.
 use Rattle.std.specs.Prelude.{ℕ, ℤ, pos, ◌+ℤ◌, ◌-ℤ◌, ◌*ℤ◌, neg_ℤ, ◌*◌, ◌/◌, ◌%◌, ◌^◌, Result, Ok, Err, if◌then◌else◌, ◌==◌, nat_le, int_lt, int_div, int_rem}
 use Rattle.std.specs.Int.{int_shr}
@@ -30,12 +31,14 @@ div_signed a b = if b == 0 then Err ZeroDivisor else checked (int_div (signed_of
 -- a % b, with the sign of a: it is defined where a / b is (C11 6.5.5p6)
 abbrev pub rem_signed : ℕ → ℕ → Result ℕ WordFault
 rem_signed a b =
-    if b == 0 then Err ZeroDivisor else (if fits_signed (int_div (signed_of a) (signed_of b)) then Ok (word_of (int_rem (signed_of a) (signed_of b))) else Err Overflow)
+    if b == 0 then Err ZeroDivisor else (if fits_signed (int_div (signed_of a) (signed_of b)) then
+    Ok (word_of (int_rem (signed_of a) (signed_of b))) else Err Overflow)
 
 -- a << b: a times 2 ^ b, for an a that isn't negative (C11 6.5.7p3, p4). The count is looked at first
 abbrev pub shl_signed : ℕ → ℕ → Result ℕ WordFault
 shl_signed a b =
-    if nat_le 32 b then Err BadShift else (if int_lt (signed_of a) (pos 0) then Err Overflow else checked (signed_of a *ℤ pos (2 ^ b)))
+    if nat_le 32 b then Err BadShift else (if int_lt (signed_of a) (pos 0) then Err Overflow else
+    checked (signed_of a *ℤ pos (2 ^ b)))
 
 -- a >> b: a over 2 ^ b, rounded down, also for a negative a (C11 6.5.7p5 leaves that to the implementation)
 abbrev pub shr_signed : ℕ → ℕ → Result ℕ WordFault

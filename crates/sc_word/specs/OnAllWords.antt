@@ -1,4 +1,5 @@
--- Operators that answer on all words, results taken modulo 2 ^ 32 and shift counts modulo 32: each is one instruction, or a few.
+-- Operators that answer on all words, results taken modulo 2 ^ 32 and shift counts modulo 32: each is one instruction,
+-- or a few.
 -- Those that are an instruction's own definition (unsigned sums, quotients, shifts to the right) are left out.
 use Rattle.std.specs.Prelude.{ℕ, pos, ◌≡◌, ◌+ℤ◌, ◌-ℤ◌, ◌*ℤ◌, neg_ℤ, ◌%◌, ◌^◌, ◌<◌, Bool, not, ◌&&◌, ◌||◌, ◌==◌, int_lt, nat_lt, if◌then◌else◌, bit_and, bit_or, bit_xor}
 use Rattle.sc_word.specs.Word.{signed_of, word_of}
@@ -26,7 +27,8 @@ pub record TestsAreWords : Type 0 where
   pub not_equal : IsOnWords (λ a b. bit (not (a == b))) (λ a b. sltu_word 0 (sub_word a b))
   pub signed_less : IsOnWords (λ a b. bit (int_lt (signed_of a) (signed_of b))) slt_word
   pub unsigned_less : IsOnWords (λ a b. bit (nat_lt a b)) sltu_word
-  pub signed_not_less : IsOnWords (λ a b. bit (not (int_lt (signed_of a) (signed_of b)))) (λ a b. bit_xor (slt_word a b) 1)
+  pub signed_not_less : IsOnWords (λ a b. bit (not (int_lt (signed_of a) (signed_of b))))
+      (λ a b. bit_xor (slt_word a b) 1)
   pub unsigned_not_less : IsOnWords (λ a b. bit (not (nat_lt a b))) (λ a b. bit_xor (sltu_word a b) 1)
   pub either : IsOnWords (λ a b. bit (not (a == 0) || not (b == 0))) (λ a b. bit_or (sltu_word 0 a) (sltu_word 0 b))
   pub both : IsOnWords (λ a b. bit (not (a == 0) && not (b == 0))) (λ a b. bit_and (sltu_word 0 a) (sltu_word 0 b))

@@ -3,7 +3,7 @@ use Rattle.std.proofs.Common.{◌≡◌, Bool, cond, true, false, refl, sym, ap,
 use Rattle.std.specs.Prelude.{◌&&◌, ◌==◌, not, find, length, option_and_then, option_map}
 use Rattle.std.specs.List.{list_all, list_any}
 use Rattle.std.specs.Str.{bytes_eq}
-use Rattle.sc_words.specs.Options.{Form, Given, Text, begins_with_hyphen, given, has_value, is_among, is_bare, more, named, named_option, options, when_complete}
+use Rattle.sc_words.specs.Options.{Form, Setting, Text, begins_with_hyphen, settings, has_value, is_among, is_bare, more, named, named_option, options, when_complete}
 use Rattle.sc_words.specs.Words.{commands, form_of, parsed}
 use Rattle.sc_base.proofs.Texts.{same_text}
 
@@ -18,7 +18,8 @@ pub by_command : (P : Text → Form → Type 0) (cs : List (Text × Form)) → H
 by_command P [] holds name form is = cc
 by_command P (c ∷ cs) holds name form is = go (bytes_eq c.0 name) refl (by_command P cs holds.1 name form)
   where
-    go : (b : Bool) → bytes_eq c.0 name ≡ b → (option_map (λ entry. entry.1) (find (λ entry. bytes_eq entry.0 name) cs) ≡ Some form → P name form) → P name form
+    go : (b : Bool) → bytes_eq c.0 name ≡ b → (option_map (λ entry. entry.1)
+        (find (λ entry. bytes_eq entry.0 name) cs) ≡ Some form → P name form) → P name form
     go true e later =
         let here : Some c.1 ≡ Some form = rw e at is in
         let same : c.1 ≡ form = cc in
@@ -42,7 +43,8 @@ hyphen_in_front word bare = go (begins_with_hyphen word) _ bare
     go true rest e = refl
     go false rest e = absurd (true≢false (sym e))
 
-nothing_behind : (form : Form) (o : Option (Text × Option Text)) (behind : Option Text → Option (List Given)) → ((waiting : Option Text) → behind waiting ≡ None)
+nothing_behind : (form : Form) (o : Option (Text × Option Text)) (behind : Option Text → Option (List Setting)) →
+    ((waiting : Option Text) → behind waiting ≡ None)
     → named_option form o behind ≡ None
 nothing_behind form None behind none = refl
 nothing_behind form (Some (name, Some value)) behind none = go (has_value form name)
@@ -58,7 +60,8 @@ nothing_behind form (Some (name, None)) behind none = go (has_value form name) (
     go false false = refl
 
 -- a bare word names no option
-bare_fails : (form : Form) → HasNames form → (word : Text) (behind : Option Text → Option (List Given)) → is_bare word ≡ true
+bare_fails : (form : Form) → HasNames form → (word : Text) (behind : Option Text → Option (List Setting)) →
+    is_bare word ≡ true
     → named_option form (named word) behind ≡ None
 bare_fails form has [] behind bare = absurd (true≢false (sym bare))
 bare_fails form has (a ∷ []) behind bare = go (a == 45) refl
@@ -74,27 +77,32 @@ bare_fails form has (a ∷ b ∷ []) behind bare = go (a == 45) refl (b == 45) r
     go false e y f = rw e refl
 bare_fails form has (a ∷ b ∷ x ∷ xs) behind bare = go (a == 45) refl (b == 45) refl
   where
-    go : (y : Bool) → (a == 45) ≡ y → (z : Bool) → (b == 45) ≡ z → named_option form (named (a ∷ b ∷ x ∷ xs)) behind ≡ None
+    go : (y : Bool) → (a == 45) ≡ y → (z : Bool) → (b == 45) ≡ z →
+        named_option form (named (a ∷ b ∷ x ∷ xs)) behind ≡ None
     go true e true f =
         let two : length (a ∷ b ∷ x ∷ xs) ≡ 2 = eqb-true (length (a ∷ b ∷ x ∷ xs)) 2 (rw (e, f) at bare) in
         absurd (omega arith)
     go true e false f = rw (e, f) refl
     go false e z f = rw e refl
 
-no_options : (form : Form) → HasNames form → (words : List Text) → list_any is_bare words ≡ true → (waiting : Option Text) → given form waiting words ≡ None
-unfolding given
+no_options : (form : Form) → HasNames form → (words : List Text) → list_any is_bare words ≡ true →
+    (waiting : Option Text) → settings form waiting words ≡ None
+unfolding settings
 no_options form has [] bare waiting = absurd (true≢false (sym bare))
 no_options form has (word ∷ words) bare waiting = go (is_bare word) refl waiting (no_options form has words)
   where
-    waits : (b : Bool) (name : Text) → given form None words ≡ None → cond b None (more name word (given form None words)) ≡ None
+    waits : (b : Bool) (name : Text) → settings form None words ≡ None →
+        cond b None (more name word (settings form None words)) ≡ None
     waits true name none = refl
     waits false name none = ap (more name word) none
 
     go : (b : Bool) → is_bare word ≡ b → (waiting : Option Text)
-        → (list_any is_bare words ≡ true → (waiting : Option Text) → given form waiting words ≡ None) → given form waiting (word ∷ words) ≡ None
-    go true e None later = bare_fails form has word (λ waiting. given form waiting words) e
+        → (list_any is_bare words ≡ true → (waiting : Option Text) → settings form waiting words ≡ None) →
+        settings form waiting (word ∷ words) ≡ None
+    go true e None later = bare_fails form has word (λ waiting. settings form waiting words) e
     go true e (Some name) later = rw (hyphen_in_front word e) refl
-    go false e None later = nothing_behind form (named word) (λ waiting. given form waiting words) (later (rw e at bare))
+    go false e None later = nothing_behind form (named word) (λ waiting. settings form waiting words)
+        (later (rw e at bare))
     go false e (Some name) later = waits (begins_with_hyphen word) name (later (rw e at bare) None)
 
 -- no command has a hyphen in front
@@ -113,20 +121,24 @@ bare_words [] bare = absurd (true≢false (sym bare))
 bare_words (name ∷ words) bare = go (is_bare name) refl (form_of name) refl
   where
     go : (b : Bool) → is_bare name ≡ b → (o : Option Form) → form_of name ≡ o
-        → option_map {U = Text × List Given} (λ given. (name, given)) (option_and_then (λ form. options form words) o) ≡ None
+        → option_map {U = Text × List Setting} (λ settings. (name, settings))
+        (option_and_then (λ form. options form words) o) ≡ None
     go b e None is = refl
     go true e (Some form) is =
         let none : form_of name ≡ None = no_command name e in
         cc
     go false e (Some form) is =
-        ap (λ o. option_map {U = Text × List Given} (λ given. (name, given)) (option_and_then (when_complete form) o))
+        ap (λ o. option_map {U = Text × List Setting} (λ settings. (name, settings))
+        (option_and_then (when_complete form) o))
         (no_options form (names_of_forms name form is) words (rw e at bare) None)
 
-pub none_bare : (words : List Text) → list_any is_bare words ≡ false → list_all (λ word. not (is_bare word)) words ≡ true
+pub none_bare : (words : List Text) → list_any is_bare words ≡ false →
+    list_all (λ word. not (is_bare word)) words ≡ true
 none_bare [] e = refl
 none_bare (word ∷ words) e = go (is_bare word) refl (none_bare words)
   where
-    go : (b : Bool) → is_bare word ≡ b → (list_any is_bare words ≡ false → list_all (λ word. not (is_bare word)) words ≡ true)
+    go : (b : Bool) → is_bare word ≡ b → (list_any is_bare words ≡ false →
+        list_all (λ word. not (is_bare word)) words ≡ true)
         → (not (is_bare word) && list_all (λ word. not (is_bare word)) words) ≡ true
     go true is later = absurd (true≢false (rw is at e))
     go false is later = rw is (later (rw is at e))

@@ -31,7 +31,8 @@ first_fails (k ∷ ks) b fails e = not_empty k ks e
 -- ---- words by their hyphens
 
 -- a word that is not bare has no hyphen in front, or names an option
-pub by_hyphens : (P : Text → Type 0) → ((word : Text) → begins_with_hyphen word ≡ false → P word) → ((x : ℕ) (xs : Text) → P (45 ∷ 45 ∷ x ∷ xs))
+pub by_hyphens : (P : Text → Type 0) → ((word : Text) → begins_with_hyphen word ≡ false → P word) →
+    ((x : ℕ) (xs : Text) → P (45 ∷ 45 ∷ x ∷ xs))
     → (word : Text) → is_bare word ≡ false → P word
 by_hyphens P plain long [] bare = plain [] refl
 by_hyphens P plain long (a ∷ []) bare = go (a == 45) refl

@@ -15,7 +15,8 @@ own : IsNumeralModel (λ ds. all_ascii_digits ds ≡ true) (digits_value 10)
 own = numerals_by_value (λ ds. all_ascii_digits ds ≡ true) tells_all_ascii_digits
 
 -- what a result is, by a test that its condition passes
-by_test : {T E : Type 0} (r : Result T E) (P : Type 0) (v : T) (b : Bool) → OkIff r P v → (P → b ≡ true) → (b ≡ true → P)
+by_test : {T E : Type 0} (r : Result T E) (P : Type 0) (v : T) (b : Bool) → OkIff r P v → (P → b ≡ true) →
+    (b ≡ true → P)
     → result_ok r ≡ cond b (Some v) None
 by_test (Ok x) P v b h to from = rw (to h.0) (ap Some h.1)
 by_test (Err e) P v true h to from = absurd (h (from refl))
@@ -24,35 +25,45 @@ by_test (Err e) P v false h to from = refl
 abbrev test : (most : ℕ) → List ℕ → Bool
 test most text = (nat_lt 0 (length text) && all_ascii_digits text) && nat_le (digits_value 10 text) most
 
-passes : (most : ℕ) (text : List ℕ) → all_ascii_digits text ≡ true → 0 < length text → digits_value 10 text ≤ most → test most text ≡ true
-passes most text digits some within = rw (lt-ltb 0 (length text) some, digits, le-leb (digits_value 10 text) most within) refl
+passes : (most : ℕ) (text : List ℕ) → all_ascii_digits text ≡ true → 0 < length text → digits_value 10 text ≤ most →
+    test most text ≡ true
+passes most text digits some within = rw (
+  lt-ltb 0 (length text) some,
+  digits,
+  le-leb (digits_value 10 text) most within,
+) refl
 
-parts : (most : ℕ) (text : List ℕ) → test most text ≡ true → (all_ascii_digits text ≡ true) × (0 < length text) × (digits_value 10 text ≤ most)
+parts : (most : ℕ) (text : List ℕ) → test most text ≡ true →
+    (all_ascii_digits text ≡ true) × (0 < length text) × (digits_value 10 text ≤ most)
 parts most text e =
     let all = and_parts _ _ e in
     let front = and_parts _ _ all.0 in
     (front.1, ltb-true 0 (length text) front.0, leb-true (digits_value 10 text) most all.1)
 
-within_by_test : {T : Type 0} (f : ℕ → T) (most : ℕ) (text : List ℕ) → cond (test most text) (Some (f (digits_value 10 text))) None ≡ option_map f (number_within 0 most text)
+within_by_test : {T : Type 0} (f : ℕ → T) (most : ℕ) (text : List ℕ) →
+    cond (test most text) (Some (f (digits_value 10 text))) None ≡ option_map f (number_within 0 most text)
 within_by_test {T} f most text = go (nat_lt 0 (length text) && all_ascii_digits text)
   where
-    step : (low high : Bool) → low ≡ true → cond high (Some (f (digits_value 10 text))) None ≡ option_map f (cond (low && high) (Some (digits_value 10 text)) None)
+    step : (low high : Bool) → low ≡ true → cond high (Some (f (digits_value 10 text))) None ≡
+        option_map f (cond (low && high) (Some (digits_value 10 text)) None)
     step true true e = refl
     step true false e = refl
     step false high e = absurd (true≢false (sym e))
 
     go : (a : Bool) → cond (a && nat_le (digits_value 10 text) most) (Some (f (digits_value 10 text))) None
         ≡ option_map f (option_and_then (when_within 0 most) (cond a (Some (digits_value 10 text)) None))
-    go true = step (nat_le 0 (digits_value 10 text)) (nat_le (digits_value 10 text) most) (le-leb 0 (digits_value 10 text) (omega arith))
+    go true = step (nat_le 0 (digits_value 10 text)) (nat_le (digits_value 10 text) most)
+        (le-leb 0 (digits_value 10 text) (omega arith))
     go false = refl
 
 -- the digits of a text with no sign in front
-pub digits_read : {E : Type 0} (text : List ℕ) (r : Result ℕ E) → ParsesUnsigned 32 10 text r → (slice_index text 0 == 43) ≡ false
+pub digits_read : {E : Type 0} (text : List ℕ) (r : Result ℕ E) → ParsesUnsigned 32 10 text r →
+    (slice_index text 0 == 43) ≡ false
     → result_ok r ≡ number_within 0 4294967295 text
 digits_read text r h plain =
     let no_plus : get_or text 0 0 ≢ 43 = λ e. true≢false (sym (eq-eqb (get_or text 0 0) 43 e) ∙ plain) in
-    let given = parse_plain own 32 text r h no_plus in
-    by_test r _ (digits_value 10 text) (test 4294967295 text) given
+    let settings = parse_plain own 32 text r h no_plus in
+    by_test r _ (digits_value 10 text) (test 4294967295 text) settings
     (λ p. passes 4294967295 text p.0 p.1 (omega (arith, p.2)))
     (λ e. let all = parts 4294967295 text e in (all.0, all.1, omega (arith, all.2)))
     ∙ (within_by_test (λ n. n) 4294967295 text ∙ same (number_within 0 4294967295 text))
@@ -62,25 +73,28 @@ digits_read text r h plain =
     same (Some n) = refl
 
 -- an integer with no `+` in front
-pub integer_read : {E : Type 0} (text : List ℕ) (r : Result ℤ E) → ParsesSigned w32 10 text r → (slice_index text 0 == 43) ≡ false
+pub integer_read : {E : Type 0} (text : List ℕ) (r : Result ℤ E) → ParsesSigned w32 10 text r →
+    (slice_index text 0 == 43) ≡ false
     → result_ok r ≡ integer text
-integer_read [] r h plain = by_test r _ _ false (parse_signed_plain own w32 [] r h (λ e. absurd (omega arith)) (λ e. absurd (omega arith)))
+integer_read [] r h plain = by_test r _ _ false (parse_signed_plain own w32 [] r h (λ e. absurd (omega arith))
+    (λ e. absurd (omega arith)))
     (λ p. absurd (omega (arith, p.1))) (λ e. absurd (true≢false (sym e)))
 integer_read (c ∷ cs) r h plain = go (c == 45) refl
   where
     go : (b : Bool) → (c == 45) ≡ b
-        → result_ok r ≡ cond b (option_map (λ n. neg_ℤ (pos n)) (number_within 0 2147483648 cs)) (option_map pos (number_within 0 2147483647 (c ∷ cs)))
+        → result_ok r ≡ cond b (option_map (λ n. neg_ℤ (pos n)) (number_within 0 2147483648 cs))
+        (option_map pos (number_within 0 2147483647 (c ∷ cs)))
     go true e =
-        let given = parse_signed_minus own w32 (c ∷ cs) r h (eqb-true c 45 e) in
-        by_test r _ (neg_ℤ (pos (digits_value 10 cs))) (test 2147483648 cs) given
+        let settings = parse_signed_minus own w32 (c ∷ cs) r h (eqb-true c 45 e) in
+        by_test r _ (neg_ℤ (pos (digits_value 10 cs))) (test 2147483648 cs) settings
         (λ p. passes 2147483648 cs p.0 p.1 p.2)
         (λ e. let all = parts 2147483648 cs e in (all.0, all.1, all.2))
         ∙ within_by_test (λ n. neg_ℤ (pos n)) 2147483648 cs
     go false e =
         let no_minus : c ≢ 45 = λ is. true≢false (sym (eq-eqb c 45 is) ∙ e) in
         let no_plus : c ≢ 43 = λ is. true≢false (sym (eq-eqb c 43 is) ∙ plain) in
-        let given = parse_signed_plain own w32 (c ∷ cs) r h no_plus no_minus in
-        by_test r _ (pos (digits_value 10 (c ∷ cs))) (test 2147483647 (c ∷ cs)) given
+        let settings = parse_signed_plain own w32 (c ∷ cs) r h no_plus no_minus in
+        by_test r _ (pos (digits_value 10 (c ∷ cs))) (test 2147483647 (c ∷ cs)) settings
         (λ p. passes 2147483647 (c ∷ cs) p.0 p.1 (omega (arith, p.2)))
         (λ e. let all = parts 2147483647 (c ∷ cs) e in (all.0, all.1, omega (arith, all.2)))
         ∙ within_by_test pos 2147483647 (c ∷ cs)
@@ -108,7 +122,8 @@ none_passes : (text : List ℕ) → position_or_len is_comma text ≡ length tex
 none_passes [] e = refl
 none_passes (b ∷ rest) e = go (is_comma b) refl (none_passes rest)
   where
-    go : (x : Bool) → is_comma b ≡ x → (position_or_len is_comma rest ≡ length rest → list_any is_comma rest ≡ false) → (is_comma b || list_any is_comma rest) ≡ false
+    go : (x : Bool) → is_comma b ≡ x → (position_or_len is_comma rest ≡ length rest → list_any is_comma rest ≡ false) →
+        (is_comma b || list_any is_comma rest) ≡ false
     go true is later =
         let none : 0 ≡ length (b ∷ rest) = rw is at e in
         absurd (omega arith)
@@ -124,25 +139,29 @@ unfolding pieces
 one_piece [] e = refl
 one_piece (b ∷ rest) e = go (is_comma b) refl (one_piece rest)
   where
-    go : (x : Bool) → is_comma b ≡ x → (list_any is_comma rest ≡ false → pieces rest ≡ first_piece rest ∷ []) → pieces (b ∷ rest) ≡ first_piece (b ∷ rest) ∷ []
+    go : (x : Bool) → is_comma b ≡ x → (list_any is_comma rest ≡ false → pieces rest ≡ first_piece rest ∷ []) →
+        pieces (b ∷ rest) ≡ first_piece (b ∷ rest) ∷ []
     go true is later = absurd (true≢false (rw is at e))
     go false is later =
         let step : pieces (b ∷ rest) ≡ onto_first b (pieces rest) = rw is refl in
         step ∙ (ap (onto_first b) (later (rw is at e)) ∙ ap (λ x. x ∷ []) (sym (first_past b rest is)))
 
-more_pieces : (text : List ℕ) → list_any is_comma text ≡ true → pieces text ≡ first_piece text ∷ pieces (after_first is_comma text)
+more_pieces : (text : List ℕ) → list_any is_comma text ≡ true →
+    pieces text ≡ first_piece text ∷ pieces (after_first is_comma text)
 unfolding pieces
 more_pieces [] e = absurd (true≢false (sym e))
 more_pieces (b ∷ rest) e = go (is_comma b) refl (more_pieces rest)
   where
-    go : (x : Bool) → is_comma b ≡ x → (list_any is_comma rest ≡ true → pieces rest ≡ first_piece rest ∷ pieces (after_first is_comma rest))
+    go : (x : Bool) → is_comma b ≡ x → (list_any is_comma rest ≡ true →
+        pieces rest ≡ first_piece rest ∷ pieces (after_first is_comma rest))
         → pieces (b ∷ rest) ≡ first_piece (b ∷ rest) ∷ pieces (after_first is_comma (b ∷ rest))
     go true is later =
         let step : pieces (b ∷ rest) ≡ [] ∷ pieces rest = rw is refl in
         step ∙ ap₂ (λ x y. x ∷ pieces y) (sym (first_here b rest is)) (sym (after_here b rest is))
     go false is later =
         let step : pieces (b ∷ rest) ≡ onto_first b (pieces rest) = rw is refl in
-        step ∙ (ap (onto_first b) (later (rw is at e)) ∙ ap₂ (λ x y. x ∷ pieces y) (sym (first_past b rest is)) (sym (after_past b rest is)))
+        step ∙ (ap (onto_first b) (later (rw is at e)) ∙
+        ap₂ (λ x y. x ∷ pieces y) (sym (first_past b rest is)) (sym (after_past b rest is)))
 
 -- ---- a list that is read piece by piece
 
@@ -163,8 +182,10 @@ cut : (left : List ℕ) → ((pieces_behind left ≡ None) × (pieces left ≡ f
     ⊎ ((behind : List ℕ) × (pieces_behind left ≡ Some behind) × (pieces left ≡ first_piece left ∷ pieces behind))
 cut left = go (list_any is_comma left) refl
   where
-    go : (b : Bool) → list_any is_comma left ≡ b → ((cond b (Some (after_first is_comma left)) None ≡ None) × (pieces left ≡ first_piece left ∷ []))
-        ⊎ ((behind : List ℕ) × (cond b (Some (after_first is_comma left)) None ≡ Some behind) × (pieces left ≡ first_piece left ∷ pieces behind))
+    go : (b : Bool) → list_any is_comma left ≡ b → ((cond b (Some (after_first is_comma left)) None ≡ None) ×
+        (pieces left ≡ first_piece left ∷ []))
+        ⊎ ((behind : List ℕ) × (cond b (Some (after_first is_comma left)) None ≡ Some behind) ×
+        (pieces left ≡ first_piece left ∷ pieces behind))
     go true e = inr (after_first is_comma left, refl, more_pieces left e)
     go false e = inl (refl, one_piece left e)
 
@@ -172,7 +193,8 @@ none_or_not : (b : Bool) (o : Option (List ℤ)) → o ≡ None → cond b o Non
 none_or_not true o e = e
 none_or_not false o e = refl
 
-pub refused : (text : List ℕ) (count : ℕ) (done : List ℤ) (left : List ℕ) → IsReadUpTo text count done left → integer (first_piece left) ≡ None
+pub refused : (text : List ℕ) (count : ℕ) (done : List ℤ) (left : List ℕ) → IsReadUpTo text count done left →
+    integer (first_piece left) ≡ None
     → integer_list text ≡ None
 unfolding integers
 refused text count done left is bad = none_or_not _ _ (is.values ∙ ap (option_map (λ xs. done ++ xs)) none)
@@ -186,22 +208,26 @@ refused text count done left is bad = none_or_not _ _ (is.values ∙ ap (option_
       | inr c ↦ ap integers c.2 ∙ first_bad (integers (pieces c.0))
     ]
 
-pub ends : (text : List ℕ) (count : ℕ) (done : List ℤ) (left : List ℕ) (last : ℤ) → IsReadUpTo text count done left → count < 65536
+pub ends : (text : List ℕ) (count : ℕ) (done : List ℤ) (left : List ℕ) (last : ℤ) → IsReadUpTo text count done left →
+    count < 65536
     → integer (first_piece left) ≡ Some last → pieces_behind left ≡ None → integer_list text ≡ Some (done ++ last ∷ [])
 unfolding integers
 ends text count done left last is few good none = elim (cut left) [
   | inl c ↦
       let one : length (pieces left) ≡ 1 = ap length c.1 in
       let within : length (pieces text) ≤ 65536 = omega (arith, is.pieces) in
-      let all : integers (pieces text) ≡ Some (done ++ last ∷ []) = is.values ∙ ap (option_map (λ xs. done ++ xs)) (ap integers c.1 ∙ ap (λ x. in_front x (Some [])) good) in
+      let all : integers (pieces text) ≡ Some (done ++ last ∷ []) =
+      is.values ∙ ap (option_map (λ xs. done ++ xs)) (ap integers c.1 ∙ ap (λ x. in_front x (Some [])) good) in
       rw (le-leb (length (pieces text)) 65536 within) all
   | inr c ↦
       let bad : None ≡ Some c.0 = sym none ∙ c.1 in
       cc
 ]
 
-pub goes_on : (text : List ℕ) (count : ℕ) (done : List ℤ) (left : List ℕ) (next : ℤ) (behind : List ℕ) → IsReadUpTo text count done left
-    → integer (first_piece left) ≡ Some next → pieces_behind left ≡ Some behind → IsReadUpTo text (count + 1) (done ++ next ∷ []) behind
+pub goes_on : (text : List ℕ) (count : ℕ) (done : List ℤ) (left : List ℕ) (next : ℤ) (behind : List ℕ) →
+    IsReadUpTo text count done left
+    → integer (first_piece left) ≡ Some next → pieces_behind left ≡ Some behind →
+    IsReadUpTo text (count + 1) (done ++ next ∷ []) behind
 unfolding integers
 goes_on text count done left next behind is good some = elim (cut left) [
   | inl c ↦
@@ -213,13 +239,15 @@ goes_on text count done left next behind is good some = elim (cut left) [
       let parts : pieces left ≡ first_piece left ∷ pieces behind = c.2 ∙ ap (λ x. first_piece left ∷ pieces x) same in
       let more : length (pieces left) ≡ suc (length (pieces behind)) = ap length parts in
       record {
-        values = is.values ∙ (ap (option_map (λ xs. done ++ xs)) (ap integers parts ∙ ap (λ o. in_front o (integers (pieces behind))) good)
+        values = is.values ∙ (ap (option_map (λ xs. done ++ xs))
+            (ap integers parts ∙ ap (λ o. in_front o (integers (pieces behind))) good)
             ∙ joined (integers (pieces behind)));
         pieces = omega (arith, is.pieces);
       }
 ]
   where
-    joined : (o : Option (List ℤ)) → option_map (λ xs. done ++ xs) (in_front (Some next) o) ≡ option_map (λ xs. (done ++ next ∷ []) ++ xs) o
+    joined : (o : Option (List ℤ)) → option_map (λ xs. done ++ xs) (in_front (Some next) o) ≡
+        option_map (λ xs. (done ++ next ∷ []) ++ xs) o
     joined None = refl
     joined (Some xs) = ap Some (sym (append_assoc done (next ∷ []) xs))
 
@@ -232,7 +260,8 @@ not_within a b lt = go (nat_le a b) refl
         absurd (omega arith)
     go false e = refl
 
-pub too_long : (text : List ℕ) (count : ℕ) (done : List ℤ) (left : List ℕ) → IsReadUpTo text count done left → 65536 ≤ count → integer_list text ≡ None
+pub too_long : (text : List ℕ) (count : ℕ) (done : List ℤ) (left : List ℕ) → IsReadUpTo text count done left →
+    65536 ≤ count → integer_list text ≡ None
 too_long text count done left is many = elim (cut left) [
   | inl c ↦ over (ap length c.1)
   | inr c ↦ over (ap length c.2)

@@ -10,7 +10,7 @@ use Rattle.clap.specs.Simple.{Shape}
 use Rattle.clap.specs.Lexer.{short_of}
 use Rattle.clap.specs.Walk.{Held, Row, Rule, Step, Waiting, Walk, after_flag, after_step, arg_by_id, finished, has_row, idle, long_met, nothing_held, option, reacted, rows_after, settled, used, used_by_id, walked, with_default}
 use Rattle.clap.specs.declared.error.kind.ErrorKind.TheVariants as kind
-use Rattle.sc_words.specs.Options.{Form, Given, Text, begins_with_hyphen, each_once, given, has_option, has_value, is_among, is_bare, more, name_and_value, named, named_option, options, when_complete}
+use Rattle.sc_words.specs.Options.{Form, Setting, Text, begins_with_hyphen, each_once, settings, has_option, has_value, is_among, is_bare, more, name_and_value, named, named_option, options, when_complete}
 use Rattle.sc_base.proofs.Texts.{bytes_eq_self}
 use Rattle.sc_words.proofs.Basics.{by_hyphens, first_fails, first_not, not_empty, or_else_assoc, second_fails}
 use Rattle.sc_words.proofs.Lookup.{by_id, by_index, by_long, lookup, lookup_other, lookup_valued, ready, ready_alone, ready_rules, ready_valued}
@@ -30,7 +30,8 @@ module _ (title : Text) (form : Form) where
 
   -- the kinds and the rows of a walk that goes on from here
   abbrev end_faults : Held → Kinds
-  end_faults h = or_else (settle_fault rs false h) (or_else (defaults_fault (settled rs h).rows rs) (check_fault s (finished rs h) false))
+  end_faults h = or_else (settle_fault rs false h) (or_else (defaults_fault (settled rs h).rows rs)
+      (check_fault s (finished rs h) false))
 
   faults : Walk → List Text → Kinds
   faults w words = or_else (walk_fault s [] w words) (end_faults (fold (walked rs []) w words).held)
@@ -38,7 +39,8 @@ module _ (title : Text) (form : Form) where
   ends : Walk → List Text → List Row
   ends w words = finished rs (fold (walked rs []) w words).held
 
-  faults_next : (w : Walk) (word : Text) (words : List Text) → faults w (word ∷ words) ≡ or_else (turn_fault s [] w word) (faults (walked rs [] w word) words)
+  faults_next : (w : Walk) (word : Text) (words : List Text) →
+      faults w (word ∷ words) ≡ or_else (turn_fault s [] w word) (faults (walked rs [] w word) words)
   unfolding faults walk_fault
   faults_next w word words = or_else_assoc (turn_fault s [] w word) (walk_fault s [] (walked rs [] w word) words) _
 
@@ -47,7 +49,8 @@ module _ (title : Text) (form : Form) where
   ends_next w word words = refl
 
   -- a word that fails at once
-  stops : (w : Walk) (word : Text) (words : List Text) → (turn_fault s [] w word ≡ [] → ⊥) → faults w (word ∷ words) ≡ [] → ⊥
+  stops : (w : Walk) (word : Text) (words : List Text) → (turn_fault s [] w word ≡ [] → ⊥) →
+      faults w (word ∷ words) ≡ [] → ⊥
   stops w word words fails e = first_fails (turn_fault s [] w word) _ fails (sym (faults_next w word words) ∙ e)
 
   -- what a word `--name` or `--name=value` does, by the rule of its name
@@ -61,24 +64,29 @@ module _ (title : Text) (form : Form) where
   idle_long : (h : Held) (x : ℕ) (xs : Text)
       → turn_fault s [] (at idle h) (45 ∷ 45 ∷ x ∷ xs)
       ≡ fault_by idle (45 ∷ 45 ∷ x ∷ xs) (lookup form (name_and_value (x ∷ xs)).0) (name_and_value (x ∷ xs)).1 h
-  idle_long h x xs = ap (λ a. fault_by idle (45 ∷ 45 ∷ x ∷ xs) a (name_and_value (x ∷ xs)).1 h) (by_long form (name_and_value (x ∷ xs)).0)
+  idle_long h x xs = ap (λ a. fault_by idle (45 ∷ 45 ∷ x ∷ xs) a (name_and_value (x ∷ xs)).1 h)
+      (by_long form (name_and_value (x ∷ xs)).0)
 
   idle_walks : (h : Held) (x : ℕ) (xs : Text)
       → walked rs [] (at idle h) (45 ∷ 45 ∷ x ∷ xs)
-      ≡ after_step rs (45 ∷ 45 ∷ x ∷ xs) (at idle h) (step_by idle (45 ∷ 45 ∷ x ∷ xs) (lookup form (name_and_value (x ∷ xs)).0) (name_and_value (x ∷ xs)).1 h).0
+      ≡ after_step rs (45 ∷ 45 ∷ x ∷ xs) (at idle h) (step_by idle (45 ∷ 45 ∷ x ∷ xs)
+      (lookup form (name_and_value (x ∷ xs)).0) (name_and_value (x ∷ xs)).1 h).0
       (step_by idle (45 ∷ 45 ∷ x ∷ xs) (lookup form (name_and_value (x ∷ xs)).0) (name_and_value (x ∷ xs)).1 h).1
   unfolding walked
   idle_walks h x xs =
-      ap (λ a. after_step rs (45 ∷ 45 ∷ x ∷ xs) (at idle h) (step_by idle (45 ∷ 45 ∷ x ∷ xs) a (name_and_value (x ∷ xs)).1 h).0
+      ap (λ a. after_step rs (45 ∷ 45 ∷ x ∷ xs) (at idle h)
+      (step_by idle (45 ∷ 45 ∷ x ∷ xs) a (name_and_value (x ∷ xs)).1 h).0
       (step_by idle (45 ∷ 45 ∷ x ∷ xs) a (name_and_value (x ∷ xs)).1 h).1) (by_long form (name_and_value (x ∷ xs)).0)
 
   waiting_long : (n : Text) (h : Held) (x : ℕ) (xs : Text)
       → turn_fault s [] (at (option n) h) (45 ∷ 45 ∷ x ∷ xs)
       ≡ fault_by (option n) (45 ∷ 45 ∷ x ∷ xs) (lookup form (name_and_value (x ∷ xs)).0) (name_and_value (x ∷ xs)).1 h
-  waiting_long n h x xs = ap (λ a. fault_by (option n) (45 ∷ 45 ∷ x ∷ xs) a (name_and_value (x ∷ xs)).1 h) (by_long form (name_and_value (x ∷ xs)).0)
+  waiting_long n h x xs = ap (λ a. fault_by (option n) (45 ∷ 45 ∷ x ∷ xs) a (name_and_value (x ∷ xs)).1 h)
+      (by_long form (name_and_value (x ∷ xs)).0)
 
   -- a word with no hyphen in front is no argument where nothing waits
-  idle_plain : (h : Held) (word : Text) → begins_with_hyphen word ≡ false → turn_fault s [] (at idle h) word ≡ kind.UnknownArgument ∷ []
+  idle_plain : (h : Held) (word : Text) → begins_with_hyphen word ≡ false →
+      turn_fault s [] (at idle h) word ≡ kind.UnknownArgument ∷ []
   idle_plain h [] e = rw (by_index form 1) refl
   idle_plain h (x ∷ xs) e = go (x == 45) refl
     where
@@ -90,26 +98,29 @@ module _ (title : Text) (form : Form) where
 
   -- ---- what the words come to, where `before` is given already
 
-  abbrev accepted : List Given → Option (List Given) → Option (List Given)
+  abbrev accepted : List Setting → Option (List Setting) → Option (List Setting)
   accepted before = option_and_then (λ behind. when_complete form (before ++ behind))
 
-  abbrev pub Agrees : Kinds → List Row → Option (List Given) → Type 0
+  abbrev pub Agrees : Kinds → List Row → Option (List Setting) → Type 0
   Agrees k now None = k ≡ [] → ⊥
   Agrees k now (Some all) = (k ≡ []) × (now ≡ final form all)
 
-  accepted_more : (before : List Given) (name value : Text) (behind : Option (List Given))
+  accepted_more : (before : List Setting) (name value : Text) (behind : Option (List Setting))
       → accepted before (more name value behind) ≡ accepted (before ++ (name, value) ∷ []) behind
   accepted_more before name value None = refl
-  accepted_more before name value (Some behind) = ap (when_complete form) (sym (append_assoc before ((name, value) ∷ []) behind))
+  accepted_more before name value (Some behind) = ap (when_complete form)
+      (sym (append_assoc before ((name, value) ∷ []) behind))
 
-  accepted_again : (before : List Given) (name value : Text) (behind : Option (List Given)) → has_option name before ≡ true
+  accepted_again : (before : List Setting) (name value : Text) (behind : Option (List Setting)) →
+      has_option name before ≡ true
       → accepted before (more name value behind) ≡ None
   accepted_again before name value None has = refl
   accepted_again before name value (Some behind) has = rw (repeated before name value behind has) refl
 
   abbrev IdleAgrees : List Text → Type 0
-  IdleAgrees words = (h : Held) (before : List Given) → settle_fault rs false h ≡ [] → (settled rs h).rows ≡ rows form before → each_once before ≡ true
-      → Agrees (faults (at idle h) words) (ends (at idle h) words) (accepted before (given form None words))
+  IdleAgrees words = (h : Held) (before : List Setting) → settle_fault rs false h ≡ [] →
+      (settled rs h).rows ≡ rows form before → each_once before ≡ true
+      → Agrees (faults (at idle h) words) (ends (at idle h) words) (accepted before (settings form None words))
 
   abbrev IdleFails : List Text → Type 0
   IdleFails words = (h : Held) → (settle_fault rs false h ≡ [] → ⊥) → faults (at idle h) words ≡ [] → ⊥
@@ -118,17 +129,20 @@ module _ (title : Text) (form : Form) where
   holding name values now skip = record { rows = now; pending = Some (name, values); skip = skip }
 
   abbrev WaitingAgrees : List Text → Type 0
-  WaitingAgrees words = (name : Text) (now : List Row) (skip : ℕ) (before : List Given) → has_value form name ≡ true → now ≡ rows form before
+  WaitingAgrees words = (name : Text) (now : List Row) (skip : ℕ) (before : List Setting) → has_value form name ≡ true →
+      now ≡ rows form before
       → each_once before ≡ true
-      → Agrees (faults (at (option name) (holding name [] now skip)) words) (ends (at (option name) (holding name [] now skip)) words)
-      (accepted before (given form (Some name) words))
+      → Agrees (faults (at (option name) (holding name [] now skip)) words)
+      (ends (at (option name) (holding name [] now skip)) words)
+      (accepted before (settings form (Some name) words))
 
   idle_ends : IdleAgrees []
-  unfolding faults ends given walk_fault
+  unfolding faults ends settings walk_fault
   idle_ends h before settles now once = go (list_all (λ name. has_option name before) form.needed) refl
     where
       faults_are : or_else [] (end_faults h) ≡ check form (final form before)
-      faults_are = λ i. or_else (settles i) (or_else (no_default_fails form (settled rs h).rows i) (check form (fold with_default (now i) rs)))
+      faults_are = λ i. or_else (settles i) (or_else (no_default_fails form (settled rs h).rows i)
+          (check form (fold with_default (now i) rs)))
 
       rows_are : finished rs h ≡ final form before
       rows_are = ap (λ rows. fold with_default rows rs) now
@@ -136,12 +150,17 @@ module _ (title : Text) (form : Form) where
       go : (b : Bool) → list_all (λ name. has_option name before) form.needed ≡ b
           → Agrees (or_else [] (end_faults h)) (finished rs h) (accepted before (Some []))
       go true e =
-          let taken : accepted before (Some []) ≡ Some before = ap (when_complete form) (append-nil before) ∙ rw (once, e) refl in
-          subst (Agrees (or_else [] (end_faults h)) (finished rs h)) (sym taken) (faults_are ∙ (check_is form before ∙ rw e refl), rows_are)
+          let taken : accepted before (Some []) ≡ Some before =
+          ap (when_complete form) (append-nil before) ∙ rw (once, e) refl in
+          subst (Agrees (or_else [] (end_faults h)) (finished rs h)) (sym taken)
+          (faults_are ∙ (check_is form before ∙ rw e refl), rows_are)
       go false e =
-          let missing : accepted before (Some []) ≡ None = ap (when_complete form) (append-nil before) ∙ rw (once, e) refl in
-          let fails : check form (final form before) ≡ kind.MissingRequiredArgument ∷ [] = check_is form before ∙ rw e refl in
-          subst (Agrees (or_else [] (end_faults h)) (finished rs h)) (sym missing) (λ none. not_empty _ _ (sym (faults_are ∙ fails) ∙ none))
+          let missing : accepted before (Some []) ≡ None =
+          ap (when_complete form) (append-nil before) ∙ rw (once, e) refl in
+          let fails : check form (final form before) ≡ kind.MissingRequiredArgument ∷ [] =
+          check_is form before ∙ rw e refl in
+          subst (Agrees (or_else [] (end_faults h)) (finished rs h)) (sym missing)
+          (λ none. not_empty _ _ (sym (faults_are ∙ fails) ∙ none))
 
   -- ---- one word
 
@@ -162,10 +181,12 @@ module _ (title : Text) (form : Form) where
   long_fails : (waiting : Waiting) (word name : Text) (v : Option Text) (h : Held) → (settle_fault rs false h ≡ [] → ⊥)
       → fault_by waiting word (lookup form name) v h ≡ [] → ⊥
   long_fails waiting word name v h fails =
-      lookup_cases (λ a. fault_by waiting word a v h ≡ [] → ⊥) name (λ has r. valued r v) (λ has alone. flag v) (λ has alone e. not_empty _ _ e)
+      lookup_cases (λ a. fault_by waiting word a v h ≡ [] → ⊥) name (λ has r. valued r v) (λ has alone. flag v)
+      (λ has alone e. not_empty _ _ e)
     where
       valued : (r : Bool) (v : Option Text) → fault_by waiting word (Some (ready_valued r name)) v h ≡ [] → ⊥
-      valued r (Some value) = first_fails (or_else (settle_fault rs false h) _) _ (first_fails (settle_fault rs false h) _ fails)
+      valued r (Some value) = first_fails (or_else (settle_fault rs false h) _) _
+          (first_fails (settle_fault rs false h) _ fails)
       valued r None = first_fails (settle_fault rs false h) _ fails
 
       flag : (v : Option Text) → fault_by waiting word (Some (ready_alone name)) v h ≡ [] → ⊥
@@ -178,15 +199,17 @@ module _ (title : Text) (form : Form) where
   idle_fails (word ∷ words) all h fails =
       stops (at idle h) word words (by_hyphens (λ w. turn_fault s [] (at idle h) w ≡ [] → ⊥)
       (λ w plain e. not_empty _ _ (sym (idle_plain h w plain) ∙ e))
-      (λ x xs e. long_fails idle (45 ∷ 45 ∷ x ∷ xs) (name_and_value (x ∷ xs)).0 (name_and_value (x ∷ xs)).1 h fails (sym (idle_long h x xs) ∙ e))
+      (λ x xs e. long_fails idle (45 ∷ 45 ∷ x ∷ xs) (name_and_value (x ∷ xs)).0 (name_and_value (x ∷ xs)).1 h fails
+      (sym (idle_long h x xs) ∙ e))
       word (first_not (is_bare word) _ all).0)
 
   -- what follows a word `--name` or `--name=value` where nothing waits, by the rule of its name
-  abbrev LongAgrees : Held → List Given → Text → Text → Option Text → List Text → Option Rule → Type 0
+  abbrev LongAgrees : Held → List Setting → Text → Text → Option Text → List Text → Option Rule → Type 0
   LongAgrees h before word name v words a =
-      Agrees (or_else (fault_by idle word a v h) (faults (after_step rs word (at idle h) (step_by idle word a v h).0 (step_by idle word a v h).1) words))
+      Agrees (or_else (fault_by idle word a v h) (faults
+      (after_step rs word (at idle h) (step_by idle word a v h).0 (step_by idle word a v h).1) words))
       (ends (after_step rs word (at idle h) (step_by idle word a v h).0 (step_by idle word a v h).1) words)
-      (accepted before (named_option form (Some (name, v)) (λ waiting. given form waiting words)))
+      (accepted before (named_option form (Some (name, v)) (λ waiting. settings form waiting words)))
 
   valued_row : (name value : Text) → has_value form name ≡ true → row form (name, value) ≡ plain_row name value
   valued_row name value has = rw has refl
@@ -194,27 +217,35 @@ module _ (title : Text) (form : Form) where
   alone_row : (name : Text) → has_value form name ≡ false → row form (name, []) ≡ plain_row name (codes "true")
   alone_row name has = rw has refl
 
-  rows_more : (before : List Given) (o : Given) → rows form before ++ row form o ∷ [] ≡ rows form (before ++ o ∷ [])
+  rows_more : (before : List Setting) (o : Setting) → rows form before ++ row form o ∷ [] ≡ rows form (before ++ o ∷ [])
   rows_more before o = sym (map-append (row form) before (o ∷ []))
 
   -- one option more, which nothing waits for any longer
-  one_more : (h : Held) (before : List Given) (name value : Text) (words : List Text) (k : Kinds) (behind : Option (List Given))
-      → (has_option name before ≡ true → k ≡ [] → ⊥) → (has_option name before ≡ false → k ≡ []) → each_once before ≡ true
+  one_more : (h : Held) (before : List Setting) (name value : Text) (words : List Text) (k : Kinds)
+      (behind : Option (List Setting))
+      → (has_option name before ≡ true → k ≡ [] → ⊥) → (has_option name before ≡ false → k ≡ []) →
+      each_once before ≡ true
       → (has_option name before ≡ false → each_once (before ++ (name, value) ∷ []) ≡ true
       → Agrees (faults (at idle h) words) (ends (at idle h) words) (accepted (before ++ (name, value) ∷ []) behind))
-      → Agrees (or_else k (faults (at idle h) words)) (ends (at idle h) words) (accepted before (more name value behind))
+      → Agrees (or_else k (faults (at idle h) words)) (ends (at idle h) words)
+      (accepted before (more name value behind))
   one_more h before name value words k behind again new once later = go (has_option name before) refl
     where
       go : (b : Bool) → has_option name before ≡ b
-          → Agrees (or_else k (faults (at idle h) words)) (ends (at idle h) words) (accepted before (more name value behind))
+          → Agrees (or_else k (faults (at idle h) words)) (ends (at idle h) words)
+          (accepted before (more name value behind))
       go true e = subst (Agrees _ _) (sym (accepted_again before name value behind e)) (first_fails k _ (again e))
       go false e =
           let here = later e (once_more before name value once e) in
-          let there = subst (Agrees (faults (at idle h) words) (ends (at idle h) words)) (sym (accepted_more before name value behind)) here in
-          subst (λ x. Agrees (or_else x (faults (at idle h) words)) (ends (at idle h) words) (accepted before (more name value behind))) (sym (new e)) there
+          let there = subst (Agrees (faults (at idle h) words) (ends (at idle h) words))
+          (sym (accepted_more before name value behind)) here in
+          subst (λ x. Agrees (or_else x (faults (at idle h) words)) (ends (at idle h) words)
+          (accepted before (more name value behind))) (sym (new e)) there
 
-  module _ (h : Held) (before : List Given) (word name : Text) (words : List Text) (settles : settle_fault rs false h ≡ [])
-      (now : (settled rs h).rows ≡ rows form before) (once : each_once before ≡ true) (idles : IdleAgrees words) (waits : WaitingAgrees words) where
+  module _ (h : Held) (before : List Setting) (word name : Text) (words : List Text)
+      (settles : settle_fault rs false h ≡ [])
+      (now : (settled rs h).rows ≡ rows form before) (once : each_once before ≡ true) (idles : IdleAgrees words)
+      (waits : WaitingAgrees words) where
     has_now : has_row name (settled rs h).rows ≡ has_option name before
     has_now = ap (has_row name) now ∙ has_row_rows form name before
 
@@ -222,19 +253,25 @@ module _ (title : Text) (form : Form) where
     walk_by a v = after_step rs word (at idle h) (step_by idle word a v h).0 (step_by idle word a v h).1
 
     -- the definition's side, computed
-    by_option : (a : Option Rule) (v : Option Text) (o : Option (List Given)) → named_option form (Some (name, v)) (λ waiting. given form waiting words) ≡ o
-        → Agrees (or_else (fault_by idle word a v h) (faults (walk_by a v) words)) (ends (walk_by a v) words) (accepted before o)
+    by_option : (a : Option Rule) (v : Option Text) (o : Option (List Setting)) →
+        named_option form (Some (name, v)) (λ waiting. settings form waiting words) ≡ o
+        → Agrees (or_else (fault_by idle word a v h) (faults (walk_by a v) words)) (ends (walk_by a v) words)
+        (accepted before o)
         → LongAgrees h before word name v words a
     by_option a v o is agrees =
-        subst (λ x. Agrees (or_else (fault_by idle word a v h) (faults (walk_by a v) words)) (ends (walk_by a v) words) (accepted before x)) (sym is) agrees
+        subst (λ x. Agrees (or_else (fault_by idle word a v h) (faults (walk_by a v) words)) (ends (walk_by a v) words)
+        (accepted before x)) (sym is) agrees
 
-    valued_agrees : has_value form name ≡ true → (r : Bool) (v : Option Text) → LongAgrees h before word name v words (Some (ready_valued r name))
+    valued_agrees : has_value form name ≡ true → (r : Bool) (v : Option Text) →
+        LongAgrees h before word name v words (Some (ready_valued r name))
     valued_agrees has r (Some value) =
         let next : Held = reacted rs (ready_valued r name) (value ∷ []) h in
-        let fault : Kinds = or_else (or_else (settle_fault rs false h) (use_fault false (ready_valued r name) (value ∷ []) (settled rs h).rows)) [] in
-        by_option (Some (ready_valued r name)) (Some value) (more name value (given form None words)) (rw has refl)
-        (one_more next before name value words fault (given form None words)
-        (λ some. first_fails _ [] (second_fails (settle_fault rs false h) _ (again_valued r name value (settled rs h).rows (has_now ∙ some))))
+        let fault : Kinds = or_else (or_else (settle_fault rs false h)
+        (use_fault false (ready_valued r name) (value ∷ []) (settled rs h).rows)) [] in
+        by_option (Some (ready_valued r name)) (Some value) (more name value (settings form None words)) (rw has refl)
+        (one_more next before name value words fault (settings form None words)
+        (λ some. first_fails _ [] (second_fails (settle_fault rs false h) _
+        (again_valued r name value (settled rs h).rows (has_now ∙ some))))
         (λ none. λ i. or_else (or_else (settles i) (new_valued r name value (settled rs h).rows (has_now ∙ none) i)) [])
         once
         (λ none once_now. idles next (before ++ (name, value) ∷ []) refl
@@ -243,37 +280,45 @@ module _ (title : Text) (form : Form) where
     valued_agrees has r None =
         let next : Walk = at (option name) (holding name [] (settled rs h).rows h.skip) in
         let later = waits name (settled rs h).rows h.skip before has now once in
-        by_option (Some (ready_valued r name)) None (given form (Some name) words) (rw has refl)
-        (subst (λ k. Agrees (or_else (or_else k []) (faults next words)) (ends next words) (accepted before (given form (Some name) words))) (sym settles) later)
+        by_option (Some (ready_valued r name)) None (settings form (Some name) words) (rw has refl)
+        (subst (λ k. Agrees (or_else (or_else k []) (faults next words)) (ends next words)
+        (accepted before (settings form (Some name) words))) (sym settles) later)
 
-    alone_agrees : has_value form name ≡ false → is_among form.alone name ≡ true → (v : Option Text) → LongAgrees h before word name v words (Some (ready_alone name))
+    alone_agrees : has_value form name ≡ false → is_among form.alone name ≡ true → (v : Option Text) →
+        LongAgrees h before word name v words (Some (ready_alone name))
     alone_agrees has alone (Some value) =
         by_option (Some (ready_alone name)) (Some value) None (rw has refl) (λ e. not_empty _ _ e)
     alone_agrees has alone None =
         let next : Held = reacted rs (ready_alone name) [] h in
-        let fault : Kinds = or_else (or_else (settle_fault rs false h) (use_fault false (ready_alone name) [] (settled rs h).rows)) [] in
-        by_option (Some (ready_alone name)) None (more name [] (given form None words)) (rw (has, alone) refl)
-        (one_more next before name [] words fault (given form None words)
-        (λ some. first_fails _ [] (second_fails (settle_fault rs false h) _ (again_alone name (settled rs h).rows (has_now ∙ some))))
+        let fault : Kinds = or_else (or_else (settle_fault rs false h)
+        (use_fault false (ready_alone name) [] (settled rs h).rows)) [] in
+        by_option (Some (ready_alone name)) None (more name [] (settings form None words)) (rw (has, alone) refl)
+        (one_more next before name [] words fault (settings form None words)
+        (λ some. first_fails _ [] (second_fails (settle_fault rs false h) _
+        (again_alone name (settled rs h).rows (has_now ∙ some))))
         (λ none. λ i. or_else (or_else (settles i) (new_alone name (settled rs h).rows (has_now ∙ none) i)) [])
         once
         (λ none once_now. idles next (before ++ (name, []) ∷ []) refl
         (used_alone name (settled rs h).rows (has_now ∙ none)
         ∙ (ap₂ (λ x y. x ++ y ∷ []) now (sym (alone_row name has)) ∙ rows_more before (name, []))) once_now))
 
-    none_agrees : has_value form name ≡ false → is_among form.alone name ≡ false → (v : Option Text) → LongAgrees h before word name v words None
+    none_agrees : has_value form name ≡ false → is_among form.alone name ≡ false → (v : Option Text) →
+        LongAgrees h before word name v words None
     none_agrees has alone (Some value) = by_option None (Some value) None (rw has refl) (λ e. not_empty _ _ e)
     none_agrees has alone None = by_option None None None (rw (has, alone) refl) (λ e. not_empty _ _ e)
 
     long_agrees : (v : Option Text) → LongAgrees h before word name v words (lookup form name)
-    long_agrees v = lookup_cases (LongAgrees h before word name v words) name (λ has r. valued_agrees has r v) (λ has alone. alone_agrees has alone v)
+    long_agrees v = lookup_cases (LongAgrees h before word name v words) name (λ has r. valued_agrees has r v)
+        (λ has alone. alone_agrees has alone v)
         (λ has alone. none_agrees has alone v)
 
-  idle_next : (word : Text) (words : List Text) → is_bare word ≡ false → list_all (λ word. not (is_bare word)) words ≡ true
+  idle_next : (word : Text) (words : List Text) → is_bare word ≡ false →
+      list_all (λ word. not (is_bare word)) words ≡ true
       → IdleAgrees words → WaitingAgrees words → IdleAgrees (word ∷ words)
-  unfolding given
+  unfolding settings
   idle_next word words bare all idles waits h before settles now once =
-      by_hyphens (λ w. Agrees (faults (at idle h) (w ∷ words)) (ends (at idle h) (w ∷ words)) (accepted before (named_option form (named w) (λ waiting. given form waiting words))))
+      by_hyphens (λ w. Agrees (faults (at idle h) (w ∷ words)) (ends (at idle h) (w ∷ words))
+      (accepted before (named_option form (named w) (λ waiting. settings form waiting words))))
       plain long word bare
     where
       no_name : (w : Text) → begins_with_hyphen w ≡ false → named w ≡ None
@@ -285,24 +330,29 @@ module _ (title : Text) (form : Form) where
           go false is = rw is refl
 
       plain : (w : Text) → begins_with_hyphen w ≡ false
-          → Agrees (faults (at idle h) (w ∷ words)) (ends (at idle h) (w ∷ words)) (accepted before (named_option form (named w) (λ waiting. given form waiting words)))
+          → Agrees (faults (at idle h) (w ∷ words)) (ends (at idle h) (w ∷ words))
+          (accepted before (named_option form (named w) (λ waiting. settings form waiting words)))
       plain w e =
-          subst (λ o. Agrees (faults (at idle h) (w ∷ words)) (ends (at idle h) (w ∷ words)) (accepted before (named_option form o (λ waiting. given form waiting words))))
+          subst (λ o. Agrees (faults (at idle h) (w ∷ words)) (ends (at idle h) (w ∷ words))
+          (accepted before (named_option form o (λ waiting. settings form waiting words))))
           (sym (no_name w e))
           (stops (at idle h) w words (λ none. not_empty _ _ (sym (idle_plain h w e) ∙ none)))
 
       long : (x : ℕ) (xs : Text)
           → Agrees (faults (at idle h) ((45 ∷ 45 ∷ x ∷ xs) ∷ words)) (ends (at idle h) ((45 ∷ 45 ∷ x ∷ xs) ∷ words))
-          (accepted before (named_option form (named (45 ∷ 45 ∷ x ∷ xs)) (λ waiting. given form waiting words)))
+          (accepted before (named_option form (named (45 ∷ 45 ∷ x ∷ xs)) (λ waiting. settings form waiting words)))
       long x xs =
           let word : Text = 45 ∷ 45 ∷ x ∷ xs in
           let name : Text = (name_and_value (x ∷ xs)).0 in
           let v : Option Text = (name_and_value (x ∷ xs)).1 in
-          let o : Option (List Given) = accepted before (named_option form (Some (name_and_value (x ∷ xs))) (λ waiting. given form waiting words)) in
-          let next : Walk = after_step rs word (at idle h) (step_by idle word (lookup form name) v h).0 (step_by idle word (lookup form name) v h).1 in
+          let o : Option (List Setting) = accepted before
+          (named_option form (Some (name_and_value (x ∷ xs))) (λ waiting. settings form waiting words)) in
+          let next : Walk = after_step rs word (at idle h) (step_by idle word (lookup form name) v h).0
+          (step_by idle word (lookup form name) v h).1 in
           let fault : Kinds = fault_by idle word (lookup form name) v h in
           let faults_are : faults (at idle h) (word ∷ words) ≡ or_else fault (faults next words)
-          = faults_next (at idle h) word words ∙ ap₂ (λ k w. or_else k (faults w words)) (idle_long h x xs) (idle_walks h x xs) in
+          = faults_next (at idle h) word words ∙ ap₂ (λ k w. or_else k (faults w words)) (idle_long h x xs)
+          (idle_walks h x xs) in
           let ends_are : ends (at idle h) (word ∷ words) ≡ ends next words
           = ends_next (at idle h) word words ∙ ap (λ w. ends w words) (idle_walks h x xs) in
           subst (λ k. Agrees k (ends (at idle h) (word ∷ words)) o) (sym faults_are)
@@ -319,13 +369,16 @@ module _ (title : Text) (form : Form) where
     no_value : settle_fault rs false (holding name [] now skip) ≡ [] → ⊥
     no_value e = not_empty _ _ (sym (ap (λ a. option_map_or (λ a. use_fault false a [] now) a []) found_by_id.1) ∙ e)
 
-    fault_held : (word : Text) → settle_fault rs false (holding name (word ∷ []) now skip) ≡ use_fault false (ready_valued found_by_id.0 name) (word ∷ []) now
+    fault_held : (word : Text) → settle_fault rs false (holding name (word ∷ []) now skip) ≡
+        use_fault false (ready_valued found_by_id.0 name) (word ∷ []) now
     fault_held word = ap (λ a. option_map_or (λ a. use_fault false a (word ∷ []) now) a []) found_by_id.1
 
-    rows_held : (word : Text) → (settled rs (holding name (word ∷ []) now skip)).rows ≡ used (ready_valued found_by_id.0 name) (word ∷ []) now
+    rows_held : (word : Text) → (settled rs (holding name (word ∷ []) now skip)).rows ≡
+        used (ready_valued found_by_id.0 name) (word ∷ []) now
     rows_held word = ap (λ a. used_by_id a (word ∷ []) now) found_by_id.1
 
-    passes_plain : (word : Text) → begins_with_hyphen word ≡ false → turn_fault s [] (at (option name) (holding name [] now skip)) word ≡ []
+    passes_plain : (word : Text) → begins_with_hyphen word ≡ false →
+        turn_fault s [] (at (option name) (holding name [] now skip)) word ≡ []
     passes_plain [] e = refl
     passes_plain (x ∷ xs) e = go (x == 45) refl
       where
@@ -341,22 +394,25 @@ module _ (title : Text) (form : Form) where
     takes_plain [] e = rw (found_by_id.1, bytes_eq_self name) refl
     takes_plain (x ∷ xs) e = go (x == 45) refl
       where
-        go : (b : Bool) → (x == 45) ≡ b → walked rs [] (at (option name) (holding name [] now skip)) (x ∷ xs) ≡ at idle (holding name ((x ∷ xs) ∷ []) now skip)
+        go : (b : Bool) → (x == 45) ≡ b → walked rs [] (at (option name) (holding name [] now skip)) (x ∷ xs) ≡
+            at idle (holding name ((x ∷ xs) ∷ []) now skip)
         go true is = absurd (true≢false (rw is at e))
         go false is =
             let short : short_of (x ∷ xs) ≡ None = rw is refl in
             rw (is, short, found_by_id.1, bytes_eq_self name) refl
 
   waiting_ends : WaitingAgrees []
-  unfolding faults ends given walk_fault
+  unfolding faults ends settings walk_fault
   waiting_ends name now skip before has is once = first_fails _ _ (no_value name now skip has)
 
-  waiting_next : (word : Text) (words : List Text) → is_bare word ≡ false → list_all (λ word. not (is_bare word)) words ≡ true
+  waiting_next : (word : Text) (words : List Text) → is_bare word ≡ false →
+      list_all (λ word. not (is_bare word)) words ≡ true
       → IdleAgrees words → WaitingAgrees (word ∷ words)
-  unfolding given
+  unfolding settings
   waiting_next word words bare all idles name now skip before has is once =
-      by_hyphens (λ w. Agrees (faults (at (option name) (holding name [] now skip)) (w ∷ words)) (ends (at (option name) (holding name [] now skip)) (w ∷ words))
-      (accepted before (cond (begins_with_hyphen w) None (more name w (given form None words)))))
+      by_hyphens (λ w. Agrees (faults (at (option name) (holding name [] now skip)) (w ∷ words))
+      (ends (at (option name) (holding name [] now skip)) (w ∷ words))
+      (accepted before (cond (begins_with_hyphen w) None (more name w (settings form None words)))))
       plain long word bare
     where
       rule : Rule
@@ -366,50 +422,65 @@ module _ (title : Text) (form : Form) where
       has_now = ap (has_row name) is ∙ has_row_rows form name before
 
       plain : (w : Text) → begins_with_hyphen w ≡ false
-          → Agrees (faults (at (option name) (holding name [] now skip)) (w ∷ words)) (ends (at (option name) (holding name [] now skip)) (w ∷ words))
-          (accepted before (cond (begins_with_hyphen w) None (more name w (given form None words))))
+          → Agrees (faults (at (option name) (holding name [] now skip)) (w ∷ words))
+          (ends (at (option name) (holding name [] now skip)) (w ∷ words))
+          (accepted before (cond (begins_with_hyphen w) None (more name w (settings form None words))))
       plain w e =
           let next : Held = holding name (w ∷ []) now skip in
-          let o : Option (List Given) = accepted before (cond (begins_with_hyphen w) None (more name w (given form None words))) in
-          let faults_are : faults (at (option name) (holding name [] now skip)) (w ∷ words) ≡ faults (at idle next) words
+          let o : Option (List Setting) = accepted before
+          (cond (begins_with_hyphen w) None (more name w (settings form None words))) in
+          let faults_are : faults (at (option name) (holding name [] now skip)) (w ∷ words) ≡
+          faults (at idle next) words
           = faults_next (at (option name) (holding name [] now skip)) w words
-          ∙ ap₂ (λ k x. or_else k (faults x words)) (passes_plain name now skip has w e) (takes_plain name now skip has w e) in
+          ∙ ap₂ (λ k x. or_else k (faults x words)) (passes_plain name now skip has w e)
+          (takes_plain name now skip has w e) in
           let ends_are : ends (at (option name) (holding name [] now skip)) (w ∷ words) ≡ ends (at idle next) words
-          = ends_next (at (option name) (holding name [] now skip)) w words ∙ ap (λ x. ends x words) (takes_plain name now skip has w e) in
+          = ends_next (at (option name) (holding name [] now skip)) w words ∙
+          ap (λ x. ends x words) (takes_plain name now skip has w e) in
           subst (λ k. Agrees k (ends (at (option name) (holding name [] now skip)) (w ∷ words)) o) (sym faults_are)
           (subst (λ rows. Agrees (faults (at idle next) words) rows o) (sym ends_are)
-          (subst (λ b. Agrees (faults (at idle next) words) (ends (at idle next) words) (accepted before (cond b None (more name w (given form None words))))) (sym e)
+          (subst (λ b. Agrees (faults (at idle next) words) (ends (at idle next) words)
+          (accepted before (cond b None (more name w (settings form None words))))) (sym e)
           (value_taken w (has_option name before) refl)))
         where
           value_taken : (w : Text) (b : Bool) → has_option name before ≡ b
-              → Agrees (faults (at idle (holding name (w ∷ []) now skip)) words) (ends (at idle (holding name (w ∷ []) now skip)) words)
-              (accepted before (more name w (given form None words)))
+              → Agrees (faults (at idle (holding name (w ∷ []) now skip)) words)
+              (ends (at idle (holding name (w ∷ []) now skip)) words)
+              (accepted before (more name w (settings form None words)))
           value_taken w true some =
-              subst (Agrees (faults (at idle (holding name (w ∷ []) now skip)) words) (ends (at idle (holding name (w ∷ []) now skip)) words))
-              (sym (accepted_again before name w (given form None words) some))
+              subst (Agrees (faults (at idle (holding name (w ∷ []) now skip)) words)
+              (ends (at idle (holding name (w ∷ []) now skip)) words))
+              (sym (accepted_again before name w (settings form None words) some))
               (idle_fails words all (holding name (w ∷ []) now skip)
-              (λ none. again_valued (found_by_id name now skip has).0 name w now (has_now ∙ some) (sym (fault_held name now skip has w) ∙ none)))
+              (λ none. again_valued (found_by_id name now skip has).0 name w now (has_now ∙ some)
+              (sym (fault_held name now skip has w) ∙ none)))
           value_taken w false none =
-              subst (Agrees (faults (at idle (holding name (w ∷ []) now skip)) words) (ends (at idle (holding name (w ∷ []) now skip)) words))
-              (sym (accepted_more before name w (given form None words)))
+              subst (Agrees (faults (at idle (holding name (w ∷ []) now skip)) words)
+              (ends (at idle (holding name (w ∷ []) now skip)) words))
+              (sym (accepted_more before name w (settings form None words)))
               (idles (holding name (w ∷ []) now skip) (before ++ (name, w) ∷ [])
-              (fault_held name now skip has w ∙ new_valued (found_by_id name now skip has).0 name w now (has_now ∙ none))
-              (rows_held name now skip has w ∙ (used_valued (found_by_id name now skip has).0 name w now (has_now ∙ none)
+              (fault_held name now skip has w ∙ new_valued (found_by_id name now skip has).0 name w now
+              (has_now ∙ none))
+              (rows_held name now skip has w ∙ (used_valued (found_by_id name now skip has).0 name w now
+              (has_now ∙ none)
               ∙ (ap₂ (λ x y. x ++ y ∷ []) is (sym (valued_row name w has)) ∙ rows_more before (name, w))))
               (once_more before name w once none))
 
       long : (x : ℕ) (xs : Text)
           → Agrees (faults (at (option name) (holding name [] now skip)) ((45 ∷ 45 ∷ x ∷ xs) ∷ words))
           (ends (at (option name) (holding name [] now skip)) ((45 ∷ 45 ∷ x ∷ xs) ∷ words))
-          (accepted before (cond (begins_with_hyphen (45 ∷ 45 ∷ x ∷ xs)) None (more name (45 ∷ 45 ∷ x ∷ xs) (given form None words))))
+          (accepted before (cond (begins_with_hyphen (45 ∷ 45 ∷ x ∷ xs)) None
+          (more name (45 ∷ 45 ∷ x ∷ xs) (settings form None words))))
       long x xs =
           stops (at (option name) (holding name [] now skip)) (45 ∷ 45 ∷ x ∷ xs) words
-          (λ none. long_fails (option name) (45 ∷ 45 ∷ x ∷ xs) (name_and_value (x ∷ xs)).0 (name_and_value (x ∷ xs)).1 (holding name [] now skip)
+          (λ none. long_fails (option name) (45 ∷ 45 ∷ x ∷ xs) (name_and_value (x ∷ xs)).0 (name_and_value (x ∷ xs)).1
+          (holding name [] now skip)
           (no_value name now skip has) (sym (waiting_long name (holding name [] now skip) x xs) ∙ none))
 
   -- ---- all the words
 
-  words_agree : (words : List Text) → list_all (λ word. not (is_bare word)) words ≡ true → IdleAgrees words × WaitingAgrees words
+  words_agree : (words : List Text) → list_all (λ word. not (is_bare word)) words ≡ true →
+      IdleAgrees words × WaitingAgrees words
   words_agree [] all = (idle_ends, waiting_ends)
   words_agree (word ∷ words) all =
       let parts = first_not (is_bare word) _ all in

@@ -42,28 +42,33 @@ ready name form = record (new_shape name) {
 }
 
 -- a search that goes by names finds the first rule of the name
-pub found : (p : Rule → Bool) (rule : Text → Rule) (name : Text) → ((n : Text) → p (rule n) ≡ bytes_eq n name) → (names : List Text) (rest : List Rule)
+pub found : (p : Rule → Bool) (rule : Text → Rule) (name : Text) → ((n : Text) → p (rule n) ≡ bytes_eq n name) →
+    (names : List Text) (rest : List Rule)
     → is_among names name ≡ true → find p (map rule names ++ rest) ≡ Some (rule name)
 found p rule name same [] rest among = absurd (true≢false (sym among))
 found p rule name same (n ∷ names) rest among = go (bytes_eq n name) refl (found p rule name same names rest)
   where
-    go : (b : Bool) → bytes_eq n name ≡ b → (is_among names name ≡ true → find p (map rule names ++ rest) ≡ Some (rule name))
+    go : (b : Bool) → bytes_eq n name ≡ b → (is_among names name ≡ true →
+        find p (map rule names ++ rest) ≡ Some (rule name))
         → find p (rule n ∷ (map rule names ++ rest)) ≡ Some (rule name)
     go true e later = rw (same n, e) (ap (λ t. Some (rule t)) (same_text n name e))
     go false e later = rw (same n, e) (later (rw e at among))
 
-missed : (p : Rule → Bool) (rule : Text → Rule) (name : Text) → ((n : Text) → p (rule n) ≡ bytes_eq n name) → (names : List Text) (rest : List Rule)
+missed : (p : Rule → Bool) (rule : Text → Rule) (name : Text) → ((n : Text) → p (rule n) ≡ bytes_eq n name) →
+    (names : List Text) (rest : List Rule)
     → is_among names name ≡ false → find p (map rule names ++ rest) ≡ find p rest
 missed p rule name same [] rest among = refl
 missed p rule name same (n ∷ names) rest among = go (bytes_eq n name) refl (missed p rule name same names rest)
   where
-    go : (b : Bool) → bytes_eq n name ≡ b → (is_among names name ≡ false → find p (map rule names ++ rest) ≡ find p rest)
+    go : (b : Bool) → bytes_eq n name ≡ b → (is_among names name ≡ false →
+        find p (map rule names ++ rest) ≡ find p rest)
         → find p (rule n ∷ (map rule names ++ rest)) ≡ find p rest
     go true e later = absurd (true≢false (rw e at among))
     go false e later = rw (same n, e) (later (rw e at among))
 
 -- no rule answers to a test that none passes
-none_found : (p : Rule → Bool) (rule : Text → Rule) → ((n : Text) → p (rule n) ≡ false) → (names : List Text) (rest : List Rule)
+none_found : (p : Rule → Bool) (rule : Text → Rule) → ((n : Text) → p (rule n) ≡ false) →
+    (names : List Text) (rest : List Rule)
     → find p (map rule names ++ rest) ≡ find p rest
 none_found p rule misses [] rest = refl
 none_found p rule misses (n ∷ names) rest = rw (misses n) (none_found p rule misses names rest)
@@ -77,49 +82,61 @@ lookup form name =
     if is_among form.needed name then Some (ready_valued true name)
     else (if is_among form.valued name then Some (ready_valued false name) else alone_or_none form name)
 
-searched : (p : Rule → Bool) (form : Form) (name : Text) → ((r : Bool) (n : Text) → p (ready_valued r n) ≡ bytes_eq n name)
+searched : (p : Rule → Bool) (form : Form) (name : Text) →
+    ((r : Bool) (n : Text) → p (ready_valued r n) ≡ bytes_eq n name)
     → ((n : Text) → p (ready_alone n) ≡ bytes_eq n name) → find p (ready_rules form) ≡ lookup form name
 searched p form name valued alone = first (is_among form.needed name) refl
   where
-    third : (b : Bool) → is_among form.alone name ≡ b → find p (map ready_alone form.alone ++ []) ≡ cond b (Some (ready_alone name)) None
+    third : (b : Bool) → is_among form.alone name ≡ b →
+        find p (map ready_alone form.alone ++ []) ≡ cond b (Some (ready_alone name)) None
     third true e = found p ready_alone name alone form.alone [] e
     third false e = missed p ready_alone name alone form.alone [] e
 
-    second : (b : Bool) → is_among form.valued name ≡ b → find p (map (ready_valued false) form.valued ++ (map ready_alone form.alone ++ []))
+    second : (b : Bool) → is_among form.valued name ≡ b →
+        find p (map (ready_valued false) form.valued ++ (map ready_alone form.alone ++ []))
         ≡ cond b (Some (ready_valued false name)) (alone_or_none form name)
     second true e = found p (ready_valued false) name (valued false) form.valued _ e
-    second false e = missed p (ready_valued false) name (valued false) form.valued _ e ∙ third (is_among form.alone name) refl
+    second false e = missed p (ready_valued false) name (valued false) form.valued _ e ∙
+        third (is_among form.alone name) refl
 
     first : (b : Bool) → is_among form.needed name ≡ b → find p (ready_rules form)
-        ≡ cond b (Some (ready_valued true name)) (cond (is_among form.valued name) (Some (ready_valued false name)) (alone_or_none form name))
+        ≡ cond b (Some (ready_valued true name)) (cond (is_among form.valued name) (Some (ready_valued false name))
+        (alone_or_none form name))
     first true e = found p (ready_valued true) name (valued true) form.needed _ e
-    first false e = missed p (ready_valued true) name (valued true) form.needed _ e ∙ second (is_among form.valued name) refl
+    first false e = missed p (ready_valued true) name (valued true) form.needed _ e ∙
+        second (is_among form.valued name) refl
 
 pub by_long : (form : Form) (name : Text) → arg_by_long (ready_rules form) name ≡ lookup form name
-by_long form name = searched (λ a. not (is_some a.index) && has_long a name) form name (λ r n. or-false (bytes_eq n name)) (λ n. or-false (bytes_eq n name))
+by_long form name = searched (λ a. not (is_some a.index) && has_long a name) form name
+    (λ r n. or-false (bytes_eq n name)) (λ n. or-false (bytes_eq n name))
 
 pub by_id : (form : Form) (name : Text) → arg_by_id (ready_rules form) name ≡ lookup form name
 by_id form name = searched (λ a. bytes_eq a.id name) form name (λ r n. refl) (λ n. refl)
 
 pub by_index : (form : Form) (i : ℕ) → arg_by_index (ready_rules form) i ≡ None
 by_index form i =
-    none_found _ (ready_valued true) (λ n. refl) form.needed _ ∙ none_found _ (ready_valued false) (λ n. refl) form.valued _
+    none_found _ (ready_valued true) (λ n. refl) form.needed _ ∙
+    none_found _ (ready_valued false) (λ n. refl) form.valued _
     ∙ none_found _ ready_alone (λ n. refl) form.alone []
 
-pub lookup_valued : (form : Form) (name : Text) → has_value form name ≡ true → (r : Bool) × (lookup form name ≡ Some (ready_valued r name))
+pub lookup_valued : (form : Form) (name : Text) → has_value form name ≡ true →
+    (r : Bool) × (lookup form name ≡ Some (ready_valued r name))
 lookup_valued form name has = go (is_among form.needed name) (is_among form.valued name) has
   where
     go : (a b : Bool) → (a || b) ≡ true
-        → (r : Bool) × (cond a (Some (ready_valued true name)) (cond b (Some (ready_valued false name)) (alone_or_none form name)) ≡ Some (ready_valued r name))
+        → (r : Bool) × (cond a (Some (ready_valued true name))
+        (cond b (Some (ready_valued false name)) (alone_or_none form name)) ≡ Some (ready_valued r name))
     go true b e = (true, refl)
     go false true e = (false, refl)
     go false false e = absurd (true≢false (sym e))
 
-pub lookup_other : (form : Form) (name : Text) → has_value form name ≡ false → lookup form name ≡ alone_or_none form name
+pub lookup_other : (form : Form) (name : Text) → has_value form name ≡ false →
+    lookup form name ≡ alone_or_none form name
 lookup_other form name has = go (is_among form.needed name) (is_among form.valued name) has
   where
     go : (a b : Bool) → (a || b) ≡ false
-        → cond a (Some (ready_valued true name)) (cond b (Some (ready_valued false name)) (alone_or_none form name)) ≡ alone_or_none form name
+        → cond a (Some (ready_valued true name)) (cond b (Some (ready_valued false name)) (alone_or_none form name)) ≡
+        alone_or_none form name
     go true b e = absurd (true≢false e)
     go false true e = absurd (true≢false e)
     go false false e = refl

@@ -17,8 +17,8 @@ use Rattle.clap.specs.declared.parser.matches.Found.{Found}
 use Rattle.clap.specs.declared.parser.matches.SubCommand.{SubCommand}
 use Rattle.clap.proofs.WalkLemmas.{first_value-rows, one_text-rows}
 use Rattle.sc_words.specs.Application.{IsReading, Tells, application, flag_text}
-use Rattle.sc_words.specs.Options.{Form, Given, Text, has_option, is_bare, value_of}
-use Rattle.sc_words.specs.Words.{Values, command, parsed, command_with, commands, events, form_of, inputs, limit, make, meaning, run, shown}
+use Rattle.sc_words.specs.Options.{Form, Setting, Text, has_option, is_bare, value_of}
+use Rattle.sc_words.specs.Words.{Values, command, parsed, command_with, commands, events, form_of, inputs, limit, make, meaning, run, text_to_show}
 use Rattle.sc_words.specs.Numbers.{number_within}
 use Rattle.sc_words.specs.declared.command.Command.TheVariants.{Meaning, Run, Exec, Explain, Make}
 use Rattle.sc_words.proofs.Bare.{by_command, none_bare}
@@ -26,45 +26,60 @@ use Rattle.sc_words.proofs.Top.{Reads, has_matches, words_agree}
 
 -- each command reads the options of its form alone
 
-meaning_same : (v w : Values) → v (codes "turns") ≡ w (codes "turns") → v (codes "events") ≡ w (codes "events") → v (codes "in") ≡ w (codes "in") → meaning v ≡ meaning w
+meaning_same : (v w : Values) → v (codes "turns") ≡ w (codes "turns") → v (codes "events") ≡ w (codes "events") →
+    v (codes "in") ≡ w (codes "in") → meaning v ≡ meaning w
 meaning_same v w a b c = λ i. option_and_then (λ turns. option_and_then (λ events. option_map (λ inputs.
     record { turns = turns; events = events; inputs = inputs })
     (inputs (c i))) (events (b i))) (limit (a i))
 
-run_same : (v w : Values) → v (codes "steps") ≡ w (codes "steps") → v (codes "events") ≡ w (codes "events") → v (codes "in") ≡ w (codes "in") → run v ≡ run w
+run_same : (v w : Values) → v (codes "steps") ≡ w (codes "steps") → v (codes "events") ≡ w (codes "events") →
+    v (codes "in") ≡ w (codes "in") → run v ≡ run w
 run_same v w a b c = λ i. option_and_then (λ steps. option_and_then (λ events. option_map (λ inputs.
     record { steps = steps; events = events; inputs = inputs })
     (inputs (c i))) (events (b i))) (limit (a i))
 
-make_same : (v w : Values) (summary : Bool) → v (codes "size") ≡ w (codes "size") → v (codes "seed") ≡ w (codes "seed") → make v summary ≡ make w summary
-make_same v w summary a b = λ i. option_and_then (λ size. option_map (λ seed. record { size = size; seed = seed; summary = summary })
+make_same : (v w : Values) (summary : Bool) → v (codes "size") ≡ w (codes "size") →
+    v (codes "seed") ≡ w (codes "seed") → make v summary ≡ make w summary
+make_same v w summary a b = λ i. option_and_then (λ size.
+    option_map (λ seed. record { size = size; seed = seed; summary = summary })
     (option_and_then (number_within 0 4294967295) (b i)))
     (option_and_then (number_within 1 1000) (a i))
 
 abbrev Same : Text → Form → Type 0
-Same name form = (given : List Given) (rows : List Row) (summary : Bool) → Tells form given rows
-    → command_with name (λ n. first_of n rows) summary ≡ command_with name (λ n. value_of n given) summary
+Same name form = (settings : List Setting) (rows : List Row) (summary : Bool) → Tells form settings rows
+    → command_with name (λ n. first_of n rows) summary ≡ command_with name (λ n. value_of n settings) summary
 
 pub values_same : (name : Text) (form : Form) → form_of name ≡ Some form → Same name form
 values_same = by_command Same commands (
-  (λ given rows summary tells. refl),
+  (λ settings rows summary tells. refl),
   (
-    (λ given rows summary tells. ap (option_map Meaning) (meaning_same (λ n. first_of n rows) (λ n. value_of n given) (tells.values (codes "turns") refl refl) (tells.values (codes "events") refl refl)
+    (λ settings rows summary tells. ap (option_map Meaning)
+        (meaning_same (λ n. first_of n rows) (λ n. value_of n settings) (tells.values (codes "turns") refl refl)
+        (tells.values (codes "events") refl refl)
         (tells.values (codes "in") refl refl))),
     (
-      (λ given rows summary tells. refl),
+      (λ settings rows summary tells. refl),
       (
-        (λ given rows summary tells. ap (option_map Run) (run_same (λ n. first_of n rows) (λ n. value_of n given) (tells.values (codes "steps") refl refl) (tells.values (codes "events") refl refl)
+        (λ settings rows summary tells. ap (option_map Run)
+            (run_same (λ n. first_of n rows) (λ n. value_of n settings) (tells.values (codes "steps") refl refl)
+            (tells.values (codes "events") refl refl)
             (tells.values (codes "in") refl refl))),
         (
-          (λ given rows summary tells. ap (option_map Exec) (run_same (λ n. first_of n rows) (λ n. value_of n given) (tells.values (codes "steps") refl refl) (tells.values (codes "events") refl refl)
+          (λ settings rows summary tells. ap (option_map Exec)
+              (run_same (λ n. first_of n rows) (λ n. value_of n settings) (tells.values (codes "steps") refl refl)
+              (tells.values (codes "events") refl refl)
               (tells.values (codes "in") refl refl))),
           (
-            (λ given rows summary tells. λ i. option_and_then (λ options. option_map (λ show. Explain options show) (shown (tells.values (codes "show") refl refl i)))
-                (run_same (λ n. first_of n rows) (λ n. value_of n given) (tells.values (codes "steps") refl refl) (tells.values (codes "events") refl refl)
+            (λ settings rows summary tells. λ i. option_and_then
+                (λ options. option_map (λ show. Explain options show)
+                (text_to_show (tells.values (codes "show") refl refl i)))
+                (run_same (λ n. first_of n rows) (λ n. value_of n settings) (tells.values (codes "steps") refl refl)
+                (tells.values (codes "events") refl refl)
                 (tells.values (codes "in") refl refl) i)),
             (
-              (λ given rows summary tells. ap (option_map Make) (make_same (λ n. first_of n rows) (λ n. value_of n given) summary (tells.values (codes "size") refl refl) (tells.values (codes "seed") refl refl))),
+              (λ settings rows summary tells. ap (option_map Make)
+                  (make_same (λ n. first_of n rows) (λ n. value_of n settings) summary
+                  (tells.values (codes "size") refl refl) (tells.values (codes "seed") refl refl))),
               tt,
             ),
           ),
@@ -75,23 +90,24 @@ values_same = by_command Same commands (
 )
 
 abbrev Summary : Text → Form → Type 0
-Summary name form = (given : List Given) (rows : List Row) → Tells form given rows → bytes_eq name (codes "make") ≡ true
-    → one_of (codes "summary") rows ≡ Some (flag_text (has_option (codes "summary") given))
+Summary name form = (settings : List Setting) (rows : List Row) → Tells form settings rows →
+    bytes_eq name (codes "make") ≡ true
+    → one_of (codes "summary") rows ≡ Some (flag_text (has_option (codes "summary") settings))
 
 pub summary_same : (name : Text) (form : Form) → form_of name ≡ Some form → Summary name form
 summary_same = by_command Summary commands (
-  (λ given rows tells e. absurd (true≢false (sym e))),
+  (λ settings rows tells e. absurd (true≢false (sym e))),
   (
-    (λ given rows tells e. absurd (true≢false (sym e))),
+    (λ settings rows tells e. absurd (true≢false (sym e))),
     (
-      (λ given rows tells e. absurd (true≢false (sym e))),
+      (λ settings rows tells e. absurd (true≢false (sym e))),
       (
-        (λ given rows tells e. absurd (true≢false (sym e))),
+        (λ settings rows tells e. absurd (true≢false (sym e))),
         (
-          (λ given rows tells e. absurd (true≢false (sym e))),
+          (λ settings rows tells e. absurd (true≢false (sym e))),
           (
-            (λ given rows tells e. absurd (true≢false (sym e))),
-            ((λ given rows tells e. tells.alone (codes "summary") refl refl), tt),
+            (λ settings rows tells e. absurd (true≢false (sym e))),
+            ((λ settings rows tells e. tells.alone (codes "summary") refl refl), tt),
           ),
         ),
       ),
@@ -101,14 +117,16 @@ summary_same = by_command Summary commands (
 
 -- ---- what the parse gives
 
-pub reading : (words : List Text) (a : App) (m : ArgMatches) → a ≡ application → list_any is_bare words ≡ false → HasMatchesOf a words m → fault_of a words ≡ []
+pub reading : (words : List Text) (a : App) (m : ArgMatches) → a ≡ application → list_any is_bare words ≡ false →
+    HasMatchesOf a words m → fault_of a words ≡ []
     → IsReading words m
 reading words a m is bare matches passes = go (parsed words) refl (words_agree words (none_bare words bare))
   where
     entered : subcommand_rows_of m ≡ subcommand_of application words
     entered = (matches (ap is_simple is ∙ has_matches)).1 ∙ ap (λ x. subcommand_of x words) is
 
-    go : (o : Option (Text × List Given)) → parsed words ≡ o → Reads (fault_of application words) (subcommand_of application words) o → IsReading words m
+    go : (o : Option (Text × List Setting)) → parsed words ≡ o →
+        Reads (fault_of application words) (subcommand_of application words) o → IsReading words m
     go None e fails = absurd (fails (sym (ap (λ x. fault_of x words) is) ∙ passes))
     go (Some read) e reads = record {
       read = read;
@@ -120,16 +138,19 @@ reading words a m is bare matches passes = go (parsed words) refl (words_agree w
       tells = reads.1.2.2;
     }
 
-pub refusal : (words : List Text) (a : App) (k : ErrorKind) → a ≡ application → list_any is_bare words ≡ false → IsAmong k (fault_of a words) → parsed words ≡ None
+pub refusal : (words : List Text) (a : App) (k : ErrorKind) → a ≡ application → list_any is_bare words ≡ false →
+    IsAmong k (fault_of a words) → parsed words ≡ None
 refusal words a k is bare among = go (parsed words) refl (words_agree words (none_bare words bare))
   where
-    go : (o : Option (Text × List Given)) → parsed words ≡ o → Reads (fault_of application words) (subcommand_of application words) o → parsed words ≡ None
+    go : (o : Option (Text × List Setting)) → parsed words ≡ o →
+        Reads (fault_of application words) (subcommand_of application words) o → parsed words ≡ None
     go None e fails = e
     go (Some read) e reads = absurd (subst (IsAmong k) (ap (λ x. fault_of x words) is ∙ reads.0) among)
 
 -- ---- the command of what the parse gives
 
-name_of : {Z : Type 0} (o : Option (Box SubCommand Z)) → option_map (λ p. p.0) (subcommand_rows o) ≡ option_map (λ b. (out-SubCommand (box_value b)).name.now) o
+name_of : {Z : Type 0} (o : Option (Box SubCommand Z)) →
+    option_map (λ p. p.0) (subcommand_rows o) ≡ option_map (λ b. (out-SubCommand (box_value b)).name.now) o
 name_of None = refl
 name_of (Some b) = refl
 
@@ -142,16 +163,20 @@ pub record Commands (words : List Text) (name : Text) (f : Found) : Type 0 where
   pub flag : bytes_eq name (codes "make") ≡ true → one_text f (codes "summary") ≡ Some (flag_text summary)
   pub is : command words ≡ command_with name (first_value f) summary
 
-pub commanded : (words : List Text) (m : ArgMatches) (name : Text) (f : Found) → IsReading words m → Some name ≡ subcommand_name_of m
+pub commanded : (words : List Text) (m : ArgMatches) (name : Text) (f : Found) → IsReading words m →
+    Some name ≡ subcommand_name_of m
     → Some (rows_of f) ≡ option_map (λ p. p.1) (subcommand_rows_of m) → Commands words name f
 unfolding command
 commanded words m name f r named rowed = record {
   summary = has_option (codes "summary") r.read.1;
   flag = λ make. one_text-rows f (codes "summary") ∙ (ap (one_of (codes "summary")) rows_are
-      ∙ summary_same r.read.0 r.form r.has r.read.1 r.rows r.tells (ap (λ n. bytes_eq n (codes "make")) (sym name_is) ∙ make));
-  is = ap (option_and_then (λ read. command_with read.0 (λ name. value_of name read.1) (has_option (codes "summary") read.1))) r.is
+      ∙ summary_same r.read.0 r.form r.has r.read.1 r.rows r.tells
+      (ap (λ n. bytes_eq n (codes "make")) (sym name_is) ∙ make));
+  is = ap (option_and_then (λ read. command_with read.0 (λ name. value_of name read.1)
+      (has_option (codes "summary") read.1))) r.is
       ∙ (sym (values_same r.read.0 r.form r.has r.read.1 r.rows (has_option (codes "summary") r.read.1) r.tells)
-      ∙ sym (λ i. command_with (name_is i) (λ n. (first_value-rows f n ∙ ap (first_of n) rows_are) i) (has_option (codes "summary") r.read.1)));
+      ∙ sym (λ i. command_with (name_is i) (λ n. (first_value-rows f n ∙ ap (first_of n) rows_are) i)
+      (has_option (codes "summary") r.read.1)));
 }
   where
     both : Some (rows_of f) ≡ Some r.rows

@@ -15,7 +15,7 @@ use Rattle.clap.specs.declared.error.kind.ErrorKind.TheVariants as kind
 use Rattle.clap.specs.declared.parser.matches.ValueSource.TheVariants.{DefaultValue, CommandLine}
 use Rattle.clap.proofs.WalkLemmas.{find-map}
 use Rattle.sc_words.specs.Application.{Tells, flag_text}
-use Rattle.sc_words.specs.Options.{Form, Given, Text, each_once, has_option, has_value, is_among, more}
+use Rattle.sc_words.specs.Options.{Form, Setting, Text, each_once, has_option, has_value, is_among, more}
 use Rattle.sc_base.proofs.Texts.{same_either_way, same_text}
 use Rattle.sc_base.proofs.Lists.{find_passes}
 use Rattle.sc_words.proofs.Basics.{not_empty}
@@ -24,31 +24,45 @@ use Rattle.sc_words.proofs.Lookup.{ready_alone, ready_rules, ready_valued}
 -- ---- the rows of the options that are given
 
 abbrev pub plain_row : Text → Text → Row
-plain_row name value = record { id = name; values = value ∷ []; count = None; source = Some CommandLine; reading = AsWritten }
+plain_row name value = record {
+  id = name;
+  values = value ∷ [];
+  count = None;
+  source = Some CommandLine;
+  reading = AsWritten;
+}
 
 abbrev default_row : Text → Row
-default_row name = record { id = name; values = codes "false" ∷ []; count = None; source = Some DefaultValue; reading = AsWritten }
+default_row name = record {
+  id = name;
+  values = codes "false" ∷ [];
+  count = None;
+  source = Some DefaultValue;
+  reading = AsWritten;
+}
 
-abbrev pub row : Form → Given → Row
+abbrev pub row : Form → Setting → Row
 row form o = plain_row o.0 (if has_value form o.0 then o.1 else codes "true")
 
-abbrev pub rows : Form → List Given → List Row
+abbrev pub rows : Form → List Setting → List Row
 rows form = map (row form)
 
 -- the rows at the end, with the defaults of the options that stand alone
-abbrev pub final : Form → List Given → List Row
+abbrev pub final : Form → List Setting → List Row
 final form all = fold with_default (rows form all) (ready_rules form)
 
-pub has_row_rows : (form : Form) (name : Text) (all : List Given) → has_row name (rows form all) ≡ has_option name all
+pub has_row_rows : (form : Form) (name : Text) (all : List Setting) → has_row name (rows form all) ≡ has_option name all
 has_row_rows form name [] = refl
 has_row_rows form name (o ∷ all) = ap (λ b. bytes_eq o.0 name || b) (has_row_rows form name all)
 
 -- where no row has the name, one joins at the end
-joined : (name : Text) (change : Row → List Row) (missing : List Row) (now : List Row) → has_row name now ≡ false → at_row name change missing now ≡ now ++ missing
+joined : (name : Text) (change : Row → List Row) (missing : List Row) (now : List Row) → has_row name now ≡ false →
+    at_row name change missing now ≡ now ++ missing
 joined name change missing [] none = refl
 joined name change missing (r ∷ now) none = go (bytes_eq r.id name) refl (joined name change missing now)
   where
-    go : (b : Bool) → bytes_eq r.id name ≡ b → (has_row name now ≡ false → at_row name change missing now ≡ now ++ missing)
+    go : (b : Bool) → bytes_eq r.id name ≡ b → (has_row name now ≡ false →
+        at_row name change missing now ≡ now ++ missing)
         → at_row name change missing (r ∷ now) ≡ r ∷ (now ++ missing)
     go true e later = absurd (true≢false (rw e at none))
     go false e later = rw e (ap (λ rs. r ∷ rs) (later (rw e at none)))
@@ -61,22 +75,27 @@ used_valued r name value now none =
     ap (λ rs. with_values name AsWritten CommandLine (value ∷ []) rs) away
     ∙ joined name (more_values CommandLine (value ∷ [])) (plain_row name value ∷ []) now none
 
-pub used_alone : (name : Text) (now : List Row) → has_row name now ≡ false → used (ready_alone name) [] now ≡ now ++ plain_row name (codes "true") ∷ []
+pub used_alone : (name : Text) (now : List Row) → has_row name now ≡ false →
+    used (ready_alone name) [] now ≡ now ++ plain_row name (codes "true") ∷ []
 used_alone name now none =
     let away : at_row name (λ _. []) [] now ≡ now = joined name (λ _. []) [] now none ∙ append-nil now in
     ap (λ rs. with_values name AsWritten CommandLine (codes "true" ∷ []) rs) away
     ∙ joined name (more_values CommandLine (codes "true" ∷ [])) (plain_row name (codes "true") ∷ []) now none
 
-pub new_valued : (r : Bool) (name value : Text) (now : List Row) → has_row name now ≡ false → use_fault false (ready_valued r name) (value ∷ []) now ≡ []
+pub new_valued : (r : Bool) (name value : Text) (now : List Row) → has_row name now ≡ false →
+    use_fault false (ready_valued r name) (value ∷ []) now ≡ []
 new_valued r name value now none = rw none refl
 
-pub again_valued : (r : Bool) (name value : Text) (now : List Row) → has_row name now ≡ true → use_fault false (ready_valued r name) (value ∷ []) now ≡ [] → ⊥
+pub again_valued : (r : Bool) (name value : Text) (now : List Row) → has_row name now ≡ true →
+    use_fault false (ready_valued r name) (value ∷ []) now ≡ [] → ⊥
 again_valued r name value now some = rw some (λ e. not_empty _ _ e)
 
-pub new_alone : (name : Text) (now : List Row) → has_row name now ≡ false → use_fault false (ready_alone name) [] now ≡ []
+pub new_alone : (name : Text) (now : List Row) → has_row name now ≡ false →
+    use_fault false (ready_alone name) [] now ≡ []
 new_alone name now none = rw none refl
 
-pub again_alone : (name : Text) (now : List Row) → has_row name now ≡ true → use_fault false (ready_alone name) [] now ≡ [] → ⊥
+pub again_alone : (name : Text) (now : List Row) → has_row name now ≡ true →
+    use_fault false (ready_alone name) [] now ≡ [] → ⊥
 again_alone name now some = rw some (λ e. not_empty _ _ e)
 
 -- ---- what is found at the end
@@ -84,7 +103,7 @@ again_alone name now some = rw some (λ e. not_empty _ _ e)
 abbrev by_name : Text → Row → Bool
 by_name name r = bytes_eq r.id name
 
-abbrev option_named : Text → List Given → Option Given
+abbrev option_named : Text → List Setting → Option Setting
 option_named name = find (λ o. bytes_eq o.0 name)
 
 found_any : {X : Type 0} (p : X → Bool) (xs : List X) → is_some (find p xs) ≡ list_any p xs
@@ -96,15 +115,18 @@ found_any {X} p (x ∷ xs) = go (p x) (found_any p xs)
     go false e = e
 
 -- an option with a value has no default
-past_valued : (r : Bool) (names : List Text) (rest : List Rule) (now : List Row) → fold with_default now (map (ready_valued r) names ++ rest) ≡ fold with_default now rest
+past_valued : (r : Bool) (names : List Text) (rest : List Rule) (now : List Row) →
+    fold with_default now (map (ready_valued r) names ++ rest) ≡ fold with_default now rest
 past_valued r [] rest now = refl
-past_valued r (n ∷ names) rest now = ap (λ rs. fold with_default rs (map (ready_valued r) names ++ rest)) (kept (has_row n now)) ∙ past_valued r names rest now
+past_valued r (n ∷ names) rest now = ap (λ rs. fold with_default rs (map (ready_valued r) names ++ rest))
+    (kept (has_row n now)) ∙ past_valued r names rest now
   where
     kept : (b : Bool) → cond b now now ≡ now
     kept true = refl
     kept false = refl
 
-final_is : (form : Form) (all : List Given) → final form all ≡ fold with_default (rows form all) (map ready_alone form.alone ++ [])
+final_is : (form : Form) (all : List Setting) → final form all ≡
+    fold with_default (rows form all) (map ready_alone form.alone ++ [])
 final_is form all = past_valued true form.needed _ (rows form all) ∙ past_valued false form.valued _ (rows form all)
 
 abbrev default_of : List Text → Text → Option Row
@@ -116,7 +138,8 @@ or_none (Some x) = refl
 
 -- what the defaults of the options that stand alone add
 found_final : (names : List Text) (now : List Row) (name : Text)
-    → find (by_name name) (fold with_default now (map ready_alone names ++ [])) ≡ option_or (find (by_name name) now) (default_of names name)
+    → find (by_name name) (fold with_default now (map ready_alone names ++ [])) ≡
+    option_or (find (by_name name) now) (default_of names name)
 found_final [] now name = sym (or_none (find (by_name name) now))
 found_final (n ∷ names) now name = go (has_row n now) refl (bytes_eq n name) refl (λ rs. found_final names rs name)
   where
@@ -125,25 +148,30 @@ found_final (n ∷ names) now name = go (has_row n now) refl (bytes_eq n name) r
     known (Some r) d e some = refl
 
     chosen : (o : Option Row) (same : Bool) → bytes_eq n name ≡ same
-        → option_or (option_or o (cond same (Some (default_row n)) None)) (default_of names name) ≡ option_or o (cond (same || is_among names name) (Some (default_row name)) None)
+        → option_or (option_or o (cond same (Some (default_row n)) None)) (default_of names name) ≡
+        option_or o (cond (same || is_among names name) (Some (default_row name)) None)
     chosen (Some r) same is = refl
     chosen None true is = ap (λ t. Some (default_row t)) (same_text n name is)
     chosen None false is = refl
 
-    stays : has_row n now ≡ true → find (by_name name) (fold with_default now (ready_alone n ∷ (map ready_alone names ++ [])))
+    stays : has_row n now ≡ true → find (by_name name)
+        (fold with_default now (ready_alone n ∷ (map ready_alone names ++ [])))
         ≡ find (by_name name) (fold with_default now (map ready_alone names ++ []))
     stays some =
         let one : with_default now (ready_alone n) ≡ now = rw some refl in
         ap (λ rs. find (by_name name) (fold with_default rs (map ready_alone names ++ []))) one
 
     go : (has : Bool) → has_row n now ≡ has → (same : Bool) → bytes_eq n name ≡ same
-        → ((rs : List Row) → find (by_name name) (fold with_default rs (map ready_alone names ++ [])) ≡ option_or (find (by_name name) rs) (default_of names name))
+        → ((rs : List Row) → find (by_name name) (fold with_default rs (map ready_alone names ++ [])) ≡
+        option_or (find (by_name name) rs) (default_of names name))
         → find (by_name name) (fold with_default now (ready_alone n ∷ (map ready_alone names ++ [])))
         ≡ option_or (find (by_name name) now) (cond (same || is_among names name) (Some (default_row name)) None)
     go true some true same later =
         let is_name : n ≡ name = same_text n name same in
-        let some_name : is_some (find (by_name name) now) ≡ true = found_any (by_name name) now ∙ (ap (λ t. has_row t now) (sym is_name) ∙ some) in
-        stays some ∙ (later now ∙ known (find (by_name name) now) (default_of names name) (Some (default_row name)) some_name)
+        let some_name : is_some (find (by_name name) now) ≡ true =
+        found_any (by_name name) now ∙ (ap (λ t. has_row t now) (sym is_name) ∙ some) in
+        stays some ∙ (later now ∙ known (find (by_name name) now) (default_of names name)
+        (Some (default_row name)) some_name)
     go true some false same later = stays some ∙ later now
     go false none same is later =
         let one : with_default now (ready_alone n) ≡ now ++ default_row n ∷ []
@@ -151,30 +179,33 @@ found_final (n ∷ names) now name = go (has_row n now) refl (bytes_eq n name) r
         let joins = ap (λ rs. fold with_default rs (map ready_alone names ++ [])) one in
         let here : find (by_name name) (default_row n ∷ []) ≡ cond same (Some (default_row n)) None = rw is refl in
         ap (find (by_name name)) joins ∙ (later (now ++ default_row n ∷ [])
-        ∙ (ap (λ o. option_or o (default_of names name)) (find-append (by_name name) now (default_row n ∷ []) ∙ ap (option_or (find (by_name name) now)) here)
+        ∙ (ap (λ o. option_or o (default_of names name))
+        (find-append (by_name name) now (default_row n ∷ []) ∙ ap (option_or (find (by_name name) now)) here)
         ∙ chosen (find (by_name name) now) same is))
 
-found_at_end : (form : Form) (all : List Given) (name : Text)
-    → find (by_name name) (final form all) ≡ option_or (option_map (row form) (option_named name all)) (default_of form.alone name)
+found_at_end : (form : Form) (all : List Setting) (name : Text)
+    → find (by_name name) (final form all) ≡ option_or (option_map (row form) (option_named name all))
+    (default_of form.alone name)
 found_at_end form all name =
     ap (find (by_name name)) (final_is form all) ∙ (found_final form.alone (rows form all) name
     ∙ ap (λ o. option_or o (default_of form.alone name)) (sym (find-map (by_name name) (row form) all)))
 
-has_is_some : (name : Text) (all : List Given) → is_some (option_named name all) ≡ has_option name all
+has_is_some : (name : Text) (all : List Setting) → is_some (option_named name all) ≡ has_option name all
 has_is_some name all = found_any (λ o. bytes_eq o.0 name) all
 
-given_at_end : (form : Form) (all : List Given) (name : Text) → is_given name (final form all) ≡ has_option name all
+given_at_end : (form : Form) (all : List Setting) (name : Text) → is_given name (final form all) ≡ has_option name all
 given_at_end form all name =
     ap (λ o. option_map_or (λ (r : Row). explicit_source r.source) o false) (found_at_end form all name)
     ∙ (go (option_named name all) (is_among form.alone name) ∙ has_is_some name all)
   where
-    go : (o : Option Given) (b : Bool)
-        → option_map_or (λ (r : Row). explicit_source r.source) (option_or (option_map (row form) o) (cond b (Some (default_row name)) None)) false ≡ is_some o
+    go : (o : Option Setting) (b : Bool)
+        → option_map_or (λ (r : Row). explicit_source r.source)
+        (option_or (option_map (row form) o) (cond b (Some (default_row name)) None)) false ≡ is_some o
     go (Some o) b = refl
     go None true = refl
     go None false = refl
 
-pub tells : (form : Form) (all : List Given) → Tells form all (final form all)
+pub tells : (form : Form) (all : List Setting) → Tells form all (final form all)
 tells form all = record {
   values = λ name has alone. ap (option_and_then (λ (r : Row). slice_get r.values 0)) (found_at_end form all name)
       ∙ value_at name has alone (option_named name all) refl;
@@ -182,16 +213,20 @@ tells form all = record {
       ∙ (flag_at name has alone (option_named name all) refl ∙ ap (λ b. Some (flag_text b)) (has_is_some name all));
 }
   where
-    value_at : (name : Text) → has_value form name ≡ true → is_among form.alone name ≡ false → (o : Option Given) → option_named name all ≡ o
-        → option_and_then (λ (r : Row). slice_get r.values 0) (option_or (option_map (row form) o) (default_of form.alone name)) ≡ option_map (λ x. x.1) o
+    value_at : (name : Text) → has_value form name ≡ true → is_among form.alone name ≡ false → (o : Option Setting) →
+        option_named name all ≡ o
+        → option_and_then (λ (r : Row). slice_get r.values 0)
+        (option_or (option_map (row form) o) (default_of form.alone name)) ≡ option_map (λ x. x.1) o
     value_at name has alone None is = rw alone refl
     value_at name has alone (Some o) is =
         let same : o.0 ≡ name = same_text o.0 name (find_passes (λ x. bytes_eq x.0 name) all o is) in
         let valued : has_value form o.0 ≡ true = ap (has_value form) same ∙ has in
         rw valued refl
 
-    flag_at : (name : Text) → has_value form name ≡ false → is_among form.alone name ≡ true → (o : Option Given) → option_named name all ≡ o
-        → option_and_then row_text (option_or (option_map (row form) o) (default_of form.alone name)) ≡ Some (flag_text (is_some o))
+    flag_at : (name : Text) → has_value form name ≡ false → is_among form.alone name ≡ true → (o : Option Setting) →
+        option_named name all ≡ o
+        → option_and_then row_text (option_or (option_map (row form) o) (default_of form.alone name)) ≡
+        Some (flag_text (is_some o))
     flag_at name has alone None is = rw alone refl
     flag_at name has alone (Some o) is =
         let same : o.0 ≡ name = same_text o.0 name (find_passes (λ x. bytes_eq x.0 name) all o is) in
@@ -201,42 +236,52 @@ tells form all = record {
 -- ---- the checks at the end
 
 abbrev pub check : Form → List Row → Kinds
-check form now = if list_any (λ a. a.required && not (is_given a.id now)) (ready_rules form) then kind.MissingRequiredArgument ∷ [] else []
+check form now = if list_any (λ a. a.required && not (is_given a.id now)) (ready_rules form) then
+    kind.MissingRequiredArgument ∷ [] else []
 
 any_valued : (now : List Row) (names : List Text) (rest : List Rule)
-    → list_any (λ a. a.required && not (is_given a.id now)) (map (ready_valued false) names ++ rest) ≡ list_any (λ a. a.required && not (is_given a.id now)) rest
+    → list_any (λ a. a.required && not (is_given a.id now)) (map (ready_valued false) names ++ rest) ≡
+    list_any (λ a. a.required && not (is_given a.id now)) rest
 any_valued now [] rest = refl
 any_valued now (n ∷ names) rest = any_valued now names rest
 
-any_alone : (now : List Row) (names : List Text) → list_any (λ a. a.required && not (is_given a.id now)) (map ready_alone names ++ []) ≡ false
+any_alone : (now : List Row) (names : List Text) → list_any (λ a. a.required && not (is_given a.id now))
+    (map ready_alone names ++ []) ≡ false
 any_alone now [] = refl
 any_alone now (n ∷ names) = any_alone now names
 
-any_needed : (now : List Row) (all : List Given) → ((name : Text) → is_given name now ≡ has_option name all) → (names : List Text) (rest : List Rule)
+any_needed : (now : List Row) (all : List Setting) → ((name : Text) → is_given name now ≡ has_option name all) →
+    (names : List Text) (rest : List Rule)
     → list_any (λ a. a.required && not (is_given a.id now)) rest ≡ false
-    → list_any (λ a. a.required && not (is_given a.id now)) (map (ready_valued true) names ++ rest) ≡ not (list_all (λ name. has_option name all) names)
+    → list_any (λ a. a.required && not (is_given a.id now)) (map (ready_valued true) names ++ rest) ≡
+    not (list_all (λ name. has_option name all) names)
 any_needed now all same [] rest none = none
 any_needed now all same (n ∷ names) rest none =
-    ap₂ (λ x y. not x || y) (same n) (any_needed now all same names rest none) ∙ turned (has_option n all) (list_all (λ name. has_option name all) names)
+    ap₂ (λ x y. not x || y) (same n) (any_needed now all same names rest none) ∙
+    turned (has_option n all) (list_all (λ name. has_option name all) names)
   where
     turned : (a b : Bool) → (not a || not b) ≡ not (a && b)
     turned true b = refl
     turned false b = refl
 
-pub check_is : (form : Form) (all : List Given)
-    → check form (final form all) ≡ (if list_all (λ name. has_option name all) form.needed then [] else kind.MissingRequiredArgument ∷ [])
+pub check_is : (form : Form) (all : List Setting)
+    → check form (final form all) ≡ (if list_all (λ name. has_option name all) form.needed then [] else
+    kind.MissingRequiredArgument ∷ [])
 check_is form all =
     let now = final form all in
     let none = any_valued now form.valued _ ∙ any_alone now form.alone in
-    ap (λ b. cond b (kind.MissingRequiredArgument ∷ []) []) (any_needed now all (given_at_end form all) form.needed _ none)
+    ap (λ b. cond b (kind.MissingRequiredArgument ∷ []) [])
+    (any_needed now all (given_at_end form all) form.needed _ none)
     ∙ turned (list_all (λ name. has_option name all) form.needed)
   where
-    turned : (b : Bool) → cond (not b) (kind.MissingRequiredArgument ∷ []) [] ≡ cond b [] (kind.MissingRequiredArgument ∷ [])
+    turned : (b : Bool) → cond (not b) (kind.MissingRequiredArgument ∷ []) [] ≡
+        cond b [] (kind.MissingRequiredArgument ∷ [])
     turned true = refl
     turned false = refl
 
 -- no default fails
-valued_defaults : (r : Bool) (names : List Text) (rest : List Rule) → ((now : List Row) → defaults_fault now rest ≡ []) → (now : List Row)
+valued_defaults : (r : Bool) (names : List Text) (rest : List Rule) →
+    ((now : List Row) → defaults_fault now rest ≡ []) → (now : List Row)
     → defaults_fault now (map (ready_valued r) names ++ rest) ≡ []
 unfolding defaults_fault
 valued_defaults r [] rest none now = none now
@@ -256,14 +301,17 @@ alone_defaults (n ∷ names) now = go (has_row n now) (alone_defaults names _)
     go false e = e
 
 pub no_default_fails : (form : Form) (now : List Row) → defaults_fault now (ready_rules form) ≡ []
-no_default_fails form = valued_defaults true form.needed _ (valued_defaults false form.valued _ (alone_defaults form.alone))
+no_default_fails form = valued_defaults true form.needed _
+    (valued_defaults false form.valued _ (alone_defaults form.alone))
 
 -- ---- options that are given once
 
-has_joined : (name : Text) (before more : List Given) → has_option name (before ++ more) ≡ (has_option name before || has_option name more)
+has_joined : (name : Text) (before more : List Setting) →
+    has_option name (before ++ more) ≡ (has_option name before || has_option name more)
 has_joined name before more = list_any-append (λ o. bytes_eq o.0 name) before more
 
-pub repeated : (before : List Given) (name value : Text) (behind : List Given) → has_option name before ≡ true → each_once (before ++ (name, value) ∷ behind) ≡ false
+pub repeated : (before : List Setting) (name value : Text) (behind : List Setting) → has_option name before ≡ true →
+    each_once (before ++ (name, value) ∷ behind) ≡ false
 repeated [] name value behind has = absurd (true≢false (sym has))
 repeated (o ∷ before) name value behind has = go (bytes_eq o.0 name) refl (repeated before name value behind)
   where
@@ -275,17 +323,22 @@ repeated (o ∷ before) name value behind has = go (bytes_eq o.0 name) refl (rep
     and_false true = refl
     and_false false = refl
 
-    go : (b : Bool) → bytes_eq o.0 name ≡ b → (has_option name before ≡ true → each_once (before ++ (name, value) ∷ behind) ≡ false)
-        → (not (has_option o.0 (before ++ (name, value) ∷ behind)) && each_once (before ++ (name, value) ∷ behind)) ≡ false
+    go : (b : Bool) → bytes_eq o.0 name ≡ b → (has_option name before ≡ true →
+        each_once (before ++ (name, value) ∷ behind) ≡ false)
+        → (not (has_option o.0 (before ++ (name, value) ∷ behind)) && each_once (before ++ (name, value) ∷ behind)) ≡
+        false
     go true e later =
         let turned : bytes_eq name o.0 ≡ true = same_either_way name o.0 ∙ e in
         let there : has_option o.0 (before ++ (name, value) ∷ behind) ≡ true
-        = has_joined o.0 before ((name, value) ∷ behind) ∙ (ap (λ b. has_option o.0 before || (b || has_option o.0 behind)) turned ∙ or_true (has_option o.0 before)) in
+        = has_joined o.0 before ((name, value) ∷ behind) ∙
+        (ap (λ b. has_option o.0 before || (b || has_option o.0 behind)) turned ∙
+        or_true (has_option o.0 before)) in
         ap (λ b. not b && each_once (before ++ (name, value) ∷ behind)) there
     go false e later =
         ap (λ b. not (has_option o.0 (before ++ (name, value) ∷ behind)) && b) (later (rw e at has)) ∙ and_false _
 
-pub once_more : (before : List Given) (name value : Text) → each_once before ≡ true → has_option name before ≡ false → each_once (before ++ (name, value) ∷ []) ≡ true
+pub once_more : (before : List Setting) (name value : Text) → each_once before ≡ true → has_option name before ≡ false →
+    each_once (before ++ (name, value) ∷ []) ≡ true
 once_more [] name value once has = refl
 once_more (o ∷ before) name value once has =
     go (bytes_eq o.0 name) refl (has_option o.0 before) refl (once_more before name value)

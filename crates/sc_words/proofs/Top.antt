@@ -12,7 +12,7 @@ use Rattle.clap.specs.Walk.{Held, Names, Row, Step, Walk, after_step, answers_to
 use Rattle.clap.proofs.FaultLemmas.{stopped_fault}
 use Rattle.clap.specs.declared.error.kind.ErrorKind.TheVariants as kind
 use Rattle.sc_words.specs.Application.{Tells, application}
-use Rattle.sc_words.specs.Options.{Form, Given, Text, begins_with_hyphen, is_bare, options}
+use Rattle.sc_words.specs.Options.{Form, Setting, Text, begins_with_hyphen, is_bare, options}
 use Rattle.sc_words.specs.Words.{commands, form_of, parsed}
 use Rattle.sc_base.proofs.Texts.{same_text}
 use Rattle.sc_base.proofs.Lists.{find_passes}
@@ -53,11 +53,13 @@ has_matches = refl
 abbrev entry_of : Text → List (Text × Form) → Option (Text × Form)
 entry_of name = find (λ c. bytes_eq c.0 name)
 
-label_found : (cs : List (Text × Form)) (name : Text) → find (answers_to name) (map label_of (shapes cs)) ≡ option_map (λ c. (c.0, [])) (entry_of name cs)
+label_found : (cs : List (Text × Form)) (name : Text) →
+    find (answers_to name) (map label_of (shapes cs)) ≡ option_map (λ c. (c.0, [])) (entry_of name cs)
 label_found [] name = refl
 label_found (c ∷ cs) name = go (bytes_eq c.0 name) refl (label_found cs name)
   where
-    go : (b : Bool) → bytes_eq c.0 name ≡ b → find (answers_to name) (map label_of (shapes cs)) ≡ option_map (λ c. (c.0, [])) (entry_of name cs)
+    go : (b : Bool) → bytes_eq c.0 name ≡ b → find (answers_to name) (map label_of (shapes cs)) ≡
+        option_map (λ c. (c.0, [])) (entry_of name cs)
         → find (answers_to name) (map label_of (shapes (c ∷ cs))) ≡ option_map (λ c. (c.0, [])) (entry_of name (c ∷ cs))
     go true e later = rw e refl
     go false e later = rw e later
@@ -67,8 +69,10 @@ shape_found : (cs : List (Text × Form)) (name : Text)
 shape_found [] name = refl
 shape_found (c ∷ cs) name = go (bytes_eq c.0 name) refl (shape_found cs name)
   where
-    go : (b : Bool) → bytes_eq c.0 name ≡ b → find (λ s. answers_to name (label_of s)) (shapes cs) ≡ option_map (λ c. ready c.0 c.1) (entry_of name cs)
-        → find (λ s. answers_to name (label_of s)) (shapes (c ∷ cs)) ≡ option_map (λ c. ready c.0 c.1) (entry_of name (c ∷ cs))
+    go : (b : Bool) → bytes_eq c.0 name ≡ b → find (λ s. answers_to name (label_of s)) (shapes cs) ≡
+        option_map (λ c. ready c.0 c.1) (entry_of name cs)
+        → find (λ s. answers_to name (label_of s)) (shapes (c ∷ cs)) ≡
+        option_map (λ c. ready c.0 c.1) (entry_of name (c ∷ cs))
     go true e later = rw e refl
     go false e later = rw e later
 
@@ -78,7 +82,8 @@ names = names_of app
 met_is : (name : Text) → subcommand_met names idle name ≡ option_map (λ c. c.0) (entry_of name commands)
 met_is name = ap (option_map (λ (s : Text × List Text). s.0)) (label_found commands name) ∙ go (entry_of name commands)
   where
-    go : (o : Option (Text × Form)) → option_map (λ (s : Text × List Text). s.0) (option_map (λ c. (c.0, [])) o) ≡ option_map (λ c. c.0) o
+    go : (o : Option (Text × Form)) → option_map (λ (s : Text × List Text). s.0) (option_map (λ c. (c.0, [])) o) ≡
+        option_map (λ c. c.0) o
     go None = refl
     go (Some c) = refl
 
@@ -91,13 +96,16 @@ abbrev first_step : Option Text → Text → Held × Step
 first_step met name = subcommand_or_other [] met idle 1 name nothing_held
 
 abbrev first_fault : Option Text → Text → Kinds
-first_fault met name = or_else (other_fault top met name nothing_held) (step_fault top 1 (first_step met name).0 (first_step met name).1)
+first_fault met name = or_else (other_fault top met name nothing_held)
+    (step_fault top 1 (first_step met name).0 (first_step met name).1)
 
-first_turn : (name : Text) → turn_fault top names start name ≡ first_fault (option_map (λ c. c.0) (entry_of name commands)) name
+first_turn : (name : Text) → turn_fault top names start name ≡
+    first_fault (option_map (λ c. c.0) (entry_of name commands)) name
 first_turn name = ap (λ met. first_fault met name) (met_is name)
 
 first_walk : (name : Text) → walked [] names start name
-    ≡ after_step [] name start (first_step (option_map (λ c. c.0) (entry_of name commands)) name).0 (first_step (option_map (λ c. c.0) (entry_of name commands)) name).1
+    ≡ after_step [] name start (first_step (option_map (λ c. c.0) (entry_of name commands)) name).0
+    (first_step (option_map (λ c. c.0) (entry_of name commands)) name).1
 unfolding walked
 first_walk name = ap (λ met. after_step [] name start (first_step met name).0 (first_step met name).1) (met_is name)
 
@@ -128,26 +136,31 @@ fold_stopped : (w : Walk) (p : Text × List Text) (words : List Text)
 unfolding walked
 fold_stopped w p [] = ap (λ ws. record w { stopped = Some (p.0, ws) }) (sym (append-nil p.1))
 fold_stopped w p (word ∷ words) =
-    fold_stopped w (p.0, p.1 ++ word ∷ []) words ∙ ap (λ ws. record w { stopped = Some (p.0, ws) }) (append_assoc p.1 (word ∷ []) words)
+    fold_stopped w (p.0, p.1 ++ word ∷ []) words ∙ ap (λ ws. record w { stopped = Some (p.0, ws) })
+    (append_assoc p.1 (word ∷ []) words)
 
 -- ---- all the words
 
 -- the parse fails where the definition gives nothing, and else finds what it gives
-abbrev pub Reads : Kinds → Option (Text × List Row) → Option (Text × List Given) → Type 0
+abbrev pub Reads : Kinds → Option (Text × List Row) → Option (Text × List Setting) → Type 0
 Reads faults entered None = faults ≡ [] → ⊥
 Reads faults entered (Some read) = (faults ≡ [])
-    × ((form : Form) × (form_of read.0 ≡ Some form) × ((rows : List Row) × (entered ≡ Some (read.0, rows)) × Tells form read.1 rows))
+    × ((form : Form) × (form_of read.0 ≡ Some form) ×
+    ((rows : List Row) × (entered ≡ Some (read.0, rows)) × Tells form read.1 rows))
 
 abbrev stopped_at : Text → List Text → Walk
 stopped_at name words = record start { stopped = Some (name, words) }
 
-known_agrees : (c : Text × Form) (words : List Text) → entry_of c.0 commands ≡ Some c → list_all (λ word. not (is_bare word)) words ≡ true
+known_agrees : (c : Text × Form) (words : List Text) → entry_of c.0 commands ≡ Some c →
+    list_all (λ word. not (is_bare word)) words ≡ true
     → Reads (fault_of application (c.0 ∷ words)) (subcommand_of application (c.0 ∷ words)) (parsed (c.0 ∷ words))
 unfolding walk_fault defaults_fault
 known_agrees c words found all =
-    let turn : turn_fault top names start c.0 ≡ [] = first_turn c.0 ∙ (ap (λ o. first_fault (option_map (λ (c : Text × Form). c.0) o) c.0) found ∙ command_passes c.0 c.0) in
+    let turn : turn_fault top names start c.0 ≡ [] = first_turn c.0 ∙
+    (ap (λ o. first_fault (option_map (λ (c : Text × Form). c.0) o) c.0) found ∙ command_passes c.0 c.0) in
     let walks : walked [] names start c.0 ≡ stopped_at c.0 []
-    = first_walk c.0 ∙ ap (λ o. after_step [] c.0 start (first_step (option_map (λ (c : Text × Form). c.0) o) c.0).0 (first_step (option_map (λ (c : Text × Form). c.0) o) c.0).1) found in
+    = first_walk c.0 ∙ ap (λ o. after_step [] c.0 start (first_step (option_map (λ (c : Text × Form). c.0) o) c.0).0
+    (first_step (option_map (λ (c : Text × Form). c.0) o) c.0).1) found in
     let faults : walk_fault top names start (c.0 ∷ words) ≡ []
     = (λ i. or_else (turn i) (walk_fault top names (walks i) words)) ∙ stopped_fault top names start (c.0, []) words in
     let end : fold (walked [] names) start (c.0 ∷ words) ≡ stopped_at c.0 words
@@ -157,11 +170,12 @@ known_agrees c words found all =
     let form_is : form_of c.0 ≡ Some c.1 = ap (option_map (λ (c : Text × Form). c.1)) found in
     let inner : Kinds = level_fault (ready c.0 c.1) [] nothing_held words false [] in
     let rows : List Row = rows_after (ready_rules c.1) [] words in
-    let faults_are : fault_of application (c.0 ∷ words) ≡ or_else inner [] = (λ i. level_by (faults i) (end i)) ∙ ap found_by shape in
+    let faults_are : fault_of application (c.0 ∷ words) ≡ or_else inner [] =
+    (λ i. level_by (faults i) (end i)) ∙ ap found_by shape in
     let rows_are : subcommand_of application (c.0 ∷ words) ≡ Some (c.0, rows)
     = ap (λ w. entered app w.stopped) end ∙ ap (option_map (λ s. rows_at s words)) shape in
-    let parsed_is : parsed (c.0 ∷ words) ≡ option_map (λ given. (c.0, given)) (options c.1 words)
-    = ap (λ o. option_map (λ given. (c.0, given)) (option_and_then (λ form. options form words) o)) form_is in
+    let parsed_is : parsed (c.0 ∷ words) ≡ option_map (λ settings. (c.0, settings)) (options c.1 words)
+    = ap (λ o. option_map (λ settings. (c.0, settings)) (option_and_then (λ form. options form words) o)) form_is in
     subst (λ k. Reads k (subcommand_of application (c.0 ∷ words)) (parsed (c.0 ∷ words))) (sym faults_are)
     (subst (λ entered. Reads (or_else inner []) entered (parsed (c.0 ∷ words))) (sym rows_are)
     (subst (Reads (or_else inner []) (Some (c.0, rows))) (sym parsed_is)
@@ -169,18 +183,30 @@ known_agrees c words found all =
   where
     level_by : Kinds → Walk → Kinds
     level_by faults w = or_else faults (or_else (entered_fault app w.stopped) (or_else (settle_fault [] false w.held)
-        (or_else (defaults_fault (settled [] w.held).rows []) (check_fault top (finished [] w.held) (is_some (entered app w.stopped))))))
+        (or_else (defaults_fault (settled [] w.held).rows [])
+        (check_fault top (finished [] w.held) (is_some (entered app w.stopped))))))
 
     found_by : Option Shape → Kinds
-    found_by o = or_else (option_map_or (λ s. level_fault s [] nothing_held words false []) o []) (check_fault top [] (is_some (option_map (λ s. rows_at s words) o)))
+    found_by o = or_else (option_map_or (λ s. level_fault s [] nothing_held words false []) o [])
+        (check_fault top [] (is_some (option_map (λ s. rows_at s words) o)))
 
-    both : (o : Option (List Given)) → form_of c.0 ≡ Some c.1
-        → Agrees c.0 c.1 (level_fault (ready c.0 c.1) [] nothing_held words false []) (rows_after (ready_rules c.1) [] words) o
-        → Reads (or_else (level_fault (ready c.0 c.1) [] nothing_held words false []) []) (Some (c.0, rows_after (ready_rules c.1) [] words)) (option_map (λ given. (c.0, given)) o)
+    both : (o : Option (List Setting)) → form_of c.0 ≡ Some c.1
+        → Agrees c.0 c.1 (level_fault (ready c.0 c.1) [] nothing_held words false [])
+        (rows_after (ready_rules c.1) [] words) o
+        → Reads (or_else (level_fault (ready c.0 c.1) [] nothing_held words false []) [])
+        (Some (c.0, rows_after (ready_rules c.1) [] words)) (option_map (λ settings. (c.0, settings)) o)
     both None form_is fails = first_fails _ [] fails
-    both (Some given) form_is agrees = (
+    both (Some settings) form_is agrees = (
       (λ i. or_else (agrees.0 i) []),
-      (c.1, form_is, (rows_after (ready_rules c.1) [] words, refl, subst (Tells c.1 given) (sym agrees.1) (tells c.1 given))),
+      (
+        c.1,
+        form_is,
+        (
+          rows_after (ready_rules c.1) [] words,
+          refl,
+          subst (Tells c.1 settings) (sym agrees.1) (tells c.1 settings),
+        ),
+      ),
     )
 
 pub words_agree : (words : List Text) → list_all (λ word. not (is_bare word)) words ≡ true
@@ -196,12 +222,15 @@ words_agree (name ∷ words) all = go (entry_of name commands) refl
         → Reads (fault_of application (name ∷ words)) (subcommand_of application (name ∷ words)) (parsed (name ∷ words))
     go None found =
         let unknown : parsed (name ∷ words) ≡ None
-        = ap (λ (o : Option (Text × Form)). option_map (λ given. (name, given)) (option_and_then (λ form. options form words) (option_map (λ c. c.1) o))) found in
+        = ap (λ (o : Option (Text × Form)). option_map (λ settings. (name, settings))
+        (option_and_then (λ form. options form words) (option_map (λ c. c.1) o))) found in
         let turn : turn_fault top names start name ≡ first_fault None name
         = first_turn name ∙ ap (λ o. first_fault (option_map (λ (c : Text × Form). c.0) o) name) found in
         subst (Reads (fault_of application (name ∷ words)) (subcommand_of application (name ∷ words))) (sym unknown)
-        (first_fails _ _ (first_fails (turn_fault top names start name) _ (λ none. stranger_fails name parts.0 (sym turn ∙ none))))
+        (first_fails _ _ (first_fails (turn_fault top names start name) _
+        (λ none. stranger_fails name parts.0 (sym turn ∙ none))))
     go (Some c) found =
         let same : c.0 ≡ name = same_text c.0 name (find_passes (λ c. bytes_eq c.0 name) commands c found) in
-        subst (λ n. Reads (fault_of application (n ∷ words)) (subcommand_of application (n ∷ words)) (parsed (n ∷ words))) same
+        subst (λ n. Reads (fault_of application (n ∷ words)) (subcommand_of application (n ∷ words))
+        (parsed (n ∷ words))) same
         (known_agrees c words (ap (λ n. entry_of n commands) same ∙ found) parts.1)

@@ -8,7 +8,7 @@ use Rattle.clap.specs.declared.builder.arg.Arg.{Arg}
 use Rattle.clap.specs.declared.builder.command.Command.{Command}
 use Rattle.clap.specs.declared.builder.command.Command.TheViews.{out-Command}
 use Rattle.clap.specs.declared.parser.matches.ArgMatches.{ArgMatches}
-use Rattle.sc_words.specs.Options.{Form, Given, Text, has_option, has_value, is_among, value_of}
+use Rattle.sc_words.specs.Options.{Form, Setting, Text, has_option, has_value, is_among, value_of}
 use Rattle.sc_words.specs.Words.{commands, form_of, parsed}
 
 abbrev pub valued_rule : (required : Bool) → Text → Rule
@@ -53,15 +53,15 @@ flag_text true = codes "true"
 flag_text false = codes "false"
 
 -- the rows say which options are given, with their values
-pub record Tells (form : Form) (given : List Given) (rows : List Row) : Type 0 where
+pub record Tells (form : Form) (settings : List Setting) (rows : List Row) : Type 0 where
   pub values : (name : Text) → has_value form name ≡ true → is_among form.alone name ≡ false
-      → first_of name rows ≡ value_of name given
+      → first_of name rows ≡ value_of name settings
   pub alone : (name : Text) → has_value form name ≡ false → is_among form.alone name ≡ true
-      → one_of name rows ≡ Some (flag_text (has_option name given))
+      → one_of name rows ≡ Some (flag_text (has_option name settings))
 
 -- the parse found the command and the options that the words are
 pub record IsReading (words : List Text) (matches : ArgMatches) : Type 0 where
-  pub read : Text × List Given
+  pub read : Text × List Setting
   pub is : parsed words ≡ Some read
   pub form : Form
   pub has : form_of read.0 ≡ Some form

@@ -14,8 +14,8 @@ pub record Form : Type 0 where
   pub alone : List Text
 
 -- an option with its value, which is empty where the option stands alone
-abbrev pub Given : Type 0
-Given = Text × Text
+abbrev pub Setting : Type 0
+Setting = Text × Text
 
 abbrev pub is_among : List Text → Text → Bool
 is_among names name = list_any (λ known. bytes_eq known name) names
@@ -43,11 +43,12 @@ named word = if bytes_eq (take 2 word) (codes "--") then Some (name_and_value (d
 abbrev pub is_bare : Text → Bool
 is_bare word = begins_with_hyphen word && (not (bytes_eq (take 2 word) (codes "--")) || length word == 2)
 
-abbrev pub more : Text → Text → Option (List Given) → Option (List Given)
-more name value = option_map (λ given. (name, value) ∷ given)
+abbrev pub more : Text → Text → Option (List Setting) → Option (List Setting)
+more name value = option_map (λ settings. (name, value) ∷ settings)
 
 -- what a word that is no value says, where `behind` reads the words behind it for the option that waits for its value
-abbrev pub named_option : Form → Option (Text × Option Text) → (Option Text → Option (List Given)) → Option (List Given)
+abbrev pub named_option : Form → Option (Text × Option Text) → (Option Text → Option (List Setting)) →
+    Option (List Setting)
 named_option form None behind = None
 named_option form (Some (name, Some value)) behind =
     if has_value form name then more name value (behind None) else None
@@ -57,30 +58,31 @@ named_option form (Some (name, None)) behind =
 
 -- the options that words give, in order, where `waiting` is the option whose value is the first word. A value in a word
 -- of its own has no hyphen in front
-unfoldable pub given : Form → Option Text → List Text → Option (List Given)
-given form None [] = Some []
-given form (Some name) [] = None
-given form None (word ∷ rest) = named_option form (named word) (λ waiting. given form waiting rest)
-given form (Some name) (word ∷ rest) = if begins_with_hyphen word then None else more name word (given form None rest)
+unfoldable pub settings : Form → Option Text → List Text → Option (List Setting)
+settings form None [] = Some []
+settings form (Some name) [] = None
+settings form None (word ∷ rest) = named_option form (named word) (λ waiting. settings form waiting rest)
+settings form (Some name) (word ∷ rest) = if begins_with_hyphen word then None else
+    more name word (settings form None rest)
 
-abbrev pub has_option : Text → List Given → Bool
+abbrev pub has_option : Text → List Setting → Bool
 has_option name = list_any (λ option. bytes_eq option.0 name)
 
-abbrev pub each_once : List Given → Bool
+abbrev pub each_once : List Setting → Bool
 each_once [] = true
 each_once (option ∷ rest) = not (has_option option.0 rest) && each_once rest
 
 -- each option is given at most once, and those that have to be given are
-abbrev pub is_complete : Form → List Given → Bool
+abbrev pub is_complete : Form → List Setting → Bool
 is_complete form options = each_once options && list_all (λ name. has_option name options) form.needed
 
-abbrev pub when_complete : Form → List Given → Option (List Given)
+abbrev pub when_complete : Form → List Setting → Option (List Setting)
 when_complete form options = if is_complete form options then Some options else None
 
 -- the options that the words are
-abbrev pub options : Form → List Text → Option (List Given)
-options form words = option_and_then (when_complete form) (given form None words)
+abbrev pub options : Form → List Text → Option (List Setting)
+options form words = option_and_then (when_complete form) (settings form None words)
 
 -- the value of an option, if it is given
-abbrev pub value_of : Text → List Given → Option Text
+abbrev pub value_of : Text → List Setting → Option Text
 value_of name options = option_map (λ option. option.1) (find (λ option. bytes_eq option.0 name) options)

@@ -2,7 +2,7 @@
 use Rattle.std.specs.Prelude.{ℕ, ℤ, Bool, if◌then◌else◌, List, [], ◌∷◌, codes, Option, Some, None, option_and_then, option_map, find}
 use Rattle.std.specs.Str.{bytes_eq}
 use Rattle.sc_words.specs.Numbers.{number_within, integer_list}
-use Rattle.sc_words.specs.Options.{Form, Given, Text, has_option, options, value_of}
+use Rattle.sc_words.specs.Options.{Form, Setting, Text, has_option, options, value_of}
 use Rattle.sc_words.specs.declared.command.Command.{Command}
 use Rattle.sc_words.specs.declared.command.Command.TheVariants.{Check, Meaning, Compile, Run, Exec, Explain, Make}
 use Rattle.sc_words.specs.declared.command.MakeOptions.{MakeOptions}
@@ -32,9 +32,10 @@ abbrev pub form_of : Text → Option Form
 form_of name = option_map (λ entry. entry.1) (find (λ entry. bytes_eq entry.0 name) commands)
 
 -- the command's name and its options, of words that give them: the first word is the name
-abbrev pub parsed : List Text → Option (Text × List Given)
+abbrev pub parsed : List Text → Option (Text × List Setting)
 parsed [] = None
-parsed (name ∷ words) = option_map (λ given. (name, given)) (option_and_then (λ form. options form words) (form_of name))
+parsed (name ∷ words) = option_map (λ settings. (name, settings))
+    (option_and_then (λ form. options form words) (form_of name))
 
 -- ---- what the options of a command say, by the value of each option that is given
 
@@ -71,13 +72,14 @@ run value =
     (inputs (value (codes "in")))) (events (value (codes "events")))) (limit (value (codes "steps")))
 
 -- which text of the chain is shown, if the option is given
-abbrev pub shown : Option Text → Option (Option ℕ)
-shown None = Some None
-shown (Some text) = option_map Some (number_within 0 32 text)
+abbrev pub text_to_show : Option Text → Option (Option ℕ)
+text_to_show None = Some None
+text_to_show (Some text) = option_map Some (number_within 0 32 text)
 
 abbrev pub explain : Values → Option Command
 explain value =
-    option_and_then (λ options. option_map (λ show. Explain options show) (shown (value (codes "show")))) (run value)
+    option_and_then (λ options. option_map (λ show. Explain options show) (text_to_show (value (codes "show"))))
+    (run value)
 
 abbrev pub make : Values → (summary : Bool) → Option MakeOptions
 make value summary =

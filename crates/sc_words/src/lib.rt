@@ -17,12 +17,14 @@
 //! |---|---|---|
 //! | N of `--steps` and `--turns` | 0 to 16,777,216 | 1,000,000 |
 //! | M of `--events` | 0 to 4,096 | 1,024 |
-//! | LIST of `--in` | 1 to 65,536 integers from -2147483648 to 2147483647 with single commas between them | no integers |
+//! | LIST of `--in` | 1 to 65,536 integers from -2147483648 to 2147483647 with single commas between them | no integers
+//! |
 //! | K of `--show` | 0 to 32 | none |
 //! | K of `--size` | 1 to 1,000 | |
 //! | N of `--seed` | 0 to 4,294,967,295 | |
 //!
-//! A number is one decimal digit or more, with no sign but the `-` of an integer. A list that begins with `-` is written
+//! A number is one decimal digit or more, with no sign but the `-` of an integer. A list that begins with `-` is
+//! written
 //! `--in=-5,3`.
 #![tactic(auto)]
 

@@ -3,7 +3,7 @@ ghost use Rattle.std.specs.Str.{bytes_eq};
 ghost use Rattle.clap.specs.Words.{first_value, found_of, one_text};
 ghost use Rattle.sc_words.specs.Application.{flag_text};
 ghost use Rattle.sc_words.specs.Numbers.{number_within};
-ghost use Rattle.sc_words.specs.Words.{command_with, events, explain, inputs, limit, make, meaning, run, shown};
+ghost use Rattle.sc_words.specs.Words.{command_with, events, explain, inputs, limit, make, meaning, run, text_to_show};
 
 use crate::numbers::{read_list, read_number};
 use crate::{Command, MakeOptions, MeaningOptions, RunOptions, WordsFault};
@@ -18,10 +18,12 @@ pub(crate) fn command_with(
     options: &ArgMatches<'_>,
 ) -> Result<Command, WordsFault>
     ensures ok { (summary : Bool)
-        → (bytes_eq name.now (codes "make") ≡ true → one_text (found_of options.now) (codes "summary") ≡ Some (flag_text summary))
+        → (bytes_eq name.now (codes "make") ≡ true → one_text (found_of options.now) (codes "summary") ≡
+        Some (flag_text summary))
         → IfOk result (λ read. command_with name.now (first_value (found_of options.now)) summary ≡ Some read) }
     ensures usage { (summary : Bool)
-        → (bytes_eq name.now (codes "make") ≡ true → one_text (found_of options.now) (codes "summary") ≡ Some (flag_text summary))
+        → (bytes_eq name.now (codes "make") ≡ true → one_text (found_of options.now) (codes "summary") ≡
+        Some (flag_text summary))
         → IsErrOf result WordsFault.Usage → command_with name.now (first_value (found_of options.now)) summary ≡ None }
 {
     if name == "check" {
@@ -44,7 +46,8 @@ pub(crate) fn command_with(
 }
 
 fn meaning(alloc: Global, options: &ArgMatches<'_>) -> Result<Command, WordsFault>
-    ensures ok { IfOk result (λ read. option_map Command.Meaning (meaning (first_value (found_of options.now))) ≡ Some read) }
+    ensures ok { IfOk result (λ read. option_map Command.Meaning (meaning (first_value (found_of options.now))) ≡
+        Some read) }
     ensures usage { IsErrOf result WordsFault.Usage → meaning (first_value (found_of options.now)) ≡ None }
 {
     let turns = limit(options, "turns").ok_or(WordsFault::Usage)?;
@@ -76,13 +79,14 @@ fn explain(alloc: Global, options: &ArgMatches<'_>) -> Result<Command, WordsFaul
     ensures usage { IsErrOf result WordsFault.Usage → explain (first_value (found_of options.now)) ≡ None }
 {
     let run = run_options(alloc, options)?;
-    let show = shown(options).ok_or(WordsFault::Usage)?;
+    let show = text_to_show(options).ok_or(WordsFault::Usage)?;
     Ok(Command::Explain(run, show))
 }
 
 fn make(options: &ArgMatches<'_>) -> Result<Command, WordsFault>
     ensures ok { (summary : Bool) → one_text (found_of options.now) (codes "summary") ≡ Some (flag_text summary)
-        → IfOk result (λ read. option_map Command.Make (make (first_value (found_of options.now)) summary) ≡ Some read) }
+        → IfOk result (λ read. option_map Command.Make (make (first_value (found_of options.now)) summary) ≡
+        Some read) }
     ensures usage { (summary : Bool) → IsErrOf result WordsFault.Usage
         → make (first_value (found_of options.now)) summary ≡ None }
 {
@@ -136,8 +140,8 @@ fn inputs(alloc: Global, options: &ArgMatches<'_>) -> Result<Items<i32>, WordsFa
 }
 
 // Which text of the chain is shown, if the option is given.
-fn shown(options: &ArgMatches<'_>) -> Option<Option<u32>>
-    ensures { result ≡ shown (first_value (found_of options.now) (codes "show")) }
+fn text_to_show(options: &ArgMatches<'_>) -> Option<Option<u32>>
+    ensures { result ≡ text_to_show (first_value (found_of options.now) (codes "show")) }
 {
     match options.get_str("show") {
         None => Some(None),

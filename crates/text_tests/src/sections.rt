@@ -7,7 +7,13 @@ const ACCEPTED: [(&[u8], &[(usize, u32)]); 8] = [
     (b"", &[]),
     (b"int x;\n #pragma compartment A\n#pragma compartment", &[]),
     (b"#pragma compartment Main\nint x;\n", &[(0, 1)]),
-    (b"/*\n#pragma compartment Main\n*/\n", &[(3, 2)]),
+    (
+        b"/*
+#pragma compartment Main
+*/
+",
+        &[(3, 2)],
+    ),
     (
         b"#pragma compartment int \t\r\n\n#pragma compartment B",
         &[(0, 1), (28, 3)],
@@ -20,7 +26,14 @@ const ACCEPTED: [(&[u8], &[(usize, u32)]); 8] = [
         b"#pragma compartment a23456789_23456789_23456789_23456789_23456789_23456789_12345678",
         &[(0, 1)],
     ),
-    (b"x\r\n\n\n#pragma compartment _\n", &[(5, 4)]),
+    (
+        b"x\r
+
+
+#pragma compartment _
+",
+        &[(5, 4)],
+    ),
 ];
 
 // A text, and the line of its first bad compartment line.

@@ -54,7 +54,10 @@ const ACCEPTED: [(&[u8], &[u8], &[u8]); 18] = [
         b"#pragma compartment A `#pragma  export\tF \r`#pragma import C if`int`",
     ),
     (
-        b"#pragma compartment A\nx\n#pragma compartment B\n",
+        b"#pragma compartment A
+x
+#pragma compartment B
+",
         b"c1i2c3",
         b"#pragma compartment A`x`#pragma compartment B`",
     ),

@@ -90,7 +90,8 @@ fn append_members(out: &mut Text, members: &MemberTrees) -> Result<(), OutOfMemo
 
 // `struct S {` and the end of its line
 fn append_struct_head(out: &mut Text, name: &Ident) -> Result<(), OutOfMemory>
-    ensures { OnOk result (out.new ≡ out.old ++ text_of (word (codes "struct") ∷ blank ∷ word name.now ∷ blank ∷ word (codes "{") ∷ newline ∷ [])) }
+    ensures { OnOk result (out.new ≡ out.old ++ text_of
+        (word (codes "struct") ∷ blank ∷ word name.now ∷ blank ∷ word (codes "{") ∷ newline ∷ [])) }
 {
     out.append(b"struct ")?;
     out.append(name.as_bytes())?;
@@ -249,7 +250,8 @@ fn append_signature(
     result_type: &Option<TypeName>,
     name: &Ident,
 ) -> Result<(), OutOfMemory>
-    ensures { OnOk result (out.new ≡ out.old ++ text_of (result_words result_type.now ++ word name.now ∷ word (codes "(") ∷ [])) }
+    ensures { OnOk result (out.new ≡ out.old ++ text_of
+        (result_words result_type.now ++ word name.now ∷ word (codes "(") ∷ [])) }
 {
     append_result(out, result_type)?;
     out.append(name.as_bytes())?;

@@ -65,7 +65,8 @@ fn append_apart(out: &mut Text, before: &[u8], sign: &[u8]) -> Result<(), OutOfM
 
 // An operator in front of an operand, and `(` before it where that is wanted.
 fn append_sign(out: &mut Text, before: &[u8], sign: &[u8], wanted: bool) -> Result<(), OutOfMemory>
-    ensures { OnOk result (out.new ≡ out.old ++ text_of (opened wanted ++ (apart before.now sign.now ++ word sign.now ∷ []))) }
+    ensures { OnOk result (out.new ≡ out.old ++ text_of
+        (opened wanted ++ (apart before.now sign.now ++ word sign.now ∷ []))) }
 {
     append_opened(out, wanted)?;
     append_apart(out, before, sign)?;
@@ -160,7 +161,8 @@ fn append_right(
 
 #[cycle(expr)]
 fn append_index(out: &mut Text, index: &ExprTree) -> Result<(), OutOfMemory>
-    ensures { OnOk result (out.new ≡ out.old ++ text_of (word (codes "[") ∷ (words_at index.now [] loosest_level ++ word (codes "]") ∷ []))) }
+    ensures { OnOk result (out.new ≡ out.old ++ text_of
+        (word (codes "[") ∷ (words_at index.now [] loosest_level ++ word (codes "]") ∷ []))) }
 {
     out.append(b"[")?;
     append_at(out, index, b"", LOOSEST)?;

@@ -71,7 +71,8 @@ fn append_next(out: &mut Text, next: &Option<SimpleTree>) -> Result<(), OutOfMem
 
 // `for (x = e; `
 fn append_for(out: &mut Text, first: &Option<SimpleTree>) -> Result<(), OutOfMemory>
-    ensures { OnOk result (out.new ≡ out.old ++ text_of (word (codes "for") ∷ blank ∷ word (codes "(") ∷ (first_words first.now ++ word (codes ";") ∷ blank ∷ []))) }
+    ensures { OnOk result (out.new ≡ out.old ++ text_of
+        (word (codes "for") ∷ blank ∷ word (codes "(") ∷ (first_words first.now ++ word (codes ";") ∷ blank ∷ []))) }
 {
     out.append(b"for (")?;
     append_first(out, first)?;
@@ -84,7 +85,8 @@ fn append_turn(
     cond: &ExprTree,
     next: &Option<SimpleTree>,
 ) -> Result<(), OutOfMemory>
-    ensures { OnOk result (out.new ≡ out.old ++ text_of (expr_words cond.now ++ word (codes ";") ∷ (next_words next.now ++ word (codes ")") ∷ blank ∷ []))) }
+    ensures { OnOk result (out.new ≡ out.old ++ text_of
+        (expr_words cond.now ++ word (codes ";") ∷ (next_words next.now ++ word (codes ")") ∷ blank ∷ []))) }
 {
     append_expr(out, cond)?;
     out.append(b";")?;

@@ -3,4 +3,5 @@ use Rattle.sc_ast.specs.Height.{limited, stmts_height}
 use Rattle.sc_ast.proofs.height.+height.Given as goal
 
 abbrev pub invariant-stmts_height-loop-stmt : goal.invariant-stmts_height-loop-stmt
-invariant-stmts_height-loop-stmt l = max l.highest (limited (stmts_height (drop l.stmt-index l.stmt-items))) ≡ limited (stmts_height l.stmts)
+invariant-stmts_height-loop-stmt l = max l.highest (limited (stmts_height (drop l.stmt-index l.stmt-items))) ≡
+    limited (stmts_height l.stmts)

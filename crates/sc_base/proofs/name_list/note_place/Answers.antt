@@ -9,4 +9,5 @@ returns-then-contains_key-clause-ok c names has at =
 
 pub returns-clause-ok : goal.returns-clause-ok
 returns-clause-ok c names has at =
-    noted-place names c.args.name c.args.places.now has c.insert.new.self c.args.place (sym c.contains_key.ensures ∙ c.if-contains_key.false) at c.in_ok-insert.ensures.updates
+    noted-place names c.args.name c.args.places.now has c.insert.new.self c.args.place
+    (sym c.contains_key.ensures ∙ c.if-contains_key.false) at c.in_ok-insert.ensures.updates

@@ -6,6 +6,12 @@ use Rattle.sc_elab.proofs.expr.index_built.Goals as goal
 
 pub returns-clause-judged : goal.returns-clause-judged
 returns-clause-judged c scope first second =
-    (λ i. place c.unwrap_or-ty.result ((c.is_indexed.ensures ∙ ap (λ p. is_address c.args.base.judged && (is_int c.args.index.judged && is_type p c.unwrap_or-ty.result)) c.pointed-pointed.ensures) i))
-    ∙ index_judged scope c.args.base.expr c.args.index.expr c.args.base.judged c.args.index.judged c.unwrap_or-ty.result first second
-    ∙ (λ i. judged scope (record { ty = c.unwrap_or-ty.result; kind = TypedKind.Index (sym c.in_ok-base.ensures i) (sym c.in_ok-index.ensures i) }))
+    (λ i. place c.unwrap_or-ty.result ((c.is_indexed.ensures ∙
+    ap (λ p. is_address c.args.base.judged && (is_int c.args.index.judged &&
+    is_type p c.unwrap_or-ty.result)) c.pointed-pointed.ensures) i))
+    ∙ index_judged scope c.args.base.expr c.args.index.expr c.args.base.judged c.args.index.judged c.unwrap_or-ty.result
+    first second
+    ∙ (λ i. judged scope (record {
+      ty = c.unwrap_or-ty.result;
+      kind = TypedKind.Index (sym c.in_ok-base.ensures i) (sym c.in_ok-index.ensures i);
+    }))

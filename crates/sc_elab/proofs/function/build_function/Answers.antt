@@ -4,7 +4,8 @@ use Rattle.sc_elab.proofs.function.build_function.Goals as goal
 
 pub returns : goal.returns
 returns c =
-    function_kept c.args.scope.now c.args.section.now c.requires c.args.tree.now c.in_ok-function.function c.in_ok-function.ensures.stands _ (λ j. record {
+    function_kept c.args.scope.now c.args.section.now c.requires c.args.tree.now c.in_ok-function.function
+    c.in_ok-function.ensures.stands _ (λ j. record {
       name = c.name.ensures.value j;
       params = c.into_list.ensures j;
       locals = c.in_ok-function.ensures.locals j;

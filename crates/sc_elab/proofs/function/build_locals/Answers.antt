@@ -10,13 +10,19 @@ loop-local-preserved c =
     let local = c.local-item.result in
     let h : i < length c.args.tree.now.locals = subst (λ l. i < length l) c.requires.locals c.loop-local-test.true in
     let e = c.local-item.is ∙ ap (λ l. get_or l i local) c.requires.locals in
-    let stands = more_stands c.args.scope.now c.args.section.now c.requires.stands c.args.tree.now i local c.loop-local.function c.in_ok-function-2.function h e c.loop-local.invariant.stands c.in_ok-function-2.ensures in
+    let stands = more_stands c.args.scope.now c.args.section.now c.requires.stands c.args.tree.now i local
+    c.loop-local.function c.in_ok-function-2.function h e c.loop-local.invariant.stands c.in_ok-function-2.ensures
+    in
     record {
       stands = stands;
-      locals = more_built c.args.scope.now c.args.section.now c.requires.stands c.args.tree.now i local c.in_ok-function-2.function c.loop-local.built c.push.new.self _ c.in_ok-build_local.field-0 h e stands c.in_ok-build_local.ensures c.in_ok-push.ensures.ok c.loop-local.invariant.locals;
+      locals = more_built c.args.scope.now c.args.section.now c.requires.stands c.args.tree.now i local
+          c.in_ok-function-2.function c.loop-local.built c.push.new.self _ c.in_ok-build_local.field-0 h e stands
+          c.in_ok-build_local.ensures c.in_ok-push.ensures.ok c.loop-local.invariant.locals;
     }
 
 pub returns-clause-locals : goal.returns-clause-locals
 returns-clause-locals c =
-    let h : length c.args.tree.now.locals ≤ c.loop-local.local-index = subst (λ l. length l ≤ c.loop-local.local-index) c.requires.locals c.loop-local-test.false in
-    all_built c.args.scope.now c.args.section.now c.requires.stands c.args.tree.now c.loop-local.local-index c.loop-local.built _ (drop_all c.loop-local.local-index c.args.tree.now.locals h) c.loop-local.invariant.locals
+    let h : length c.args.tree.now.locals ≤ c.loop-local.local-index =
+    subst (λ l. length l ≤ c.loop-local.local-index) c.requires.locals c.loop-local-test.false in
+    all_built c.args.scope.now c.args.section.now c.requires.stands c.args.tree.now c.loop-local.local-index
+    c.loop-local.built _ (drop_all c.loop-local.local-index c.args.tree.now.locals h) c.loop-local.invariant.locals

@@ -6,8 +6,11 @@ use Rattle.sc_elab.proofs.globals.build_globals.Goals as goal
 
 pub loop-decl-preserved : goal.loop-decl-preserved
 loop-decl-preserved c =
-    gather_more global_in (typed_global c.args.tags.now) c.args.decls.now c.loop-decl.decl-index c.decl-item.result c.loop-decl.globals c.in_ok-globals.globals _ c.loop-decl-test.true c.decl-item.is c.in_ok-globals.ensures c.loop-decl.invariant
+    gather_more global_in (typed_global c.args.tags.now) c.args.decls.now c.loop-decl.decl-index c.decl-item.result
+    c.loop-decl.globals c.in_ok-globals.globals _ c.loop-decl-test.true c.decl-item.is c.in_ok-globals.ensures
+    c.loop-decl.invariant
 
 pub returns : goal.returns
 returns c =
-    gather_end global_in (typed_global c.args.tags.now) c.args.decls.now c.loop-decl.decl-index c.loop-decl.globals _ c.loop-decl-test.false c.loop-decl.invariant
+    gather_end global_in (typed_global c.args.tags.now) c.args.decls.now c.loop-decl.decl-index c.loop-decl.globals _
+    c.loop-decl-test.false c.loop-decl.invariant

@@ -6,4 +6,6 @@ use Rattle.sc_elab.proofs.section.build_section.Goals as goal
 
 pub returns : goal.returns
 returns c sections number e =
-    subst (λ k. IfOk c.section_over.result (λ built. built ≡ typed_section c.args.section.now k)) (called_kept sections number c.args.section.now c.args.imports.now c.in_ok-scope.scope.callees c.in_ok-scope.ensures.calls e) c.section_over.ensures
+    subst (λ k. IfOk c.section_over.result (λ built. built ≡ typed_section c.args.section.now k))
+    (called_kept sections number c.args.section.now c.args.imports.now c.in_ok-scope.scope.callees
+    c.in_ok-scope.ensures.calls e) c.section_over.ensures

@@ -3,4 +3,5 @@ use Rattle.sc_elab.specs.Seen.{args_in}
 use Rattle.sc_elab.proofs.stmt.build_args.Given as goal
 
 abbrev pub invariant-loop-arg : goal.invariant-loop-arg
-invariant-loop-arg l = l.built ++ args_in l.section l.function l.left (drop l.arg-index l.args) ≡ args_in l.section l.function l.params l.args
+invariant-loop-arg l = l.built ++ args_in l.section l.function l.left (drop l.arg-index l.args) ≡
+    args_in l.section l.function l.params l.args

@@ -6,4 +6,5 @@ use Rattle.sc_elab.proofs.Phases.{lines_in}
 use Rattle.sc_elab.proofs.typing.broken_type.Given as goal
 
 abbrev pub invariant-loop-section : goal.invariant-loop-section
-invariant-loop-section l = noted_all l.least (concat (map lines_in (drop l.section-index l.sections))) ≡ refused_at (types_broken l.sections)
+invariant-loop-section l = noted_all l.least (concat (map lines_in (drop l.section-index l.sections))) ≡
+    refused_at (types_broken l.sections)

@@ -7,4 +7,5 @@ use Rattle.sc_elab.proofs.typing.note_decls.Given as goal
 
 abbrev pub invariant-loop-decl : goal.invariant-loop-decl
 invariant-loop-decl l =
-    with_lines l.lines (concat (map (decl_lines l.section (called l.scope.callees)) (drop l.decl-index l.decls))) ≡ with_lines l.initial.lines (concat (map (decl_lines l.section (called l.scope.callees)) l.decls))
+    with_lines l.lines (concat (map (decl_lines l.section (called l.scope.callees)) (drop l.decl-index l.decls))) ≡
+    with_lines l.initial.lines (concat (map (decl_lines l.section (called l.scope.callees)) l.decls))

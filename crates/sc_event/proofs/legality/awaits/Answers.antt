@@ -10,4 +10,5 @@ returns-in-Some c = λ at by.
     let within = subst (λ p. IfSome p (λ call. call < length events)) c.in-Some.is c.requires in
     let of_call = subst (λ p. StandsBy main events p at) c.in-Some.is by in
     c.eq.ensures ∙ awaited main events c.in-Some.call at within c.active_comp.result c.args.to of_call
-    (λ earlier is. c.active_comp.ensures earlier (subst (λ p. StandsBy main events p earlier) (sym c.open_call.ensures.call) is))
+    (λ earlier is. c.active_comp.ensures earlier (subst (λ p. StandsBy main events p earlier)
+    (sym c.open_call.ensures.call) is))

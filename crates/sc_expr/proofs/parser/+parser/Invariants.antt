@@ -26,4 +26,6 @@ decreases-parse_index l = 4 * (l.free + l.below) + 1
 -- what is read is what the rest of the loop reads
 abbrev pub invariant-parse_level-loop : goal.invariant-parse_level-loop
 invariant-parse_level-loop l =
-    (l.left.height ≤ l.room) × (read l.free l.room l.level l.lexemes ≡ go_on (read_nested l.free) (read l.free l.below) l.below l.level (l.room - l.counter) (found l.left.tree l.left.height l.rest))
+    (l.left.height ≤ l.room) × (read l.free l.room l.level l.lexemes ≡
+    go_on (read_nested l.free) (read l.free l.below) l.below l.level (l.room - l.counter)
+    (found l.left.tree l.left.height l.rest))

@@ -4,10 +4,13 @@ use Rattle.sc_expr.proofs.Theorem.{found_front, found_height, refused_front}
 use Rattle.sc_expr.proofs.parser.parse_expr.Goals as goal
 
 pub returns-clause-found : goal.returns-clause-found
-returns-clause-found c = found_front loosest_level c.args.opened c.args.lexemes.now c.parse_level.result (omega arith) c.requires c.parse_level.ensures.read
+returns-clause-found c = found_front loosest_level c.args.opened c.args.lexemes.now c.parse_level.result
+    (omega arith) c.requires c.parse_level.ensures.read
 
 pub returns-clause-height : goal.returns-clause-height
-returns-clause-height c = found_height loosest_level c.args.opened c.args.lexemes.now c.parse_level.result (omega arith) c.parse_level.ensures.read
+returns-clause-height c = found_height loosest_level c.args.opened c.args.lexemes.now c.parse_level.result
+    (omega arith) c.parse_level.ensures.read
 
 pub returns-clause-refused : goal.returns-clause-refused
-returns-clause-refused c = refused_front loosest_level c.args.opened c.args.lexemes.now c.parse_level.result c.parse_level.ensures.read
+returns-clause-refused c = refused_front loosest_level c.args.opened c.args.lexemes.now c.parse_level.result
+    c.parse_level.ensures.read

@@ -11,8 +11,10 @@ loop-number-preserved c =
           w.regs-is ∙
           next_cleared (is_argument c.args.count) c.loop-number.number c.args.regs.now c.loop-number.regs (omega arith)
           (elim w.then-number-lt-A0.branch [
-            | then-number-lt-A0-via-then-number-lt-A0 w' ↦ below_argument c.args.count c.loop-number.number (omega arith)
-            | then-number-lt-A0-via-else-number-lt-A0+then-count-number w' ↦ past_argument c.args.count c.loop-number.number (omega arith)
+            | then-number-lt-A0-via-then-number-lt-A0 w' ↦ below_argument c.args.count c.loop-number.number
+                (omega arith)
+            | then-number-lt-A0-via-else-number-lt-A0+then-count-number w' ↦ past_argument c.args.count
+                c.loop-number.number (omega arith)
           ])
           c.loop-number.invariant
       | else-number-lt-A0+else-count-number w ↦

@@ -4,4 +4,5 @@ use Rattle.sc_image.proofs.Loops.{with_front}
 use Rattle.sc_image.proofs.reading.comps_at.Given as goal
 
 abbrev pub invariant-loop : goal.invariant-loop
-invariant-loop l = with_front l.comps (fields_at (comp_at l.count) (l.count - l.counter) l.bytes.now) ≡ fields_at (comp_at l.count) l.count l.fn.bytes.now
+invariant-loop l = with_front l.comps (fields_at (comp_at l.count) (l.count - l.counter) l.bytes.now) ≡
+    fields_at (comp_at l.count) l.count l.fn.bytes.now

@@ -4,4 +4,5 @@ use Rattle.sc_image.proofs.Loops.{with_front}
 use Rattle.sc_image.proofs.reading.several_exports.Given as goal
 
 abbrev pub invariant-loop : goal.invariant-loop
-invariant-loop l = with_front l.exports (fields_at export_at (l.count - l.counter) l.bytes.now) ≡ fields_at export_at l.count l.fn.bytes.now
+invariant-loop l = with_front l.exports (fields_at export_at (l.count - l.counter) l.bytes.now) ≡
+    fields_at export_at l.count l.fn.bytes.now

@@ -5,10 +5,14 @@ use Rattle.sc_interfaces.proofs.decls.decls_told.Goals as goal
 
 pub loop-decl-preserved : goal.loop-decl-preserved
 loop-decl-preserved c =
-    decls_turn c.args.table.now c.args.imported.now c.args.mains c.loop-decl.known c.decl_told.new.known c.args.decls.now c.loop-decl.decl-index c.decl-item.result
-    c.loop-decl.lines c.decl_told.new.lines _ c.loop-decl-test.true c.decl-item.is c.in_ok-decl_told.ensures.told c.in_ok-decl_told.ensures.added c.loop-decl.invariant
+    decls_turn c.args.table.now c.args.imported.now c.args.mains c.loop-decl.known c.decl_told.new.known
+    c.args.decls.now c.loop-decl.decl-index c.decl-item.result
+    c.loop-decl.lines c.decl_told.new.lines _ c.loop-decl-test.true c.decl-item.is c.in_ok-decl_told.ensures.told
+    c.in_ok-decl_told.ensures.added c.loop-decl.invariant
 
 pub returns : goal.returns
 returns c =
-    told_end c.loop-decl.lines _ (decls_told c.args.table.now c.args.imported.now c.args.mains c.loop-decl.known (drop c.loop-decl.decl-index c.args.decls.now))
-    (ap (decls_told c.args.table.now c.args.imported.now c.args.mains c.loop-decl.known) (drop_past c.args.decls.now c.loop-decl.decl-index c.loop-decl-test.false)) c.loop-decl.invariant
+    told_end c.loop-decl.lines _ (decls_told c.args.table.now c.args.imported.now c.args.mains c.loop-decl.known
+    (drop c.loop-decl.decl-index c.args.decls.now))
+    (ap (decls_told c.args.table.now c.args.imported.now c.args.mains c.loop-decl.known)
+    (drop_past c.args.decls.now c.loop-decl.decl-index c.loop-decl-test.false)) c.loop-decl.invariant

@@ -4,4 +4,5 @@ use Rattle.sc_interfaces.specs.Tables.{all_numbered}
 use Rattle.sc_interfaces.proofs.tables.protos.Given as goal
 
 abbrev pub invariant-loop-decl : goal.invariant-loop-decl
-invariant-loop-decl l = all_numbered l.names (proto_names (drop l.decl-index l.decls)) ≡ all_numbered [] (proto_names l.decls)
+invariant-loop-decl l = all_numbered l.names (proto_names (drop l.decl-index l.decls)) ≡
+    all_numbered [] (proto_names l.decls)

@@ -4,4 +4,9 @@ use Rattle.sc_machine.proofs.arithmetic.shift.Goals as goal
 
 pub returns : goal.returns
 unfolding execute_by
-returns c = λ image inputs state. rw (c.give.ensures, c.shifted-word.ensures, c.register.ensures, c.bits.ensures.same) refl
+returns c = λ image inputs state. rw (
+  c.give.ensures,
+  c.shifted-word.ensures,
+  c.register.ensures,
+  c.bits.ensures.same,
+) refl

@@ -8,4 +8,9 @@ returns-in-Lui c = λ image inputs state. rw (c.in-Lui.is, c.give.ensures, c.val
 
 pub returns-in-Auipc : goal.returns-in-Auipc
 unfolding execute_by
-returns-in-Auipc c = λ image inputs state. rw (c.in-Auipc.is, c.give-in-Auipc.ensures, c.add.ensures, c.value-in-Auipc.ensures.same) refl
+returns-in-Auipc c = λ image inputs state. rw (
+  c.in-Auipc.is,
+  c.give-in-Auipc.ensures,
+  c.add.ensures,
+  c.value-in-Auipc.ensures.same,
+) refl

@@ -4,10 +4,12 @@ use Rattle.sc_machine.proofs.environment.environment_call.Goals as goal
 
 pub returns-in-1-clause-outcome : goal.returns-in-1-clause-outcome
 returns-in-1-clause-outcome c = λ memory.
-    let allowed : may_input c.args.here.now.image c.args.hart.now.active ≡ true = rw c.requires.ready.here at (sym c.may_input.ensures ∙ c.if-may_input.true) in
+    let allowed : may_input c.args.here.now.image c.args.hart.now.active ≡ true =
+    rw c.requires.ready.here at (sym c.may_input.ensures ∙ c.if-may_input.true) in
     rw (c.in-1.is, allowed) (c.input.ensures.state memory)
 
 pub returns-in-2-clause-outcome : goal.returns-in-2-clause-outcome
 returns-in-2-clause-outcome c = λ memory.
-    let allowed : may_output c.args.here.now.image c.args.hart.now.active ≡ true = rw c.requires.ready.here at (sym c.may_output.ensures ∙ c.if-may_output.true) in
+    let allowed : may_output c.args.here.now.image c.args.hart.now.active ≡ true =
+    rw c.requires.ready.here at (sym c.may_output.ensures ∙ c.if-may_output.true) in
     rw (c.in-2.is, allowed) (c.output.ensures.state memory)

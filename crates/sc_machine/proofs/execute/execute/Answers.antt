@@ -15,22 +15,27 @@ pub returns-in-Store-clause-outcome : goal.returns-in-Store-clause-outcome
 unfolding execute_by
 returns-in-Store-clause-outcome g c =
     let state = state_in (g.S.Store.bytes c.args.memory.now) c.args.hart.now in
-    rw c.in-Store.is (rw (c.displaced-address-in-Store.ensures, c.register-word.ensures, c.requires.ready.here) at (c.store.ensures.outcome state))
+    rw c.in-Store.is (rw (c.displaced-address-in-Store.ensures, c.register-word.ensures, c.requires.ready.here) at
+    (c.store.ensures.outcome state))
 
 pub returns-in-Jal-clause-outcome : goal.returns-in-Jal-clause-outcome
-returns-in-Jal-clause-outcome g c = rw c.in-Jal.is (c.jal.ensures.outcome (map word_of c.args.inputs.now) (g.S.Store.bytes c.args.memory.now))
+returns-in-Jal-clause-outcome g c = rw c.in-Jal.is (c.jal.ensures.outcome (map word_of c.args.inputs.now)
+    (g.S.Store.bytes c.args.memory.now))
 
 pub returns-in-Branch-clause-outcome : goal.returns-in-Branch-clause-outcome
 returns-in-Branch-clause-outcome g c =
     let state = state_in (g.S.Store.bytes c.args.memory.now) c.args.hart.now in
-    rw c.in-Branch.is (rw c.requires.ready.here at (c.branch-here.ensures.outcome (map word_of c.args.inputs.now) state))
+    rw c.in-Branch.is (rw c.requires.ready.here at (c.branch-here.ensures.outcome
+    (map word_of c.args.inputs.now) state))
 
 pub returns-in-Jalr-clause-outcome : goal.returns-in-Jalr-clause-outcome
-returns-in-Jalr-clause-outcome g c = rw c.in-Jalr.is (c.jalr.ensures.outcome (map word_of c.args.inputs.now) (g.S.Store.bytes c.args.memory.now))
+returns-in-Jalr-clause-outcome g c = rw c.in-Jalr.is (c.jalr.ensures.outcome (map word_of c.args.inputs.now)
+    (g.S.Store.bytes c.args.memory.now))
 
 pub returns-in-Ecall-clause-outcome : goal.returns-in-Ecall-clause-outcome
 unfolding execute_by
-returns-in-Ecall-clause-outcome g c = rw c.in-Ecall.is (c.environment_call.ensures.outcome (g.S.Store.bytes c.args.memory.now))
+returns-in-Ecall-clause-outcome g c = rw c.in-Ecall.is
+    (c.environment_call.ensures.outcome (g.S.Store.bytes c.args.memory.now))
 
 pub returns-in-Ebreak-clause-outcome : goal.returns-in-Ebreak-clause-outcome
 unfolding execute_by

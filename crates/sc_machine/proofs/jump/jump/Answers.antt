@@ -10,4 +10,5 @@ returns-then-is_none-clause-outcome c = λ memory.
     let state = state_in memory c.args.hart.now in
     let without : is_some (word_at c.args.here.now.image c.args.hart.now.active c.args.target) ≡ false =
     rw c.requires.ready.here at (ap is_some (sym c.word_at.ensures.word) ∙ c.if-is_none.ensures) in
-    c.call_out.ensures.outcome memory ∙ sym (jump_elsewhere c.args.here.now.image state c.args.rd c.args.target _ c.if-target-ne0.false without)
+    c.call_out.ensures.outcome memory ∙ sym (jump_elsewhere c.args.here.now.image state c.args.rd c.args.target _
+    c.if-target-ne0.false without)

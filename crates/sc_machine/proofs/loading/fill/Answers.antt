@@ -7,7 +7,8 @@ use Rattle.sc_machine.proofs.loading.fill.Goals as goal
 pub store8-requires : goal.store8-requires
 store8-requires g c =
     one_there (g.S.Store.bytes c.loop-k.memory) _
-    (next_there (g.S.Store.bytes c.args.memory.now) (g.S.Store.bytes c.loop-k.memory) c.args.start c.args.bytes.now c.loop-k.k c.loop-k.invariant c.loop-k-test.true c.requires.there)
+    (next_there (g.S.Store.bytes c.args.memory.now) (g.S.Store.bytes c.loop-k.memory) c.args.start c.args.bytes.now
+    c.loop-k.k c.loop-k.invariant c.loop-k-test.true c.requires.there)
 
 pub loop-k-preserved : goal.loop-k-preserved
 loop-k-preserved g c =

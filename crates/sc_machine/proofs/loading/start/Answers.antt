@@ -9,8 +9,13 @@ pub returns-clause-sound : goal.returns-clause-sound
 returns-clause-sound c =
     let waits = λ (call : Crossing). call.caller < length c.args.image.now.comps in
     record {
-      place = record { formed = c.parts-parts.ensures.well_formed; within = rw c.parts-parts.ensures.parts c.parts-parts.ensures.well_formed.main };
-      callers = subst (λ (w : Waiting). All waits w.calls) (sym c.cross.view_is) (subst (All waits) (sym c.in-Ok.ensures.calls) (All-nil waits));
-      saved = rw (c.in_ok-stack_tops.ensures, c.as_slice.ensures, c.parts-parts.ensures.parts) (length_tops 0 c.args.image.now.comps);
+      place = record {
+        formed = c.parts-parts.ensures.well_formed;
+        within = rw c.parts-parts.ensures.parts c.parts-parts.ensures.well_formed.main;
+      };
+      callers = subst (λ (w : Waiting). All waits w.calls) (sym c.cross.view_is)
+          (subst (All waits) (sym c.in-Ok.ensures.calls) (All-nil waits));
+      saved = rw (c.in_ok-stack_tops.ensures, c.as_slice.ensures, c.parts-parts.ensures.parts)
+          (length_tops 0 c.args.image.now.comps);
       input = omega arith;
     }

@@ -10,6 +10,7 @@ invariant-loop g l = record {
   image : l.here.image ≡ l.program;
   comp : l.here.comp ≡ l.hart.active;
   ready : CanRun l.program l.events l.hart (g.S.Store.bytes l.memory);
-  same : run l.program (map word_of l.inputs) l.events (l.steps - l.counter) (state_in (g.S.Store.bytes l.memory) l.hart) ≡
+  same : run l.program (map word_of l.inputs) l.events (l.steps - l.counter)
+      (state_in (g.S.Store.bytes l.memory) l.hart) ≡
       run l.program (map word_of l.inputs) l.events l.steps (state_in (g.S.Store.bytes l.fn.memory) l.fn.hart);
 }

@@ -7,4 +7,7 @@ use Rattle.sc_parse.proofs.calls.all_args.Given as goal
 
 -- what is read is what the rest of the loop reads
 abbrev pub invariant-loop : goal.invariant-loop
-invariant-loop l = separated (behind mark.Comma) (args_behind 1024 l.room) (length l.initial.rest.now + 1) [] l.initial.rest.now ≡ separated (behind mark.Comma) (args_behind 1024 l.room) (length l.initial.rest.now + 1 - l.counter) l.args l.rest.now
+invariant-loop l = separated (behind mark.Comma) (args_behind 1024 l.room)
+    (length l.initial.rest.now + 1) [] l.initial.rest.now ≡
+    separated (behind mark.Comma) (args_behind 1024 l.room)
+    (length l.initial.rest.now + 1 - l.counter) l.args l.rest.now

@@ -7,4 +7,7 @@ use Rattle.sc_parse.proofs.functions.with_locals.Given as goal
 
 -- what is read is what the rest of the loop reads
 abbrev pub invariant-loop : goal.invariant-loop
-invariant-loop l = separated (behind mark.Comma) (locals_behind 1024 256 l.base l.line) (length l.initial.rest.now + 1) l.initial.locals l.initial.rest.now ≡ separated (behind mark.Comma) (locals_behind 1024 256 l.base l.line) (length l.initial.rest.now + 1 - l.counter) l.locals l.rest.now
+invariant-loop l = separated (behind mark.Comma) (locals_behind 1024 256 l.base l.line)
+    (length l.initial.rest.now + 1) l.initial.locals l.initial.rest.now ≡
+    separated (behind mark.Comma) (locals_behind 1024 256 l.base l.line)
+    (length l.initial.rest.now + 1 - l.counter) l.locals l.rest.now

@@ -3,4 +3,5 @@ use Rattle.sc_parse.proofs.Steps.{item_next}
 use Rattle.sc_parse.proofs.globals.all_consts.Goals as goal
 
 pub loop-preserved : goal.loop-preserved
-loop-preserved c = c.loop.invariant ∙ item_next _ _ _ _ _ _ _ _ _ (omega arith) c.in_ok-values.ensures (c.skip_inner_comma.ensures.found c.if-not-skip_inner_comma.false)
+loop-preserved c = c.loop.invariant ∙ item_next _ _ _ _ _ _ _ _ _ (omega arith) c.in_ok-values.ensures
+    (c.skip_inner_comma.ensures.found c.if-not-skip_inner_comma.false)

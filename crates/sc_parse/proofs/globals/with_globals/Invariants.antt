@@ -6,4 +6,7 @@ use Rattle.sc_parse.proofs.globals.with_globals.Given as goal
 
 -- what is read is what the rest of the loop reads
 abbrev pub invariant-loop : goal.invariant-loop
-invariant-loop l = separated (behind mark.Comma) (globals_behind l.base l.line) (length l.initial.rest.now + 1) l.initial.decls l.initial.rest.now ≡ separated (behind mark.Comma) (globals_behind l.base l.line) (length l.initial.rest.now + 1 - l.counter) l.decls l.rest.now
+invariant-loop l = separated (behind mark.Comma) (globals_behind l.base l.line)
+    (length l.initial.rest.now + 1) l.initial.decls l.initial.rest.now ≡
+    separated (behind mark.Comma) (globals_behind l.base l.line)
+    (length l.initial.rest.now + 1 - l.counter) l.decls l.rest.now

@@ -3,4 +3,5 @@ use Rattle.sc_parse.proofs.Steps.{item_next}
 use Rattle.sc_parse.proofs.heads.all_params.Goals as goal
 
 pub loop-preserved : goal.loop-preserved
-loop-preserved c = c.loop.invariant ∙ item_next _ _ _ _ _ _ _ _ _ (omega arith) c.in_ok-params.ensures (c.skip.ensures.found c.if-not-skip.false)
+loop-preserved c = c.loop.invariant ∙ item_next _ _ _ _ _ _ _ _ _ (omega arith) c.in_ok-params.ensures
+    (c.skip.ensures.found c.if-not-skip.false)

@@ -40,7 +40,10 @@ decreases-kind_by l = 9 * l.room + 7
 
 -- what is read is what the rest of the loop reads
 abbrev pub invariant-stmts_at-loop : goal.invariant-stmts_at-loop
-invariant-stmts_at-loop l = grouped (begins_with mark.CloseCurly) (adds (stmt_at 1024 l.room)) (length l.initial.rest.now + 1) [] l.initial.rest.now ≡ grouped (begins_with mark.CloseCurly) (adds (stmt_at 1024 l.room)) (length l.initial.rest.now + 1 - l.counter) l.stmts l.rest.now
+invariant-stmts_at-loop l = grouped (begins_with mark.CloseCurly) (adds (stmt_at 1024 l.room))
+    (length l.initial.rest.now + 1) [] l.initial.rest.now ≡
+    grouped (begins_with mark.CloseCurly) (adds (stmt_at 1024 l.room))
+    (length l.initial.rest.now + 1 - l.counter) l.stmts l.rest.now
 
 abbrev pub decreases-stmt_within : goal.decreases-stmt_within
 decreases-stmt_within l = 9 * l.room + 8

@@ -6,4 +6,5 @@ use Rattle.sc_print.proofs.kept_decls.keeps_named_params.Given as goal
 
 -- what is left keeps it exactly where all of them do
 abbrev pub invariant-loop-param : goal.invariant-loop-param
-invariant-loop-param l = list_all kept_param (map param_of (drop l.param-index l.param-items)) ≡ list_all kept_param (map param_of l.params)
+invariant-loop-param l = list_all kept_param (map param_of (drop l.param-index l.param-items)) ≡
+    list_all kept_param (map param_of l.params)

@@ -11,8 +11,12 @@ returns-in_err-tokens-clause-refused c = λ refusal is.
     let returned : c.from_residual.result ≡ Err p.0 = p.1 in
     let passed_on : p.0 ≡ c.in_err-tokens.field-0.0 = p.2 in
     let below : c.in_err-tokens.field-0.0 ≡ Refused refusal = cc in
-    first_bad IsCutInto (λ s tokens cut. (tokens, cut)) c.args.sections.now c.loop-section.cuts c.loop-section.section-index c.section-item.result c.loop-section-test.true c.section-item.is c.loop-section.invariant (c.in_err-tokens.ensures.refused refusal (ap Err below))
+    first_bad IsCutInto (λ s tokens cut. (tokens, cut)) c.args.sections.now c.loop-section.cuts
+    c.loop-section.section-index c.section-item.result c.loop-section-test.true c.section-item.is
+    c.loop-section.invariant (c.in_err-tokens.ensures.refused refusal (ap Err below))
 
 pub loop-section-preserved : goal.loop-section-preserved
 loop-section-preserved c =
-    rw c.in_ok-push.ensures.ok (more_sections IsCutInto c.args.sections.now c.loop-section.cuts c.loop-section.section-index c.section-item.result c.in_ok-tokens.field-0 c.loop-section-test.true c.section-item.is c.loop-section.invariant c.in_ok-tokens.ensures.cut)
+    rw c.in_ok-push.ensures.ok (more_sections IsCutInto c.args.sections.now c.loop-section.cuts
+    c.loop-section.section-index c.section-item.result c.in_ok-tokens.field-0 c.loop-section-test.true
+    c.section-item.is c.loop-section.invariant c.in_ok-tokens.ensures.cut)

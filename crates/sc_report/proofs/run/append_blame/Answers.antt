@@ -5,5 +5,6 @@ use Rattle.sc_report.proofs.run.append_blame.Goals as goal
 
 pub returns : goal.returns
 returns c =
-    three_pieces c.append_cause.result c.args.text.now c.append.new.self c.append-2.new.self c.append_cause.new.text (codes "stop blamed ") c.args.comp.now
+    three_pieces c.append_cause.result c.args.text.now c.append.new.self c.append-2.new.self c.append_cause.new.text
+    (codes "stop blamed ") c.args.comp.now
     (cause_end c.args.cause c.args.line) c.in_ok-append.ensures.ok c.in_ok-append-2.ensures.ok c.append_cause.ensures

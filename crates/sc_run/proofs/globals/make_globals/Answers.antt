@@ -11,5 +11,11 @@ loop-global-preserved c =
     let later = memory_of c.make_global.new.blocks in
     let comp = c.args.comp in
     let global = c.global-item.result in
-    let zeros : c.as_slice-in-loop-global.result.now ≡ struct_zeros [] c.args.section.now.structs = c.as_slice-in-loop-global.ensures.value ∙ c.in_ok-zeros.ensures ∙ ap (struct_zeros []) c.as_slice.ensures in
-    global_more (struct_zeros [] c.args.section.now.structs) c.args.section.now.globals c.loop-global.global-index global comp (memory_of c.args.blocks.now) now later (subst (λ gs. c.loop-global.global-index < length gs) c.as_slice-global-items.ensures c.loop-global-test.true) (subst (λ gs. global ≡ get_or gs c.loop-global.global-index global) c.as_slice-global-items.ensures c.global-item.is) c.loop-global.invariant (subst (λ z. later ≡ with_blocks comp (now comp ++ global_block z global ∷ []) now) zeros c.in_ok-make_global.ensures)
+    let zeros : c.as_slice-in-loop-global.result.now ≡ struct_zeros [] c.args.section.now.structs =
+    c.as_slice-in-loop-global.ensures.value ∙ c.in_ok-zeros.ensures ∙ ap (struct_zeros []) c.as_slice.ensures in
+    global_more (struct_zeros [] c.args.section.now.structs) c.args.section.now.globals c.loop-global.global-index
+    global comp (memory_of c.args.blocks.now) now later
+    (subst (λ gs. c.loop-global.global-index < length gs) c.as_slice-global-items.ensures c.loop-global-test.true)
+    (subst (λ gs. global ≡ get_or gs c.loop-global.global-index global) c.as_slice-global-items.ensures
+    c.global-item.is) c.loop-global.invariant (subst
+    (λ z. later ≡ with_blocks comp (now comp ++ global_block z global ∷ []) now) zeros c.in_ok-make_global.ensures)

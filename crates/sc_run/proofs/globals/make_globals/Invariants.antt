@@ -6,4 +6,6 @@ use Rattle.sc_run.proofs.globals.make_globals.Given as goal
 
 abbrev pub invariant-loop-global : goal.invariant-loop-global
 invariant-loop-global l =
-    memory_of l.blocks ≡ with_blocks l.comp (memory_of l.fn.blocks l.comp ++ map (global_block (struct_zeros [] l.section.structs)) (take l.global-index l.section.globals)) (memory_of l.fn.blocks)
+    memory_of l.blocks ≡ with_blocks l.comp (memory_of l.fn.blocks l.comp ++
+    map (global_block (struct_zeros [] l.section.structs)) (take l.global-index l.section.globals))
+    (memory_of l.fn.blocks)

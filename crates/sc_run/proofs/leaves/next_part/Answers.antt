@@ -7,4 +7,7 @@ use Rattle.sc_run.proofs.leaves.next_part.Goals as goal
 
 pub returns-in_ok-push-in-Some : goal.returns-in_ok-push-in-Some
 returns-in_ok-push-in-Some c =
-    IfOk-weaker c.simple.result _ _ (λ step h. next_steps c.args.program.now (kept_by c.args.run.now.machine) c.args.run.now.work.items c.push.new.self.items c.args.run.now.frame (option_copied c.args.whole.now.next) c.in-Some.next.now c.args.whole.now step _ _ _ (ap option_copied c.in-Some.is) c.in_ok-push-in-Some.ensures.items h) c.simple.ensures
+    IfOk-weaker c.simple.result _ _ (λ step h. next_steps c.args.program.now
+    (kept_by c.args.run.now.machine) c.args.run.now.work.items c.push.new.self.items c.args.run.now.frame
+    (option_copied c.args.whole.now.next) c.in-Some.next.now c.args.whole.now step _ _ _
+    (ap option_copied c.in-Some.is) c.in_ok-push-in-Some.ensures.items h) c.simple.ensures

@@ -1,7 +1,7 @@
 use Rattle.std.proofs.Common.{subst}
 use Rattle.sc_core.specs.declared.expr.VarRef.TheVariants.{Local}
 use Rattle.sc_core.specs.Words.{Next, stored}
-use Rattle.sc_core.specs.Tree.{given, variable_at}
+use Rattle.sc_core.specs.Tree.{evaluated, variable_at}
 use Rattle.sc_core.specs.declared.value.Want.TheVariants as want
 use Rattle.sc_value.specs.Where.{here_of}
 use Rattle.sc_run.specs.Seen.{kept_by}
@@ -16,4 +16,11 @@ returns-in-Ok c =
     let f = c.args.frame.now in
     let local = c.args.local.now in
     let place = variable_at (here_of f.scope) f.scope.params (Local c.args.number) in
-    init_is f.scope.structs.now (here_of f.scope) f.scope.params c.args.number local c.in-Some.expr (kept_by c.args.machine.now) (kept_by c.stored.new.machine) (with_exit Next c.stored.result) c.in-Some.is (then_goes (kept_by c.args.machine.now) (kept_by c.args.machine.now) (kept_by c.stored.new.machine) c.in-Ok.value (with_exit Next c.stored.result) (given (here_of f.scope) want.Value (way_in f c.in-Some.expr) local.line) (λ v s. stored (here_of f.scope) place v local.line tt s) c.in-Ok.ensures (subst (λ q. Comes (kept_by c.args.machine.now) (kept_by c.stored.new.machine) (with_exit Next c.stored.result) (stored (here_of f.scope) q c.in-Ok.value local.line tt)) c.variable_at-place.ensures c.stored.ensures))
+    init_is f.scope.structs.now (here_of f.scope) f.scope.params c.args.number local c.in-Some.expr
+    (kept_by c.args.machine.now) (kept_by c.stored.new.machine) (with_exit Next c.stored.result) c.in-Some.is
+    (then_goes (kept_by c.args.machine.now) (kept_by c.args.machine.now)
+    (kept_by c.stored.new.machine) c.in-Ok.value (with_exit Next c.stored.result)
+    (evaluated (here_of f.scope) want.Value (way_in f c.in-Some.expr) local.line)
+    (λ v s. stored (here_of f.scope) place v local.line tt s) c.in-Ok.ensures
+    (subst (λ q. Comes (kept_by c.args.machine.now) (kept_by c.stored.new.machine) (with_exit Next c.stored.result)
+    (stored (here_of f.scope) q c.in-Ok.value local.line tt)) c.variable_at-place.ensures c.stored.ensures))

@@ -8,4 +8,7 @@ returns-then-machine-eq0 c = record { comes = turn_stops (kept_by c.args.machine
 
 pub returns : goal.returns
 returns c =
-    record { comes = turn_comes (c.args.machine.now.turns - 1) (kept_by c.args.machine.now) (omega arith); taken = omega arith }
+    record {
+      comes = turn_comes (c.args.machine.now.turns - 1) (kept_by c.args.machine.now) (omega arith);
+      taken = omega arith;
+    }

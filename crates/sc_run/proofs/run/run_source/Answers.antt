@@ -13,7 +13,14 @@ returns-in-Stop c =
     let tree = c.tree-tree.result.now in
     let inputs = map word_of c.args.inputs.now in
     let frame = c.in_ok-frame.frame in
-    over_at_once tree inputs c.args.turns c.args.events c.shown-in-Stop.result c.in-Some.callee _ (kept_by c.begin.new.machine) (kept_by c.start.new.machine) frame (seen_at_first tree inputs c.args.turns c.args.events (memory_of c.in_ok-globals.globals) c.new.result (c.in_ok-globals.ensures ∙ ap globals_of c.as_slice.ensures) c.new.ensures) c.in-Some.ensures c.in_ok-frame.ensures c.start.result (subst (λ ws. Steps tree (kept_by c.begin.new.machine) ws frame (λ n s. body_acts tree n frame tt s) c.start.result (kept_by c.start.new.machine) ws frame) c.new-work.ensures.items c.start.ensures) c.in-Stop.end c.in-Stop.is c.shown-in-Stop.ensures
+    over_at_once tree inputs c.args.turns c.args.events c.behaviour-in-Stop.result c.in-Some.callee _
+    (kept_by c.begin.new.machine) (kept_by c.start.new.machine) frame
+    (seen_at_first tree inputs c.args.turns c.args.events (memory_of c.in_ok-globals.globals) c.new.result
+    (c.in_ok-globals.ensures ∙ ap globals_of c.as_slice.ensures) c.new.ensures) c.in-Some.ensures
+    c.in_ok-frame.ensures c.start.result (subst (λ ws.
+    Steps tree (kept_by c.begin.new.machine) ws frame (λ n s. body_acts tree n frame tt s) c.start.result
+    (kept_by c.start.new.machine) ws frame) c.new-work.ensures.items c.start.ensures) c.in-Stop.end c.in-Stop.is
+    c.behaviour-in-Stop.ensures
     ∙ ap (λ p. meaning p inputs c.args.turns c.args.events) c.tree-tree.ensures.tree
 
 pub returns-in_ok-end-in-Go : goal.returns-in_ok-end-in-Go
@@ -21,5 +28,13 @@ returns-in_ok-end-in-Go c =
     let tree = c.tree-tree.result.now in
     let inputs = map word_of c.args.inputs.now in
     let frame = c.in_ok-frame.frame in
-    gone_through tree inputs c.args.turns c.args.events c.shown-in-Go.result c.in-Some.callee _ (kept_by c.begin.new.machine) (kept_by c.start.new.machine) frame (seen_at_first tree inputs c.args.turns c.args.events (memory_of c.in_ok-globals.globals) c.new.result (c.in_ok-globals.ensures ∙ ap globals_of c.as_slice.ensures) c.new.ensures) c.in-Some.ensures c.in_ok-frame.ensures c.start.result (subst (λ ws. Steps tree (kept_by c.begin.new.machine) ws frame (λ n s. body_acts tree n frame tt s) c.start.result (kept_by c.start.new.machine) ws frame) c.new-work.ensures.items c.start.ensures) c.in-Go.now c.run_on.new.run.machine.trace c.in_ok-end-in-Go.end c.in-Go.is c.in_ok-end-in-Go.ensures c.shown-in-Go.ensures
+    gone_through tree inputs c.args.turns c.args.events c.behaviour-in-Go.result c.in-Some.callee _
+    (kept_by c.begin.new.machine) (kept_by c.start.new.machine) frame
+    (seen_at_first tree inputs c.args.turns c.args.events (memory_of c.in_ok-globals.globals) c.new.result
+    (c.in_ok-globals.ensures ∙ ap globals_of c.as_slice.ensures) c.new.ensures) c.in-Some.ensures
+    c.in_ok-frame.ensures c.start.result (subst (λ ws.
+    Steps tree (kept_by c.begin.new.machine) ws frame (λ n s. body_acts tree n frame tt s) c.start.result
+    (kept_by c.start.new.machine) ws frame) c.new-work.ensures.items c.start.ensures) c.in-Go.now
+    c.run_on.new.run.machine.trace c.in_ok-end-in-Go.end c.in-Go.is c.in_ok-end-in-Go.ensures
+    c.behaviour-in-Go.ensures
     ∙ ap (λ p. meaning p inputs c.args.turns c.args.events) c.tree-tree.ensures.tree

@@ -1,6 +1,6 @@
 use Rattle.sc_core.specs.declared.value.Want.TheVariants as want
 use Rattle.sc_core.specs.Words.{choose}
-use Rattle.sc_core.specs.Tree.{given}
+use Rattle.sc_core.specs.Tree.{evaluated}
 use Rattle.sc_value.specs.Where.{here_of}
 use Rattle.sc_run.specs.Seen.{kept_by}
 use Rattle.sc_run.specs.Resume.{way_in, block_acts}
@@ -11,4 +11,8 @@ pub returns-in-Err : goal.returns-in-Err
 returns-in-Err c =
     let f = c.args.run.now.frame in
     let program = c.args.program.now in
-    step_stops program (kept_by c.args.run.now.machine) (kept_by c.args.run.now.machine) c.args.run.now.work.items f c.in-Err.end (given (here_of f.scope) want.Value (way_in f c.args.cond.now) c.args.line) (λ n v s. choose v (block_acts program n f c.args.first.now tt s) (block_acts program n f c.args.second.now tt s)) c.in-Err.ensures
+    step_stops program (kept_by c.args.run.now.machine)
+    (kept_by c.args.run.now.machine) c.args.run.now.work.items f c.in-Err.end
+    (evaluated (here_of f.scope) want.Value (way_in f c.args.cond.now) c.args.line)
+    (λ n v s. choose v (block_acts program n f c.args.first.now tt s)
+    (block_acts program n f c.args.second.now tt s)) c.in-Err.ensures

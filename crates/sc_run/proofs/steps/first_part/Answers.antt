@@ -5,4 +5,7 @@ use Rattle.sc_run.proofs.steps.first_part.Goals as goal
 
 pub returns-in_ok-push-in-Some : goal.returns-in_ok-push-in-Some
 returns-in_ok-push-in-Some c =
-    IfOk-weaker c.simple.result _ _ (λ step h. first_steps c.args.program.now (kept_by c.args.run.now.machine) c.args.run.now.work.items c.push.new.self.items c.args.run.now.frame c.args.first.now c.in-Some.first c.args.whole.now step _ _ _ c.in-Some.is c.in_ok-push-in-Some.ensures.items h) c.simple.ensures
+    IfOk-weaker c.simple.result _ _ (λ step h. first_steps c.args.program.now
+    (kept_by c.args.run.now.machine) c.args.run.now.work.items c.push.new.self.items c.args.run.now.frame
+    c.args.first.now c.in-Some.first c.args.whole.now step _ _ _ c.in-Some.is c.in_ok-push-in-Some.ensures.items h)
+    c.simple.ensures

@@ -1,7 +1,7 @@
 use Rattle.std.proofs.Common.{Some}
 use Rattle.sc_core.specs.declared.value.Want.TheVariants as want
 use Rattle.sc_core.specs.Words.{leave, Return}
-use Rattle.sc_core.specs.Tree.{given}
+use Rattle.sc_core.specs.Tree.{evaluated}
 use Rattle.sc_value.specs.Where.{here_of}
 use Rattle.sc_run.specs.Seen.{kept_by}
 use Rattle.sc_run.specs.Resume.{way_in}
@@ -11,4 +11,7 @@ use Rattle.sc_run.proofs.steps.returned_value.Goals as goal
 pub returns-in-Err : goal.returns-in-Err
 returns-in-Err c =
     let f = c.args.run.now.frame in
-    step_stops c.args.program.now (kept_by c.args.run.now.machine) (kept_by c.args.run.now.machine) c.args.run.now.work.items f c.in-Err.end (given (here_of f.scope) want.Value (way_in f c.args.value.now) c.args.line) (λ n v s. leave (Return (Some v)) tt s) c.in-Err.ensures
+    step_stops c.args.program.now (kept_by c.args.run.now.machine)
+    (kept_by c.args.run.now.machine) c.args.run.now.work.items f c.in-Err.end
+    (evaluated (here_of f.scope) want.Value (way_in f c.args.value.now) c.args.line)
+    (λ n v s. leave (Return (Some v)) tt s) c.in-Err.ensures

@@ -5,4 +5,8 @@ use Rattle.sc_run.proofs.steps.run_list.Goals as goal
 
 pub returns-in_ok-push-in-len1-up : goal.returns-in_ok-push-in-len1-up
 returns-in_ok-push-in-len1-up c =
-    IfOk-weaker c.statement.result _ _ (λ step h. list_steps c.args.program.now (kept_by c.args.run.now.machine) c.args.run.now.work.items c.push.new.self.items c.args.run.now.frame c.args.stmts.now c.stmt-item.result _ step _ _ _ (first_and_rest c.args.stmts.now c.stmt-item.result c.in-len1-up.len_at_least c.stmt-item.is) (rest_of c.args.stmts.now) c.in_ok-push-in-len1-up.ensures.items h) c.statement.ensures
+    IfOk-weaker c.statement.result _ _ (λ step h. list_steps c.args.program.now
+    (kept_by c.args.run.now.machine) c.args.run.now.work.items c.push.new.self.items c.args.run.now.frame
+    c.args.stmts.now c.stmt-item.result _ step _ _ _
+    (first_and_rest c.args.stmts.now c.stmt-item.result c.in-len1-up.len_at_least c.stmt-item.is)
+    (rest_of c.args.stmts.now) c.in_ok-push-in-len1-up.ensures.items h) c.statement.ensures

@@ -7,5 +7,6 @@ use Rattle.sc_scope.proofs.section.section_lines.Given as goal
 abbrev pub invariant-loop-decl : goal.invariant-loop-decl
 invariant-loop-decl l = record {
   names : l.names ≡ declared l.section (take l.decl-index l.decl-items);
-  lines : with_lines l.lines (lines_from l.section (take l.decl-index l.decl-items) (drop l.decl-index l.decl-items)) ≡ with_lines l.initial.lines (section_lines l.section);
+  lines : with_lines l.lines (lines_from l.section (take l.decl-index l.decl-items) (drop l.decl-index l.decl-items)) ≡
+      with_lines l.initial.lines (section_lines l.section);
 }

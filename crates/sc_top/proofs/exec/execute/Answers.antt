@@ -1,16 +1,16 @@
 use Rattle.std.proofs.Common.{All, ap, sym, subst, ◌∙◌}
 use Rattle.sc_event.specs.declared.interface.Interfaces.{Interfaces}
 use Rattle.sc_event.specs.Lookup.{IsKnown}
-use Rattle.sc_top.specs.Output.{shown, machine_text}
-use Rattle.sc_top.proofs.Known.{shown_known, executed}
+use Rattle.sc_top.specs.Output.{machine_run, machine_text}
+use Rattle.sc_top.proofs.Known.{machine_run_known, executed}
 use Rattle.sc_top.proofs.exec.execute.Goals as goal
 
 pub machine_text-requires : goal.machine_text-requires
 machine_text-requires c =
     let image = c.in_ok-image.image in
-    subst (λ (names : Interfaces). All (IsKnown names) (shown c.args.options.now image).state.trace)
+    subst (λ (names : Interfaces). All (IsKnown names) (machine_run c.args.options.now image).state.trace)
     (sym c.in_ok-names.ensures)
-    (shown_known c.traces_are_legal.ensures c.args.options.now image c.parts-parts.ensures.well_formed)
+    (machine_run_known c.traces_are_legal.ensures c.args.options.now image c.parts-parts.ensures.well_formed)
 
 pub returns-clause-ok : goal.returns-clause-ok
 returns-clause-ok c =

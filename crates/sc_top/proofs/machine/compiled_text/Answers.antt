@@ -3,17 +3,17 @@ use Rattle.sc_event.specs.declared.interface.Interfaces.{Interfaces}
 use Rattle.sc_event.specs.Lookup.{IsKnown}
 use Rattle.sc_image.specs.declared.parts.ImageParts.{ImageParts}
 use Rattle.sc_image.specs.Interfaces.{interfaces_of}
-use Rattle.sc_top.specs.Output.{shown, machine_text}
+use Rattle.sc_top.specs.Output.{machine_run, machine_text}
 use Rattle.sc_top.proofs.Explained.{thin_names}
-use Rattle.sc_top.proofs.Known.{shown_known}
+use Rattle.sc_top.proofs.Known.{machine_run_known}
 use Rattle.sc_top.proofs.machine.compiled_text.Goals as goal
 
 pub machine_text-requires : goal.machine_text-requires
 machine_text-requires c =
     let image = c.in_ok-image.image in
     let named = ap interfaces_of c.in_ok-image.ensures.image ∙ (thin_names c.args.program.now ∙ sym c.requires.thin) in
-    subst (λ (names : Interfaces). All (IsKnown names) (shown c.args.options.now image).state.trace) named
-    (shown_known c.traces_are_legal.ensures c.args.options.now image c.parts-parts.ensures.well_formed)
+    subst (λ (names : Interfaces). All (IsKnown names) (machine_run c.args.options.now image).state.trace) named
+    (machine_run_known c.traces_are_legal.ensures c.args.options.now image c.parts-parts.ensures.well_formed)
 
 pub returns-clause-text : goal.returns-clause-text
 returns-clause-text c =

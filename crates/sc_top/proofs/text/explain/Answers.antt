@@ -35,6 +35,7 @@ returns-clause-ok c =
     let place = c.in-Some.field-0 in
     subst (λ show. IsTextOutput (Explain options show) c.args.bytes.now c.in_ok-copied-in-Some.field-0)
     (sym c.in-Some.is)
-    (thin_output (Explain options (Some place)) c.args.bytes.now c.in_ok-copied-in-Some.field-0 text.source.program text.thin is
+    (thin_output (Explain options (Some place)) c.args.bytes.now c.in_ok-copied-in-Some.field-0 text.source.program
+    text.thin is
     c.in_ok-copied-in-Some.ensures (accounted options c.args.bytes.now text.source.program text.thin
     (Some place) is c.in_ok-report.ensures.meant))

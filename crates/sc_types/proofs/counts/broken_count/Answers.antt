@@ -7,7 +7,11 @@ loop-section-init c = counts-begun c.args.sections.now _ c.section_beyond-least.
 
 pub loop-section-preserved : goal.loop-section-preserved
 loop-section-preserved c =
-    count-noted c.args.sections.now c.loop-section.section-index c.section-item.result c.loop-section.least _ _ c.loop-section-test.true c.section-item.is c.loop-section.invariant (c.in_ok-section_lines.ensures (callees_of c.args.sections.now c.loop-section.section-index c.section-item.result))
+    count-noted c.args.sections.now c.loop-section.section-index c.section-item.result c.loop-section.least _ _
+    c.loop-section-test.true c.section-item.is c.loop-section.invariant
+    (c.in_ok-section_lines.ensures (callees_of c.args.sections.now c.loop-section.section-index
+    c.section-item.result))
 
 pub returns : goal.returns
-returns c = counts-noted c.args.sections.now c.loop-section.section-index _ _ c.loop-section-test.false c.loop-section.invariant
+returns c = counts-noted c.args.sections.now c.loop-section.section-index _ _ c.loop-section-test.false
+    c.loop-section.invariant

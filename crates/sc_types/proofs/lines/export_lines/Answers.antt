@@ -4,8 +4,10 @@ use Rattle.sc_types.proofs.Noted.{none-beyond, some-beyond}
 use Rattle.sc_types.proofs.lines.export_lines.Goals as goal
 
 pub returns-in-None : goal.returns-in-None
-returns-in-None c = none-beyond {A = ExportLine} (λ line. line.line) most_exports c.args.exports.now _ c.in-None.ensures.value
+returns-in-None c = none-beyond {A = ExportLine} (λ line.
+    line.line) most_exports c.args.exports.now _ c.in-None.ensures.value
 
 pub returns-in-Some : goal.returns-in-Some
 returns-in-Some c =
-    some-beyond {A = ExportLine} (λ line. line.line) most_exports c.args.exports.now c.in-Some.export.now _ _ c.in-Some.ensures.value c.note.ensures
+    some-beyond {A = ExportLine} (λ line. line.line) most_exports c.args.exports.now c.in-Some.export.now _ _
+    c.in-Some.ensures.value c.note.ensures

@@ -11,4 +11,5 @@ returns-in_err-sections-clause-refused c = λ refusal is.
     let returned : c.from_residual.result ≡ Err p.0 = p.1 in
     let passed_on : p.0 ≡ c.in_err-sections.field-0.0 = p.2 in
     let below : c.in_err-sections.field-0.0 ≡ Refused refusal = cc in
-    unread_fails c.args.text.now refusal.phase refusal.line (heading_fails c.args.text.now refusal (c.in_err-sections.ensures.refused refusal (ap Err below)))
+    unread_fails c.args.text.now refusal.phase refusal.line
+    (heading_fails c.args.text.now refusal (c.in_err-sections.ensures.refused refusal (ap Err below)))

@@ -7,4 +7,6 @@ use Rattle.sc_value.proofs.moves.moved_back.Goals as goal
 
 pub returns : goal.returns
 returns c =
-    back_is (memory_of c.args.blocks.now c.args.comp) c.args.cells c.args.unsigned c.args.place c.args.index c.in-Word.word c.back_by.result c.moved.result c.in-Word.is c.back_by.ensures.number (rw (to_z-of_z w64 c.back_by.result (omega (arith, ints))) at c.moved.ensures)
+    back_is (memory_of c.args.blocks.now c.args.comp) c.args.cells c.args.unsigned c.args.place c.args.index
+    c.in-Word.word c.back_by.result c.moved.result c.in-Word.is c.back_by.ensures.number
+    (rw (to_z-of_z w64 c.back_by.result (omega (arith, ints))) at c.moved.ensures)

@@ -20,11 +20,22 @@ limited limit = with_values (limit ∷ codes "events" ∷ codes "in" ∷ [])
 
 pub returns : goal.returns
 returns c =
-    let one : app_of c.in_ok-subcommand.field-0 ≡ record { top = record top { is_leaf = false }; subs = shape_with (codes "check") (with_values []) ∷ [] }
-    = c.in_ok-subcommand.ensures.shape c.new.ensures.local ∙ ap₂ with_subcommand c.top.ensures (ap (λ (a : App). a.top) c.new.ensures.app) in
-    let two = added _ _ _ _ (codes "meaning") (limited (codes "turns")) c.in_ok-subcommand-2.ensures one c.in_ok-running.ensures in
-    let three = added _ _ _ _ (codes "compile") (with_values []) c.in_ok-subcommand-3.ensures two (c.new-2.ensures.app, c.new-2.ensures.local) in
-    let four = added _ _ _ _ (codes "run") (limited (codes "steps")) c.in_ok-subcommand-4.ensures three c.in_ok-running-2.ensures in
-    let five = added _ _ _ _ (codes "exec") (limited (codes "steps")) c.in_ok-subcommand-5.ensures four c.in_ok-running-3.ensures in
-    let six = added _ _ _ _ (codes "explain") (with_values (codes "steps" ∷ codes "events" ∷ codes "in" ∷ codes "show" ∷ [])) c.in_ok-subcommand-6.ensures five c.in_ok-explain.ensures in
-    IfOk-weaker c.subcommand-7.result _ _ (λ secomp adds. added _ _ secomp _ (codes "make") make_form adds six c.in_ok-make.ensures) c.subcommand-7.ensures
+    let one : app_of c.in_ok-subcommand.field-0 ≡ record {
+      top = record top { is_leaf = false };
+      subs = shape_with (codes "check") (with_values []) ∷ [];
+    }
+    = c.in_ok-subcommand.ensures.shape c.new.ensures.local ∙
+    ap₂ with_subcommand c.top.ensures (ap (λ (a : App). a.top) c.new.ensures.app) in
+    let two = added _ _ _ _ (codes "meaning") (limited
+    (codes "turns")) c.in_ok-subcommand-2.ensures one c.in_ok-running.ensures in
+    let three = added _ _ _ _ (codes "compile") (with_values []) c.in_ok-subcommand-3.ensures two
+    (c.new-2.ensures.app, c.new-2.ensures.local) in
+    let four = added _ _ _ _ (codes "run") (limited (codes "steps")) c.in_ok-subcommand-4.ensures three
+    c.in_ok-running-2.ensures in
+    let five = added _ _ _ _ (codes "exec") (limited (codes "steps")) c.in_ok-subcommand-5.ensures four
+    c.in_ok-running-3.ensures in
+    let six = added _ _ _ _ (codes "explain") (with_values
+    (codes "steps" ∷ codes "events" ∷ codes "in" ∷ codes "show" ∷
+    [])) c.in_ok-subcommand-6.ensures five c.in_ok-explain.ensures in
+    IfOk-weaker c.subcommand-7.result _ _ (λ secomp adds.
+    added _ _ secomp _ (codes "make") make_form adds six c.in_ok-make.ensures) c.subcommand-7.ensures

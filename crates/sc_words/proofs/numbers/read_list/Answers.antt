@@ -7,7 +7,8 @@ use Rattle.sc_words.proofs.numbers.read_list.Goals as goal
 
 pub returns-in_default-clause-usage : goal.returns-in_default-clause-usage
 returns-in_default-clause-usage c =
-    let bad : integer (first_piece c.loop.left.now) ≡ None = sym (c.read_integer.ensures ∙ ap integer c.first_piece.ensures.piece) ∙ c.in_default.is in
+    let bad : integer (first_piece c.loop.left.now) ≡ None =
+    sym (c.read_integer.ensures ∙ ap integer c.first_piece.ensures.piece) ∙ c.in_default.is in
     λ usage. refused c.args.text.now c.loop.counter c.loop.list c.loop.left.now c.loop.invariant.1 bad
 
 pub returns-in-None-clause-ok : goal.returns-in-None-clause-ok
@@ -19,7 +20,8 @@ returns-in-None-clause-ok c =
     let fits : FitsSigned w32 c.in-Some.integer = search rules in
     let pushed : c.push.new.self ≡ c.loop.list ++ c.in-Some.integer ∷ []
     = c.in_ok-push.ensures.ok ∙ ap (λ (x : ℤ). c.loop.list ++ x ∷ []) (to_z-of_z w32 c.in-Some.integer fits) in
-    ends c.args.text.now c.loop.counter c.loop.list c.loop.left.now c.in-Some.integer c.loop.invariant.1 c.loop-test.true good none
+    ends c.args.text.now c.loop.counter c.loop.list c.loop.left.now c.in-Some.integer c.loop.invariant.1
+    c.loop-test.true good none
     ∙ ap Some (sym pushed)
 
 pub loop-preserved : goal.loop-preserved
@@ -33,8 +35,10 @@ loop-preserved c =
     = c.in_ok-push.ensures.ok ∙ ap (λ (x : ℤ). c.loop.list ++ x ∷ []) (to_z-of_z w32 c.in-Some.integer fits) in (
       search rules,
       subst (λ list. IsReadUpTo c.args.text.now (c.loop.counter + 1) list c.in-Some-rest.behind.now) (sym pushed)
-          (goes_on c.args.text.now c.loop.counter c.loop.list c.loop.left.now c.in-Some.integer c.in-Some-rest.behind.now c.loop.invariant.1 good some),
+          (goes_on c.args.text.now c.loop.counter c.loop.list c.loop.left.now c.in-Some.integer
+          c.in-Some-rest.behind.now c.loop.invariant.1 good some),
     )
 
 pub returns-clause-usage : goal.returns-clause-usage
-returns-clause-usage c = λ usage. too_long c.args.text.now c.loop.counter c.loop.list c.loop.left.now c.loop.invariant.1 c.loop-test.false
+returns-clause-usage c = λ usage. too_long c.args.text.now c.loop.counter c.loop.list c.loop.left.now c.loop.invariant.1
+    c.loop-test.false

@@ -17,7 +17,8 @@ returns-then-has_bare-clause-usage c =
 pub returns-in-Ok-clause-ok : goal.returns-in-Ok-clause-ok
 returns-in-Ok-clause-ok c =
     let bare = sym (c.has_bare.ensures ∙ list_any-map is_bare string_bytes c.args.words.now) in
-    reading (map string_bytes c.args.words.now) (app_of c.in_ok-application.application) c.in-Ok.matches c.in_ok-application.ensures (bare ∙ c.if-has_bare.false)
+    reading (map string_bytes c.args.words.now) (app_of c.in_ok-application.application) c.in-Ok.matches
+    c.in_ok-application.ensures (bare ∙ c.if-has_bare.false)
     c.in-Ok.ensures.matches (c.in-Ok.ensures.kinds (ap is_simple_and_free c.in_ok-application.ensures ∙ is_exact))
 
 pub returns-in-Err-clause-usage : goal.returns-in-Err-clause-usage
@@ -27,6 +28,7 @@ returns-in-Err-clause-usage c =
     let is : c.fault_of.result ≡ Usage = cc usage in
     elim (c.in-Err.ensures.kinds (ap is_simple_and_free c.in_ok-application.ensures ∙ is_exact)) [
       | inl memory ↦ absurd (c.fault_of.ensures.usage is memory)
-      | inr among ↦ refusal (map string_bytes c.args.words.now) (app_of c.in_ok-application.application) (kind_of c.in-Err.error) c.in_ok-application.ensures
+      | inr among ↦ refusal (map string_bytes c.args.words.now) (app_of c.in_ok-application.application)
+          (kind_of c.in-Err.error) c.in_ok-application.ensures
           (bare ∙ c.if-has_bare.false) among
     ]

@@ -4,4 +4,5 @@ use Rattle.sc_ast.specs.StmtWords.{layouts}
 use Rattle.sc_ast.proofs.print.stmt.are_ifs.Given as goal
 
 abbrev pub invariant-loop-stmt : goal.invariant-loop-stmt
-invariant-loop-stmt l = list_all (λ stmt. stmt.is_if) (layouts (drop l.stmt-index l.stmt-items)) ≡ list_all (λ stmt. stmt.is_if) (layouts l.stmts)
+invariant-loop-stmt l = list_all (λ stmt. stmt.is_if) (layouts (drop l.stmt-index l.stmt-items)) ≡
+    list_all (λ stmt. stmt.is_if) (layouts l.stmts)

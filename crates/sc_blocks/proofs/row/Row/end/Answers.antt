@@ -8,8 +8,11 @@ use Rattle.sc_blocks.proofs.row.Row.end.Goals as goal
 
 pub loop-block-init : goal.loop-block-init
 loop-block-init c =
-    let none : 0 ≡ c.args.first - c.args.first = omega arith in
-    (sym (none_cleared c.args.first c.self.inside.blocks.items) ∙ (λ i. cleared c.args.first (none i) (c.self.view_is i)), omega arith)
+    let none : 0 ≡ c.args.first - c.args.first = omega arith in (
+      sym (none_cleared c.args.first c.self.inside.blocks.items) ∙
+          (λ i. cleared c.args.first (none i) (c.self.view_is i)),
+      omega arith,
+    )
 
 pub loop-block-preserved : goal.loop-block-preserved
 loop-block-preserved c =
@@ -26,9 +29,30 @@ loop-block-preserved c =
 
 pub returns : goal.returns
 returns c =
-    let size : length c.args.self.now ≡ length c.self.inside.blocks.items = ap length (sym c.self.view_is) ∙ length-map c.self.inside.blocks.items block_of in
+    let size : length c.args.self.now ≡ length c.self.inside.blocks.items =
+    ap length (sym c.self.view_is) ∙ length-map c.self.inside.blocks.items block_of in
     c.loop-block.invariant.0
     ∙ cleared_to c.args.first c.args.count c.loop-block.block c.args.self.now c.loop-block.auto.block
-    (λ short. omega (arith, short, size, c.loop-block.invariant.1, c.loop-block-test.false, c.min-end.ensures, c.saturating_add.ensures, c.len.ensures, c.len.type_inv))
-    (λ long. omega (arith, long, size, c.loop-block.invariant.1, c.loop-block-test.false, c.min-end.ensures, c.saturating_add.ensures, c.len.ensures, c.len.type_inv))
+    (λ short. omega (
+      arith,
+      short,
+      size,
+      c.loop-block.invariant.1,
+      c.loop-block-test.false,
+      c.min-end.ensures,
+      c.saturating_add.ensures,
+      c.len.ensures,
+      c.len.type_inv,
+    ))
+    (λ long. omega (
+      arith,
+      long,
+      size,
+      c.loop-block.invariant.1,
+      c.loop-block-test.false,
+      c.min-end.ensures,
+      c.saturating_add.ensures,
+      c.len.ensures,
+      c.len.type_inv,
+    ))
     c.loop-block.invariant.1

@@ -9,7 +9,8 @@ invariant_of-result c = (
     words_are = c.code-code.ensures.code ∙ ap (λ image. code_of image c.args.comp) c.image-image.ensures;
     code_from_is = c.code_start.ensures;
     data_from_is = c.data_start.ensures;
-    bytes_are = ap (λ globals. 65536 + length globals) (c.globals-globals.ensures.globals ∙ ap (λ image. globals_of image c.args.comp) c.image-image.ensures);
+    bytes_are = ap (λ globals. 65536 + length globals)
+        (c.globals-globals.ensures.globals ∙ ap (λ image. globals_of image c.args.comp) c.image-image.ensures);
     few_words = c.code-code.ensures.short;
     few_bytes = omega (arith, c.globals-globals.ensures.short);
   },

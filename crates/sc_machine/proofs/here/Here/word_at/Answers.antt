@@ -7,12 +7,15 @@ returns-then-address-ne0-clause-word c = sym (misaligned _ _ _ c.if-address-ne0.
 
 pub returns-then-address-self-clause-word : goal.returns-then-address-self-clause-word
 returns-then-address-self-clause-word c =
-    rw (← c.self.view_is) (sym (looked_code_below c.self.invariant.1 c.args.address c.if-address-ne0.false c.if-address-self.true))
+    rw (← c.self.view_is) (sym (looked_code_below c.self.invariant.1 c.args.address c.if-address-ne0.false
+    c.if-address-self.true))
 
 pub returns-clause-word : goal.returns-clause-word
 returns-clause-word c =
-    rw (← c.self.view_is) (c.copied.ensures ∙ c.at.ensures ∙ looked_word c.self.invariant.1 c.args.address c.if-address-ne0.false c.if-address-self.false)
+    rw (← c.self.view_is) (c.copied.ensures ∙ c.at.ensures ∙
+    looked_word c.self.invariant.1 c.args.address c.if-address-ne0.false c.if-address-self.false)
 
 pub returns-clause-within : goal.returns-clause-within
 returns-clause-within c =
-    looked_within c.self.invariant.1 c.args.address c.self.invariant.0 c.if-address-self.false c.copied.result (c.copied.ensures ∙ c.at.ensures)
+    looked_within c.self.invariant.1 c.args.address c.self.invariant.0 c.if-address-self.false c.copied.result
+    (c.copied.ensures ∙ c.at.ensures)

@@ -3,7 +3,8 @@ use Rattle.sc_store.proofs.Parts.{found, found_spans, found_bytes}
 use Rattle.sc_store.proofs.flat.FlatStore.byte.Goals as goal
 
 pub unwrap-place-requires : goal.unwrap-place-requires
-unwrap-place-requires c = subst (λ o. IsSome o) (sym c.find.ensures) (found c.args.self.now.parts.items c.args.at c.requires)
+unwrap-place-requires c = subst (λ o. IsSome o) (sym c.find.ensures)
+    (found c.args.self.now.parts.items c.args.at c.requires)
 
 pub byte-requires : goal.byte-requires
 byte-requires c =

@@ -5,7 +5,8 @@ use Rattle.sc_store.proofs.flat.FlatStore.write_each.Goals as goal
 
 pub put-requires : goal.put-requires
 put-requires c =
-    next_there (bytes_of c.args.self.now.parts.items) (bytes_of c.loop-k.self.parts.items) c.args.at c.args.bytes.now c.loop-k.k
+    next_there (bytes_of c.args.self.now.parts.items)
+    (bytes_of c.loop-k.self.parts.items) c.args.at c.args.bytes.now c.loop-k.k
     c.loop-k.invariant c.loop-k-test.true c.requires.there
 
 pub loop-k-preserved : goal.loop-k-preserved

@@ -1,0 +1,20 @@
+use Rattle.sc_value.specs.Where.{here_of}
+use Rattle.sc_run.specs.Seen.{kept_by}
+use Rattle.sc_run.specs.Resume.{way_in}
+use Rattle.sc_run.proofs.Unseen.{way_same}
+use Rattle.sc_run.proofs.Coming.{computed_comes, given_err}
+use Rattle.sc_run.proofs.machine.evaluated.Goals as goal
+
+pub returns-in-Ok : goal.returns-in-Ok
+returns-in-Ok c =
+    let f = c.args.frame.now in
+    computed_comes (here_of f.scope) c.args.line (λ bs. way_in f c.args.expr.now c.args.want bs)
+    (way_same f.scope.structs.now (here_of f.scope) f.scope.params c.args.expr.now c.args.want)
+    (kept_by c.args.machine.now) c.in-Ok.value c.in-Ok.ensures
+
+pub returns-in-Err : goal.returns-in-Err
+returns-in-Err c =
+    let f = c.args.frame.now in
+    given_err (here_of f.scope) c.args.line (λ bs. way_in f c.args.expr.now c.args.want bs)
+    (way_same f.scope.structs.now (here_of f.scope) f.scope.params c.args.expr.now c.args.want)
+    (kept_by c.args.machine.now) c.in-Err.cause c.blamed.result c.blamed.ensures c.in-Err.ensures
