@@ -17,7 +17,7 @@ use Rattle.sc_core.specs.declared.value.Value.TheVariants.{Word}
 use Rattle.sc_core.specs.declared.cause.Cause.TheVariants.{BadType}
 use Rattle.sc_core.specs.declared.run.RunEnd.TheVariants.{Blamed, TurnsOut}
 use Rattle.sc_core.specs.declared.value.Value.{Value}
-use Rattle.sc_core.specs.Words.{Opened, Closed, State, Here, Piece, Reached, Stopped, and_then, turn_of, turn, tell, Calls}
+use Rattle.sc_core.specs.Words.{Opened, Closed, State, Here, Piece, Reached, Stopped, and_then, turn_of, turn, tell, Exit, Left, Does, Route, On, Out, take, follow, Calls}
 use Rattle.sc_core.specs.Calls.{Function, Library, Body, Step, function, begun, done, found, word_in, crossing, crossed, first_word, option_value, next_input, read_input, may_call, back_own, back_cross, run_in, call_own, call_cross, called, calls, run_step, within}
 use Rattle.sc_core.specs.Scripts.{Roles, rows_left, is_number, asks, acts, performs, scripted_step}
 use Rattle.sc_core.specs.Growth.{Front}
@@ -71,6 +71,16 @@ pub then_goes : {V W : Type 0} (s : State) (o : Piece V) (k : V → State → Pi
     Gone s (and_then o k)
 then_goes s (Reached v t) k g h = earlier s t (k v t) g.grown (h v t)
 then_goes s (Stopped end t) k g h = record { grown = g.grown; stop = g.stop }
+
+take_goes : {A : Type 0} (route : Route) (go : Does A) → ((a : A) → Goes (go a)) → (a : A) → Goes (take route go a)
+take_goes On go h a = h a
+take_goes (Out exit) go h a = stays (record { exit = exit; carried = a })
+
+pub follow_goes : {A : Type 0} (route : Exit → Route) (s : State) (o : Piece (Left A)) (go : Does A) → Gone s o →
+    ((a : A) → Goes (go a)) → Gone s (follow route o go)
+follow_goes route s o go g h =
+    then_goes s o (λ left. take (route left.exit) go left.carried) g
+    (λ left. take_goes (route left.exit) go h left.carried)
 
 pub turn_of_goes : (n : ℕ) (s : State) → n ≡ s.turns → Gone s (turn_of n s)
 turn_of_goes zero s is = no_turn s

@@ -29,7 +29,20 @@ then_same : {V W : Type 0} (s : State) (o : Piece V) → Gone s o → (k l : V �
 then_same s (Reached v t) g k l h = h v t g.grown
 then_same s (Stopped end t) g k l h = refl
 
-turn_same : {W : Type 0} (m : ℕ) (s : State) (k l : State → Piece W) → m ≡ s.turns →
+take_grown : {A : Type 0} (route : Route) (s : State) (f g : Does A) →
+    ((a : A) (t : State) → Grown s t → f a t ≡ g a t) → (a : A) (t : State) → Grown s t →
+    take route f a t ≡ take route g a t
+take_grown On s f g h a t up = h a t up
+take_grown (Out exit) s f g h a t up = refl
+
+pub follow_grown : {A : Type 0} (route : Exit → Route) (s : State) (o : Piece (Left A)) (f g : Does A) → Gone s o →
+    ((a : A) (t : State) → Grown s t → f a t ≡ g a t) → follow route o f ≡ follow route o g
+follow_grown route s o f g gone h =
+    then_same s o gone (λ left t. take (route left.exit) f left.carried t)
+    (λ left t. take (route left.exit) g left.carried t)
+    (λ left t up. take_grown (route left.exit) s f g h left.carried t up)
+
+pub turn_same : {W : Type 0} (m : ℕ) (s : State) (k l : State → Piece W) → m ≡ s.turns →
     ((t : State) → t.turns < s.turns → k t ≡ l t) → and_then (turn_of m s) (λ _. k) ≡ and_then (turn_of m s) (λ _. l)
 turn_same zero s k l is h = refl
 turn_same (suc m) s k l is h = h (record s { turns = m }) (omega (arith, is))
@@ -222,7 +235,7 @@ module _ {A : Type 0} (here : Here) where
 
   module _ (f f2 f3 : DoingWith A) (head body next : A → ℕ → Interaction (Left A)) (h : PlaysWith f head)
       (b : PlaysWith f2 body) (x : PlaysWith f3 next) (most : ℕ) where
-    abbrev trees : ℕ → A → Interaction (Left A)
+    abbrev pub trees : ℕ → A → Interaction (Left A)
     trees n = round_trees n (λ a. head a most) (λ a. body a most) (λ a. next a most)
 
     lasts_rounds : (n : ℕ) → n ≤ most → (a : A) → Lasts n (trees n a)
@@ -236,7 +249,7 @@ module _ {A : Type 0} (here : Here) where
         lasts_trail here n in_loop (next a most) _ (lasts_most most n (next a most) (omega (arith, le))
         ((x a).lasts most)) rest))
 
-    rounds_are : (by : Calls) → GoFrom here.comp by → (n m : ℕ) (a : A) (s : State) → s.turns < n → s.turns < m →
+    pub rounds_are : (by : Calls) → GoFrom here.comp by → (n m : ℕ) (a : A) (s : State) → s.turns < n → s.turns < m →
         s.turns < most → rounds n (f by) (f2 by) (f3 by) a s ≡ played (trees m a) by here s
     rounds_are by goes zero m a s few few' small = absurd (omega (arith, few))
     rounds_are by goes (suc n) zero a s few few' small = absurd (omega (arith, few'))

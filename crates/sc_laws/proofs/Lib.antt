@@ -15,6 +15,7 @@ pub mod Keeping
 pub mod Legality
 pub mod Libraries
 pub mod Lines
+pub mod Loops
 pub mod Matching
 pub mod More
 pub mod ProgramLaws

@@ -9,7 +9,7 @@ use Rattle.sc_core.specs.Calls.{Function, Library, function, run_step}
 use Rattle.sc_core.specs.Scripts.{Roles, scripted_step}
 use Rattle.sc_laws.specs.Agreement.{Meets}
 use Rattle.sc_laws.specs.Growth.{Gone, Goes}
-use Rattle.sc_laws.specs.Interactions.{Interaction, Gives, Blames, Reads, Stores, Spends, Asks, Halts, played, Lasts, Doing, GoFrom, Plays, Never, Alike, FunctionsMatch, LibrariesMatch, Obedient}
+use Rattle.sc_laws.specs.Interactions.{Interaction, Gives, Blames, Reads, Stores, Spends, Asks, Halts, played, Lasts, Doing, GoFrom, Plays, Never, Alike, Match, FunctionsMatch, LibrariesMatch, Obedient}
 use Rattle.sc_laws.proofs.Growing.{stays, FunctionGoes, LibraryGoes, StepGoes, run_step_goes, scripted_goes}
 use Rattle.sc_laws.proofs.Twins.{Twins, Kept, KeptAt}
 use Rattle.sc_laws.proofs.Expressions.{alike}
@@ -115,6 +115,10 @@ module _ (Soft : Cause → Type 0) where
   tree_goes here does tree plays by go s =
       subst (Gone s) (sym (plays.is (suc s.turns) by go s (omega arith))) (played_goes (tree (suc s.turns)) by here go
       s)
+
+  pub match_goes : {V : Type 0} (here : Here) (does other : Doing V) → Match Soft here does other → (by : Calls) →
+      GoFrom here.comp by → Goes (does by)
+  match_goes here does other match = tree_goes here does match.tree match.first
 
   goes_here : (f g : Option Function) → Meets (FunctionsMatch Soft) f g → (h : Function) → f ≡ Some h → FunctionGoes h
   goes_here None None meets h is = absurd (cc)

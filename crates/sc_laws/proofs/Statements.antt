@@ -33,10 +33,10 @@ use Rattle.sc_laws.proofs.Expressions.{Keeps, alike, ArithKeeps, ways_keep, valu
 
 module _ (Soft : Cause → Type 0) (here : Here) where
   -- statements, by what calls do
-  abbrev ActsMatch : (Calls → Acts) → (Calls → Acts) → Type 0
+  abbrev pub ActsMatch : (Calls → Acts) → (Calls → Acts) → Type 0
   ActsMatch f g = MatchWith Soft here {A = Unit {0}} f g
 
-  abbrev WaysMatch : Ways → Ways → Type 0
+  abbrev pub WaysMatch : Ways → Ways → Type 0
   WaysMatch f g = (w : Want) (blocks : Blocks) → Keeps Soft Value (f w blocks) (g w blocks)
 
   leave_matches : (exit : Exit) → ActsMatch (λ by. leave exit) (λ by. leave exit)
@@ -62,7 +62,7 @@ module _ (Soft : Cause → Type 0) (here : Here) where
       Match Soft here (λ by s. choose v (f by s) (f' by s)) (λ by s. choose v (g by s) (g' by s))
   choose_matches v f g f' g' h k = match_if Soft here _ f g f' g' h k
 
-  test_matches : (cond cond' : Ways) → WaysMatch cond cond' → (line : ℕ) →
+  pub test_matches : (cond cond' : Ways) → WaysMatch cond cond' → (line : ℕ) →
       ActsMatch (λ by. test here cond line) (λ by. test here cond' line)
   test_matches cond cond' h line a =
       match_then Soft here _ _ (λ v by s. choose v (leave Next a s) (leave Break a s))
@@ -70,7 +70,7 @@ module _ (Soft : Cause → Type 0) (here : Here) where
       choose_matches v (λ by. leave Next a) (λ by. leave Next a) (λ by. leave Break a) (λ by. leave Break a)
       (leave_matches Next a) (leave_matches Break a))
 
-  store_result_matches : (place place' : Ways) → WaysMatch place place' → (result : Option Value) (line : ℕ) →
+  pub store_result_matches : (place place' : Ways) → WaysMatch place place' → (result : Option Value) (line : ℕ) →
       ActsMatch (λ by. store_result here place result line) (λ by. store_result here place' result line)
   store_result_matches place place' h None line = leave_matches Next
   store_result_matches place place' h (Some v) line = store_at_matches place place' h v line
@@ -83,7 +83,7 @@ module _ (Soft : Cause → Type 0) (here : Here) where
       (match_computed Soft here line (values args) (values args') h) (λ vs. match_call Soft here target vs)
 
   module _ (ar br : Arith) (arith : ArithKeeps Soft ar br) (structs : List TypedStruct) (params : ℕ) where
-    way_matches : (e : TypedExpr) → WaysMatch (ways ar structs here params e) (ways br structs here params e)
+    pub way_matches : (e : TypedExpr) → WaysMatch (ways ar structs here params e) (ways br structs here params e)
     way_matches e = ways_keep Soft ar br arith structs here params e
 
     -- arguments and a call with them
@@ -117,7 +117,7 @@ module _ (Soft : Cause → Type 0) (here : Here) where
     simple_matches (simple.AssignCall place c) line = assign_call_matches place c line
     simple_matches (simple.Call c) line = call_alone_matches c line
 
-    part_matches : (part : Option TypedSimple) →
+    pub part_matches : (part : Option TypedSimple) →
         ActsMatch (λ by. part_does ar structs here params by part) (λ by. part_does br structs here params by part)
     part_matches None = leave_matches Next
     part_matches (Some s) = simple_matches s.kind s.line
@@ -189,7 +189,7 @@ module _ (Soft : Cause → Type 0) (here : Here) where
         (λ line k h. subst (λ x. ActsMatch x (λ by. stmt_does br structs here params by (on_line line k)))
         (layer_is ar line k) (subst (ActsMatch (layered ar k line)) (layer_is br line k) (layer_matches line k h)))
 
-    block_matches : (block : List TypedStmt) →
+    pub block_matches : (block : List TypedStmt) →
         ActsMatch (λ by. block_does ar structs here params by block) (λ by. block_does br structs here params by block)
     block_matches block = inner block (everywhere Both stmt_matches block)
 

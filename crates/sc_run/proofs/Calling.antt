@@ -30,7 +30,8 @@ use Rattle.sc_run.specs.Entering.{with_variables, Begun, told_call, entry_from, 
 use Rattle.sc_run.proofs.Blank.{blank_more, blank_new, length_same}
 use Rattle.sc_run.proofs.Coming.{with_memory, seen_with, blocks_seen}
 use Rattle.sc_run.proofs.Standing.{step_stops, step_ends, newest_first}
-use Rattle.sc_run.proofs.Looping.{assoc, steps_as}
+use Rattle.sc_laws.proofs.Growing.{then_then}
+use Rattle.sc_run.proofs.Looping.{steps_as}
 
 -- a result that can't be stored
 pub unstored : (program : ProgramTree) (before after : Seen) (work : List Work) (f : Frame) (to : To)
@@ -232,6 +233,6 @@ module _ (program : ProgramTree) (caller : Frame) (callee : Callee) (args : List
       steps_as program before work caller (λ n s. and_then (and_then (turn s) (λ _ s. from_call crossing n s))
       (result_goes program caller to)) (λ n s. and_then (turn s)
       (λ _ s. and_then (from_call crossing n s) (result_goes program caller to))) (Stop end) after work caller
-      (λ n s. assoc (turn s) (λ _ s. from_call crossing n s) (result_goes program caller to))
+      (λ n s. then_then (turn s) (λ _ s. from_call crossing n s) (result_goes program caller to))
       (step_stops program before after work caller end turn
       (λ n u s. and_then (from_call crossing n s) (result_goes program caller to)) c)

@@ -1,122 +1,103 @@
--- A run only goes on: it adds events to its trace, gives no turn, and stops by a blame or without turns.
-use Rattle.sc_core.proofs.Keeping.{IsHalt, Kept, Property, found_kept, then_kept}
-use Rattle.std.proofs.Common.{◌≡◌, refl, sym, ap, ◌∙◌, ℕ, zero, suc, ◌≤◌, ◌++◌, List, [], ◌∷◌, map, length, Option, Some, Bool, true, false, if◌then◌else◌, append_assoc, arith}
-use Rattle.std.proofs.lemmas.List.{append-nil}
-use Rattle.sc_event.specs.declared.event.Event.{Event}
-use Rattle.sc_event.specs.declared.event.Event.TheVariants.{Call}
-use Rattle.sc_event.specs.declared.row.Entry.TheVariants.{Export}
-use Rattle.sc_core.specs.declared.cause.Cause.TheVariants.{BadType}
-use Rattle.sc_core.specs.declared.expr.CallTarget.{CallTarget}
-use Rattle.sc_core.specs.declared.expr.CallTarget.TheVariants.{Own, Cross, Input, Output}
-use Rattle.sc_core.specs.declared.run.RunEnd.TheVariants.{Blamed}
+-- What the statements of a frame do goes on, as what functions do does: it adds events, gives no turn, and stops by a
+-- blame or without turns.
+use Rattle.std.proofs.Common.{◌≡◌, ℕ, List, Option}
+use Rattle.std.specs.Prelude.{is_some, bytes_eq, ◌==◌, ◌&&◌}
+use Rattle.std.specs.Option.{option_copied}
+use Rattle.sc_core.specs.declared.program.ProgramTree.{ProgramTree}
+use Rattle.sc_core.specs.declared.stmt.TypedStmt.{TypedStmt}
 use Rattle.sc_core.specs.declared.value.Value.{Value}
-use Rattle.sc_core.specs.Growth.{Front}
-use Rattle.sc_core.specs.Words.{State, Here, Piece, Stopped, and_then, turn, turn_of, tell, Calls}
-use Rattle.sc_core.specs.Calls.{Function, Library, Body, function, begun, done, word_in, crossed, may_call, back_own, back_cross, run_in, call_own, call_cross, called, calls, run_step, within}
-use Rattle.sc_run.proofs.Keeping.{IsKept, CallsKeep}
+use Rattle.sc_core.specs.Value.{c_arith}
+use Rattle.sc_core.specs.Words.{State, Here, Left, loop, Calls}
+use Rattle.sc_core.specs.Tree.{Acts, test, store_result, part_does, block_does}
+use Rattle.sc_core.specs.Calls.{run_step}
+use Rattle.sc_core.specs.Meaning.{main_name}
+use Rattle.sc_laws.specs.Growth.{Goes}
+use Rattle.sc_laws.specs.Interactions.{GoFrom, Never}
+use Rattle.sc_laws.proofs.Expressions.{ArithKeeps}
+use Rattle.sc_laws.proofs.Growing.{stays, calls_go, within_goes}
+use Rattle.sc_laws.proofs.Interactions.{MatchWith, match_loop}
+use Rattle.sc_laws.proofs.Loops.{one_round, loop_again}
+use Rattle.sc_laws.proofs.Matching.{match_goes, run_goes_on}
+use Rattle.sc_laws.proofs.Programs.{itself_keeps, program_obeys}
+use Rattle.sc_laws.proofs.Statements.{test_matches, store_result_matches, way_matches, part_matches, block_matches, closed_matches}
+use Rattle.sc_value.specs.Where.{here_of}
+use Rattle.sc_run.specs.declared.work.Frame.{Frame}
+use Rattle.sc_run.specs.declared.work.Loop.{Loop}
+use Rattle.sc_run.specs.declared.work.To.{To}
+use Rattle.sc_run.specs.declared.work.To.TheVariants.{Nowhere, Place, Back}
+use Rattle.sc_run.specs.Resume.{way_in, library, bodies, calls_in, block_acts, next_acts, loop_acts, closes, result_goes}
 
-grown_trans : {t u w : List Event} → Front t u → Front u w → Front t w
-grown_trans {t} {u} {w} a b =
-    record { more = a.more ++ b.more; is = b.is ∙ ap (λ x. x ++ b.more) a.is ∙ append_assoc t a.more b.more }
+itself : ArithKeeps Never c_arith c_arith
+itself = itself_keeps Never c_arith
 
-pub grown_refl : (t : List Event) → Front t t
-grown_refl t = record { more = []; is = sym (append-nil t) }
+module _ (program : ProgramTree) (n : ℕ) (f : Frame) where
+  abbrev here : Here
+  here = here_of f.scope
 
-pub grown_tell : {t : List Event} (u : List Event) (e : Event) → Front t u → Front t (u ++ e ∷ [])
-grown_tell u e h = grown_trans h (record { more = e ∷ []; is = refl })
+  calls_go_on : GoFrom here.comp (calls_in program n)
+  calls_go_on =
+      calls_go (library program) (bodies program n) (within_goes (run_step (library program))
+      (run_goes_on (library program) (program_obeys c_arith program)) n) here.comp
 
--- the trace begins with this one, and no more than n turns are left
-pub record IsAfter (t : List Event) (n : ℕ) (s : State) : Type 0 where
-  pub grown : Front t s.trace
-  pub few : s.turns ≤ n
+  -- statements of the frame, by what calls do
+  abbrev IsTree : (Calls → Acts) → Type 0
+  IsTree does = MatchWith Never here {A = Unit {0}} does does
 
-abbrev pub going : List Event → ℕ → Property
-going t n = record { Goes = λ s. IsAfter t n s; Ends = λ end s. Front t s.trace × IsHalt end }
+  tree_goes : (does : Calls → Acts) → IsTree does → Goes (does (calls_in program n) tt)
+  tree_goes does tree = match_goes Never here (λ by. does by tt) (λ by. does by tt) (tree tt) (calls_in program n)
+      calls_go_on
 
-pub after_tell : {t : List Event} {n : ℕ} (event : Event) (s : State) → IsAfter t n s → IsAfter t n (tell event s)
-after_tell event s h = record { grown = grown_tell s.trace event h.grown; few = h.few }
+  abbrev block_by : List TypedStmt → Calls → Acts
+  block_by stmts by = block_does c_arith f.scope.structs.now here f.scope.params by stmts
 
-turned_goes : (t : List Event) (n k : ℕ) (s : State) → s.turns ≡ k → IsAfter t n s → Kept (going t n) (turn_of k s)
-turned_goes t n zero s is h = record { after = (h.grown, tt) }
-turned_goes t n (suc k) s is h = record { after = record { grown = h.grown; few = omega (arith, is, h.few) } }
+  block_tree : (stmts : List TypedStmt) → IsTree (block_by stmts)
+  block_tree = block_matches Never here c_arith c_arith itself f.scope.structs.now f.scope.params
 
-pub is_going : (t : List Event) (n : ℕ) (here : Here) → IsKept (going t n) here
-is_going t n here = record {
-  memory = λ s blocks h. record { grown = h.grown; few = h.few };
-  turned = λ s h. turned_goes t n s.turns s refl h;
-  blamed = λ s cause line h. (h.grown, tt);
-  out = λ s h. (h.grown, tt);
-}
+  pub block_goes : (stmts : List TypedStmt) → Goes (block_acts program n f stmts tt)
+  block_goes stmts = tree_goes (block_by stmts) (block_tree stmts)
 
--- a function whose pieces keep what its calls keep
-pub record IsOpen (f : Function) : Type 1 where
-  pub keeps : (K : Property) (here : Here) (kept : IsKept K here) (by : Calls) → CallsKeep K here kept by →
-      (s : State) → K.Goes s → Kept K (f.does by here s)
+  module _ (l : Loop) where
+    abbrev pub test_by : Calls → Acts
+    test_by by = test here (way_in f l.cond.now) l.line
 
--- each function of a library is so
-pub record AreOpen (library : Library) : Type 1 where
-  pub function_keeps : (comp number : ℕ) (f : Function) → function library comp number ≡ Some f → IsOpen f
+    abbrev next_by : Calls → Acts
+    next_by by = part_does c_arith f.scope.structs.now here f.scope.params by (option_copied l.next)
 
--- what functions do goes on
-abbrev pub BodyGoes : Body → Type 0
-BodyGoes body = (t : List Event) (n number : ℕ) (here : Here) (s : State) → IsAfter t n s →
-    Kept (going t n) (body number here s)
+    test_tree : IsTree test_by
+    test_tree =
+        test_matches Never here (way_in f l.cond.now) (way_in f l.cond.now)
+        (way_matches Never here c_arith c_arith itself f.scope.structs.now f.scope.params l.cond.now) l.line
 
-module _ (library : Library) (body : Body) (goes : BodyGoes body) (t : List Event) (n : ℕ) where
-  abbrev BackGoes : (Option Value → State → Piece (Option Value)) → Type 0
-  BackGoes back = (v : Option Value) (s : State) → IsAfter t n s → Kept (going t n) (back v s)
+    next_tree : IsTree next_by
+    next_tree = part_matches Never here c_arith c_arith itself f.scope.structs.now f.scope.params (option_copied l.next)
 
-  run_in_goes : (comp number : ℕ) (args : List Value) (back : Option Value → State → Piece (Option Value)) →
-      BackGoes back → (s : State) → IsAfter t n s → Kept (going t n) (run_in library body comp number args back s)
-  run_in_goes comp number args back x s h =
-      found_kept (going t n) (function library comp number) s
-      (λ f s. and_then (body number (record { comp = comp; first = length (s.memory comp) }) (begun comp f args s))
-      (λ v t. back v (done comp f (length (s.memory comp)) t))) (h.grown, tt)
-      (λ f is. then_kept (going t n) (body number (record { comp = comp; first = length (s.memory comp) })
-      (begun comp f args s)) (λ v t. back v (done comp f (length (s.memory comp)) t))
-      (goes t n number (record { comp = comp; first = length (s.memory comp) }) (begun comp f args s)
-      (record { grown = h.grown; few = h.few })) (λ v u g.
-      x v (done comp f (length (s.memory comp)) u) (record { grown = g.grown; few = g.few })))
+    pub next_goes : Goes (next_acts program n f l tt)
+    next_goes = tree_goes next_by next_tree
 
-  call_own_goes : (comp number : ℕ) (args : List Value) (s : State) → IsAfter t n s →
-      Kept (going t n) (call_own library body comp number args s)
-  call_own_goes comp number args s h = run_in_goes comp number args back_own (λ v s h. record { after = h }) s h
+    pub loop_goes : Goes (loop_acts program n f l tt)
+    loop_goes =
+        tree_goes (λ by. loop (test_by by) (block_by l.body.now by) (next_by by))
+        (match_loop Never here test_by test_by (block_by l.body.now) (block_by l.body.now) next_by next_by test_tree
+        (block_tree l.body.now) next_tree)
 
-  call_cross_goes : (from to index : ℕ) (args : List Value) (s : State) → IsAfter t n s →
-      Kept (going t n) (call_cross library body from to index args s)
-  call_cross_goes from to index args s h =
-      found_kept (going t n) (library.entered to (Export index)) s
-      (λ number s. run_in library body to number (crossed args) (back_cross library.interfaces from to index)
-      (tell (Call from to index (map word_in args)) s)) (h.grown, tt)
-      (λ number is. run_in_goes to number (crossed args) (back_cross library.interfaces from to index)
-      (λ v s h. record { after = after_tell _ s h }) (tell (Call from to index (map word_in args)) s)
-      (after_tell (Call from to index (map word_in args)) s h))
+    -- a loop is a round, and then the loop again
+    pub loop_is : (s : State) → loop_acts program n f l tt s ≡
+        one_round (test_by (calls_in program n)) (block_acts program n f l.body.now) (next_acts program n f l)
+        (loop_acts program n f l) tt s
+    loop_is =
+        loop_again Never here (calls_in program n) calls_go_on test_by (block_by l.body.now) next_by test_tree
+        (block_tree l.body.now) next_tree tt
 
-  called_goes : (from : ℕ) (target : CallTarget) (args : List Value) (s : State) → IsAfter t n s →
-      Kept (going t n) (called library body from target args s)
-  called_goes from (Own number) args s h =
-      then_kept (going t n) (turn s) (λ _ s. call_own library body from number args s)
-      (turned_goes t n s.turns s refl h) (λ _ s h. call_own_goes from number args s h)
-  called_goes from (Cross to index) args s h =
-      then_kept (going t n) (turn s) (λ _ s. call_cross library body from to index args s)
-      (turned_goes t n s.turns s refl h) (λ _ s h. call_cross_goes from to index args s h)
-  called_goes from Input args s h = record { after = record { grown = grown_tell s.trace _ h.grown; few = h.few } }
-  called_goes from Output args s h = record { after = after_tell _ s h }
+  pub closes_goes : (left : Left (Unit {0})) → Goes (closes program f left)
+  closes_goes left =
+      match_goes Never here _ _ (closed_matches Never here left.exit (is_some f.function.now.result)
+      (f.scope.comp.now == program.interfaces.main && bytes_eq f.function.now.name main_name)
+      f.function.now.close_line) (calls_in program n) calls_go_on
 
-  pub calls_go_on : (from : ℕ) (target : CallTarget) (args : List Value) (s : State) → IsAfter t n s →
-      Kept (going t n) (calls library body from target args s)
-  calls_go_on from target args s h = by_test (may_call library from target args) where
-    by_test : (b : Bool) → Kept (going t n) (if b then called library body from target args s else
-        Stopped (Blamed from BadType 0) s)
-    by_test true = called_goes from target args s h
-    by_test false = record { after = (h.grown, tt) }
-
-pub within_goes : (library : Library) → AreOpen library → (k : ℕ) → BodyGoes (within (run_step library) k)
-within_goes library are zero t n number here s h = record { after = (h.grown, tt) }
-within_goes library are (suc k) t n number here s h =
-    found_kept (going t n) (function library here.comp number) s
-    (λ f s. f.does (calls library (within (run_step library) k)) here s) (h.grown, tt)
-    (λ f is. (are.function_keeps here.comp number f is).keeps (going t n) here (is_going t n here)
-    (calls library (within (run_step library) k))
-    (λ target args s h. calls_go_on library (within (run_step library) k)
-    (within_goes library are k) t n here.comp target args s h) s h)
+  pub result_goes_on : (to : To) (v : Option Value) → Goes (result_goes program f to v)
+  result_goes_on Nowhere v = stays _
+  result_goes_on (Place place line) v =
+      tree_goes (λ by. store_result here (way_in f place.now) v line)
+      (store_result_matches Never here (way_in f place.now) (way_in f place.now)
+      (way_matches Never here c_arith c_arith itself f.scope.structs.now f.scope.params place.now) v line)
+  result_goes_on Back v = stays _

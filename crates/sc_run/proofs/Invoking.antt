@@ -38,7 +38,8 @@ use Rattle.sc_run.specs.Finding.{FoundAt, EntryAt}
 use Rattle.sc_run.specs.Resume.{way_in, library, bodies, calls_in, result_goes, Steps}
 use Rattle.sc_run.specs.Entering.{entry_from, back_from}
 use Rattle.sc_run.proofs.Standing.{step_stops}
-use Rattle.sc_run.proofs.Looping.{assoc, steps_as, steps_on}
+use Rattle.sc_laws.proofs.Growing.{then_then}
+use Rattle.sc_run.proofs.Looping.{steps_as, steps_on}
 
 -- words cross as they are
 words_cross : (args : List Value) → list_all is_word args ≡ true → crossed args ≡ args
@@ -272,7 +273,7 @@ module _ (program : ProgramTree) (before : Seen) (work : List Work) (f : Frame) 
     stepwise n s = and_then (given_args s) (λ vs s. and_then (calls_in program n f.scope.comp.now target vs s) rg)
 
     by_assoc : (n : ℕ) (s : State) → whole_call n s ≡ stepwise n s
-    by_assoc n s = assoc (given_args s) (λ vs s. calls_in program n f.scope.comp.now target vs s) rg
+    by_assoc n s = then_then (given_args s) (λ vs s. calls_in program n f.scope.comp.now target vs s) rg
 
     pub call_blamed : (end : RunEnd) → Comes before before (Err end) given_args →
         Steps program before work f whole_call (Stop end) before work f

@@ -7,12 +7,9 @@ pub mod Filling
 pub mod Finding
 pub mod Going
 pub mod Invoking
-pub mod Keeping
 pub mod Looping
 pub mod Making
 pub mod Onward
-pub mod Opening
-pub mod Rounds
 pub mod Standing
 pub mod Stating
 pub mod Unseen

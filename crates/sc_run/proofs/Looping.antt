@@ -1,18 +1,14 @@
 -- Loops, and what waits behind statements.
 use Rattle.std.proofs.Common.{◌≡◌, refl, sym, ap, ◌∙◌, subst, ℕ, suc, ◌++◌, Bool, true, false, if◌then◌else◌, List, [], ◌∷◌, length, reverse, Ok, Err, arith}
-use Rattle.std.specs.Option.{option_copied}
 use denote.Bor.{Bor}
-use Rattle.sc_event.specs.declared.event.Event.{Event}
 use Rattle.sc_core.specs.declared.program.ProgramTree.{ProgramTree}
 use Rattle.sc_core.specs.declared.run.RunEnd.{RunEnd}
 use Rattle.sc_core.specs.declared.stmt.TypedStmt.{TypedStmt}
 use Rattle.sc_core.specs.declared.value.Value.{Value}
 use Rattle.sc_core.specs.declared.value.Want.TheVariants as want
-use Rattle.sc_core.specs.Value.{c_arith, is_true}
-use Rattle.sc_core.specs.Words.{State, Piece, Reached, Stopped, and_then, turn, Exit, Next, Break, Left, leave, in_order, in_loop, follow, take, choose}
-use Rattle.sc_core.specs.Tree.{Acts, evaluated, test}
-use Rattle.sc_run.proofs.Keeping.{CallsKeep, test_kept, block_kept, part_kept}
-use Rattle.sc_run.proofs.Opening.{library_is_open}
+use Rattle.sc_core.specs.Value.{is_true}
+use Rattle.sc_core.specs.Words.{State, Piece, and_then, turn, Exit, Next, Break, Left, leave, in_order, in_loop, follow, take, choose}
+use Rattle.sc_core.specs.Tree.{Acts, evaluated}
 use Rattle.sc_value.specs.Where.{here_of}
 use Rattle.sc_run.specs.declared.work.Frame.{Frame}
 use Rattle.sc_run.specs.declared.work.Loop.{Loop}
@@ -24,23 +20,12 @@ use Rattle.sc_run.specs.declared.work.Step.{Step}
 use Rattle.sc_run.specs.declared.work.Step.TheVariants.{Go, Stop}
 use Rattle.sc_run.specs.Seen.{Seen}
 use Rattle.sc_run.specs.Comes.{Comes}
-use Rattle.sc_run.specs.Resume.{way_in, library, bodies, calls_in, block_acts, next_acts, loop_acts, resume, does_now, Steps}
-use Rattle.sc_run.proofs.Going.{going, is_going, calls_go_on, within_goes}
-use Rattle.sc_run.proofs.Rounds.{loop_again}
+use Rattle.sc_run.specs.Resume.{way_in, block_acts, next_acts, loop_acts, resume, does_now, Steps}
+use Rattle.sc_laws.proofs.Growing.{then_then}
+use Rattle.sc_run.proofs.Going.{loop_is}
 use Rattle.sc_run.proofs.Standing.{Acting, told_as, goes_on, step_stops, moved, newest_first}
 
-pub assoc : {U V W : Type 0} (p : Piece U) (f : U → State → Piece V) (g : V → State → Piece W) →
-    and_then (and_then p f) g ≡ and_then p (λ u s. and_then (f u s) g)
-assoc (Reached u s) f g = refl
-assoc (Stopped end s) f g = refl
-
 module _ (program : ProgramTree) (f : Frame) where
-  pub calls_keep : (t : List Event) (n k : ℕ) → CallsKeep (going t k) (here_of f.scope) (is_going t k (here_of f.scope))
-      (calls_in program n)
-  calls_keep t n k target args s h =
-      calls_go_on (library program) (bodies program n)
-      (within_goes (library program) (library_is_open c_arith program) n) t k (here_of f.scope).comp target args s h
-
   module _ (l : Loop) where
     -- a loop once its condition was looked at
     abbrev pub tested : ℕ → Bool → State → Piece (Left (Unit {0}))
@@ -54,11 +39,6 @@ module _ (program : ProgramTree) (f : Frame) where
     by_truth n true s = refl
     by_truth n false s = refl
 
-    then_same : {V W : Type 0} (p : Piece V) (g h : V → State → Piece W) → ((v : V) (s : State) → g v s ≡ h v s) →
-        and_then p g ≡ and_then p h
-    then_same (Reached v s) g h e = e v s
-    then_same (Stopped end s) g h e = refl
-
     abbrev pub cond_evaluated : State → Piece Value
     cond_evaluated s = evaluated (here_of f.scope) want.Value (way_in f l.cond.now) l.line s
 
@@ -71,17 +51,10 @@ module _ (program : ProgramTree) (f : Frame) where
     pub round_is : (n : ℕ) (s : State) → loop_acts program n f l tt s ≡
         and_then (cond_evaluated s) (λ v s. tested n (is_true v) s)
     round_is n s =
-        loop_again (test (here_of f.scope) (way_in f l.cond.now) l.line) (block_acts program n f l.body.now)
-        (next_acts program n f l) (λ k. test_kept (going [] k) (here_of f.scope) (is_going [] k (here_of f.scope))
-        (way_in f l.cond.now) l.line) (λ k. block_kept (going [] k) (here_of f.scope)
-        (is_going [] k (here_of f.scope)) (calls_in program n)
-        (calls_keep [] n k) c_arith f.scope.structs.now f.scope.params l.body.now)
-        (λ k. part_kept (going [] k) (here_of f.scope) (is_going [] k (here_of f.scope)) (calls_in program n)
-        (calls_keep [] n k) c_arith f.scope.structs.now f.scope.params (option_copied l.next)) tt s
-        ∙ assoc (cond_evaluated s) (λ v s. choose v (leave Next tt s) (leave Break tt s))
+        loop_is program n f l s
+        ∙ then_then (cond_evaluated s) (λ v s. choose v (leave Next tt s) (leave Break tt s))
         (λ left s. take (in_loop left.exit) (rest_of_round n) left.carried s)
-        ∙ then_same (cond_evaluated s) (λ v s. follow in_loop (choose v (leave Next tt s) (leave Break tt s))
-        (rest_of_round n)) (λ v s. tested n (is_true v) s) (λ v s. by_truth n (is_true v) s)
+        ∙ (λ i. and_then (cond_evaluated s) (λ v s. by_truth n (is_true v) s i))
 
 module _ (program : ProgramTree) (before : Seen) (work : List Work) (f : Frame) where
   pub steps_as : (p q : Acting) (step : Step) (after : Seen) (later : List Work) (g : Frame) →

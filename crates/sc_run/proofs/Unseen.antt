@@ -61,24 +61,9 @@ place_same bs (Ptr p) (Ptr q) = λ i.
 
 between_same : (bs : Blocks) (o : BinaryOp) (cells : ℕ) (v w : Value) →
     between (blank bs) o cells v w ≡ between bs o cells v w
-between_same bs op.Sub cells v w = refl
 between_same bs op.Equal cells v w = ap (λ r. bind r (λ b. Ok (of_bool b))) (place_same bs v w)
 between_same bs op.NotEqual cells v w = ap (λ r. bind r (λ b. Ok (of_bool (not b)))) (place_same bs v w)
-between_same bs op.OrElse cells v w = refl
-between_same bs op.AndAlso cells v w = refl
-between_same bs op.BitOr cells v w = refl
-between_same bs op.BitXor cells v w = refl
-between_same bs op.BitAnd cells v w = refl
-between_same bs op.Less cells v w = refl
-between_same bs op.Greater cells v w = refl
-between_same bs op.LessEqual cells v w = refl
-between_same bs op.GreaterEqual cells v w = refl
-between_same bs op.ShiftLeft cells v w = refl
-between_same bs op.ShiftRight cells v w = refl
-between_same bs op.Add cells v w = refl
-between_same bs op.Mul cells v w = refl
-between_same bs op.Div cells v w = refl
-between_same bs op.Rem cells v w = refl
+between_same bs o cells v w = refl
 
 wanted_same : (ty : Ty) (q : Value) → WaySame (wanted ty q)
 wanted_same ty q want.Place bs = refl
@@ -94,23 +79,7 @@ module _ (structs : List TypedStruct) where
   pointer_same : (bs : Blocks) (o : BinaryOp) (l r : Ty) (v w : Value) →
       at_pointer structs (blank bs) o l r v w ≡ at_pointer structs bs o l r v w
   pointer_same bs op.Sub l r v w = back_same bs _ _ v w
-  pointer_same bs op.OrElse l r v w = on_same bs _ _ v w
-  pointer_same bs op.AndAlso l r v w = on_same bs _ _ v w
-  pointer_same bs op.BitOr l r v w = on_same bs _ _ v w
-  pointer_same bs op.BitXor l r v w = on_same bs _ _ v w
-  pointer_same bs op.BitAnd l r v w = on_same bs _ _ v w
-  pointer_same bs op.Equal l r v w = on_same bs _ _ v w
-  pointer_same bs op.NotEqual l r v w = on_same bs _ _ v w
-  pointer_same bs op.Less l r v w = on_same bs _ _ v w
-  pointer_same bs op.Greater l r v w = on_same bs _ _ v w
-  pointer_same bs op.LessEqual l r v w = on_same bs _ _ v w
-  pointer_same bs op.GreaterEqual l r v w = on_same bs _ _ v w
-  pointer_same bs op.ShiftLeft l r v w = on_same bs _ _ v w
-  pointer_same bs op.ShiftRight l r v w = on_same bs _ _ v w
-  pointer_same bs op.Add l r v w = on_same bs _ _ v w
-  pointer_same bs op.Mul l r v w = on_same bs _ _ v w
-  pointer_same bs op.Div l r v w = on_same bs _ _ v w
-  pointer_same bs op.Rem l r v w = on_same bs _ _ v w
+  pointer_same bs o l r v w = on_same bs _ _ v w
 
   applied_same : (bs : Blocks) (o : BinaryOp) (l r : Ty) (v w : Value) →
       applied c_arith structs (blank bs) o l r v w ≡ applied c_arith structs bs o l r v w
@@ -132,22 +101,7 @@ module _ (structs : List TypedStruct) where
       bind (h want.Value bs i) (λ v. choose v (bind (k want.Value bs i) (λ w. Ok (of_bool (is_true w)))) (Ok (Word 0)))
   binary_same op.OrElse a b h k bs = λ i.
       bind (h want.Value bs i) (λ v. choose v (Ok (Word 1)) (bind (k want.Value bs i) (λ w. Ok (of_bool (is_true w)))))
-  binary_same op.BitOr a b h k bs = both_same op.BitOr a b h k bs
-  binary_same op.BitXor a b h k bs = both_same op.BitXor a b h k bs
-  binary_same op.BitAnd a b h k bs = both_same op.BitAnd a b h k bs
-  binary_same op.Equal a b h k bs = both_same op.Equal a b h k bs
-  binary_same op.NotEqual a b h k bs = both_same op.NotEqual a b h k bs
-  binary_same op.Less a b h k bs = both_same op.Less a b h k bs
-  binary_same op.Greater a b h k bs = both_same op.Greater a b h k bs
-  binary_same op.LessEqual a b h k bs = both_same op.LessEqual a b h k bs
-  binary_same op.GreaterEqual a b h k bs = both_same op.GreaterEqual a b h k bs
-  binary_same op.ShiftLeft a b h k bs = both_same op.ShiftLeft a b h k bs
-  binary_same op.ShiftRight a b h k bs = both_same op.ShiftRight a b h k bs
-  binary_same op.Add a b h k bs = both_same op.Add a b h k bs
-  binary_same op.Sub a b h k bs = both_same op.Sub a b h k bs
-  binary_same op.Mul a b h k bs = both_same op.Mul a b h k bs
-  binary_same op.Div a b h k bs = both_same op.Div a b h k bs
-  binary_same op.Rem a b h k bs = both_same op.Rem a b h k bs
+  binary_same o a b h k bs = both_same o a b h k bs
 
   module _ (here : Here) (params : ℕ) where
     abbrev meant_by : TypedExpr → Meant
