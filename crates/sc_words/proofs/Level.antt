@@ -105,6 +105,20 @@ module _ (title : Text) (form : Form) where
   Agrees k now None = k ≡ [] → ⊥
   Agrees k now (Some all) = (k ≡ []) × (now ≡ final form all)
 
+  -- a walk over words goes as the definition says
+  abbrev GoesAs : Walk → List Text → Option (List Setting) → Type 0
+  GoesAs w words = Agrees (faults w words) (ends w words)
+
+  -- a word, and then the others
+  goes_on : (w next : Walk) (word : Text) (words : List Text) (k : Kinds) (o : Option (List Setting)) →
+      turn_fault s [] w word ≡ k → walked rs [] w word ≡ next → Agrees (or_else k (faults next words)) (ends next words) o
+      → GoesAs w (word ∷ words) o
+  goes_on w next word words k o turns walks agrees =
+      subst (λ k. Agrees k (ends w (word ∷ words)) o)
+      (sym (faults_next w word words ∙ ap₂ (λ k w. or_else k (faults w words)) turns walks))
+      (subst (λ rows. Agrees (or_else k (faults next words)) rows o)
+      (sym (ends_next w word words ∙ ap (λ w. ends w words) walks)) agrees)
+
   accepted_more : (before : List Setting) (name value : Text) (behind : Option (List Setting))
       → accepted before (more name value behind) ≡ accepted (before ++ (name, value) ∷ []) behind
   accepted_more before name value None = refl
@@ -120,7 +134,7 @@ module _ (title : Text) (form : Form) where
   abbrev IdleAgrees : List Text → Type 0
   IdleAgrees words = (h : Held) (before : List Setting) → settle_fault rs false h ≡ [] →
       (settled rs h).rows ≡ rows form before → each_once before ≡ true
-      → Agrees (faults (at idle h) words) (ends (at idle h) words) (accepted before (settings form None words))
+      → GoesAs (at idle h) words (accepted before (settings form None words))
 
   abbrev IdleFails : List Text → Type 0
   IdleFails words = (h : Held) → (settle_fault rs false h ≡ [] → ⊥) → faults (at idle h) words ≡ [] → ⊥
@@ -128,13 +142,14 @@ module _ (title : Text) (form : Form) where
   abbrev holding : Text → List Text → List Row → ℕ → Held
   holding name values now skip = record { rows = now; pending = Some (name, values); skip = skip }
 
+  abbrev waiting_for : Text → List Row → ℕ → Walk
+  waiting_for name now skip = at (option name) (holding name [] now skip)
+
   abbrev WaitingAgrees : List Text → Type 0
   WaitingAgrees words = (name : Text) (now : List Row) (skip : ℕ) (before : List Setting) → has_value form name ≡ true →
       now ≡ rows form before
       → each_once before ≡ true
-      → Agrees (faults (at (option name) (holding name [] now skip)) words)
-      (ends (at (option name) (holding name [] now skip)) words)
-      (accepted before (settings form (Some name) words))
+      → GoesAs (waiting_for name now skip) words (accepted before (settings form (Some name) words))
 
   idle_ends : IdleAgrees []
   unfolding faults ends settings walk_fault
@@ -226,21 +241,17 @@ module _ (title : Text) (form : Form) where
       → (has_option name before ≡ true → k ≡ [] → ⊥) → (has_option name before ≡ false → k ≡ []) →
       each_once before ≡ true
       → (has_option name before ≡ false → each_once (before ++ (name, value) ∷ []) ≡ true
-      → Agrees (faults (at idle h) words) (ends (at idle h) words) (accepted (before ++ (name, value) ∷ []) behind))
-      → Agrees (or_else k (faults (at idle h) words)) (ends (at idle h) words)
-      (accepted before (more name value behind))
+      → GoesAs (at idle h) words (accepted (before ++ (name, value) ∷ []) behind))
+      → Agrees (or_else k (faults (at idle h) words)) (ends (at idle h) words) (accepted before (more name value behind))
   one_more h before name value words k behind again new once later = go (has_option name before) refl
     where
-      go : (b : Bool) → has_option name before ≡ b
-          → Agrees (or_else k (faults (at idle h) words)) (ends (at idle h) words)
-          (accepted before (more name value behind))
+      go : (b : Bool) → has_option name before ≡ b → Agrees (or_else k (faults (at idle h) words))
+          (ends (at idle h) words) (accepted before (more name value behind))
       go true e = subst (Agrees _ _) (sym (accepted_again before name value behind e)) (first_fails k _ (again e))
       go false e =
-          let here = later e (once_more before name value once e) in
-          let there = subst (Agrees (faults (at idle h) words) (ends (at idle h) words))
-          (sym (accepted_more before name value behind)) here in
           subst (λ x. Agrees (or_else x (faults (at idle h) words)) (ends (at idle h) words)
-          (accepted before (more name value behind))) (sym (new e)) there
+          (accepted before (more name value behind))) (sym (new e)) (subst (GoesAs (at idle h) words)
+          (sym (accepted_more before name value behind)) (later e (once_more before name value once e)))
 
   module _ (h : Held) (before : List Setting) (word name : Text) (words : List Text)
       (settles : settle_fault rs false h ≡ [])
@@ -317,9 +328,7 @@ module _ (title : Text) (form : Form) where
       → IdleAgrees words → WaitingAgrees words → IdleAgrees (word ∷ words)
   unfolding settings
   idle_next word words bare all idles waits h before settles now once =
-      by_hyphens (λ w. Agrees (faults (at idle h) (w ∷ words)) (ends (at idle h) (w ∷ words))
-      (accepted before (named_option form (named w) (λ waiting. settings form waiting words))))
-      plain long word bare
+      by_hyphens (λ w. GoesAs (at idle h) (w ∷ words) (given (named w))) plain long word bare
     where
       no_name : (w : Text) → begins_with_hyphen w ≡ false → named w ≡ None
       no_name [] e = refl
@@ -329,35 +338,20 @@ module _ (title : Text) (form : Form) where
           go true is = absurd (true≢false (rw is at e))
           go false is = rw is refl
 
-      plain : (w : Text) → begins_with_hyphen w ≡ false
-          → Agrees (faults (at idle h) (w ∷ words)) (ends (at idle h) (w ∷ words))
-          (accepted before (named_option form (named w) (λ waiting. settings form waiting words)))
+      given : Option (Text × Option Text) → Option (List Setting)
+      given name = accepted before (named_option form name (λ waiting. settings form waiting words))
+
+      plain : (w : Text) → begins_with_hyphen w ≡ false → GoesAs (at idle h) (w ∷ words) (given (named w))
       plain w e =
-          subst (λ o. Agrees (faults (at idle h) (w ∷ words)) (ends (at idle h) (w ∷ words))
-          (accepted before (named_option form o (λ waiting. settings form waiting words))))
-          (sym (no_name w e))
+          subst (λ o. GoesAs (at idle h) (w ∷ words) (given o)) (sym (no_name w e))
           (stops (at idle h) w words (λ none. not_empty _ _ (sym (idle_plain h w e) ∙ none)))
 
-      long : (x : ℕ) (xs : Text)
-          → Agrees (faults (at idle h) ((45 ∷ 45 ∷ x ∷ xs) ∷ words)) (ends (at idle h) ((45 ∷ 45 ∷ x ∷ xs) ∷ words))
-          (accepted before (named_option form (named (45 ∷ 45 ∷ x ∷ xs)) (λ waiting. settings form waiting words)))
+      long : (x : ℕ) (xs : Text) →
+          GoesAs (at idle h) ((45 ∷ 45 ∷ x ∷ xs) ∷ words) (given (named (45 ∷ 45 ∷ x ∷ xs)))
       long x xs =
-          let word : Text = 45 ∷ 45 ∷ x ∷ xs in
-          let name : Text = (name_and_value (x ∷ xs)).0 in
-          let v : Option Text = (name_and_value (x ∷ xs)).1 in
-          let o : Option (List Setting) = accepted before
-          (named_option form (Some (name_and_value (x ∷ xs))) (λ waiting. settings form waiting words)) in
-          let next : Walk = after_step rs word (at idle h) (step_by idle word (lookup form name) v h).0
-          (step_by idle word (lookup form name) v h).1 in
-          let fault : Kinds = fault_by idle word (lookup form name) v h in
-          let faults_are : faults (at idle h) (word ∷ words) ≡ or_else fault (faults next words)
-          = faults_next (at idle h) word words ∙ ap₂ (λ k w. or_else k (faults w words)) (idle_long h x xs)
-          (idle_walks h x xs) in
-          let ends_are : ends (at idle h) (word ∷ words) ≡ ends next words
-          = ends_next (at idle h) word words ∙ ap (λ w. ends w words) (idle_walks h x xs) in
-          subst (λ k. Agrees k (ends (at idle h) (word ∷ words)) o) (sym faults_are)
-          (subst (λ rows. Agrees (or_else fault (faults next words)) rows o) (sym ends_are)
-          (long_agrees h before word name words settles now once idles waits v))
+          goes_on (at idle h) _ (45 ∷ 45 ∷ x ∷ xs) words _ _ (idle_long h x xs) (idle_walks h x xs)
+          (long_agrees h before (45 ∷ 45 ∷ x ∷ xs) (name_and_value (x ∷ xs)).0 words settles now once idles waits
+          (name_and_value (x ∷ xs)).1)
 
   -- ---- a word where an option waits
 
@@ -378,23 +372,23 @@ module _ (title : Text) (form : Form) where
     rows_held word = ap (λ a. used_by_id a (word ∷ []) now) found_by_id.1
 
     passes_plain : (word : Text) → begins_with_hyphen word ≡ false →
-        turn_fault s [] (at (option name) (holding name [] now skip)) word ≡ []
+        turn_fault s [] (waiting_for name now skip) word ≡ []
     passes_plain [] e = refl
     passes_plain (x ∷ xs) e = go (x == 45) refl
       where
-        go : (b : Bool) → (x == 45) ≡ b → turn_fault s [] (at (option name) (holding name [] now skip)) (x ∷ xs) ≡ []
+        go : (b : Bool) → (x == 45) ≡ b → turn_fault s [] (waiting_for name now skip) (x ∷ xs) ≡ []
         go true is = absurd (true≢false (rw is at e))
         go false is =
             let short : short_of (x ∷ xs) ≡ None = rw is refl in
             rw (is, short) refl
 
     takes_plain : (word : Text) → begins_with_hyphen word ≡ false
-        → walked rs [] (at (option name) (holding name [] now skip)) word ≡ at idle (holding name (word ∷ []) now skip)
+        → walked rs [] (waiting_for name now skip) word ≡ at idle (holding name (word ∷ []) now skip)
     unfolding walked
     takes_plain [] e = rw (found_by_id.1, bytes_eq_self name) refl
     takes_plain (x ∷ xs) e = go (x == 45) refl
       where
-        go : (b : Bool) → (x == 45) ≡ b → walked rs [] (at (option name) (holding name [] now skip)) (x ∷ xs) ≡
+        go : (b : Bool) → (x == 45) ≡ b → walked rs [] (waiting_for name now skip) (x ∷ xs) ≡
             at idle (holding name ((x ∷ xs) ∷ []) now skip)
         go true is = absurd (true≢false (rw is at e))
         go false is =
@@ -410,69 +404,49 @@ module _ (title : Text) (form : Form) where
       → IdleAgrees words → WaitingAgrees (word ∷ words)
   unfolding settings
   waiting_next word words bare all idles name now skip before has is once =
-      by_hyphens (λ w. Agrees (faults (at (option name) (holding name [] now skip)) (w ∷ words))
-      (ends (at (option name) (holding name [] now skip)) (w ∷ words))
-      (accepted before (cond (begins_with_hyphen w) None (more name w (settings form None words)))))
-      plain long word bare
+      by_hyphens (λ w. GoesAs (waiting_for name now skip) (w ∷ words) (given w (begins_with_hyphen w))) plain long word
+      bare
     where
-      rule : Rule
-      rule = ready_valued (found_by_id name now skip has).0 name
+      r : Bool
+      r = (found_by_id name now skip has).0
+
+      taken : Text → Option (List Setting)
+      taken w = more name w (settings form None words)
+
+      given : Text → Bool → Option (List Setting)
+      given w hyphen = accepted before (cond hyphen None (taken w))
 
       has_now : has_row name now ≡ has_option name before
       has_now = ap (has_row name) is ∙ has_row_rows form name before
 
-      plain : (w : Text) → begins_with_hyphen w ≡ false
-          → Agrees (faults (at (option name) (holding name [] now skip)) (w ∷ words))
-          (ends (at (option name) (holding name [] now skip)) (w ∷ words))
-          (accepted before (cond (begins_with_hyphen w) None (more name w (settings form None words))))
-      plain w e =
-          let next : Held = holding name (w ∷ []) now skip in
-          let o : Option (List Setting) = accepted before
-          (cond (begins_with_hyphen w) None (more name w (settings form None words))) in
-          let faults_are : faults (at (option name) (holding name [] now skip)) (w ∷ words) ≡
-          faults (at idle next) words
-          = faults_next (at (option name) (holding name [] now skip)) w words
-          ∙ ap₂ (λ k x. or_else k (faults x words)) (passes_plain name now skip has w e)
-          (takes_plain name now skip has w e) in
-          let ends_are : ends (at (option name) (holding name [] now skip)) (w ∷ words) ≡ ends (at idle next) words
-          = ends_next (at (option name) (holding name [] now skip)) w words ∙
-          ap (λ x. ends x words) (takes_plain name now skip has w e) in
-          subst (λ k. Agrees k (ends (at (option name) (holding name [] now skip)) (w ∷ words)) o) (sym faults_are)
-          (subst (λ rows. Agrees (faults (at idle next) words) rows o) (sym ends_are)
-          (subst (λ b. Agrees (faults (at idle next) words) (ends (at idle next) words)
-          (accepted before (cond b None (more name w (settings form None words))))) (sym e)
-          (value_taken w (has_option name before) refl)))
-        where
-          value_taken : (w : Text) (b : Bool) → has_option name before ≡ b
-              → Agrees (faults (at idle (holding name (w ∷ []) now skip)) words)
-              (ends (at idle (holding name (w ∷ []) now skip)) words)
-              (accepted before (more name w (settings form None words)))
-          value_taken w true some =
-              subst (Agrees (faults (at idle (holding name (w ∷ []) now skip)) words)
-              (ends (at idle (holding name (w ∷ []) now skip)) words))
-              (sym (accepted_again before name w (settings form None words) some))
-              (idle_fails words all (holding name (w ∷ []) now skip)
-              (λ none. again_valued (found_by_id name now skip has).0 name w now (has_now ∙ some)
-              (sym (fault_held name now skip has w) ∙ none)))
-          value_taken w false none =
-              subst (Agrees (faults (at idle (holding name (w ∷ []) now skip)) words)
-              (ends (at idle (holding name (w ∷ []) now skip)) words))
-              (sym (accepted_more before name w (settings form None words)))
-              (idles (holding name (w ∷ []) now skip) (before ++ (name, w) ∷ [])
-              (fault_held name now skip has w ∙ new_valued (found_by_id name now skip has).0 name w now
-              (has_now ∙ none))
-              (rows_held name now skip has w ∙ (used_valued (found_by_id name now skip has).0 name w now
-              (has_now ∙ none)
-              ∙ (ap₂ (λ x y. x ++ y ∷ []) is (sym (valued_row name w has)) ∙ rows_more before (name, w))))
-              (once_more before name w once none))
+      value_taken : (w : Text) (b : Bool) → has_option name before ≡ b
+          → GoesAs (at idle (holding name (w ∷ []) now skip)) words (accepted before (taken w))
+      value_taken w true some =
+          subst (GoesAs (at idle (holding name (w ∷ []) now skip)) words)
+          (sym (accepted_again before name w (settings form None words) some))
+          (idle_fails words all (holding name (w ∷ []) now skip)
+          (λ none. again_valued r name w now (has_now ∙ some) (sym (fault_held name now skip has w) ∙ none)))
+      value_taken w false none =
+          subst (GoesAs (at idle (holding name (w ∷ []) now skip)) words)
+          (sym (accepted_more before name w (settings form None words)))
+          (idles (holding name (w ∷ []) now skip) (before ++ (name, w) ∷ [])
+          (fault_held name now skip has w ∙ new_valued r name w now (has_now ∙ none))
+          (rows_held name now skip has w ∙ (used_valued r name w now (has_now ∙ none)
+          ∙ (ap₂ (λ x y. x ++ y ∷ []) is (sym (valued_row name w has)) ∙ rows_more before (name, w))))
+          (once_more before name w once none))
 
-      long : (x : ℕ) (xs : Text)
-          → Agrees (faults (at (option name) (holding name [] now skip)) ((45 ∷ 45 ∷ x ∷ xs) ∷ words))
-          (ends (at (option name) (holding name [] now skip)) ((45 ∷ 45 ∷ x ∷ xs) ∷ words))
-          (accepted before (cond (begins_with_hyphen (45 ∷ 45 ∷ x ∷ xs)) None
-          (more name (45 ∷ 45 ∷ x ∷ xs) (settings form None words))))
+      plain : (w : Text) → begins_with_hyphen w ≡ false →
+          GoesAs (waiting_for name now skip) (w ∷ words) (given w (begins_with_hyphen w))
+      plain w e =
+          goes_on (waiting_for name now skip) (at idle (holding name (w ∷ []) now skip)) w words [] _
+          (passes_plain name now skip has w e) (takes_plain name now skip has w e)
+          (subst (λ b. GoesAs (at idle (holding name (w ∷ []) now skip)) words (given w b)) (sym e)
+          (value_taken w (has_option name before) refl))
+
+      long : (x : ℕ) (xs : Text) → GoesAs (waiting_for name now skip) ((45 ∷ 45 ∷ x ∷ xs) ∷ words)
+          (given (45 ∷ 45 ∷ x ∷ xs) (begins_with_hyphen (45 ∷ 45 ∷ x ∷ xs)))
       long x xs =
-          stops (at (option name) (holding name [] now skip)) (45 ∷ 45 ∷ x ∷ xs) words
+          stops (waiting_for name now skip) (45 ∷ 45 ∷ x ∷ xs) words
           (λ none. long_fails (option name) (45 ∷ 45 ∷ x ∷ xs) (name_and_value (x ∷ xs)).0 (name_and_value (x ∷ xs)).1
           (holding name [] now skip)
           (no_value name now skip has) (sym (waiting_long name (holding name [] now skip) x xs) ∙ none))

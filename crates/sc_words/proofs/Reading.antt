@@ -1,5 +1,5 @@
 -- The command that a parse which succeeds comes to.
-use Rattle.std.proofs.Common.{◌≡◌, ◌∙◌, Bool, true, false, refl, sym, ap, subst, List, [], Option, Some, None, true≢false, codes}
+use Rattle.std.proofs.Common.{◌≡◌, ◌∙◌, Bool, true, false, refl, sym, ap, subst, List, [], Option, Some, None, codes}
 use Rattle.std.specs.Prelude.{Box, option_and_then, option_map}
 use Rattle.std.specs.Str.{bytes_eq}
 use Rattle.clap.specs.Walk.{Row, first_of, one_of}
@@ -17,10 +17,11 @@ use Rattle.clap.specs.declared.parser.matches.Found.{Found}
 use Rattle.clap.specs.declared.parser.matches.SubCommand.{SubCommand}
 use Rattle.clap.proofs.WalkLemmas.{first_value-rows, one_text-rows}
 use Rattle.sc_words.specs.Application.{IsReading, Tells, application, flag_text}
-use Rattle.sc_words.specs.Options.{Form, Setting, Text, has_option, is_bare, value_of}
-use Rattle.sc_words.specs.Words.{Values, command, parsed, command_with, commands, events, form_of, inputs, limit, make, meaning, run, text_to_show}
+use Rattle.sc_words.specs.Options.{Form, Setting, Text, has_option, has_value, is_among, is_bare, value_of}
+use Rattle.sc_words.specs.Words.{Values, command, parsed, command_with, commands, events, form_of, inputs, limit, make, make_form, meaning, run, text_to_show}
 use Rattle.sc_words.specs.Numbers.{number_within}
 use Rattle.sc_words.specs.declared.command.Command.TheVariants.{Meaning, Run, Exec, Explain, Make}
+use Rattle.sc_base.proofs.Texts.{same_text}
 use Rattle.sc_words.proofs.Bare.{by_command, none_bare}
 use Rattle.sc_words.proofs.Top.{Reads, has_matches, words_agree}
 
@@ -49,71 +50,39 @@ abbrev Same : Text → Form → Type 0
 Same name form = (settings : List Setting) (rows : List Row) (summary : Bool) → Tells form settings rows
     → command_with name (λ n. first_of n rows) summary ≡ command_with name (λ n. value_of n settings) summary
 
+-- a command with the options of `run`
+runs_same : (form : Form) (settings : List Setting) (rows : List Row) → Tells form settings rows →
+    has_value form (codes "steps") ≡ true → has_value form (codes "events") ≡ true → has_value form (codes "in") ≡ true →
+    form.alone ≡ [] → run (λ n. first_of n rows) ≡ run (λ n. value_of n settings)
+runs_same form settings rows tells steps events inputs none =
+    run_same (λ n. first_of n rows) (λ n. value_of n settings) (given (codes "steps") steps)
+    (given (codes "events") events) (given (codes "in") inputs) where
+      given : (name : Text) → has_value form name ≡ true → first_of name rows ≡ value_of name settings
+      given name has = tells.values name has (ap (λ alone. is_among alone name) none)
+
 pub values_same : (name : Text) (form : Form) → form_of name ≡ Some form → Same name form
-values_same = by_command Same commands (
-  (λ settings rows summary tells. refl),
-  (
-    (λ settings rows summary tells. ap (option_map Meaning)
-        (meaning_same (λ n. first_of n rows) (λ n. value_of n settings) (tells.values (codes "turns") refl refl)
-        (tells.values (codes "events") refl refl)
-        (tells.values (codes "in") refl refl))),
-    (
-      (λ settings rows summary tells. refl),
-      (
-        (λ settings rows summary tells. ap (option_map Run)
-            (run_same (λ n. first_of n rows) (λ n. value_of n settings) (tells.values (codes "steps") refl refl)
-            (tells.values (codes "events") refl refl)
-            (tells.values (codes "in") refl refl))),
-        (
-          (λ settings rows summary tells. ap (option_map Exec)
-              (run_same (λ n. first_of n rows) (λ n. value_of n settings) (tells.values (codes "steps") refl refl)
-              (tells.values (codes "events") refl refl)
-              (tells.values (codes "in") refl refl))),
-          (
-            (λ settings rows summary tells. λ i. option_and_then
-                (λ options. option_map (λ show. Explain options show)
-                (text_to_show (tells.values (codes "show") refl refl i)))
-                (run_same (λ n. first_of n rows) (λ n. value_of n settings) (tells.values (codes "steps") refl refl)
-                (tells.values (codes "events") refl refl)
-                (tells.values (codes "in") refl refl) i)),
-            (
-              (λ settings rows summary tells. ap (option_map Make)
-                  (make_same (λ n. first_of n rows) (λ n. value_of n settings) summary
-                  (tells.values (codes "size") refl refl) (tells.values (codes "seed") refl refl))),
-              tt,
-            ),
-          ),
-        ),
-      ),
-    ),
-  ),
-)
+values_same = by_command Same commands
+    ((λ settings rows summary tells. refl),
+    ((λ settings rows summary tells. ap (option_map Meaning)
+    (meaning_same (λ n. first_of n rows) (λ n. value_of n settings) (tells.values (codes "turns") refl refl)
+    (tells.values (codes "events") refl refl) (tells.values (codes "in") refl refl))),
+    ((λ settings rows summary tells. refl),
+    ((λ settings rows summary tells. ap (option_map Run) (runs_same _ settings rows tells refl refl refl refl)),
+    ((λ settings rows summary tells. ap (option_map Exec) (runs_same _ settings rows tells refl refl refl refl)),
+    ((λ settings rows summary tells i. option_and_then (λ options. option_map (λ show. Explain options show)
+    (text_to_show (tells.values (codes "show") refl refl i))) (runs_same _ settings rows tells refl refl refl refl i)),
+    ((λ settings rows summary tells. ap (option_map Make)
+    (make_same (λ n. first_of n rows) (λ n. value_of n settings) summary (tells.values (codes "size") refl refl)
+    (tells.values (codes "seed") refl refl))),
+    tt)))))))
 
-abbrev Summary : Text → Form → Type 0
-Summary name form = (settings : List Setting) (rows : List Row) → Tells form settings rows →
-    bytes_eq name (codes "make") ≡ true
-    → one_of (codes "summary") rows ≡ Some (flag_text (has_option (codes "summary") settings))
-
-pub summary_same : (name : Text) (form : Form) → form_of name ≡ Some form → Summary name form
-summary_same = by_command Summary commands (
-  (λ settings rows tells e. absurd (true≢false (sym e))),
-  (
-    (λ settings rows tells e. absurd (true≢false (sym e))),
-    (
-      (λ settings rows tells e. absurd (true≢false (sym e))),
-      (
-        (λ settings rows tells e. absurd (true≢false (sym e))),
-        (
-          (λ settings rows tells e. absurd (true≢false (sym e))),
-          (
-            (λ settings rows tells e. absurd (true≢false (sym e))),
-            ((λ settings rows tells e. tells.alone (codes "summary") refl refl), tt),
-          ),
-        ),
-      ),
-    ),
-  ),
-)
+pub summary_same : (name : Text) (form : Form) (settings : List Setting) (rows : List Row) → form_of name ≡ Some form →
+    Tells form settings rows → bytes_eq name (codes "make") ≡ true →
+    one_of (codes "summary") rows ≡ Some (flag_text (has_option (codes "summary") settings))
+summary_same name form settings rows has tells make =
+    let found : Some make_form ≡ Some form = ap form_of (sym (same_text name (codes "make") make)) ∙ has in
+    let same : form ≡ make_form = cc in
+    (subst (λ f. Tells f settings rows) same tells).alone (codes "summary") refl refl
 
 -- ---- what the parse gives
 
@@ -170,7 +139,7 @@ unfolding command
 commanded words m name f r named rowed = record {
   summary = has_option (codes "summary") r.read.1;
   flag = λ make. one_text-rows f (codes "summary") ∙ (ap (one_of (codes "summary")) rows_are
-      ∙ summary_same r.read.0 r.form r.has r.read.1 r.rows r.tells
+      ∙ summary_same r.read.0 r.form r.read.1 r.rows r.has r.tells
       (ap (λ n. bytes_eq n (codes "make")) (sym name_is) ∙ make));
   is = ap (option_and_then (λ read. command_with read.0 (λ name. value_of name read.1)
       (has_option (codes "summary") read.1))) r.is
