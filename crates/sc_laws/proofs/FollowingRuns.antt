@@ -2,7 +2,7 @@
 use Rattle.std.proofs.Common.{◌≡◌, ℕ, zero, suc, ◌<◌, ◌≤◌, List, [], ◌∷◌, ◌++◌, length, take, Option, Some, None, refl, sym, ap, ◌∙◌, subst, arith, inl, inr, length-append, ◌+◌}
 use Rattle.std.specs.Prelude.{Bool, true, false, if◌then◌else◌, ◌==◌, ◌||◌}
 use Rattle.std.proofs.lemmas.Bool.{eqb-true, leb-false, lt-leb}
-use Rattle.std.proofs.lemmas.List.{append-nil}
+use Rattle.std.proofs.lemmas.List.{append-nil, take_all}
 use Rattle.sc_event.specs.declared.event.Event.{Event}
 use Rattle.sc_event.specs.declared.event.Event.TheVariants as event
 use Rattle.sc_event.specs.declared.row.Entry.TheVariants.{Main}
@@ -28,7 +28,7 @@ use Rattle.sc_laws.proofs.Growing.{front_same, front_more, BodyGoes, within_goes
 use Rattle.sc_laws.specs.Interactions.{Never, Obedient}
 use Rattle.sc_laws.proofs.Matching.{library_twins, scripted_goes_on, library_goes}
 use Rattle.sc_laws.proofs.Fixed.{scripted_fixed}
-use Rattle.sc_laws.proofs.Runs.{front_long, trace_is, take_fronts, take_all}
+use Rattle.sc_laws.proofs.Runs.{front_long, trace_is, take_fronts}
 use Rattle.sc_laws.proofs.Rows.{InLine, in_line_before, NextIs, over, next_told_is}
 use Rattle.sc_laws.proofs.Rows.{told as next_told}
 use Rattle.sc_laws.proofs.Following.{Abreast, KeepsUp, Keeping, Beyond, whole, follow_kept, follow_at, OneSided, Performs, Perform, left_goes, perform_kept, perform_at, MovesOrReturns, MovesOn, Agreed, IfBlamed, BeyondIn}

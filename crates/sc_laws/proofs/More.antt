@@ -2,7 +2,7 @@
 use Rattle.std.proofs.Common.{◌≡◌, ℕ, ◌+◌, ◌-◌, ◌<◌, ◌≤◌, List, length, take, refl, sym, ap, ◌∙◌, subst, arith, inl, inr}
 use Rattle.std.specs.Prelude.{Bool, true, false, if◌then◌else◌, nat_le}
 use Rattle.std.proofs.lemmas.Bool.{lt-ltb, le-leb, leb-true}
-use Rattle.std.proofs.lemmas.List.{take-append-le}
+use Rattle.std.proofs.lemmas.List.{take-append-le, take_all}
 use Rattle.sc_core.specs.declared.cause.Cause.{Cause}
 use Rattle.sc_core.specs.declared.program.ProgramTree.{ProgramTree}
 use Rattle.sc_core.specs.declared.run.RunEnd.{RunEnd}
@@ -26,7 +26,7 @@ use Rattle.sc_laws.proofs.Matching.{first_goes, second_goes, run_goes_on, script
 use Rattle.sc_laws.proofs.Programs.{program_matches}
 use Rattle.sc_laws.proofs.Below.{Passes}
 use Rattle.sc_laws.proofs.BelowCalls.{StepsBelow}
-use Rattle.sc_laws.proofs.Runs.{take_fronts, take_all, front_long, unreached, still_unreached, trace_is, RunsBelow, run_steps, scripted_steps, runs_below}
+use Rattle.sc_laws.proofs.Runs.{take_fronts, front_long, unreached, still_unreached, trace_is, RunsBelow, run_steps, scripted_steps, runs_below}
 use Rattle.sc_laws.proofs.Runs.{RunsBelow as goes}
 use Rattle.sc_laws.proofs.Rooms.{deepest_more}
 

@@ -24,6 +24,7 @@ use Rattle.sc_laws.proofs.Matching.{library_twins}
 use Rattle.sc_laws.proofs.Below.{richer, richer_piece, Passes, Below, along, passed, Ahead, below_kept, below_at}
 use Rattle.sc_laws.proofs.BelowCalls.{StepsBelow, LibrariesBelow, run_step_below, scripted_below, own_below, within_below}
 use Rattle.std.proofs.lemmas.Bool.{ltb-false, leb-false, le-ltb, lt-leb}
+use Rattle.std.proofs.lemmas.List.{take_all}
 
 -- LISTS
 take_front : {A : Type 0} (n m : ℕ) (xs more : List A) → n ≤ m → Front (take n xs) (take m (xs ++ more))
@@ -37,12 +38,6 @@ take_front (suc n) (suc m) (x ∷ xs) more le =
 pub take_fronts : {A : Type 0} (n m : ℕ) (xs ys : List A) → n ≤ m → Front xs ys → Front (take n xs) (take m ys)
 take_fronts n m xs ys le front =
     subst (λ z. Front (take n xs) (take m z)) (sym front.is) (take_front n m xs front.more le)
-
-pub take_all : {A : Type 0} (n : ℕ) (xs : List A) → length xs ≤ n → take n xs ≡ xs
-take_all zero [] le = refl
-take_all (suc n) [] le = refl
-take_all zero (x ∷ xs) le = absurd (omega (arith, le))
-take_all (suc n) (x ∷ xs) le = ap (λ ys. x ∷ ys) (take_all n xs (omega (arith, le)))
 
 pub front_long : {A : Type 0} (xs ys : List A) → Front xs ys → length xs ≤ length ys
 front_long xs ys front =
