@@ -1,7 +1,9 @@
 -- The arguments of a command as the parse reads them, and the argument of a name.
-use Rattle.std.proofs.Common.{◌≡◌, ◌∙◌, ℕ, Bool, cond, true, false, refl, sym, ap, List, [], ◌∷◌, ◌++◌, map, Option, Some, None, true≢false, codes}
+use Rattle.std.proofs.Common.{◌≡◌, ◌∙◌, ℕ, Bool, cond, true, false, refl, sym, ap, ap₂, List, [], ◌∷◌, ◌++◌, map, Option, Some, None, true≢false, codes}
 use Rattle.std.specs.Prelude.{◌||◌, ◌&&◌, not, if◌then◌else◌, find, is_some}
+use Rattle.std.specs.Option.{option_or}
 use Rattle.std.specs.Str.{bytes_eq}
+use Rattle.std.proofs.lemmas.List.Folds.{find-append}
 use Rattle.clap.specs.Simple.{Shape, new_shape}
 use Rattle.clap.specs.Walk.{Rule, arg_by_id, arg_by_index, arg_by_long, has_long}
 use Rattle.clap.specs.declared.builder.value_parser.ValueParser.TheVariants as vp
@@ -41,30 +43,17 @@ ready name form = record (new_shape name) {
   is_built = true;
 }
 
--- a search that goes by names finds the first rule of the name
+-- a search that goes by names finds the rule of the name
 pub found : (p : Rule → Bool) (rule : Text → Rule) (name : Text) → ((n : Text) → p (rule n) ≡ bytes_eq n name) →
-    (names : List Text) (rest : List Rule)
-    → is_among names name ≡ true → find p (map rule names ++ rest) ≡ Some (rule name)
-found p rule name same [] rest among = absurd (true≢false (sym among))
-found p rule name same (n ∷ names) rest among = go (bytes_eq n name) refl (found p rule name same names rest)
+    (names : List Text) → find p (map rule names) ≡ cond (is_among names name) (Some (rule name)) None
+found p rule name same [] = refl
+found p rule name same (n ∷ names) = go (bytes_eq n name) refl (found p rule name same names)
   where
-    go : (b : Bool) → bytes_eq n name ≡ b → (is_among names name ≡ true →
-        find p (map rule names ++ rest) ≡ Some (rule name))
-        → find p (rule n ∷ (map rule names ++ rest)) ≡ Some (rule name)
+    go : (b : Bool) → bytes_eq n name ≡ b → find p (map rule names) ≡
+        cond (is_among names name) (Some (rule name)) None → find p (map rule (n ∷ names)) ≡
+        cond (b || is_among names name) (Some (rule name)) None
     go true e later = rw (same n, e) (ap (λ t. Some (rule t)) (same_text n name e))
-    go false e later = rw (same n, e) (later (rw e at among))
-
-missed : (p : Rule → Bool) (rule : Text → Rule) (name : Text) → ((n : Text) → p (rule n) ≡ bytes_eq n name) →
-    (names : List Text) (rest : List Rule)
-    → is_among names name ≡ false → find p (map rule names ++ rest) ≡ find p rest
-missed p rule name same [] rest among = refl
-missed p rule name same (n ∷ names) rest among = go (bytes_eq n name) refl (missed p rule name same names rest)
-  where
-    go : (b : Bool) → bytes_eq n name ≡ b → (is_among names name ≡ false →
-        find p (map rule names ++ rest) ≡ find p rest)
-        → find p (rule n ∷ (map rule names ++ rest)) ≡ find p rest
-    go true e later = absurd (true≢false (rw e at among))
-    go false e later = rw (same n, e) (later (rw e at among))
+    go false e later = rw (same n, e) later
 
 -- no rule answers to a test that none passes
 none_found : (p : Rule → Bool) (rule : Text → Rule) → ((n : Text) → p (rule n) ≡ false) →
@@ -85,26 +74,23 @@ lookup form name =
 searched : (p : Rule → Bool) (form : Form) (name : Text) →
     ((r : Bool) (n : Text) → p (ready_valued r n) ≡ bytes_eq n name)
     → ((n : Text) → p (ready_alone n) ≡ bytes_eq n name) → find p (ready_rules form) ≡ lookup form name
-searched p form name valued alone = first (is_among form.needed name) refl
+searched p form name valued alone =
+    find-append p (map (ready_valued true) form.needed) _
+    ∙ ap₂ option_or (found p (ready_valued true) name (valued true) form.needed)
+    (find-append p (map (ready_valued false) form.valued) _
+    ∙ ap₂ option_or (found p (ready_valued false) name (valued false) form.valued)
+    (find-append p (map ready_alone form.alone) []
+    ∙ ap (λ o. option_or o None) (found p ready_alone name alone form.alone)))
+    ∙ first_of_three (ready_valued true name) (ready_valued false name) (ready_alone name) (is_among form.needed name)
+    (is_among form.valued name) (is_among form.alone name)
   where
-    third : (b : Bool) → is_among form.alone name ≡ b →
-        find p (map ready_alone form.alone ++ []) ≡ cond b (Some (ready_alone name)) None
-    third true e = found p ready_alone name alone form.alone [] e
-    third false e = missed p ready_alone name alone form.alone [] e
-
-    second : (b : Bool) → is_among form.valued name ≡ b →
-        find p (map (ready_valued false) form.valued ++ (map ready_alone form.alone ++ []))
-        ≡ cond b (Some (ready_valued false name)) (alone_or_none form name)
-    second true e = found p (ready_valued false) name (valued false) form.valued _ e
-    second false e = missed p (ready_valued false) name (valued false) form.valued _ e ∙
-        third (is_among form.alone name) refl
-
-    first : (b : Bool) → is_among form.needed name ≡ b → find p (ready_rules form)
-        ≡ cond b (Some (ready_valued true name)) (cond (is_among form.valued name) (Some (ready_valued false name))
-        (alone_or_none form name))
-    first true e = found p (ready_valued true) name (valued true) form.needed _ e
-    first false e = missed p (ready_valued true) name (valued true) form.needed _ e ∙
-        second (is_among form.valued name) refl
+    first_of_three : (x y z : Rule) (a b c : Bool) → option_or (cond a (Some x) None)
+        (option_or (cond b (Some y) None) (option_or (cond c (Some z) None) None))
+        ≡ cond a (Some x) (cond b (Some y) (cond c (Some z) None))
+    first_of_three x y z true b c = refl
+    first_of_three x y z false true c = refl
+    first_of_three x y z false false true = refl
+    first_of_three x y z false false false = refl
 
 pub by_long : (form : Form) (name : Text) → arg_by_long (ready_rules form) name ≡ lookup form name
 by_long form name = searched (λ a. not (is_some a.index) && has_long a name) form name

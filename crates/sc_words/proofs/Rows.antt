@@ -68,19 +68,20 @@ joined name change missing (r ∷ now) none = go (bytes_eq r.id name) refl (join
     go false e later = rw e (ap (λ rs. r ∷ rs) (later (rw e at none)))
 
 -- one use of an option
+joins : (name value : Text) (now : List Row) → has_row name now ≡ false → with_values name AsWritten CommandLine
+    (value ∷ []) (at_row name (λ _. []) [] now) ≡ now ++ plain_row name value ∷ []
+joins name value now none =
+    ap (λ rs. with_values name AsWritten CommandLine (value ∷ []) rs)
+    (joined name (λ _. []) [] now none ∙ append-nil now)
+    ∙ joined name (more_values CommandLine (value ∷ [])) (plain_row name value ∷ []) now none
+
 pub used_valued : (r : Bool) (name value : Text) (now : List Row) → has_row name now ≡ false
     → used (ready_valued r name) (value ∷ []) now ≡ now ++ plain_row name value ∷ []
-used_valued r name value now none =
-    let away : at_row name (λ _. []) [] now ≡ now = joined name (λ _. []) [] now none ∙ append-nil now in
-    ap (λ rs. with_values name AsWritten CommandLine (value ∷ []) rs) away
-    ∙ joined name (more_values CommandLine (value ∷ [])) (plain_row name value ∷ []) now none
+used_valued r name value now none = joins name value now none
 
 pub used_alone : (name : Text) (now : List Row) → has_row name now ≡ false →
     used (ready_alone name) [] now ≡ now ++ plain_row name (codes "true") ∷ []
-used_alone name now none =
-    let away : at_row name (λ _. []) [] now ≡ now = joined name (λ _. []) [] now none ∙ append-nil now in
-    ap (λ rs. with_values name AsWritten CommandLine (codes "true" ∷ []) rs) away
-    ∙ joined name (more_values CommandLine (codes "true" ∷ [])) (plain_row name (codes "true") ∷ []) now none
+used_alone name now none = joins name (codes "true") now none
 
 pub new_valued : (r : Bool) (name value : Text) (now : List Row) → has_row name now ≡ false →
     use_fault false (ready_valued r name) (value ∷ []) now ≡ []

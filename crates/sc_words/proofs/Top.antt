@@ -10,6 +10,9 @@ use Rattle.clap.specs.Lexer.{short_of}
 use Rattle.clap.specs.Simple.{App, Shape, built, entered, is_simple, label_of, names_of, new_shape, rows_at, subcommand_of}
 use Rattle.clap.specs.Walk.{Held, Names, Row, Step, Walk, after_step, answers_to, finished, idle, nothing_held, rows_after, settled, subcommand_met, subcommand_or_other, walk_from, walked}
 use Rattle.clap.proofs.FaultLemmas.{stopped_fault}
+use Rattle.clap.proofs.SimpleLemmas.{label_first}
+use Rattle.clap.proofs.WalkLemmas.{find-map}
+use Rattle.std.proofs.Math.Bool.{or-false}
 use Rattle.clap.specs.declared.error.kind.ErrorKind.TheVariants as kind
 use Rattle.sc_words.specs.Application.{Tells, application}
 use Rattle.sc_words.specs.Options.{Form, Setting, Text, begins_with_hyphen, is_bare, options}
@@ -53,36 +56,21 @@ has_matches = refl
 abbrev entry_of : Text → List (Text × Form) → Option (Text × Form)
 entry_of name = find (λ c. bytes_eq c.0 name)
 
-label_found : (cs : List (Text × Form)) (name : Text) →
-    find (answers_to name) (map label_of (shapes cs)) ≡ option_map (λ c. (c.0, [])) (entry_of name cs)
-label_found [] name = refl
-label_found (c ∷ cs) name = go (bytes_eq c.0 name) refl (label_found cs name)
-  where
-    go : (b : Bool) → bytes_eq c.0 name ≡ b → find (answers_to name) (map label_of (shapes cs)) ≡
-        option_map (λ c. (c.0, [])) (entry_of name cs)
-        → find (answers_to name) (map label_of (shapes (c ∷ cs))) ≡ option_map (λ c. (c.0, [])) (entry_of name (c ∷ cs))
-    go true e later = rw e refl
-    go false e later = rw e later
-
 shape_found : (cs : List (Text × Form)) (name : Text)
     → find (λ s. answers_to name (label_of s)) (shapes cs) ≡ option_map (λ c. ready c.0 c.1) (entry_of name cs)
-shape_found [] name = refl
-shape_found (c ∷ cs) name = go (bytes_eq c.0 name) refl (shape_found cs name)
-  where
-    go : (b : Bool) → bytes_eq c.0 name ≡ b → find (λ s. answers_to name (label_of s)) (shapes cs) ≡
-        option_map (λ c. ready c.0 c.1) (entry_of name cs)
-        → find (λ s. answers_to name (label_of s)) (shapes (c ∷ cs)) ≡
-        option_map (λ c. ready c.0 c.1) (entry_of name (c ∷ cs))
-    go true e later = rw e refl
-    go false e later = rw e later
+shape_found cs name =
+    sym (find-map (λ (s : Shape). answers_to name (label_of s)) (λ (c : Text × Form). ready c.0 c.1) cs)
+    ∙ ap (λ p. option_map (λ (c : Text × Form). ready c.0 c.1) (find p cs)) (λ i c. or-false (bytes_eq c.0 name) i)
 
 abbrev names : Names
 names = names_of app
 
 met_is : (name : Text) → subcommand_met names idle name ≡ option_map (λ c. c.0) (entry_of name commands)
-met_is name = ap (option_map (λ (s : Text × List Text). s.0)) (label_found commands name) ∙ go (entry_of name commands)
+met_is name =
+    sym (label_first name (shapes commands)) ∙ ap (option_map (λ (s : Shape). s.name)) (shape_found commands name)
+    ∙ go (entry_of name commands)
   where
-    go : (o : Option (Text × Form)) → option_map (λ (s : Text × List Text). s.0) (option_map (λ c. (c.0, [])) o) ≡
+    go : (o : Option (Text × Form)) → option_map (λ (s : Shape). s.name) (option_map (λ c. ready c.0 c.1) o) ≡
         option_map (λ c. c.0) o
     go None = refl
     go (Some c) = refl
