@@ -1,19 +1,17 @@
 -- Loops, and what waits behind statements.
 use Rattle.std.proofs.Common.{◌≡◌, refl, sym, ap, ◌∙◌, subst, ℕ, suc, ◌++◌, Bool, true, false, if◌then◌else◌, List, [], ◌∷◌, length, reverse, Ok, Err, arith}
-use denote.Bor.{Bor}
 use Rattle.sc_core.specs.declared.program.ProgramTree.{ProgramTree}
 use Rattle.sc_core.specs.declared.run.RunEnd.{RunEnd}
-use Rattle.sc_core.specs.declared.stmt.TypedStmt.{TypedStmt}
 use Rattle.sc_core.specs.declared.value.Value.{Value}
 use Rattle.sc_core.specs.declared.value.Want.TheVariants as want
 use Rattle.sc_core.specs.Value.{is_true}
-use Rattle.sc_core.specs.Words.{State, Piece, and_then, turn, Exit, Next, Break, Left, leave, in_order, in_loop, follow, take, choose}
+use Rattle.sc_core.specs.Words.{State, Piece, and_then, turn, Exit, Next, Break, Left, leave, in_loop, follow, take, choose}
 use Rattle.sc_core.specs.Tree.{Acts, evaluated}
 use Rattle.sc_value.specs.Where.{here_of}
 use Rattle.sc_run.specs.declared.work.Frame.{Frame}
 use Rattle.sc_run.specs.declared.work.Loop.{Loop}
 use Rattle.sc_run.specs.declared.work.Work.{Work}
-use Rattle.sc_run.specs.declared.work.Work.TheVariants.{Rest, First, Body as Body', Again}
+use Rattle.sc_run.specs.declared.work.Work.TheVariants.{Body as Body'}
 use Rattle.sc_run.specs.declared.work.Now.{Now}
 use Rattle.sc_run.specs.declared.work.Now.TheVariants.{Run as Run'}
 use Rattle.sc_run.specs.declared.work.Step.{Step}
@@ -169,40 +167,12 @@ module _ (program : ProgramTree) (before : Seen) (work earlier : List Work) (f :
   abbrev leaving : Exit → Acting
   leaving exit n s = leave exit tt s
 
-  pub rest_taken : (exit : Exit) (stmts : Bor (List TypedStmt)) → w ≡ Rest stmts →
-      Steps program before earlier f (λ n s. follow in_order (leave exit tt s)
-      (block_acts program n f stmts.now)) step after later g →
-      Steps program before work f (leaving exit) step after later g
-  rest_taken exit stmts is h =
-      steps_resume program before work f (Rest stmts) earlier (leaving exit)
-      (λ n s. follow in_order (leave exit tt s) (block_acts program n f stmts.now)) step after later g
-      (popped ∙ ap (λ x. earlier ++ x ∷ []) is) (λ n s. refl) h
-
-  pub first_taken : (exit : Exit) (l : Loop) → w ≡ First l →
-      Steps program before earlier f (λ n s. follow in_order (leave exit tt s)
-      (loop_acts program n f l)) step after later g → Steps program before work f (leaving exit) step after later g
-  first_taken exit l is h =
-      steps_resume program before work f (First l) earlier (leaving exit)
-      (λ n s. follow in_order (leave exit tt s) (loop_acts program n f l)) step after later g
-      (popped ∙ ap (λ x. earlier ++ x ∷ []) is) (λ n s. refl) h
-
-  pub again_taken : (exit : Exit) (l : Loop) → w ≡ Again l →
-      Steps program before earlier f (λ n s. follow in_loop (leave exit tt s)
-      (loop_acts program n f l)) step after later g → Steps program before work f (leaving exit) step after later g
-  again_taken exit l is h =
-      steps_resume program before work f (Again l) earlier (leaving exit)
-      (λ n s. follow in_loop (leave exit tt s) (loop_acts program n f l)) step after later g
-      (popped ∙ ap (λ x. earlier ++ x ∷ []) is) (λ n s. refl) h
-
-  pub body_taken : (exit : Exit) (l : Loop) → w ≡ Body' l →
-      Steps program before earlier f (λ n s. follow in_loop (leave exit tt s)
-      (λ a s. follow in_loop (next_acts program n f l a s) (loop_acts program n f l))) step after later g →
-      Steps program before work f (leaving exit) step after later g
-  body_taken exit l is h =
-      steps_resume program before work f (Body' l) earlier (leaving exit)
-      (λ n s. follow in_loop (leave exit tt s) (λ a s.
-      follow in_loop (next_acts program n f l a s) (loop_acts program n f l))) step after later g
-      (popped ∙ ap (λ x. earlier ++ x ∷ []) is) (λ n s. refl) h
+  pub taken : (exit : Exit) (x : Work) (p : Acting) → w ≡ x → Steps program before earlier f p step after later g →
+      ((n : ℕ) (s : State) → resume program n (x ∷ reverse earlier) f (leave exit tt s) ≡
+      resume program n (reverse earlier) f (p n s)) → Steps program before work f (leaving exit) step after later g
+  taken exit x p is h same =
+      steps_resume program before work f x earlier (leaving exit) p step after later g
+      (popped ∙ ap (λ y. earlier ++ y ∷ []) is) same h
 
   pub caller_taken : (p : Acting) (x : Work) → w ≡ x → Steps program before (earlier ++ x ∷ []) f p step after later g →
       Steps program before work f p step after later g

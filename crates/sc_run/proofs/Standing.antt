@@ -12,6 +12,7 @@ use Rattle.sc_run.specs.Seen.{Seen}
 use Rattle.sc_run.specs.Comes.{CameTo, Comes}
 use Rattle.sc_run.specs.declared.work.Step.TheVariants.{Stop}
 use Rattle.sc_run.specs.Resume.{resume, Standing, Steps}
+use Rattle.sc_run.proofs.Coming.{then_stops}
 
 abbrev pub Acting : Type 0
 Acting = ℕ → State → Piece (Left (Unit {0}))
@@ -68,22 +69,6 @@ module _ (program : ProgramTree) where
               after.turns ≤ h.open_calls
           fewer a b d = omega (arith, a, b, d)
 
-    stops_at : {V : Type 0} (after : Seen) (end : RunEnd) (n : ℕ) (x : Piece V)
-        (go : V → State → Piece (Left (Unit {0}))) → CameTo (Err end) after x →
-        (resume program n (reverse work) f (and_then x go)).behaviour ≡ whole →
-        whole ≡ record { trace = after.trace; end = end }
-    stops_at after end n (Reached w t) go c rest = elim c [ ]
-    stops_at after end n (Stopped e t) go c rest =
-        sym rest ∙ resume_stopped n (reverse work) f e t ∙ (λ i. record { trace = (c.1 i).trace; end = c.0 i })
-
-    -- a piece that ended the run
-    pub stops : {V : Type 0} (before after : Seen) (end : RunEnd) (p : State → Piece V)
-        (go : ℕ → V → State → Piece (Left (Unit {0}))) → Comes before after (Err end) p →
-        Standing program whole before work f (λ n s. and_then (p s) (go n)) →
-        whole ≡ record { trace = after.trace; end = end }
-    stops before after end p go c h = stops_at after end h.open_calls (p h.state) (go h.open_calls)
-        (c.comes h.state h.shows) h.rest
-
   -- the same with something that waits
   pub moved : (whole : SourceRun) (seen : Seen) (work later : List Work) (f : Frame) (p q : Acting) →
       ((n : ℕ) (s : State) → resume program n (reverse work) f (p n s) ≡ resume program n (reverse later) f (q n s)) →
@@ -112,7 +97,10 @@ module _ (program : ProgramTree) (before after : Seen) (work : List Work) (f : F
   pub step_stops : {V : Type 0} (end : RunEnd) (p : State → Piece V) (go : ℕ → V → State → Piece (Left (Unit {0}))) →
       Comes before after (Err end) p → Steps program before work f (λ n s. and_then (p s) (go n))
       (Stop end) after work f
-  step_stops end p go c = record { stands = λ whole h. stops program whole work f before after end p go c h }
+  step_stops end p go c = record {
+    stands = λ whole h. ended_at whole end h.open_calls (and_then (p h.state) (go h.open_calls))
+        ((then_stops before after end p (go h.open_calls) c).comes h.state h.shows) h.rest;
+  }
 
   pub step_ends : (end : RunEnd) (p : State → Piece (Left (Unit {0}))) → Comes before after (Err end) p →
       Steps program before work f (λ n s. p s) (Stop end) after work f

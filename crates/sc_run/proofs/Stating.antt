@@ -1,5 +1,5 @@
 -- Statements, by their layers.
-use Rattle.std.proofs.Common.{◌≡◌, refl, sym, ap, ◌∙◌, subst, ℕ, ◌-◌, ◌≤◌, ◌++◌, List, [], ◌∷◌, length, take, drop, get_or, Option, None, Some, arith}
+use Rattle.std.proofs.Common.{◌≡◌, refl, sym, ap, ◌∙◌, subst, ℕ, ◌-◌, ◌≤◌, ◌++◌, List, [], ◌∷◌, length, take, drop, get_or, reverse, Option, None, Some, arith}
 use Rattle.std.proofs.lemmas.List.{take_all, length-drop}
 use denote.Bor.{Bor}
 use Rattle.sc_core.specs.declared.program.ProgramTree.{ProgramTree}
@@ -10,17 +10,17 @@ use Rattle.sc_core.specs.declared.expr.TypedExpr.{TypedExpr}
 use Rattle.sc_core.specs.declared.value.Want.TheVariants as want
 use Rattle.sc_core.specs.declared.stmt.TypedSimple.{TypedSimple}
 use Rattle.sc_core.specs.Value.{c_arith}
-use Rattle.sc_core.specs.Words.{State, Piece, Left, and_then, choose, leave, loop, Next, in_order, in_loop, follow}
-use Rattle.sc_core.specs.Tree.{Acts, assign, evaluated, test, kind_step, stmt_step, part_does, simple_does}
+use Rattle.sc_core.specs.Words.{State, Piece, Left, and_then, choose, leave, loop, Next, Exit, Route, in_order, follow}
+use Rattle.sc_core.specs.Tree.{Acts, assign, evaluated, test, kind_step, stmt_step, part_does}
 use Rattle.sc_core.proofs.Layers.{stmt_at, layer_of}
 use Rattle.sc_value.specs.Where.{here_of}
 use Rattle.sc_run.specs.declared.work.Frame.{Frame}
 use Rattle.sc_run.specs.declared.work.Loop.{Loop}
 use Rattle.sc_run.specs.declared.work.Work.{Work}
-use Rattle.sc_run.specs.declared.work.Work.TheVariants.{Rest, First, Again}
+use Rattle.sc_run.specs.declared.work.Work.TheVariants.{Rest}
 use Rattle.sc_run.specs.declared.work.Step.{Step}
 use Rattle.sc_run.specs.Seen.{Seen}
-use Rattle.sc_run.specs.Resume.{way_in, calls_in, stmt_acts, block_acts, part_acts, loop_acts, Steps}
+use Rattle.sc_run.specs.Resume.{way_in, calls_in, stmt_acts, block_acts, part_acts, loop_acts, resume, Steps}
 use Rattle.sc_run.proofs.Standing.{Acting}
 use Rattle.sc_run.proofs.Looping.{steps_as, steps_wait}
 
@@ -68,51 +68,22 @@ list_steps program before work later f stmts stmt rest step after last g split s
     (steps_wait program before work f (Rest rest) later (λ n s. block_acts program n f (stmt ∷ rest.now) tt s)
     (λ n. stmt_acts program n f stmt tt) step after last g pushed (λ n s. refl) h)
 
--- the first part of a `for`, while the loop waits
-pub first_steps : (program : ProgramTree) (before : Seen) (work later : List Work) (f : Frame)
-    (first : Option TypedSimple) (part : TypedSimple) (l : Loop) (step : Step) (after : Seen) (last : List Work)
-    (g : Frame) → first ≡ Some part → later ≡ work ++ First l ∷ [] →
-    Steps program before later f (λ n. simple_does c_arith f.scope.structs.now (here_of f.scope) f.scope.params
-    (calls_in program n) part.kind part.line tt) step after last g →
-    Steps program before work f (λ n s. follow in_order
-    (part_does c_arith f.scope.structs.now (here_of f.scope) f.scope.params (calls_in program n) first tt s)
-    (loop_acts program n f l)) step after last g
-first_steps program before work later f first part l step after last g is pushed h =
-    steps_as program before work f (λ n s. follow in_order
-    (part_does c_arith f.scope.structs.now (here_of f.scope) f.scope.params (calls_in program n) first tt s)
-    (loop_acts program n f l)) (λ n s. follow in_order
-    (simple_does c_arith f.scope.structs.now (here_of f.scope) f.scope.params
-    (calls_in program n) part.kind part.line tt s) (loop_acts program n f l)) step after last g
-    (λ n s. ap (λ o. follow in_order (part_does c_arith f.scope.structs.now (here_of f.scope) f.scope.params
-    (calls_in program n) o tt s) (loop_acts program n f l)) is)
-    (steps_wait program before work f (First l) later
-    (λ n s. follow in_order (simple_does c_arith f.scope.structs.now (here_of f.scope) f.scope.params
-    (calls_in program n) part.kind part.line tt s) (loop_acts program n f l))
-    (λ n. simple_does c_arith f.scope.structs.now (here_of f.scope) f.scope.params
-    (calls_in program n) part.kind part.line tt) step after last g pushed (λ n s. refl) h)
-
--- what comes before the next round, while the loop waits
-pub next_steps : (program : ProgramTree) (before : Seen) (work later : List Work) (f : Frame)
-    (first : Option TypedSimple) (part : TypedSimple) (l : Loop) (step : Step) (after : Seen) (last : List Work)
-    (g : Frame) → first ≡ Some part → later ≡ work ++ Again l ∷ [] →
-    Steps program before later f (λ n. simple_does c_arith f.scope.structs.now (here_of f.scope) f.scope.params
-    (calls_in program n) part.kind part.line tt) step after last g →
-    Steps program before work f (λ n s. follow in_loop
-    (part_does c_arith f.scope.structs.now (here_of f.scope) f.scope.params (calls_in program n) first tt s)
-    (loop_acts program n f l)) step after last g
-next_steps program before work later f first part l step after last g is pushed h =
-    steps_as program before work f (λ n s. follow in_loop
-    (part_does c_arith f.scope.structs.now (here_of f.scope) f.scope.params (calls_in program n) first tt s)
-    (loop_acts program n f l)) (λ n s. follow in_loop
-    (simple_does c_arith f.scope.structs.now (here_of f.scope) f.scope.params
-    (calls_in program n) part.kind part.line tt s) (loop_acts program n f l)) step after last g
-    (λ n s. ap (λ o. follow in_loop (part_does c_arith f.scope.structs.now (here_of f.scope) f.scope.params
-    (calls_in program n) o tt s) (loop_acts program n f l)) is)
-    (steps_wait program before work f (Again l) later
-    (λ n s. follow in_loop (simple_does c_arith f.scope.structs.now (here_of f.scope) f.scope.params
-    (calls_in program n) part.kind part.line tt s) (loop_acts program n f l))
-    (λ n. simple_does c_arith f.scope.structs.now (here_of f.scope) f.scope.params
-    (calls_in program n) part.kind part.line tt) step after last g pushed (λ n s. refl) h)
+-- a part of a `for`, while the loop waits: the first one, or what comes before the next round
+pub part_steps : (program : ProgramTree) (before : Seen) (work later : List Work) (f : Frame) (route : Exit → Route)
+    (waiting : Work) (given : Option TypedSimple) (part : TypedSimple) (l : Loop) (step : Step) (after : Seen)
+    (last : List Work) (g : Frame) → ((n : ℕ) (ws : List Work) (p : Piece (Left (Unit {0}))) →
+    resume program n ws f (follow route p (loop_acts program n f l)) ≡ resume program n (waiting ∷ ws) f p) →
+    given ≡ Some part → later ≡ work ++ waiting ∷ [] →
+    Steps program before later f (λ n. part_acts program n f (Some part) tt) step after last g →
+    Steps program before work f (λ n s. follow route (part_acts program n f given tt s) (loop_acts program n f l))
+    step after last g
+part_steps program before work later f route waiting given part l step after last g waits is pushed h =
+    subst (λ o. Steps program before work f
+    (λ n s. follow route (part_acts program n f o tt s) (loop_acts program n f l)) step after last g) (sym is)
+    (steps_wait program before work f waiting later
+    (λ n s. follow route (part_acts program n f (Some part) tt s) (loop_acts program n f l))
+    (λ n. part_acts program n f (Some part) tt) step after last g pushed
+    (λ n s. waits n (reverse work) (part_acts program n f (Some part) tt s)) h)
 
 -- a loop at once, where there is no first part
 pub no_first : (program : ProgramTree) (before : Seen) (work : List Work) (f : Frame) (first : Option TypedSimple)

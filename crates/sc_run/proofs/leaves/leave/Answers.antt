@@ -1,10 +1,10 @@
-use Rattle.std.proofs.Common.{◌≡◌, length, rules, arith}
+use Rattle.std.proofs.Common.{◌≡◌, refl, length, rules, arith}
 use Rattle.std.proofs.lemmas.Result.{IfOk-weaker}
 use Rattle.sc_core.specs.Words.{leave}
-use Rattle.sc_run.specs.declared.work.Work.TheVariants.{Caller}
+use Rattle.sc_run.specs.declared.work.Work.TheVariants.{Rest, First, Body, Again, Caller}
 use Rattle.sc_run.specs.Seen.{kept_by}
 use Rattle.sc_run.specs.Resume.{exit_of}
-use Rattle.sc_run.proofs.Looping.{nothing_waits, rest_taken, first_taken, again_taken, body_taken, caller_taken}
+use Rattle.sc_run.proofs.Looping.{nothing_waits, taken, caller_taken}
 use Rattle.sc_run.proofs.leaves.leave.Goals as goal
 
 pub returns-in-None : goal.returns-in-None
@@ -17,30 +17,27 @@ returns-in-None c =
 
 pub returns-in-Some-Rest : goal.returns-in-Some-Rest
 returns-in-Some-Rest c =
-    rest_taken c.args.program.now (kept_by c.args.run.now.machine) c.args.run.now.work.items c.pop.new.self.items
-    c.args.run.now.frame _ _ _ _ _ c.in-Some-Rest.ensures.items
-    (exit_of c.args.exit) c.in-Some-Rest.rest c.in-Some-Rest.field-0-is c.leave_before_rest.ensures
+    taken c.args.program.now (kept_by c.args.run.now.machine) c.args.run.now.work.items c.pop.new.self.items
+    c.args.run.now.frame _ _ _ _ _ c.in-Some-Rest.ensures.items (exit_of c.args.exit) (Rest c.in-Some-Rest.rest) _
+    c.in-Some-Rest.field-0-is c.leave_before_rest.ensures (λ n s. refl)
 
 pub returns-in-Some-First : goal.returns-in-Some-First
 returns-in-Some-First c =
-    IfOk-weaker c.leave_first.result _ _ (λ step h. first_taken c.args.program.now
-    (kept_by c.args.run.now.machine) c.args.run.now.work.items c.pop.new.self.items c.args.run.now.frame _ step _ _
-    _ c.in-Some-First.ensures.items (exit_of c.args.exit) c.in-Some-First.whole c.in-Some-First.field-0-is h)
-    c.leave_first.ensures
+    IfOk-weaker c.leave_first.result _ _ (λ step h. taken c.args.program.now (kept_by c.args.run.now.machine)
+    c.args.run.now.work.items c.pop.new.self.items c.args.run.now.frame _ step _ _ _ c.in-Some-First.ensures.items
+    (exit_of c.args.exit) (First c.in-Some-First.whole) _ c.in-Some-First.field-0-is h (λ n s. refl)) c.leave_first.ensures
 
 pub returns-in-Some-Again : goal.returns-in-Some-Again
 returns-in-Some-Again c =
-    IfOk-weaker c.leave_before_round.result _ _ (λ step h.
-    again_taken c.args.program.now (kept_by c.args.run.now.machine) c.args.run.now.work.items c.pop.new.self.items
-    c.args.run.now.frame _ step _ _ _ c.in-Some-Again.ensures.items
-    (exit_of c.args.exit) c.in-Some-Again.whole c.in-Some-Again.field-0-is h) c.leave_before_round.ensures
+    IfOk-weaker c.leave_before_round.result _ _ (λ step h. taken c.args.program.now (kept_by c.args.run.now.machine)
+    c.args.run.now.work.items c.pop.new.self.items c.args.run.now.frame _ step _ _ _ c.in-Some-Again.ensures.items
+    (exit_of c.args.exit) (Again c.in-Some-Again.whole) _ c.in-Some-Again.field-0-is h (λ n s. refl)) c.leave_before_round.ensures
 
 pub returns-in-Some-Body : goal.returns-in-Some-Body
 returns-in-Some-Body c =
-    IfOk-weaker c.leave_body.result _ _ (λ step h. body_taken c.args.program.now
-    (kept_by c.args.run.now.machine) c.args.run.now.work.items c.pop.new.self.items c.args.run.now.frame _ step _ _
-    _ c.in-Some-Body.ensures.items (exit_of c.args.exit) c.in-Some-Body.whole c.in-Some-Body.field-0-is h)
-    c.leave_body.ensures
+    IfOk-weaker c.leave_body.result _ _ (λ step h. taken c.args.program.now (kept_by c.args.run.now.machine)
+    c.args.run.now.work.items c.pop.new.self.items c.args.run.now.frame _ step _ _ _ c.in-Some-Body.ensures.items
+    (exit_of c.args.exit) (Body c.in-Some-Body.whole) _ c.in-Some-Body.field-0-is h (λ n s. refl)) c.leave_body.ensures
 
 pub returns-in-Some-Caller : goal.returns-in-Some-Caller
 returns-in-Some-Caller c =

@@ -1,13 +1,16 @@
-use Rattle.std.proofs.Common.{ap}
+use Rattle.std.proofs.Common.{refl, ap}
 use Rattle.std.specs.Option.{option_copied}
 use Rattle.std.proofs.lemmas.Result.{IfOk-weaker}
+use Rattle.sc_core.specs.Words.{in_loop}
+use Rattle.sc_run.specs.declared.work.Work.TheVariants.{Again}
 use Rattle.sc_run.specs.Seen.{kept_by}
-use Rattle.sc_run.proofs.Stating.{next_steps}
+use Rattle.sc_run.proofs.Stating.{part_steps}
 use Rattle.sc_run.proofs.leaves.next_part.Goals as goal
 
 pub returns-in_ok-push-in-Some : goal.returns-in_ok-push-in-Some
 returns-in_ok-push-in-Some c =
-    IfOk-weaker c.simple.result _ _ (λ step h. next_steps c.args.program.now
+    IfOk-weaker c.simple.result _ _ (λ step h. part_steps c.args.program.now
     (kept_by c.args.run.now.machine) c.args.run.now.work.items c.push.new.self.items c.args.run.now.frame
-    (option_copied c.args.whole.now.next) c.in-Some.next.now c.args.whole.now step _ _ _
+    in_loop (Again c.args.whole.now) (option_copied c.args.whole.now.next) c.in-Some.next.now c.args.whole.now
+    step _ _ _ (λ n ws p. refl)
     (ap option_copied c.in-Some.is) c.in_ok-push-in-Some.ensures.items h) c.simple.ensures

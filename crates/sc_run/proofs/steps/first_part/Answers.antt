@@ -1,11 +1,15 @@
+use Rattle.std.proofs.Common.{refl}
 use Rattle.std.proofs.lemmas.Result.{IfOk-weaker}
+use Rattle.sc_core.specs.Words.{in_order}
+use Rattle.sc_run.specs.declared.work.Work.TheVariants.{First}
 use Rattle.sc_run.specs.Seen.{kept_by}
-use Rattle.sc_run.proofs.Stating.{first_steps}
+use Rattle.sc_run.proofs.Stating.{part_steps}
 use Rattle.sc_run.proofs.steps.first_part.Goals as goal
 
 pub returns-in_ok-push-in-Some : goal.returns-in_ok-push-in-Some
 returns-in_ok-push-in-Some c =
-    IfOk-weaker c.simple.result _ _ (λ step h. first_steps c.args.program.now
+    IfOk-weaker c.simple.result _ _ (λ step h. part_steps c.args.program.now
     (kept_by c.args.run.now.machine) c.args.run.now.work.items c.push.new.self.items c.args.run.now.frame
-    c.args.first.now c.in-Some.first c.args.whole.now step _ _ _ c.in-Some.is c.in_ok-push-in-Some.ensures.items h)
+    in_order (First c.args.whole.now) c.args.first.now c.in-Some.first c.args.whole.now step _ _ _ (λ n ws p. refl)
+    c.in-Some.is c.in_ok-push-in-Some.ensures.items h)
     c.simple.ensures
