@@ -201,19 +201,20 @@ module _ (program : ProgramTree) (before : Seen) (work : List Work) (f : Frame) 
               (tell (Call f.scope.comp.now (sym entry.1.0 i) index (map word_in args)) s))) rg)
 
   -- the next input
-  input_made : (args : List Value) (word : ℕ) (middle told after : Seen) (step : Step) →
-      word ≡ next_input before.inputs → middle ≡ record before { inputs = drop 1 before.inputs } →
+  pub input_steps : (args : List Value) (word : ℕ) (middle told after : Seen) (step : Step) →
+      may_call (library program) f.scope.comp.now Input args ≡ true → word ≡ next_input before.inputs →
+      middle ≡ record before { inputs = drop 1 before.inputs } →
       told ≡ record middle { trace = middle.trace ++ In f.scope.comp.now word ∷ [] } →
       Steps program told work f (λ n s. rg (Some (Word word)) s) step after work f →
-      Steps program before work f (λ n s. and_then (called (library program)
-      (bodies program n) f.scope.comp.now Input args s) rg) step after work f
-  input_made args word middle told after step is rest tells h =
-      steps_on program before work f told after (Some (Word word))
+      Steps program before work f (λ n s. and_then (calls_in program n f.scope.comp.now Input args s) rg) step after
+      work f
+  input_steps args word middle told after step may is rest tells h =
+      allowed Input args step after work f may (steps_on program before work f told after (Some (Word word))
       (λ s. Reached (Some (Word (next_input s.inputs))) (read_input f.scope.comp.now s)) (λ n. rg) step work f
       (record {
         comes = λ s shows. (ap (λ w. Some (Word w)) (ap (λ x. next_input x.inputs) shows ∙ sym is), seen s shows);
         fewer = omega (arith, ap (λ x. x.turns) tells, ap (λ x. x.turns) rest);
-      }) h where
+      }) h) where
         seen : (s : State) → seen_of s ≡ before → seen_of (read_input f.scope.comp.now s) ≡ told
         seen s shows =
             ap {A = Seen} (λ x. record x {
@@ -226,13 +227,14 @@ module _ (program : ProgramTree) (before : Seen) (work : List Work) (f : Frame) 
             })
             ∙ ap {A = Seen} (λ x. record x { trace = x.trace ++ In f.scope.comp.now word ∷ [] }) (sym rest) ∙ sym tells
 
-  output_made : (args : List Value) (word : ℕ) (told after : Seen) (step : Step) → word ≡ first_word args →
+  pub output_steps : (args : List Value) (word : ℕ) (told after : Seen) (step : Step) →
+      may_call (library program) f.scope.comp.now Output args ≡ true → word ≡ first_word args →
       told ≡ record before { trace = before.trace ++ Out f.scope.comp.now word ∷ [] } →
       Steps program told work f (λ n s. rg None s) step after work f →
-      Steps program before work f (λ n s. and_then (called (library program)
-      (bodies program n) f.scope.comp.now Output args s) rg) step after work f
-  output_made args word told after step is tells h =
-      steps_on program before work f told after None (λ s.
+      Steps program before work f (λ n s. and_then (calls_in program n f.scope.comp.now Output args s) rg) step after
+      work f
+  output_steps args word told after step may is tells h =
+      allowed Output args step after work f may (steps_on program before work f told after None (λ s.
       Reached None (tell (Out f.scope.comp.now (first_word args)) s)) (λ n. rg) step work f (record {
         comes = λ s shows. (
           refl,
@@ -241,26 +243,7 @@ module _ (program : ProgramTree) (before : Seen) (work : List Work) (f : Frame) 
               (λ i. record before { trace = before.trace ++ Out f.scope.comp.now (sym is i) ∷ [] }) ∙ sym tells,
         );
         fewer = omega (arith, ap (λ x. x.turns) tells);
-      }) h
-
-  pub input_steps : (args : List Value) (word : ℕ) (middle told after : Seen) (step : Step) →
-      may_call (library program) f.scope.comp.now Input args ≡ true → word ≡ next_input before.inputs →
-      middle ≡ record before { inputs = drop 1 before.inputs } →
-      told ≡ record middle { trace = middle.trace ++ In f.scope.comp.now word ∷ [] } →
-      Steps program told work f (λ n s. rg (Some (Word word)) s) step after work f →
-      Steps program before work f (λ n s. and_then (calls_in program n f.scope.comp.now Input args s) rg) step after
-      work f
-  input_steps args word middle told after step may is rest tells h =
-      allowed Input args step after work f may (input_made args word middle told after step is rest tells h)
-
-  pub output_steps : (args : List Value) (word : ℕ) (told after : Seen) (step : Step) →
-      may_call (library program) f.scope.comp.now Output args ≡ true → word ≡ first_word args →
-      told ≡ record before { trace = before.trace ++ Out f.scope.comp.now word ∷ [] } →
-      Steps program told work f (λ n s. rg None s) step after work f →
-      Steps program before work f (λ n s. and_then (calls_in program n f.scope.comp.now Output args s) rg) step after
-      work f
-  output_steps args word told after step may is tells h =
-      allowed Output args step after work f may (output_made args word told after step is tells h)
+      }) h)
 
   module _ (target : CallTarget) (args : List TypedExpr) (line : ℕ) where
     abbrev given_args : State → Piece (List Value)
@@ -269,27 +252,14 @@ module _ (program : ProgramTree) (before : Seen) (work : List Work) (f : Frame) 
     abbrev whole_call : ℕ → State → Piece (Left (Unit {0}))
     whole_call n s = and_then (call (here_of f.scope) (calls_in program n) target (map (way_in f) args) line s) rg
 
+    abbrev rest_of_call : ℕ → List Value → State → Piece (Left (Unit {0}))
+    rest_of_call n vs s = and_then (calls_in program n f.scope.comp.now target vs s) rg
+
     abbrev stepwise : ℕ → State → Piece (Left (Unit {0}))
-    stepwise n s = and_then (given_args s) (λ vs s. and_then (calls_in program n f.scope.comp.now target vs s) rg)
+    stepwise n s = and_then (given_args s) (rest_of_call n)
 
     by_assoc : (n : ℕ) (s : State) → whole_call n s ≡ stepwise n s
     by_assoc n s = then_then (given_args s) (λ vs s. calls_in program n f.scope.comp.now target vs s) rg
-
-    pub call_blamed : (end : RunEnd) → Comes before before (Err end) given_args →
-        Steps program before work f whole_call (Stop end) before work f
-    call_blamed end c =
-        steps_as program before work f whole_call stepwise (Stop end) before work f by_assoc
-        (step_stops program before before work f end given_args
-        (λ n vs s. and_then (calls_in program n f.scope.comp.now target vs s) rg) c)
-
-    pub call_steps : (vs : List Value) (step : Step) (after : Seen) (later : List Work) (g : Frame) →
-        Comes before before (Ok vs) given_args → Steps program before work f
-        (λ n s. and_then (calls_in program n f.scope.comp.now target vs s) rg) step after later g →
-        Steps program before work f whole_call step after later g
-    call_steps vs step after later g c h =
-        steps_as program before work f whole_call stepwise step after later g by_assoc
-        (steps_on program before work f before after vs given_args
-        (λ n vs s. and_then (calls_in program n f.scope.comp.now target vs s) rg) step later g c h)
 
   pub as_called : (target t : CallTarget) (args : List Value) (step : Step) (after : Seen) (later : List Work)
       (g : Frame) → target ≡ t → Steps program before work f
@@ -306,18 +276,22 @@ module _ (program : ProgramTree) (before : Seen) (work : List Work) (f : Frame) 
       Steps program before work f (λ n s. and_then (calls_in program n f.scope.comp.now target given_vs s) rg) step
       after later g → Steps program before work f (whole_call target es line) step after later g
   call_steps_by target es given_es line r vs given_vs step after later g same is values_is c h =
-      call_steps target es line vs step after later g
+      steps_as program before work f (whole_call target es line) (stepwise target es line) step after later g
+      (by_assoc target es line) (steps_on program before work f before after vs (given_args target es line)
+      (rest_of_call target es line) step later g
       (subst (λ x. Comes before before (Ok vs) (given_args target x line)) same
       (subst (λ x. Comes before before x (given_args target given_es line)) is c))
-      (subst (λ x. Steps program before work f (λ n s.
-      and_then (calls_in program n f.scope.comp.now target x s) rg) step after later g) values_is h)
+      (subst (λ x. Steps program before work f (λ n s. rest_of_call target es line n x s) step after later g) values_is
+      h))
 
   pub call_blamed_by : (target : CallTarget) (es given_es : List TypedExpr) (line : ℕ) (r : Result (List Value) RunEnd)
       (end : RunEnd) → given_es ≡ es → r ≡ Err end → Comes before before r (given_args target given_es line) →
       Steps program before work f (whole_call target es line) (Stop end) before work f
   call_blamed_by target es given_es line r end same is c =
-      call_blamed target es line end (subst (λ x. Comes before before (Err end) (given_args target x line)) same
-      (subst (λ x. Comes before before x (given_args target given_es line)) is c))
+      steps_as program before work f (whole_call target es line) (stepwise target es line) (Stop end) before work f
+      (by_assoc target es line) (step_stops program before before work f end (given_args target es line)
+      (rest_of_call target es line) (subst (λ x. Comes before before (Err end) (given_args target x line)) same
+      (subst (λ x. Comes before before x (given_args target given_es line)) is c)))
 
 -- a statement in the head of a `for`, by its kind
 pub simple_as : (program : ProgramTree) (before : Seen) (work : List Work) (f : Frame) (kind k : TypedSimpleKind)
