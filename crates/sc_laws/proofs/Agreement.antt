@@ -1,13 +1,11 @@
 -- Libraries that agree function by function run the same, also where compartments perform scripts.
 use Rattle.std.proofs.Common.{◌≡◌, ℕ, zero, suc, Bool, true, false, List, [], ◌∷◌, length, map, Option, None, Some, refl, sym, ◌∙◌, ap, subst}
-use Rattle.std.specs.Prelude.{if◌then◌else◌, ◌&&◌, ◌==◌, nat_le, nat_lt, take, is_some}
-use Rattle.std.specs.List.{list_all}
+use Rattle.std.specs.Prelude.{if◌then◌else◌, nat_le, nat_lt, take, is_some}
 use Rattle.sc_event.specs.declared.event.Event.TheVariants.{Call}
 use Rattle.sc_event.specs.declared.row.Entry.TheVariants.{Main, Export}
 use Rattle.sc_event.specs.declared.row.Row.{Row}
 use Rattle.sc_event.specs.declared.row.Action.{Action}
 use Rattle.sc_event.specs.declared.row.Action.TheVariants as act
-use Rattle.sc_event.specs.Legal.{is_input, is_output, is_function, imports, takes}
 use Rattle.sc_core.specs.declared.expr.CallTarget.{CallTarget}
 use Rattle.sc_core.specs.declared.expr.CallTarget.TheVariants.{Own, Cross, Input, Output}
 use Rattle.sc_core.specs.declared.run.RunEnd.{RunEnd}
@@ -17,11 +15,12 @@ use Rattle.sc_core.specs.declared.value.Value.{Value}
 use Rattle.sc_core.specs.declared.value.Value.TheVariants.{Word}
 use Rattle.sc_core.specs.Memory.{Memory}
 use Rattle.sc_core.specs.Words.{State, Here, Piece, Reached, Stopped, and_then, turn, tell}
-use Rattle.sc_core.specs.Calls.{Function, Library, Body, Step, function, leads, is_word, found, begun, done, crossed, word_in, may_call, back_own, back_cross, run_in, call_own, call_cross, called, calls, run_step, within}
+use Rattle.sc_core.specs.Calls.{Function, Library, Body, Step, function, found, begun, done, crossed, word_in, may_call, back_own, back_cross, run_in, call_own, call_cross, called, calls, run_step, within}
 use Rattle.sc_core.specs.Scripts.{Roles, rows_left, is_number, asks, acts, performs, scripted_step}
 use Rattle.sc_core.specs.Run.{reaches, stopped_at}
 use Rattle.sc_core.specs.Meaning.{run_to, first_state, run_by}
 use Rattle.sc_laws.specs.Agreement.{Meets, without_line, piece_without_line, PiecesAgree, CallsAgree, BodiesAgree, FunctionsAgree, LibrariesAgree, BehavioursAgree, RunsAgree, AgreeingRunAlike}
+use Rattle.sc_laws.proofs.Libraries.{may_call_same}
 
 pub itself : {V : Type 0} (o : Piece V) → PiecesAgree o o
 itself o = record { same = refl }
@@ -57,25 +56,12 @@ both_there (Some f) None h = absurd h
 both_there (Some f) (Some g) h = refl
 
 module _ (L M : Library) (agree : LibrariesAgree L M) where
-  leads_same : (comp : ℕ) (number : Option ℕ) → leads L comp number ≡ leads M comp number
-  leads_same comp None = refl
-  leads_same comp (Some number) =
-      both_there (function L comp number) (function M comp number) (agree.functions comp number)
-
   -- the same calls may be made
   may_same : (from : ℕ) (target : CallTarget) (args : List Value) →
       may_call L from target args ≡ may_call M from target args
-  may_same from (Own number) args =
-      both_there (function L from number) (function M from number) (agree.functions from number)
-  may_same from (Cross to index) args =
-      ap (λ i. imports i from (is_function to index) && (takes i to index (length args)
-      && (list_all is_word args && leads L to (L.entered to (Export index))))) agree.interfaces
-      ∙ ap (λ b. imports M.interfaces from (is_function to index) && (takes M.interfaces to index (length args)
-      && (list_all is_word args && b)))
-      (leads_same to (L.entered to (Export index)) ∙ ap (leads M to) (agree.entered to (Export index)))
-  may_same from Input args = ap (λ i. imports i from is_input) agree.interfaces
-  may_same from Output args = ap (λ i. imports i from is_output && (length args == 1 && list_all is_word args))
-      agree.interfaces
+  may_same =
+      may_call_same M L agree.interfaces agree.entered (λ comp number. both_there (function L comp number)
+      (function M comp number) (agree.functions comp number))
 
   module _ (body other : Body) (bodies : BodiesAgree body other) where
     runs_there : (comp number : ℕ) (args : List Value) (back back' : Option Value → State → Piece (Option Value)) →

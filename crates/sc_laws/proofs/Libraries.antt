@@ -17,6 +17,27 @@ use Rattle.sc_laws.proofs.Twins.{Twins}
 abbrev pub Anywhere : Here → Type 0
 Anywhere here = Unit {0}
 
+-- where entries lead to the same functions, the same calls may be made
+module _ (L M : Library) (interfaces : M.interfaces ≡ L.interfaces)
+    (entered : (comp : ℕ) (entry : Entry) → M.entered comp entry ≡ L.entered comp entry)
+    (there : (comp number : ℕ) → is_some (function M comp number) ≡ is_some (function L comp number)) where
+  leads_same : (comp : ℕ) (number : Option ℕ) → leads M comp number ≡ leads L comp number
+  leads_same comp None = refl
+  leads_same comp (Some number) = there comp number
+
+  pub may_call_same : (from : ℕ) (target : CallTarget) (args : List Value) →
+      may_call M from target args ≡ may_call L from target args
+  may_call_same from (Own number) args = there from number
+  may_call_same from (Cross to index) args =
+      ap (λ i. imports i from (is_function to index) && (takes i to index (length args)
+      && (list_all is_word args && leads M to (M.entered to (Export index))))) interfaces
+      ∙ ap (λ b. imports L.interfaces from (is_function to index) && (takes L.interfaces to index (length args)
+      && (list_all is_word args && b)))
+      (ap (leads M to) (entered to (Export index)) ∙ leads_same to (L.entered to (Export index)))
+  may_call_same from Input args = ap (λ i. imports i from is_input) interfaces
+  may_call_same from Output args =
+      ap (λ i. imports i from is_output && (length args == 1 && list_all is_word args)) interfaces
+
 -- a relation that is kept in these calls
 module _ (P : State → State → Type 0) (R : (V : Type 0) → Piece V → Piece V → Type 0) (Good : Here → Type 0) where
   -- what is called from a compartment
@@ -49,22 +70,9 @@ module _ (P : State → State → Type 0) (R : (V : Type 0) → Piece V → Piec
     some_same (Some f) None h = absurd h
     some_same (Some f) (Some g) h = refl
 
-    leads_same : (comp : ℕ) (number : Option ℕ) → leads M comp number ≡ leads L comp number
-    leads_same comp None = refl
-    leads_same comp (Some number) =
-        some_same (function L comp number) (function M comp number) (function_twins comp number)
-
     -- the same calls may be made
     pub may_same : (from : ℕ) (target : CallTarget) (args : List Value) →
         may_call M from target args ≡ may_call L from target args
-    may_same from (Own number) args =
-        some_same (function L from number) (function M from number) (function_twins from number)
-    may_same from (Cross to index) args =
-        ap (λ i. imports i from (is_function to index) && (takes i to index (length args)
-        && (list_all is_word args && leads M to (M.entered to (Export index))))) twins.interfaces
-        ∙ ap (λ b. imports L.interfaces from (is_function to index) && (takes L.interfaces to index (length args)
-        && (list_all is_word args && b)))
-        (ap (leads M to) (twins.entered to (Export index)) ∙ leads_same to (L.entered to (Export index)))
-    may_same from Input args = ap (λ i. imports i from is_input) twins.interfaces
-    may_same from Output args = ap (λ i. imports i from is_output && (length args == 1 && list_all is_word args))
-        twins.interfaces
+    may_same =
+        may_call_same L M twins.interfaces twins.entered (λ comp number. some_same (function L comp number)
+        (function M comp number) (function_twins comp number))

@@ -1,5 +1,5 @@
 -- The variables of a call, one block after the other, and their initialisers.
-use Rattle.std.proofs.Common.{◌≡◌, refl, sym, ap, ◌∙◌, subst, ℕ, suc, ◌+◌, ◌<◌, ◌≤◌, ◌==◌, ◌++◌, Bool, true, false, if◌then◌else◌, List, [], ◌∷◌, map, length, take, drop, get_or, Option, None, Some, Result, Ok, Err, append_assoc, add-one, drop-cons, arith}
+use Rattle.std.proofs.Common.{◌≡◌, refl, sym, ap, ◌∙◌, subst, ℕ, suc, ◌+◌, ◌<◌, ◌≤◌, ◌==◌, ◌++◌, Bool, true, false, if◌then◌else◌, List, [], ◌∷◌, map, length, take, drop, get_or, Option, None, Some, Result, Ok, Err, append_assoc, arith}
 use Rattle.std.specs.Prelude.{slice_get}
 use Rattle.std.proofs.lemmas.Bool.{eqb-true, eq-eqb}
 use Rattle.std.proofs.lemmas.List.{append-nil, length-append, length-map, length-take, drop_all, take-map, take_more, map-append}
@@ -20,6 +20,7 @@ use Rattle.sc_core.specs.Meaning.{init_does, inits_do}
 use Rattle.sc_run.specs.Seen.{Seen, seen_of}
 use Rattle.sc_run.specs.Comes.{CameTo, Comes, with_exit}
 use Rattle.sc_run.specs.Entering.{block_for}
+use Rattle.sc_base.proofs.Lists.{drop-step}
 
 with_if : (b : Bool) (x y z : Blocks) → (if b then x else (if b then y else z)) ≡ (if b then x else z)
 with_if true x y z = refl
@@ -94,16 +95,12 @@ module _ (structs : List TypedStruct) (here : Here) (params : ℕ) where
   pub started : (locals : List TypedLocal) (before : Seen) → Started locals 0 before before
   started locals before = record { fewer = omega arith; on = λ after r c. c }
 
-  next_local : (locals : List TypedLocal) (k : ℕ) (local : TypedLocal) → k < length locals →
-      local ≡ get_or locals k local → drop k locals ≡ local ∷ drop (k + 1) locals
-  next_local locals k local there item = rw (add-one, drop-cons locals k local) (λ i. sym item i ∷ drop (suc k) locals)
-
   first_init : (locals : List TypedLocal) (k : ℕ) (local : TypedLocal) → k < length locals →
       local ≡ get_or locals k local → (s : State) →
       inits_from locals k tt s ≡ follow in_order (init_does c_arith structs here params k local local.init tt s)
       (inits_from locals (k + 1))
   first_init locals k local there item s =
-      ap (λ ls. all_do (inits_do c_arith structs here params k ls) tt s) (next_local locals k local there item)
+      ap (λ ls. all_do (inits_do c_arith structs here params k ls) tt s) (drop-step locals k local there item)
       ∙ ap (λ m. follow in_order (init_does c_arith structs here params k local local.init tt s)
       (all_do (inits_do c_arith structs here params m (drop (k + 1) locals)))) (sym add-one_of) where
         add-one_of : k + 1 ≡ suc k
