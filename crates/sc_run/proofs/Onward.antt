@@ -41,7 +41,8 @@ back_to_goes program caller f (Some index) v =
     back_goes program.interfaces caller.scope.comp.now f.scope.comp.now index v
 
 module _ (program : ProgramTree) (s : State) where
-  returned_goes : (f : Frame) (back : Option Value → State → Piece (Option Value)) → ((v : Option Value) → Goes (back v)) →
+  returned_goes : (f : Frame) (back : Option Value → State → Piece (Option Value)) →
+      ((v : Option Value) → Goes (back v)) →
       (p : Piece (Left (Unit {0}))) → Gone s p → Gone s (returned program f back p)
   returned_goes f back b p h =
       then_goes s (and_then p (closes program f)) _ (then_goes s p (closes program f) h (closes_goes program 0 f))

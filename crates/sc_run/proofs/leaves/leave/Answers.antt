@@ -25,13 +25,15 @@ pub returns-in-Some-First : goal.returns-in-Some-First
 returns-in-Some-First c =
     IfOk-weaker c.leave_first.result _ _ (λ step h. taken c.args.program.now (kept_by c.args.run.now.machine)
     c.args.run.now.work.items c.pop.new.self.items c.args.run.now.frame _ step _ _ _ c.in-Some-First.ensures.items
-    (exit_of c.args.exit) (First c.in-Some-First.whole) _ c.in-Some-First.field-0-is h (λ n s. refl)) c.leave_first.ensures
+    (exit_of c.args.exit) (First c.in-Some-First.whole) _ c.in-Some-First.field-0-is h (λ n s. refl))
+    c.leave_first.ensures
 
 pub returns-in-Some-Again : goal.returns-in-Some-Again
 returns-in-Some-Again c =
     IfOk-weaker c.leave_before_round.result _ _ (λ step h. taken c.args.program.now (kept_by c.args.run.now.machine)
     c.args.run.now.work.items c.pop.new.self.items c.args.run.now.frame _ step _ _ _ c.in-Some-Again.ensures.items
-    (exit_of c.args.exit) (Again c.in-Some-Again.whole) _ c.in-Some-Again.field-0-is h (λ n s. refl)) c.leave_before_round.ensures
+    (exit_of c.args.exit) (Again c.in-Some-Again.whole) _ c.in-Some-Again.field-0-is h (λ n s. refl))
+    c.leave_before_round.ensures
 
 pub returns-in-Some-Body : goal.returns-in-Some-Body
 returns-in-Some-Body c =
