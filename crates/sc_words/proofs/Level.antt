@@ -111,7 +111,8 @@ module _ (title : Text) (form : Form) where
 
   -- a word, and then the others
   goes_on : (w next : Walk) (word : Text) (words : List Text) (k : Kinds) (o : Option (List Setting)) →
-      turn_fault s [] w word ≡ k → walked rs [] w word ≡ next → Agrees (or_else k (faults next words)) (ends next words) o
+      turn_fault s [] w word ≡ k → walked rs [] w word ≡ next →
+      Agrees (or_else k (faults next words)) (ends next words) o
       → GoesAs w (word ∷ words) o
   goes_on w next word words k o turns walks agrees =
       subst (λ k. Agrees k (ends w (word ∷ words)) o)
@@ -242,7 +243,8 @@ module _ (title : Text) (form : Form) where
       each_once before ≡ true
       → (has_option name before ≡ false → each_once (before ++ (name, value) ∷ []) ≡ true
       → GoesAs (at idle h) words (accepted (before ++ (name, value) ∷ []) behind))
-      → Agrees (or_else k (faults (at idle h) words)) (ends (at idle h) words) (accepted before (more name value behind))
+      → Agrees (or_else k (faults (at idle h) words)) (ends (at idle h) words)
+      (accepted before (more name value behind))
   one_more h before name value words k behind again new once later = go (has_option name before) refl
     where
       go : (b : Bool) → has_option name before ≡ b → Agrees (or_else k (faults (at idle h) words))

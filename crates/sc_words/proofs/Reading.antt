@@ -52,7 +52,8 @@ Same name form = (settings : List Setting) (rows : List Row) (summary : Bool) �
 
 -- a command with the options of `run`
 runs_same : (form : Form) (settings : List Setting) (rows : List Row) → Tells form settings rows →
-    has_value form (codes "steps") ≡ true → has_value form (codes "events") ≡ true → has_value form (codes "in") ≡ true →
+    has_value form (codes "steps") ≡ true → has_value form (codes "events") ≡ true →
+    has_value form (codes "in") ≡ true →
     form.alone ≡ [] → run (λ n. first_of n rows) ≡ run (λ n. value_of n settings)
 runs_same form settings rows tells steps events inputs none =
     run_same (λ n. first_of n rows) (λ n. value_of n settings) (given (codes "steps") steps)

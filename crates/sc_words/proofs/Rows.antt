@@ -20,6 +20,7 @@ use Rattle.sc_base.proofs.Texts.{same_either_way, same_text}
 use Rattle.sc_base.proofs.Lists.{find_passes}
 use Rattle.sc_words.proofs.Basics.{not_empty}
 use Rattle.sc_words.proofs.Lookup.{ready_alone, ready_rules, ready_valued}
+use Rattle.sc_base.proofs.Bools.{and_false}
 
 -- ---- the rows of the options that are given
 
@@ -319,10 +320,6 @@ repeated (o ∷ before) name value behind has = go (bytes_eq o.0 name) refl (rep
     or_true : (b : Bool) → (b || true) ≡ true
     or_true true = refl
     or_true false = refl
-
-    and_false : (b : Bool) → (b && false) ≡ false
-    and_false true = refl
-    and_false false = refl
 
     go : (b : Bool) → bytes_eq o.0 name ≡ b → (has_option name before ≡ true →
         each_once (before ++ (name, value) ∷ behind) ≡ false)
