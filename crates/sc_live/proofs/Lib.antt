@@ -1,0 +1,4 @@
+pub mod LiveSets
+pub mod Locality
+pub mod Marking
+pub mod Walking

@@ -1,0 +1,8 @@
+//! Which temporaries of three-address code are live where, and from which point to which each is used.
+#![tactic(auto)]
+
+mod live;
+mod marks;
+mod walk;
+
+pub use walk::Walk;
