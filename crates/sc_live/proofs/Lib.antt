@@ -1,4 +1,5 @@
 pub mod LiveSets
 pub mod Locality
+pub mod Looping
 pub mod Marking
 pub mod Walking

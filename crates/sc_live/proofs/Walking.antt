@@ -1,12 +1,13 @@
 -- Walks, piece by piece.
-use Rattle.std.proofs.Common.{◌≡◌, ℕ, List, [], ◌∷◌, ◌++◌, refl, sym, ap, ◌∙◌, subst, append_assoc}
+use Rattle.std.proofs.Common.{◌≡◌, ℕ, List, [], ◌∷◌, ◌++◌, map, refl, sym, ap, ◌∙◌, subst, append_assoc}
 use Rattle.std.specs.Prelude.{Bool, true, false, not, ◌&&◌, ◌||◌, Option}
+use Rattle.sc_tac.specs.declared.stmt.TacStmt.{TacStmt}
 use Rattle.sc_tac.specs.Flow.{is_one}
 use Rattle.sc_tac.specs.Parts.{one_or_none}
-use Rattle.sc_tac.specs.Points.{Point, Set, if_calls, plain_points, point}
+use Rattle.sc_tac.specs.Points.{Lives, Point, Set, if_calls, live_before, plain_points, point, row_points, trail}
 use Rattle.sc_live.specs.declared.walk.Walk.{Walk}
 use Rattle.sc_live.specs.Marks.{set_of}
-use Rattle.sc_live.specs.Walks.{Holds, Walked, lives_at}
+use Rattle.sc_live.specs.Walks.{Holds, Walked, WalkedAll, WalkedOver, live_first, lives_at}
 
 -- what is live may be replaced
 pub relived : (points : List Point) (set set' : Set) (before after : Walk) (live : List ℕ) →
@@ -62,3 +63,13 @@ plain_walked reads calls assigned a b c d first second third =
     (record { assigned = assigned; calls = false; live = set_of a.live } ∷ []) across across a b c first
     (subst (λ s. Walked (if_calls calls (point true s)) s b c) b_is second))
     (subst (λ s. Walked (point false (λ t. is_one t reads || s t) ∷ []) (λ t. is_one t reads || s t) c d) c_is third)
+
+-- a statement in front of others
+pub row_walked : (stmt : TacStmt) (rest : List TacStmt) (lives : Lives) (a b c : Walk) → WalkedAll rest lives a b →
+    WalkedOver stmt (record lives { behind = set_of b.live }) b c → WalkedAll (stmt ∷ rest) lives a c
+row_walked stmt rest lives a b c h k =
+    let inner : Set → Lives = λ set. record lives { behind = set } in
+    let set : Set = live_before (map trail rest) lives in
+    walked_on ((trail stmt).points (inner set)) (row_points (map trail rest) lives) set
+    (live_first (trail stmt) (inner set)) a b c h
+    (subst (λ s. Walked ((trail stmt).points (inner s)) (live_first (trail stmt) (inner s)) b c) h.live k)

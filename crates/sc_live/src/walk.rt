@@ -1,15 +1,16 @@
-ghost use Rattle.std.specs.Prelude.{◌≡◌, ◌∷◌, [], ◌&&◌, ◌||◌, not, suc, IfOk, true, false};
+ghost use Rattle.std.specs.Prelude.{◌≡◌, ◌∷◌, [], ◌&&◌, ◌||◌, not, map, suc, IfOk, Some, true, false};
 ghost use Rattle.sc_tac.specs.Flow.{is_one};
 ghost use Rattle.sc_tac.specs.Parts.{one_or_none};
-ghost use Rattle.sc_tac.specs.Points.{if_calls, plain_points, point};
+ghost use Rattle.sc_tac.specs.Points.{if_calls, live_at_start, loop_points, plain_points, point, trail};
 ghost use Rattle.sc_live.specs.Marks.{set_of};
-ghost use Rattle.sc_live.specs.Walks.{Passed, Walked, lives_at};
+ghost use Rattle.sc_live.specs.Walks.{Passed, Walked, WalkedAll, WalkedOver, fork_points, live_before_fork, lives_at};
 
 use crate::live::LiveSet;
 use crate::marks::{Here, Marks, mark_used};
 use sc_base::OutOfMemory;
 use sc_tac::{TacStmt, TacStmts};
 use std::alloc::Global;
+use std::mem::replace;
 
 /// A walk back through a function's code.
 #[derive(Drop)]
@@ -116,6 +117,19 @@ impl Walk {
         Ok(())
     }
 
+    // An operator, which may read one value alone.
+    fn op(&mut self, dest: u32, left: u32, right: Option<u32>) -> Result<(), OutOfMemory>
+        ensures { IfOk result (λ _. Walked
+            (plain_points (left ∷ one_or_none right) false (Some dest) (lives_at self.old.live [] []))
+            (λ t. is_one t (left ∷ one_or_none right) ||
+            (not (is_one t (dest ∷ [])) && is_one t self.old.live)) self.old self.new) }
+    {
+        match right {
+            None => self.plain(&[left], false, Some(dest)),
+            Some(right) => self.plain(&[left, right], false, Some(dest)),
+        }
+    }
+
     // Control goes on elsewhere, where this is live.
     fn leave(&mut self, live: LiveSet) -> Result<(), OutOfMemory>
         ensures { IfOk result (λ _. Walked (point false (set_of live) ∷ []) (set_of live) self.old self.new) }
@@ -123,5 +137,114 @@ impl Walk {
         self.live = live;
         self.pass(None, false)?;
         Ok(())
+    }
+
+    // A part of a loop: what is live at its end is live at a `Continue`.
+    #[cycle(walk)]
+    fn part(&mut self, alloc: Global, broken: &LiveSet, part: &TacStmts) -> Result<(), OutOfMemory>
+        ensures { IfOk result (λ _. WalkedAll part.now (lives_at self.old.live broken.now self.old.live)
+            self.old self.new) }
+    {
+        let continued = self.live.copy(alloc)?;
+        let exits = Exits {
+            broken,
+            continued: &continued,
+        };
+        self.row(alloc, exits, part)
+    }
+
+    // One round of a loop, with nothing live at its end; what is then live at its start is live all through it.
+    #[cycle(walk)]
+    fn cycle(
+        &mut self,
+        alloc: Global,
+        head: &TacStmts,
+        body: &TacStmts,
+        next: &TacStmts,
+    ) -> Result<(), OutOfMemory>
+        ensures { IfOk result (λ _. Walked
+            (loop_points (map trail head.now) (map trail body.now) (map trail next.now) (lives_at self.old.live [] []))
+            (live_at_start (map trail head.now) (map trail body.now) (map trail next.now)
+            (lives_at self.old.live [] []))
+            self.old self.new) }
+    {
+        let end = self.points;
+        let broken = replace(&mut self.live, LiveSet::new(alloc));
+        self.pass(None, false)?;
+        self.part(alloc, &broken, next)?;
+        self.part(alloc, &broken, body)?;
+        self.part(alloc, &broken, head)?;
+        self.pass_to(None, false, end)
+    }
+
+    #[cycle(walk)]
+    fn fork(
+        &mut self,
+        alloc: Global,
+        exits: Exits,
+        cond: u32,
+        first: &TacStmts,
+        second: &TacStmts,
+    ) -> Result<(), OutOfMemory>
+        ensures { IfOk result (λ _. Walked
+            (fork_points cond first.now second.now (lives_at self.old.live exits.entry.broken.now exits.entry.continued.now))
+            (live_before_fork cond first.now second.now
+            (lives_at self.old.live exits.entry.broken.now exits.entry.continued.now))
+            self.old self.new) }
+    {
+        let behind = self.live.copy(alloc)?;
+        self.row(alloc, exits, second)?;
+        let live = replace(&mut self.live, behind);
+        self.row(alloc, exits, first)?;
+        self.live.insert_all(live.as_slice())?;
+        self.read(&[cond])
+    }
+
+    // Statements in order, from the last one back.
+    #[cycle(walk)]
+    fn row(&mut self, alloc: Global, exits: Exits, stmts: &TacStmts) -> Result<(), OutOfMemory>
+        ensures { IfOk result (λ _. WalkedAll stmts.now
+            (lives_at self.old.live exits.entry.broken.now exits.entry.continued.now) self.old self.new) }
+    {
+        let list = stmts.as_slice();
+        let mut at = list.len();
+        while at > 0 {
+            at -= 1;
+            self.stmt(alloc, exits, &list[at])?;
+        }
+        Ok(())
+    }
+
+    #[cycle(walk)]
+    fn stmt(&mut self, alloc: Global, exits: Exits, stmt: &TacStmt) -> Result<(), OutOfMemory>
+        ensures { IfOk result (λ _. WalkedOver stmt.now
+            (lives_at self.old.live exits.entry.broken.now exits.entry.continued.now) self.old self.new) }
+    {
+        match stmt {
+            TacStmt::Const { dest, .. } => self.plain(&[], false, Some(*dest)),
+            TacStmt::Copy { dest, from } => self.plain(&[*from], false, Some(*dest)),
+            TacStmt::Op {
+                dest, left, right, ..
+            } => self.op(*dest, *left, *right),
+            TacStmt::ObjectPlace { dest, .. } | TacStmt::GlobalPlace { dest, .. } => {
+                self.plain(&[], false, Some(*dest))
+            }
+            TacStmt::Load { dest, place, .. } => self.plain(&[*place], false, Some(*dest)),
+            TacStmt::Store { place, value } => self.plain(&[*place, *value], false, None),
+            TacStmt::If {
+                cond,
+                then_part,
+                else_part,
+            } => self.fork(alloc, exits, *cond, then_part, else_part),
+            TacStmt::Loop { head, body, next } => self.cycle(alloc, head, body, next),
+            TacStmt::Break => self.leave(exits.broken.copy(alloc)?),
+            TacStmt::Continue => self.leave(exits.continued.copy(alloc)?),
+            TacStmt::CallOwn { dest, args, .. } | TacStmt::CallCross { dest, args, .. } => {
+                self.plain(args.as_slice(), true, *dest)
+            }
+            TacStmt::Input { dest } => self.plain(&[], false, *dest),
+            TacStmt::Output { value } => self.plain(&[*value], false, None),
+            TacStmt::Return { value } => self.leave(LiveSet::one(alloc, *value)?),
+        }
     }
 }
