@@ -3,6 +3,8 @@
 use Rattle.std.proofs.Common.{◌≡◌, ◌≤◌, ◌<◌, ℕ, suc, Bool, true, false, List, [], ◌∷◌, ◌++◌, map, length, Option, Some, None, refl, sym, ap, ◌∙◌, subst, append_assoc, arith}
 use Rattle.std.specs.Prelude.{◌||◌, min, slice_get, if◌then◌else◌}
 use Rattle.sc_tac.specs.declared.stmt.TacStmt.{TacStmt}
+use Rattle.sc_tac.specs.declared.stmt.TacStmt.TheOpen as tac
+use Rattle.sc_tac.specs.declared.stmt.TacStmt.TheVariants as emit
 use Rattle.sc_tac.specs.Flow.{is_one}
 use Rattle.sc_tac.specs.Parts.{one_or_none}
 use Rattle.sc_tac.specs.Intervals.{is_used}
@@ -10,10 +12,10 @@ use Rattle.sc_tac.specs.Points.{Lives, Point, Set, Trail, in_body, in_head, in_n
 use Rattle.sc_live.specs.declared.marks.Mark.{Mark}
 use Rattle.sc_live.specs.declared.walk.Walk.{Walk}
 use Rattle.sc_live.specs.Marks.{mark_from, mark_here, mark_of, mark_to, marked, nearest_call, set_of}
-use Rattle.sc_live.specs.Walks.{Holds, Passed, Walked, WalkedAll}
+use Rattle.sc_live.specs.Walks.{Holds, Passed, Walked, WalkedAll, WalkedOver, lives_at}
 use Rattle.sc_live.proofs.Locality.{SamePoint, SamePoints, SameLives, SameSet, all_local, alone, before_same, part_same, same_append}
 use Rattle.sc_live.proofs.Marking.{ends_within, here_last, last_or, to_last}
-use Rattle.sc_live.proofs.Walking.{walked_on}
+use Rattle.sc_live.proofs.Walking.{over_layer, relived_before, walked_on}
 
 -- ALIKE POINTS
 module _ (Here : ℕ → Type 0) where
@@ -195,3 +197,37 @@ module _ (head body next : List TacStmt) (lives : Lives) where
 
     pub looped : Walked (loop_points H B N lives) start before after
     looped = record { live = ap set_of p.live ∙ h.live; holds = held }
+
+-- one round, part by part from the last
+pub rounded : (head body next : List TacStmt) (lives : Lives) (a b c d e : Walk) →
+    Walked (point false nothing ∷ []) nothing a b → WalkedAll next (part_lives lives (set_of b.live)) b c →
+    WalkedAll body (part_lives lives (set_of c.live)) c d → WalkedAll head (part_lives lives (set_of d.live)) d e →
+    Walked (round head body next lives) (live_at_start (map trail head) (map trail body) (map trail next) lives) a e
+rounded head body next lives a b c d e end hn hb hh =
+    let gn : WalkedAll next (round_next head body next lives) b c =
+    subst (λ s. WalkedAll next (part_lives lives s) b c) end.live hn in
+    let gb : WalkedAll body (round_body head body next lives) c d =
+    subst (λ s. WalkedAll body (part_lives lives s) c d) gn.live hb in
+    let gh : WalkedAll head (round_head head body next lives) d e =
+    subst (λ s. WalkedAll head (part_lives lives s) d e) gb.live hh in
+    walked_on _ _ _ _ a d e (walked_on _ _ _ _ a c d (walked_on _ _ _ _ a b c end gn) gb) gh
+
+-- a loop as it is walked
+pub cycled : (stmt : TacStmt) (head body next : List TacStmt) (broken continued empty out : List ℕ)
+    (a b c d e f : Walk) → stmt ≡ emit.Loop head body next → empty ≡ [] → out ≡ a.live →
+    Walked (point false (set_of empty) ∷ []) (set_of empty) (record a { live = empty }) b →
+    WalkedAll next (lives_at b.live out b.live) b c → WalkedAll body (lives_at c.live out c.live) c d →
+    WalkedAll head (lives_at d.live out d.live) d e →
+    Passed (record { assigned = None; calls = false; live = set_of e.live }) a.points e f →
+    WalkedOver stmt (lives_at a.live broken continued) a f
+cycled stmt head body next broken continued empty out a b c d e f is none same end hn hb hh last =
+    let lives : Lives = lives_at a.live broken continued in
+    let end' : Walked (point false nothing ∷ []) nothing a b =
+    relived_before _ _ _ _ _ (subst (λ l. Walked (point false (set_of l) ∷ []) (set_of l) (record a { live = l }) b)
+    none end) in
+    let of : (part : List TacStmt) (u v : Walk) → WalkedAll part (lives_at u.live out u.live) u v →
+    WalkedAll part (part_lives lives (set_of u.live)) u v =
+    λ part u v h. subst (λ l. WalkedAll part (lives_at u.live l u.live) u v) same h in
+    over_layer stmt (tac.Loop head body next) lives a f (emit.rolls-Loop head body next ∙ sym is)
+    (looped head body next lives a e f
+    (rounded head body next lives a b c d e end' (of next b c hn) (of body c d hb) (of head d e hh)) last)

@@ -1,9 +1,9 @@
 -- What is known on the way back through a function's code.
-use Rattle.std.specs.Prelude.{◌≡◌, ◌<◌, ℕ, suc, ◌-◌, if◌then◌else◌, false, ◌||◌, ◌==◌, List, ◌∷◌, ◌++◌, map, length, Option, Some, slice_get}
+use Rattle.std.specs.Prelude.{◌≡◌, ◌<◌, ℕ, suc, ◌-◌, if◌then◌else◌, List, ◌++◌, map, length, Option, Some, slice_get}
 use Rattle.sc_tac.specs.declared.interval.Interval.{Interval}
 use Rattle.sc_tac.specs.declared.stmt.TacStmt.{TacStmt}
 use Rattle.sc_tac.specs.Intervals.{is_used}
-use Rattle.sc_tac.specs.Points.{Lives, Point, Set, Trail, ahead_at, live_before, point, row_points, trail}
+use Rattle.sc_tac.specs.Points.{Lives, Point, Set, Trail, ahead_at, live_before, row_points, trail}
 use Rattle.sc_live.specs.declared.marks.Mark.{Mark}
 use Rattle.sc_live.specs.declared.walk.Walk.{Walk}
 use Rattle.sc_live.specs.Marks.{mark_of, marked, nearest_call, set_of}
@@ -41,16 +41,6 @@ WalkedOver stmt lives = Walked ((trail stmt).points lives) (live_first (trail st
 
 abbrev pub WalkedAll : List TacStmt → Lives → Walk → Walk → Type 0
 WalkedAll stmts lives = Walked (row_points (map trail stmts) lives) (live_before (map trail stmts) lives)
-
--- two ways to go on
-abbrev pub live_before_fork : ℕ → List TacStmt → List TacStmt → Lives → Set
-live_before_fork cond first second lives t =
-    cond == t || (live_before (map trail first) lives t || live_before (map trail second) lives t)
-
-abbrev pub fork_points : ℕ → List TacStmt → List TacStmt → Lives → List Point
-fork_points cond first second lives =
-    point false (live_before_fork cond first second lives) ∷
-    row_points (map trail first) lives ++ row_points (map trail second) lives
 
 -- an interval from a mark among all points of a function
 abbrev pub interval_at : ℕ → ℕ → Mark → Interval

@@ -1,9 +1,9 @@
-ghost use Rattle.std.specs.Prelude.{◌≡◌, ◌∷◌, [], ◌&&◌, ◌||◌, not, map, suc, IfOk, Some, true, false};
+ghost use Rattle.std.specs.Prelude.{◌≡◌, ◌∷◌, [], ◌&&◌, ◌||◌, ◌==◌, not, suc, IfOk, Some, true, false};
 ghost use Rattle.sc_tac.specs.Flow.{is_one};
 ghost use Rattle.sc_tac.specs.Parts.{one_or_none};
-ghost use Rattle.sc_tac.specs.Points.{if_calls, live_at_start, loop_points, plain_points, point, trail};
+ghost use Rattle.sc_tac.specs.Points.{if_calls, plain_points, point};
 ghost use Rattle.sc_live.specs.Marks.{set_of};
-ghost use Rattle.sc_live.specs.Walks.{Passed, Walked, WalkedAll, WalkedOver, fork_points, live_before_fork, lives_at};
+ghost use Rattle.sc_live.specs.Walks.{Holds, Passed, Walked, WalkedAll, WalkedOver, lives_at};
 
 use crate::live::LiveSet;
 use crate::marks::{Here, Marks, mark_used};
@@ -41,6 +41,22 @@ fn one_more(number: u32) -> Result<u32, OutOfMemory>
 }
 
 impl Walk {
+    /// A walk that stands behind all points, of a function with so many temporaries.
+    pub fn new(alloc: Global, temps: u32) -> Result<Walk, OutOfMemory>
+        ensures { IfOk result (λ walk. (walk.live ≡ []) × Holds temps walk []) }
+    {
+        let mut marks = Marks::new(alloc);
+        for _ in 0..temps {
+            marks.push(None)?;
+        }
+        Ok(Walk {
+            points: 0,
+            call: None,
+            live: LiveSet::new(alloc),
+            marks,
+        })
+    }
+
     // One point: whether a temporary is assigned and a function called there. What is used there is used to the end.
     fn pass_to(&mut self, assigned: Option<u32>, calls: bool, end: u32) -> Result<(), OutOfMemory>
         ensures { IfOk result (λ _. Passed
@@ -139,6 +155,18 @@ impl Walk {
         Ok(())
     }
 
+    // What is live on the other way too, and the point at which a condition decides.
+    fn join(&mut self, other: &LiveSet, cond: u32) -> Result<(), OutOfMemory>
+        ensures { IfOk result (λ _. Walked
+            (point false (λ t. cond == t || (is_one t other.now || is_one t self.old.live)) ∷ [])
+            (λ t. cond == t || (is_one t other.now || is_one t self.old.live)) self.old self.new) }
+    {
+        self.live.insert_all(other.as_slice())?;
+        self.live.insert(cond)?;
+        self.pass(None, false)?;
+        Ok(())
+    }
+
     // A part of a loop: what is live at its end is live at a `Continue`.
     #[cycle(walk)]
     fn part(&mut self, alloc: Global, broken: &LiveSet, part: &TacStmts) -> Result<(), OutOfMemory>
@@ -150,59 +178,13 @@ impl Walk {
             broken,
             continued: &continued,
         };
-        self.row(alloc, exits, part)
+        self.row(alloc, exits, part)?;
+        Ok(())
     }
 
-    // One round of a loop, with nothing live at its end; what is then live at its start is live all through it.
+    /// Over statements in order, from the last one back.
     #[cycle(walk)]
-    fn cycle(
-        &mut self,
-        alloc: Global,
-        head: &TacStmts,
-        body: &TacStmts,
-        next: &TacStmts,
-    ) -> Result<(), OutOfMemory>
-        ensures { IfOk result (λ _. Walked
-            (loop_points (map trail head.now) (map trail body.now) (map trail next.now) (lives_at self.old.live [] []))
-            (live_at_start (map trail head.now) (map trail body.now) (map trail next.now)
-            (lives_at self.old.live [] []))
-            self.old self.new) }
-    {
-        let end = self.points;
-        let broken = replace(&mut self.live, LiveSet::new(alloc));
-        self.pass(None, false)?;
-        self.part(alloc, &broken, next)?;
-        self.part(alloc, &broken, body)?;
-        self.part(alloc, &broken, head)?;
-        self.pass_to(None, false, end)
-    }
-
-    #[cycle(walk)]
-    fn fork(
-        &mut self,
-        alloc: Global,
-        exits: Exits,
-        cond: u32,
-        first: &TacStmts,
-        second: &TacStmts,
-    ) -> Result<(), OutOfMemory>
-        ensures { IfOk result (λ _. Walked
-            (fork_points cond first.now second.now (lives_at self.old.live exits.entry.broken.now exits.entry.continued.now))
-            (live_before_fork cond first.now second.now
-            (lives_at self.old.live exits.entry.broken.now exits.entry.continued.now))
-            self.old self.new) }
-    {
-        let behind = self.live.copy(alloc)?;
-        self.row(alloc, exits, second)?;
-        let live = replace(&mut self.live, behind);
-        self.row(alloc, exits, first)?;
-        self.live.insert_all(live.as_slice())?;
-        self.read(&[cond])
-    }
-
-    // Statements in order, from the last one back.
-    #[cycle(walk)]
-    fn row(&mut self, alloc: Global, exits: Exits, stmts: &TacStmts) -> Result<(), OutOfMemory>
+    pub fn row(&mut self, alloc: Global, exits: Exits, stmts: &TacStmts) -> Result<(), OutOfMemory>
         ensures { IfOk result (λ _. WalkedAll stmts.now
             (lives_at self.old.live exits.entry.broken.now exits.entry.continued.now) self.old self.new) }
     {
@@ -215,6 +197,7 @@ impl Walk {
         Ok(())
     }
 
+    // Of a loop one round is walked, with nothing live at its end; what is then live at its start is used all through.
     #[cycle(walk)]
     fn stmt(&mut self, alloc: Global, exits: Exits, stmt: &TacStmt) -> Result<(), OutOfMemory>
         ensures { IfOk result (λ _. WalkedOver stmt.now
@@ -222,26 +205,40 @@ impl Walk {
     {
         match stmt {
             TacStmt::Const { dest, .. } => self.plain(&[], false, Some(*dest)),
+            TacStmt::ObjectPlace { dest, .. } => self.plain(&[], false, Some(*dest)),
+            TacStmt::GlobalPlace { dest, .. } => self.plain(&[], false, Some(*dest)),
             TacStmt::Copy { dest, from } => self.plain(&[*from], false, Some(*dest)),
             TacStmt::Op {
                 dest, left, right, ..
             } => self.op(*dest, *left, *right),
-            TacStmt::ObjectPlace { dest, .. } | TacStmt::GlobalPlace { dest, .. } => {
-                self.plain(&[], false, Some(*dest))
-            }
             TacStmt::Load { dest, place, .. } => self.plain(&[*place], false, Some(*dest)),
             TacStmt::Store { place, value } => self.plain(&[*place, *value], false, None),
             TacStmt::If {
                 cond,
                 then_part,
                 else_part,
-            } => self.fork(alloc, exits, *cond, then_part, else_part),
-            TacStmt::Loop { head, body, next } => self.cycle(alloc, head, body, next),
+            } => {
+                let behind = self.live.copy(alloc)?;
+                self.row(alloc, exits, else_part)?;
+                let live = replace(&mut self.live, behind);
+                self.row(alloc, exits, then_part)?;
+                self.join(&live, *cond)?;
+                Ok(())
+            }
+            TacStmt::Loop { head, body, next } => {
+                let end = self.points;
+                let broken = replace(&mut self.live, LiveSet::new(alloc));
+                self.pass(None, false)?;
+                self.part(alloc, &broken, next)?;
+                self.part(alloc, &broken, body)?;
+                self.part(alloc, &broken, head)?;
+                self.pass_to(None, false, end)?;
+                Ok(())
+            }
             TacStmt::Break => self.leave(exits.broken.copy(alloc)?),
             TacStmt::Continue => self.leave(exits.continued.copy(alloc)?),
-            TacStmt::CallOwn { dest, args, .. } | TacStmt::CallCross { dest, args, .. } => {
-                self.plain(args.as_slice(), true, *dest)
-            }
+            TacStmt::CallOwn { dest, args, .. } => self.plain(args.as_slice(), true, *dest),
+            TacStmt::CallCross { dest, args, .. } => self.plain(args.as_slice(), true, *dest),
             TacStmt::Input { dest } => self.plain(&[], false, *dest),
             TacStmt::Output { value } => self.plain(&[*value], false, None),
             TacStmt::Return { value } => self.leave(LiveSet::one(alloc, *value)?),
