@@ -1,9 +1,9 @@
 -- Marks among all points of a function tell its intervals.
-use Rattle.std.proofs.Common.{◌≡◌, ◌≤◌, ◌<◌, ◌+◌, ◌-◌, ℕ, suc, Bool, true, false, List, [], ◌∷◌, map, length, get_or, take, drop, Option, Some, None, refl, sym, ap, ◌∙◌, subst, zero-add, arith, leb, ◌⊎◌, inl, inr}
+use Rattle.std.proofs.Common.{◌≡◌, ◌≤◌, ◌<◌, ◌+◌, ◌-◌, ℕ, suc, Bool, true, false, List, [], ◌∷◌, ◌++◌, map, length, get_or, take, drop, Option, Some, None, refl, sym, ap, ◌∙◌, subst, zero-add, arith, leb, ◌⊎◌, inl, inr}
 use Rattle.std.specs.Prelude.{◌||◌, min, slice_get, if◌then◌else◌}
 use Rattle.std.specs.List.{list_any, range_with_len}
 use Rattle.std.specs.Option.{option_map, unwrap_or}
-use Rattle.std.proofs.lemmas.List.FromFn.{get_or-map-range_with_len, length-map-range_with_len}
+use Rattle.std.proofs.lemmas.List.FromFn.{get_or-map-range_with_len, length-map-range_with_len, map-range_with_len_more}
 use Rattle.std.proofs.lemmas.Option.{get_or_from_slice_get, slice_get_within}
 use Rattle.std.proofs.lemmas.Bool.Decides.{leb_tells}
 use Rattle.sc_tac.specs.declared.interval.Interval.{Interval}
@@ -215,3 +215,9 @@ are_intervals points temps = record {
         (subst (λ n. at < n) (length-map-range_with_len (interval_of points) 0 temps)
         (slice_get_within (map (interval_of points) (range_with_len 0 temps)) at x is)) (zero-add at))
         ∙ get_or_from_slice_get (map (interval_of points) (range_with_len 0 temps)) at x x is
+
+pub one_more : (points : List Point) (t : ℕ) (list : List Interval) (x : Interval) →
+    list ≡ map (interval_of points) (range_with_len 0 t) → x ≡ interval_of points t →
+    list ++ x ∷ [] ≡ map (interval_of points) (range_with_len 0 (t + 1))
+one_more points t list x is found =
+    (λ i. is i ++ found i ∷ []) ∙ sym (map-range_with_len_more (interval_of points) 0 t t (zero-add t))
