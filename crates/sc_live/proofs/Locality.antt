@@ -1,15 +1,13 @@
 -- What a piece of code says of a temporary depends on what is live of that temporary alone.
-use Rattle.std.proofs.Common.{◌≡◌, ℕ, suc, Bool, true, false, List, [], ◌∷◌, ◌++◌, map, length, Option, Some, None, refl, sym, ap, ◌∙◌, subst}
-use Rattle.std.specs.Prelude.{◌&&◌, ◌||◌, ◌==◌, not, if◌then◌else◌}
+use Rattle.std.proofs.Common.{◌≡◌, ℕ, Bool, true, false, List, [], ◌∷◌, ◌++◌, map, Option, Some, None, refl, sym, ap, subst}
+use Rattle.std.specs.Prelude.{◌&&◌, ◌||◌, ◌==◌, not}
 use Rattle.sc_core.proofs.Induction.{Each, everywhere}
 use Rattle.sc_tac.proofs.Induction.{Inside, stmt_induction}
-use Rattle.sc_tac.specs.declared.stmt.TacStmt.{TacStmt, TacStmt-F, fold-roll-TacStmt, map-TacStmt, roll-TacStmt}
+use Rattle.sc_tac.specs.declared.stmt.TacStmt.{TacStmt, TacStmt-F, fold-roll-TacStmt, map-TacStmt}
 use Rattle.sc_tac.specs.declared.stmt.TacStmt.TheOpen as tac
-use Rattle.sc_tac.specs.Flow.{Ahead, is_one, row_first}
-use Rattle.sc_tac.specs.Parts.{one_or_none, temp_assigned, temps_read}
-use Rattle.sc_tac.specs.Intervals.{is_used}
+use Rattle.sc_tac.specs.Flow.{is_one, row_first}
+use Rattle.sc_tac.specs.Parts.{one_or_none}
 use Rattle.sc_tac.specs.Points.{Lives, Point, Set, Trail, ahead_at, if_calls, in_body, in_head, in_next, live_across, live_at_start, live_before, loop_points, part_lives, plain_points, point, readings, row_points, stmt_points, trail, trail_step}
-use Rattle.sc_live.specs.Marks.{mark_here, mark_of, nearest_call}
 
 -- the temporaries at which two ways to go on are the same
 module _ (Here : ℕ → Type 0) where
@@ -77,11 +75,12 @@ module _ (Here : ℕ → Type 0) where
       λ t here i. not (is_one t (one_or_none assigned)) && (h t here i).behind in
       let last : SamePoint (record { assigned = assigned; calls = false; live = lives.behind })
       (record { assigned = assigned; calls = false; live = lives'.behind }) =
-      record { assigned = refl; calls = refl; live = λ t here i. (h t here i).behind } in
-      (same_point false _ _ (λ t here i. is_one t reads || across t here i),
-      same_append (if_calls calls (point true (live_across reads calls assigned lives)))
-      (if_calls calls (point true (live_across reads calls assigned lives'))) _ _ (call_same calls _ _ across)
-      (last, tt))
+      record { assigned = refl; calls = refl; live = λ t here i. (h t here i).behind } in (
+        same_point false _ _ (λ t here i. is_one t reads || across t here i),
+        same_append (if_calls calls (point true (live_across reads calls assigned lives)))
+            (if_calls calls (point true (live_across reads calls assigned lives'))) _ _ (call_same calls _ _ across)
+            (last, tt),
+      )
     where
       call_same : (calls : Bool) (s s' : Set) → SameSet s s' →
           SamePoints (if_calls calls (point true s)) (if_calls calls (point true s'))
@@ -104,9 +103,11 @@ module _ (Here : ℕ → Type 0) where
         let gb : SameLives (in_body H B N lives) (in_body H B N lives') =
         part_same lives lives' _ _ behind (before_same next _ _ gn) in
         let gh : SameLives (in_head H B N lives) (in_head H B N lives') =
-        part_same lives lives' _ _ behind (before_same body _ _ gb) in
-        (same_point false _ _ start, same_append _ _ _ _ (row_same head hh _ _ gh) (same_append _ _ _ _
-        (row_same body hb _ _ gb) (same_append _ _ _ _ (row_same next hn _ _ gn) (alone _ _ start))))
+        part_same lives lives' _ _ behind (before_same body _ _ gb) in (
+          same_point false _ _ start,
+          same_append _ _ _ _ (row_same head hh _ _ gh) (same_append _ _ _ _
+              (row_same body hb _ _ gb) (same_append _ _ _ _ (row_same next hn _ _ gn) (alone _ _ start))),
+        )
 
   LayerSame : TacStmt-F TacStmt → Type 0
   LayerSame layer = (lives lives' : Lives) → SameLives lives lives' →
@@ -121,10 +122,11 @@ module _ (Here : ℕ → Type 0) where
   layer_same (tac.GlobalPlace dest global) h = plain_same [] false (Some dest)
   layer_same (tac.Load dest place pointer) h = plain_same (place ∷ []) false (Some dest)
   layer_same (tac.Store place value) h = plain_same (place ∷ value ∷ []) false None
-  layer_same (tac.If cond first second) h = λ lives lives' g.
-      (same_point false _ _ (λ t here i. cond == t || (before_same first lives lives' g t here i
-      || before_same second lives lives' g t here i)),
-      same_append _ _ _ _ (row_same first h.0 lives lives' g) (row_same second h.1 lives lives' g))
+  layer_same (tac.If cond first second) h = λ lives lives' g. (
+    same_point false _ _ (λ t here i. cond == t || (before_same first lives lives' g t here i
+        || before_same second lives lives' g t here i)),
+    same_append _ _ _ _ (row_same first h.0 lives lives' g) (row_same second h.1 lives lives' g),
+  )
   layer_same (tac.Loop head body next) h = loop_same head body next h.0 h.1 h.2
   layer_same tac.Break h = λ lives lives' g. alone _ _ (λ t here i. (g t here i).broken)
   layer_same tac.Continue h = λ lives lives' g. alone _ _ (λ t here i. (g t here i).continued)

@@ -11,9 +11,9 @@ use Rattle.sc_tac.specs.Intervals.{is_used}
 use Rattle.sc_tac.specs.Points.{Lives, Point, Set, Trail, in_body, in_head, in_next, live_at_start, live_before, loop_points, nothing, part_lives, point, row_points, trail}
 use Rattle.sc_live.specs.declared.marks.Mark.{Mark}
 use Rattle.sc_live.specs.declared.walk.Walk.{Walk}
-use Rattle.sc_live.specs.Marks.{mark_from, mark_here, mark_of, mark_to, marked, nearest_call, set_of}
+use Rattle.sc_live.specs.Marks.{mark_from, mark_here, mark_of, marked, nearest_call, set_of}
 use Rattle.sc_live.specs.Walks.{Holds, Passed, Walked, WalkedAll, WalkedOver, lives_at}
-use Rattle.sc_live.proofs.Locality.{SamePoint, SamePoints, SameLives, SameSet, all_local, alone, before_same, part_same, same_append}
+use Rattle.sc_live.proofs.Locality.{SamePoints, SameLives, SameSet, all_local, alone, before_same, part_same, same_append}
 use Rattle.sc_live.proofs.Marking.{ends_within, here_last, last_or, to_last}
 use Rattle.sc_live.proofs.Walking.{over_layer, relived_before, walked_on}
 
@@ -59,9 +59,9 @@ capped_behind t at (x ∷ xs) ys h =
     let on : List Point = xs ++ ys in
     elim (is_used t x) as (λ used. min (last_or at (if used then Some (mark_here (length on) (nearest_call (x ∷ on))
     (mark_of t on)) else mark_of t on)) (length ys) ≡ last_or (length ys) (mark_of t ys)) [
-      true ↦ rw (here_last (length on) (nearest_call (x ∷ on)) (mark_of t on))
+      | true ↦ rw (here_last (length on) (nearest_call (x ∷ on)) (mark_of t on))
           (capped_behind t (length on) xs ys (longer xs ys))
-    | false ↦ capped_behind t at xs ys h
+      | false ↦ capped_behind t at xs ys h
     ]
   where
     longer : (xs ys : List Point) → length ys ≤ length (xs ++ ys)
@@ -76,9 +76,9 @@ ends_behind t at mark (x ∷ xs) ys is =
     let on : List Point = xs ++ ys in
     elim (is_used t x) as (λ used. last_or at (if used then Some (mark_here (length on) (nearest_call (x ∷ on))
     (mark_of t on)) else mark_of t on) ≡ mark.last) [
-      true ↦ rw (here_last (length on) (nearest_call (x ∷ on)) (mark_of t on))
+      | true ↦ rw (here_last (length on) (nearest_call (x ∷ on)) (mark_of t on))
           (ends_behind t (length on) mark xs ys is)
-    | false ↦ ends_behind t at mark xs ys is
+      | false ↦ ends_behind t at mark xs ys is
     ]
 
 -- ROUNDS
@@ -137,7 +137,8 @@ module _ (head body next : List TacStmt) (lives : Lives) where
       (same_append Here _ _ _ _ (all_local Here next _ _ gn) (alone Here _ _ end)))
 
   module _ (before between after : Walk) (h : Walked round start before between)
-      (p : Passed (record { assigned = None; calls = false; live = set_of between.live }) before.points between after) where
+      (p : Passed (record { assigned = None; calls = false; live = set_of between.live }) before.points between
+      after) where
     module _ (temps : ℕ) (behind : List Point) (g : Holds temps before behind) where
       k : Holds temps between (round ++ behind)
       k = h.holds temps behind g
@@ -174,7 +175,8 @@ module _ (head body next : List TacStmt) (lives : Lives) where
           let last : Mark = mark_here end (nearest_call behind) (mark_of t behind) in
           ap (λ x. last_or at (mark_of t x)) (regrouped (row_points H (in_head H B N lives))
           (row_points B (in_body H B N lives)) (row_points N (in_next H B N lives)) (point false start ∷ []) behind)
-          ∙ ends_behind t at last front (point false start ∷ behind) (ap (λ u. if u then Some last else mark_of t behind) live)
+          ∙ ends_behind t at last front (point false start ∷ behind)
+          (ap (λ u. if u then Some last else mark_of t behind) live)
           ∙ ap (λ mark. mark.last) (here_last end (nearest_call behind) (mark_of t behind))
 
       settled : (t : ℕ) (used : Bool) → start t ≡ used →

@@ -1,6 +1,6 @@
 -- Marks of temporaries, point by point.
-use Rattle.std.proofs.Common.{◌≡◌, ◌≤◌, ◌<◌, ◌+◌, ℕ, suc, Bool, true, false, List, [], ◌∷◌, ◌++◌, length, refl, sym, ap, ◌∙◌, subst, Option, Some, None, arith}
-use Rattle.std.specs.Prelude.{◌||◌, min, slice_get, if◌then◌else◌}
+use Rattle.std.proofs.Common.{◌≡◌, ◌≤◌, ◌<◌, ℕ, suc, Bool, true, false, List, [], ◌∷◌, length, refl, sym, ap, ◌∙◌, Option, Some, None, arith}
+use Rattle.std.specs.Prelude.{min, slice_get, if◌then◌else◌}
 use Rattle.sc_tac.specs.Intervals.{is_used}
 use Rattle.sc_tac.specs.Points.{Point}
 use Rattle.sc_live.specs.declared.marks.Mark.{Mark}
@@ -29,9 +29,9 @@ ends_within t at [] h = omega arith
 ends_within t at (x ∷ xs) h =
     elim (is_used t x) as (λ used. last_or at (if used then Some (mark_here (length xs) (nearest_call (x ∷ xs))
     (mark_of t xs)) else mark_of t xs) ≤ at) [
-      true ↦ rw (here_last (length xs) (nearest_call (x ∷ xs)) (mark_of t xs))
+      | true ↦ rw (here_last (length xs) (nearest_call (x ∷ xs)) (mark_of t xs))
           (omega (arith, ends_within t (length xs) xs (omega arith)))
-    | false ↦ ends_within t at xs (omega arith)
+      | false ↦ ends_within t at xs (omega arith)
     ]
 
 min_stays : (n at : ℕ) → n ≤ at → min n at ≡ n

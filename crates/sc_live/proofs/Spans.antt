@@ -1,6 +1,6 @@
 -- Marks among all points of a function tell its intervals.
-use Rattle.std.proofs.Common.{◌≡◌, ◌≤◌, ◌<◌, ◌+◌, ◌-◌, ℕ, suc, Bool, true, false, List, [], ◌∷◌, ◌++◌, map, length, get_or, take, drop, Option, Some, None, refl, sym, ap, ◌∙◌, subst, zero-add, arith, leb, ◌⊎◌, inl, inr}
-use Rattle.std.specs.Prelude.{◌||◌, min, slice_get, if◌then◌else◌}
+use Rattle.std.proofs.Common.{◌≡◌, ◌≤◌, ◌<◌, ◌+◌, ◌-◌, ℕ, suc, Bool, true, false, List, [], ◌∷◌, ◌++◌, map, length, take, drop, Option, Some, None, refl, sym, ap, ◌∙◌, subst, zero-add, arith, leb, ◌⊎◌, inl, inr}
+use Rattle.std.specs.Prelude.{◌||◌, slice_get, if◌then◌else◌}
 use Rattle.std.specs.List.{list_any, range_with_len}
 use Rattle.std.specs.Option.{option_map, unwrap_or}
 use Rattle.std.proofs.lemmas.List.FromFn.{get_or-map-range_with_len, length-map-range_with_len, map-range_with_len_more}
@@ -13,7 +13,7 @@ use Rattle.sc_live.specs.declared.marks.Mark.{Mark}
 use Rattle.sc_live.specs.Marks.{is_met, mark_from, mark_here, mark_of, nearest_call}
 use Rattle.sc_live.specs.declared.walk.Walk.{Walk}
 use Rattle.sc_live.specs.Walks.{Holds, interval_at}
-use Rattle.sc_live.proofs.Marking.{ends_within, here_last, last_or}
+use Rattle.sc_live.proofs.Marking.{ends_within, here_last}
 
 -- counted from the first point
 abbrev flip : ℕ → Mark → Span
@@ -36,9 +36,9 @@ spans t n at (x ∷ xs) is =
     elim (is_used t x) as (λ used. (if used then Some (from_here at (span_from t (suc at) xs))
     else span_from t (suc at) xs)
     ≡ option_map (flip n) (if used then Some (mark_here (length xs) call (mark_of t xs)) else mark_of t xs)) [
-      true ↦ ap (λ later. Some (from_here at later)) (spans t n (suc at) xs more)
+      | true ↦ ap (λ later. Some (from_here at later)) (spans t n (suc at) xs more)
           ∙ ap Some (here_flips n at (length xs) call (mark_of t xs) more)
-    | false ↦ spans t n (suc at) xs more
+      | false ↦ spans t n (suc at) xs more
     ]
 
 -- CALLS
@@ -60,8 +60,8 @@ met_more last x xs k (inr h) =
     let none : suc (length xs) - last ≡ 0 = omega (arith, h.1) in
     let fewer : length xs - last ≡ 0 = omega (arith, h.1) in
     elim x.calls as (λ b. is_met (if b then Some (length xs) else nearest_call xs) last ≡ false) [
-      true ↦ h.0
-    | false ↦ k ∙ ap (λ n. any_call (take n xs)) fewer
+      | true ↦ h.0
+      | false ↦ k ∙ ap (λ n. any_call (take n xs)) fewer
     ] ∙ ap (λ n. any_call (take n (x ∷ xs))) (sym none)
 
 -- the nearest call is met where there is one in front of what stands behind
@@ -80,9 +80,9 @@ inside t [] = tt
 inside t (x ∷ xs) =
     elim (is_used t x) as (λ used. Inside (suc (length xs)) (if used then Some (mark_here (length xs)
     (nearest_call (x ∷ xs)) (mark_of t xs)) else mark_of t xs)) [
-      true ↦ rw (here_last (length xs) (nearest_call (x ∷ xs)) (mark_of t xs))
+      | true ↦ rw (here_last (length xs) (nearest_call (x ∷ xs)) (mark_of t xs))
           (omega arith, omega (arith, ends_within t (length xs) xs (omega arith)))
-    | false ↦ longer (mark_of t xs) (inside t xs)
+      | false ↦ longer (mark_of t xs) (inside t xs)
     ]
   where
     longer : (known : Option Mark) → Inside (length xs) known → Inside (suc (length xs)) known
@@ -101,7 +101,7 @@ longer_calls x xs (Some mark) h k =
     let n : ℕ = length xs in
     let first : suc n - 1 - mark.first ≡ suc (n - 1 - mark.first) = omega (arith, h.0) in
     let count : suc (n - 1 - mark.last) - (n - 1 - mark.first)
-        ≡ suc (suc n - 1 - mark.last) - (suc n - 1 - mark.first) = omega (arith, h.0, h.1) in
+    ≡ suc (suc n - 1 - mark.last) - (suc n - 1 - mark.first) = omega (arith, h.0, h.1) in
     k
     ∙ ap (λ m. any_call (take m (drop (n - 1 - mark.first) xs))) count
     ∙ ap (λ m. any_call (take (suc (suc n - 1 - mark.last) - (suc n - 1 - mark.first)) (drop m (x ∷ xs)))) (sym first)
@@ -111,8 +111,9 @@ calls t [] = tt
 calls t (x ∷ xs) =
     elim (is_used t x) as (λ used. Calls (x ∷ xs) (if used then Some (mark_here (length xs)
     (nearest_call (x ∷ xs)) (mark_of t xs)) else mark_of t xs)) [
-      true ↦ rw (here_last (length xs) (nearest_call (x ∷ xs)) (mark_of t xs)) (here _ (ends_within t (length xs) xs (omega arith)))
-    | false ↦ longer_calls x xs (mark_of t xs) (inside t xs) (calls t xs)
+      | true ↦ rw (here_last (length xs) (nearest_call (x ∷ xs)) (mark_of t xs))
+          (here _ (ends_within t (length xs) xs (omega arith)))
+      | false ↦ longer_calls x xs (mark_of t xs) (inside t xs) (calls t xs)
     ]
   where
     here : (last : ℕ) → last ≤ length xs →
@@ -183,13 +184,14 @@ from t at [] = tt
 from t at (x ∷ xs) =
     elim (is_used t x) as (λ used. From at (if used then Some (from_here at (span_from t (suc at) xs))
     else span_from t (suc at) xs)) [
-      true ↦ begins (span_from t (suc at) xs) (from t (suc at) xs)
-    | false ↦ earlier (span_from t (suc at) xs) (from t (suc at) xs)
+      | true ↦ begins (span_from t (suc at) xs) (from t (suc at) xs)
+      | false ↦ earlier (span_from t (suc at) xs) (from t (suc at) xs)
     ]
   where
     begins : (later : Option Span) → From (suc at) later → From at (Some (from_here at later))
     begins None h = (omega arith, omega arith)
     begins (Some span) h = (omega arith, omega (arith, h.0, h.1))
+
     earlier : (later : Option Span) → From (suc at) later → From at later
     earlier None h = tt
     earlier (Some span) h = (omega (arith, h.0), h.1)

@@ -36,7 +36,8 @@ pub walked_on : (xs ys : List Point) (set set' : Set) (before between after : Wa
 walked_on xs ys set set' before between after h k = record {
   live = k.live;
   holds = λ temps behind g.
-      subst (Holds temps after) (sym (append_assoc xs ys behind)) (k.holds temps (ys ++ behind) (h.holds temps behind g));
+      subst (Holds temps after) (sym (append_assoc xs ys behind))
+      (k.holds temps (ys ++ behind) (h.holds temps behind g));
 }
 
 pub walked_none : (walk : Walk) → Walked [] (set_of walk.live) walk walk
@@ -120,9 +121,10 @@ pub stepped : (list : List TacStmt) (at : ℕ) (stmt : TacStmt) (lives : Lives) 
 stepped list at stmt lives a b c some within is h k =
     let next : suc (at - 1) ≡ at = omega (arith, some) in
     let parted : stmt ∷ drop at list ≡ drop (at - 1) list =
-    (λ i. is i ∷ drop (sym next i) list) ∙ sym (drop-cons list (at - 1) stmt (omega (arith, some, within))) in
-    (omega (arith, within),
-    subst (λ x. WalkedAll x lives a c) parted (row_walked stmt (drop at list) lives a b c h k))
+    (λ i. is i ∷ drop (sym next i) list) ∙ sym (drop-cons list (at - 1) stmt (omega (arith, some, within))) in (
+      omega (arith, within),
+      subst (λ x. WalkedAll x lives a c) parted (row_walked stmt (drop at list) lives a b c h k),
+    )
 
 -- a part of a loop, which goes on at its end
 pub part_walked : (part : List TacStmt) (broken continued : List ℕ) (a b : Walk) → continued ≡ a.live →

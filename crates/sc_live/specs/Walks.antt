@@ -1,5 +1,5 @@
 -- What is known on the way back through a function's code.
-use Rattle.std.specs.Prelude.{◌≡◌, ◌<◌, ℕ, suc, ◌-◌, if◌then◌else◌, List, ◌++◌, map, length, Option, Some, slice_get}
+use Rattle.std.specs.Prelude.{◌≡◌, ◌<◌, ℕ, suc, ◌-◌, if◌then◌else◌, List, ◌++◌, map, length, Some, slice_get}
 use Rattle.sc_tac.specs.declared.interval.Interval.{Interval}
 use Rattle.sc_tac.specs.declared.stmt.TacStmt.{TacStmt}
 use Rattle.sc_tac.specs.Intervals.{is_used}

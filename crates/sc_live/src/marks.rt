@@ -76,7 +76,8 @@ fn mark_all(marks: &mut Marks, here: Here, temps: &[u32])
 /// The temporary that is assigned here, and those that are live, are used here.
 pub fn mark_used(marks: &mut Marks, here: Here, assigned: Option<u32>, live: &LiveSet)
     ensures { (t : ℕ) → slice_get marks.new t ≡
-        marked here.at here.call here.end (is_one t (one_or_none assigned) || is_one t live.now) (slice_get marks.old t) }
+        marked here.at here.call here.end (is_one t (one_or_none assigned) || is_one t live.now)
+        (slice_get marks.old t) }
 {
     if let Some(temp) = assigned {
         mark_one(marks, here, temp);

@@ -31,6 +31,7 @@ pub struct Exits<'a> {
     pub continued: &'a LiveSet,
 }
 
+// There is no memory for more than 4294967295 points.
 fn one_more(number: u32) -> Result<u32, OutOfMemory>
     ensures { IfOk result (λ more. more ≡ suc number) }
 {
@@ -121,7 +122,12 @@ impl Walk {
     }
 
     // A statement without others inside.
-    fn plain(&mut self, reads: &[u32], calls: bool, assigned: Option<u32>) -> Result<(), OutOfMemory>
+    fn plain(
+        &mut self,
+        reads: &[u32],
+        calls: bool,
+        assigned: Option<u32>,
+    ) -> Result<(), OutOfMemory>
         ensures { IfOk result (λ _. Walked
             (plain_points reads.now calls assigned (lives_at self.old.live [] []))
             (λ t. is_one t reads.now || (not (is_one t (one_or_none assigned)) && is_one t self.old.live))
@@ -209,7 +215,10 @@ impl Walk {
             TacStmt::GlobalPlace { dest, .. } => self.plain(&[], false, Some(*dest)),
             TacStmt::Copy { dest, from } => self.plain(&[*from], false, Some(*dest)),
             TacStmt::Op {
-                dest, left, right, ..
+                dest,
+                left,
+                right,
+                ..
             } => self.op(*dest, *left, *right),
             TacStmt::Load { dest, place, .. } => self.plain(&[*place], false, Some(*dest)),
             TacStmt::Store { place, value } => self.plain(&[*place, *value], false, None),

@@ -12,4 +12,5 @@ loop-temp-preserved c =
     (subst (λ f. c.loop-temp.temp < f.temps) c.tree.ensures.tree c.loop-temp-test.true))
 
 pub new-requires : goal.new-requires
-new-requires c = subst AreIntervals (sym c.loop-temp.invariant) (are_intervals (function_points c.args.f.now) c.loop-temp.temp)
+new-requires c =
+    subst AreIntervals (sym c.loop-temp.invariant) (are_intervals (function_points c.args.f.now) c.loop-temp.temp)

@@ -1,4 +1,4 @@
-use Rattle.std.proofs.Common.{ap, sym}
+use Rattle.std.proofs.Common.{ap}
 use Rattle.std.specs.Prelude.{[], ◌∷◌, false}
 use Rattle.sc_tac.specs.Points.{point}
 use Rattle.sc_live.proofs.LiveSets.{set_is}
