@@ -4,6 +4,8 @@
 #[cfg(test)]
 mod code;
 #[cfg(test)]
+mod intervals;
+#[cfg(test)]
 mod lowering;
 #[cfg(test)]
 mod parts;

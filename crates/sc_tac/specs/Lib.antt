@@ -1,8 +1,12 @@
 pub mod Branches
 pub mod Code
 pub mod Flow
+pub mod Frames
 pub mod Functions
+pub mod Intervals
 pub mod Laws
 pub mod Parts
+pub mod Places
+pub mod Points
 pub mod Programs
 pub mod Weights

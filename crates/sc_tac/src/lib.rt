@@ -2,15 +2,21 @@
 #![tactic(auto)]
 
 mod branches;
+mod frame;
 mod function;
+mod interval;
 mod laws;
+mod place;
 mod program;
 mod registers;
 mod stmt;
 mod weigh;
 
+pub use frame::{Frame, FrameTree, Offsets};
 pub use function::{ObjectCells, TacFn, TacFnTree, TacFns};
+pub use interval::{Interval, Intervals};
 pub use laws::{code_obeys, wrapped_code_agrees};
+pub use place::{Place, Places};
 pub use program::{Tac, TacSection, TacSections, TacTree};
 pub use registers::reg_count;
 pub use stmt::{Constant, TacOp, TacStmt, TacStmts, Temps};

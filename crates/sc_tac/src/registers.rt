@@ -1,8 +1,9 @@
 ghost use Rattle.std.specs.Prelude.{◌≡◌};
+ghost use Rattle.sc_tac.specs.Places.{register_count};
 
 /// How many registers temporaries may lie in: the places of registers are the numbers below.
 pub fn reg_count() -> u32
-    ensures { result ≡ 18 }
+    ensures { result ≡ register_count }
 {
     18
 }

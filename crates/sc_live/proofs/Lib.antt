@@ -1,0 +1,7 @@
+pub mod LiveSets
+pub mod Locality
+pub mod Looping
+pub mod Marking
+pub mod Spans
+pub mod Starting
+pub mod Walking

@@ -1,0 +1,225 @@
+-- Marks among all points of a function tell its intervals.
+use Rattle.std.proofs.Common.{◌≡◌, ◌≤◌, ◌<◌, ◌+◌, ◌-◌, ℕ, suc, Bool, true, false, List, [], ◌∷◌, ◌++◌, map, length, take, drop, Option, Some, None, refl, sym, ap, ◌∙◌, subst, zero-add, arith, leb, ◌⊎◌, inl, inr}
+use Rattle.std.specs.Prelude.{◌||◌, slice_get, if◌then◌else◌}
+use Rattle.std.specs.List.{list_any, range_with_len}
+use Rattle.std.specs.Option.{option_map, unwrap_or}
+use Rattle.std.proofs.lemmas.List.FromFn.{get_or-map-range_with_len, length-map-range_with_len, map-range_with_len_more}
+use Rattle.std.proofs.lemmas.Option.{get_or_from_slice_get, slice_get_within}
+use Rattle.std.proofs.lemmas.Bool.Decides.{leb_tells}
+use Rattle.sc_tac.specs.declared.interval.Interval.{Interval}
+use Rattle.sc_tac.specs.Intervals.{AreIntervals, Span, from_here, has_call, interval_of, is_used, or_first, span_from}
+use Rattle.sc_tac.specs.Points.{Point}
+use Rattle.sc_live.specs.declared.marks.Mark.{Mark}
+use Rattle.sc_live.specs.Marks.{is_met, mark_from, mark_here, mark_of, nearest_call}
+use Rattle.sc_live.specs.declared.walk.Walk.{Walk}
+use Rattle.sc_live.specs.Walks.{Holds, interval_at}
+use Rattle.sc_live.proofs.Marking.{ends_within, here_last}
+
+-- counted from the first point
+abbrev flip : ℕ → Mark → Span
+flip n mark = record { first = n - 1 - mark.first; last = n - 1 - mark.last }
+
+-- SPANS
+here_flips : (n at behind : ℕ) (call : Option ℕ) (known : Option Mark) → n ≡ suc at + behind →
+    from_here at (option_map (flip n) known) ≡ flip n (mark_here behind call known)
+here_flips n at behind call None is =
+    let here : at ≡ n - 1 - behind = omega (arith, is) in λ i. record { first = here i; last = here i }
+here_flips n at behind call (Some later) is =
+    let here : at ≡ n - 1 - behind = omega (arith, is) in λ i. record { first = here i; last = n - 1 - later.last }
+
+spans : (t n at : ℕ) (points : List Point) → n ≡ at + length points →
+    span_from t at points ≡ option_map (flip n) (mark_of t points)
+spans t n at [] is = refl
+spans t n at (x ∷ xs) is =
+    let call : Option ℕ = nearest_call (x ∷ xs) in
+    let more : n ≡ suc at + length xs = omega (arith, is) in
+    elim (is_used t x) as (λ used. (if used then Some (from_here at (span_from t (suc at) xs))
+    else span_from t (suc at) xs)
+    ≡ option_map (flip n) (if used then Some (mark_here (length xs) call (mark_of t xs)) else mark_of t xs)) [
+      | true ↦ ap (λ later. Some (from_here at later)) (spans t n (suc at) xs more)
+          ∙ ap Some (here_flips n at (length xs) call (mark_of t xs) more)
+      | false ↦ spans t n (suc at) xs more
+    ]
+
+-- CALLS
+abbrev any_call : List Point → Bool
+any_call points = list_any (λ x. x.calls) points
+
+abbrev Met : ℕ → List Point → Type 0
+Met last points = is_met (nearest_call points) last ≡ any_call (take (length points - last) points)
+
+met_more : (last : ℕ) (x : Point) (xs : List Point) → Met last xs →
+    ((leb last (length xs) ≡ true) × (last ≤ length xs)) ⊎ ((leb last (length xs) ≡ false) × (length xs < last)) →
+    Met last (x ∷ xs)
+met_more last x xs k (inl h) =
+    let more : suc (length xs) - last ≡ suc (length xs - last) = omega (arith, h.1) in
+    elim x.calls as (λ b. is_met (if b then Some (length xs) else nearest_call xs) last
+    ≡ (b || any_call (take (length xs - last) xs))) [ true ↦ h.0 | false ↦ k ]
+    ∙ ap (λ n. any_call (take n (x ∷ xs))) (sym more)
+met_more last x xs k (inr h) =
+    let none : suc (length xs) - last ≡ 0 = omega (arith, h.1) in
+    let fewer : length xs - last ≡ 0 = omega (arith, h.1) in
+    elim x.calls as (λ b. is_met (if b then Some (length xs) else nearest_call xs) last ≡ false) [
+      | true ↦ h.0
+      | false ↦ k ∙ ap (λ n. any_call (take n xs)) fewer
+    ] ∙ ap (λ n. any_call (take n (x ∷ xs))) (sym none)
+
+-- the nearest call is met where there is one in front of what stands behind
+met : (last : ℕ) (points : List Point) → Met last points
+met last [] =
+    let none : 0 ≡ 0 - last = omega arith in ap (λ n. any_call (take n [])) none
+met last (x ∷ xs) = met_more last x xs (met last xs) (leb_tells last (length xs))
+
+-- both ends of a mark are among the points
+abbrev Inside : ℕ → Option Mark → Type 0
+Inside n None = Unit {0}
+Inside n (Some mark) = (mark.first < n) × (mark.last < n)
+
+inside : (t : ℕ) (points : List Point) → Inside (length points) (mark_of t points)
+inside t [] = tt
+inside t (x ∷ xs) =
+    elim (is_used t x) as (λ used. Inside (suc (length xs)) (if used then Some (mark_here (length xs)
+    (nearest_call (x ∷ xs)) (mark_of t xs)) else mark_of t xs)) [
+      | true ↦ rw (here_last (length xs) (nearest_call (x ∷ xs)) (mark_of t xs))
+          (omega arith, omega (arith, ends_within t (length xs) xs (omega arith)))
+      | false ↦ longer (mark_of t xs) (inside t xs)
+    ]
+  where
+    longer : (known : Option Mark) → Inside (length xs) known → Inside (suc (length xs)) known
+    longer None h = tt
+    longer (Some mark) h = (omega (arith, h.0), omega (arith, h.1))
+
+-- a mark tells whether a function is called at a point of it
+abbrev Calls : List Point → Option Mark → Type 0
+Calls points None = Unit {0}
+Calls points (Some mark) = mark.spans_call ≡ has_call points (flip (length points) mark)
+
+longer_calls : (x : Point) (xs : List Point) (known : Option Mark) → Inside (length xs) known → Calls xs known →
+    Calls (x ∷ xs) known
+longer_calls x xs None h k = tt
+longer_calls x xs (Some mark) h k =
+    let n : ℕ = length xs in
+    let first : suc n - 1 - mark.first ≡ suc (n - 1 - mark.first) = omega (arith, h.0) in
+    let count : suc (n - 1 - mark.last) - (n - 1 - mark.first)
+    ≡ suc (suc n - 1 - mark.last) - (suc n - 1 - mark.first) = omega (arith, h.0, h.1) in
+    k
+    ∙ ap (λ m. any_call (take m (drop (n - 1 - mark.first) xs))) count
+    ∙ ap (λ m. any_call (take (suc (suc n - 1 - mark.last) - (suc n - 1 - mark.first)) (drop m (x ∷ xs)))) (sym first)
+
+calls : (t : ℕ) (points : List Point) → Calls points (mark_of t points)
+calls t [] = tt
+calls t (x ∷ xs) =
+    elim (is_used t x) as (λ used. Calls (x ∷ xs) (if used then Some (mark_here (length xs)
+    (nearest_call (x ∷ xs)) (mark_of t xs)) else mark_of t xs)) [
+      | true ↦ rw (here_last (length xs) (nearest_call (x ∷ xs)) (mark_of t xs))
+          (here _ (ends_within t (length xs) xs (omega arith)))
+      | false ↦ longer_calls x xs (mark_of t xs) (inside t xs) (calls t xs)
+    ]
+  where
+    here : (last : ℕ) → last ≤ length xs →
+        is_met (nearest_call (x ∷ xs)) last
+        ≡ has_call (x ∷ xs) (flip (suc (length xs)) (mark_from (length xs) (nearest_call (x ∷ xs)) last))
+    here last h =
+        let first : suc (length xs) - 1 - length xs ≡ 0 = omega arith in
+        let count : suc (length xs) - last ≡ suc (suc (length xs) - 1 - last) - 0 = omega (arith, h) in
+        met last (x ∷ xs) ∙ ap (λ n. any_call (take n (x ∷ xs))) count
+        ∙ ap (λ n. any_call (take (suc (suc (length xs) - 1 - last) - n) (drop n (x ∷ xs)))) (sym first)
+
+-- INTERVALS
+whole : (t : ℕ) (points : List Point) (known : Option Mark) → Calls points known →
+    interval_at t (length points) (unwrap_or known (mark_from (length points - 1) (nearest_call points)
+    (length points - 1)))
+    ≡ record {
+      temp = t;
+      first = (or_first (option_map (flip (length points)) known)).first;
+      last = (or_first (option_map (flip (length points)) known)).last;
+      spans_call = has_call points (or_first (option_map (flip (length points)) known));
+    }
+whole t points None h =
+    let none : length points - 1 - (length points - 1) ≡ 0 = omega arith in
+    λ i. record { temp = t; first = none i; last = none i; spans_call = first_call points i }
+  where
+    first_call : (points : List Point) →
+        is_met (nearest_call points) (length points - 1) ≡ has_call points (record { first = 0; last = 0 })
+    first_call [] = refl
+    first_call (x ∷ xs) =
+        let one : suc (length xs) - (suc (length xs) - 1) ≡ suc 0 - 0 = omega arith in
+        met (suc (length xs) - 1) (x ∷ xs) ∙ ap (λ n. any_call (take n (x ∷ xs))) one
+whole t points (Some mark) h = λ i. record {
+  temp = t;
+  first = length points - 1 - mark.first;
+  last = length points - 1 - mark.last;
+  spans_call = h i;
+}
+
+pub interval_is : (t : ℕ) (points : List Point) →
+    interval_at t (length points) (unwrap_or (mark_of t points) (mark_from (length points - 1) (nearest_call points)
+    (length points - 1)))
+    ≡ interval_of points t
+interval_is t points =
+    whole t points (mark_of t points) (calls t points)
+    ∙ ap (λ s. record {
+      temp = t;
+      first = (or_first s).first;
+      last = (or_first s).last;
+      spans_call = has_call points (or_first s);
+    }) (sym (spans t (length points) 0 points (sym (zero-add (length points)))))
+
+pub interval_known : (t : ℕ) (walk : Walk) (temps : ℕ) (points : List Point) → Holds temps walk points → t < temps →
+    interval_at t walk.points (unwrap_or (unwrap_or (slice_get walk.marks t) None)
+    (mark_from (walk.points - 1) walk.call (walk.points - 1)))
+    ≡ interval_of points t
+interval_known t walk temps points h within =
+    (λ i. interval_at t (h.counted i) (unwrap_or (unwrap_or (h.marks t within i) None)
+    (mark_from (h.counted i - 1) (h.call i) (h.counted i - 1))))
+    ∙ interval_is t points
+
+-- spans that begin no earlier than a point, and end no earlier than they begin
+abbrev From : ℕ → Option Span → Type 0
+From at None = Unit {0}
+From at (Some span) = (at ≤ span.first) × (span.first ≤ span.last)
+
+from : (t at : ℕ) (points : List Point) → From at (span_from t at points)
+from t at [] = tt
+from t at (x ∷ xs) =
+    elim (is_used t x) as (λ used. From at (if used then Some (from_here at (span_from t (suc at) xs))
+    else span_from t (suc at) xs)) [
+      | true ↦ begins (span_from t (suc at) xs) (from t (suc at) xs)
+      | false ↦ earlier (span_from t (suc at) xs) (from t (suc at) xs)
+    ]
+  where
+    begins : (later : Option Span) → From (suc at) later → From at (Some (from_here at later))
+    begins None h = (omega arith, omega arith)
+    begins (Some span) h = (omega arith, omega (arith, h.0, h.1))
+
+    earlier : (later : Option Span) → From (suc at) later → From at later
+    earlier None h = tt
+    earlier (Some span) h = (omega (arith, h.0), h.1)
+
+in_order : (points : List Point) (t : ℕ) → (interval_of points t).first ≤ (interval_of points t).last
+in_order points t = ordered (span_from t 0 points) (from t 0 points)
+  where
+    ordered : (span : Option Span) → From 0 span → (or_first span).first ≤ (or_first span).last
+    ordered None h = omega arith
+    ordered (Some span) h = h.1
+
+pub are_intervals : (points : List Point) (temps : ℕ) →
+    AreIntervals (map (interval_of points) (range_with_len 0 temps))
+are_intervals points temps = record {
+  numbered = λ at x is. ap (λ y. y.temp) (sym (found at x is));
+  ordered = λ at x is. subst (λ y. y.first ≤ y.last) (found at x is) (in_order points at);
+}
+  where
+    found : (at : ℕ) (x : Interval) → slice_get (map (interval_of points) (range_with_len 0 temps)) at ≡ Some x →
+        interval_of points at ≡ x
+    found at x is =
+        sym (get_or-map-range_with_len (interval_of points) 0 temps at at x
+        (subst (λ n. at < n) (length-map-range_with_len (interval_of points) 0 temps)
+        (slice_get_within (map (interval_of points) (range_with_len 0 temps)) at x is)) (zero-add at))
+        ∙ get_or_from_slice_get (map (interval_of points) (range_with_len 0 temps)) at x x is
+
+pub one_more : (points : List Point) (t : ℕ) (list : List Interval) (x : Interval) →
+    list ≡ map (interval_of points) (range_with_len 0 t) → x ≡ interval_of points t →
+    list ++ x ∷ [] ≡ map (interval_of points) (range_with_len 0 (t + 1))
+one_more points t list x is found =
+    (λ i. is i ++ found i ∷ []) ∙ sym (map-range_with_len_more (interval_of points) 0 t t (zero-add t))

@@ -1,0 +1,13 @@
+use Rattle.std.proofs.Common.{ap, ◌∙◌, ◌-◌}
+use Rattle.std.specs.Option.{unwrap_or}
+use Rattle.sc_live.specs.Marks.{mark_from}
+use Rattle.sc_live.specs.Walks.{interval_at}
+use Rattle.sc_live.proofs.Spans.{interval_known}
+use Rattle.sc_live.proofs.function.interval.Goals as goal
+
+pub returns : goal.returns
+returns c temps points h within =
+    c.interval_at.ensures
+    ∙ ap (λ known. interval_at c.args.temp c.args.walk.now.points (unwrap_or known
+    (mark_from (c.args.walk.now.points - 1) c.args.walk.now.call (c.args.walk.now.points - 1)))) c.known.ensures
+    ∙ interval_known c.args.temp c.args.walk.now temps points h within

@@ -1,0 +1,16 @@
+use Rattle.std.proofs.Common.{◌<◌, ◌∙◌, sym, subst}
+use Rattle.sc_tac.specs.Intervals.{AreIntervals}
+use Rattle.sc_tac.specs.Points.{function_points}
+use Rattle.sc_live.proofs.Spans.{are_intervals, one_more}
+use Rattle.sc_live.proofs.function.intervals.Goals as goal
+
+pub loop-temp-preserved : goal.loop-temp-preserved
+loop-temp-preserved c =
+    c.in_ok-push.ensures.ok
+    ∙ one_more (function_points c.args.f.now) c.loop-temp.temp c.loop-temp.list c.interval.result c.loop-temp.invariant
+    (c.interval.ensures c.args.f.now.temps (function_points c.args.f.now) c.in_ok-walk.ensures
+    (subst (λ f. c.loop-temp.temp < f.temps) c.tree.ensures.tree c.loop-temp-test.true))
+
+pub new-requires : goal.new-requires
+new-requires c =
+    subst AreIntervals (sym c.loop-temp.invariant) (are_intervals (function_points c.args.f.now) c.loop-temp.temp)

@@ -1,0 +1,84 @@
+ghost use Rattle.std.specs.Prelude.{◌≡◌, ◌<◌, ℕ, ◌-◌, List, None, IfOk, slice_get};
+ghost use Rattle.std.specs.Option.{unwrap_or};
+ghost use Rattle.sc_tac.specs.Intervals.{interval_of, intervals_of};
+ghost use Rattle.sc_tac.specs.Points.{Point, function_points};
+ghost use Rattle.sc_live.specs.Marks.{mark_from};
+ghost use Rattle.sc_live.specs.Walks.{Holds, interval_at};
+
+use crate::live::LiveSet;
+use crate::marks::{Here, Mark, mark_to};
+use crate::walk::{Exits, Walk};
+use sc_base::OutOfMemory;
+use sc_tac::{Interval, Intervals, TacFn};
+use sqlite_items::Items;
+use std::alloc::Global;
+
+// What is known of a temporary.
+fn known(walk: &Walk, temp: u32) -> Option<Mark>
+    ensures { result ≡ unwrap_or (slice_get walk.now.marks temp) None }
+{
+    match walk.marks.get(temp as usize) {
+        Some(known) => *known,
+        None => None,
+    }
+}
+
+// From a mark among all points of a function. A temporary that is never used has the first point.
+fn interval_at(walk: &Walk, temp: u32, known: Option<Mark>) -> Interval
+    ensures { result ≡ interval_at temp walk.now.points
+        (unwrap_or known (mark_from (walk.now.points - 1) walk.now.call (walk.now.points - 1))) }
+{
+    let first = walk.points.saturating_sub(1);
+    let mark = match known {
+        Some(mark) => mark,
+        None => mark_to(
+            Here {
+                at: first,
+                call: walk.call,
+                end: first,
+            },
+            None,
+        ),
+    };
+    Interval {
+        temp,
+        first: first.saturating_sub(mark.first),
+        last: first.saturating_sub(mark.last),
+        spans_call: mark.spans_call,
+    }
+}
+
+// The interval of a temporary, from a walk over all points.
+fn interval(walk: &Walk, temp: u32) -> Interval
+    ensures { (temps : ℕ) (points : List Point) → Holds temps walk.now points → temp < temps →
+        result ≡ interval_of points temp }
+{
+    interval_at(walk, temp, known(walk, temp))
+}
+
+// Back from the end of a function's code to its start.
+fn walked(alloc: Global, f: &TacFn) -> Result<Walk, OutOfMemory>
+    ensures { IfOk result (λ walk. Holds f.now.temps walk (function_points f.now)) }
+{
+    let tree = f.tree();
+    let nothing = LiveSet::new(alloc);
+    let exits = Exits {
+        broken: &nothing,
+        continued: &nothing,
+    };
+    let mut walk = Walk::new(alloc, tree.temps)?;
+    walk.row(alloc, exits, &tree.body)?;
+    Ok(walk)
+}
+
+/// The least intervals of a function's temporaries, in one walk back through its code.
+pub fn intervals(alloc: Global, f: &TacFn) -> Result<Intervals, OutOfMemory>
+    ensures { IfOk result (λ intervals. intervals ≡ intervals_of f.now) }
+{
+    let walk = walked(alloc, f)?;
+    let mut list = Items::new(alloc);
+    for temp in 0..f.tree().temps {
+        list.push(interval(&walk, temp))?;
+    }
+    Ok(Intervals::new(list))
+}

@@ -1,0 +1,256 @@
+ghost use Rattle.std.specs.Prelude.{◌≡◌, ◌∷◌, [], ◌&&◌, ◌||◌, ◌==◌, not, suc, IfOk, Some, true, false};
+ghost use Rattle.sc_tac.specs.Flow.{is_one};
+ghost use Rattle.sc_tac.specs.Parts.{one_or_none};
+ghost use Rattle.sc_tac.specs.Points.{if_calls, plain_points, point};
+ghost use Rattle.sc_live.specs.Marks.{set_of};
+ghost use Rattle.sc_live.specs.Walks.{Holds, Passed, Walked, WalkedAll, WalkedOver, lives_at};
+
+use crate::live::LiveSet;
+use crate::marks::{Here, Marks, mark_used};
+use sc_base::OutOfMemory;
+use sc_tac::{TacStmt, TacStmts};
+use std::alloc::Global;
+use std::mem::replace;
+
+/// A walk back through a function's code.
+#[derive(Drop)]
+pub struct Walk {
+    /// How many points it has passed.
+    pub points: u32,
+    /// The nearest of them at which a function is called.
+    pub call: Option<u32>,
+    /// What is live where it is.
+    pub live: LiveSet,
+    pub marks: Marks,
+}
+
+/// Where control goes on at a break and at a continue: what is live there.
+#[derive(Clone, Copy)]
+pub struct Exits<'a> {
+    pub broken: &'a LiveSet,
+    pub continued: &'a LiveSet,
+}
+
+// There is no memory for more than 4294967295 points.
+fn one_more(number: u32) -> Result<u32, OutOfMemory>
+    ensures { IfOk result (λ more. more ≡ suc number) }
+{
+    match number.checked_add(1) {
+        Some(more) => Ok(more),
+        None => Err(OutOfMemory),
+    }
+}
+
+impl Walk {
+    /// A walk that stands behind all points, of a function with so many temporaries.
+    pub fn new(alloc: Global, temps: u32) -> Result<Walk, OutOfMemory>
+        ensures { IfOk result (λ walk. (walk.live ≡ []) × Holds temps walk []) }
+    {
+        let mut marks = Marks::new(alloc);
+        for _ in 0..temps {
+            marks.push(None)?;
+        }
+        Ok(Walk {
+            points: 0,
+            call: None,
+            live: LiveSet::new(alloc),
+            marks,
+        })
+    }
+
+    // One point: whether a temporary is assigned and a function called there. What is used there is used to the end.
+    fn pass_to(&mut self, assigned: Option<u32>, calls: bool, end: u32) -> Result<(), OutOfMemory>
+        ensures { IfOk result (λ _. Passed
+            (record { assigned = assigned; calls = calls; live = set_of self.old.live }) end self.old self.new) }
+    {
+        let at = self.points;
+        if calls {
+            self.call = Some(at);
+        }
+        let here = Here {
+            at,
+            call: self.call,
+            end,
+        };
+        mark_used(&mut self.marks, here, assigned, &self.live);
+        self.points = one_more(at)?;
+        Ok(())
+    }
+
+    // One point, at which nothing ends.
+    fn pass(&mut self, assigned: Option<u32>, calls: bool) -> Result<(), OutOfMemory>
+        ensures { IfOk result (λ _. Walked
+            (record { assigned = assigned; calls = calls; live = set_of self.old.live } ∷ []) (set_of self.old.live)
+            self.old self.new) }
+    {
+        self.pass_to(assigned, calls, self.points)?;
+        Ok(())
+    }
+
+    // The point at which a statement assigns.
+    fn assign(&mut self, assigned: Option<u32>) -> Result<(), OutOfMemory>
+        ensures { IfOk result (λ _. Walked
+            (record { assigned = assigned; calls = false; live = set_of self.old.live } ∷ [])
+            (λ t. not (is_one t (one_or_none assigned)) && is_one t self.old.live) self.old self.new) }
+    {
+        self.pass(assigned, false)?;
+        if let Some(temp) = assigned {
+            self.live.remove(temp);
+        }
+        Ok(())
+    }
+
+    // The point at which it calls a function, if it does.
+    fn call(&mut self, calls: bool) -> Result<(), OutOfMemory>
+        ensures { IfOk result (λ _. Walked (if_calls calls (point true (set_of self.old.live)))
+            (set_of self.old.live) self.old self.new) }
+    {
+        if calls {
+            self.pass(None, true)?;
+        }
+        Ok(())
+    }
+
+    // The point at which it reads.
+    fn read(&mut self, reads: &[u32]) -> Result<(), OutOfMemory>
+        ensures { IfOk result (λ _. Walked (point false (λ t. is_one t reads.now || is_one t self.old.live) ∷ [])
+            (λ t. is_one t reads.now || is_one t self.old.live) self.old self.new) }
+    {
+        self.live.insert_all(reads)?;
+        self.pass(None, false)?;
+        Ok(())
+    }
+
+    // A statement without others inside.
+    fn plain(
+        &mut self,
+        reads: &[u32],
+        calls: bool,
+        assigned: Option<u32>,
+    ) -> Result<(), OutOfMemory>
+        ensures { IfOk result (λ _. Walked
+            (plain_points reads.now calls assigned (lives_at self.old.live [] []))
+            (λ t. is_one t reads.now || (not (is_one t (one_or_none assigned)) && is_one t self.old.live))
+            self.old self.new) }
+    {
+        self.assign(assigned)?;
+        self.call(calls)?;
+        self.read(reads)?;
+        Ok(())
+    }
+
+    // An operator, which may read one value alone.
+    fn op(&mut self, dest: u32, left: u32, right: Option<u32>) -> Result<(), OutOfMemory>
+        ensures { IfOk result (λ _. Walked
+            (plain_points (left ∷ one_or_none right) false (Some dest) (lives_at self.old.live [] []))
+            (λ t. is_one t (left ∷ one_or_none right) ||
+            (not (is_one t (dest ∷ [])) && is_one t self.old.live)) self.old self.new) }
+    {
+        match right {
+            None => self.plain(&[left], false, Some(dest)),
+            Some(right) => self.plain(&[left, right], false, Some(dest)),
+        }
+    }
+
+    // Control goes on elsewhere, where this is live.
+    fn leave(&mut self, live: LiveSet) -> Result<(), OutOfMemory>
+        ensures { IfOk result (λ _. Walked (point false (set_of live) ∷ []) (set_of live) self.old self.new) }
+    {
+        self.live = live;
+        self.pass(None, false)?;
+        Ok(())
+    }
+
+    // What is live on the other way too, and the point at which a condition decides.
+    fn join(&mut self, other: &LiveSet, cond: u32) -> Result<(), OutOfMemory>
+        ensures { IfOk result (λ _. Walked
+            (point false (λ t. cond == t || (is_one t other.now || is_one t self.old.live)) ∷ [])
+            (λ t. cond == t || (is_one t other.now || is_one t self.old.live)) self.old self.new) }
+    {
+        self.live.insert_all(other.as_slice())?;
+        self.live.insert(cond)?;
+        self.pass(None, false)?;
+        Ok(())
+    }
+
+    // A part of a loop: what is live at its end is live at a `Continue`.
+    #[cycle(walk)]
+    fn part(&mut self, alloc: Global, broken: &LiveSet, part: &TacStmts) -> Result<(), OutOfMemory>
+        ensures { IfOk result (λ _. WalkedAll part.now (lives_at self.old.live broken.now self.old.live)
+            self.old self.new) }
+    {
+        let continued = self.live.copy(alloc)?;
+        let exits = Exits {
+            broken,
+            continued: &continued,
+        };
+        self.row(alloc, exits, part)?;
+        Ok(())
+    }
+
+    /// Over statements in order, from the last one back.
+    #[cycle(walk)]
+    pub fn row(&mut self, alloc: Global, exits: Exits, stmts: &TacStmts) -> Result<(), OutOfMemory>
+        ensures { IfOk result (λ _. WalkedAll stmts.now
+            (lives_at self.old.live exits.entry.broken.now exits.entry.continued.now) self.old self.new) }
+    {
+        let list = stmts.as_slice();
+        let mut at = list.len();
+        while at > 0 {
+            at -= 1;
+            self.stmt(alloc, exits, &list[at])?;
+        }
+        Ok(())
+    }
+
+    // Of a loop one round is walked, with nothing live at its end; what is then live at its start is used all through.
+    #[cycle(walk)]
+    fn stmt(&mut self, alloc: Global, exits: Exits, stmt: &TacStmt) -> Result<(), OutOfMemory>
+        ensures { IfOk result (λ _. WalkedOver stmt.now
+            (lives_at self.old.live exits.entry.broken.now exits.entry.continued.now) self.old self.new) }
+    {
+        match stmt {
+            TacStmt::Const { dest, .. } => self.plain(&[], false, Some(*dest)),
+            TacStmt::ObjectPlace { dest, .. } => self.plain(&[], false, Some(*dest)),
+            TacStmt::GlobalPlace { dest, .. } => self.plain(&[], false, Some(*dest)),
+            TacStmt::Copy { dest, from } => self.plain(&[*from], false, Some(*dest)),
+            TacStmt::Op {
+                dest,
+                left,
+                right,
+                ..
+            } => self.op(*dest, *left, *right),
+            TacStmt::Load { dest, place, .. } => self.plain(&[*place], false, Some(*dest)),
+            TacStmt::Store { place, value } => self.plain(&[*place, *value], false, None),
+            TacStmt::If {
+                cond,
+                then_part,
+                else_part,
+            } => {
+                let behind = self.live.copy(alloc)?;
+                self.row(alloc, exits, else_part)?;
+                let live = replace(&mut self.live, behind);
+                self.row(alloc, exits, then_part)?;
+                self.join(&live, *cond)?;
+                Ok(())
+            }
+            TacStmt::Loop { head, body, next } => {
+                let end = self.points;
+                let broken = replace(&mut self.live, LiveSet::new(alloc));
+                self.pass(None, false)?;
+                self.part(alloc, &broken, next)?;
+                self.part(alloc, &broken, body)?;
+                self.part(alloc, &broken, head)?;
+                self.pass_to(None, false, end)?;
+                Ok(())
+            }
+            TacStmt::Break => self.leave(exits.broken.copy(alloc)?),
+            TacStmt::Continue => self.leave(exits.continued.copy(alloc)?),
+            TacStmt::CallOwn { dest, args, .. } => self.plain(args.as_slice(), true, *dest),
+            TacStmt::CallCross { dest, args, .. } => self.plain(args.as_slice(), true, *dest),
+            TacStmt::Input { dest } => self.plain(&[], false, *dest),
+            TacStmt::Output { value } => self.plain(&[*value], false, None),
+            TacStmt::Return { value } => self.leave(LiveSet::one(alloc, *value)?),
+        }
+    }
+}
