@@ -1,6 +1,8 @@
 mod Bounds
+pub mod Clear
 pub mod Induction
 pub mod Matching
+pub mod Owned
 pub mod Plans
 pub mod Refusals
 pub mod Runs

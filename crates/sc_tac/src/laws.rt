@@ -1,4 +1,5 @@
 ghost use Rattle.sc_tac.specs.Laws.{CodeObeys, WrappedCodeAgrees};
+ghost use Rattle.sc_tac.specs.Places.{PlacesAreClear};
 
 /// What functions of code do obeys the laws of libraries: that runs only go on, that more turns and events extend them,
 /// that traces are legal, and those of compartments that perform.
@@ -11,4 +12,11 @@ pub fn code_obeys()
 #[tactic(auto, using(crate::proofs::Matching::wrapped_code_agrees))]
 pub fn wrapped_code_agrees()
     ensures { WrappedCodeAgrees }
+{}
+
+/// At each point of a function's code, places for its least intervals keep apart what is live and what is assigned, and
+/// keep what is live over a call in slots.
+#[tactic(auto, using(crate::proofs::Clear::places_are_clear))]
+pub fn places_are_clear()
+    ensures { PlacesAreClear }
 {}

@@ -15,7 +15,7 @@ mod weigh;
 pub use frame::{Frame, FrameTree, Offsets};
 pub use function::{ObjectCells, TacFn, TacFnTree, TacFns};
 pub use interval::{Interval, Intervals};
-pub use laws::{code_obeys, wrapped_code_agrees};
+pub use laws::{code_obeys, places_are_clear, wrapped_code_agrees};
 pub use place::{Place, Places};
 pub use program::{Tac, TacSection, TacSections, TacTree};
 pub use registers::reg_count;

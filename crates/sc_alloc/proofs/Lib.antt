@@ -1,0 +1,6 @@
+pub mod Assignment
+pub mod Choices
+pub mod Counts
+pub mod FreeRegisters
+pub mod FreeSlots
+pub mod Lists

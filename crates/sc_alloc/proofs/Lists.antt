@@ -1,0 +1,59 @@
+-- Lists that grow at their end.
+use Rattle.std.proofs.Common.{◌≡◌, ◌≢◌, ◌<◌, ◌⊎◌, inl, inr, ℕ, zero, suc, Bool, true, false, List, [], ◌∷◌, ◌++◌, length, Option, None, Some, refl, sym, ◌∙◌, ap, arith, ⊎_elim}
+use Rattle.std.specs.Prelude.{slice_get, slice_set, replicate}
+use Rattle.std.specs.List.{position}
+use Rattle.std.specs.Option.{option_map}
+use Rattle.std.proofs.lemmas.Option.{same_Some}
+use Rattle.sc_base.proofs.Lists.{position-cons}
+
+-- an element of a list with one more at its end
+pub get_pushed : {A : Type 0} (xs : List A) (x y : A) (i : ℕ) → slice_get (xs ++ x ∷ []) i ≡ Some y →
+    (slice_get xs i ≡ Some y) ⊎ ((i ≡ length xs) × (x ≡ y))
+get_pushed [] x y zero e = inr (refl, same_Some x y e)
+get_pushed [] x y (suc i) e = absurd (cc e)
+get_pushed (z ∷ xs) x y zero e = inl e
+get_pushed (z ∷ xs) x y (suc i) e =
+    ⊎_elim inl (λ is. inr (ap suc is.0, is.1)) (get_pushed xs x y i e)
+
+pub get_kept : {A : Type 0} (xs ys : List A) (x : A) (i : ℕ) → slice_get xs i ≡ Some x →
+    slice_get (xs ++ ys) i ≡ Some x
+get_kept [] ys x i e = absurd (cc e)
+get_kept (z ∷ xs) ys x zero e = e
+get_kept (z ∷ xs) ys x (suc i) e = get_kept xs ys x i e
+
+pub get_set_same : {A : Type 0} (xs : List A) (i : ℕ) (x : A) → i < length xs → slice_get (slice_set xs i x) i ≡ Some x
+get_set_same [] i x h = absurd (omega arith)
+get_set_same (z ∷ xs) zero x h = refl
+get_set_same (z ∷ xs) (suc i) x h = get_set_same xs i x (omega (arith, h))
+
+pub get_set_other : {A : Type 0} (xs : List A) (i j : ℕ) (x : A) → i ≢ j →
+    slice_get (slice_set xs i x) j ≡ slice_get xs j
+get_set_other [] i j x h = refl
+get_set_other (z ∷ xs) zero zero x h = absurd (h refl)
+get_set_other (z ∷ xs) zero (suc j) x h = refl
+get_set_other (z ∷ xs) (suc i) zero x h = refl
+get_set_other (z ∷ xs) (suc i) (suc j) x h = get_set_other xs i j x (λ e. h (ap suc e))
+
+pub get_replicate : {A : Type 0} (n i : ℕ) (x y : A) → slice_get (replicate n x) i ≡ Some y → x ≡ y
+get_replicate zero i x y e = absurd (cc e)
+get_replicate (suc n) zero x y e = same_Some x y e
+get_replicate (suc n) (suc i) x y e = get_replicate n i x y e
+
+none_behind : (o : Option ℕ) → option_map suc o ≡ None → o ≡ None
+none_behind None same = refl
+none_behind (Some k) same = absurd (cc same)
+
+first_fails : {A : Type 0} (p : A → Bool) (x : A) (xs : List A) (b : Bool) → p x ≡ b → position p (x ∷ xs) ≡ None →
+    (b ≡ false) × (position p xs ≡ None)
+first_fails p x xs true is none =
+    absurd (let first : position p (x ∷ xs) ≡ Some 0 = position-cons p x xs ∙ rw is refl in cc)
+first_fails p x xs false is none =
+    (refl, none_behind (position p xs) (sym (position-cons p x xs ∙ rw is refl) ∙ none))
+
+-- where no element passes a test, each fails it
+pub all_fail : {A : Type 0} (p : A → Bool) (xs : List A) (i : ℕ) (x : A) → position p xs ≡ None →
+    slice_get xs i ≡ Some x → p x ≡ false
+all_fail p [] i x none e = absurd (cc e)
+all_fail p (z ∷ xs) zero x none e =
+    ap p (sym (same_Some z x e)) ∙ (first_fails p z xs (p z) refl none).0
+all_fail p (z ∷ xs) (suc i) x none e = all_fail p xs i x (first_fails p z xs (p z) refl none).1 e

@@ -1,0 +1,58 @@
+use Rattle.std.proofs.Common.{◌≤◌, List, sym, subst}
+use Rattle.std.specs.Prelude.{All}
+use Rattle.std.specs.List.Sorted.{IsPermutation}
+use Rattle.sc_tac.specs.declared.interval.Interval.{Interval}
+use Rattle.sc_tac.specs.Places.{IsAssignment, IsSparing}
+use Rattle.sc_alloc.specs.declared.given.Given.{Given}
+use Rattle.sc_alloc.specs.Scan.{AreNumbered, ArePlaced}
+use Rattle.sc_alloc.proofs.Assignment.{all_ordered, moved_to, numbered, is_assignment, is_sparing, are_places}
+use Rattle.sc_alloc.proofs.places.assign.Goals as goal
+
+pub scan-requires-clause-ordered : goal.scan-requires-clause-ordered
+scan-requires-clause-ordered c =
+    let intervals = c.args.intervals.now in
+    let order = c.in_ok-order.order.items in
+    let moved : IsPermutation intervals order =
+    subst (λ xs. IsPermutation xs order) c.as_slice.ensures.list c.in_ok-order.ensures.same in
+    subst (All (λ (x : Interval). x.first ≤ x.last)) (sym c.as_slice-2.ensures.value)
+    (all_ordered intervals order c.as_slice.ensures.rules moved)
+
+pub by_temp-requires : goal.by_temp-requires
+by_temp-requires c =
+    let given = c.in_ok-given.given in
+    subst AreNumbered (sym c.as_slice-3.ensures)
+    (numbered c.args.intervals.now given c.as_slice.ensures.rules
+    (moved_to c.args.intervals.now c.as_slice.result.now c.in_ok-order.order.items c.as_slice-2.result.now given
+    c.as_slice.ensures.list c.in_ok-order.ensures.same c.as_slice-2.ensures.value c.in_ok-given.ensures.each))
+
+pub new-requires : goal.new-requires
+new-requires c =
+    let given = c.in_ok-given.given in
+    let places = c.in_ok-by_temp.field-0 in
+    are_places c.args.intervals.now given c.as_slice.ensures.rules
+    (moved_to c.args.intervals.now c.as_slice.result.now c.in_ok-order.order.items c.as_slice-2.result.now given
+    c.as_slice.ensures.list c.in_ok-order.ensures.same c.as_slice-2.ensures.value c.in_ok-given.ensures.each)
+    places c.in_ok-given.ensures.fair c.in_ok-given.ensures.known
+    (subst (λ (given : List Given). ArePlaced given places) c.as_slice-3.ensures c.in_ok-by_temp.ensures)
+
+pub returns-clause-assignment : goal.returns-clause-assignment
+returns-clause-assignment c =
+    let given = c.in_ok-given.given in
+    let places = c.in_ok-by_temp.field-0 in
+    subst (IsAssignment c.args.intervals.now) (sym c.new.ensures)
+    (is_assignment c.args.intervals.now given c.as_slice.ensures.rules
+    (moved_to c.args.intervals.now c.as_slice.result.now c.in_ok-order.order.items c.as_slice-2.result.now given
+    c.as_slice.ensures.list c.in_ok-order.ensures.same c.as_slice-2.ensures.value c.in_ok-given.ensures.each)
+    places c.in_ok-given.ensures.fair c.in_ok-given.ensures.known
+    (subst (λ (given : List Given). ArePlaced given places) c.as_slice-3.ensures c.in_ok-by_temp.ensures))
+
+pub returns-clause-sparing : goal.returns-clause-sparing
+returns-clause-sparing c =
+    let given = c.in_ok-given.given in
+    let places = c.in_ok-by_temp.field-0 in
+    subst (IsSparing c.args.intervals.now) (sym c.new.ensures)
+    (is_sparing c.args.intervals.now given c.as_slice.ensures.rules
+    (moved_to c.args.intervals.now c.as_slice.result.now c.in_ok-order.order.items c.as_slice-2.result.now given
+    c.as_slice.ensures.list c.in_ok-order.ensures.same c.as_slice-2.ensures.value c.in_ok-given.ensures.each)
+    places c.in_ok-given.ensures.fair c.in_ok-given.ensures.known
+    (subst (λ (given : List Given). ArePlaced given places) c.as_slice-3.ensures c.in_ok-by_temp.ensures))

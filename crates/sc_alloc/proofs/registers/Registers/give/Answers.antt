@@ -1,0 +1,21 @@
+use Rattle.std.proofs.Common.{rules, ◌<◌, None, sym, arith}
+use Rattle.std.proofs.lemmas.List.Quantifiers.{position-Some}
+use Rattle.sc_tac.specs.declared.place.Place.TheVariants.{Register}
+use Rattle.sc_tac.specs.Places.{register_count}
+use Rattle.sc_alloc.specs.Scan.{is_over, AllOver}
+use Rattle.sc_alloc.proofs.FreeRegisters.{all_held, found_over, register_given}
+use Rattle.sc_alloc.proofs.registers.Registers.give.Goals as goal
+
+pub returns-in-None : goal.returns-in-None
+returns-in-None c given regs =
+    (regs, λ no. all_held given c.args.self.now.lasts c.args.interval.now.first regs (sym c.in-None.ensures))
+
+pub returns-in-Some : goal.returns-in-Some
+returns-in-Some c given regs =
+    let lasts = c.args.self.now.lasts in
+    let at = c.args.interval.now.first in
+    let r = c.in-Some.register in
+    let found = position-Some (is_over at) lasts r None (sym c.in-Some.ensures) in
+    let own : r < register_count = omega (arith, found.0, regs.count) in
+    let free : AllOver given (Register r) at = found_over given lasts r at regs found.0 found.1 in
+    (register_given given c.args.interval.now lasts r regs own free c.requires, free, search rules)

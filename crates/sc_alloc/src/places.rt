@@ -1,0 +1,60 @@
+ghost use Rattle.std.specs.Prelude.{◌≡◌, ◌≤◌, map, All, IfOk};
+ghost use Rattle.std.specs.List.Sorted.{IsNonDecreasingBy, IsPermutation};
+ghost use Rattle.sc_tac.specs.Places.{IsAssignment, IsSparing};
+ghost use Rattle.sc_tac.specs.declared.interval.Interval.{Interval};
+ghost use Rattle.sc_alloc.specs.Scan.{AreFair, AreKnown, AreNumbered, ArePlaced};
+ghost use Rattle.sc_alloc.specs.declared.given.Given.{Given};
+
+use crate::given::Given;
+use crate::scan::Scan;
+use sc_base::OutOfMemory;
+use sc_tac::{Interval, Intervals, Place, Places};
+use sqlite_items::Items;
+use std::alloc::Global;
+
+fn by_start(alloc: Global, intervals: &[Interval]) -> Result<Vec<Interval>, OutOfMemory>
+    ensures same { IfOk result (λ order. IsPermutation intervals.now order.items) }
+    ensures rising { IfOk result (λ order. IsNonDecreasingBy {X = Interval} (λ x. x.first) order.items) }
+{
+    let mut order = Vec::from_slice(alloc, intervals)?;
+    order.sort_by_key(|interval| interval.first)?;
+    Ok(order)
+}
+
+// A place for each of the intervals, which come in the order in which they begin.
+fn scan(alloc: Global, order: &[Interval]) -> Result<Items<Given>, OutOfMemory>
+    requires ordered { All (λ (x : Interval). x.first ≤ x.last) order.now }
+    requires rising { IsNonDecreasingBy {X = Interval} (λ x. x.first) order.now }
+    ensures each { IfOk result (λ given. map {A = Given} (λ g. g.interval) given ≡ order.now) }
+    ensures fair { IfOk result AreFair }
+    ensures known { IfOk result AreKnown }
+{
+    let mut scan = Scan::new(alloc);
+    for interval in order {
+        scan.add(*interval)?;
+    }
+    Ok(scan.finish())
+}
+
+// The places in the order of the temporaries' numbers. Each of those that it begins with is replaced.
+fn by_temp(alloc: Global, given: &[Given]) -> Result<Items<Place>, OutOfMemory>
+    requires { AreNumbered given.now }
+    ensures { IfOk result (ArePlaced given.now) }
+{
+    let mut places = Items::from_vec(vec![in alloc; Place::Slot(0); given.len()]?);
+    for one in given {
+        places.set(one.interval.temp as usize, one.place);
+    }
+    Ok(places)
+}
+
+/// A place for each interval, by linear scan: in the order in which they begin, each gets a register that is free
+/// there, else a slot that is, else a new slot.
+pub fn assign(alloc: Global, intervals: &Intervals) -> Result<Places, OutOfMemory>
+    ensures assignment { IfOk result (IsAssignment intervals.now) }
+    ensures sparing { IfOk result (IsSparing intervals.now) }
+{
+    let order = by_start(alloc, intervals.as_slice())?;
+    let given = scan(alloc, order.as_slice())?;
+    Ok(Places::new(by_temp(alloc, given.as_slice())?))
+}

@@ -1,0 +1,53 @@
+ghost use Rattle.std.specs.Prelude.{◌≡◌, ◌≤◌, [], List};
+ghost use Rattle.std.specs.List.{position};
+ghost use Rattle.sc_alloc.specs.Scan.{is_over, AreRegisters, GivesRegister};
+ghost use Rattle.sc_alloc.specs.declared.given.Given.{Given};
+
+use sc_tac::Interval;
+
+/// Of each register, where the interval ends that got it last.
+#[derive(Drop)]
+pub struct Registers {
+    lasts: [Option<u32>; 18],
+}
+
+fn is_over(at: u32, last: &Option<u32>) -> bool
+    ensures { result ≡ is_over at last.now }
+{
+    match last {
+        None => true,
+        Some(last) => *last < at,
+    }
+}
+
+impl Registers {
+    pub fn new() -> Registers
+        ensures { AreRegisters [] result.lasts }
+    {
+        Registers { lasts: [None; 18] }
+    }
+
+    fn free_at(&self, at: u32) -> Option<usize>
+        ensures { result ≡ position (is_over at) self.now.lasts }
+    {
+        self.lasts.iter().position(|last| is_over(at, last))
+    }
+
+    /// A register that is free where the interval begins, and belongs to it from then on. One over a call gets none.
+    pub fn give(&mut self, interval: &Interval) -> Option<u8>
+        requires { interval.now.first ≤ interval.now.last }
+        ensures { (given : List Given) → AreRegisters given self.old.lasts →
+            GivesRegister given interval.now self.new.lasts result }
+    {
+        if interval.spans_call {
+            return None;
+        }
+        match self.free_at(interval.first) {
+            None => None,
+            Some(register) => {
+                self.lasts[register] = Some(interval.last);
+                Some(register as u8)
+            }
+        }
+    }
+}

@@ -1,0 +1,70 @@
+ghost use Rattle.std.specs.Prelude.{◌≡◌, ◌≤◌, [], ◌++◌, ◌∷◌, map, IfOk, OnOk};
+ghost use Rattle.sc_alloc.specs.Scan.{AllBegun, AreFair, AreKnown, IsChosen, IsScan};
+ghost use Rattle.sc_alloc.specs.declared.given.Given.{Given};
+
+use crate::given::Given;
+use crate::registers::Registers;
+use crate::slots::Slots;
+use sc_base::OutOfMemory;
+use sc_tac::{Interval, Place};
+use sqlite_items::Items;
+use std::alloc::Global;
+
+/// Intervals with their places, in the order in which they begin, and what is known of registers and slots.
+#[derive(Drop)]
+pub struct Scan {
+    given: Items<Given>,
+    registers: Registers,
+    slots: Slots,
+}
+
+impl Scan {
+    pub fn new(alloc: Global) -> Scan
+        ensures given { result.given ≡ [] }
+        ensures rules { IsScan result }
+    {
+        Scan {
+            given: Items::new(alloc),
+            registers: Registers::new(),
+            slots: Slots::new(alloc),
+        }
+    }
+
+    // A place for the interval: a slot only where it spans a call or no register is free.
+    fn choose(&mut self, interval: &Interval) -> Result<Place, OutOfMemory>
+        requires ordered { interval.now.first ≤ interval.now.last }
+        requires rules { IsScan self.old }
+        ensures given { self.new.given ≡ self.old.given }
+        ensures chosen { IfOk result (IsChosen self.old.given interval.now self.new.registers self.new.slots) }
+    {
+        match self.registers.give(interval) {
+            Some(register) => Ok(Place::Register(register)),
+            None => Ok(Place::Slot(self.slots.give(interval)?)),
+        }
+    }
+
+    /// Gives the next interval its place.
+    pub fn add(&mut self, interval: Interval) -> Result<(), OutOfMemory>
+        requires ordered { interval.first ≤ interval.last }
+        requires begun { AllBegun self.old.given interval.first }
+        requires rules { IsScan self.old }
+        ensures given { OnOk result (map {A = Given} (λ g. g.interval) self.new.given ≡
+            map {A = Given} (λ g. g.interval) self.old.given ++ interval ∷ []) }
+        ensures rules { OnOk result (IsScan self.new) }
+    {
+        let place = self.choose(&interval)?;
+        self.given.push(Given { interval, place })?;
+        Ok(())
+    }
+
+    /// The intervals with their places.
+    pub fn finish(self) -> Items<Given>
+        requires { IsScan self }
+        ensures given { result ≡ self.given }
+        ensures fair { AreFair result }
+        ensures known { AreKnown result }
+    {
+        let Scan { given, .. } = self;
+        given
+    }
+}

@@ -1,0 +1,87 @@
+ghost use Rattle.std.specs.Prelude.{◌≡◌, ◌≤◌, suc, [], List, IfOk, MatchOption};
+ghost use Rattle.std.specs.BinaryHeap.{heap_items};
+ghost use Rattle.sc_alloc.specs.Scan.{AreSlots, IsOut, GivesSlot};
+ghost use Rattle.sc_alloc.specs.declared.given.Given.{Given};
+
+use sc_base::OutOfMemory;
+use sc_tac::Interval;
+use std::alloc::Global;
+use std::cmp::Reverse;
+use std::collections::BinaryHeap;
+
+/// A slot, and where the interval ends that got it last.
+#[derive(Clone, Copy, PartialEq, Eq, PartialOrd, Ord)]
+pub struct SlotEnd {
+    pub last: u32,
+    pub slot: u32,
+}
+
+/// The slots so far: their numbers are those below `count`, and the one that is free soonest comes first.
+#[derive(Drop)]
+pub struct Slots {
+    ends: BinaryHeap<Reverse<SlotEnd>>,
+    count: u32,
+}
+
+fn one_more(number: u32) -> Result<u32, OutOfMemory>
+    ensures { IfOk result (λ more. more ≡ suc number) }
+{
+    match number.checked_add(1) {
+        Some(more) => Ok(more),
+        None => Err(OutOfMemory),
+    }
+}
+
+impl Slots {
+    pub fn new(alloc: Global) -> Slots
+        ensures { AreSlots [] (heap_items result.ends) result.count }
+    {
+        Slots {
+            ends: BinaryHeap::new(alloc),
+            count: 0,
+        }
+    }
+
+    // The slot that is free soonest, where it is free at this point.
+    fn take_free(&mut self, at: u32) -> Option<u32>
+        ensures { (given : List Given) → AreSlots given (heap_items self.old.ends) self.old.count →
+            MatchOption result (AreSlots given (heap_items self.new.ends) self.new.count)
+            (IsOut given (heap_items self.new.ends) self.new.count at) }
+    {
+        let Reverse(soonest) = *self.ends.peek()?;
+        if at <= soonest.last {
+            return None;
+        }
+        self.ends.pop();
+        Some(soonest.slot)
+    }
+
+    // A slot that is free at this point: a new one where no other is. There is no memory for more than 4294967295.
+    fn take(&mut self, at: u32) -> Result<u32, OutOfMemory>
+        ensures { (given : List Given) → AreSlots given (heap_items self.old.ends) self.old.count →
+            IfOk result (IsOut given (heap_items self.new.ends) self.new.count at) }
+    {
+        match self.take_free(at) {
+            Some(slot) => Ok(slot),
+            None => {
+                let slot = self.count;
+                self.count = one_more(slot)?;
+                Ok(slot)
+            }
+        }
+    }
+
+    /// A slot that is free where the interval begins, and belongs to it from then on.
+    pub fn give(&mut self, interval: &Interval) -> Result<u32, OutOfMemory>
+        requires { interval.now.first ≤ interval.now.last }
+        ensures { (given : List Given) → AreSlots given (heap_items self.old.ends) self.old.count →
+            IfOk result (GivesSlot given interval.now (heap_items self.new.ends) self.new.count) }
+    {
+        let slot = self.take(interval.first)?;
+        self.ends.push(Reverse(SlotEnd {
+            last: interval.last,
+            slot,
+        }))?;
+        Ok(slot)
+    }
+}
