@@ -5,6 +5,7 @@ pub mod Frames
 pub mod Functions
 pub mod Intervals
 pub mod Laws
+pub mod MachineCode
 pub mod Parts
 pub mod Places
 pub mod Points
