@@ -1,0 +1,7 @@
+use Rattle.std.proofs.Common.{◌≡◌, ◌≤◌, ◌+◌, drop}
+use Rattle.sc_core.specs.Sizes.{total}
+use Rattle.sc_frame.proofs.bound.fits.Given as goal
+
+-- what is summed and what is left to sum is all
+abbrev pub invariant-loop-cells : goal.invariant-loop-cells
+invariant-loop-cells l = l.sum + total (drop l.cells-index l.cells-items) ≡ l.f.nodes + total l.f.objects
