@@ -62,7 +62,7 @@ fn intervals_end_where_a_value_is_read(rt: HostRuntime) -> Result<(), Fail> {
 fn many_temporaries(rt: HostRuntime) -> Result<(), Fail> {
     let mut text: Vec<u8> = Vec::new(rt.alloc());
     text.extend_from_slice(b"#pragma compartment M\nint main(void) {\n  int x = 0;\n")?;
-    for _ in 0..25_000 {
+    for _ in 0..1_000 {
         text.extend_from_slice(b"  x = x + 1;\n")?;
     }
     text.extend_from_slice(b"  return x;\n}\n")?;
@@ -72,11 +72,11 @@ fn many_temporaries(rt: HostRuntime) -> Result<(), Fail> {
     for section in code.tree().sections.as_slice() {
         for function in section.functions.as_slice() {
             for interval in intervals(rt.alloc(), function)?.as_slice() {
-                assert!(rt; interval.last - interval.first < 8);
+                assert!(rt; interval.last.wrapping_sub(interval.first) < 8);
                 count = count.wrapping_add(1);
             }
         }
     }
-    assert_eq!(rt; count, 100_003);
+    assert_eq!(rt; count, 4_003);
     Ok(())
 }

@@ -9,3 +9,9 @@ mod intervals;
 mod lowering;
 #[cfg(test)]
 mod parts;
+#[cfg(test)]
+mod places;
+#[cfg(test)]
+mod programs;
+#[cfg(test)]
+mod sizes;

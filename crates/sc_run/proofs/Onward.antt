@@ -106,8 +106,12 @@ module _ (program : ProgramTree) (whole : SourceRun) (seen : Seen) (work : List 
   reached events trace end le h =
       ap (λ b. if b then (record { trace = take events trace; end = EventsOut }) else
       (record { trace = trace; end = end }))
-      (le-leb events (length trace) (omega (arith, le, ap (length {A = Event}) h.grown.is,
-      length-append seen.trace h.grown.more)))
+      (le-leb events (length trace) (omega (
+        arith,
+        le,
+        ap (length {A = Event}) h.grown.is,
+        length-append seen.trace h.grown.more,
+      )))
 
   -- a run that has come to so many events is stopped
   pub stopped_here : (events : ℕ) → events ≤ length seen.trace →

@@ -62,20 +62,33 @@ runs_same form settings rows tells steps events inputs none =
       given name has = tells.values name has (ap (λ alone. is_among alone name) none)
 
 pub values_same : (name : Text) (form : Form) → form_of name ≡ Some form → Same name form
-values_same = by_command Same commands
-    ((λ settings rows summary tells. refl),
-    ((λ settings rows summary tells. ap (option_map Meaning)
-    (meaning_same (λ n. first_of n rows) (λ n. value_of n settings) (tells.values (codes "turns") refl refl)
-    (tells.values (codes "events") refl refl) (tells.values (codes "in") refl refl))),
-    ((λ settings rows summary tells. refl),
-    ((λ settings rows summary tells. ap (option_map Run) (runs_same _ settings rows tells refl refl refl refl)),
-    ((λ settings rows summary tells. ap (option_map Exec) (runs_same _ settings rows tells refl refl refl refl)),
-    ((λ settings rows summary tells i. option_and_then (λ options. option_map (λ show. Explain options show)
-    (text_to_show (tells.values (codes "show") refl refl i))) (runs_same _ settings rows tells refl refl refl refl i)),
-    ((λ settings rows summary tells. ap (option_map Make)
-    (make_same (λ n. first_of n rows) (λ n. value_of n settings) summary (tells.values (codes "size") refl refl)
-    (tells.values (codes "seed") refl refl))),
-    tt)))))))
+values_same = by_command Same commands (
+  (λ settings rows summary tells. refl),
+  (
+    (λ settings rows summary tells. ap (option_map Meaning)
+        (meaning_same (λ n. first_of n rows) (λ n. value_of n settings) (tells.values (codes "turns") refl refl)
+        (tells.values (codes "events") refl refl) (tells.values (codes "in") refl refl))),
+    (
+      (λ settings rows summary tells. refl),
+      (
+        (λ settings rows summary tells. ap (option_map Run) (runs_same _ settings rows tells refl refl refl refl)),
+        (
+          (λ settings rows summary tells. ap (option_map Exec) (runs_same _ settings rows tells refl refl refl refl)),
+          (
+            (λ settings rows summary tells i. option_and_then (λ options. option_map (λ show. Explain options show)
+                (text_to_show (tells.values (codes "show") refl refl i))) (runs_same _ settings rows tells refl refl refl refl i)),
+            (
+              (λ settings rows summary tells. ap (option_map Make)
+                  (make_same (λ n. first_of n rows) (λ n. value_of n settings) summary (tells.values (codes "size") refl refl)
+                  (tells.values (codes "seed") refl refl))),
+              tt,
+            ),
+          ),
+        ),
+      ),
+    ),
+  ),
+)
 
 pub summary_same : (name : Text) (form : Form) (settings : List Setting) (rows : List Row) → form_of name ≡ Some form →
     Tells form settings rows → bytes_eq name (codes "make") ≡ true →

@@ -1,0 +1,125 @@
+// What whole programs take, function by function, beside the bounds.
+use crate::programs::PROGRAMS;
+use sc_alloc::assign;
+use sc_base::OutOfMemory;
+use sc_frame::{fits, lay};
+use sc_live::intervals;
+use sc_lower::lower;
+use sc_tac::{Place, TacFn};
+use sc_types::SourceText;
+use std::alloc::Global;
+use std::test::Fail;
+
+/// Where the values of a function lie.
+struct Homes {
+    registers: u32,
+    slots: usize,
+    bytes: u32,
+}
+
+// The homes of a function's values, if its frame fits.
+fn homes_of(alloc: Global, function: &TacFn) -> Result<Option<Homes>, OutOfMemory> {
+    let intervals = intervals(alloc, function)?;
+    let places = assign(alloc, &intervals)?;
+    if places.as_slice().len() != function.tree().temps as usize || !fits(function) {
+        return Ok(None);
+    }
+    let frame = lay(alloc, function, &places)?;
+    let mut registers = 0u32;
+    for place in places.as_slice() {
+        if let Place::Register(_) = place {
+            registers = registers.wrapping_add(1);
+        }
+    }
+    Ok(Some(Homes {
+        registers,
+        slots: frame.tree().slots.len(),
+        bytes: frame.tree().bytes,
+    }))
+}
+
+// How often a word stands in a text.
+fn count_of(text: &[u8], word: &[u8]) -> u32 {
+    let mut count = 0u32;
+    for at in 0..text.len() {
+        if text[at..].starts_with(word) {
+            count = count.wrapping_add(1);
+        }
+    }
+    count
+}
+
+// How many statements and operators of a text choose.
+fn choices_of(text: &[u8]) -> u32 {
+    let mut count = 0u32;
+    for word in [b"if (".as_slice(), b"for (", b"while (", b"&&", b"||"] {
+        count = count.wrapping_add(count_of(text, word));
+    }
+    count
+}
+
+#[test]
+fn functions_are_within_their_bounds(rt: HostRuntime) -> Result<(), Fail> {
+    let alloc = rt.alloc();
+    for text in PROGRAMS {
+        let source = SourceText::read(alloc, text)?;
+        let code = lower(alloc, source.program())?;
+        let mut branches = 0u32;
+        for section in code.tree().sections.as_slice() {
+            for function in section.functions.as_slice() {
+                let (temps, nodes) = (function.tree().temps, function.tree().nodes);
+                let weight = function.weight();
+                branches = branches.wrapping_add(function.branches());
+                assert!(rt; temps <= nodes);
+                assert!(rt; u64::from(weight) < 24 * u64::from(nodes));
+                let homes = homes_of(alloc, function)?.unwrap();
+                let Homes {
+                    registers,
+                    slots,
+                    bytes,
+                } = homes;
+                let _ = println!(rt;
+                    "{temps} temporaries of {nodes}, weight {weight}: {registers} in registers, {slots} slots, {bytes} bytes"
+                );
+            }
+        }
+        assert_eq!(rt; branches, choices_of(text));
+    }
+    Ok(())
+}
+
+// A function of so many statements, each of which has five temporaries.
+fn long_text(alloc: Global, statements: usize) -> Result<Vec<u8>, OutOfMemory> {
+    let mut text: Vec<u8> = Vec::new(alloc);
+    text.extend_from_slice(b"#pragma compartment M\nint main(void) {\n  int x = 0;\n")?;
+    for _ in 0..statements {
+        text.extend_from_slice(b"  x = x + 1;\n")?;
+    }
+    text.extend_from_slice(b"  return x;\n}\n")?;
+    Ok(text)
+}
+
+#[test]
+fn a_hundred_thousand_temporaries(rt: HostRuntime) -> Result<(), Fail> {
+    let alloc = rt.alloc();
+    let text = long_text(alloc, 25_000)?;
+    let source = SourceText::read(alloc, text.as_slice())?;
+    let code = lower(alloc, source.program())?;
+    for section in code.tree().sections.as_slice() {
+        for function in section.functions.as_slice() {
+            let intervals = intervals(alloc, function)?;
+            let places = assign(alloc, &intervals)?;
+            let mut slots = 0u32;
+            for place in places.as_slice() {
+                if let Place::Slot(slot) = place {
+                    slots = slots.max(slot.saturating_add(1));
+                }
+            }
+            let temps = function.tree().temps;
+            assert!(rt; temps >= 100_000);
+            assert_eq!(rt; slots, 0);
+            let _ = println!(rt; "{temps} temporaries in registers, {slots} slots, 4 bytes");
+        }
+    }
+    Ok(())
+}
