@@ -135,7 +135,7 @@ int_returned None h = absurd (false≢true h)
 int_returned (Some t) h = ap not (same_kind t ty.Int h)
 
 -- IMPORTS
-function_imported : (to index : ℕ) (x : Import) → same_import (import.Function to index) x ≡ true →
+pub function_imported : (to index : ℕ) (x : Import) → same_import (import.Function to index) x ≡ true →
     is_function to index x ≡ true
 function_imported to index import.Input h = h
 function_imported to index import.Output h = h
@@ -143,12 +143,12 @@ function_imported to index (import.Function owner place) h =
     and_from (owner == to) (place == index) (eq-eqb owner to (sym (eqb-true to owner (and_first (to == owner) _ h))))
     (eq-eqb place index (sym (eqb-true index place (and_rest (to == owner) _ h))))
 
-input_imported : (x : Import) → same_import import.Input x ≡ true → is_input x ≡ true
+pub input_imported : (x : Import) → same_import import.Input x ≡ true → is_input x ≡ true
 input_imported import.Input h = refl
 input_imported import.Output h = h
 input_imported (import.Function owner place) h = h
 
-output_imported : (x : Import) → same_import import.Output x ≡ true → is_output x ≡ true
+pub output_imported : (x : Import) → same_import import.Output x ≡ true → is_output x ≡ true
 output_imported import.Input h = h
 output_imported import.Output h = refl
 output_imported (import.Function owner place) h = h

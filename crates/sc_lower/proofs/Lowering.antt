@@ -1,19 +1,21 @@
 -- What is made of a program, section by section and function by function, keeps the rules.
-use Rattle.std.proofs.Common.{◌≡◌, ℕ, ◌+◌, ◌<◌, List, [], ◌∷◌, ◌++◌, map, length, drop, get_or, slice_get, Some, refl, sym, ap, ◌∙◌, subst, append_assoc, add-one, drop-cons}
+use Rattle.std.proofs.Common.{◌≡◌, ℕ, ◌+◌, ◌<◌, ◌≤◌, nat_le, List, [], ◌∷◌, ◌++◌, map, length, drop, get_or, slice_get, Some, refl, sym, ap, ◌∙◌, subst, append_assoc, add-one, drop-cons, arith as numbers}
+use Rattle.std.proofs.lemmas.Bool.{leb-true}
 use Rattle.std.proofs.lemmas.Option.{slice_get_read}
+use Rattle.sc_base.proofs.Bools.{and_first}
 use Rattle.sc_event.specs.declared.interface.Interfaces.{Interfaces}
 use Rattle.sc_core.specs.declared.program.ProgramTree.{ProgramTree}
 use Rattle.sc_core.specs.declared.section.TypedFunction.{TypedFunction}
 use Rattle.sc_core.specs.declared.section.TypedSection.{TypedSection}
 use Rattle.sc_core.specs.declared.section.TypedStruct.{TypedStruct}
-use Rattle.sc_core.specs.WellTyped.{IsWellTyped}
+use Rattle.sc_core.specs.WellTyped.{IsWellTyped, most_compartments}
 use Rattle.sc_tac.specs.declared.function.TacFnTree.{TacFnTree}
 use Rattle.sc_tac.specs.declared.program.TacSection.{TacSection}
 use Rattle.sc_tac.specs.Functions.{IsFunction}
 use Rattle.sc_tac.specs.Programs.{IsProgram}
 use Rattle.sc_lower.specs.Programs.{lowered_function, lowered_sections, lowered_program}
-use Rattle.sc_lower.specs.Results.{AreFunctions}
-use Rattle.sc_lower.proofs.Rules.{function_kept}
+use Rattle.sc_lower.specs.Results.{IsLowerable, AreFunctions}
+use Rattle.sc_lower.proofs.Rules.{lowerable}
 use Rattle.sc_lower.proofs.Programs.{program_kept}
 
 -- one more item is made
@@ -33,7 +35,11 @@ module _ (interfaces : Interfaces) (comp : ℕ) (structs : List TypedStruct) (fu
   pub function_at : (i : ℕ) (f : TypedFunction) (tree : TacFnTree) → i < length functions → f ≡ get_or functions i f →
       tree ≡ lowered_function interfaces comp structs f → IsFunction tree
   function_at i f tree there item is =
-      subst IsFunction (sym is) (keep i f (slice_get_read functions (length functions) i f refl there item))
+      subst IsFunction (sym is) (keep i f (slice_get_read functions (length functions) i f refl there item)).kept
+
+  pub lowerable_at : (i : ℕ) (f : TypedFunction) → i < length functions → f ≡ get_or functions i f →
+      IsLowerable interfaces comp structs f
+  lowerable_at i f there item = keep i f (slice_get_read functions (length functions) i f refl there item)
 
   pub functions_of : (same : List TypedStruct) (all : List TypedFunction) → same ≡ structs → all ≡ functions →
       AreFunctions interfaces comp same all
@@ -42,12 +48,26 @@ module _ (interfaces : Interfaces) (comp : ℕ) (structs : List TypedStruct) (fu
       (subst (λ fs. AreFunctions interfaces comp structs fs) (sym two) keep)
 
 module _ (program : ProgramTree) (typed : IsWellTyped program) where
+  few_sections : length program.sections ≤ most_compartments
+  few_sections =
+      leb-true (length program.sections) most_compartments
+      (and_first (nat_le (length program.sections) most_compartments) _ typed)
+
+  -- the sections are numbered below 32
+  pub number_within : (sections : List TypedSection) (i number : ℕ) → sections ≡ program.sections →
+      i < length sections → number ≡ i → number < 32
+  number_within sections i number same there at =
+      by (length program.sections) number few_sections (subst (λ n. n < length program.sections) (sym at)
+      (subst (λ all. i < length all) same there)) where
+        by : (count n : ℕ) → count ≤ 32 → n < count → n < 32
+        by count n h g = omega (numbers, h, g)
+
   pub section_at : (sections : List TypedSection) (i : ℕ) (section : TypedSection) (comp number : ℕ) →
       sections ≡ program.sections → i < length sections → section ≡ get_or sections i section →
       comp ≡ number → number ≡ i → AreFunctions program.interfaces comp section.structs section.functions
   section_at sections i section comp number same there item numbered at =
       subst (λ c. AreFunctions program.interfaces c section.structs section.functions) (sym (numbered ∙ at))
-      (λ n f is. function_kept program typed i section (subst (λ all. slice_get all i ≡ Some section) same
+      (λ n f is. lowerable program typed i section (subst (λ all. slice_get all i ≡ Some section) same
       (slice_get_read sections (length sections) i section refl there item)) n f is)
 
   pub program_of : (read : ProgramTree) (interfaces : Interfaces) (sections : List TacSection) → read ≡ program →

@@ -1,11 +1,12 @@
 -- The code of a function of a well-typed program keeps the rules of functions.
 use Rattle.std.proofs.Common.{◌≡◌, ℕ, zero, suc, ◌+◌, ◌<◌, ◌≤◌, Bool, true, false, List, [], ◌∷◌, ◌++◌, map, length, Option, Some, None, refl, sym, ap, ◌∙◌, subst, arith as numbers}
-use Rattle.std.specs.Prelude.{not, ◌&&◌, ◌==◌, if◌then◌else◌, nat_le, nat_lt, bytes_eq, is_some, slice_get, position}
+use Rattle.std.specs.Prelude.{not, ◌&&◌, ◌==◌, if◌then◌else◌, nat_le, nat_lt, bytes_eq, is_some, slice_get, slice_index_or, position}
 use Rattle.std.specs.Bool.{beq}
-use Rattle.std.specs.List.{list_any, list_all}
+use Rattle.std.specs.List.{list_any, list_all, All}
 use Rattle.std.specs.Option.{option_map, option_and_then}
 use Rattle.std.proofs.lemmas.Bool.{false≢true, and_from, eqb-true, eq-eqb, leb-true, lt-ltb, le-leb}
 use Rattle.std.proofs.lemmas.List.{length-append, length-map}
+use Rattle.std.proofs.lemmas.List.Sums.{AllPass-from_list_all}
 use Rattle.std.proofs.lemmas.Option.{slice_get-map}
 use Rattle.sc_base.proofs.Bools.{and_first, and_rest}
 use Rattle.sc_event.specs.declared.interface.Import.TheVariants as import
@@ -30,9 +31,9 @@ use Rattle.sc_core.specs.declared.ty.Ty.{Ty}
 use Rattle.sc_core.specs.declared.ty.Ty.TheVariants as ty
 use Rattle.sc_core.specs.Meaning.{main_name}
 use Rattle.sc_core.specs.Sizes.{total, nodes}
-use Rattle.sc_core.specs.Types.{cells_of, variables}
+use Rattle.sc_core.specs.Types.{is_array, cells_of, variables}
 use Rattle.sc_core.specs.Typing.{Scope, is_type, same_ty, same_base, scalar_ty, Signature, Callable, signature_of, proto_signature, same_import, option_signature, allowed, target_signature, init_fits, body_fits}
-use Rattle.sc_core.specs.WellTyped.{most_params, most_nodes, are_distinct, scope_of, variable_fits, passed_fits, result_fits, local_fits, function_fits, same_types, same_signature, is_plain_name, export_fits, import_name, callable_in, structs_fit, global_fits, main_fits, is_well_typed}
+use Rattle.sc_core.specs.WellTyped.{most_params, most_nodes, most_exports, most_cells, are_distinct, scope_of, type_within, variable_fits, passed_fits, result_fits, local_fits, function_fits, same_types, same_signature, is_plain_name, export_fits, import_name, import_fits, callable_in, structs_fit, global_fits, main_fits, is_well_typed}
 use Rattle.sc_kinds.proofs.Sections.{Placed, ForSection, for_section, for_interface, all_at, first_of, found_passes, named_so, own_names_differ}
 use Rattle.sc_tac.specs.declared.stmt.TacStmt.{TacStmt-F}
 use Rattle.sc_tac.specs.Functions.{names_own_temps, names_own_object, takes_two, has_operands, passes_few, returns_result, passes_words, enters_by_words, stray_break, stray_continue, has_none, IsFunction}
@@ -40,6 +41,7 @@ use Rattle.sc_tac.specs.Flow.{all_assigned_first}
 use Rattle.sc_tac.specs.Parts.{one_or_none, everywhere}
 use Rattle.sc_lower.specs.Statements.{Part, both, in_turn, block_code, first_of as first_temp}
 use Rattle.sc_lower.specs.Programs.{inits_code, body_code, exports_of, export_called, entry_of, lowered_function}
+use Rattle.sc_lower.specs.Results.{IsLowerable}
 use Rattle.sc_lower.proofs.Entries.{sections_so, mains_so}
 use Rattle.sc_lower.proofs.Flowing.{all_assigned}
 use Rattle.sc_lower.proofs.Passing.{InitsFit, PassedByAll, body_passes}
@@ -217,6 +219,26 @@ words_pass structs (p ∷ params) (s ∷ scalars) rest h =
     and_from _ _ (scalar_cells structs p.ty s (and_first (same_ty p.ty (scalar_ty s)) _ h))
     (words_pass structs params scalars rest (and_rest (same_ty p.ty (scalar_ty s)) _ h))
 
+-- variables have few cells
+small : (structs : List TypedStruct) (t : Ty) → variable_fits structs t ≡ true → cells_of structs t ≤ most_cells
+small structs t h =
+    leb-true (cells_of structs t) most_cells (and_rest (type_within (length structs) (length structs) t) _ h)
+
+small_params : (structs : List TypedStruct) (params : List TypedParam) →
+    list_all {X = TypedParam} (λ p. passed_fits structs p.ty) params ≡ true →
+    All {X = TypedParam} (λ p. cells_of structs p.ty ≤ most_cells) params
+small_params structs params h k d within =
+    let t : Ty = (slice_index_or params k d).ty in
+    small structs t (and_rest (not (is_array t)) _
+    (AllPass-from_list_all {X = TypedParam} (λ p. passed_fits structs p.ty) params h k d within))
+
+small_locals : (scope : Scope) (locals : List TypedLocal) → list_all (local_fits scope) locals ≡ true →
+    All {X = TypedLocal} (λ l. cells_of scope.structs l.ty ≤ most_cells) locals
+small_locals scope locals h k d within =
+    let t : Ty = (slice_index_or locals k d).ty in
+    small scope.structs t (and_first (variable_fits scope.structs t) _
+    (AllPass-from_list_all (local_fits scope) locals h k d within))
+
 module _ (program : ProgramTree) (typed : is_well_typed program ≡ true) where
   abbrev faces : Interfaces
   faces = program.interfaces
@@ -270,6 +292,15 @@ module _ (program : ProgramTree) (typed : is_well_typed program ≡ true) where
       and_first (list_all (export_fits section.functions) interface.exports)
       _ (and_rest (are_distinct (map {A = Proto} (λ p. p.name) interface.exports)) _ (and_rest (names interface section)
       _ placed.faces))
+
+  few_exported : (interface : Interface) (section : TypedSection) → Placed faces interface section →
+      length interface.exports ≤ most_exports
+  few_exported interface section placed =
+      leb-true (length interface.exports) most_exports (and_first (nat_le (length interface.exports) most_exports)
+      _ (and_rest (list_all (import_fits faces placed.number) interface.imports)
+      _ (and_rest (list_all (export_fits section.functions) interface.exports)
+      _ (and_rest (are_distinct (map {A = Proto} (λ p. p.name) interface.exports)) _ (and_rest (names interface section)
+      _ placed.faces)))))
 
   -- an export has a function with its head
   pub any_headed : (functions : List TypedFunction) (proto : Proto) → export_fits functions proto ≡ true →
@@ -564,6 +595,11 @@ module _ (program : ProgramTree) (typed : is_well_typed program ≡ true) where
             by : (a b c : ℕ) → b ≡ a → a ≤ b + c
             by a b c h = omega (numbers, h)
 
+      few_exports : length (exports_of (comp_at faces comp)) ≤ most_exports
+      few_exports =
+          subst (λ (o : Option Interface). length (exports_of o) ≤ most_exports) (sym place.is)
+          (few_exported place.interface section place.placed)
+
       pub function_kept : IsFunction (lowered_function faces comp section.structs f)
       function_kept = record {
         few_params = fits.few;
@@ -584,4 +620,14 @@ module _ (program : ProgramTree) (typed : is_well_typed program ≡ true) where
             (continues_in_bodies scope callable f.result section.structs f.locals f.body inits fits.body);
         assigned_first = subst (λ p. all_assigned_first temps (code_with p).code ≡ true) params_same
             (all_assigned scope callable f.result section.structs f.locals f.body inits fits.body temps);
+      }
+
+      pub lowerable : IsLowerable faces comp section.structs f
+      lowerable = record {
+        kept = function_kept;
+        few_params = fits.few;
+        few_nodes = few_nodes;
+        few_exports = few_exports;
+        param_cells = small_params section.structs f.params fits.passed;
+        local_cells = small_locals (scope_of section f) f.locals fits.locals;
       }

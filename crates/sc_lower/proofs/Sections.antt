@@ -3,7 +3,7 @@ use Rattle.std.proofs.Common.{◌≡◌, ℕ, suc, ◌<◌, Bool, true, false, L
 use Rattle.std.specs.Prelude.{not, ◌==◌, is_some, slice_get}
 use Rattle.std.specs.List.{list_any, list_all}
 use Rattle.std.specs.Option.{option_map, option_map_or}
-use Rattle.std.proofs.lemmas.Bool.{false≢true, and_from, eqb-true, eq-eqb, lt-ltb}
+use Rattle.std.proofs.lemmas.Bool.{false≢true, and_from, eq-eqb, lt-ltb}
 use Rattle.std.proofs.lemmas.List.{length-map}
 use Rattle.std.proofs.lemmas.Option.{slice_get-map}
 use Rattle.sc_base.proofs.Bools.{and_first, and_rest}
@@ -29,6 +29,7 @@ use Rattle.sc_core.specs.declared.ty.Ty.TheVariants as ty
 use Rattle.sc_core.specs.Types.{is_array, cells_of}
 use Rattle.sc_core.specs.Typing.{Scope, Judged, judged, decayed, type_goes, goes_into, all_go_into, Signature, Callable, result_ty, scalar_ty, signature_of, proto_signature, same_import, option_signature, allowed, target_signature}
 use Rattle.sc_core.specs.WellTyped.{passed_fits, scope_of, is_well_typed}
+use Rattle.sc_kinds.proofs.Results.{function_imported, input_imported, output_imported}
 use Rattle.sc_kinds.proofs.Sections.{any_along}
 use Rattle.sc_tac.specs.declared.program.TacSection.{TacSection}
 use Rattle.sc_tac.specs.Functions.{passes_words}
@@ -75,25 +76,6 @@ result_same None = refl
 result_same (Some s) = refl
 
 -- IMPORTS
-function_imported : (to index : ℕ) (x : Import) → same_import (import.Function to index) x ≡ true →
-    is_function to index x ≡ true
-function_imported to index import.Input h = h
-function_imported to index import.Output h = h
-function_imported to index (import.Function owner number) h =
-    and_from (owner == to) (number == index)
-    (eq-eqb owner to (sym (eqb-true to owner (and_first (to == owner) _ h))))
-    (eq-eqb number index (sym (eqb-true index number (and_rest (to == owner) _ h))))
-
-input_imported : (x : Import) → same_import import.Input x ≡ true → is_input x ≡ true
-input_imported import.Input h = refl
-input_imported import.Output h = h
-input_imported (import.Function owner number) h = h
-
-output_imported : (x : Import) → same_import import.Output x ≡ true → is_output x ≡ true
-output_imported import.Input h = h
-output_imported import.Output h = refl
-output_imported (import.Function owner number) h = h
-
 is_allowed : (b : Bool) (o : Option Signature) (signature : Signature) → allowed b o ≡ Some signature → b ≡ true
 is_allowed true o signature h = refl
 is_allowed false o signature h = absurd (cc)

@@ -1,17 +1,24 @@
 -- What lowering hands back, as the definitions have it.
-use Rattle.std.specs.Prelude.{◌≡◌, ℕ, List, Some, slice_get}
+use Rattle.std.specs.Prelude.{◌≡◌, ◌≤◌, ℕ, List, length, Some, slice_get}
+use Rattle.std.specs.List.{All}
 use Rattle.sc_event.specs.declared.interface.Interfaces.{Interfaces}
+use Rattle.sc_event.specs.Lookup.{comp_at}
 use Rattle.sc_core.specs.declared.section.TypedFunction.{TypedFunction}
+use Rattle.sc_core.specs.declared.section.TypedLocal.{TypedLocal}
+use Rattle.sc_core.specs.declared.section.TypedParam.{TypedParam}
 use Rattle.sc_core.specs.declared.section.TypedStruct.{TypedStruct}
 use Rattle.sc_core.specs.declared.ty.Ty.{Ty}
 use Rattle.sc_core.specs.declared.value.Want.TheVariants as want
+use Rattle.sc_core.specs.Sizes.{nodes}
+use Rattle.sc_core.specs.Types.{cells_of}
+use Rattle.sc_core.specs.WellTyped.{most_params, most_nodes, most_exports, most_cells}
 use Rattle.sc_tac.specs.Functions.{IsFunction}
 use Rattle.sc_lower.specs.declared.calls.Values.{Values}
 use Rattle.sc_lower.specs.declared.code.Code.{Code}
 use Rattle.sc_lower.specs.declared.code.Fragment.{Fragment}
 use Rattle.sc_lower.specs.Expressions.{Low, Lowered}
 use Rattle.sc_lower.specs.Statements.{Part, Many}
-use Rattle.sc_lower.specs.Programs.{lowered_function}
+use Rattle.sc_lower.specs.Programs.{exports_of, lowered_function}
 
 abbrev pub code_of : Low → Code
 code_of low = record { stmts = low.code; at = low.at; next = low.next }
@@ -29,8 +36,17 @@ fragment_of part = record { stmts = part.code; next = part.next }
 abbrev pub values_of : Many → Values
 values_of many = record { stmts = many.code; at = many.at; next = many.next }
 
--- the code of each function keeps the rules of functions
+-- the code of a function keeps the rules of functions, and its numbers fit their types
+pub record IsLowerable (interfaces : Interfaces) (comp : ℕ) (structs : List TypedStruct) (f : TypedFunction)
+    : Type 0 where
+  pub kept : IsFunction (lowered_function interfaces comp structs f)
+  pub few_params : length f.params ≤ most_params
+  pub few_nodes : nodes f ≤ most_nodes
+  pub few_exports : length (exports_of (comp_at interfaces comp)) ≤ most_exports
+  pub param_cells : All {X = TypedParam} (λ param. cells_of structs param.ty ≤ most_cells) f.params
+  pub local_cells : All {X = TypedLocal} (λ local. cells_of structs local.ty ≤ most_cells) f.locals
+
+-- each function can be lowered
 abbrev pub AreFunctions : Interfaces → ℕ → List TypedStruct → List TypedFunction → Type 0
 AreFunctions interfaces comp structs functions =
-    (number : ℕ) (f : TypedFunction) → slice_get functions number ≡ Some f →
-    IsFunction (lowered_function interfaces comp structs f)
+    (number : ℕ) (f : TypedFunction) → slice_get functions number ≡ Some f → IsLowerable interfaces comp structs f

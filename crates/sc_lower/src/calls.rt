@@ -1,11 +1,13 @@
 //! Calls (C11 6.5.2.2): arguments from left to right, then the call.
 
-ghost use Rattle.std.specs.Prelude.{◌≡◌, ◌++◌, ◌∷◌, [], suc, map, None, Some, IfOk};
+ghost use Rattle.std.specs.Prelude.{◌≡◌, ◌≤◌, ◌+◌, ◌++◌, ◌∷◌, [], suc, map, None, Some, IfOk};
+ghost use Rattle.sc_core.specs.Sizes.{total, expr_nodes, call_nodes};
+ghost use Rattle.sc_core.specs.WellTyped.{most_nodes};
 ghost use Rattle.sc_lower.specs.Expressions.{forms};
 ghost use Rattle.sc_lower.specs.Statements.{many, first_of, call_code, call_alone, call_for, store_at, return_value, args};
 ghost use Rattle.sc_lower.specs.Results.{fragment_of, values_of};
 
-use crate::code::{Fragment, Scope, one_more, single};
+use crate::code::{Fragment, Scope, single};
 use crate::expr::{lower_expr, lower_store};
 use sc_base::OutOfMemory;
 use sc_core::{CallTarget, TypedCall, TypedExpr, TypedPlace, Want};
@@ -26,8 +28,10 @@ fn lower_args(
     args: &[TypedExpr],
     free: u32,
 ) -> Result<Values, OutOfMemory>
-    ensures { IfOk result (λ values. values ≡
+    requires { free + total (map expr_nodes args.now) ≤ most_nodes }
+    ensures made { IfOk result (λ values. values ≡
         values_of (many (map (forms scope.now.structs.now scope.now.params) args.now) free)) }
+    ensures few { IfOk result (λ values. values.next ≤ free + total (map expr_nodes args.now)) }
 {
     let mut stmts = TacStmts::new(alloc);
     let mut at = Temps::new(alloc);
@@ -96,8 +100,10 @@ pub fn lower_call(
     call: &TypedCall,
     free: u32,
 ) -> Result<Fragment, OutOfMemory>
-    ensures { IfOk result (λ fragment. fragment ≡
+    requires { free + call_nodes call.now ≤ most_nodes }
+    ensures made { IfOk result (λ fragment. fragment ≡
         fragment_of (call_alone call.now.target (args scope.now.structs.now scope.now.params call.now) free)) }
+    ensures few { IfOk result (λ fragment. fragment.next ≤ free + call_nodes call.now) }
 {
     let values = lower_args(alloc, scope, call.args.as_slice(), free)?;
     let mut stmts = values.stmts;
@@ -116,18 +122,14 @@ pub fn store_call(
     call: &TypedCall,
     free: u32,
 ) -> Result<Fragment, OutOfMemory>
-    ensures { IfOk result (λ fragment. fragment ≡
+    requires { free + suc (expr_nodes place.now + call_nodes call.now) ≤ most_nodes }
+    ensures made { IfOk result (λ fragment. fragment ≡
         fragment_of (call_for call.now.target (args scope.now.structs.now scope.now.params call.now)
         (store_at (forms scope.now.structs.now scope.now.params place.now)) free)) }
+    ensures few { IfOk result (λ fragment. fragment.next ≤ free + suc (expr_nodes place.now + call_nodes call.now)) }
 {
     let values = lower_args(alloc, scope, call.args.as_slice(), free)?;
-    let store = lower_store(
-        alloc,
-        scope,
-        place.get(),
-        values.next,
-        one_more(values.next)?,
-    )?;
+    let store = lower_store(alloc, scope, place.get(), values.next, values.next + 1)?;
     with_call(values, call.target, store)
 }
 
@@ -138,14 +140,16 @@ pub fn lower_return_call(
     call: &TypedCall,
     free: u32,
 ) -> Result<Fragment, OutOfMemory>
-    ensures { IfOk result (λ fragment. fragment ≡
+    requires { free + suc (call_nodes call.now) ≤ most_nodes }
+    ensures made { IfOk result (λ fragment. fragment ≡
         fragment_of
         (call_for call.now.target (args scope.now.structs.now scope.now.params call.now) return_value free)) }
+    ensures few { IfOk result (λ fragment. fragment.next ≤ free + suc (call_nodes call.now)) }
 {
     let values = lower_args(alloc, scope, call.args.as_slice(), free)?;
     let last = TacStmt::Return {
         value: Some(values.next),
     };
-    let rest = single(alloc, last, one_more(values.next)?)?;
+    let rest = single(alloc, last, values.next + 1)?;
     with_call(values, call.target, rest)
 }

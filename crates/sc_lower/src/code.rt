@@ -1,7 +1,8 @@
 //! Code in the making.
 
-ghost use Rattle.std.specs.Prelude.{◌≡◌, ◌++◌, ◌∷◌, [], suc, IfOk};
+ghost use Rattle.std.specs.Prelude.{◌≡◌, ◌<◌, ◌++◌, ◌∷◌, [], suc, IfOk};
 ghost use Rattle.sc_core.specs.declared.value.Want;
+ghost use Rattle.sc_core.specs.WellTyped.{most_nodes};
 ghost use Rattle.sc_lower.specs.Expressions.{loaded};
 
 use sc_base::OutOfMemory;
@@ -31,18 +32,9 @@ pub struct Fragment {
     pub next: u32,
 }
 
-/// The next number. There is no memory for more than 4294967295 temporaries.
-pub fn one_more(number: u32) -> Result<u32, OutOfMemory>
-    ensures { IfOk result (λ more. more ≡ suc number) }
-{
-    match number.checked_add(1) {
-        Some(more) => Ok(more),
-        None => Err(OutOfMemory),
-    }
-}
-
 /// A statement that assigns the temporary `free`.
 pub fn alone(alloc: Global, stmt: TacStmt, free: u32) -> Result<Code, OutOfMemory>
+    requires { free < most_nodes }
     ensures { IfOk result (λ code. code ≡ record { stmts = stmt ∷ []; at = free; next = suc free }) }
 {
     let mut stmts = TacStmts::new(alloc);
@@ -50,12 +42,13 @@ pub fn alone(alloc: Global, stmt: TacStmt, free: u32) -> Result<Code, OutOfMemor
     Ok(Code {
         stmts,
         at: free,
-        next: one_more(free)?,
+        next: free + 1,
     })
 }
 
 /// The code with a statement behind it that assigns the next free temporary.
 pub fn with_last(code: Code, last: TacStmt) -> Result<Code, OutOfMemory>
+    requires { code.next < most_nodes }
     ensures { IfOk result (λ longer. longer ≡ record {
       stmts = code.stmts ++ last ∷ [];
       at = code.next;
@@ -67,7 +60,7 @@ pub fn with_last(code: Code, last: TacStmt) -> Result<Code, OutOfMemory>
     Ok(Code {
         stmts,
         at: code.next,
-        next: one_more(code.next)?,
+        next: code.next + 1,
     })
 }
 

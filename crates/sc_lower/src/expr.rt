@@ -1,13 +1,15 @@
 //! Expressions (C11 6.5), by recursion on the tree, whose height is at most 256.
 
-ghost use Rattle.std.specs.Prelude.{◌≡◌, ℕ, ◌++◌, ◌∷◌, [], suc, None, Some, IfOk};
+ghost use Rattle.std.specs.Prelude.{◌≡◌, ◌≤◌, ◌<◌, ◌+◌, ℕ, ◌++◌, ◌∷◌, [], suc, None, Some, IfOk};
 ghost use Rattle.sc_base.specs.declared.op.BinaryOp.TheVariants as op;
+ghost use Rattle.sc_core.specs.Sizes.{expr_nodes};
+ghost use Rattle.sc_core.specs.WellTyped.{most_nodes};
 ghost use Rattle.sc_tac.specs.declared.stmt.TacStmt;
 ghost use Rattle.sc_lower.specs.Expressions.{constant_of, place_code, binary_code, move_op, Lowered, binary, forms, truth_code, and_code, or_code};
 ghost use Rattle.sc_lower.specs.Results.{IsOperands, code_of, fragment_of};
 ghost use Rattle.sc_lower.specs.Statements.{store_at};
 
-use crate::code::{Code, Fragment, Scope, alone, behind, ended, loaded, one_more, with_last};
+use crate::code::{Code, Fragment, Scope, alone, behind, ended, loaded, with_last};
 use crate::selection::{binary_code, constant_of, move_op, place_code, unary_op, with_truth};
 use sc_base::{BinaryOp, OutOfMemory};
 use sc_core::{Ty, TypedExpr, TypedKind, VarRef, Want};
@@ -16,6 +18,7 @@ use std::alloc::Global;
 
 // A literal of this type.
 fn literal(alloc: Global, ty: Ty, word: u32, free: u32) -> Result<Code, OutOfMemory>
+    requires { free < most_nodes }
     ensures { IfOk result (λ code. code ≡ record {
       stmts = TacStmt.Const free (constant_of ty word) ∷ [];
       at = free;
@@ -31,6 +34,7 @@ fn literal(alloc: Global, ty: Ty, word: u32, free: u32) -> Result<Code, OutOfMem
 
 // An operator that takes one value.
 fn with_op(code: Code, op: TacOp) -> Result<Code, OutOfMemory>
+    requires { code.next < most_nodes }
     ensures { IfOk result (λ longer. longer ≡ record {
       stmts = code.stmts ++ TacStmt.Op code.next op code.at None ∷ [];
       at = code.next;
@@ -48,6 +52,7 @@ fn with_op(code: Code, op: TacOp) -> Result<Code, OutOfMemory>
 
 // The place of an element.
 fn element(scope: &Scope, types: (Ty, Ty), base: Code, index: Code) -> Result<Code, OutOfMemory>
+    requires { index.next < most_nodes }
     ensures { IfOk result (λ code. code ≡ record {
       stmts = base.stmts ++ (index.stmts
           ++ TacStmt.Op index.next (move_op scope.now.structs.now op.Add types.0 types.1) base.at (Some index.at) ∷ []);
@@ -67,6 +72,7 @@ fn element(scope: &Scope, types: (Ty, Ty), base: Code, index: Code) -> Result<Co
 
 // The second value counts where the first is true, else the result is 0.
 fn and_also(alloc: Global, ty: Ty, left: Code, right: Code) -> Result<Code, OutOfMemory>
+    requires { right.next < most_nodes }
     ensures { IfOk result (λ code. code ≡ record {
       stmts = left.stmts ++ and_code right.next left.at (right.stmts ++ truth_code ty right.next right.at) ∷ [];
       at = right.next;
@@ -89,12 +95,13 @@ fn and_also(alloc: Global, ty: Ty, left: Code, right: Code) -> Result<Code, OutO
     Ok(Code {
         stmts,
         at: dest,
-        next: one_more(dest)?,
+        next: dest + 1,
     })
 }
 
 // The second value counts where the first is false, else the result is 1.
 fn or_else(alloc: Global, ty: Ty, left: Code, right: Code) -> Result<Code, OutOfMemory>
+    requires { right.next < most_nodes }
     ensures { IfOk result (λ code. code ≡ record {
       stmts = left.stmts ++ or_code right.next left.at (right.stmts ++ truth_code ty right.next right.at) ∷ [];
       at = right.next;
@@ -117,7 +124,7 @@ fn or_else(alloc: Global, ty: Ty, left: Code, right: Code) -> Result<Code, OutOf
     Ok(Code {
         stmts,
         at: dest,
-        next: one_more(dest)?,
+        next: dest + 1,
     })
 }
 
@@ -129,6 +136,7 @@ fn plain(
     left: Code,
     right: Code,
 ) -> Result<Code, OutOfMemory>
+    requires { right.next < most_nodes }
     ensures { IfOk result (λ code. code ≡ record {
       stmts = left.stmts ++ (right.stmts
           ++ binary_code scope.now.structs.now op types.0 types.1 right.next left.at right.at ∷ []);
@@ -150,8 +158,10 @@ fn binary(
     left: Code,
     right: Code,
 ) -> Result<Code, OutOfMemory>
-    ensures { (a b : Lowered) (free : ℕ) → IsOperands types a b left right free →
+    requires { right.next < most_nodes }
+    ensures made { (a b : Lowered) (free : ℕ) → IsOperands types a b left right free →
         IfOk result (λ code. code ≡ code_of (binary scope.now.structs.now op a b free)) }
+    ensures few { IfOk result (λ code. code.next ≡ suc right.next) }
 {
     match op {
         BinaryOp::AndAlso => and_also(alloc, types.1, left, right),
@@ -168,7 +178,9 @@ pub fn lower_expr(
     expr: &TypedExpr,
     free: u32,
 ) -> Result<Code, OutOfMemory>
-    ensures { IfOk result (λ code. code ≡ code_of (forms scope.now.structs.now scope.now.params expr.now want free)) }
+    requires { free + expr_nodes expr.now ≤ most_nodes }
+    ensures made { IfOk result (λ code. code ≡ code_of (forms scope.now.structs.now scope.now.params expr.now want free)) }
+    ensures few { IfOk result (λ code. code.next ≤ free + expr_nodes expr.now) }
 {
     match &expr.kind {
         TypedKind::Literal { value } => literal(alloc, expr.ty, *value, free),
@@ -219,8 +231,10 @@ pub fn lower_store(
     value: u32,
     free: u32,
 ) -> Result<Fragment, OutOfMemory>
-    ensures { IfOk result (λ fragment. fragment ≡
+    requires { free + expr_nodes place.now ≤ most_nodes }
+    ensures made { IfOk result (λ fragment. fragment ≡
         fragment_of (store_at (forms scope.now.structs.now scope.now.params place.now) value free)) }
+    ensures few { IfOk result (λ fragment. fragment.next ≤ free + expr_nodes place.now) }
 {
     let code = lower_expr(alloc, scope, Want::Place, place, free)?;
     let last = TacStmt::Store {

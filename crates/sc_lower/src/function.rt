@@ -1,19 +1,21 @@
 //! Functions: how they are entered, their variables, and their code.
 
-ghost use Rattle.std.specs.Prelude.{◌≡◌, ◌++◌, ◌==◌, ◌&&◌, bytes_eq, map, length, IfOk};
-ghost use Rattle.std.specs.List.{position};
+ghost use Rattle.std.specs.Prelude.{◌≡◌, ◌≤◌, ◌<◌, ◌+◌, ◌++◌, ◌==◌, ◌&&◌, bytes_eq, map, length, IfOk, IfSome};
+ghost use Rattle.std.specs.List.{position, All};
 ghost use Rattle.std.specs.Option.{option_copied};
 ghost use Rattle.sc_event.specs.declared.interface.Proto.{Proto};
 ghost use Rattle.sc_event.specs.Lookup.{comp_at};
 ghost use Rattle.sc_core.specs.declared.section.TypedParam.{TypedParam};
 ghost use Rattle.sc_core.specs.Meaning.{main_name};
+ghost use Rattle.sc_core.specs.Sizes.{total, local_nodes, nodes};
 ghost use Rattle.sc_core.specs.Types.{cells_of, variables};
+ghost use Rattle.sc_core.specs.WellTyped.{most_params, most_nodes, most_exports, most_cells};
 ghost use Rattle.sc_lower.specs.Statements.{in_turn};
 ghost use Rattle.sc_lower.specs.Programs.{init_code, inits_code, body_code, exports_of, export_called, entry_of, lowered_function};
 ghost use Rattle.sc_lower.specs.Results.{fragment_of};
 
 use crate::cells::cells_of;
-use crate::code::{Fragment, Scope, after, alone, ended, nothing, one_more};
+use crate::code::{Fragment, Scope, after, alone, ended, nothing};
 use crate::expr::lower_expr;
 use crate::nodes::function_nodes;
 use crate::selection::place_code;
@@ -32,8 +34,10 @@ fn lower_init(
     local: &TypedLocal,
     free: u32,
 ) -> Result<Fragment, OutOfMemory>
-    ensures { IfOk result (λ fragment. fragment ≡
+    requires { free + local_nodes local.now ≤ most_nodes }
+    ensures made { IfOk result (λ fragment. fragment ≡
         fragment_of (init_code scope.now.structs.now scope.now.params number local.now local.now.init free)) }
+    ensures few { IfOk result (λ fragment. fragment.next ≤ free + local_nodes local.now) }
 {
     match &local.init {
         None => Ok(nothing(alloc, free)),
@@ -52,8 +56,10 @@ fn lower_init(
 
 // The initialisers in order.
 fn lower_inits(alloc: Global, scope: &Scope, locals: &[TypedLocal]) -> Result<Fragment, OutOfMemory>
-    ensures { IfOk result (λ fragment. fragment ≡
+    requires { total (map local_nodes locals.now) ≤ most_nodes }
+    ensures made { IfOk result (λ fragment. fragment ≡
         fragment_of (in_turn (inits_code scope.now.structs.now scope.now.params 0 locals.now) 0)) }
+    ensures few { IfOk result (λ fragment. fragment.next ≤ total (map local_nodes locals.now)) }
 {
     let mut stmts = TacStmts::new(alloc);
     let mut next = 0;
@@ -62,7 +68,7 @@ fn lower_inits(alloc: Global, scope: &Scope, locals: &[TypedLocal]) -> Result<Fr
         let fragment = lower_init(alloc, scope, number, local, next)?;
         stmts.append(fragment.stmts)?;
         next = fragment.next;
-        number = one_more(number)?;
+        number += 1;
     }
     Ok(Fragment { stmts, next })
 }
@@ -74,7 +80,8 @@ fn lower_body(
     function: &TypedFunction,
     params: u32,
 ) -> Result<Fragment, OutOfMemory>
-    requires { params ≡ length function.now.params }
+    requires counted { params ≡ length function.now.params }
+    requires few { nodes function.now ≤ most_nodes }
     ensures { IfOk result (λ fragment. fragment ≡ fragment_of (body_code structs.now function.now 0)) }
 {
     let scope = Scope { structs, params };
@@ -99,54 +106,48 @@ fn exports_of(interfaces: &Interfaces, comp: CompId) -> &[Proto]
 }
 
 fn export_place(exports: &[Proto], name: &Name) -> Option<usize>
-    ensures { result ≡ position {X = Proto} (λ proto. bytes_eq name.now proto.name) exports.now }
+    ensures place { result ≡ position {X = Proto} (λ proto. bytes_eq name.now proto.name) exports.now }
+    ensures within { IfSome result (λ place. place < length exports.now) }
 {
     exports.iter().position(|proto| has_name(proto, name))
 }
 
-// The export of this name. There is no memory for more than 65536 exports.
-fn export_called(
-    interfaces: &Interfaces,
-    comp: CompId,
-    name: &Name,
-) -> Result<Option<Entry>, OutOfMemory>
-    ensures { IfOk result (λ entry. entry ≡ export_called interfaces.now comp name.now) }
+// The export of this name.
+fn export_called(interfaces: &Interfaces, comp: CompId, name: &Name) -> Option<Entry>
+    requires { length (exports_of (comp_at interfaces.now comp)) ≤ most_exports }
+    ensures { result ≡ export_called interfaces.now comp name.now }
 {
     match export_place(exports_of(interfaces, comp), name) {
-        None => Ok(None),
-        Some(place) => match u16::try_from(place) {
-            Ok(index) => Ok(Some(Entry::Export(index))),
-            Err(_) => Err(OutOfMemory),
-        },
+        None => None,
+        Some(place) => Some(Entry::Export(place as u16)),
     }
 }
 
 // How a function of this name is entered.
-fn entry_of(
-    interfaces: &Interfaces,
-    comp: CompId,
-    name: &Name,
-) -> Result<Option<Entry>, OutOfMemory>
-    ensures { IfOk result (λ entry. entry ≡ entry_of interfaces.now comp name.now) }
+fn entry_of(interfaces: &Interfaces, comp: CompId, name: &Name) -> Option<Entry>
+    requires { length (exports_of (comp_at interfaces.now comp)) ≤ most_exports }
+    ensures { result ≡ entry_of interfaces.now comp name.now }
 {
     let main = comp.number() == interfaces.main.number();
     if main && name.as_bytes() == b"main".as_slice() {
-        return Ok(Some(Entry::Main));
+        return Some(Entry::Main);
     }
     export_called(interfaces, comp, name)
 }
 
-// The cells of each variable, parameters first. There is no memory for more than 4294967295.
+// The cells of each variable, parameters first.
 fn object_cells(
     alloc: Global,
     structs: &[TypedStruct],
     function: &TypedFunction,
 ) -> Result<ObjectCells, OutOfMemory>
+    requires param_cells { All (λ param. cells_of structs.now param.ty ≤ most_cells) function.now.params }
+    requires local_cells { All (λ local. cells_of structs.now local.ty ≤ most_cells) function.now.locals }
     ensures { IfOk result (λ cells. cells ≡ variables structs.now function.now) }
 {
     let mut cells = param_cells(alloc, structs, function.params.as_slice())?;
     for local in function.locals.as_slice() {
-        cells.push(few_cells(structs, local.ty)?)?;
+        cells.push(few_cells(structs, local.ty))?;
     }
     Ok(cells)
 }
@@ -156,31 +157,28 @@ fn param_cells(
     structs: &[TypedStruct],
     params: &[TypedParam],
 ) -> Result<ObjectCells, OutOfMemory>
+    requires { All (λ param. cells_of structs.now param.ty ≤ most_cells) params.now }
     ensures { IfOk result (λ cells. cells ≡ map {A = TypedParam} (λ param. cells_of structs.now param.ty) params.now) }
 {
     let mut cells = ObjectCells::new(alloc);
     for param in params {
-        cells.push(few_cells(structs, param.ty)?)?;
+        cells.push(few_cells(structs, param.ty))?;
     }
     Ok(cells)
 }
 
-fn few_cells(structs: &[TypedStruct], ty: Ty) -> Result<u32, OutOfMemory>
-    ensures { IfOk result (λ cells. cells ≡ cells_of structs.now ty) }
+fn few_cells(structs: &[TypedStruct], ty: Ty) -> u32
+    requires { cells_of structs.now ty ≤ most_cells }
+    ensures { result ≡ cells_of structs.now ty }
 {
-    match u32::try_from(cells_of(structs, ty)) {
-        Ok(cells) => Ok(cells),
-        Err(_) => Err(OutOfMemory),
-    }
+    cells_of(structs, ty) as u32
 }
 
-fn param_count(function: &TypedFunction) -> Result<u8, OutOfMemory>
-    ensures { IfOk result (λ count. count ≡ length function.now.params) }
+fn param_count(function: &TypedFunction) -> u8
+    requires { length function.now.params ≤ most_params }
+    ensures { result ≡ length function.now.params }
 {
-    match u8::try_from(function.params.len()) {
-        Ok(count) => Ok(count),
-        Err(_) => Err(OutOfMemory),
-    }
+    function.params.len() as u8
 }
 
 /// A function of the section of this number.
@@ -191,19 +189,24 @@ pub fn lower_function(
     structs: &[TypedStruct],
     function: &TypedFunction,
 ) -> Result<TacFnTree, OutOfMemory>
+    requires few_params { length function.now.params ≤ most_params }
+    requires few_nodes { nodes function.now ≤ most_nodes }
+    requires few_exports { length (exports_of (comp_at interfaces.now comp)) ≤ most_exports }
+    requires param_cells { All (λ param. cells_of structs.now param.ty ≤ most_cells) function.now.params }
+    requires local_cells { All (λ local. cells_of structs.now local.ty ≤ most_cells) function.now.locals }
     ensures { IfOk result (λ tree. tree ≡ lowered_function interfaces.now comp structs.now function.now) }
 {
-    let params = param_count(function)?;
+    let params = param_count(function);
     let body = lower_body(alloc, structs, function, params as u32)?;
     Ok(TacFnTree {
         comp,
         name: function.name,
-        entry: entry_of(interfaces, comp, &function.name)?,
+        entry: entry_of(interfaces, comp, &function.name),
         params,
         result: function.result.is_some(),
         temps: body.next,
         objects: object_cells(alloc, structs, function)?,
-        nodes: function_nodes(function, params as u32)?,
+        nodes: function_nodes(function, params as u32),
         body: body.stmts,
     })
 }

@@ -1,6 +1,6 @@
 //! Sections and programs.
 
-ghost use Rattle.std.specs.Prelude.{◌≡◌, map, IfOk};
+ghost use Rattle.std.specs.Prelude.{◌≡◌, ◌<◌, map, IfOk};
 ghost use Rattle.sc_core.specs.WellTyped.{IsWellTyped};
 ghost use Rattle.sc_lower.specs.Programs.{lowered_function, lowered_section, lowered_sections, lowered_program};
 ghost use Rattle.sc_lower.specs.Results.{AreFunctions};
@@ -49,7 +49,16 @@ fn lower_section(
     })
 }
 
-// The sections in order. There is no memory for more than 32 compartments.
+// The compartment of this number.
+fn comp_of(number: u8) -> CompId
+    requires { number < 32 }
+    ensures number { result ≡ number }
+    ensures within { number < 32 }
+{
+    CompId::new(number).unwrap()
+}
+
+// The sections in order.
 fn lower_sections(alloc: Global, program: &ProgramTree) -> Result<TacSections, OutOfMemory>
     requires { IsWellTyped program.now }
     ensures { IfOk result (λ lowered. lowered ≡ lowered_sections program.now.interfaces 0 program.now.sections) }
@@ -57,9 +66,7 @@ fn lower_sections(alloc: Global, program: &ProgramTree) -> Result<TacSections, O
     let mut lowered = TacSections::new(alloc);
     let mut number = 0;
     for section in program.sections.as_slice() {
-        let Some(comp) = CompId::new(number) else {
-            return Err(OutOfMemory);
-        };
+        let comp = comp_of(number);
         lowered.push(lower_section(alloc, &program.interfaces, comp, section)?)?;
         number += 1;
     }

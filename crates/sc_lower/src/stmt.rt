@@ -1,7 +1,9 @@
 //! Statements (C11 6.8), by recursion on the tree.
 
-ghost use Rattle.std.specs.Prelude.{◌≡◌, ◌++◌, ◌∷◌, [], suc, Some, IfOk};
+ghost use Rattle.std.specs.Prelude.{◌≡◌, ◌≤◌, ◌+◌, ◌++◌, ◌∷◌, [], suc, map, Some, IfOk};
 ghost use Rattle.sc_core.specs.declared.value.Want.TheVariants as want;
+ghost use Rattle.sc_core.specs.Sizes.{total, expr_nodes, simple_nodes, part_nodes, stmt_nodes};
+ghost use Rattle.sc_core.specs.WellTyped.{most_nodes};
 ghost use Rattle.sc_tac.specs.declared.stmt.TacStmt;
 ghost use Rattle.sc_lower.specs.Expressions.{forms};
 ghost use Rattle.sc_lower.specs.Statements.{after, assign, return_value, test, simple_code, part_code, stmt_code, block_code};
@@ -25,9 +27,11 @@ fn lower_assign(
     value: &TypedExpr,
     free: u32,
 ) -> Result<Fragment, OutOfMemory>
-    ensures { IfOk result (λ fragment. fragment ≡
+    requires { free + (expr_nodes place.now + expr_nodes value.now) ≤ most_nodes }
+    ensures made { IfOk result (λ fragment. fragment ≡
         fragment_of (assign (forms scope.now.structs.now scope.now.params place.now)
         (forms scope.now.structs.now scope.now.params value.now) free)) }
+    ensures few { IfOk result (λ fragment. fragment.next ≤ free + (expr_nodes place.now + expr_nodes value.now)) }
 {
     let code = lower_expr(alloc, scope, Want::Value, value, free)?;
     let store = lower_store(alloc, scope, place.get(), code.at, code.next)?;
@@ -40,8 +44,10 @@ fn lower_return(
     value: &TypedExpr,
     free: u32,
 ) -> Result<Fragment, OutOfMemory>
-    ensures { IfOk result (λ fragment. fragment ≡
+    requires { free + expr_nodes value.now ≤ most_nodes }
+    ensures made { IfOk result (λ fragment. fragment ≡
         fragment_of (after (forms scope.now.structs.now scope.now.params value.now want.Value) return_value free)) }
+    ensures few { IfOk result (λ fragment. fragment.next ≤ free + expr_nodes value.now) }
 {
     let code = lower_expr(alloc, scope, Want::Value, value, free)?;
     let last = TacStmt::Return {
@@ -57,8 +63,10 @@ fn lower_test(
     cond: &TypedExpr,
     free: u32,
 ) -> Result<Fragment, OutOfMemory>
-    ensures { IfOk result (λ fragment. fragment ≡
+    requires { free + expr_nodes cond.now ≤ most_nodes }
+    ensures made { IfOk result (λ fragment. fragment ≡
         fragment_of (test (forms scope.now.structs.now scope.now.params cond.now) free)) }
+    ensures few { IfOk result (λ fragment. fragment.next ≤ free + expr_nodes cond.now) }
 {
     let code = lower_expr(alloc, scope, Want::Value, cond, free)?;
     let mut else_part = TacStmts::new(alloc);
@@ -77,8 +85,10 @@ fn lower_simple(
     kind: &TypedSimpleKind,
     free: u32,
 ) -> Result<Fragment, OutOfMemory>
-    ensures { IfOk result (λ fragment. fragment ≡
+    requires { free + simple_nodes kind.now ≤ most_nodes }
+    ensures made { IfOk result (λ fragment. fragment ≡
         fragment_of (simple_code scope.now.structs.now scope.now.params kind.now free)) }
+    ensures few { IfOk result (λ fragment. fragment.next ≤ free + simple_nodes kind.now) }
 {
     match kind {
         TypedSimpleKind::Assign { place, value } => lower_assign(alloc, scope, place, value, free),
@@ -94,8 +104,10 @@ fn lower_part(
     part: &Option<TypedSimple>,
     free: u32,
 ) -> Result<Fragment, OutOfMemory>
-    ensures { IfOk result (λ fragment. fragment ≡
+    requires { free + part_nodes part.now ≤ most_nodes }
+    ensures made { IfOk result (λ fragment. fragment ≡
         fragment_of (part_code scope.now.structs.now scope.now.params part.now free)) }
+    ensures few { IfOk result (λ fragment. fragment.next ≤ free + part_nodes part.now) }
 {
     match part {
         None => Ok(nothing(alloc, free)),
@@ -154,8 +166,10 @@ pub fn lower_stmts(
     block: &TypedStmts,
     free: u32,
 ) -> Result<Fragment, OutOfMemory>
-    ensures { IfOk result (λ fragment. fragment ≡
+    requires { free + total (map stmt_nodes block.now) ≤ most_nodes }
+    ensures made { IfOk result (λ fragment. fragment ≡
         fragment_of (block_code scope.now.structs.now scope.now.params block.now free)) }
+    ensures few { IfOk result (λ fragment. fragment.next ≤ free + total (map stmt_nodes block.now)) }
 {
     let mut stmts = TacStmts::new(alloc);
     let mut next = free;
@@ -174,8 +188,10 @@ fn lower_stmt(
     stmt: &TypedStmt,
     free: u32,
 ) -> Result<Fragment, OutOfMemory>
-    ensures { IfOk result (λ fragment. fragment ≡
+    requires { free + stmt_nodes stmt.now ≤ most_nodes }
+    ensures made { IfOk result (λ fragment. fragment ≡
         fragment_of (stmt_code scope.now.structs.now scope.now.params stmt.now free)) }
+    ensures few { IfOk result (λ fragment. fragment.next ≤ free + stmt_nodes stmt.now) }
 {
     match &stmt.kind {
         TypedStmtKind::Empty => Ok(nothing(alloc, free)),

@@ -1,4 +1,5 @@
-use Rattle.std.proofs.Common.{◌≡◌, map, drop}
+use Rattle.std.proofs.Common.{◌≡◌, ◌≤◌, ◌+◌, map, drop}
+use Rattle.sc_core.specs.Sizes.{total, expr_nodes}
 use Rattle.sc_lower.specs.Expressions.{forms}
 use Rattle.sc_lower.specs.Statements.{many}
 use Rattle.sc_lower.specs.Results.{values_of}
@@ -6,6 +7,10 @@ use Rattle.sc_lower.proofs.Lowered.{values_behind}
 use Rattle.sc_lower.proofs.calls.lower_args.Given as goal
 
 abbrev pub invariant-loop-arg : goal.invariant-loop-arg
-invariant-loop-arg l =
-    values_behind l.stmts l.at (many (map (forms l.scope.structs.now l.scope.params) (drop l.arg-index l.args)) l.next)
-    ≡ values_of (many (map (forms l.scope.structs.now l.scope.params) l.args) l.free)
+invariant-loop-arg l = record {
+  made :
+      values_behind l.stmts l.at
+      (many (map (forms l.scope.structs.now l.scope.params) (drop l.arg-index l.args)) l.next)
+      ≡ values_of (many (map (forms l.scope.structs.now l.scope.params) l.args) l.free);
+  few : l.next + total (map expr_nodes (drop l.arg-index l.args)) ≤ l.free + total (map expr_nodes l.args);
+}

@@ -1,4 +1,5 @@
-use Rattle.std.proofs.Common.{◌≡◌, drop}
+use Rattle.std.proofs.Common.{◌≡◌, ◌≤◌, ◌+◌, map, drop}
+use Rattle.sc_core.specs.Sizes.{total, local_nodes}
 use Rattle.sc_lower.specs.Statements.{in_turn}
 use Rattle.sc_lower.specs.Programs.{inits_code}
 use Rattle.sc_lower.specs.Results.{fragment_of}
@@ -6,7 +7,11 @@ use Rattle.sc_lower.proofs.Lowered.{fragment_behind}
 use Rattle.sc_lower.proofs.function.lower_inits.Given as goal
 
 abbrev pub invariant-loop-local : goal.invariant-loop-local
-invariant-loop-local l =
-    fragment_behind l.stmts
-    (in_turn (inits_code l.scope.structs.now l.scope.params l.number (drop l.local-index l.locals)) l.next)
-    ≡ fragment_of (in_turn (inits_code l.scope.structs.now l.scope.params 0 l.locals) 0)
+invariant-loop-local l = record {
+  made :
+      fragment_behind l.stmts
+      (in_turn (inits_code l.scope.structs.now l.scope.params l.number (drop l.local-index l.locals)) l.next)
+      ≡ fragment_of (in_turn (inits_code l.scope.structs.now l.scope.params 0 l.locals) 0);
+  few : l.next + total (map local_nodes (drop l.local-index l.locals)) ≤ total (map local_nodes l.locals);
+  counted : l.number + total (map local_nodes (drop l.local-index l.locals)) ≤ total (map local_nodes l.locals);
+}
