@@ -90,7 +90,7 @@ class Text:
     def unfolded(self):
         """The names that it unfolds somewhere."""
         whole = "\n".join(self.lines)
-        found = re.findall(r"\bunfolding ([^\n]*(?:\n {4,}[^\n]*){0,4})", whole) + re.findall(r"\bunfold ([^\n]*?) in\b", whole)
+        found = re.findall(r"\bunfolding ([^\n]*(?:\n {4,}[^\n=():;,{}]*(?=\n))*)", whole) + re.findall(r"\bunfold ([^\n]*?) in\b", whole)
         return {name for it in found for name in it.replace("(", " ").replace(")", " ").split()}
 
     def write(self):

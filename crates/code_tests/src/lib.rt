@@ -15,3 +15,5 @@ mod places;
 mod programs;
 #[cfg(test)]
 mod sizes;
+#[cfg(test)]
+mod speed;

@@ -1,0 +1,62 @@
+// Lowering takes time in proportion to a program's nodes. The times are printed, and not tested.
+use sc_base::OutOfMemory;
+use sc_lower::lower;
+use sc_tac::Tac;
+use sc_types::SourceText;
+use std::alloc::Global;
+use std::test::Fail;
+use std::time::Instant;
+
+// The last four digits of a number.
+fn digits(number: u32) -> [u8; 4] {
+    [
+        b'0' + (number / 1000 % 10) as u8,
+        b'0' + (number / 100 % 10) as u8,
+        b'0' + (number / 10 % 10) as u8,
+        b'0' + (number % 10) as u8,
+    ]
+}
+
+// A program of so many small functions, each with a loop, a branch and an array.
+fn many_functions(alloc: Global, count: u32) -> Result<Vec<u8>, OutOfMemory> {
+    let mut text: Vec<u8> = Vec::new(alloc);
+    text.extend_from_slice(b"#pragma compartment Main\nint table[16];\n")?;
+    for number in 0..count {
+        text.extend_from_slice(b"int f")?;
+        text.extend_from_slice(digits(number).as_slice())?;
+        text.extend_from_slice(
+            b"(int a, int b) {\n  int i;\n  int sum = 0;\n  for (i = 0; i < b; i++) {\n    sum = sum + a * i;\n",
+        )?;
+        text.extend_from_slice(
+            b"    if (sum > 1000 && i != 7) {\n      table[i & 15] = sum - table[a & 15];\n    }\n  }\n  return sum;\n}\n",
+        )?;
+    }
+    text.extend_from_slice(b"int main(void) {\n  return 0;\n}\n")?;
+    Ok(text)
+}
+
+fn nodes_of(code: &Tac) -> u32 {
+    let mut nodes = 0u32;
+    for section in code.tree().sections.as_slice() {
+        for function in section.functions.as_slice() {
+            nodes = nodes.saturating_add(function.tree().nodes);
+        }
+    }
+    nodes
+}
+
+#[test]
+fn lowering_is_timed(rt: HostRuntime) -> Result<(), Fail> {
+    for count in [250, 1_000, 4_000] {
+        let text = many_functions(rt.alloc(), count)?;
+        let source = SourceText::read(rt.alloc(), text.as_slice())?;
+        let start = Instant::now(&rt)?;
+        let code = lower(rt.alloc(), source.program())?;
+        let nanos = start.elapsed(&rt)?.as_nanos();
+        let nodes = nodes_of(&code);
+        let bytes = text.len();
+        let _ = println!(rt; "{bytes} bytes, {nodes} nodes: lowered in {nanos} ns");
+        assert!(rt; nodes > 0);
+    }
+    Ok(())
+}
