@@ -1,16 +1,15 @@
 -- The images of the tests with two compartments are images: the second offers a function that returns at once, which
 -- the first may call or not.
+use Rattle.sc_base.specs.Prelude.{is_name}
+use Rattle.sc_image.specs.Prelude.{IsByte, IsComp, IsDistinct, IsExport, IsImport, IsWellFormed, IsWord, stretch, word_at}
 use Rattle.std.proofs.Common.{◌≡◌, ◌≢◌, ℕ, zero, suc, ◌*◌, ◌<◌, ◌≤◌, List, [], ◌∷◌, length, get_or, Bool, true, false, All, Option, Some, None, refl, subst, ap, arith, lit<, lit≤}
 use Rattle.std.specs.Prelude.{codes, IsSome, if◌then◌else◌}
 use Rattle.std.specs.List.{slice_get}
 use Rattle.std.proofs.lemmas.List.Elements.{All-nil, All-cons}
-use Rattle.sc_base.specs.Identifier.{is_name}
 use Rattle.sc_image.specs.declared.parts.ImageParts.{ImageParts}
 use Rattle.sc_image.specs.declared.parts.CompPart.{CompPart}
 use Rattle.sc_image.specs.declared.parts.ExportPart.{ExportPart}
 use Rattle.sc_image.specs.declared.parts.ImportPart.{ImportPart}
-use Rattle.sc_image.specs.Layout.{stretch, word_at}
-use Rattle.sc_image.specs.WellFormed.{IsDistinct, IsWord, IsByte, IsExport, IsImport, IsComp, IsWellFormed}
 use Rattle.machine_tests.proofs.Alone.{all_below, some_first}
 
 abbrev pub taken_part : Bool → List ImportPart

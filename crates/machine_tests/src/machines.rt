@@ -1,5 +1,5 @@
+ghost use Rattle.sc_image.specs.Prelude.{most_globals, stretch};
 ghost use Rattle.std.specs.Prelude.{◌≡◌, ◌*◌, ◌<◌, ◌≤◌, false, [], ◌∷◌, codes, if◌then◌else◌, length, IfOk};
-ghost use Rattle.sc_image.specs.Layout.{stretch, most_globals};
 
 use sc_base::Stop::{self, Ended, EventsOut, StepsOut, Trap};
 use sc_base::{Name, OutOfMemory, Text, TrapReason, Words};

@@ -1,7 +1,7 @@
 // The calls of a store, through its trait.
 
+ghost use Rattle.sc_store.specs.Prelude.{HasBytes};
 ghost use Rattle.std.specs.Prelude.{IsTrue};
-ghost use Rattle.sc_store.specs.Memory.{HasBytes};
 
 use sc_store::{FlatStore, OutOfMemory, Region, Store};
 use std::alloc::Global;

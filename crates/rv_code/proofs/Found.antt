@@ -1,16 +1,7 @@
 -- What a word is decoded to has that word.
-use Rattle.std.proofs.Common.{◌≡◌, ℕ, ◌+◌, ◌*◌, ◌/◌, ◌%◌, ◌^◌, ◌<◌, Bool, true, false, cond, Option, Some, None, refl, subst, arith}
-use Rattle.std.specs.Prelude.{nat_eq}
+use Rattle.rv_code.proofs.Common.{Auipc, Bool, Branch, Ebreak, Ecall, Fence, HasWord, Instr, IsBranchOffset, IsImmediate, IsJumpOffset, Jal, Jalr, Load, Lui, None, Op, OpImm, Option, Shift, Some, Store, Upper, arith, b_imm_of, branch_funct3, branch_in, branch_op_of, branch_opcode, cond, decoded, ebreak_word, ecall_word, eqb-true, false, fence_funct3, fence_in, fence_opcode, funct3_of, funct7_of, i_imm_of, j_imm_of, jal_opcode, jalr_funct3, jalr_in, jalr_opcode, load_funct3, load_in, load_op_of, load_opcode, nat_eq, op_funct3, op_funct7, op_imm_funct3, op_imm_in, op_imm_op_of, op_imm_opcode, op_in, op_op_of, op_opcode, opcode_of, rd_of, refl, rs1_of, rs2_of, s_imm_of, shift_funct3, shift_funct7, shift_in, shift_op_of, store_funct3, store_in, store_op_of, store_opcode, subst, system_in, true, u_imm_of, upper_opcode, word_of, ℕ, ◌%◌, ◌*◌, ◌+◌, ◌/◌, ◌<◌, ◌^◌, ◌≡◌}
 use Rattle.std.specs.Option.{option_map, option_or}
-use Rattle.std.proofs.lemmas.Bool.{eqb-true}
 use Rattle.rv_code.specs.declared.instr.UpperOp.{UpperOp}
-use Rattle.rv_code.specs.declared.instr.UpperOp.TheVariants.{Lui, Auipc}
-use Rattle.rv_code.specs.declared.instr.Instr.{Instr}
-use Rattle.rv_code.specs.declared.instr.Instr.TheVariants.{Upper, Jal, Jalr, Branch, Load, Store, OpImm, Shift, Op, Fence, Ecall, Ebreak}
-use Rattle.rv_code.specs.Ranges.{IsImmediate, IsBranchOffset, IsJumpOffset}
-use Rattle.rv_code.specs.Table.{upper_opcode, jal_opcode, jalr_opcode, branch_opcode, load_opcode, store_opcode, op_imm_opcode, op_opcode, fence_opcode, ecall_word, ebreak_word, jalr_funct3, fence_funct3, branch_funct3, load_funct3, store_funct3, op_imm_funct3, shift_funct3, shift_funct7, op_funct3, op_funct7}
-use Rattle.rv_code.specs.Words.{word_of, HasWord}
-use Rattle.rv_code.specs.Decoding.{opcode_of, rd_of, funct3_of, rs1_of, rs2_of, funct7_of, i_imm_of, s_imm_of, b_imm_of, u_imm_of, j_imm_of, branch_op_of, load_op_of, store_op_of, op_imm_op_of, shift_op_of, op_op_of, jalr_in, branch_in, load_in, store_in, shift_in, op_imm_in, op_in, fence_in, system_in, decoded}
 use Rattle.rv_code.proofs.Numbers.{IsImmediate-signed, IsBranchOffset-signed, IsJumpOffset-signed}
 use Rattle.rv_code.proofs.Ops.{branch_funct3_of, load_funct3_of, store_funct3_of, op_imm_funct3_of, shift_functs_of, op_functs_of}
 use Rattle.rv_code.proofs.Fields.{r_joined, i_joined, s_joined, b_joined, u_joined, j_joined}

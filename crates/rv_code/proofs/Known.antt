@@ -1,15 +1,5 @@
 -- Words that an assembler gives, read and written by the definitions.
-use Rattle.std.proofs.Common.{◌≡◌, Some, None, refl}
-use Rattle.std.specs.Prelude.{pos, negsuc}
-use Rattle.rv_code.specs.declared.instr.UpperOp.TheVariants.{Lui}
-use Rattle.rv_code.specs.declared.instr.BranchOp.TheVariants.{Beq, Bgeu}
-use Rattle.rv_code.specs.declared.instr.LoadOp.TheVariants.{Lbu}
-use Rattle.rv_code.specs.declared.instr.StoreOp.TheVariants.{Sw}
-use Rattle.rv_code.specs.declared.instr.ShiftOp.TheVariants.{Srai}
-use Rattle.rv_code.specs.declared.instr.OpOp.TheVariants.{Mulhsu}
-use Rattle.rv_code.specs.declared.instr.Instr.TheVariants.{Upper, Jal, Branch, Load, Store, Shift, Op, Ecall}
-use Rattle.rv_code.specs.Words.{word_of}
-use Rattle.rv_code.specs.Decoding.{branch_op_of, load_op_of, op_imm_op_of, shift_op_of, op_op_of, branch_in, load_in, shift_in, op_imm_in, op_in, system_in, decoded}
+use Rattle.rv_code.proofs.Common.{Beq, Bgeu, Branch, Ecall, Jal, Lbu, Load, Lui, Mulhsu, None, Op, Shift, Some, Srai, Store, Sw, Upper, branch_in, branch_op_of, decoded, load_in, load_op_of, negsuc, op_imm_in, op_imm_op_of, op_in, op_op_of, pos, refl, shift_in, shift_op_of, system_in, word_of, ◌≡◌}
 
 -- lui a0, 0x12345
 lui : word_of (Upper Lui 10 0x12345000) ≡ 0x12345537

@@ -1,3 +1,4 @@
+pub mod Common
 mod Known
 pub mod Numbers
 pub mod Fields

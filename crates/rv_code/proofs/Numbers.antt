@@ -1,9 +1,6 @@
 -- Residues and the signed numbers that they stand for, and words cut into fields.
-use Rattle.std.proofs.Common.{◌≡◌, ℕ, suc, ◌-◌, ◌*◌, ◌%◌, ◌^◌, ◌<◌, ◌≤◌, refl, ◌∙◌, ap, arith, ⊎_elim}
-use Rattle.std.specs.Prelude.{ℤ, pos, negsuc}
+use Rattle.rv_code.proofs.Common.{IsBranchOffset, IsImmediate, IsJumpOffset, ap, arith, cases_lt, le-ltb, lt-ltb, negsuc, pos, refl, residue, signed, suc, ℕ, ℤ, ⊎_elim, ◌%◌, ◌*◌, ◌-◌, ◌<◌, ◌^◌, ◌∙◌, ◌≡◌, ◌≤◌}
 use Rattle.std.proofs.lemmas.Int.{ints}
-use Rattle.std.proofs.lemmas.Bool.{cases_lt, lt-ltb, le-ltb}
-use Rattle.rv_code.specs.Ranges.{residue, signed, IsImmediate, IsBranchOffset, IsJumpOffset}
 
 -- what `signed` gives in the lower half and in the upper one
 pub signed-low : (half n : ℕ) → n < half → signed half n ≡ pos n

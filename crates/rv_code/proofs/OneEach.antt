@@ -1,13 +1,5 @@
 -- Words and instructions stand for one another.
-use Rattle.std.proofs.Common.{◌≡◌, ℕ, ◌+◌, ◌*◌, ◌/◌, ◌%◌, ◌^◌, ◌<◌, Option, Some, None, true, false, refl, sym, ◌∙◌, arith, lit<}
-use Rattle.std.specs.Prelude.{IfSome, IsNone}
-use Rattle.rv_code.specs.declared.instr.UpperOp.TheVariants.{Lui, Auipc}
-use Rattle.rv_code.specs.declared.instr.Instr.{Instr}
-use Rattle.rv_code.specs.declared.instr.Instr.TheVariants.{Upper, Jal, Jalr, Branch, Load, Store, OpImm, Shift, Op, Fence, Ecall, Ebreak}
-use Rattle.rv_code.specs.Ranges.{residue}
-use Rattle.rv_code.specs.Table.{jalr_opcode, fence_opcode, jalr_funct3, fence_funct3, branch_funct3, load_funct3, store_funct3, op_imm_funct3, shift_funct3, shift_funct7, op_funct3, op_funct7}
-use Rattle.rv_code.specs.Words.{word_of, IsInstr, HasWord}
-use Rattle.rv_code.specs.Decoding.{decoded}
+use Rattle.rv_code.proofs.Common.{Auipc, Branch, Ebreak, Ecall, Fence, HasWord, IfSome, Instr, IsInstr, IsNone, Jal, Jalr, Load, Lui, None, Op, OpImm, Option, Shift, Some, Store, Upper, arith, branch_funct3, decoded, false, fence_funct3, fence_opcode, jalr_funct3, jalr_opcode, lit<, load_funct3, op_funct3, op_funct7, op_imm_funct3, refl, residue, shift_funct3, shift_funct7, store_funct3, sym, true, word_of, ℕ, ◌%◌, ◌*◌, ◌+◌, ◌/◌, ◌<◌, ◌^◌, ◌∙◌, ◌≡◌}
 use Rattle.rv_code.proofs.Numbers.{residue-below-12, residue-below-13, residue-below-21}
 use Rattle.rv_code.proofs.Ops.{branch_funct3-below, load_funct3-below, store_funct3-below, op_imm_funct3-below, shift_funct3-below, op_funct3-below, shift_funct7-below, op_funct7-below}
 use Rattle.rv_code.proofs.Read.{decoded-word}

@@ -1,21 +1,6 @@
 -- An operation is found by its own function codes, and what is found has those that were asked for.
-use Rattle.std.proofs.Common.{◌≡◌, ℕ, ◌^◌, ◌<◌, Bool, true, false, cond, List, [], ◌∷◌, Option, Some, None, refl, sym, ◌∙◌, ap, lit<}
-use Rattle.std.specs.Prelude.{◌&&◌, nat_eq, find}
-use Rattle.std.proofs.lemmas.Bool.{and_parts, eqb-true}
-use Rattle.rv_code.specs.declared.instr.BranchOp.{BranchOp}
-use Rattle.rv_code.specs.declared.instr.BranchOp.TheVariants.{Beq, Bne, Blt, Bge, Bltu, Bgeu}
-use Rattle.rv_code.specs.declared.instr.LoadOp.{LoadOp}
-use Rattle.rv_code.specs.declared.instr.LoadOp.TheVariants.{Lb, Lh, Lw, Lbu, Lhu}
-use Rattle.rv_code.specs.declared.instr.StoreOp.{StoreOp}
-use Rattle.rv_code.specs.declared.instr.StoreOp.TheVariants.{Sb, Sh, Sw}
-use Rattle.rv_code.specs.declared.instr.OpImmOp.{OpImmOp}
+use Rattle.rv_code.proofs.Common.{Add, And, Beq, Bge, Bgeu, Blt, Bltu, Bne, Bool, BranchOp, Div, Divu, Lb, Lbu, Lh, Lhu, List, LoadOp, Lw, Mul, Mulh, Mulhsu, Mulhu, None, OpImmOp, OpOp, Option, Or, Rem, Remu, Sb, Sh, ShiftOp, Sll, Slli, Slt, Sltu, Some, Sra, Srai, Srl, Srli, StoreOp, Sub, Sw, Xor, [], and_parts, ap, branch_funct3, branch_op_of, branch_ops, cond, eqb-true, false, find, lit<, load_funct3, load_op_of, load_ops, nat_eq, op_funct3, op_funct7, op_imm_funct3, op_imm_op_of, op_imm_ops, op_op_of, op_ops, refl, shift_funct3, shift_funct7, shift_op_of, shift_ops, store_funct3, store_op_of, store_ops, sym, true, ℕ, ◌&&◌, ◌<◌, ◌^◌, ◌∙◌, ◌∷◌, ◌≡◌}
 use Rattle.rv_code.specs.declared.instr.OpImmOp.TheVariants.{Addi, Slti, Sltiu, Xori, Ori, Andi}
-use Rattle.rv_code.specs.declared.instr.ShiftOp.{ShiftOp}
-use Rattle.rv_code.specs.declared.instr.ShiftOp.TheVariants.{Slli, Srli, Srai}
-use Rattle.rv_code.specs.declared.instr.OpOp.{OpOp}
-use Rattle.rv_code.specs.declared.instr.OpOp.TheVariants.{Add, Sub, Sll, Slt, Sltu, Xor, Srl, Sra, Or, And, Mul, Mulh, Mulhsu, Mulhu, Div, Divu, Rem, Remu}
-use Rattle.rv_code.specs.Table.{branch_funct3, load_funct3, store_funct3, op_imm_funct3, shift_funct3, shift_funct7, op_funct3, op_funct7, branch_ops, load_ops, store_ops, op_imm_ops, shift_ops, op_ops}
-use Rattle.rv_code.specs.Decoding.{branch_op_of, load_op_of, store_op_of, op_imm_op_of, shift_op_of, op_op_of}
 
 -- what a search finds passes its test
 find-passes : {A : Type 0} (p : A → Bool) (xs : List A) (x : A) → find p xs ≡ Some x → p x ≡ true

@@ -1,18 +1,5 @@
 -- The word of an instruction is decoded to that instruction.
-use Rattle.std.proofs.Common.{◌≡◌, ℕ, Some, refl, ◌∙◌, lit<}
-use Rattle.std.specs.Prelude.{ℤ}
-use Rattle.rv_code.specs.declared.instr.UpperOp.TheVariants.{Lui, Auipc}
-use Rattle.rv_code.specs.declared.instr.BranchOp.{BranchOp}
-use Rattle.rv_code.specs.declared.instr.LoadOp.{LoadOp}
-use Rattle.rv_code.specs.declared.instr.StoreOp.{StoreOp}
-use Rattle.rv_code.specs.declared.instr.OpImmOp.{OpImmOp}
-use Rattle.rv_code.specs.declared.instr.ShiftOp.{ShiftOp}
-use Rattle.rv_code.specs.declared.instr.OpOp.{OpOp}
-use Rattle.rv_code.specs.declared.instr.Instr.{Instr}
-use Rattle.rv_code.specs.declared.instr.Instr.TheVariants.{Upper, Jal, Jalr, Branch, Load, Store, OpImm, Shift, Op, Fence, Ecall, Ebreak}
-use Rattle.rv_code.specs.Table.{upper_opcode, jal_opcode, jalr_opcode, branch_opcode, load_opcode, store_opcode, op_imm_opcode, op_opcode, fence_opcode, jalr_funct3, fence_funct3, branch_funct3, load_funct3, store_funct3, op_imm_funct3, shift_funct3, shift_funct7, op_funct3, op_funct7}
-use Rattle.rv_code.specs.Words.{word_of, HasWord}
-use Rattle.rv_code.specs.Decoding.{opcode_of, rd_of, u_imm_of, j_imm_of, jalr_in, branch_in, load_in, store_in, shift_in, op_imm_in, op_in, fence_in, system_in, decoded}
+use Rattle.rv_code.proofs.Common.{Auipc, Branch, BranchOp, Ebreak, Ecall, Fence, HasWord, Instr, Jal, Jalr, Load, LoadOp, Lui, Op, OpImm, OpImmOp, OpOp, Shift, ShiftOp, Some, Store, StoreOp, Upper, branch_funct3, branch_in, branch_opcode, decoded, fence_funct3, fence_in, fence_opcode, j_imm_of, jal_opcode, jalr_funct3, jalr_in, jalr_opcode, lit<, load_funct3, load_in, load_opcode, op_funct3, op_funct7, op_imm_funct3, op_imm_in, op_imm_opcode, op_in, op_opcode, opcode_of, rd_of, refl, shift_funct3, shift_funct7, shift_in, store_funct3, store_in, store_opcode, system_in, u_imm_of, upper_opcode, word_of, ℕ, ℤ, ◌∙◌, ◌≡◌}
 use Rattle.rv_code.proofs.Ops.{branch_op_of-own, load_op_of-own, store_op_of-own, op_imm_op_of-own, op_imm_op_of-shift, shift_op_of-own, op_op_of-own, branch_funct3-below, load_funct3-below, store_funct3-below, op_imm_funct3-below, shift_funct3-below, op_funct3-below}
 use Rattle.rv_code.proofs.Fields.{RFields, IFields, SFields, BFields, UFields, JFields, r_fields, i_fields, s_fields, b_fields, u_fields, j_fields}
 

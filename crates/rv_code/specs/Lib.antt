@@ -1,3 +1,4 @@
+pub mod Prelude
 pub mod Ranges
 pub mod Table
 pub mod Words

@@ -1,9 +1,7 @@
 //! From a word to its instruction.
 
+ghost use Rattle.rv_code.specs.Prelude.{HasWord, IsBranchOffset, IsImmediate, IsJumpOffset, b_imm_of, branch_in, decoded, fence_in, funct3_of, funct7_of, i_imm_of, j_imm_of, jalr_in, load_in, op_imm_in, op_in, rd_of, rs1_of, rs2_of, s_imm_of, shift_in, signed, store_in, system_in, u_imm_of};
 ghost use Rattle.std.specs.Prelude.{◌≡◌, ◌*◌, ◌/◌, ◌%◌, ◌^◌, ◌<◌, IfSome, IsNone};
-ghost use Rattle.rv_code.specs.Ranges.{signed, IsImmediate, IsBranchOffset, IsJumpOffset};
-ghost use Rattle.rv_code.specs.Words.{HasWord};
-ghost use Rattle.rv_code.specs.Decoding.{rd_of, funct3_of, rs1_of, rs2_of, funct7_of, i_imm_of, s_imm_of, b_imm_of, u_imm_of, j_imm_of, jalr_in, branch_in, load_in, store_in, shift_in, op_imm_in, op_in, fence_in, system_in, decoded};
 
 use crate::field::{BranchOffset, Immediate, JumpOffset, Reg, ShiftAmount, UpperImmediate};
 use crate::instr::{BranchOp, Instr, LoadOp, OpImmOp, OpOp, ShiftOp, StoreOp, UpperOp};

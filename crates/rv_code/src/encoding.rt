@@ -1,9 +1,7 @@
 //! From an instruction to its word.
 
+ghost use Rattle.rv_code.specs.Prelude.{HasWord, IsAmount, IsBranchOffset, IsImmediate, IsInstr, IsJumpOffset, IsReg, IsUpper, b_word, decoded, i_word, j_word, r_word, residue, s_word, u_word, word_of};
 ghost use Rattle.std.specs.Prelude.{◌≡◌, ◌*◌, ◌^◌, ◌<◌, Some};
-ghost use Rattle.rv_code.specs.Ranges.{residue, IsReg, IsAmount, IsUpper, IsImmediate, IsBranchOffset, IsJumpOffset};
-ghost use Rattle.rv_code.specs.Words.{r_word, i_word, s_word, b_word, u_word, j_word, word_of, IsInstr, HasWord};
-ghost use Rattle.rv_code.specs.Decoding.{decoded};
 
 use crate::field::{BranchOffset, Immediate, JumpOffset, Reg, UpperImmediate};
 use crate::instr::Instr;

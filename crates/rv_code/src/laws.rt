@@ -1,9 +1,8 @@
 //! What holds of words and instructions as a whole.
 
+ghost use Rattle.rv_code.specs.Prelude.{HasWord, decoded};
 ghost use Rattle.std.specs.Prelude.{◌≡◌, ℕ, ◌^◌, ◌<◌, ◌↔◌, Some};
 ghost use Rattle.rv_code.specs.declared.instr.Instr.{Instr};
-ghost use Rattle.rv_code.specs.Words.{HasWord};
-ghost use Rattle.rv_code.specs.Decoding.{decoded};
 
 /// Each instruction has one word, and each word one instruction or none. It does nothing: its
 /// clauses are for the proofs of callers.

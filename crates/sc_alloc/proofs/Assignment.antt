@@ -1,19 +1,5 @@
 -- Places that were given fairly are an assignment, and a sparing one.
-use Rattle.std.proofs.Common.{◌≡◌, ◌≤◌, ◌<◌, ℕ, zero, suc, Bool, List, [], ◌∷◌, map, length, Some, refl, sym, ◌∙◌, ap, subst, ⊎_elim, arith, get_or, IsTrue}
-use Rattle.std.specs.Prelude.{All, slice_get}
-use Rattle.std.specs.List.{count_by, list_all, Contains}
-use Rattle.std.specs.List.Sorted.{IsPermutation}
-use Rattle.std.specs.Option.{option_map}
-use Rattle.std.proofs.lemmas.Bool.{cases_order, eq-eqb}
-use Rattle.std.proofs.lemmas.List.Sorted.{All-permutation, Contains-permutation, IsPermutation-sym, length_permutation, sum_by-IsPermutation}
-use Rattle.std.proofs.lemmas.Option.{same_Some, slice_get_within, slice_get-get_or, slice_get-map, get_or_from_slice_get}
-use Rattle.sc_tac.specs.declared.interval.Interval.{Interval}
-use Rattle.sc_tac.specs.declared.place.Place.{Place}
-use Rattle.sc_tac.specs.declared.place.Place.TheVariants.{Slot}
-use Rattle.sc_tac.specs.Intervals.{AreIntervals}
-use Rattle.sc_tac.specs.Places.{is_place, ArePlaces, IsAssignment, IsSparing}
-use Rattle.sc_alloc.specs.declared.given.Given.{Given}
-use Rattle.sc_alloc.specs.Scan.{AreFair, AreKnown, AreNumbered, ArePlaced}
+use Rattle.sc_alloc.proofs.Common.{All, All-permutation, AreFair, AreIntervals, AreKnown, AreNumbered, ArePlaced, ArePlaces, Bool, Contains, Contains-permutation, Given, Interval, IsAssignment, IsPermutation, IsPermutation-sym, IsSparing, IsTrue, List, Place, Slot, Some, [], ap, arith, cases_order, count_by, eq-eqb, get_or, get_or_from_slice_get, is_place, length, length_permutation, list_all, map, option_map, refl, same_Some, slice_get, slice_get-get_or, slice_get-map, slice_get_within, subst, suc, sum_by-IsPermutation, sym, zero, ℕ, ⊎_elim, ◌<◌, ◌∙◌, ◌∷◌, ◌≡◌, ◌≤◌}
 use Rattle.sc_alloc.proofs.Counts.{one, only, once_from, has_temp}
 
 abbrev interval_of : Given → Interval

@@ -1,15 +1,5 @@
 -- What an interval's place keeps, and what all keep with it.
-use Rattle.std.proofs.Common.{◌≡◌, ◌≤◌, ◌<◌, ◌⊎◌, ℕ, zero, suc, true, false, List, [], ◌∷◌, ◌++◌, map, take, length, Some, refl, sym, ◌∙◌, ap, subst, ⊎_elim, arith, get_or}
-use Rattle.std.specs.Prelude.{slice_get}
-use Rattle.std.specs.List.Sorted.{IsNonDecreasingBy}
-use Rattle.std.specs.Option.{option_map}
-use Rattle.std.proofs.lemmas.Option.{slice_get_within, slice_get-map, get_or_from_slice_get}
-use Rattle.sc_tac.specs.declared.interval.Interval.{Interval}
-use Rattle.sc_tac.specs.declared.place.Place.{Place}
-use Rattle.sc_tac.specs.declared.place.Place.TheVariants.{Register, Slot}
-use Rattle.sc_tac.specs.Places.{register_count}
-use Rattle.sc_alloc.specs.declared.given.Given.{Given}
-use Rattle.sc_alloc.specs.Scan.{AllOver, AllBegun, with_place, IsHeld, IsHeldWithin, IsFair, AreFair}
+use Rattle.sc_alloc.proofs.Common.{AllBegun, AllOver, AreFair, Given, Interval, IsFair, IsHeld, IsHeldWithin, IsNonDecreasingBy, List, Place, Register, Slot, Some, [], ap, arith, false, get_or, get_or_from_slice_get, length, map, option_map, refl, register_count, slice_get, slice_get-map, slice_get_within, subst, suc, sym, take, true, with_place, zero, ℕ, ⊎_elim, ◌++◌, ◌<◌, ◌∙◌, ◌∷◌, ◌≡◌, ◌≤◌, ◌⊎◌}
 use Rattle.sc_alloc.proofs.Lists.{get_pushed}
 use Rattle.sc_alloc.proofs.FreeRegisters.{held_kept}
 

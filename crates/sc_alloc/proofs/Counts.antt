@@ -1,12 +1,5 @@
 -- Where a count is at most one, a test passes at one place alone.
-use Rattle.std.proofs.Common.{◌≡◌, ◌≢◌, ◌≤◌, ◌<◌, ℕ, zero, suc, ◌+◌, Bool, true, cond, List, [], ◌∷◌, refl, ◌∙◌, ap, ⊎_elim, arith, nat_eq}
-use Rattle.std.specs.Prelude.{slice_get}
-use Rattle.std.proofs.Common.{Some}
-use Rattle.std.specs.List.{count_by}
-use Rattle.std.proofs.lemmas.Bool.{cases_eq, eq-eqb, ne_eqb}
-use Rattle.std.proofs.lemmas.List.Sums.{sum_by-cons}
-use Rattle.std.proofs.lemmas.Option.{same_Some}
-use Rattle.sc_tac.specs.declared.interval.Interval.{Interval}
+use Rattle.sc_alloc.proofs.Common.{Bool, Interval, List, Some, [], ap, arith, cases_eq, cond, count_by, eq-eqb, nat_eq, ne_eqb, refl, same_Some, slice_get, suc, sum_by-cons, true, zero, ℕ, ⊎_elim, ◌+◌, ◌<◌, ◌∙◌, ◌∷◌, ◌≡◌, ◌≢◌, ◌≤◌}
 
 module _ {A : Type 0} (p : A → Bool) where
   abbrev pub one : A → ℕ

@@ -1,17 +1,5 @@
 -- A register that is given, and one that isn't.
-use Rattle.std.proofs.Common.{◌≡◌, ◌≤◌, ◌<◌, ℕ, zero, suc, true, false, List, [], ◌∷◌, ◌++◌, length, Option, None, Some, refl, sym, ◌∙◌, ap, subst, ⊎_elim, arith, get_or}
-use Rattle.std.specs.Prelude.{slice_get, slice_set, replicate}
-use Rattle.std.specs.List.{position}
-use Rattle.std.proofs.lemmas.Bool.{cases_eq}
-use Rattle.std.proofs.lemmas.List.{length-set}
-use Rattle.std.proofs.lemmas.Option.{slice_get-get_or}
-use Rattle.sc_base.proofs.Lists.{get_behind}
-use Rattle.sc_tac.specs.declared.interval.Interval.{Interval}
-use Rattle.sc_tac.specs.declared.place.Place.{Place}
-use Rattle.sc_tac.specs.declared.place.Place.TheVariants.{Register, Slot}
-use Rattle.sc_tac.specs.Places.{register_count}
-use Rattle.sc_alloc.specs.declared.given.Given.{Given}
-use Rattle.sc_alloc.specs.Scan.{AllOver, with_place, is_over, IsHeld, AreRegisters}
+use Rattle.sc_alloc.proofs.Common.{AllOver, AreRegisters, Given, Interval, IsHeld, List, None, Option, Place, Register, Slot, Some, [], ap, arith, cases_eq, false, get_behind, get_or, is_over, length, length-set, position, refl, register_count, replicate, slice_get, slice_get-get_or, slice_set, subst, suc, sym, true, with_place, zero, ℕ, ⊎_elim, ◌++◌, ◌<◌, ◌∙◌, ◌∷◌, ◌≡◌, ◌≤◌}
 use Rattle.sc_alloc.proofs.Lists.{get_pushed, get_kept, get_set_same, get_set_other, get_replicate, all_fail}
 
 pub all_over_pushed : (given : List Given) (x : Interval) (place other : Place) (at : ℕ) → AllOver given other at →

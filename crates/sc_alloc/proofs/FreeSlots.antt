@@ -1,19 +1,8 @@
 -- A slot that is taken, and one that is given.
-use Rattle.std.proofs.Common.{◌≡◌, ◌≢◌, ◌≤◌, ◌<◌, ℕ, suc, ◌+◌, cond, List, [], ◌∷◌, length, refl, sym, ◌∙◌, ap, subst, ⊎_elim, arith, length-append, get_or}
-use Rattle.std.specs.Prelude.{All, Option, None, Some}
-use Rattle.std.specs.Option.{IfNone, IfSome}
-use Rattle.std.specs.List.{count_by}
-use Rattle.std.specs.List.Sorted.{IsPermutation}
+use Rattle.sc_alloc.proofs.Common.{All, All-permutation, AllOver, AreSlots, Given, IfNone, IfSome, Interval, IsOut, IsPermutation, List, None, Option, Register, Slot, Some, [], ap, arith, cases_eq, cond, count_by, eq-eqb, get_or, is_of, length, length-append, length_permutation, ne_eqb, refl, subst, suc, sum_by-cons, sum_by_popped, sum_by_pushed, sym, with_place, ℕ, ⊎_elim, ◌+◌, ◌<◌, ◌∙◌, ◌∷◌, ◌≡◌, ◌≢◌, ◌≤◌}
 use Rattle.std.specs.declared.cmp.Reverse.{Reverse}
-use Rattle.std.proofs.lemmas.Bool.{cases_eq, eq-eqb, ne_eqb}
 use Rattle.std.proofs.lemmas.List.Elements.{All-nil, All-cons, All-tail}
-use Rattle.std.proofs.lemmas.List.Sorted.{All-permutation, length_permutation, sum_by_pushed, sum_by_popped}
-use Rattle.std.proofs.lemmas.List.Sums.{sum_by-cons}
-use Rattle.sc_tac.specs.declared.interval.Interval.{Interval}
-use Rattle.sc_tac.specs.declared.place.Place.TheVariants.{Register, Slot}
-use Rattle.sc_alloc.specs.declared.given.Given.{Given}
 use Rattle.sc_alloc.specs.declared.slots.SlotEnd.{SlotEnd}
-use Rattle.sc_alloc.specs.Scan.{AllOver, with_place, is_of, AreSlots, IsOut}
 use Rattle.sc_alloc.proofs.Lists.{get_pushed}
 use Rattle.sc_alloc.proofs.FreeRegisters.{all_over_pushed}
 

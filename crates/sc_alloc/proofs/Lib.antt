@@ -1,3 +1,4 @@
+pub mod Common
 pub mod Assignment
 pub mod Choices
 pub mod Counts

@@ -1,10 +1,5 @@
 -- Lists that grow at their end.
-use Rattle.std.proofs.Common.{◌≡◌, ◌≢◌, ◌<◌, ◌⊎◌, inl, inr, ℕ, zero, suc, Bool, true, false, List, [], ◌∷◌, ◌++◌, length, Option, None, Some, refl, sym, ◌∙◌, ap, arith, ⊎_elim}
-use Rattle.std.specs.Prelude.{slice_get, slice_set, replicate}
-use Rattle.std.specs.List.{position}
-use Rattle.std.specs.Option.{option_map}
-use Rattle.std.proofs.lemmas.Option.{same_Some}
-use Rattle.sc_base.proofs.Lists.{position-cons}
+use Rattle.sc_alloc.proofs.Common.{Bool, List, None, Option, Some, [], ap, arith, false, inl, inr, length, option_map, position, position-cons, refl, replicate, same_Some, slice_get, slice_set, suc, sym, true, zero, ℕ, ⊎_elim, ◌++◌, ◌<◌, ◌∙◌, ◌∷◌, ◌≡◌, ◌≢◌, ◌⊎◌}
 
 -- an element of a list with one more at its end
 pub get_pushed : {A : Type 0} (xs : List A) (x y : A) (i : ℕ) → slice_get (xs ++ x ∷ []) i ≡ Some y →

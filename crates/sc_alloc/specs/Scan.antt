@@ -1,4 +1,5 @@
 -- What a linear scan keeps, of the intervals that got a place so far, in the order in which they begin.
+use Rattle.sc_tac.specs.Prelude.{is_place, register_count}
 use Rattle.std.specs.Prelude.{◌≡◌, ◌≢◌, ◌≤◌, ◌<◌, ◌==◌, ℕ, suc, Bool, true, false, nat_lt, List, [], ◌∷◌, ◌++◌, length, All, Option, None, Some, MatchOption, slice_get, IsTrue}
 use Rattle.std.specs.BinaryHeap.{heap_items}
 use Rattle.std.specs.List.{count_by}
@@ -6,7 +7,6 @@ use Rattle.std.specs.declared.cmp.Reverse.{Reverse}
 use Rattle.sc_tac.specs.declared.interval.Interval.{Interval}
 use Rattle.sc_tac.specs.declared.place.Place.{Place}
 use Rattle.sc_tac.specs.declared.place.Place.TheVariants.{Register, Slot}
-use Rattle.sc_tac.specs.Places.{register_count, is_place}
 use Rattle.sc_alloc.specs.declared.given.Given.{Given}
 use Rattle.sc_alloc.specs.declared.registers.Registers.{Registers}
 use Rattle.sc_alloc.specs.declared.scan.Scan.{Scan}

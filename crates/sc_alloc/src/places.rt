@@ -1,6 +1,6 @@
+ghost use Rattle.sc_tac.specs.Prelude.{IsAssignment, IsSparing};
 ghost use Rattle.std.specs.Prelude.{◌≡◌, ◌≤◌, map, All, IfOk};
 ghost use Rattle.std.specs.List.Sorted.{IsNonDecreasingBy, IsPermutation};
-ghost use Rattle.sc_tac.specs.Places.{IsAssignment, IsSparing};
 ghost use Rattle.sc_tac.specs.declared.interval.Interval.{Interval};
 ghost use Rattle.sc_alloc.specs.Scan.{AreFair, AreKnown, AreNumbered, ArePlaced};
 ghost use Rattle.sc_alloc.specs.declared.given.Given.{Given};

@@ -1,17 +1,8 @@
 -- Known values of the definitions.
-use Rattle.std.proofs.Common.{◌≡◌, true, false, codes, [], ◌∷◌, Some, None, refl, arith, rules}
-use Rattle.sc_base.specs.Identifier.{is_name}
-use Rattle.sc_base.specs.Reserved.{is_reserved}
-use Rattle.sc_ast.specs.Identifiers.{is_ident}
-use Rattle.sc_ast.specs.Numbers.{number_of, array_length}
-use Rattle.sc_ast.specs.Places.{is_place}
-use Rattle.sc_ast.specs.Height.{expr_height}
-use Rattle.sc_ast.specs.Lineless.{lineless_stmt}
-use Rattle.sc_ast.specs.Pieces.{text_of}
-use Rattle.sc_ast.specs.ExprWords.{expr_words}
+use Rattle.sc_ast.proofs.Common.{None, Some, [], arith, array_length, codes, expr_height, expr_words, false, is_ident, is_place, lineless_stmt, number_of, refl, rules, text_of, the_lemmas, true, ◌∷◌, ◌≡◌}
+use Rattle.sc_base.specs.Prelude.{is_name, is_reserved}
 use Rattle.sc_base.specs.declared.op.UnaryOp.TheVariants as unary
 use Rattle.sc_base.specs.declared.op.BinaryOp.TheVariants as binary
-use Rattle.sc_ast.specs.declared.expr.ExprTree.{the_lemmas}
 use Rattle.sc_ast.specs.declared.expr.ExprTree.TheVariants as expr
 use Rattle.sc_ast.specs.declared.stmt.StmtTree as stmts
 use Rattle.sc_ast.specs.declared.stmt.StmtKind as kinds

@@ -1,9 +1,6 @@
 -- Induction over expressions and statements, layer by layer.
-use Rattle.std.proofs.Common.{ℕ, List, [], ◌∷◌, map, subst}
-use Rattle.sc_ast.specs.declared.expr.ExprTree.{ExprTree, ExprTree-F, ind-ExprTree, roll-ExprTree, map-ExprTree}
+use Rattle.sc_ast.proofs.Common.{ExprTree, ExprTree-F, List, StmtKind, StmtKind-F, StmtTree, [], ind-ExprTree, ind-StmtTree, map, map-ExprTree, map-StmtKind, roll-ExprTree, roll-StmtKind, roll-StmtTree, subst, ℕ, ◌∷◌}
 use Rattle.sc_ast.specs.declared.expr.ExprTree.TheOpen as term
-use Rattle.sc_ast.specs.declared.stmt.StmtTree.{StmtTree, ind-StmtTree, roll-StmtTree}
-use Rattle.sc_ast.specs.declared.stmt.StmtKind.{StmtKind, StmtKind-F, roll-StmtKind, map-StmtKind}
 use Rattle.sc_ast.specs.declared.stmt.StmtKind.TheOpen as layer
 
 -- P of each in the list

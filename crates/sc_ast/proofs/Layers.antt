@@ -1,8 +1,5 @@
 -- A fold at an expression or a statement, by its layer: one equation for all forms, whose right side computes.
-use Rattle.std.proofs.Common.{◌≡◌, ℕ, ap, ◌∙◌}
-use Rattle.sc_ast.specs.declared.expr.ExprTree.{ExprTree, ExprTree-F, roll-ExprTree, map-ExprTree, fold-ExprTree, fold-roll-ExprTree}
-use Rattle.sc_ast.specs.declared.stmt.StmtTree.{StmtTree, StmtTree-F, fold-StmtTree, fold-roll-StmtTree}
-use Rattle.sc_ast.specs.declared.stmt.StmtKind.{StmtKind, StmtKind-F, roll-StmtKind, map-StmtKind, fold-StmtKind, fold-roll-StmtKind}
+use Rattle.sc_ast.proofs.Common.{ExprTree, ExprTree-F, StmtKind, StmtKind-F, StmtTree, StmtTree-F, ap, fold-ExprTree, fold-StmtKind, fold-StmtTree, fold-roll-ExprTree, fold-roll-StmtKind, fold-roll-StmtTree, map-ExprTree, map-StmtKind, roll-ExprTree, roll-StmtKind, ℕ, ◌∙◌, ◌≡◌}
 
 -- an expression's fold, by its layer
 pub expr_at : {A : Type 0} (step : ExprTree-F A → A) (t : ExprTree-F ExprTree) →

@@ -1,10 +1,5 @@
 -- Parameters with commas between them.
-use Rattle.std.proofs.Common.{◌≡◌, ◌≤◌, List, [], ◌∷◌, ◌++◌, length, get_or, drop, map, ap, ◌∙◌, sym, arith}
-use Rattle.std.specs.List.{flat_map}
-use Rattle.std.proofs.lemmas.Grind.{flat_map-append}
-use Rattle.sc_ast.specs.Heads.{param_of}
-use Rattle.sc_ast.specs.Pieces.{piece_text, text_of, comma}
-use Rattle.sc_ast.specs.SectionWords.{param_words, params_words}
+use Rattle.sc_ast.proofs.Common.{List, [], ap, arith, comma, drop, flat_map, flat_map-append, get_or, length, map, param_of, param_words, params_words, piece_text, sym, text_of, ◌++◌, ◌∙◌, ◌∷◌, ◌≡◌, ◌≤◌}
 use Rattle.sc_ast.specs.declared.section.FunctionParam.{FunctionParam}
 
 -- the first, and the others behind it

@@ -1,16 +1,8 @@
 -- The height of each kind of statement, and a statement without its lines.
-use Rattle.std.proofs.Common.{◌≡◌, ℕ, ◌+◌, max, List, Option, refl, ◌∙◌, ap, arith, rules}
-use Rattle.sc_ast.specs.Height.{expr_height, call_height, simple_kind_height, option_height, stmt_height, kind_height, stmts_height}
-use Rattle.sc_ast.specs.Lineless.{lineless_stmt, lineless_kind}
-use Rattle.sc_ast.specs.Simple.{kind_of}
-use Rattle.sc_ast.specs.declared.expr.ExprTree.{ExprTree}
-use Rattle.sc_ast.specs.declared.expr.CallTree.{CallTree}
-use Rattle.sc_ast.specs.declared.stmt.SimpleKind.{SimpleKind}
+use Rattle.sc_ast.proofs.Common.{CallTree, ExprTree, List, Option, SimpleKind, SimpleTree, StmtKind, StmtTree, ap, arith, call_height, expr_height, kind_height, kind_of, lineless_kind, lineless_stmt, max, option_height, refl, rules, simple_kind_height, stmt_height, stmts_height, ℕ, ◌+◌, ◌∙◌, ◌≡◌}
 use Rattle.sc_ast.specs.declared.stmt.SimpleKind.TheVariants as simple
-use Rattle.sc_ast.specs.declared.stmt.SimpleTree.{SimpleTree}
-use Rattle.sc_ast.specs.declared.stmt.StmtKind.{StmtKind, the_lemmas}
+use Rattle.sc_ast.specs.declared.stmt.StmtKind.{the_lemmas}
 use Rattle.sc_ast.specs.declared.stmt.StmtKind.TheVariants as stmt
-use Rattle.sc_ast.specs.declared.stmt.StmtTree.{StmtTree}
 use Rattle.sc_ast.specs.declared.stmt.StmtTree as trees
 
 pub tree_height : (line : ℕ) (kind : StmtKind) → stmt_height (record { line = line; kind = kind }) ≡

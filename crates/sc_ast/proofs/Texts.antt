@@ -1,26 +1,16 @@
 -- The texts of small trees, computed.
-use Rattle.std.proofs.Common.{◌≡◌, ℕ, true, false, codes, List, [], ◌∷◌, ◌++◌, map, Some, None, refl, arith, rules}
+use Rattle.sc_ast.proofs.Common.{CallTree, ExprTree, List, None, SimpleKind, SimpleTree, Some, StmtKind, StmtTree, [], arith, codes, export_words, expr_words, false, import_words, layouts, lines_at, map, printed, refl, rules, text_of, the_lemmas, true, ℕ, ◌++◌, ◌∷◌, ◌≡◌}
 use Rattle.std.specs.Fmt.{digits}
-use Rattle.sc_ast.specs.Pieces.{text_of}
-use Rattle.sc_ast.specs.ExprWords.{expr_words}
-use Rattle.sc_ast.specs.StmtWords.{layouts, lines_at}
-use Rattle.sc_ast.specs.SectionWords.{export_words, import_words, printed}
 use Rattle.sc_ast.specs.declared.types.BaseTree.{BaseTree}
 use Rattle.sc_ast.specs.declared.types.BaseTree.TheVariants as base
 use Rattle.sc_ast.specs.declared.types.TypeTree.{TypeTree}
 use Rattle.sc_ast.specs.declared.types.TypeName.{TypeName}
 use Rattle.sc_base.specs.declared.op.UnaryOp.TheVariants as unary
 use Rattle.sc_base.specs.declared.op.BinaryOp.TheVariants as binary
-use Rattle.sc_ast.specs.declared.expr.ExprTree.{ExprTree, the_lemmas}
 use Rattle.sc_ast.specs.declared.expr.ExprTree.TheVariants as expr
-use Rattle.sc_ast.specs.declared.expr.CallTree.{CallTree}
-use Rattle.sc_ast.specs.declared.stmt.SimpleKind.{SimpleKind}
 use Rattle.sc_ast.specs.declared.stmt.SimpleKind.TheVariants as simple
-use Rattle.sc_ast.specs.declared.stmt.SimpleTree.{SimpleTree}
 use Rattle.sc_ast.specs.declared.stmt.StmtTree as stmts
-use Rattle.sc_ast.specs.declared.stmt.StmtTree.{StmtTree}
 use Rattle.sc_ast.specs.declared.stmt.StmtKind as kinds
-use Rattle.sc_ast.specs.declared.stmt.StmtKind.{StmtKind}
 use Rattle.sc_ast.specs.declared.stmt.StmtKind.TheVariants as stmt
 use Rattle.sc_ast.specs.declared.section.ConstTree.{ConstTree}
 use Rattle.sc_ast.specs.declared.section.InitTree.TheVariants as init

@@ -1,9 +1,9 @@
 -- How expressions are printed: with the parentheses that the grammar needs, and no more.
+use Rattle.sc_base.specs.Prelude.{level_of, loosest_level, postfix_level, unary_level}
 use Rattle.std.specs.Prelude.{ℕ, ◌-◌, nat_lt, Bool, ◌&&◌, ◌||◌, bytes_eq, codes, List, [], ◌∷◌, ◌++◌, if◌then◌else◌}
 use Rattle.std.specs.Fmt.{decimal}
 use Rattle.std.specs.List.{join_by}
 use Rattle.sc_ast.specs.Numbers.{Number}
-use Rattle.sc_base.specs.Levels.{postfix_level, unary_level, loosest_level, level_of}
 use Rattle.sc_ast.specs.Pieces.{Piece, word, blank, in_parens, comma}
 use Rattle.sc_base.specs.declared.op.UnaryOp.{UnaryOp}
 use Rattle.sc_base.specs.declared.op.UnaryOp.TheVariants as unary

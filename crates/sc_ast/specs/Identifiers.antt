@@ -1,7 +1,6 @@
 -- The identifiers that a program may give to what it declares (C11 6.4.1, 6.4.2.1).
+use Rattle.sc_base.specs.Prelude.{is_name, is_reserved}
 use Rattle.std.specs.Prelude.{ℕ, Bool, not, ◌&&◌, List, Option, Some, None, if◌then◌else◌}
-use Rattle.sc_base.specs.Identifier.{is_name}
-use Rattle.sc_base.specs.Reserved.{is_reserved}
 
 -- an identifier of at most 63 bytes that is no reserved word
 abbrev pub is_ident : List ℕ → Bool

@@ -1,3 +1,4 @@
+pub mod Prelude
 pub mod ExprWords
 pub mod Heads
 pub mod Height

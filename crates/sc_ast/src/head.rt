@@ -1,5 +1,5 @@
+ghost use Rattle.sc_ast.specs.Prelude.{has_nameless, head_of, param_of};
 ghost use Rattle.std.specs.Prelude.{◌≡◌, IsTrue, IfOk, IfSome, IfNone, map};
-ghost use Rattle.sc_ast.specs.Heads.{param_of, head_of, has_nameless};
 
 use crate::section::{FunctionHead, FunctionParam, FunctionParams, HeadTree, ParamTree};
 use sc_base::OutOfMemory;

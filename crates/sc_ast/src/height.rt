@@ -1,7 +1,7 @@
 //! How high trees are. Heights stop at 4294967295.
 
+ghost use Rattle.sc_ast.specs.Prelude.{call_height, decl_height, expr_height, exprs_height, function_height, init_height, kind_height, limited, local_height, locals_height, option_height, section_height, simple_kind_height, stmt_height, stmts_height};
 ghost use Rattle.std.specs.Prelude.{◌≡◌, ◌+◌};
-ghost use Rattle.sc_ast.specs.Height.{limited, expr_height, exprs_height, call_height, simple_kind_height, option_height, stmt_height, kind_height, stmts_height, locals_height, local_height, init_height, function_height, decl_height, section_height};
 
 use crate::expr::{CallTree, ExprTree, Exprs};
 use crate::section::{Decl, FunctionTree, LocalTree, LocalTrees, SectionTree};

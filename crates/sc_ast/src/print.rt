@@ -1,12 +1,9 @@
 //! Sections as text: two blanks a level, one statement or declaration a line, and the parentheses that the grammar
 //! needs.
 
+ghost use Rattle.sc_ast.specs.Prelude.{blank, decl_words, export_words, function_words, head_of, head_words, heading_words, import_words, layouts, lines_at, local_line, newline, printed, text_of, value_words, word};
 ghost use Rattle.std.specs.Prelude.{◌≡◌, ◌++◌, [], ◌∷◌, OnOk, IfOk, codes};
 ghost use Rattle.std.specs.List.{flat_map};
-ghost use Rattle.sc_ast.specs.Heads.{head_of};
-ghost use Rattle.sc_ast.specs.Pieces.{word, blank, newline, text_of};
-ghost use Rattle.sc_ast.specs.StmtWords.{layouts, lines_at};
-ghost use Rattle.sc_ast.specs.SectionWords.{head_words, value_words, local_line, function_words, decl_words, export_words, import_words, heading_words, printed};
 
 mod decl;
 mod expr;

@@ -1,5 +1,5 @@
+ghost use Rattle.sc_ast.specs.Prelude.{stmt_of};
 ghost use Rattle.std.specs.Prelude.{◌≡◌};
-ghost use Rattle.sc_ast.specs.Simple.{stmt_of};
 
 use crate::expr::{CallTree, ExprTree};
 use crate::place::PlaceTree;

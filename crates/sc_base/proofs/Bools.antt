@@ -1,8 +1,6 @@
 -- Tests that are joined by `&&`, from their parts and into them. std has `and_from`, `and_parts`, `or_from` and
 -- `or_parts`.
-use Rattle.std.proofs.Common.{◌≡◌, Bool, true, false, refl}
-use Rattle.std.specs.Prelude.{◌&&◌}
-use Rattle.std.proofs.lemmas.Bool.{and_parts}
+use Rattle.sc_base.proofs.Common.{Bool, and_parts, false, refl, true, ◌&&◌, ◌≡◌}
 
 pub and_first : (a b : Bool) → (a && b) ≡ true → a ≡ true
 and_first a b h = (and_parts a b h).0

@@ -1,10 +1,7 @@
 -- An array that was filled with a name holds that name and nothing else.
-use Rattle.std.proofs.Common.{◌≡◌, ℕ, ◌≤◌, List, [], ◌∷◌, ◌++◌, length, drop, replicate, true, IsTrue, sym, ap, subst, ◌∙◌, arith, length-append}
+use Rattle.sc_base.proofs.Common.{IsFilled, IsTrue, List, [], ap, arith, drop, drop-replicate, filled, is_name, length, length-append, replicate, subst, sym, true, zeros_behind, ℕ, ◌++◌, ◌∙◌, ◌∷◌, ◌≡◌, ◌≤◌}
 use Rattle.std.proofs.Math.Seq.{take-append_seam, drop-append_seam}
 use Rattle.std.proofs.lemmas.Bool.Decides.{nat_tests}
-use Rattle.std.proofs.lemmas.List.{drop-replicate}
-use Rattle.sc_base.specs.Identifier.{is_name}
-use Rattle.sc_base.specs.Filled.{zeros_behind, filled, IsFilled}
 
 pub name_is_short : (text : List ℕ) → is_name text ≡ true → length text ≤ 63
 unfolding is_name

@@ -1,8 +1,5 @@
 -- A name that has no value comes last.
-use Rattle.std.proofs.Common.{◌≡◌, ℕ, Bool, true, false, cond, ◌==◌, List, [], ◌∷◌, ◌++◌, Some, None, refl, ap, if◌then◌else◌}
-use Rattle.std.specs.Cmp.Lexicographic.{pointwise}
-use Rattle.indexmap.specs.IndexMap.{insert_entry}
-use Rattle.sc_base.specs.FirstByName.{first_by_name}
+use Rattle.sc_base.proofs.Common.{Bool, List, None, Some, [], ap, cond, false, first_by_name, if◌then◌else◌, insert_entry, pointwise, refl, true, ℕ, ◌++◌, ◌==◌, ◌∷◌, ◌≡◌}
 
 module _ {V : Type 0} (name : List ℕ) (value : V) where
   absent_at : (b : Bool) (e : List ℕ × V) (es : List (List ℕ × V)) →

@@ -1,10 +1,6 @@
 -- Lists: an element at the end of the first part, one step of a loop, the first or the only one that passes, and maps.
-use Rattle.std.proofs.Common.{◌≡◌, ℕ, suc, ◌+◌, ◌<◌, ◌≤◌, ⊎_elim, nat_lt, if◌then◌else◌, Bool, true, false, cond, List, [], ◌∷◌, ◌++◌, map, length, get_or, take, drop, Some, None, refl, ap, sym, ◌∙◌, add-one, drop-cons, ltb, not, arith}
-use Rattle.std.specs.Prelude.{slice_get, position}
-use Rattle.std.specs.List.{find, list_all, position_or_len}
-use Rattle.std.proofs.lemmas.Bool.{and_from, and_parts, cases_lt, lt-ltb}
+use Rattle.sc_base.proofs.Common.{Bool, List, None, Some, [], add-one, and_from, and_parts, ap, arith, cases_lt, cond, drop, drop-cons, false, find, get_or, if◌then◌else◌, length, list_all, lt-ltb, ltb, map, nat_lt, not, position, position_or_len, refl, slice_get, suc, sym, take, take_more, true, ℕ, ⊎_elim, ◌++◌, ◌+◌, ◌<◌, ◌∙◌, ◌∷◌, ◌≡◌, ◌≤◌}
 use Rattle.std.specs.Option.{option_map}
-use Rattle.std.proofs.lemmas.List.{take_more}
 use Rattle.std.proofs.lemmas.List.Sums.{passes_at_first, fails_before_first}
 
 -- the element behind a first part

@@ -1,6 +1,5 @@
 -- Texts that are names and texts that are none.
-use Rattle.std.proofs.Common.{◌≡◌, true, false, [], replicate, codes, refl}
-use Rattle.sc_base.specs.Identifier.{is_name}
+use Rattle.sc_base.proofs.Common.{[], codes, false, is_name, refl, replicate, true, ◌≡◌}
 
 ordinary : is_name (codes "Main") ≡ true
 unfolding is_name

@@ -1,12 +1,7 @@
 -- The first places of names in a list, one more name behind.
-use Rattle.std.proofs.Common.{◌≡◌, ◌==◌, ℕ, suc, ◌+◌, Bool, true, false, ◌||◌, cond, nat_eq, List, [], ◌∷◌, ◌++◌, length, Option, Some, None, is_some, refl, ap, sym, ◌∙◌, arith, true≢false}
-use Rattle.std.specs.List.{list_any, position_from}
-use Rattle.std.specs.Cmp.Lexicographic.{pointwise, same_text}
+use Rattle.sc_base.proofs.Common.{Bool, HasPlaces, IndexMap, List, None, Option, Some, Updates, [], ap, arith, cond, false, get, is_numbered, is_some, length, list_any, nat_eq, number_of, pointwise, position_from, refl, same_text, suc, sym, true, true≢false, ℕ, ◌++◌, ◌+◌, ◌==◌, ◌||◌, ◌∙◌, ◌∷◌, ◌≡◌}
 use Rattle.std.proofs.lemmas.Cmp.{nat_list_eq_equiv}
 use Rattle.std.proofs.lemmas.Iterator.Adapters.{position_from-zero}
-use Rattle.indexmap.specs.IndexMap.{IndexMap, get, Updates}
-use Rattle.sc_base.specs.Numbering.{is_numbered, number_of}
-use Rattle.sc_base.specs.Places.{HasPlaces}
 
 -- the first place, or else a place behind
 abbrev pub or_behind : Option ℕ → Bool → ℕ → Option ℕ

@@ -1,6 +1,5 @@
 -- Texts that are compared byte by byte.
-use Rattle.std.proofs.Common.{◌≡◌, ℕ, Bool, true, false, List, refl, sym, ◌∙◌, true≢false}
-use Rattle.std.specs.Prelude.{bytes_eq}
+use Rattle.sc_base.proofs.Common.{Bool, List, bytes_eq, false, refl, sym, true, true≢false, ℕ, ◌∙◌, ◌≡◌}
 use Rattle.std.proofs.lemmas.Slice.Eq.{bytes_eq-Decides}
 
 pub same_text : (a b : List ℕ) → bytes_eq a b ≡ true → a ≡ b

@@ -1,3 +1,4 @@
+pub mod Prelude
 pub mod Filled
 pub mod FirstByName
 pub mod Identifier

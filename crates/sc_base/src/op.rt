@@ -1,5 +1,5 @@
+ghost use Rattle.sc_base.specs.Prelude.{level_of};
 ghost use Rattle.std.specs.Prelude.{◌≡◌, ◌<◌};
-ghost use Rattle.sc_base.specs.Levels.{level_of};
 
 /// An operator in front of its operand, other than `*` and `&` (C11 6.5.3.3).
 #[derive(Clone, Copy, Debug, PartialEq, Eq)]

@@ -1,6 +1,6 @@
+ghost use Rattle.sc_base.specs.Prelude.{is_reserved};
 ghost use Rattle.std.specs.Prelude.{◌≡◌, bytes_eq};
 ghost use Rattle.std.specs.List.{list_any};
-ghost use Rattle.sc_base.specs.Reserved.{is_reserved};
 
 const RESERVED_WORDS: [&[u8]; 46] = [
     b"auto",

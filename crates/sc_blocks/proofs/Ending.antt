@@ -1,11 +1,5 @@
 -- Blocks of a row that end.
-use Rattle.std.proofs.Common.{◌≡◌, refl, ap, ℕ, zero, suc, ◌+◌, ◌-◌, ◌<◌, ◌≤◌, Bool, true, false, List, [], ◌∷◌, map, length, Option, None, Some, arith}
-use Rattle.std.specs.Prelude.{slice_set, nat_le}
-use Rattle.std.proofs.lemmas.Bool.{leb-true, leb-false}
-use Rattle.sc_core.specs.declared.value.Cell.{Cell}
-use Rattle.sc_core.specs.Memory.{Blocks, ended}
-use Rattle.sc_blocks.specs.Rows.{living, ended_block, given_back, cleared}
-use Rattle.sc_blocks.specs.Cells.{block_of}
+use Rattle.sc_blocks.proofs.Common.{Blocks, Bool, Cell, List, None, Option, Some, [], ap, arith, block_of, cleared, ended, ended_block, false, given_back, leb-false, leb-true, length, living, map, nat_le, refl, slice_set, suc, true, zero, ℕ, ◌+◌, ◌-◌, ◌<◌, ◌∷◌, ◌≡◌, ◌≤◌}
 
 -- a row has no cells of blocks that have ended
 pub none_cleared : (first : ℕ) (os : List (Option (List Cell))) → cleared first 0 (map block_of os) ≡ map block_of os

@@ -1,11 +1,6 @@
 -- The memory of rows, as rows are made and change.
-use Rattle.std.proofs.Common.{◌≡◌, refl, sym, ap, ◌∙◌, subst, ℕ, zero, suc, ◌<◌, ◌≤◌, ◌==◌, Bool, true, false, if◌then◌else◌, List, [], ◌∷◌, ◌++◌, length, get_or, arith}
-use Rattle.std.specs.Prelude.{slice_index_or, slice_set}
+use Rattle.sc_blocks.proofs.Common.{Blocks, Bool, List, Memory, [], ap, arith, cleared, eqb-true, false, get_or, get_or_default, if◌then◌else◌, length, memory_of, refl, slice_index_or, slice_set, subst, suc, sym, true, with_blocks, zero, ℕ, ◌++◌, ◌<◌, ◌==◌, ◌∙◌, ◌∷◌, ◌≡◌, ◌≤◌}
 use Rattle.std.proofs.Math.Dec.{eqb-suc-zero, eqb-zero-suc, eqb-suc-suc}
-use Rattle.std.proofs.lemmas.Bool.{eqb-true}
-use Rattle.std.proofs.lemmas.List.{get_or_default}
-use Rattle.sc_core.specs.Memory.{Blocks, Memory, with_blocks}
-use Rattle.sc_blocks.specs.Rows.{memory_of, cleared}
 use Rattle.sc_blocks.proofs.Ending.{nothing_cleared}
 
 row_of_more : (rows : List Blocks) (comp : ℕ) → slice_index_or (rows ++ [] ∷ []) comp [] ≡ slice_index_or rows comp []

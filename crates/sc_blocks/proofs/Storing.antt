@@ -1,17 +1,11 @@
 -- A store into one block of a row.
-use Rattle.std.proofs.Common.{◌≡◌, refl, sym, ap, ◌∙◌, ℕ, ◌<◌, List, map, length, get_or, Option, Some, Result, Ok, Err, MatchResult}
-use Rattle.std.specs.Prelude.{slice_get, slice_set}
+use Rattle.sc_blocks.proofs.Common.{Block, Blocks, Cell, Err, List, MatchResult, Ok, Option, Result, Some, ap, bind, block_of, cause_of, cells_at, get_or, length, live_cells, living, map, map-set, put_in, refl, slice_get, slice_set, store_cell, stored_in, sym, ℕ, ◌<◌, ◌∙◌, ◌≡◌}
 use Rattle.std.specs.Option.{option_map}
 use Rattle.std.proofs.lemmas.Option.{slice_get-map, slice_get_read}
-use Rattle.std.proofs.lemmas.List.{map-set}
 use Rattle.sc_core.specs.declared.cause.Cause.{Cause}
-use Rattle.sc_core.specs.declared.value.Cell.{Cell}
 use Rattle.sc_core.specs.declared.value.Cell.TheVariants.{Ptr}
 use Rattle.sc_core.specs.declared.value.Pointer.{Pointer}
-use Rattle.sc_core.specs.Memory.{Block, Blocks, bind, live_cells, cells_at}
 use Rattle.sc_blocks.specs.declared.fault.BlockFault.{BlockFault}
-use Rattle.sc_blocks.specs.Rows.{cause_of, living, put_in, store_cell}
-use Rattle.sc_blocks.specs.Cells.{block_of, stored_in}
 
 in_block : (bs : Blocks) (k : ℕ) (q : Result (List Cell) Cause) →
     bind q (λ cells. Ok (slice_set bs k (living cells))) ≡

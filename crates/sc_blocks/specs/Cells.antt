@@ -1,8 +1,8 @@
 -- Helping: one block, and a store into it.
+use Rattle.sc_core.specs.Prelude.{Block, bind, live_cells}
 use Rattle.std.specs.Prelude.{ℕ, List, Option, None, Some, Result, Ok}
 use Rattle.sc_core.specs.declared.cause.Cause.{Cause}
 use Rattle.sc_core.specs.declared.value.Cell.{Cell}
-use Rattle.sc_core.specs.Memory.{Block, bind, live_cells}
 use Rattle.sc_blocks.specs.Rows.{living, ended_block, put_in}
 
 -- a block that lives, by its cells, or else one that has ended

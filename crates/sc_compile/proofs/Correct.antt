@@ -1,18 +1,7 @@
 -- What the machine shows on a thin program's image is the program's meaning.
-use Rattle.std.proofs.Common.{◌≡◌, ℕ, ◌*◌, ◌<◌, ◌≤◌, Bool, true, false, List, [], ◌∷◌, length, flat_map, take, refl, sym, ◌∙◌, ap, arith, ⊎_elim, subst}
-use Rattle.std.specs.Prelude.{nat_lt, ◌↔◌}
-use Rattle.std.proofs.lemmas.Bool.{lt-ltb, le-ltb, cases_lt}
-use Rattle.std.proofs.lemmas.List.{take_all, length-append}
-use Rattle.sc_event.specs.declared.event.Event.{Event}
+use Rattle.sc_compile.proofs.Common.{Bool, Ended, Event, EventsOut, HasWords, IsBackward, IsForward, IsNoTrap, List, Run, StepsOut, Stop, StopsAs, ThinProgram, Trap, [], ap, arith, enough_steps, false, flat_map, is_short, le-ltb, length, length-append, loading, lt-ltb, machine, nat_lt, outputting, refl, subst, sym, take, take_all, thin_code, thin_image, thin_meaning, true, whole_run, ℕ, ⊎_elim, ◌*◌, ◌<◌, ◌↔◌, ◌∙◌, ◌∷◌, ◌≡◌, ◌≤◌}
+use Rattle.std.proofs.lemmas.Bool.{cases_lt}
 use Rattle.sc_core.specs.declared.run.RunEnd.TheVariants.{Ended as MeaningEnded, EventsOut as MeaningEventsOut}
-use Rattle.sc_base.specs.declared.stop.Stop.{Stop}
-use Rattle.sc_base.specs.declared.stop.Stop.TheVariants.{Ended, EventsOut, StepsOut, Trap}
-use Rattle.sc_core.specs.declared.thin.ThinProgram.{ThinProgram}
-use Rattle.sc_core.specs.Thin.{whole_run, thin_meaning}
-use Rattle.sc_image.specs.Machine.{Run, machine}
-use Rattle.sc_compile.specs.Code.{is_short, loading, outputting, thin_code, HasWords}
-use Rattle.sc_compile.specs.Image.{thin_image}
-use Rattle.sc_compile.specs.Correct.{StopsAs, enough_steps, IsForward, IsNoTrap, IsBackward}
 use Rattle.sc_compile.proofs.Runs.{Because, Shows}
 use Rattle.sc_compile.proofs.Execution.{thin_runs}
 

@@ -1,34 +1,11 @@
 -- The machine on the code of a thin program.
-use Rattle.std.proofs.Common.{◌≡◌, ℕ, suc, ◌+◌, ◌-◌, ◌*◌, ◌/◌, ◌%◌, ◌<◌, ◌≤◌, ℤ, pos, Bool, true, false, List, [], ◌∷◌, ◌++◌, length, map, flat_map, take, set, All, Option, Some, None, refl, sym, ◌∙◌, ap, ap₂, subst, arith, rules, lit<, append-nil, append_assoc, length-append}
-use Rattle.std.specs.Prelude.{nat_eq, nat_le}
-use Rattle.std.specs.List.{slice_get}
+use Rattle.sc_compile.proofs.Common.{Addi, All, All-head, All-tail, Bool, Ecall, End, Event, Goes, Instr, IsInstr, IsWord, Jalr, List, Lui, None, OpImm, Option, Out, Some, State, ThinProgram, Upper, [], a0, a7, add_word, ap, append-nil, append_assoc, ap₂, arith, code_start, decoded-word_of, execute, execute_by, false, flat_map, gate, get_or-set_other, get_or-set_same, gives, is_end, is_ended, is_short, length, length-append, length-map, length-set, length_push, lit<, loading, lower_part, map, map-append, map_push, nat_eq, nat_le, ne_eqb, output_call, outputting, pos, ra, refl, reg, returning, rules, set, signed_of, slice_get, start, step, subst, suc, sym, take, thin_code, thin_image, true, upper_part, whole_run, with_event, with_pc, word_at, word_of, ℕ, ℤ, ◌%◌, ◌*◌, ◌++◌, ◌+◌, ◌-◌, ◌/◌, ◌<◌, ◌∙◌, ◌∷◌, ◌≡◌, ◌≤◌}
+use Rattle.sc_word.specs.Prelude.{word_of as word_of_ℤ}
 use Rattle.std.specs.Option.{option_map, option_map_or}
-use Rattle.std.proofs.lemmas.Bool.{ne_eqb}
 use Rattle.std.proofs.lemmas.Bool.Decides.{nat_tests}
 use Rattle.std.proofs.Math.Seq.{take-append_seam}
 use Rattle.std.proofs.lemmas.Option.{slice_get-map}
-use Rattle.std.proofs.lemmas.List.{map-append, map_push, length-map, length-set, length_push, get_or-set_same, get_or-set_other}
-use Rattle.std.proofs.lemmas.List.Elements.{All-head, All-tail}
-use Rattle.sc_event.specs.declared.event.Event.{Event}
-use Rattle.sc_event.specs.declared.event.Event.TheVariants.{Out, End}
-use Rattle.sc_core.specs.declared.thin.ThinProgram.{ThinProgram}
-use Rattle.sc_core.specs.Thin.{whole_run}
-use Rattle.sc_word.specs.Word.{signed_of, word_of as word_of_ℤ}
-use Rattle.sc_word.specs.Machine.{add_word}
-use Rattle.rv_code.specs.declared.instr.Instr.{Instr}
-use Rattle.rv_code.specs.declared.instr.Instr.TheVariants.{Upper, Jalr, OpImm, Ecall}
-use Rattle.rv_code.specs.declared.instr.UpperOp.TheVariants.{Lui}
-use Rattle.rv_code.specs.declared.instr.OpImmOp.TheVariants.{Addi}
-use Rattle.rv_code.specs.Words.{word_of, IsInstr}
-use Rattle.rv_code.proofs.OneEach.{decoded-word_of}
-use Rattle.sc_image.specs.WellFormed.{IsWord}
-use Rattle.sc_image.specs.Layout.{code_start, gate, word_at}
-use Rattle.sc_image.specs.State.{State, start, reg, ra, a0, a7, with_pc, with_event}
-use Rattle.sc_image.specs.Step.{Goes, gives, execute, step, execute_by}
-use Rattle.sc_image.specs.Machine.{is_end, is_ended}
 use Rattle.sc_image.proofs.Stepping.{step_executes}
-use Rattle.sc_compile.specs.Code.{is_short, upper_part, lower_part, loading, output_call, outputting, returning, thin_code}
-use Rattle.sc_compile.specs.Image.{thin_image}
 use Rattle.sc_compile.proofs.Loading.{IsUpper-upper_part, IsImmediate-lower_part, IsImmediate-signed_of, short_loaded, long_loaded}
 use Rattle.sc_compile.proofs.Runs.{IsOpen, Runs, Runs-step, Runs-end}
 use Rattle.sc_base.proofs.Lists.{get_behind}

@@ -1,23 +1,7 @@
 -- A thin program's image is well formed.
-use Rattle.std.proofs.Common.{◌≡◌, ◌≢◌, ℕ, ◌<◌, ◌≤◌, pos, Bool, true, false, IsTrue, List, [], ◌∷◌, length, map, flat_map, All, refl, ap, arith, rules, lit<, lit≤}
-use Rattle.std.specs.Prelude.{codes, IsSome}
-use Rattle.std.specs.List.{slice_get}
-use Rattle.std.proofs.lemmas.List.{length-map, length-append}
-use Rattle.std.proofs.lemmas.List.Elements.{All-nil, All-cons, All-append, All-map, All-weaker}
-use Rattle.sc_base.specs.Identifier.{is_name}
-use Rattle.sc_core.specs.declared.thin.ThinProgram.{ThinProgram}
-use Rattle.rv_code.specs.declared.instr.Instr.{Instr}
-use Rattle.rv_code.specs.declared.instr.Instr.TheVariants.{Upper, Jalr, OpImm, Ecall}
-use Rattle.rv_code.specs.declared.instr.UpperOp.TheVariants.{Lui}
-use Rattle.rv_code.specs.declared.instr.OpImmOp.TheVariants.{Addi}
-use Rattle.rv_code.specs.Words.{word_of, IsInstr}
-use Rattle.rv_code.proofs.OneEach.{HasWord-own, word-below}
-use Rattle.sc_word.specs.Word.{signed_of}
-use Rattle.sc_image.specs.Layout.{code_start, word_at}
-use Rattle.sc_image.specs.WellFormed.{IsWord, IsByte, IsWellFormed}
+use Rattle.sc_compile.proofs.Common.{Addi, All, All-append, All-cons, All-map, All-nil, All-weaker, Bool, Ecall, HasWord-own, Instr, IsByte, IsInstr, IsSome, IsTrue, IsWellFormed, IsWord, Jalr, List, Lui, OpImm, ThinProgram, Upper, [], ap, arith, code_start, codes, false, flat_map, is_short, length, length-append, length-map, lit<, lit≤, loading, lower_part, main_comp, map, output_call, outputting, pos, refl, returning, rules, signed_of, slice_get, thin_code, thin_image, true, upper_part, word-below, word_at, word_of, ℕ, ◌<◌, ◌∷◌, ◌≡◌, ◌≢◌, ◌≤◌}
+use Rattle.sc_base.specs.Prelude.{is_name}
 use Rattle.sc_image.proofs.OneComp.{IsLone, one_well_formed}
-use Rattle.sc_compile.specs.Code.{is_short, upper_part, lower_part, loading, output_call, outputting, returning, thin_code}
-use Rattle.sc_compile.specs.Image.{main_comp, thin_image}
 use Rattle.sc_compile.proofs.Loading.{IsUpper-upper_part, IsImmediate-lower_part, IsImmediate-signed_of}
 use Rattle.sc_compile.proofs.Correct.{code_length}
 

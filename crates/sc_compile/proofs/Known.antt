@@ -1,18 +1,5 @@
 -- Known values: how words are loaded, the program that outputs 7 and returns 0, and what the machine does on its image.
-use Rattle.std.proofs.Common.{◌≡◌, pos, negsuc, [], ◌∷◌, map, refl}
-use Rattle.sc_event.specs.declared.event.Event.TheVariants.{Out, End}
-use Rattle.sc_base.specs.declared.stop.Stop.TheVariants.{Ended, EventsOut, StepsOut}
-use Rattle.sc_core.specs.declared.thin.ThinProgram.{ThinProgram}
-use Rattle.rv_code.specs.declared.instr.Instr.TheVariants.{Upper, OpImm}
-use Rattle.rv_code.specs.declared.instr.UpperOp.TheVariants.{Lui}
-use Rattle.rv_code.specs.declared.instr.OpImmOp.TheVariants.{Addi}
-use Rattle.rv_code.specs.Words.{word_of}
-use Rattle.rv_code.specs.Decoding.{decoded, jalr_in, op_imm_in, system_in, op_imm_op_of}
-use Rattle.sc_image.specs.Layout.{word_at}
-use Rattle.sc_image.specs.Step.{execute_by, step_by}
-use Rattle.sc_image.specs.Machine.{stopped, run, machine}
-use Rattle.sc_compile.specs.Code.{loading, thin_code}
-use Rattle.sc_compile.specs.Image.{thin_image}
+use Rattle.sc_compile.proofs.Common.{Addi, End, Ended, EventsOut, Lui, OpImm, Out, StepsOut, ThinProgram, Upper, [], decoded, execute_by, jalr_in, loading, machine, map, negsuc, op_imm_in, op_imm_op_of, pos, refl, run, step_by, stopped, system_in, thin_code, thin_image, word_at, word_of, ◌∷◌, ◌≡◌}
 
 abbrev seven : ThinProgram
 seven = record { outputs = 7 ∷ []; result = 0 }

@@ -1,3 +1,4 @@
+pub mod Common
 mod Known
 pub mod Loading
 pub mod Runs

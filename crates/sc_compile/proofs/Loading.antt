@@ -1,14 +1,9 @@
 -- The instructions that load a word.
-use Rattle.std.proofs.Common.{◌≡◌, ℕ, suc, ◌+◌, ◌-◌, ◌*◌, ◌/◌, ◌%◌, ◌^◌, ◌<◌, ◌≤◌, ℤ, pos, negsuc, ◌≤ℤ◌, FitsSigned, Bool, true, false, ◌&&◌, refl, ◌∙◌, arith, rules}
-use Rattle.std.specs.Prelude.{int_le, nat_lt, if◌then◌else◌}
+use Rattle.sc_compile.proofs.Common.{Bool, FitsSigned, IsImmediate, IsUpper, add_word, arith, false, if◌then◌else◌, int_le, is_short, leb-true, lower_part, ltb-false, ltb-true, nat_lt, negsuc, pos, refl, rules, signed_of, suc, true, upper_part, ℕ, ℤ, ◌%◌, ◌&&◌, ◌*◌, ◌+◌, ◌-◌, ◌/◌, ◌<◌, ◌^◌, ◌∙◌, ◌≡◌, ◌≤ℤ◌, ◌≤◌}
+use Rattle.sc_word.specs.Prelude.{word_of}
 use Rattle.std.specs.Int.{w32, cast_unsigned}
 use Rattle.std.proofs.Math.Facts.{sfits_to_z}
 use Rattle.std.proofs.lemmas.Int.{ints, of_z-to_z}
-use Rattle.std.proofs.lemmas.Bool.{leb-true, ltb-true, ltb-false}
-use Rattle.sc_word.specs.Word.{signed_of, word_of}
-use Rattle.sc_word.specs.Machine.{add_word}
-use Rattle.rv_code.specs.Ranges.{IsUpper, IsImmediate}
-use Rattle.sc_compile.specs.Code.{is_short, upper_part, lower_part}
 use Rattle.sc_base.proofs.Bools.{and_first}
 
 -- a word is the word of its signed value

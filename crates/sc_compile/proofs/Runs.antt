@@ -1,15 +1,5 @@
 -- Runs of the machine whose events are the first ones of a given trace.
-use Rattle.std.proofs.Common.{◌≡◌, ℕ, zero, suc, ◌<◌, ◌≤◌, Bool, true, false, List, length, take, Some, None, refl, sym, ◌∙◌, ap, subst, arith}
-use Rattle.std.specs.Prelude.{nat_le}
-use Rattle.std.proofs.lemmas.Bool.{leb-true, leb-false}
-use Rattle.std.proofs.lemmas.List.{take_all}
-use Rattle.sc_event.specs.declared.event.Event.{Event}
-use Rattle.sc_base.specs.declared.stop.Stop.{Stop}
-use Rattle.sc_base.specs.declared.stop.Stop.TheVariants.{Ended, EventsOut, StepsOut, Trap}
-use Rattle.sc_image.specs.declared.parts.ImageParts.{ImageParts}
-use Rattle.sc_image.specs.State.{State}
-use Rattle.sc_image.specs.Step.{Goes, step}
-use Rattle.sc_image.specs.Machine.{Run, is_ended, stopped, run}
+use Rattle.sc_compile.proofs.Common.{Bool, Ended, Event, EventsOut, Goes, ImageParts, List, None, Run, Some, State, StepsOut, Stop, Trap, ap, arith, false, is_ended, leb-false, leb-true, length, nat_le, refl, run, step, stopped, subst, suc, sym, take, take_all, true, zero, ℕ, ◌<◌, ◌∙◌, ◌≡◌, ◌≤◌}
 use Rattle.sc_image.proofs.Running.{run_stopped, run_out, run_goes}
 
 -- Why a run stops that shows the events of `whole` one after another, the last in its step number `cost`:

@@ -1,14 +1,11 @@
 -- Helping: the code of a thin program.
+use Rattle.sc_compile.specs.Common.{IsWord, ThinProgram, a0, a7, ra, signed}
+use Rattle.sc_word.specs.Prelude.{signed_of}
 use Rattle.std.specs.Prelude.{ℕ, ℤ, pos, negsuc, ◌+◌, ◌*◌, ◌/◌, ◌%◌, ◌^◌, Bool, ◌&&◌, int_le, All, List, [], ◌∷◌, ◌++◌, flat_map, if◌then◌else◌}
-use Rattle.sc_word.specs.Word.{signed_of}
 use Rattle.rv_code.specs.declared.instr.Instr.{Instr}
 use Rattle.rv_code.specs.declared.instr.Instr.TheVariants.{Upper, Jalr, OpImm, Ecall}
 use Rattle.rv_code.specs.declared.instr.UpperOp.TheVariants.{Lui}
 use Rattle.rv_code.specs.declared.instr.OpImmOp.TheVariants.{Addi}
-use Rattle.rv_code.specs.Ranges.{signed}
-use Rattle.sc_core.specs.declared.thin.ThinProgram.{ThinProgram}
-use Rattle.sc_image.specs.State.{ra, a0, a7}
-use Rattle.sc_image.specs.WellFormed.{IsWord}
 
 -- a word that ADDI can load by itself: its signed value is from -2048 to 2047
 abbrev pub is_short : ℕ → Bool

@@ -1,13 +1,11 @@
 -- What the machine shows on a compiled image is what the program means.
+use Rattle.sc_compile.specs.Common.{ImageParts, ThinProgram, machine}
+use Rattle.sc_core.specs.Prelude.{thin_meaning}
 use Rattle.std.specs.Prelude.{◌≡◌, ℕ, ◌+◌, ◌*◌, ◌≤◌, ◌↔◌, List, length}
 use Rattle.sc_core.specs.declared.run.RunEnd.{RunEnd}
 use Rattle.sc_core.specs.declared.run.RunEnd.TheVariants.{Ended as MeaningEnded, Blamed, TurnsOut, EventsOut as MeaningEventsOut}
 use Rattle.sc_base.specs.declared.stop.Stop.{Stop}
 use Rattle.sc_base.specs.declared.stop.Stop.TheVariants.{Ended, EventsOut, Trap}
-use Rattle.sc_core.specs.declared.thin.ThinProgram.{ThinProgram}
-use Rattle.sc_core.specs.Thin.{thin_meaning}
-use Rattle.sc_image.specs.declared.parts.ImageParts.{ImageParts}
-use Rattle.sc_image.specs.Machine.{machine}
 use Rattle.sc_compile.specs.Code.{thin_code}
 
 -- the machine stops so where the meaning ends so; a run that is blamed or has no turn left promises nothing of the

@@ -1,10 +1,7 @@
 -- The image of a thin program: it has one compartment.
+use Rattle.sc_compile.specs.Common.{ImageParts, ThinProgram, code_start, word_of}
 use Rattle.std.specs.Prelude.{ℕ, List, [], ◌∷◌, map, codes, true, false}
-use Rattle.rv_code.specs.Words.{word_of}
-use Rattle.sc_core.specs.declared.thin.ThinProgram.{ThinProgram}
-use Rattle.sc_image.specs.declared.parts.ImageParts.{ImageParts}
 use Rattle.sc_image.specs.declared.parts.CompPart.{CompPart}
-use Rattle.sc_image.specs.Layout.{code_start}
 use Rattle.sc_compile.specs.Code.{thin_code}
 
 -- the compartment of this code, which may output

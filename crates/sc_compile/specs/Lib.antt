@@ -1,3 +1,4 @@
+pub mod Common
 pub mod Code
 pub mod Image
 pub mod Correct

@@ -1,10 +1,9 @@
 //! The code of a thin program, instruction by instruction.
 
+ghost use Rattle.rv_code.specs.Prelude.{IsImmediate, IsReg, word_of};
 ghost use Rattle.std.specs.Prelude.{◌≡◌, ◌<◌, [], ◌∷◌, ◌++◌, map, IfOk, OnOk};
 ghost use Rattle.rv_code.specs.declared.instr.Instr.TheVariants.{OpImm};
 ghost use Rattle.rv_code.specs.declared.instr.OpImmOp.TheVariants.{Addi};
-ghost use Rattle.rv_code.specs.Ranges.{IsReg, IsImmediate};
-ghost use Rattle.rv_code.specs.Words.{word_of};
 ghost use Rattle.sc_compile.specs.Code.{upper_part, lower_part, loading, outputting, returning, thin_code, HasWords};
 
 use rv_code::{Immediate, Instr, OpImmOp, Reg, UpperImmediate, UpperOp, encode};

@@ -1,22 +1,12 @@
 -- A program of three compartments with structs, loops and inputs, computed: its reader stores past the end of a
 -- request.
-use Rattle.std.proofs.Common.{◌≡◌, ℕ, ◌==◌, ◌++◌, List, [], ◌∷◌, None, Some, codes}
-use Rattle.sc_event.specs.declared.event.Event.{Event}
-use Rattle.sc_event.specs.declared.event.Event.TheVariants.{Call, Ret, Out, In, End}
-use Rattle.sc_event.specs.declared.interface.Interfaces.{Interfaces}
+use Rattle.sc_core.proofs.Common.{Blamed, Call, Cross, End, Ended, Event, Global, In, Input, Interfaces, List, Local, None, Out, OutOfBounds, Own, Ret, Some, Ty, TypedStruct, [], codes, meaning, scripted_meaning, ℕ, ◌++◌, ◌==◌, ◌∷◌, ◌≡◌}
 use Rattle.sc_event.specs.declared.interface.Scalar.TheVariants as scalar
 use Rattle.sc_event.specs.declared.interface.Import.TheVariants as import
-use Rattle.sc_core.specs.declared.ty.Ty.{Ty}
 use Rattle.sc_core.specs.declared.ty.Ty.TheVariants as ty
 use Rattle.sc_core.specs.declared.ty.BaseTy.TheVariants as base
 use Rattle.sc_base.specs.declared.op.UnaryOp.TheVariants as unary
 use Rattle.sc_base.specs.declared.op.BinaryOp.TheVariants as op
-use Rattle.sc_core.specs.declared.expr.VarRef.TheVariants.{Global, Local}
-use Rattle.sc_core.specs.declared.expr.CallTarget.TheVariants.{Own, Cross, Input}
-use Rattle.sc_core.specs.declared.cause.Cause.TheVariants.{OutOfBounds}
-use Rattle.sc_core.specs.declared.run.RunEnd.TheVariants.{Ended, Blamed}
-use Rattle.sc_core.specs.declared.section.TypedStruct.{TypedStruct}
-use Rattle.sc_core.specs.Meaning.{meaning, scripted_meaning}
 use Rattle.sc_core.proofs.Shapes.{Shape, Var, One, Two, At, Arrow, Amp, Lines, NoLine, AssignLine, AssignCallLine, CallLine, IfLine, WhileLine, ForLine}
 use Rattle.sc_core.proofs.Plans.{Plan, Sheet, program}
 use Rattle.sc_core.proofs.Programs.{lit, local, global, param, plus, ints, slot, global_of, proto, interface, two_ints, main_with, sheet, element, output_then}

@@ -1,21 +1,11 @@
 -- A program for each kind of undefined behaviour that the worked programs don't have, and for what the statements and
 -- operators do, computed.
-use Rattle.std.proofs.Common.{◌≡◌, ℕ, List, [], ◌∷◌, Some, codes}
-use Rattle.sc_event.specs.declared.event.Event.TheVariants.{Out, In, End}
-use Rattle.sc_event.specs.declared.interface.Interfaces.{Interfaces}
+use Rattle.sc_core.proofs.Common.{BadPointer, BadShift, BadType, BinaryOp, Blamed, End, Ended, Global, In, Indeterminate, Input, Interfaces, List, Local, NullUse, Out, OutOfBounds, Overflow, Own, Some, SourceRun, TurnsOut, TypedStruct, ZeroDivisor, [], codes, meaning, wrapped, ℕ, ◌∷◌, ◌≡◌}
 use Rattle.sc_event.specs.declared.interface.Import.TheVariants as import
 use Rattle.sc_core.specs.declared.ty.Ty.TheVariants as ty
 use Rattle.sc_base.specs.declared.op.UnaryOp.TheVariants as unary
-use Rattle.sc_base.specs.declared.op.BinaryOp.{BinaryOp}
 use Rattle.sc_base.specs.declared.op.BinaryOp.TheVariants as op
-use Rattle.sc_core.specs.declared.expr.VarRef.TheVariants.{Global, Local}
-use Rattle.sc_core.specs.declared.expr.CallTarget.TheVariants.{Own, Input}
 use Rattle.sc_core.specs.declared.cause.Cause.{Cause}
-use Rattle.sc_core.specs.declared.cause.Cause.TheVariants.{Overflow, ZeroDivisor, BadShift, OutOfBounds, NullUse, Indeterminate, BadType, BadPointer}
-use Rattle.sc_core.specs.declared.run.RunEnd.TheVariants.{Ended, Blamed, TurnsOut}
-use Rattle.sc_core.specs.declared.run.SourceRun.{SourceRun}
-use Rattle.sc_core.specs.declared.section.TypedStruct.{TypedStruct}
-use Rattle.sc_core.specs.Meaning.{meaning, wrapped}
 use Rattle.sc_core.proofs.Shapes.{Shape, Lit, Var, One, Two, At, Dot, Star, Amp, Lines, NoLine, AssignLine, AssignCallLine, IfLine, WhileLine, ForLine, BreakLine, ContinueLine, ReturnValueLine, ReturnCallLine}
 use Rattle.sc_core.proofs.Plans.{Slot, Sheet, program}
 use Rattle.sc_core.proofs.Programs.{lit, local, global, param, plus, ints, int_pointer, slot, global_of, interface, main_with, plan, sheet, alone, output_then}

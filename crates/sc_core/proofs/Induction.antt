@@ -1,11 +1,6 @@
 -- Induction over typed expressions and statements, layer by layer.
-use Rattle.std.proofs.Common.{ℕ, List, [], ◌∷◌, map, subst}
-use Rattle.sc_core.specs.declared.stmt.TypedStmt.{TypedStmt, ind-TypedStmt, roll-TypedStmt}
-use Rattle.sc_core.specs.declared.stmt.TypedStmtKind.{TypedStmtKind, TypedStmtKind-F, map-TypedStmtKind}
+use Rattle.sc_core.proofs.Common.{List, Ty, TypedExpr, TypedKind, TypedKind-F, TypedStmt, TypedStmtKind, TypedStmtKind-F, [], ind-TypedExpr, ind-TypedStmt, map, map-TypedKind, map-TypedStmtKind, roll-TypedExpr, roll-TypedStmt, subst, ℕ, ◌∷◌}
 use Rattle.sc_core.specs.declared.stmt.TypedStmtKind.TheOpen as layer
-use Rattle.sc_core.specs.declared.ty.Ty.{Ty}
-use Rattle.sc_core.specs.declared.expr.TypedExpr.{TypedExpr, ind-TypedExpr, roll-TypedExpr}
-use Rattle.sc_core.specs.declared.expr.TypedKind.{TypedKind, TypedKind-F, map-TypedKind}
 use Rattle.sc_core.specs.declared.expr.TypedKind.TheOpen as term
 use Rattle.sc_core.proofs.Layers.{typed, on_line}
 

@@ -1,9 +1,6 @@
 -- Properties of states that pieces of a run keep.
-use Rattle.std.proofs.Common.{◌≡◌, refl, Option, None, Some}
+use Rattle.sc_core.proofs.Common.{Blamed, Ended, EventsOut, None, Option, Piece, Reached, Some, State, Stopped, TurnsOut, and_then, found, refl, ◌≡◌}
 use Rattle.sc_core.specs.declared.run.RunEnd.{RunEnd}
-use Rattle.sc_core.specs.declared.run.RunEnd.TheVariants.{Ended, Blamed, TurnsOut, EventsOut}
-use Rattle.sc_core.specs.Words.{State, Piece, Reached, Stopped, and_then}
-use Rattle.sc_core.specs.Calls.{found}
 
 -- what is kept: of the states at which a run goes on, and of those at which it stops
 pub record Property : Type 1 where

@@ -1,10 +1,5 @@
 -- A fold at an expression or a statement, by its layer: one equation for all forms, whose right side computes.
-use Rattle.std.proofs.Common.{◌≡◌, ℕ, ap, ◌∙◌}
-use Rattle.sc_core.specs.declared.ty.Ty.{Ty}
-use Rattle.sc_core.specs.declared.expr.TypedExpr.{TypedExpr, TypedExpr-F, fold-TypedExpr, fold-roll-TypedExpr}
-use Rattle.sc_core.specs.declared.expr.TypedKind.{TypedKind, TypedKind-F, roll-TypedKind, map-TypedKind, fold-TypedKind, fold-roll-TypedKind}
-use Rattle.sc_core.specs.declared.stmt.TypedStmt.{TypedStmt, TypedStmt-F, fold-TypedStmt, fold-roll-TypedStmt}
-use Rattle.sc_core.specs.declared.stmt.TypedStmtKind.{TypedStmtKind, TypedStmtKind-F, roll-TypedStmtKind, map-TypedStmtKind, fold-TypedStmtKind, fold-roll-TypedStmtKind}
+use Rattle.sc_core.proofs.Common.{Ty, TypedExpr, TypedExpr-F, TypedKind, TypedKind-F, TypedStmt, TypedStmt-F, TypedStmtKind, TypedStmtKind-F, ap, fold-TypedExpr, fold-TypedKind, fold-TypedStmt, fold-TypedStmtKind, fold-roll-TypedExpr, fold-roll-TypedKind, fold-roll-TypedStmt, fold-roll-TypedStmtKind, map-TypedKind, map-TypedStmtKind, roll-TypedKind, roll-TypedStmtKind, ℕ, ◌∙◌, ◌≡◌}
 
 -- an expression of this type, by its layer
 abbrev pub typed : Ty → TypedKind-F TypedKind TypedExpr → TypedExpr

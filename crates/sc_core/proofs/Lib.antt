@@ -1,3 +1,4 @@
+pub mod Common
 pub mod Accounts
 pub mod Causes
 pub mod Induction

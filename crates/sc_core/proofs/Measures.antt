@@ -1,15 +1,7 @@
 -- Folds of trees by shapes: types, heights and nodes compute.
-use Rattle.std.proofs.Common.{◌≡◌, refl, ◌∙◌, ℕ, suc, ◌+◌, max, Bool, true, not, ◌&&◌, List, [], ◌∷◌, map, Option}
-use Rattle.std.specs.Prelude.{is_some}
-use Rattle.std.specs.List.{list_all}
-use Rattle.sc_core.specs.declared.ty.Ty.{Ty}
-use Rattle.sc_core.specs.declared.expr.TypedExpr.{TypedExpr-F, fold-TypedExpr}
-use Rattle.sc_core.specs.declared.expr.TypedKind.{TypedKind-F}
+use Rattle.sc_core.proofs.Common.{Bool, Callable, Judged, List, Option, Scope, Ty, TypedExpr-F, TypedKind-F, [], assign_call_fits, assign_fits, call_fits, expr_height, expr_nodes, fold-TypedExpr, highest, is_scalar, is_some, judged, kind_fits, kind_height, kind_nodes, list_all, map, max, not, refl, returned_call_fits, returned_fits, stmt_fits, stmt_height, stmt_nodes, suc, term_height, term_judged, term_nodes, total, true, ℕ, ◌&&◌, ◌+◌, ◌∙◌, ◌∷◌, ◌≡◌}
 use Rattle.sc_core.specs.declared.expr.TypedKind.TheOpen as term
 use Rattle.sc_core.specs.declared.stmt.TypedStmtKind.TheOpen as layer
-use Rattle.sc_core.specs.Height.{highest, term_height, expr_height, kind_height, stmt_height}
-use Rattle.sc_core.specs.Sizes.{total, term_nodes, expr_nodes, kind_nodes, stmt_nodes}
-use Rattle.sc_core.specs.Typing.{Scope, Callable, Judged, term_judged, judged, is_scalar, assign_fits, call_fits, assign_call_fits, returned_fits, returned_call_fits, kind_fits, stmt_fits}
 use Rattle.sc_core.proofs.Layers.{expr_at, stmt_at}
 use Rattle.sc_core.proofs.Shapes.{Shape, Lit, Var, One, Two, At, Dot, Arrow, Star, Amp, expr, Lines, NoLine, EmptyLine, AssignLine, AssignCallLine, CallLine, IfLine, WhileLine, ForLine, BreakLine, ContinueLine, ReturnLine, ReturnValueLine, ReturnCallLine, call_of, part, stmts}
 

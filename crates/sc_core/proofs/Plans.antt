@@ -1,26 +1,9 @@
 -- Programs by plans, whose functions compute: the meaning of a program is the run of its plan's library.
-use Rattle.std.proofs.Common.{◌≡◌, refl, ap, ℕ, suc, ◌+◌, ◌&&◌, ◌==◌, List, [], ◌∷◌, Bool, map, length, Option, None, Some, Ok, codes}
-use Rattle.std.specs.Prelude.{bytes_eq, is_some}
-use Rattle.sc_event.specs.declared.event.Event.{Event}
-use Rattle.sc_event.specs.declared.interface.Interfaces.{Interfaces}
-use Rattle.sc_core.specs.declared.ty.Ty.{Ty}
-use Rattle.sc_core.specs.declared.expr.TypedExpr.{TypedExpr}
-use Rattle.sc_core.specs.declared.expr.VarRef.TheVariants.{Local}
-use Rattle.sc_core.specs.declared.section.TypedStruct.{TypedStruct}
-use Rattle.sc_core.specs.declared.section.TypedGlobal.{TypedGlobal}
+use Rattle.sc_core.proofs.Common.{Acts, Arith, Bool, Event, Function, Here, Interfaces, Library, List, Local, Next, None, Ok, Option, Run, Some, Ty, TypedExpr, TypedGlobal, TypedSection, TypedStruct, [], all_do, and_then, ap, assign, at_place, bytes_eq, closed, codes, entry_in, follow, frame_bound, function_of, functions_in, globals_of, in_order, init_nodes, inits_do, is_some, leave, length, library_of, local_nodes, main_name, map, nodes, refl, roles_in, run_by, run_of, run_step, scripted_run_of, scripted_step, suc, total, variable_at, variables, ℕ, ◌&&◌, ◌+◌, ◌==◌, ◌∷◌, ◌≡◌}
 use Rattle.sc_core.specs.declared.section.TypedParam.{TypedParam}
 use Rattle.sc_core.specs.declared.section.TypedLocal.{TypedLocal}
 use Rattle.sc_core.specs.declared.section.TypedFunction.{TypedFunction}
-use Rattle.sc_core.specs.declared.section.TypedSection.{TypedSection}
 use Rattle.sc_core.specs.declared.program.ProgramTree.{ProgramTree}
-use Rattle.sc_core.specs.Value.{Arith}
-use Rattle.sc_core.specs.Types.{variables}
-use Rattle.sc_core.specs.Sizes.{total, init_nodes, local_nodes, nodes, frame_bound}
-use Rattle.sc_core.specs.Words.{Here, and_then, Next, leave, follow, in_order, all_do}
-use Rattle.sc_core.specs.Tree.{Acts, at_place, variable_at, assign}
-use Rattle.sc_core.specs.Calls.{Function, Library, run_step}
-use Rattle.sc_core.specs.Scripts.{roles_in, scripted_step}
-use Rattle.sc_core.specs.Meaning.{closed, inits_do, function_of, functions_in, library_of, globals_of, Run, run_by, run_of, scripted_run_of, main_name, entry_in}
 use Rattle.sc_core.proofs.Measures.{shape_nodes, nodes_is, lines_nodes, lines_nodes_are}
 use Rattle.sc_core.proofs.Shapes.{Shape, expr, Lines, stmts, way, way_is, lines_do, lines_are}
 

@@ -1,21 +1,11 @@
 -- Worked programs, as plans.
-use Rattle.std.proofs.Common.{ℕ, List, [], ◌∷◌, Option, None, Some, codes}
-use Rattle.sc_event.specs.declared.interface.Interfaces.{Interfaces}
-use Rattle.sc_event.specs.declared.interface.Interface.{Interface}
-use Rattle.sc_event.specs.declared.interface.Proto.{Proto}
-use Rattle.sc_event.specs.declared.interface.Scalar.{Scalar}
+use Rattle.sc_core.proofs.Common.{CallTarget, Cross, Global, Import, Interface, Interfaces, List, Local, None, Option, Output, Own, Param, Proto, Scalar, Some, Ty, TypedGlobal, [], codes, ℕ, ◌∷◌}
 use Rattle.sc_event.specs.declared.interface.Scalar.TheVariants as scalar
-use Rattle.sc_event.specs.declared.interface.Import.{Import}
 use Rattle.sc_event.specs.declared.interface.Import.TheVariants as import
-use Rattle.sc_core.specs.declared.ty.Ty.{Ty}
 use Rattle.sc_core.specs.declared.ty.Ty.TheVariants as ty
 use Rattle.sc_core.specs.declared.ty.BaseTy.TheVariants as base
 use Rattle.sc_base.specs.declared.op.UnaryOp.TheVariants as unary
 use Rattle.sc_base.specs.declared.op.BinaryOp.TheVariants as op
-use Rattle.sc_core.specs.declared.expr.VarRef.TheVariants.{Global, Param, Local}
-use Rattle.sc_core.specs.declared.expr.CallTarget.{CallTarget}
-use Rattle.sc_core.specs.declared.expr.CallTarget.TheVariants.{Own, Cross, Output}
-use Rattle.sc_core.specs.declared.section.TypedGlobal.{TypedGlobal}
 use Rattle.sc_core.proofs.Shapes.{Shape, Lit, Var, One, Two, At, Star, Amp, Lines, NoLine, AssignLine, AssignCallLine, CallLine, ReturnValueLine}
 use Rattle.sc_core.proofs.Plans.{Slot, Plan, Sheet}
 

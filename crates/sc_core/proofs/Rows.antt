@@ -1,15 +1,6 @@
 -- The meanings of worked programs, computed.
-use Rattle.std.proofs.Common.{◌≡◌, refl, ap, ℕ, Bool, false, not, ◌==◌, List, [], ◌∷◌, Some}
-use Rattle.sc_event.specs.declared.event.Event.{Event}
-use Rattle.sc_event.specs.declared.event.Event.TheVariants.{Call, Ret, Out, End}
-use Rattle.sc_event.specs.declared.interface.Interfaces.{Interfaces}
-use Rattle.sc_core.specs.declared.cause.Cause.TheVariants.{Overflow, OutOfBounds, Dangling, Indeterminate, NoReturn}
-use Rattle.sc_core.specs.declared.run.RunEnd.TheVariants.{Ended, Blamed, TurnsOut, EventsOut}
-use Rattle.sc_core.specs.Run.{stopped_at}
+use Rattle.sc_core.proofs.Common.{Blamed, Bool, Call, Dangling, End, Ended, Event, EventsOut, Indeterminate, Interfaces, List, NoReturn, Out, OutOfBounds, Overflow, Ret, Some, TurnsOut, [], ap, c_arith, code_bound, deepest, depth, false, meaning, negated_word, not, on_all_words, refl, scripted_depth_by, scripted_meaning, stopped_at, wrapped, wrapped_depth, wrapping, ℕ, ◌==◌, ◌∷◌, ◌≡◌}
 use Rattle.sc_base.specs.declared.op.BinaryOp.TheVariants as op
-use Rattle.sc_core.specs.Sizes.{code_bound}
-use Rattle.sc_core.specs.Value.{c_arith, wrapping, on_all_words, negated_word}
-use Rattle.sc_core.specs.Meaning.{deepest, depth, wrapped_depth, scripted_depth_by, meaning, wrapped, scripted_meaning}
 use Rattle.sc_core.proofs.Plans.{Sheet, program, quick_run, quick_scripted, run_is, scripted_run_is}
 use Rattle.sc_core.proofs.Programs.{alone, seven, min_by_minus_one, uninitialised, missing_return, leak, store_interfaces, store_sheets, deep_interfaces, deep, two_stores_interfaces, two_stores, reentry_interfaces, reentry}
 

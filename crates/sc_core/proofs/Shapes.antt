@@ -1,23 +1,13 @@
 -- Trees by shapes, on which folds compute: what an expression gives and what statements do, as recursions that the
 -- meaning equals.
-use Rattle.std.proofs.Common.{◌≡◌, refl, ap, ◌∙◌, ℕ, List, [], ◌∷◌, map, Option, None, Some}
-use Rattle.sc_core.specs.declared.ty.Ty.{Ty}
-use Rattle.sc_base.specs.declared.op.UnaryOp.{UnaryOp}
-use Rattle.sc_base.specs.declared.op.BinaryOp.{BinaryOp}
-use Rattle.sc_core.specs.declared.expr.TypedExpr.{TypedExpr}
+use Rattle.sc_core.proofs.Common.{Acts, Arith, BinaryOp, Break, CallTarget, Calls, Continue, Here, List, Meant, Next, None, Option, Return, Some, Ty, TypedExpr, TypedStmt, TypedStruct, UnaryOp, Ways, [], all_do, and_then, ap, assign, assign_call, call, call_alone, choose, evaluated, follow, in_order, kind_step, leave, loop, map, meant, meant_step, refl, stmt_does, stmt_step, term_step, test, ways, ℕ, ◌∙◌, ◌∷◌, ◌≡◌}
 use Rattle.sc_core.specs.declared.expr.TypedKind.TheOpen as term
 use Rattle.sc_core.specs.declared.expr.VarRef.{VarRef}
-use Rattle.sc_core.specs.declared.expr.CallTarget.{CallTarget}
 use Rattle.sc_core.specs.declared.expr.TypedCall.{TypedCall}
-use Rattle.sc_core.specs.declared.stmt.TypedStmt.{TypedStmt}
 use Rattle.sc_core.specs.declared.stmt.TypedStmtKind.TheOpen as layer
 use Rattle.sc_core.specs.declared.stmt.TypedSimple.{TypedSimple}
 use Rattle.sc_core.specs.declared.stmt.TypedSimpleKind.TheVariants as simple
-use Rattle.sc_core.specs.declared.section.TypedStruct.{TypedStruct}
 use Rattle.sc_core.specs.declared.value.Want.TheVariants as want
-use Rattle.sc_core.specs.Value.{Arith}
-use Rattle.sc_core.specs.Words.{Here, and_then, Next, Break, Continue, Return, leave, follow, in_order, all_do, loop, choose, Calls}
-use Rattle.sc_core.specs.Tree.{Ways, Meant, Acts, term_step, meant_step, meant, ways, evaluated, assign, call, assign_call, call_alone, test, kind_step, stmt_step, stmt_does}
 use Rattle.sc_core.proofs.Layers.{typed, expr_at, on_line, stmt_at}
 
 -- an expression

@@ -1,13 +1,7 @@
 -- A thin run that is stopped before its end.
-use Rattle.std.proofs.Common.{◌≡◌, ℕ, ◌<◌, ◌≤◌, List, [], ◌∷◌, ◌++◌, length, map, take, arith, refl, ◌∙◌, length-append}
-use Rattle.std.proofs.lemmas.Bool.{lt-ltb}
+use Rattle.sc_core.proofs.Common.{End, Event, EventsOut, List, Out, SourceRun, [], arith, length, length-append, lt-ltb, map, refl, take, thin_meaning, ℕ, ◌++◌, ◌<◌, ◌∙◌, ◌∷◌, ◌≡◌, ◌≤◌}
 use Rattle.std.proofs.lemmas.List.{take-append-le, take-map, length-map}
-use Rattle.sc_event.specs.declared.event.Event.{Event}
-use Rattle.sc_event.specs.declared.event.Event.TheVariants.{Out, End}
-use Rattle.sc_core.specs.declared.run.RunEnd.TheVariants.{EventsOut}
-use Rattle.sc_core.specs.declared.run.SourceRun.{SourceRun}
 use Rattle.sc_core.specs.declared.thin.ThinProgram.{ThinProgram}
-use Rattle.sc_core.specs.Thin.{thin_meaning}
 
 pub outputs_alone : (events : ℕ) (program : ThinProgram) → events ≤ length program.outputs
     → ◌≡◌ {A = SourceRun} (record { trace = map (λ word. Out 0 word) (take events program.outputs); end = EventsOut })

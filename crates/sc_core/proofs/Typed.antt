@@ -1,31 +1,13 @@
 -- Which programs of plans are well typed.
-use Rattle.std.proofs.Common.{◌≡◌, refl, ap, ◌∙◌, ℕ, suc, Bool, true, false, ◌&&◌, ◌==◌, List, [], ◌∷◌, map, length, Option, None, Some, codes}
-use Rattle.std.specs.Prelude.{nat_le, slice_get}
-use Rattle.std.specs.List.{list_all}
-use Rattle.sc_base.specs.Rules.{all_hold}
-use Rattle.sc_event.specs.declared.interface.Interface.{Interface}
-use Rattle.sc_event.specs.declared.interface.Interfaces.{Interfaces}
-use Rattle.sc_core.specs.declared.ty.Ty.{Ty}
-use Rattle.sc_core.specs.declared.stmt.TypedStmt.{TypedStmt}
-use Rattle.sc_core.specs.declared.section.TypedSection.{TypedSection}
-use Rattle.sc_core.specs.Height.{stmt_height}
-use Rattle.sc_core.specs.Sizes.{total, nodes}
-use Rattle.sc_core.specs.Typing.{Scope, Callable, goes_into, init_fits, stmt_fits}
-use Rattle.sc_core.specs.WellTyped.{most_params, most_height, most_nodes}
-use Rattle.sc_core.specs.WellTyped.{variable_fits, params_fit, result_fits, structs_fit, global_fits, init_height}
-use Rattle.sc_core.specs.WellTyped.{local_fits, scope_of, function_fits, callable_in, decl_count, section_fits}
-use Rattle.sc_core.specs.WellTyped.{interface_fits, sections_fit, is_well_typed, has_few_compartments}
-use Rattle.sc_core.specs.WellTyped.{has_distinct_names, has_main, has_one_main}
-use Rattle.sc_core.proofs.Shapes.{Shape, Lines, stmts}
+use Rattle.sc_core.proofs.Common.{Bool, Callable, Input, Interface, Interfaces, List, None, Option, Own, Scope, Some, Ty, TypedSection, TypedStmt, [], ap, callable_in, codes, decl_count, false, function_fits, global_fits, goes_into, has_distinct_names, has_few_compartments, has_main, has_one_main, init_fits, init_height, interface_fits, is_well_typed, length, list_all, local_fits, map, most_height, most_nodes, most_params, nat_le, nodes, params_fit, refl, result_fits, scope_of, section_fits, sections_fit, slice_get, stmt_fits, stmt_height, structs_fit, suc, total, true, variable_fits, ℕ, ◌&&◌, ◌==◌, ◌∙◌, ◌∷◌, ◌≡◌}
+use Rattle.sc_base.specs.Prelude.{all_hold}
+use Rattle.sc_core.proofs.Shapes.{Shape, Lines, stmts, NoLine, BreakLine, CallLine, AssignLine}
 use Rattle.sc_core.proofs.Measures.{shape_height, height_is, lines_high, lines_high_are, judge, judge_is, lines_fit, lines_fit_are}
 use Rattle.sc_core.proofs.Plans.{Slot, Plan, Sheet, local, init_of, function, section, program, plan_nodes, plan_nodes_is}
-use Rattle.sc_core.proofs.Programs.{alone, seven, min_by_minus_one, uninitialised, missing_return, leak, store_interfaces, store_sheets, two_stores_interfaces, two_stores, reentry_interfaces, reentry}
+use Rattle.sc_core.proofs.Programs.{alone, seven, min_by_minus_one, uninitialised, missing_return, leak, store_interfaces, store_sheets, two_stores_interfaces, two_stores, reentry_interfaces, reentry, lit}
 use Rattle.sc_core.proofs.Accounts.{accounts_interfaces, accounts}
 use Rattle.sc_core.proofs.Causes.{one_main, return, int, two, recursive, main_again, pointer_read, reader, three_inputs, null, pointer, pointer_at}
 use Rattle.sc_base.specs.declared.op.BinaryOp.TheVariants as op
-use Rattle.sc_core.proofs.Shapes.{NoLine, BreakLine, CallLine, AssignLine}
-use Rattle.sc_core.proofs.Programs.{lit}
-use Rattle.sc_core.specs.declared.expr.CallTarget.TheVariants.{Own, Input}
 
 all_of_map : {X Y : Type 0} (test : Y → Bool) (f : X → Y) (xs : List X) →
     list_all (λ x. test (f x)) xs ≡ list_all test (map f xs)

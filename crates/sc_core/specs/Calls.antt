@@ -1,15 +1,8 @@
 -- Calls: the variables and the frame of a function begin, its body runs, and they end (C11 6.2.4, 6.5.2.2). The same
 -- for trees and for code.
+use Rattle.sc_core.specs.Common.{Call, Entry, Export, In, Interfaces, Out, Proto, Ret, Scalar, export_at, imports, is_function, is_input, is_output, takes}
 use Rattle.std.specs.Prelude.{ℕ, zero, suc, ◌++◌, Bool, true, false, ◌&&◌, ◌==◌, if◌then◌else◌, List, [], ◌∷◌, length, map, replicate, drop, Option, None, Some, is_some, slice_get, slice_index_or}
 use Rattle.std.specs.List.{list_all}
-use Rattle.sc_event.specs.declared.event.Event.TheVariants.{Call, Ret, Out, In}
-use Rattle.sc_event.specs.Lookup.{export_at}
-use Rattle.sc_event.specs.Legal.{is_input, is_output, is_function, imports, takes}
-use Rattle.sc_event.specs.declared.interface.Scalar.{Scalar}
-use Rattle.sc_event.specs.declared.interface.Interfaces.{Interfaces}
-use Rattle.sc_event.specs.declared.interface.Proto.{Proto}
-use Rattle.sc_event.specs.declared.row.Entry.{Entry}
-use Rattle.sc_event.specs.declared.row.Entry.TheVariants.{Export}
 use Rattle.sc_core.specs.declared.cause.Cause.TheVariants.{BadType}
 use Rattle.sc_core.specs.declared.expr.CallTarget.{CallTarget}
 use Rattle.sc_core.specs.declared.expr.CallTarget.TheVariants.{Own, Cross, Input, Output}

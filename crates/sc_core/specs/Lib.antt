@@ -1,3 +1,5 @@
+pub mod Common
+pub mod Prelude
 pub mod Calls
 pub mod Growth
 pub mod Height

@@ -1,12 +1,7 @@
 -- What a program means.
+use Rattle.sc_core.specs.Common.{End, Entry, Event, Export, Main, Proto, export_at}
 use Rattle.std.specs.Prelude.{ℕ, zero, suc, ◌+◌, ◌-◌, ◌++◌, max, Bool, true, ◌&&◌, if◌then◌else◌, ◌==◌, nat_lt, List, [], ◌∷◌, codes, bytes_eq, length, map, Option, None, Some, is_some, Ok, slice_get, slice_index_or}
 use Rattle.std.specs.List.{position}
-use Rattle.sc_event.specs.declared.event.Event.{Event}
-use Rattle.sc_event.specs.declared.event.Event.TheVariants.{End}
-use Rattle.sc_event.specs.declared.interface.Proto.{Proto}
-use Rattle.sc_event.specs.declared.row.Entry.{Entry}
-use Rattle.sc_event.specs.declared.row.Entry.TheVariants.{Main, Export}
-use Rattle.sc_event.specs.Lookup.{export_at}
 use Rattle.sc_core.specs.declared.cause.Cause.TheVariants.{NoReturn}
 use Rattle.sc_core.specs.declared.ty.Ty.{Ty}
 use Rattle.sc_core.specs.declared.ty.Ty.TheVariants as ty

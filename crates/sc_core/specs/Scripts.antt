@@ -1,10 +1,9 @@
 -- Compartments that perform a script in place of running their functions.
+use Rattle.sc_core.specs.Common.{Event, count_of, part}
 use Rattle.std.specs.Prelude.{ℕ, Bool, false, if◌then◌else◌, ◌==◌, List, [], ◌∷◌, map, drop, Option, None, Some}
-use Rattle.sc_event.specs.declared.event.Event.{Event}
 use Rattle.sc_event.specs.declared.row.Row.{Row}
 use Rattle.sc_event.specs.declared.row.Action.{Action}
 use Rattle.sc_event.specs.declared.row.Action.TheVariants as act
-use Rattle.sc_event.specs.Part.{part, count_of}
 use Rattle.sc_core.specs.declared.expr.CallTarget.{CallTarget}
 use Rattle.sc_core.specs.declared.expr.CallTarget.TheVariants.{Cross, Input, Output}
 use Rattle.sc_core.specs.declared.run.RunEnd.TheVariants.{TurnsOut}

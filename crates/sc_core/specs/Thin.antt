@@ -1,6 +1,6 @@
 -- The meaning of a thin program.
+use Rattle.sc_core.specs.Common.{End, Out}
 use Rattle.std.specs.Prelude.{ℕ, [], ◌∷◌, ◌++◌, map}
-use Rattle.sc_event.specs.declared.event.Event.TheVariants.{Out, End}
 use Rattle.sc_core.specs.declared.run.RunEnd.TheVariants.{Ended}
 use Rattle.sc_core.specs.declared.run.SourceRun.{SourceRun}
 use Rattle.sc_core.specs.declared.thin.ThinProgram.{ThinProgram}

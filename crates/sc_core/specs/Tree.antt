@@ -1,7 +1,7 @@
 -- What expressions give and what statements do, as folds of the typed trees (C11 6.5, 6.8).
+use Rattle.sc_core.specs.Common.{BinaryOp}
 use Rattle.std.specs.Prelude.{ℕ, pos, ◌+◌, Bool, ◌||◌, if◌then◌else◌, List, [], ◌∷◌, map, Option, None, Some, Result, Ok}
 use Rattle.sc_core.specs.declared.cause.Cause.{Cause}
-use Rattle.sc_base.specs.declared.op.BinaryOp.{BinaryOp}
 use Rattle.sc_base.specs.declared.op.BinaryOp.TheVariants as op
 use Rattle.sc_core.specs.declared.ty.Ty.{Ty}
 use Rattle.sc_core.specs.declared.expr.TypedExpr.{TypedExpr, TypedExpr-F, fold-TypedExpr}

@@ -1,15 +1,11 @@
 -- What every program keeps: its types, its names where they matter, its interfaces and its counts.
+use Rattle.sc_core.specs.Common.{Import, Interfaces, Proto, all_hold, export_at}
 use Rattle.std.specs.Prelude.{ℕ, zero, suc, ◌+◌, Bool, true, false, not, ◌&&◌, ◌==◌, nat_lt, nat_le, IsTrue}
 use Rattle.std.specs.Prelude.{List, [], ◌∷◌, ◌++◌, map, length, take, codes, bytes_eq, slice_get}
 use Rattle.std.specs.Prelude.{Option, None, Some, is_some}
 use Rattle.std.specs.List.{list_any, list_all}
-use Rattle.sc_base.specs.Rules.{all_hold}
-use Rattle.sc_event.specs.declared.interface.Interfaces.{Interfaces}
 use Rattle.sc_event.specs.declared.interface.Interface.{Interface}
-use Rattle.sc_event.specs.declared.interface.Proto.{Proto}
-use Rattle.sc_event.specs.declared.interface.Import.{Import}
 use Rattle.sc_event.specs.declared.interface.Import.TheVariants as import
-use Rattle.sc_event.specs.Lookup.{export_at}
 use Rattle.sc_core.specs.declared.ty.Ty.{Ty}
 use Rattle.sc_core.specs.declared.ty.Ty.TheVariants as ty
 use Rattle.sc_core.specs.declared.ty.BaseTy.{BaseTy}
@@ -29,8 +25,7 @@ use Rattle.sc_core.specs.Types.{is_array, cells_of}
 use Rattle.sc_core.specs.Sizes.{nodes, total}
 use Rattle.sc_core.specs.Height.{expr_height, stmt_height}
 use Rattle.sc_core.specs.Meaning.{main_name}
-use Rattle.sc_core.specs.Typing.{Scope, Callable, Signature, signature_of, proto_signature, same_ty}
-use Rattle.sc_core.specs.Typing.{body_fits, init_fits}
+use Rattle.sc_core.specs.Typing.{Scope, Callable, Signature, signature_of, proto_signature, same_ty, body_fits, init_fits}
 
 -- the counts that a program may reach
 abbrev pub most_compartments : ℕ

@@ -1,8 +1,8 @@
 -- The words in which the meaning is told, of trees and of code alike: pieces of a run, how control leaves statements,
 -- and loops.
 -- What a run carries beside its state is a parameter `A`: nothing in trees, temporaries in three-address code.
+use Rattle.sc_core.specs.Common.{Event}
 use Rattle.std.specs.Prelude.{ℕ, zero, suc, ◌++◌, List, [], ◌∷◌, Option, Result, Ok, Err, if◌then◌else◌}
-use Rattle.sc_event.specs.declared.event.Event.{Event}
 use Rattle.sc_core.specs.declared.cause.Cause.{Cause}
 use Rattle.sc_core.specs.declared.expr.CallTarget.{CallTarget}
 use Rattle.sc_core.specs.declared.run.RunEnd.{RunEnd}

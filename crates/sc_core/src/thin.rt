@@ -1,6 +1,6 @@
+ghost use Rattle.sc_core.specs.Prelude.{thin_meaning};
 ghost use Rattle.std.specs.Prelude.{◌≡◌, map, IfOk};
 ghost use Rattle.sc_event.specs.declared.event.Event.TheVariants.{Out};
-ghost use Rattle.sc_core.specs.Thin.{thin_meaning};
 
 use crate::{RunEnd, SourceRun};
 use sc_base::{OutOfMemory, Words};

@@ -1,6 +1,5 @@
+ghost use Rattle.sc_core.specs.Prelude.{common, decayed, is_array, is_integer, is_pointer, pointer_to, same_base, same_ty, starred, target, type_goes};
 ghost use Rattle.std.specs.Prelude.{◌≡◌, suc, IfOk};
-ghost use Rattle.sc_core.specs.Types.{is_array, is_pointer};
-ghost use Rattle.sc_core.specs.Typing.{same_base, same_ty, is_integer, starred, decayed, target, pointer_to, common, type_goes};
 
 use sc_base::OutOfMemory;
 

@@ -1,21 +1,8 @@
 -- Tables of names give what the names of calls stand for.
-use Rattle.std.proofs.Common.{◌≡◌, ℕ, suc, ◌==◌, Bool, true, false, cond, List, [], ◌∷◌, ◌++◌, map, slice_get, Option, None, Some, refl, sym, ap, ◌∙◌, if◌then◌else◌, option_map, bytes_eq}
-use Rattle.std.specs.Option.{option_and_then}
+use Rattle.sc_elab.proofs.Common.{Bool, Callees, CallsIn, FunctionTree, HeadTree, Import, ImportLine, List, None, Option, SectionTree, Some, [], ap, bytes_eq, called, called_head, callees_of, calling_heads, cond, false, function_named, function_names, functions_in, head_name, head_named, head_of, heads_in, if◌then◌else◌, import_line_name, import_named, import_of, import_target, imported, imported_target, map, map_twice, number_of, option_and_then, or_first, or_first_own, position-cons, refl, signature_by, slice_get, struct_names, suc, sym, target_or, true, ℕ, ◌++◌, ◌==◌, ◌∙◌, ◌∷◌, ◌≡◌}
+use Rattle.std.proofs.Common.{option_map}
 use Rattle.std.specs.Cmp.Lexicographic.{pointwise}
 use Rattle.std.proofs.lemmas.Slice.Eq.{bytes_eq-Decides}
-use Rattle.sc_base.specs.Numbering.{number_of}
-use Rattle.sc_event.specs.declared.interface.Import.{Import}
-use Rattle.sc_ast.specs.declared.section.FunctionTree.{FunctionTree}
-use Rattle.sc_ast.specs.declared.section.HeadTree.{HeadTree}
-use Rattle.sc_ast.specs.declared.section.ImportLine.{ImportLine}
-use Rattle.sc_ast.specs.declared.section.SectionTree.{SectionTree}
-use Rattle.sc_ast.specs.Heads.{head_of}
-use Rattle.sc_scope.specs.Declarations.{functions_in, heads_in, struct_names, function_names}
-use Rattle.sc_scope.specs.Interfaces.{import_of, function_named}
-use Rattle.sc_elab.specs.Sections.{signature_by, head_named, or_first, called_head, import_target, import_named, imported_target, target_or, callees_of}
-use Rattle.sc_elab.specs.declared.callees.Callees.{Callees}
-use Rattle.sc_elab.specs.Called.{or_first_own, imported, called, head_name, import_line_name, calling_heads, CallsIn}
-use Rattle.sc_base.proofs.Lists.{position-cons, map_twice}
 
 abbrev same : List ℕ → List ℕ → Bool
 same = pointwise ◌==◌

@@ -1,6 +1,5 @@
 -- Known values of the definitions that are built.
-use Rattle.std.proofs.Common.{◌≡◌, true, false, codes, [], ◌∷◌, Some, None, refl, arith, rules}
-use Rattle.sc_ast.specs.declared.expr.ExprTree.{the_lemmas}
+use Rattle.sc_elab.proofs.Common.{Local, None, Some, Visible, [], arith, codes, false, found, refl, rules, the_lemmas, true, typed, typed_structs, word_of_const, ◌∷◌, ◌≡◌}
 use Rattle.sc_ast.specs.declared.expr.ExprTree.TheVariants as tree
 use Rattle.sc_ast.specs.declared.types.BaseTree.TheVariants as base_tree
 use Rattle.sc_base.specs.declared.op.BinaryOp.TheVariants as op
@@ -8,10 +7,6 @@ use Rattle.sc_core.specs.declared.ty.Ty.TheVariants as ty
 use Rattle.sc_core.specs.declared.ty.BaseTy.TheVariants as base
 use Rattle.sc_core.specs.declared.expr.TypedExpr as exprs
 use Rattle.sc_core.specs.declared.expr.TypedKind as kind
-use Rattle.sc_core.specs.declared.expr.VarRef.TheVariants.{Local}
-use Rattle.sc_elab.specs.Scopes.{Visible, found}
-use Rattle.sc_elab.specs.Expressions.{typed}
-use Rattle.sc_elab.specs.Sections.{typed_structs, word_of_const}
 
 -- `int *x;` outside, and `int *p[2]; int x;` in a function
 abbrev pub some_visible : Visible

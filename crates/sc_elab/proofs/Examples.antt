@@ -1,18 +1,12 @@
 -- Small names and expressions with their types, computed.
-use Rattle.std.proofs.Common.{◌≡◌, ℕ, true, false, [], ◌∷◌, codes, Some, refl, rules}
+use Rattle.sc_elab.proofs.Common.{Global, Local, Param, Some, Ty, TypedExpr, VarRef, Visible, [], binary_ty, binary_typed, codes, false, found, literal_typed, no_ty, refl, rules, step, true, unary_ty, ℕ, ◌∷◌, ◌≡◌}
 use Rattle.sc_base.specs.declared.op.UnaryOp.TheVariants as unary
 use Rattle.sc_ast.specs.declared.expr.ExprTree.TheOpen as tree
 use Rattle.sc_core.specs.declared.ty.Ty.TheVariants as ty
 use Rattle.sc_core.specs.declared.ty.BaseTy.TheVariants as base
 use Rattle.sc_base.specs.declared.op.BinaryOp.TheVariants as op
-use Rattle.sc_core.specs.declared.expr.VarRef.{VarRef}
-use Rattle.sc_core.specs.declared.expr.VarRef.TheVariants.{Global, Param, Local}
-use Rattle.sc_core.specs.declared.expr.TypedExpr.{TypedExpr}
 use Rattle.sc_core.specs.declared.expr.TypedKind
 use Rattle.sc_core.specs.declared.expr.TypedKind.{the_lemmas}
-use Rattle.sc_core.specs.declared.ty.Ty.{Ty}
-use Rattle.sc_elab.specs.Scopes.{Visible, found}
-use Rattle.sc_elab.specs.Expressions.{no_ty, binary_ty, binary_typed, literal_typed, unary_ty, step}
 
 -- `struct S { int m; int *n; }`, and `struct S s; int x;` outside a function with the parameter `unsigned x` and the
 -- local `int *x`

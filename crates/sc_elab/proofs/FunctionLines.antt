@@ -1,31 +1,9 @@
 -- The lines of a function: those of its locals, and those of its body.
-use Rattle.std.proofs.Common.{◌≡◌, ℕ, suc, ◌+◌, ◌<◌, ◌≤◌, ◌&&◌, List, [], ◌∷◌, ◌++◌, length, map, drop, get_or, Option, Some, None, refl, sym, ap, subst, ◌∙◌}
-use Rattle.std.specs.Prelude.{Result, OnOk}
-use Rattle.std.specs.List.{concat}
-use Rattle.std.proofs.lemmas.List.{drop_all}
-use Rattle.sc_ast.specs.declared.expr.ExprTree.{ExprTree}
-use Rattle.sc_ast.specs.declared.section.LocalTree.{LocalTree}
-use Rattle.sc_ast.specs.declared.section.FunctionTree.{FunctionTree}
-use Rattle.sc_ast.specs.declared.section.GlobalTree.{GlobalTree}
-use Rattle.sc_ast.specs.declared.section.SectionTree.{SectionTree}
-use Rattle.sc_core.specs.declared.ty.Ty.{Ty}
-use Rattle.sc_core.specs.Typing.{init_fits}
-use Rattle.sc_scope.specs.declared.broken.BrokenLines.{BrokenLines}
-use Rattle.sc_scope.specs.Broken.{with_lines, unless}
-use Rattle.sc_scope.proofs.Noting.{with_lines-nil, with_lines-append}
-use Rattle.sc_elab.specs.Called.{called}
-use Rattle.sc_elab.specs.Seen.{visible}
-use Rattle.sc_elab.specs.Statements.{stmt_lines}
+use Rattle.sc_elab.proofs.Common.{BrokenLines, ExprTree, FunctionScope, FunctionTree, GlobalTree, List, LocalTree, None, OnOk, Option, Result, SectionScope, SectionTree, Some, Stands, StandsIn, Suits, Ty, [], ap, called, concat, drop, drop-step, drop_all, function_lines, get_or, global_lines, init_fits, init_goes, init_holds, is_sized, length, local_holds, locals_from, map, refl, result_of, scope_in, stmt_lines, subst, suc, sym, tags, type_of, typed_init, unless, visible, visible_in, with_lines, with_lines-append, with_lines-nil, ℕ, ◌&&◌, ◌++◌, ◌+◌, ◌<◌, ◌∙◌, ◌∷◌, ◌≡◌, ◌≤◌}
 use Rattle.sc_elab.specs.Statements as statements
-use Rattle.sc_elab.specs.Sections.{tags, is_sized, type_of, init_holds, visible_in, scope_in, typed_init, result_of, local_holds, locals_from, function_lines, global_lines}
-use Rattle.sc_elab.specs.Judging.{Suits, init_goes}
-use Rattle.sc_elab.specs.Stands.{Stands, StandsIn}
-use Rattle.sc_elab.specs.declared.scope.SectionScope.{SectionScope}
-use Rattle.sc_elab.specs.declared.scope.FunctionScope.{FunctionScope}
 use Rattle.sc_elab.proofs.Functions.{next_place, seen}
 use Rattle.sc_elab.proofs.Noted.{two, on_ok}
 use Rattle.sc_elab.proofs.Suiting.{suiting}
-use Rattle.sc_base.proofs.Lists.{drop-step}
 
 module _ (scope : SectionScope) (section : SectionTree) (stands : Stands scope section) where
   pub global_noted : (tree : GlobalTree) (a b : BrokenLines) →

@@ -1,27 +1,8 @@
 -- What stands for a function while it is built gives its typed form.
-use Rattle.std.proofs.Common.{◌≡◌, ℕ, suc, ◌+◌, ◌<◌, List, [], ◌∷◌, ◌++◌, length, map, take, drop, get_or, Option, None, Some, refl, sym, ap, ◌∙◌, arith}
-use Rattle.std.proofs.Math.Seq.{take-suc}
-use Rattle.std.specs.Option.{option_map}
-use Rattle.sc_ast.specs.declared.expr.ExprTree.{ExprTree}
-use Rattle.sc_ast.specs.declared.section.LocalTree.{LocalTree}
-use Rattle.sc_ast.specs.declared.section.FunctionTree.{FunctionTree}
-use Rattle.sc_ast.specs.declared.section.SectionTree.{SectionTree}
-use Rattle.sc_core.specs.declared.ty.Ty.{Ty}
-use Rattle.sc_core.specs.declared.section.TypedLocal.{TypedLocal}
+use Rattle.sc_elab.proofs.Common.{ExprTree, FunctionScope, FunctionTree, List, LocalTree, None, Option, SectionScope, SectionTree, Some, Stands, StandsIn, Ty, TypedLocal, TypedSection, [], ap, arith, called, drop, drop-step, functions_in, get_or, globals_in, going_to, length, local_in, local_variable, map, option_map, refl, stmt_in, suc, sym, tags, take, take-suc, type_of, type_of_name, typed, typed_function, typed_global, typed_init, typed_local, typed_locals, typed_param, typed_section, typed_stmt, value_in, visible, visible_in, ℕ, ◌++◌, ◌+◌, ◌<◌, ◌∙◌, ◌∷◌, ◌≡◌}
 use Rattle.sc_core.specs.declared.section.TypedFunction.{TypedFunction}
-use Rattle.sc_core.specs.declared.section.TypedSection.{TypedSection}
-use Rattle.sc_scope.specs.Declarations.{globals_in, functions_in}
-use Rattle.sc_elab.specs.Expressions.{typed, going_to}
-use Rattle.sc_elab.specs.Statements.{typed_stmt}
 use Rattle.sc_elab.specs.Statements as statements
-use Rattle.sc_elab.specs.Sections.{tags, type_of, type_of_name, typed_param, local_variable, visible_in, typed_init, typed_local, typed_locals, typed_function, typed_global, typed_section}
-use Rattle.sc_elab.specs.declared.scope.SectionScope.{SectionScope}
-use Rattle.sc_elab.specs.declared.scope.FunctionScope.{FunctionScope}
-use Rattle.sc_elab.specs.Called.{called}
-use Rattle.sc_elab.specs.Seen.{visible, value_in, stmt_in}
-use Rattle.sc_elab.specs.Stands.{Stands, StandsIn, local_in}
 use Rattle.sc_elab.proofs.Loops.{one_more, all_done}
-use Rattle.sc_base.proofs.Lists.{drop-step}
 
 pub next_place : (i : ℕ) → suc i ≡ i + 1
 next_place i = omega arith

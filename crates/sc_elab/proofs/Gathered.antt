@@ -1,8 +1,5 @@
 -- Loops that gather what is made of some items of a list.
-use Rattle.std.proofs.Common.{◌≡◌, ℕ, ◌+◌, ◌<◌, ◌≤◌, List, [], ◌∷◌, ◌++◌, length, map, drop, get_or, filter_map, Option, None, Some, refl, sym, ap, ◌∙◌}
-use Rattle.std.specs.List.{cons_option}
-use Rattle.std.proofs.lemmas.List.{append_assoc, append-nil, drop_all}
-use Rattle.sc_base.proofs.Lists.{drop-step}
+use Rattle.sc_elab.proofs.Common.{List, None, Option, Some, [], ap, append-nil, append_assoc, cons_option, drop, drop-step, drop_all, filter_map, get_or, length, map, refl, sym, ℕ, ◌++◌, ◌+◌, ◌<◌, ◌∙◌, ◌∷◌, ◌≡◌, ◌≤◌}
 
 module _ {A B C : Type 0} (f : A → Option B) (g : B → C) where
   abbrev pub gathered : List A → List C

@@ -1,21 +1,10 @@
 -- What the building of expressions and calls keeps.
-use Rattle.std.proofs.Common.{◌≡◌, ℕ, ◌+◌, ◌<◌, length, drop, get_or, List, [], ◌∷◌, Option, refl, sym, ap, ◌∙◌, subst, IsTrue, rules}
+use Rattle.sc_elab.proofs.Common.{ExprTree, ExprTree-F, FunctionScope, IsTrue, List, Option, SectionScope, Ty, TypedExpr, Visible, [], ap, args_in, drop, drop-step, expr_in, first_of, get_or, going_to_some, length, out-ExprTree, refl, rest_of, roll-ExprTree, roll-out-ExprTree, rules, subst, sym, the_lemmas, typed, visible, ℕ, ◌+◌, ◌<◌, ◌∙◌, ◌∷◌, ◌≡◌}
 use Rattle.sc_ast.specs.Places as tree_place
-use Rattle.sc_ast.specs.declared.expr.ExprTree.{ExprTree, ExprTree-F, roll-ExprTree, out-ExprTree, roll-out-ExprTree, the_lemmas}
 use Rattle.sc_core.specs.declared.expr.TypedExpr as exprs
 use Rattle.sc_core.specs.declared.expr.TypedKind as kinds
 use Rattle.sc_ast.specs.declared.expr.ExprTree.TheOpen as tree
-use Rattle.sc_core.specs.declared.ty.Ty.{Ty}
-use Rattle.sc_core.specs.declared.expr.TypedExpr.{TypedExpr}
 use Rattle.sc_core.specs.Places as place
-use Rattle.sc_elab.specs.Scopes.{Visible}
-use Rattle.sc_elab.specs.Expressions.{typed}
-use Rattle.sc_elab.specs.Statements.{going_to_some}
-use Rattle.sc_elab.specs.declared.scope.SectionScope.{SectionScope}
-use Rattle.sc_elab.specs.declared.scope.FunctionScope.{FunctionScope}
-use Rattle.sc_elab.specs.Seen.{visible, expr_in, args_in}
-use Rattle.sc_elab.specs.Args.{first_of, rest_of}
-use Rattle.sc_base.proofs.Lists.{drop-step}
 
 module _ (section : SectionScope) (function : FunctionScope) where
   pub args_nil : (types : List Ty) → args_in section function types [] ≡ []

@@ -1,3 +1,4 @@
+pub mod Common
 pub mod Calling
 pub mod Computed
 pub mod Examples

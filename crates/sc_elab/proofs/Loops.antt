@@ -1,7 +1,5 @@
 -- Loops that push what is made of each item of a list.
-use Rattle.std.proofs.Common.{◌≡◌, ℕ, suc, ◌+◌, ◌<◌, List, [], ◌∷◌, ◌++◌, length, drop, get_or, sym, ap, ◌∙◌, arith}
-use Rattle.std.proofs.lemmas.List.{append_assoc, append-nil}
-use Rattle.std.proofs.Math.Seq.{drop-cons}
+use Rattle.sc_elab.proofs.Common.{List, [], ap, append-nil, append_assoc, arith, drop, drop-cons, get_or, length, suc, sym, ℕ, ◌++◌, ◌+◌, ◌<◌, ◌∙◌, ◌∷◌, ◌≡◌}
 
 -- one more item is done
 pub one_more : {B : Type 0} (done more left rest whole : List B) (x : B) → more ≡ done ++ x ∷ [] → left ≡ x ∷ rest →

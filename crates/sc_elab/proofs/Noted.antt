@@ -1,24 +1,8 @@
 -- What the lines of a statement's parts are.
-use Rattle.std.proofs.Common.{◌≡◌, ◌≤◌, ◌<◌, ℕ, suc, ◌+◌, Bool, List, [], ◌∷◌, ◌++◌, length, map, drop, get_or, Option, None, Some, refl, sym, ap, ◌∙◌, rules, add-one}
-use Rattle.std.specs.Prelude.{Result, Ok, Err, OnOk}
-use Rattle.std.specs.List.{concat}
-use Rattle.std.proofs.Math.Seq.{drop-cons}
-use Rattle.std.proofs.lemmas.List.{drop_all}
-use Rattle.sc_ast.specs.declared.expr.ExprTree.{ExprTree}
-use Rattle.sc_ast.specs.declared.expr.CallTree.{CallTree}
-use Rattle.sc_ast.specs.declared.stmt.SimpleTree.{SimpleTree}
-use Rattle.sc_ast.specs.declared.stmt.StmtTree.{StmtTree}
+use Rattle.sc_elab.proofs.Common.{Bool, BrokenLines, CallTree, Err, ExprTree, List, None, Ok, OnOk, Option, Result, Scope, SimpleTree, Some, StmtKind, StmtTree, Ty, Visible, [], add-one, ap, assign_call_holds, assign_holds, call_holds, concat, cond_holds, drop, drop-cons, drop_all, get_or, length, lines_at, map, part_lines, refl, return_call_holds, return_value_holds, rules, stmt_lines, suc, sym, unless, with_lines, with_lines-append, with_lines-nil, ℕ, ◌++◌, ◌+◌, ◌<◌, ◌∙◌, ◌∷◌, ◌≡◌, ◌≤◌}
+use Rattle.sc_elab.specs.Prelude.{Callees}
 use Rattle.sc_ast.specs.declared.stmt.StmtTree as trees
 use Rattle.sc_ast.specs.declared.stmt.StmtKind as tree
-use Rattle.sc_ast.specs.declared.stmt.StmtKind.{StmtKind}
-use Rattle.sc_core.specs.declared.ty.Ty.{Ty}
-use Rattle.sc_core.specs.Typing.{Scope}
-use Rattle.sc_scope.specs.declared.broken.BrokenLines.{BrokenLines}
-use Rattle.sc_scope.specs.Broken.{with_lines, unless}
-use Rattle.sc_scope.proofs.Noting.{with_lines-nil, with_lines-append}
-use Rattle.sc_elab.specs.Scopes.{Visible}
-use Rattle.sc_elab.specs.Statements.{Callees, cond_holds, assign_holds, assign_call_holds, call_holds, return_value_holds, return_call_holds, part_lines, stmt_lines}
-use Rattle.sc_elab.specs.Judging.{lines_at}
 
 -- two parts
 pub two : (a b c : BrokenLines) (xs ys : List ℕ) → b ≡ with_lines a xs → c ≡ with_lines b ys →

@@ -1,15 +1,5 @@
 -- Structs and their members, one after another.
-use Rattle.std.proofs.Common.{◌≡◌, ℕ, ◌+◌, ◌<◌, ◌≤◌, List, [], ◌∷◌, ◌++◌, length, drop, get_or, Option, None, Some, refl, sym, ap, ◌∙◌}
-use Rattle.std.specs.List.{cons_option}
-use Rattle.std.proofs.lemmas.List.{drop_all}
-use Rattle.sc_ast.specs.declared.section.Decl.{Decl}
-use Rattle.sc_ast.specs.declared.section.MemberTree.{MemberTree}
-use Rattle.sc_ast.specs.declared.section.StructTree.{StructTree}
-use Rattle.sc_core.specs.declared.section.TypedMember.{TypedMember}
-use Rattle.sc_core.specs.declared.section.TypedStruct.{TypedStruct}
-use Rattle.sc_scope.specs.Declarations.{struct_in, structs_in}
-use Rattle.sc_elab.specs.Sections.{type_of, end_of_member, members_from, cells_from, typed_struct, typed_structs}
-use Rattle.sc_base.proofs.Lists.{drop-step}
+use Rattle.sc_elab.proofs.Common.{Decl, List, MemberTree, None, Option, Some, StructTree, TypedMember, TypedStruct, [], ap, cells_from, cons_option, drop, drop-step, drop_all, end_of_member, get_or, length, members_from, refl, struct_in, structs_in, sym, type_of, typed_struct, typed_structs, ℕ, ◌++◌, ◌+◌, ◌<◌, ◌∙◌, ◌∷◌, ◌≡◌, ◌≤◌}
 
 module _ (tags : List (List ℕ)) (structs : List TypedStruct) where
   -- a member at its offset

@@ -1,32 +1,15 @@
 -- What is judged of an expression by its parts is what is judged of the whole.
-use Rattle.std.proofs.Common.{◌≡◌, ℕ, zero, suc, position, is_some, ◌==◌, Bool, true, false, ◌&&◌, ◌||◌, List, [], ◌∷◌, Option, None, Some, if◌then◌else◌, refl, sym, ap, subst, ◌∙◌, true≢false}
-use Rattle.std.specs.Prelude.{slice_get, bytes_eq, Result, Ok, Err, IfOk}
-use Rattle.std.specs.List.{list_any}
-use Rattle.std.specs.Option.{option_and_then}
-use Rattle.std.proofs.lemmas.Bool.{eq-eqb}
-use Rattle.std.proofs.Math.Bool.{or-true}
+use Rattle.sc_elab.proofs.Common.{BaseTy, Bool, Err, Found, Global, IfOk, Judged, List, None, Ok, Option, Result, Scope, Some, Suits, Ty, TypedExpr, TypedMember, TypedStruct, VarRef, Visible, [], ap, binary_fits, bytes_eq, decayed, eq-eqb, false, found, has_member, if◌then◌else◌, is_address, is_int, is_pointer, is_some, is_type, is_zero, judged, list_any, literal_fits, member_named, member_of, member_offset, member_ty, no_ty, option_and_then, or-true, pointer_to, position, refl, same_base, same_ty, slice_get, struct_of, subst, suc, sym, target, term_judged, true, true≢false, unary_fits, variable_ty, variable_typed, zero, zero_step, ℕ, ◌&&◌, ◌==◌, ◌||◌, ◌∙◌, ◌∷◌, ◌≡◌}
 use Rattle.sc_base.specs.declared.op.BinaryOp.{BinaryOp}
 use Rattle.sc_base.specs.declared.op.UnaryOp.{UnaryOp}
-use Rattle.sc_core.specs.declared.ty.Ty.{Ty}
 use Rattle.sc_core.specs.declared.ty.Ty.TheVariants as ty
-use Rattle.sc_core.specs.declared.ty.BaseTy.{BaseTy}
 use Rattle.sc_core.specs.declared.ty.BaseTy.TheVariants as base
-use Rattle.sc_core.specs.declared.expr.TypedExpr.{TypedExpr}
 use Rattle.sc_core.specs.declared.expr.TypedKind
 use Rattle.sc_core.specs.declared.expr.TypedKind.{TypedKind-F, roll-TypedKind, out-TypedKind, roll-out-TypedKind}
 use Rattle.sc_core.specs.declared.expr.TypedKind.TheOpen as term
 use Rattle.sc_core.specs.declared.expr.TypedKind.TheVariants.{rolls-Literal, rolls-Variable, rolls-Unary, rolls-Binary, rolls-Index, rolls-Member, rolls-Arrow, rolls-Deref, rolls-Address}
-use Rattle.sc_core.specs.declared.expr.VarRef.{VarRef}
-use Rattle.sc_core.specs.declared.expr.VarRef.TheVariants.{Global}
-use Rattle.sc_core.specs.declared.section.TypedStruct.{TypedStruct}
-use Rattle.sc_core.specs.declared.section.TypedMember.{TypedMember}
-use Rattle.sc_core.specs.Types.{is_pointer}
-use Rattle.sc_core.specs.Typing.{Judged, Scope, same_base, same_ty, is_type, is_int, is_address, target, decayed, pointer_to, binary_fits, unary_fits, literal_fits, has_member, member_of, variable_ty, term_judged, judged}
 use Rattle.sc_core.proofs.Layers.{typed as typed_as}
 use Rattle.sc_core.proofs.Layers as layers
-use Rattle.sc_elab.specs.Scopes.{Visible, Found, found, member_named, struct_of}
-use Rattle.sc_elab.specs.Expressions.{no_ty, zero_step, is_zero, variable_typed, member_ty, member_offset}
-use Rattle.sc_elab.specs.Judging.{Suits}
 use Rattle.sc_elab.specs.declared.expr.Built.{Built}
 
 same_base-refl : (b : BaseTy) → same_base b b ≡ true

@@ -1,19 +1,6 @@
 -- The lines of a text are those of its sections.
-use Rattle.std.proofs.Common.{◌≡◌, ◌≤◌, ◌<◌, ℕ, ◌+◌, List, [], ◌∷◌, ◌++◌, length, map, drop, get_or, Option, refl, sym, ap, ◌∙◌, add-one}
-use Rattle.std.specs.List.{concat}
-use Rattle.std.proofs.Math.Seq.{drop-cons}
-use Rattle.std.proofs.lemmas.List.{drop_all}
-use Rattle.sc_event.specs.declared.interface.Import.{Import}
-use Rattle.sc_ast.specs.declared.section.Decl.{Decl}
-use Rattle.sc_ast.specs.declared.section.SectionTree.{SectionTree}
-use Rattle.sc_scope.specs.declared.broken.BrokenLines.{BrokenLines}
-use Rattle.sc_scope.specs.Broken.{line_of_text, noted, noted_all, with_lines}
-use Rattle.sc_scope.specs.Declarations.{struct_names}
-use Rattle.sc_elab.specs.Called.{called, CallsIn}
-use Rattle.sc_elab.specs.Sections.{callees_of, decl_lines, section_lines}
-use Rattle.sc_elab.specs.declared.callees.Callees.{Callees}
+use Rattle.sc_elab.proofs.Common.{BrokenLines, Callees, CallsIn, Decl, Import, List, Option, SectionTree, [], add-one, ap, called, callees_of, concat, decl_lines, drop, drop-cons, drop_all, get_or, length, line_of_text, map, noted, noted_all, noted_all-append, refl, section_lines, struct_names, sym, with_lines, ℕ, ◌++◌, ◌+◌, ◌<◌, ◌∙◌, ◌∷◌, ◌≡◌, ◌≤◌}
 use Rattle.sc_elab.proofs.Calling.{signatures_kept}
-use Rattle.sc_scope.proofs.Noting.{noted_all-append}
 
 noted-nil : (least : Option ℕ) → noted_all least [] ≡ least
 unfolding noted_all

@@ -1,13 +1,9 @@
 -- Sections and their interfaces, one after another.
-use Rattle.std.proofs.Common.{◌≡◌, ℕ, zero, suc, ◌+◌, ◌<◌, List, [], ◌∷◌, ◌++◌, length, map, drop, get_or, slice_get, None, Some, refl, sym, ap, ◌∙◌, option_map, arith}
+use Rattle.sc_elab.proofs.Common.{List, None, SectionTree, Some, TypedSection, [], ap, arith, callees_of, drop, drop-step, get_or, import_of, interface_of, interfaces_from, interfaces_of, length, map, refl, sections_from, slice_get, suc, sym, typed_section, zero, ℕ, ◌++◌, ◌+◌, ◌<◌, ◌∙◌, ◌∷◌, ◌≡◌}
+use Rattle.std.proofs.Common.{option_map}
 use Rattle.sc_event.specs.declared.interface.Interface.{Interface}
-use Rattle.sc_ast.specs.declared.section.SectionTree.{SectionTree}
-use Rattle.sc_core.specs.declared.section.TypedSection.{TypedSection}
 use Rattle.sc_event.specs.declared.interface.Interfaces.{Interfaces}
-use Rattle.sc_scope.specs.Interfaces.{import_of, interface_of, interfaces_from, interfaces_of}
-use Rattle.sc_elab.specs.Sections.{typed_section, callees_of, sections_from}
 use Rattle.sc_elab.proofs.Loops.{one_more}
-use Rattle.sc_base.proofs.Lists.{drop-step}
 
 next_place : (i : ℕ) → suc i ≡ i + 1
 next_place i = omega arith

@@ -1,16 +1,5 @@
 -- Arguments and parameters, one after another.
-use Rattle.std.proofs.Common.{◌≡◌, ◌≢◌, ◌<◌, ℕ, suc, ◌+◌, Bool, true, false, ◌&&◌, List, [], ◌∷◌, length, map, drop, get_or, Option, Some, None, refl, sym, ap, ◌∙◌, add-one}
-use Rattle.std.specs.Prelude.{Result, Ok, Err, IfOk}
-use Rattle.std.proofs.Math.Bool.{and-false}
-use Rattle.std.proofs.Math.Seq.{drop-cons}
-use Rattle.sc_ast.specs.declared.expr.ExprTree.{ExprTree}
-use Rattle.sc_core.specs.declared.ty.Ty.{Ty}
-use Rattle.sc_core.specs.declared.expr.TypedExpr.{TypedExpr}
-use Rattle.sc_core.specs.Typing.{Judged, Scope, Signature, judged, goes_into, all_go_into, args_fit, is_target, assign_fits}
-use Rattle.sc_elab.specs.Scopes.{Visible}
-use Rattle.sc_elab.specs.Expressions.{typed, going_to}
-use Rattle.sc_elab.specs.Statements.{going_to_all, params_of}
-use Rattle.sc_elab.specs.Judging.{goes_in, all_go}
+use Rattle.sc_elab.proofs.Common.{Bool, Err, ExprTree, IfOk, Judged, List, None, Ok, Option, Result, Scope, Signature, Some, Ty, TypedExpr, Visible, [], add-one, all_go, all_go_into, and-false, ap, args_fit, assign_fits, drop, drop-cons, false, get_or, goes_in, goes_into, going_to, going_to_all, is_target, judged, length, map, params_of, refl, suc, sym, true, typed, ℕ, ◌&&◌, ◌+◌, ◌<◌, ◌∙◌, ◌∷◌, ◌≡◌, ◌≢◌}
 use Rattle.sc_elab.proofs.Parts.{judged_ty}
 
 module _ (goes : Ty → ExprTree → Bool) where

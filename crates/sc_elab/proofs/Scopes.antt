@@ -1,16 +1,5 @@
 -- Variables and members are found by their names' first places.
-use Rattle.std.proofs.Common.{◌≡◌, ℕ, suc, Bool, cond, List, [], ◌∷◌, map, position, slice_get, Option, None, Some, refl, sym, ap, ◌∙◌}
-use Rattle.std.specs.Option.{option_map, option_and_then}
-use Rattle.std.specs.Prelude.{bytes_eq}
-use Rattle.sc_core.specs.declared.ty.Ty.{Ty}
-use Rattle.std.proofs.lemmas.Option.{slice_get-map}
-use Rattle.sc_core.specs.declared.expr.VarRef.{VarRef}
-use Rattle.sc_core.specs.declared.section.TypedParam.{TypedParam}
-use Rattle.sc_core.specs.declared.section.TypedStruct.{TypedStruct}
-use Rattle.sc_base.specs.Numbering.{number_of}
-use Rattle.sc_elab.specs.Scopes.{Found, found_in, member_named}
-use Rattle.sc_elab.specs.Placed.{placed, variable_names, member_names}
-use Rattle.sc_base.proofs.Lists.{position-cons}
+use Rattle.sc_elab.proofs.Common.{Bool, Found, List, None, Option, Some, Ty, TypedParam, TypedStruct, VarRef, [], ap, bytes_eq, cond, found_in, map, member_named, member_names, number_of, option_and_then, option_map, placed, position, position-cons, refl, slice_get, slice_get-map, suc, sym, variable_names, ℕ, ◌∙◌, ◌∷◌, ◌≡◌}
 
 pub position-map : {A B : Type 0} (f : A → B) (p : B → Bool) (xs : List A) →
     position p (map f xs) ≡ position (λ x. p (f x)) xs

@@ -1,20 +1,10 @@
 -- What statements are in a function's body, form by form.
-use Rattle.std.proofs.Common.{◌≡◌, List, map, Option, None, Some, refl, rules}
-use Rattle.sc_ast.specs.declared.expr.ExprTree.{ExprTree}
-use Rattle.sc_ast.specs.declared.expr.CallTree.{CallTree}
+use Rattle.sc_elab.proofs.Common.{CallTree, ExprTree, FunctionScope, List, None, Option, SectionScope, SimpleTree, Some, StmtKind, StmtTree, args_in, call_in, called, expr_in, going_to_some, kind_in, map, params_of, part_in, refl, returned_in, rules, simple_in, stmt_in, value_in, ◌≡◌}
 use Rattle.sc_ast.specs.declared.stmt.SimpleKind.TheVariants as simple_tree
-use Rattle.sc_ast.specs.declared.stmt.SimpleTree.{SimpleTree}
-use Rattle.sc_ast.specs.declared.stmt.StmtTree.{StmtTree}
 use Rattle.sc_ast.specs.declared.stmt.StmtTree as trees
 use Rattle.sc_ast.specs.declared.stmt.StmtKind as tree
-use Rattle.sc_ast.specs.declared.stmt.StmtKind.{StmtKind}
 use Rattle.sc_core.specs.declared.stmt.TypedSimpleKind.TheVariants as simple
 use Rattle.sc_core.specs.declared.stmt.TypedStmtKind as typed
-use Rattle.sc_elab.specs.declared.scope.SectionScope.{SectionScope}
-use Rattle.sc_elab.specs.declared.scope.FunctionScope.{FunctionScope}
-use Rattle.sc_elab.specs.Statements.{params_of, going_to_some}
-use Rattle.sc_elab.specs.Called.{called}
-use Rattle.sc_elab.specs.Seen.{expr_in, value_in, returned_in, args_in, call_in, simple_in, part_in, kind_in, stmt_in}
 
 module _ (section : SectionScope) (function : FunctionScope) where
   pub call_is : (call : CallTree) → call_in section function call ≡

@@ -1,33 +1,9 @@
 -- What a function sees suits the scope that its statements are judged in.
-use Rattle.std.proofs.Common.{◌≡◌, ℕ, zero, suc, ◌+◌, Bool, true, false, ◌&&◌, ◌||◌, ◌==◌, List, [], ◌∷◌, ◌++◌, map, take, position, is_some, Option, Some, None, refl, sym, ap, ◌∙◌, arith, true≢false}
-use Rattle.std.specs.Prelude.{bytes_eq, slice_get}
-use Rattle.std.specs.List.{list_any}
-use Rattle.std.specs.Option.{option_map, option_and_then}
-use Rattle.std.proofs.lemmas.Bool.{ne_eqb}
-use Rattle.std.proofs.Math.Bool.{and-false}
-use Rattle.std.proofs.lemmas.Option.{slice_get-map}
-use Rattle.sc_base.proofs.Lists.{map_twice}
+use Rattle.sc_elab.proofs.Common.{BaseTy, Bool, Found, FunctionTree, GlobalTree, List, MemberTree, None, Option, Scope, SectionTree, Some, StructTree, Suits, Ty, TypedMember, TypedParam, TypedStruct, VarRef, Visible, [], and-false, ap, arith, base_of, bytes_eq, end_of_member, false, found, found_in, global_variable, globals_in, has_member, is_some, is_type, list_any, local_variable, map, map_twice, members_from, ne_eqb, no_ty, option_and_then, option_map, or_else, position, refl, same_base, same_ty, scope_in, slice_get, slice_get-map, starred, structs_in, suc, sym, take, true, true≢false, type_of, type_of_name, type_with, typed_param, typed_struct, typed_structs, variable_ty, visible_in, zero, ℕ, ◌&&◌, ◌++◌, ◌+◌, ◌==◌, ◌||◌, ◌∙◌, ◌∷◌, ◌≡◌}
 use Rattle.sc_ast.specs.declared.types.TypeTree.{TypeTree}
-use Rattle.sc_ast.specs.declared.section.MemberTree.{MemberTree}
-use Rattle.sc_ast.specs.declared.section.StructTree.{StructTree}
-use Rattle.sc_ast.specs.declared.section.GlobalTree.{GlobalTree}
-use Rattle.sc_ast.specs.declared.section.FunctionTree.{FunctionTree}
-use Rattle.sc_ast.specs.declared.section.SectionTree.{SectionTree}
-use Rattle.sc_core.specs.declared.ty.Ty.{Ty}
-use Rattle.sc_core.specs.declared.ty.BaseTy.{BaseTy}
 use Rattle.sc_core.specs.declared.ty.BaseTy.TheVariants as base
-use Rattle.sc_core.specs.declared.expr.VarRef.{VarRef}
 use Rattle.sc_core.specs.declared.expr.VarRef.TheVariants as var
-use Rattle.sc_core.specs.declared.section.TypedStruct.{TypedStruct}
-use Rattle.sc_core.specs.declared.section.TypedMember.{TypedMember}
-use Rattle.sc_core.specs.declared.section.TypedParam.{TypedParam}
-use Rattle.sc_core.specs.Typing.{Scope, starred, same_ty, same_base, is_type, variable_ty, has_member}
-use Rattle.sc_scope.specs.Declarations.{structs_in, globals_in}
-use Rattle.sc_elab.specs.Scopes.{Visible, Found, found, found_in, or_else}
-use Rattle.sc_elab.specs.Expressions.{no_ty}
-use Rattle.sc_elab.specs.Sections.{base_of, type_of_name, type_with, type_of, members_from, end_of_member, typed_struct, typed_structs, typed_param, local_variable, global_variable, visible_in, scope_in}
 use Rattle.sc_elab.specs.Sections as sections
-use Rattle.sc_elab.specs.Judging.{Suits}
 use Rattle.sc_elab.proofs.Parts.{same_ty-refl}
 
 module _ (tags : List (List ℕ)) where

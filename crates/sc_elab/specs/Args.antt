@@ -1,6 +1,6 @@
 -- Helping: the types of parameters, one after another.
+use Rattle.sc_elab.specs.Common.{Ty}
 use Rattle.std.specs.Prelude.{List, [], ◌∷◌, Option, Some, None}
-use Rattle.sc_core.specs.declared.ty.Ty.{Ty}
 
 abbrev pub first_of : List Ty → Option Ty
 first_of [] = None

@@ -1,19 +1,7 @@
 -- What the names of calls stand for in a section.
+use Rattle.sc_elab.specs.Common.{CallTarget, Decl, FunctionTree, HeadTree, Import, ImportLine, Own, SectionTree, Signature, StructTree, functions_in, head_of, heads_in, number_of}
 use Rattle.std.specs.Prelude.{◌≡◌, ℕ, List, ◌++◌, map, Option, Some, None, slice_get}
 use Rattle.std.specs.Option.{option_and_then}
-use Rattle.sc_base.specs.Numbering.{number_of}
-use Rattle.sc_core.specs.declared.expr.CallTarget.{CallTarget}
-use Rattle.sc_core.specs.declared.expr.CallTarget.TheVariants.{Own}
-use Rattle.sc_core.specs.Typing.{Signature}
-use Rattle.sc_event.specs.declared.interface.Import.{Import}
-use Rattle.sc_ast.specs.declared.section.Decl.{Decl}
-use Rattle.sc_ast.specs.declared.section.StructTree.{StructTree}
-use Rattle.sc_ast.specs.declared.section.FunctionTree.{FunctionTree}
-use Rattle.sc_ast.specs.declared.section.HeadTree.{HeadTree}
-use Rattle.sc_ast.specs.declared.section.ImportLine.{ImportLine}
-use Rattle.sc_ast.specs.declared.section.SectionTree.{SectionTree}
-use Rattle.sc_ast.specs.Heads.{head_of}
-use Rattle.sc_scope.specs.Declarations.{functions_in, heads_in}
 use Rattle.sc_elab.specs.Sections.{target_or, signature_by, import_target}
 use Rattle.sc_elab.specs.Statements as statements
 use Rattle.sc_elab.specs.declared.callees.Callees.{Callees}

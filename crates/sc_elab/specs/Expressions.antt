@@ -1,25 +1,18 @@
 -- Expressions with their types (C11 6.5). Where an expression breaks the rules of types, it gets some type that doesn't
 -- fit.
+use Rattle.sc_elab.specs.Common.{ExprTree, ExprTree-F, Global, Number, Ty, TypedExpr, TypedMember, common, decayed, fold-ExprTree, fold-TypedExpr, is_pointer, pointer_to, target}
 use Rattle.std.specs.Prelude.{ℕ, zero, Bool, true, false, ◌&&◌, if◌then◌else◌, Option, Some, None}
 use Rattle.std.specs.Option.{option_map_or}
-use Rattle.sc_ast.specs.Numbers.{Number}
 use Rattle.sc_base.specs.declared.op.UnaryOp.{UnaryOp}
 use Rattle.sc_base.specs.declared.op.UnaryOp.TheVariants as unary
 use Rattle.sc_base.specs.declared.op.BinaryOp.{BinaryOp}
 use Rattle.sc_base.specs.declared.op.BinaryOp.TheVariants as op
-use Rattle.sc_ast.specs.declared.expr.ExprTree.{ExprTree, ExprTree-F, fold-ExprTree}
 use Rattle.sc_ast.specs.declared.expr.ExprTree.TheOpen as tree
-use Rattle.sc_core.specs.declared.ty.Ty.{Ty}
 use Rattle.sc_core.specs.declared.ty.Ty.TheVariants as ty
 use Rattle.sc_core.specs.declared.ty.BaseTy.TheVariants as base
-use Rattle.sc_core.specs.declared.expr.VarRef.TheVariants.{Global}
-use Rattle.sc_core.specs.declared.expr.TypedExpr.{TypedExpr, fold-TypedExpr}
 use Rattle.sc_core.specs.declared.expr.TypedKind
 use Rattle.sc_core.specs.declared.expr.TypedKind.{TypedKind-F}
 use Rattle.sc_core.specs.declared.expr.TypedKind.TheOpen as term
-use Rattle.sc_core.specs.declared.section.TypedMember.{TypedMember}
-use Rattle.sc_core.specs.Types.{is_pointer}
-use Rattle.sc_core.specs.Typing.{decayed, target, pointer_to, common}
 use Rattle.sc_elab.specs.Scopes.{Visible, Found, found, member_named, struct_of}
 
 -- the type of what isn't there: a pointer without a `*`, which nothing has, so that nothing fits it

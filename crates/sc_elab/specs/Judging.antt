@@ -1,11 +1,7 @@
 -- Helping: how expressions are judged while they are built.
+use Rattle.sc_elab.specs.Common.{ExprTree, Scope, StmtKind, StmtTree, Ty, fold-StmtKind, goes_into, has_member, is_type, judged, variable_ty}
 use Rattle.std.specs.Prelude.{◌≡◌, ℕ, Bool, true, false, ◌&&◌, List, [], ◌∷◌, Option, Some, None, slice_get}
-use Rattle.sc_ast.specs.declared.stmt.StmtKind.{StmtKind, fold-StmtKind}
-use Rattle.sc_ast.specs.declared.stmt.StmtTree.{StmtTree}
-use Rattle.sc_core.specs.declared.ty.Ty.{Ty}
-use Rattle.sc_core.specs.Typing.{Scope, is_type, variable_ty, has_member, judged, goes_into}
 use Rattle.sc_elab.specs.Scopes.{Visible, Found, found}
-use Rattle.sc_ast.specs.declared.expr.ExprTree.{ExprTree}
 use Rattle.sc_elab.specs.Expressions.{no_ty, typed, going_to}
 use Rattle.sc_elab.specs.Statements.{Callees, kind_lines}
 

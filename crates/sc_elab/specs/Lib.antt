@@ -1,3 +1,5 @@
+pub mod Common
+pub mod Prelude
 pub mod Args
 pub mod Called
 pub mod Expressions

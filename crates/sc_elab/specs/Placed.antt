@@ -1,11 +1,7 @@
 -- Helping: variables and members by their names' first places.
+use Rattle.sc_elab.specs.Common.{Ty, TypedMember, TypedParam, TypedStruct, number_of}
 use Rattle.std.specs.Prelude.{ℕ, List, map, Option, slice_get}
 use Rattle.std.specs.Option.{option_map, option_and_then}
-use Rattle.sc_core.specs.declared.ty.Ty.{Ty}
-use Rattle.sc_core.specs.declared.section.TypedMember.{TypedMember}
-use Rattle.sc_core.specs.declared.section.TypedParam.{TypedParam}
-use Rattle.sc_core.specs.declared.section.TypedStruct.{TypedStruct}
-use Rattle.sc_base.specs.Numbering.{number_of}
 
 abbrev pub variable_names : List TypedParam → List (List ℕ)
 variable_names variables = map {A = TypedParam} (λ variable. variable.name) variables

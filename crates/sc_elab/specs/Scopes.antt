@@ -1,13 +1,9 @@
 -- The variables and the functions that names stand for in a function's body (C11 6.2.1).
+use Rattle.sc_elab.specs.Common.{Global, Local, Param, Ty, TypedMember, TypedParam, TypedStruct}
 use Rattle.std.specs.Prelude.{ℕ, List, map, position, slice_get, Option, Some, None, bytes_eq}
 use Rattle.std.specs.Option.{option_map, option_and_then}
-use Rattle.sc_core.specs.declared.ty.Ty.{Ty}
 use Rattle.sc_core.specs.declared.ty.Ty.TheVariants as ty
 use Rattle.sc_core.specs.declared.expr.VarRef.{VarRef}
-use Rattle.sc_core.specs.declared.expr.VarRef.TheVariants.{Global, Param, Local}
-use Rattle.sc_core.specs.declared.section.TypedStruct.{TypedStruct}
-use Rattle.sc_core.specs.declared.section.TypedMember.{TypedMember}
-use Rattle.sc_core.specs.declared.section.TypedParam.{TypedParam}
 
 -- the structs of the section and, each with its type, the variables that have names at a place of a function, in order
 pub record Visible : Type 0 where

@@ -1,52 +1,28 @@
 -- Sections and programs with their types, and the lines of the declarations that break the rules of types.
+use Rattle.sc_elab.specs.Common.{CallTarget, Cross, Decl, ExprTree, FunctionTree, HeadTree, Import, ImportLine, Input, LocalTree, Output, Own, Scope, SectionTree, Signature, StructTree, Ty, TypedExpr, TypedLocal, TypedMember, TypedParam, TypedStruct, cells_of, function_named, function_names, functions_in, globals_in, head_of, heads_in, import_of, init_fits, interfaces_of, limited, line_of_text, number_of, number_or_zero, starred, struct_names, structs_in, unless}
 use Rattle.std.specs.Prelude.{ℕ, zero, suc, ◌+◌, ◌-◌, ◌%◌, ◌^◌, Bool, true, false, ◌&&◌, not, nat_eq, nat_le, bytes_eq, List, [], ◌∷◌, ◌++◌, length, map, take, Option, Some, None, if◌then◌else◌}
 use Rattle.std.specs.List.{concat, list_all}
 use Rattle.std.specs.Option.{option_map, option_map_or}
-use Rattle.sc_event.specs.declared.interface.Import.{Import}
 use Rattle.sc_event.specs.declared.interface.Import.TheVariants as import
-use Rattle.sc_base.specs.Numbering.{number_of}
-use Rattle.sc_ast.specs.declared.expr.ExprTree.{ExprTree}
 use Rattle.sc_ast.specs.declared.types.BaseTree.{BaseTree}
 use Rattle.sc_ast.specs.declared.types.BaseTree.TheVariants as base_tree
 use Rattle.sc_ast.specs.declared.types.TypeTree.{TypeTree}
 use Rattle.sc_ast.specs.declared.types.TypeName.{TypeName}
 use Rattle.sc_ast.specs.declared.section.MemberTree.{MemberTree}
-use Rattle.sc_ast.specs.declared.section.StructTree.{StructTree}
 use Rattle.sc_ast.specs.declared.section.ConstTree.{ConstTree}
 use Rattle.sc_ast.specs.declared.section.InitTree.{InitTree}
 use Rattle.sc_ast.specs.declared.section.InitTree.TheVariants.{Absent, One, Many}
 use Rattle.sc_ast.specs.declared.section.GlobalTree.{GlobalTree}
 use Rattle.sc_ast.specs.declared.section.ParamTree.{ParamTree}
-use Rattle.sc_ast.specs.declared.section.HeadTree.{HeadTree}
 use Rattle.sc_ast.specs.declared.section.FunctionParam.{FunctionParam}
-use Rattle.sc_ast.specs.declared.section.LocalTree.{LocalTree}
-use Rattle.sc_ast.specs.declared.section.FunctionTree.{FunctionTree}
-use Rattle.sc_ast.specs.declared.section.ImportLine.{ImportLine}
-use Rattle.sc_ast.specs.declared.section.SectionTree.{SectionTree}
-use Rattle.sc_ast.specs.declared.section.Decl.{Decl}
 use Rattle.sc_ast.specs.declared.section.Decl.TheVariants.{Struct, Global, Function}
-use Rattle.sc_ast.specs.Heads.{head_of}
-use Rattle.sc_ast.specs.Height.{limited}
-use Rattle.sc_core.specs.declared.ty.Ty.{Ty}
 use Rattle.sc_core.specs.declared.ty.Ty.TheVariants as ty
 use Rattle.sc_core.specs.declared.ty.BaseTy.{BaseTy}
 use Rattle.sc_core.specs.declared.ty.BaseTy.TheVariants as base
-use Rattle.sc_core.specs.declared.expr.TypedExpr.{TypedExpr}
-use Rattle.sc_core.specs.declared.expr.CallTarget.{CallTarget}
-use Rattle.sc_core.specs.declared.expr.CallTarget.TheVariants.{Own, Cross, Input, Output}
-use Rattle.sc_core.specs.declared.section.TypedMember.{TypedMember}
-use Rattle.sc_core.specs.declared.section.TypedStruct.{TypedStruct}
 use Rattle.sc_core.specs.declared.section.TypedGlobal.{TypedGlobal}
-use Rattle.sc_core.specs.declared.section.TypedParam.{TypedParam}
-use Rattle.sc_core.specs.declared.section.TypedLocal.{TypedLocal}
 use Rattle.sc_core.specs.declared.section.TypedFunction.{TypedFunction}
 use Rattle.sc_core.specs.declared.section.TypedSection.{TypedSection}
 use Rattle.sc_core.specs.declared.program.ProgramTree.{ProgramTree}
-use Rattle.sc_core.specs.Types.{cells_of}
-use Rattle.sc_core.specs.Typing.{Scope, Signature, starred, init_fits}
-use Rattle.sc_scope.specs.Broken.{unless, line_of_text}
-use Rattle.sc_scope.specs.Declarations.{structs_in, globals_in, functions_in, heads_in, struct_names, function_names}
-use Rattle.sc_scope.specs.Interfaces.{number_or_zero, import_of, interfaces_of, function_named}
 use Rattle.sc_elab.specs.Scopes.{Visible}
 use Rattle.sc_elab.specs.Expressions.{typed, going_to}
 use Rattle.sc_elab.specs.Statements.{Callees, typed_stmt, stmt_lines}

@@ -1,11 +1,7 @@
 -- Helping: what stands for the declarations of a section while its functions are built.
+use Rattle.sc_elab.specs.Common.{FunctionTree, LocalTree, SectionTree, TypedLocal, globals_in}
 use Rattle.std.specs.Prelude.{◌≡◌, ℕ, map, take}
 use Rattle.std.specs.Option.{option_map}
-use Rattle.sc_ast.specs.declared.section.SectionTree.{SectionTree}
-use Rattle.sc_ast.specs.declared.section.FunctionTree.{FunctionTree}
-use Rattle.sc_ast.specs.declared.section.LocalTree.{LocalTree}
-use Rattle.sc_core.specs.declared.section.TypedLocal.{TypedLocal}
-use Rattle.sc_scope.specs.Declarations.{globals_in}
 use Rattle.sc_elab.specs.Sections.{type_of, global_variable, typed_param, local_variable, result_of}
 use Rattle.sc_elab.specs.Sections as sections
 use Rattle.sc_elab.specs.declared.scope.SectionScope.{SectionScope}

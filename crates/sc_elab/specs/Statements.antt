@@ -1,28 +1,12 @@
 -- Statements with their types, and the lines of those that break the rules of types (C11 6.8).
+use Rattle.sc_elab.specs.Common.{CallTarget, CallTree, ExprTree, Judged, Scope, Signature, SimpleKind, SimpleTree, StmtKind-F, StmtTree, StmtTree-F, Ty, TypedCall, TypedExpr, TypedSimple, TypedSimpleKind, TypedStmt, TypedStmtKind, all_hold, args_fit, assign_fits, fold-StmtTree, is_scalar, is_target, judged, result_goes, returned_fits, unless}
 use Rattle.std.specs.Prelude.{ℕ, Bool, false, ◌&&◌, not, List, [], ◌∷◌, ◌++◌, map, Option, Some, None, is_some}
 use Rattle.std.specs.List.{concat}
 use Rattle.std.specs.Option.{option_map}
-use Rattle.sc_base.specs.Rules.{all_hold}
-use Rattle.sc_ast.specs.declared.expr.ExprTree.{ExprTree}
-use Rattle.sc_ast.specs.declared.expr.CallTree.{CallTree}
-use Rattle.sc_ast.specs.declared.stmt.SimpleKind.{SimpleKind}
 use Rattle.sc_ast.specs.declared.stmt.SimpleKind.TheVariants as simple_tree
-use Rattle.sc_ast.specs.declared.stmt.SimpleTree.{SimpleTree}
-use Rattle.sc_ast.specs.declared.stmt.StmtTree.{StmtTree, StmtTree-F, fold-StmtTree}
-use Rattle.sc_ast.specs.declared.stmt.StmtKind.{StmtKind-F}
 use Rattle.sc_ast.specs.declared.stmt.StmtKind.TheOpen as tree
-use Rattle.sc_core.specs.declared.ty.Ty.{Ty}
-use Rattle.sc_core.specs.declared.expr.TypedExpr.{TypedExpr}
-use Rattle.sc_core.specs.declared.expr.TypedCall.{TypedCall}
-use Rattle.sc_core.specs.declared.expr.CallTarget.{CallTarget}
-use Rattle.sc_core.specs.declared.stmt.TypedStmt.{TypedStmt}
 use Rattle.sc_core.specs.declared.stmt.TypedStmtKind as typed_kind
-use Rattle.sc_core.specs.declared.stmt.TypedStmtKind.{TypedStmtKind}
-use Rattle.sc_core.specs.declared.stmt.TypedSimple.{TypedSimple}
-use Rattle.sc_core.specs.declared.stmt.TypedSimpleKind.{TypedSimpleKind}
 use Rattle.sc_core.specs.declared.stmt.TypedSimpleKind.TheVariants as simple
-use Rattle.sc_core.specs.Typing.{Scope, Judged, Signature, judged, is_scalar, assign_fits, args_fit, is_target, result_goes, returned_fits}
-use Rattle.sc_scope.specs.Broken.{unless}
 use Rattle.sc_elab.specs.Scopes.{Visible}
 use Rattle.sc_elab.specs.Expressions.{typed, going_to}
 

@@ -1,10 +1,7 @@
 //! Whom a section calls by name.
 
+ghost use Rattle.sc_elab.specs.Prelude.{CallsIn, calling_heads, function_name, function_signature, functions_in, head_name, head_of, heads_in, import_line_name, import_target, param_of, param_ty, signature_by};
 ghost use Rattle.std.specs.Prelude.{◌≡◌, ◌++◌, ◌∷◌, [], map, IfOk, OnOk};
-ghost use Rattle.sc_ast.specs.Heads.{param_of, head_of};
-ghost use Rattle.sc_scope.specs.Declarations.{functions_in, heads_in};
-ghost use Rattle.sc_elab.specs.Sections.{param_ty, signature_by, import_target};
-ghost use Rattle.sc_elab.specs.Called.{function_name, head_name, import_line_name, function_signature, calling_heads, CallsIn};
 
 use crate::callees::{Callees, Signature};
 use crate::tree_ty::{type_of_name, type_of_result};

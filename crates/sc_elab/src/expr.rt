@@ -1,9 +1,6 @@
+ghost use Rattle.sc_elab.specs.Prelude.{Scope, Suits, beside, binary_typed, decayed, expr_in, going_to, is_address, is_zero, judged, literal_typed, member_offset, member_ty, no_ty, or_int, pointer_to, target, unary_ty, variable_typed, visible};
 ghost use Rattle.std.specs.Prelude.{◌≡◌, ◌&&◌, true, false, is_some, IfOk};
-ghost use Rattle.sc_elab.specs.Expressions.{is_zero, going_to, beside, literal_typed, no_ty, variable_typed, binary_typed, unary_ty, or_int, member_ty, member_offset};
-ghost use Rattle.sc_core.specs.Typing.{Scope, decayed, target, pointer_to, is_address, judged};
 ghost use Rattle.sc_core.specs.declared.expr.TypedKind;
-ghost use Rattle.sc_elab.specs.Judging.{Suits};
-ghost use Rattle.sc_elab.specs.Seen.{expr_in, visible};
 
 use crate::judged::{Judged, binary_fits, literal_fits, unary_fits};
 use crate::scope::{FunctionScope, SectionScope, found};

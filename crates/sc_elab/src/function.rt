@@ -1,11 +1,8 @@
 //! Functions.
 
+ghost use Rattle.sc_elab.specs.Prelude.{Stands, StandsIn, called, local_in, local_variable, result_of, type_of, type_of_name, typed_function, typed_locals, typed_param, value_in};
 ghost use Rattle.std.specs.Prelude.{◌≡◌, ◌++◌, ◌∷◌, [], length, map, IfOk};
 ghost use Rattle.std.specs.Option.{option_map};
-ghost use Rattle.sc_elab.specs.Sections.{typed_param, local_variable, type_of, type_of_name, typed_locals, typed_function, result_of};
-ghost use Rattle.sc_elab.specs.Called.{called};
-ghost use Rattle.sc_elab.specs.Seen.{value_in};
-ghost use Rattle.sc_elab.specs.Stands.{Stands, StandsIn, local_in};
 
 use crate::scope::{FunctionScope, SectionScope};
 use crate::stmt::{build_stmts, build_value};

@@ -1,8 +1,7 @@
 //! Globals and what they begin with.
 
+ghost use Rattle.sc_elab.specs.Prelude.{global_variable, globals_in, init_words, typed_global, word_of_const};
 ghost use Rattle.std.specs.Prelude.{◌≡◌, ◌-◌, ◌%◌, ◌^◌, ◌++◌, ◌∷◌, [], map, IfOk};
-ghost use Rattle.sc_scope.specs.Declarations.{globals_in};
-ghost use Rattle.sc_elab.specs.Sections.{word_of_const, init_words, typed_global, global_variable};
 
 use crate::tree_ty::type_of;
 use crate::variables::Variables;

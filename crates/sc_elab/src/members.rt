@@ -1,11 +1,7 @@
 //! Structs with their offsets.
 
+ghost use Rattle.sc_elab.specs.Prelude.{cells_from, cells_of, limited, member_names, members_from, names_of, structs_in, typed_struct, typed_structs};
 ghost use Rattle.std.specs.Prelude.{◌≡◌, ◌+◌, ◌∷◌, [], IfOk};
-ghost use Rattle.sc_ast.specs.Height.{limited};
-ghost use Rattle.sc_core.specs.Types.{cells_of};
-ghost use Rattle.sc_scope.specs.Declarations.{structs_in};
-ghost use Rattle.sc_elab.specs.Sections.{members_from, cells_from, typed_struct, typed_structs};
-ghost use Rattle.sc_elab.specs.Placed.{member_names, names_of};
 
 use crate::structs::Structs;
 use crate::tree_ty::type_of;

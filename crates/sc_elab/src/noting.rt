@@ -1,13 +1,8 @@
 //! The lines at which the rules of types are broken.
 
+ghost use Rattle.sc_elab.specs.Prelude.{Scope, Suits, called, lines_at, part_lines, stmt_lines, visible, with_lines};
 ghost use Rattle.std.specs.Prelude.{◌≡◌, ◌++◌, List, OnOk, map};
 ghost use Rattle.std.specs.List.{concat};
-ghost use Rattle.sc_core.specs.Typing.{Scope};
-ghost use Rattle.sc_scope.specs.Broken.{with_lines};
-ghost use Rattle.sc_elab.specs.Called.{called};
-ghost use Rattle.sc_elab.specs.Judging.{Suits, lines_at};
-ghost use Rattle.sc_elab.specs.Seen.{visible};
-ghost use Rattle.sc_elab.specs.Statements.{part_lines, stmt_lines};
 
 use crate::rules::Place;
 use sc_ast::{SimpleTree, StmtKind, StmtTree, Stmts};

@@ -1,6 +1,5 @@
+ghost use Rattle.sc_elab.specs.Prelude.{callees_of, interfaces_of, program_of, sections_from, typed_section};
 ghost use Rattle.std.specs.Prelude.{◌≡◌, slice_get, Some, IfOk};
-ghost use Rattle.sc_scope.specs.Interfaces.{interfaces_of};
-ghost use Rattle.sc_elab.specs.Sections.{typed_section, callees_of, sections_from, program_of};
 
 use crate::section::build_section;
 use sc_ast::SectionTree;

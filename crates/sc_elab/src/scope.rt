@@ -1,6 +1,5 @@
+ghost use Rattle.sc_elab.specs.Prelude.{found, visible};
 ghost use Rattle.std.specs.Prelude.{◌≡◌};
-ghost use Rattle.sc_elab.specs.Scopes.{found};
-ghost use Rattle.sc_elab.specs.Seen.{visible};
 
 use crate::callees::Callees;
 use crate::structs::Structs;

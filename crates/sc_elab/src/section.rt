@@ -1,12 +1,8 @@
 //! Sections.
 
+ghost use Rattle.sc_elab.specs.Prelude.{CallsIn, Stands, called, callees_of, functions_in, import_of, struct_name, struct_names, structs_in, typed_function, typed_section};
 ghost use Rattle.std.specs.Prelude.{◌≡◌, ℕ, ◌++◌, ◌∷◌, [], List, map, IfOk, OnOk};
 ghost use Rattle.sc_ast.specs.declared.section.SectionTree.{SectionTree};
-ghost use Rattle.sc_scope.specs.Declarations.{structs_in, functions_in, struct_names};
-ghost use Rattle.sc_scope.specs.Interfaces.{import_of};
-ghost use Rattle.sc_elab.specs.Sections.{typed_function, typed_section, callees_of};
-ghost use Rattle.sc_elab.specs.Called.{called, CallsIn, struct_name};
-ghost use Rattle.sc_elab.specs.Stands.{Stands};
 
 use crate::calls::build_callees;
 use crate::function::build_function;

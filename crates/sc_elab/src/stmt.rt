@@ -1,12 +1,7 @@
+ghost use Rattle.sc_elab.specs.Prelude.{Scope, Suits, args_in, call_in, called, expr_in, first_of, going_to_some, judged, kind_in, params_of, part_in, rest_of, returned_in, simple_in, stmt_in, value_in, visible};
 ghost use Rattle.std.specs.Prelude.{◌≡◌, ◌++◌, ◌∷◌, [], map, drop, IfOk};
-ghost use Rattle.sc_elab.specs.Statements.{going_to_some, params_of};
 ghost use Rattle.sc_ast.specs.declared.stmt.StmtKind;
 ghost use Rattle.sc_core.specs.declared.stmt.TypedStmtKind;
-ghost use Rattle.sc_elab.specs.Called.{called};
-ghost use Rattle.sc_elab.specs.Args.{first_of, rest_of};
-ghost use Rattle.sc_core.specs.Typing.{Scope, judged};
-ghost use Rattle.sc_elab.specs.Judging.{Suits};
-ghost use Rattle.sc_elab.specs.Seen.{visible, expr_in, value_in, returned_in, args_in, call_in, simple_in, part_in, kind_in, stmt_in};
 
 use crate::callees::{Callees, Signature};
 use crate::expr::{Built, build_expr, going_to};

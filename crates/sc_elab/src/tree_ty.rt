@@ -1,8 +1,8 @@
 //! The types that declarations write.
 
+ghost use Rattle.sc_elab.specs.Prelude.{base_of, type_of, type_of_name};
 ghost use Rattle.std.specs.Prelude.{◌≡◌};
 ghost use Rattle.std.specs.Option.{option_map};
-ghost use Rattle.sc_elab.specs.Sections.{base_of, type_of_name, type_of};
 
 use sc_ast::{BaseTree, TypeName, TypeTree};
 use sc_base::NameList;

@@ -1,7 +1,7 @@
 //! The types that operators give. There is no memory for a type with more than 18446744073709551615 `*`.
 
+ghost use Rattle.sc_elab.specs.Prelude.{binary_ty, moved_ty, unary_ty};
 ghost use Rattle.std.specs.Prelude.{◌≡◌, IfOk};
-ghost use Rattle.sc_elab.specs.Expressions.{moved_ty, binary_ty, unary_ty};
 
 use sc_base::{BinaryOp, OutOfMemory, UnaryOp};
 use sc_core::Ty;

@@ -1,15 +1,9 @@
 //! The phase of types: the lines of a text at which its rules of types are broken.
 
+ghost use Rattle.sc_elab.specs.Prelude.{Scope, Stands, StandsIn, Suits, called, callees_of, decl_lines, function_lines, global_lines, init_goes, init_holds, is_sized, line_of_text, locals_from, noted_all, refused_at, section_lines, struct_lines, type_of, types_broken, unless, visible, with_lines};
 ghost use Rattle.std.specs.Prelude.{◌≡◌, ◌&&◌, [], length, map, OnOk, IfOk};
 ghost use Rattle.std.specs.List.{concat, list_all};
 ghost use Rattle.sc_ast.specs.declared.section.MemberTree.{MemberTree};
-ghost use Rattle.sc_core.specs.Typing.{Scope};
-ghost use Rattle.sc_scope.specs.Broken.{line_of_text, noted_all, refused_at, unless, with_lines};
-ghost use Rattle.sc_elab.specs.Called.{called};
-ghost use Rattle.sc_elab.specs.Judging.{Suits, init_goes};
-ghost use Rattle.sc_elab.specs.Sections.{is_sized, init_holds, type_of, callees_of, locals_from, function_lines, global_lines, struct_lines, decl_lines, section_lines, types_broken};
-ghost use Rattle.sc_elab.specs.Seen.{visible};
-ghost use Rattle.sc_elab.specs.Stands.{Stands, StandsIn};
 
 use crate::function::{head_scope, with_local};
 use crate::rules::{Place, init_holds, is_sized};

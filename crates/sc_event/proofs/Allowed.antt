@@ -1,16 +1,5 @@
 -- What is known at each event of the walk through a trace.
-use Rattle.std.proofs.Common.{◌≡◌, ℕ, suc, ◌+◌, ◌-◌, ◌<◌, Bool, true, false, ◌&&◌, List, [], ◌∷◌, length, get_or, drop, Option, Some, None, IfSome, refl, sym, ap, ◌∙◌, arith}
-use Rattle.std.proofs.lemmas.Bool.{false≢true, and_parts, eq-eqb, ne_eqb}
-use Rattle.std.proofs.lemmas.List.{drop_more, length-drop}
-use Rattle.std.proofs.lemmas.Option.{slice_get-get_or}
-use Rattle.std.specs.Prelude.{◌==◌, slice_get}
-use Rattle.std.specs.Option.{option_and_then}
-use Rattle.sc_event.specs.declared.event.Event.{Event}
-use Rattle.sc_event.specs.declared.event.Event.TheVariants.{Call, Ret, Out, In, End}
-use Rattle.sc_event.specs.declared.interface.Interfaces.{Interfaces}
-use Rattle.sc_event.specs.Legal.{awaits, may_return, may_perform, is_allowed, is_end, is_legal_from, legal}
-use Rattle.sc_event.specs.OpenCall.{open_after, StandsBy}
-use Rattle.sc_event.specs.Standing.{Activation, Standing, resumed, stands_after, performer}
+use Rattle.sc_event.proofs.Common.{Activation, Bool, Call, End, Event, IfSome, In, Interfaces, List, None, Option, Out, Ret, Some, Standing, StandsBy, [], and_parts, ap, arith, awaits, drop, drop_more, eq-eqb, false, false≢true, get_or, is_allowed, is_end, is_legal_from, legal, length, length-drop, may_perform, may_return, ne_eqb, open_after, option_and_then, performer, refl, resumed, slice_get, slice_get-get_or, stands_after, suc, sym, true, ℕ, ◌&&◌, ◌+◌, ◌-◌, ◌<◌, ◌==◌, ◌∙◌, ◌∷◌, ◌≡◌}
 use Rattle.sc_event.proofs.OpenCalls.{standing, standing_next, after_by}
 
 -- all events before a place were allowed, and the run goes on there

@@ -1,17 +1,11 @@
 -- Traces that are legal and traces that are not, and what one compartment does in a trace that comes back to it.
-use Rattle.std.proofs.Common.{◌≡◌, ℕ, true, false, List, [], ◌∷◌, ◌++◌, Some, None, codes, refl}
+use Rattle.sc_event.proofs.Common.{Call, End, Event, In, Interfaces, List, None, Out, Ret, Some, [], codes, count_of, event_line, false, legal, part, refl, true, ℕ, ◌++◌, ◌∷◌, ◌≡◌}
 use Rattle.std.specs.Fmt.{digits}
-use Rattle.sc_event.specs.declared.event.Event.{Event}
-use Rattle.sc_event.specs.declared.event.Event.TheVariants.{Call, Ret, Out, In, End}
 use Rattle.sc_event.specs.declared.interface.Import.TheVariants.{Output, Function}
-use Rattle.sc_event.specs.declared.interface.Interfaces.{Interfaces}
 use Rattle.sc_event.specs.declared.interface.Proto.{Proto}
 use Rattle.sc_event.specs.declared.interface.Scalar.TheVariants.{Int}
 use Rattle.sc_event.specs.declared.row.Action.TheVariants as actions
 use Rattle.sc_event.specs.declared.row.Entry.TheVariants.{Main, Export}
-use Rattle.sc_event.specs.Legal.{legal}
-use Rattle.sc_event.specs.Line.{event_line}
-use Rattle.sc_event.specs.Part.{part, count_of}
 
 abbrev function : List ℕ → Proto
 function name = record { name = name; params = Int ∷ []; result = Some Int }

@@ -1,17 +1,8 @@
 -- The numbers of a legal trace's events stand for something.
-use Rattle.std.proofs.Common.{◌≡◌, ℕ, Bool, true, false, All, List, [], ◌∷◌, length, Option, Some, None, IsSome, refl, sym, subst}
-use Rattle.std.proofs.lemmas.Bool.{false≢true, and_parts, eqb-true}
+use Rattle.sc_event.proofs.Common.{Activation, All, Bool, Call, End, Event, In, Interfaces, IsKnown, IsSome, List, None, Option, Out, Ret, Some, Standing, [], and_parts, at_start, awaits, comp_at, eqb-true, export_at, false, false≢true, imports, is_allowed, is_function, is_legal_from, legal, length, may_perform, may_return, option_and_then, option_map_or, performer, refl, resumed, slice_get, stands_after, subst, sym, takes, true, ℕ, ◌==◌, ◌∷◌, ◌≡◌}
 use Rattle.std.proofs.lemmas.List.Elements.{All-from_recursion}
-use Rattle.std.specs.Prelude.{◌==◌, slice_get}
 use Rattle.std.specs.List.{AllByRecursion}
-use Rattle.std.specs.Option.{option_and_then, option_map_or}
-use Rattle.sc_event.specs.declared.event.Event.{Event}
-use Rattle.sc_event.specs.declared.event.Event.TheVariants.{Call, Ret, Out, In, End}
-use Rattle.sc_event.specs.declared.interface.Interfaces.{Interfaces}
 use Rattle.sc_event.specs.declared.interface.Interface.{Interface}
-use Rattle.sc_event.specs.Legal.{imports, is_function, takes, may_return, awaits, may_perform, is_allowed, is_legal_from, legal}
-use Rattle.sc_event.specs.Lookup.{comp_at, export_at, IsKnown}
-use Rattle.sc_event.specs.Standing.{Activation, Standing, at_start, resumed, stands_after, performer}
 
 -- what a test found of it is there
 there : {A : Type 0} (o : Option A) (test : A → Bool) → option_map_or test o false ≡ true → IsSome o

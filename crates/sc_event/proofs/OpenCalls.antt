@@ -1,14 +1,5 @@
 -- The open call that is found in a trace is the one by which the run stands where it stands.
-use Rattle.std.proofs.Common.{◌≡◌, ℕ, zero, suc, ◌+◌, ◌<◌, ◌≤◌, List, [], ◌∷◌, ◌++◌, length, get_or, take, Option, Some, None, IfSome, refl, sym, ap, subst, ◌∙◌, arith}
-use Rattle.std.proofs.lemmas.List.{take_more}
-use Rattle.std.proofs.lemmas.Option.{none-some, slice_get-get_or, slice_get_within, get_or_from_slice_get}
-use Rattle.std.specs.Prelude.{◌==◌, slice_get}
-use Rattle.std.specs.Option.{option_and_then, option_map_or}
-use Rattle.sc_event.specs.declared.event.Event.{Event}
-use Rattle.sc_event.specs.declared.event.Event.TheVariants.{Call, Ret, Out, In, End}
-use Rattle.sc_event.specs.Legal.{awaits}
-use Rattle.sc_event.specs.OpenCall.{returned_before, here_or, open_call, open_after, HasEntered, StandsBy}
-use Rattle.sc_event.specs.Standing.{Standing, at_start, resumed, stands_after, stands_behind}
+use Rattle.sc_event.proofs.Common.{Call, End, Event, HasEntered, IfSome, In, List, None, Option, Out, Ret, Some, Standing, StandsBy, [], ap, arith, at_start, awaits, get_or, get_or_from_slice_get, here_or, length, none-some, open_after, open_call, option_and_then, option_map_or, refl, resumed, returned_before, slice_get, slice_get-get_or, slice_get_within, stands_after, stands_behind, subst, suc, sym, take, take_more, zero, ℕ, ◌++◌, ◌+◌, ◌<◌, ◌==◌, ◌∙◌, ◌∷◌, ◌≡◌, ◌≤◌}
 
 same_count : (a b : ℕ) → ◌≡◌ {A = Option ℕ} (Some a) (Some b) → a ≡ b
 same_count a b e = ap (λ o. option_map_or (λ n. n) o a) e

@@ -1,12 +1,6 @@
 -- A compartment's next row is its next event: what the rows are behind the events that it has performed.
-use Rattle.std.proofs.Common.{◌≡◌, ℕ, suc, ◌+◌, Bool, true, false, cond, List, [], ◌∷◌, ◌++◌, length, drop, Option, Some, None, ap, subst, ◌∙◌, arith, if◌then◌else◌}
-use Rattle.std.proofs.lemmas.Option.{none-some}
-use Rattle.std.specs.Prelude.{◌==◌, filter}
-use Rattle.std.specs.Option.{option_map_or}
-use Rattle.sc_event.specs.declared.event.Event.{Event}
+use Rattle.sc_event.proofs.Common.{Bool, Event, List, None, Option, Some, Standing, [], action_of, ap, arith, at_start, cond, count_of, drop, false, filter, if◌then◌else◌, length, none-some, option_map_or, part, performer, rows_from, stands_after, stands_behind, subst, suc, true, ℕ, ◌++◌, ◌+◌, ◌==◌, ◌∙◌, ◌∷◌, ◌≡◌}
 use Rattle.sc_event.specs.declared.row.Row.{Row}
-use Rattle.sc_event.specs.Part.{action_of, rows_from, part, count_of}
-use Rattle.sc_event.specs.Standing.{Standing, at_start, stands_after, stands_behind, performer}
 
 -- the row of an event that happens where the run stands
 abbrev pub row_of : Standing → (number : ℕ) → Event → Row

@@ -1,3 +1,4 @@
+pub mod Prelude
 pub mod Legal
 pub mod Line
 pub mod Lookup

@@ -1,11 +1,11 @@
 -- The line that tells an event.
+use Rattle.sc_base.specs.Prelude.{signed_text}
 use Rattle.std.specs.Prelude.{ℕ, List, [], ◌∷◌, ◌++◌, flat_map, codes}
 use Rattle.std.specs.Option.{option_map_or, option_to_list}
 use Rattle.sc_event.specs.declared.event.Event.{Event}
 use Rattle.sc_event.specs.declared.event.Event.TheVariants.{Call, Ret, Out, In, End}
 use Rattle.sc_event.specs.declared.interface.Interfaces.{Interfaces}
 use Rattle.sc_event.specs.Lookup.{comp_at, export_at}
-use Rattle.sc_base.specs.Word.{signed_text}
 
 -- the names that the numbers stand for
 abbrev pub comp_name : Interfaces → ℕ → List ℕ

@@ -1,8 +1,7 @@
+ghost use Rattle.sc_event.specs.Prelude.{comp_at, export_at, fits_result, imports, imports_of, is_function, is_input, is_output, may_return, takes};
 ghost use Rattle.std.specs.Prelude.{◌≡◌};
 ghost use Rattle.sc_event.specs.declared.row.Entry.TheVariants.{Export};
-ghost use Rattle.sc_event.specs.Legal.{imports, imports_of, is_input, is_output, is_function, takes, may_return, fits_result};
 ghost use Rattle.std.specs.Option.{option_copied};
-ghost use Rattle.sc_event.specs.Lookup.{comp_at, export_at};
 
 use crate::{CompId, Name, Params};
 use sqlite_items::Items;

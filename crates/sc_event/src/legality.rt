@@ -1,9 +1,7 @@
 //! Whether the interfaces allow a trace.
 
+ghost use Rattle.sc_event.specs.Prelude.{Standing, StandsBy, awaits, is_allowed, is_end, legal, may_perform, may_return, open_after, open_call, returned_before};
 ghost use Rattle.std.specs.Prelude.{◌≡◌, ℕ, ◌+◌, ◌^◌, ◌≤◌, ◌<◌, length, IfSome};
-ghost use Rattle.sc_event.specs.Legal.{legal, is_end, is_allowed, may_perform, may_return, awaits};
-ghost use Rattle.sc_event.specs.OpenCall.{returned_before, open_call, open_after, StandsBy};
-ghost use Rattle.sc_event.specs.Standing.{Standing};
 
 use crate::{CompId, Entry, Event, Interfaces};
 

@@ -1,8 +1,7 @@
 //! The lines that tell events.
 
+ghost use Rattle.sc_event.specs.Prelude.{IsKnown, comp_at, comp_name, event_line, export_at, export_name, line, spaced_names, spaced_words};
 ghost use Rattle.std.specs.Prelude.{◌≡◌, ◌++◌, codes, IsSome, IfOk, OnOk};
-ghost use Rattle.sc_event.specs.Lookup.{comp_at, export_at, IsKnown};
-ghost use Rattle.sc_event.specs.Line.{comp_name, export_name, spaced_names, spaced_words, line, event_line};
 
 use crate::{CompId, Event, Interfaces, Name, OutOfMemory, Text};
 use std::alloc::Global;

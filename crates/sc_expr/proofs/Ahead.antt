@@ -1,27 +1,12 @@
 -- What stands at the front, where reading says so.
-use Rattle.std.proofs.Common.{◌≡◌, ℕ, ◌≤◌, ◌<◌, true, cond, leb, List, [], ◌∷◌, Option, Some, None, refl, sym, ap, ◌∙◌, subst, arith, rules, ⊎_elim}
-use Rattle.std.specs.Option.{option_map}
-use Rattle.std.proofs.lemmas.Option.{none-some, cond_some}
-use Rattle.std.proofs.lemmas.Bool.{leb-true, le-leb, cases_lt}
-use Rattle.sc_base.specs.declared.op.BinaryOp.{BinaryOp}
+use Rattle.sc_expr.proofs.Common.{BinaryOp, Extension, IsIdent, IsMark, Lead, Lexeme, List, Mark, None, Option, Prefix, Some, Symbol, [], ap, arith, behind, binary_of, cases_lt, cond, cond_some, extension_at, extension_by, extension_level, extension_of, extension_within, is_mark, le-leb, lead_by, lead_of, leb, leb-true, level_of, name_at, name_by, none-some, option_map, prefix_of, refl, rules, subst, sym, true, within, ℕ, ⊎_elim, ◌<◌, ◌∙◌, ◌∷◌, ◌≡◌, ◌≤◌}
 use Rattle.sc_base.specs.declared.op.BinaryOp.TheVariants as binary
 use Rattle.sc_expr.specs.contracts.mark.Mark.{the_type}
 use denote.Enum.Bare.{same_true}
-use Rattle.sc_expr.specs.declared.mark.Mark.{Mark}
 use Rattle.sc_expr.specs.declared.mark.Mark.TheVariants as mark
-use Rattle.sc_expr.specs.declared.operator.Prefix.{Prefix}
-use Rattle.sc_expr.specs.declared.operator.Extension.{Extension}
 use Rattle.sc_expr.specs.declared.operator.Extension.TheVariants as extension
-use Rattle.sc_expr.specs.declared.lexeme.Symbol.{Symbol}
 use Rattle.sc_expr.specs.declared.lexeme.Symbol.TheVariants as symbol
-use Rattle.sc_expr.specs.declared.lexeme.Lexeme.{Lexeme}
-use Rattle.sc_expr.specs.declared.parser.Lead.{Lead}
 use Rattle.sc_expr.specs.declared.parser.Lead.TheVariants as lead
-use Rattle.sc_base.specs.Levels.{level_of}
-use Rattle.sc_expr.specs.Marks.{binary_of, prefix_of, extension_of, extension_level}
-use Rattle.sc_expr.specs.Grammar.{IsMark, IsIdent}
-use Rattle.sc_expr.specs.Fronts.{is_mark, behind, extension_by, extension_at}
-use Rattle.sc_expr.specs.Reading.{within, extension_within, lead_by, lead_of, name_by, name_at}
 use Rattle.sc_expr.proofs.Options.{same_some, bound}
 
 -- every operator between operands is looser than the prefix operators

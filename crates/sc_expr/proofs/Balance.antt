@@ -1,17 +1,7 @@
 -- Brackets along lexemes that spell an expression: behind them as many are open as before.
-use Rattle.std.proofs.Common.{◌≡◌, ℕ, ◌+◌, ◌-◌, ◌≤◌, max, List, [], ◌∷◌, ◌++◌, Some, refl, ap, ◌∙◌, arith}
-use Rattle.std.proofs.lemmas.Option.{none-some}
-use Rattle.sc_base.specs.declared.op.BinaryOp.{BinaryOp}
-use Rattle.sc_ast.specs.declared.expr.ExprTree.{ExprTree}
-use Rattle.sc_expr.specs.declared.mark.Mark.{Mark}
+use Rattle.sc_expr.proofs.Common.{BinaryOp, ExprTree, Lexeme, List, Mark, Prefix, Some, Spells, Symbol, [], ap, arith, arrow, binary_of, index, joined, literal, looser, max, member, most_open, none-some, open_after, open_behind, parenthesised, prefix_of, refl, variable, «prefix», ℕ, ◌++◌, ◌+◌, ◌-◌, ◌∙◌, ◌∷◌, ◌≡◌, ◌≤◌}
 use Rattle.sc_expr.specs.declared.mark.Mark.TheVariants as mark
-use Rattle.sc_expr.specs.declared.operator.Prefix.{Prefix}
-use Rattle.sc_expr.specs.declared.lexeme.Symbol.{Symbol}
 use Rattle.sc_expr.specs.declared.lexeme.Symbol.TheVariants as symbol
-use Rattle.sc_expr.specs.declared.lexeme.Lexeme.{Lexeme}
-use Rattle.sc_expr.specs.Marks.{binary_of, prefix_of}
-use Rattle.sc_expr.specs.Brackets.{open_behind, open_after, most_open}
-use Rattle.sc_expr.specs.Grammar.{Spells, literal, variable, parenthesised, index, member, arrow, «prefix», joined, looser}
 
 -- how many brackets are open behind lexemes
 abbrev pub count_after : ℕ → List Lexeme → ℕ

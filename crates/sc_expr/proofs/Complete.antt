@@ -1,27 +1,10 @@
 -- What is spelled within the limits is read.
-use Rattle.std.proofs.Common.{◌≡◌, ℕ, zero, suc, ◌+◌, ◌-◌, ◌≤◌, ◌<◌, max, cond, List, [], ◌∷◌, ◌++◌, Option, Some, None, refl, sym, ap, ◌∙◌, subst, append_assoc, arith}
-use Rattle.std.specs.Option.{option_map}
-use Rattle.std.proofs.lemmas.Option.{none-some}
-use Rattle.std.proofs.lemmas.Bool.{le-leb, lt-leb}
-use Rattle.sc_ast.specs.Height.{expr_height}
-use Rattle.sc_base.specs.declared.op.BinaryOp.{BinaryOp}
-use Rattle.sc_ast.specs.declared.expr.ExprTree.{ExprTree}
+use Rattle.sc_expr.proofs.Common.{BinaryOp, ExprTree, Extension, IsIdent, IsMark, Lexeme, List, Mark, None, Option, Prefix, Reader, Some, Spells, Symbol, [], ap, append_assoc, arith, arrow, cond, expr_height, extended_with, extension_at, extension_by, extension_level, extension_of, extension_within, found, go_on, index, joined, le-leb, lead_by, lead_of, leaf_of, level_of, literal, looser, lt-leb, max, member, most_open, none-some, operand_with, option_map, parenthesised, prefix_of, prefixed, read, read_nested, refl, subst, suc, sym, variable, within, zero, «prefix», ℕ, ◌++◌, ◌+◌, ◌-◌, ◌<◌, ◌∙◌, ◌∷◌, ◌≡◌, ◌≤◌}
 use Rattle.sc_ast.specs.declared.expr.ExprTree.TheVariants as expr
-use Rattle.sc_expr.specs.declared.mark.Mark.{Mark}
 use Rattle.sc_expr.specs.declared.mark.Mark.TheVariants as mark
-use Rattle.sc_expr.specs.declared.operator.Prefix.{Prefix}
-use Rattle.sc_expr.specs.declared.operator.Extension.{Extension}
 use Rattle.sc_expr.specs.declared.operator.Extension.TheVariants as extension
-use Rattle.sc_expr.specs.declared.lexeme.Symbol.{Symbol}
 use Rattle.sc_expr.specs.declared.lexeme.Symbol.TheVariants as symbol
-use Rattle.sc_expr.specs.declared.lexeme.Lexeme.{Lexeme}
 use Rattle.sc_expr.specs.declared.parser.Lead.TheVariants as lead
-use Rattle.sc_base.specs.Levels.{level_of}
-use Rattle.sc_expr.specs.Marks.{prefix_of, prefixed, extension_of, extension_level}
-use Rattle.sc_expr.specs.Brackets.{most_open}
-use Rattle.sc_expr.specs.Grammar.{Spells, literal, variable, parenthesised, index, member, arrow, «prefix», joined, looser, IsMark, IsIdent}
-use Rattle.sc_expr.specs.Fronts.{extension_by, extension_at}
-use Rattle.sc_expr.specs.Reading.{found, Reader, leaf_of, lead_by, lead_of, within, extension_within, operand_with, extended_with, go_on, read, read_nested}
 use Rattle.sc_expr.proofs.Options.{same_some}
 use Rattle.sc_expr.proofs.Heights.{literal_height, variable_height, prefixed_height, joined_height, index_height, member_height, arrow_height, positive}
 use Rattle.sc_expr.proofs.Balance.{says, plain_binary, plain_prefix, open_low, most_behind, most_bracketed, most_plain}

@@ -1,15 +1,8 @@
 -- The height of each form of expression.
-use Rattle.std.proofs.Common.{◌≡◌, ℕ, ◌+◌, ◌≤◌, max, List, rules, arith}
-use Rattle.sc_ast.specs.Numbers.{Number}
-use Rattle.sc_ast.specs.Height.{expr_height}
-use Rattle.sc_base.specs.declared.op.BinaryOp.{BinaryOp}
-use Rattle.sc_ast.specs.declared.expr.ExprTree.{ExprTree, the_lemmas}
+use Rattle.sc_expr.proofs.Common.{BinaryOp, ExprTree, Lexeme, List, Number, Prefix, Spells, arith, arrow, expr_height, index, joined, literal, looser, max, member, parenthesised, prefixed, rules, variable, «prefix», ℕ, ◌+◌, ◌≡◌, ◌≤◌}
+use Rattle.sc_ast.specs.declared.expr.ExprTree.{the_lemmas}
 use Rattle.sc_ast.specs.declared.expr.ExprTree.TheVariants as expr
-use Rattle.sc_expr.specs.declared.lexeme.Lexeme.{Lexeme}
-use Rattle.sc_expr.specs.declared.operator.Prefix.{Prefix}
 use Rattle.sc_expr.specs.declared.operator.Prefix.TheVariants as prefix
-use Rattle.sc_expr.specs.Marks.{prefixed}
-use Rattle.sc_expr.specs.Grammar.{Spells, literal, variable, parenthesised, index, member, arrow, «prefix», joined, looser}
 
 pub literal_height : (number : Number) → expr_height (expr.Literal number) ≡ 1
 literal_height number = search (rules, the_lemmas)

@@ -1,7 +1,5 @@
 -- What an answer that is there came from.
-use Rattle.std.proofs.Common.{◌≡◌, Bool, true, false, cond, Option, Some, None, refl, ap}
-use Rattle.std.proofs.lemmas.Option.{none-some}
-use Rattle.sc_expr.specs.Reading.{◌>>=◌}
+use Rattle.sc_expr.proofs.Common.{Bool, None, Option, Some, ap, cond, false, none-some, refl, true, ◌>>=◌, ◌≡◌}
 
 abbrev out : {A : Type 0} → A → Option A → A
 out other None = other

@@ -1,27 +1,10 @@
 -- What is read is spelled so, and within the limits.
-use Rattle.std.proofs.Common.{◌≡◌, ℕ, zero, suc, ◌+◌, ◌-◌, ◌≤◌, ◌<◌, max, true, leb, List, [], ◌∷◌, ◌++◌, Option, Some, None, refl, sym, ap, ap₂, ◌∙◌, subst, append_assoc, ⊎_elim, arith}
-use Rattle.std.proofs.lemmas.Option.{none-some}
-use Rattle.std.proofs.lemmas.Bool.{leb-true, cases_lt}
-use Rattle.sc_ast.specs.Height.{expr_height}
-use Rattle.sc_base.specs.declared.op.BinaryOp.{BinaryOp}
-use Rattle.sc_ast.specs.declared.expr.ExprTree.{ExprTree}
+use Rattle.sc_expr.proofs.Common.{BinaryOp, ExprTree, Extension, Found, IsMark, Lead, Lexeme, List, Mark, None, Option, Prefix, Reader, Some, Spells, Symbol, [], ap, append_assoc, ap₂, arith, arrow, behind, cases_lt, expr_height, extended_with, extension_at, extension_by, extension_level, extension_within, found, go_on, index, joined, joined_with, lead_of, lead_with, leaf_at, leaf_of, leb, leb-true, level_of, level_with, literal, looser, max, member, most_open, name_at, named_with, none-some, open_behind, operand_with, paren_with, parenthesised, prefix_of, prefix_with, read, read_within, refl, subst, suc, sym, true, turn_with, variable, zero, «prefix», ℕ, ⊎_elim, ◌++◌, ◌+◌, ◌-◌, ◌<◌, ◌∙◌, ◌∷◌, ◌≡◌, ◌≤◌}
 use Rattle.sc_ast.specs.declared.expr.ExprTree.TheVariants as expr
-use Rattle.sc_expr.specs.declared.mark.Mark.{Mark}
 use Rattle.sc_expr.specs.declared.mark.Mark.TheVariants as mark
-use Rattle.sc_expr.specs.declared.operator.Prefix.{Prefix}
-use Rattle.sc_expr.specs.declared.operator.Extension.{Extension}
 use Rattle.sc_expr.specs.declared.operator.Extension.TheVariants as extension
-use Rattle.sc_expr.specs.declared.lexeme.Symbol.{Symbol}
 use Rattle.sc_expr.specs.declared.lexeme.Symbol.TheVariants as symbol
-use Rattle.sc_expr.specs.declared.lexeme.Lexeme.{Lexeme}
-use Rattle.sc_expr.specs.declared.parser.Lead.{Lead}
 use Rattle.sc_expr.specs.declared.parser.Lead.TheVariants as lead
-use Rattle.sc_base.specs.Levels.{level_of}
-use Rattle.sc_expr.specs.Marks.{prefix_of, extension_level}
-use Rattle.sc_expr.specs.Brackets.{open_behind, most_open}
-use Rattle.sc_expr.specs.Grammar.{Spells, literal, variable, parenthesised, index, member, arrow, «prefix», joined, looser, IsMark}
-use Rattle.sc_expr.specs.Fronts.{behind, extension_by, extension_at}
-use Rattle.sc_expr.specs.Reading.{Found, found, Reader, leaf_of, leaf_at, lead_of, name_at, named_with, extension_within, paren_with, prefix_with, lead_with, operand_with, joined_with, extended_with, turn_with, go_on, level_with, read_within, read}
 use Rattle.sc_expr.proofs.Options.{same_some, bound, cond_is}
 use Rattle.sc_expr.proofs.Heights.{literal_height, variable_height, prefixed_height, joined_height, index_height, member_height, arrow_height}
 use Rattle.sc_expr.proofs.Balance.{says, plain_binary, plain_prefix, most_behind, most_bracketed, most_plain}

@@ -1,11 +1,5 @@
 -- What reading is at a level of height, at a bracket, and at a turn.
-use Rattle.std.proofs.Common.{◌≡◌, ℕ, zero, suc, ◌+◌, ◌<◌, List, Option, Some, None, refl, ap, ◌∙◌, arith}
-use Rattle.sc_expr.specs.declared.lexeme.Lexeme.{Lexeme}
-use Rattle.sc_expr.specs.declared.fault.SyntaxFault.{SyntaxFault}
-use Rattle.sc_expr.specs.declared.fault.SyntaxFault.TheVariants.{Refused, OutOfMemory}
-use Rattle.sc_expr.specs.declared.operator.Extension.{Extension}
-use Rattle.sc_expr.specs.Fronts.{Fails}
-use Rattle.sc_expr.specs.Reading.{Found, Reader, level_with, read_within, read, read_nested, operand_with, extended_with, extension_within, go_on, ◌>>=◌}
+use Rattle.sc_expr.proofs.Common.{Extension, Fails, Found, Lexeme, List, None, Option, OutOfMemory, Reader, Refused, Some, SyntaxFault, ap, arith, extended_with, extension_within, go_on, level_with, operand_with, read, read_nested, read_within, refl, suc, zero, ℕ, ◌+◌, ◌<◌, ◌>>=◌, ◌∙◌, ◌≡◌}
 
 pub one_level : (free room level : ℕ) (ts : List Lexeme) →
     read free (suc room) level ts ≡ level_with (read_nested free) (read free room) room level ts

@@ -1,16 +1,6 @@
 -- Reading gives exactly the fronts within the limits, and lexemes spell one expression at most.
-use Rattle.std.proofs.Common.{◌≡◌, ℕ, ◌-◌, ◌≤◌, ◌<◌, max, Result, Ok, Err, IfOk, IsErrOf, Bor, List, [], Some, None, sym, ap, ◌∙◌, subst, arith}
-use Rattle.std.proofs.lemmas.Option.{none-some}
-use Rattle.sc_ast.specs.Height.{expr_height}
-use Rattle.sc_ast.specs.declared.expr.ExprTree.{ExprTree}
-use Rattle.sc_expr.specs.declared.lexeme.Lexeme.{Lexeme}
-use Rattle.sc_expr.specs.Brackets.{most_open}
-use Rattle.sc_expr.specs.Grammar.{Spells}
-use Rattle.sc_expr.specs.declared.fault.SyntaxFault.{SyntaxFault}
-use Rattle.sc_expr.specs.declared.fault.SyntaxFault.TheVariants.{Refused}
+use Rattle.sc_expr.proofs.Common.{Agrees, Bor, Err, ExprTree, Found, IfOk, IsErrOf, IsFront, Lexeme, List, None, Ok, Refused, Result, Some, Spells, SyntaxFault, [], ap, arith, expr_height, found, max, most_open, none-some, read, read_expr, subst, sym, ℕ, ◌-◌, ◌<◌, ◌∙◌, ◌≡◌, ◌≤◌}
 use Rattle.sc_expr.specs.declared.parser.Built.{Built}
-use Rattle.sc_expr.specs.Fronts.{Agrees, IsFront}
-use Rattle.sc_expr.specs.Reading.{Found, found, read, read_expr}
 use Rattle.sc_expr.proofs.Options.{same_some}
 use Rattle.sc_expr.proofs.Balance.{open_low}
 use Rattle.sc_expr.proofs.Sound.{read_sound}

@@ -1,15 +1,12 @@
 -- The grammar of expressions (C11 6.5.1 to 6.5.14).
+use Rattle.sc_expr.specs.Common.{BinaryOp, ExprTree, Number, level_of, loosest_level, postfix_level, unary_level}
 use Rattle.std.specs.Prelude.{◌≡◌, ℕ, suc, List, [], ◌∷◌, ◌++◌, Some}
-use Rattle.sc_ast.specs.Numbers.{Number}
-use Rattle.sc_ast.specs.declared.expr.ExprTree.{ExprTree}
 use Rattle.sc_ast.specs.declared.expr.ExprTree.TheVariants as expr
-use Rattle.sc_base.specs.declared.op.BinaryOp.{BinaryOp}
 use Rattle.sc_expr.specs.declared.mark.Mark.{Mark}
 use Rattle.sc_expr.specs.declared.mark.Mark.TheVariants as mark
 use Rattle.sc_expr.specs.declared.operator.Prefix.{Prefix}
 use Rattle.sc_expr.specs.declared.lexeme.Symbol.TheVariants as symbol
 use Rattle.sc_expr.specs.declared.lexeme.Lexeme.{Lexeme}
-use Rattle.sc_base.specs.Levels.{postfix_level, unary_level, loosest_level, level_of}
 use Rattle.sc_expr.specs.Marks.{binary_of, prefix_of, prefixed}
 
 -- the lexeme is this mark

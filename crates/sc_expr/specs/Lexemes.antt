@@ -1,12 +1,8 @@
 -- What tokens say.
+use Rattle.sc_expr.specs.Common.{Number, ident_of, name_of, number_of}
+use Rattle.sc_lex.specs.Prelude.{heading_name, integer_of, words}
 use Rattle.std.specs.Prelude.{ℕ, bytes_eq, codes, List, [], ◌∷◌, get_or, slice_range, Option, Some, None, if◌then◌else◌}
 use Rattle.std.specs.Option.{option_map, option_and_then}
-use Rattle.sc_base.specs.Identifier.{name_of}
-use Rattle.sc_ast.specs.Identifiers.{ident_of}
-use Rattle.sc_ast.specs.Numbers.{Number, number_of}
-use Rattle.sc_lex.specs.Words.{words}
-use Rattle.sc_lex.specs.Headings.{heading_name}
-use Rattle.sc_lex.specs.Integers.{integer_of}
 use Rattle.sc_lex.specs.declared.token.Token.{Token}
 use Rattle.sc_lex.specs.declared.token.TokenKind.{TokenKind}
 use Rattle.sc_lex.specs.declared.token.TokenKind.TheVariants as kind

@@ -1,3 +1,5 @@
+pub mod Common
+pub mod Prelude
 pub mod Marks
 pub mod Brackets
 pub mod Grammar

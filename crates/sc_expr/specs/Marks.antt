@@ -1,10 +1,9 @@
 -- What marks mean between, before and behind expressions.
+use Rattle.sc_expr.specs.Common.{BinaryOp, ExprTree, level_of, postfix_level}
 use Rattle.std.specs.Prelude.{ℕ, Option, Some, None}
 use Rattle.std.specs.Option.{option_map}
-use Rattle.sc_ast.specs.declared.expr.ExprTree.{ExprTree}
 use Rattle.sc_ast.specs.declared.expr.ExprTree.TheVariants as expr
 use Rattle.sc_base.specs.declared.op.UnaryOp.TheVariants as unary
-use Rattle.sc_base.specs.declared.op.BinaryOp.{BinaryOp}
 use Rattle.sc_base.specs.declared.op.BinaryOp.TheVariants as binary
 use Rattle.sc_expr.specs.declared.mark.Mark.{Mark}
 use Rattle.sc_expr.specs.declared.mark.Mark.TheVariants as mark
@@ -12,7 +11,6 @@ use Rattle.sc_expr.specs.declared.operator.Prefix.{Prefix}
 use Rattle.sc_expr.specs.declared.operator.Prefix.TheVariants as prefix
 use Rattle.sc_expr.specs.declared.operator.Extension.{Extension}
 use Rattle.sc_expr.specs.declared.operator.Extension.TheVariants as extension
-use Rattle.sc_base.specs.Levels.{postfix_level, level_of}
 
 -- the operator that a mark is between two operands
 abbrev pub binary_of : Mark → Option BinaryOp

@@ -1,7 +1,7 @@
 -- Helping: reading an expression from the front of a list, with so many brackets and levels of height left.
+use Rattle.sc_expr.specs.Common.{ExprTree, level_of, loosest_level, unary_level}
 use Rattle.std.specs.Prelude.{ℕ, zero, suc, ◌+◌, ◌-◌, max, nat_le, List, [], ◌∷◌, Option, Some, None, if◌then◌else◌}
 use Rattle.std.specs.Option.{option_map}
-use Rattle.sc_ast.specs.declared.expr.ExprTree.{ExprTree}
 use Rattle.sc_ast.specs.declared.expr.ExprTree.TheVariants as expr
 use Rattle.sc_expr.specs.declared.mark.Mark.{Mark}
 use Rattle.sc_expr.specs.declared.mark.Mark.TheVariants as mark
@@ -13,7 +13,6 @@ use Rattle.sc_expr.specs.declared.lexeme.Symbol.TheVariants as symbol
 use Rattle.sc_expr.specs.declared.lexeme.Lexeme.{Lexeme}
 use Rattle.sc_expr.specs.declared.parser.Lead.{Lead}
 use Rattle.sc_expr.specs.declared.parser.Lead.TheVariants as lead
-use Rattle.sc_base.specs.Levels.{unary_level, loosest_level, level_of}
 use Rattle.sc_expr.specs.Marks.{prefix_of, prefixed, extension_level}
 use Rattle.sc_expr.specs.Fronts.{behind, extension_at}
 

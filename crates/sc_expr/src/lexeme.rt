@@ -1,8 +1,6 @@
+ghost use Rattle.sc_expr.specs.Prelude.{Agrees, AreSpans, behind, is_mark, lexeme_of};
 ghost use Rattle.std.specs.Prelude.{◌≡◌, ◌+◌, ◌++◌, [], ◌∷◌, length, map, IfOk, OnOk};
 ghost use Rattle.sc_expr.specs.declared.fault.SyntaxFault.TheVariants.{Refused};
-ghost use Rattle.sc_lex.specs.Spans.{AreSpans};
-ghost use Rattle.sc_expr.specs.Lexemes.{lexeme_of};
-ghost use Rattle.sc_expr.specs.Fronts.{Agrees, is_mark, behind};
 
 use crate::fault::SyntaxFault;
 use crate::mark::{Keyword, Mark};

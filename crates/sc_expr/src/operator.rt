@@ -1,6 +1,5 @@
+ghost use Rattle.sc_expr.specs.Prelude.{binary_of, extension_level, extension_of, level_of, prefix_of, prefixed};
 ghost use Rattle.std.specs.Prelude.{◌≡◌, ◌<◌, ◌-◌};
-ghost use Rattle.sc_base.specs.Levels.{level_of};
-ghost use Rattle.sc_expr.specs.Marks.{binary_of, prefix_of, prefixed, extension_of, extension_level};
 
 use crate::mark::Mark;
 use sc_ast::ExprTree;

@@ -1,15 +1,12 @@
 //! Reading an expression: an operand, then in one loop all that goes on behind it.
 
+ghost use Rattle.sc_expr.specs.Prelude.{Agrees, IsFront, Spells, extended_with, extension_by, extension_within, found, joined_with, lead_by, lead_of, leaf_at, leaf_of, loosest_level, name_by, named_with, operand_with, paren_with, prefix_with, read, read_expr, read_nested, unary_level};
+ghost use Rattle.sc_ast.specs.Prelude.{expr_height};
 ghost use Rattle.std.specs.Prelude.{◌≡◌, ℕ, ◌<◌, ◌≤◌, ◌+◌, ◌-◌, ◌^◌, List, IfOk, IsErrOf, Some};
 ghost use Rattle.std.specs.Option.{option_map};
-ghost use Rattle.sc_ast.specs.Height.{expr_height};
 ghost use Rattle.sc_ast.specs.declared.expr.ExprTree.{ExprTree};
-ghost use Rattle.sc_base.specs.Levels.{unary_level, loosest_level};
-ghost use Rattle.sc_expr.specs.Fronts.{Agrees, IsFront, extension_by};
-ghost use Rattle.sc_expr.specs.Reading.{found, leaf_of, lead_by, lead_of, name_by, leaf_at, extension_within, named_with, paren_with, prefix_with, operand_with, extended_with, joined_with, read, read_nested, read_expr};
 ghost use Rattle.sc_ast.specs.declared.expr.ExprTree.TheVariants as expr;
 ghost use Rattle.sc_expr.specs.declared.operator.Extension.TheVariants.{Operator, Index};
-ghost use Rattle.sc_expr.specs.Grammar.{Spells};
 ghost use Rattle.sc_expr.specs.declared.fault.SyntaxFault.TheVariants.{Refused};
 ghost use Rattle.sc_expr.specs.declared.lexeme.Lexeme.{Lexeme};
 

@@ -1,11 +1,8 @@
 //! Tokens as lexemes.
 
+ghost use Rattle.sc_expr.specs.Prelude.{IsSpan, fourth_word, ident_in, import_of, keyword_of, look_up, mark_of, name_of, number_in, says, symbol_of, third_word, words};
 ghost use Rattle.std.specs.Prelude.{◌≡◌, [], get_or, map};
 ghost use Rattle.std.specs.Option.{option_map};
-ghost use Rattle.sc_base.specs.Identifier.{name_of};
-ghost use Rattle.sc_lex.specs.Words.{words};
-ghost use Rattle.sc_lex.specs.Spans.{IsSpan};
-ghost use Rattle.sc_expr.specs.Lexemes.{look_up, mark_of, keyword_of, number_in, ident_in, third_word, fourth_word, import_of, says, symbol_of};
 
 use crate::lexeme::Symbol;
 use crate::mark::{Keyword, Mark};

@@ -1,13 +1,8 @@
 -- Frames have room: ranges that stand one behind the other don't meet.
-use Rattle.std.proofs.Common.{◌≡◌, ◌≤◌, inl, ℕ, zero, suc, ◌+◌, ◌*◌, ◌%◌, List, [], ◌∷◌, ◌++◌, map, length, refl, sym, ap, subst, arith}
-use Rattle.std.specs.Prelude.{All, AllPairs, zip}
-use Rattle.std.specs.List.{range_with_len}
+use Rattle.sc_frame.proofs.Common.{All, AllPairs, Apart, HasRoom, IsFrame, List, Range, [], ap, arith, end_of, frame_of, inl, length, length-map-range_with_len, map, object_range, offsets_from, range_with_len, ranges_of, refl, slots_of, subst, suc, sym, total, word_at, zero, zip, ℕ, ◌%◌, ◌*◌, ◌++◌, ◌+◌, ◌∷◌, ◌≡◌, ◌≤◌}
 use Rattle.std.proofs.lemmas.List.Elements.{All-nil, All-cons}
 use Rattle.std.proofs.lemmas.List.Kept.{AllPairs-cons}
-use Rattle.std.proofs.lemmas.List.FromFn.{length-map-range_with_len}
-use Rattle.sc_core.specs.Sizes.{total}
 use Rattle.sc_tac.specs.declared.place.Place.{Place}
-use Rattle.sc_tac.specs.Frames.{IsFrame, slots_of, offsets_from, frame_of, Range, end_of, word_at, object_range, ranges_of, Apart, HasRoom}
 
 -- from one number to another, each range begins where the one before ended
 abbrev Stacked : ℕ → List Range → ℕ → Type 0

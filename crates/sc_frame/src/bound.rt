@@ -1,5 +1,5 @@
+ghost use Rattle.sc_core.specs.Prelude.{frame_bound};
 ghost use Rattle.std.specs.Prelude.{◌≤◌, ◌↔◌, IsTrue};
-ghost use Rattle.sc_core.specs.Sizes.{frame_bound};
 
 use sc_tac::TacFn;
 

@@ -1,8 +1,7 @@
+ghost use Rattle.sc_core.specs.Prelude.{frame_bound, total};
+ghost use Rattle.sc_tac.specs.Prelude.{HasRoom, frame_of, is_place, offsets_from, slots_of, slots_up_to};
 ghost use Rattle.std.specs.Prelude.{◌≡◌, ◌≤◌, ◌<◌, ◌+◌, ◌*◌, map, length, IfOk, IsTrue};
 ghost use Rattle.std.specs.List.{list_all, range_with_len};
-ghost use Rattle.sc_core.specs.Sizes.{total, frame_bound};
-ghost use Rattle.sc_tac.specs.Frames.{slots_up_to, slots_of, offsets_from, frame_of, HasRoom};
-ghost use Rattle.sc_tac.specs.Places.{is_place};
 
 use sc_base::OutOfMemory;
 use sc_tac::{Frame, FrameTree, Offsets, Place, Places, TacFn};

@@ -1,8 +1,8 @@
 -- Registers that are cleared one after the other.
+use Rattle.sc_image.specs.Prelude.{is_argument, kept, kept_from}
 use Rattle.std.proofs.Common.{◌≡◌, ℕ, zero, suc, ◌+◌, ◌<◌, ◌≤◌, Bool, true, false, List, [], ◌∷◌, ◌++◌, length, take, drop, set, refl, sym, ◌∙◌, ap, arith}
 use Rattle.std.specs.Prelude.{if◌then◌else◌}
 use Rattle.std.proofs.lemmas.Bool.Decides.{nat_tests}
-use Rattle.sc_image.specs.Cross.{kept_from, kept, is_argument}
 
 -- the first n registers are cleared, and the others not yet
 abbrev pub cleared_first : (keeps : ℕ → Bool) → (n : ℕ) → List ℕ → List ℕ

@@ -1,6 +1,6 @@
 -- Helping: the calls of other compartments that haven't returned, as contracts see them.
+use Rattle.sc_image.specs.Prelude.{Crossing}
 use Rattle.std.specs.Prelude.{ℕ, List}
-use Rattle.sc_image.specs.State.{Crossing}
 use Rattle.sc_gate.specs.declared.entry.CrossEntry.{CrossEntry}
 
 pub record Waiting : Type 0 where

@@ -1,5 +1,5 @@
+ghost use Rattle.sc_image.specs.Prelude.{cleared_for_call, cleared_for_return, is_argument, kept};
 ghost use Rattle.std.specs.Prelude.{◌≡◌, ◌≤◌};
-ghost use Rattle.sc_image.specs.Cross.{kept, is_argument, cleared_for_call, cleared_for_return};
 
 use sc_image::layout::A0;
 

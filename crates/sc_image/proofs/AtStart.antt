@@ -1,15 +1,5 @@
 -- The memory of the start, by the offset of an address in its stretch of data.
-use Rattle.std.proofs.Common.{◌≡◌, ℕ, zero, suc, ◌+◌, ◌-◌, ◌/◌, ◌%◌, ◌<◌, ◌≤◌, true, false, nat_le, nat_lt, if◌then◌else◌, List, [], ◌∷◌, length, Option, Some, None, refl, sym, ◌∙◌, ap, arith, ⊎_elim}
-use Rattle.std.specs.Prelude.{slice_index}
-use Rattle.std.specs.List.{slice_get}
-use Rattle.std.specs.Option.{option_and_then}
-use Rattle.std.proofs.lemmas.Bool.{cases_lt, lt-leb, le-leb, lt-ltb, le-ltb}
-use Rattle.std.proofs.lemmas.Option.{slice_get-get_or, slice_get_past}
-use Rattle.sc_store.specs.Memory.{Memory}
-use Rattle.sc_image.specs.declared.parts.ImageParts.{ImageParts}
-use Rattle.sc_image.specs.declared.parts.CompPart.{CompPart}
-use Rattle.sc_image.specs.Layout.{stretch, stack_size, data_start, stack_top, comp_of_data, data_with}
-use Rattle.sc_image.specs.State.{byte_at, start_memory}
+use Rattle.sc_image.proofs.Common.{CompPart, ImageParts, List, Memory, None, Option, Some, [], ap, arith, byte_at, cases_lt, comp_of_data, data_start, data_with, false, if◌then◌else◌, le-leb, le-ltb, length, lt-leb, lt-ltb, nat_le, nat_lt, option_and_then, refl, slice_get, slice_get-get_or, slice_get_past, slice_index, stack_size, stack_top, start_memory, stretch, suc, sym, true, zero, ℕ, ⊎_elim, ◌%◌, ◌+◌, ◌-◌, ◌/◌, ◌<◌, ◌∙◌, ◌∷◌, ◌≡◌, ◌≤◌}
 
 -- the byte of a compartment's data at an offset: a stack of zeros, and then the globals
 abbrev pub data_byte : ℕ → CompPart → Option ℕ

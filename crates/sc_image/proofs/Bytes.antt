@@ -1,20 +1,8 @@
 -- What a memory holds are bytes, at addresses of 32 bits: at the start, and after a store.
-use Rattle.std.proofs.Common.{◌≡◌, ℕ, ◌+◌, ◌-◌, ◌/◌, ◌%◌, ◌^◌, ◌<◌, ◌≤◌, Bool, true, false, ◌&&◌, nat_le, nat_lt, if◌then◌else◌, length, Option, Some, None, subst, arith, refl, sym, ◌∙◌, ⊎_elim}
-use Rattle.std.specs.List.{slice_get}
-use Rattle.std.specs.Option.{option_and_then}
-use Rattle.std.proofs.lemmas.Bool.{ltb-true, leb-true}
-use Rattle.std.proofs.lemmas.Option.{slice_get_within, get_or_from_slice_get}
-use Rattle.sc_store.specs.Memory.{Memory, HoldsBytes, byte_of, stored}
-use Rattle.sc_image.specs.declared.parts.ImageParts.{ImageParts}
-use Rattle.sc_image.specs.declared.parts.CompPart.{CompPart}
-use Rattle.sc_image.specs.WellFormed.{IsByte, IsWellFormed}
-use Rattle.sc_image.specs.Layout.{stretch, stack_size, most_globals, data_start, comp_of_data, globals_of, are_data}
-use Rattle.sc_image.specs.State.{start_memory}
+use Rattle.sc_image.proofs.Common.{Bool, CompPart, HoldsBytes, ImageParts, IsByte, IsWellFormed, Memory, None, Option, Some, are_data, arith, byte_of, comp_of_data, data_start, false, get_or_from_slice_get, globals_of, if◌then◌else◌, leb-true, length, ltb-true, most_globals, nat_le, nat_lt, option_and_then, refl, refused, slice_get, slice_get_cases, slice_get_within, stack_size, start_memory, stored, stretch, subst, sym, true, ℕ, ⊎_elim, ◌%◌, ◌&&◌, ◌+◌, ◌-◌, ◌/◌, ◌<◌, ◌^◌, ◌∙◌, ◌≡◌, ◌≤◌}
 use Rattle.sc_image.proofs.AtStart.{data_byte, start_is}
-use Rattle.sc_image.specs.Step.{refused}
 use Rattle.sc_image.proofs.Cases.{allowed_data}
 use Rattle.sc_image.proofs.Data.{data_bounds}
-use Rattle.std.proofs.lemmas.Option.{slice_get_cases}
 
 pub few_globals : (image : ImageParts) (c : ℕ) → IsWellFormed image → length (globals_of image c) ≤ most_globals
 few_globals image c formed =

@@ -1,18 +1,5 @@
 -- Calls between compartments, returns, inputs, and jumps that are no calls, on small images.
-use Rattle.std.proofs.Common.{◌≡◌, ℕ, List, [], ◌∷◌, Bool, true, false, Some, None, replicate, refl}
-use Rattle.std.specs.Prelude.{codes}
-use Rattle.sc_event.specs.declared.event.Event.TheVariants.{Call, Ret, In}
-use Rattle.sc_event.specs.declared.row.Entry.TheVariants.{Export}
-use Rattle.sc_base.specs.declared.stop.Stop.TheVariants.{Ended, EventsOut, Trap}
-use Rattle.sc_base.specs.declared.stop.TrapReason.TheVariants.{Misaligned, BadJump, NoImport, BadCall, Breakpoint}
-use Rattle.rv_code.specs.Decoding.{decoded, jalr_in, load_in, store_in, op_imm_in, op_in, system_in, load_op_of, store_op_of, op_imm_op_of, op_op_of}
-use Rattle.sc_image.specs.declared.parts.ImageParts.{ImageParts}
-use Rattle.sc_image.specs.declared.parts.ImportPart.{ImportPart}
-use Rattle.sc_image.specs.Layout.{word_at, are_data}
-use Rattle.sc_image.specs.State.{State, a0, reg}
-use Rattle.sc_image.specs.Step.{execute_by, step_by}
-use Rattle.sc_image.specs.Machine.{stopped, run, machine}
-use Rattle.sc_image.specs.Telling.{IsCall}
+use Rattle.sc_image.proofs.Common.{BadCall, BadJump, Bool, Breakpoint, Call, Ended, EventsOut, Export, ImageParts, ImportPart, In, IsCall, List, Misaligned, NoImport, None, Ret, Some, State, Trap, [], a0, are_data, codes, decoded, execute_by, false, jalr_in, load_in, load_op_of, machine, op_imm_in, op_imm_op_of, op_in, op_op_of, refl, reg, replicate, run, step_by, stopped, store_in, store_op_of, system_in, true, word_at, ℕ, ◌∷◌, ◌≡◌}
 
 -- A with this code, which may call the export f of B, or not; and B, which begins with f
 abbrev pair : (imports : List ImportPart) → (params : ℕ) (result : Bool) → (a b : List ℕ) → ImageParts

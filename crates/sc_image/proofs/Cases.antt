@@ -1,36 +1,12 @@
 -- What a step can come to, in two states at once that a compartment can't tell apart: the same registers, pc, inputs
 -- and events, and the same
 -- bytes at its addresses. A relation between the outcomes holds if it holds of each kind of outcome.
-use Rattle.std.proofs.Common.{◌≡◌, ℕ, ◌+◌, ◌<◌, ◌%◌, Bool, true, false, ◌&&◌, nat_eq, if◌then◌else◌, List, length, set, Option, Some, None, refl, ap, subst, arith, length-set}
-use Rattle.std.specs.Prelude.{is_some, not, ◌==◌, slice_index}
-use Rattle.sc_event.specs.declared.event.Event.{Event}
-use Rattle.sc_base.specs.declared.stop.TrapReason.{TrapReason}
-use Rattle.sc_base.specs.declared.stop.TrapReason.TheVariants.{Owner, Misaligned, Illegal, BadJump, NoImport, BadCall, Breakpoint}
-use Rattle.sc_word.specs.Word.{word_of}
-use Rattle.sc_word.specs.Machine.{add_word}
-use Rattle.sc_word.proofs.Words.{word_of-lt}
-use Rattle.sc_word.proofs.Below.{add_word-lt, sll_word-lt, srl_word-lt, sra_word-lt}
-use Rattle.rv_code.specs.declared.instr.ShiftOp.{ShiftOp}
+use Rattle.sc_image.proofs.Common.{Auipc, BadCall, BadJump, Bool, Branch, Breakpoint, Crossing, Ebreak, Ecall, Event, Fence, Goes, HasWord, HoldsBytes, Illegal, ImageParts, Instr, IsWellFormed, IsWord, Jal, Jalr, List, Load, LoadOp, Lui, Memory, Misaligned, NoImport, None, Op, OpImm, Option, Outcome, Owner, Shift, ShiftOp, Some, State, Store, StoreOp, TrapReason, Traps, Upper, a7, add_word-lt, ap, are_data, arith, by_owner, called, calls, comp_of_code, compares, computed, decoded, execute, execute_by, export_at, export_called, extended, false, gate, gives, if_decoded, if_fetched, if◌then◌else◌, input, is_some, jalr_target, jump, leaves, length, length-set, load_of-same, load_size, loaded, may_call, may_input, may_output, nat_eq, next, not, on_registers, output, params_of, ra, refl, refused, reg, returned, set, shift_on_registers, slice_index, sll_word-lt, sra_word-lt, srl_word-lt, step, step_by, store_size, subst, true, unless, with_pc, with_stored, word_at, word_of-lt, written, ℕ, ◌%◌, ◌&&◌, ◌+◌, ◌<◌, ◌==◌, ◌≡◌}
+use Rattle.sc_word.specs.Prelude.{add_word, word_of}
 use Rattle.rv_code.specs.declared.instr.ShiftOp.TheVariants.{Slli, Srli, Srai}
-use Rattle.rv_code.specs.Words.{HasWord}
 use Rattle.rv_code.proofs.OneEach.{HasWord-decoded}
-use Rattle.sc_image.specs.WellFormed.{IsWord, IsWellFormed}
 use Rattle.sc_image.proofs.Words.{AreWords, written_words, written_zero, computed_word, loaded_word, in_code, code_address}
-use Rattle.rv_code.specs.declared.instr.Instr.{Instr}
-use Rattle.rv_code.specs.declared.instr.Instr.TheVariants.{Upper, Jal, Jalr, Branch, Load, Store, OpImm, Shift, Op, Fence, Ecall, Ebreak}
-use Rattle.rv_code.specs.declared.instr.UpperOp.TheVariants.{Lui, Auipc}
-use Rattle.rv_code.specs.declared.instr.LoadOp.{LoadOp}
-use Rattle.rv_code.specs.declared.instr.StoreOp.{StoreOp}
-use Rattle.rv_code.specs.Decoding.{decoded}
-use Rattle.sc_store.specs.Memory.{Memory, HoldsBytes}
-use Rattle.sc_store.proofs.Words.{load_of-same}
-use Rattle.sc_image.specs.declared.parts.ImageParts.{ImageParts}
 use Rattle.sc_image.proofs.Data.{data_bounds, within_data}
-use Rattle.sc_image.specs.Layout.{gate, comp_of_code, word_at, are_data}
-use Rattle.sc_image.specs.Calls.{may_input, may_output, may_call, export_at, params_of}
-use Rattle.sc_image.specs.State.{State, Crossing, ra, a7, reg, written, with_pc}
-use Rattle.sc_image.specs.Cross.{called, returned, output, input}
-use Rattle.sc_image.specs.Step.{Outcome, Goes, Traps, next, gives, load_size, store_size, extended, refused, unless, loaded, with_stored, jump, export_called, calls, leaves, jalr_target, compares, computed, on_registers, shift_on_registers, execute, by_owner, if_decoded, if_fetched, step, execute_by, step_by}
 
 -- each byte of an access that is the compartment's
 pub one_of : (image : ImageParts) (c a size k : ℕ) → are_data image c a size ≡ true → k < size →

@@ -1,8 +1,5 @@
 -- A compartment's data lie in one piece.
-use Rattle.std.proofs.Common.{◌≡◌, ℕ, zero, suc, ◌+◌, ◌<◌, ◌≤◌, Bool, true, false, ◌&&◌, ◌||◌, nat_le, nat_lt, length, ap₂, sym, ◌∙◌, arith}
-use Rattle.std.proofs.lemmas.Bool.Decides.{nat_tests}
-use Rattle.sc_image.specs.declared.parts.ImageParts.{ImageParts}
-use Rattle.sc_image.specs.Layout.{stack_size, data_start, stack_top, globals_of, are_data}
+use Rattle.sc_image.proofs.Common.{Bool, ImageParts, ap₂, are_data, arith, data_start, false, globals_of, length, nat_le, nat_lt, nat_tests, stack_size, stack_top, suc, sym, true, zero, ℕ, ◌&&◌, ◌+◌, ◌<◌, ◌||◌, ◌∙◌, ◌≡◌, ◌≤◌}
 
 byte_is : (low mid count a : ℕ) →
     (nat_le low a && nat_lt a (low + mid) || (nat_le (low + mid) a && nat_lt a (low + mid + count) || false)) ≡

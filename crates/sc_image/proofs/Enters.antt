@@ -1,30 +1,6 @@
 -- What belongs to a compartment that a call or a return makes active.
-use Rattle.std.proofs.Common.{◌≡◌, ◌≢◌, ℕ, zero, suc, ◌+◌, ◌-◌, ◌<◌, ◌≤◌, Bool, true, false, nat_eq, nat_le, nat_lt, ◌&&◌, if◌then◌else◌, List, [], ◌∷◌, ◌++◌, length, get_or, drop, flat_map, replicate, Option, Some, None, refl, sym, ◌∙◌, ap, subst, arith, length-append, length-take-le, length-drop}
-use Rattle.std.specs.Prelude.{is_some, unwrap_or, ◌==◌}
-use Rattle.std.specs.List.{slice_get}
-use Rattle.std.specs.Option.{option_map_or}
-use Rattle.std.proofs.lemmas.Bool.{eq-eqb, ne_eqb, eqb-true}
-use Rattle.std.proofs.lemmas.Bool.Decides.{nat_tests}
-use Rattle.std.proofs.lemmas.List.{get_or-set_other, get_or-take, get_or-drop, get_or_append_left, get_or-append_right}
-use Rattle.std.proofs.lemmas.List.Quantifiers.{position-Some}
-use Rattle.std.proofs.lemmas.Option.{slice_get-get_or, slice_get_within, get_or_from_slice_get}
-use Rattle.sc_event.specs.declared.event.Event.{Event}
-use Rattle.sc_event.specs.declared.event.Event.TheVariants.{Call, Ret, Out, In, End}
-use Rattle.sc_event.specs.declared.row.Entry.TheVariants.{Export}
-use Rattle.sc_image.specs.declared.parts.ImageParts.{ImageParts}
-use Rattle.sc_image.specs.declared.parts.CompPart.{CompPart}
-use Rattle.sc_image.specs.declared.parts.ExportPart.{ExportPart}
-use Rattle.sc_image.specs.WellFormed.{IsExport, IsWellFormed}
-use Rattle.sc_image.specs.Layout.{gate}
-use Rattle.sc_image.specs.Calls.{exports_of, export_at, params_of, has_result}
-use Rattle.sc_image.specs.State.{State, Crossing, ra, sp, a0, reg, saved_sp, written}
-use Rattle.sc_image.specs.Cross.{kept_from, kept, is_argument, is_result, arguments, given_back, called, returned, returned_to, input_at}
-use Rattle.sc_image.specs.Step.{Outcome, Goes, step}
-use Rattle.sc_image.specs.Own.{Own, Kept, Waits, Entered, kept_by, data_of, own}
-use Rattle.sc_image.specs.Isolation.{Adds, EntersByEvent, activates, observation_of, after_outcome}
-use Rattle.std.proofs.Math.Seq.{drop-append_seam, drop-length}
+use Rattle.sc_image.proofs.Common.{Adds, Bool, Call, CompPart, Crossing, End, Entered, EntersByEvent, Event, Export, ExportPart, Goes, ImageParts, In, IsChain, IsExport, IsSteady, IsWellFormed, Kept, List, None, Option, Out, Outcome, Own, Ret, Some, State, Waits, [], a0, activates, after_outcome, ap, arguments, arith, called, data_of, drop, drop-append_seam, drop-length, eq-eqb, eqb-true, export_at, exports_of, false, flat_map, gate, get_or, get_or-append_right, get_or-drop, get_or-set_other, get_or-take, get_or_append_left, get_or_from_slice_get, given_back, has_result, if◌then◌else◌, input_at, is_argument, is_result, is_some, kept, kept_by, kept_from, length, length-append, length-drop, length-take-le, nat_eq, nat_le, nat_lt, nat_tests, ne_eqb, observation_of, option_map_or, own, params_of, position-Some, ra, refl, reg, replicate, returned, returned_to, saved_sp, slice_get, slice_get-get_or, slice_get_within, sp, step, subst, suc, sym, true, unwrap_or, written, zero, ℕ, ◌&&◌, ◌++◌, ◌+◌, ◌-◌, ◌<◌, ◌==◌, ◌∙◌, ◌∷◌, ◌≡◌, ◌≢◌, ◌≤◌}
 use Rattle.sc_image.proofs.Cases.{step_of}
-use Rattle.sc_image.specs.Steady.{IsChain, IsSteady}
 
 -- Registers that hold these words from a0 on, of which so many count.
 abbrev from_a0 : (count : ℕ) → List ℕ → List ℕ

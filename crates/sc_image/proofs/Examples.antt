@@ -1,15 +1,5 @@
 -- Small programs of other instructions, and the bytes of other tables.
-use Rattle.std.proofs.Common.{◌≡◌, ℕ, List, [], ◌∷◌, true, false, refl}
-use Rattle.std.specs.Prelude.{codes}
-use Rattle.sc_base.specs.declared.stop.Stop.TheVariants.{Trap}
-use Rattle.sc_base.specs.declared.stop.TrapReason.TheVariants.{Owner, Misaligned, BadJump}
-use Rattle.rv_code.specs.Decoding.{decoded, jalr_in, branch_in, load_in, store_in, op_imm_in, op_in, branch_op_of, load_op_of, store_op_of, op_imm_op_of, op_op_of}
-use Rattle.sc_image.specs.declared.parts.ImageParts.{ImageParts}
-use Rattle.sc_image.specs.Bytes.{comp_bytes}
-use Rattle.sc_image.specs.Layout.{word_at, are_data}
-use Rattle.sc_image.specs.State.{a0, reg, start_memory}
-use Rattle.sc_image.specs.Step.{execute_by, step_by}
-use Rattle.sc_image.specs.Machine.{stopped, run, machine}
+use Rattle.sc_image.proofs.Common.{BadJump, ImageParts, List, Misaligned, Owner, Trap, [], a0, are_data, branch_in, branch_op_of, codes, comp_bytes, decoded, execute_by, false, jalr_in, load_in, load_op_of, machine, op_imm_in, op_imm_op_of, op_in, op_op_of, refl, reg, run, start_memory, step_by, stopped, store_in, store_op_of, true, word_at, ℕ, ◌∷◌, ◌≡◌}
 
 abbrev with_code : (code globals : List ℕ) → ImageParts
 with_code code globals = record {

@@ -1,16 +1,8 @@
 -- Fields: what a field's reader took from the front of the bytes is the field as it is written, and what is written is
 -- read again.
-use Rattle.std.proofs.Common.{◌≡◌, ℕ, zero, suc, ◌+◌, ◌^◌, ◌<◌, ◌≤◌, Bool, true, false, List, [], ◌∷◌, ◌++◌, length, get_or, take, drop, All, Result, Ok, Err, refl, sym, ap, subst, ◌∙◌, append_assoc, arith, inl, inr}
-use Rattle.std.specs.Prelude.{nat_le, flat_map}
-use Rattle.std.specs.List.{AllByRecursion}
-use Rattle.std.proofs.lemmas.Bool.{cases_lt, leb-true, le-leb}
-use Rattle.std.proofs.lemmas.List.{take_at, drop_at, take-append-drop, length-append, length-take, get_or-drop, get_or-take, get_or_past}
+use Rattle.sc_image.proofs.Common.{All, AllByRecursion, BadImage, Bool, Err, List, Ok, Read, Result, [], ap, append_assoc, arith, bytes_at, cases_lt, drop, drop_at, false, fields_at, flat_map, get_or, get_or-drop, get_or-take, get_or_past, if_good, inl, inr, le-leb, le_bytes_2, le_bytes_4, leb-true, length, length-append, length-take, little_bytes, little_number, nat_le, number_at, refl, subst, suc, sym, take, take-append-drop, take_at, true, zero, ℕ, ◌++◌, ◌+◌, ◌<◌, ◌>>=◌, ◌^◌, ◌∙◌, ◌∷◌, ◌≡◌, ◌≤◌}
 use Rattle.std.proofs.lemmas.List.Concat.{flat_map-cons}
-use Rattle.std.proofs.lemmas.Nat.{le_bytes_2, le_bytes_4}
-use Rattle.byteorder.specs.Endian.{little_bytes, little_number}
 use Rattle.byteorder.specs.Numbers.{little_number-reads_back, little_from-lt, little_from-take, length-bytes_low_first}
-use Rattle.sc_image.specs.declared.fault.BadImage.{BadImage}
-use Rattle.sc_image.specs.Reading.{◌>>=◌, Read, if_good, bytes_at, number_at, fields_at}
 
 abbrev pub IsBytes : List ℕ → Type 0
 IsBytes bytes = (i : ℕ) → get_or bytes i 0 < 256

@@ -1,22 +1,6 @@
 -- The fields of an image: what is read is what is written.
-use Rattle.std.proofs.Common.{◌≡◌, ℕ, zero, suc, ◌+◌, ◌*◌, ◌/◌, ◌%◌, ◌^◌, ◌<◌, ◌≤◌, Bool, true, false, ◌&&◌, List, [], ◌∷◌, ◌++◌, length, get_or, Ok, refl, sym, ap, ◌∙◌, append_assoc, arith}
-use Rattle.std.specs.Prelude.{nat_le, nat_lt, ◌==◌, not, codes}
-use Rattle.std.specs.List.{AllByRecursion, list_all}
-use Rattle.std.proofs.lemmas.Bool.{leb-true, le-leb, ltb-true, lt-ltb, eqb-true, eq-eqb, and_parts, and_from, not-true, not_from_false}
-use Rattle.std.proofs.lemmas.Bool.Decides.{nat_tests}
-use Rattle.std.specs.Cmp.Lexicographic.{same_text}
-use Rattle.byteorder.specs.Endian.{little_bytes}
-use Rattle.sc_base.specs.Identifier.{is_name, is_between, is_name_byte, is_nondigit}
-use Rattle.sc_image.specs.declared.fault.BadImage.{BadImage}
-use Rattle.sc_image.specs.declared.fault.BadImage.TheVariants.{Mark, Version, Count, Start, Compartment, Exports, Imports, Contents}
-use Rattle.sc_image.specs.declared.parts.ImageParts.{ImageParts}
-use Rattle.sc_image.specs.declared.parts.CompPart.{CompPart}
-use Rattle.sc_image.specs.declared.parts.ExportPart.{ExportPart}
-use Rattle.sc_image.specs.declared.parts.ImportPart.{ImportPart}
-use Rattle.sc_image.specs.Layout.{stretch, most_globals}
-use Rattle.sc_image.specs.Bytes.{bit, flags, name_bytes, export_bytes, import_bytes, exports_bytes, imports_bytes, code_bytes, globals_bytes, comp_bytes, bytes_in_version}
-use Rattle.sc_image.specs.Rules.{is_same_name}
-use Rattle.sc_image.specs.Reading.{number_at, name_at, comp_name_at, export_at, exports_at, import_at, imports_at, code_at, globals_at, comp_at, parts_in_version}
+use Rattle.sc_image.proofs.Common.{AllByRecursion, BadImage, Bool, CompPart, Compartment, Contents, Count, ExportPart, Exports, ImageParts, ImportPart, Imports, List, Mark, Ok, Start, Version, [], and_from, and_parts, ap, append_assoc, arith, bit, bytes_in_version, code_at, code_bytes, codes, comp_at, comp_bytes, comp_name_at, eq-eqb, eqb-true, export_bytes, exports_at, exports_bytes, false, flags, get_or, globals_at, globals_bytes, import_at, import_bytes, imports_at, imports_bytes, is_between, is_name, is_name_byte, is_nondigit, is_same_name, le-leb, leb-true, length, list_all, little_bytes, lt-ltb, ltb-true, most_globals, name_at, name_bytes, nat_le, nat_lt, nat_tests, not, not-true, not_from_false, number_at, parts_in_version, refl, same_text, stretch, suc, sym, true, zero, ℕ, ◌%◌, ◌&&◌, ◌*◌, ◌++◌, ◌+◌, ◌/◌, ◌<◌, ◌==◌, ◌^◌, ◌∙◌, ◌∷◌, ◌≡◌, ◌≤◌}
+use Rattle.sc_image.specs.Reading.{export_at}
 use Rattle.sc_image.proofs.Fits.{short_name}
 use Rattle.sc_image.proofs.Fields.{IsBytes, IsField, restated, made, tested, followed, bytes_field, number_field, byte_field, many_field, two_wide, four_wide}
 

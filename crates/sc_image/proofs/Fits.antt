@@ -1,13 +1,6 @@
 -- The lengths in a well-formed image fit the fields that they are written in.
-use Rattle.std.proofs.Common.{◌≡◌, ℕ, ◌≤◌, IsTrue, List, length, All, Some, arith, get_or}
-use Rattle.std.specs.List.{slice_get}
-use Rattle.std.proofs.lemmas.Option.{slice_get-get_or}
+use Rattle.sc_image.proofs.Common.{All, CompPart, FitsItsFields, ImageParts, IsComp, IsTrue, IsWellFormed, List, Some, arith, get_or, is_name, length, slice_get, slice_get-get_or, ℕ, ◌≡◌, ◌≤◌}
 use Rattle.sc_base.proofs.Filled.{name_is_short}
-use Rattle.sc_base.specs.Identifier.{is_name}
-use Rattle.sc_image.specs.declared.parts.ImageParts.{ImageParts}
-use Rattle.sc_image.specs.declared.parts.CompPart.{CompPart}
-use Rattle.sc_image.specs.WellFormed.{IsComp, IsWellFormed}
-use Rattle.sc_image.specs.Bytes.{FitsItsFields}
 
 fits : (image : ImageParts) (c : ℕ) (comp : CompPart) → IsComp image c comp → FitsItsFields comp
 fits image c comp h = record {

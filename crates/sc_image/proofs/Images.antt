@@ -1,16 +1,5 @@
 -- What is read is an image with these bytes, and what an image is written as is read as it.
-use Rattle.std.proofs.Common.{◌≡◌, ℕ, ◌≤◌, ◌<◌, ◌^◌, arith, ◌&&◌, List, [], ◌++◌, length, Option, Some, None, Result, Ok, Err, refl, sym, ap, subst, ◌∙◌}
-use Rattle.std.specs.Prelude.{◌==◌}
-use Rattle.std.proofs.lemmas.Bool.{eqb-true, and_parts}
-use Rattle.std.proofs.lemmas.List.{append-nil, nil_from_length}
-use Rattle.sc_image.specs.declared.fault.BadImage.{BadImage}
-use Rattle.sc_image.specs.declared.fault.BadImage.TheVariants.{Whole}
-use Rattle.sc_image.specs.declared.parts.ImageParts.{ImageParts}
-use Rattle.sc_image.specs.Bytes.{version, image_bytes}
-use Rattle.sc_image.specs.Rules.{keeps_rules}
-use Rattle.sc_image.specs.Reading.{if_good, parts_in_version, image_in_version, image_of, cause_of, bad}
-use Rattle.sc_image.specs.WellFormed.{IsWellFormed}
-use Rattle.sc_image.specs.RoundTrip.{IsImage, BytesNameOneImage, BadOrImage}
+use Rattle.sc_image.proofs.Common.{BadImage, BadOrImage, BytesNameOneImage, Err, ImageParts, IsImage, IsWellFormed, List, None, Ok, Option, Result, Some, Whole, [], and_parts, ap, append-nil, arith, bad, cause_of, eqb-true, if_good, image_bytes, image_in_version, image_of, keeps_rules, length, nil_from_length, parts_in_version, refl, subst, sym, version, ℕ, ◌&&◌, ◌++◌, ◌<◌, ◌==◌, ◌^◌, ◌∙◌, ◌≡◌, ◌≤◌}
 use Rattle.sc_image.proofs.Fields.{IsBytes, bytes_fit, bind_ok, good_ok}
 use Rattle.sc_image.proofs.FileFields.{parts_take, parts_again}
 use Rattle.sc_image.proofs.Whole.{whole_is, rules_are_kept, parts_fit}

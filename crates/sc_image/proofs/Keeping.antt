@@ -1,25 +1,9 @@
 -- Whether the parts keep the rules on a whole image, as it is found out.
-use Rattle.std.proofs.Common.{◌≡◌, ℕ, suc, ◌+◌, ◌<◌, ◌≤◌, Bool, true, false, ◌&&◌, ◌||◌, cond, nat_eq, List, [], ◌∷◌, length, map, get_or, take, drop, replicate, All, Some, refl, sym, ap, ◌∙◌, arith}
+use Rattle.sc_image.proofs.Common.{All, Bool, CompPart, Decides, Decides-and, Decides-like, ExportPart, ImageParts, ImportPart, Int, IsEquivalence, IsWellFormed, List, Scalar, Some, [], ap, are_distinct, arith, comps_keep, cond, drop, drop_more, false, get_or, hash_set_len-from_list, is_same_import, is_same_name, length, length-map, list_any, map, nat_eq, refl, replicate, slice_get, slice_get-get_or, suc, sym, take, take-replicate, true, unsigned_Decides, ℕ, ◌&&◌, ◌+◌, ◌<◌, ◌==◌, ◌||◌, ◌∙◌, ◌∷◌, ◌≡◌, ◌≤◌}
 use Rattle.std.proofs.Math.ListN.{drop_of_length-le}
-use Rattle.std.specs.Prelude.{◌==◌}
-use Rattle.std.specs.Bool.{Decides}
-use Rattle.std.specs.Cmp.{IsEquivalence, unsigned_Decides}
-use Rattle.std.proofs.lemmas.Bool.Decides.{Decides-and, Decides-like}
 use Rattle.std.specs.HashSet as bag
 use Rattle.std.specs.HashSet.{HashSet, hash_set_len}
-use Rattle.std.specs.List.{list_any, slice_get}
-use Rattle.std.proofs.lemmas.Option.{slice_get-get_or}
 use Rattle.std.specs.Set.{unique_keys, distinct_count}
-use Rattle.std.proofs.lemmas.List.{drop_more, length-map, take-replicate}
-use Rattle.std.proofs.lemmas.Map.Made.{hash_set_len-from_list}
-use Rattle.sc_event.specs.declared.interface.Scalar.{Scalar}
-use Rattle.sc_event.specs.declared.interface.Scalar.TheVariants.{Int}
-use Rattle.sc_image.specs.declared.parts.ImageParts.{ImageParts}
-use Rattle.sc_image.specs.declared.parts.CompPart.{CompPart}
-use Rattle.sc_image.specs.declared.parts.ExportPart.{ExportPart}
-use Rattle.sc_image.specs.declared.parts.ImportPart.{ImportPart}
-use Rattle.sc_image.specs.WellFormed.{IsWellFormed}
-use Rattle.sc_image.specs.Rules.{are_distinct, is_same_name, is_same_import, comps_keep}
 use Rattle.sc_image.proofs.Whole.{equivalence, names_decide, entries_decide, keeps}
 
 -- Compartment by compartment.

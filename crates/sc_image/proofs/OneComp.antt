@@ -1,13 +1,5 @@
 -- What makes an image of one compartment that takes nothing from others.
-use Rattle.std.proofs.Common.{◌≡◌, ◌≢◌, ℕ, zero, suc, ◌*◌, ◌≤◌, IsTrue, List, [], ◌∷◌, length, map, All, Option, Some, None, subst, arith, lit≤, lit<}
-use Rattle.std.specs.Prelude.{codes, IsSome}
-use Rattle.std.specs.List.{slice_get}
-use Rattle.std.proofs.lemmas.List.Elements.{All-nil}
-use Rattle.sc_base.specs.Identifier.{is_name}
-use Rattle.sc_image.specs.declared.parts.ImageParts.{ImageParts}
-use Rattle.sc_image.specs.declared.parts.CompPart.{CompPart}
-use Rattle.sc_image.specs.Layout.{stretch, most_globals, word_at}
-use Rattle.sc_image.specs.WellFormed.{IsDistinct, IsWord, IsByte, IsComp, IsExport, IsImport, IsWellFormed}
+use Rattle.sc_image.proofs.Common.{All, All-nil, CompPart, ImageParts, IsByte, IsComp, IsDistinct, IsExport, IsImport, IsSome, IsTrue, IsWellFormed, IsWord, List, None, Option, Some, [], arith, codes, is_name, length, lit<, lit≤, map, most_globals, slice_get, stretch, subst, suc, word_at, zero, ℕ, ◌*◌, ◌∷◌, ◌≡◌, ◌≢◌, ◌≤◌}
 
 abbrev pub only : (entry : ℕ) → CompPart → ImageParts
 only entry comp = record { main = 0; entry = entry; comps = comp ∷ [] }

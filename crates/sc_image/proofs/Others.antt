@@ -1,27 +1,8 @@
 -- A step leaves what belongs to other compartments.
-use Rattle.std.proofs.Common.{◌≡◌, ◌≢◌, ℕ, ◌+◌, ◌<◌, ◌≤◌, Bool, true, false, ◌||◌, nat_eq, if◌then◌else◌, List, [], ◌∷◌, ◌++◌, length, flat_map, Some, None, refl, sym, ◌∙◌, ap, subst, arith}
-use Rattle.std.proofs.lemmas.Bool.{eq-eqb, ne_eqb}
-use Rattle.std.proofs.lemmas.List.{get_or-set_other}
-use Rattle.sc_store.specs.Memory.{Memory, stored}
-use Rattle.sc_store.proofs.Words.{stored-apart}
-use Rattle.sc_event.specs.declared.row.Entry.TheVariants.{Export}
-use Rattle.sc_image.specs.declared.parts.ImageParts.{ImageParts}
-use Rattle.sc_image.specs.WellFormed.{IsWellFormed}
-use Rattle.sc_image.specs.Layout.{are_data}
-use Rattle.sc_image.specs.Calls.{params_of, has_result}
-use Rattle.sc_image.specs.State.{State, Crossing, a0, sp, reg, saved_sp, written}
-use Rattle.sc_image.specs.Cross.{called, returned, returned_to, arguments, given_back, input_at}
-use Rattle.sc_image.specs.Step.{Outcome, Goes, store_size, step}
-use Rattle.sc_image.specs.Own.{Running, kept_by, data_of, own}
-use Rattle.sc_image.specs.Isolation.{Adds, LeavesOthers, activates, shows_entry, observation_of, after_outcome}
-use Rattle.sc_event.specs.declared.event.Event.{Event}
-use Rattle.sc_event.specs.declared.event.Event.TheVariants.{Call, Ret}
-use Rattle.std.specs.Prelude.{drop, ◌==◌}
-use Rattle.std.proofs.Math.Seq.{drop-append_seam}
+use Rattle.sc_image.proofs.Common.{Adds, Bool, Call, Crossing, Event, Export, Goes, ImageParts, IsChain, IsSteady, IsWellFormed, LeavesOthers, List, Memory, None, Outcome, Ret, Running, Some, State, [], a0, activates, after_outcome, ap, are_data, arguments, arith, called, data_of, drop, drop-append_seam, eq-eqb, false, flat_map, get_or-set_other, given_back, has_result, if◌then◌else◌, input_at, kept_by, length, nat_eq, ne_eqb, observation_of, own, params_of, refl, reg, returned, returned_to, saved_sp, shows_entry, sp, step, store_size, stored, stored-apart, subst, sym, true, written, ℕ, ◌++◌, ◌+◌, ◌<◌, ◌==◌, ◌||◌, ◌∙◌, ◌∷◌, ◌≡◌, ◌≢◌, ◌≤◌}
 use Rattle.sc_image.proofs.Cases.{allowed_data, step_of}
 use Rattle.sc_image.proofs.Data.{data_bounds}
 use Rattle.sc_image.proofs.Bytes.{few_globals}
-use Rattle.sc_image.specs.Steady.{IsChain, IsSteady}
 
 -- The compartments' addresses are apart.
 

@@ -1,33 +1,9 @@
 -- What holds of every state that a run reaches.
-use Rattle.std.proofs.Common.{◌≡◌, ◌≢◌, ℕ, zero, suc, ◌+◌, ◌<◌, ◌≤◌, Bool, true, false, ◌&&◌, ◌||◌, List, [], ◌∷◌, ◌++◌, length, map, All, Option, Some, None, refl, sym, ◌∙◌, ap, subst, arith, length-set}
-use Rattle.std.specs.Prelude.{position, slice_index, unwrap_or, replicate, ◌==◌}
-use Rattle.std.specs.List.{slice_get, list_any}
-use Rattle.std.specs.Option.{option_map_or}
-use Rattle.std.proofs.lemmas.Bool.{eqb-true}
-use Rattle.std.proofs.lemmas.Option.{slice_get_within, get_or_from_slice_get}
+use Rattle.sc_image.proofs.Common.{All, All-cons, All-head, All-nil, All-tail, Bool, Call, CompPart, Crossing, End, Event, Export, Goes, HoldsBytes, ImageParts, ImportPart, In, IsChain, IsImport, IsReached, IsSteady, IsWellFormed, IsWord, KeepsWords, List, Memory, None, Option, Out, Outcome, Ret, Run, RunsAreSteady, Some, State, StepsOut, Stop, Traps, [], a0, after, after_outcome, after_step, ap, arguments, arith, call_of, called, count_read, eqb-true, export_at, false, gate, get_or_from_slice_get, given_back, has_result, input, input_at, inputs_in, is_argument, is_result, kept, kept_from, length, length-set, list_any, map, may_call, open_after, open_calls, option_map_or, output, params_of, position, ra, refl, reg, replicate, returned, run, saved_sp, slice_get, slice_get_within, slice_index, sp, stack_top, stack_tops, start, step, stopped, stops_or, store_size, stored, subst, suc, sym, true, unwrap_or, with_pc, without_latest, word_at, written, zero, ℕ, ◌&&◌, ◌++◌, ◌+◌, ◌<◌, ◌==◌, ◌||◌, ◌∙◌, ◌∷◌, ◌≡◌, ◌≢◌, ◌≤◌}
 use Rattle.std.proofs.lemmas.List.Sums.{fold-append}
-use Rattle.std.proofs.lemmas.List.Elements.{All-nil, All-cons, All-head, All-tail}
-use Rattle.sc_event.specs.declared.event.Event.{Event}
-use Rattle.sc_event.specs.declared.event.Event.TheVariants.{Call, Ret, Out, In, End}
-use Rattle.sc_event.specs.declared.row.Entry.TheVariants.{Export}
-use Rattle.sc_base.specs.declared.stop.Stop.{Stop}
-use Rattle.sc_base.specs.declared.stop.Stop.TheVariants.{StepsOut}
-use Rattle.sc_image.specs.declared.parts.ImageParts.{ImageParts}
-use Rattle.sc_image.specs.declared.parts.CompPart.{CompPart}
-use Rattle.sc_image.specs.declared.parts.ImportPart.{ImportPart}
-use Rattle.sc_image.specs.WellFormed.{IsWord, IsImport, IsWellFormed}
-use Rattle.sc_image.specs.Layout.{gate, stack_top, word_at}
-use Rattle.sc_store.specs.Memory.{Memory, HoldsBytes, stored}
-use Rattle.sc_image.specs.Calls.{may_call, export_at, params_of, has_result}
-use Rattle.sc_image.specs.State.{State, Crossing, start, stack_tops, written, with_pc, ra, sp, a0, reg, saved_sp}
-use Rattle.sc_image.specs.Cross.{kept_from, kept, is_argument, is_result, arguments, given_back, called, returned, output, input, input_at}
-use Rattle.sc_image.specs.Step.{Outcome, Goes, Traps, store_size, step}
 use Rattle.sc_image.proofs.Words.{AreWords, set_words, written_words, written_zero, kept_words, kept_zero, in_code, code_address, entry_address}
 use Rattle.sc_image.proofs.Bytes.{stored_bytes, start_bytes}
 use Rattle.sc_image.proofs.Stepping.{step_nowhere}
-use Rattle.sc_image.specs.Machine.{Run, stopped, stops_or, after, run}
-use Rattle.sc_image.specs.Isolation.{IsReached, RunsAreSteady, after_outcome, after_step}
-use Rattle.sc_image.specs.Steady.{without_latest, open_after, open_calls, call_of, count_read, inputs_in, IsChain, KeepsWords, IsSteady}
 use Rattle.sc_image.proofs.Cases.{length-written, step_of}
 
 -- One more event.

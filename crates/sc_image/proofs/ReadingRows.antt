@@ -1,15 +1,6 @@
 -- What is read from the bytes of small images, and why other bytes are none.
-use Rattle.std.proofs.Common.{◌≡◌, ℕ, List, [], ◌∷◌, ◌++◌, take, map, replicate, true, false, Some, None, Ok, Err, refl}
-use Rattle.std.specs.Prelude.{codes, nat_le}
-use Rattle.std.specs.List.{range_with_len}
-use Rattle.sc_base.specs.Identifier.{is_name}
-use Rattle.sc_image.specs.declared.fault.BadImage.TheVariants.{Mark, Version, Count, Start, Compartment, Exports, Imports, Contents, Whole}
-use Rattle.sc_image.specs.declared.parts.ImageParts.{ImageParts}
-use Rattle.sc_image.specs.declared.parts.ImportPart.{ImportPart}
-use Rattle.sc_image.specs.Bytes.{image_bytes}
-use Rattle.sc_image.specs.Layout.{word_at}
-use Rattle.sc_image.specs.Rules.{keeps_rules}
-use Rattle.sc_image.specs.Reading.{number_that, fields_at, name_at, comp_name_at, export_at, exports_at, import_at, imports_at, code_at, globals_at, comp_at, parts_in_version, image_in_version, image_of, bad}
+use Rattle.sc_image.proofs.Common.{Compartment, Contents, Count, Err, Exports, ImageParts, ImportPart, Imports, List, Mark, None, Ok, Some, Start, Version, Whole, [], bad, code_at, codes, comp_at, comp_name_at, exports_at, false, fields_at, globals_at, image_bytes, image_in_version, image_of, import_at, imports_at, is_name, keeps_rules, map, name_at, nat_le, number_that, parts_in_version, range_with_len, refl, replicate, take, true, word_at, ℕ, ◌++◌, ◌∷◌, ◌≡◌}
+use Rattle.sc_image.specs.Reading.{export_at}
 
 abbrev from_start : List ℕ
 from_start = 1 ∷ 0x4d ∷ 2 ∷ 0 ∷ 0 ∷ 0 ∷ 0 ∷ 0x14 ∷ 0 ∷ 0 ∷ 0 ∷

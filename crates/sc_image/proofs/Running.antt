@@ -1,14 +1,6 @@
 -- A run may be cut into pieces: it goes on from the state that it stopped in.
-use Rattle.std.proofs.Common.{◌≡◌, ℕ, zero, suc, ◌+◌, Bool, List, length, nat_le, Option, Some, None, true, false, if◌then◌else◌, refl, sym, ◌∙◌, ap, subst, zero-add}
+use Rattle.sc_image.proofs.Common.{Bool, Ended, Event, EventsOut, Goes, ImageParts, List, None, Option, Outcome, Run, Some, State, StepsOut, Stop, Trap, TrapReason, Traps, after, ap, continued, false, if◌then◌else◌, is_ended, length, nat_le, refl, run, step, stopped, stops_or, subst, suc, sym, true, unless_stopped, zero, zero-add, ℕ, ◌+◌, ◌∙◌, ◌≡◌}
 use Rattle.std.proofs.Math.Nat.{suc-add}
-use Rattle.sc_event.specs.declared.event.Event.{Event}
-use Rattle.sc_base.specs.declared.stop.Stop.{Stop}
-use Rattle.sc_base.specs.declared.stop.TrapReason.{TrapReason}
-use Rattle.sc_base.specs.declared.stop.Stop.TheVariants.{Ended, EventsOut, StepsOut, Trap}
-use Rattle.sc_image.specs.declared.parts.ImageParts.{ImageParts}
-use Rattle.sc_image.specs.State.{State}
-use Rattle.sc_image.specs.Step.{Outcome, Goes, Traps, step}
-use Rattle.sc_image.specs.Machine.{Run, is_ended, stopped, stops_or, after, run, unless_stopped, continued}
 
 -- a run that stops before another step doesn't stop for want of steps
 stays_by : (ended full : Bool) (stop : Stop) (earlier later : Run) →

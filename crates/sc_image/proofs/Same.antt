@@ -1,23 +1,6 @@
 -- What a compartment does follows from its own parts and the events before.
-use Rattle.std.proofs.Common.{◌≡◌, ◌≢◌, ◌↔◌, ℕ, zero, suc, ◌+◌, ◌-◌, Bool, true, false, nat_eq, nat_le, nat_lt, ◌&&◌, if◌then◌else◌, List, [], ◌∷◌, ◌++◌, length, map, flat_map, Some, None, refl, sym, ◌∙◌, ap, ap₂, subst, arith}
-use Rattle.std.specs.Prelude.{drop, All}
-use Rattle.std.proofs.lemmas.Bool.{eq-eqb, ne_eqb}
-use Rattle.std.proofs.lemmas.List.{get_or-set_same}
-use Rattle.sc_event.specs.declared.event.Event.{Event}
-use Rattle.sc_event.specs.declared.event.Event.TheVariants.{Call, Ret, Out, In, End}
-use Rattle.sc_event.specs.declared.row.Entry.TheVariants.{Export}
-use Rattle.sc_store.specs.Memory.{Memory, byte_of, stored}
-use Rattle.sc_image.specs.declared.parts.ImageParts.{ImageParts}
-use Rattle.sc_image.specs.WellFormed.{IsWord, IsWellFormed}
-use Rattle.sc_image.specs.Layout.{are_data}
-use Rattle.sc_image.specs.Calls.{params_of, has_result}
-use Rattle.sc_image.specs.State.{State, Crossing, a0, sp, reg, written, saved_sp}
-use Rattle.sc_image.specs.Cross.{called, returned, returned_to, arguments, given_back, input_at}
-use Rattle.sc_image.specs.Step.{Outcome, Goes, Traps, store_size, step}
-use Rattle.sc_image.specs.Own.{Running, Waits, Entered, kept_by, data_of, own}
-use Rattle.sc_image.specs.Isolation.{Adds, LooksSame, FollowsFromOwn, GoesOnSame, IsSilent, AreSilent, observation_of, observation, after_outcome, after_step, after_steps}
+use Rattle.sc_image.proofs.Common.{Adds, All, AreSilent, Bool, Call, Crossing, End, Entered, Event, Export, FollowsFromOwn, Goes, GoesOnSame, ImageParts, In, IsChain, IsSilent, IsSteady, IsWellFormed, IsWord, List, LooksSame, Memory, None, OpenCall, Out, Outcome, Ret, Running, Some, State, Traps, Waits, [], a0, after_outcome, after_step, after_steps, ap, ap₂, are_data, arguments, arith, byte_of, call_of, called, data_of, drop, eq-eqb, false, flat_map, get_or-set_same, given_back, has_result, if◌then◌else◌, input_at, inputs_in, kept_by, length, map, nat_eq, nat_le, nat_lt, ne_eqb, observation, observation_of, own, params_of, refl, reg, returned, returned_to, saved_sp, sp, step, store_size, stored, subst, suc, sym, true, written, zero, ℕ, ◌&&◌, ◌++◌, ◌+◌, ◌-◌, ◌↔◌, ◌∙◌, ◌∷◌, ◌≡◌, ◌≢◌}
 use Rattle.sc_image.proofs.Cases.{one, other, Cases, step_both}
-use Rattle.sc_image.specs.Steady.{OpenCall, call_of, inputs_in, IsChain, IsSteady}
 use Rattle.sc_image.proofs.Reached.{called_other, steady_step, SteadyAfter}
 use Rattle.sc_image.proofs.Others.{idle_both}
 

@@ -1,20 +1,6 @@
 -- The image of a program that outputs 7 and returns 0: its bytes, and what the machine does on it.
-use Rattle.std.proofs.Common.{◌≡◌, ℕ, List, [], ◌∷◌, Bool, true, false, All, refl, lit≤, lit<}
-use Rattle.sc_base.specs.Identifier.{is_name}
-use Rattle.std.specs.Prelude.{codes}
-use Rattle.sc_event.specs.declared.event.Event.TheVariants.{Out, End}
-use Rattle.sc_base.specs.declared.stop.Stop.TheVariants.{Ended, EventsOut, StepsOut, Trap}
-use Rattle.sc_base.specs.declared.stop.TrapReason.TheVariants.{NoImport}
-use Rattle.sc_image.specs.declared.parts.ImageParts.{ImageParts}
-use Rattle.sc_image.specs.declared.parts.CompPart.{CompPart}
-use Rattle.sc_image.specs.Bytes.{image_bytes}
-use Rattle.sc_image.specs.Layout.{word_at}
-use Rattle.sc_image.specs.WellFormed.{IsWord, IsByte, IsWellFormed}
+use Rattle.sc_image.proofs.Common.{All, All-cons, All-nil, Bool, CompPart, End, Ended, EventsOut, ImageParts, IsByte, IsWellFormed, IsWord, List, NoImport, Out, StepsOut, Trap, [], codes, decoded, execute_by, false, image_bytes, is_name, jalr_in, lit<, lit≤, machine, op_imm_in, op_imm_op_of, refl, run, step_by, stopped, system_in, true, word_at, ℕ, ◌∷◌, ◌≡◌}
 use Rattle.sc_image.proofs.OneComp.{IsLone, one_well_formed}
-use Rattle.std.proofs.lemmas.List.Elements.{All-cons, All-nil}
-use Rattle.sc_image.specs.Step.{execute_by, step_by}
-use Rattle.sc_image.specs.Machine.{stopped, run, machine}
-use Rattle.rv_code.specs.Decoding.{decoded, jalr_in, op_imm_in, system_in, op_imm_op_of}
 
 abbrev only_comp : List ℕ → Bool → CompPart
 only_comp name output = record {

@@ -1,12 +1,5 @@
 -- What a step is, by what lies at pc.
-use Rattle.std.proofs.Common.{◌≡◌, ℕ, List, Some, None, refl}
-use Rattle.sc_base.specs.declared.stop.TrapReason.TheVariants.{BadJump, Illegal}
-use Rattle.rv_code.specs.declared.instr.Instr.{Instr}
-use Rattle.rv_code.specs.Decoding.{decoded}
-use Rattle.sc_image.specs.declared.parts.ImageParts.{ImageParts}
-use Rattle.sc_image.specs.Layout.{word_at}
-use Rattle.sc_image.specs.State.{State}
-use Rattle.sc_image.specs.Step.{Traps, execute, step, step_by}
+use Rattle.sc_image.proofs.Common.{BadJump, Illegal, ImageParts, Instr, List, None, Some, State, Traps, decoded, execute, refl, step, step_by, word_at, ℕ, ◌≡◌}
 
 -- an instruction
 pub step_executes : (image : ImageParts) (inputs : List ℕ) (state : State) (word : ℕ) (instr : Instr) →

@@ -1,19 +1,5 @@
 -- Runs along stretches, and the states that runs reach.
-use Rattle.std.proofs.Common.{◌≡◌, ℕ, zero, suc, ◌+◌, ◌<◌, ◌≤◌, Bool, true, false, nat_le, if◌then◌else◌, List, [], ◌∷◌, ◌++◌, length, Option, Some, None, refl, sym, ◌∙◌, ap, subst, arith, length-append, append_assoc, append-nil, suc-add, zero-add}
-use Rattle.std.proofs.lemmas.Bool.{lt-leb}
-use Rattle.sc_event.specs.declared.event.Event.{Event}
-use Rattle.sc_event.specs.declared.event.Event.TheVariants.{Call, Ret, Out, In, End}
-use Rattle.sc_base.specs.declared.stop.Stop.{Stop}
-use Rattle.sc_base.specs.declared.stop.Stop.TheVariants.{Ended, EventsOut, StepsOut}
-use Rattle.sc_image.specs.declared.parts.ImageParts.{ImageParts}
-use Rattle.sc_image.specs.WellFormed.{IsWellFormed}
-use Rattle.sc_image.specs.Calls.{params_of, has_result}
-use Rattle.sc_image.specs.State.{State, Crossing, start, a0, reg}
-use Rattle.sc_image.specs.Cross.{arguments, given_back, returned, input_at}
-use Rattle.sc_image.specs.Step.{Outcome, Goes, Traps, step}
-use Rattle.sc_image.specs.Machine.{Run, is_ended, stopped, stops_or, after, run}
-use Rattle.sc_image.specs.Isolation.{IsReached}
-use Rattle.sc_image.specs.Walks.{then_on, walk, StretchesCompose}
+use Rattle.sc_image.proofs.Common.{Bool, Call, Crossing, End, Ended, Event, EventsOut, Goes, ImageParts, In, IsReached, IsWellFormed, List, None, Option, Out, Outcome, Ret, Run, Some, State, StepsOut, Stop, StretchesCompose, Traps, [], a0, after, ap, append-nil, append_assoc, arguments, arith, false, given_back, has_result, if◌then◌else◌, input_at, is_ended, length, length-append, lt-leb, nat_le, params_of, refl, reg, returned, run, start, step, stopped, stops_or, subst, suc, suc-add, sym, then_on, true, walk, zero, zero-add, ℕ, ◌++◌, ◌+◌, ◌<◌, ◌∙◌, ◌∷◌, ◌≡◌, ◌≤◌}
 use Rattle.sc_image.proofs.Cases.{step_of}
 use Rattle.sc_image.proofs.Running.{run_stopped, run_out, run_goes, run_traps}
 use Rattle.sc_image.proofs.Walking.{walk_one, walk_together}

@@ -1,25 +1,5 @@
 -- Stretches that tell events, and the steps that tell one.
-use Rattle.std.proofs.Common.{◌≡◌, ◌≢◌, ℕ, zero, suc, ◌+◌, ◌-◌, ◌/◌, ◌%◌, ◌<◌, ◌≤◌, Bool, true, false, ◌&&◌, ◌||◌, nat_eq, nat_le, if◌then◌else◌, List, [], ◌∷◌, ◌++◌, length, Option, Some, None, refl, sym, ◌∙◌, ap, subst, arith, length-append, append_assoc, append-nil, suc-add, zero-add}
-use Rattle.std.specs.Prelude.{is_some, IsSome}
-use Rattle.std.specs.List.{slice_get, list_any}
-use Rattle.std.specs.Option.{option_map_or}
-use Rattle.std.proofs.lemmas.Bool.{eq-eqb, eqb-true, leb-true, lt-leb}
-use Rattle.std.proofs.lemmas.Option.{slice_get_within}
-use Rattle.sc_event.specs.declared.event.Event.{Event}
-use Rattle.sc_event.specs.declared.event.Event.TheVariants.{End}
-use Rattle.sc_base.specs.declared.stop.Stop.{Stop}
-use Rattle.sc_base.specs.declared.stop.Stop.TheVariants.{Ended}
-use Rattle.sc_image.specs.declared.parts.ImageParts.{ImageParts}
-use Rattle.sc_image.specs.declared.parts.CompPart.{CompPart}
-use Rattle.sc_image.specs.WellFormed.{IsWellFormed}
-use Rattle.sc_image.specs.Layout.{gate, code_start, comp_of_code, code_of, word_at}
-use Rattle.sc_image.specs.Calls.{params_of}
-use Rattle.sc_image.specs.State.{State, ra, a0, reg}
-use Rattle.sc_image.specs.Cross.{called, returned, ended}
-use Rattle.sc_image.specs.Step.{Outcome, Goes, Traps, jump, calls, leaves, step}
-use Rattle.sc_image.specs.Machine.{is_end, is_ended, stopped, run}
-use Rattle.sc_image.specs.Walks.{then_on, walk, Walks}
-use Rattle.sc_image.specs.Telling.{Tells, IsCall, TellingComposes, StepsTell}
+use Rattle.sc_image.proofs.Common.{Bool, CompPart, End, Ended, Event, Goes, ImageParts, IsCall, IsSome, IsWellFormed, List, None, Option, Outcome, Some, State, StepsTell, Stop, TellingComposes, Tells, Traps, Walks, [], a0, ap, append-nil, append_assoc, arith, called, calls, code_of, code_start, comp_of_code, ended, eq-eqb, eqb-true, false, gate, if◌then◌else◌, is_end, is_ended, is_some, jump, leaves, leb-true, length, length-append, list_any, lt-leb, nat_eq, nat_le, option_map_or, params_of, ra, refl, reg, returned, run, slice_get, slice_get_within, step, stopped, subst, suc, suc-add, sym, then_on, true, walk, word_at, zero, zero-add, ℕ, ◌%◌, ◌&&◌, ◌++◌, ◌+◌, ◌-◌, ◌/◌, ◌<◌, ◌||◌, ◌∙◌, ◌∷◌, ◌≡◌, ◌≢◌, ◌≤◌}
 use Rattle.sc_image.proofs.Words.{entry_code}
 use Rattle.sc_image.proofs.Reached.{called_other}
 use Rattle.sc_image.proofs.Traces.{ended_by}

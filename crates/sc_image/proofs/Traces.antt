@@ -1,40 +1,9 @@
 -- The trace of a run is one that the image's interfaces allow.
-use Rattle.std.proofs.Common.{◌≡◌, ℕ, zero, suc, ◌-◌, ◌<◌, ◌≤◌, Bool, true, false, ◌&&◌, ◌||◌, cond, ltb, if◌then◌else◌, List, [], ◌∷◌, ◌++◌, length, map, drop, replicate, Option, Some, None, refl, sym, ap, subst, ◌∙◌, arith, length-append, inl, inr, ◌⊎◌}
-use Rattle.std.specs.Prelude.{All, nat_le, ◌==◌, position}
-use Rattle.std.specs.List.{slice_get, list_any, position_or_len}
-use Rattle.std.specs.Option.{option_map_or, option_map, option_and_then}
-use Rattle.std.proofs.lemmas.Bool.{eq-eqb, ltb-true, and_parts, and_from, or_left, or_right, true≢false}
-use Rattle.std.proofs.lemmas.List.{length-take-le, length-drop, length-replicate}
-use Rattle.std.proofs.lemmas.Option.{slice_get-map, slice_get_within, get_or_from_slice_get}
-use Rattle.sc_event.specs.declared.event.Event.{Event}
-use Rattle.sc_event.specs.declared.event.Event.TheVariants.{Call, Ret, Out, In, End}
-use Rattle.sc_event.specs.declared.interface.Import.{Import}
+use Rattle.sc_image.proofs.Common.{Activation, All, Bool, Call, CompPart, Crossing, End, Ended, Entry, Event, EventsOut, Export, ExportPart, Goes, ImageParts, Import, ImportPart, In, Int, Interface, Interfaces, IsChain, IsSteady, IsWellFormed, IsWord, List, Main, None, Option, Out, Outcome, Proto, Ret, Run, Some, Standing, State, StepsOut, Stop, TracesAreLegal, Traps, [], a0, after, and_from, and_parts, ap, arguments, arith, at_start, cond, drop, eq-eqb, exports_of, false, fits_result, get_or_from_slice_get, given_back, has_result, if◌then◌else◌, import_of, imports, inl, input_at, inr, interface_of, interfaces_of, is_allowed, is_end, is_ended, is_function, is_input, is_legal_from, is_output, length, length-append, length-drop, length-replicate, length-take-le, list_any, ltb, ltb-true, machine, map, may_return, nat_le, option_and_then, option_map, option_map_or, or_left, or_right, params_of, position, position_or_len, proto_of, refl, reg, replicate, resumed, returned, run, slice_get, slice_get-map, slice_get_within, stands_after, stands_behind, start, step, stopped, stops_or, subst, suc, sym, takes, true, true≢false, zero, ℕ, ◌&&◌, ◌++◌, ◌-◌, ◌<◌, ◌==◌, ◌||◌, ◌∙◌, ◌∷◌, ◌≡◌, ◌≤◌, ◌⊎◌}
 use Rattle.sc_event.specs.declared.interface.Import.TheVariants.{Input, Output}
-use Rattle.sc_event.specs.declared.interface.Interface.{Interface}
-use Rattle.sc_event.specs.declared.interface.Interfaces.{Interfaces}
-use Rattle.sc_event.specs.declared.interface.Proto.{Proto}
-use Rattle.sc_event.specs.declared.interface.Scalar.TheVariants.{Int}
-use Rattle.sc_event.specs.declared.row.Entry.{Entry}
-use Rattle.sc_event.specs.declared.row.Entry.TheVariants.{Main, Export}
-use Rattle.sc_event.specs.Standing.{Activation, Standing, at_start, resumed, stands_after, stands_behind}
 use Rattle.sc_event.specs.Lookup as lookup
 use Rattle.sc_event.specs.Legal as law
-use Rattle.sc_event.specs.Legal.{is_input, is_output, is_function, imports, takes, fits_result, may_return, is_allowed, is_legal_from}
-use Rattle.sc_base.specs.declared.stop.Stop.{Stop}
-use Rattle.sc_base.specs.declared.stop.Stop.TheVariants.{Ended, EventsOut, StepsOut}
-use Rattle.sc_image.specs.declared.parts.ImageParts.{ImageParts}
-use Rattle.sc_image.specs.declared.parts.CompPart.{CompPart}
-use Rattle.sc_image.specs.declared.parts.ExportPart.{ExportPart}
-use Rattle.sc_image.specs.declared.parts.ImportPart.{ImportPart}
-use Rattle.sc_image.specs.WellFormed.{IsWord, IsWellFormed}
-use Rattle.sc_image.specs.Calls.{exports_of, params_of, has_result}
-use Rattle.sc_image.specs.State.{State, Crossing, start, a0, reg}
-use Rattle.sc_image.specs.Cross.{arguments, given_back, returned, input_at}
-use Rattle.sc_image.specs.Step.{Outcome, Goes, Traps, step}
-use Rattle.sc_image.specs.Machine.{Run, is_end, is_ended, stopped, stops_or, after, run, machine}
-use Rattle.sc_image.specs.Interfaces.{proto_of, import_of, interface_of, interfaces_of, TracesAreLegal}
 use Rattle.sc_image.proofs.Cases.{step_of}
-use Rattle.sc_image.specs.Steady.{IsSteady, IsChain}
 use Rattle.sc_image.proofs.Reached.{SteadyAfter, steady_start, steady_step}
 
 -- One more event.

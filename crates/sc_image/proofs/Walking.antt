@@ -1,21 +1,5 @@
 -- Stretches of a run, steps by their instruction, and what stands in memory at the start.
-use Rattle.std.proofs.Common.{◌≡◌, ℕ, zero, suc, ◌+◌, ◌-◌, ◌*◌, ◌/◌, ◌%◌, ◌^◌, ◌<◌, ◌≤◌, true, false, nat_eq, nat_le, nat_lt, List, [], ◌∷◌, ◌++◌, length, Option, Some, None, refl, sym, subst, ◌∙◌, ap, arith, suc-add, zero-add}
-use Rattle.std.specs.Prelude.{flat_map}
-use Rattle.std.specs.List.{slice_get, list_any}
-use Rattle.std.proofs.lemmas.Bool.{eq-eqb, le-leb, lt-ltb, le-ltb, or_left, or_right, and_from}
-use Rattle.std.proofs.lemmas.Option.{slice_get_within}
-use Rattle.byteorder.specs.Endian.{little_bytes}
-use Rattle.rv_code.specs.declared.instr.Instr.{Instr}
-use Rattle.sc_store.specs.declared.region.Region.{Region}
-use Rattle.sc_store.specs.Region.{is_in}
-use Rattle.sc_store.specs.Memory.{Memory, load_of, byte_of}
-use Rattle.sc_image.specs.declared.parts.ImageParts.{ImageParts}
-use Rattle.sc_image.specs.declared.parts.CompPart.{CompPart}
-use Rattle.sc_image.specs.WellFormed.{IsWord, IsWellFormed}
-use Rattle.sc_image.specs.Layout.{stretch, stack_size, code_start, data_start, stack_top, comp_of_data, code_of, word_at, data_regions, are_data}
-use Rattle.sc_image.specs.State.{State, start_memory}
-use Rattle.sc_image.specs.Step.{Outcome, Goes, Traps, execute, step, execute_by}
-use Rattle.sc_image.specs.Walks.{then_on, walk, Walks, IsAt, StepsByInstruction, ImageInMemory}
+use Rattle.sc_image.proofs.Common.{CompPart, Goes, ImageInMemory, ImageParts, Instr, IsAt, IsWellFormed, IsWord, List, Memory, None, Option, Outcome, Region, Some, State, StepsByInstruction, Traps, Walks, [], and_from, ap, are_data, arith, byte_of, code_of, code_start, comp_of_data, data_regions, data_start, eq-eqb, execute, execute_by, false, flat_map, is_in, le-leb, le-ltb, length, list_any, little_bytes, load_of, lt-ltb, nat_eq, nat_le, nat_lt, or_left, or_right, refl, slice_get, slice_get_within, stack_size, stack_top, start_memory, step, stretch, subst, suc, suc-add, sym, then_on, true, walk, word_at, zero, zero-add, ℕ, ◌%◌, ◌*◌, ◌++◌, ◌+◌, ◌-◌, ◌/◌, ◌<◌, ◌^◌, ◌∙◌, ◌∷◌, ◌≡◌, ◌≤◌}
 use Rattle.sc_image.proofs.AtStart.{data_byte, start_is}
 use Rattle.sc_image.proofs.Stepping.{step_executes}
 

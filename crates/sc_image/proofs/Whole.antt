@@ -1,24 +1,5 @@
 -- Parts are well formed exactly where their fields are good and they keep the rules on a whole image.
-use Rattle.std.proofs.Common.{◌≡◌, ℕ, zero, suc, ◌+◌, ◌-◌, ◌*◌, ◌/◌, ◌%◌, ◌^◌, ◌<◌, ◌≤◌, Bool, true, false, ◌&&◌, cond, List, [], ◌∷◌, length, map, All, Option, Some, None, refl, sym, ap, subst, ◌∙◌, arith, zero-add, lit≤}
-use Rattle.std.specs.Prelude.{nat_lt, nat_le, nat_eq, ◌==◌, codes, is_some}
-use Rattle.std.specs.Bool.{Decides}
-use Rattle.std.specs.Cmp.{IsEquivalence, unsigned_Decides}
-use Rattle.std.specs.Cmp.Lexicographic.{bytes_decides}
-use Rattle.std.specs.List.{AllByRecursion, list_all, slice_get}
-use Rattle.std.specs.Option.{option_map_or, IsSomeAnd}
-use Rattle.std.proofs.lemmas.Bool.{eqb-true, eq-eqb, eqb-false, ne_eqb, ltb-true, lt-ltb, and_parts, and_from, not-true, not_from_false, false_from_ne_true}
-use Rattle.std.proofs.lemmas.Bool.Decides.{Decides-and, Decides-like, same_from_decides, not_from_Decides}
-use Rattle.std.proofs.lemmas.List.{get_or_default}
-use Rattle.std.proofs.lemmas.List.Elements.{All-from_recursion, recursion_from_All}
-use Rattle.std.proofs.lemmas.Map.Made.{IsDistinct-from_count, distinct_count-from_IsDistinct, AllPairs-from_IsDistinct, IsDistinct-from_AllPairs}
-use Rattle.std.proofs.lemmas.Option.{slice_get_within}
-use Rattle.sc_image.specs.declared.parts.ImageParts.{ImageParts}
-use Rattle.sc_image.specs.declared.parts.CompPart.{CompPart}
-use Rattle.sc_image.specs.declared.parts.ExportPart.{ExportPart}
-use Rattle.sc_image.specs.declared.parts.ImportPart.{ImportPart}
-use Rattle.sc_image.specs.Layout.{code_start, stretch, code_of, word_at}
-use Rattle.sc_image.specs.WellFormed.{IsDistinct, IsExport, IsImport, IsWord, IsByte, IsComp, IsWellFormed}
-use Rattle.sc_image.specs.Rules.{are_distinct, is_same_name, is_same_import, is_entry, is_import, exports_keep, imports_keep, comps_keep, keeps_rules}
+use Rattle.sc_image.proofs.Common.{All, All-from_recursion, AllByRecursion, AllPairs-from_IsDistinct, Bool, CompPart, Decides, Decides-and, Decides-like, ExportPart, ImageParts, ImportPart, IsByte, IsComp, IsDistinct, IsDistinct-from_AllPairs, IsDistinct-from_count, IsEquivalence, IsExport, IsImport, IsSomeAnd, IsWellFormed, IsWord, List, None, Option, Some, [], and_from, and_parts, ap, are_distinct, arith, bytes_decides, code_of, code_start, codes, comps_keep, cond, distinct_count-from_IsDistinct, eq-eqb, eqb-false, eqb-true, exports_keep, false, false_from_ne_true, get_or_default, imports_keep, is_entry, is_import, is_same_import, is_same_name, is_some, keeps_rules, length, list_all, lit≤, lt-ltb, ltb-true, map, nat_eq, nat_le, nat_lt, ne_eqb, not-true, not_from_Decides, not_from_false, option_map_or, recursion_from_All, refl, same_from_decides, slice_get, slice_get_within, stretch, subst, suc, sym, true, unsigned_Decides, word_at, zero, zero-add, ℕ, ◌%◌, ◌&&◌, ◌*◌, ◌+◌, ◌-◌, ◌/◌, ◌<◌, ◌==◌, ◌^◌, ◌∙◌, ◌∷◌, ◌≡◌, ◌≤◌}
 use Rattle.sc_image.proofs.Fits.{all_of}
 use Rattle.sc_image.proofs.Fields.{IsBytes, bytes_fit}
 use Rattle.sc_image.proofs.FileFields.{FitsExport, FitsImport, FitsComp, FitsParts}

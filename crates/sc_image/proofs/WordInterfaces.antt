@@ -1,24 +1,6 @@
 -- Legal traces don't depend on the types of scalars.
-use Rattle.std.proofs.Common.{◌≡◌, ℕ, Bool, false, ◌&&◌, List, [], ◌∷◌, length, Option, Some, None, refl, ◌∙◌, ap, ap₂}
-use Rattle.std.specs.Prelude.{◌==◌}
-use Rattle.std.specs.List.{slice_get, list_any}
-use Rattle.std.specs.Option.{option_map, option_map_or, option_and_then}
-use Rattle.std.proofs.lemmas.List.{length-map}
-use Rattle.std.proofs.lemmas.Option.{slice_get-map}
-use Rattle.sc_event.specs.declared.event.Event.{Event}
-use Rattle.sc_event.specs.declared.event.Event.TheVariants.{Call, Ret, Out, In, End}
-use Rattle.sc_event.specs.declared.interface.Import.{Import}
-use Rattle.sc_event.specs.declared.interface.Interface.{Interface}
-use Rattle.sc_event.specs.declared.interface.Interfaces.{Interfaces}
-use Rattle.sc_event.specs.declared.interface.Proto.{Proto}
-use Rattle.sc_event.specs.declared.interface.Scalar.{Scalar}
-use Rattle.sc_event.specs.declared.interface.Scalar.TheVariants.{Int}
-use Rattle.sc_event.specs.declared.row.Entry.{Entry}
-use Rattle.sc_event.specs.declared.row.Entry.TheVariants.{Main, Export}
-use Rattle.sc_event.specs.Standing.{Standing, stands_after, performer, at_start}
-use Rattle.sc_event.specs.Lookup.{comp_at, export_at}
-use Rattle.sc_event.specs.Legal.{is_input, is_output, is_function, imports, takes, fits_result, may_return, awaits, may_perform, is_legal_from}
-use Rattle.sc_image.specs.Interfaces.{word_proto, word_interface, word_interfaces, LegalByWords}
+use Rattle.sc_image.proofs.Common.{Bool, Call, End, Entry, Event, Export, Import, In, Int, Interface, Interfaces, LegalByWords, List, Main, None, Option, Out, Proto, Ret, Scalar, Some, Standing, [], ap, ap₂, at_start, awaits, false, fits_result, imports, is_function, is_input, is_legal_from, is_output, length, length-map, list_any, may_perform, may_return, option_and_then, option_map, option_map_or, performer, refl, slice_get, slice_get-map, stands_after, takes, word_interface, word_interfaces, word_proto, ℕ, ◌&&◌, ◌==◌, ◌∙◌, ◌∷◌, ◌≡◌}
+use Rattle.sc_event.specs.Prelude.{comp_at, export_at}
 
 module _ (interfaces : Interfaces) where
   same_comp : (comp : ℕ) →

@@ -1,29 +1,7 @@
 -- What a state holds are words, and a step computes words from words.
-use Rattle.std.proofs.Common.{◌≡◌, ℕ, zero, suc, ◌+◌, ◌-◌, ◌/◌, ◌%◌, ◌^◌, ◌<◌, ◌≤◌, Bool, true, false, ◌&&◌, nat_eq, nat_le, if◌then◌else◌, List, [], ◌∷◌, Option, Some, None, refl, subst, arith}
-use Rattle.std.specs.Prelude.{slice_index, slice_set, unwrap_or, IsSome, position, ◌==◌}
-use Rattle.std.specs.List.{slice_get}
-use Rattle.std.specs.Option.{option_map_or}
-use Rattle.std.proofs.lemmas.Nat.{and_le_l, or_lt, xor_lt}
-use Rattle.std.proofs.lemmas.Bool.{eqb-true, leb-true}
-use Rattle.std.proofs.lemmas.List.Quantifiers.{position-Some}
-use Rattle.std.proofs.lemmas.Option.{slice_get_within, get_or_from_slice_get}
-use Rattle.sc_word.proofs.Words.{word_of-lt}
-use Rattle.sc_word.proofs.Below.{add_word-lt, sub_word-lt, sll_word-lt, srl_word-lt, sra_word-lt, slt_word-lt, sltu_word-lt, mul_word-lt, mulh_word-lt, mulhsu_word-lt, mulhu_word-lt, div_word-lt, divu_word-lt, rem_word-lt, remu_word-lt}
-use Rattle.rv_code.specs.declared.instr.OpOp.{OpOp}
+use Rattle.sc_image.proofs.Common.{Bool, CompPart, ExportPart, HoldsBytes, ImageParts, IsSome, IsWellFormed, IsWord, List, LoadOp, Memory, None, OpOp, Option, Some, [], add_word-lt, and_le_l, arith, code_of, code_start, computed, div_word-lt, divu_word-lt, eqb-true, export_at, extended, false, get_or_from_slice_get, if◌then◌else◌, kept_from, leb-true, load_of, load_size, mul_word-lt, mulh_word-lt, mulhsu_word-lt, mulhu_word-lt, nat_eq, nat_le, option_map_or, or_lt, position, position-Some, refl, rem_word-lt, remu_word-lt, signed, slice_get, slice_get_within, slice_index, slice_set, sll_word-lt, slt_word-lt, sltu_word-lt, sra_word-lt, srl_word-lt, sub_word-lt, subst, suc, true, unwrap_or, word_at, word_of-lt, written, xor_lt, zero, ℕ, ◌%◌, ◌&&◌, ◌+◌, ◌-◌, ◌/◌, ◌<◌, ◌==◌, ◌^◌, ◌∷◌, ◌≡◌, ◌≤◌}
 use Rattle.rv_code.specs.declared.instr.OpOp.TheVariants.{Add, Sub, Sll, Slt, Sltu, Xor, Srl, Sra, Or, And, Mul, Mulh, Mulhsu, Mulhu, Div, Divu, Rem, Remu}
-use Rattle.rv_code.specs.declared.instr.LoadOp.{LoadOp}
 use Rattle.rv_code.specs.declared.instr.LoadOp.TheVariants.{Lb, Lh, Lw, Lbu, Lhu}
-use Rattle.rv_code.specs.Ranges.{signed}
-use Rattle.sc_store.specs.Memory.{Memory, HoldsBytes, load_of}
-use Rattle.sc_image.specs.declared.parts.ImageParts.{ImageParts}
-use Rattle.sc_image.specs.declared.parts.CompPart.{CompPart}
-use Rattle.sc_image.specs.declared.parts.ExportPart.{ExportPart}
-use Rattle.sc_image.specs.WellFormed.{IsWord, IsWellFormed}
-use Rattle.sc_image.specs.Layout.{code_start, code_of, word_at}
-use Rattle.sc_image.specs.Calls.{export_at}
-use Rattle.sc_image.specs.State.{written}
-use Rattle.sc_image.specs.Cross.{kept_from}
-use Rattle.sc_image.specs.Step.{computed, load_size, extended}
 
 -- each place of a list holds a word
 abbrev pub AreWords : List ℕ → Type 0

@@ -1,6 +1,6 @@
 -- The bytes of an image. Numbers are little-endian.
+use Rattle.sc_image.specs.Common.{little_bytes}
 use Rattle.std.specs.Prelude.{ℕ, ◌+◌, ◌*◌, ◌^◌, ◌<◌, Bool, List, ◌∷◌, ◌++◌, length, flat_map, codes, if◌then◌else◌}
-use Rattle.byteorder.specs.Endian.{little_bytes}
 use Rattle.sc_image.specs.declared.parts.ImageParts.{ImageParts}
 use Rattle.sc_image.specs.declared.parts.CompPart.{CompPart}
 use Rattle.sc_image.specs.declared.parts.ExportPart.{ExportPart}

@@ -1,9 +1,8 @@
 -- What an image says of the functions that compartments offer and may call.
+use Rattle.sc_image.specs.Common.{Entry, Export, Main}
 use Rattle.std.specs.Prelude.{ℕ, Bool, true, false, ◌&&◌, ◌==◌, List, [], position, slice_get, Option}
 use Rattle.std.specs.List.{list_any}
 use Rattle.std.specs.Option.{option_map_or}
-use Rattle.sc_event.specs.declared.row.Entry.{Entry}
-use Rattle.sc_event.specs.declared.row.Entry.TheVariants.{Main, Export}
 use Rattle.sc_image.specs.declared.parts.ImageParts.{ImageParts}
 use Rattle.sc_image.specs.declared.parts.ExportPart.{ExportPart}
 use Rattle.sc_image.specs.declared.parts.ImportPart.{ImportPart}

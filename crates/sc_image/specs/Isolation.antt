@@ -1,9 +1,7 @@
 -- What isolates the compartments of an image: three laws of the machine's steps.
+use Rattle.sc_image.specs.Common.{Call, End, Event, In, Out, Ret, TrapReason}
 use Rattle.std.specs.Prelude.{◌≡◌, ◌≢◌, ◌↔◌, ℕ, zero, suc, Bool, true, false, ◌==◌, List, [], ◌∷◌, length, drop, All}
 use Rattle.std.specs.List.{list_any}
-use Rattle.sc_event.specs.declared.event.Event.{Event}
-use Rattle.sc_event.specs.declared.event.Event.TheVariants.{Call, Ret, Out, In, End}
-use Rattle.sc_base.specs.declared.stop.TrapReason.{TrapReason}
 use Rattle.sc_image.specs.declared.parts.ImageParts.{ImageParts}
 use Rattle.sc_image.specs.WellFormed.{IsWord, IsWellFormed}
 use Rattle.sc_image.specs.State.{State, start}

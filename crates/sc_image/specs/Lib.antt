@@ -1,3 +1,5 @@
+pub mod Common
+pub mod Prelude
 pub mod Layout
 pub mod WellFormed
 pub mod Bytes

@@ -1,6 +1,6 @@
 -- What belongs to a compartment in a state of the machine.
+use Rattle.sc_image.specs.Common.{Memory}
 use Rattle.std.specs.Prelude.{ℕ, nat_eq, List, [], ◌∷◌, ◌++◌, flat_map, Option, Some, None, if◌then◌else◌}
-use Rattle.sc_store.specs.Memory.{Memory}
 use Rattle.sc_image.specs.declared.parts.ImageParts.{ImageParts}
 use Rattle.sc_image.specs.Layout.{are_data}
 use Rattle.sc_image.specs.State.{State, Crossing, saved_sp}

@@ -1,7 +1,6 @@
 -- Reading an image from its bytes, field by field in the order of the file, and why bytes are none.
+use Rattle.sc_image.specs.Common.{is_between, is_name, little_number}
 use Rattle.std.specs.Prelude.{◌≡◌, ℕ, zero, suc, ◌/◌, ◌%◌, Bool, ◌&&◌, ◌==◌, not, nat_lt, nat_le, List, [], ◌∷◌, length, take, drop, codes, Option, Some, None, Result, Ok, Err, if◌then◌else◌}
-use Rattle.byteorder.specs.Endian.{little_number}
-use Rattle.sc_base.specs.Identifier.{is_name, is_between}
 use Rattle.sc_image.specs.declared.fault.BadImage.{BadImage}
 use Rattle.sc_image.specs.declared.fault.BadImage.TheVariants.{Mark, Version, Count, Start, Compartment, Exports, Imports, Contents, Whole}
 use Rattle.sc_image.specs.declared.fault.ImageFault.{ImageFault}

@@ -2,12 +2,8 @@
 -- step keeps it so.
 -- They differ from one another in all that a compartment may hold: its data, its registers, and its numbers on the
 -- cross stack.
+use Rattle.sc_image.specs.Common.{Call, End, Entry, Event, Export, HoldsBytes, In, Out, Ret}
 use Rattle.std.specs.Prelude.{◌≡◌, ◌≢◌, ℕ, suc, ◌<◌, List, [], ◌∷◌, length, map, fold, All}
-use Rattle.sc_event.specs.declared.event.Event.{Event}
-use Rattle.sc_event.specs.declared.event.Event.TheVariants.{Call, Ret, Out, In, End}
-use Rattle.sc_event.specs.declared.row.Entry.{Entry}
-use Rattle.sc_event.specs.declared.row.Entry.TheVariants.{Export}
-use Rattle.sc_store.specs.Memory.{HoldsBytes}
 use Rattle.sc_image.specs.declared.parts.ImageParts.{ImageParts}
 use Rattle.sc_image.specs.WellFormed.{IsWord}
 use Rattle.sc_image.specs.State.{State, Crossing, reg, saved_sp}

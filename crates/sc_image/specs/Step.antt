@@ -1,27 +1,12 @@
 -- What one instruction does (RISC-V Unprivileged ISA, RV32I and M), and when it traps.
+use Rattle.sc_image.specs.Common.{Auipc, BadCall, BadJump, Branch, BranchOp, Breakpoint, Ebreak, Ecall, Fence, Illegal, Instr, Jal, Jalr, Load, LoadOp, Lui, Misaligned, NoImport, Op, OpImm, OpImmOp, OpOp, Owner, Shift, ShiftOp, Store, StoreOp, TrapReason, Upper, add_word, decoded, div_word, divu_word, load_of, mul_word, mulh_word, mulhsu_word, mulhu_word, rem_word, remu_word, signed, signed_of, sll_word, slt_word, sltu_word, sra_word, srl_word, stored, sub_word, word_of}
 use Rattle.std.specs.Prelude.{ℕ, ℤ, ◌+◌, ◌*◌, ◌/◌, ◌%◌, ◌^◌, Bool, ◌&&◌, ◌==◌, not, nat_eq, nat_lt, nat_le, int_lt, int_le, List, Option, Some, None, if◌then◌else◌, bit_and, bit_or, bit_xor, is_some}
-use Rattle.sc_base.specs.declared.stop.TrapReason.{TrapReason}
-use Rattle.sc_base.specs.declared.stop.TrapReason.TheVariants.{Owner, Misaligned, Illegal, BadJump, NoImport, BadCall, Breakpoint}
-use Rattle.sc_word.specs.Word.{signed_of, word_of}
-use Rattle.sc_word.specs.Machine.{add_word, sub_word, sll_word, srl_word, sra_word, slt_word, sltu_word, mul_word, mulh_word, mulhsu_word, mulhu_word, div_word, divu_word, rem_word, remu_word}
-use Rattle.rv_code.specs.declared.instr.Instr.{Instr}
-use Rattle.rv_code.specs.declared.instr.Instr.TheVariants.{Upper, Jal, Jalr, Branch, Load, Store, OpImm, Shift, Op, Fence, Ecall, Ebreak}
-use Rattle.rv_code.specs.declared.instr.UpperOp.TheVariants.{Lui, Auipc}
-use Rattle.rv_code.specs.declared.instr.BranchOp.{BranchOp}
 use Rattle.rv_code.specs.declared.instr.BranchOp.TheVariants.{Beq, Bne, Blt, Bge, Bltu, Bgeu}
-use Rattle.rv_code.specs.declared.instr.LoadOp.{LoadOp}
 use Rattle.rv_code.specs.declared.instr.LoadOp.TheVariants.{Lb, Lh, Lw, Lbu, Lhu}
-use Rattle.rv_code.specs.declared.instr.StoreOp.{StoreOp}
 use Rattle.rv_code.specs.declared.instr.StoreOp.TheVariants.{Sb, Sh, Sw}
-use Rattle.rv_code.specs.declared.instr.OpImmOp.{OpImmOp}
 use Rattle.rv_code.specs.declared.instr.OpImmOp.TheVariants.{Addi, Slti, Sltiu, Xori, Ori, Andi}
-use Rattle.rv_code.specs.declared.instr.ShiftOp.{ShiftOp}
 use Rattle.rv_code.specs.declared.instr.ShiftOp.TheVariants.{Slli, Srli, Srai}
-use Rattle.rv_code.specs.declared.instr.OpOp.{OpOp}
 use Rattle.rv_code.specs.declared.instr.OpOp.TheVariants.{Add, Sub, Sll, Slt, Sltu, Xor, Srl, Sra, Or, And, Mul, Mulh, Mulhsu, Mulhu, Div, Divu, Rem, Remu}
-use Rattle.rv_code.specs.Ranges.{signed}
-use Rattle.rv_code.specs.Decoding.{decoded}
-use Rattle.sc_store.specs.Memory.{load_of, stored}
 use Rattle.sc_image.specs.declared.parts.ImageParts.{ImageParts}
 use Rattle.sc_image.specs.Layout.{gate, comp_of_code, word_at, are_data}
 use Rattle.sc_image.specs.Calls.{may_input, may_output, may_call, export_at, params_of}

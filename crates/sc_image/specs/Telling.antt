@@ -1,14 +1,8 @@
 -- Stretches of a run that tell events, for proofs about code that calls and is called: a whole run is cut into silent
 -- stretches and steps that tell one event each.
+use Rattle.sc_image.specs.Common.{Call, Ecall, Ended, Event, In, Jal, Jalr, Out, Ret, Stop, add_word, word_of}
 use Rattle.std.specs.Prelude.{◌≡◌, ℕ, suc, ◌+◌, ◌<◌, ℤ, true, false, List, [], ◌∷◌, ◌++◌, length, Some, None}
 use Rattle.std.specs.List.{list_any}
-use Rattle.sc_event.specs.declared.event.Event.{Event}
-use Rattle.sc_event.specs.declared.event.Event.TheVariants.{Call, Ret, Out, In}
-use Rattle.sc_base.specs.declared.stop.Stop.{Stop}
-use Rattle.sc_base.specs.declared.stop.Stop.TheVariants.{Ended}
-use Rattle.sc_word.specs.Word.{word_of}
-use Rattle.sc_word.specs.Machine.{add_word}
-use Rattle.rv_code.specs.declared.instr.Instr.TheVariants.{Jal, Jalr, Ecall}
 use Rattle.sc_image.specs.declared.parts.ImageParts.{ImageParts}
 use Rattle.sc_image.specs.WellFormed.{IsWellFormed}
 use Rattle.sc_image.specs.Layout.{gate}

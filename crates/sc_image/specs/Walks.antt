@@ -1,25 +1,7 @@
 -- Stretches of a run, for proofs about code: so many steps that lead from one state to another, and what they say of
 -- whole runs.
+use Rattle.sc_image.specs.Common.{Auipc, BadJump, Branch, BranchOp, Breakpoint, Ebreak, Ecall, Fence, Instr, Jal, Jalr, Load, LoadOp, Lui, Op, OpImm, OpImmOp, OpOp, Region, Shift, ShiftOp, StepsOut, Stop, Store, StoreOp, Trap, TrapReason, Upper, add_word, decoded, little_bytes, load_of, word_of}
 use Rattle.std.specs.Prelude.{◌≡◌, ℕ, zero, suc, ◌+◌, ◌*◌, ◌<◌, ◌≤◌, ℤ, true, false, List, ◌∷◌, ◌++◌, length, flat_map, slice_get, Some, None}
-use Rattle.byteorder.specs.Endian.{little_bytes}
-use Rattle.sc_base.specs.declared.stop.Stop.TheVariants.{StepsOut, Trap}
-use Rattle.sc_base.specs.declared.stop.Stop.{Stop}
-use Rattle.sc_base.specs.declared.stop.TrapReason.{TrapReason}
-use Rattle.sc_base.specs.declared.stop.TrapReason.TheVariants.{BadJump, Breakpoint}
-use Rattle.sc_word.specs.Word.{word_of}
-use Rattle.sc_word.specs.Machine.{add_word}
-use Rattle.rv_code.specs.declared.instr.Instr.{Instr}
-use Rattle.rv_code.specs.declared.instr.Instr.TheVariants.{Upper, Jal, Jalr, Branch, Load, Store, OpImm, Shift, Op, Fence, Ecall, Ebreak}
-use Rattle.rv_code.specs.declared.instr.UpperOp.TheVariants.{Lui, Auipc}
-use Rattle.rv_code.specs.declared.instr.BranchOp.{BranchOp}
-use Rattle.rv_code.specs.declared.instr.LoadOp.{LoadOp}
-use Rattle.rv_code.specs.declared.instr.StoreOp.{StoreOp}
-use Rattle.rv_code.specs.declared.instr.OpImmOp.{OpImmOp}
-use Rattle.rv_code.specs.declared.instr.ShiftOp.{ShiftOp}
-use Rattle.rv_code.specs.declared.instr.OpOp.{OpOp}
-use Rattle.rv_code.specs.Decoding.{decoded}
-use Rattle.sc_store.specs.declared.region.Region.{Region}
-use Rattle.sc_store.specs.Memory.{load_of}
 use Rattle.sc_image.specs.declared.parts.ImageParts.{ImageParts}
 use Rattle.sc_image.specs.declared.parts.CompPart.{CompPart}
 use Rattle.sc_image.specs.WellFormed.{IsWord, IsWellFormed}

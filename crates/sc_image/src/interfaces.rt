@@ -1,6 +1,6 @@
+ghost use Rattle.sc_image.specs.Prelude.{import_of, interface_of, interfaces_of, proto_of};
 ghost use Rattle.std.specs.Prelude.{◌≡◌, ◌≤◌, [], ◌∷◌, ◌++◌, if◌then◌else◌, map, replicate, All, IfOk, OnOk};
 ghost use Rattle.sc_event.specs.declared.interface.Scalar.TheVariants.{Int};
-ghost use Rattle.sc_image.specs.Interfaces.{proto_of, import_of, interface_of, interfaces_of};
 
 use crate::{CompPart, ExportPart, Image, ImportPart};
 use sc_base::OutOfMemory;

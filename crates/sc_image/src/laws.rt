@@ -1,11 +1,7 @@
 //! Laws of images and of the machine that runs them. Each law is the contract of a function with nothing to do, for the
 //! proofs of callers.
 
-ghost use Rattle.sc_image.specs.Interfaces.{TracesAreLegal, LegalByWords};
-ghost use Rattle.sc_image.specs.Isolation.{LeavesOthers, FollowsFromOwn, EntersByEvent, RunsAreSteady};
-ghost use Rattle.sc_image.specs.Walks.{StretchesCompose, StepsByInstruction, ImageInMemory};
-ghost use Rattle.sc_image.specs.Telling.{TellingComposes, StepsTell};
-ghost use Rattle.sc_image.specs.RoundTrip.{BytesNameOneImage, BadOrImage};
+ghost use Rattle.sc_image.specs.Prelude.{BadOrImage, BytesNameOneImage, EntersByEvent, FollowsFromOwn, ImageInMemory, LeavesOthers, LegalByWords, RunsAreSteady, StepsByInstruction, StepsTell, StretchesCompose, TellingComposes, TracesAreLegal};
 
 /// Bytes are those of one image at most.
 pub fn one_image()

@@ -1,7 +1,7 @@
 //! Where things lie in memory, and the registers that have a use of their own.
 
+ghost use Rattle.sc_image.specs.Prelude.{code_start, comp_of_code, data_start, stack_top};
 ghost use Rattle.std.specs.Prelude.{◌≡◌, ◌<◌};
-ghost use Rattle.sc_image.specs.Layout.{code_start, data_start, stack_top, comp_of_code};
 
 use sc_event::CompId;
 

@@ -1,6 +1,6 @@
+ghost use Rattle.sc_image.specs.Prelude.{FitsItsFields, code_bytes, comp_bytes, export_bytes, exports_bytes, flags, globals_bytes, image_bytes, import_bytes, imports_bytes, name_bytes};
 ghost use Rattle.std.specs.Prelude.{◌≡◌, ◌*◌, ◌^◌, ◌<◌, ◌++◌, length, flat_map, All, IfOk, OnOk};
 ghost use Rattle.byteorder.specs.Endian.{little_bytes};
-ghost use Rattle.sc_image.specs.Bytes.{name_bytes, flags, export_bytes, import_bytes, exports_bytes, imports_bytes, code_bytes, globals_bytes, comp_bytes, image_bytes, FitsItsFields};
 
 use crate::image::VERSION;
 use crate::{CompPart, ExportPart, Image, ImportPart};

@@ -1,13 +1,8 @@
 -- Agreement of heads is symmetric, and heads that agree agree with the same heads.
-use Rattle.std.proofs.Common.{◌≡◌, ℕ, true, ◌&&◌, List, [], ◌∷◌, Option, Some, None, refl, ap, ap₂, nat_eq}
-use Rattle.std.proofs.lemmas.Bool.{and_parts, eqb-true}
-use Rattle.std.proofs.lemmas.Cmp.{nat_list_eq_equiv, nat_eq_equiv}
+use Rattle.sc_interfaces.proofs.Common.{HeadTree, List, None, Option, ParamTree, Some, TypeName, [], agree, ap, ap₂, eqb-true, nat_eq, nat_eq_equiv, nat_list_eq_equiv, refl, same_base, same_params, same_result, same_type, true, ℕ, ◌&&◌, ◌∷◌, ◌≡◌}
+use Rattle.std.proofs.lemmas.Bool.{and_parts}
 use Rattle.sc_ast.specs.declared.types.BaseTree.{BaseTree}
 use Rattle.sc_ast.specs.declared.types.BaseTree.TheVariants as base
-use Rattle.sc_ast.specs.declared.types.TypeName.{TypeName}
-use Rattle.sc_ast.specs.declared.section.ParamTree.{ParamTree}
-use Rattle.sc_ast.specs.declared.section.HeadTree.{HeadTree}
-use Rattle.sc_interfaces.specs.Faces.{same_base, same_type, same_result, same_params, agree}
 
 base_symm : (a b : BaseTree) → same_base a b ≡ same_base b a
 base_symm base.Int base.Int = refl

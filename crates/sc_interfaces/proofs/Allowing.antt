@@ -1,17 +1,6 @@
 -- A head agrees with the first of its name and its name has no conflict, exactly where it agrees with all of its name.
-use Rattle.std.proofs.Common.{◌≡◌, Bool, true, false, not, ◌&&◌, ◌||◌, ◌==◌, bytes_eq, cond, List, [], ◌∷◌, ◌++◌, Option, Some, None, is_some, refl, sym, ap, ◌∙◌, if◌then◌else◌}
-use Rattle.std.specs.Cmp.Lexicographic.{pointwise}
-use Rattle.std.proofs.lemmas.Cmp.{nat_list_eq_equiv}
+use Rattle.sc_interfaces.proofs.Common.{Agreements, Bool, HeadTree, List, None, Option, Some, Text, [], added, added_beside, agree, agrees_first, agrees_with, all_added, all_numbered, allowed, among, and-true, and_assoc, ap, bytes_eq, cond, false, first_by_name, forbidden, if◌then◌else◌, is_numbered, is_some, list_any-append, nat_list_eq_equiv, no_heads, not, numbered, pointwise, refl, sym, true, with_first, ◌&&◌, ◌++◌, ◌==◌, ◌||◌, ◌∙◌, ◌∷◌, ◌≡◌}
 use Rattle.std.proofs.lemmas.Slice.Eq.{bytes_eq-Decides}
-use Rattle.std.proofs.lemmas.List.Folds.{list_any-append}
-use Rattle.std.proofs.Math.Bool.{and_assoc, and-true}
-use Rattle.sc_base.specs.FirstByName.{first_by_name, with_first}
-use Rattle.sc_base.specs.Numbering.{is_numbered, numbered}
-use Rattle.sc_ast.specs.declared.section.HeadTree.{HeadTree}
-use Rattle.sc_scope.specs.Declarations.{Text, among}
-use Rattle.sc_interfaces.specs.declared.agreements.Agreements.{Agreements}
-use Rattle.sc_interfaces.specs.Faces.{agree, agrees_with}
-use Rattle.sc_interfaces.specs.Tables.{no_heads, forbidden, added_beside, added, all_added, agrees_first, allowed, all_numbered}
 use Rattle.sc_interfaces.proofs.Agreeing.{agree_symm, agree_left}
 
 -- Names.

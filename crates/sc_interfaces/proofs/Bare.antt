@@ -1,9 +1,5 @@
 -- A section with nothing in it is within the counts.
-use Rattle.std.proofs.Common.{◌≡◌, [], ◌∷◌, length, All, ap, subst, sym, arith}
-use Rattle.std.proofs.lemmas.List.Elements.{All-cons, All-nil}
-use Rattle.sc_ast.specs.declared.section.SectionTree.{SectionTree}
-use Rattle.sc_scope.specs.Declarations.{functions_in}
-use Rattle.sc_interfaces.specs.Offering.{HasFewExports, HasFewParams, IsWithinCounts}
+use Rattle.sc_interfaces.proofs.Common.{All, All-cons, All-nil, HasFewExports, HasFewParams, IsWithinCounts, SectionTree, [], ap, arith, functions_in, length, subst, sym, ◌∷◌, ◌≡◌}
 
 pub bare_within : (section : SectionTree) → section.exports ≡ [] → section.decls ≡ [] → IsWithinCounts (section ∷ [])
 bare_within section exports decls = record {

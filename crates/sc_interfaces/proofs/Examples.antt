@@ -1,20 +1,8 @@
 -- Small texts, the lines at which they break the rules of interfaces, and their interfaces.
-use Rattle.std.proofs.Common.{◌≡◌, ℕ, List, [], ◌∷◌, codes, Option, Some, None, refl}
+use Rattle.sc_interfaces.proofs.Common.{Decl, ExportLine, Function, FunctionParam, ImportLine, List, None, Option, ParamTree, Proto, SectionTree, Some, Text, TypeName, [], codes, interface_broken, interfaces_of, noted_all, refl, refused_at, ℕ, ◌∷◌, ◌≡◌}
 use Rattle.sc_event.specs.declared.interface.Scalar.TheVariants as scalar
 use Rattle.sc_event.specs.declared.interface.Import.TheVariants as import
 use Rattle.sc_ast.specs.declared.types.BaseTree.TheVariants.{Int, Unsigned}
-use Rattle.sc_ast.specs.declared.types.TypeName.{TypeName}
-use Rattle.sc_ast.specs.declared.section.ExportLine.{ExportLine}
-use Rattle.sc_ast.specs.declared.section.ImportLine.{ImportLine}
-use Rattle.sc_ast.specs.declared.section.FunctionParam.{FunctionParam}
-use Rattle.sc_ast.specs.declared.section.ParamTree.{ParamTree}
-use Rattle.sc_ast.specs.declared.section.Decl.{Decl}
-use Rattle.sc_ast.specs.declared.section.Decl.TheVariants.{Proto, Function}
-use Rattle.sc_ast.specs.declared.section.SectionTree.{SectionTree}
-use Rattle.sc_scope.specs.Broken.{noted_all, refused_at}
-use Rattle.sc_scope.specs.Declarations.{Text}
-use Rattle.sc_scope.specs.Interfaces.{interfaces_of}
-use Rattle.sc_interfaces.specs.Faces.{interface_broken}
 
 abbrev refused : List SectionTree → Option ℕ
 refused sections = refused_at (interface_broken sections)

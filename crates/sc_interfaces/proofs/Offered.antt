@@ -1,34 +1,14 @@
 -- The interfaces by tables of places are the interfaces of the sections.
-use Rattle.std.proofs.Common.{◌≡◌, ℕ, suc, ◌+◌, ◌<◌, ◌≤◌, Bool, true, false, not, ◌==◌, cond, List, [], ◌∷◌, ◌++◌, All, length, map, min, slice_get, Option, Some, None, is_some, nat_lt, refl, sym, subst, ap, ap₂, ◌∙◌, ◌⊎◌, inl, inr, if◌then◌else◌, arith}
-use Rattle.std.specs.Option.{option_map, option_and_then}
-use Rattle.std.specs.List.{position, position_or_len}
-use Rattle.std.specs.Cmp.Lexicographic.{pointwise}
-use Rattle.std.proofs.lemmas.Cmp.{nat_list_eq_equiv}
+use Rattle.sc_interfaces.proofs.Common.{All, All-get_or, All-head, All-tail, Bool, Decl, ExportLine, FunctionParam, HasFewExports, HasFewParams, ImportLine, IsWithinCounts, List, None, Option, Placed, SectionTable, SectionTree, Some, Text, [], all_placed, ap, ap₂, arith, cond, defines_main, export_by, export_name, export_names, export_places, false, first_by_name, function_at, function_in, function_name, function_named, function_names, function_places, functions_in, get_or_from_slice_get, if◌then◌else◌, import_by, import_of, inl, input_name, inr, interface_by, interface_of, interfaces_by, interfaces_from, interfaces_of, is_environment, is_some, length, length-map, main_by, main_from, main_name, map, min, nat_list_eq_equiv, nat_lt, not, number_of, number_or_zero, offered, offered_by, offering, option_and_then, option_map, pointwise, position, position_or_len, promised, promised_by, proto_of, refl, scalar_of, slice_get, slice_get-map, slice_get_within, subst, suc, sym, table_of, true, with_first, ℕ, ◌++◌, ◌+◌, ◌<◌, ◌==◌, ◌∙◌, ◌∷◌, ◌≡◌, ◌≤◌, ◌⊎◌}
 use Rattle.std.proofs.lemmas.Bool.Decides.{nat_tests}
-use Rattle.std.proofs.lemmas.List.{length-map}
-use Rattle.std.proofs.lemmas.List.Elements.{All-head, All-tail, All-get_or}
-use Rattle.std.proofs.lemmas.Option.{slice_get-map, get_or_from_slice_get, slice_get_within}
-use Rattle.sc_base.specs.FirstByName.{first_by_name, with_first}
 use Rattle.sc_event.specs.declared.interface.Scalar.{Scalar}
 use Rattle.sc_event.specs.declared.interface.Proto.{Proto}
 use Rattle.sc_event.specs.declared.interface.Import.{Import}
 use Rattle.sc_event.specs.declared.interface.Import.TheVariants as import
 use Rattle.sc_event.specs.declared.interface.Interface.{Interface}
 use Rattle.sc_event.specs.declared.interface.Interfaces.{Interfaces}
-use Rattle.sc_base.specs.Numbering.{number_of}
-use Rattle.sc_ast.specs.declared.section.ExportLine.{ExportLine}
-use Rattle.sc_ast.specs.declared.section.ImportLine.{ImportLine}
-use Rattle.sc_ast.specs.declared.section.FunctionParam.{FunctionParam}
 use Rattle.sc_ast.specs.declared.section.FunctionTree.{FunctionTree}
-use Rattle.sc_ast.specs.declared.section.Decl.{Decl}
 use Rattle.sc_ast.specs.declared.section.Decl.TheVariants as declared
-use Rattle.sc_ast.specs.declared.section.SectionTree.{SectionTree}
-use Rattle.sc_scope.specs.Declarations.{Text, function_in, functions_in, function_names, export_names}
-use Rattle.sc_scope.specs.Interfaces.{is_environment, offering, offered, scalar_of, number_or_zero, function_named, promised, proto_of, import_of, interface_of, interfaces_from, main_name, defines_main, main_from, interfaces_of}
-use Rattle.sc_interfaces.specs.declared.tables.SectionTable.{SectionTable}
-use Rattle.sc_interfaces.specs.Faces.{input_name}
-use Rattle.sc_interfaces.specs.Tables.{table_of}
-use Rattle.sc_interfaces.specs.Offering.{HasFewExports, HasFewParams, IsWithinCounts, Placed, all_placed, export_name, function_name, export_places, function_places, function_at, promised_by, export_by, offered_by, import_by, interface_by, interfaces_by, main_by}
 use Rattle.sc_interfaces.proofs.Allowing.{same_text, all_numbered_same}
 use Rattle.sc_interfaces.proofs.Placing.{take_all}
 use Rattle.sc_interfaces.proofs.Telling.{Stands, number_in, offering_number_is, offering_stands}

@@ -1,21 +1,9 @@
 -- One turn of a loop.
-use Rattle.std.proofs.Common.{◌≡◌, ℕ, suc, ◌+◌, ◌<◌, ◌≤◌, ◌&&◌, Bool, true, false, List, [], ◌∷◌, ◌++◌, refl, sym, ap, ◌∙◌, length, get_or, drop, arith, drop-cons}
+use Rattle.sc_interfaces.proofs.Common.{Agreements, Bool, Decl, ExportLine, Function, Global, ImportLine, List, ParamTree, Proto, SectionTable, Struct, Text, [], all_added, ap, arith, decl_told, decls_told, drop, drop-cons, export_fits, exports_told, false, get_or, head_added, head_in, heads_in, import_fits, imports_told, length, numbered, refl, same_params, same_type, suc, sym, true, unless, with_lines, ℕ, ◌&&◌, ◌++◌, ◌+◌, ◌<◌, ◌∙◌, ◌∷◌, ◌≡◌, ◌≤◌}
 use Rattle.std.proofs.Math.ListN.{drop_of_length-le}
-use Rattle.sc_ast.specs.declared.section.ExportLine.{ExportLine}
-use Rattle.sc_ast.specs.declared.section.ImportLine.{ImportLine}
-use Rattle.sc_ast.specs.declared.section.ParamTree.{ParamTree}
-use Rattle.sc_ast.specs.declared.section.Decl.{Decl}
-use Rattle.sc_ast.specs.declared.section.Decl.TheVariants.{Struct, Global, Proto, Function}
 use Rattle.sc_scope.specs.declared.broken.BrokenLines.{BrokenLines}
-use Rattle.sc_base.specs.Numbering.{numbered}
-use Rattle.sc_scope.specs.Broken.{unless, with_lines}
-use Rattle.sc_scope.specs.Declarations.{Text, head_in, heads_in}
 use Rattle.sc_scope.proofs.Noting.{with_lines-append, with_lines-nil}
-use Rattle.sc_interfaces.specs.declared.agreements.Agreements.{Agreements}
-use Rattle.sc_interfaces.specs.Faces.{same_params, same_type}
-use Rattle.sc_interfaces.specs.declared.tables.SectionTable.{SectionTable}
 use Rattle.sc_interfaces.specs.declared.imports.Imported.{Imported}
-use Rattle.sc_interfaces.specs.Tables.{all_added, head_added, export_fits, exports_told, import_fits, imports_told, decl_told, decls_told}
 
 pub told_back : (broken : BrokenLines) (xs ys : List ℕ) →
     with_lines (with_lines broken xs) ys ≡ with_lines broken (xs ++ ys)

@@ -1,30 +1,6 @@
 -- The rules by tables are the rules.
-use Rattle.std.proofs.Common.{◌≡◌, ℕ, suc, ◌+◌, ◌<◌, ◌≤◌, Bool, true, false, not, ◌&&◌, ◌||◌, ◌==◌, bytes_eq, List, [], ◌∷◌, ◌++◌, length, map, get_or, drop, slice_get, Option, Some, None, is_some, refl, sym, ap, ap₂, ◌∙◌, if◌then◌else◌, arith}
-use Rattle.std.specs.List.{list_any, list_all}
-use Rattle.std.specs.Option.{option_map, option_and_then}
-use Rattle.std.proofs.lemmas.Option.{slice_get-map, slice_get_read}
-use Rattle.std.proofs.lemmas.List.{length-map}
-use Rattle.std.proofs.lemmas.List.Folds.{list_all-append, list_any-append}
-use Rattle.std.proofs.Math.Bool.{and_assoc, and-true, or_assoc}
-use Rattle.sc_base.specs.FirstByName.{first_by_name}
-use Rattle.sc_base.specs.Numbering.{numbered}
-use Rattle.sc_ast.specs.declared.types.TypeName.{TypeName}
-use Rattle.sc_ast.specs.declared.section.ExportLine.{ExportLine}
-use Rattle.sc_ast.specs.declared.section.ImportLine.{ImportLine}
-use Rattle.sc_ast.specs.declared.section.ParamTree.{ParamTree}
-use Rattle.sc_ast.specs.declared.section.HeadTree.{HeadTree}
-use Rattle.sc_ast.specs.declared.section.Decl.{Decl}
-use Rattle.sc_ast.specs.declared.section.Decl.TheVariants.{Struct, Global, Proto, Function}
-use Rattle.sc_ast.specs.declared.section.SectionTree.{SectionTree}
-use Rattle.sc_ast.specs.Heads.{head_of}
-use Rattle.sc_scope.specs.Broken.{unless, line_of_text, noted, noted_all, refused_at}
-use Rattle.sc_scope.specs.Declarations.{Text, among, head_in, heads_in, function_names, proto_names, export_names, import_names}
-use Rattle.sc_scope.specs.Interfaces.{environment, is_environment, offers, offering, main_name, defines_main}
-use Rattle.sc_interfaces.specs.declared.agreements.Agreements.{Agreements}
-use Rattle.sc_interfaces.specs.declared.tables.SectionTable.{SectionTable}
+use Rattle.sc_interfaces.proofs.Common.{Agreements, Bool, Decl, ExportLine, Function, Global, HeadTree, ImportLine, List, None, Option, ParamTree, Proto, SectionTable, SectionTree, Some, Struct, Text, TypeName, [], added, agree, agrees_first, agrees_with, all_added, all_numbered, allowed, among, and-true, and_assoc, ap, ap₂, arith, bytes_eq, decl_told, decls_told, defines_main, drop, environment, environment_added, export_names, exports_told, false, first_added, first_by_name, forbidden, function_names, get_or, gives_int, head_added, head_crosses, head_fits_by, head_in, head_of, heads_in, if◌then◌else◌, import_added, import_names, imported_by, imports_added, imports_told, input_head, input_name, int_type, is_environment, is_input, is_offered_by, is_output, is_plain, is_some, length, length-map, line_of_text, lines_told, list_all, list_all-append, list_any, list_any-append, main_holds, main_name, map, no_heads, not, noted, noted_all, numbered, offering, offering_number, offering_table, offers, option_and_then, option_map, or_assoc, others_added, output_head, output_name, proto_names, refl, refused_at, same_params, same_result, section_told, slice_get, slice_get-map, slice_get_read, suc, sym, table_of, takes_int, takes_nothing, true, unless, ℕ, ◌&&◌, ◌++◌, ◌+◌, ◌<◌, ◌==◌, ◌||◌, ◌∙◌, ◌∷◌, ◌≡◌, ◌≤◌}
 use Rattle.sc_interfaces.specs.Faces
-use Rattle.sc_interfaces.specs.Faces.{agree, agrees_with, same_params, takes_nothing, takes_int, gives_int, same_result, is_input, is_output, int_type, input_name, output_name, head_crosses, is_plain, main_holds}
-use Rattle.sc_interfaces.specs.Tables.{no_heads, forbidden, added, all_added, agrees_first, allowed, all_numbered, table_of, offering_number, offering_table, exports_told, input_head, output_head, is_offered_by, imports_told, environment_added, first_added, others_added, import_added, imports_added, imported_by, head_fits_by, decl_told, head_added, decls_told, section_told, lines_told}
 use Rattle.sc_interfaces.proofs.Agreeing.{type_symm}
 use Rattle.sc_interfaces.proofs.Allowing.{same_text, is_numbered-numbered, all_numbered_same, allowed_forbidden, allowed_added, allowed_same}
 use Rattle.sc_interfaces.proofs.Steps.{drop_item, drop_past}

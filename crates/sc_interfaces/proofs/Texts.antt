@@ -1,7 +1,5 @@
 -- Equality of texts.
-use Rattle.std.proofs.Common.{◌≡◌, ℕ, ◌==◌, List}
-use Rattle.std.specs.Cmp.Lexicographic.{pointwise}
-use Rattle.std.proofs.lemmas.Cmp.{nat_list_eq_equiv}
+use Rattle.sc_interfaces.proofs.Common.{List, nat_list_eq_equiv, pointwise, ℕ, ◌==◌, ◌≡◌}
 
 pub texts-sym : (xs ys : List ℕ) → pointwise ◌==◌ xs ys ≡ pointwise ◌==◌ ys xs
 texts-sym xs ys = nat_list_eq_equiv.symm xs ys

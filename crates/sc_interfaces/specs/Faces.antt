@@ -1,20 +1,11 @@
 -- The rules of interfaces, and the lines of the sections that break them.
+use Rattle.sc_interfaces.specs.Common.{Decl, ExportLine, Function, HeadTree, ImportLine, Proto, SectionTree, Text, among, defines_main, environment, export_names, function_names, head_of, heads_in, import_names, is_environment, line_of_text, main_name, offering, proto_names, unless}
 use Rattle.std.specs.Prelude.{ℕ, suc, Bool, true, false, not, ◌&&◌, ◌||◌, nat_eq, bytes_eq, codes, take, List, [], ◌∷◌, ◌++◌, map, Option, Some, None, is_some, if◌then◌else◌}
 use Rattle.std.specs.List.{list_all, list_any}
 use Rattle.sc_ast.specs.declared.types.BaseTree.{BaseTree}
 use Rattle.sc_ast.specs.declared.types.BaseTree.TheVariants as base
 use Rattle.sc_ast.specs.declared.types.TypeName.{TypeName}
-use Rattle.sc_ast.specs.declared.section.ExportLine.{ExportLine}
-use Rattle.sc_ast.specs.declared.section.ImportLine.{ImportLine}
 use Rattle.sc_ast.specs.declared.section.ParamTree.{ParamTree}
-use Rattle.sc_ast.specs.declared.section.HeadTree.{HeadTree}
-use Rattle.sc_ast.specs.declared.section.Decl.{Decl}
-use Rattle.sc_ast.specs.declared.section.Decl.TheVariants.{Proto, Function}
-use Rattle.sc_ast.specs.declared.section.SectionTree.{SectionTree}
-use Rattle.sc_ast.specs.Heads.{head_of}
-use Rattle.sc_scope.specs.Broken.{unless, line_of_text}
-use Rattle.sc_scope.specs.Declarations.{Text, among, heads_in, function_names, proto_names, export_names, import_names}
-use Rattle.sc_scope.specs.Interfaces.{environment, is_environment, offering, main_name, defines_main}
 
 -- Types of functions that agree.
 

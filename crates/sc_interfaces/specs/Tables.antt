@@ -1,20 +1,8 @@
 -- Helping: the rules of interfaces by tables of the names that sections declare, in which a name is found at once.
+use Rattle.sc_interfaces.specs.Common.{Decl, ExportLine, Function, HeadTree, ImportLine, Proto, SectionTable, SectionTree, Text, among, environment, export_names, first_by_name, function_names, head_in, head_of, heads_in, import_names, is_environment, line_of_text, main_name, numbered, proto_names, unless, with_first}
 use Rattle.std.specs.Prelude.{ℕ, suc, Bool, true, not, ◌&&◌, ◌||◌, ◌==◌, bytes_eq, List, [], ◌∷◌, ◌++◌, map, slice_get, Option, Some, None, is_some, if◌then◌else◌}
 use Rattle.std.specs.Option.{option_and_then}
-use Rattle.sc_base.specs.FirstByName.{first_by_name, with_first}
-use Rattle.sc_base.specs.Numbering.{numbered}
-use Rattle.sc_ast.specs.declared.section.ExportLine.{ExportLine}
-use Rattle.sc_ast.specs.declared.section.ImportLine.{ImportLine}
-use Rattle.sc_ast.specs.declared.section.HeadTree.{HeadTree}
-use Rattle.sc_ast.specs.declared.section.Decl.{Decl}
-use Rattle.sc_ast.specs.declared.section.Decl.TheVariants.{Proto, Function}
-use Rattle.sc_ast.specs.declared.section.SectionTree.{SectionTree}
-use Rattle.sc_ast.specs.Heads.{head_of}
-use Rattle.sc_scope.specs.Broken.{unless, line_of_text}
-use Rattle.sc_scope.specs.Declarations.{Text, among, head_in, heads_in, function_names, proto_names, export_names, import_names}
-use Rattle.sc_scope.specs.Interfaces.{environment, is_environment, main_name}
 use Rattle.sc_interfaces.specs.declared.agreements.Agreements.{Agreements}
-use Rattle.sc_interfaces.specs.declared.tables.SectionTable.{SectionTable}
 use Rattle.sc_interfaces.specs.declared.imports.Imported.{Imported}
 use Rattle.sc_interfaces.specs.Faces.{agree, head_crosses, is_plain, int_type, input_name, output_name, main_holds}
 

@@ -1,8 +1,6 @@
+ghost use Rattle.sc_interfaces.specs.Prelude.{added, agree, agrees_first, allowed, first_by_name, forbidden, no_heads};
 ghost use Rattle.std.specs.Prelude.{◌≡◌, OnOk};
 ghost use Rattle.std.specs.Option.{option_copied, option_map};
-ghost use Rattle.sc_base.specs.FirstByName.{first_by_name};
-ghost use Rattle.sc_interfaces.specs.Faces.{agree};
-ghost use Rattle.sc_interfaces.specs.Tables.{no_heads, forbidden, added, agrees_first, allowed};
 
 use crate::heads::{agree, copied};
 use sc_ast::HeadTree;

@@ -1,8 +1,6 @@
+ghost use Rattle.sc_interfaces.specs.Prelude.{allowed, decl_told, decls_told, head_added, head_fits_by, head_in, no_heads, unless, with_lines};
 ghost use Rattle.std.specs.Prelude.{◌≡◌, ◌&&◌, OnOk};
 ghost use Rattle.sc_ast.specs.declared.section.Decl.TheVariants.{Proto, Function};
-ghost use Rattle.sc_scope.specs.Broken.{unless, with_lines};
-ghost use Rattle.sc_scope.specs.Declarations.{head_in};
-ghost use Rattle.sc_interfaces.specs.Tables.{allowed, decl_told, decls_told, head_added, head_fits_by, no_heads};
 
 use crate::agreements::Agreements;
 use crate::heads::{head_crosses, main_holds, prototype};

@@ -1,6 +1,5 @@
+ghost use Rattle.sc_interfaces.specs.Prelude.{export_fits, exports_told, with_lines};
 ghost use Rattle.std.specs.Prelude.{◌≡◌, [], OnOk};
-ghost use Rattle.sc_scope.specs.Broken.{with_lines};
-ghost use Rattle.sc_interfaces.specs.Tables.{export_fits, exports_told};
 
 use crate::names::{is_main_name, is_plain};
 use sc_ast::ExportLine;

@@ -1,9 +1,9 @@
 //! The heads of functions and prototypes, and what their types are.
 
+ghost use Rattle.sc_interfaces.specs.Prelude.{agree, crosses, gives_int, head_crosses, is_int, is_main, main_holds, result_crosses, same_base, same_params, same_result, same_type, takes_nothing};
+ghost use Rattle.sc_ast.specs.Prelude.{head_of, param_of};
 ghost use Rattle.std.specs.Prelude.{◌≡◌, IfOk, map};
 ghost use Rattle.std.specs.List.{list_all};
-ghost use Rattle.sc_ast.specs.Heads.{param_of, head_of};
-ghost use Rattle.sc_interfaces.specs.Faces.{same_base, same_type, same_result, same_params, agree, crosses, result_crosses, head_crosses, is_int, gives_int, takes_nothing, main_holds, is_main};
 
 use crate::names::is_main_name;
 use sc_ast::{BaseTree, FunctionHead, FunctionParam, HeadTree, ParamTree, ParamTrees, TypeName};

@@ -1,8 +1,6 @@
+ghost use Rattle.sc_interfaces.specs.Prelude.{all_numbered, environment_added, first_added, import_added, import_fits, imported_by, imports_added, imports_told, input_head, input_name, int_type, is_offered_by, no_heads, others_added, output_head, output_name, with_lines};
 ghost use Rattle.std.specs.Prelude.{◌≡◌, [], IfOk, OnOk, map};
 ghost use Rattle.std.specs.Option.{option_copied};
-ghost use Rattle.sc_scope.specs.Broken.{with_lines};
-ghost use Rattle.sc_interfaces.specs.Faces.{int_type, input_name, output_name};
-ghost use Rattle.sc_interfaces.specs.Tables.{import_fits, imports_told, is_offered_by, all_numbered, no_heads, imported_by, imports_added, import_added, others_added, first_added, environment_added, input_head, output_head};
 
 use crate::agreements::Agreements;
 use crate::names::{is_environment_name, is_input_name, is_output_name, is_plain};

@@ -1,8 +1,7 @@
 //! Names that stand for something of their own.
 
+ghost use Rattle.sc_interfaces.specs.Prelude.{environment, input_name, is_plain, main_name, output_name};
 ghost use Rattle.std.specs.Prelude.{◌≡◌, bytes_eq};
-ghost use Rattle.sc_interfaces.specs.Faces.{is_plain, input_name, output_name};
-ghost use Rattle.sc_scope.specs.Interfaces.{environment, main_name};
 
 use sc_base::Name;
 

@@ -1,9 +1,5 @@
+ghost use Rattle.sc_interfaces.specs.Prelude.{among, interface_broken, line_of_text, main_name, name_fits, noted_all, refused_at, section_told, unless, with_lines};
 ghost use Rattle.std.specs.Prelude.{◌≡◌, ◌||◌, IfOk, OnOk, map};
-ghost use Rattle.sc_scope.specs.Broken.{line_of_text, noted_all, refused_at, unless, with_lines};
-ghost use Rattle.sc_scope.specs.Declarations.{among};
-ghost use Rattle.sc_scope.specs.Interfaces.{main_name};
-ghost use Rattle.sc_interfaces.specs.Faces.{interface_broken};
-ghost use Rattle.sc_interfaces.specs.Tables.{name_fits, section_told};
 
 use crate::decls::decls_told;
 use crate::exports::exports_told;

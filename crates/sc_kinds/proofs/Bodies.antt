@@ -1,15 +1,7 @@
 -- What statements that fit do: they ask for calls that fit alone, and leave a function with a value of its result's
 -- kind.
-use Rattle.std.proofs.Common.{◌≡◌, ℕ, suc, List, [], ◌∷◌, map, Option, Some, None, Result, Ok, refl, sym, ap, ◌∙◌, subst}
-use Rattle.std.specs.Prelude.{Bool, true, false, not, ◌&&◌, is_some}
-use Rattle.std.specs.List.{list_all}
-use Rattle.std.proofs.lemmas.Bool.{false≢true, and_from}
-use Rattle.sc_base.proofs.Bools.{and_first, and_rest}
-use Rattle.sc_core.specs.declared.cause.Cause.{Cause}
-use Rattle.sc_core.specs.declared.ty.Ty.{Ty}
-use Rattle.sc_core.specs.declared.expr.TypedExpr.{TypedExpr}
+use Rattle.sc_kinds.proofs.Common.{Acts, Arith, Blocks, Bool, Break, CallTarget, Callable, Calls, Cause, Continue, Each, Exit, Here, Inside, Judged, List, Next, None, Ok, Option, Result, Return, Scope, Signature, Some, State, Ty, TypedExpr, TypedFunction, TypedStruct, Value, Ways, Word, [], all_do, all_go_into, and_first, and_from, and_rest, and_then, ap, args_fit, assign, assign_call, assign_call_fits, at_brace, at_place, bind, block_does, body_does, body_fits, call, call_alone, call_fits, choose, closed, computed, decayed, evaluated, false, false≢true, goes_into, has_kind, have_kinds, in_order, init_does, inits_do, is_integer, is_of, is_pointer, is_scalar, is_some, is_target, judged, kind_fits, kind_step, layer_of, leave, list_all, loop, map, not, on_line, option_goes, part_does, part_fits, refl, result_goes, returned_call_fits, returned_fits, returns_kind, same_ty, simple_does, simple_fits, stmt_at, stmt_does, stmt_fits, stmt_induction, stmt_step, store, store_at, store_result, stored, subst, suc, sym, target_signature, test, true, type_goes, values, variable_at, ways, with_memory, ℕ, ◌&&◌, ◌∙◌, ◌∷◌, ◌≡◌}
 use Rattle.sc_core.specs.declared.expr.TypedCall.{TypedCall}
-use Rattle.sc_core.specs.declared.expr.CallTarget.{CallTarget}
 use Rattle.sc_core.specs.declared.expr.VarRef.TheVariants.{Local}
 use Rattle.sc_core.specs.declared.stmt.TypedStmt.{TypedStmt}
 use Rattle.sc_core.specs.declared.stmt.TypedStmtKind.{TypedStmtKind, TypedStmtKind-F}
@@ -17,23 +9,9 @@ use Rattle.sc_core.specs.declared.stmt.TypedStmtKind.TheOpen as layer
 use Rattle.sc_core.specs.declared.stmt.TypedSimple.{TypedSimple}
 use Rattle.sc_core.specs.declared.stmt.TypedSimpleKind.{TypedSimpleKind}
 use Rattle.sc_core.specs.declared.stmt.TypedSimpleKind.TheVariants as simple
-use Rattle.sc_core.specs.declared.section.TypedStruct.{TypedStruct}
 use Rattle.sc_core.specs.declared.section.TypedLocal.{TypedLocal}
-use Rattle.sc_core.specs.declared.section.TypedFunction.{TypedFunction}
-use Rattle.sc_core.specs.declared.value.Value.{Value}
-use Rattle.sc_core.specs.declared.value.Value.TheVariants.{Word}
 use Rattle.sc_core.specs.declared.value.Want.{Want}
 use Rattle.sc_core.specs.declared.value.Want.TheVariants as want
-use Rattle.sc_core.specs.Memory.{Blocks, bind, store}
-use Rattle.sc_core.specs.Value.{Arith}
-use Rattle.sc_core.specs.Types.{is_pointer}
-use Rattle.sc_core.specs.Words.{State, Here, and_then, computed, Exit, Next, Break, Continue, Return, leave, stored, with_memory, in_order, all_do, loop, choose, Calls}
-use Rattle.sc_core.specs.Tree.{Ways, Acts, variable_at, at_place, values, evaluated, store_at, assign, test, store_result, call, assign_call, call_alone, ways, simple_does, part_does, kind_step, stmt_step, stmt_does, block_does}
-use Rattle.sc_core.specs.Meaning.{at_brace, closed, init_does, inits_do, body_does}
-use Rattle.sc_core.specs.Typing.{Scope, Judged, judged, is_integer, same_ty, decayed, type_goes, goes_into, all_go_into, Signature, Callable, target_signature, args_fit, option_goes, result_goes, is_target, is_scalar, returned_fits, call_fits, assign_call_fits, returned_call_fits, simple_fits, part_fits, kind_fits, stmt_fits, body_fits}
-use Rattle.sc_core.proofs.Layers.{on_line, layer_of, stmt_at}
-use Rattle.sc_kinds.specs.Kinds.{is_of, has_kind, returns_kind, have_kinds}
-use Rattle.sc_core.proofs.Induction.{Each, Inside, stmt_induction}
 use Rattle.sc_kinds.proofs.Values.{either, bind_made, same_kind, integer_kind, decayed_kind, value_kind, typed_so}
 use Rattle.sc_kinds.proofs.Pieces.{Same, Any, itself, then_same, weaken, computed_same, choose_same, exit_kind, ExitOk, DoSame, leave_same, in_order_ok, follow_same, EachSame, all_same, loop_same}
 

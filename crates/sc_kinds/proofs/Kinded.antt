@@ -1,5 +1,5 @@
 -- The laws.
-use Rattle.sc_kinds.specs.Kinds.{ValuesHaveKinds, ResultsHaveKinds}
+use Rattle.sc_kinds.proofs.Common.{ResultsHaveKinds, ValuesHaveKinds}
 use Rattle.sc_kinds.proofs.Values.{value_kind, sound}
 use Rattle.sc_kinds.proofs.Results.{returned_good, crosses_itself, asks_alone}
 

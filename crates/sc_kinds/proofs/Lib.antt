@@ -1,3 +1,4 @@
+pub mod Common
 pub mod Bodies
 pub mod Kinded
 pub mod Pieces

@@ -1,14 +1,6 @@
 -- Two pieces of a run that are the same, and what is reached is good: what the words of the meaning make of such
 -- pieces.
-use Rattle.std.proofs.Common.{◌≡◌, ℕ, zero, suc, List, [], ◌∷◌, Option, Result, Ok, Err, refl, ap, ◌∙◌}
-use Rattle.std.specs.Prelude.{Bool, true, false, if◌then◌else◌}
-use Rattle.sc_core.specs.declared.cause.Cause.{Cause}
-use Rattle.sc_core.specs.declared.ty.Ty.{Ty}
-use Rattle.sc_core.specs.declared.value.Value.{Value}
-use Rattle.sc_core.specs.Value.{is_true}
-use Rattle.sc_core.specs.Words.{State, Here, Piece, Reached, Stopped, and_then, computed, turn, Left, Exit, Next, Break, Continue, Return, Route, On, Out, leave, take, follow, in_order, in_loop, all_do, rounds, loop, choose}
-use Rattle.sc_core.specs.Tree.{Acts}
-use Rattle.sc_kinds.specs.Kinds.{returns_kind}
+use Rattle.sc_kinds.proofs.Common.{Acts, Bool, Break, Cause, Continue, Err, Exit, Here, Left, List, Next, Ok, On, Option, Out, Piece, Reached, Result, Return, Route, State, Stopped, Ty, Value, [], all_do, and_then, ap, choose, computed, false, follow, if◌then◌else◌, in_loop, in_order, is_true, leave, loop, refl, returns_kind, rounds, suc, take, true, turn, zero, ℕ, ◌∙◌, ◌∷◌, ◌≡◌}
 
 -- what is reached, if anything is, is good
 abbrev pub Lasting : {V : Type 0} → (V → Type 0) → Piece V → Type 0

@@ -1,41 +1,18 @@
 -- What functions of a well-typed program return, and which calls they ask for.
-use Rattle.std.proofs.Common.{◌≡◌, ℕ, zero, suc, List, [], ◌∷◌, length, map, Option, Some, None, refl, sym, ap, ◌∙◌, subst, ◌++◌}
-use Rattle.std.specs.Prelude.{Bool, true, false, not, ◌&&◌, ◌==◌, nat_le, if◌then◌else◌, codes, bytes_eq, is_some, slice_get, slice_index_or, position}
-use Rattle.std.specs.List.{list_any, list_all}
-use Rattle.std.specs.Option.{option_map, option_map_or, option_and_then}
-use Rattle.std.proofs.lemmas.Bool.{false≢true, and_from, eqb-true, eq-eqb}
+use Rattle.sc_kinds.proofs.Common.{Arith, BadType, Body, Bool, CallTarget, Callable, Function, Here, Interface, Interfaces, Library, List, None, Null, Option, Piece, Ptr, Reached, Signature, Some, State, Stopped, Ty, TypedFunction, TypedSection, Value, Word, [], allowed, and_first, and_from, and_rest, and_then, ap, are_distinct, back_own, begun, body_does, body_fits, bytes_eq, call_cross, call_own, callable_in, called, calls, closed, codes, crossing, done, entry_in, eq-eqb, eqb-true, export_fits, false, false≢true, found, function, function_at, function_fits, function_of, functions_in, global_fits, has_kind, have_kinds, if◌then◌else◌, import_name, is_plain_name, is_pointer, is_some, is_well_typed, is_word, leads, length, library_of, list_all, list_any, local_fits, main_fits, main_name, mains_in, map, may_call, most_compartments, most_params, nat_le, not, option_and_then, option_map, option_map_or, option_signature, option_value, passed_fits, place_of_export, position, proto_signature, refl, result_fits, result_ty, returns_kind, run_step, same_import, same_results, same_signature, same_types, scalar_ty, scope_of, section_functions, sections_fit, signature_of, slice_get, slice_index_or, structs_fit, subst, suc, sym, target_signature, true, turn, within, word_back, zero, ℕ, ◌&&◌, ◌++◌, ◌==◌, ◌∙◌, ◌∷◌, ◌≡◌}
+use Rattle.sc_event.specs.Prelude.{comp_at, export_at, imports, is_function, is_input, is_output, takes}
 use Rattle.std.proofs.lemmas.Option.{slice_get-map}
 use Rattle.std.proofs.lemmas.List.{length-map}
-use Rattle.sc_base.proofs.Bools.{and_first, and_rest}
-use Rattle.sc_event.specs.declared.interface.Interfaces.{Interfaces}
-use Rattle.sc_event.specs.declared.interface.Interface.{Interface}
 use Rattle.sc_event.specs.declared.interface.Proto.{Proto}
 use Rattle.sc_event.specs.declared.interface.Scalar.{Scalar}
 use Rattle.sc_event.specs.declared.interface.Scalar.TheVariants as scalar
 use Rattle.sc_event.specs.declared.interface.Import.{Import}
 use Rattle.sc_event.specs.declared.interface.Import.TheVariants as import
 use Rattle.sc_event.specs.declared.row.Entry.TheVariants.{Export}
-use Rattle.sc_event.specs.Lookup.{comp_at, export_at}
-use Rattle.sc_event.specs.Legal.{is_input, is_output, is_function, imports, takes}
-use Rattle.sc_core.specs.declared.cause.Cause.TheVariants.{BadType}
-use Rattle.sc_core.specs.declared.ty.Ty.{Ty}
 use Rattle.sc_core.specs.declared.ty.Ty.TheVariants as ty
-use Rattle.sc_core.specs.declared.expr.CallTarget.{CallTarget}
 use Rattle.sc_core.specs.declared.expr.CallTarget.TheVariants.{Own, Cross, Input, Output}
 use Rattle.sc_core.specs.declared.run.RunEnd.TheVariants.{Blamed}
-use Rattle.sc_core.specs.declared.section.TypedFunction.{TypedFunction}
-use Rattle.sc_core.specs.declared.section.TypedSection.{TypedSection}
 use Rattle.sc_core.specs.declared.program.ProgramTree.{ProgramTree}
-use Rattle.sc_core.specs.declared.value.Value.{Value}
-use Rattle.sc_core.specs.declared.value.Value.TheVariants.{Word, Null, Ptr}
-use Rattle.sc_core.specs.Value.{Arith}
-use Rattle.sc_core.specs.Types.{is_pointer}
-use Rattle.sc_core.specs.Words.{State, Here, Piece, Reached, Stopped, and_then, turn}
-use Rattle.sc_core.specs.Calls.{Function, Library, Body, function, leads, begun, done, found, word_back, crossing, option_value, is_word, may_call, back_own, call_own, call_cross, called, calls, run_step, within}
-use Rattle.sc_core.specs.Meaning.{main_name, closed, function_of, functions_in, place_of_export, entry_in, library_of, body_does}
-use Rattle.sc_core.specs.Typing.{Signature, Callable, scalar_ty, result_ty, signature_of, proto_signature, same_import, option_signature, allowed, target_signature, body_fits}
-use Rattle.sc_core.specs.WellTyped.{most_compartments, are_distinct, scope_of, function_fits, same_types, same_results, same_signature, is_plain_name, export_fits, import_name, callable_in, sections_fit, main_fits, mains_in, is_well_typed, passed_fits, result_fits, local_fits, structs_fit, global_fits, most_params}
-use Rattle.sc_kinds.specs.Kinds.{has_kind, returns_kind, have_kinds, section_functions, function_at}
 use Rattle.sc_kinds.proofs.Values.{same_kind}
 use Rattle.sc_kinds.proofs.Pieces.{Lasting, Same, Any, then_same, ExitOk}
 use Rattle.sc_kinds.proofs.Bodies.{CallsFit, body_same, closed_same}

@@ -1,17 +1,7 @@
 -- What the sections of a well-typed program keep, by their numbers.
-use Rattle.std.proofs.Common.{◌≡◌, ℕ, zero, suc, List, [], ◌∷◌, ◌++◌, map, cond, Option, Some, None, refl, sym, ap, ◌∙◌, subst}
-use Rattle.std.specs.Prelude.{Bool, true, false, not, ◌&&◌, ◌||◌, bytes_eq, slice_get, slice_index_or, position}
-use Rattle.std.specs.List.{list_any, list_all}
-use Rattle.std.specs.Option.{option_map}
-use Rattle.std.proofs.lemmas.Bool.{false≢true}
-use Rattle.sc_base.proofs.Bools.{and_first, and_rest}
+use Rattle.sc_kinds.proofs.Common.{Bool, Interface, Interfaces, List, None, Option, Some, TypedFunction, TypedSection, [], and_first, and_rest, ap, are_distinct, bytes_eq, cond, false, false≢true, interface_fits, list_all, list_any, map, not, option_map, position, refl, section_fits, sections_fit, slice_get, slice_index_or, subst, suc, sym, true, zero, ℕ, ◌&&◌, ◌++◌, ◌||◌, ◌∙◌, ◌∷◌, ◌≡◌}
 use Rattle.sc_base.proofs.Lists.{position-cons}
 use Rattle.sc_base.proofs.Texts.{same_text, bytes_eq_self}
-use Rattle.sc_event.specs.declared.interface.Interfaces.{Interfaces}
-use Rattle.sc_event.specs.declared.interface.Interface.{Interface}
-use Rattle.sc_core.specs.declared.section.TypedFunction.{TypedFunction}
-use Rattle.sc_core.specs.declared.section.TypedSection.{TypedSection}
-use Rattle.sc_core.specs.WellTyped.{are_distinct, section_fits, interface_fits, sections_fit}
 use Rattle.sc_kinds.proofs.Values.{either}
 
 -- a section of a program with its interface

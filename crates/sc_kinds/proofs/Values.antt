@@ -1,36 +1,17 @@
 -- Values have the kinds of their types: expressions.
-use Rattle.std.proofs.Common.{◌≡◌, ℕ, suc, pos, negsuc, ℤ, List, length, Option, Some, None, Result, Ok, Err, refl, sym, ap, ◌∙◌, subst}
-use Rattle.std.specs.Prelude.{◌-◌, ◌^◌, Bool, true, false, not, ◌&&◌, ◌||◌, if◌then◌else◌, nat_le, slice_get, int_rem, int_div}
-use Rattle.std.proofs.lemmas.Bool.{false≢true}
-use Rattle.sc_base.proofs.Bools.{and_first, and_rest}
+use Rattle.sc_kinds.proofs.Common.{Arith, BadPointer, Blocks, Bool, Cause, Err, Here, Judged, List, Meant, None, Null, Ok, Option, Ptr, Result, Scope, Some, Ty, TypedExpr, TypedStruct, Under, Value, Word, and_first, and_rest, ap, apart, applied, applied_one, are_equatable, are_ordered, as_word, at_place, at_pointer, between, binary, binary_fits, bind, both_ints, cells_at, choose, common, decayed, difference_fits, expr_at, expr_induction, false, false≢true, if◌then◌else◌, in_elements, int_div, int_rem, is_address, is_array, is_int, is_integer, is_live, is_of, is_pointer, is_scalar, is_true, is_type, is_unsigned, is_unsigned_op, is_zero, judged, length, literal, load, loaded, meant, meant_step, moved, moved_back, moved_on, nat_le, negsuc, not, of_bool, on_word, on_words, ordered, place_at, pointer_to, points, pos, refl, same_place, same_pointers, same_ty, slice_get, subst, suc, sum_fits, sym, target_cells, term_judged, term_of, term_step, true, typed, unary_fits, variable_at, wanted, ways, ℕ, ℤ, ◌&&◌, ◌-◌, ◌^◌, ◌||◌, ◌∙◌, ◌≡◌}
+use Rattle.sc_word.specs.Prelude.{word_of}
 use Rattle.sc_base.specs.declared.op.UnaryOp.{UnaryOp}
 use Rattle.sc_base.specs.declared.op.UnaryOp.TheVariants as unary
 use Rattle.sc_base.specs.declared.op.BinaryOp.{BinaryOp}
 use Rattle.sc_base.specs.declared.op.BinaryOp.TheVariants as op
-use Rattle.sc_core.specs.declared.cause.Cause.{Cause}
-use Rattle.sc_core.specs.declared.cause.Cause.TheVariants.{BadPointer}
-use Rattle.sc_word.specs.Word.{word_of}
-use Rattle.sc_core.specs.declared.ty.Ty.{Ty}
 use Rattle.sc_core.specs.declared.ty.Ty.TheVariants as ty
 use Rattle.sc_core.specs.declared.ty.BaseTy.TheVariants as base
-use Rattle.sc_core.specs.declared.expr.TypedExpr.{TypedExpr}
 use Rattle.sc_core.specs.declared.expr.TypedKind.{TypedKind, TypedKind-F}
 use Rattle.sc_core.specs.declared.expr.TypedKind.TheOpen as term
-use Rattle.sc_core.specs.declared.section.TypedStruct.{TypedStruct}
 use Rattle.sc_core.specs.declared.value.Cell.{Cell}
 use Rattle.sc_core.specs.declared.value.Cell.TheVariants as cell
-use Rattle.sc_core.specs.declared.value.Value.{Value}
-use Rattle.sc_core.specs.declared.value.Value.TheVariants.{Word, Null, Ptr}
 use Rattle.sc_core.specs.declared.value.Want.TheVariants as want
-use Rattle.sc_core.specs.Memory.{Blocks, bind, is_live, cells_at, loaded, load}
-use Rattle.sc_core.specs.Value.{Arith, as_word, of_bool, is_true, moved, moved_on, moved_back, place_at, apart, in_elements, is_zero, same_place, ordered, between, on_words, on_word, applied_one}
-use Rattle.sc_core.specs.Types.{is_array, is_pointer, is_unsigned, target_cells}
-use Rattle.sc_core.specs.Typing.{Scope, Judged, judged, term_judged, same_ty, is_type, is_integer, decayed, pointer_to, common, is_int, points, is_address, is_scalar, both_ints, same_pointers, are_equatable, are_ordered, sum_fits, difference_fits, binary_fits, unary_fits}
-use Rattle.sc_core.specs.Words.{Here, choose}
-use Rattle.sc_core.specs.Tree.{Meant, wanted, at_place, literal, variable_at, is_unsigned_op, at_pointer, applied, binary, term_step, meant_step, meant, ways}
-use Rattle.sc_core.proofs.Layers.{typed, term_of, expr_at}
-use Rattle.sc_kinds.specs.Kinds.{is_of}
-use Rattle.sc_core.proofs.Induction.{Under, expr_induction}
 
 -- RESULTS
 

@@ -1,5 +1,7 @@
 -- Values have the kind of their types: words for integers, pointers and null for pointers. So no operator of a program
 -- meets an operand that it has no meaning for, and numbers alone cross between compartments.
+use Rattle.sc_event.specs.Prelude.{export_at}
+use Rattle.sc_core.specs.Prelude.{Arith, Blocks, Function, Here, IsWellTyped, Reached, Scope, State, called, calls, crossing, entry_in, function, is_pointer, judged, library_of, option_value, run_step, ways, within}
 use Rattle.std.specs.Prelude.{◌≡◌, ℕ, Bool, true, false, not, ◌&&◌, List, [], ◌∷◌, Option, None, Some, Ok, slice_get}
 use Rattle.sc_core.specs.declared.ty.Ty.{Ty}
 use Rattle.sc_core.specs.declared.expr.TypedExpr.{TypedExpr}
@@ -10,18 +12,8 @@ use Rattle.sc_core.specs.declared.program.ProgramTree.{ProgramTree}
 use Rattle.sc_core.specs.declared.value.Value.{Value}
 use Rattle.sc_core.specs.declared.value.Value.TheVariants.{Word, Null, Ptr}
 use Rattle.sc_core.specs.declared.value.Want.TheVariants as want
-use Rattle.sc_core.specs.Memory.{Blocks}
-use Rattle.sc_core.specs.Value.{Arith}
-use Rattle.sc_core.specs.Types.{is_pointer}
-use Rattle.sc_core.specs.Typing.{Scope, judged}
-use Rattle.sc_core.specs.Tree.{ways}
-use Rattle.sc_core.specs.Words.{State, Here, Reached}
-use Rattle.sc_core.specs.WellTyped.{IsWellTyped}
-use Rattle.sc_core.specs.Calls.{Function, function, option_value, crossing, called, calls, run_step, within}
-use Rattle.sc_core.specs.Meaning.{library_of, entry_in}
 use Rattle.sc_event.specs.declared.interface.Proto.{Proto}
 use Rattle.sc_event.specs.declared.row.Entry.TheVariants.{Export}
-use Rattle.sc_event.specs.Lookup.{export_at}
 
 -- whether a value is one of a pointer, or else a word
 abbrev pub is_of : (pointer : Bool) → Value → Bool

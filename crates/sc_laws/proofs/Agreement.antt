@@ -1,25 +1,6 @@
 -- Libraries that agree function by function run the same, also where compartments perform scripts.
-use Rattle.std.proofs.Common.{◌≡◌, ℕ, zero, suc, Bool, true, false, List, [], ◌∷◌, length, map, Option, None, Some, refl, sym, ◌∙◌, ap, subst}
-use Rattle.std.specs.Prelude.{if◌then◌else◌, nat_le, nat_lt, take, is_some}
-use Rattle.sc_event.specs.declared.event.Event.TheVariants.{Call}
-use Rattle.sc_event.specs.declared.row.Entry.TheVariants.{Main, Export}
-use Rattle.sc_event.specs.declared.row.Row.{Row}
-use Rattle.sc_event.specs.declared.row.Action.{Action}
+use Rattle.sc_laws.proofs.Common.{Action, AgreeingRunAlike, BehavioursAgree, Blamed, BodiesAgree, Body, Bool, Call, CallTarget, CallsAgree, Cross, Ended, EventsOut, Export, Function, FunctionsAgree, Here, Input, LibrariesAgree, Library, List, Main, Meets, Memory, None, Option, Output, Own, Piece, PiecesAgree, Reached, Roles, Row, RunEnd, RunsAgree, Some, SourceRun, State, Step, Stopped, TurnsOut, Value, Word, [], acts, and_then, ap, asks, back_cross, back_own, begun, call_cross, call_own, called, calls, crossed, done, false, first_state, found, function, if◌then◌else◌, is_number, is_some, length, map, may_call, nat_le, nat_lt, performs, piece_without_line, reaches, refl, rows_left, run_by, run_in, run_step, run_to, scripted_step, stopped_at, subst, suc, sym, take, tell, true, turn, within, without_line, word_in, zero, ℕ, ◌∙◌, ◌∷◌, ◌≡◌}
 use Rattle.sc_event.specs.declared.row.Action.TheVariants as act
-use Rattle.sc_core.specs.declared.expr.CallTarget.{CallTarget}
-use Rattle.sc_core.specs.declared.expr.CallTarget.TheVariants.{Own, Cross, Input, Output}
-use Rattle.sc_core.specs.declared.run.RunEnd.{RunEnd}
-use Rattle.sc_core.specs.declared.run.RunEnd.TheVariants.{Ended, Blamed, TurnsOut, EventsOut}
-use Rattle.sc_core.specs.declared.run.SourceRun.{SourceRun}
-use Rattle.sc_core.specs.declared.value.Value.{Value}
-use Rattle.sc_core.specs.declared.value.Value.TheVariants.{Word}
-use Rattle.sc_core.specs.Memory.{Memory}
-use Rattle.sc_core.specs.Words.{State, Here, Piece, Reached, Stopped, and_then, turn, tell}
-use Rattle.sc_core.specs.Calls.{Function, Library, Body, Step, function, found, begun, done, crossed, word_in, may_call, back_own, back_cross, run_in, call_own, call_cross, called, calls, run_step, within}
-use Rattle.sc_core.specs.Scripts.{Roles, rows_left, is_number, asks, acts, performs, scripted_step}
-use Rattle.sc_core.specs.Run.{reaches, stopped_at}
-use Rattle.sc_core.specs.Meaning.{run_to, first_state, run_by}
-use Rattle.sc_laws.specs.Agreement.{Meets, without_line, piece_without_line, PiecesAgree, CallsAgree, BodiesAgree, FunctionsAgree, LibrariesAgree, BehavioursAgree, RunsAgree, AgreeingRunAlike}
 use Rattle.sc_laws.proofs.Libraries.{may_call_same}
 
 pub itself : {V : Type 0} (o : Piece V) → PiecesAgree o o

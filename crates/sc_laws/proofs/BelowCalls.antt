@@ -1,25 +1,7 @@
 -- Calls and scripts in two runs, of which the second may be richer or go on.
-use Rattle.std.proofs.Common.{◌≡◌, ℕ, zero, suc, ◌+◌, ◌<◌, ◌≤◌, List, [], ◌∷◌, map, length, Option, Some, None, refl, sym, ap, ap₂, ◌∙◌, subst, arith}
-use Rattle.std.specs.Prelude.{Bool, true, false, if◌then◌else◌, ◌⊎◌}
-use Rattle.sc_event.specs.declared.event.Event.TheVariants.{Call}
-use Rattle.sc_event.specs.declared.interface.Interfaces.{Interfaces}
-use Rattle.sc_event.specs.declared.row.Entry.TheVariants.{Export}
-use Rattle.sc_event.specs.declared.row.Row.{Row}
-use Rattle.sc_event.specs.declared.row.Action.{Action}
+use Rattle.sc_laws.proofs.Common.{Action, BadType, Blamed, Body, Bool, Call, CallTarget, Cause, Cross, Export, Function, Goes, Grown, Here, Input, Interfaces, Library, List, Meets, None, Option, Output, Own, Piece, Roles, Row, Some, State, Step, Stopped, TurnsOut, Value, Word, [], acts, and_then, ap, ap₂, arith, asks, back_cross, back_own, begun, call_cross, call_own, called, calls, crossed, done, false, found, function, if◌then◌else◌, is_number, length, map, may_call, performs, refl, rows_left, run_in, run_step, scripted_step, subst, suc, sym, tell, true, turn, within, word_in, zero, ℕ, ◌+◌, ◌<◌, ◌∙◌, ◌∷◌, ◌≡◌, ◌≤◌, ◌⊎◌}
 use Rattle.sc_event.specs.declared.row.Action.TheVariants as act
-use Rattle.sc_core.specs.declared.cause.Cause.{Cause}
-use Rattle.sc_core.specs.declared.cause.Cause.TheVariants.{BadType}
-use Rattle.sc_core.specs.declared.expr.CallTarget.{CallTarget}
-use Rattle.sc_core.specs.declared.expr.CallTarget.TheVariants.{Own, Cross, Input, Output}
-use Rattle.sc_core.specs.declared.run.RunEnd.TheVariants.{Blamed, TurnsOut}
-use Rattle.sc_core.specs.declared.value.Value.{Value}
-use Rattle.sc_core.specs.declared.value.Value.TheVariants.{Word}
-use Rattle.sc_core.specs.Words.{State, Here, Piece, Stopped, and_then, turn, tell}
-use Rattle.sc_core.specs.Calls.{Function, Library, Body, Step, function, begun, done, found, word_in, crossed, may_call, back_own, back_cross, run_in, call_own, call_cross, called, calls, run_step, within}
-use Rattle.sc_core.specs.Scripts.{Roles, rows_left, is_number, asks, acts, performs, scripted_step}
-use Rattle.sc_laws.specs.Growth.{Grown, Goes}
 use Rattle.sc_laws.proofs.Growing.{stays, earlier, back_goes, then_goes, BodyGoes, StepGoes, begun_goes, done_goes, own_goes, cross_goes, calls_go, performs_go, within_goes, asks_is, asks_go, then_then}
-use Rattle.sc_laws.specs.Agreement.{Meets}
 use Rattle.sc_laws.proofs.Libraries.{Anywhere, CallsTwins, FunctionTwins, LibraryTwins, function_twins, entered_same, may_same}
 use Rattle.sc_laws.proofs.Below.{richer, richer_piece, Below, along, Ahead, below_kept}
 

@@ -1,32 +1,8 @@
 -- No compartment that performs is blamed, whatever the trace is.
-use Rattle.std.proofs.Common.{◌≡◌, refl, subst, ℕ, zero, suc, Bool, true, false, if◌then◌else◌, List, [], ◌∷◌, map, length, Option}
-use Rattle.std.specs.Prelude.{take}
-use Rattle.sc_event.specs.declared.row.Row.{Row}
-use Rattle.sc_event.specs.declared.row.Action.{Action}
+use Rattle.sc_laws.proofs.Common.{Action, BadType, Blamed, Body, Bool, Call, CallTarget, Cause, Cross, Ended, EventsOut, Export, Here, Input, Kept, Library, List, Main, Memory, Obedient, Option, Output, Own, Piece, Property, Reached, Roles, Row, RunEnd, Set, SourceRun, State, Stopped, TurnsOut, Value, Word, [], acts, asks, back_cross, back_own, begun, call_cross, call_own, called, calls, crossed, done, false, first_state, found_kept, function, if◌then◌else◌, is_number, length, map, may_call, performs, reaches, refl, roles_run, rows_left, run_by, run_in, run_step, run_to, scripted_step, stopped_at, subst, suc, take, tell, then_kept, true, turn, turn_of, within, word_in, zero, ℕ, ◌∷◌, ◌≡◌}
 use Rattle.sc_event.specs.declared.row.Action.TheVariants as act
-use Rattle.sc_event.specs.declared.row.Entry.TheVariants.{Main, Export}
-use Rattle.sc_event.specs.declared.event.Event.TheVariants.{Call}
-use Rattle.sc_core.specs.declared.cause.Cause.{Cause}
-use Rattle.sc_core.specs.declared.cause.Cause.TheVariants.{BadType}
-use Rattle.sc_core.specs.declared.expr.CallTarget.{CallTarget}
-use Rattle.sc_core.specs.declared.expr.CallTarget.TheVariants.{Own, Cross, Input, Output}
-use Rattle.sc_core.specs.declared.run.RunEnd.{RunEnd}
-use Rattle.sc_core.specs.declared.run.RunEnd.TheVariants.{Ended, Blamed, TurnsOut, EventsOut}
-use Rattle.sc_core.specs.declared.run.SourceRun.{SourceRun}
-use Rattle.sc_core.specs.declared.value.Value.{Value}
-use Rattle.sc_core.specs.declared.value.Value.TheVariants.{Word}
-use Rattle.sc_core.specs.Memory.{Memory}
-use Rattle.sc_core.specs.Run.{reaches, stopped_at}
-use Rattle.sc_core.specs.Words.{State, Here, Piece, Reached, Stopped, turn, turn_of, tell}
-use Rattle.sc_core.specs.Calls.{Library, Body, function, begun, done, word_in, crossed, may_call, back_own, back_cross, run_in, call_own, call_cross, called, calls, run_step, within}
-use Rattle.sc_core.specs.Scripts.{Roles, rows_left, is_number, asks, acts, performs, scripted_step}
-use Rattle.sc_core.specs.Meaning.{first_state, run_to, run_by}
-use Rattle.sc_laws.specs.Chains.{Set}
-use Rattle.sc_laws.specs.Runs.{roles_run}
 use Rattle.sc_laws.proofs.Growing.{BodyGoes, calls_go, within_goes}
-use Rattle.sc_laws.specs.Interactions.{Obedient}
 use Rattle.sc_laws.proofs.Matching.{scripted_goes_on}
-use Rattle.sc_core.proofs.Keeping.{Property, Kept, then_kept, found_kept}
 use Rattle.sc_laws.proofs.Keeping.{IsKept, function_keeps}
 
 module _ (set : Set) where

@@ -1,20 +1,5 @@
 -- The links of a chain come one after another, and a chain is found.
-use Rattle.std.proofs.Common.{◌≡◌, refl, sym, ap, ap₂, ◌∙◌, ℕ, zero, suc, ◌+◌, ◌<◌, ◌≤◌, Bool, true, false, if◌then◌else◌, List, [], ◌∷◌, ◌++◌, length, length-append, arith, ⊎_elim}
-use Rattle.std.specs.Prelude.{◌⊎◌, ◌||◌, ◌==◌, nat_le, take}
-use Rattle.std.proofs.lemmas.Bool.{eqb-true, eq-eqb, leb-false, cases_eq, ne_eqb}
-use Rattle.sc_event.specs.declared.event.Event.{Event}
-use Rattle.sc_core.specs.declared.cause.Cause.{Cause}
-use Rattle.sc_core.specs.declared.run.RunEnd.{RunEnd}
-use Rattle.sc_core.specs.declared.run.RunEnd.TheVariants.{Blamed, TurnsOut, EventsOut}
-use Rattle.sc_core.specs.declared.run.SourceRun.{SourceRun}
-use Rattle.sc_core.specs.Run.{reaches, stopped_at}
-use Rattle.sc_core.specs.Memory.{Memory}
-use Rattle.sc_core.specs.Calls.{Library}
-use Rattle.sc_core.specs.Scripts.{roles_in}
-use Rattle.sc_laws.specs.Chains.{Set, IsWithin, nobody, with, Link, IsBlamedOutside, IsChain, IsRising, AreFresh, PassesBlame, turnless, longer}
-use Rattle.sc_laws.specs.Laws.{ChainRises, HasChain}
-use Rattle.sc_laws.specs.Interactions.{Obedient}
-use Rattle.sc_laws.specs.Runs.{roles_run, performed_by}
+use Rattle.sc_laws.proofs.Common.{AreFresh, Blamed, Bool, Cause, ChainRises, Event, EventsOut, HasChain, IsBlamedOutside, IsChain, IsRising, IsWithin, Library, Link, List, Memory, Obedient, PassesBlame, RunEnd, Set, SourceRun, TurnsOut, [], ap, ap₂, arith, cases_eq, eq-eqb, eqb-true, false, if◌then◌else◌, leb-false, length, length-append, longer, nat_le, ne_eqb, nobody, performed_by, reaches, refl, roles_in, roles_run, stopped_at, suc, sym, take, true, turnless, with, zero, ℕ, ⊎_elim, ◌++◌, ◌+◌, ◌<◌, ◌==◌, ◌||◌, ◌∙◌, ◌∷◌, ◌≡◌, ◌≤◌, ◌⊎◌}
 use Rattle.sc_laws.proofs.Blames.{nobody_is_blamed}
 use Rattle.sc_laws.proofs.FollowingRuns.{passes_blames}
 

@@ -1,17 +1,8 @@
 -- Chains of worked programs, computed, and the least sets that they give.
-use Rattle.std.proofs.Common.{◌≡◌, sym, ap, ◌++◌, true, List, [], ◌∷◌, Some, length}
-use Rattle.sc_event.specs.declared.event.Event.{Event}
-use Rattle.sc_event.specs.declared.event.Event.TheVariants.{Call, Ret, Out, End}
-use Rattle.sc_core.specs.declared.cause.Cause.TheVariants.{OutOfBounds}
-use Rattle.sc_core.specs.declared.program.ProgramTree.{ProgramTree}
-use Rattle.sc_core.specs.declared.run.RunEnd.TheVariants.{Blamed, Ended}
-use Rattle.sc_core.specs.declared.run.SourceRun.{SourceRun}
-use Rattle.sc_core.specs.Value.{c_arith}
+use Rattle.sc_laws.proofs.Common.{Blamed, Call, End, Ended, Event, Front, Includes, IsChain, Link, List, Out, OutOfBounds, ProgramTree, Ret, Set, Some, SourceRun, [], ap, c_arith, length, nobody, performed, sym, true, with, ◌++◌, ◌∷◌, ◌≡◌}
 use Rattle.sc_core.proofs.Plans.{program}
 use Rattle.sc_core.proofs.Programs.{two_stores_interfaces, two_stores, reentry_interfaces, reentry}
 use Rattle.sc_core.proofs.Rows.{scripted_by_plan, two_stores_trace, reentry_trace}
-use Rattle.sc_laws.specs.Chains.{Set, nobody, with, Link, performed, IsChain, Includes}
-use Rattle.sc_core.specs.Growth.{Front}
 use Rattle.sc_laws.proofs.ProgramLaws.{chain_is_least}
 
 -- a run that was blamed along a trace, which goes on with these events

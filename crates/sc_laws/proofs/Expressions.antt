@@ -1,28 +1,12 @@
 -- What expressions give in two arithmetics, of which one may blame where the other goes on.
-use Rattle.std.proofs.Common.{◌≡◌, ℕ, List, [], ◌∷◌, map, Result, Ok, Err, refl, sym, ap, ◌∙◌, subst}
-use Rattle.std.specs.Prelude.{Bool, true, false, if◌then◌else◌}
-use Rattle.sc_core.specs.declared.cause.Cause.{Cause}
+use Rattle.sc_laws.proofs.Common.{Arith, BinaryOp, Blocks, Bool, Cause, Err, Here, List, Meant, Null, Ok, Ptr, Result, TypedExpr, TypedStruct, Under, Value, Want, Ways, Word, [], ap, applied, applied_one, as_word, at_place, at_pointer, binary, bind, choose, expr_at, expr_induction, false, if◌then◌else◌, is_pointer, is_unsigned, is_unsigned_op, map, meant, meant_step, moved, on_words, pos, refl, subst, sym, term_of, term_step, true, typed, values, ways, ℕ, ◌∙◌, ◌∷◌, ◌≡◌}
 use Rattle.sc_base.specs.declared.op.UnaryOp.{UnaryOp}
 use Rattle.sc_base.specs.declared.op.UnaryOp.TheVariants as unary
-use Rattle.sc_base.specs.declared.op.BinaryOp.{BinaryOp}
 use Rattle.sc_base.specs.declared.op.BinaryOp.TheVariants as op
 use Rattle.sc_core.specs.declared.ty.Ty.{Ty}
-use Rattle.sc_core.specs.declared.expr.TypedExpr.{TypedExpr}
 use Rattle.sc_core.specs.declared.expr.TypedKind.{TypedKind, TypedKind-F}
 use Rattle.sc_core.specs.declared.expr.TypedKind.TheOpen as term
-use Rattle.sc_core.specs.declared.section.TypedStruct.{TypedStruct}
-use Rattle.sc_core.specs.declared.value.Value.{Value}
-use Rattle.sc_core.specs.declared.value.Value.TheVariants.{Word, Null, Ptr}
-use Rattle.sc_core.specs.declared.value.Want.{Want}
 use Rattle.sc_core.specs.declared.value.Want.TheVariants as want
-use Rattle.sc_core.specs.Memory.{Blocks, bind}
-use Rattle.std.specs.Prelude.{pos}
-use Rattle.sc_core.specs.Value.{Arith, moved, as_word, on_words, applied_one}
-use Rattle.sc_core.specs.Types.{is_unsigned, is_pointer}
-use Rattle.sc_core.specs.Words.{Here, choose}
-use Rattle.sc_core.specs.Tree.{Ways, Meant, at_place, is_unsigned_op, values, at_pointer, applied, binary, term_step, meant_step, meant, ways}
-use Rattle.sc_core.proofs.Layers.{typed, term_of, expr_at}
-use Rattle.sc_core.proofs.Induction.{Under, expr_induction}
 
 -- causes that are blamed in the first arithmetic alone
 module _ (Soft : Cause → Type 0) where

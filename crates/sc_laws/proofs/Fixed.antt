@@ -1,14 +1,6 @@
 -- What functions do with as many open calls as they have turns is a fixed point.
-use Rattle.std.proofs.Common.{◌≡◌, ℕ, suc, ◌+◌, ◌<◌, refl, sym, ap, ◌∙◌, arith, inl}
-use Rattle.sc_core.specs.declared.run.RunEnd.{RunEnd}
-use Rattle.sc_core.specs.declared.run.RunEnd.TheVariants.{Ended, Blamed, TurnsOut, EventsOut}
-use Rattle.sc_core.specs.Words.{State, Here, Piece, Reached, Stopped}
-use Rattle.sc_core.specs.Calls.{Library, Step, run_step, within}
-use Rattle.sc_core.specs.Scripts.{Roles, scripted_step}
-use Rattle.sc_laws.specs.Steady.{now}
-use Rattle.sc_laws.specs.Laws.{IsFixed, IsSteady, HasFixedPoint}
+use Rattle.sc_laws.proofs.Common.{Blamed, Ended, EventsOut, HasFixedPoint, Here, IsFixed, IsSteady, Library, Never, Obedient, Piece, Reached, Roles, RunEnd, State, Step, Stopped, TurnsOut, ap, arith, inl, now, refl, run_step, scripted_step, suc, sym, within, ℕ, ◌+◌, ◌<◌, ◌∙◌, ◌≡◌}
 use Rattle.sc_laws.proofs.Growing.{BodyGoes, StepGoes, within_goes}
-use Rattle.sc_laws.specs.Interactions.{Never, Obedient}
 use Rattle.sc_laws.proofs.Matching.{run_goes_on, scripted_goes_on}
 use Rattle.sc_laws.proofs.Below.{richer, richer_piece, Passes, Below, along, passed}
 use Rattle.sc_laws.proofs.BelowCalls.{BodiesBelow, StepsBelow, within_below}

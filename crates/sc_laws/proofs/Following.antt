@@ -1,22 +1,9 @@
 -- Two runs along one trace, of which the second has more compartments that perform their parts of it: the relation of
 -- their pieces.
-use Rattle.std.proofs.Common.{◌≡◌, ℕ, zero, suc, ◌<◌, ◌≤◌, List, [], ◌∷◌, ◌++◌, Option, Some, Result, Ok, Err, refl, sym, ap, ◌∙◌, subst, arith, ⊎_elim, append_assoc}
-use Rattle.std.specs.Prelude.{Bool, true, false, if◌then◌else◌}
-use Rattle.std.proofs.lemmas.Bool.{eq-eqb, ne_eqb, cases_eq, both_ways}
-use Rattle.sc_event.specs.declared.event.Event.{Event}
-use Rattle.sc_event.specs.Standing.{Standing, at_start, stands_after, stands_behind}
-use Rattle.sc_core.specs.declared.cause.Cause.{Cause}
-use Rattle.sc_core.specs.declared.run.RunEnd.{RunEnd}
-use Rattle.sc_core.specs.declared.run.RunEnd.TheVariants.{Ended, Blamed, TurnsOut, EventsOut}
-use Rattle.sc_core.specs.declared.value.Value.{Value}
-use Rattle.sc_core.specs.Memory.{Blocks, with_blocks}
-use Rattle.sc_core.specs.Words.{State, Here, Piece, Reached, Stopped, and_then, computed, turn_of, tell}
-use Rattle.sc_core.specs.Growth.{Front}
-use Rattle.sc_laws.specs.Growth.{Grown, last, Gone, Goes}
+use Rattle.sc_laws.proofs.Common.{Blamed, Blocks, Bool, Cause, Ended, Err, Event, EventsOut, Front, Goes, Gone, Grown, Here, List, Never, Ok, Option, Piece, Reached, Result, RunEnd, Some, Standing, State, Stopped, TurnsOut, Value, [], and_then, ap, append_assoc, arith, at_start, both_ways, cases_eq, computed, eq-eqb, false, if◌then◌else◌, last, ne_eqb, refl, stands_after, stands_behind, subst, suc, sym, tell, true, turn_of, with_blocks, zero, ℕ, ⊎_elim, ◌++◌, ◌<◌, ◌∙◌, ◌∷◌, ◌≡◌, ◌≤◌}
 use Rattle.sc_laws.proofs.Growing.{front_same, front_more, same, more, then_from, then_goes, turn_of_goes}
 use Rattle.sc_laws.proofs.Twins.{Kept, KeptAt}
 use Rattle.sc_laws.proofs.Expressions.{Keeps, alike, blamed}
-use Rattle.sc_laws.specs.Interactions.{Never}
 use Rattle.sc_laws.proofs.Rows.{stands_last, InLine, in_line_before}
 
 -- MEMORY

@@ -1,42 +1,10 @@
 -- Calls in two runs along one trace, of which the second has more compartments that perform their parts of it.
-use Rattle.std.proofs.Common.{◌≡◌, ℕ, zero, suc, ◌≤◌, List, [], ◌∷◌, ◌++◌, map, drop, length, Option, Some, None, refl, sym, ap, ap₂, ◌∙◌, subst, arith}
-use Rattle.std.specs.Prelude.{Bool, true, false, if◌then◌else◌}
-use Rattle.std.specs.List.{list_all}
-use Rattle.std.proofs.lemmas.Bool.{eq-eqb, both_ways, and_from, and_parts}
-use Rattle.sc_event.specs.declared.event.Event.{Event}
-use Rattle.sc_event.specs.declared.event.Event.TheVariants.{Call, Ret, Out, In}
-use Rattle.sc_event.specs.declared.row.Entry.TheVariants.{Export}
-use Rattle.sc_event.specs.declared.row.Row.{Row}
-use Rattle.sc_event.specs.declared.row.Action.{Action}
+use Rattle.sc_laws.proofs.Common.{Action, BadType, Blamed, Blocks, Body, Bool, Call, CallTarget, Cross, Event, Export, Front, Function, Goes, Gone, Here, In, Input, IsFixed, Library, List, Meets, None, Option, Out, Output, Own, Piece, Proto, Reached, Ret, Row, Scalar, Some, Standing, State, Step, Stopped, TurnsOut, Value, Word, [], action_of, acts, and_from, and_parts, and_then, ap, ap₂, arith, asks, at_start, back_cross, begun, blocks_for, both_ways, call_cross, call_own, called, calls, count_of, crossed, crossing, done, drop, ended, eq-eqb, export_at, false, first_word, found, function, if◌then◌else◌, imports, is_function, is_number, is_output, is_word, last, length, list_all, map, may_call, next_input, now, option_value, part, performer, performs, read_input, refl, roles_in, rows_left, run_in, run_step, scripted_step, stands_after, stands_behind, subst, suc, sym, takes, tell, true, turn, turn_of, with_blocks, within, word_back, word_in, zero, ℕ, ◌++◌, ◌∙◌, ◌∷◌, ◌≡◌, ◌≤◌}
 use Rattle.sc_event.specs.declared.row.Action.TheVariants as act
-use Rattle.sc_event.specs.Legal.{is_output, is_function, imports, takes}
-use Rattle.sc_event.specs.Standing.{Standing, at_start, stands_after, stands_behind, performer}
-use Rattle.sc_event.specs.Part.{action_of, part, count_of}
-use Rattle.sc_core.specs.declared.cause.Cause.TheVariants.{BadType}
-use Rattle.sc_core.specs.declared.expr.CallTarget.{CallTarget}
-use Rattle.sc_core.specs.declared.expr.CallTarget.TheVariants.{Own, Cross, Input, Output}
-use Rattle.sc_core.specs.declared.run.RunEnd.TheVariants.{Blamed, TurnsOut}
-use Rattle.sc_core.specs.declared.value.Value.{Value}
-use Rattle.sc_core.specs.declared.value.Value.TheVariants.{Word}
-use Rattle.sc_core.specs.Memory.{Blocks, with_blocks, ended}
-use Rattle.sc_core.specs.Words.{State, Here, Piece, Reached, Stopped, and_then, turn, turn_of, tell}
-use Rattle.sc_core.specs.Calls.{Function, Library, Body, Step, function, blocks_for, begun, done, found, word_in, word_back, crossing, crossed, option_value, first_word, next_input, read_input, may_call, back_cross, run_in, call_own, call_cross, called, calls, run_step, within, is_word}
-use Rattle.sc_event.specs.Lookup.{export_at}
-use Rattle.sc_event.specs.declared.interface.Proto.{Proto}
-use Rattle.sc_event.specs.declared.interface.Scalar.{Scalar}
-use Rattle.sc_core.specs.Scripts.{roles_in, rows_left, is_number, acts, performs, scripted_step, asks}
-use Rattle.sc_core.specs.Growth.{Front}
-use Rattle.sc_laws.specs.Growth.{last, Gone, Goes}
-use Rattle.sc_laws.specs.Steady.{now}
-use Rattle.sc_laws.specs.Laws.{IsFixed}
 use Rattle.sc_laws.proofs.Growing.{front_same, front_more, more, reached, stays, no_turn, earlier, then_from, then_goes, BodyGoes, done_goes, own_goes, cross_goes, back_goes, calls_go, performs_go, LibraryGoes, run_step_goes, scripted_goes, asks_is, asks_go, run_goes}
-use Rattle.sc_laws.specs.Agreement.{Meets}
 use Rattle.sc_laws.proofs.Libraries.{CallsTwins, FunctionTwins, LibraryTwins, function_twins}
-use Rattle.sc_laws.proofs.Rows.{InLine, in_line_before, NextIs, over, next_told_is, Next, row_of_next, rows_behind}
-use Rattle.sc_laws.proofs.Rows.{told as next_told}
-use Rattle.sc_laws.proofs.Following.{Abreast, Beyond, KeepsUp, Keeping, near_blocks, near_tell, whole, beyond_then, follow_kept, Stands, OneSided, Performs, Perform, left_goes, perform_kept, stands_stored, MovesOrReturns, beyond_back, beyond_in}
-use Rattle.sc_laws.proofs.Following.{KeepsUp as follows, Performs as performing, MovesOn as passed}
-use Rattle.sc_laws.proofs.Following.{MovesOrReturns as passing}
+use Rattle.sc_laws.proofs.Rows.{InLine, in_line_before, NextIs, over, next_told_is, Next, row_of_next, rows_behind, told as next_told}
+use Rattle.sc_laws.proofs.Following.{Abreast, Beyond, KeepsUp, Keeping, near_blocks, near_tell, whole, beyond_then, follow_kept, Stands, OneSided, Performs, Perform, left_goes, perform_kept, stands_stored, MovesOrReturns, beyond_back, beyond_in, KeepsUp as follows, Performs as performing, MovesOn as passed, MovesOrReturns as passing}
 
 -- a call of this compartment, whose first block is this
 abbrev pub at : (comp first : ℕ) → Here

@@ -1,38 +1,12 @@
 -- Whole runs along one trace, of which the second has more compartments that perform their parts of it; the least set.
-use Rattle.std.proofs.Common.{◌≡◌, ℕ, zero, suc, ◌<◌, ◌≤◌, List, [], ◌∷◌, ◌++◌, length, take, Option, Some, None, refl, sym, ap, ◌∙◌, subst, arith, inl, inr, length-append, ◌+◌}
-use Rattle.std.specs.Prelude.{Bool, true, false, if◌then◌else◌, ◌==◌, ◌||◌}
-use Rattle.std.proofs.lemmas.Bool.{eqb-true, leb-false, lt-leb}
-use Rattle.std.proofs.lemmas.List.{append-nil, take_all}
-use Rattle.sc_event.specs.declared.event.Event.{Event}
+use Rattle.sc_laws.proofs.Common.{Blamed, Bool, Cause, Ended, Event, EventsOut, Front, Function, Includes, IsChain, IsFixed, IsStop, IsWithin, KeepsBlames, LeastIsChain, Library, Link, List, Main, Memory, Never, None, Obedient, Option, PassesBlame, PassesBlames, Piece, Reached, RunEnd, Set, Some, SourceRun, Standing, State, Step, Stopped, StopsSo, TellsWithMore, TurnsOut, Value, [], and_then, ap, append-nil, arith, at_start, begun, call_own, done, eqb-true, exit_word, false, first_state, found, function, if◌then◌else◌, inl, inr, last, leb-false, length, length-append, longer, lt-leb, nobody, now, performed_by, reaches, refl, roles_in, roles_run, run_by, run_to, stands_behind, stopped_at, subst, suc, sym, take, take_all, true, turnless, with, within, zero, ℕ, ◌++◌, ◌+◌, ◌<◌, ◌==◌, ◌||◌, ◌∙◌, ◌∷◌, ◌≡◌, ◌≤◌}
 use Rattle.sc_event.specs.declared.event.Event.TheVariants as event
-use Rattle.sc_event.specs.declared.row.Entry.TheVariants.{Main}
-use Rattle.sc_event.specs.Standing.{Standing, at_start, stands_behind}
-use Rattle.sc_core.specs.declared.cause.Cause.{Cause}
-use Rattle.sc_core.specs.declared.run.RunEnd.{RunEnd}
-use Rattle.sc_core.specs.declared.run.RunEnd.TheVariants.{Ended, Blamed, EventsOut, TurnsOut}
-use Rattle.sc_core.specs.declared.run.SourceRun.{SourceRun}
-use Rattle.sc_core.specs.declared.value.Value.{Value}
-use Rattle.sc_core.specs.Memory.{Memory}
-use Rattle.sc_core.specs.Run.{reaches, stopped_at}
-use Rattle.sc_core.specs.Words.{State, Piece, Reached, Stopped, and_then}
-use Rattle.sc_core.specs.Calls.{Function, Library, Step, function, begun, done, found, call_own, within}
-use Rattle.sc_core.specs.Scripts.{roles_in}
-use Rattle.sc_core.specs.Meaning.{exit_word, run_to, run_by, first_state}
-use Rattle.sc_laws.specs.Chains.{Set, IsWithin, nobody, with, Link, IsChain, Includes, PassesBlame, turnless, longer}
-use Rattle.sc_core.specs.Growth.{Front}
-use Rattle.sc_laws.specs.Growth.{last, IsStop, StopsSo}
-use Rattle.sc_laws.specs.Steady.{now}
-use Rattle.sc_laws.specs.Laws.{IsFixed, TellsWithMore, KeepsBlames, PassesBlames, LeastIsChain}
-use Rattle.sc_laws.specs.Runs.{roles_run, performed_by}
 use Rattle.sc_laws.proofs.Growing.{front_same, front_more, BodyGoes, within_goes}
-use Rattle.sc_laws.specs.Interactions.{Never, Obedient}
 use Rattle.sc_laws.proofs.Matching.{library_twins, scripted_goes_on, library_goes}
 use Rattle.sc_laws.proofs.Fixed.{scripted_fixed}
 use Rattle.sc_laws.proofs.Runs.{front_long, trace_is, take_fronts}
-use Rattle.sc_laws.proofs.Rows.{InLine, in_line_before, NextIs, over, next_told_is}
-use Rattle.sc_laws.proofs.Rows.{told as next_told}
-use Rattle.sc_laws.proofs.Following.{Abreast, KeepsUp, Keeping, Beyond, whole, follow_kept, follow_at, OneSided, Performs, Perform, left_goes, perform_kept, perform_at, MovesOrReturns, MovesOn, Agreed, IfBlamed, BeyondIn}
-use Rattle.sc_laws.proofs.Following.{KeepsUp as follows, Performs as performing, MovesOn as passed, MovesOrReturns as passing}
+use Rattle.sc_laws.proofs.Rows.{InLine, in_line_before, NextIs, over, next_told_is, told as next_told}
+use Rattle.sc_laws.proofs.Following.{Abreast, KeepsUp, Keeping, Beyond, whole, follow_kept, follow_at, OneSided, Performs, Perform, left_goes, perform_kept, perform_at, MovesOrReturns, MovesOn, Agreed, IfBlamed, BeyondIn, KeepsUp as follows, Performs as performing, MovesOn as passed, MovesOrReturns as passing}
 use Rattle.sc_laws.proofs.FollowingCalls.{at, first_step, second_step, N, Bodies, Telling, performs_next, all_bodies}
 
 -- what is shown of a piece goes on from where it is

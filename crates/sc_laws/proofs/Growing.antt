@@ -1,27 +1,7 @@
 -- Each word of the meaning only goes on: events are appended, and no turns come back.
-use Rattle.std.proofs.Common.{◌≡◌, ℕ, zero, suc, ◌≤◌, List, [], ◌∷◌, ◌++◌, map, length, Option, Some, None, refl, sym, ap, ◌∙◌, arith, append_assoc}
-use Rattle.std.specs.Prelude.{Bool, true, false, if◌then◌else◌}
-use Rattle.std.proofs.lemmas.List.{append-nil}
-use Rattle.sc_event.specs.declared.event.Event.{Event}
-use Rattle.sc_event.specs.declared.event.Event.TheVariants.{Call, Ret, In}
-use Rattle.sc_event.specs.declared.event.Event.TheVariants.{Out as Out'}
-use Rattle.sc_event.specs.declared.interface.Interfaces.{Interfaces}
-use Rattle.sc_event.specs.declared.row.Entry.TheVariants.{Export}
-use Rattle.sc_event.specs.Lookup.{export_at}
-use Rattle.sc_event.specs.declared.row.Row.{Row}
-use Rattle.sc_event.specs.declared.row.Action.{Action}
+use Rattle.sc_laws.proofs.Common.{Action, BadType, Blamed, Body, Bool, Call, CallTarget, Calls, Closed, Cross, Does, Event, Exit, Export, Front, Function, Goes, Gone, Grown, Here, In, Input, Interfaces, Left, Library, List, None, On, Opened, Option, Out as Out', Output, Own, Piece, Reached, Ret, Roles, Route, Row, Some, State, Step, Stopped, TurnsOut, Value, Word, [], acts, and_then, ap, append-nil, append_assoc, arith, asks, back_cross, back_own, begun, call_cross, call_own, called, calls, crossed, crossing, done, export_at, false, first_word, follow, found, function, if◌then◌else◌, is_number, last, length, map, may_call, next_input, option_value, performs, read_input, refl, rows_left, run_in, run_step, scripted_step, suc, sym, tell, true, turn, turn_of, within, word_in, zero, ℕ, ◌++◌, ◌∙◌, ◌∷◌, ◌≡◌, ◌≤◌}
+use Rattle.sc_core.specs.Prelude.{Out, take}
 use Rattle.sc_event.specs.declared.row.Action.TheVariants as act
-use Rattle.sc_core.specs.declared.expr.CallTarget.{CallTarget}
-use Rattle.sc_core.specs.declared.expr.CallTarget.TheVariants.{Own, Cross, Input, Output}
-use Rattle.sc_core.specs.declared.value.Value.TheVariants.{Word}
-use Rattle.sc_core.specs.declared.cause.Cause.TheVariants.{BadType}
-use Rattle.sc_core.specs.declared.run.RunEnd.TheVariants.{Blamed, TurnsOut}
-use Rattle.sc_core.specs.declared.value.Value.{Value}
-use Rattle.sc_core.specs.Words.{Opened, Closed, State, Here, Piece, Reached, Stopped, and_then, turn_of, turn, tell, Exit, Left, Does, Route, On, Out, take, follow, Calls}
-use Rattle.sc_core.specs.Calls.{Function, Library, Body, Step, function, begun, done, found, word_in, crossing, crossed, first_word, option_value, next_input, read_input, may_call, back_own, back_cross, run_in, call_own, call_cross, called, calls, run_step, within}
-use Rattle.sc_core.specs.Scripts.{Roles, rows_left, is_number, asks, acts, performs, scripted_step}
-use Rattle.sc_core.specs.Growth.{Front}
-use Rattle.sc_laws.specs.Growth.{Grown, last, Gone, Goes}
 
 pub front_same : {A : Type 0} (xs : List A) → Front xs xs
 front_same xs = record { more = []; is = sym (append-nil xs) }

@@ -1,16 +1,8 @@
 -- What the words of the meaning make of doings that are trees are trees. For every language whose functions are told in
 -- these words: each lemma
 -- `match_` is of one word, and together they show that a library obeys.
-use Rattle.std.proofs.Common.{◌≡◌, refl, sym, ap, ◌∙◌, subst, ℕ, zero, suc, ◌<◌, ◌≤◌, List, [], ◌∷◌, map, Result, Ok, Err, arith, inl, inr}
-use Rattle.std.specs.Prelude.{Bool, true, false, if◌then◌else◌}
-use Rattle.sc_core.specs.declared.cause.Cause.{Cause}
-use Rattle.sc_core.specs.declared.expr.CallTarget.{CallTarget}
-use Rattle.sc_core.specs.declared.value.Value.{Value}
-use Rattle.sc_core.specs.Memory.{Blocks, store}
-use Rattle.sc_core.specs.Words.{State, Here, Piece, Reached, Stopped, and_then, computed, turn_of, turn, with_memory, Left, Exit, Next, Route, On, Out, Does, leave, stored, take, follow, in_order, in_loop, all_do, rounds, loop, Calls}
-use Rattle.sc_core.proofs.Induction.{Each}
-use Rattle.sc_laws.specs.Growth.{Grown, Gone, Goes}
-use Rattle.sc_laws.specs.Interactions.{Interaction, Gives, Blames, Reads, Stores, Spends, Asks, Halts, played, Lasts, Doing, GoFrom, Plays, Alike, Match}
+use Rattle.sc_laws.proofs.Common.{Alike, Asks, Blames, Blocks, Bool, CallTarget, Calls, Cause, Does, Doing, Each, Err, Exit, Gives, GoFrom, Goes, Gone, Grown, Halts, Here, Interaction, Lasts, Left, List, Match, Next, Ok, On, Piece, Plays, Reached, Reads, Result, Route, Spends, State, Stopped, Stores, Value, [], all_do, and_then, ap, arith, computed, false, follow, if◌then◌else◌, in_loop, in_order, inl, inr, leave, loop, map, played, refl, rounds, store, stored, subst, suc, sym, true, turn, turn_of, with_memory, zero, ℕ, ◌<◌, ◌∙◌, ◌∷◌, ◌≡◌, ◌≤◌}
+use Rattle.sc_core.specs.Prelude.{Out, take}
 use Rattle.sc_laws.proofs.Growing.{same, stays, no_turn, earlier, then_goes, turn_goes, then_then}
 use Rattle.sc_laws.proofs.Expressions.{Keeps, alike, blamed}
 

@@ -1,19 +1,8 @@
 -- To show that the functions of a library keep a property of states, show it of what changes memory, of turns and of
 -- calls.
-use Rattle.std.proofs.Common.{◌≡◌, refl, sym, ap, subst, ℕ, zero, suc, ◌<◌, List, Option, None, Some, Result, Ok, Err, arith}
-use Rattle.sc_core.specs.declared.cause.Cause.{Cause}
-use Rattle.sc_core.specs.declared.expr.CallTarget.{CallTarget}
-use Rattle.sc_core.specs.declared.run.RunEnd.TheVariants.{Blamed}
-use Rattle.sc_core.specs.declared.value.Value.{Value}
-use Rattle.sc_core.specs.Memory.{Blocks, with_blocks}
-use Rattle.sc_core.specs.Words.{State, Here, Piece, Reached, Stopped, and_then, computed, turn_of, turn, Calls}
-use Rattle.sc_core.specs.Calls.{Function, Library, function}
-use Rattle.sc_core.proofs.Keeping.{Property, Kept}
-use Rattle.sc_laws.specs.Agreement.{Meets}
-use Rattle.sc_laws.specs.Growth.{Grown, Gone}
+use Rattle.sc_laws.proofs.Common.{Blamed, Blocks, CallTarget, Calls, Cause, Err, Function, Gone, Grown, Here, Kept, Library, List, Meets, Never, None, Obedient, Ok, Option, Piece, Property, Reached, Result, Some, State, Stopped, Value, and_then, ap, arith, computed, function, refl, subst, suc, sym, turn, turn_of, with_blocks, zero, ℕ, ◌<◌, ◌≡◌}
 use Rattle.sc_laws.proofs.Growing.{CallsGo}
 use Rattle.sc_laws.proofs.Twins.{Kept as RelationKept, KeptAt}
-use Rattle.sc_laws.specs.Interactions.{Never, Obedient}
 use Rattle.sc_laws.proofs.Libraries.{FunctionTwins, LibraryTwins}
 use Rattle.sc_laws.proofs.Matching.{library_twins}
 

@@ -1,38 +1,8 @@
 -- Every trace that a run shows is legal.
-use Rattle.std.proofs.Common.{◌≡◌, refl, sym, ap, ◌∙◌, subst, ℕ, zero, suc, ◌++◌, Bool, true, false, ◌&&◌, ◌==◌, if◌then◌else◌, List, [], ◌∷◌, map, length, take, Option, None, Some}
-use Rattle.std.specs.Option.{option_map_or}
-use Rattle.std.proofs.lemmas.Bool.{eq-eqb, and_from, and_parts}
-use Rattle.std.proofs.lemmas.List.{length-map}
-use Rattle.sc_event.specs.declared.event.Event.{Event}
-use Rattle.sc_event.specs.declared.event.Event.TheVariants.{Call, Ret, Out, In, End}
-use Rattle.sc_event.specs.declared.interface.Interfaces.{Interfaces}
-use Rattle.sc_event.specs.declared.interface.Proto.{Proto}
-use Rattle.sc_event.specs.declared.interface.Scalar.{Scalar}
-use Rattle.sc_event.specs.declared.row.Row.{Row}
-use Rattle.sc_event.specs.declared.row.Action.{Action}
+use Rattle.sc_laws.proofs.Common.{Action, BadType, Blamed, Body, Bool, Call, CallTarget, Cross, End, Event, Export, Here, In, Input, Interfaces, IsHalt, Kept, Library, List, Main, Memory, None, Obedient, Option, Out, Output, Own, Piece, Property, Proto, Reached, Ret, Roles, Row, RunEnd, Scalar, Some, Standing, State, Step, Stopped, TurnsOut, Value, Word, [], acts, and_from, and_parts, and_then, ap, asks, at_start, awaits, back_cross, back_own, begun, call_cross, call_own, called, calls, crossed, crossing, done, eq-eqb, exit_word, export_at, false, first_state, first_word, fits_result, found, found_kept, function, if◌then◌else◌, imports, is_allowed, is_function, is_input, is_legal_from, is_number, is_output, legal, length, length-map, library_run, map, may_call, may_perform, may_return, next_input, option_map_or, performer, performs, refl, roles_run, rows_left, run_by, run_in, run_step, run_to, scripted_step, stands_after, stands_behind, stopped_at, subst, suc, sym, take, takes, tell, then_kept, true, turn, turn_of, within, word_back, word_in, zero, ℕ, ◌&&◌, ◌++◌, ◌==◌, ◌∙◌, ◌∷◌, ◌≡◌}
 use Rattle.sc_event.specs.declared.row.Action.TheVariants as act
-use Rattle.sc_event.specs.declared.row.Entry.TheVariants.{Main, Export}
-use Rattle.sc_event.specs.Legal.{is_input, is_output, is_function, imports, takes, fits_result, may_return, awaits, may_perform, is_allowed, is_legal_from, legal}
-use Rattle.sc_event.specs.Lookup.{export_at}
-use Rattle.sc_event.specs.Standing.{Standing, at_start, stands_after, stands_behind, performer}
-use Rattle.sc_core.specs.declared.cause.Cause.TheVariants.{BadType}
-use Rattle.sc_core.specs.declared.expr.CallTarget.{CallTarget}
-use Rattle.sc_core.specs.declared.expr.CallTarget.TheVariants.{Own, Cross, Input, Output}
-use Rattle.sc_core.specs.declared.run.RunEnd.{RunEnd}
-use Rattle.sc_core.specs.declared.run.RunEnd.TheVariants.{Blamed, TurnsOut}
-use Rattle.sc_core.specs.declared.value.Value.{Value}
-use Rattle.sc_core.specs.declared.value.Value.TheVariants.{Word}
-use Rattle.sc_core.specs.Memory.{Memory}
-use Rattle.sc_core.specs.Run.{stopped_at}
-use Rattle.sc_core.specs.Words.{State, Here, Piece, Reached, Stopped, and_then, turn, turn_of, tell}
-use Rattle.sc_core.specs.Calls.{Library, Body, Step, function, begun, done, found, word_in, crossed, word_back, crossing, next_input, first_word, may_call, back_own, back_cross, run_in, call_own, call_cross, called, calls, run_step, within}
-use Rattle.sc_core.specs.Scripts.{Roles, rows_left, is_number, asks, acts, performs, scripted_step}
-use Rattle.sc_core.specs.Meaning.{first_state, exit_word, run_to, run_by}
 use Rattle.sc_laws.proofs.Growing.{BodyGoes, StepGoes, calls_go, within_goes}
-use Rattle.sc_laws.specs.Interactions.{Obedient}
-use Rattle.sc_laws.specs.Runs.{library_run, roles_run}
 use Rattle.sc_laws.proofs.Matching.{run_goes_on, scripted_goes_on}
-use Rattle.sc_core.proofs.Keeping.{Property, Kept, then_kept, IsHalt, found_kept}
 use Rattle.sc_laws.proofs.Keeping.{IsKept, function_keeps}
 use Rattle.sc_laws.proofs.Runs.{trace_is}
 

@@ -1,16 +1,5 @@
 -- Two libraries side by side, function by function.
-use Rattle.std.proofs.Common.{◌≡◌, ℕ, List, length, Option, Some, None, refl, ap, ◌∙◌}
-use Rattle.std.specs.Prelude.{◌&&◌, ◌==◌, is_some}
-use Rattle.std.specs.List.{list_all}
-use Rattle.sc_event.specs.declared.row.Entry.{Entry}
-use Rattle.sc_event.specs.declared.row.Entry.TheVariants.{Export}
-use Rattle.sc_core.specs.declared.expr.CallTarget.{CallTarget}
-use Rattle.sc_core.specs.declared.expr.CallTarget.TheVariants.{Own, Cross, Input, Output}
-use Rattle.sc_core.specs.declared.value.Value.{Value}
-use Rattle.sc_core.specs.Words.{State, Here, Piece, Calls}
-use Rattle.sc_core.specs.Calls.{Function, Library, function, leads, is_word, may_call}
-use Rattle.sc_event.specs.Legal.{is_input, is_output, is_function, imports, takes}
-use Rattle.sc_laws.specs.Agreement.{Meets}
+use Rattle.sc_laws.proofs.Common.{CallTarget, Calls, Cross, Entry, Export, Function, Here, Input, Library, List, Meets, None, Option, Output, Own, Piece, Some, State, Value, ap, function, imports, is_function, is_input, is_output, is_some, is_word, leads, length, list_all, may_call, refl, takes, ℕ, ◌&&◌, ◌==◌, ◌∙◌, ◌≡◌}
 use Rattle.sc_laws.proofs.Twins.{Twins}
 
 -- a call of any compartment

@@ -1,44 +1,11 @@
 -- A program whose trees stand on other lines does the same up to the lines of blames.
-use Rattle.std.proofs.Common.{◌≡◌, refl, sym, ap, ap₂, ◌∙◌, subst, ℕ, zero, suc, ◌+◌, Bool, true, false, if◌then◌else◌, List, [], ◌∷◌, ◌++◌, map, length, Option, None, Some, Result, Ok, Err}
-use Rattle.std.specs.Prelude.{◌&&◌, ◌==◌, not, bytes_eq, is_some, nat_lt, cond, slice_get}
-use Rattle.std.specs.List.{position_or_len}
-use Rattle.std.specs.Option.{option_map}
+use Rattle.sc_laws.proofs.Common.{Acts, Arith, Bool, Break, CallTarget, Calls, CallsAgree, Cause, Continue, Does, Each, Entry, Err, Exit, Export, FunctionsAgree, Here, Inside, Left, LibrariesAgree, List, Local, Main, Next, None, Ok, On, Option, OtherLinesAgree, Piece, PiecesAgree, ProgramTree, Proto, Result, Return, Route, RunsAgree, Some, State, TypedExpr, TypedFunction, TypedLocal, TypedSection, TypedSimple, TypedSimpleKind, TypedStmt, TypedStmt-F, TypedStmtKind, TypedStmtKind-F, TypedStruct, Value, Want, Ways, [], all_do, ap, ap₂, assign, assign_call, at_brace, at_place, block_does, body_does, bytes_eq, call, call_alone, cells_of, choose, closed, computed, cond, entry_in, evaluated, everywhere, export_at, expr_nodes, false, first_blocks, fold-TypedStmt, fold-TypedStmtKind, follow, frame_bound, function_of, functions_in, functions_of, globals_of, if◌then◌else◌, in_loop, in_order, init_does, inits_do, is_some, is_true, kind_nodes, kind_step, layer_of, leave, length, length-map, library_of, local_nodes, loop, main_name, map, map-TypedStmtKind, nat_lt, nodes, not, on_line, option_map, part_does, part_nodes, place_named, place_of_export, position_or_len, refl, roll-TypedStmtKind, rounds, run_by, run_of, run_step, simple_does, slice_get, stmt_at, stmt_does, stmt_induction, stmt_nodes, stmt_step, store, store_at, store_result, stored, subst, suc, sym, test, total, true, turn, values, variable_at, variables, ways, zero, ℕ, ◌&&◌, ◌++◌, ◌+◌, ◌==◌, ◌∙◌, ◌∷◌, ◌≡◌}
+use Rattle.sc_core.specs.Prelude.{Out, take}
 use Rattle.std.proofs.lemmas.Option.{slice_get-map}
-use Rattle.std.proofs.lemmas.List.{length-map}
-use Rattle.sc_event.specs.declared.interface.Proto.{Proto}
-use Rattle.sc_event.specs.declared.row.Entry.{Entry}
-use Rattle.sc_event.specs.declared.row.Entry.TheVariants.{Main, Export}
-use Rattle.sc_event.specs.Lookup.{export_at}
-use Rattle.sc_core.specs.declared.cause.Cause.{Cause}
-use Rattle.sc_core.specs.declared.expr.CallTarget.{CallTarget}
-use Rattle.sc_core.specs.declared.expr.TypedExpr.{TypedExpr}
-use Rattle.sc_core.specs.declared.expr.VarRef.TheVariants.{Local}
-use Rattle.sc_core.specs.declared.program.ProgramTree.{ProgramTree}
-use Rattle.sc_core.specs.declared.section.TypedFunction.{TypedFunction}
-use Rattle.sc_core.specs.declared.section.TypedLocal.{TypedLocal}
 use Rattle.sc_core.specs.declared.section.TypedParam.{TypedParam}
-use Rattle.sc_core.specs.declared.section.TypedSection.{TypedSection}
-use Rattle.sc_core.specs.declared.section.TypedStruct.{TypedStruct}
-use Rattle.sc_core.specs.declared.stmt.TypedSimple.{TypedSimple}
-use Rattle.sc_core.specs.declared.stmt.TypedSimpleKind.{TypedSimpleKind}
 use Rattle.sc_core.specs.declared.stmt.TypedSimpleKind.TheVariants as simple
-use Rattle.sc_core.specs.declared.stmt.TypedStmt.{TypedStmt, TypedStmt-F, fold-TypedStmt}
-use Rattle.sc_core.specs.declared.stmt.TypedStmtKind.{TypedStmtKind, TypedStmtKind-F, roll-TypedStmtKind, map-TypedStmtKind, fold-TypedStmtKind}
 use Rattle.sc_core.specs.declared.stmt.TypedStmtKind.TheOpen as layer
-use Rattle.sc_core.specs.declared.value.Value.{Value}
-use Rattle.sc_core.specs.declared.value.Want.{Want}
 use Rattle.sc_core.specs.declared.value.Want.TheVariants as want
-use Rattle.sc_core.specs.Memory.{store}
-use Rattle.sc_core.specs.Sizes.{total, kind_nodes, stmt_nodes, local_nodes, part_nodes, expr_nodes, frame_bound, nodes}
-use Rattle.sc_core.specs.Types.{cells_of, variables}
-use Rattle.sc_core.specs.Value.{Arith, is_true}
-use Rattle.sc_core.specs.Words.{State, Here, Piece, computed, turn, Left, Exit, Next, Break, Continue, Return, Route, On, Out, Does, leave, stored, take, follow, in_order, in_loop, all_do, rounds, loop, choose, Calls}
-use Rattle.sc_core.specs.Calls.{functions_of, run_step}
-use Rattle.sc_core.specs.Tree.{Ways, Acts, at_place, variable_at, values, evaluated, store_at, assign, test, store_result, call, assign_call, call_alone, ways, simple_does, part_does, kind_step, stmt_step, stmt_does, block_does}
-use Rattle.sc_core.specs.Meaning.{main_name, at_brace, closed, init_does, inits_do, body_does, function_of, functions_in, place_named, place_of_export, entry_in, library_of, first_blocks, globals_of, run_by, run_of}
-use Rattle.sc_core.proofs.Layers.{on_line, layer_of, stmt_at}
-use Rattle.sc_core.proofs.Induction.{Each, everywhere, Inside, stmt_induction}
-use Rattle.sc_laws.specs.Agreement.{PiecesAgree, CallsAgree, FunctionsAgree, LibrariesAgree, OtherLinesAgree, RunsAgree}
 use Rattle.sc_laws.specs.Lines.{simple_lined, layer_lined, stmt_lined, local_lined, function_lined, section_lined, program_lined}
 use Rattle.sc_laws.proofs.Agreement.{itself, then_agree, agreeing_run_alike}
 use Rattle.sc_laws.proofs.Programs.{Pairs, meets_at, lists_at}

@@ -1,9 +1,5 @@
 -- A loop whose parts are trees is a round, and then the loop again.
-use Rattle.std.proofs.Common.{◌≡◌, ℕ, suc, ◌<◌, refl, sym, ◌∙◌, arith}
-use Rattle.sc_core.specs.declared.cause.Cause.{Cause}
-use Rattle.sc_core.specs.Words.{State, Here, Does, and_then, turn, in_loop, follow, rounds, loop, Calls}
-use Rattle.sc_laws.specs.Growth.{Goes}
-use Rattle.sc_laws.specs.Interactions.{played, GoFrom}
+use Rattle.sc_laws.proofs.Common.{Calls, Cause, Does, GoFrom, Goes, Here, State, and_then, arith, follow, in_loop, loop, played, refl, rounds, suc, sym, turn, ℕ, ◌<◌, ◌∙◌, ◌≡◌}
 use Rattle.sc_laws.proofs.Interactions.{DoingWith, MatchWith, follow_grown, turn_same, trees, rounds_are}
 use Rattle.sc_laws.proofs.Matching.{match_goes}
 

@@ -1,15 +1,5 @@
 -- Functions that match are related in every relation that the words of the meaning keep.
-use Rattle.std.proofs.Common.{◌≡◌, refl, sym, subst, ℕ, zero, suc, ◌+◌, ◌<◌, Option, Some, None, Ok, Err, arith, inl, inr}
-use Rattle.sc_core.specs.declared.cause.Cause.{Cause}
-use Rattle.sc_core.specs.declared.run.RunEnd.TheVariants.{Blamed}
-use Rattle.sc_core.specs.declared.value.Value.{Value}
-use Rattle.sc_core.specs.Memory.{Blocks}
-use Rattle.sc_core.specs.Words.{State, Here, Piece, Reached, Stopped, and_then, turn, with_memory, Calls}
-use Rattle.sc_core.specs.Calls.{Function, Library, function, run_step}
-use Rattle.sc_core.specs.Scripts.{Roles, scripted_step}
-use Rattle.sc_laws.specs.Agreement.{Meets}
-use Rattle.sc_laws.specs.Growth.{Gone, Goes}
-use Rattle.sc_laws.specs.Interactions.{Interaction, Gives, Blames, Reads, Stores, Spends, Asks, Halts, played, Lasts, Doing, GoFrom, Plays, Never, Alike, Match, FunctionsMatch, LibrariesMatch, Obedient}
+use Rattle.sc_laws.proofs.Common.{Alike, Asks, Blamed, Blames, Blocks, Calls, Cause, Doing, Err, Function, FunctionsMatch, Gives, GoFrom, Goes, Gone, Halts, Here, Interaction, Lasts, LibrariesMatch, Library, Match, Meets, Never, None, Obedient, Ok, Option, Piece, Plays, Reached, Reads, Roles, Some, Spends, State, Stopped, Stores, Value, and_then, arith, function, inl, inr, played, refl, run_step, scripted_step, subst, suc, sym, turn, with_memory, zero, ℕ, ◌+◌, ◌<◌, ◌≡◌}
 use Rattle.sc_laws.proofs.Growing.{stays, FunctionGoes, LibraryGoes, StepGoes, run_step_goes, scripted_goes}
 use Rattle.sc_laws.proofs.Twins.{Twins, Kept, KeptAt}
 use Rattle.sc_laws.proofs.Expressions.{alike}

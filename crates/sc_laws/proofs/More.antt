@@ -1,33 +1,13 @@
 -- The laws on more turns, more events, and the arithmetic that wraps.
-use Rattle.std.proofs.Common.{◌≡◌, ℕ, ◌+◌, ◌-◌, ◌<◌, ◌≤◌, List, length, take, refl, sym, ap, ◌∙◌, subst, arith, inl, inr}
-use Rattle.std.specs.Prelude.{Bool, true, false, if◌then◌else◌, nat_le}
-use Rattle.std.proofs.lemmas.Bool.{lt-ltb, le-leb, leb-true}
-use Rattle.std.proofs.lemmas.List.{take-append-le, take_all}
-use Rattle.sc_core.specs.declared.cause.Cause.{Cause}
-use Rattle.sc_core.specs.declared.program.ProgramTree.{ProgramTree}
-use Rattle.sc_core.specs.declared.run.RunEnd.{RunEnd}
-use Rattle.sc_core.specs.declared.run.RunEnd.TheVariants.{Ended, Blamed, TurnsOut, EventsOut}
-use Rattle.sc_core.specs.declared.run.SourceRun.{SourceRun}
-use Rattle.sc_core.specs.Memory.{Memory}
-use Rattle.sc_core.specs.Value.{c_arith, wrapping}
-use Rattle.sc_laws.specs.Ends.{IsFinal, IsArithmetic}
+use Rattle.sc_laws.proofs.Common.{AgreesInRoom, AgreesUntilBlame, Blamed, Bool, Cause, Ended, EventsOut, ExtendedByMore, Extends, Front, IsArithmetic, IsFinal, LibrariesMatch, Library, List, Memory, Never, Obedient, ProgramTree, Roles, Run, RunEnd, RunsUntilBlame, SourceRun, Step, TurnsOut, ap, arith, blamed, blamed_run, c_arith, deepest, depth_in, false, if◌then◌else◌, inl, inr, le-leb, leb-true, length, library_of, library_run, lt-ltb, nat_le, reaches, refl, roles_run, run_by, run_step, same, same_run, scripted_step, stopped_at, subst, sym, take, take-append-le, take_all, true, wrapping, ℕ, ◌+◌, ◌-◌, ◌<◌, ◌∙◌, ◌≡◌, ◌≤◌}
 use Rattle.sc_laws.proofs.Wrapping.{binary_fits, negated_fits}
-use Rattle.sc_core.specs.Run.{reaches, stopped_at}
-use Rattle.sc_core.specs.Calls.{Library, Step, run_step}
-use Rattle.sc_core.specs.Scripts.{Roles, scripted_step}
-use Rattle.sc_core.specs.Meaning.{Run, deepest, depth_in, library_of, run_by}
-use Rattle.sc_core.specs.Growth.{Front}
-use Rattle.sc_laws.specs.Steady.{Extends, ExtendedByMore, AgreesUntilBlame, same, blamed, RunsUntilBlame, same_run, blamed_run, AgreesInRoom}
-use Rattle.sc_laws.specs.Runs.{library_run, roles_run}
 use Rattle.sc_laws.proofs.Growing.{front_same, StepGoes, run_step_goes, scripted_goes}
 use Rattle.sc_laws.proofs.Expressions.{ArithKeeps}
-use Rattle.sc_laws.specs.Interactions.{Never, LibrariesMatch, Obedient}
 use Rattle.sc_laws.proofs.Matching.{first_goes, second_goes, run_goes_on, scripted_goes_on}
 use Rattle.sc_laws.proofs.Programs.{program_matches}
 use Rattle.sc_laws.proofs.Below.{Passes}
 use Rattle.sc_laws.proofs.BelowCalls.{StepsBelow}
-use Rattle.sc_laws.proofs.Runs.{take_fronts, front_long, unreached, still_unreached, trace_is, RunsBelow, run_steps, scripted_steps, runs_below}
-use Rattle.sc_laws.proofs.Runs.{RunsBelow as goes}
+use Rattle.sc_laws.proofs.Runs.{take_fronts, front_long, unreached, still_unreached, trace_is, RunsBelow, run_steps, scripted_steps, runs_below, RunsBelow as goes}
 use Rattle.sc_laws.proofs.Rooms.{deepest_more}
 
 -- MORE TURNS AND EVENTS

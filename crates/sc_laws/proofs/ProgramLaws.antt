@@ -1,16 +1,5 @@
 -- The laws: of every library that obeys, and so of every program.
-use Rattle.std.proofs.Common.{ℕ, List, refl}
-use Rattle.sc_event.specs.declared.event.Event.{Event}
-use Rattle.sc_core.specs.declared.run.SourceRun.{SourceRun}
-use Rattle.sc_core.specs.Memory.{Memory}
-use Rattle.sc_core.specs.Value.{c_arith, wrapping}
-use Rattle.sc_core.specs.Calls.{Library, run_step}
-use Rattle.sc_core.specs.Scripts.{roles_in, scripted_step}
-use Rattle.sc_core.specs.Meaning.{library_of, globals_of}
-use Rattle.sc_laws.specs.Chains.{Set}
-use Rattle.sc_laws.specs.Interactions.{Obedient}
-use Rattle.sc_laws.specs.Runs.{performed_by}
-use Rattle.sc_laws.specs.Laws.{ProgramsObey, OnlyGoesOn, FixedPoint, EmptySetIsMeaning, MoreGoesOn, MeaningGoesOn, WrappingAgrees, WrappedAgrees, TracesAreLegal, NobodyWhoPerformsIsBlamed, HoldsOfSets, MoreMayPerform, BlameRemains, BlameIsPassed, ChainIsLeast, ChainsRise, ChainExists, RoomsAreKept}
+use Rattle.sc_laws.proofs.Common.{BlameIsPassed, BlameRemains, ChainExists, ChainIsLeast, ChainsRise, EmptySetIsMeaning, Event, FixedPoint, HoldsOfSets, Library, List, MeaningGoesOn, Memory, MoreGoesOn, MoreMayPerform, NobodyWhoPerformsIsBlamed, Obedient, OnlyGoesOn, ProgramsObey, RoomsAreKept, Set, SourceRun, TracesAreLegal, TurnsOutMeansTurns, WrappedAgrees, WrappingAgrees, c_arith, globals_of, library_of, performed_by, refl, roles_in, run_step, scripted_step, wrapping, ℕ}
 use Rattle.sc_laws.proofs.Growing.{within_goes}
 use Rattle.sc_laws.proofs.Matching.{run_goes_on, scripted_goes_on}
 use Rattle.sc_laws.proofs.Programs.{program_obeys}
@@ -21,7 +10,6 @@ use Rattle.sc_laws.proofs.Blames.{nobody_is_blamed}
 use Rattle.sc_laws.proofs.FollowingRuns.{tells_with_more, keeps_blames, passes_blames, least_is_chain}
 use Rattle.sc_laws.proofs.Chaining.{chain_rises, has_chain}
 use Rattle.sc_laws.proofs.Rooms.{keeps_rooms}
-use Rattle.sc_laws.specs.Turns.{TurnsOutMeansTurns}
 use Rattle.sc_laws.proofs.Turns.{spends_turns}
 
 pub programs_obey : ProgramsObey

@@ -1,17 +1,6 @@
 -- A program under two arithmetics, of which the second gives what the first does or the first blames: what its
 -- functions do matches.
-use Rattle.std.proofs.Common.{ℕ, zero, suc, List, [], ◌∷◌, map, length, refl}
-use Rattle.std.specs.Prelude.{◌&&◌, ◌==◌, slice_get, slice_index_or, is_some, bytes_eq}
-use Rattle.sc_core.specs.declared.cause.Cause.{Cause}
-use Rattle.sc_core.specs.declared.section.TypedStruct.{TypedStruct}
-use Rattle.sc_core.specs.declared.section.TypedFunction.{TypedFunction}
-use Rattle.sc_core.specs.declared.section.TypedSection.{TypedSection}
-use Rattle.sc_core.specs.declared.program.ProgramTree.{ProgramTree}
-use Rattle.sc_core.specs.Value.{Arith}
-use Rattle.sc_core.specs.Calls.{functions_of}
-use Rattle.sc_core.specs.Meaning.{main_name, closed, function_of, functions_in, library_of}
-use Rattle.sc_laws.specs.Agreement.{Meets}
-use Rattle.sc_laws.specs.Interactions.{FunctionsMatch, LibrariesMatch, Never, Obedient}
+use Rattle.sc_laws.proofs.Common.{Arith, Cause, FunctionsMatch, LibrariesMatch, List, Meets, Never, Obedient, ProgramTree, TypedFunction, TypedSection, TypedStruct, [], bytes_eq, closed, function_of, functions_in, functions_of, is_some, length, library_of, main_name, map, refl, slice_get, slice_index_or, suc, zero, ℕ, ◌&&◌, ◌==◌, ◌∷◌}
 use Rattle.sc_laws.proofs.Expressions.{alike, ArithKeeps}
 use Rattle.sc_laws.proofs.Interactions.{match_then}
 use Rattle.sc_laws.proofs.Statements.{body_matches, closed_matches}

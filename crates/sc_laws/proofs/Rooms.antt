@@ -1,31 +1,9 @@
 -- Frames: each change is of a moment within the trace, and a call that returns leaves the open room as it was.
-use Rattle.std.proofs.Common.{◌≡◌, refl, ap, ◌∙◌, subst, ℕ, zero, suc, ◌+◌, ◌-◌, ◌≤◌, ◌++◌, ◌==◌, Bool, true, false, if◌then◌else◌, List, [], ◌∷◌, map, length, length-append, Option, arith}
-use Rattle.std.specs.Prelude.{max, nat_lt, ◌&&◌}
-use Rattle.std.proofs.lemmas.Bool.{lt-ltb}
-use Rattle.sc_event.specs.declared.event.Event.{Event}
-use Rattle.sc_event.specs.declared.event.Event.TheVariants.{Call, Ret, Out, In}
-use Rattle.sc_event.specs.declared.row.Entry.TheVariants.{Main, Export}
-use Rattle.sc_event.specs.Lookup.{export_at}
-use Rattle.sc_core.specs.declared.cause.Cause.TheVariants.{BadType}
-use Rattle.sc_core.specs.declared.expr.CallTarget.{CallTarget}
-use Rattle.sc_core.specs.declared.expr.CallTarget.TheVariants.{Own, Cross, Input, Output}
-use Rattle.sc_core.specs.declared.run.RunEnd.TheVariants.{Blamed, TurnsOut}
-use Rattle.sc_core.specs.declared.value.Value.{Value}
-use Rattle.sc_core.specs.declared.value.Value.TheVariants.{Word}
-use Rattle.sc_event.specs.declared.row.Row.{Row}
-use Rattle.sc_event.specs.declared.row.Action.{Action}
+use Rattle.sc_laws.proofs.Common.{Action, AreTold, BadType, Blamed, Body, Bool, Call, CallTarget, Closed, Cross, DeepestIsReached, Event, Export, FrameChange, Function, Here, In, Input, KeepsRooms, Kept, LeavesRooms, Library, List, Main, Memory, Obedient, Opened, Option, Out, Output, Own, Piece, Property, Reached, Ret, Roles, Row, State, Step, Stopped, TurnsOut, Value, Word, [], acts, and_then, ap, arith, asks, back_cross, back_own, begun, call_cross, call_own, called, calls, crossed, crossing, deepest, done, export_at, false, first_state, first_word, found_kept, function, if◌then◌else◌, is_number, length, length-append, lt-ltb, map, max, may_call, nat_lt, next_input, performs, refl, rows_left, run_by, run_in, run_step, run_to, scripted_step, subst, suc, tell, then_kept, true, turn, turn_of, within, word_in, zero, ℕ, ◌&&◌, ◌++◌, ◌+◌, ◌-◌, ◌==◌, ◌∙◌, ◌∷◌, ◌≡◌, ◌≤◌}
 use Rattle.sc_event.specs.declared.row.Action.TheVariants as act
-use Rattle.sc_core.specs.Scripts.{Roles, rows_left, is_number, asks, acts, performs, scripted_step}
-use Rattle.sc_core.specs.Memory.{Memory}
-use Rattle.sc_core.specs.Words.{FrameChange, Opened, Closed, State, Here, Piece, Reached, Stopped, and_then, turn, turn_of, tell}
-use Rattle.sc_core.specs.Calls.{Function, Library, Body, Step, function, begun, done, word_in, crossed, crossing, first_word, next_input, may_call, back_own, back_cross, run_in, call_own, call_cross, called, calls, run_step, within}
-use Rattle.sc_core.specs.Meaning.{deepest, first_state, run_to, run_by}
-use Rattle.sc_laws.specs.Laws.{DeepestIsReached, AreTold, LeavesRooms, KeepsRooms}
 use Rattle.sc_laws.specs.Rooms.{room_after, open_room, AllBefore}
 use Rattle.sc_laws.proofs.Growing.{BodyGoes, StepGoes, calls_go, within_goes}
-use Rattle.sc_laws.specs.Interactions.{Obedient}
 use Rattle.sc_laws.proofs.Matching.{run_goes_on, scripted_goes_on}
-use Rattle.sc_core.proofs.Keeping.{Property, Kept, then_kept, found_kept}
 use Rattle.sc_laws.proofs.Keeping.{IsKept, function_keeps}
 
 -- LISTS OF CHANGES

@@ -1,12 +1,5 @@
 -- Where a compartment stands in its rows, and how traces go on along another.
-use Rattle.std.proofs.Common.{◌≡◌, ℕ, zero, suc, List, [], ◌∷◌, ◌++◌, length, drop, Option, Some, None, refl, sym, ap, ◌∙◌, subst, inl, inr, append_assoc}
-use Rattle.std.specs.Prelude.{Bool, true, false, if◌then◌else◌, ◌⊎◌, ◌==◌, filter}
-use Rattle.std.proofs.lemmas.Bool.{eq-eqb}
-use Rattle.sc_event.specs.declared.event.Event.{Event}
-use Rattle.sc_event.specs.declared.row.Row.{Row}
-use Rattle.sc_event.specs.Standing.{Standing, at_start, stands_after, stands_behind, performer}
-use Rattle.sc_event.specs.Part.{action_of, rows_from, part, count_of}
-use Rattle.sc_core.specs.Growth.{Front}
+use Rattle.sc_laws.proofs.Common.{Bool, Event, Front, List, None, Option, Row, Some, Standing, [], action_of, ap, append_assoc, at_start, count_of, drop, eq-eqb, false, filter, if◌then◌else◌, inl, inr, length, part, performer, refl, rows_from, stands_after, stands_behind, subst, suc, sym, true, zero, ℕ, ◌++◌, ◌==◌, ◌∙◌, ◌∷◌, ◌≡◌, ◌⊎◌}
 use Rattle.sc_laws.proofs.Growing.{front_more}
 
 -- STANDING

@@ -1,30 +1,10 @@
 -- Whole runs: steps of two libraries, and what they come to when they are stopped at a number of events.
-use Rattle.std.proofs.Common.{◌≡◌, ℕ, zero, suc, ◌+◌, ◌<◌, ◌≤◌, List, [], ◌∷◌, ◌++◌, length, take, Option, Some, None, refl, sym, ap, ◌∙◌, subst, arith, length-append}
-use Rattle.std.specs.Prelude.{Bool, true, false, if◌then◌else◌, ◌⊎◌}
-use Rattle.sc_event.specs.declared.event.Event.{Event}
-use Rattle.sc_event.specs.declared.event.Event.TheVariants.{End}
-use Rattle.sc_event.specs.declared.row.Entry.TheVariants.{Main}
-use Rattle.sc_core.specs.declared.cause.Cause.{Cause}
-use Rattle.sc_core.specs.declared.run.RunEnd.{RunEnd}
-use Rattle.sc_core.specs.declared.run.RunEnd.TheVariants.{Ended, Blamed, TurnsOut, EventsOut}
-use Rattle.sc_core.specs.declared.run.SourceRun.{SourceRun}
-use Rattle.sc_core.specs.declared.value.Value.{Value}
-use Rattle.sc_core.specs.Memory.{Memory}
-use Rattle.sc_core.specs.Run.{reaches, stopped_at}
-use Rattle.sc_core.specs.Words.{State, Piece, Reached, Stopped, and_then}
-use Rattle.sc_core.specs.Calls.{Library, Step, found, call_own, run_step, within}
-use Rattle.sc_core.specs.Scripts.{Roles, scripted_step}
-use Rattle.sc_core.specs.Meaning.{Run, exit_word, run_to, run_by, first_state}
-use Rattle.sc_core.specs.Growth.{Front}
-use Rattle.sc_laws.specs.Growth.{last, IsStop, StopsSo, Gone}
+use Rattle.sc_laws.proofs.Common.{Blamed, Bool, Cause, End, Ended, Event, EventsOut, Front, Gone, IsStop, LibrariesMatch, Library, List, Main, Memory, None, Option, Piece, Reached, Roles, Run, RunEnd, Some, SourceRun, State, Step, Stopped, StopsSo, TurnsOut, Value, [], and_then, ap, arith, call_own, exit_word, false, first_state, found, if◌then◌else◌, last, le-ltb, leb-false, length, length-append, lt-leb, ltb-false, reaches, refl, run_by, run_step, run_to, scripted_step, stopped_at, subst, suc, sym, take, take_all, true, within, zero, ℕ, ◌++◌, ◌+◌, ◌<◌, ◌∙◌, ◌∷◌, ◌≡◌, ◌≤◌, ◌⊎◌}
 use Rattle.sc_laws.proofs.Growing.{front_more, StepGoes, then_goes, found_goes, own_goes, within_goes}
-use Rattle.sc_laws.specs.Interactions.{LibrariesMatch}
 use Rattle.sc_laws.proofs.Libraries.{Anywhere}
 use Rattle.sc_laws.proofs.Matching.{library_twins}
 use Rattle.sc_laws.proofs.Below.{richer, richer_piece, Passes, Below, along, passed, Ahead, below_kept, below_at}
 use Rattle.sc_laws.proofs.BelowCalls.{StepsBelow, LibrariesBelow, run_step_below, scripted_below, own_below, within_below}
-use Rattle.std.proofs.lemmas.Bool.{ltb-false, leb-false, le-ltb, lt-leb}
-use Rattle.std.proofs.lemmas.List.{take_all}
 
 -- LISTS
 take_front : {A : Type 0} (n m : ℕ) (xs more : List A) → n ≤ m → Front (take n xs) (take m (xs ++ more))

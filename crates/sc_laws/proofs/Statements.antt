@@ -1,34 +1,10 @@
 -- What statements do is a tree, and under two arithmetics the trees are alike.
-use Rattle.std.proofs.Common.{◌≡◌, ℕ, suc, List, [], ◌∷◌, map, Option, Some, None, Ok, Err, refl, sym, subst}
-use Rattle.std.specs.Prelude.{Bool, true, false}
-use Rattle.sc_core.specs.declared.cause.Cause.{Cause}
-use Rattle.sc_core.specs.declared.cause.Cause.TheVariants.{NoReturn}
-use Rattle.sc_core.specs.declared.expr.TypedExpr.{TypedExpr}
-use Rattle.sc_core.specs.declared.expr.VarRef.TheVariants.{Local}
-use Rattle.sc_core.specs.declared.expr.CallTarget.{CallTarget}
+use Rattle.sc_laws.proofs.Common.{Acts, Arith, Blocks, Bool, Break, CallTarget, Calls, Cause, Continue, Doing, Each, Err, Exit, Here, Inside, List, Local, Match, Next, NoReturn, None, Ok, Option, Return, Some, TypedExpr, TypedFunction, TypedLocal, TypedSimple, TypedSimpleKind, TypedStmt, TypedStmtKind, TypedStmtKind-F, TypedStruct, Value, Want, Ways, Word, [], all_do, assign, assign_call, at_brace, at_place, block_does, body_does, call, call_alone, choose, closed, evaluated, everywhere, false, in_order, init_does, inits_do, kind_step, layer_of, leave, loop, map, on_line, part_does, refl, simple_does, stmt_at, stmt_does, stmt_induction, stmt_step, store_at, store_result, stored, subst, suc, sym, test, true, values, variable_at, ways, ℕ, ◌∷◌, ◌≡◌}
 use Rattle.sc_core.specs.declared.expr.TypedCall.{TypedCall}
-use Rattle.sc_core.specs.declared.stmt.TypedStmt.{TypedStmt}
-use Rattle.sc_core.specs.declared.stmt.TypedStmtKind.{TypedStmtKind, TypedStmtKind-F}
 use Rattle.sc_core.specs.declared.stmt.TypedStmtKind.TheOpen as layer
-use Rattle.sc_core.specs.declared.stmt.TypedSimple.{TypedSimple}
-use Rattle.sc_core.specs.declared.stmt.TypedSimpleKind.{TypedSimpleKind}
 use Rattle.sc_core.specs.declared.stmt.TypedSimpleKind.TheVariants as simple
-use Rattle.sc_core.specs.declared.section.TypedStruct.{TypedStruct}
-use Rattle.sc_core.specs.declared.section.TypedLocal.{TypedLocal}
-use Rattle.sc_core.specs.declared.section.TypedFunction.{TypedFunction}
-use Rattle.sc_core.specs.declared.value.Value.{Value}
-use Rattle.sc_core.specs.declared.value.Value.TheVariants.{Word}
-use Rattle.sc_core.specs.declared.value.Want.{Want}
 use Rattle.sc_core.specs.declared.value.Want.TheVariants as want
-use Rattle.sc_core.specs.Memory.{Blocks}
-use Rattle.sc_core.specs.Value.{Arith}
-use Rattle.sc_core.specs.Words.{Here, Exit, Next, Break, Continue, Return, leave, stored, in_order, all_do, loop, choose, Calls}
-use Rattle.sc_core.specs.Tree.{Ways, Acts, variable_at, at_place, values, evaluated, store_at, assign, test, store_result, call, assign_call, call_alone, ways, simple_does, part_does, kind_step, stmt_step, stmt_does, block_does}
-use Rattle.sc_core.specs.Meaning.{at_brace, closed, init_does, inits_do, body_does}
-use Rattle.sc_core.proofs.Layers.{on_line, layer_of, stmt_at}
-use Rattle.sc_laws.specs.Interactions.{Doing, Match}
 use Rattle.sc_laws.proofs.Interactions.{MatchWith, match_reached, match_then, match_computed, match_store, match_call, match_if, match_leave, match_follow, match_all, match_loop}
-use Rattle.sc_core.proofs.Induction.{Each, everywhere, Inside, stmt_induction}
 use Rattle.sc_laws.proofs.Expressions.{Keeps, alike, ArithKeeps, ways_keep, values_keep}
 
 module _ (Soft : Cause → Type 0) (here : Here) where

@@ -1,26 +1,7 @@
 -- A run that is out of turns has none left, where all functions that are called are there.
-use Rattle.std.proofs.Common.{◌≡◌, refl, sym, ap, ◌∙◌, subst, ℕ, zero, suc, ◌<◌, Bool, true, false, if◌then◌else◌, List, [], map, length, Option, None, Some, arith}
-use Rattle.std.specs.Prelude.{is_some}
-use Rattle.std.specs.List.{list_all}
-use Rattle.std.proofs.lemmas.Bool.{and_parts}
-use Rattle.sc_event.specs.declared.event.Event.TheVariants.{Call}
-use Rattle.sc_event.specs.declared.row.Entry.TheVariants.{Main, Export}
-use Rattle.sc_event.specs.Legal.{is_function, imports, takes}
-use Rattle.sc_core.specs.declared.cause.Cause.TheVariants.{BadType}
-use Rattle.sc_core.specs.declared.expr.CallTarget.{CallTarget}
-use Rattle.sc_core.specs.declared.expr.CallTarget.TheVariants.{Own, Cross, Input, Output}
-use Rattle.sc_core.specs.declared.run.RunEnd.{RunEnd}
-use Rattle.sc_core.specs.declared.run.RunEnd.TheVariants.{Ended, Blamed, TurnsOut, EventsOut}
-use Rattle.sc_core.specs.declared.value.Value.{Value}
-use Rattle.sc_core.specs.Memory.{Memory}
-use Rattle.sc_core.specs.Words.{State, Here, Piece, Reached, Stopped, and_then, turn_of, tell}
-use Rattle.sc_core.specs.Calls.{Library, Body, function, leads, is_word, begun, done, found, word_in, crossed, may_call, back_own, back_cross, run_in, call_own, call_cross, called, calls, run_step, within}
-use Rattle.sc_core.specs.Meaning.{first_state, run_to}
-use Rattle.sc_laws.specs.Interactions.{Obedient}
-use Rattle.sc_laws.specs.Turns.{IsSpent, main_call, StopsSpent, SpendsTurns}
+use Rattle.sc_laws.proofs.Common.{BadType, Blamed, Body, Bool, Call, CallTarget, Cross, Ended, EventsOut, Export, Here, Input, IsSpent, Kept, Library, List, Main, Memory, None, Obedient, Option, Output, Own, Piece, Property, Reached, RunEnd, Some, SpendsTurns, State, Stopped, StopsSpent, TurnsOut, Value, [], and_parts, and_then, ap, arith, back_cross, back_own, begun, call_cross, call_own, called, calls, crossed, done, false, first_state, found, function, if◌then◌else◌, imports, is_function, is_some, is_word, leads, length, list_all, main_call, map, may_call, refl, run_in, run_step, run_to, subst, suc, sym, takes, tell, then_kept, true, turn_of, within, word_in, zero, ℕ, ◌<◌, ◌∙◌, ◌≡◌}
 use Rattle.sc_laws.proofs.Growing.{BodyGoes, calls_go, within_goes}
 use Rattle.sc_laws.proofs.Matching.{run_goes_on}
-use Rattle.sc_core.proofs.Keeping.{Property, Kept, then_kept}
 use Rattle.sc_laws.proofs.Keeping.{IsKept, function_keeps}
 
 -- an end for want of turns comes without any

@@ -1,10 +1,5 @@
 -- Two runs side by side: which relations of them the words of the meaning keep.
-use Rattle.std.proofs.Common.{ℕ, ◌<◌, Result}
-use Rattle.sc_core.specs.declared.cause.Cause.{Cause}
-use Rattle.sc_core.specs.declared.run.RunEnd.TheVariants.{Blamed}
-use Rattle.sc_core.specs.Memory.{Blocks, with_blocks}
-use Rattle.sc_core.specs.Words.{State, Here, Piece, Reached, Stopped, and_then, computed, turn}
-use Rattle.sc_laws.specs.Growth.{Grown, Gone, Goes}
+use Rattle.sc_laws.proofs.Common.{Blamed, Blocks, Cause, Goes, Gone, Grown, Here, Piece, Reached, Result, State, Stopped, and_then, computed, turn, with_blocks, ℕ, ◌<◌}
 use Rattle.sc_laws.proofs.Expressions.{Keeps}
 
 -- A relation of two runs: which states are related, and which pieces are.

@@ -1,16 +1,10 @@
 -- The arithmetic that blames and the one that wraps give the same, or the first blames.
-use Rattle.std.proofs.Common.{◌≡◌, refl, subst, ℕ, ℤ, pos, ◌+ℤ◌, ◌-ℤ◌, ◌*ℤ◌, neg_ℤ, ◌/◌, ◌%◌, ◌*◌, ◌^◌, ◌<◌, Bool, true, false, Result, Ok, Err, arith}
-use Rattle.std.specs.Prelude.{nat_le, int_lt, int_div, int_rem, ◌==◌, if◌then◌else◌}
+use Rattle.sc_laws.proofs.Common.{BinaryOp, Bool, Err, IsArithmetic, Ok, Result, arith, c_binary, c_negated, cause_of, false, if◌then◌else◌, int_div, int_lt, int_rem, leb-false, nat_le, neg_ℤ, negated_word, on_all_words, or_cause, pos, refl, subst, true, ℕ, ℤ, ◌%◌, ◌*ℤ◌, ◌*◌, ◌+ℤ◌, ◌-ℤ◌, ◌/◌, ◌<◌, ◌==◌, ◌^◌, ◌≡◌}
+use Rattle.sc_word.specs.Prelude.{checked, fits_signed, signed_of, word_of}
 use Rattle.std.specs.Int.{int_shr}
-use Rattle.std.proofs.lemmas.Bool.{leb-false}
 use Rattle.sc_word.specs.declared.fault.WordFault.{WordFault}
 use Rattle.sc_word.specs.declared.fault.WordFault.TheVariants as fault
-use Rattle.sc_word.specs.Word.{signed_of, word_of, fits_signed}
-use Rattle.sc_word.specs.CArithmetic.{checked}
-use Rattle.sc_base.specs.declared.op.BinaryOp.{BinaryOp}
 use Rattle.sc_base.specs.declared.op.BinaryOp.TheVariants as op
-use Rattle.sc_laws.specs.Ends.{IsArithmetic}
-use Rattle.sc_core.specs.Value.{cause_of, or_cause, on_all_words, negated_word, c_binary, c_negated}
 use Rattle.sc_laws.proofs.Expressions.{Keeps, alike, blamed}
 
 fault_passes : (f : WordFault) → IsArithmetic (cause_of f)

@@ -1,20 +1,7 @@
 -- Two libraries that do the same, whatever their functions carry, up to the lines of blames.
+use Rattle.sc_laws.specs.Common.{Arith, Blamed, Body, CallTarget, Calls, Ended, Entry, EventsOut, Function, Here, Library, Memory, Piece, ProgramTree, Reached, Roles, Run, RunEnd, SourceRun, State, Stopped, TurnsOut, Value, function, library_of, run_by, run_of, run_step, scripted_step, stopped_at}
 use Rattle.std.specs.Prelude.{◌≡◌, ℕ, List, Option, None, Some}
-use Rattle.sc_event.specs.declared.row.Entry.{Entry}
-use Rattle.sc_core.specs.declared.expr.CallTarget.{CallTarget}
-use Rattle.sc_core.specs.declared.program.ProgramTree.{ProgramTree}
-use Rattle.sc_core.specs.declared.run.RunEnd.{RunEnd}
-use Rattle.sc_core.specs.declared.run.RunEnd.TheVariants.{Ended, Blamed, TurnsOut, EventsOut}
-use Rattle.sc_core.specs.declared.run.SourceRun.{SourceRun}
-use Rattle.sc_core.specs.declared.value.Value.{Value}
-use Rattle.sc_core.specs.Words.{State, Here, Piece, Reached, Stopped, Calls}
-use Rattle.sc_core.specs.Memory.{Memory}
-use Rattle.sc_core.specs.Value.{Arith}
-use Rattle.sc_core.specs.Calls.{Function, Library, Body, function, run_step}
-use Rattle.sc_core.specs.Scripts.{Roles, scripted_step}
-use Rattle.sc_core.specs.Meaning.{Run, library_of, run_by, run_of}
 use Rattle.sc_laws.specs.Lines.{program_lined}
-use Rattle.sc_core.specs.Run.{stopped_at}
 
 -- two things, where they are there: either both are, and are so related, or neither is
 abbrev pub Meets : {A : Type 0} → (A → A → Type 0) → Option A → Option A → Type 0

@@ -1,13 +1,6 @@
 -- Runs in which the compartments of a set perform their parts of a trace, and the chain of sets that leads to it.
+use Rattle.sc_laws.specs.Common.{Arith, Blamed, Cause, Event, Front, ProgramTree, SourceRun, TurnsOut, scripted_by}
 use Rattle.std.specs.Prelude.{◌≡◌, ℕ, suc, ◌<◌, ◌≤◌, Bool, true, false, ◌||◌, ◌==◌, List, [], ◌∷◌, ◌++◌, length}
-use Rattle.sc_event.specs.declared.event.Event.{Event}
-use Rattle.sc_core.specs.declared.cause.Cause.{Cause}
-use Rattle.sc_core.specs.declared.program.ProgramTree.{ProgramTree}
-use Rattle.sc_core.specs.declared.run.RunEnd.TheVariants.{Blamed, TurnsOut}
-use Rattle.sc_core.specs.declared.run.SourceRun.{SourceRun}
-use Rattle.sc_core.specs.Value.{Arith}
-use Rattle.sc_core.specs.Meaning.{scripted_by}
-use Rattle.sc_core.specs.Growth.{Front}
 
 -- the second run tells an event more than the first, or ends right there for want of a turn or of a row
 pub data PassesBlame (run other : SourceRun) : Type 0 where

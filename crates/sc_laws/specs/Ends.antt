@@ -1,8 +1,6 @@
 -- Ends of runs, and causes, of which laws speak.
-use Rattle.sc_core.specs.declared.cause.Cause.{Cause}
+use Rattle.sc_laws.specs.Common.{Blamed, Cause, Ended, EventsOut, RunEnd, TurnsOut}
 use Rattle.sc_core.specs.declared.cause.Cause.TheVariants.{Overflow, ZeroDivisor, BadShift}
-use Rattle.sc_core.specs.declared.run.RunEnd.{RunEnd}
-use Rattle.sc_core.specs.declared.run.RunEnd.TheVariants.{Ended, Blamed, TurnsOut, EventsOut}
 
 -- the program itself ended the run, and no limit did
 abbrev pub IsFinal : RunEnd → Type 0

@@ -1,9 +1,6 @@
 -- How a run goes on: events are appended, turns are spent, and it stops for a blame or for want of turns alone.
+use Rattle.sc_laws.specs.Common.{Blamed, Ended, EventsOut, Front, Piece, Reached, RunEnd, State, Stopped, TurnsOut}
 use Rattle.std.specs.Prelude.{◌≤◌}
-use Rattle.sc_core.specs.Growth.{Front}
-use Rattle.sc_core.specs.declared.run.RunEnd.{RunEnd}
-use Rattle.sc_core.specs.declared.run.RunEnd.TheVariants.{Ended, Blamed, TurnsOut, EventsOut}
-use Rattle.sc_core.specs.Words.{State, Piece, Reached, Stopped}
 
 -- a state that comes after another: its events and its frames go on from the other's, and it has no more turns
 pub record Grown (s t : State) : Type 0 where

@@ -1,15 +1,8 @@
 -- What functions may do, whatever they are written in, so that the laws hold of them. It is told as a tree: what is
 -- given or blamed, what the blocks of the compartment decide, and what comes after new blocks, after a turn and after a
 -- call.
+use Rattle.sc_laws.specs.Common.{Blamed, Blocks, CallTarget, Calls, Cause, Entry, Function, Here, Library, Piece, Reached, State, Stopped, TurnsOut, Value, and_then, function, turn, with_memory}
 use Rattle.std.specs.Prelude.{◌≡◌, ◌⊎◌, ℕ, zero, suc, ◌<◌, List, Option}
-use Rattle.sc_event.specs.declared.row.Entry.{Entry}
-use Rattle.sc_core.specs.declared.cause.Cause.{Cause}
-use Rattle.sc_core.specs.declared.expr.CallTarget.{CallTarget}
-use Rattle.sc_core.specs.declared.run.RunEnd.TheVariants.{Blamed, TurnsOut}
-use Rattle.sc_core.specs.declared.value.Value.{Value}
-use Rattle.sc_core.specs.Memory.{Blocks}
-use Rattle.sc_core.specs.Words.{State, Here, Piece, Reached, Stopped, and_then, turn, with_memory, Calls}
-use Rattle.sc_core.specs.Calls.{Function, Library, function}
 use Rattle.sc_laws.specs.Agreement.{Meets}
 use Rattle.sc_laws.specs.Growth.{Goes}
 

@@ -1,21 +1,8 @@
 -- Laws of the meaning: of every library whose functions are trees of what they do, and so of every program.
+use Rattle.sc_laws.specs.Common.{Arith, Blamed, Cause, Event, FrameChange, Front, Here, Library, Memory, ProgramTree, Reached, Roles, Run, SourceRun, State, Step, Value, c_arith, call_own, deepest, library_of, meaning, meaning_by, roles_in, run_of, run_step, scripted_by, scripted_meaning, scripted_run_of, scripted_step, scripted_wrapped, stopped_at, within, wrapped, wrapping}
+use Rattle.sc_event.specs.Prelude.{legal}
 use Rattle.std.specs.Prelude.{◌≡◌, ◌⊎◌, ℕ, suc, ◌<◌, ◌≤◌, ◌++◌, true, false, List, length, Option}
-use Rattle.sc_event.specs.declared.event.Event.{Event}
-use Rattle.sc_core.specs.declared.cause.Cause.{Cause}
-use Rattle.sc_core.specs.declared.program.ProgramTree.{ProgramTree}
-use Rattle.sc_core.specs.declared.run.RunEnd.TheVariants.{Blamed}
-use Rattle.sc_core.specs.declared.run.SourceRun.{SourceRun}
-use Rattle.sc_core.specs.Value.{Arith, c_arith, wrapping}
-use Rattle.sc_core.specs.declared.value.Value.{Value}
-use Rattle.sc_core.specs.Memory.{Memory}
-use Rattle.sc_core.specs.Run.{stopped_at}
-use Rattle.sc_core.specs.Words.{FrameChange, State, Here, Reached}
-use Rattle.sc_core.specs.Calls.{Library, Step, call_own, run_step, within}
-use Rattle.sc_core.specs.Scripts.{Roles, roles_in, scripted_step}
-use Rattle.sc_core.specs.Meaning.{Run, deepest, library_of, run_of, scripted_run_of, meaning_by, meaning, wrapped, scripted_by, scripted_meaning, scripted_wrapped}
-use Rattle.sc_event.specs.Legal.{legal}
 use Rattle.sc_laws.specs.Chains.{Set, IsWithin, nobody, Link, IsBlamedOutside, performed, IsChain, IsRising, AreFresh, Includes, PassesBlame}
-use Rattle.sc_core.specs.Growth.{Front}
 use Rattle.sc_laws.specs.Ends.{IsArithmetic}
 use Rattle.sc_laws.specs.Growth.{Gone}
 use Rattle.sc_laws.specs.Interactions.{LibrariesMatch, Obedient}

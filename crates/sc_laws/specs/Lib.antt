@@ -1,3 +1,5 @@
+pub mod Common
+pub mod Prelude
 pub mod Agreement
 pub mod Chains
 pub mod Ends

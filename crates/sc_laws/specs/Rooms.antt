@@ -1,6 +1,6 @@
 -- How much room the open frames of a compartment take.
+use Rattle.sc_laws.specs.Common.{Closed, FrameChange, Opened, State}
 use Rattle.std.specs.Prelude.{ℕ, ◌+◌, ◌-◌, ◌<◌, ◌==◌, if◌then◌else◌, List, [], ◌∷◌}
-use Rattle.sc_core.specs.Words.{FrameChange, Opened, Closed, State}
 
 -- the room after these changes, where the compartment's frames take this room before them
 abbrev pub room_after : ℕ → ℕ → List FrameChange → ℕ

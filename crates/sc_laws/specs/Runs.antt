@@ -1,12 +1,6 @@
 -- Runs of a library, whatever its functions are written in.
+use Rattle.sc_laws.specs.Common.{Event, Library, Memory, Roles, Run, SourceRun, roles_in, run_by, run_step, scripted_step, stopped_at}
 use Rattle.std.specs.Prelude.{ℕ, Bool, List, length}
-use Rattle.sc_event.specs.declared.event.Event.{Event}
-use Rattle.sc_core.specs.declared.run.SourceRun.{SourceRun}
-use Rattle.sc_core.specs.Memory.{Memory}
-use Rattle.sc_core.specs.Run.{stopped_at}
-use Rattle.sc_core.specs.Calls.{Library, run_step}
-use Rattle.sc_core.specs.Scripts.{Roles, roles_in, scripted_step}
-use Rattle.sc_core.specs.Meaning.{Run, run_by}
 
 -- the globals of each compartment, the inputs, and the turns
 module _ (library : Library) (globals : Memory) (inputs : List ℕ) (turns : ℕ) where

@@ -1,13 +1,7 @@
 -- Runs with as many open calls as they have turns, and runs that say more of one another.
+use Rattle.sc_laws.specs.Common.{Blamed, Body, Cause, Front, Run, SourceRun, Step, depth_in, stopped_at, within}
 use Rattle.std.specs.Prelude.{◌≡◌, ℕ, suc, ◌≤◌}
-use Rattle.sc_core.specs.declared.cause.Cause.{Cause}
-use Rattle.sc_core.specs.declared.run.RunEnd.TheVariants.{Blamed}
-use Rattle.sc_core.specs.declared.run.SourceRun.{SourceRun}
-use Rattle.sc_core.specs.Run.{stopped_at}
-use Rattle.sc_core.specs.Calls.{Body, Step, within}
-use Rattle.sc_core.specs.Meaning.{Run, depth_in}
 use Rattle.sc_laws.specs.Ends.{IsFinal, IsArithmetic}
-use Rattle.sc_core.specs.Growth.{Front}
 
 -- what functions do that may have as many calls open as they have turns: there are never more
 abbrev pub now : Step → Body

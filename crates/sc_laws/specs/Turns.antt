@@ -1,14 +1,7 @@
 -- Runs that are out of turns, and the turns that they had left.
+use Rattle.sc_laws.specs.Common.{Arith, Here, Library, Memory, Piece, ProgramTree, State, Stopped, TurnsOut, Value, and_then, call_own, first_state, found, function, leads, library_of, run_step, within}
 use Rattle.std.specs.Prelude.{◌≡◌, ℕ, suc, true, List, [], Option, is_some}
 use Rattle.sc_event.specs.declared.row.Entry.TheVariants.{Main}
-use Rattle.sc_core.specs.declared.program.ProgramTree.{ProgramTree}
-use Rattle.sc_core.specs.declared.run.RunEnd.TheVariants.{TurnsOut}
-use Rattle.sc_core.specs.declared.value.Value.{Value}
-use Rattle.sc_core.specs.Memory.{Memory}
-use Rattle.sc_core.specs.Value.{Arith}
-use Rattle.sc_core.specs.Words.{State, Here, Piece, Stopped, and_then}
-use Rattle.sc_core.specs.Calls.{Library, call_own, found, function, leads, run_step, within}
-use Rattle.sc_core.specs.Meaning.{first_state, library_of}
 use Rattle.sc_laws.specs.Interactions.{Obedient}
 use Rattle.sc_laws.specs.Runs.{library_run}
 use Rattle.sc_laws.specs.Steady.{now}

@@ -1,8 +1,6 @@
 // Laws of the meaning, each the contract of a function with nothing to do.
 
-ghost use Rattle.sc_laws.specs.Laws.{ChainExists, ChainsRise, BlameIsPassed, BlameRemains, FixedPoint, ChainIsLeast, DeepestIsReached, MoreGoesOn, MoreMayPerform, OnlyGoesOn, ProgramsObey, RoomsAreKept, WrappingAgrees, EmptySetIsMeaning, MeaningGoesOn, NobodyWhoPerformsIsBlamed, TracesAreLegal, WrappedAgrees};
-ghost use Rattle.sc_laws.specs.Turns.{TurnsOutMeansTurns};
-ghost use Rattle.sc_laws.specs.Agreement.{AgreeingRunAlike, OtherLinesAgree};
+ghost use Rattle.sc_laws.specs.Prelude.{AgreeingRunAlike, BlameIsPassed, BlameRemains, ChainExists, ChainIsLeast, ChainsRise, DeepestIsReached, EmptySetIsMeaning, FixedPoint, MeaningGoesOn, MoreGoesOn, MoreMayPerform, NobodyWhoPerformsIsBlamed, OnlyGoesOn, OtherLinesAgree, ProgramsObey, RoomsAreKept, TracesAreLegal, TurnsOutMeansTurns, WrappedAgrees, WrappingAgrees};
 
 /// What the functions of a program do is a tree: what is given or blamed, what the blocks of the compartment decide,
 /// and

@@ -1,18 +1,7 @@
 -- Bytes are cut in one way, and what the loop over them keeps.
-use Rattle.std.proofs.Common.{◌≡◌, ℕ, ◌+◌, ◌-◌, ◌≤◌, ◌<◌, Bool, List, [], ◌∷◌, ◌++◌, length, take, drop, Some, refl, sym, ap, ap₂, ◌∙◌, subst, ⊎_elim, arith}
-use Rattle.std.proofs.lemmas.Option.{none-some}
-use Rattle.std.proofs.lemmas.Bool.{cases_lt}
-use Rattle.std.proofs.lemmas.List.{length-drop, append-nil}
-use Rattle.sc_lex.specs.Lines.{newlines, line_after, line_at}
-use Rattle.sc_lex.specs.Kinds.{kind_of}
-use Rattle.sc_lex.specs.Cutting.{IsGap, white_space, block_comment, line_comment, IsToken, allows_directive, token_at, Cuts, nothing, gap, token, IsCut, IsStuck, RefusesBytes}
-use Rattle.sc_lex.specs.Pieces.{IsPiece, NoPiece, placed}
-use Rattle.sc_lex.specs.declared.token.Token.{Token}
-use Rattle.sc_lex.specs.declared.token.TokenKind.{TokenKind}
+use Rattle.sc_lex.proofs.Common.{Bool, Cuts, IsCut, IsGap, IsPiece, IsStuck, IsToken, Lex, List, NoPiece, Refusal, RefusesBytes, Some, Token, TokenKind, [], allows_directive, ap, append-nil, ap₂, arith, block_comment, cases_lt, drop, gap, kind_of, length, length-drop, line_after, line_at, line_comment, newlines, none-some, nothing, placed, refl, subst, sym, take, token, token_at, white_space, ℕ, ⊎_elim, ◌++◌, ◌+◌, ◌-◌, ◌<◌, ◌∙◌, ◌∷◌, ◌≡◌, ◌≤◌}
 use Rattle.sc_lex.specs.declared.cut.Piece.{Piece}
 use Rattle.sc_lex.specs.declared.cut.Piece.TheVariants as pieces
-use Rattle.sc_lex.specs.declared.refusal.Refusal.{Refusal}
-use Rattle.sc_lex.specs.declared.refusal.Phase.TheVariants.{Lex}
 use Rattle.sc_lex.proofs.Gaps.{one_gap, gap_fits}
 use Rattle.sc_lex.proofs.Runs.{token_positive}
 use Rattle.sc_lex.proofs.Fronts.{white_none}

@@ -1,11 +1,6 @@
 -- What the words of a directive are, one by one.
-use Rattle.std.proofs.Common.{◌≡◌, ℕ, ◌<◌, Bool, true, false, ◌&&◌, List, [], ◌∷◌, length, get_or, refl, sym, arith}
-use Rattle.std.proofs.lemmas.Bool.{ne_eqb}
-use Rattle.std.specs.Prelude.{bytes_eq, codes}
+use Rattle.sc_lex.proofs.Common.{Bool, List, [], arith, bytes_eq, codes, false, get_or, is_empty, is_export, is_import, is_name, length, ne_eqb, refl, sym, true, words, ℕ, ◌&&◌, ◌<◌, ◌∷◌, ◌≡◌}
 use Rattle.sc_base.proofs.Bools.{and_false}
-use Rattle.sc_base.specs.Identifier.{is_name}
-use Rattle.sc_lex.specs.Words.{words, is_empty}
-use Rattle.sc_lex.specs.Kinds.{is_export, is_import}
 use Rattle.sc_lex.proofs.Wording.{words_full}
 
 and-true : (b : Bool) → (b && true) ≡ b

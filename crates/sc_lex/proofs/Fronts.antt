@@ -1,18 +1,5 @@
 -- The token at the front of a text.
-use Rattle.std.proofs.Common.{◌≡◌, ℕ, ◌≤◌, ◌<◌, Bool, true, false, ◌&&◌, ◌||◌, List, length, take, Option, Some, None, refl, sym, ap, ◌∙◌, ⊎_elim, arith}
-use Rattle.std.proofs.lemmas.Option.{none-some}
-use Rattle.std.proofs.lemmas.Bool.{false≢true, cases_lt, or_cases, and_from, and_parts, le-leb, leb-true, eq-eqb}
-use Rattle.std.proofs.lemmas.List.{get_or-take, length-take, length-take-le}
-use Rattle.std.specs.Prelude.{IsTrue, IfSome, IfNone, slice_index, nat_le, ◌==◌}
-use Rattle.std.specs.List.{list_all, prefix_len}
-use Rattle.sc_base.specs.Identifier.{is_name_byte}
-use Rattle.sc_lex.specs.Lines.{is_inside_line, line_len, is_white_space}
-use Rattle.sc_lex.specs.Tables.{is_mark}
-use Rattle.sc_lex.specs.Kinds.{line_kind, word_kind, mark_kind, directive_kind, kind_of, is_directive}
-use Rattle.sc_lex.specs.Cutting.{begins_block_comment, begins_line_comment, IsToken}
-use Rattle.sc_lex.specs.Pieces.{NoToken}
-use Rattle.sc_lex.specs.declared.token.TokenKind.{TokenKind}
-use Rattle.sc_lex.specs.declared.token.TokenKind.TheVariants.{Mark}
+use Rattle.sc_lex.proofs.Common.{Bool, IfNone, IfSome, IsToken, IsTrue, List, Mark, NoToken, None, Option, Some, TokenKind, and_from, and_parts, ap, arith, begins_block_comment, begins_line_comment, cases_lt, directive_kind, eq-eqb, false, false≢true, get_or-take, is_directive, is_inside_line, is_mark, is_name_byte, is_white_space, kind_of, le-leb, leb-true, length, length-take, length-take-le, line_kind, line_len, list_all, mark_kind, nat_le, none-some, or_cases, prefix_len, refl, slice_index, sym, take, true, word_kind, ℕ, ⊎_elim, ◌&&◌, ◌<◌, ◌==◌, ◌||◌, ◌∙◌, ◌≡◌, ◌≤◌}
 use Rattle.sc_lex.proofs.Gaps.{slash_first, star_first}
 use Rattle.sc_lex.proofs.Texts.{IsRun, word_run, directive_run, mark_is, no_mark, kind_of-word, kind_of-directive, kind_of-mark, kind_of-white_space}
 use Rattle.sc_lex.proofs.Runs.{token_positive, run_all, run_positive, run_token, run_none}

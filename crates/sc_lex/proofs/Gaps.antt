@@ -1,11 +1,5 @@
 -- White space and comments at the front of a text.
-use Rattle.std.proofs.Common.{◌≡◌, ℕ, ◌+◌, ◌≤◌, ◌<◌, true, false, List, [], ◌∷◌, length, drop, refl, sym, ap, ◌∙◌, ⊎_elim, arith}
-use Rattle.std.proofs.lemmas.Bool.{false≢true, cases_lt}
-use Rattle.std.proofs.lemmas.List.{length-drop}
-use Rattle.std.proofs.lemmas.List.Sums.{prefix_len-le-length}
-use Rattle.std.specs.Prelude.{IsTrue, codes, slice_index}
-use Rattle.sc_lex.specs.Lines.{is_white_space, is_inside_line, line_len}
-use Rattle.sc_lex.specs.Cutting.{begins_block_comment, begins_line_comment, ends_comment, IsGap, white_space, block_comment, line_comment}
+use Rattle.sc_lex.proofs.Common.{IsGap, IsTrue, List, [], ap, arith, begins_block_comment, begins_line_comment, block_comment, cases_lt, codes, drop, ends_comment, false, false≢true, is_inside_line, is_white_space, length, length-drop, line_comment, line_len, prefix_len-le-length, refl, slice_index, sym, true, white_space, ℕ, ⊎_elim, ◌+◌, ◌<◌, ◌∙◌, ◌∷◌, ◌≡◌, ◌≤◌}
 use Rattle.sc_lex.proofs.Runs.{run_positive}
 use Rattle.sc_lex.proofs.Wording.{begins_with, front_byte}
 

@@ -1,13 +1,6 @@
 -- The number that digits stand for.
-use Rattle.std.proofs.Common.{◌≡◌, ℕ, ◌+◌, ◌*◌, ◌≤◌, ◌<◌, Bool, true, false, not, ◌&&◌, cond, leb, Option, Some, None, List, [], ◌∷◌, length, get_or, take, drop, refl, sym, ap, ◌∙◌, fold, arith, take-append-drop}
+use Rattle.sc_lex.proofs.Common.{Bool, List, None, Option, Some, [], and_left, and_right, ap, arith, cond, digit_value, drop, false, fold, fold-append, fold_more, get_or, is_digit, is_empty, is_number, le-leb, le-ltb, leb, length, list_all, list_all-append, list_all_at, lt-leb, lt-ltb, not, number, refl, sym, take, take-append-drop, take_all, take_more, true, ℕ, ◌&&◌, ◌*◌, ◌+◌, ◌<◌, ◌∙◌, ◌∷◌, ◌≡◌, ◌≤◌}
 use Rattle.std.proofs.Math.Nat.{mul-le-mul_left}
-use Rattle.std.proofs.lemmas.Bool.{lt-leb, le-leb, and_left, and_right, le-ltb, lt-ltb}
-use Rattle.std.proofs.lemmas.List.{take_all, take_more}
-use Rattle.std.proofs.lemmas.List.Folds.{list_all_at, list_all-append}
-use Rattle.std.proofs.lemmas.List.Sums.{fold_more, fold-append}
-use Rattle.std.specs.List.{list_all}
-use Rattle.sc_lex.specs.Words.{is_empty}
-use Rattle.sc_lex.specs.Integers.{digit_value, is_digit, number, is_number}
 
 pub product_fits : (value base : ℕ) → value ≤ 4294967295 → base ≤ 16 → value * base ≤ 68719476720
 product_fits value base h k = omega (arith, mul-le-mul_left value k)

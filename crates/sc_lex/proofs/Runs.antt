@@ -1,15 +1,5 @@
 -- Tokens that end where the bytes of a class end.
-use Rattle.std.proofs.Common.{◌≡◌, ℕ, zero, suc, ◌+◌, ◌≤◌, ◌<◌, Bool, true, false, cond, List, [], ◌∷◌, length, get_or, take, Some, None, refl, sym, ap, ◌∙◌, ⊎_elim, one-add, arith}
-use Rattle.std.proofs.lemmas.Option.{none-some}
-use Rattle.std.proofs.lemmas.Bool.{false≢true, cases_lt, not_from_false, not_from_true}
-use Rattle.std.proofs.lemmas.List.{get_or-take, length-take-le}
-use Rattle.std.proofs.lemmas.List.Sums.{prefix_len_passes, prefix_len_stops, prefix_len-le-length}
-use Rattle.std.proofs.lemmas.List.Folds.{list_all_at}
-use Rattle.std.specs.Prelude.{IsTrue}
-use Rattle.std.specs.List.{list_all, prefix_len}
-use Rattle.sc_lex.specs.Kinds.{kind_of, is_directive}
-use Rattle.sc_lex.specs.Cutting.{begins_block_comment, begins_line_comment, IsToken}
-use Rattle.sc_lex.specs.declared.token.TokenKind.{TokenKind}
+use Rattle.sc_lex.proofs.Common.{Bool, IsToken, IsTrue, List, None, Some, TokenKind, [], ap, arith, begins_block_comment, begins_line_comment, cases_lt, cond, false, false≢true, get_or, get_or-take, is_directive, kind_of, length, length-take-le, list_all, list_all_at, none-some, not_from_false, not_from_true, one-add, prefix_len, prefix_len-le-length, prefix_len_passes, prefix_len_stops, refl, suc, sym, take, true, zero, ℕ, ⊎_elim, ◌+◌, ◌<◌, ◌∙◌, ◌∷◌, ◌≡◌, ◌≤◌}
 use Rattle.sc_lex.proofs.Texts.{IsRun, kind_of-nil, none_from}
 
 -- a token has a byte

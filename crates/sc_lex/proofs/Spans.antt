@@ -1,11 +1,5 @@
 -- Tokens that cut bytes are slices of them, one behind another.
-use Rattle.std.proofs.Common.{◌≡◌, ℕ, zero, suc, ◌+◌, ◌-◌, ◌≤◌, Bool, List, ◌∷◌, drop, refl, arith}
-use Rattle.std.proofs.lemmas.List.{length-drop}
-use Rattle.std.specs.Prelude.{All, AllPairs}
-use Rattle.sc_lex.specs.Cutting.{IsToken, token_at, Cuts, nothing, gap, token, IsCut}
-use Rattle.sc_lex.specs.Spans.{IsSpan, AreSpans}
-use Rattle.sc_lex.specs.declared.token.Token.{Token}
-use Rattle.sc_lex.specs.declared.token.TokenKind.{TokenKind}
+use Rattle.sc_lex.proofs.Common.{All, AllPairs, AreSpans, Bool, Cuts, IsCut, IsSpan, IsToken, List, Token, TokenKind, arith, drop, gap, length-drop, nothing, refl, suc, token, token_at, zero, ℕ, ◌+◌, ◌-◌, ◌∷◌, ◌≡◌, ◌≤◌}
 use Rattle.sc_lex.proofs.Runs.{token_positive}
 
 all_cons : (P : Token → Type 0) (t : Token) (ts : List Token) → P t → All P ts → All P (t ∷ ts)

@@ -1,17 +1,7 @@
 -- Sections that follow one another, and what the loop over them keeps.
-use Rattle.std.proofs.Common.{◌≡◌, ℕ, ◌+◌, ◌-◌, ◌<◌, ◌≤◌, min, cond, List, [], ◌∷◌, ◌++◌, length, take, drop, None, refl, sym, ap, ◌∙◌, ⊎_elim, arith}
-use Rattle.std.proofs.lemmas.Bool.{cases_lt, and_parts}
-use Rattle.std.proofs.lemmas.Option.{none-some}
-use Rattle.std.proofs.lemmas.List.{length-take-le, length-drop, drop-drop, take_all}
-use Rattle.std.proofs.lemmas.List.Sums.{sum_by-append}
+use Rattle.sc_lex.proofs.Common.{AreSections, IsBadHeading, IsSection, IsSplit, IsTrue, Lex, List, NoHeading, None, Refusal, RefusesHeading, [], and_parts, ap, arith, begins_heading, begins_line, cases_lt, cond, drop, drop-drop, flat_map, is_heading, length, length-drop, length-take-le, line_after, line_at, min, name_at, newlines, none, none-some, refl, section, slice_range, sum_by-append, sym, take, take_all, ℕ, ⊎_elim, ◌++◌, ◌+◌, ◌-◌, ◌<◌, ◌==◌, ◌∙◌, ◌∷◌, ◌≡◌, ◌≤◌}
 use Rattle.std.proofs.Math.Seq.{take-add}
-use Rattle.std.specs.Prelude.{IsTrue, slice_range, flat_map, ◌==◌}
-use Rattle.sc_lex.specs.Lines.{newlines, line_after, line_at, begins_line}
-use Rattle.sc_lex.specs.Headings.{is_heading, begins_heading, name_at}
-use Rattle.sc_lex.specs.Splitting.{NoHeading, IsSection, AreSections, none, section, IsSplit, IsBadHeading, RefusesHeading}
 use Rattle.sc_lex.specs.declared.section.Section.{Section}
-use Rattle.sc_lex.specs.declared.refusal.Refusal.{Refusal}
-use Rattle.sc_lex.specs.declared.refusal.Phase.TheVariants.{Lex}
 use Rattle.sc_lex.proofs.Wording.{heading_fits}
 
 pub heading_within : (text : List ℕ) (at : ℕ) → IsTrue (is_heading text at) → at < length text

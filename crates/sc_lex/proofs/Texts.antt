@@ -1,24 +1,7 @@
 -- What texts that are tokens consist of.
-use Rattle.std.proofs.Common.{◌≡◌, ℕ, ◌+◌, ◌-◌, ◌≤◌, ◌<◌, Bool, true, false, not, cond, ◌&&◌, ◌||◌, List, [], ◌∷◌, length, get_or, take, drop, Option, Some, None, refl, sym, ap, ◌∙◌, subst, ⊎_elim, arith, take-append-drop}
-use Rattle.std.proofs.lemmas.Bool.{false≢true, and_parts, and_from, or_cases, or_left, or_right, eqb-true, leb-true, le-leb, ltb-true, not-true, false_from_ne_true}
-use Rattle.std.proofs.lemmas.Option.{none-some}
-use Rattle.std.proofs.lemmas.Slice.Eq.{bytes_eq-Decides}
-use Rattle.std.proofs.lemmas.List.{drop_more, drop_all}
-use Rattle.std.proofs.lemmas.List.Folds.{list_all-append}
-use Rattle.std.specs.Prelude.{is_some, bytes_eq, slice_index, nat_le, nat_lt, ◌==◌}
-use Rattle.std.specs.List.{list_all, list_any}
+use Rattle.sc_lex.proofs.Common.{Bool, Compartment, Export, Ident, Import, Integer, List, None, Option, Reserved, Some, TokenKind, [], and_from, and_parts, ap, arith, base_of, bytes_eq, bytes_eq-Decides, cond, digits_of, directive_kind, drop, drop_all, drop_more, eqb-true, false, false_from_ne_true, false≢true, get_or, has_suffix, heading_name, is_between, is_digit, is_directive, is_empty, is_export, is_hexadecimal, is_import, is_inside_line, is_integer, is_mark, is_name, is_name_byte, is_nondigit, is_number, is_pragma, is_reserved, is_some, is_white_space, kind_of, le-leb, leb-true, length, line_kind, list_all, list_all-append, list_any, ltb-true, mark_kind, marks, may_follow, nat_le, nat_lt, none-some, not, not-true, or_cases, or_left, or_right, refl, reserved_words, slice_index, subst, sym, take, take-append-drop, true, without_suffix, word_kind, words, ℕ, ⊎_elim, ◌&&◌, ◌+◌, ◌-◌, ◌<◌, ◌==◌, ◌||◌, ◌∙◌, ◌∷◌, ◌≡◌, ◌≤◌}
 use Rattle.std.specs.Option.{option_or}
 use Rattle.sc_base.proofs.Lists.{list_all_along}
-use Rattle.sc_base.specs.Identifier.{is_between, is_name, is_nondigit, is_name_byte}
-use Rattle.sc_lex.specs.Lines.{is_white_space, is_inside_line}
-use Rattle.sc_lex.specs.Words.{words, is_empty}
-use Rattle.sc_lex.specs.Headings.{heading_name}
-use Rattle.sc_base.specs.Reserved.{reserved_words, is_reserved}
-use Rattle.sc_lex.specs.Tables.{marks, is_mark}
-use Rattle.sc_lex.specs.Integers.{has_suffix, without_suffix, is_hexadecimal, digits_of, base_of, is_digit, is_number, is_integer}
-use Rattle.sc_lex.specs.Kinds.{is_export, is_import, is_pragma, line_kind, word_kind, mark_kind, directive_kind, kind_of, may_follow, is_directive}
-use Rattle.sc_lex.specs.declared.token.TokenKind.{TokenKind}
-use Rattle.sc_lex.specs.declared.token.TokenKind.TheVariants.{Ident, Reserved, Integer, Compartment, Export, Import}
 
 -- what each entry of a table has, each text of the table has
 table_says : (p : List ℕ → Bool) (table : List (List ℕ)) (text : List ℕ) → list_all p table ≡ true →

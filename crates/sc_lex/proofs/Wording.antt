@@ -1,17 +1,7 @@
 -- The first word of a line, and the words behind it.
-use Rattle.std.proofs.Common.{◌≡◌, ℕ, zero, suc, ◌+◌, ◌<◌, ◌≤◌, Bool, true, false, not, cond, eqb, List, [], ◌∷◌, length, get_or, take, drop, None, refl, sym, ap, ◌∙◌, ⊎_elim, one-add, arith}
-use Rattle.std.proofs.lemmas.Bool.{cases_lt, not-false, not-true, ne_eqb}
-use Rattle.std.proofs.lemmas.List.{take_rest, take_all, drop_all, drop_more, length-take-le, length-take, get_or-drop, get_or-take}
-use Rattle.std.proofs.lemmas.List.Sums.{prefix_len-le-length, prefix_len_stops, prefix_len_passes}
+use Rattle.sc_lex.proofs.Common.{Bool, List, None, [], ap, arith, begins_heading, cases_lt, codes, cond, drop, drop_all, drop_more, eqb, false, filter, get_or, get_or-drop, get_or-take, is_blank, is_empty, is_name, length, length-take, length-take-le, name_of, nat_eq, ne_eqb, not, not-false, not-true, one-add, only_name, position_or_len, prefix_len, prefix_len-le-length, prefix_len_passes, prefix_len_stops, refl, slice_eq-Decides, slice_split, starts_with, suc, sym, take, take_all, take_rest, true, words, zero, ℕ, ⊎_elim, ◌+◌, ◌<◌, ◌∙◌, ◌∷◌, ◌≡◌, ◌≤◌}
 use Rattle.std.proofs.lemmas.List.Splits.{slice_split-cons_yes, slice_split_first, slice_split_none}
-use Rattle.std.specs.List.{filter, starts_with, prefix_len, position_or_len, slice_split}
-use Rattle.std.proofs.lemmas.Slice.Eq.{slice_eq-Decides}
 use Rattle.std.proofs.lemmas.Bool.Decides.{Decides-eqb}
-use Rattle.std.specs.Prelude.{codes, nat_eq}
-use Rattle.sc_base.specs.Identifier.{name_of, is_name}
-use Rattle.sc_lex.specs.Lines.{is_blank}
-use Rattle.sc_lex.specs.Words.{words, is_empty, only_name}
-use Rattle.sc_lex.specs.Headings.{begins_heading}
 
 pub ruleset lengths = (prefix_len-le-length)
 

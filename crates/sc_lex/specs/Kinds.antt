@@ -1,12 +1,11 @@
 -- The kind of token that a text is.
+use Rattle.sc_base.specs.Prelude.{is_name, is_name_byte, is_reserved}
 use Rattle.std.specs.Prelude.{ℕ, Bool, true, false, not, ◌&&◌, ◌==◌, bytes_eq, codes, List, [], ◌∷◌, slice_index, Option, Some, None, is_some, if◌then◌else◌}
 use Rattle.std.specs.List.{list_all}
 use Rattle.std.specs.Option.{option_or}
-use Rattle.sc_base.specs.Identifier.{is_name, is_name_byte}
 use Rattle.sc_lex.specs.Lines.{is_inside_line}
 use Rattle.sc_lex.specs.Words.{words}
 use Rattle.sc_lex.specs.Headings.{heading_name}
-use Rattle.sc_base.specs.Reserved.{is_reserved}
 use Rattle.sc_lex.specs.Tables.{is_mark}
 use Rattle.sc_lex.specs.Integers.{is_integer}
 use Rattle.sc_lex.specs.declared.token.TokenKind.{TokenKind}

@@ -1,7 +1,7 @@
 -- The words of a line.
+use Rattle.sc_base.specs.Prelude.{name_of}
 use Rattle.std.specs.Prelude.{ℕ, Bool, not, ◌==◌, List, [], ◌∷◌, length, filter, Option, None}
 use Rattle.std.specs.List.{slice_split}
-use Rattle.sc_base.specs.Identifier.{name_of}
 use Rattle.sc_lex.specs.Lines.{is_blank}
 
 abbrev pub is_empty : List ℕ → Bool

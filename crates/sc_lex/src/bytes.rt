@@ -1,7 +1,7 @@
 //! Classes of bytes, and lines.
 
+ghost use Rattle.sc_lex.specs.Prelude.{begins_line, is_blank, line_after, line_len, newlines};
 ghost use Rattle.std.specs.Prelude.{◌≡◌, ◌≤◌, length};
-ghost use Rattle.sc_lex.specs.Lines.{is_blank, begins_line, line_len, newlines, line_after};
 
 /// White space other than a newline.
 pub fn is_blank(byte: u8) -> bool

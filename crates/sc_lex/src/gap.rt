@@ -1,8 +1,7 @@
 //! White space and comments.
 
+ghost use Rattle.sc_lex.specs.Prelude.{IsGap, begins_block_comment, begins_line_comment, ends_comment, is_white_space};
 ghost use Rattle.std.specs.Prelude.{◌≡◌, ℕ, ◌≤◌, ◌<◌, ◌||◌, length, IsTrue, IfSome, IfNone};
-ghost use Rattle.sc_lex.specs.Lines.{is_white_space};
-ghost use Rattle.sc_lex.specs.Cutting.{begins_block_comment, begins_line_comment, ends_comment, IsGap};
 
 use crate::bytes::{is_blank, line_len};
 

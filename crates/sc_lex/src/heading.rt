@@ -1,10 +1,8 @@
 //! Compartment lines and the words of lines.
 
+ghost use Rattle.sc_lex.specs.Prelude.{begins_heading, heading_name, is_blank, only_name, words};
 ghost use Rattle.std.specs.Prelude.{◌≡◌, ◌≤◌, [], length, get_or, drop, slice_index};
 ghost use Rattle.std.specs.List.{prefix_len, position_or_len};
-ghost use Rattle.sc_lex.specs.Lines.{is_blank};
-ghost use Rattle.sc_lex.specs.Words.{words, only_name};
-ghost use Rattle.sc_lex.specs.Headings.{begins_heading, heading_name};
 
 use crate::bytes::is_blank;
 use sc_base::Name;

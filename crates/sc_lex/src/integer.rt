@@ -1,7 +1,7 @@
 //! Integer constants.
 
+ghost use Rattle.sc_lex.specs.Prelude.{base_of, digit_value, digits_of, greatest_of, has_suffix, integer_of, is_hexadecimal, is_integer, is_number, number, without_suffix};
 ghost use Rattle.std.specs.Prelude.{◌≡◌, ◌≤◌, IsTrue, IfSome, Some, None, length, if◌then◌else◌};
-ghost use Rattle.sc_lex.specs.Integers.{has_suffix, without_suffix, is_hexadecimal, digits_of, base_of, digit_value, number, is_number, greatest_of, is_integer, integer_of};
 
 // The greatest value of type `int`.
 const GREATEST_INT: u64 = 0x7fff_ffff;

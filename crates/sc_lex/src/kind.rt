@@ -1,13 +1,9 @@
 //! The kinds of texts, and the token at the front of a text.
 
+ghost use Rattle.sc_lex.specs.Prelude.{IsToken, NoToken, begins_block_comment, begins_line_comment, is_directive, is_export, is_import, is_mark, line_kind, word_kind, words};
+ghost use Rattle.sc_base.specs.Prelude.{is_name_byte};
 ghost use Rattle.std.specs.Prelude.{◌≡◌, ◌≢◌, ℕ, ◌≤◌, ◌<◌, Bool, true, false, [], get_or, length, take, nat_le, ◌&&◌, slice_index, IsTrue, IfSome, IfNone};
 ghost use Rattle.std.specs.List.{prefix_len};
-ghost use Rattle.sc_base.specs.Identifier.{is_name_byte};
-ghost use Rattle.sc_lex.specs.Words.{words};
-ghost use Rattle.sc_lex.specs.Tables.{is_mark};
-ghost use Rattle.sc_lex.specs.Kinds.{is_export, is_import, line_kind, word_kind, is_directive};
-ghost use Rattle.sc_lex.specs.Cutting.{begins_block_comment, begins_line_comment, IsToken};
-ghost use Rattle.sc_lex.specs.Pieces.{NoToken};
 ghost use Rattle.sc_lex.specs.declared.token.TokenKind.{TokenKind};
 
 use crate::TokenKind;

@@ -1,8 +1,6 @@
+ghost use Rattle.sc_lex.specs.Prelude.{IsBadHeading, IsSection, IsSplit, NoHeading, RefusesHeading, is_heading, line_at, name_at};
 ghost use Rattle.std.specs.Prelude.{◌≡◌, ℕ, ◌+◌, ◌<◌, ◌≤◌, ◌++◌, length, IsTrue, IfOk, OnOk, IfSome, IfNone, IsErrOf};
 ghost use Rattle.std.specs.List.{flat_map};
-ghost use Rattle.sc_lex.specs.Lines.{line_at};
-ghost use Rattle.sc_lex.specs.Headings.{is_heading, name_at};
-ghost use Rattle.sc_lex.specs.Splitting.{NoHeading, IsSection, IsSplit, IsBadHeading, RefusesHeading};
 ghost use Rattle.sc_lex.specs.declared.refusal.Refusal.{Refusal};
 ghost use Rattle.sc_lex.specs.declared.refusal.Phase.TheVariants.{Lex};
 

@@ -1,8 +1,8 @@
 //! Marks.
 
+ghost use Rattle.sc_lex.specs.Prelude.{is_mark};
 ghost use Rattle.std.specs.Prelude.{◌≡◌, bytes_eq};
 ghost use Rattle.std.specs.List.{list_any};
-ghost use Rattle.sc_lex.specs.Tables.{is_mark};
 
 const MARKS: [&[u8]; 43] = [
     b"+", b"-", b"*", b"/", b"%", b"<<", b">>", b"<", b">", b"<=", b">=", b"==", b"!=", b"&", b"^",

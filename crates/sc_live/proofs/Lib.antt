@@ -1,3 +1,4 @@
+pub mod Common
 pub mod LiveSets
 pub mod Locality
 pub mod Looping

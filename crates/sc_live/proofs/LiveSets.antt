@@ -1,11 +1,5 @@
 -- Sets of temporaries as lists.
-use Rattle.std.proofs.Common.{◌≡◌, ℕ, List, [], ◌∷◌, Option, None, Some, ap, sym, ◌∙◌, arith}
-use Rattle.std.specs.Prelude.{◌==◌, ◌&&◌, not}
-use Rattle.std.specs.List.{filter}
-use Rattle.sc_tac.specs.Flow.{is_one}
-use Rattle.sc_tac.specs.Parts.{one_or_none}
-use Rattle.sc_tac.specs.Points.{Set}
-use Rattle.sc_live.specs.Marks.{set_of}
+use Rattle.sc_live.proofs.Common.{List, None, Option, Set, Some, [], ap, arith, filter, is_one, not, one_or_none, set_of, sym, ℕ, ◌&&◌, ◌==◌, ◌∙◌, ◌∷◌, ◌≡◌}
 
 removed_one : (temp t : ℕ) (xs : List ℕ) →
     is_one t (filter (λ x. not (x == temp)) xs) ≡ (not (temp == t) && is_one t xs)

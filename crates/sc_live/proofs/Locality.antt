@@ -1,13 +1,8 @@
 -- What a piece of code says of a temporary depends on what is live of that temporary alone.
-use Rattle.std.proofs.Common.{◌≡◌, ℕ, Bool, true, false, List, [], ◌∷◌, ◌++◌, map, Option, Some, None, refl, sym, ap, subst}
-use Rattle.std.specs.Prelude.{◌&&◌, ◌||◌, ◌==◌, not}
+use Rattle.sc_live.proofs.Common.{Bool, List, Lives, None, Option, Point, Set, Some, TacStmt, TacStmt-F, Trail, [], ahead_at, ap, false, fold-roll-TacStmt, if_calls, in_body, in_head, in_next, is_one, live_across, live_at_start, live_before, loop_points, map, map-TacStmt, not, one_or_none, part_lives, plain_points, point, readings, refl, row_first, row_points, stmt_points, subst, sym, trail, trail_step, true, ℕ, ◌&&◌, ◌++◌, ◌==◌, ◌||◌, ◌∷◌, ◌≡◌}
 use Rattle.sc_core.proofs.Induction.{Each, everywhere}
 use Rattle.sc_tac.proofs.Induction.{Inside, stmt_induction}
-use Rattle.sc_tac.specs.declared.stmt.TacStmt.{TacStmt, TacStmt-F, fold-roll-TacStmt, map-TacStmt}
 use Rattle.sc_tac.specs.declared.stmt.TacStmt.TheOpen as tac
-use Rattle.sc_tac.specs.Flow.{is_one, row_first}
-use Rattle.sc_tac.specs.Parts.{one_or_none}
-use Rattle.sc_tac.specs.Points.{Lives, Point, Set, Trail, ahead_at, if_calls, in_body, in_head, in_next, live_across, live_at_start, live_before, loop_points, part_lives, plain_points, point, readings, row_points, stmt_points, trail, trail_step}
 
 -- the temporaries at which two ways to go on are the same
 module _ (Here : ℕ → Type 0) where

@@ -1,18 +1,8 @@
 -- One round of a loop, from nothing that is live at its end, tells its points: what is then live at its start is used
 -- from the loop's start to its end, and of nothing else do the points differ.
-use Rattle.std.proofs.Common.{◌≡◌, ◌≤◌, ◌<◌, ℕ, suc, Bool, true, false, List, [], ◌∷◌, ◌++◌, map, length, Option, Some, None, refl, sym, ap, ◌∙◌, subst, append_assoc, arith}
-use Rattle.std.specs.Prelude.{◌||◌, min, slice_get, if◌then◌else◌}
-use Rattle.sc_tac.specs.declared.stmt.TacStmt.{TacStmt}
+use Rattle.sc_live.proofs.Common.{Bool, Holds, List, Lives, Mark, None, Option, Passed, Point, Set, Some, TacStmt, Trail, Walk, Walked, WalkedAll, WalkedOver, [], ap, append_assoc, arith, false, if◌then◌else◌, in_body, in_head, in_next, is_one, is_used, length, live_at_start, live_before, lives_at, loop_points, map, mark_from, mark_here, mark_of, marked, min, nearest_call, nothing, one_or_none, part_lives, point, refl, row_points, set_of, slice_get, subst, suc, sym, trail, true, ℕ, ◌++◌, ◌<◌, ◌||◌, ◌∙◌, ◌∷◌, ◌≡◌, ◌≤◌}
 use Rattle.sc_tac.specs.declared.stmt.TacStmt.TheOpen as tac
 use Rattle.sc_tac.specs.declared.stmt.TacStmt.TheVariants as emit
-use Rattle.sc_tac.specs.Flow.{is_one}
-use Rattle.sc_tac.specs.Parts.{one_or_none}
-use Rattle.sc_tac.specs.Intervals.{is_used}
-use Rattle.sc_tac.specs.Points.{Lives, Point, Set, Trail, in_body, in_head, in_next, live_at_start, live_before, loop_points, nothing, part_lives, point, row_points, trail}
-use Rattle.sc_live.specs.declared.marks.Mark.{Mark}
-use Rattle.sc_live.specs.declared.walk.Walk.{Walk}
-use Rattle.sc_live.specs.Marks.{mark_from, mark_here, mark_of, marked, nearest_call, set_of}
-use Rattle.sc_live.specs.Walks.{Holds, Passed, Walked, WalkedAll, WalkedOver, lives_at}
 use Rattle.sc_live.proofs.Locality.{SamePoints, SameLives, SameSet, all_local, alone, before_same, part_same, same_append}
 use Rattle.sc_live.proofs.Marking.{ends_within, here_last, last_or, to_last}
 use Rattle.sc_live.proofs.Walking.{over_layer, relived_before, walked_on}

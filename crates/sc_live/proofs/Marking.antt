@@ -1,12 +1,5 @@
 -- Marks of temporaries, point by point.
-use Rattle.std.proofs.Common.{◌≡◌, ◌≤◌, ◌<◌, ℕ, suc, Bool, true, false, List, [], ◌∷◌, length, refl, sym, ap, ◌∙◌, Option, Some, None, arith}
-use Rattle.std.specs.Prelude.{min, slice_get, if◌then◌else◌}
-use Rattle.sc_tac.specs.Intervals.{is_used}
-use Rattle.sc_tac.specs.Points.{Point}
-use Rattle.sc_live.specs.declared.marks.Mark.{Mark}
-use Rattle.sc_live.specs.declared.walk.Walk.{Walk}
-use Rattle.sc_live.specs.Marks.{mark_from, mark_here, mark_of, mark_to, marked, nearest_call, set_of}
-use Rattle.sc_live.specs.Walks.{Holds, Passed, Walked}
+use Rattle.sc_live.proofs.Common.{Bool, Holds, List, Mark, None, Option, Passed, Point, Some, Walk, Walked, [], ap, arith, false, if◌then◌else◌, is_used, length, mark_from, mark_here, mark_of, mark_to, marked, min, nearest_call, refl, set_of, slice_get, suc, sym, true, ℕ, ◌<◌, ◌∙◌, ◌∷◌, ◌≡◌, ◌≤◌}
 
 -- the end of a mark, or this
 abbrev pub last_or : ℕ → Option Mark → ℕ

@@ -1,18 +1,9 @@
 -- Marks among all points of a function tell its intervals.
-use Rattle.std.proofs.Common.{◌≡◌, ◌≤◌, ◌<◌, ◌+◌, ◌-◌, ℕ, suc, Bool, true, false, List, [], ◌∷◌, ◌++◌, map, length, take, drop, Option, Some, None, refl, sym, ap, ◌∙◌, subst, zero-add, arith, leb, ◌⊎◌, inl, inr}
-use Rattle.std.specs.Prelude.{◌||◌, slice_get, if◌then◌else◌}
-use Rattle.std.specs.List.{list_any, range_with_len}
-use Rattle.std.specs.Option.{option_map, unwrap_or}
+use Rattle.sc_live.proofs.Common.{AreIntervals, Bool, Holds, List, Mark, None, Option, Point, Some, Span, Walk, [], ap, arith, drop, false, from_here, has_call, if◌then◌else◌, inl, inr, interval_at, interval_of, is_met, is_used, leb, length, list_any, map, mark_from, mark_here, mark_of, nearest_call, option_map, or_first, range_with_len, refl, slice_get, span_from, subst, suc, sym, take, true, unwrap_or, zero-add, ℕ, ◌++◌, ◌+◌, ◌-◌, ◌<◌, ◌||◌, ◌∙◌, ◌∷◌, ◌≡◌, ◌≤◌, ◌⊎◌}
 use Rattle.std.proofs.lemmas.List.FromFn.{get_or-map-range_with_len, length-map-range_with_len, map-range_with_len_more}
 use Rattle.std.proofs.lemmas.Option.{get_or_from_slice_get, slice_get_within}
 use Rattle.std.proofs.lemmas.Bool.Decides.{leb_tells}
 use Rattle.sc_tac.specs.declared.interval.Interval.{Interval}
-use Rattle.sc_tac.specs.Intervals.{AreIntervals, Span, from_here, has_call, interval_of, is_used, or_first, span_from}
-use Rattle.sc_tac.specs.Points.{Point}
-use Rattle.sc_live.specs.declared.marks.Mark.{Mark}
-use Rattle.sc_live.specs.Marks.{is_met, mark_from, mark_here, mark_of, nearest_call}
-use Rattle.sc_live.specs.declared.walk.Walk.{Walk}
-use Rattle.sc_live.specs.Walks.{Holds, interval_at}
 use Rattle.sc_live.proofs.Marking.{ends_within, here_last}
 
 -- counted from the first point

@@ -1,9 +1,5 @@
 -- Walks over all of a function's code.
-use Rattle.std.proofs.Common.{◌≡◌, ℕ, List, [], map, subst, append-nil}
-use Rattle.sc_tac.specs.declared.stmt.TacStmt.{TacStmt}
-use Rattle.sc_tac.specs.Points.{nothing_live, points, row_points, trail}
-use Rattle.sc_live.specs.declared.walk.Walk.{Walk}
-use Rattle.sc_live.specs.Walks.{Holds, WalkedAll, lives_at}
+use Rattle.sc_live.proofs.Common.{Holds, List, TacStmt, Walk, WalkedAll, [], append-nil, lives_at, map, nothing_live, points, row_points, subst, trail, ℕ, ◌≡◌}
 
 pub all_walked : (temps : ℕ) (body : List TacStmt) (broken continued : List ℕ) (a b : Walk) → a.live ≡ [] →
     broken ≡ [] → continued ≡ [] → Holds temps a [] → WalkedAll body (lives_at a.live broken continued) a b →

@@ -1,16 +1,8 @@
 -- Walks, piece by piece.
-use Rattle.std.proofs.Common.{◌≡◌, ℕ, List, [], ◌∷◌, ◌++◌, map, refl, sym, ap, ◌∙◌, subst, append_assoc, suc, ◌<◌, ◌≤◌, ◌-◌, length, get_or, drop, drop-cons, arith}
-use Rattle.std.specs.Prelude.{Bool, true, false, not, ◌==◌, ◌&&◌, ◌||◌, Option}
+use Rattle.sc_live.proofs.Common.{Bool, Holds, List, Lives, Option, Point, Set, TacStmt, TacStmt-F, Trail, Walk, Walked, WalkedAll, WalkedOver, [], ap, append_assoc, arith, drop, drop-cons, false, fold-roll-TacStmt, get_or, if_calls, is_one, length, live_before, live_first, lives_at, map, map-TacStmt, not, one_or_none, plain_points, point, refl, roll-TacStmt, row_points, set_of, subst, suc, sym, trail, trail_step, true, ℕ, ◌&&◌, ◌++◌, ◌-◌, ◌<◌, ◌==◌, ◌||◌, ◌∙◌, ◌∷◌, ◌≡◌, ◌≤◌}
 use Rattle.std.proofs.Math.Bool.{or_comm}
-use Rattle.sc_tac.specs.declared.stmt.TacStmt.{TacStmt, TacStmt-F, fold-roll-TacStmt, map-TacStmt, roll-TacStmt}
 use Rattle.sc_tac.specs.declared.stmt.TacStmt.TheOpen as tac
 use Rattle.sc_tac.specs.declared.stmt.TacStmt.TheVariants as emit
-use Rattle.sc_tac.specs.Flow.{is_one}
-use Rattle.sc_tac.specs.Parts.{one_or_none}
-use Rattle.sc_tac.specs.Points.{Lives, Point, Set, if_calls, live_before, plain_points, point, row_points, trail, trail_step, Trail}
-use Rattle.sc_live.specs.declared.walk.Walk.{Walk}
-use Rattle.sc_live.specs.Marks.{set_of}
-use Rattle.sc_live.specs.Walks.{Holds, Walked, WalkedAll, WalkedOver, live_first, lives_at}
 
 -- what is live may be replaced
 pub relived : (points : List Point) (set set' : Set) (before after : Walk) (live : List ℕ) →

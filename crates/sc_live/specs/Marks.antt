@@ -1,9 +1,7 @@
 -- Where temporaries are used among the last points of a function's code, told by how many points stand behind.
+use Rattle.sc_tac.specs.Prelude.{Point, Set, is_one, is_used}
 use Rattle.std.specs.Prelude.{ℕ, Bool, false, if◌then◌else◌, nat_le, min, List, [], ◌∷◌, length, Option, None, Some}
 use Rattle.std.specs.Option.{option_map}
-use Rattle.sc_tac.specs.Flow.{is_one}
-use Rattle.sc_tac.specs.Intervals.{is_used}
-use Rattle.sc_tac.specs.Points.{Point, Set}
 use Rattle.sc_live.specs.declared.marks.Mark.{Mark}
 
 -- temporaries that are listed

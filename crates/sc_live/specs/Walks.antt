@@ -1,9 +1,8 @@
 -- What is known on the way back through a function's code.
+use Rattle.sc_tac.specs.Prelude.{Lives, Point, Set, Trail, ahead_at, is_used, live_before, row_points, trail}
 use Rattle.std.specs.Prelude.{◌≡◌, ◌<◌, ℕ, suc, ◌-◌, if◌then◌else◌, List, ◌++◌, map, length, Some, slice_get}
 use Rattle.sc_tac.specs.declared.interval.Interval.{Interval}
 use Rattle.sc_tac.specs.declared.stmt.TacStmt.{TacStmt}
-use Rattle.sc_tac.specs.Intervals.{is_used}
-use Rattle.sc_tac.specs.Points.{Lives, Point, Set, Trail, ahead_at, live_before, row_points, trail}
 use Rattle.sc_live.specs.declared.marks.Mark.{Mark}
 use Rattle.sc_live.specs.declared.walk.Walk.{Walk}
 use Rattle.sc_live.specs.Marks.{mark_of, marked, nearest_call, set_of}

@@ -1,7 +1,6 @@
+ghost use Rattle.sc_tac.specs.Prelude.{Point, function_points, interval_of, intervals_of};
 ghost use Rattle.std.specs.Prelude.{◌≡◌, ◌<◌, ℕ, ◌-◌, List, None, IfOk, slice_get};
 ghost use Rattle.std.specs.Option.{unwrap_or};
-ghost use Rattle.sc_tac.specs.Intervals.{interval_of, intervals_of};
-ghost use Rattle.sc_tac.specs.Points.{Point, function_points};
 ghost use Rattle.sc_live.specs.Marks.{mark_from};
 ghost use Rattle.sc_live.specs.Walks.{Holds, interval_at};
 

@@ -1,6 +1,5 @@
+ghost use Rattle.sc_tac.specs.Prelude.{is_one, one_or_none};
 ghost use Rattle.std.specs.Prelude.{◌≡◌, ◌==◌, ◌||◌, ℕ, slice_get};
-ghost use Rattle.sc_tac.specs.Flow.{is_one};
-ghost use Rattle.sc_tac.specs.Parts.{one_or_none};
 ghost use Rattle.sc_live.specs.Marks.{is_met, mark_to, marked};
 
 use crate::live::LiveSet;

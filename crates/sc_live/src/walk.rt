@@ -1,7 +1,5 @@
+ghost use Rattle.sc_tac.specs.Prelude.{if_calls, is_one, one_or_none, plain_points, point};
 ghost use Rattle.std.specs.Prelude.{◌≡◌, ◌∷◌, [], ◌&&◌, ◌||◌, ◌==◌, not, suc, IfOk, Some, true, false};
-ghost use Rattle.sc_tac.specs.Flow.{is_one};
-ghost use Rattle.sc_tac.specs.Parts.{one_or_none};
-ghost use Rattle.sc_tac.specs.Points.{if_calls, plain_points, point};
 ghost use Rattle.sc_live.specs.Marks.{set_of};
 ghost use Rattle.sc_live.specs.Walks.{Holds, Passed, Walked, WalkedAll, WalkedOver, lives_at};
 

@@ -1,36 +1,13 @@
 -- Lowered code assigns each temporary before it reads it.
-use Rattle.std.proofs.Common.{◌≡◌, ℕ, ◌+◌, Bool, true, false, List, [], ◌∷◌, ◌++◌, map, Some, None, refl, sym, ap, ◌∙◌, subst, ◌⊎◌, inl, inr}
-use Rattle.std.specs.Prelude.{not, ◌&&◌, ◌||◌, ◌==◌, if◌then◌else◌}
-use Rattle.std.proofs.lemmas.Bool.{false≢true, and_from, eqb-true, eq-eqb}
-use Rattle.sc_base.proofs.Bools.{and_first, and_rest}
-use Rattle.sc_base.specs.declared.op.BinaryOp.{BinaryOp}
+use Rattle.sc_lower.proofs.Common.{Ahead, BinaryOp, Bool, Constant, Each, Global, Int, List, Local, Low, Lowered, Lows, None, Param, Reading, Some, TacOp, TacStmt, TacStmt-F, Ty, TypedExpr, TypedKind, TypedKind-F, TypedStruct, Under, VarRef, Want, [], alone, and_code, and_first, and_from, and_rest, ap, at_place, between_op, binary, binary_code, constant_of, either, eq-eqb, eqb-true, everywhere, expr_at, expr_induction, false, false≢true, fold-TacStmt, fold-roll-TacStmt, from_first, from_one, from_two, if◌then◌else◌, inl, inr, is_array, is_pointer, is_unsigned_op, loaded, lowered, lowered_step, map, map-TacStmt, member, move_op, not, not_op, or_code, place_code, reading, reading_step, refl, roll-TacStmt, row_first, row_fresh, scalar_in, subst, sym, target_cells, term_of, term_step, true, truth_code, unary_op, with_parts, ℕ, ◌&&◌, ◌++◌, ◌+◌, ◌==◌, ◌||◌, ◌∙◌, ◌∷◌, ◌≡◌, ◌⊎◌}
 use Rattle.sc_base.specs.declared.op.BinaryOp.TheVariants as op
 use Rattle.sc_base.specs.declared.op.UnaryOp.TheVariants as unary
-use Rattle.sc_event.specs.declared.interface.Scalar.TheVariants.{Int}
-use Rattle.sc_core.specs.declared.expr.TypedExpr.{TypedExpr}
-use Rattle.sc_core.specs.declared.expr.TypedKind.{TypedKind, TypedKind-F}
 use Rattle.sc_core.specs.declared.expr.TypedKind.TheOpen as term
-use Rattle.sc_core.specs.declared.expr.VarRef.{VarRef}
-use Rattle.sc_core.specs.declared.expr.VarRef.TheVariants.{Global, Param, Local}
-use Rattle.sc_core.specs.declared.section.TypedStruct.{TypedStruct}
-use Rattle.sc_core.specs.declared.ty.Ty.{Ty}
-use Rattle.sc_core.specs.declared.value.Want.{Want}
 use Rattle.sc_core.specs.declared.value.Want.TheVariants as want
-use Rattle.sc_core.specs.Types.{is_array, is_pointer, target_cells}
-use Rattle.sc_core.specs.Tree.{is_unsigned_op}
-use Rattle.sc_core.proofs.Layers.{expr_at, term_of}
-use Rattle.sc_core.proofs.Induction.{Each, Under, expr_induction}
-use Rattle.sc_kinds.proofs.Values.{either}
-use Rattle.sc_tac.specs.declared.stmt.Constant.{Constant}
-use Rattle.sc_tac.specs.declared.stmt.TacOp.{TacOp}
 use Rattle.sc_tac.specs.declared.stmt.TacOp.TheVariants as tacop
-use Rattle.sc_tac.specs.declared.stmt.TacStmt.{TacStmt, TacStmt-F, fold-TacStmt, map-TacStmt, roll-TacStmt, fold-roll-TacStmt}
 use Rattle.sc_tac.specs.declared.stmt.TacStmt.TheOpen as tac
 use Rattle.sc_tac.specs.declared.stmt.TacStmt.TheVariants as emit
-use Rattle.sc_tac.specs.Flow.{Ahead, Reading, row_first, row_fresh, reading_step, reading}
-use Rattle.sc_tac.specs.Parts.{with_parts, everywhere}
 use Rattle.sc_tac.proofs.Induction.{Inside as CodeInside, stmt_induction as code_induction}
-use Rattle.sc_lower.specs.Expressions.{Low, Lows, Lowered, alone, from_one, from_two, from_first, loaded, at_place, scalar_in, constant_of, place_code, not_op, unary_op, between_op, truth_code, and_code, or_code, move_op, binary_code, binary, member, term_step, lowered_step, lowered}
 use Rattle.sc_lower.proofs.Strays.{is_straight, Straight}
 
 -- whether a temporary is read first from the start of code, and whether the parts of its loops begin with no such read

@@ -1,32 +1,12 @@
 -- Code takes at most a temporary for each node, and weighs at most 24 for each.
-use Rattle.std.proofs.Common.{◌≡◌, ℕ, suc, ◌+◌, ◌*◌, ◌<◌, ◌≤◌, Bool, true, false, List, [], ◌∷◌, ◌++◌, Option, Some, None, sym, ap, ◌∙◌, subst, arith as numbers}
-use Rattle.std.specs.Prelude.{if◌then◌else◌}
-use Rattle.sc_base.specs.declared.op.BinaryOp.{BinaryOp}
+use Rattle.sc_lower.proofs.Common.{BinaryOp, Bool, Constant, Global, Int, List, Local, Low, Lowered, Lows, None, Option, Param, Some, TacOp, TacStmt, TacStmt-F, Ty, TypedExpr, TypedKind, TypedKind-F, TypedStruct, Under, VarRef, Want, [], alone, and_code, ap, arith as numbers, at_place, between_op, binary, binary_code, constant_of, expr_at, expr_induction, expr_nodes, false, fold-roll-TacStmt, from_first, from_one, from_two, if◌then◌else◌, is_array, is_pointer, is_unsigned_op, loaded, lowered, lowered_step, map-TacStmt, move_op, not_op, op_weight, or_code, place_code, roll-TacStmt, scalar_in, scalar_of, stmt_weight, subst, suc, sym, target_cells, term_nodes, term_of, term_step, true, truth_code, typed, unary_op, weight, weight_step, ℕ, ◌*◌, ◌++◌, ◌+◌, ◌<◌, ◌∙◌, ◌∷◌, ◌≡◌, ◌≤◌}
 use Rattle.sc_base.specs.declared.op.BinaryOp.TheVariants as op
 use Rattle.sc_base.specs.declared.op.UnaryOp.TheVariants as unary
-use Rattle.sc_event.specs.declared.interface.Scalar.TheVariants.{Int}
-use Rattle.sc_core.specs.declared.expr.TypedExpr.{TypedExpr}
-use Rattle.sc_core.specs.declared.expr.TypedKind.{TypedKind, TypedKind-F}
 use Rattle.sc_core.specs.declared.expr.TypedKind.TheOpen as term
-use Rattle.sc_core.specs.declared.expr.VarRef.{VarRef}
-use Rattle.sc_core.specs.declared.expr.VarRef.TheVariants.{Global, Param, Local}
-use Rattle.sc_core.specs.declared.section.TypedStruct.{TypedStruct}
-use Rattle.sc_core.specs.declared.ty.Ty.{Ty}
-use Rattle.sc_core.specs.declared.value.Want.{Want}
 use Rattle.sc_core.specs.declared.value.Want.TheVariants as want
-use Rattle.sc_core.specs.Sizes.{term_nodes, expr_nodes}
-use Rattle.sc_core.specs.Types.{is_array, is_pointer, target_cells}
-use Rattle.sc_core.specs.Tree.{is_unsigned_op}
-use Rattle.sc_core.proofs.Layers.{typed, expr_at, term_of}
-use Rattle.sc_core.proofs.Induction.{Under, expr_induction}
-use Rattle.sc_tac.specs.declared.stmt.Constant.{Constant}
-use Rattle.sc_tac.specs.declared.stmt.TacOp.{TacOp}
 use Rattle.sc_tac.specs.declared.stmt.TacOp.TheVariants as tacop
-use Rattle.sc_tac.specs.declared.stmt.TacStmt.{TacStmt, TacStmt-F, map-TacStmt, roll-TacStmt, fold-roll-TacStmt}
 use Rattle.sc_tac.specs.declared.stmt.TacStmt.TheOpen as tac
 use Rattle.sc_tac.specs.declared.stmt.TacStmt.TheVariants as emit
-use Rattle.sc_tac.specs.Weights.{op_weight, weight_step, stmt_weight, weight}
-use Rattle.sc_lower.specs.Expressions.{Low, Lows, Lowered, alone, from_one, from_two, from_first, loaded, at_place, scalar_in, scalar_of, constant_of, place_code, not_op, unary_op, between_op, truth_code, and_code, or_code, move_op, binary_code, binary, term_step, lowered_step, lowered}
 
 -- WEIGHTS
 pub weight_append : (xs ys : List TacStmt) → weight (xs ++ ys) ≡ weight xs + weight ys

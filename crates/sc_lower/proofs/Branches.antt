@@ -1,44 +1,16 @@
 -- The code of a function has one `If` for each `if`, `while`, `for`, `&&` and `||`.
-use Rattle.std.proofs.Common.{◌≡◌, ℕ, suc, ◌+◌, Bool, true, false, List, [], ◌∷◌, ◌++◌, map, length, Option, Some, None, refl, sym, ap, ◌∙◌, subst, arith as numbers}
-use Rattle.std.specs.Prelude.{if◌then◌else◌}
-use Rattle.sc_base.specs.declared.op.BinaryOp.{BinaryOp}
+use Rattle.sc_lower.proofs.Common.{BinaryOp, Bool, CallTarget, Constant, Each, Forms, Global, Inside, Int, KeepsBranches, List, Local, Low, Lowered, Lows, Many, None, Option, Param, Part, Parts, Some, TacOp, TacStmt, TacStmt-F, Ty, TypedCall, TypedExpr, TypedKind, TypedKind-F, TypedLocal, TypedSimple, TypedSimpleKind, TypedStmt, TypedStmtKind, TypedStmtKind-F, TypedStruct, Under, VarRef, Want, [], after, alone, and_code, ap, arith as numbers, assign, at_place, between_op, binary, binary_code, block_code, both, call_alone, call_branches, call_code, call_for, constant_of, cycle, expr_at, expr_branches, expr_induction, false, first_of, fold-roll-TacStmt, forms, from_first, from_one, from_two, ifs, ifs_step, if◌then◌else◌, in_turn, init_branches, init_code, inits_code, is_array, is_pointer, is_unsigned_op, just, kind_branches, kind_step, layer_of, length, loaded, local_branches, lowered, lowered_step, many, map, map-TacStmt, member, move_op, not_op, on_line, op_branches, or_code, part_branches, part_code, place_code, refl, return_value, roll-TacStmt, scalar_in, simple_branches, simple_code, stmt_at, stmt_branches, stmt_code, stmt_ifs, stmt_induction, store_at, subst, suc, sym, target_cells, term_branches, term_of, term_step, test, total, true, truth_code, typed, unary_op, ℕ, ◌++◌, ◌+◌, ◌∙◌, ◌∷◌, ◌≡◌}
 use Rattle.sc_base.specs.declared.op.BinaryOp.TheVariants as op
 use Rattle.sc_base.specs.declared.op.UnaryOp.TheVariants as unary
-use Rattle.sc_event.specs.declared.interface.Scalar.TheVariants.{Int}
-use Rattle.sc_core.specs.declared.expr.CallTarget.{CallTarget}
 use Rattle.sc_core.specs.declared.expr.CallTarget.TheVariants as target
-use Rattle.sc_core.specs.declared.expr.TypedCall.{TypedCall}
-use Rattle.sc_core.specs.declared.expr.TypedExpr.{TypedExpr}
-use Rattle.sc_core.specs.declared.expr.TypedKind.{TypedKind, TypedKind-F}
 use Rattle.sc_core.specs.declared.expr.TypedKind.TheOpen as term
-use Rattle.sc_core.specs.declared.expr.VarRef.{VarRef}
-use Rattle.sc_core.specs.declared.expr.VarRef.TheVariants.{Global, Param, Local}
-use Rattle.sc_core.specs.declared.section.TypedLocal.{TypedLocal}
-use Rattle.sc_core.specs.declared.section.TypedStruct.{TypedStruct}
-use Rattle.sc_core.specs.declared.stmt.TypedStmt.{TypedStmt}
-use Rattle.sc_core.specs.declared.stmt.TypedStmtKind.{TypedStmtKind, TypedStmtKind-F}
 use Rattle.sc_core.specs.declared.stmt.TypedStmtKind.TheOpen as layer
-use Rattle.sc_core.specs.declared.stmt.TypedSimple.{TypedSimple}
-use Rattle.sc_core.specs.declared.stmt.TypedSimpleKind.{TypedSimpleKind}
 use Rattle.sc_core.specs.declared.stmt.TypedSimpleKind.TheVariants as simple
-use Rattle.sc_core.specs.declared.ty.Ty.{Ty}
-use Rattle.sc_core.specs.declared.value.Want.{Want}
 use Rattle.sc_core.specs.declared.value.Want.TheVariants as want
-use Rattle.sc_core.specs.Sizes.{total}
-use Rattle.sc_core.specs.Types.{is_array, is_pointer, target_cells}
-use Rattle.sc_core.specs.Tree.{is_unsigned_op}
-use Rattle.sc_core.proofs.Layers.{typed, expr_at, term_of, on_line, stmt_at, layer_of}
-use Rattle.sc_core.proofs.Induction.{Each, Under, expr_induction, Inside, stmt_induction, everywhere}
-use Rattle.sc_tac.specs.declared.stmt.Constant.{Constant}
-use Rattle.sc_tac.specs.declared.stmt.TacOp.{TacOp}
+use Rattle.sc_core.proofs.Induction.{everywhere}
 use Rattle.sc_tac.specs.declared.stmt.TacOp.TheVariants as tacop
-use Rattle.sc_tac.specs.declared.stmt.TacStmt.{TacStmt, TacStmt-F, map-TacStmt, roll-TacStmt, fold-roll-TacStmt}
 use Rattle.sc_tac.specs.declared.stmt.TacStmt.TheOpen as tac
 use Rattle.sc_tac.specs.declared.stmt.TacStmt.TheVariants as emit
-use Rattle.sc_lower.specs.Branches.{ifs_step, stmt_ifs, ifs, op_branches, term_branches, expr_branches, call_branches, simple_branches, part_branches, kind_branches, stmt_branches, init_branches, local_branches, KeepsBranches}
-use Rattle.sc_lower.specs.Expressions.{Low, Lows, Lowered, Forms, alone, from_one, from_two, from_first, loaded, at_place, scalar_in, constant_of, place_code, not_op, unary_op, between_op, truth_code, and_code, or_code, move_op, binary_code, binary, member, term_step, lowered_step, lowered, forms}
-use Rattle.sc_lower.specs.Statements.{Part, Parts, just, after, both, in_turn, Many, many, store_at, assign, first_of, call_code, call_alone, call_for, return_value, test, cycle, simple_code, part_code, kind_step, stmt_code, block_code}
-use Rattle.sc_lower.specs.Programs.{init_code, inits_code}
 
 ifs_append : (xs ys : List TacStmt) → ifs (xs ++ ys) ≡ ifs xs + ifs ys
 ifs_append [] ys = omega numbers

@@ -1,30 +1,7 @@
 -- An entry leads to the same function in the code of a well-typed program.
-use Rattle.std.proofs.Common.{◌≡◌, ℕ, zero, suc, ◌+◌, ◌≤◌, List, [], ◌∷◌, ◌++◌, map, length, cond, Option, Some, None, refl, sym, ap, ◌∙◌, subst, arith as numbers}
-use Rattle.std.specs.Prelude.{Bool, true, false, not, ◌&&◌, ◌||◌, ◌==◌, if◌then◌else◌, codes, bytes_eq, slice_get, position, nat_le}
-use Rattle.std.specs.List.{list_any, list_all}
-use Rattle.std.specs.Option.{option_map, option_and_then}
-use Rattle.std.proofs.lemmas.Bool.{false≢true, eqb-true, eq-eqb}
+use Rattle.sc_lower.proofs.Common.{Bool, Entry, Export, ForSection, Interface, Interfaces, List, Main, None, Option, ProgramTree, Proto, Some, TacFnTree, TypedFunction, TypedSection, [], all_at, and_first, and_rest, any_along, ap, are_distinct, arith as numbers, bytes_eq, bytes_eq_self, codes, comp_at, cond, entry_in, entry_of, eq-eqb, eqb-true, export_at, export_called, export_fits, exports_of, false, false≢true, for_section, function_entered, if◌then◌else◌, import_name, is_main, is_plain_name, is_well_typed, length, list_all, list_any, lowered_function, lowered_section, lowered_sections, main_fits, main_name, mains_in, map, most_compartments, nat_le, not, option_and_then, option_map, place_named, place_of_export, position, refl, same_entry, same_text, sections_fit, slice_get, subst, suc, sym, true, truth, zero, ℕ, ◌&&◌, ◌++◌, ◌+◌, ◌==◌, ◌||◌, ◌∙◌, ◌∷◌, ◌≡◌, ◌≤◌}
 use Rattle.std.proofs.Math.Dec.{eqb-suc-zero, eqb-zero-suc, eqb-suc-suc}
-use Rattle.sc_base.proofs.Bools.{and_first, and_rest}
 use Rattle.sc_base.proofs.Lists.{position-cons}
-use Rattle.sc_base.proofs.Texts.{same_text, bytes_eq_self}
-use Rattle.sc_event.specs.declared.interface.Interface.{Interface}
-use Rattle.sc_event.specs.declared.interface.Interfaces.{Interfaces}
-use Rattle.sc_event.specs.declared.interface.Proto.{Proto}
-use Rattle.sc_event.specs.declared.row.Entry.{Entry}
-use Rattle.sc_event.specs.declared.row.Entry.TheVariants.{Main, Export}
-use Rattle.sc_event.specs.Lookup.{comp_at, export_at}
-use Rattle.sc_core.specs.declared.program.ProgramTree.{ProgramTree}
-use Rattle.sc_core.specs.declared.section.TypedFunction.{TypedFunction}
-use Rattle.sc_core.specs.declared.section.TypedSection.{TypedSection}
-use Rattle.sc_core.specs.Value.{truth}
-use Rattle.sc_core.specs.Meaning.{main_name, place_named, place_of_export, entry_in}
-use Rattle.sc_core.specs.WellTyped.{most_compartments, are_distinct, is_plain_name, export_fits, import_name, sections_fit, is_main, main_fits, mains_in, is_well_typed}
-use Rattle.sc_kinds.proofs.Sections.{ForSection, for_section, all_at, any_along}
-use Rattle.sc_tac.specs.declared.function.TacFnTree.{TacFnTree}
-use Rattle.sc_tac.specs.Code.{function_entered}
-use Rattle.sc_tac.specs.Programs.{same_entry}
-use Rattle.sc_lower.specs.Programs.{exports_of, export_called, entry_of, lowered_function, lowered_section, lowered_sections}
 
 -- POSITIONS
 position_map : {A B : Type 0} (g : A → B) (p : B → Bool) (xs : List A) →

@@ -1,39 +1,14 @@
 -- The code of expressions gives their places and values.
-use Rattle.std.proofs.Common.{◌≡◌, ℕ, ◌+◌, ◌<◌, ◌≤◌, Bool, true, false, List, [], ◌∷◌, Some, None, Result, Ok, refl, sym, ap, ◌∙◌, subst, arith as numbers}
-use Rattle.std.specs.Prelude.{not, pos, if◌then◌else◌}
-use Rattle.sc_base.specs.declared.op.BinaryOp.{BinaryOp}
+use Rattle.sc_lower.proofs.Common.{Arith, BinaryOp, Blocks, Bool, Calls, Cause, Const, Constant, Global, GlobalPlace, Here, If, Int, List, Load, Local, Low, Lowered, Lows, Meant, None, Null, ObjectPlace, Ok, Op, Param, Result, Some, State, TacOp, TacStmt, Temps, Ty, TypedExpr, TypedKind, TypedKind-F, TypedStruct, UnaryOp, Under, Value, VarRef, Want, Word, [], alone, and_code, ap, applied, applied_one, arith as numbers, at_place, at_pointer, between, between_op, binary, binary_code, bind, choose, constant_of, constant_value, expr_at, expr_induction, false, from_first, from_one, from_two, gets, if◌then◌else◌, is_array, is_pointer, is_true, is_unsigned, is_unsigned_op, literal, load, loaded, lowered, lowered_step, meant, meant_step, member, move_op, moved, not, not_op, of_bool, on_words, operated, or_code, place_code, pos, refl, scalar_in, start_of, subst, sym, target_cells, term_of, term_step, true, truth_code, typed, unary_op, variable_at, wanted, ℕ, ◌+◌, ◌<◌, ◌∙◌, ◌∷◌, ◌≡◌, ◌≤◌}
+use Rattle.sc_core.specs.Prelude.{at_place as place_way, binary as binary_way, term_step as term_way}
 use Rattle.sc_base.specs.declared.op.BinaryOp.TheVariants as op
-use Rattle.sc_base.specs.declared.op.UnaryOp.{UnaryOp}
 use Rattle.sc_base.specs.declared.op.UnaryOp.TheVariants as unary
-use Rattle.sc_event.specs.declared.interface.Scalar.TheVariants.{Int}
-use Rattle.sc_core.specs.declared.cause.Cause.{Cause}
-use Rattle.sc_core.specs.declared.ty.Ty.{Ty}
-use Rattle.sc_core.specs.declared.expr.TypedExpr.{TypedExpr}
-use Rattle.sc_core.specs.declared.expr.TypedKind.{TypedKind, TypedKind-F}
 use Rattle.sc_core.specs.declared.expr.TypedKind.TheOpen as term
-use Rattle.sc_core.specs.declared.expr.VarRef.{VarRef}
-use Rattle.sc_core.specs.declared.expr.VarRef.TheVariants.{Global, Param, Local}
-use Rattle.sc_core.specs.declared.section.TypedStruct.{TypedStruct}
-use Rattle.sc_core.specs.declared.value.Value.{Value}
-use Rattle.sc_core.specs.declared.value.Value.TheVariants.{Word, Null}
-use Rattle.sc_core.specs.declared.value.Want.{Want}
 use Rattle.sc_core.specs.declared.value.Want.TheVariants as want
-use Rattle.sc_core.specs.Memory.{Blocks, bind, load}
-use Rattle.sc_core.specs.Value.{Arith, is_true, of_bool, moved, between, on_words, applied_one}
-use Rattle.sc_core.specs.Types.{is_unsigned, is_array, is_pointer, target_cells}
-use Rattle.sc_core.specs.Words.{State, Here, choose, Calls}
-use Rattle.sc_core.specs.Tree.{Meant, wanted, at_place as place_way, variable_at, literal, at_pointer, applied, is_unsigned_op, binary as binary_way, term_step as term_way, meant_step, meant}
-use Rattle.sc_core.proofs.Layers.{typed, expr_at, term_of}
-use Rattle.sc_core.proofs.Induction.{Under, expr_induction}
-use Rattle.sc_tac.specs.declared.stmt.TacOp.{TacOp}
 use Rattle.sc_tac.specs.declared.stmt.TacOp.TheVariants as tacop
-use Rattle.sc_tac.specs.declared.stmt.TacStmt.{TacStmt}
 use Rattle.sc_tac.specs.declared.stmt.TacStmt.TheOpen as tac
-use Rattle.sc_tac.specs.declared.stmt.TacStmt.TheVariants.{Const, Op, ObjectPlace, GlobalPlace, Load, If, rolls-Const, rolls-Op, rolls-ObjectPlace, rolls-GlobalPlace, rolls-Load, rolls-If}
-use Rattle.sc_tac.specs.declared.stmt.Constant.{Constant}
+use Rattle.sc_tac.specs.declared.stmt.TacStmt.TheVariants.{rolls-Const, rolls-Op, rolls-ObjectPlace, rolls-GlobalPlace, rolls-Load, rolls-If}
 use Rattle.sc_tac.specs.declared.stmt.Constant.TheVariants as constant
-use Rattle.sc_tac.specs.Code.{Temps, constant_value, start_of, gets, operated}
-use Rattle.sc_lower.specs.Expressions.{Low, Lows, Lowered, alone, from_one, from_two, from_first, loaded, at_place, scalar_in, constant_of, place_code, not_op, unary_op, between_op, truth_code, and_code, or_code, move_op, binary_code, binary, member, term_step, lowered_step, lowered}
 use Rattle.sc_lower.proofs.Gives.{run, Gives, run_one, gives_along, seq, weaken, gets_gives, read_then, op_two, op_one, if_gives}
 use Rattle.sc_lower.proofs.Operators.{not_twice, not_is, unary_is, words_is, between_is, move_is}
 

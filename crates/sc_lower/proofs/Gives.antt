@@ -1,16 +1,6 @@
 -- What a stretch of code gives: a value in a temporary, or a blame.
-use Rattle.std.proofs.Common.{◌≡◌, ℕ, ◌<◌, ◌≤◌, Bool, true, false, List, [], ◌∷◌, ◌++◌, Some, None, Result, Ok, Err, refl, sym, ap, ◌∙◌, subst, arith as numbers}
-use Rattle.std.specs.Prelude.{if◌then◌else◌}
+use Rattle.sc_lower.proofs.Common.{Arith, Blamed, Bool, Break, Calls, Cause, Codes, Continue, Does, Err, Exit, Here, Left, List, Next, None, Ok, Piece, Reached, Result, Return, Some, State, Stopped, TacOp, TacStmt, TacStmt-F, Temps, Value, [], and_then, ap, arith as numbers, bind, code_does, code_step, computed, false, fold-roll-TacStmt, follow, gets, if◌then◌else◌, in_order, known, leave, map-TacStmt, op_does, operated, read, refl, roll-TacStmt, stmt_does, subst, sym, take, true, with_temp, ℕ, ◌++◌, ◌<◌, ◌∙◌, ◌∷◌, ◌≡◌, ◌≤◌}
 use Rattle.std.proofs.lemmas.Grind.{common_steps}
-use Rattle.sc_core.specs.declared.cause.Cause.{Cause}
-use Rattle.sc_core.specs.declared.run.RunEnd.TheVariants.{Blamed}
-use Rattle.sc_core.specs.declared.value.Value.{Value}
-use Rattle.sc_core.specs.Memory.{bind}
-use Rattle.sc_core.specs.Value.{Arith}
-use Rattle.sc_core.specs.Words.{State, Here, Piece, Reached, Stopped, and_then, computed, Left, Exit, Next, Break, Continue, Return, Does, leave, take, follow, in_order, Calls}
-use Rattle.sc_tac.specs.declared.stmt.TacOp.{TacOp}
-use Rattle.sc_tac.specs.declared.stmt.TacStmt.{TacStmt, TacStmt-F, map-TacStmt, roll-TacStmt, fold-roll-TacStmt}
-use Rattle.sc_tac.specs.Code.{Temps, Codes, with_temp, known, operated, read, gets, op_does, code_step, stmt_does, code_does}
 
 abbrev pub Keeps : ℕ → Temps → Temps → Type 0
 Keeps n t u = (i : ℕ) → i < n → u i ≡ t i

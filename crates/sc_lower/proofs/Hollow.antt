@@ -1,27 +1,9 @@
 -- A library whose functions have their variables and frames, and nothing that they do: callers can't tell the
 -- difference.
-use Rattle.std.proofs.Common.{◌≡◌, ℕ, zero, suc, List, [], ◌∷◌, length, map, Option, None, Some, refl, sym, ◌∙◌, ap, subst}
-use Rattle.std.specs.Prelude.{if◌then◌else◌, ◌&&◌, is_some, slice_get, slice_index_or}
-use Rattle.std.specs.List.{list_all}
-use Rattle.std.specs.Option.{option_map}
-use Rattle.std.proofs.lemmas.Option.{slice_get-map}
-use Rattle.sc_event.specs.declared.event.Event.TheVariants.{Call}
-use Rattle.sc_event.specs.declared.row.Entry.TheVariants.{Export}
+use Rattle.sc_lower.proofs.Common.{BadType, Blamed, BodiesAgree, Body, Call, CallTarget, CallsAgree, Cross, Export, Function, FunctionsAgree, Here, Input, LibrariesAgree, Library, List, Meets, None, Option, Output, Own, Piece, PiecesAgree, Some, State, Stopped, TurnsOut, Value, Word, [], acts, and_then, ap, asks, back_cross, back_own, begun, call_cross, call_own, called, calls, calls_agree, crossed, done, found, function, if◌then◌else◌, imports, is_function, is_number, is_some, is_word, itself, leads, length, list_all, map, may_call, option_map, own_agree, performs, performs_agree, refl, run_in, slice_get, slice_get-map, slice_index_or, subst, suc, sym, takes, tell, turn, word_in, zero, ℕ, ◌&&◌, ◌∙◌, ◌∷◌, ◌≡◌}
 use Rattle.sc_event.specs.declared.row.Row.{Row}
 use Rattle.sc_event.specs.declared.row.Action.{Action}
 use Rattle.sc_event.specs.declared.row.Action.TheVariants as act
-use Rattle.sc_event.specs.Legal.{is_function, imports, takes}
-use Rattle.sc_core.specs.declared.cause.Cause.TheVariants.{BadType}
-use Rattle.sc_core.specs.declared.expr.CallTarget.{CallTarget}
-use Rattle.sc_core.specs.declared.expr.CallTarget.TheVariants.{Own, Cross, Input, Output}
-use Rattle.sc_core.specs.declared.run.RunEnd.TheVariants.{Blamed, TurnsOut}
-use Rattle.sc_core.specs.declared.value.Value.{Value}
-use Rattle.sc_core.specs.declared.value.Value.TheVariants.{Word}
-use Rattle.sc_core.specs.Words.{State, Here, Piece, Stopped, and_then, turn, tell}
-use Rattle.sc_core.specs.Calls.{Function, Library, Body, function, leads, is_word, found, begun, done, crossed, word_in, may_call, back_own, back_cross, run_in, call_own, call_cross, called, calls}
-use Rattle.sc_core.specs.Scripts.{is_number, asks, acts, performs}
-use Rattle.sc_laws.specs.Agreement.{Meets, PiecesAgree, CallsAgree, BodiesAgree, FunctionsAgree, LibrariesAgree}
-use Rattle.sc_laws.proofs.Agreement.{itself, own_agree, calls_agree, performs_agree}
 
 abbrev pub shell : Function → Function
 shell f = record { cells = f.cells; room = f.room; does = λ by here s. Stopped TurnsOut s }

@@ -1,3 +1,4 @@
+pub mod Common
 pub mod Assigned
 pub mod Bounds
 pub mod Branches

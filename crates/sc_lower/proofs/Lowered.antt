@@ -1,20 +1,12 @@
 -- Code in the making, and the code of an operator by that of its operands.
-use Rattle.std.proofs.Common.{◌≡◌, ℕ, List, ◌++◌, Result, sym, ap, ◌∙◌, subst, IfOk}
-use Rattle.sc_tac.specs.declared.stmt.TacStmt.{TacStmt}
+use Rattle.sc_lower.proofs.Common.{BinaryOp, IfOk, IsOperands, List, Lowered, Many, Part, Result, TacStmt, TypedExpr, TypedStruct, Want, ap, binary, code_of, expr_at, forms, lowered, lowered_step, subst, sym, term_step, ℕ, ◌++◌, ◌∙◌, ◌≡◌}
 use Rattle.sc_lower.specs.declared.calls.Values.{Values}
-use Rattle.sc_base.specs.declared.op.BinaryOp.{BinaryOp}
-use Rattle.sc_core.specs.declared.expr.TypedExpr.{TypedExpr, fold-roll-TypedExpr}
+use Rattle.sc_core.specs.declared.expr.TypedExpr.{fold-roll-TypedExpr}
 use Rattle.sc_core.specs.declared.expr.TypedKind.TheOpen as term
 use Rattle.sc_core.specs.declared.expr.TypedKind.TheVariants as kind
-use Rattle.sc_core.specs.declared.section.TypedStruct.{TypedStruct}
-use Rattle.sc_core.specs.declared.value.Want.{Want}
 use Rattle.sc_core.specs.declared.value.Want.TheVariants as want
-use Rattle.sc_core.proofs.Layers.{expr_at}
 use Rattle.sc_lower.specs.declared.code.Code.{Code}
 use Rattle.sc_lower.specs.declared.code.Fragment.{Fragment}
-use Rattle.sc_lower.specs.Expressions.{Lowered, lowered_step, term_step, lowered, forms, binary}
-use Rattle.sc_lower.specs.Statements.{Part, Many}
-use Rattle.sc_lower.specs.Results.{code_of, IsOperands}
 
 -- code that is there already, and the code of values behind it
 abbrev pub values_behind : List TacStmt → List ℕ → Many → Values

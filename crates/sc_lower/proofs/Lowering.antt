@@ -1,20 +1,5 @@
 -- What is made of a program, section by section and function by function, keeps the rules.
-use Rattle.std.proofs.Common.{◌≡◌, ℕ, ◌+◌, ◌<◌, ◌≤◌, nat_le, List, [], ◌∷◌, ◌++◌, map, length, drop, get_or, slice_get, Some, refl, sym, ap, ◌∙◌, subst, append_assoc, add-one, drop-cons, arith as numbers}
-use Rattle.std.proofs.lemmas.Bool.{leb-true}
-use Rattle.std.proofs.lemmas.Option.{slice_get_read}
-use Rattle.sc_base.proofs.Bools.{and_first}
-use Rattle.sc_event.specs.declared.interface.Interfaces.{Interfaces}
-use Rattle.sc_core.specs.declared.program.ProgramTree.{ProgramTree}
-use Rattle.sc_core.specs.declared.section.TypedFunction.{TypedFunction}
-use Rattle.sc_core.specs.declared.section.TypedSection.{TypedSection}
-use Rattle.sc_core.specs.declared.section.TypedStruct.{TypedStruct}
-use Rattle.sc_core.specs.WellTyped.{IsWellTyped, most_compartments}
-use Rattle.sc_tac.specs.declared.function.TacFnTree.{TacFnTree}
-use Rattle.sc_tac.specs.declared.program.TacSection.{TacSection}
-use Rattle.sc_tac.specs.Functions.{IsFunction}
-use Rattle.sc_tac.specs.Programs.{IsProgram}
-use Rattle.sc_lower.specs.Programs.{lowered_function, lowered_sections, lowered_program}
-use Rattle.sc_lower.specs.Results.{IsLowerable, AreFunctions}
+use Rattle.sc_lower.proofs.Common.{AreFunctions, Interfaces, IsFunction, IsLowerable, IsProgram, IsWellTyped, List, ProgramTree, Some, TacFnTree, TacSection, TypedFunction, TypedSection, TypedStruct, [], add-one, and_first, ap, append_assoc, arith as numbers, drop, drop-cons, get_or, leb-true, length, lowered_function, lowered_program, lowered_sections, map, most_compartments, nat_le, refl, slice_get, slice_get_read, subst, sym, ℕ, ◌++◌, ◌+◌, ◌<◌, ◌∙◌, ◌∷◌, ◌≡◌, ◌≤◌}
 use Rattle.sc_lower.proofs.Rules.{lowerable}
 use Rattle.sc_lower.proofs.Programs.{program_kept}
 

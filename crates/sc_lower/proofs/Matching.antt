@@ -1,21 +1,7 @@
 -- One lemma for each word that both meanings are written with. What a tree comes to, code comes to as well, up to
 -- lines.
-use Rattle.std.proofs.Common.{◌≡◌, ℕ, zero, suc, ◌<◌, ◌≤◌, Bool, true, false, List, [], ◌∷◌, ◌++◌, Option, Some, None, Result, Ok, Err, refl, sym, ap, ◌∙◌, subst, arith as numbers}
-use Rattle.std.specs.Prelude.{not, is_some, if◌then◌else◌}
-use Rattle.std.proofs.lemmas.Bool.{false≢true}
-use Rattle.sc_core.specs.declared.cause.Cause.{Cause}
-use Rattle.sc_core.specs.declared.cause.Cause.TheVariants.{NoReturn}
+use Rattle.sc_lower.proofs.Common.{Acts, Arith, Blamed, Bool, Break, Calls, Cause, Codes, Continue, Err, Exit, Here, Left, List, Next, NoReturn, None, Ok, On, Option, Out, Piece, PiecesAgree, Reached, Result, Return, Route, Some, State, Stopped, TacStmt, TacStmt-F, Temps, Value, [], and_then, ap, arith as numbers, at_brace, bind, closed, code_step, computed, false, false≢true, follow, if◌then◌else◌, in_loop, in_order, is_some, leave, map-TacStmt, not, piece_without_line, read, read_all, refl, roll-TacStmt, rounds, stmt_does, subst, suc, sym, take, true, turn_of, without_line, zero, ℕ, ◌++◌, ◌<◌, ◌∙◌, ◌∷◌, ◌≡◌, ◌≤◌}
 use Rattle.sc_core.specs.declared.run.RunEnd.{RunEnd}
-use Rattle.sc_core.specs.declared.run.RunEnd.TheVariants.{Blamed}
-use Rattle.sc_core.specs.declared.value.Value.{Value}
-use Rattle.sc_core.specs.Memory.{bind}
-use Rattle.sc_core.specs.Value.{Arith}
-use Rattle.sc_core.specs.Words.{State, Here, Piece, Reached, Stopped, and_then, computed, turn_of, Left, Exit, Next, Break, Continue, Return, Route, On, Out, leave, take, follow, in_order, in_loop, rounds, Calls}
-use Rattle.sc_core.specs.Tree.{Acts}
-use Rattle.sc_core.specs.Meaning.{at_brace, closed}
-use Rattle.sc_laws.specs.Agreement.{without_line, piece_without_line, PiecesAgree}
-use Rattle.sc_tac.specs.declared.stmt.TacStmt.{TacStmt, TacStmt-F, map-TacStmt, roll-TacStmt}
-use Rattle.sc_tac.specs.Code.{Temps, Codes, read, read_all, stmt_does, code_step}
 use Rattle.sc_lower.proofs.Gives.{Keeps, run, Gives, run_append, run_one, read_then}
 
 -- a value, where one is promised

@@ -1,20 +1,9 @@
 -- Operators of code compute what those of trees do.
-use Rattle.std.proofs.Common.{◌≡◌, ℕ, Bool, true, false, List, Ok, refl, ap}
-use Rattle.std.specs.Prelude.{not, if◌then◌else◌}
-use Rattle.sc_base.specs.declared.op.UnaryOp.{UnaryOp}
+use Rattle.sc_lower.proofs.Common.{Arith, BinaryOp, Blocks, Bool, List, Ok, Ty, TypedStruct, UnaryOp, Value, ap, applied_one, at_pointer, between, between_op, false, if◌then◌else◌, is_pointer, is_true, is_unsigned, move_op, moved_back, moved_on, not, not_op, of_bool, on_words, operated, refl, scalar_in, scalar_of, target_cells, true, unary_op, ℕ, ◌≡◌}
+use Rattle.sc_tac.specs.Prelude.{is_unsigned as is_unsigned_scalar}
 use Rattle.sc_base.specs.declared.op.UnaryOp.TheVariants as unary
-use Rattle.sc_base.specs.declared.op.BinaryOp.{BinaryOp}
 use Rattle.sc_base.specs.declared.op.BinaryOp.TheVariants as op
-use Rattle.sc_core.specs.declared.section.TypedStruct.{TypedStruct}
-use Rattle.sc_core.specs.declared.ty.Ty.{Ty}
-use Rattle.sc_core.specs.declared.value.Value.{Value}
-use Rattle.sc_core.specs.Memory.{Blocks}
-use Rattle.sc_core.specs.Value.{Arith, is_true, of_bool, moved_on, moved_back, between, on_words, applied_one}
-use Rattle.sc_core.specs.Types.{is_unsigned, is_pointer, target_cells}
-use Rattle.sc_core.specs.Tree.{at_pointer}
 use Rattle.sc_tac.specs.declared.stmt.TacOp.TheVariants as tacop
-use Rattle.sc_tac.specs.Code.{operated, is_unsigned as is_unsigned_scalar}
-use Rattle.sc_lower.specs.Expressions.{scalar_in, scalar_of, not_op, unary_op, between_op, move_op}
 
 unsigned_in : (b : Bool) → is_unsigned_scalar (scalar_in b) ≡ b
 unsigned_in true = refl

@@ -1,34 +1,11 @@
 -- The statements of a function's code pass each test that the statements which are emitted pass.
-use Rattle.std.proofs.Common.{◌≡◌, ℕ, suc, ◌<◌, ◌≤◌, Bool, true, false, List, [], ◌∷◌, map, length, Option, Some, None, refl, sym, ap, ◌∙◌, subst, arith as numbers}
-use Rattle.std.specs.Prelude.{not, is_some}
-use Rattle.std.specs.List.{list_all}
-use Rattle.std.proofs.lemmas.Bool.{false≢true, and_from}
-use Rattle.sc_base.proofs.Bools.{and_first, and_rest}
-use Rattle.sc_core.specs.declared.expr.CallTarget.{CallTarget}
+use Rattle.sc_lower.proofs.Common.{Bool, CallTarget, Callable, Each, Forms, Inside, Judged, List, Local, Low, Lows, Many, None, Option, Part, Parts, Scope, Signature, Some, TacStmt, TacStmt-F, Ty, TypedCall, TypedExpr, TypedLocal, TypedSimple, TypedSimpleKind, TypedStmt, TypedStmtKind, TypedStmtKind-F, TypedStruct, [], after, all_go_into, alone, and_first, and_from, and_rest, ap, args_fit, arith as numbers, assign, assign_call_fits, assign_fits, at_place, block_code, body_fits, both, call_alone, call_code, call_fits, call_for, cycle, everywhere, false, false≢true, first_of, fork, forms, goes_into, in_turn, init_code, init_fits, inits_code, is_scalar, is_some, is_target, is_type, judged, just, kind_fits, kind_step, layer_of, length, list_all, many, map, not, option_goes, part_code, part_fits, place_code, refl, result_goes, return_value, returned_call_fits, returned_fits, simple_code, simple_fits, stmt_at, stmt_code, stmt_fits, stmt_induction, store_at, subst, suc, sym, target_signature, test as tests, true, variable_ty, ℕ, ◌<◌, ◌∙◌, ◌∷◌, ◌≡◌, ◌≤◌}
 use Rattle.sc_core.specs.declared.expr.CallTarget.TheVariants as target
-use Rattle.sc_core.specs.declared.expr.TypedCall.{TypedCall}
-use Rattle.sc_core.specs.declared.expr.TypedExpr.{TypedExpr}
-use Rattle.sc_core.specs.declared.expr.VarRef.TheVariants.{Local}
-use Rattle.sc_core.specs.declared.section.TypedLocal.{TypedLocal}
-use Rattle.sc_core.specs.declared.section.TypedStruct.{TypedStruct}
-use Rattle.sc_core.specs.declared.stmt.TypedStmt.{TypedStmt}
-use Rattle.sc_core.specs.declared.stmt.TypedStmtKind.{TypedStmtKind, TypedStmtKind-F}
 use Rattle.sc_core.specs.declared.stmt.TypedStmtKind.TheOpen as layer
-use Rattle.sc_core.specs.declared.stmt.TypedSimple.{TypedSimple}
-use Rattle.sc_core.specs.declared.stmt.TypedSimpleKind.{TypedSimpleKind}
 use Rattle.sc_core.specs.declared.stmt.TypedSimpleKind.TheVariants as simple
-use Rattle.sc_core.specs.declared.ty.Ty.{Ty}
 use Rattle.sc_core.specs.declared.value.Want.TheVariants as want
-use Rattle.sc_core.specs.Typing.{Scope, Judged, judged, is_type, variable_ty, goes_into, all_go_into, Signature, Callable, target_signature, args_fit, option_goes, result_goes, is_target, is_scalar, returned_fits, call_fits, assign_fits, assign_call_fits, returned_call_fits, simple_fits, part_fits, kind_fits, stmt_fits, body_fits, init_fits}
-use Rattle.sc_core.proofs.Layers.{layer_of, stmt_at}
-use Rattle.sc_core.proofs.Induction.{Each, Inside, stmt_induction}
-use Rattle.sc_tac.specs.declared.stmt.TacStmt.{TacStmt, TacStmt-F}
 use Rattle.sc_tac.specs.declared.stmt.TacStmt.TheOpen as tac
 use Rattle.sc_tac.specs.declared.stmt.TacStmt.TheVariants as emit
-use Rattle.sc_tac.specs.Parts.{everywhere}
-use Rattle.sc_lower.specs.Expressions.{Low, Lows, Forms, alone, at_place, place_code, forms}
-use Rattle.sc_lower.specs.Statements.{Part, Parts, just, after, both, in_turn, Many, many, store_at, assign, first_of, call_code, call_alone, call_for, return_value, fork, test as tests, cycle, simple_code, part_code, kind_step, stmt_code, block_code}
-use Rattle.sc_lower.specs.Programs.{init_code, inits_code}
 use Rattle.sc_lower.proofs.Tests.{call_layer, scalar_fits, all_append, all_one, all_behind, Below, AllBelow, PassedBy, Clean, alone_clean, place_clean, place_passes, fork_passes, expr_clean}
 
 -- the signature of a call that fits

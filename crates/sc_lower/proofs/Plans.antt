@@ -1,27 +1,7 @@
 -- The code of programs by plans: what it means is the run of a library that computes, where its code is known.
-use Rattle.std.proofs.Common.{◌≡◌, refl, ap, ◌∙◌, ℕ, suc, List, [], ◌∷◌, map, length, Option, None, Some}
-use Rattle.std.specs.Prelude.{is_some}
-use Rattle.sc_event.specs.declared.interface.Interfaces.{Interfaces}
-use Rattle.sc_event.specs.declared.row.Entry.TheVariants.{Main}
-use Rattle.sc_core.specs.declared.expr.VarRef.TheVariants.{Local}
-use Rattle.sc_core.specs.declared.run.SourceRun.{SourceRun}
-use Rattle.sc_core.specs.declared.section.TypedStruct.{TypedStruct}
-use Rattle.sc_core.specs.Run.{stopped_at}
-use Rattle.sc_core.specs.Sizes.{frame_bound}
-use Rattle.sc_core.specs.Types.{variables}
-use Rattle.sc_core.specs.Value.{Arith}
-use Rattle.sc_core.specs.Words.{and_then, all_do}
-use Rattle.sc_core.specs.Calls.{Function, Library, run_step}
-use Rattle.sc_core.specs.Meaning.{closed, run_by}
-use Rattle.sc_core.proofs.Plans.{Slot, Plan, Sheet, local, function, section, program, init_of, plan_nodes, plan_nodes_is}
-use Rattle.sc_core.proofs.Shapes.{Shape}
-use Rattle.sc_tac.specs.declared.stmt.TacStmt.{TacStmt}
-use Rattle.sc_tac.specs.Code.{Codes, no_temps, code_step, stmt_does, code_function, code_functions, code_library, code_globals, code_meaning_by}
-use Rattle.sc_tac.specs.Programs.{same_entry}
-use Rattle.sc_tac.proofs.Shapes.{rows, rows_are, stmts as tac_stmts, Shape as TacShape}
-use Rattle.sc_lower.specs.Expressions.{alone, at_place, place_code}
-use Rattle.sc_lower.specs.Programs.{init_code, inits_code, body_code, entry_of, lowered_function, lowered_sections, lowered_program}
-use Rattle.sc_lower.specs.Statements.{Parts, just, both, in_turn, assign}
+use Rattle.sc_lower.proofs.Common.{Arith, Codes, Function, Interfaces, Library, List, Local, Main, None, Option, Parts, Plan, Shape, Sheet, Slot, Some, SourceRun, TacStmt, TypedStruct, [], all_do, alone, and_then, ap, assign, at_place, body_code, both, closed, code_function, code_functions, code_globals, code_library, code_meaning_by, code_step, entry_of, frame_bound, in_turn, init_code, init_of, inits_code, is_some, just, length, local, lowered_function, lowered_program, lowered_sections, map, no_temps, place_code, plan_nodes, plan_nodes_is, program, refl, rows, rows_are, run_by, run_step, same_entry, section, stmt_does, stopped_at, suc, variables, ℕ, ◌∙◌, ◌∷◌, ◌≡◌}
+use Rattle.sc_core.proofs.Plans.{function}
+use Rattle.sc_tac.proofs.Shapes.{stmts as tac_stmts, Shape as TacShape}
 use Rattle.sc_lower.proofs.Shapes.{form, form_is, lines_code, lines_are}
 
 module _ (structs : List TypedStruct) (params : ℕ) where

@@ -1,34 +1,6 @@
 -- The code of a well-typed program keeps the rules of programs.
-use Rattle.std.proofs.Common.{◌≡◌, ℕ, suc, ◌+◌, Bool, true, false, List, [], ◌∷◌, map, length, Option, Some, None, refl, sym, ap, ◌∙◌, subst, arith as numbers}
-use Rattle.std.specs.Prelude.{not, ◌&&◌, ◌||◌, ◌==◌, if◌then◌else◌, bytes_eq, is_some, slice_get, position}
-use Rattle.std.specs.Bool.{beq}
-use Rattle.std.specs.List.{list_any, list_all}
-use Rattle.std.specs.Option.{option_map, option_and_then}
-use Rattle.std.proofs.lemmas.Bool.{false≢true, and_from, eq-eqb}
-use Rattle.std.proofs.lemmas.List.{length-map}
-use Rattle.sc_base.proofs.Bools.{and_first, and_rest}
-use Rattle.sc_base.proofs.Texts.{same_text, same_either_way}
-use Rattle.sc_event.specs.declared.interface.Interface.{Interface}
-use Rattle.sc_event.specs.declared.interface.Interfaces.{Interfaces}
-use Rattle.sc_event.specs.declared.interface.Proto.{Proto}
-use Rattle.sc_event.specs.declared.row.Entry.{Entry}
-use Rattle.sc_event.specs.declared.row.Entry.TheVariants.{Main, Export}
-use Rattle.sc_event.specs.Lookup.{comp_at, export_at}
-use Rattle.sc_core.specs.declared.program.ProgramTree.{ProgramTree}
-use Rattle.sc_core.specs.declared.section.TypedFunction.{TypedFunction}
-use Rattle.sc_core.specs.declared.section.TypedSection.{TypedSection}
-use Rattle.sc_core.specs.declared.ty.Ty.{Ty}
+use Rattle.sc_lower.proofs.Common.{Bool, Entry, Export, Interface, Interfaces, IsProgram, KeepsRules, List, Main, None, Option, ProgramTree, Proto, Some, TacFnTree, TacSection, Ty, TypedFunction, TypedSection, [], and_first, and_from, and_rest, any_along, ap, are_distinct, are_entered, arith as numbers, beq, bytes_eq, comp_at, count, entry_known, entry_of, eq-eqb, export_at, export_called, export_fits, exports_entered, exports_of, false, false≢true, found_passes, if◌then◌else◌, interface_fits, is_entered, is_main, is_some, is_well_typed, length, length-map, list_all, list_any, lowered_function, lowered_program, lowered_section, lowered_sections, main_entered, main_fits, main_name, map, named_so, not, numbered, option_and_then, option_map, position, proto_signature, refl, result_ty, same_either_way, same_entry, same_results, same_signature, same_text, same_types, scalar_ty, section_fits, sections_fit, signature_of, slice_get, subst, suc, sym, true, truth, ℕ, ◌&&◌, ◌+◌, ◌==◌, ◌||◌, ◌∙◌, ◌∷◌, ◌≡◌}
 use Rattle.sc_core.specs.declared.ty.Ty.TheVariants as ty
-use Rattle.sc_core.specs.Value.{truth}
-use Rattle.sc_core.specs.Meaning.{main_name}
-use Rattle.sc_core.specs.Typing.{scalar_ty, result_ty, signature_of, proto_signature}
-use Rattle.sc_core.specs.WellTyped.{are_distinct, same_types, same_results, same_signature, is_main, main_fits, section_fits, interface_fits, sections_fit, export_fits, is_well_typed}
-use Rattle.sc_kinds.proofs.Sections.{any_along, found_passes, named_so}
-use Rattle.sc_tac.specs.declared.function.TacFnTree.{TacFnTree}
-use Rattle.sc_tac.specs.declared.program.TacSection.{TacSection}
-use Rattle.sc_tac.specs.Programs.{same_entry, count, is_entered, are_entered, exports_entered, main_entered, entry_known, numbered, IsProgram}
-use Rattle.sc_lower.specs.Lowering.{KeepsRules}
-use Rattle.sc_lower.specs.Programs.{exports_of, export_called, entry_of, lowered_function, lowered_section, lowered_sections, lowered_program}
 use Rattle.sc_lower.proofs.Entries.{not_true, first_at, main_is, called_so, export_of, sections_so, mains_so}
 use Rattle.sc_lower.proofs.Rules.{place as place_of, types_length, any_headed, exports_fit, distinct_names, beq_same, function_kept}
 use Rattle.sc_lower.proofs.Sections.{all_made, result_same, globals_named, own_called, exports_called, imports_called}

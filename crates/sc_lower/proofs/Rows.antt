@@ -1,35 +1,19 @@
 -- Worked programs: the code of each, and what the code means, which is what the program means.
-use Rattle.std.proofs.Common.{◌≡◌, refl, ℕ, Bool, true, false, List, [], ◌∷◌, None, Some, codes}
-use Rattle.sc_base.specs.declared.op.BinaryOp.{BinaryOp}
+use Rattle.sc_lower.proofs.Common.{Amp, Arrow, AssignCallLine, AssignLine, At, BinaryOp, Blamed, Bool, BreakLine, Call, CallLine, ContinueLine, Cross, Cycle, Done, Dot, EmptyLine, End, Ended, ForLine, Fork, IfLine, In, Input, Interfaces, Line, Lines, List, Lit, Local, NoLine, None, One, Output, Overflow, Own, Plan, Ret, ReturnCallLine, ReturnLine, ReturnValueLine, Shape, Sheet, Some, SourceRun, Star, TacOp, Two, TypedStruct, Var, WhileLine, [], c_arith, code_meaning, code_wrapped, codes, false, lowered_program, meaning, program, refl, roll-TacStmt, true, wrapping, ℕ, ◌∷◌, ◌≡◌}
 use Rattle.sc_base.specs.declared.op.BinaryOp.TheVariants as op
 use Rattle.sc_base.specs.declared.op.UnaryOp.TheVariants as unary
-use Rattle.sc_event.specs.declared.event.Event.TheVariants.{Call, Ret, Out, In, End}
-use Rattle.sc_event.specs.declared.interface.Interfaces.{Interfaces}
+use Rattle.sc_event.specs.declared.event.Event.TheVariants.{Out}
 use Rattle.sc_event.specs.declared.interface.Scalar.TheVariants as scalar
-use Rattle.sc_core.specs.declared.cause.Cause.TheVariants.{Overflow}
-use Rattle.sc_core.specs.declared.run.RunEnd.TheVariants.{Ended, Blamed}
-use Rattle.sc_core.specs.declared.run.SourceRun.{SourceRun}
-use Rattle.sc_core.specs.declared.expr.CallTarget.TheVariants.{Own, Cross, Input, Output}
-use Rattle.sc_core.specs.declared.expr.VarRef.TheVariants.{Local}
 use Rattle.sc_core.specs.declared.section.TypedGlobal.{TypedGlobal}
-use Rattle.sc_core.specs.declared.section.TypedStruct.{TypedStruct}
 use Rattle.sc_core.specs.declared.ty.BaseTy.TheVariants as base
 use Rattle.sc_core.specs.declared.ty.Ty.TheVariants as ty
-use Rattle.sc_core.specs.Value.{c_arith, wrapping}
-use Rattle.sc_core.specs.Meaning.{meaning}
-use Rattle.sc_core.proofs.Plans.{Plan, Sheet, program}
 use Rattle.sc_core.proofs.Programs.{lit, global, param, local, plus, ints, int_pointer, slot, global_of, main_with, plan}
 use Rattle.sc_core.proofs.Rows.{by_plan}
-use Rattle.sc_core.proofs.Shapes.{Shape, Lit, Var, One, Two, At, Dot, Arrow, Star, Amp, Lines, NoLine, EmptyLine, AssignLine, AssignCallLine, CallLine, IfLine, WhileLine, ForLine, BreakLine, ContinueLine, ReturnLine, ReturnValueLine, ReturnCallLine}
 use Rattle.sc_tac.specs.declared.stmt.Constant.TheVariants as constant
-use Rattle.sc_tac.specs.declared.stmt.TacOp.{TacOp}
 use Rattle.sc_tac.specs.declared.stmt.TacOp.TheVariants as tacop
-use Rattle.sc_tac.specs.declared.stmt.TacStmt.{roll-TacStmt}
 use Rattle.sc_tac.specs.declared.stmt.TacStmt.TheOpen as tac
-use Rattle.sc_tac.specs.Code.{code_meaning, code_wrapped}
 use Rattle.sc_tac.proofs.Runs.{word, int_op, output, give, fetched, alone, across_interfaces}
-use Rattle.sc_tac.proofs.Shapes.{Done, Line, Fork, Cycle, Shape as TacShape}
-use Rattle.sc_lower.specs.Programs.{lowered_program}
+use Rattle.sc_tac.proofs.Shapes.{Shape as TacShape}
 use Rattle.sc_lower.proofs.Plans.{AllEmit, lowered_is}
 
 -- the code and the program come to this

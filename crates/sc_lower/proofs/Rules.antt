@@ -1,47 +1,13 @@
 -- The code of a function of a well-typed program keeps the rules of functions.
-use Rattle.std.proofs.Common.{◌≡◌, ℕ, zero, suc, ◌+◌, ◌<◌, ◌≤◌, Bool, true, false, List, [], ◌∷◌, ◌++◌, map, length, Option, Some, None, refl, sym, ap, ◌∙◌, subst, arith as numbers}
-use Rattle.std.specs.Prelude.{not, ◌&&◌, ◌==◌, if◌then◌else◌, nat_le, nat_lt, bytes_eq, is_some, slice_get, slice_index_or, position}
-use Rattle.std.specs.Bool.{beq}
-use Rattle.std.specs.List.{list_any, list_all, All}
-use Rattle.std.specs.Option.{option_map, option_and_then}
-use Rattle.std.proofs.lemmas.Bool.{false≢true, and_from, eqb-true, eq-eqb, leb-true, lt-ltb, le-leb}
-use Rattle.std.proofs.lemmas.List.{length-append, length-map}
+use Rattle.sc_lower.proofs.Common.{All, Bool, CallTarget, Callable, Export, ForSection, Interface, Interfaces, IsFunction, IsLowerable, List, Main, None, Option, Part, Placed, ProgramTree, Proto, Scalar, Scope, Signature, Some, TacStmt-F, Ty, TypedFunction, TypedLocal, TypedParam, TypedSection, TypedStruct, [], all_assigned_first, all_at, allowed, and_first, and_from, and_rest, ap, are_distinct, arith as numbers, beq, block_code, body_code, body_fits, both, bytes_eq, callable_in, cells_of, comp_at, enters_by_words, entry_of, eq-eqb, eqb-true, everywhere, export_at, export_called, export_fits, exports_of, false, false≢true, first_of as first_temp, for_interface, for_section, found_passes, function_fits, global_fits, has_none, has_operands, if◌then◌else◌, import_fits, import_name, in_turn, init_fits, inits_code, is_array, is_plain_name, is_some, is_type, is_well_typed, le-leb, leb-true, length, length-append, length-map, list_all, list_any, local_fits, lowered_function, lt-ltb, main_fits, main_name, map, most_cells, most_exports, most_nodes, most_params, named_so, names_own_object, names_own_temps, nat_le, nat_lt, nodes, not, one_or_none, option_and_then, option_map, option_signature, own_names_differ, passed_fits, passes_few, passes_words, position, proto_signature, refl, result_fits, returns_result, same_base, same_import, same_signature, same_ty, same_types, scalar_ty, scope_of, signature_of, slice_get, slice_get-map, slice_index_or, stray_break, stray_continue, structs_fit, subst, suc, sym, takes_two, target_signature, total, true, type_within, variable_fits, variables, zero, ℕ, ◌&&◌, ◌++◌, ◌+◌, ◌<◌, ◌==◌, ◌∙◌, ◌∷◌, ◌≡◌, ◌≤◌}
 use Rattle.std.proofs.lemmas.List.Sums.{AllPass-from_list_all}
-use Rattle.std.proofs.lemmas.Option.{slice_get-map}
-use Rattle.sc_base.proofs.Bools.{and_first, and_rest}
 use Rattle.sc_event.specs.declared.interface.Import.TheVariants as import
-use Rattle.sc_event.specs.declared.interface.Interface.{Interface}
-use Rattle.sc_event.specs.declared.interface.Interfaces.{Interfaces}
-use Rattle.sc_event.specs.declared.interface.Proto.{Proto}
-use Rattle.sc_event.specs.declared.interface.Scalar.{Scalar}
 use Rattle.sc_event.specs.declared.interface.Scalar.TheVariants as scalar
-use Rattle.sc_event.specs.declared.row.Entry.TheVariants.{Main, Export}
-use Rattle.sc_event.specs.Lookup.{comp_at, export_at}
-use Rattle.sc_core.specs.declared.expr.CallTarget.{CallTarget}
 use Rattle.sc_core.specs.declared.expr.CallTarget.TheVariants as target
-use Rattle.sc_core.specs.declared.program.ProgramTree.{ProgramTree}
-use Rattle.sc_core.specs.declared.section.TypedFunction.{TypedFunction}
-use Rattle.sc_core.specs.declared.section.TypedLocal.{TypedLocal}
-use Rattle.sc_core.specs.declared.section.TypedParam.{TypedParam}
-use Rattle.sc_core.specs.declared.section.TypedSection.{TypedSection}
-use Rattle.sc_core.specs.declared.section.TypedStruct.{TypedStruct}
 use Rattle.sc_core.specs.declared.ty.BaseTy.{BaseTy}
 use Rattle.sc_core.specs.declared.ty.BaseTy.TheVariants as base
-use Rattle.sc_core.specs.declared.ty.Ty.{Ty}
 use Rattle.sc_core.specs.declared.ty.Ty.TheVariants as ty
-use Rattle.sc_core.specs.Meaning.{main_name}
-use Rattle.sc_core.specs.Sizes.{total, nodes}
-use Rattle.sc_core.specs.Types.{is_array, cells_of, variables}
-use Rattle.sc_core.specs.Typing.{Scope, is_type, same_ty, same_base, scalar_ty, Signature, Callable, signature_of, proto_signature, same_import, option_signature, allowed, target_signature, init_fits, body_fits}
-use Rattle.sc_core.specs.WellTyped.{most_params, most_nodes, most_exports, most_cells, are_distinct, scope_of, type_within, variable_fits, passed_fits, result_fits, local_fits, function_fits, same_types, same_signature, is_plain_name, export_fits, import_name, import_fits, callable_in, structs_fit, global_fits, main_fits, is_well_typed}
-use Rattle.sc_kinds.proofs.Sections.{Placed, ForSection, for_section, for_interface, all_at, first_of, found_passes, named_so, own_names_differ}
-use Rattle.sc_tac.specs.declared.stmt.TacStmt.{TacStmt-F}
-use Rattle.sc_tac.specs.Functions.{names_own_temps, names_own_object, takes_two, has_operands, passes_few, returns_result, passes_words, enters_by_words, stray_break, stray_continue, has_none, IsFunction}
-use Rattle.sc_tac.specs.Flow.{all_assigned_first}
-use Rattle.sc_tac.specs.Parts.{one_or_none, everywhere}
-use Rattle.sc_lower.specs.Statements.{Part, both, in_turn, block_code, first_of as first_temp}
-use Rattle.sc_lower.specs.Programs.{inits_code, body_code, exports_of, export_called, entry_of, lowered_function}
-use Rattle.sc_lower.specs.Results.{IsLowerable}
+use Rattle.sc_kinds.proofs.Sections.{first_of}
 use Rattle.sc_lower.proofs.Entries.{sections_so, mains_so}
 use Rattle.sc_lower.proofs.Flowing.{all_assigned}
 use Rattle.sc_lower.proofs.Passing.{InitsFit, PassedByAll, body_passes}

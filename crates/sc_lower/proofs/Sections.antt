@@ -1,40 +1,9 @@
 -- The code of a well-typed program keeps the rules of programs.
-use Rattle.std.proofs.Common.{◌≡◌, ℕ, suc, ◌<◌, Bool, true, false, List, [], ◌∷◌, ◌++◌, map, length, Option, Some, None, refl, sym, ap, ◌∙◌, subst}
-use Rattle.std.specs.Prelude.{not, ◌==◌, is_some, slice_get}
-use Rattle.std.specs.List.{list_any, list_all}
-use Rattle.std.specs.Option.{option_map, option_map_or}
-use Rattle.std.proofs.lemmas.Bool.{false≢true, and_from, eq-eqb, lt-ltb}
-use Rattle.std.proofs.lemmas.List.{length-map}
-use Rattle.std.proofs.lemmas.Option.{slice_get-map}
-use Rattle.sc_base.proofs.Bools.{and_first, and_rest}
+use Rattle.sc_lower.proofs.Common.{Bool, CallTarget, Callable, Interface, Interfaces, Judged, List, None, Option, ProgramTree, Proto, Scalar, Scope, Signature, Some, TacSection, Ty, TypedExpr, TypedFunction, TypedLocal, TypedParam, TypedSection, TypedStruct, [], all_go_into, allowed, and_first, and_from, and_rest, any_along, ap, calls_exports, calls_imports, calls_own, cells_of, cross_call_fits, decayed, eq-eqb, export_at, false, false≢true, function_imported, goes_into, imports, in_section, input_imported, is_array, is_function, is_input, is_output, is_some, is_well_typed, judged, length, length-map, list_all, list_any, lowered_function, lowered_section, lt-ltb, map, names_own_global, not, option_map, option_map_or, option_signature, output_imported, own_call_fits, passed_fits, passes_words, proto_signature, refl, result_ty, same_import, scalar_ty, scope_of, signature_of, slice_get, slice_get-map, subst, suc, sym, takes_result, target_signature, true, type_goes, ℕ, ◌++◌, ◌<◌, ◌==◌, ◌∙◌, ◌∷◌, ◌≡◌}
 use Rattle.sc_event.specs.declared.interface.Import.{Import}
 use Rattle.sc_event.specs.declared.interface.Import.TheVariants as import
-use Rattle.sc_event.specs.declared.interface.Interface.{Interface}
-use Rattle.sc_event.specs.declared.interface.Interfaces.{Interfaces}
-use Rattle.sc_event.specs.declared.interface.Proto.{Proto}
-use Rattle.sc_event.specs.declared.interface.Scalar.{Scalar}
-use Rattle.sc_event.specs.Legal.{imports, is_input, is_output, is_function}
-use Rattle.sc_event.specs.Lookup.{export_at}
-use Rattle.sc_core.specs.declared.expr.CallTarget.{CallTarget}
 use Rattle.sc_core.specs.declared.expr.CallTarget.TheVariants as target
-use Rattle.sc_core.specs.declared.expr.TypedExpr.{TypedExpr}
-use Rattle.sc_core.specs.declared.program.ProgramTree.{ProgramTree}
-use Rattle.sc_core.specs.declared.section.TypedFunction.{TypedFunction}
-use Rattle.sc_core.specs.declared.section.TypedLocal.{TypedLocal}
-use Rattle.sc_core.specs.declared.section.TypedParam.{TypedParam}
-use Rattle.sc_core.specs.declared.section.TypedSection.{TypedSection}
-use Rattle.sc_core.specs.declared.section.TypedStruct.{TypedStruct}
-use Rattle.sc_core.specs.declared.ty.Ty.{Ty}
 use Rattle.sc_core.specs.declared.ty.Ty.TheVariants as ty
-use Rattle.sc_core.specs.Types.{is_array, cells_of}
-use Rattle.sc_core.specs.Typing.{Scope, Judged, judged, decayed, type_goes, goes_into, all_go_into, Signature, Callable, result_ty, scalar_ty, signature_of, proto_signature, same_import, option_signature, allowed, target_signature}
-use Rattle.sc_core.specs.WellTyped.{passed_fits, scope_of, is_well_typed}
-use Rattle.sc_kinds.proofs.Results.{function_imported, input_imported, output_imported}
-use Rattle.sc_kinds.proofs.Sections.{any_along}
-use Rattle.sc_tac.specs.declared.program.TacSection.{TacSection}
-use Rattle.sc_tac.specs.Functions.{passes_words}
-use Rattle.sc_tac.specs.Programs.{takes_result, own_call_fits, cross_call_fits, names_own_global, calls_own, calls_exports, calls_imports, in_section}
-use Rattle.sc_lower.specs.Programs.{lowered_function, lowered_section}
 use Rattle.sc_lower.proofs.Entries.{not_true}
 use Rattle.sc_lower.proofs.Rules.{found_allowed, function_at, place as place_of, callable, all}
 use Rattle.sc_lower.proofs.Tests.{call_layer, PassedBy}

@@ -1,14 +1,9 @@
 -- The code of trees by shapes, on which it computes.
-use Rattle.std.proofs.Common.{◌≡◌, refl, ap, ◌∙◌, ℕ, List, [], ◌∷◌, map, None}
+use Rattle.sc_lower.proofs.Common.{Amp, Arrow, AssignCallLine, AssignLine, At, BreakLine, CallLine, ContinueLine, Dot, EmptyLine, ForLine, Forms, IfLine, Lines, List, Lit, Lowered, NoLine, None, One, Parts, ReturnCallLine, ReturnLine, ReturnValueLine, Shape, Star, Two, TypedStruct, Var, WhileLine, [], after, ap, assign, both, call_alone, call_for, call_of, cycle, expr, expr_at, fork, forms, in_turn, just, kind_step, lowered, lowered_step, map, part, refl, return_value, stmt_at, stmt_code, stmts, store_at, term_step, test, ℕ, ◌∙◌, ◌∷◌, ◌≡◌}
 use Rattle.sc_core.specs.declared.expr.TypedKind.TheOpen as term
 use Rattle.sc_core.specs.declared.stmt.TypedStmtKind.TheOpen as layer
-use Rattle.sc_core.specs.declared.section.TypedStruct.{TypedStruct}
 use Rattle.sc_core.specs.declared.value.Want.TheVariants as want
-use Rattle.sc_core.proofs.Layers.{expr_at, stmt_at}
-use Rattle.sc_core.proofs.Shapes.{Shape, Lit, Var, One, Two, At, Dot, Arrow, Star, Amp, expr, Lines, NoLine, EmptyLine, AssignLine, AssignCallLine, CallLine, IfLine, WhileLine, ForLine, BreakLine, ContinueLine, ReturnLine, ReturnValueLine, ReturnCallLine, call_of, part, stmts}
 use Rattle.sc_tac.specs.declared.stmt.TacStmt.TheVariants as emit
-use Rattle.sc_lower.specs.Expressions.{Lowered, Forms, term_step, lowered_step, lowered, forms}
-use Rattle.sc_lower.specs.Statements.{Parts, just, after, both, in_turn, store_at, assign, call_alone, call_for, return_value, fork, test, cycle, kind_step, stmt_code}
 
 module _ (structs : List TypedStruct) (params : ℕ) where
   abbrev pub low : Shape → Lowered

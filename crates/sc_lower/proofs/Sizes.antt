@@ -1,30 +1,12 @@
 -- The code of statements and functions takes at most a temporary for each node, and weighs at most 24 for each.
-use Rattle.std.proofs.Common.{ℕ, suc, ◌+◌, ◌*◌, ◌<◌, ◌≤◌, List, [], ◌∷◌, map, length, Option, Some, None, sym, ap, ◌∙◌, subst, arith as numbers}
-use Rattle.sc_core.specs.declared.expr.CallTarget.{CallTarget}
+use Rattle.sc_lower.proofs.Common.{CallTarget, Each, Forms, Inside, List, Local, Low, Lows, Many, None, Option, Part, Parts, Some, TacStmt, TypedCall, TypedExpr, TypedFunction, TypedLocal, TypedSimple, TypedSimpleKind, TypedStmt, TypedStmtKind, TypedStmtKind-F, TypedStruct, [], after, alone, ap, arith as numbers, assign, at_place, block_code, body_code, both, call_alone, call_code, call_for, call_nodes, cycle, entry_weight, expr_nodes, first_of, fork, forms, in_turn, init_code, init_nodes, inits_code, just, kind_nodes, kind_step, layer_of, length, local_nodes, many, map, nodes, on_line, part_code, part_nodes, place_code, return_value, simple_code, simple_nodes, stmt_at, stmt_code, stmt_induction, stmt_nodes, store_at, subst, suc, sym, test, total, weight, ℕ, ◌*◌, ◌+◌, ◌<◌, ◌∙◌, ◌∷◌, ◌≤◌}
 use Rattle.sc_core.specs.declared.expr.CallTarget.TheVariants as target
-use Rattle.sc_core.specs.declared.expr.TypedCall.{TypedCall}
-use Rattle.sc_core.specs.declared.expr.TypedExpr.{TypedExpr}
-use Rattle.sc_core.specs.declared.expr.VarRef.TheVariants.{Local}
-use Rattle.sc_core.specs.declared.section.TypedFunction.{TypedFunction}
-use Rattle.sc_core.specs.declared.section.TypedLocal.{TypedLocal}
-use Rattle.sc_core.specs.declared.section.TypedStruct.{TypedStruct}
-use Rattle.sc_core.specs.declared.stmt.TypedStmt.{TypedStmt}
-use Rattle.sc_core.specs.declared.stmt.TypedStmtKind.{TypedStmtKind, TypedStmtKind-F}
 use Rattle.sc_core.specs.declared.stmt.TypedStmtKind.TheOpen as layer
-use Rattle.sc_core.specs.declared.stmt.TypedSimple.{TypedSimple}
-use Rattle.sc_core.specs.declared.stmt.TypedSimpleKind.{TypedSimpleKind}
 use Rattle.sc_core.specs.declared.stmt.TypedSimpleKind.TheVariants as simple
 use Rattle.sc_core.specs.declared.value.Want.TheVariants as want
-use Rattle.sc_core.specs.Sizes.{total, expr_nodes, call_nodes, simple_nodes, part_nodes, kind_nodes, stmt_nodes, init_nodes, local_nodes, nodes}
-use Rattle.sc_core.proofs.Layers.{on_line, stmt_at, layer_of}
-use Rattle.sc_core.proofs.Induction.{Each, Inside, stmt_induction, everywhere}
-use Rattle.sc_tac.specs.declared.stmt.TacStmt.{TacStmt}
+use Rattle.sc_core.proofs.Induction.{everywhere}
 use Rattle.sc_tac.specs.declared.stmt.TacStmt.TheOpen as tac
 use Rattle.sc_tac.specs.declared.stmt.TacStmt.TheVariants as emit
-use Rattle.sc_tac.specs.Weights.{weight, entry_weight}
-use Rattle.sc_lower.specs.Expressions.{Low, Lows, Forms, alone, at_place, place_code, forms}
-use Rattle.sc_lower.specs.Statements.{Part, Parts, just, after, both, in_turn, Many, many, store_at, assign, first_of, call_code, call_alone, call_for, return_value, fork, test, cycle, simple_code, part_code, kind_step, stmt_code, block_code}
-use Rattle.sc_lower.specs.Programs.{init_code, inits_code, body_code}
 use Rattle.sc_lower.proofs.Bounds.{weight_append, weight_one, at_most, place_weight, if_weight, Rises, place_rises, alone_rises, expr_rises}
 
 -- code that takes at most so many temporaries from the free ones on, and weighs at most 24 for each, and so much more

@@ -1,44 +1,14 @@
 -- The code of statements that fit does what they do.
-use Rattle.std.proofs.Common.{◌≡◌, ℕ, suc, ◌<◌, ◌≤◌, Bool, true, false, List, [], ◌∷◌, ◌++◌, map, length, Option, Some, None, Result, Ok, Err, refl, sym, ap, ◌∙◌, subst, arith as numbers}
-use Rattle.std.specs.Prelude.{is_some}
-use Rattle.std.specs.List.{list_any, list_all}
-use Rattle.std.proofs.lemmas.Bool.{false≢true}
-use Rattle.sc_base.proofs.Bools.{and_first, and_rest}
+use Rattle.sc_lower.proofs.Common.{Acts, Arith, Bool, Break, CallTarget, Callable, Calls, Cause, Codes, Continue, Each, Err, Forms, Here, Inside, Judged, Left, List, Local, Low, Next, None, Ok, Option, Part, Parts, Piece, Reached, Result, Return, Scope, Signature, Some, State, Stopped, TacStmt, Temps, Ty, TypedCall, TypedExpr, TypedFunction, TypedLocal, TypedSimple, TypedSimpleKind, TypedStmt, TypedStmtKind, TypedStmtKind-F, TypedStruct, Value, Ways, [], all_do, all_go_into, allowed, alone, and_first, and_rest, and_then, ap, args_fit, arith as numbers, assign, assign_call, assign_call_fits, at_place, block_code, block_does, body_code, body_does, body_fits, call as calls_of, call_alone, call_code, call_does, call_fits, call_for, choose, computed, cycle, false, false≢true, first_of, follow, forms, goes_into, in_order, in_turn, init_code, init_does, inits_code, inits_do, is_scalar, is_some, is_target, is_true, judged, just, kind_fits, kind_step, layer_of, leave, length, list_all, list_any, loop, many, map, on_line, option_goes, part_code, part_does, part_fits, place_code, received, refl, result_goes, return_value, returned_call_fits, same_import, simple_code, simple_does, simple_fits, stmt_at, stmt_code, stmt_does, stmt_fits, stmt_induction, stmt_step, store, store_at, store_result, stored, subst, suc, sym, target_signature, test, true, values, variable_at, ways, with_memory, with_temp, ℕ, ◌++◌, ◌<◌, ◌∙◌, ◌∷◌, ◌≡◌, ◌≤◌}
+use Rattle.sc_core.specs.Prelude.{assign as assigns, at_place as place_way, call_alone as calls_alone, kind_step as kind_acts, stmt_does as stmt_acts, store_at as stores_at, test as tests}
 use Rattle.sc_event.specs.declared.interface.Import.TheVariants as import
-use Rattle.sc_core.specs.declared.cause.Cause.{Cause}
-use Rattle.sc_core.specs.declared.ty.Ty.{Ty}
 use Rattle.sc_core.specs.declared.ty.Ty.TheVariants as ty
-use Rattle.sc_core.specs.declared.expr.TypedExpr.{TypedExpr}
-use Rattle.sc_core.specs.declared.expr.TypedCall.{TypedCall}
-use Rattle.sc_core.specs.declared.expr.CallTarget.{CallTarget}
 use Rattle.sc_core.specs.declared.expr.CallTarget.TheVariants as target
-use Rattle.sc_core.specs.declared.expr.VarRef.TheVariants.{Local}
-use Rattle.sc_core.specs.declared.stmt.TypedStmt.{TypedStmt}
-use Rattle.sc_core.specs.declared.stmt.TypedStmtKind.{TypedStmtKind, TypedStmtKind-F}
 use Rattle.sc_core.specs.declared.stmt.TypedStmtKind.TheOpen as layer
-use Rattle.sc_core.specs.declared.stmt.TypedSimple.{TypedSimple}
-use Rattle.sc_core.specs.declared.stmt.TypedSimpleKind.{TypedSimpleKind}
 use Rattle.sc_core.specs.declared.stmt.TypedSimpleKind.TheVariants as simple
-use Rattle.sc_core.specs.declared.section.TypedStruct.{TypedStruct}
-use Rattle.sc_core.specs.declared.section.TypedLocal.{TypedLocal}
-use Rattle.sc_core.specs.declared.section.TypedFunction.{TypedFunction}
-use Rattle.sc_core.specs.declared.value.Value.{Value}
 use Rattle.sc_core.specs.declared.value.Want.TheVariants as want
-use Rattle.sc_core.specs.Memory.{store}
-use Rattle.sc_core.specs.Value.{Arith, is_true}
-use Rattle.sc_core.specs.Words.{State, Here, Piece, Reached, Stopped, and_then, computed, Left, Next, Break, Continue, Return, leave, stored, follow, in_order, with_memory, all_do, loop, choose, Calls}
-use Rattle.sc_core.specs.Tree.{Ways, Acts, variable_at, at_place as place_way, values, store_at as stores_at, assign as assigns, test as tests, store_result, call as calls_of, assign_call, call_alone as calls_alone, ways, simple_does, part_does, kind_step as kind_acts, stmt_step, stmt_does as stmt_acts, block_does}
-use Rattle.sc_core.specs.Meaning.{init_does, inits_do, body_does}
-use Rattle.sc_core.specs.Typing.{same_import, Scope, Judged, judged, goes_into, all_go_into, Signature, Callable, allowed, target_signature, args_fit, option_goes, result_goes, is_target, is_scalar, call_fits, assign_call_fits, returned_call_fits, simple_fits, part_fits, kind_fits, stmt_fits, body_fits}
-use Rattle.sc_core.proofs.Layers.{on_line, layer_of, stmt_at}
-use Rattle.sc_core.proofs.Induction.{Each, Inside, stmt_induction}
-use Rattle.sc_tac.specs.declared.stmt.TacStmt.{TacStmt}
 use Rattle.sc_tac.specs.declared.stmt.TacStmt.TheOpen as tac
 use Rattle.sc_tac.specs.declared.stmt.TacStmt.TheVariants as emit
-use Rattle.sc_tac.specs.Code.{Temps, Codes, with_temp, received, call_does, stmt_does}
-use Rattle.sc_lower.specs.Expressions.{Low, Forms, alone, at_place, place_code, forms}
-use Rattle.sc_lower.specs.Statements.{Part, Parts, just, in_turn, many, store_at, assign, first_of, call_code, call_alone, call_for, return_value, test, cycle, simple_code, part_code, kind_step, stmt_code, block_code}
-use Rattle.sc_lower.specs.Programs.{init_code, inits_code, body_code}
 use Rattle.sc_lower.proofs.Gives.{Keeps, run, with_temp_same, run_append, first_is}
 use Rattle.sc_lower.proofs.Expressions.{Computes, alone_computes, place_computes, place_gives, expr_fits}
 use Rattle.sc_lower.proofs.Matching.{answers, value_answers, none_answers, blamed, BackMatches, ends_then, Matches, ActsMatch, matches_along, leave_matches, follow_matches, if_matches, rounds_match, code_then, read_matches, computed_matches, one_matches, GivesAll, codes_then}

@@ -1,37 +1,12 @@
 -- No `Break` or `Continue` of a function's code stands outside of loops.
-use Rattle.std.proofs.Common.{◌≡◌, ℕ, suc, Bool, true, false, List, [], ◌∷◌, ◌++◌, map, length, Option, Some, None, refl, sym, ap, ◌∙◌, subst, arith as numbers}
-use Rattle.std.specs.Prelude.{not, ◌||◌}
-use Rattle.std.specs.List.{list_all}
-use Rattle.std.proofs.lemmas.Bool.{false≢true}
-use Rattle.sc_base.proofs.Bools.{and_first, and_rest}
-use Rattle.sc_core.specs.declared.expr.CallTarget.{CallTarget}
+use Rattle.sc_lower.proofs.Common.{Bool, CallTarget, Callable, Each, Forms, Inside, Judged, List, Local, Lows, Many, None, Option, Part, Parts, Scope, Some, TacStmt, TacStmt-F, Ty, TypedCall, TypedExpr, TypedLocal, TypedSimple, TypedSimpleKind, TypedStmt, TypedStmtKind, TypedStmtKind-F, TypedStruct, Want, [], after, all_go_into, alone, and_first, and_rest, ap, arith as numbers, assign, assign_call_fits, assign_fits, at_place, block_code, body_fits, both, call_alone, call_code, call_fits, call_for, cycle, everywhere, false, false≢true, first_of, fold-TacStmt, fold-roll-TacStmt, fork, forms, goes_into, has_none, in_turn, init_code, init_fits, inits_code, is_scalar, is_target, is_type, judged, just, kind_fits, kind_step, layer_of, length, list_all, many, map, map-TacStmt, not, part_code, part_fits, place_code, refl, return_value, returned_call_fits, roll-TacStmt, simple_code, simple_fits, some_hold, stmt_at, stmt_code, stmt_fits, stmt_induction, store_at, stray_break, stray_continue, subst, suc, sym, target_signature, test as tests, true, variable_ty, with_parts, ℕ, ◌++◌, ◌||◌, ◌∙◌, ◌∷◌, ◌≡◌}
 use Rattle.sc_core.specs.declared.expr.CallTarget.TheVariants as target
-use Rattle.sc_core.specs.declared.expr.TypedCall.{TypedCall}
-use Rattle.sc_core.specs.declared.expr.TypedExpr.{TypedExpr}
-use Rattle.sc_core.specs.declared.expr.VarRef.TheVariants.{Local}
-use Rattle.sc_core.specs.declared.section.TypedLocal.{TypedLocal}
-use Rattle.sc_core.specs.declared.section.TypedStruct.{TypedStruct}
-use Rattle.sc_core.specs.declared.stmt.TypedStmt.{TypedStmt}
-use Rattle.sc_core.specs.declared.stmt.TypedStmtKind.{TypedStmtKind, TypedStmtKind-F}
 use Rattle.sc_core.specs.declared.stmt.TypedStmtKind.TheOpen as layer
-use Rattle.sc_core.specs.declared.stmt.TypedSimple.{TypedSimple}
-use Rattle.sc_core.specs.declared.stmt.TypedSimpleKind.{TypedSimpleKind}
 use Rattle.sc_core.specs.declared.stmt.TypedSimpleKind.TheVariants as simple
-use Rattle.sc_core.specs.declared.ty.Ty.{Ty}
-use Rattle.sc_core.specs.declared.value.Want.{Want}
 use Rattle.sc_core.specs.declared.value.Want.TheVariants as want
-use Rattle.sc_core.specs.Typing.{Scope, Judged, judged, is_type, variable_ty, goes_into, all_go_into, Callable, target_signature, is_target, is_scalar, call_fits, assign_fits, assign_call_fits, returned_call_fits, simple_fits, part_fits, kind_fits, stmt_fits, body_fits, init_fits}
-use Rattle.sc_core.proofs.Layers.{layer_of, stmt_at}
-use Rattle.sc_core.proofs.Induction.{Each, Inside, stmt_induction}
-use Rattle.sc_tac.specs.declared.stmt.TacStmt.{TacStmt, TacStmt-F, fold-TacStmt, map-TacStmt, roll-TacStmt, fold-roll-TacStmt}
 use Rattle.sc_tac.specs.declared.stmt.TacStmt.TheOpen as tac
 use Rattle.sc_tac.specs.declared.stmt.TacStmt.TheVariants as emit
-use Rattle.sc_tac.specs.Functions.{some_hold, stray_break, stray_continue, has_none}
-use Rattle.sc_tac.specs.Parts.{with_parts, everywhere}
 use Rattle.sc_tac.proofs.Induction.{Inside as CodeInside, stmt_induction as code_induction}
-use Rattle.sc_lower.specs.Expressions.{Lows, Forms, alone, at_place, place_code, forms}
-use Rattle.sc_lower.specs.Statements.{Part, Parts, just, after, both, in_turn, Many, many, store_at, assign, first_of, call_code, call_alone, call_for, return_value, fork, test as tests, cycle, simple_code, part_code, kind_step, stmt_code, block_code}
-use Rattle.sc_lower.specs.Programs.{init_code, inits_code}
 use Rattle.sc_lower.proofs.Tests.{scalar_fits, PassedBy, alone_clean, place_clean, place_passes, expr_clean}
 use Rattle.sc_lower.proofs.Passing.{returned_value, signed, InitsFit}
 

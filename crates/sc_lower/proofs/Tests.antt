@@ -1,41 +1,14 @@
 -- The statements of lowered code pass each test that the statements which are emitted pass.
-use Rattle.std.proofs.Common.{◌≡◌, ℕ, zero, suc, ◌+◌, ◌<◌, ◌≤◌, Bool, true, false, List, [], ◌∷◌, ◌++◌, length, Option, Some, None, refl, sym, ap, ◌∙◌, subst, arith as numbers}
-use Rattle.std.specs.Prelude.{◌&&◌, ◌||◌, if◌then◌else◌, slice_get}
-use Rattle.std.proofs.lemmas.Bool.{false≢true, and_from}
-use Rattle.sc_base.proofs.Bools.{and_first, and_rest}
-use Rattle.sc_base.specs.declared.op.BinaryOp.{BinaryOp}
+use Rattle.sc_lower.proofs.Common.{BinaryOp, Bool, CallTarget, Constant, Global, Int, Judged, List, Local, Low, Lowered, Lows, None, Option, Param, Scope, Some, TacOp, TacStmt, TacStmt-F, Ty, TypedExpr, TypedKind, TypedKind-F, TypedStruct, UnaryOp, Under, VarRef, Want, [], address_fits, alone, and_code, and_first, and_from, and_rest, ap, are_equatable, are_ordered, arith as numbers, at_place, between_op, binary, binary_code, binary_fits, both_ints, common, constant_of, decayed, difference_fits, either, everywhere, expr_at, expr_induction, false, false≢true, first_of, fold-TacStmt, fold-roll-TacStmt, from_first, from_one, from_two, if◌then◌else◌, is_address, is_array, is_int, is_pointer, is_scalar, is_type, is_unsigned_op, judged, length, loaded, lowered, lowered_step, map-TacStmt, member, move_op, not_op, or_code, place_code, points, refl, roll-TacStmt, same_pointers, same_ty, scalar_in, scalar_of, slice_get, subst, suc, sum_fits, sym, takes_two, target_cells, term_judged, term_of, term_step, true, truth_code, unary_fits, unary_op, variable_ty, with_parts, zero, ℕ, ◌&&◌, ◌++◌, ◌+◌, ◌<◌, ◌||◌, ◌∙◌, ◌∷◌, ◌≡◌, ◌≤◌}
 use Rattle.sc_base.specs.declared.op.BinaryOp.TheVariants as op
-use Rattle.sc_base.specs.declared.op.UnaryOp.{UnaryOp}
 use Rattle.sc_base.specs.declared.op.UnaryOp.TheVariants as unary
-use Rattle.sc_event.specs.declared.interface.Scalar.TheVariants.{Int}
-use Rattle.sc_core.specs.declared.expr.CallTarget.{CallTarget}
 use Rattle.sc_core.specs.declared.expr.CallTarget.TheVariants as target
-use Rattle.sc_core.specs.declared.expr.TypedExpr.{TypedExpr}
-use Rattle.sc_core.specs.declared.expr.TypedKind.{TypedKind, TypedKind-F}
 use Rattle.sc_core.specs.declared.expr.TypedKind.TheOpen as term
-use Rattle.sc_core.specs.declared.expr.VarRef.{VarRef}
-use Rattle.sc_core.specs.declared.expr.VarRef.TheVariants.{Global, Param, Local}
-use Rattle.sc_core.specs.declared.section.TypedStruct.{TypedStruct}
-use Rattle.sc_core.specs.declared.ty.Ty.{Ty}
 use Rattle.sc_core.specs.declared.ty.Ty.TheVariants as ty
-use Rattle.sc_core.specs.declared.value.Want.{Want}
 use Rattle.sc_core.specs.declared.value.Want.TheVariants as want
-use Rattle.sc_core.specs.Types.{is_array, is_pointer, target_cells}
-use Rattle.sc_core.specs.Tree.{is_unsigned_op}
-use Rattle.sc_core.specs.Typing.{Scope, Judged, judged, is_type, variable_ty, is_int, points, is_address, is_scalar, both_ints, are_equatable, are_ordered, same_pointers, same_ty, common, decayed, sum_fits, difference_fits, binary_fits, unary_fits, term_judged}
-use Rattle.sc_core.proofs.Layers.{expr_at, term_of}
-use Rattle.sc_core.proofs.Induction.{Under, expr_induction}
-use Rattle.sc_kinds.proofs.Values.{either, address_fits}
-use Rattle.sc_tac.specs.declared.stmt.Constant.{Constant}
-use Rattle.sc_tac.specs.declared.stmt.TacOp.{TacOp}
 use Rattle.sc_tac.specs.declared.stmt.TacOp.TheVariants as tacop
-use Rattle.sc_tac.specs.declared.stmt.TacStmt.{TacStmt, TacStmt-F, fold-TacStmt, map-TacStmt, roll-TacStmt, fold-roll-TacStmt}
 use Rattle.sc_tac.specs.declared.stmt.TacStmt.TheOpen as tac
 use Rattle.sc_tac.specs.declared.stmt.TacStmt.TheVariants as emit
-use Rattle.sc_tac.specs.Functions.{takes_two}
-use Rattle.sc_tac.specs.Parts.{with_parts, everywhere}
-use Rattle.sc_lower.specs.Expressions.{Low, Lows, Lowered, alone, from_one, from_two, from_first, loaded, at_place, scalar_in, scalar_of, constant_of, place_code, not_op, unary_op, between_op, truth_code, and_code, or_code, move_op, binary_code, binary, member, term_step, lowered_step, lowered}
-use Rattle.sc_lower.specs.Statements.{first_of}
 
 -- a call as it stands in the code
 abbrev pub call_layer : CallTarget → Option ℕ → List ℕ → TacStmt-F Bool

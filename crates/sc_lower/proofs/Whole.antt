@@ -1,44 +1,10 @@
 -- The code of a well-typed program runs as the program does.
-use Rattle.std.proofs.Common.{◌≡◌, ℕ, zero, suc, Bool, true, false, List, [], ◌∷◌, length, map, Option, Some, None, refl, sym, ap, ◌∙◌, subst}
-use Rattle.std.specs.Prelude.{◌&&◌, ◌==◌, if◌then◌else◌, nat_le, bytes_eq, is_some, slice_get, slice_index_or}
-use Rattle.std.specs.List.{list_any, list_all}
-use Rattle.std.specs.Option.{option_map}
-use Rattle.std.proofs.lemmas.Option.{slice_get-map}
-use Rattle.sc_base.proofs.Bools.{and_first, and_rest}
+use Rattle.sc_lower.proofs.Common.{Arith, BadType, Blamed, BodiesAgree, Body, Bool, CallTarget, Callable, Cross, Export, ForSection, Function, Here, Input, Interfaces, KeepsMeaning, Left, Library, List, Main, None, Option, Output, Own, Piece, PiecesAgree, ProgramTree, Proto, Reached, Roles, RunsAgree, Scalar, Some, State, Step, Stopped, TacSection, Temps, TurnsOut, TypedFunction, TypedParam, TypedSection, TypedStruct, Value, [], all_at, allowed, and_first, and_rest, and_then, ap, back_own, begun, body_code, body_does, body_fits, bytes_eq, call_cross, call_own, callable_in, called, calls, closed, code_does, code_function, code_functions, code_globals, code_library, code_run, crossing, deepest, done, export_at, false, first_blocks, first_state, for_section, found, function, function_fits, function_of, functions_in, global_fits, globals_of, if◌then◌else◌, index_map, is_some, is_well_typed, itself, length, library_of, list_all, list_any, local_fits, lowered_function, lowered_program, lowered_section, lowered_sections, main_name, map, may_call, most_params, nat_le, no_temps, option_map, option_signature, option_value, passed_fits, performs, proto_signature, reached_good, refl, result_fits, result_ty, roles_in, rows_left, run_agree, run_by, run_of, run_step, same_import, scope_of, scripted_code_run, scripted_run_of, scripted_step, signature_of, slice_get, slice_get-map, slice_index_or, structs_fit, subst, suc, sym, target_signature, then_agree, true, turn, within, word_back, zero, ℕ, ◌&&◌, ◌==◌, ◌∙◌, ◌∷◌, ◌≡◌}
+use Rattle.sc_tac.specs.Prelude.{first_blocks as code_blocks}
 use Rattle.sc_event.specs.declared.event.Event.{Event}
 use Rattle.sc_event.specs.declared.interface.Import.TheVariants as import
-use Rattle.sc_event.specs.declared.interface.Interfaces.{Interfaces}
-use Rattle.sc_event.specs.declared.interface.Proto.{Proto}
-use Rattle.sc_event.specs.declared.interface.Scalar.{Scalar}
-use Rattle.sc_event.specs.declared.row.Entry.TheVariants.{Main, Export}
-use Rattle.sc_event.specs.Lookup.{export_at}
-use Rattle.sc_core.specs.declared.cause.Cause.TheVariants.{BadType}
 use Rattle.sc_core.specs.declared.ty.Ty.TheVariants as ty
-use Rattle.sc_core.specs.declared.expr.CallTarget.{CallTarget}
-use Rattle.sc_core.specs.declared.expr.CallTarget.TheVariants.{Own, Cross, Input, Output}
-use Rattle.sc_core.specs.declared.program.ProgramTree.{ProgramTree}
-use Rattle.sc_core.specs.declared.run.RunEnd.TheVariants.{Blamed, TurnsOut}
-use Rattle.sc_core.specs.declared.section.TypedFunction.{TypedFunction}
-use Rattle.sc_core.specs.declared.section.TypedParam.{TypedParam}
-use Rattle.sc_core.specs.declared.section.TypedSection.{TypedSection}
-use Rattle.sc_core.specs.declared.section.TypedStruct.{TypedStruct}
-use Rattle.sc_core.specs.declared.value.Value.{Value}
-use Rattle.sc_core.specs.Value.{Arith}
-use Rattle.sc_core.specs.Words.{State, Here, Piece, Reached, Stopped, and_then, turn, Left}
-use Rattle.sc_core.specs.Calls.{Function, Library, Body, Step, function, found, begun, done, word_back, crossing, option_value, may_call, back_own, call_own, call_cross, called, calls, run_step, within}
-use Rattle.sc_core.specs.Scripts.{Roles, roles_in, rows_left, performs, scripted_step}
-use Rattle.sc_core.specs.Meaning.{main_name, closed, body_does, function_of, functions_in, library_of, first_blocks, globals_of, first_state, run_by, run_of, scripted_run_of, deepest}
-use Rattle.sc_core.specs.Typing.{Callable, result_ty, signature_of, proto_signature, same_import, option_signature, allowed, target_signature, body_fits}
-use Rattle.sc_core.specs.WellTyped.{most_params, scope_of, passed_fits, result_fits, local_fits, function_fits, callable_in, structs_fit, global_fits, is_well_typed}
 use Rattle.sc_kinds.proofs.Pieces.{Lasting}
-use Rattle.sc_kinds.proofs.Results.{reached_good}
-use Rattle.sc_kinds.proofs.Sections.{ForSection, for_section, index_map, all_at}
-use Rattle.sc_laws.specs.Agreement.{PiecesAgree, BodiesAgree, RunsAgree}
-use Rattle.sc_laws.proofs.Agreement.{itself, then_agree, run_agree}
-use Rattle.sc_tac.specs.declared.program.TacSection.{TacSection}
-use Rattle.sc_tac.specs.Code.{Temps, no_temps, code_does, code_function, code_functions, code_library, first_blocks as code_blocks, code_globals, code_run, scripted_code_run}
-use Rattle.sc_lower.specs.Lowering.{KeepsMeaning}
-use Rattle.sc_lower.specs.Programs.{body_code, lowered_function, lowered_section, lowered_sections, lowered_program}
 use Rattle.sc_lower.proofs.Entries.{first_at, main_is, sections_so, entered_same}
 use Rattle.sc_lower.proofs.Hollow.{shell, hollow, calls_alike, own_alike, performs_alike}
 use Rattle.sc_lower.proofs.Matching.{answers, some_answers, BackMatches, back_from, back_agrees, back_answers, close_matches}

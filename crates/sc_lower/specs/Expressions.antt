@@ -1,28 +1,19 @@
 -- The code of expressions: one temporary for each node at most, numbered upward.
+use Rattle.sc_lower.specs.Common.{BinaryOp, Const, Global, GlobalPlace, If, Load, Local, ObjectPlace, Op, Param, TacStmt, Ty, TypedExpr, TypedExpr-F, TypedKind-F, TypedStruct, fold-TypedExpr, is_array, is_pointer, is_unsigned, is_unsigned_op, target_cells}
 use Rattle.std.specs.Prelude.{ℕ, suc, ◌+◌, Bool, true, false, List, [], ◌∷◌, ◌++◌, None, Some, if◌then◌else◌}
 use Rattle.sc_base.specs.declared.op.UnaryOp.{UnaryOp}
 use Rattle.sc_base.specs.declared.op.UnaryOp.TheVariants as unary
-use Rattle.sc_base.specs.declared.op.BinaryOp.{BinaryOp}
 use Rattle.sc_base.specs.declared.op.BinaryOp.TheVariants as op
 use Rattle.sc_event.specs.declared.interface.Scalar.{Scalar}
 use Rattle.sc_event.specs.declared.interface.Scalar.TheVariants.{Int, Unsigned}
-use Rattle.sc_core.specs.declared.ty.Ty.{Ty}
-use Rattle.sc_core.specs.declared.expr.TypedExpr.{TypedExpr, TypedExpr-F, fold-TypedExpr}
-use Rattle.sc_core.specs.declared.expr.TypedKind.{TypedKind-F}
 use Rattle.sc_core.specs.declared.expr.TypedKind.TheOpen as term
 use Rattle.sc_core.specs.declared.expr.VarRef.{VarRef}
-use Rattle.sc_core.specs.declared.expr.VarRef.TheVariants.{Global, Param, Local}
-use Rattle.sc_core.specs.declared.section.TypedStruct.{TypedStruct}
 use Rattle.sc_core.specs.declared.value.Want.{Want}
 use Rattle.sc_core.specs.declared.value.Want.TheVariants as want
-use Rattle.sc_core.specs.Types.{is_unsigned, is_array, is_pointer, target_cells}
-use Rattle.sc_core.specs.Tree.{is_unsigned_op}
 use Rattle.sc_tac.specs.declared.stmt.Constant.{Constant}
 use Rattle.sc_tac.specs.declared.stmt.Constant.TheVariants as constant
 use Rattle.sc_tac.specs.declared.stmt.TacOp.{TacOp}
 use Rattle.sc_tac.specs.declared.stmt.TacOp.TheVariants as tacop
-use Rattle.sc_tac.specs.declared.stmt.TacStmt.{TacStmt}
-use Rattle.sc_tac.specs.declared.stmt.TacStmt.TheVariants.{Const, Op, ObjectPlace, GlobalPlace, Load, If}
 
 -- code, the temporary in which it leaves what it computes, and the next free one
 pub record Low : Type 0 where

@@ -1,16 +1,8 @@
 -- What lowering keeps.
+use Rattle.sc_lower.specs.Common.{Arith, IsFunction, IsProgram, IsWellTyped, ProgramTree, TypedFunction, TypedSection, code_depth_by, code_run, depth_by, run_of, scripted_code_depth_by, scripted_code_run, scripted_depth_by, scripted_run_of}
+use Rattle.sc_laws.specs.Prelude.{RunsAgree}
 use Rattle.std.specs.Prelude.{◌≡◌, ℕ, Bool, List, Some, slice_get}
 use Rattle.sc_event.specs.declared.event.Event.{Event}
-use Rattle.sc_core.specs.declared.program.ProgramTree.{ProgramTree}
-use Rattle.sc_core.specs.declared.section.TypedFunction.{TypedFunction}
-use Rattle.sc_core.specs.declared.section.TypedSection.{TypedSection}
-use Rattle.sc_core.specs.Value.{Arith}
-use Rattle.sc_core.specs.WellTyped.{IsWellTyped}
-use Rattle.sc_core.specs.Meaning.{run_of, scripted_run_of, depth_by, scripted_depth_by}
-use Rattle.sc_laws.specs.Agreement.{RunsAgree}
-use Rattle.sc_tac.specs.Code.{code_run, scripted_code_run, code_depth_by, scripted_code_depth_by}
-use Rattle.sc_tac.specs.Functions.{IsFunction}
-use Rattle.sc_tac.specs.Programs.{IsProgram}
 use Rattle.sc_lower.specs.Programs.{lowered_function, lowered_program}
 
 -- The code of a well-typed program runs as the program does, in each arithmetic: its traces, its ends and the

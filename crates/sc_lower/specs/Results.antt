@@ -1,18 +1,9 @@
 -- What lowering hands back, as the definitions have it.
+use Rattle.sc_lower.specs.Common.{Interfaces, IsFunction, Ty, TypedFunction, TypedLocal, TypedStruct, cells_of, comp_at, most_cells, most_exports, most_nodes, most_params, nodes}
 use Rattle.std.specs.Prelude.{◌≡◌, ◌≤◌, ℕ, List, length, Some, slice_get}
 use Rattle.std.specs.List.{All}
-use Rattle.sc_event.specs.declared.interface.Interfaces.{Interfaces}
-use Rattle.sc_event.specs.Lookup.{comp_at}
-use Rattle.sc_core.specs.declared.section.TypedFunction.{TypedFunction}
-use Rattle.sc_core.specs.declared.section.TypedLocal.{TypedLocal}
 use Rattle.sc_core.specs.declared.section.TypedParam.{TypedParam}
-use Rattle.sc_core.specs.declared.section.TypedStruct.{TypedStruct}
-use Rattle.sc_core.specs.declared.ty.Ty.{Ty}
 use Rattle.sc_core.specs.declared.value.Want.TheVariants as want
-use Rattle.sc_core.specs.Sizes.{nodes}
-use Rattle.sc_core.specs.Types.{cells_of}
-use Rattle.sc_core.specs.WellTyped.{most_params, most_nodes, most_exports, most_cells}
-use Rattle.sc_tac.specs.Functions.{IsFunction}
 use Rattle.sc_lower.specs.declared.calls.Values.{Values}
 use Rattle.sc_lower.specs.declared.code.Code.{Code}
 use Rattle.sc_lower.specs.declared.code.Fragment.{Fragment}

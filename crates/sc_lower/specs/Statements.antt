@@ -1,18 +1,11 @@
 -- The code of statements, in the order in which it runs: values first, then places, then stores.
+use Rattle.sc_lower.specs.Common.{Break, CallCross, CallOwn, Continue, If, Input, Loop, Output, Return, Store, TacStmt, TypedCall, TypedSimple, TypedSimpleKind, TypedStmt, TypedStmtKind-F, TypedStruct, fold-TypedStmt}
 use Rattle.std.specs.Prelude.{ℕ, suc, List, [], ◌∷◌, ◌++◌, map, Option, None, Some}
 use Rattle.sc_core.specs.declared.expr.CallTarget.{CallTarget}
 use Rattle.sc_core.specs.declared.expr.CallTarget.TheVariants as target
-use Rattle.sc_core.specs.declared.expr.TypedCall.{TypedCall}
-use Rattle.sc_core.specs.declared.stmt.TypedStmt.{TypedStmt, fold-TypedStmt}
-use Rattle.sc_core.specs.declared.stmt.TypedStmtKind.{TypedStmtKind-F}
 use Rattle.sc_core.specs.declared.stmt.TypedStmtKind.TheOpen as layer
-use Rattle.sc_core.specs.declared.stmt.TypedSimple.{TypedSimple}
-use Rattle.sc_core.specs.declared.stmt.TypedSimpleKind.{TypedSimpleKind}
 use Rattle.sc_core.specs.declared.stmt.TypedSimpleKind.TheVariants as simple
-use Rattle.sc_core.specs.declared.section.TypedStruct.{TypedStruct}
 use Rattle.sc_core.specs.declared.value.Want.TheVariants as want
-use Rattle.sc_tac.specs.declared.stmt.TacStmt.{TacStmt}
-use Rattle.sc_tac.specs.declared.stmt.TacStmt.TheVariants.{Store, If, Loop, Break, Continue, CallOwn, CallCross, Input, Output, Return}
 use Rattle.sc_lower.specs.Expressions.{Lows, Forms, forms}
 
 -- code that leaves nothing in a temporary, and the next free one

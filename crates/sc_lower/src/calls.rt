@@ -1,11 +1,7 @@
 //! Calls (C11 6.5.2.2): arguments from left to right, then the call.
 
+ghost use Rattle.sc_lower.specs.Prelude.{args, call_alone, call_code, call_for, call_nodes, expr_nodes, first_of, forms, fragment_of, many, most_nodes, return_value, store_at, total, values_of};
 ghost use Rattle.std.specs.Prelude.{◌≡◌, ◌≤◌, ◌+◌, ◌++◌, ◌∷◌, [], suc, map, None, Some, IfOk};
-ghost use Rattle.sc_core.specs.Sizes.{total, expr_nodes, call_nodes};
-ghost use Rattle.sc_core.specs.WellTyped.{most_nodes};
-ghost use Rattle.sc_lower.specs.Expressions.{forms};
-ghost use Rattle.sc_lower.specs.Statements.{many, first_of, call_code, call_alone, call_for, store_at, return_value, args};
-ghost use Rattle.sc_lower.specs.Results.{fragment_of, values_of};
 
 use crate::code::{Fragment, Scope, single};
 use crate::expr::{lower_expr, lower_store};

@@ -1,7 +1,7 @@
 //! How many cells types take.
 
+ghost use Rattle.sc_lower.specs.Prelude.{base_cells, cells_of, is_unsigned, starred_cells, struct_cells, target_cells};
 ghost use Rattle.std.specs.Prelude.{◌≡◌, slice_get};
-ghost use Rattle.sc_core.specs.Types.{is_unsigned, struct_cells, base_cells, starred_cells, cells_of, target_cells};
 
 use sc_core::{BaseTy, Ty, TypedStruct};
 

@@ -1,9 +1,8 @@
 //! Code in the making.
 
+ghost use Rattle.sc_lower.specs.Prelude.{loaded, most_nodes};
 ghost use Rattle.std.specs.Prelude.{◌≡◌, ◌<◌, ◌++◌, ◌∷◌, [], suc, IfOk};
 ghost use Rattle.sc_core.specs.declared.value.Want;
-ghost use Rattle.sc_core.specs.WellTyped.{most_nodes};
-ghost use Rattle.sc_lower.specs.Expressions.{loaded};
 
 use sc_base::OutOfMemory;
 use sc_core::{Ty, TypedStruct, Want};

@@ -1,13 +1,9 @@
 //! Expressions (C11 6.5), by recursion on the tree, whose height is at most 256.
 
+ghost use Rattle.sc_lower.specs.Prelude.{IsOperands, Lowered, and_code, binary, binary_code, code_of, constant_of, expr_nodes, forms, fragment_of, most_nodes, move_op, or_code, place_code, store_at, truth_code};
 ghost use Rattle.std.specs.Prelude.{◌≡◌, ◌≤◌, ◌<◌, ◌+◌, ℕ, ◌++◌, ◌∷◌, [], suc, None, Some, IfOk};
 ghost use Rattle.sc_base.specs.declared.op.BinaryOp.TheVariants as op;
-ghost use Rattle.sc_core.specs.Sizes.{expr_nodes};
-ghost use Rattle.sc_core.specs.WellTyped.{most_nodes};
 ghost use Rattle.sc_tac.specs.declared.stmt.TacStmt;
-ghost use Rattle.sc_lower.specs.Expressions.{constant_of, place_code, binary_code, move_op, Lowered, binary, forms, truth_code, and_code, or_code};
-ghost use Rattle.sc_lower.specs.Results.{IsOperands, code_of, fragment_of};
-ghost use Rattle.sc_lower.specs.Statements.{store_at};
 
 use crate::code::{Code, Fragment, Scope, alone, behind, ended, loaded, with_last};
 use crate::selection::{binary_code, constant_of, move_op, place_code, unary_op, with_truth};

@@ -1,18 +1,12 @@
 //! Functions: how they are entered, their variables, and their code.
 
+ghost use Rattle.sc_lower.specs.Prelude.{body_code, cells_of, entry_of, export_called, exports_of, fragment_of, in_turn, init_code, inits_code, local_nodes, lowered_function, main_name, most_cells, most_exports, most_nodes, most_params, nodes, total, variables};
+ghost use Rattle.sc_event.specs.Prelude.{comp_at};
 ghost use Rattle.std.specs.Prelude.{◌≡◌, ◌≤◌, ◌<◌, ◌+◌, ◌++◌, ◌==◌, ◌&&◌, bytes_eq, map, length, IfOk, IfSome};
 ghost use Rattle.std.specs.List.{position, All};
 ghost use Rattle.std.specs.Option.{option_copied};
 ghost use Rattle.sc_event.specs.declared.interface.Proto.{Proto};
-ghost use Rattle.sc_event.specs.Lookup.{comp_at};
 ghost use Rattle.sc_core.specs.declared.section.TypedParam.{TypedParam};
-ghost use Rattle.sc_core.specs.Meaning.{main_name};
-ghost use Rattle.sc_core.specs.Sizes.{total, local_nodes, nodes};
-ghost use Rattle.sc_core.specs.Types.{cells_of, variables};
-ghost use Rattle.sc_core.specs.WellTyped.{most_params, most_nodes, most_exports, most_cells};
-ghost use Rattle.sc_lower.specs.Statements.{in_turn};
-ghost use Rattle.sc_lower.specs.Programs.{init_code, inits_code, body_code, exports_of, export_called, entry_of, lowered_function};
-ghost use Rattle.sc_lower.specs.Results.{fragment_of};
 
 use crate::cells::cells_of;
 use crate::code::{Fragment, Scope, after, alone, ended, nothing};

@@ -1,7 +1,6 @@
 // The laws, each the contract of a function with nothing to do.
 
-ghost use Rattle.sc_lower.specs.Branches.{KeepsBranches};
-ghost use Rattle.sc_lower.specs.Lowering.{KeepsMeaning, KeepsRules};
+ghost use Rattle.sc_lower.specs.Prelude.{KeepsBranches, KeepsMeaning, KeepsRules};
 
 /// The code of a well-typed program runs as the program does, up to the lines of blames: in each arithmetic, also where
 /// compartments perform their parts of a trace, and in frames that take the same room.

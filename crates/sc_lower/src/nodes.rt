@@ -1,8 +1,7 @@
 //! How many nodes typed trees have.
 
+ghost use Rattle.sc_lower.specs.Prelude.{call_nodes, expr_nodes, init_nodes, local_nodes, most_nodes, nodes, part_nodes, simple_nodes, stmt_nodes, total};
 ghost use Rattle.std.specs.Prelude.{◌≡◌, ◌≤◌, ◌+◌, suc, map, length};
-ghost use Rattle.sc_core.specs.Sizes.{total, expr_nodes, call_nodes, simple_nodes, part_nodes, stmt_nodes, init_nodes, local_nodes, nodes};
-ghost use Rattle.sc_core.specs.WellTyped.{most_nodes};
 
 use sc_core::{
     TypedCall, TypedExpr, TypedFunction, TypedKind, TypedLocal, TypedLocals, TypedSimple,

@@ -1,9 +1,7 @@
 //! Sections and programs.
 
+ghost use Rattle.sc_lower.specs.Prelude.{AreFunctions, IsWellTyped, lowered_function, lowered_program, lowered_section, lowered_sections};
 ghost use Rattle.std.specs.Prelude.{◌≡◌, ◌<◌, map, IfOk};
-ghost use Rattle.sc_core.specs.WellTyped.{IsWellTyped};
-ghost use Rattle.sc_lower.specs.Programs.{lowered_function, lowered_section, lowered_sections, lowered_program};
-ghost use Rattle.sc_lower.specs.Results.{AreFunctions};
 
 use crate::copies::{copy_globals, copy_interfaces, copy_structs};
 use crate::function::lower_function;

@@ -1,8 +1,7 @@
 //! What operators become, by the types of their operands.
 
+ghost use Rattle.sc_lower.specs.Prelude.{between_op, binary_code, constant_of, is_sub, is_unsigned_op, move_op, not_op, place_code, scalar_in, scalar_of, truth_code, unary_op};
 ghost use Rattle.std.specs.Prelude.{◌≡◌, ◌++◌, IfOk};
-ghost use Rattle.sc_core.specs.Tree.{is_unsigned_op};
-ghost use Rattle.sc_lower.specs.Expressions.{scalar_in, scalar_of, constant_of, place_code, not_op, unary_op, is_sub, between_op, truth_code, move_op, binary_code};
 
 use crate::cells::{is_unsigned, target_cells};
 use crate::code::Scope;

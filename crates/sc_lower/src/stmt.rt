@@ -1,13 +1,9 @@
 //! Statements (C11 6.8), by recursion on the tree.
 
+ghost use Rattle.sc_lower.specs.Prelude.{after, assign, block_code, expr_nodes, forms, fragment_of, most_nodes, part_code, part_nodes, return_value, simple_code, simple_nodes, stmt_code, stmt_nodes, test, total};
 ghost use Rattle.std.specs.Prelude.{◌≡◌, ◌≤◌, ◌+◌, ◌++◌, ◌∷◌, [], suc, map, Some, IfOk};
 ghost use Rattle.sc_core.specs.declared.value.Want.TheVariants as want;
-ghost use Rattle.sc_core.specs.Sizes.{total, expr_nodes, simple_nodes, part_nodes, stmt_nodes};
-ghost use Rattle.sc_core.specs.WellTyped.{most_nodes};
 ghost use Rattle.sc_tac.specs.declared.stmt.TacStmt;
-ghost use Rattle.sc_lower.specs.Expressions.{forms};
-ghost use Rattle.sc_lower.specs.Statements.{after, assign, return_value, test, simple_code, part_code, stmt_code, block_code};
-ghost use Rattle.sc_lower.specs.Results.{fragment_of};
 
 use crate::calls::{lower_call, lower_return_call, store_call};
 use crate::code::{Code, Fragment, Scope, after, ended, nothing, single};

@@ -1,24 +1,10 @@
 -- Which accesses are allowed, and that there is memory for them.
-use Rattle.std.proofs.Common.{◌≡◌, ℕ, ◌+◌, ◌-◌, ◌%◌, ◌<◌, ◌≤◌, Bool, true, false, nat_le, nat_lt, List, length, Some, None, refl, sym, ◌∙◌, ap, subst, arith, ⊎_elim}
-use Rattle.std.specs.Prelude.{is_some, if◌then◌else◌}
-use Rattle.std.specs.List.{slice_get}
-use Rattle.std.proofs.lemmas.Bool.{le-leb, lt-leb, le-ltb}
+use Rattle.sc_machine.proofs.Common.{Bool, CompPart, HasBytes, ImageParts, IsBacked, IsLookedUp, IsPlace, List, Memory, None, Some, State, TrapReason, Traps, ap, are_data, arith, comp_of_data, data_start, extended, false, gives, globals_of, if◌then◌else◌, is_some, le-leb, le-ltb, length, load, load_of, load_size, lt-leb, most_globals, nat_le, nat_lt, next, refl, refused, slice_get, slice_get_cases, stack_size, stack_top, start_is, start_memory, store, store_size, stored, stretch, subst, sym, true, with_stored, ℕ, ⊎_elim, ◌%◌, ◌+◌, ◌-◌, ◌<◌, ◌∙◌, ◌≡◌, ◌≤◌}
 use Rattle.std.proofs.lemmas.Bool.Decides.{nat_tests}
-use Rattle.std.proofs.lemmas.Option.{slice_get_cases}
 use Rattle.rv_code.specs.declared.instr.LoadOp.{LoadOp}
 use Rattle.rv_code.specs.declared.instr.StoreOp.{StoreOp}
-use Rattle.sc_base.specs.declared.stop.TrapReason.{TrapReason}
-use Rattle.sc_store.specs.Memory.{Memory, HasBytes, load_of, stored}
 use Rattle.sc_store.proofs.Words.{address_kept}
-use Rattle.sc_image.specs.declared.parts.ImageParts.{ImageParts}
-use Rattle.sc_image.specs.declared.parts.CompPart.{CompPart}
-use Rattle.sc_image.specs.Layout.{stretch, most_globals, stack_size, data_start, stack_top, comp_of_data, globals_of, are_data}
-use Rattle.sc_image.specs.State.{State, start_memory}
-use Rattle.sc_image.proofs.AtStart.{start_is}
 use Rattle.sc_image.proofs.Data.{range_of, data_bounds}
-use Rattle.sc_image.specs.Step.{Traps, next, gives, load_size, store_size, extended, refused, load, store, with_stored}
-use Rattle.sc_machine.specs.Place.{IsPlace, IsLookedUp}
-use Rattle.sc_machine.specs.Hart.{IsBacked}
 
 -- The owner's test.
 

@@ -1,9 +1,5 @@
 -- Lists of functions that compartments may call.
-use Rattle.std.proofs.Common.{◌≡◌, ℕ, zero, suc, ◌+◌, List, [], ◌∷◌, ◌++◌, length, Option, Some, None, All, subst, arith}
-use Rattle.std.specs.List.{slice_get}
-use Rattle.sc_image.specs.declared.parts.ImageParts.{ImageParts}
-use Rattle.sc_machine.specs.declared.calling.Callee.{Callee}
-use Rattle.sc_machine.specs.Passing.{IsCallee, AreCallees}
+use Rattle.sc_machine.proofs.Common.{All, AreCallees, Callee, ImageParts, IsCallee, List, None, Option, Some, [], arith, length, slice_get, subst, suc, zero, ℕ, ◌++◌, ◌+◌, ◌∷◌, ◌≡◌}
 
 module _ (image : ImageParts) where
   pub callees_at : (lists : List (List Callee)) (c i n : ℕ) (callees : List Callee) → n ≡ c + i →

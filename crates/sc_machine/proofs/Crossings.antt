@@ -1,24 +1,6 @@
 -- Calls of other compartments and returns, by what was found.
-use Rattle.std.proofs.Common.{◌≡◌, ◌≢◌, ℕ, ◌<◌, ◌≤◌, true, false, List, [], length, get_or, Option, None, Some, refl, sym, ◌∙◌, ap, subst, arith}
-use Rattle.std.specs.Prelude.{◌==◌, position}
-use Rattle.std.specs.List.{slice_get}
-use Rattle.std.specs.Option.{option_map_or}
-use Rattle.std.proofs.lemmas.Bool.{eq-eqb, ne_eqb}
-use Rattle.std.proofs.lemmas.Option.{slice_get_within, slice_get-get_or}
+use Rattle.sc_machine.proofs.Common.{BadJump, Callee, CompPart, ExportPart, Goes, ImageParts, IsCallee, IsWellFormed, List, NoImport, None, Option, Some, State, TrapReason, Traps, [], ap, arith, called, calls, comp_of_code, eq-eqb, export_at, export_called, exports_of, false, get_or, length, may_call, ne_eqb, option_map_or, params_of, position, ra, refl, slice_get, slice_get-get_or, slice_get_within, subst, sym, true, ℕ, ◌<◌, ◌==◌, ◌∙◌, ◌≡◌, ◌≢◌, ◌≤◌}
 use Rattle.std.proofs.lemmas.List.Quantifiers.{position-Some}
-use Rattle.sc_base.specs.declared.stop.TrapReason.{TrapReason}
-use Rattle.sc_base.specs.declared.stop.TrapReason.TheVariants.{BadJump, NoImport}
-use Rattle.sc_image.specs.declared.parts.ImageParts.{ImageParts}
-use Rattle.sc_image.specs.declared.parts.CompPart.{CompPart}
-use Rattle.sc_image.specs.declared.parts.ExportPart.{ExportPart}
-use Rattle.sc_image.specs.WellFormed.{IsWellFormed}
-use Rattle.sc_image.specs.Layout.{comp_of_code}
-use Rattle.sc_image.specs.Calls.{exports_of, may_call, export_at, params_of}
-use Rattle.sc_image.specs.State.{State, ra}
-use Rattle.sc_image.specs.Cross.{called}
-use Rattle.sc_image.specs.Step.{Goes, Traps, export_called, calls}
-use Rattle.sc_machine.specs.declared.calling.Callee.{Callee}
-use Rattle.sc_machine.specs.Passing.{IsCallee}
 
 module _ (image : ImageParts) (state : State) (target : ℕ) where
   pub no_call : (rd : ℕ) → rd ≢ ra → calls image state rd target ≡ Traps BadJump

@@ -1,19 +1,7 @@
 -- What an import leads to is a function that may be called.
-use Rattle.std.proofs.Common.{◌≡◌, ℕ, ◌-◌, ◌*◌, ◌/◌, ◌%◌, ◌<◌, ◌≤◌, Bool, true, false, ◌&&◌, nat_eq, nat_le, if◌then◌else◌, List, length, map, get_or, Option, None, Some, refl, sym, ◌∙◌, ap, subst, arith, ⊎_elim}
-use Rattle.std.specs.Prelude.{◌==◌, IsSome}
-use Rattle.std.specs.List.{slice_get}
-use Rattle.std.proofs.lemmas.Bool.{eq-eqb, eqb-true, leb-true, cases_lt}
-use Rattle.std.proofs.lemmas.List.{length-map, get_or-map}
-use Rattle.std.proofs.lemmas.Option.{slice_get_within, get_or_from_slice_get}
+use Rattle.sc_machine.proofs.Common.{Bool, CompPart, ExportPart, ImageParts, IsCallee, IsDistinct, IsEntry, IsExport, IsSome, IsWellFormed, List, None, Option, Some, ap, arith, cases_lt, code_of, code_start, comp_of_code, eq-eqb, eqb-true, false, get_or, get_or-map, get_or_from_slice_get, if◌then◌else◌, leb-true, length, length-map, map, may_call, nat_eq, nat_le, refl, slice_get, slice_get_within, stretch, subst, sym, true, word_at, ℕ, ⊎_elim, ◌%◌, ◌&&◌, ◌*◌, ◌-◌, ◌/◌, ◌<◌, ◌==◌, ◌∙◌, ◌≡◌, ◌≤◌}
 use Rattle.sc_base.proofs.Lists.{position_of_only}
-use Rattle.sc_image.specs.declared.parts.ImageParts.{ImageParts}
-use Rattle.sc_image.specs.declared.parts.CompPart.{CompPart}
-use Rattle.sc_image.specs.declared.parts.ExportPart.{ExportPart}
 use Rattle.sc_image.specs.declared.parts.ImportPart.{ImportPart}
-use Rattle.sc_image.specs.WellFormed.{IsDistinct, IsEntry, IsExport, IsWellFormed}
-use Rattle.sc_image.specs.Layout.{stretch, code_start, comp_of_code, code_of, word_at}
-use Rattle.sc_image.specs.Calls.{may_call}
-use Rattle.sc_machine.specs.Passing.{IsCallee}
 
 -- The first export at an entry is the one whose entry it is, since no two have the same.
 

@@ -1,16 +1,6 @@
 -- Jumps, by the case of their target.
-use Rattle.std.proofs.Common.{◌≡◌, ◌≢◌, ℕ, ◌+◌, ◌*◌, ◌/◌, ◌%◌, ℤ, None, true, false, refl, sym, ap, arith, ⊎_elim}
-use Rattle.std.specs.Prelude.{is_some, List}
-use Rattle.std.proofs.lemmas.Bool.{cases_eq, eq-eqb, ne_eqb}
-use Rattle.sc_base.specs.declared.stop.TrapReason.TheVariants.{Misaligned}
+use Rattle.sc_machine.proofs.Common.{Goes, ImageParts, List, Misaligned, None, Outcome, State, Traps, add_word, ap, arith, calls, cases_eq, eq-eqb, execute, execute_by, false, gate, is_some, jump, leaves, ne_eqb, refl, reg, returned, sym, true, with_pc, with_reg, word_at, word_of, ℕ, ℤ, ⊎_elim, ◌%◌, ◌*◌, ◌+◌, ◌/◌, ◌≡◌, ◌≢◌}
 use Rattle.rv_code.specs.declared.instr.Instr.TheVariants.{Jalr}
-use Rattle.sc_word.specs.Word.{word_of}
-use Rattle.sc_word.specs.Machine.{add_word}
-use Rattle.sc_image.specs.declared.parts.ImageParts.{ImageParts}
-use Rattle.sc_image.specs.Layout.{gate, word_at}
-use Rattle.sc_image.specs.State.{State, reg, with_reg, with_pc}
-use Rattle.sc_image.specs.Cross.{returned}
-use Rattle.sc_image.specs.Step.{Outcome, Goes, Traps, jump, calls, leaves, execute, execute_by}
 use Rattle.sc_machine.proofs.Words.{below_code}
 
 pub jump_misaligned : (image : ImageParts) (state : State) (rd target : ℕ) (other : Outcome) →

@@ -1,17 +1,9 @@
 -- Runs, step by step and call by call.
-use Rattle.std.proofs.Common.{◌≡◌, ℕ, suc, ◌+◌, ◌<◌, Bool, true, false, nat_le, if◌then◌else◌, List, [], ◌∷◌, length, sum, Option, Some, None, refl, sym, ◌∙◌, ap, add_assoc, add-zero}
-use Rattle.std.specs.Prelude.{fold, unwrap_or}
-use Rattle.std.proofs.lemmas.Bool.{leb-false}
+use Rattle.sc_machine.proofs.Common.{Bool, Goes, ImageParts, List, None, Option, Run, Some, State, TrapReason, Traps, [], add-zero, add_assoc, ap, continued, false, fold, if◌then◌else◌, is_ended, leb-false, length, machine, nat_le, refl, run, run_goes, run_more, run_traps, start, step, stopped, stops_or, suc, sum, sym, true, unwrap_or, ℕ, ◌+◌, ◌<◌, ◌∙◌, ◌∷◌, ◌≡◌}
 use Rattle.sc_event.specs.declared.event.Event.{Event}
 use Rattle.sc_base.specs.declared.stop.Stop.{Stop}
 use Rattle.std.proofs.lemmas.List.Sums.{sum_by-cons}
 use Rattle.sc_base.specs.declared.stop.Stop.TheVariants.{Ended, EventsOut, StepsOut, Trap}
-use Rattle.sc_base.specs.declared.stop.TrapReason.{TrapReason}
-use Rattle.sc_image.specs.declared.parts.ImageParts.{ImageParts}
-use Rattle.sc_image.specs.State.{State, start}
-use Rattle.sc_image.specs.Step.{Goes, Traps, step}
-use Rattle.sc_image.specs.Machine.{Run, is_ended, stopped, stops_or, run, continued, machine}
-use Rattle.sc_image.proofs.Running.{run_traps, run_goes, run_more}
 use Rattle.sc_machine.specs.Calls.{calls}
 
 -- a run that isn't stopped has room for another event

@@ -1,26 +1,7 @@
 -- The memory at the start: zeros, and then the globals.
-use Rattle.std.proofs.Common.{◌≡◌, ℕ, zero, suc, ◌+◌, ◌-◌, ◌^◌, ◌<◌, ◌≤◌, Bool, true, false, ◌&&◌, nat_le, nat_lt, if◌then◌else◌, List, [], ◌∷◌, ◌++◌, length, take, get_or, All, Option, Some, None, refl, sym, ◌∙◌, ap, ap₂, subst, arith, ⊎_elim}
-use Rattle.std.specs.Prelude.{IsSome, slice_index}
-use Rattle.std.specs.List.{slice_get}
-use Rattle.std.specs.Option.{option_and_then}
-use Rattle.std.proofs.lemmas.Bool.{cases_lt, lt-ltb}
-use Rattle.std.proofs.lemmas.List.{get_or_past}
-use Rattle.std.proofs.lemmas.List.Elements.{All-nil, All-cons, All-head, All-tail}
-use Rattle.std.proofs.lemmas.Option.{slice_get-get_or}
-use Rattle.sc_store.specs.declared.region.Region.{Region}
-use Rattle.sc_store.specs.Region.{IsIn, is_in, AreApart, AreBelow}
-use Rattle.sc_store.specs.Memory.{Memory, HasBytes, zeros, byte_of, stored}
-use Rattle.sc_store.specs.Flat.{written}
+use Rattle.sc_machine.proofs.Common.{All, All-cons, All-head, All-nil, All-tail, AreApart, AreBelow, Bool, CompPart, Filled, HasBytes, HasFewGlobals, ImageParts, IsIn, IsSome, IsWellFormed, List, Memory, None, Option, Region, Some, [], all_data, ap, ap₂, arith, byte_at, byte_of, cases_lt, comp_of_data, data_start, data_with, false, filled_with, get_or, get_or_past, if◌then◌else◌, is_in, length, lt-ltb, most_globals, nat_le, nat_lt, option_and_then, refl, regions_of, slice_get, slice_get-get_or, slice_index, stack_size, stack_top, stack_tops, start_is, start_memory, stored, stretch, subst, suc, sym, take, true, written, written-stored, zero, zeros, ℕ, ⊎_elim, ◌&&◌, ◌++◌, ◌+◌, ◌-◌, ◌<◌, ◌^◌, ◌∙◌, ◌∷◌, ◌≡◌, ◌≤◌}
 use Rattle.sc_store.proofs.Regions.{in_true, in_false, in_cases}
 use Rattle.sc_store.proofs.Parts.{written-in, written-apart}
-use Rattle.sc_store.proofs.Access.{written-stored}
-use Rattle.sc_image.specs.declared.parts.ImageParts.{ImageParts}
-use Rattle.sc_image.specs.declared.parts.CompPart.{CompPart}
-use Rattle.sc_image.specs.WellFormed.{IsWellFormed}
-use Rattle.sc_image.specs.Layout.{stretch, most_globals, stack_size, data_start, stack_top, comp_of_data, Filled, data_with}
-use Rattle.sc_image.specs.State.{byte_at, start_memory, stack_tops}
-use Rattle.sc_image.proofs.AtStart.{start_is}
-use Rattle.sc_machine.specs.Regions.{HasFewGlobals, all_data, regions_of, filled_with}
 
 -- One byte.
 

@@ -1,13 +1,6 @@
 -- The code of an image.
-use Rattle.std.proofs.Common.{◌≡◌, ◌≢◌, ℕ, ◌+◌, ◌-◌, ◌*◌, ◌/◌, ◌%◌, ◌<◌, ◌≤◌, List, length, Option, None, Some, slice_get, refl, sym, arith}
-use Rattle.std.specs.Prelude.{OnSome}
-use Rattle.std.proofs.lemmas.Option.{slice_get_within}
-use Rattle.std.proofs.lemmas.Bool.{eq-eqb, ne_eqb, le-leb, lt-leb}
-use Rattle.sc_image.specs.declared.parts.ImageParts.{ImageParts}
-use Rattle.sc_image.specs.declared.parts.CompPart.{CompPart}
-use Rattle.sc_image.specs.Layout.{stretch, most_globals, code_start, code_of, word_at}
-use Rattle.sc_image.specs.WellFormed.{IsWellFormed}
-use Rattle.sc_machine.specs.Place.{IsPlace, IsLookedUp}
+use Rattle.sc_machine.proofs.Common.{CompPart, ImageParts, IsLookedUp, IsPlace, IsWellFormed, List, None, OnSome, Option, Some, arith, code_of, code_start, eq-eqb, le-leb, length, lt-leb, most_globals, ne_eqb, refl, slice_get_within, stretch, sym, word_at, ℕ, ◌%◌, ◌*◌, ◌+◌, ◌-◌, ◌/◌, ◌<◌, ◌≡◌, ◌≢◌, ◌≤◌}
+use Rattle.std.proofs.Common.{slice_get}
 
 -- where an address has no whole word, and where it may have one
 pub misaligned : (image : ImageParts) (c address : ℕ) → address % 4 ≢ 0 → word_at image c address ≡ None

@@ -1,9 +1,7 @@
 -- A run that is made by several calls.
+use Rattle.sc_machine.specs.Common.{ImageParts, Run, continued, run, start}
 use Rattle.std.specs.Prelude.{ℕ, List, fold}
 use Rattle.sc_base.specs.declared.stop.Stop.TheVariants.{StepsOut}
-use Rattle.sc_image.specs.declared.parts.ImageParts.{ImageParts}
-use Rattle.sc_image.specs.State.{start}
-use Rattle.sc_image.specs.Machine.{Run, run, continued}
 
 -- the run of a machine that was only loaded
 abbrev pub loaded : ImageParts → Run

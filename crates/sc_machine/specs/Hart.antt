@@ -1,10 +1,7 @@
 -- What instructions change, as the state that it stands for.
+use Rattle.sc_machine.specs.Common.{Goes, ImageParts, Memory, Outcome, State, Traps, start_memory, written}
 use Rattle.std.specs.Prelude.{◌≡◌, ◌+◌, ◌<◌, ◌≤◌, ℕ, All, length, is_some, vec_capacity, Result, Ok, Err, OnErr}
 use Rattle.sc_base.specs.declared.stop.TrapReason.{TrapReason}
-use Rattle.sc_store.specs.Memory.{Memory}
-use Rattle.sc_image.specs.declared.parts.ImageParts.{ImageParts}
-use Rattle.sc_image.specs.State.{State, written, start_memory}
-use Rattle.sc_image.specs.Step.{Outcome, Goes, Traps}
 use Rattle.sc_machine.specs.declared.hart.Core.{Core}
 use Rattle.sc_machine.specs.declared.hart.Hart.{Hart}
 use Rattle.sc_machine.specs.Place.{IsPlace, Site}

@@ -1,3 +1,5 @@
+pub mod Common
+pub mod Prelude
 pub mod Place
 pub mod Progress
 pub mod Hart

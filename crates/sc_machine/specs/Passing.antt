@@ -1,10 +1,6 @@
 -- What is called, and what passes in the registers.
+use Rattle.sc_machine.specs.Common.{ImageParts, cleared_for_call, cleared_for_return, comp_of_code, export_at, gate, may_call, params_of, ra, sp, written}
 use Rattle.std.specs.Prelude.{◌≡◌, ◌<◌, ◌≤◌, ℕ, suc, Bool, true, List, [], ◌∷◌, All, length, Some}
-use Rattle.sc_image.specs.declared.parts.ImageParts.{ImageParts}
-use Rattle.sc_image.specs.Layout.{gate, comp_of_code}
-use Rattle.sc_image.specs.Calls.{may_call, export_at, params_of}
-use Rattle.sc_image.specs.State.{ra, sp, written}
-use Rattle.sc_image.specs.Cross.{cleared_for_call, cleared_for_return}
 use Rattle.sc_machine.specs.declared.calling.Callee.{Callee}
 use Rattle.sc_machine.specs.declared.hart.Core.{Core}
 

@@ -1,8 +1,6 @@
 -- A compartment of an image, and what is looked up of it.
+use Rattle.sc_machine.specs.Common.{ImageParts, IsWellFormed, code_of, code_start, data_start, globals_of, most_globals, stack_size, stretch}
 use Rattle.std.specs.Prelude.{◌≡◌, ◌+◌, ◌*◌, ◌<◌, ◌≤◌, ℕ, List, length}
-use Rattle.sc_image.specs.declared.parts.ImageParts.{ImageParts}
-use Rattle.sc_image.specs.Layout.{stretch, most_globals, stack_size, code_start, data_start, code_of, globals_of}
-use Rattle.sc_image.specs.WellFormed.{IsWellFormed}
 
 -- the compartment of that number of an image
 pub record IsPlace (image : ImageParts) (c : ℕ) : Type 0 where

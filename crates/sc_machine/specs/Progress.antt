@@ -1,11 +1,8 @@
 -- A loaded machine, as contracts see it.
+use Rattle.sc_machine.specs.Common.{Crossing, ImageParts, Memory, Run, State}
 use Rattle.std.specs.Prelude.{ℕ, List}
 use Rattle.sc_event.specs.declared.event.Event.{Event}
 use Rattle.sc_base.specs.declared.stop.Stop.{Stop}
-use Rattle.sc_store.specs.Memory.{Memory}
-use Rattle.sc_image.specs.declared.parts.ImageParts.{ImageParts}
-use Rattle.sc_image.specs.State.{State, Crossing}
-use Rattle.sc_image.specs.Machine.{Run}
 
 -- what a machine was loaded with, and how far its run is
 pub record Progress (S : Type 0) : Type 0 where

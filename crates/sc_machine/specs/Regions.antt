@@ -1,11 +1,10 @@
 -- The memory of a start, as the machine makes it: zeros in each region of data, and then the bytes that some begin
 -- with.
+use Rattle.sc_machine.specs.Common.{Filled, Memory, data_with, most_globals}
+use Rattle.sc_store.specs.Prelude.{written}
 use Rattle.std.specs.Prelude.{ℕ, suc, ◌≤◌, List, [], ◌∷◌, ◌++◌, length, map}
 use Rattle.sc_store.specs.declared.region.Region.{Region}
-use Rattle.sc_store.specs.Memory.{Memory}
-use Rattle.sc_store.specs.Flat.{written}
 use Rattle.sc_image.specs.declared.parts.CompPart.{CompPart}
-use Rattle.sc_image.specs.Layout.{most_globals, Filled, data_with}
 
 abbrev pub HasFewGlobals : CompPart → Type 0
 HasFewGlobals comp = length comp.globals ≤ most_globals

@@ -1,12 +1,8 @@
 //! The instructions that only compute (RISC-V Unprivileged ISA, chapters "RV32I Base Integer
 //! Instruction Set" and "M Extension").
 
+ghost use Rattle.sc_machine.specs.Prelude.{Goes, ImageParts, Instr, State, at, compares, computed, execute, on_registers, shift_on_registers};
 ghost use Rattle.std.specs.Prelude.{◌≡◌, ◌+◌, ◌^◌, ◌<◌, ℕ, ℤ, List};
-ghost use Rattle.rv_code.specs.declared.instr.Instr.{Instr};
-ghost use Rattle.sc_image.specs.declared.parts.ImageParts.{ImageParts};
-ghost use Rattle.sc_image.specs.State.{State};
-ghost use Rattle.sc_image.specs.Step.{Goes, computed, on_registers, shift_on_registers, compares, execute};
-ghost use Rattle.sc_machine.specs.Hart.{at};
 
 use crate::hart::{Core, word_of};
 use rv_code::{

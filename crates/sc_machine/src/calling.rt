@@ -1,15 +1,7 @@
 //! Calls of other compartments.
 
+ghost use Rattle.sc_machine.specs.Prelude.{IsCallee, IsReady, IsWellFormed, LeavesSound, Memory, State, StaysSound, Traps, arguments, called, calls, comp_of_code, entered, export_at, export_called, exports_of, may_call, outcome_of, params_of, state_in};
 ghost use Rattle.std.specs.Prelude.{◌≡◌, ◌==◌, position, ◌+◌, ◌^◌, ◌<◌, ◌≤◌, Some, IfOk, IfErr, OnErr};
-ghost use Rattle.sc_store.specs.Memory.{Memory};
-ghost use Rattle.sc_image.specs.Calls.{exports_of, may_call, export_at, params_of};
-ghost use Rattle.sc_image.specs.Layout.{comp_of_code};
-ghost use Rattle.sc_image.specs.State.{State};
-ghost use Rattle.sc_image.specs.Cross.{arguments, called};
-ghost use Rattle.sc_image.specs.Step.{Traps, export_called, calls};
-ghost use Rattle.sc_image.specs.WellFormed.{IsWellFormed};
-ghost use Rattle.sc_machine.specs.Hart.{state_in, outcome_of, IsReady, StaysSound, LeavesSound};
-ghost use Rattle.sc_machine.specs.Passing.{IsCallee, entered};
 
 use crate::hart::{Core, Hart};
 use crate::here::Here;

@@ -1,12 +1,7 @@
 //! Calls of the environment.
 
+ghost use Rattle.sc_machine.specs.Prelude.{Goes, IsReady, LeavesSound, Memory, StaysSound, environment_call, input, input_at, may_input, may_output, next, outcome_of, output, state_in, word_of};
 ghost use Rattle.std.specs.Prelude.{◌≡◌, ◌+◌, ◌^◌, ◌<◌, map, OnErr};
-ghost use Rattle.sc_word.specs.Word.{word_of};
-ghost use Rattle.sc_store.specs.Memory.{Memory};
-ghost use Rattle.sc_image.specs.Calls.{may_input, may_output};
-ghost use Rattle.sc_image.specs.Cross.{input_at, input, output};
-ghost use Rattle.sc_image.specs.Step.{Goes, next, environment_call};
-ghost use Rattle.sc_machine.specs.Hart.{state_in, outcome_of, IsReady, StaysSound, LeavesSound};
 
 use crate::hart::Hart;
 use crate::here::Here;

@@ -1,9 +1,7 @@
 //! One step, by the instruction at the pc. A step that can't be made changes nothing.
 
+ghost use Rattle.sc_machine.specs.Prelude.{IsBacked, IsReady, LeavesSound, execute, outcome_of, state_in, step, word_of};
 ghost use Rattle.std.specs.Prelude.{◌≡◌, ◌+◌, ◌^◌, ◌<◌, map, OnErr};
-ghost use Rattle.sc_word.specs.Word.{word_of};
-ghost use Rattle.sc_image.specs.Step.{execute, step};
-ghost use Rattle.sc_machine.specs.Hart.{state_in, outcome_of, IsBacked, IsReady, LeavesSound};
 
 use crate::arithmetic::{op, op_imm, shift, upper};
 use crate::environment::environment_call;

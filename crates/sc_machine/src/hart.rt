@@ -1,11 +1,7 @@
 //! The state that instructions change, apart from memory.
 
+ghost use Rattle.sc_machine.specs.Prelude.{IsReg, add_word, advanced, linked, word_of, written, written_at_next};
 ghost use Rattle.std.specs.Prelude.{◌≡◌, ◌+◌, ◌^◌, ◌<◌, ◌≤◌, ◌++◌, ◌∷◌, [], length, slice_index, vec_capacity};
-ghost use Rattle.rv_code.specs.Ranges.{IsReg};
-ghost use Rattle.sc_word.specs.Word.{word_of};
-ghost use Rattle.sc_word.specs.Machine.{add_word};
-ghost use Rattle.sc_image.specs.State.{written};
-ghost use Rattle.sc_machine.specs.Hart.{written_at_next, advanced, linked};
 
 use rv_code::{Immediate, Reg};
 use sc_event::{CompId, Event};

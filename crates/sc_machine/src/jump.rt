@@ -1,15 +1,8 @@
 //! Jumps and branches, and what lies beyond the own code.
 
+ghost use Rattle.sc_machine.specs.Prelude.{Instr, IsReady, IsReg, LeavesSound, Memory, State, Traps, add_word, at, calls, comp_in, execute, jump, outcome_of, state_in, word_of};
 ghost use Rattle.std.specs.Prelude.{◌≡◌, ◌+◌, ◌^◌, ◌<◌, ℕ, List, OnErr};
-ghost use Rattle.rv_code.specs.declared.instr.Instr.{Instr};
-ghost use Rattle.rv_code.specs.Ranges.{IsReg};
-ghost use Rattle.sc_store.specs.Memory.{Memory};
-ghost use Rattle.sc_word.specs.Word.{word_of};
-ghost use Rattle.sc_word.specs.Machine.{add_word};
 ghost use Rattle.sc_base.specs.declared.stop.TrapReason.TheVariants.{BadJump};
-ghost use Rattle.sc_image.specs.State.{State};
-ghost use Rattle.sc_image.specs.Step.{Traps, jump, calls, execute};
-ghost use Rattle.sc_machine.specs.Hart.{at, comp_in, state_in, outcome_of, IsReady, LeavesSound};
 
 use crate::arithmetic::compares;
 use crate::calling::call_out;

@@ -1,8 +1,7 @@
 //! What holds of runs as a whole.
 
+ghost use Rattle.sc_machine.specs.Prelude.{ImageParts, machine};
 ghost use Rattle.std.specs.Prelude.{◌≡◌, ℕ, ◌+◌, ℤ, List, ◌∷◌, sum};
-ghost use Rattle.sc_image.specs.declared.parts.ImageParts.{ImageParts};
-ghost use Rattle.sc_image.specs.Machine.{machine};
 ghost use Rattle.sc_machine.specs.Calls.{calls};
 
 /// However a run is cut into calls, it is the run of all their steps, up to its first stop other

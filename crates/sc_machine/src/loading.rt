@@ -1,10 +1,8 @@
 //! The state that a run starts in.
 
+ghost use Rattle.sc_machine.specs.Prelude.{HasBytes, HasRoom, IsSound, stack_tops, start, start_memory, state_in, zeros};
+ghost use Rattle.sc_store.specs.Prelude.{written};
 ghost use Rattle.std.specs.Prelude.{◌≡◌, ◌+◌, ◌<◌, ◌^◌, ◌≤◌, length, vec_capacity, All, IfOk};
-ghost use Rattle.sc_store.specs.Memory.{HasBytes, zeros};
-ghost use Rattle.sc_store.specs.Flat.{written};
-ghost use Rattle.sc_image.specs.State.{start, start_memory, stack_tops};
-ghost use Rattle.sc_machine.specs.Hart.{state_in, IsSound, HasRoom};
 ghost use Rattle.sc_machine.specs.Regions.{HasFewGlobals, all_data, regions_of, filled_with};
 
 use crate::hart::{Core, Hart};

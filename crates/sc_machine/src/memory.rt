@@ -1,10 +1,7 @@
 //! Loads and stores, through whatever keeps the bytes.
 
+ghost use Rattle.sc_machine.specs.Prelude.{HasBytes, IsBacked, State, active_in, at, extended, load, load_of, load_size, outcome_of, refused, start_memory, store, store_size, stored};
 ghost use Rattle.std.specs.Prelude.{◌≡◌, ◌+◌, ◌^◌, ◌<◌, ◌≤◌, ℕ, length, OnErr, OnSome, IfNone, IfSome};
-ghost use Rattle.sc_store.specs.Memory.{HasBytes, load_of, stored};
-ghost use Rattle.sc_image.specs.State.{State, start_memory};
-ghost use Rattle.sc_image.specs.Step.{load_size, store_size, extended, refused, load, store};
-ghost use Rattle.sc_machine.specs.Hart.{at, active_in, outcome_of, IsBacked};
 
 use crate::hart::Core;
 use crate::here::Here;

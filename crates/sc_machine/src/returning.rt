@@ -1,12 +1,7 @@
 //! Returns through the gate.
 
+ghost use Rattle.sc_machine.specs.Prelude.{IsReady, Memory, StaysSound, a0, has_result, resumed, returned, state_in};
 ghost use Rattle.std.specs.Prelude.{◌≡◌, Some, None, if◌then◌else◌, slice_index};
-ghost use Rattle.sc_store.specs.Memory.{Memory};
-ghost use Rattle.sc_image.specs.Calls.{has_result};
-ghost use Rattle.sc_image.specs.State.{a0};
-ghost use Rattle.sc_image.specs.Cross.{returned};
-ghost use Rattle.sc_machine.specs.Hart.{state_in, IsReady, StaysSound};
-ghost use Rattle.sc_machine.specs.Passing.{resumed};
 
 use crate::hart::{Core, Hart};
 use crate::here::Here;

@@ -1,9 +1,7 @@
 //! A run: steps until something stops it.
 
+ghost use Rattle.sc_machine.specs.Prelude.{CanRun, Run, is_ended, run, state_in, stopped, word_of};
 ghost use Rattle.std.specs.Prelude.{◌≡◌, map};
-ghost use Rattle.sc_word.specs.Word.{word_of};
-ghost use Rattle.sc_image.specs.Machine.{Run, is_ended, stopped, run};
-ghost use Rattle.sc_machine.specs.Hart.{state_in, CanRun};
 
 use crate::execute::step;
 use crate::hart::Hart;

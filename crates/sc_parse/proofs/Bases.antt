@@ -1,29 +1,10 @@
 -- Types and declarators are read exactly as they are spelled.
-use Rattle.std.proofs.Common.{◌≡◌, ℕ, suc, ◌+◌, Bool, true, false, cond, List, [], ◌∷◌, ◌++◌, drop, Option, Some, None, refl, sym, ap, ◌∙◌, subst, append_assoc, one-add, arith}
-use Rattle.std.proofs.lemmas.Option.{none-some}
-use Rattle.std.specs.List.{prefix_len}
-use Rattle.std.specs.Option.{option_map_or}
-use Rattle.sc_ast.specs.Numbers.{Number, array_length}
-use Rattle.sc_ast.specs.declared.types.BaseTree.{BaseTree}
+use Rattle.sc_parse.proofs.Common.{BaseTree, Bool, Declarator, IsIdent, IsInteger, IsKeyword, IsMark, Keyword, Lexeme, List, Mark, None, Number, Option, Some, SpellsBase, SpellsDeclarator, SpellsStars, SpellsTypeName, Symbol, TypeName, [], ap, append_assoc, arith, array, array_length, base_at, base_by, begins_with, behind, behind_mark, bound, bracketed_length, cond, declarator, declarator_at, drop, elements_at, false, int, integer_by, is_int, is_mark, keyword_at, keyword_by, length_at, name_ahead, name_at, none-some, one-add, option_map_or, past_int, prefix_len, refl, same_some, signed, signed_int, star, star_count, struct, subst, suc, sym, true, type_name, type_name_at, type_of, unsigned, unsigned_int, ℕ, ◌++◌, ◌+◌, ◌>>=◌, ◌∙◌, ◌∷◌, ◌≡◌}
 use Rattle.sc_ast.specs.declared.types.BaseTree.TheVariants as base
-use Rattle.sc_ast.specs.declared.types.TypeName.{TypeName}
-use Rattle.sc_expr.specs.declared.mark.Keyword.{Keyword}
 use Rattle.sc_expr.specs.declared.mark.Keyword.TheVariants as word
-use Rattle.sc_expr.specs.declared.mark.Mark.{Mark}
 use Rattle.sc_expr.specs.declared.mark.Mark.TheVariants as mark
-use Rattle.sc_expr.specs.declared.lexeme.Symbol.{Symbol}
 use Rattle.sc_expr.specs.declared.lexeme.Symbol.TheVariants as symbol
-use Rattle.sc_expr.specs.declared.lexeme.Lexeme.{Lexeme}
-use Rattle.sc_expr.specs.Fronts.{is_mark, behind}
-use Rattle.sc_expr.specs.Grammar.{IsMark, IsIdent}
-use Rattle.sc_expr.specs.Reading.{◌>>=◌, name_at}
-use Rattle.sc_expr.proofs.Options.{same_some, bound}
-use Rattle.sc_expr.proofs.Ahead.{behind_mark, name_ahead}
-use Rattle.sc_parse.specs.declared.types.Declarator.{Declarator}
-use Rattle.sc_parse.specs.Lists.{IsKeyword, IsInteger}
-use Rattle.sc_parse.specs.Types.{SpellsBase, int, signed, signed_int, unsigned, unsigned_int, struct, SpellsStars, none, star, SpellsTypeName, type_name, SpellsDeclarator, plain, array}
-use Rattle.sc_parse.specs.Fronts.{keyword_by, keyword_at, is_int, past_int, integer_by, begins_with, star_count}
-use Rattle.sc_parse.specs.Readers.{base_by, base_at, type_name_at, elements_at, bracketed_length, length_at, declarator, declarator_at, type_of}
+use Rattle.sc_parse.specs.Types.{none, plain}
 use Rattle.sc_parse.proofs.Exact.{Taken, Exact, Any, took, glued}
 
 pub keyword_is : (s : Symbol) (word : Keyword) → keyword_by s ≡ Some word →

@@ -1,22 +1,10 @@
 -- What declarations begin with.
-use Rattle.std.proofs.Common.{◌≡◌, ℕ, ◌<◌, true, false, List, [], ◌∷◌, ◌++◌, drop, length, length-append, Option, None, sym, ap, ◌∙◌, subst, append_assoc, arith}
-use Rattle.sc_ast.specs.declared.types.BaseTree.{BaseTree}
-use Rattle.sc_ast.specs.declared.types.TypeTree.{TypeTree}
-use Rattle.sc_ast.specs.declared.types.TypeName.{TypeName}
-use Rattle.sc_ast.specs.declared.section.InitTree.{InitTree}
-use Rattle.sc_ast.specs.declared.section.StructTree.{StructTree}
-use Rattle.sc_ast.specs.declared.section.GlobalTree.{GlobalTree}
-use Rattle.sc_ast.specs.declared.section.HeadTree.{HeadTree}
+use Rattle.sc_parse.proofs.Common.{BaseTree, Declares, GlobalTree, HeadTree, InitTree, IsGlobal, Lexeme, List, None, Option, Separated, SpellsBase, SpellsDeclarator, SpellsHead, SpellsInit, SpellsResult, SpellsStars, SpellsStruct, SpellsTypeName, StructTree, TypeName, TypeTree, [], a_result, absent, ap, append_assoc, arith, array, begins_call, begins_head, begins_struct, begins_with, declares, drop, false, first_line, global, head, int, length, length-append, line_at, many, many_comma, more, no_result, past_base, past_stars, signed, signed_int, star, subst, sym, true, type_name, unsigned, unsigned_int, ℕ, ◌++◌, ◌<◌, ◌∙◌, ◌∷◌, ◌≡◌}
 use Rattle.sc_expr.specs.declared.mark.Mark.TheVariants as mark
-use Rattle.sc_expr.specs.declared.lexeme.Lexeme.{Lexeme}
-use Rattle.sc_parse.specs.Lists.{first_line, Separated, more}
 use Rattle.sc_parse.specs.Lists as lists
 use Rattle.sc_parse.specs.Types as types
-use Rattle.sc_parse.specs.Types.{SpellsBase, int, signed, signed_int, unsigned, unsigned_int, SpellsStars, star, SpellsTypeName, type_name, SpellsDeclarator, plain, array}
-use Rattle.sc_parse.specs.Declarations.{Declares, declares, SpellsStruct, struct, SpellsInit, absent, one, many, many_comma, IsGlobal, global, SpellsResult, no_result, a_result, SpellsHead, head}
-use Rattle.sc_parse.specs.Fronts.{begins_with, begins_call}
-use Rattle.sc_parse.specs.Readers.{begins_struct, begins_head, past_base, past_stars}
-use Rattle.sc_parse.specs.SectionReaders.{line_at}
+use Rattle.sc_parse.specs.Types.{plain}
+use Rattle.sc_parse.specs.Declarations.{struct, one}
 use Rattle.sc_parse.proofs.Bases.{NoInt, stars_no_int, stars_count}
 use Rattle.sc_parse.proofs.Declared.{declarator_no_int}
 use Rattle.sc_parse.proofs.Prototypes.{base_no_void}

@@ -1,37 +1,9 @@
 -- Locals and functions are read exactly as they are spelled.
-use Rattle.std.proofs.Common.{◌≡◌, ℕ, ◌+◌, ◌≤◌, max, true, false, not, List, [], ◌∷◌, ◌++◌, map, length, Option, Some, None, refl, sym, ap, ◌∙◌, subst, append_assoc, arith}
-use Rattle.std.proofs.lemmas.Option.{none-some}
-use Rattle.std.specs.Option.{option_map_or}
-use Rattle.sc_ast.specs.Height.{init_height, local_height, locals_height, stmts_height}
-use Rattle.sc_ast.specs.Heads.{param_of, head_of}
-use Rattle.sc_ast.specs.declared.types.BaseTree.{BaseTree}
-use Rattle.sc_ast.specs.declared.expr.ExprTree.{ExprTree}
-use Rattle.sc_ast.specs.declared.stmt.StmtTree.{StmtTree}
-use Rattle.sc_ast.specs.declared.section.ParamTree.{ParamTree}
-use Rattle.sc_ast.specs.declared.section.HeadTree.{HeadTree}
-use Rattle.sc_ast.specs.declared.section.FunctionParam.{FunctionParam}
-use Rattle.sc_ast.specs.declared.section.FunctionHead.{FunctionHead}
-use Rattle.sc_ast.specs.declared.section.LocalTree.{LocalTree}
-use Rattle.sc_ast.specs.declared.section.FunctionTree.{FunctionTree}
+use Rattle.sc_parse.proofs.Common.{BaseTree, Declares, ExprTree, FunctionHead, FunctionParam, FunctionTree, Grouped, HeadTree, IsLocal, IsMark, Lexeme, List, LocalTree, None, Option, ParamTree, Separated, Some, SpellsBase, SpellsIf, SpellsStmtKind, SpellsStmts, SpellsValue, StmtKind, StmtTree, [], a_value, alone, ap, append_assoc, arith, behind, behind_mark, body_behind, bound, choice, declaration_at, declarator_at, declares, empty, expr_at, false, first_line, for_loop, function_head, function_param, function_tree, grouped, head_of, init_height, int, is_base, length, local, local_at, local_height, local_tree, locals_at, locals_behind, locals_height, map, max, more, named_head, named_params, no_base, no_value, none-some, not, option_map_or, otherwise, otherwise_if, param_of, plain, refl, return_call, return_nothing, return_value, same_some, signed, signed_int, stmt_at, stmts_at, stmts_height, struct, subst, sym, true, unsigned, unsigned_int, value_at, while_loop, ℕ, ◌++◌, ◌+◌, ◌>>=◌, ◌∙◌, ◌∷◌, ◌≡◌, ◌≤◌}
 use Rattle.sc_expr.specs.declared.mark.Mark.TheVariants as mark
-use Rattle.sc_expr.specs.declared.lexeme.Lexeme.{Lexeme}
-use Rattle.sc_expr.specs.Fronts.{behind}
-use Rattle.sc_expr.specs.Grammar.{IsMark}
-use Rattle.sc_expr.specs.Reading.{◌>>=◌}
-use Rattle.sc_expr.proofs.Options.{same_some, bound}
-use Rattle.sc_expr.proofs.Ahead.{behind_mark}
-use Rattle.sc_parse.specs.Lists.{first_line, Separated, more, Grouped}
 use Rattle.sc_parse.specs.Lists as lists
-use Rattle.sc_parse.specs.Types.{SpellsBase, int, signed, signed_int, unsigned, unsigned_int, struct}
-use Rattle.sc_parse.specs.Declarations.{Declares, declares, SpellsValue, no_value, a_value, IsLocal, local}
-use Rattle.sc_ast.specs.declared.stmt.StmtKind.{StmtKind}
 use Rattle.sc_parse.specs.Statements as statements
-use Rattle.sc_parse.specs.Statements.{SpellsStmtKind, empty, plain, return_nothing, return_value, return_call, choice, while_loop, for_loop, SpellsIf, alone, otherwise, otherwise_if, SpellsStmts}
 use Rattle.sc_parse.proofs.Parts.{kind_no_word}
-use Rattle.sc_parse.specs.Fronts.{is_base}
-use Rattle.sc_parse.specs.Readers.{grouped, declaration_at, declarator_at}
-use Rattle.sc_parse.specs.StmtReaders.{expr_at, stmt_at, stmts_at}
-use Rattle.sc_parse.specs.SectionReaders.{value_at, local_tree, local_at, locals_behind, no_base, locals_at, named_params, function_param, function_head, named_head, function_tree, body_behind}
 use Rattle.sc_parse.proofs.Exact.{Taken, Exact, ExactAdder, took, glued, grouped_exact}
 use Rattle.sc_parse.proofs.Bases.{NoInt, NoBracket, declarator_sound}
 use Rattle.sc_parse.proofs.Declared.{declaration_exact, declarator_complete, declarator_no_int}

@@ -1,21 +1,7 @@
 -- Declarations of variables and structs are read exactly as they are spelled.
-use Rattle.std.proofs.Common.{◌≡◌, ℕ, List, [], ◌∷◌, ◌++◌, Option, Some, None, refl, sym, ap, ◌∙◌, subst, append_assoc}
-use Rattle.sc_ast.specs.declared.types.BaseTree.{BaseTree}
-use Rattle.sc_ast.specs.declared.types.TypeTree.{TypeTree}
-use Rattle.sc_ast.specs.declared.section.MemberTree.{MemberTree}
+use Rattle.sc_parse.proofs.Common.{BaseTree, Declarator, Declares, IsMark, IsMember, Lexeme, List, MemberTree, None, Option, Reader, Separated, Some, SpellsBase, SpellsDeclarator, TypeTree, [], adds, all_separated, ap, append_assoc, array, base_at, behind, behind_mark, bound, declaration_at, declarator, declarator_at, declares, first_line, int, member_at, members_behind, more, one, refl, same_some, signed, signed_int, struct, subst, sym, type_of, unsigned, unsigned_int, ℕ, ◌++◌, ◌>>=◌, ◌∙◌, ◌∷◌, ◌≡◌}
 use Rattle.sc_expr.specs.declared.mark.Mark.TheVariants as mark
-use Rattle.sc_expr.specs.declared.lexeme.Lexeme.{Lexeme}
-use Rattle.sc_expr.specs.Fronts.{behind}
-use Rattle.sc_expr.specs.Grammar.{IsMark}
-use Rattle.sc_expr.specs.Reading.{◌>>=◌}
-use Rattle.sc_expr.proofs.Options.{same_some, bound}
-use Rattle.sc_expr.proofs.Ahead.{behind_mark}
-use Rattle.sc_parse.specs.declared.types.Declarator.{Declarator}
-use Rattle.sc_parse.specs.Lists.{first_line, Separated, one, more}
-use Rattle.sc_parse.specs.Types.{SpellsBase, int, signed, signed_int, unsigned, unsigned_int, struct, SpellsDeclarator, plain, array}
-use Rattle.sc_parse.specs.Declarations.{Declares, declares, IsMember}
-use Rattle.sc_parse.specs.Fronts.{Reader}
-use Rattle.sc_parse.specs.Readers.{adds, all_separated, base_at, declarator, declarator_at, type_of, member_at, members_behind, declaration_at}
+use Rattle.sc_parse.specs.Types.{plain}
 use Rattle.sc_parse.proofs.Exact.{Taken, Added, Exact, ExactAdder, Any, took, glued, separated_exact}
 use Rattle.sc_parse.proofs.Bases.{NoInt, NoBracket, base_exact, no_length, in_brackets, declarator_sound, declarator_reads, stars_no_int}
 

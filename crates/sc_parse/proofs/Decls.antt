@@ -1,23 +1,8 @@
 -- Declarations in a section are read exactly as they are spelled.
-use Rattle.std.proofs.Common.{◌≡◌, ℕ, ◌+◌, ◌≤◌, ◌<◌, max, true, false, List, [], ◌∷◌, ◌++◌, map, length, length-append, Some, None, refl, sym, ap, ◌∙◌, subst, append_assoc, arith}
-use Rattle.sc_ast.specs.Height.{decls_height}
-use Rattle.sc_ast.specs.Heads.{head_of}
-use Rattle.sc_ast.specs.declared.types.BaseTree.{BaseTree}
-use Rattle.sc_ast.specs.declared.section.HeadTree.{HeadTree}
-use Rattle.sc_ast.specs.declared.section.FunctionHead.{FunctionHead}
-use Rattle.sc_ast.specs.declared.section.FunctionTree.{FunctionTree}
-use Rattle.sc_ast.specs.declared.section.GlobalTree.{GlobalTree}
-use Rattle.sc_ast.specs.declared.section.Decl.{Decl}
+use Rattle.sc_parse.proofs.Common.{BaseTree, Decl, Declares, FunctionHead, FunctionTree, GlobalTree, Grouped, HeadTree, IsGlobal, IsMark, Lexeme, List, None, Separated, Some, SpellsDecl, SpellsFunction, SpellsHead, [], a_function, a_struct, adds, ap, append_assoc, arith, behind, decl_at, declares, decls_height, false, function, function_behind, globals, grouped, head_of, headed_at, is_empty, length, length-append, map, max, more, prototype, refl, struct_decl_at, subst, sym, true, ℕ, ◌++◌, ◌+◌, ◌<◌, ◌∙◌, ◌∷◌, ◌≡◌, ◌≤◌}
 use Rattle.sc_ast.specs.declared.section.Decl.TheVariants as decl
 use Rattle.sc_expr.specs.declared.mark.Mark.TheVariants as mark
-use Rattle.sc_expr.specs.declared.lexeme.Lexeme.{Lexeme}
-use Rattle.sc_expr.specs.Fronts.{behind}
-use Rattle.sc_expr.specs.Grammar.{IsMark}
-use Rattle.sc_parse.specs.Lists.{Separated, more, Grouped}
 use Rattle.sc_parse.specs.Lists as lists
-use Rattle.sc_parse.specs.Declarations.{Declares, declares, IsGlobal, SpellsHead, SpellsFunction, function, SpellsDecl, a_struct, globals, prototype, a_function}
-use Rattle.sc_parse.specs.Readers.{adds, grouped}
-use Rattle.sc_parse.specs.SectionReaders.{function_behind, headed_at, struct_decl_at, decl_at, is_empty}
 use Rattle.sc_parse.proofs.Exact.{ExactAdder, grouped_exact}
 use Rattle.sc_parse.proofs.Expressions.{Few, few_left, few_right}
 use Rattle.sc_parse.proofs.Structures.{declares_some, struct_complete}

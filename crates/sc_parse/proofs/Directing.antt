@@ -1,20 +1,9 @@
 -- Directives are read exactly as they are spelled.
-use Rattle.std.proofs.Common.{◌≡◌, ℕ, zero, suc, ◌<◌, List, [], ◌∷◌, ◌++◌, drop, length, Option, Some, None, refl, sym, ap, ◌∙◌, subst, append_assoc, arith}
-use Rattle.std.proofs.lemmas.Option.{none-some}
-use Rattle.std.proofs.lemmas.List.{append-nil}
-use Rattle.std.specs.Option.{option_map_or}
-use Rattle.sc_ast.specs.declared.section.ExportLine.{ExportLine}
-use Rattle.sc_ast.specs.declared.section.ImportLine.{ImportLine}
-use Rattle.sc_expr.specs.declared.lexeme.Symbol.{Symbol}
+use Rattle.sc_parse.proofs.Common.{Directives, ExportLine, ImportLine, Lexeme, Line, List, None, Option, Some, SpellsDirectives, Symbol, [], ap, append-nil, append_assoc, arith, directives, drop, export, export_line, import_line, length, line_at, line_by, lines_at, none-some, option_map_or, refl, same_some, subst, suc, sym, with_line, zero, ℕ, ◌++◌, ◌<◌, ◌∙◌, ◌∷◌, ◌≡◌}
 use Rattle.sc_expr.specs.declared.lexeme.Symbol.TheVariants as symbol
-use Rattle.sc_expr.specs.declared.lexeme.Lexeme.{Lexeme}
-use Rattle.sc_expr.proofs.Options.{same_some}
-use Rattle.sc_parse.specs.declared.section.Line.{Line}
 use Rattle.sc_parse.specs.declared.section.Line.TheVariants as line
-use Rattle.sc_parse.specs.declared.section.Directives.{Directives}
-use Rattle.sc_parse.specs.Sections.{SpellsDirectives, none, export}
+use Rattle.sc_parse.specs.Sections.{none}
 use Rattle.sc_parse.specs.Sections as sections
-use Rattle.sc_parse.specs.SectionReaders.{export_line, import_line, line_by, line_at, directives, with_line, lines_at}
 use Rattle.sc_parse.proofs.Beginnings.{NoLine}
 
 -- A lexeme that is a directive.

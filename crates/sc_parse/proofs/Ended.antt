@@ -1,30 +1,14 @@
 -- Statements are read exactly as they are spelled.
-use Rattle.std.proofs.Common.{◌≡◌, ℕ, ◌≤◌, ◌<◌, Bool, true, false, cond, List, [], ◌∷◌, ◌++◌, drop, length, length-append, Option, Some, refl, ap, ◌∙◌, subst, append_assoc, arith}
-use Rattle.sc_ast.specs.Height.{kind_height}
-use Rattle.sc_ast.specs.Simple.{kind_of}
-use Rattle.sc_ast.specs.declared.stmt.StmtKind.{StmtKind}
+use Rattle.sc_parse.proofs.Common.{Bool, IsKeyword, IsMark, Keyword, Lexeme, List, Option, Some, SpellsBlock, SpellsCall, SpellsCondition, SpellsIf, SpellsKind, SpellsPart, SpellsStmtKind, SpellsStmts, SpellsTest, StmtKind, StmtTree, [], alone, ap, append_assoc, arith, begins_call, begins_with, behind, behind_mark, block, bound, break_height, call_at, choice, cond, continue_height, drop, empty, empty_height, ended_at, expr_at, false, first_line, for_loop, is_else, keyword_at, kind_height, kind_of, length, length-append, otherwise, otherwise_if, plain, plain_at, plain_height, refl, return_call, return_call_height, return_height, return_nothing, return_value, returned, same_some, simple_at, simple_or_none, step_of, stmt_tree, subst, true, value_height, value_returned, while_loop, ℕ, ◌++◌, ◌<◌, ◌>>=◌, ◌∙◌, ◌∷◌, ◌≡◌, ◌≤◌}
 use Rattle.sc_ast.specs.declared.stmt.StmtKind.TheVariants as stmt
-use Rattle.sc_ast.specs.declared.stmt.StmtTree.{StmtTree}
-use Rattle.sc_expr.specs.declared.mark.Keyword.{Keyword}
 use Rattle.sc_expr.specs.declared.mark.Keyword.TheVariants as word
 use Rattle.sc_expr.specs.declared.mark.Mark.TheVariants as mark
-use Rattle.sc_expr.specs.declared.lexeme.Lexeme.{Lexeme}
-use Rattle.sc_expr.specs.Fronts.{behind}
-use Rattle.sc_expr.specs.Grammar.{IsMark}
-use Rattle.sc_expr.specs.Reading.{◌>>=◌}
-use Rattle.sc_expr.proofs.Options.{same_some, bound}
-use Rattle.sc_expr.proofs.Ahead.{behind_mark}
-use Rattle.sc_parse.specs.Lists.{IsKeyword, first_line}
 use Rattle.sc_parse.specs.Statements as statements
-use Rattle.sc_parse.specs.Statements.{SpellsCall, SpellsKind, step_of, SpellsPart, SpellsTest, SpellsCondition, SpellsStmtKind, empty, plain, return_nothing, return_value, return_call, choice, while_loop, for_loop, SpellsIf, alone, otherwise, otherwise_if, SpellsBlock, block, SpellsStmts}
-use Rattle.sc_parse.specs.Fronts.{keyword_at, is_else, begins_with, begins_call}
-use Rattle.sc_parse.specs.StmtReaders.{expr_at, call_at, simple_at, value_returned, returned, simple_or_none, plain_at, ended_at, stmt_tree}
 use Rattle.sc_parse.proofs.Exact.{Taken, took, glued}
 use Rattle.sc_parse.proofs.Bases.{word_ahead}
 use Rattle.sc_parse.proofs.Expressions.{expr_exact, call_exact}
 use Rattle.sc_parse.proofs.Simples.{simple_exact}
 use Rattle.sc_parse.proofs.Parts.{kind_no_word, kind_no_mark}
-use Rattle.sc_ast.proofs.Statements.{empty_height, break_height, continue_height, return_height, value_height, return_call_height, plain_height}
 
 abbrev pub NoElse : List Lexeme → Type 0
 NoElse rest = is_else (keyword_at rest) ≡ false

@@ -1,16 +1,6 @@
 -- Readers that read exactly what is spelled, alone and in lists.
-use Rattle.std.proofs.Common.{◌≡◌, ℕ, zero, suc, ◌+◌, ◌≤◌, ◌<◌, Bool, true, false, cond, List, [], ◌∷◌, ◌++◌, length, Option, Some, None, refl, sym, ap, ◌∙◌, subst, append_assoc, length-append, arith}
-use Rattle.std.proofs.lemmas.Option.{none-some}
-use Rattle.std.proofs.lemmas.List.{append-nil}
-use Rattle.std.specs.Option.{option_map_or}
+use Rattle.sc_parse.proofs.Common.{Adder, Bool, Grouped, IsMark, Lexeme, List, None, Option, Reader, Separated, Some, [], adds, ap, append-nil, append_assoc, arith, bound, cond, false, grouped, length, length-append, more, next, none, none-some, one, option_map_or, refl, same_some, separated, subst, suc, sym, true, zero, ℕ, ◌++◌, ◌+◌, ◌<◌, ◌>>=◌, ◌∙◌, ◌∷◌, ◌≡◌, ◌≤◌}
 use Rattle.sc_expr.specs.declared.mark.Mark.TheVariants as mark
-use Rattle.sc_expr.specs.declared.lexeme.Lexeme.{Lexeme}
-use Rattle.sc_expr.specs.Grammar.{IsMark}
-use Rattle.sc_expr.specs.Reading.{◌>>=◌}
-use Rattle.sc_expr.proofs.Options.{same_some, bound}
-use Rattle.sc_parse.specs.Lists.{Separated, one, more, Grouped, none, next}
-use Rattle.sc_parse.specs.Fronts.{Reader}
-use Rattle.sc_parse.specs.Readers.{Adder, adds, separated, grouped}
 
 -- A front of the lexemes, with what it spells.
 pub record Taken {A : Type 0} (Item : List Lexeme → A → Type 0) (ts : List Lexeme) (x : A)

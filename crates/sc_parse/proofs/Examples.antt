@@ -1,9 +1,6 @@
 -- Small texts and the trees that they spell.
-use Rattle.std.proofs.Common.{◌≡◌, ℕ, List, [], ◌∷◌, codes, Some, None, refl, true, false, rules}
-use Rattle.sc_ast.specs.Numbers.{Number}
+use Rattle.sc_parse.proofs.Common.{Lexeme, List, None, Number, Some, Spells, SpellsBlock, SpellsCondition, SpellsDecl, SpellsIf, SpellsKind, SpellsStmtKind, Symbol, [], codes, false, is_place, looser, loosest_level, refl, rules, the_lemmas, true, variable, ℕ, ◌∷◌, ◌≡◌}
 use Rattle.sc_ast.specs.declared.types.BaseTree.TheVariants as base
-use Rattle.sc_ast.specs.Places.{is_place}
-use Rattle.sc_ast.specs.declared.expr.ExprTree.{the_lemmas}
 use Rattle.sc_ast.specs.declared.expr.ExprTree.TheVariants as expr
 use Rattle.sc_base.specs.declared.op.BinaryOp.TheVariants as binary
 use Rattle.sc_ast.specs.declared.stmt.SimpleKind.TheVariants as simple
@@ -12,17 +9,12 @@ use Rattle.sc_ast.specs.declared.section.InitTree.TheVariants as init
 use Rattle.sc_ast.specs.declared.section.Decl.TheVariants as decl
 use Rattle.sc_expr.specs.declared.mark.Keyword.TheVariants as word
 use Rattle.sc_expr.specs.declared.mark.Mark.TheVariants as mark
-use Rattle.sc_expr.specs.declared.lexeme.Symbol.{Symbol}
 use Rattle.sc_expr.specs.declared.lexeme.Symbol.TheVariants as symbol
-use Rattle.sc_expr.specs.declared.lexeme.Lexeme.{Lexeme}
-use Rattle.sc_expr.specs.Grammar.{Spells, variable, looser}
-use Rattle.sc_base.specs.Levels.{loosest_level}
 use Rattle.sc_parse.specs.Lists as lists
 use Rattle.sc_parse.specs.Types as types
 use Rattle.sc_parse.specs.Declarations as declarations
-use Rattle.sc_parse.specs.Declarations.{SpellsDecl}
 use Rattle.sc_parse.specs.Statements as statements
-use Rattle.sc_parse.specs.Statements.{SpellsStmtKind, SpellsKind, SpellsIf, SpellsCondition, SpellsBlock, one}
+use Rattle.sc_parse.specs.Statements.{one}
 
 abbrev in_line : ℕ → Symbol → Lexeme
 in_line at what = record { symbol = what; line = at }

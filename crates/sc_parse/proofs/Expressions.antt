@@ -1,32 +1,9 @@
 -- Expressions in statements, and calls, are read exactly as they are spelled.
-use Rattle.std.proofs.Common.{◌≡◌, ℕ, ◌≤◌, Bool, true, false, cond, List, [], ◌∷◌, ◌++◌, Option, Some, None, is_some, refl, sym, ap, ◌∙◌, subst, append_assoc, arith}
-use Rattle.std.proofs.lemmas.Option.{none-some}
-use Rattle.sc_ast.specs.Height.{expr_height, exprs_height, call_height}
-use Rattle.sc_ast.specs.declared.expr.ExprTree.{ExprTree}
-use Rattle.sc_base.specs.declared.op.BinaryOp.{BinaryOp}
-use Rattle.sc_ast.specs.declared.expr.CallTree.{CallTree}
-use Rattle.sc_expr.specs.declared.mark.Mark.{Mark}
+use Rattle.sc_parse.proofs.Common.{BinaryOp, Bool, CallTree, ExprTree, Found, IsMark, Lexeme, List, Mark, None, Option, Prefix, Separated, Some, Spells, SpellsArgs, SpellsCall, Symbol, [], all_separated, ap, append_assoc, args_at, args_behind, args_in_parens, arith, arrow, begins_call, begins_with, behind, behind_mark, binary_of, bound, call, call_at, call_height, call_tree, cond, expr_at, expr_height, exprs_height, extension_at, false, found, index, is_mark, is_some, joined, lead_by, literal, looser, loosest_level, member, more, most_open, name_ahead, name_at, no_args, none-some, one, open_after, open_behind, parenthesised, prefix, prefix_of, read, read_sound, refl, same_some, some_args, subst, sym, true, unary_level, variable, ℕ, ◌++◌, ◌>>=◌, ◌∙◌, ◌∷◌, ◌≡◌, ◌≤◌}
 use Rattle.sc_expr.specs.declared.mark.Mark.TheVariants as mark
-use Rattle.sc_expr.specs.declared.operator.Prefix.{Prefix}
-use Rattle.sc_expr.specs.declared.lexeme.Symbol.{Symbol}
 use Rattle.sc_expr.specs.declared.lexeme.Symbol.TheVariants as symbol
-use Rattle.sc_expr.specs.declared.lexeme.Lexeme.{Lexeme}
-use Rattle.sc_expr.specs.Brackets.{open_behind, open_after, most_open}
-use Rattle.sc_expr.specs.Fronts.{is_mark, behind, extension_at}
-use Rattle.sc_expr.specs.Grammar.{IsMark, Spells, literal, variable, parenthesised, index, member, arrow, prefix, joined, looser}
-use Rattle.sc_base.specs.Levels.{unary_level, loosest_level}
-use Rattle.sc_expr.specs.Marks.{binary_of, prefix_of}
-use Rattle.sc_expr.specs.Reading.{◌>>=◌, Found, found, name_at, lead_by, read}
-use Rattle.sc_expr.proofs.Options.{same_some, bound}
-use Rattle.sc_expr.proofs.Ahead.{behind_mark, name_ahead}
 use Rattle.sc_expr.proofs.Balance.{open_low}
-use Rattle.sc_expr.proofs.Sound.{read_sound}
 use Rattle.sc_expr.proofs.Complete.{reads_all}
-use Rattle.sc_parse.specs.Lists.{Separated, one, more}
-use Rattle.sc_parse.specs.Statements.{SpellsArgs, no_args, some_args, SpellsCall, call}
-use Rattle.sc_parse.specs.Fronts.{begins_with, begins_call}
-use Rattle.sc_parse.specs.Readers.{all_separated}
-use Rattle.sc_parse.specs.StmtReaders.{expr_at, args_behind, args_at, call_tree, args_in_parens, call_at}
 use Rattle.sc_parse.proofs.Exact.{Taken, Exact, ExactAdder, took, separated_exact}
 use Rattle.sc_parse.proofs.Bases.{mark_is}
 use Rattle.sc_parse.proofs.Declared.{comma_ahead}

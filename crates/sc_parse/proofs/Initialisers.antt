@@ -1,25 +1,9 @@
 -- Globals and what they begin with are read exactly as they are spelled.
-use Rattle.std.proofs.Common.{◌≡◌, ℕ, Bool, true, false, cond, List, [], ◌∷◌, ◌++◌, Option, Some, None, refl, sym, ap, ◌∙◌, subst, append_assoc}
-use Rattle.std.specs.Option.{option_map_or}
-use Rattle.sc_ast.specs.Lists.{non_empty}
-use Rattle.sc_ast.specs.declared.types.BaseTree.{BaseTree}
-use Rattle.sc_ast.specs.declared.section.ConstTree.{ConstTree}
-use Rattle.sc_ast.specs.declared.section.InitTree.{InitTree}
+use Rattle.sc_parse.proofs.Common.{BaseTree, Bool, ConstTree, Decl, Declares, GlobalTree, InitTree, IsGlobal, IsMark, Lexeme, List, None, Option, Separated, Some, SpellsConst, SpellsInit, [], absent, all_consts, ap, append_assoc, begins_with, behind, behind_inner_comma, behind_mark, bound, cond, const_at, consts_at, declaration_at, declarator_at, false, global, global_at, global_decl, globals_behind, init_at, init_behind, many, many_comma, negated, non_empty, one_at, option_map_or, past_comma, refl, same_some, subst, sym, true, ℕ, ◌++◌, ◌>>=◌, ◌∙◌, ◌∷◌, ◌≡◌}
 use Rattle.sc_ast.specs.declared.section.InitTree.TheVariants as init
-use Rattle.sc_ast.specs.declared.section.GlobalTree.{GlobalTree}
-use Rattle.sc_ast.specs.declared.section.Decl.{Decl}
 use Rattle.sc_ast.specs.declared.section.Decl.TheVariants as decl
 use Rattle.sc_expr.specs.declared.mark.Mark.TheVariants as mark
-use Rattle.sc_expr.specs.declared.lexeme.Lexeme.{Lexeme}
-use Rattle.sc_expr.specs.Fronts.{behind}
-use Rattle.sc_expr.specs.Grammar.{IsMark}
-use Rattle.sc_expr.specs.Reading.{◌>>=◌}
-use Rattle.sc_expr.proofs.Options.{same_some, bound}
-use Rattle.sc_expr.proofs.Ahead.{behind_mark}
-use Rattle.sc_parse.specs.Lists.{Separated}
-use Rattle.sc_parse.specs.Declarations.{Declares, SpellsConst, plain, negated, SpellsInit, absent, one, many, many_comma, IsGlobal, global}
-use Rattle.sc_parse.specs.Fronts.{begins_with, behind_inner_comma}
-use Rattle.sc_parse.specs.Readers.{declaration_at, const_at, all_consts, past_comma, consts_at, one_at, init_behind, init_at, declarator_at, global_decl, global_at, globals_behind}
+use Rattle.sc_parse.specs.Declarations.{plain, one}
 use Rattle.sc_parse.proofs.Exact.{Taken, Exact, ExactAdder, Any, took, glued}
 use Rattle.sc_parse.proofs.Bases.{NoInt, NoBracket, declarator_sound}
 use Rattle.sc_parse.proofs.Declared.{any_left, any_right, declaration_exact, declarator_complete, declarator_no_int}

@@ -1,13 +1,5 @@
 -- A head as that of a function.
-use Rattle.std.proofs.Common.{◌≡◌, ℕ, List, [], ◌∷◌, map, Option, Some, None, IsTrue, cond, refl, sym, ap, ◌∙◌}
-use Rattle.std.proofs.lemmas.Option.{none-some}
-use Rattle.sc_ast.specs.Heads.{param_of, head_of, has_nameless}
-use Rattle.sc_ast.specs.declared.section.ParamTree.{ParamTree}
-use Rattle.sc_ast.specs.declared.section.HeadTree.{HeadTree}
-use Rattle.sc_ast.specs.declared.section.FunctionParam.{FunctionParam}
-use Rattle.sc_ast.specs.declared.section.FunctionHead.{FunctionHead}
-use Rattle.sc_expr.specs.Reading.{◌>>=◌}
-use Rattle.sc_parse.specs.SectionReaders.{named_params, function_param, function_head, named_head}
+use Rattle.sc_parse.proofs.Common.{FunctionHead, FunctionParam, HeadTree, IsTrue, List, None, Option, ParamTree, Some, [], ap, cond, function_head, function_param, has_nameless, head_of, map, named_head, named_params, none-some, param_of, refl, sym, ℕ, ◌>>=◌, ◌∙◌, ◌∷◌, ◌≡◌}
 
 params_named : (params : List FunctionParam) → named_params (map param_of params) ≡ Some params
 params_named [] = refl

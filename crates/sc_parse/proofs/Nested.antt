@@ -1,40 +1,17 @@
 -- Blocks and the statements that hold them are read exactly as they are spelled.
-use Rattle.std.proofs.Common.{◌≡◌, ℕ, zero, suc, ◌+◌, ◌≤◌, ◌<◌, Bool, true, false, cond, List, [], ◌∷◌, ◌++◌, drop, length, Option, Some, None, refl, sym, ap, ◌∙◌, subst, append_assoc, arith}
-use Rattle.std.proofs.lemmas.Option.{none-some}
-use Rattle.std.proofs.lemmas.List.{append-nil}
-use Rattle.sc_ast.specs.Height.{expr_height, option_height, kind_height, stmts_height}
-use Rattle.sc_ast.specs.Simple.{kind_of}
-use Rattle.sc_ast.specs.declared.expr.ExprTree.{ExprTree}
-use Rattle.sc_ast.specs.declared.stmt.SimpleKind.{SimpleKind}
-use Rattle.sc_ast.specs.declared.stmt.SimpleTree.{SimpleTree}
-use Rattle.sc_ast.specs.declared.stmt.StmtKind.{StmtKind}
+use Rattle.sc_parse.proofs.Common.{Bool, ExprTree, Grouped, IsKeyword, IsMark, Keyword, Lexeme, List, Mark, None, Option, Reader, SimpleKind, SimpleTree, Some, SpellsBlock, SpellsCondition, SpellsIf, SpellsPart, SpellsStmtKind, SpellsStmts, SpellsTest, StmtKind, StmtTree, [], adds, alone, ap, append-nil, append_assoc, arith, before_mark, begins_with, behind, behind_mark, block, block_at, bound, call_at, choice, cond, condition_at, drop, else_at, else_behind, empty, ended_at, expr_at, expr_height, false, first_line, first_part, for_behind, for_head, for_height, for_loop, for_parts, grouped, if_behind, if_height, is_else, is_if, keyword_at, kind_by, kind_height, kind_of, last_part, length, loop_of, middle_part, none-some, option_height, otherwise, otherwise_if, part_at, plain, plain_at, plain_height, refl, return_call, return_call_height, return_nothing, return_value, returned, same_some, simple_at, simple_or_none, stmt_at, stmt_tree, stmt_within, stmts_at, stmts_height, subst, suc, sym, test_at, tree_height, true, value_height, value_returned, while_behind, while_height, while_loop, zero, ℕ, ◌++◌, ◌+◌, ◌<◌, ◌>>=◌, ◌∙◌, ◌∷◌, ◌≡◌, ◌≤◌}
 use Rattle.sc_ast.specs.declared.stmt.StmtKind.TheVariants as stmt
-use Rattle.sc_ast.specs.declared.stmt.StmtTree.{StmtTree}
-use Rattle.sc_expr.specs.declared.mark.Keyword.{Keyword}
 use Rattle.sc_expr.specs.declared.mark.Keyword.TheVariants as word
-use Rattle.sc_expr.specs.declared.mark.Mark.{Mark}
 use Rattle.sc_expr.specs.declared.mark.Mark.TheVariants as mark
-use Rattle.sc_expr.specs.declared.lexeme.Lexeme.{Lexeme}
-use Rattle.sc_expr.specs.Fronts.{behind}
-use Rattle.sc_expr.specs.Grammar.{IsMark}
-use Rattle.sc_expr.specs.Reading.{◌>>=◌}
-use Rattle.sc_expr.proofs.Options.{same_some, bound}
-use Rattle.sc_expr.proofs.Ahead.{behind_mark}
-use Rattle.sc_parse.specs.Lists.{IsKeyword, first_line, Grouped}
 use Rattle.sc_parse.specs.Lists as lists
 use Rattle.sc_parse.specs.Statements as statements
-use Rattle.sc_parse.specs.Statements.{SpellsPart, SpellsTest, SpellsStmtKind, empty, plain, return_nothing, return_value, return_call, choice, while_loop, for_loop, SpellsIf, alone, otherwise, otherwise_if, SpellsCondition, SpellsBlock, block, SpellsStmts}
-use Rattle.sc_parse.specs.Fronts.{Reader, keyword_at, is_else, begins_with}
-use Rattle.sc_parse.specs.Readers.{adds, grouped}
 use Rattle.sc_parse.specs.StmtReaders as readers
 use Rattle.sc_parse.specs.declared.stmts.ForHead.{ForHead}
-use Rattle.sc_parse.specs.StmtReaders.{expr_at, call_at, simple_at, value_returned, returned, simple_or_none, plain_at, ended_at, condition_at, before_mark, part_at, test_at, first_part, middle_part, last_part, is_if, stmts_at, block_at, else_behind, else_at, if_behind, while_behind, for_parts, for_head, loop_of, for_behind, kind_by, stmt_tree, stmt_within, stmt_at}
 use Rattle.sc_parse.proofs.Exact.{Taken, Exact, ExactAdder, took, glued, One, adds_exact, grouped_exact}
 use Rattle.sc_parse.proofs.Bases.{Word, word_ahead, mark_is}
 use Rattle.sc_parse.proofs.Expressions.{Few, few_left, few_right, few_tail, expr_exact, expr_starts, call_exact, call_begins, no_call, no_mark, false-true}
 use Rattle.sc_parse.proofs.Simples.{simple_exact}
 use Rattle.sc_parse.proofs.Parts.{condition_exact, first_line_some, kind_no_word, kind_no_mark, call_no_mark, IsPart, part_sound, part_reads, IsTest, test_sound, test_reads}
-use Rattle.sc_ast.proofs.Statements.{tree_height, if_height, while_height, for_height, value_height, return_call_height, plain_height}
 use Rattle.sc_parse.proofs.Ended.{NoElse, kind_starts, IsKind, IsStmt, a_stmt, stmt_starts, ended_sound}
 
 -- behind a `}` no `else` stands at the front

@@ -1,26 +1,9 @@
 -- Conditions and the parts of a `for` are read exactly as they are spelled.
-use Rattle.std.proofs.Common.{◌≡◌, ℕ, ◌-◌, ◌≤◌, ◌<◌, Bool, true, false, cond, leb, List, [], ◌∷◌, ◌++◌, length, length-append, Option, Some, None, is_some, refl, sym, ap, ◌∙◌, append_assoc, arith}
-use Rattle.std.proofs.lemmas.Bool.{leb-true, le-leb}
-use Rattle.sc_ast.specs.Height.{expr_height, option_height}
-use Rattle.sc_ast.specs.declared.expr.ExprTree.{ExprTree}
-use Rattle.sc_ast.specs.declared.expr.CallTree.{CallTree}
-use Rattle.sc_ast.specs.declared.stmt.SimpleKind.{SimpleKind}
-use Rattle.sc_ast.specs.declared.stmt.SimpleTree.{SimpleTree}
-use Rattle.sc_expr.specs.declared.mark.Mark.{Mark}
+use Rattle.sc_parse.proofs.Common.{Bool, CallTree, ExprTree, IsMark, Lexeme, List, Mark, None, Option, SimpleKind, SimpleTree, Some, Spells, SpellsCall, SpellsCondition, SpellsKind, SpellsPart, SpellsPlace, SpellsSimple, SpellsTest, Symbol, [], a_part, a_test, always, ap, append_assoc, arith, assign, assign_call, begins_with, behind, behind_mark, bound, call, compound, cond, cond_is, condition, condition_at, expr_at, expr_height, false, first_line, is_mark, is_some, keyword_at, keyword_by, le-leb, lead_by, leb, leb-true, length, length-append, no_part, no_test, option_height, part_at, refl, simple_at, simple_tree, step_before, step_behind, step_of, sym, test_at, true, ℕ, ◌++◌, ◌-◌, ◌<◌, ◌>>=◌, ◌∙◌, ◌∷◌, ◌≡◌, ◌≤◌}
 use Rattle.sc_expr.specs.declared.mark.Mark.TheVariants as mark
-use Rattle.sc_expr.specs.declared.lexeme.Symbol.{Symbol}
 use Rattle.sc_expr.specs.declared.lexeme.Symbol.TheVariants as symbol
-use Rattle.sc_expr.specs.declared.lexeme.Lexeme.{Lexeme}
-use Rattle.sc_expr.specs.Fronts.{is_mark, behind}
-use Rattle.sc_expr.specs.Grammar.{IsMark, Spells}
-use Rattle.sc_expr.specs.Reading.{◌>>=◌, lead_by}
-use Rattle.sc_expr.proofs.Options.{bound, cond_is}
-use Rattle.sc_expr.proofs.Ahead.{behind_mark}
-use Rattle.sc_parse.specs.Lists.{first_line}
 use Rattle.sc_parse.specs.Statements as statements
-use Rattle.sc_parse.specs.Statements.{SpellsCall, SpellsPlace, step_of, one, SpellsKind, assign, assign_call, compound, call, step_behind, step_before, SpellsSimple, SpellsPart, no_part, a_part, SpellsTest, no_test, a_test, SpellsCondition, condition}
-use Rattle.sc_parse.specs.Fronts.{begins_with, keyword_by, keyword_at}
-use Rattle.sc_parse.specs.StmtReaders.{expr_at, simple_at, simple_tree, part_at, always, test_at, condition_at}
+use Rattle.sc_parse.specs.Statements.{one}
 use Rattle.sc_parse.proofs.Exact.{Taken, Exact, took, glued}
 use Rattle.sc_parse.proofs.Bases.{mark_is}
 use Rattle.sc_parse.proofs.Expressions.{Few, few_left, few_tail, expr_exact, begins_expr, starts_expr, expr_starts, no_mark, false-true}

@@ -1,26 +1,8 @@
 -- Parameters and heads are read exactly as they are spelled.
-use Rattle.std.proofs.Common.{◌≡◌, ℕ, Bool, true, false, cond, List, [], ◌∷◌, ◌++◌, drop, Option, Some, None, refl, sym, ap, ◌∙◌, subst, append_assoc}
-use Rattle.std.proofs.lemmas.Option.{none-some}
-use Rattle.std.specs.Option.{option_map_or}
-use Rattle.sc_ast.specs.declared.types.BaseTree.{BaseTree}
-use Rattle.sc_ast.specs.declared.types.TypeName.{TypeName}
-use Rattle.sc_ast.specs.declared.section.ParamTree.{ParamTree}
-use Rattle.sc_ast.specs.declared.section.HeadTree.{HeadTree}
-use Rattle.sc_expr.specs.declared.mark.Keyword.{Keyword}
+use Rattle.sc_parse.proofs.Common.{BaseTree, Bool, HeadTree, IsMark, Keyword, Lexeme, List, None, Option, ParamTree, Separated, Some, SpellsBase, SpellsHead, SpellsParam, SpellsParams, SpellsResult, SpellsTypeName, TypeName, [], a_result, adds, all_separated, ap, append_assoc, behind, behind_mark, bound, cond, drop, false, first_line, head, head_at, head_tree, int, is_void, keyword_at, more, name_ahead, name_at, named, nameless, no_params, no_result, none-some, option_map_or, param_at, param_tree, params_at, params_in_parens, refl, result_at, same_some, signed, signed_int, some_params, struct, subst, sym, true, type_name, type_name_at, unsigned, unsigned_int, ℕ, ◌++◌, ◌>>=◌, ◌∙◌, ◌∷◌, ◌≡◌}
 use Rattle.sc_expr.specs.declared.mark.Keyword.TheVariants as word
 use Rattle.sc_expr.specs.declared.mark.Mark.TheVariants as mark
-use Rattle.sc_expr.specs.declared.lexeme.Lexeme.{Lexeme}
-use Rattle.sc_expr.specs.Fronts.{behind}
-use Rattle.sc_expr.specs.Grammar.{IsMark}
-use Rattle.sc_expr.specs.Reading.{◌>>=◌, name_at}
-use Rattle.sc_expr.proofs.Options.{same_some, bound}
-use Rattle.sc_expr.proofs.Ahead.{behind_mark, name_ahead}
-use Rattle.sc_parse.specs.Lists.{first_line, Separated, more}
 use Rattle.sc_parse.specs.Lists as lists
-use Rattle.sc_parse.specs.Types.{SpellsBase, int, signed, signed_int, unsigned, unsigned_int, struct, SpellsTypeName, type_name}
-use Rattle.sc_parse.specs.Declarations.{SpellsParam, named, nameless, SpellsParams, no_params, some_params, SpellsResult, no_result, a_result, SpellsHead, head}
-use Rattle.sc_parse.specs.Fronts.{keyword_at, is_void}
-use Rattle.sc_parse.specs.Readers.{adds, all_separated, type_name_at, param_tree, param_at, params_at, result_at, params_in_parens, head_tree, head_at}
 use Rattle.sc_parse.proofs.Exact.{Taken, Exact, ExactAdder, Any, took, glued, separated_exact}
 use Rattle.sc_parse.proofs.Bases.{Word, word_ahead, NoType, type_name_exact}
 use Rattle.sc_parse.proofs.Declared.{any_left, any_right, comma_ahead, first_line_base}

@@ -1,27 +1,11 @@
 -- Tokens say something.
-use Rattle.std.proofs.Common.{◌≡◌, ℕ, Bool, true, false, ◌||◌, ◌&&◌, cond, bytes_eq, codes, nat_lt, nat_le, List, [], ◌∷◌, map, get_or, slice_range, Option, Some, None, is_some, refl, sym, ap, ◌∙◌, subst, arith}
-use Rattle.std.proofs.lemmas.Option.{none-some}
-use Rattle.std.proofs.lemmas.Bool.{leb-false, le-leb}
+use Rattle.sc_parse.proofs.Common.{Bool, IsSpan, List, Mark, None, Option, Some, Symbol, Token, [], ap, arith, bytes_eq, codes, cond, directive_kind, false, get_or, has_suffix, heading_name, ident_in, import_of, integer_of, is_export, is_import, is_integer, is_name, is_pragma, is_reserved, is_some, le-leb, leb-false, line_kind, list_any, look_up, map, mark_kind, mark_of, mark_texts, name_of, nat_le, nat_lt, none-some, number_in, option_map, option_or, or_unused, refl, same_some, says, slice_range, subst, sym, symbol_of, third_word, true, value_of, word_kind, words, ℕ, ◌&&◌, ◌||◌, ◌∙◌, ◌∷◌, ◌≡◌}
+use Rattle.sc_lex.specs.Prelude.{is_mark, kind_of}
 use Rattle.std.proofs.lemmas.Slice.Eq.{bytes_eq-Decides}
-use Rattle.std.specs.List.{list_any}
-use Rattle.std.specs.Option.{option_or, option_map}
 use Rattle.sc_base.proofs.Bools.{and_first, and_rest}
-use Rattle.sc_base.specs.Identifier.{is_name, name_of}
-use Rattle.sc_base.specs.Reserved.{is_reserved}
-use Rattle.sc_lex.specs.Words.{words}
-use Rattle.sc_lex.specs.Headings.{heading_name}
-use Rattle.sc_lex.specs.Integers.{is_integer, integer_of, value_of, has_suffix}
-use Rattle.sc_lex.specs.Tables.{is_mark}
-use Rattle.sc_lex.specs.Kinds.{is_export, is_import, is_pragma, line_kind, word_kind, mark_kind, directive_kind, kind_of}
-use Rattle.sc_lex.specs.Spans.{IsSpan}
-use Rattle.sc_lex.specs.declared.token.Token.{Token}
 use Rattle.sc_lex.specs.declared.token.TokenKind.{TokenKind}
 use Rattle.sc_lex.specs.declared.token.TokenKind.TheVariants as kind
-use Rattle.sc_expr.specs.declared.mark.Mark.{Mark}
-use Rattle.sc_expr.specs.declared.lexeme.Symbol.{Symbol}
 use Rattle.sc_expr.specs.declared.lexeme.Symbol.TheVariants as symbol
-use Rattle.sc_expr.specs.Lexemes.{look_up, mark_texts, mark_of, says, number_in, ident_in, third_word, import_of, or_unused, symbol_of}
-use Rattle.sc_expr.proofs.Options.{same_some}
 use Rattle.sc_parse.proofs.Expressions.{false-true}
 
 -- a text of this kind says something

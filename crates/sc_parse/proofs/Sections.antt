@@ -1,21 +1,7 @@
 -- Sections are read exactly as they are spelled, within the limits of height and of brackets, and no lexemes spell two.
-use Rattle.std.proofs.Common.{◌≡◌, ℕ, ◌+◌, ◌≤◌, max, true, List, [], ◌∷◌, ◌++◌, length, length-append, Some, refl, sym, ap, ◌∙◌, subst, arith}
-use Rattle.std.proofs.lemmas.Option.{none-some}
-use Rattle.std.proofs.lemmas.List.{append-nil}
-use Rattle.sc_ast.specs.Height.{decls_height, section_height}
-use Rattle.sc_ast.specs.declared.section.Decl.{Decl}
-use Rattle.sc_ast.specs.declared.section.SectionTree.{SectionTree}
-use Rattle.sc_expr.specs.declared.lexeme.Symbol.{Symbol}
+use Rattle.sc_parse.proofs.Common.{Decl, Grouped, Lexeme, List, SectionTree, Some, SpellsDecl, SpellsSection, Symbol, [], ap, append-nil, arith, bound, compartment_at, compartment_by, decl_at, decls_at, decls_height, directives, directives_at, is_empty, length, length-append, max, most_open, none-some, refl, same_some, section, section_at, section_height, section_tree, section_within, subst, sym, true, ℕ, ◌++◌, ◌+◌, ◌>>=◌, ◌∙◌, ◌∷◌, ◌≡◌, ◌≤◌}
 use Rattle.sc_expr.specs.declared.lexeme.Symbol.TheVariants as symbol
-use Rattle.sc_expr.specs.declared.lexeme.Lexeme.{Lexeme}
-use Rattle.sc_expr.specs.Brackets.{most_open}
-use Rattle.sc_expr.specs.Reading.{◌>>=◌}
-use Rattle.sc_expr.proofs.Options.{same_some, bound}
-use Rattle.sc_parse.specs.Lists.{Grouped}
 use Rattle.sc_parse.specs.Lists as lists
-use Rattle.sc_parse.specs.Declarations.{SpellsDecl}
-use Rattle.sc_parse.specs.Sections.{SpellsSection, section}
-use Rattle.sc_parse.specs.SectionReaders.{is_empty, decl_at, decls_at, directives, directives_at, compartment_by, compartment_at, section_tree, section_within, section_at}
 use Rattle.sc_parse.proofs.Exact.{grouped_sound}
 use Rattle.sc_parse.proofs.Expressions.{Few, few_left, few_right, few_tail, false-true}
 use Rattle.sc_parse.proofs.Beginnings.{NoLine}

@@ -1,40 +1,18 @@
 -- Assignments, `++` and `--`, and calls are read exactly as they are spelled.
-use Rattle.std.proofs.Common.{◌≡◌, ℕ, ◌+◌, ◌-◌, ◌≤◌, ◌<◌, max, Bool, true, false, cond, ltb, IsTrue, List, [], ◌∷◌, ◌++◌, drop, Option, Some, None, is_some, refl, sym, ap, ◌∙◌, subst, append_assoc, arith, rules}
-use Rattle.std.proofs.lemmas.Option.{none-some}
-use Rattle.std.proofs.lemmas.Bool.{lt-ltb}
-use borrow.Author.Tests.{ltb-true}
-use Rattle.std.specs.Option.{option_map_or}
-use Rattle.sc_ast.specs.Height.{expr_height, call_height, simple_kind_height}
-use Rattle.sc_ast.specs.Places.{is_place}
-use Rattle.sc_ast.specs.declared.expr.ExprTree.{ExprTree, the_lemmas}
+use Rattle.sc_parse.proofs.Common.{BinaryOp, Bool, CallTree, ExprTree, IsMark, IsTrue, Lexeme, List, Mark, None, Option, Prefix, SimpleKind, Some, Spells, SpellsCall, SpellsKind, SpellsPlace, Symbol, [], ap, append_assoc, arith, arrow, assign, assign_call, assignment_at, begins_call, begins_value, begins_with, bound, call, call_alone, call_at, call_height, change_at, change_of, changed, compound, compound_of, cond, cond_is, drop, expr_at, expr_height, false, index, is_place, is_some, joined, lead_by, literal, looser, lt-ltb, ltb, ltb-true, makes_value, mark_at, mark_by, max, member, none-some, operand_behind, option_map_or, parenthesised, place_at, placed, prefix, prefix_of, prefixed, read, read_sound, refl, rules, same_some, simple_at, simple_kind_height, step_at, step_before, step_behind, step_of, stepped, subst, sym, the_lemmas, true, unary_level, unary_place, unstepped, updates, value_behind, variable, ℕ, ◌++◌, ◌+◌, ◌-◌, ◌<◌, ◌>>=◌, ◌∙◌, ◌∷◌, ◌≡◌, ◌≤◌}
 use Rattle.sc_ast.specs.declared.expr.ExprTree.TheVariants as expr
 use Rattle.sc_base.specs.declared.op.UnaryOp.{UnaryOp}
-use Rattle.sc_base.specs.declared.op.BinaryOp.{BinaryOp}
-use Rattle.sc_ast.specs.declared.expr.CallTree.{CallTree}
-use Rattle.sc_ast.specs.declared.stmt.SimpleKind.{SimpleKind}
 use Rattle.sc_ast.specs.declared.stmt.SimpleKind.TheVariants as simple
-use Rattle.sc_expr.specs.declared.mark.Mark.{Mark}
 use Rattle.sc_expr.specs.declared.mark.Mark.TheVariants as mark
-use Rattle.sc_expr.specs.declared.lexeme.Symbol.{Symbol}
 use Rattle.sc_expr.specs.declared.lexeme.Symbol.TheVariants as symbol
-use Rattle.sc_expr.specs.declared.lexeme.Lexeme.{Lexeme}
-use Rattle.sc_expr.specs.Grammar.{IsMark, Spells, literal, variable, parenthesised, index, member, arrow, prefix, joined, looser}
-use Rattle.sc_expr.specs.declared.operator.Prefix.{Prefix}
 use Rattle.sc_expr.specs.declared.operator.Prefix.TheVariants as prefixes
-use Rattle.sc_expr.specs.Marks.{prefix_of, prefixed}
-use Rattle.sc_base.specs.Levels.{unary_level}
-use Rattle.sc_expr.specs.Reading.{◌>>=◌, lead_by, read}
-use Rattle.sc_expr.proofs.Options.{same_some, bound, cond_is}
 use Rattle.sc_expr.proofs.Heights.{literal_height, joined_height, positive}
-use Rattle.sc_expr.proofs.Sound.{read_sound}
 use Rattle.sc_parse.specs.declared.simple.Change.{Change}
 use Rattle.sc_parse.specs.declared.simple.Change.TheVariants as change
 use Rattle.sc_parse.specs.declared.simple.Placed.{Placed}
 use Rattle.sc_parse.specs.Statements as statements
-use Rattle.sc_parse.specs.Statements.{SpellsCall, SpellsPlace, compound_of, step_of, one, updates, SpellsKind, assign, assign_call, compound, call, step_behind, step_before}
-use Rattle.sc_parse.specs.Fronts.{begins_with, begins_call}
+use Rattle.sc_parse.specs.Statements.{one}
 use Rattle.sc_parse.specs.StmtReaders as readers
-use Rattle.sc_parse.specs.StmtReaders.{expr_at, call_at, mark_by, mark_at, change_of, change_at, step_at, makes_value, begins_value, placed, unary_place, place_at, value_behind, operand_behind, stepped, changed, assignment_at, call_alone, unstepped, simple_at}
 use Rattle.sc_parse.proofs.Exact.{Taken, Exact, took, glued}
 use Rattle.sc_parse.proofs.Expressions.{Few, few_left, few_right, few_tail, NoExtension, unary_reads, expr_exact, call_exact, call_begins, no_call, begins_expr, expr_starts, starts_expr, false-true}
 

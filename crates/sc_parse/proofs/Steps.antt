@@ -1,13 +1,6 @@
 -- What the loops of readers are at a turn.
-use Rattle.std.proofs.Common.{◌≡◌, ℕ, zero, suc, ◌+◌, ◌<◌, List, Bool, true, false, Option, Some, None, refl, ap, arith}
+use Rattle.sc_parse.proofs.Common.{Adder, Bool, Directives, Lexeme, Line, List, None, Option, Some, ap, arith, drop, false, grouped, line_at, lines_at, refl, separated, stmt_at, stmt_within, suc, true, with_line, zero, ℕ, ◌+◌, ◌<◌, ◌≡◌}
 use Rattle.std.proofs.lemmas.List.Sums.{prefix_len-le-length}
-use Rattle.sc_expr.specs.declared.lexeme.Lexeme.{Lexeme}
-use Rattle.sc_parse.specs.Readers.{Adder, separated, grouped}
-use Rattle.sc_parse.specs.StmtReaders.{stmt_within, stmt_at}
-use Rattle.std.proofs.Common.{drop}
-use Rattle.sc_parse.specs.declared.section.Line.{Line}
-use Rattle.sc_parse.specs.declared.section.Directives.{Directives}
-use Rattle.sc_parse.specs.SectionReaders.{line_at, with_line, lines_at}
 
 pub ruleset lengths = (prefix_len-le-length)
 

@@ -1,28 +1,10 @@
 -- Structs, globals and what they begin with are read exactly as they are spelled.
-use Rattle.std.proofs.Common.{◌≡◌, ℕ, ◌+◌, ◌<◌, Bool, true, false, cond, List, [], ◌∷◌, ◌++◌, drop, length, length-append, Option, Some, None, refl, sym, ap, ◌∙◌, subst, append_assoc, arith}
-use Rattle.std.proofs.lemmas.Option.{none-some}
-use Rattle.std.specs.Option.{option_map_or}
-use Rattle.sc_ast.specs.Lists.{non_empty}
-use Rattle.sc_ast.specs.Numbers.{Number}
-use Rattle.sc_ast.specs.declared.types.BaseTree.{BaseTree}
-use Rattle.sc_ast.specs.declared.section.MemberTree.{MemberTree}
-use Rattle.sc_ast.specs.declared.section.StructTree.{StructTree}
-use Rattle.sc_ast.specs.declared.section.ConstTree.{ConstTree}
+use Rattle.sc_parse.proofs.Common.{BaseTree, Bool, ConstTree, Declares, Grouped, IsIdent, IsInteger, IsKeyword, IsMark, IsMember, Lexeme, List, MemberTree, None, Number, Option, Separated, Some, SpellsBase, SpellsConst, SpellsDeclarator, SpellsStruct, StructTree, [], adds, ap, append_assoc, arith, begins_with, behind, behind_inner_comma, behind_mark, bound, cond, const_at, const_tree, declaration_at, declares, drop, false, first_line, grouped, int, integer_by, keyword_at, length, length-append, literal_at, members_at, members_behind, members_in_braces, more, name_ahead, name_at, negated, next, non_empty, none, none-some, option_map_or, refl, same_some, separated, signed, signed_int, struct_at, struct_tree, subst, sym, true, unsigned, unsigned_int, ℕ, ◌++◌, ◌+◌, ◌<◌, ◌>>=◌, ◌∙◌, ◌∷◌, ◌≡◌}
 use Rattle.sc_expr.specs.declared.mark.Keyword.TheVariants as word
 use Rattle.sc_expr.specs.declared.mark.Mark.TheVariants as mark
-use Rattle.sc_expr.specs.declared.lexeme.Lexeme.{Lexeme}
-use Rattle.sc_expr.specs.Fronts.{behind}
-use Rattle.sc_expr.specs.Grammar.{IsMark, IsIdent}
-use Rattle.sc_expr.specs.Reading.{◌>>=◌, name_at}
-use Rattle.sc_expr.proofs.Options.{same_some, bound}
-use Rattle.sc_expr.proofs.Ahead.{behind_mark, name_ahead}
 use Rattle.sc_parse.specs.Types as types
 use Rattle.sc_parse.specs.Lists as lists
-use Rattle.sc_parse.specs.Lists.{IsKeyword, IsInteger, first_line, Separated, more, Grouped, none, next}
-use Rattle.sc_parse.specs.Types.{SpellsBase, int, signed, signed_int, unsigned, unsigned_int, SpellsDeclarator}
-use Rattle.sc_parse.specs.Declarations.{Declares, declares, IsMember, SpellsStruct, struct, SpellsConst, plain, negated}
-use Rattle.sc_parse.specs.Fronts.{keyword_at, begins_with, integer_by, behind_inner_comma}
-use Rattle.sc_parse.specs.Readers.{adds, separated, grouped, declaration_at, members_behind, members_at, members_in_braces, struct_tree, struct_at, const_tree, literal_at, const_at}
+use Rattle.sc_parse.specs.Declarations.{struct, plain}
 use Rattle.sc_parse.proofs.Exact.{Taken, Exact, ExactAdder, Any, took, glued, separated_exact, grouped_exact}
 use Rattle.sc_parse.proofs.Bases.{word_ahead, integer_is}
 use Rattle.sc_parse.proofs.Declared.{any_left, any_right, member_line_exact}

@@ -1,22 +1,9 @@
 -- What a section with its lexemes is parsed to.
-use Rattle.std.proofs.Common.{◌≡◌, ℕ, zero, suc, ◌+◌, ◌-◌, ◌≤◌, ◌<◌, Bool, true, false, cond, leb, List, [], ◌∷◌, take, map, length, Any, Option, Some, None, Result, Ok, Err, IfOk, IsErrOf, refl, sym, subst, ap, ◌∙◌, arith}
-use Rattle.std.proofs.lemmas.Bool.{leb-true, le-leb, lt-leb}
-use Rattle.std.proofs.lemmas.Option.{none-some}
-use Rattle.std.proofs.lemmas.List.{length-map}
-use Rattle.std.specs.Option.{option_map}
-use Rattle.sc_lex.specs.Lines.{line_after}
-use Rattle.sc_lex.specs.declared.token.Token.{Token}
+use Rattle.sc_parse.proofs.Common.{Any, Bool, Err, IfOk, IsErrOf, IsExcess, IsParsed, Lexeme, List, None, Ok, Option, Parses, Result, SectionTree, Some, Token, [], ap, arith, cond, cond_is, false, le-leb, leb, leb-true, length, length-map, lexeme_of, lexemes_of, line_after, map, most_open, none-some, open_after, option_map, refl, same_some, section_at, subst, suc, sym, take, tree_of, true, whole_line, zero, ℕ, ◌+◌, ◌-◌, ◌<◌, ◌∙◌, ◌∷◌, ◌≡◌, ◌≤◌}
+use Rattle.std.proofs.lemmas.Bool.{lt-leb}
 use Rattle.sc_lex.specs.declared.refusal.Refusal.{Refusal}
-use Rattle.sc_ast.specs.declared.section.SectionTree.{SectionTree}
-use Rattle.sc_expr.specs.declared.lexeme.Lexeme.{Lexeme}
-use Rattle.sc_expr.specs.Brackets.{open_after, most_open}
-use Rattle.sc_expr.specs.Lexemes.{lexeme_of}
-use Rattle.sc_expr.proofs.Options.{same_some, cond_is}
 use Rattle.sc_lex.specs.declared.fault.TextFault.{TextFault}
 use Rattle.sc_lex.specs.declared.fault.TextFault.TheVariants as fault
-use Rattle.sc_parse.specs.SectionReaders.{section_at}
-use Rattle.sc_parse.specs.Limits.{IsParsed, lexemes_of, whole_line}
-use Rattle.sc_parse.specs.Outcomes.{IsExcess, tree_of, Parses}
 use Rattle.sc_parse.proofs.Sections.{section_sound, section_complete}
 
 fewer : (n k : ℕ) (ts : List Lexeme) → most_open n (take k ts) ≤ most_open n ts

@@ -1,29 +1,9 @@
 -- Declarations in a section are spelled as they are read.
-use Rattle.std.proofs.Common.{◌≡◌, ℕ, ◌≤◌, Bool, true, false, cond, List, [], ◌∷◌, ◌++◌, drop, map, Option, Some, None, refl, sym, ap, ◌∙◌, subst, arith}
-use Rattle.std.specs.Option.{option_map_or}
-use Rattle.sc_ast.specs.Height.{decls_height}
-use Rattle.sc_ast.specs.Heads.{head_of}
-use Rattle.sc_ast.specs.declared.types.BaseTree.{BaseTree}
-use Rattle.sc_ast.specs.declared.section.HeadTree.{HeadTree}
-use Rattle.sc_ast.specs.declared.section.FunctionHead.{FunctionHead}
-use Rattle.sc_ast.specs.declared.section.FunctionTree.{FunctionTree}
-use Rattle.sc_ast.specs.declared.section.GlobalTree.{GlobalTree}
-use Rattle.sc_ast.specs.declared.section.Decl.{Decl}
+use Rattle.sc_parse.proofs.Common.{BaseTree, Bool, Decl, Declares, FunctionHead, FunctionTree, GlobalTree, HeadTree, IsGlobal, Keyword, Lexeme, List, None, Option, Reader, Separated, Some, SpellsDecl, SpellsHead, [], a_function, a_struct, adds, ap, arith, begins_head, begins_struct, behind, behind_head, behind_mark, body_behind, bound, cond, decl_at, declaration_at, declares, decls_height, drop, false, function, function_behind, globals, globals_behind, head_at, head_of, headed_at, is_struct_word, keyword_at, map, more, named_head, names_struct, option_map_or, prototype, refl, same_some, struct_at, struct_decl_at, subst, sym, true, ℕ, ◌++◌, ◌>>=◌, ◌∙◌, ◌∷◌, ◌≡◌, ◌≤◌}
 use Rattle.sc_ast.specs.declared.section.Decl.TheVariants as decl
-use Rattle.sc_expr.specs.declared.mark.Keyword.{Keyword}
 use Rattle.sc_expr.specs.declared.mark.Keyword.TheVariants as word
 use Rattle.sc_expr.specs.declared.mark.Mark.TheVariants as mark
-use Rattle.sc_expr.specs.declared.lexeme.Lexeme.{Lexeme}
-use Rattle.sc_expr.specs.Fronts.{behind}
-use Rattle.sc_expr.specs.Reading.{◌>>=◌}
-use Rattle.sc_expr.proofs.Options.{same_some, bound}
-use Rattle.sc_expr.proofs.Ahead.{behind_mark}
-use Rattle.sc_parse.specs.Lists.{Separated, more}
 use Rattle.sc_parse.specs.Lists as lists
-use Rattle.sc_parse.specs.Declarations.{Declares, declares, IsGlobal, SpellsHead, function, SpellsDecl, a_struct, globals, prototype, a_function}
-use Rattle.sc_parse.specs.Fronts.{Reader, keyword_at}
-use Rattle.sc_parse.specs.Readers.{adds, declaration_at, struct_at, head_at, is_struct_word, names_struct, begins_struct, begins_head, globals_behind}
-use Rattle.sc_parse.specs.SectionReaders.{named_head, body_behind, function_behind, behind_head, headed_at, struct_decl_at, decl_at}
 use Rattle.sc_parse.proofs.Exact.{Taken, Added, took, glued}
 use Rattle.sc_parse.proofs.Expressions.{false-true}
 use Rattle.sc_parse.proofs.Structures.{struct_sound}

@@ -1,30 +1,11 @@
 -- How declarations are spelled (C11 6.7, 6.9). Each declarator gives an entry, at the line of its declaration.
+use Rattle.sc_parse.specs.Common.{BaseTree, ConstTree, Decl, ExprTree, FunctionHead, FunctionTree, HeadTree, InitTree, IsIdent, IsMark, Lexeme, LocalTree, MemberTree, Number, ParamTree, Spells, StmtTree, StructTree, TypeName, TypeTree, head_of, loosest_level}
 use Rattle.std.specs.Prelude.{ℕ, true, false, List, [], ◌∷◌, ◌++◌, map, Option, Some, None}
-use Rattle.sc_ast.specs.Numbers.{Number}
-use Rattle.sc_ast.specs.Heads.{head_of}
-use Rattle.sc_ast.specs.declared.expr.ExprTree.{ExprTree}
-use Rattle.sc_ast.specs.declared.types.BaseTree.{BaseTree}
-use Rattle.sc_ast.specs.declared.types.TypeTree.{TypeTree}
-use Rattle.sc_ast.specs.declared.types.TypeName.{TypeName}
-use Rattle.sc_ast.specs.declared.stmt.StmtTree.{StmtTree}
-use Rattle.sc_ast.specs.declared.section.MemberTree.{MemberTree}
-use Rattle.sc_ast.specs.declared.section.StructTree.{StructTree}
-use Rattle.sc_ast.specs.declared.section.ConstTree.{ConstTree}
-use Rattle.sc_ast.specs.declared.section.InitTree.{InitTree}
 use Rattle.sc_ast.specs.declared.section.InitTree.TheVariants as init
 use Rattle.sc_ast.specs.declared.section.GlobalTree.{GlobalTree}
-use Rattle.sc_ast.specs.declared.section.ParamTree.{ParamTree}
-use Rattle.sc_ast.specs.declared.section.HeadTree.{HeadTree}
-use Rattle.sc_ast.specs.declared.section.FunctionHead.{FunctionHead}
-use Rattle.sc_ast.specs.declared.section.LocalTree.{LocalTree}
-use Rattle.sc_ast.specs.declared.section.FunctionTree.{FunctionTree}
-use Rattle.sc_ast.specs.declared.section.Decl.{Decl}
 use Rattle.sc_ast.specs.declared.section.Decl.TheVariants as decl
 use Rattle.sc_expr.specs.declared.mark.Keyword.TheVariants as word
 use Rattle.sc_expr.specs.declared.mark.Mark.TheVariants as mark
-use Rattle.sc_expr.specs.declared.lexeme.Lexeme.{Lexeme}
-use Rattle.sc_base.specs.Levels.{loosest_level}
-use Rattle.sc_expr.specs.Grammar.{Spells, IsMark, IsIdent}
 use Rattle.sc_parse.specs.Lists.{IsKeyword, IsInteger, first_line, Separated, Grouped}
 use Rattle.sc_parse.specs.Types.{SpellsBase, SpellsTypeName, SpellsDeclarator}
 use Rattle.sc_parse.specs.Statements.{SpellsStmts}

@@ -1,16 +1,10 @@
 -- Helping: what stands at the front of a list of lexemes.
+use Rattle.sc_parse.specs.Common.{Keyword, Lexeme, Mark, Number, Symbol, behind, is_mark, name_by, ◌>>=◌}
 use Rattle.std.specs.Prelude.{ℕ, Bool, true, false, ◌&&◌, List, [], ◌∷◌, Option, Some, None, is_some, drop, if◌then◌else◌}
 use Rattle.std.specs.List.{prefix_len}
-use Rattle.sc_ast.specs.Numbers.{Number}
-use Rattle.sc_expr.specs.declared.mark.Keyword.{Keyword}
 use Rattle.sc_expr.specs.declared.mark.Keyword.TheVariants as word
-use Rattle.sc_expr.specs.declared.mark.Mark.{Mark}
 use Rattle.sc_expr.specs.declared.mark.Mark.TheVariants as mark
-use Rattle.sc_expr.specs.declared.lexeme.Symbol.{Symbol}
 use Rattle.sc_expr.specs.declared.lexeme.Symbol.TheVariants as symbol
-use Rattle.sc_expr.specs.declared.lexeme.Lexeme.{Lexeme}
-use Rattle.sc_expr.specs.Fronts.{is_mark, behind}
-use Rattle.sc_expr.specs.Reading.{◌>>=◌, name_by}
 
 -- what is read at the front, and the lexemes behind it
 abbrev pub Reader : Type 0 → Type 0

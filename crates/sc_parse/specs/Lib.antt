@@ -1,3 +1,5 @@
+pub mod Common
+pub mod Prelude
 pub mod Lists
 pub mod Types
 pub mod Statements

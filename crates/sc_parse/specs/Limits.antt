@@ -1,12 +1,8 @@
 -- What a section with its lexemes is parsed to, within the limits.
+use Rattle.sc_parse.specs.Common.{Lexeme, SectionTree, lexeme_of, most_open, section_height}
+use Rattle.sc_lex.specs.Prelude.{line_after}
 use Rattle.std.specs.Prelude.{ℕ, ◌-◌, ◌≤◌, List, map}
-use Rattle.sc_lex.specs.Lines.{line_after}
 use Rattle.sc_lex.specs.declared.token.Token.{Token}
-use Rattle.sc_ast.specs.Height.{section_height}
-use Rattle.sc_ast.specs.declared.section.SectionTree.{SectionTree}
-use Rattle.sc_expr.specs.declared.lexeme.Lexeme.{Lexeme}
-use Rattle.sc_expr.specs.Brackets.{most_open}
-use Rattle.sc_expr.specs.Lexemes.{lexeme_of}
 use Rattle.sc_parse.specs.Sections.{SpellsSection}
 
 -- The lexemes spell the tree of a section whose compartment line is this one of the whole text. It is at most 256 high,

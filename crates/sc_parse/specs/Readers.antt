@@ -1,28 +1,12 @@
 -- Helping: reading types, lists and declarations from left to right.
+use Rattle.sc_parse.specs.Common.{BaseTree, ConstTree, Decl, Declarator, HeadTree, InitTree, Keyword, Lexeme, MemberTree, Number, ParamTree, StructTree, TypeName, TypeTree, array_length, behind, name_at, non_empty, ◌>>=◌}
 use Rattle.std.specs.Prelude.{ℕ, zero, suc, ◌+◌, Bool, true, false, ◌||◌, List, [], ◌∷◌, ◌++◌, length, drop, Option, Some, None, is_some, if◌then◌else◌}
 use Rattle.std.specs.Option.{option_map_or}
-use Rattle.sc_ast.specs.Numbers.{Number, array_length}
-use Rattle.sc_ast.specs.Lists.{non_empty}
-use Rattle.sc_ast.specs.declared.types.BaseTree.{BaseTree}
 use Rattle.sc_ast.specs.declared.types.BaseTree.TheVariants as base
-use Rattle.sc_ast.specs.declared.types.TypeTree.{TypeTree}
-use Rattle.sc_ast.specs.declared.types.TypeName.{TypeName}
-use Rattle.sc_ast.specs.declared.section.MemberTree.{MemberTree}
-use Rattle.sc_ast.specs.declared.section.StructTree.{StructTree}
-use Rattle.sc_ast.specs.declared.section.ConstTree.{ConstTree}
-use Rattle.sc_ast.specs.declared.section.InitTree.{InitTree}
 use Rattle.sc_ast.specs.declared.section.InitTree.TheVariants as init
-use Rattle.sc_ast.specs.declared.section.ParamTree.{ParamTree}
-use Rattle.sc_ast.specs.declared.section.HeadTree.{HeadTree}
-use Rattle.sc_ast.specs.declared.section.Decl.{Decl}
 use Rattle.sc_ast.specs.declared.section.Decl.TheVariants as decl
-use Rattle.sc_expr.specs.declared.mark.Keyword.{Keyword}
 use Rattle.sc_expr.specs.declared.mark.Keyword.TheVariants as word
 use Rattle.sc_expr.specs.declared.mark.Mark.TheVariants as mark
-use Rattle.sc_expr.specs.declared.lexeme.Lexeme.{Lexeme}
-use Rattle.sc_expr.specs.Fronts.{behind}
-use Rattle.sc_expr.specs.Reading.{◌>>=◌, name_at}
-use Rattle.sc_parse.specs.declared.types.Declarator.{Declarator}
 use Rattle.sc_parse.specs.Lists.{first_line}
 use Rattle.sc_parse.specs.Fronts.{Reader, past_int, is_void, keyword_at, integer_by, begins_with, begins_call, star_count, behind_inner_comma}
 

@@ -1,29 +1,12 @@
 -- Helping: reading functions and sections from left to right, where `free` brackets may be open and trees may be as
 -- high as `limit`.
+use Rattle.sc_parse.specs.Common.{BaseTree, Decl, Declarator, ExportLine, ExprTree, FunctionHead, FunctionTree, HeadTree, ImportLine, Lexeme, LocalTree, ParamTree, SectionTree, StmtTree, Symbol, TypeName, behind, ◌>>=◌}
 use Rattle.std.specs.Prelude.{ℕ, zero, suc, ◌+◌, Bool, true, false, not, List, [], ◌∷◌, ◌++◌, length, drop, Option, Some, None, if◌then◌else◌}
 use Rattle.std.specs.Option.{option_map_or}
-use Rattle.sc_ast.specs.declared.types.BaseTree.{BaseTree}
-use Rattle.sc_ast.specs.declared.types.TypeName.{TypeName}
-use Rattle.sc_ast.specs.declared.expr.ExprTree.{ExprTree}
-use Rattle.sc_ast.specs.declared.stmt.StmtTree.{StmtTree}
-use Rattle.sc_ast.specs.declared.section.LocalTree.{LocalTree}
-use Rattle.sc_ast.specs.declared.section.ParamTree.{ParamTree}
-use Rattle.sc_ast.specs.declared.section.HeadTree.{HeadTree}
 use Rattle.sc_ast.specs.declared.section.FunctionParam.{FunctionParam}
-use Rattle.sc_ast.specs.declared.section.FunctionHead.{FunctionHead}
-use Rattle.sc_ast.specs.declared.section.FunctionTree.{FunctionTree}
-use Rattle.sc_ast.specs.declared.section.Decl.{Decl}
 use Rattle.sc_ast.specs.declared.section.Decl.TheVariants as decl
-use Rattle.sc_ast.specs.declared.section.ExportLine.{ExportLine}
-use Rattle.sc_ast.specs.declared.section.ImportLine.{ImportLine}
-use Rattle.sc_ast.specs.declared.section.SectionTree.{SectionTree}
 use Rattle.sc_expr.specs.declared.mark.Mark.TheVariants as mark
-use Rattle.sc_expr.specs.declared.lexeme.Symbol.{Symbol}
 use Rattle.sc_expr.specs.declared.lexeme.Symbol.TheVariants as symbol
-use Rattle.sc_expr.specs.declared.lexeme.Lexeme.{Lexeme}
-use Rattle.sc_expr.specs.Fronts.{behind}
-use Rattle.sc_expr.specs.Reading.{◌>>=◌}
-use Rattle.sc_parse.specs.declared.types.Declarator.{Declarator}
 use Rattle.sc_parse.specs.declared.section.Line.{Line}
 use Rattle.sc_parse.specs.declared.section.Line.TheVariants as line
 use Rattle.sc_parse.specs.declared.section.Directives.{Directives}

@@ -1,24 +1,12 @@
 -- How calls and statements are spelled (C11 6.5.2.2, 6.5.16, 6.8).
+use Rattle.sc_parse.specs.Common.{BinaryOp, CallTree, ExprTree, IsIdent, IsMark, Lexeme, Mark, SimpleKind, SimpleTree, Spells, StmtKind, StmtTree, is_place, kind_of, loosest_level, unary_level}
 use Rattle.std.specs.Prelude.{◌≡◌, ℕ, false, IsTrue, List, [], ◌∷◌, ◌++◌, Option, Some, None}
-use Rattle.sc_ast.specs.Places.{is_place}
-use Rattle.sc_ast.specs.Simple.{kind_of}
-use Rattle.sc_ast.specs.declared.expr.ExprTree.{ExprTree}
 use Rattle.sc_ast.specs.declared.expr.ExprTree.TheVariants as expr
-use Rattle.sc_base.specs.declared.op.BinaryOp.{BinaryOp}
 use Rattle.sc_base.specs.declared.op.BinaryOp.TheVariants as binary
-use Rattle.sc_ast.specs.declared.expr.CallTree.{CallTree}
-use Rattle.sc_ast.specs.declared.stmt.SimpleKind.{SimpleKind}
 use Rattle.sc_ast.specs.declared.stmt.SimpleKind.TheVariants as simple
-use Rattle.sc_ast.specs.declared.stmt.SimpleTree.{SimpleTree}
-use Rattle.sc_ast.specs.declared.stmt.StmtKind.{StmtKind}
 use Rattle.sc_ast.specs.declared.stmt.StmtKind.TheVariants as stmt
-use Rattle.sc_ast.specs.declared.stmt.StmtTree.{StmtTree}
 use Rattle.sc_expr.specs.declared.mark.Keyword.TheVariants as word
-use Rattle.sc_expr.specs.declared.mark.Mark.{Mark}
 use Rattle.sc_expr.specs.declared.mark.Mark.TheVariants as mark
-use Rattle.sc_expr.specs.declared.lexeme.Lexeme.{Lexeme}
-use Rattle.sc_base.specs.Levels.{unary_level, loosest_level}
-use Rattle.sc_expr.specs.Grammar.{Spells, IsMark, IsIdent}
 use Rattle.sc_parse.specs.Lists.{IsKeyword, Separated, first_line}
 
 -- Arguments, or none.

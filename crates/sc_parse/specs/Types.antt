@@ -1,14 +1,9 @@
 -- How types and declarators are spelled (C11 6.7.2, 6.7.6).
+use Rattle.sc_parse.specs.Common.{BaseTree, IsIdent, IsMark, Lexeme, Number, TypeName, TypeTree, array_length}
 use Rattle.std.specs.Prelude.{◌≡◌, ℕ, ◌+◌, List, [], ◌∷◌, ◌++◌, Some, None}
-use Rattle.sc_ast.specs.Numbers.{Number, array_length}
-use Rattle.sc_ast.specs.declared.types.BaseTree.{BaseTree}
 use Rattle.sc_ast.specs.declared.types.BaseTree.TheVariants as base
-use Rattle.sc_ast.specs.declared.types.TypeTree.{TypeTree}
-use Rattle.sc_ast.specs.declared.types.TypeName.{TypeName}
 use Rattle.sc_expr.specs.declared.mark.Keyword.TheVariants as word
 use Rattle.sc_expr.specs.declared.mark.Mark.TheVariants as mark
-use Rattle.sc_expr.specs.declared.lexeme.Lexeme.{Lexeme}
-use Rattle.sc_expr.specs.Grammar.{IsMark, IsIdent}
 use Rattle.sc_parse.specs.Lists.{IsKeyword, IsInteger}
 
 -- What a declaration begins with.

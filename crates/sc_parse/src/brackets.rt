@@ -1,8 +1,7 @@
 //! The limit on open brackets.
 
+ghost use Rattle.sc_parse.specs.Prelude.{IsExcess, most_open, open_after, open_behind};
 ghost use Rattle.std.specs.Prelude.{◌≡◌, ◌<◌, ◌≤◌, IfSome, IfNone, length};
-ghost use Rattle.sc_expr.specs.Brackets.{open_behind, open_after, most_open};
-ghost use Rattle.sc_parse.specs.Outcomes.{IsExcess};
 
 use sc_base::MAX_BRACKETS;
 use sc_expr::{Lexeme, Mark, Symbol};

@@ -1,9 +1,7 @@
 //! Expressions in statements, and calls.
 
+ghost use Rattle.sc_parse.specs.Prelude.{Agrees, all_separated, args_at, args_behind, args_in_parens, call_at, condition_at, expr_at};
 ghost use Rattle.std.specs.Prelude.{◌≡◌, ◌+◌, [], length};
-ghost use Rattle.sc_expr.specs.Fronts.{Agrees};
-ghost use Rattle.sc_parse.specs.Readers.{all_separated};
-ghost use Rattle.sc_parse.specs.StmtReaders.{expr_at, args_behind, args_at, args_in_parens, call_at, condition_at};
 
 use crate::front::{begins_with, ended_by, name_at, skip, take};
 use sc_ast::{CallTree, ExprTree, Exprs};

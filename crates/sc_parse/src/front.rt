@@ -2,11 +2,8 @@
 //!
 //! A parser takes the lexemes that are left by `&mut`, and leaves those behind what it read.
 
+ghost use Rattle.sc_parse.specs.Prelude.{Agrees, begins_call, begins_with, behind, behind_inner_comma, ended_by, first_line, integer_by, is_base, is_else, is_mark, is_void, keyword_at, keyword_by, name_at, name_by, past_int, star_count};
 ghost use Rattle.std.specs.Prelude.{◌≡◌, ◌≤◌, length, drop, IsSome, true, false, Some, None};
-ghost use Rattle.sc_expr.specs.Fronts.{Agrees, is_mark, behind};
-ghost use Rattle.sc_expr.specs.Reading.{name_by, name_at};
-ghost use Rattle.sc_parse.specs.Lists.{first_line};
-ghost use Rattle.sc_parse.specs.Fronts.{ended_by, past_int, is_void, is_else, is_base, keyword_by, keyword_at, integer_by, begins_with, begins_call, star_count, behind_inner_comma};
 
 use sc_ast::{Ident, Literal};
 use sc_expr::{Keyword, Lexeme, Mark, Symbol, SyntaxFault, expect, refused};

@@ -1,9 +1,7 @@
 //! Locals and functions.
 
+ghost use Rattle.sc_parse.specs.Prelude.{Agrees, all_separated, behind_head, body_behind, declaration_at, function_behind, grouped, headed_at, local_at, locals_at, locals_behind, named_head, no_base, value_at};
 ghost use Rattle.std.specs.Prelude.{◌≡◌, ◌+◌, [], length};
-ghost use Rattle.sc_expr.specs.Fronts.{Agrees};
-ghost use Rattle.sc_parse.specs.Readers.{all_separated, declaration_at, grouped};
-ghost use Rattle.sc_parse.specs.SectionReaders.{value_at, local_at, locals_behind, locals_at, named_head, body_behind, function_behind, behind_head, headed_at, no_base};
 
 use crate::calls::expr_at;
 use crate::front::{first_line, is_base, keyword_at, skip, take};

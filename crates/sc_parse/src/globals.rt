@@ -1,9 +1,7 @@
 //! Globals and what they begin with.
 
+ghost use Rattle.sc_parse.specs.Prelude.{Agrees, adds, all_consts, all_separated, behind_inner_comma, const_at, consts_at, declaration_at, global_at, globals_behind, init_at, init_behind, literal_at, one_at, past_comma, separated};
 ghost use Rattle.std.specs.Prelude.{◌≡◌, ◌≤◌, ◌+◌, [], length};
-ghost use Rattle.sc_expr.specs.Fronts.{Agrees};
-ghost use Rattle.sc_parse.specs.Fronts.{behind_inner_comma};
-ghost use Rattle.sc_parse.specs.Readers.{literal_at, const_at, adds, separated, all_consts, consts_at, one_at, init_behind, init_at, past_comma, global_at, globals_behind, declaration_at, all_separated};
 
 use crate::front::{first_line, integer_by, skip, skip_inner_comma, take};
 use crate::types::{Declarator, base_at, declarator_at};

@@ -1,10 +1,7 @@
 //! Parameters, and the heads of functions and prototypes.
 
+ghost use Rattle.sc_parse.specs.Prelude.{Agrees, adds, all_separated, begins_head, head_at, is_void, keyword_at, name_at, param_at, params_at, params_in_parens, past_base, result_at, star_count};
 ghost use Rattle.std.specs.Prelude.{◌≡◌, ℕ, ◌+◌, List, [], length, drop, true, false, None, Some};
-ghost use Rattle.sc_expr.specs.Fronts.{Agrees};
-ghost use Rattle.sc_expr.specs.Reading.{name_at};
-ghost use Rattle.sc_parse.specs.Readers.{param_at, adds, all_separated, params_at, result_at, params_in_parens, head_at, past_base, begins_head};
-ghost use Rattle.sc_parse.specs.Fronts.{is_void, keyword_at, star_count};
 
 use crate::front::{
     begins_call, first_line, is_void, keyword_at, name_at, name_by, past, past_int, skip,

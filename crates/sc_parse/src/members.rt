@@ -1,10 +1,8 @@
 //! Structs and their members.
 
+ghost use Rattle.sc_parse.specs.Prelude.{Agrees, adds, all_separated, begins_with, declaration_at, grouped, member_at, members_at, members_behind, members_in_braces, struct_at};
 ghost use Rattle.std.specs.Prelude.{◌≡◌, ◌≤◌, ◌+◌, length};
-ghost use Rattle.sc_expr.specs.Fronts.{Agrees};
 ghost use Rattle.sc_expr.specs.declared.mark.Mark.TheVariants.{CloseCurly};
-ghost use Rattle.sc_parse.specs.Fronts.{begins_with};
-ghost use Rattle.sc_parse.specs.Readers.{declaration_at, members_behind, member_at, adds, all_separated, grouped, members_at, members_in_braces, struct_at};
 
 use crate::front::{begins_with, first_line, name_at, skip, take};
 use crate::types::{Declarator, base_at, declarator_at};

@@ -1,13 +1,9 @@
 //! Parsing the tokens of a section.
 
+ghost use Rattle.sc_parse.specs.Prelude.{IsCut, IsParsed, Parses, SectionTree, lexemes_of, line_after, whole_line};
 ghost use Rattle.std.specs.Prelude.{◌≡◌, ◌<◌, ◌≤◌, ◌-◌, length, Any, IfOk, IsErrOf};
-ghost use Rattle.sc_lex.specs.Cutting.{IsCut};
-ghost use Rattle.sc_lex.specs.Lines.{line_after};
 ghost use Rattle.sc_lex.specs.declared.refusal.Refusal.{Refusal};
 ghost use Rattle.sc_lex.specs.declared.refusal.Phase.TheVariants.{Syntax};
-ghost use Rattle.sc_ast.specs.declared.section.SectionTree.{SectionTree};
-ghost use Rattle.sc_parse.specs.Limits.{IsParsed, lexemes_of, whole_line};
-ghost use Rattle.sc_parse.specs.Outcomes.{Parses};
 
 use crate::brackets::first_excess;
 use crate::section::section_at;

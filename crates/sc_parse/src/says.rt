@@ -1,10 +1,9 @@
 //! What tokens say.
 
+ghost use Rattle.sc_parse.specs.Prelude.{IsSpan, says, symbol_of};
 ghost use Rattle.std.specs.Prelude.{◌≡◌, ℕ, List, Some, slice_range};
-ghost use Rattle.sc_lex.specs.Spans.{IsSpan};
 ghost use Rattle.sc_lex.specs.declared.token.Token.{Token};
 ghost use Rattle.sc_lex.specs.declared.token.TokenKind.TheVariants.{Reserved};
-ghost use Rattle.sc_expr.specs.Lexemes.{says, symbol_of};
 
 /// A token that is no reserved word is the lexeme that its text says. A reserved word may say nothing, where it has no
 /// place in the grammar.

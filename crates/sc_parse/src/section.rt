@@ -1,13 +1,8 @@
 //! Directives, declarations and sections.
 
+ghost use Rattle.sc_parse.specs.Prelude.{Agrees, SectionTree, SpellsSection, adds, begins_struct, compartment_at, compartment_by, decl_at, decls_at, directives, directives_at, grouped, headed_at, is_empty, is_struct_word, keyword_at, line_at, line_by, lines_at, names_struct, section_at, struct_decl_at, with_line};
 ghost use Rattle.std.specs.Prelude.{◌≡◌, ◌≤◌, ◌+◌, ◌-◌, ℕ, List, [], length, drop, true, false, IsSome, IfOk};
-ghost use Rattle.sc_ast.specs.declared.section.SectionTree.{SectionTree};
 ghost use Rattle.sc_expr.specs.declared.lexeme.Lexeme.{Lexeme};
-ghost use Rattle.sc_expr.specs.Fronts.{Agrees};
-ghost use Rattle.sc_parse.specs.Fronts.{keyword_at};
-ghost use Rattle.sc_parse.specs.Readers.{adds, grouped, names_struct, is_struct_word, begins_struct};
-ghost use Rattle.sc_parse.specs.SectionReaders.{struct_decl_at, headed_at, decl_at, is_empty, decls_at, line_by, line_at, directives, with_line, lines_at, directives_at, compartment_by, compartment_at, section_at};
-ghost use Rattle.sc_parse.specs.Sections.{SpellsSection};
 
 use crate::front::{begins_with, keyword_at, name_by, past};
 use crate::functions::headed_at;

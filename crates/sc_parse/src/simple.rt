@@ -1,9 +1,9 @@
 //! Assignments, `++` and `--`, and calls as statements.
 
+ghost use Rattle.sc_parse.specs.Prelude.{Agrees, always, assignment_at, begins_value, call_alone, change_at, change_of, changed, compound_of, makes_value, mark_at, mark_by, operand_behind, part_at, place_at, simple_at, step_at, step_of, stepped, test_at, unstepped, updates, value_behind};
 ghost use Rattle.std.specs.Prelude.{◌≡◌, ◌≤◌, ◌+◌, drop, length, IsSome, IfOk, Some};
-ghost use Rattle.sc_expr.specs.Fronts.{Agrees};
-ghost use Rattle.sc_parse.specs.Statements.{compound_of, step_of, updates, one};
-ghost use Rattle.sc_parse.specs.StmtReaders.{mark_by, mark_at, change_of, change_at, step_at, makes_value, begins_value, place_at, value_behind, operand_behind, stepped, changed, assignment_at, step_before, call_alone, unstepped, simple_at, always, part_at, test_at};
+ghost use Rattle.sc_parse.specs.Statements.{one};
+ghost use Rattle.sc_parse.specs.StmtReaders.{step_before};
 
 use crate::calls::{call_at, expr_at};
 use crate::copy::copy_expr;

@@ -1,11 +1,9 @@
 //! Statements and blocks.
 
+ghost use Rattle.sc_parse.specs.Prelude.{Agrees, adds, block_at, else_at, else_behind, ended_at, first_part, for_behind, for_head, if_behind, is_else, keyword_at, kind_by, last_part, loop_of, middle_part, plain_at, returned, simple_or_none, stmt_at, stmt_within, stmts_at, value_returned, while_behind};
+ghost use Rattle.sc_ast.specs.Prelude.{kind_of};
 ghost use Rattle.std.specs.Prelude.{◌≡◌, ◌≤◌, ◌+◌, [], ◌∷◌, length, drop, true, false, IfOk};
-ghost use Rattle.sc_expr.specs.Fronts.{Agrees};
-ghost use Rattle.sc_ast.specs.Simple.{kind_of};
-ghost use Rattle.sc_parse.specs.Fronts.{is_else, keyword_at};
-ghost use Rattle.sc_parse.specs.Readers.{adds};
-ghost use Rattle.sc_parse.specs.StmtReaders.{value_returned, returned, simple_or_none, plain_at, ended_at, first_part, middle_part, last_part, for_head, loop_of, stmts_at, block_at, alone, else_behind, else_at, if_behind, while_behind, for_behind, kind_by, stmt_within, stmt_at};
+ghost use Rattle.sc_parse.specs.StmtReaders.{alone};
 
 use crate::calls::{call_at, condition_at, expr_at};
 use crate::front::{

@@ -1,8 +1,7 @@
 //! Types and declarators.
 
+ghost use Rattle.sc_parse.specs.Prelude.{Agrees, base_at, base_by, bracketed_length, declarator_at, elements_at, length_at, type_name_at};
 ghost use Rattle.std.specs.Prelude.{◌≡◌, ◌+◌, length};
-ghost use Rattle.sc_expr.specs.Fronts.{Agrees};
-ghost use Rattle.sc_parse.specs.Readers.{base_by, base_at, type_name_at, elements_at, bracketed_length, length_at, declarator_at};
 
 use crate::front::{integer_by, keyword_at, name_at, past_int, skip, star_count, take};
 use sc_ast::{ArrayLength, BaseTree, Ident, TypeName};

@@ -1,22 +1,8 @@
 -- Words that stand apart from the text behind them.
-use Rattle.std.proofs.Common.{◌≡◌, ℕ, ◌<◌, Bool, true, false, ◌&&◌, ◌||◌, codes, List, [], ◌∷◌, ◌++◌, length, length-append, take, drop, Some, refl, sym, ap, ◌∙◌, arith}
-use Rattle.std.specs.Prelude.{nat_le, ◌==◌, slice_index}
-use Rattle.std.specs.List.{list_all, prefix_len}
-use Rattle.std.proofs.Math.Seq.{take-append_seam}
-use Rattle.std.proofs.lemmas.Bool.{and_parts, and_from, le-leb, false≢true}
+use Rattle.sc_print.proofs.Common.{BinaryOp, Bool, IsToken, List, Some, TokenKind, [], and_from, and_parts, ap, arith, begins_block_comment, begins_line_comment, binary_text, codes, drop, false, false≢true, is_mark, is_name_byte, is_reserved, le-leb, length, length-append, list_all, mark_one, mark_two, marks, nat_le, prefix_len, refl, slice_index, sym, take, take-append_seam, true, word_found, word_kind, word_run, ℕ, ◌&&◌, ◌++◌, ◌<◌, ◌==◌, ◌||◌, ◌∙◌, ◌∷◌, ◌≡◌}
 use Rattle.sc_base.proofs.Bools.{and_false}
-use Rattle.sc_base.specs.Identifier.{is_name_byte}
-use Rattle.sc_base.specs.Reserved.{is_reserved}
-use Rattle.sc_lex.specs.Tables.{marks, is_mark}
-use Rattle.sc_lex.specs.Cutting.{begins_block_comment, begins_line_comment, IsToken}
-use Rattle.sc_lex.specs.Kinds.{word_kind}
-use Rattle.sc_lex.specs.declared.token.TokenKind.{TokenKind}
 use Rattle.sc_lex.specs.declared.token.TokenKind.TheVariants as kind
-use Rattle.sc_lex.proofs.Texts.{word_run}
-use Rattle.sc_lex.proofs.Fronts.{word_found, mark_one, mark_two}
-use Rattle.sc_base.specs.declared.op.BinaryOp.{BinaryOp}
 use Rattle.sc_base.specs.declared.op.BinaryOp.TheVariants as binary
-use Rattle.sc_ast.specs.ExprWords.{binary_text}
 use Rattle.sc_print.proofs.Literals.{no_table}
 
 -- The text is the token at the front, where this stands behind it.

@@ -1,18 +1,5 @@
 -- Pieces that stand apart are cut into their words.
-use Rattle.std.proofs.Common.{◌≡◌, ℕ, zero, suc, ◌+◌, ◌-◌, ◌*◌, true, replicate, IsTrue, List, [], ◌∷◌, ◌++◌, length, length-append, append_assoc, map, take, drop, Some, refl, sym, ap, ap₂, ◌∙◌, subst, arith}
-use Rattle.std.specs.Prelude.{slice_index, slice_range}
-use Rattle.std.specs.Option.{option_and_then}
-use Rattle.std.proofs.Math.Seq.{take-append_seam, drop-append_seam}
-use Rattle.std.proofs.lemmas.List.{append-nil}
-use Rattle.sc_ast.specs.Pieces.{Piece, text_of}
-use Rattle.sc_lex.specs.Lines.{is_white_space}
-use Rattle.sc_lex.specs.Kinds.{kind_of}
-use Rattle.sc_lex.specs.Cutting.{white_space, IsToken, allows_directive, token_at, Cuts, nothing, gap, token}
-use Rattle.sc_lex.specs.declared.token.Token.{Token}
-use Rattle.sc_lex.specs.declared.token.TokenKind.{TokenKind}
-use Rattle.sc_expr.specs.Lexemes.{says, or_unused, symbol_of}
-use Rattle.sc_expr.specs.declared.lexeme.Symbol.{Symbol}
-use Rattle.sc_print.specs.Symbols.{word_symbol, symbols}
+use Rattle.sc_print.proofs.Common.{Cuts, IsToken, IsTrue, List, Piece, Some, Symbol, Token, TokenKind, [], allows_directive, ap, append-nil, append_assoc, ap₂, arith, drop, drop-append_seam, gap, is_white_space, kind_of, length, length-append, map, nothing, option_and_then, or_unused, refl, replicate, says, slice_index, slice_range, subst, suc, sym, symbol_of, symbols, take, take-append_seam, text_of, token, token_at, true, white_space, word_symbol, zero, ℕ, ◌*◌, ◌++◌, ◌+◌, ◌-◌, ◌∙◌, ◌∷◌, ◌≡◌}
 use Rattle.sc_print.proofs.Spacing as spacing
 use Rattle.sc_print.proofs.Spacing.{Tidy}
 

@@ -1,35 +1,9 @@
 -- The words of declarations stand apart.
-use Rattle.std.proofs.Common.{◌≡◌, ℕ, zero, suc, Bool, true, false, ◌&&◌, ◌||◌, IsTrue, codes, List, [], ◌∷◌, ◌++◌, append_assoc, Option, Some, None, refl, sym, subst}
-use Rattle.std.specs.Prelude.{nat_le, nat_lt, is_some}
-use Rattle.std.specs.List.{list_all, flat_map, join_by}
-use Rattle.std.proofs.lemmas.Bool.{and_parts, leb-true, false≢true}
-use Rattle.std.proofs.lemmas.List.{append-nil}
-use Rattle.sc_ast.specs.Identifiers.{is_ident}
-use Rattle.sc_ast.specs.Numbers.{Number, fits}
-use Rattle.sc_ast.specs.Heads.{head_of}
-use Rattle.sc_ast.specs.Pieces.{Piece, word, blank, newline, text_of, blank_if, comma, line_of}
-use Rattle.sc_ast.specs.ExprWords.{literal_text}
-use Rattle.sc_ast.specs.StmtWords.{ended, layouts, lines_at}
-use Rattle.sc_ast.specs.SectionWords.{base_words, star_words, length_number, length_words, declared_words, member_line, struct_words, minus_words, const_words, init_words, global_words, name_words, param_words, params_words, result_words, head_words, value_words, local_line, function_words, decl_words}
-use Rattle.sc_ast.specs.declared.expr.ExprTree.{ExprTree}
-use Rattle.sc_ast.specs.declared.types.BaseTree.{BaseTree}
+use Rattle.sc_print.proofs.Common.{BaseTree, Bool, Decl, ExprTree, FunctionTree, GlobalTree, HeadTree, InitTree, IsTrue, List, LocalTree, MemberTree, None, Number, Option, ParamTree, Piece, Some, StructTree, TypeName, TypeTree, [], and_parts, append-nil, append_assoc, are_kept, base_words, blank, blank_if, codes, comma, const_words, decl_words, declared_words, ended, false, false≢true, fits, flat_map, function_words, global_words, head_of, head_words, init_words, is_ident, is_kept_decl, is_some, join_by, kept_base, kept_const, kept_function, kept_global, kept_head, kept_init, kept_length, kept_local, kept_member, kept_name, kept_param, kept_result, kept_struct, kept_type, kept_value, layouts, leb-true, length_number, length_words, line_of, lines_at, list_all, literal_text, local_line, member_line, minus_words, name_words, nat_le, nat_lt, newline, param_words, params_words, refl, result_words, some_kept, star_words, struct_words, subst, suc, sym, text_of, true, value_words, word, zero, ℕ, ◌&&◌, ◌++◌, ◌||◌, ◌∷◌, ◌≡◌}
 use Rattle.sc_ast.specs.declared.types.BaseTree.TheVariants as base
-use Rattle.sc_ast.specs.declared.types.TypeTree.{TypeTree}
-use Rattle.sc_ast.specs.declared.types.TypeName.{TypeName}
-use Rattle.sc_ast.specs.declared.section.MemberTree.{MemberTree}
-use Rattle.sc_ast.specs.declared.section.StructTree.{StructTree}
-use Rattle.sc_ast.specs.declared.section.InitTree.{InitTree}
 use Rattle.sc_ast.specs.declared.section.InitTree.TheVariants as init
-use Rattle.sc_ast.specs.declared.section.GlobalTree.{GlobalTree}
-use Rattle.sc_ast.specs.declared.section.ParamTree.{ParamTree}
-use Rattle.sc_ast.specs.declared.section.HeadTree.{HeadTree}
-use Rattle.sc_ast.specs.declared.section.LocalTree.{LocalTree}
-use Rattle.sc_ast.specs.declared.section.FunctionTree.{FunctionTree}
-use Rattle.sc_ast.specs.declared.section.Decl.{Decl}
 use Rattle.sc_ast.specs.declared.section.Decl.TheVariants as decl
 use Rattle.sc_lex.specs.declared.token.TokenKind.TheVariants as kind
-use Rattle.sc_print.specs.KeptStmts.{are_kept}
-use Rattle.sc_print.specs.KeptDecls.{kept_base, kept_length, kept_type, kept_member, some_kept, kept_struct, kept_const, kept_init, kept_global, kept_name, kept_param, kept_result, kept_head, kept_value, kept_local, kept_function, is_kept_decl}
 use Rattle.sc_print.proofs.Leaves.{name_kind, name_some}
 use Rattle.sc_print.proofs.Literals.{literal_kind, literal_some}
 use Rattle.sc_print.proofs.Apart.{IsWord, Calm, Quiet, quiet, plain_word, star_word, minus_word, open_paren, close_paren, open_square, close_square, semicolon, comma_word, open_curly, close_curly, equal_word, int_word, unsigned_word, struct_word, void_word}

@@ -1,30 +1,12 @@
 -- The words of declarations spell them, lines aside.
-use Rattle.std.proofs.Common.{◌≡◌, ℕ, ◌+◌, ◌≤◌, zero, suc, Bool, true, false, ◌||◌, IsTrue, codes, List, [], ◌∷◌, ◌++◌, Option, Some, None, sym, ap, ◌∙◌, subst, ⊎_elim, arith}
-use Rattle.std.specs.Prelude.{nat_le, nat_lt}
-use Rattle.std.specs.List.{list_all, flat_map, join_by}
-use Rattle.std.proofs.lemmas.Bool.{and_parts, and_from, or_right, le-leb, leb-true, lt-ltb, cases_lt, false≢true}
-use Rattle.std.proofs.lemmas.List.{append-nil}
-use Rattle.sc_ast.specs.Identifiers.{is_ident}
-use Rattle.sc_ast.specs.Numbers.{Number, fits, array_length}
-use Rattle.sc_ast.specs.Pieces.{word, blank, comma}
-use Rattle.sc_ast.specs.ExprWords.{literal_text}
-use Rattle.sc_ast.specs.SectionWords.{base_words, star_words, length_number, length_words, declared_words, minus_words, const_words, init_words}
+use Rattle.sc_print.proofs.Common.{BaseTree, Bool, InitTree, IsTrue, Lexeme, List, None, Number, Option, Separated, Some, SpellsBase, SpellsConst, SpellsDeclarator, SpellsInit, SpellsStars, SpellsTypeName, TypeTree, [], and_from, and_parts, ap, append-nil, arith, array_length, base_words, blank, cases_lt, codes, comma, const_words, declared_words, false, false≢true, fits, flat_map, init_words, is_ident, join_by, kept_base, kept_const, kept_init, kept_length, kept_type, le-leb, leb-true, length_number, length_words, list_all, literal_text, lt-ltb, minus_words, more, nat_le, nat_lt, one, or_right, star_words, subst, suc, sym, symbols, true, word, word_symbol, zero, ℕ, ⊎_elim, ◌++◌, ◌+◌, ◌||◌, ◌∙◌, ◌∷◌, ◌≡◌, ◌≤◌}
 use Rattle.sc_base.specs.declared.op.UnaryOp.TheVariants as unary
-use Rattle.sc_ast.specs.declared.types.BaseTree.{BaseTree}
 use Rattle.sc_ast.specs.declared.types.BaseTree.TheVariants as base
-use Rattle.sc_ast.specs.declared.types.TypeTree.{TypeTree}
 use Rattle.sc_ast.specs.declared.section.ConstTree.{ConstTree}
-use Rattle.sc_ast.specs.declared.section.InitTree.{InitTree}
 use Rattle.sc_ast.specs.declared.section.InitTree.TheVariants as init
 use Rattle.sc_expr.specs.declared.mark.Mark.TheVariants as mark
-use Rattle.sc_expr.specs.declared.lexeme.Lexeme.{Lexeme}
-use Rattle.sc_parse.specs.Lists.{Separated, one, more}
-use Rattle.sc_parse.specs.Types.{SpellsBase, SpellsStars, SpellsTypeName, SpellsDeclarator}
 use Rattle.sc_parse.specs.Types as types
-use Rattle.sc_parse.specs.Declarations.{SpellsConst, SpellsInit}
 use Rattle.sc_parse.specs.Declarations as decls
-use Rattle.sc_print.specs.Symbols.{word_symbol, symbols}
-use Rattle.sc_print.specs.KeptDecls.{kept_base, kept_length, kept_type, kept_const, kept_init}
 use Rattle.sc_print.proofs.Tables as tables
 use Rattle.sc_print.proofs.Lists.{Say, First, first_of, none_of, parts_of}
 use Rattle.sc_print.proofs.Leaves.{name_says}

@@ -1,17 +1,6 @@
 -- Sections without empty lines are cut into the words of the section.
-use Rattle.std.proofs.Common.{◌≡◌, ℕ, true, IsTrue, List, [], ◌∷◌, ◌++◌, refl, sym, ap, ap₂, ◌∙◌, subst}
-use Rattle.std.specs.List.{list_all, flat_map}
-use Rattle.std.proofs.lemmas.Bool.{and_parts}
-use Rattle.sc_ast.specs.Pieces.{Piece, newline, text_of}
-use Rattle.sc_ast.specs.SectionWords.{decl_words, export_words, import_words, section_words, heading_words, function_words}
-use Rattle.sc_ast.specs.declared.section.FunctionTree.{FunctionTree}
-use Rattle.sc_ast.specs.declared.section.Decl.{Decl}
+use Rattle.sc_print.proofs.Common.{Decl, FunctionTree, IsTrue, List, Piece, SaysAll, SectionTree, [], and_parts, ap, ap₂, decl_words, dense_decl, dense_text, dense_words, export_words, flat_map, function_words, heading_words, import_words, is_kept_decl, kept_section, list_all, newline, refl, section_words, subst, sym, symbols, text_of, true, ℕ, ◌++◌, ◌∙◌, ◌∷◌, ◌≡◌}
 use Rattle.sc_ast.specs.declared.section.Decl.TheVariants as decl
-use Rattle.sc_ast.specs.declared.section.SectionTree.{SectionTree}
-use Rattle.sc_print.specs.Symbols.{symbols}
-use Rattle.sc_print.specs.KeptDecls.{is_kept_decl}
-use Rattle.sc_print.specs.KeptSections.{kept_section}
-use Rattle.sc_print.specs.Dense.{dense_decl, dense_words, dense_text, SaysAll}
 use Rattle.sc_print.proofs.Spelling.{joined_symbols}
 use Rattle.sc_print.proofs.Spacing.{Tidy, line_end, tidy_append}
 use Rattle.sc_print.proofs.Spacing as spacing

@@ -1,28 +1,11 @@
 -- What directive lines and compartment lines say, by their words.
-use Rattle.std.proofs.Common.{◌≡◌, ℕ, zero, suc, ◌<◌, Bool, true, false, not, ◌&&◌, codes, List, [], ◌∷◌, ◌++◌, length, append_assoc, get_or, take, drop, Some, refl, sym, ap, ◌∙◌, arith}
-use Rattle.std.specs.Prelude.{nat_lt, ◌==◌, slice_index, is_some}
-use Rattle.std.specs.List.{list_all, filter, slice_split}
-use Rattle.std.specs.Option.{option_and_then}
-use Rattle.std.proofs.Math.Seq.{take-append_seam}
-use Rattle.std.proofs.lemmas.Bool.{and_parts, and_from, or_left, ne_eqb, not-true, false≢true, false_from_ne_true}
+use Rattle.sc_print.proofs.Common.{Bool, List, Some, Symbol, TokenKind, [], and_from, and_parts, ap, append_assoc, arith, begins_heading, codes, drop, false, false_from_ne_true, false≢true, filter, get_or, heading_name, import_of, is_blank, is_digit, is_empty, is_export, is_import, is_inside_line, is_name, is_name_byte, is_nondigit, is_some, kind_of, kind_of-directive, length, line_kind, list_all, list_all-append, name_of, nat_lt, ne_eqb, not, not-true, only_name, option_and_then, or_left, or_unused, refl, says, slice_eq-Decides, slice_index, slice_split, suc, sym, take, take-append_seam, true, word_symbol, words, zero, ℕ, ◌&&◌, ◌++◌, ◌<◌, ◌==◌, ◌∙◌, ◌∷◌, ◌≡◌}
 use Rattle.std.proofs.lemmas.Bool.Decides.{Decides-eqb}
-use Rattle.std.proofs.lemmas.List.Folds.{list_all-append}
 use Rattle.std.proofs.lemmas.List.Splits.{slice_split_at, slice_split_none}
-use Rattle.std.proofs.lemmas.Slice.Eq.{slice_eq-Decides}
 use Rattle.sc_base.proofs.Lists.{list_all_along}
-use Rattle.sc_base.specs.Identifier.{is_nondigit, is_digit, is_name_byte, is_name, name_of}
-use Rattle.sc_lex.specs.Lines.{is_blank, is_inside_line}
-use Rattle.sc_lex.specs.Words.{words, is_empty, only_name}
-use Rattle.sc_lex.specs.Headings.{begins_heading, heading_name}
-use Rattle.sc_lex.specs.Kinds.{is_export, is_import, line_kind, kind_of}
-use Rattle.sc_lex.specs.declared.token.TokenKind.{TokenKind}
 use Rattle.sc_lex.specs.declared.token.TokenKind.TheVariants as kind
-use Rattle.sc_lex.proofs.Texts.{kind_of-directive}
 use Rattle.sc_lex.proofs.Wording.{front_byte}
-use Rattle.sc_expr.specs.Lexemes.{says, or_unused, import_of}
-use Rattle.sc_expr.specs.declared.lexeme.Symbol.{Symbol}
 use Rattle.sc_expr.specs.declared.lexeme.Symbol.TheVariants as symbol
-use Rattle.sc_print.specs.Symbols.{word_symbol}
 use Rattle.sc_print.proofs.Spacing.{other}
 
 -- a byte that stands inside a word

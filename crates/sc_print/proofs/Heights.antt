@@ -1,23 +1,10 @@
 -- The height of a tree doesn't depend on its lines.
-use Rattle.std.proofs.Common.{◌≡◌, ℕ, zero, suc, ◌+◌, max, List, [], ◌∷◌, map, Option, Some, None, refl, sym, ap, ap₂, ◌∙◌, arith, rules}
-use Rattle.sc_ast.specs.Height.{highest, expr_height, call_height, option_height, stmt_height, stmts_height, kind_height, local_height, locals_height, function_height, decl_height, decls_height, section_height}
-use Rattle.sc_ast.specs.Lineless.{lineless_option, lineless_stmt, lineless_kind, lineless_stmts, lineless_local, lineless_function, lineless_decl, SameButLines}
-use Rattle.sc_ast.specs.declared.expr.ExprTree.{ExprTree}
-use Rattle.sc_ast.specs.declared.expr.CallTree.{CallTree}
-use Rattle.sc_ast.specs.declared.stmt.SimpleTree.{SimpleTree}
-use Rattle.sc_ast.specs.declared.stmt.StmtTree.{StmtTree}
+use Rattle.sc_print.proofs.Common.{CallTree, Decl, Each, ExprTree, FunctionTree, Inside, List, LocalTree, None, Option, SameButLines, SectionTree, SimpleTree, Some, StmtKind, StmtKind-F, StmtTree, [], ap, ap₂, arith, bare_stmt, call_height, decl_height, decls_height, everywhere, expr_height, for_height, function_height, highest, if_height, kind_height, lineless_decl, lineless_function, lineless_kind, lineless_local, lineless_option, lineless_stmt, lineless_stmts, local_height, locals_height, map, max, option_height, refl, roll-StmtKind, rules, section_height, stmt_height, stmt_induction, stmts_height, suc, sym, tree_height, while_height, zero, ℕ, ◌+◌, ◌∙◌, ◌∷◌, ◌≡◌}
 use Rattle.sc_ast.specs.declared.stmt.StmtTree as trees
-use Rattle.sc_ast.specs.declared.stmt.StmtKind.{StmtKind, StmtKind-F, roll-StmtKind}
 use Rattle.sc_ast.specs.declared.stmt.StmtKind as kinds
 use Rattle.sc_ast.specs.declared.stmt.StmtKind.TheOpen as layer
 use Rattle.sc_ast.specs.declared.stmt.StmtKind.TheVariants as stmt
-use Rattle.sc_ast.specs.declared.section.LocalTree.{LocalTree}
-use Rattle.sc_ast.specs.declared.section.FunctionTree.{FunctionTree}
-use Rattle.sc_ast.specs.declared.section.Decl.{Decl}
 use Rattle.sc_ast.specs.declared.section.Decl.TheVariants as decl
-use Rattle.sc_ast.specs.declared.section.SectionTree.{SectionTree}
-use Rattle.sc_ast.proofs.Statements.{bare_stmt, tree_height, if_height, while_height, for_height}
-use Rattle.sc_ast.proofs.Induction.{Each, Inside, everywhere, stmt_induction}
 
 -- kinds with statements inside
 bare_if : (c : ExprTree) (t e : List StmtTree) → lineless_kind (stmt.If c t e) ≡

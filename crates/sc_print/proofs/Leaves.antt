@@ -1,14 +1,7 @@
 -- What names say.
-use Rattle.std.proofs.Common.{◌≡◌, ℕ, ◌<◌, List, [], ◌∷◌, length, Some, IsTrue, not, refl, arith}
-use Rattle.std.proofs.lemmas.Bool.{and_parts, not-true, false≢true}
-use Rattle.sc_base.specs.Identifier.{is_name}
-use Rattle.sc_base.specs.Reserved.{is_reserved}
-use Rattle.sc_lex.specs.Kinds.{kind_of, word_kind}
+use Rattle.sc_print.proofs.Common.{IsTrue, List, Some, [], and_parts, arith, false≢true, is_ident, is_name, is_reserved, kind_of, length, not, not-true, refl, says, word_kind, word_symbol, ℕ, ◌<◌, ◌∷◌, ◌≡◌}
 use Rattle.sc_lex.specs.declared.token.TokenKind.TheVariants as kind
-use Rattle.sc_ast.specs.Identifiers.{is_ident}
-use Rattle.sc_expr.specs.Lexemes.{says}
 use Rattle.sc_expr.specs.declared.lexeme.Symbol.TheVariants as symbol
-use Rattle.sc_print.specs.Symbols.{word_symbol}
 
 pub name_says : (name : List ℕ) → IsTrue (is_ident name) → word_symbol name ≡ symbol.Ident name
 unfolding word_symbol kind_of word_kind says

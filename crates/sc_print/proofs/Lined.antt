@@ -1,15 +1,5 @@
 -- Lines that are directives, and tidy pieces behind them, are cut into their words.
-use Rattle.std.proofs.Common.{◌≡◌, ℕ, ◌-◌, ◌<◌, true, List, [], ◌∷◌, ◌++◌, length, length-append, append_assoc, take, drop, Some, refl, sym, ap, ap₂, ◌∙◌, subst, arith}
-use Rattle.std.specs.Prelude.{slice_index, ◌==◌}
-use Rattle.std.proofs.Math.Seq.{get_or-append_seam, take-append_seam, drop-append_seam}
-use Rattle.std.proofs.lemmas.Bool.{and_from, or_right, eq-eqb}
-use Rattle.sc_ast.specs.Pieces.{Piece, word, newline, text_of}
-use Rattle.sc_lex.specs.Lines.{is_inside_line, line_len, begins_line}
-use Rattle.sc_lex.specs.Headings.{begins_heading}
-use Rattle.sc_lex.specs.Kinds.{kind_of, line_kind}
-use Rattle.sc_lex.specs.Cutting.{IsToken, allows_directive, token_at, Cuts, token}
-use Rattle.sc_lex.proofs.Fronts.{directive_found}
-use Rattle.sc_print.specs.Symbols.{symbols}
+use Rattle.sc_print.proofs.Common.{Cuts, IsToken, List, Piece, Some, [], allows_directive, and_from, ap, append_assoc, ap₂, arith, begins_heading, begins_line, directive_found, drop, drop-append_seam, eq-eqb, get_or-append_seam, is_inside_line, kind_of, length, length-append, line_kind, line_len, newline, or_right, refl, slice_index, subst, sym, symbols, take, take-append_seam, text_of, token, token_at, true, word, ℕ, ◌++◌, ◌-◌, ◌<◌, ◌==◌, ◌∙◌, ◌∷◌, ◌≡◌}
 use Rattle.sc_print.proofs.Apart.{run_is}
 use Rattle.sc_print.proofs.Spacing.{Tidy}
 use Rattle.sc_print.proofs.DirectiveWords.{IsLine, kind_of_line}

@@ -1,10 +1,5 @@
 -- Lists of lexemes by what they say.
-use Rattle.std.proofs.Common.{◌≡◌, ℕ, ◌≤◌, zero, suc, List, [], ◌∷◌, ◌++◌, map, length, refl, sym, ap, ◌∙◌, subst, ⊎_elim, arith}
-use Rattle.std.proofs.lemmas.Bool.{cases_lt}
-use Rattle.sc_ast.specs.declared.expr.ExprTree.{ExprTree}
-use Rattle.sc_expr.specs.declared.lexeme.Symbol.{Symbol}
-use Rattle.sc_expr.specs.declared.lexeme.Lexeme.{Lexeme}
-use Rattle.sc_expr.specs.Grammar.{Spells, looser}
+use Rattle.sc_print.proofs.Common.{ExprTree, Lexeme, List, Spells, Symbol, [], ap, arith, cases_lt, length, looser, map, refl, subst, suc, sym, zero, ℕ, ⊎_elim, ◌++◌, ◌∙◌, ◌∷◌, ◌≡◌, ◌≤◌}
 
 -- the lexemes say this
 abbrev pub Say : List Symbol → List Lexeme → Type 0

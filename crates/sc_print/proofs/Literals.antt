@@ -1,27 +1,12 @@
 -- What integer constants say.
-use Rattle.std.proofs.Common.{◌≡◌, ℕ, zero, suc, ◌+◌, ◌-◌, ◌*◌, ◌^◌, ◌<◌, ◌≤◌, ◌/◌, ◌%◌, Bool, true, false, not, ◌&&◌, ◌||◌, IsTrue, codes, List, [], ◌∷◌, ◌++◌, length, length-append, Option, Some, if◌then◌else◌, refl, sym, ap, ◌∙◌, ⊎_elim, arith}
-use Rattle.std.specs.Prelude.{nat_lt, nat_le, ◌==◌, slice_index, bytes_eq}
-use Rattle.std.specs.List.{list_all, list_any}
+use Rattle.sc_print.proofs.Common.{Bool, IsTrue, List, Number, Option, Some, [], and_parts, ap, append-nil, arith, base_of, bytes_eq, bytes_eq-Decides, codes, digit_value, digits_of, false, false_from_ne_true, false≢true, fits, get_or-append_seam, greatest_of, has_suffix, if◌then◌else◌, integer_of, is_between, is_empty, is_hexadecimal, is_integer, is_name, is_name_byte, is_nondigit, is_number, is_reserved, is_unsigned, kind_of, le-leb, le-ltb, leb-true, length, length-append, list_all, list_all-append, list_any, literal_text, lt-ltb, nat_le, nat_lt, ne_eqb, not, number, number_of, or_cases, refl, reserved_words, says, slice_index, suc, sym, take-append_seam, true, value_of, without_suffix, word_kind, word_symbol, zero, ℕ, ⊎_elim, ◌%◌, ◌&&◌, ◌*◌, ◌++◌, ◌+◌, ◌-◌, ◌/◌, ◌<◌, ◌==◌, ◌^◌, ◌||◌, ◌∙◌, ◌∷◌, ◌≡◌, ◌≤◌}
+use Rattle.sc_lex.specs.Prelude.{is_digit}
 use Rattle.std.specs.Fmt.{decimal}
-use Rattle.std.proofs.Math.Seq.{get_or-append_seam, take-append_seam}
-use Rattle.std.proofs.lemmas.Bool.{and_parts, or_cases, le-leb, leb-true, le-ltb, lt-ltb, ne_eqb, false≢true, false_from_ne_true}
 use Rattle.std.proofs.lemmas.Fmt.{decimal_by_steps, decimal_digit}
-use Rattle.std.proofs.lemmas.List.{append-nil}
 use Rattle.std.proofs.lemmas.List.Sums.{fold-append}
-use Rattle.std.proofs.lemmas.List.Folds.{list_all-append}
-use Rattle.std.proofs.lemmas.Slice.Eq.{bytes_eq-Decides}
-use Rattle.sc_base.specs.Identifier.{is_between, is_nondigit, is_name_byte, is_name}
-use Rattle.sc_base.specs.Reserved.{reserved_words, is_reserved}
-use Rattle.sc_ast.specs.Numbers.{Number, fits, number_of}
-use Rattle.sc_ast.specs.ExprWords.{literal_text}
-use Rattle.sc_lex.specs.Integers.{has_suffix, without_suffix, is_hexadecimal, digits_of, base_of, digit_value, is_digit, number, is_number, greatest_of, is_integer, value_of, is_unsigned, integer_of}
 use Rattle.sc_lex.specs.declared.integer.IntegerConstant.{IntegerConstant}
-use Rattle.sc_lex.specs.Words.{is_empty}
 use Rattle.sc_lex.specs.declared.token.TokenKind.TheVariants as kind
-use Rattle.sc_lex.specs.Kinds.{kind_of, word_kind}
-use Rattle.sc_expr.specs.Lexemes.{says}
 use Rattle.sc_expr.specs.declared.lexeme.Symbol.TheVariants as symbol
-use Rattle.sc_print.specs.Symbols.{word_symbol}
 
 -- the digits of a number, which begin with 0 only where they are one digit
 record Decimal (n : ℕ) (ds : List ℕ) : Type 0 where

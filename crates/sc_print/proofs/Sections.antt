@@ -1,40 +1,10 @@
 -- The words of whole declarations spell them, lines aside.
-use Rattle.std.proofs.Common.{◌≡◌, ℕ, Bool, true, false, ◌&&◌, ◌||◌, IsTrue, codes, List, [], ◌∷◌, ◌++◌, append_assoc, map, Option, Some, None, refl, sym, ap, ap₂, ◌∙◌, subst}
-use Rattle.std.specs.Prelude.{nat_lt}
-use Rattle.std.specs.List.{list_all, flat_map, join_by}
-use Rattle.std.proofs.lemmas.Bool.{and_parts, false≢true}
-use Rattle.std.proofs.lemmas.List.{append-nil}
-use Rattle.sc_ast.specs.Identifiers.{is_ident}
-use Rattle.sc_ast.specs.Heads.{head_of}
-use Rattle.sc_ast.specs.Pieces.{Piece, word, blank, newline, blank_if, comma}
-use Rattle.sc_ast.specs.ExprWords.{expr_words}
-use Rattle.sc_ast.specs.StmtWords.{ended, layouts, lines_at}
-use Rattle.sc_ast.specs.SectionWords.{base_words, star_words, declared_words, member_line, struct_words, init_words, global_words, param_words, params_words, result_words, head_words, value_words, local_line, function_words, decl_words}
-use Rattle.sc_ast.specs.Lineless.{lineless_stmts, lineless_function_head, lineless_local, lineless_decl}
-use Rattle.sc_ast.specs.declared.expr.ExprTree.{ExprTree}
-use Rattle.sc_ast.specs.declared.types.BaseTree.{BaseTree}
-use Rattle.sc_ast.specs.declared.types.TypeName.{TypeName}
-use Rattle.sc_ast.specs.declared.section.MemberTree.{MemberTree}
-use Rattle.sc_ast.specs.declared.section.StructTree.{StructTree}
-use Rattle.sc_ast.specs.declared.section.GlobalTree.{GlobalTree}
-use Rattle.sc_ast.specs.declared.section.ParamTree.{ParamTree}
-use Rattle.sc_ast.specs.declared.section.HeadTree.{HeadTree}
+use Rattle.sc_print.proofs.Common.{BaseTree, Bool, Decl, Declares, ExprTree, FunctionTree, GlobalTree, Grouped, HeadTree, IsGlobal, IsLocal, IsMark, IsMember, IsTrue, Lexeme, List, LocalTree, MemberTree, None, Option, ParamTree, Piece, Separated, Some, SpellsBase, SpellsDecl, SpellsFunction, SpellsHead, SpellsParam, SpellsParams, SpellsResult, SpellsStruct, SpellsValue, StructTree, TypeName, [], and_parts, ap, append-nil, append_assoc, ap₂, are_kept, base_words, blank, blank_if, codes, comma, decl_words, declared_words, ended, expr_words, false, false≢true, first_line, flat_map, function_words, global_words, head_of, head_words, init_words, is_ident, is_kept_decl, join_by, kept_base, kept_function, kept_global, kept_head, kept_init, kept_local, kept_member, kept_name, kept_param, kept_result, kept_struct, kept_type, kept_value, layouts, lineless_decl, lineless_function_head, lineless_local, lineless_stmts, lines_at, list_all, local_line, map, member_line, more, nat_lt, newline, one, param_words, params_words, refl, result_words, some_kept, star_words, struct_words, subst, sym, symbols, true, type_name, value_words, word, word_symbol, ℕ, ◌&&◌, ◌++◌, ◌||◌, ◌∙◌, ◌∷◌, ◌≡◌}
 use Rattle.sc_ast.specs.declared.section.FunctionHead.{FunctionHead}
-use Rattle.sc_ast.specs.declared.section.LocalTree.{LocalTree}
-use Rattle.sc_ast.specs.declared.section.FunctionTree.{FunctionTree}
-use Rattle.sc_ast.specs.declared.section.Decl.{Decl}
 use Rattle.sc_ast.specs.declared.section.Decl.TheVariants as decl
 use Rattle.sc_expr.specs.declared.mark.Mark.TheVariants as mark
-use Rattle.sc_expr.specs.declared.lexeme.Lexeme.{Lexeme}
-use Rattle.sc_expr.specs.Grammar.{IsMark}
-use Rattle.sc_parse.specs.Lists.{first_line, Separated, one, more, Grouped}
 use Rattle.sc_parse.specs.Lists as lists
-use Rattle.sc_parse.specs.Types.{SpellsBase, type_name}
-use Rattle.sc_parse.specs.Declarations.{Declares, IsMember, SpellsStruct, IsGlobal, SpellsParam, SpellsParams, SpellsResult, SpellsHead, SpellsValue, IsLocal, SpellsFunction, SpellsDecl}
 use Rattle.sc_parse.specs.Declarations as decls
-use Rattle.sc_print.specs.Symbols.{word_symbol, symbols}
-use Rattle.sc_print.specs.KeptStmts.{are_kept}
-use Rattle.sc_print.specs.KeptDecls.{kept_base, kept_type, kept_member, some_kept, kept_struct, kept_init, kept_global, kept_name, kept_param, kept_result, kept_head, kept_value, kept_local, kept_function, is_kept_decl}
 use Rattle.sc_print.proofs.Each.{all_at}
 use Rattle.sc_print.proofs.Tables as tables
 use Rattle.sc_print.proofs.Lists.{Say, first_of, none_of, parts_of}

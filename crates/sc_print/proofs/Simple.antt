@@ -1,26 +1,7 @@
 -- The words of calls and simple statements spell them.
-use Rattle.std.proofs.Common.{◌≡◌, ℕ, true, IsTrue, codes, List, [], ◌∷◌, ◌++◌, sym, ap, ◌∙◌, subst}
-use Rattle.std.specs.List.{list_all, flat_map, join_by}
-use Rattle.std.proofs.lemmas.Bool.{and_parts}
-use Rattle.std.proofs.lemmas.List.{append-nil}
-use Rattle.sc_ast.specs.Identifiers.{is_ident}
-use Rattle.sc_ast.specs.Places.{is_place}
-use Rattle.sc_ast.specs.Pieces.{Piece, word, blank, comma}
-use Rattle.sc_ast.specs.ExprWords.{expr_words, place_words, call_words}
-use Rattle.sc_ast.specs.StmtWords.{equals, simple_words, condition_words}
-use Rattle.sc_ast.specs.declared.expr.ExprTree.{ExprTree}
-use Rattle.sc_ast.specs.declared.expr.CallTree.{CallTree}
-use Rattle.sc_ast.specs.declared.stmt.SimpleKind.{SimpleKind}
+use Rattle.sc_print.proofs.Common.{CallTree, ExprTree, IsTrue, Lexeme, List, Piece, Separated, SimpleKind, Spells, SpellsArgs, SpellsCall, SpellsCondition, SpellsKind, SpellsPlace, [], and_parts, ap, append-nil, blank, call_words, codes, comma, condition_words, equals, expr_words, flat_map, is_ident, is_kept, is_place, join_by, kept_call, kept_place, kept_simple, list_all, loosest_level, more, no_args, one, place_words, simple_words, some_args, subst, sym, symbols, true, word, word_symbol, ℕ, ◌++◌, ◌∙◌, ◌∷◌, ◌≡◌}
 use Rattle.sc_ast.specs.declared.stmt.SimpleKind.TheVariants as simple
-use Rattle.sc_expr.specs.declared.lexeme.Lexeme.{Lexeme}
-use Rattle.sc_base.specs.Levels.{loosest_level}
-use Rattle.sc_expr.specs.Grammar.{Spells}
-use Rattle.sc_parse.specs.Lists.{Separated, one, more}
-use Rattle.sc_parse.specs.Statements.{SpellsArgs, no_args, some_args, SpellsCall, SpellsPlace, SpellsKind, SpellsCondition}
 use Rattle.sc_parse.specs.Statements as spell
-use Rattle.sc_print.specs.Symbols.{word_symbol, symbols}
-use Rattle.sc_print.specs.Kept.{is_kept}
-use Rattle.sc_print.specs.KeptStmts.{kept_place, kept_call, kept_simple}
 use Rattle.sc_print.proofs.Tables as tables
 use Rattle.sc_print.proofs.Lists.{Say, first_of, none_of, parts_of}
 use Rattle.sc_print.proofs.Leaves.{name_says}

@@ -1,26 +1,9 @@
 -- The words of an expression stand apart.
-use Rattle.std.proofs.Common.{◌≡◌, ℕ, ◌-◌, ◌≤◌, ◌<◌, Bool, true, false, ◌&&◌, IsTrue, codes, List, [], ◌∷◌, ◌++◌, length, append_assoc, Some, if◌then◌else◌, refl, sym, ap, ◌∙◌, subst, arith}
-use Rattle.std.specs.Prelude.{nat_lt, ◌==◌, slice_index, bytes_eq}
-use Rattle.std.proofs.lemmas.Bool.{and_parts, ne_eqb, lt-ltb, false≢true}
-use Rattle.std.proofs.lemmas.List.{append-nil}
-use Rattle.std.proofs.lemmas.Grind.{flat_map-append}
-use Rattle.sc_base.specs.Identifier.{is_name_byte}
-use Rattle.sc_ast.specs.Identifiers.{is_ident}
+use Rattle.sc_print.proofs.Common.{BinaryOp, Bool, ExprTree, ExprTree-F, IsTrue, List, Piece, Printed, Some, TokenKind, UnaryOp, Under, [], and_parts, ap, append-nil, append_assoc, arith, binary_text, binary_words, blank, bytes_eq, codes, expr_at, expr_induction, expr_step, false, false≢true, flat_map-append, if◌then◌else◌, in_parens, indent, is_doubled, is_ident, is_kept, is_name_byte, kept_step, length, literal_text, lt-ltb, map-ExprTree, nat_lt, ne_eqb, newline, piece_text, prefix_words, refl, slice_index, subst, sym, text_of, true, unary_text, word, word_kind, word_run, words_at, ℕ, ◌&&◌, ◌++◌, ◌-◌, ◌<◌, ◌==◌, ◌∙◌, ◌∷◌, ◌≡◌, ◌≤◌}
 use Rattle.sc_base.specs.Levels as levels
-use Rattle.sc_ast.specs.Pieces.{Piece, word, blank, indent, newline, piece_text, text_of, in_parens}
-use Rattle.sc_ast.specs.ExprWords.{Printed, unary_text, binary_text, literal_text, is_doubled, prefix_words, binary_words, expr_step, words_at}
-use Rattle.sc_base.specs.declared.op.UnaryOp.{UnaryOp}
 use Rattle.sc_base.specs.declared.op.UnaryOp.TheVariants as unary
-use Rattle.sc_base.specs.declared.op.BinaryOp.{BinaryOp}
-use Rattle.sc_ast.specs.declared.expr.ExprTree.{ExprTree, ExprTree-F, map-ExprTree}
 use Rattle.sc_ast.specs.declared.expr.ExprTree.TheOpen as term
-use Rattle.sc_ast.proofs.Induction.{Under, expr_induction}
-use Rattle.sc_ast.proofs.Layers.{expr_at}
-use Rattle.sc_lex.specs.Kinds.{word_kind}
-use Rattle.sc_lex.specs.declared.token.TokenKind.{TokenKind}
 use Rattle.sc_lex.specs.declared.token.TokenKind.TheVariants as kind
-use Rattle.sc_lex.proofs.Texts.{word_run}
-use Rattle.sc_print.specs.Kept.{kept_step, is_kept}
 use Rattle.sc_print.proofs.Tables.{at_least_2}
 use Rattle.sc_print.proofs.Leaves.{name_kind, name_some}
 use Rattle.sc_print.proofs.Literals.{literal_kind, literal_some}

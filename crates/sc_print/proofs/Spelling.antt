@@ -1,29 +1,11 @@
 -- The words of an expression spell it.
-use Rattle.std.proofs.Common.{◌≡◌, ℕ, ◌-◌, ◌≤◌, Bool, true, false, ◌&&◌, IsTrue, codes, List, [], ◌∷◌, ◌++◌, Some, if◌then◌else◌, refl, sym, ap, ◌∙◌, subst, arith}
-use Rattle.std.specs.Prelude.{nat_lt, bytes_eq}
-use Rattle.std.proofs.lemmas.Bool.{and_parts, ltb-false}
-use Rattle.std.proofs.lemmas.List.{append-nil}
-use Rattle.std.proofs.lemmas.Grind.{flat_map-append}
-use Rattle.sc_ast.specs.Identifiers.{is_ident}
+use Rattle.sc_print.proofs.Common.{BinaryOp, Bool, ExprTree, ExprTree-F, IsTrue, Lexeme, List, Mark, Piece, Printed, Some, Spells, Under, WordsSpell, [], and_parts, ap, apart, append-nil, arith, arrow, binary_text, binary_words, blank, bytes_eq, codes, expr_at, expr_induction, expr_step, false, flat_map-append, if◌then◌else◌, in_parens, index, is_doubled, is_ident, is_kept, joined, kept_step, literal, literal_text, ltb-false, map-ExprTree, member, nat_lt, parenthesised, piece_symbols, prefix_of, prefix_words, prefixed, refl, roll-ExprTree, subst, sym, symbols, true, unary_text, variable, word, word_symbol, words_at, «prefix», ℕ, ◌&&◌, ◌++◌, ◌-◌, ◌∙◌, ◌∷◌, ◌≡◌, ◌≤◌}
 use Rattle.sc_base.specs.Levels as levels
-use Rattle.sc_ast.specs.Pieces.{Piece, word, blank, in_parens}
-use Rattle.sc_ast.specs.ExprWords.{Printed, unary_text, binary_text, literal_text, is_doubled, apart, prefix_words, binary_words, expr_step, words_at}
-use Rattle.sc_base.specs.declared.op.BinaryOp.{BinaryOp}
-use Rattle.sc_ast.specs.declared.expr.ExprTree.{ExprTree, ExprTree-F, roll-ExprTree, map-ExprTree}
 use Rattle.sc_ast.specs.declared.expr.ExprTree.TheOpen as term
 use Rattle.sc_ast.specs.declared.expr.ExprTree.TheVariants as expr
-use Rattle.sc_ast.proofs.Induction.{Under, expr_induction}
-use Rattle.sc_ast.proofs.Layers.{expr_at}
-use Rattle.sc_expr.specs.declared.mark.Mark.{Mark}
 use Rattle.sc_expr.specs.declared.mark.Mark.TheVariants as mark
 use Rattle.sc_expr.specs.declared.operator.Prefix.{Prefix}
 use Rattle.sc_expr.specs.declared.operator.Prefix.TheVariants as prefix
-use Rattle.sc_expr.specs.declared.lexeme.Lexeme.{Lexeme}
-use Rattle.sc_expr.specs.Marks.{prefix_of, prefixed}
-use Rattle.sc_expr.specs.Grammar.{Spells, literal, variable, parenthesised, index, member, arrow, «prefix», joined}
-use Rattle.sc_print.specs.Symbols.{word_symbol, piece_symbols, symbols}
-use Rattle.sc_print.specs.Kept.{kept_step, is_kept}
-use Rattle.sc_print.specs.ReadsBack.{WordsSpell}
 use Rattle.sc_print.proofs.Tables as tables
 use Rattle.sc_print.proofs.Lists.{Say, first_of, none_of, parts_of, up_to}
 use Rattle.sc_print.proofs.Leaves.{name_says}

@@ -1,28 +1,9 @@
 -- The words of statements stand apart.
-use Rattle.std.proofs.Common.{◌≡◌, ℕ, Bool, true, false, ◌&&◌, IsTrue, codes, List, [], ◌∷◌, ◌++◌, length, map, Option, Some, None, if◌then◌else◌, refl, sym, subst}
-use Rattle.std.specs.Prelude.{◌==◌}
-use Rattle.std.specs.List.{list_all, join_by}
-use Rattle.std.proofs.lemmas.Bool.{and_parts}
-use Rattle.std.proofs.lemmas.List.{append-nil}
-use Rattle.sc_ast.specs.Identifiers.{is_ident}
-use Rattle.sc_ast.specs.Places.{is_place}
-use Rattle.sc_ast.specs.Pieces.{Piece, word, blank, indent, newline, comma, deeper, line_of}
-use Rattle.sc_ast.specs.ExprWords.{expr_words, place_words, call_words}
-use Rattle.sc_ast.specs.StmtWords.{Layout, equals, simple_words, ended, condition_words, first_words, next_words, for_words, return_words, lines_at, block_words, is_chain, chain_words, behind_else, else_words, if_words, kind_layout, stmt_layout, layouts}
+use Rattle.sc_print.proofs.Common.{Bool, CallTree, Each, ExprTree, Inside, IsTrue, Layout, List, None, Option, Piece, SimpleKind, SimpleTree, Some, StmtKind, StmtKind-F, StmtTree, [], all_kept, and_parts, append-nil, are_kept, behind_else, blank, block_words, call_words, chain_words, codes, comma, condition_words, deeper, else_words, ended, equals, expr_words, false, first_words, for_words, if_words, if◌then◌else◌, indent, is_chain, is_ident, is_kept, is_kept_stmt, is_place, join_by, kept_call, kept_kind, kept_option, kept_place, kept_simple, kind_layout, layouts, length, line_of, lines_at, list_all, map, map-StmtKind, newline, next_words, place_words, refl, return_words, roll-StmtKind, simple_words, stmt_at, stmt_induction, stmt_layout, subst, sym, true, word, ℕ, ◌&&◌, ◌++◌, ◌==◌, ◌∷◌, ◌≡◌}
 use Rattle.sc_ast.specs.StmtWords as printing
-use Rattle.sc_ast.specs.declared.expr.ExprTree.{ExprTree}
-use Rattle.sc_ast.specs.declared.expr.CallTree.{CallTree}
-use Rattle.sc_ast.specs.declared.stmt.SimpleKind.{SimpleKind}
 use Rattle.sc_ast.specs.declared.stmt.SimpleKind.TheVariants as simple
-use Rattle.sc_ast.specs.declared.stmt.SimpleTree.{SimpleTree}
-use Rattle.sc_ast.specs.declared.stmt.StmtTree.{StmtTree}
-use Rattle.sc_ast.specs.declared.stmt.StmtKind.{StmtKind, StmtKind-F, roll-StmtKind, map-StmtKind}
 use Rattle.sc_ast.specs.declared.stmt.StmtKind.TheOpen as layer
-use Rattle.sc_ast.proofs.Induction.{Each, Inside, stmt_induction}
-use Rattle.sc_ast.proofs.Layers.{stmt_at}
 use Rattle.sc_lex.specs.declared.token.TokenKind.TheVariants as kind
-use Rattle.sc_print.specs.Kept.{is_kept}
-use Rattle.sc_print.specs.KeptStmts.{kept_place, kept_call, kept_simple, kept_option, all_kept, kept_kind, is_kept_stmt, are_kept}
 use Rattle.sc_print.specs.KeptStmts as kept
 use Rattle.sc_print.proofs.Each.{all_at}
 use Rattle.sc_print.proofs.Leaves.{name_kind, name_some}

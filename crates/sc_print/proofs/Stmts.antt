@@ -1,36 +1,13 @@
 -- The words of statements spell them, lines aside.
-use Rattle.std.proofs.Common.{◌≡◌, ℕ, Bool, true, false, ◌&&◌, IsTrue, codes, List, [], ◌∷◌, ◌++◌, length, append_assoc, map, Option, Some, None, if◌then◌else◌, refl, sym, ap, ap₂, ◌∙◌, subst, arith, rules}
-use Rattle.std.specs.Prelude.{◌==◌}
-use Rattle.std.specs.List.{list_all}
-use Rattle.std.proofs.lemmas.Bool.{and_parts, eqb-true, ne_eqb, false≢true}
-use Rattle.std.proofs.lemmas.List.{append-nil}
-use Rattle.sc_ast.specs.Pieces.{Piece, word, blank, indent, newline, deeper, line_of}
-use Rattle.sc_ast.specs.ExprWords.{expr_words, call_words}
-use Rattle.sc_ast.specs.StmtWords.{Layout, assign_words, assign_call_words, simple_words, ended, condition_words, first_words, next_words, for_words, return_words, lines_at, block_words, is_chain, chain_words, behind_else, else_words, if_words, kind_layout, stmt_layout, layouts}
+use Rattle.sc_print.proofs.Common.{Bool, Each, ExprTree, Inside, IsTrue, Layout, Lexeme, List, None, Option, Piece, SimpleKind, SimpleTree, Some, SpellsBlock, SpellsCondition, SpellsIf, SpellsKind, SpellsPart, SpellsSimple, SpellsStmtKind, SpellsStmts, SpellsTest, StmtKind, StmtKind-F, StmtTree, StmtsSpell, [], all_kept, and_parts, ap, append-nil, append_assoc, ap₂, are_kept, arith, assign_call_words, assign_words, bare_stmt, behind_else, blank, block_words, call_words, chain_words, codes, condition_words, deeper, else_words, ended, eqb-true, expr_words, false, false≢true, first_line, first_words, for_words, if_words, if◌then◌else◌, indent, is_chain, is_kept, is_kept_stmt, kept_call, kept_kind, kept_option, kept_place, kept_simple, kind_layout, layouts, length, line_of, lineless_kind, lineless_option, lineless_stmt, lineless_stmts, lines_at, list_all, map, map-StmtKind, ne_eqb, newline, next_words, refl, return_words, roll-StmtKind, rules, simple_words, stmt_at, stmt_induction, stmt_layout, subst, sym, symbols, true, word, word_symbol, ℕ, ◌&&◌, ◌++◌, ◌==◌, ◌∙◌, ◌∷◌, ◌≡◌}
+use Rattle.sc_ast.specs.Prelude.{kind_of}
 use Rattle.sc_ast.specs.StmtWords as printing
-use Rattle.sc_ast.specs.Simple.{kind_of}
-use Rattle.sc_ast.specs.Lineless.{lineless_option, lineless_stmt, lineless_kind, lineless_stmts}
-use Rattle.sc_ast.specs.declared.expr.ExprTree.{ExprTree}
-use Rattle.sc_ast.specs.declared.stmt.SimpleKind.{SimpleKind}
 use Rattle.sc_ast.specs.declared.stmt.SimpleKind.TheVariants as simple
-use Rattle.sc_ast.specs.declared.stmt.SimpleTree.{SimpleTree}
-use Rattle.sc_ast.specs.declared.stmt.StmtTree.{StmtTree}
 use Rattle.sc_ast.specs.declared.stmt.StmtTree as trees
-use Rattle.sc_ast.specs.declared.stmt.StmtKind.{StmtKind, StmtKind-F, roll-StmtKind, map-StmtKind}
 use Rattle.sc_ast.specs.declared.stmt.StmtKind as kinds
 use Rattle.sc_ast.specs.declared.stmt.StmtKind.TheOpen as layer
 use Rattle.sc_ast.specs.declared.stmt.StmtKind.TheVariants as stmt
-use Rattle.sc_ast.proofs.Statements.{bare_stmt}
-use Rattle.sc_ast.proofs.Induction.{Each, Inside, stmt_induction}
-use Rattle.sc_ast.proofs.Layers.{stmt_at}
-use Rattle.sc_expr.specs.declared.lexeme.Lexeme.{Lexeme}
-use Rattle.sc_parse.specs.Lists.{first_line}
-use Rattle.sc_parse.specs.Statements.{SpellsKind, SpellsSimple, SpellsPart, SpellsTest, SpellsCondition, SpellsStmtKind, SpellsIf, SpellsBlock, SpellsStmts}
 use Rattle.sc_parse.specs.Statements as spell
-use Rattle.sc_print.specs.Symbols.{word_symbol, symbols}
-use Rattle.sc_print.specs.Kept.{is_kept}
-use Rattle.sc_print.specs.StmtsRead.{StmtsSpell}
-use Rattle.sc_print.specs.KeptStmts.{kept_place, kept_call, kept_simple, kept_option, all_kept, kept_kind, is_kept_stmt, are_kept}
 use Rattle.sc_print.specs.KeptStmts as kept
 use Rattle.sc_print.proofs.Each.{all_at}
 use Rattle.sc_print.proofs.Tables as tables

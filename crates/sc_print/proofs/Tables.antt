@@ -1,26 +1,13 @@
 -- What each fixed word says.
-use Rattle.std.proofs.Common.{◌≡◌, ℕ, List, suc, ◌-◌, ◌≤◌, codes, Some, refl, arith}
-use Rattle.sc_base.specs.Identifier.{is_name}
-use Rattle.sc_base.specs.Reserved.{is_reserved}
-use Rattle.sc_lex.specs.Tables.{is_mark}
-use Rattle.sc_lex.specs.Kinds.{kind_of, word_kind}
-use Rattle.sc_lex.specs.Integers.{is_integer, is_number}
-use Rattle.sc_expr.specs.Lexemes.{says, mark_of, keyword_of}
-use Rattle.sc_base.specs.Levels.{level_of}
-use Rattle.sc_expr.specs.Marks.{binary_of, prefix_of}
+use Rattle.sc_print.proofs.Common.{BinaryOp, List, Mark, Some, UnaryOp, arith, binary_of, binary_text, codes, is_integer, is_mark, is_name, is_number, is_reserved, keyword_of, kind_of, level_of, mark_of, prefix_of, refl, says, suc, unary_text, word_kind, word_symbol, ℕ, ◌-◌, ◌≡◌, ◌≤◌}
 use Rattle.sc_base.specs.Levels as levels
-use Rattle.sc_ast.specs.ExprWords.{unary_text, binary_text}
-use Rattle.sc_base.specs.declared.op.UnaryOp.{UnaryOp}
 use Rattle.sc_base.specs.declared.op.UnaryOp.TheVariants as unary
-use Rattle.sc_base.specs.declared.op.BinaryOp.{BinaryOp}
 use Rattle.sc_base.specs.declared.op.BinaryOp.TheVariants as binary
 use Rattle.sc_expr.specs.declared.mark.Keyword.{Keyword}
 use Rattle.sc_expr.specs.declared.mark.Keyword.TheVariants as keyword
-use Rattle.sc_expr.specs.declared.mark.Mark.{Mark}
 use Rattle.sc_expr.specs.declared.mark.Mark.TheVariants as mark
 use Rattle.sc_expr.specs.declared.operator.Prefix.TheVariants as prefix
 use Rattle.sc_expr.specs.declared.lexeme.Symbol.TheVariants as symbol
-use Rattle.sc_print.specs.Symbols.{word_symbol}
 
 -- the word says this mark
 abbrev pub SaysMark : List ℕ → Mark → Type 0

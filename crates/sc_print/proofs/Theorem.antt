@@ -1,31 +1,12 @@
 -- What is printed reads back.
-use Rattle.std.proofs.Common.{◌≡◌, ℕ, List, [], ◌∷◌, map, IsTrue, refl, ap, ◌∙◌}
-use Rattle.sc_ast.specs.ExprWords.{expr_words}
-use Rattle.sc_ast.specs.declared.expr.ExprTree.{ExprTree}
-use Rattle.sc_lex.specs.declared.token.Token.{Token}
-use Rattle.sc_expr.specs.Lexemes.{symbol_of, lexeme_of}
-use Rattle.sc_print.specs.Kept.{is_kept}
-use Rattle.sc_print.specs.ReadsBack.{expr_text, ReadsAs}
+use Rattle.sc_print.proofs.Common.{Decl, DeclsReadAs, ExprTree, IsTrue, List, ReadsAs, SectionReadsAs, SectionTree, StmtTree, StmtsReadAs, Token, [], ap, are_kept, decl_words, decls_text, expr_text, expr_words, flat_map, is_kept, is_kept_decl, kept_section, layouts, lexeme_of, lines_at, list_all, map, printed, refl, stmts_text, symbol_of, ℕ, ◌∙◌, ◌∷◌, ◌≡◌}
 use Rattle.sc_print.proofs.Spelling.{words_spell}
 use Rattle.sc_print.proofs.Spacing.{tidy_at}
-use Rattle.std.specs.List.{list_all, flat_map}
-use Rattle.sc_ast.specs.SectionWords.{decl_words}
-use Rattle.sc_ast.specs.declared.section.Decl.{Decl}
-use Rattle.sc_print.specs.KeptDecls.{is_kept_decl}
-use Rattle.sc_print.specs.DeclsRead.{decls_text, DeclsReadAs}
 use Rattle.sc_print.proofs.Sections.{decls_read}
 use Rattle.sc_print.proofs.DeclSpacing.{decls_tidy}
 use Rattle.sc_print.proofs.Cut.{cut_of}
-use Rattle.sc_print.specs.KeptStmts.{are_kept}
-use Rattle.sc_print.specs.StmtsRead.{stmts_text, StmtsReadAs}
 use Rattle.sc_print.proofs.Stmts.{stmts_spell}
 use Rattle.sc_print.proofs.StmtSpacing.{stmts_tidy}
-use Rattle.sc_ast.specs.StmtWords.{layouts, lines_at}
-use Rattle.sc_ast.specs.declared.stmt.StmtTree.{StmtTree}
-use Rattle.sc_ast.specs.SectionWords.{printed}
-use Rattle.sc_ast.specs.declared.section.SectionTree.{SectionTree}
-use Rattle.sc_print.specs.KeptSections.{kept_section}
-use Rattle.sc_print.specs.SectionsRead.{SectionReadsAs}
 use Rattle.sc_print.proofs.Whole.{section_reads, section_cut}
 
 said : (bytes : List ℕ) (tokens : List Token) → map (λ t. t.symbol) (map (λ token. lexeme_of bytes token) tokens) ≡

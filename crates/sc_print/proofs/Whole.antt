@@ -1,23 +1,8 @@
 -- The words of whole sections spell them, and their text is cut into them.
-use Rattle.std.proofs.Common.{◌≡◌, ℕ, true, ◌&&◌, IsTrue, List, [], ◌∷◌, ◌++◌, append_assoc, map, refl, sym, ap, ◌∙◌, subst}
-use Rattle.std.specs.List.{list_all, flat_map}
-use Rattle.std.proofs.lemmas.Bool.{and_parts}
-use Rattle.sc_base.specs.Identifier.{is_name}
-use Rattle.sc_ast.specs.Pieces.{Piece, text_of}
-use Rattle.sc_ast.specs.SectionWords.{decl_words, export_words, import_words, section_words, printed}
-use Rattle.sc_ast.specs.Lineless.{lineless_export, lineless_import, lineless_decl, SameButLines}
+use Rattle.sc_print.proofs.Common.{Decl, IsTrue, Lexeme, List, Piece, SameButLines, SectionSpells, SectionTree, SpellsDirectives, SpellsSection, [], and_parts, ap, append_assoc, begins_heading, decl_words, export_words, flat_map, import_words, is_kept_decl, is_name, kept_export, kept_import, kept_section, lineless_decl, lineless_export, lineless_import, list_all, map, printed, refl, section_words, subst, sym, symbols, text_of, true, word_symbol, ℕ, ◌&&◌, ◌++◌, ◌∙◌, ◌∷◌, ◌≡◌}
 use Rattle.sc_ast.specs.declared.section.ExportLine.{ExportLine}
 use Rattle.sc_ast.specs.declared.section.ImportLine.{ImportLine}
-use Rattle.sc_ast.specs.declared.section.Decl.{Decl}
-use Rattle.sc_ast.specs.declared.section.SectionTree.{SectionTree}
-use Rattle.sc_lex.specs.Headings.{begins_heading}
-use Rattle.sc_expr.specs.declared.lexeme.Lexeme.{Lexeme}
-use Rattle.sc_parse.specs.Sections.{SpellsDirectives, SpellsSection}
 use Rattle.sc_parse.specs.Sections as spell
-use Rattle.sc_print.specs.Symbols.{word_symbol, symbols}
-use Rattle.sc_print.specs.KeptDecls.{is_kept_decl}
-use Rattle.sc_print.specs.KeptSections.{kept_export, kept_import, kept_section}
-use Rattle.sc_print.specs.SectionsRead.{SectionSpells}
 use Rattle.sc_print.proofs.Lists.{Say, first_of, none_of, parts_of}
 use Rattle.sc_print.proofs.Spelling.{joined_symbols}
 use Rattle.sc_print.proofs.DirectiveWords.{export_text, export_says, export_line_is, import_text, import_says, import_line_is, heading_text, heading_says, heading_line_is, heading_begins}

@@ -1,16 +1,7 @@
 -- What it means that printed declarations read back.
+use Rattle.sc_print.specs.Common.{Decl, Grouped, IsCut, Lexeme, SpellsDecl, Token, decl_words, lexeme_of, lineless_decl, text_of}
 use Rattle.std.specs.Prelude.{◌≡◌, ℕ, List, map}
 use Rattle.std.specs.List.{flat_map}
-use Rattle.sc_ast.specs.Pieces.{text_of}
-use Rattle.sc_ast.specs.SectionWords.{decl_words}
-use Rattle.sc_ast.specs.Lineless.{lineless_decl}
-use Rattle.sc_ast.specs.declared.section.Decl.{Decl}
-use Rattle.sc_lex.specs.Cutting.{IsCut}
-use Rattle.sc_lex.specs.declared.token.Token.{Token}
-use Rattle.sc_expr.specs.Lexemes.{lexeme_of}
-use Rattle.sc_expr.specs.declared.lexeme.Lexeme.{Lexeme}
-use Rattle.sc_parse.specs.Lists.{Grouped}
-use Rattle.sc_parse.specs.Declarations.{SpellsDecl}
 use Rattle.sc_print.specs.Symbols.{symbols}
 
 -- lexemes that say what the words of the declarations say spell declarations that are the same, lines aside

@@ -1,15 +1,8 @@
 -- Sections that are printed without empty lines.
+use Rattle.sc_print.specs.Common.{Decl, IsCut, Piece, SectionTree, Symbol, Token, decl_words, export_words, heading_words, import_words, symbol_of, text_of}
 use Rattle.std.specs.Prelude.{◌≡◌, ℕ, List, ◌++◌, map, drop}
 use Rattle.std.specs.List.{flat_map}
-use Rattle.sc_ast.specs.Pieces.{Piece, text_of}
-use Rattle.sc_ast.specs.SectionWords.{heading_words, export_words, import_words, decl_words}
-use Rattle.sc_ast.specs.declared.section.Decl.{Decl}
 use Rattle.sc_ast.specs.declared.section.Decl.TheVariants.{Function}
-use Rattle.sc_ast.specs.declared.section.SectionTree.{SectionTree}
-use Rattle.sc_lex.specs.Cutting.{IsCut}
-use Rattle.sc_lex.specs.declared.token.Token.{Token}
-use Rattle.sc_expr.specs.Lexemes.{symbol_of}
-use Rattle.sc_expr.specs.declared.lexeme.Symbol.{Symbol}
 
 -- a declaration without the empty line in front of a function
 abbrev pub dense_decl : Decl → List Piece

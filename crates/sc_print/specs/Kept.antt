@@ -1,9 +1,7 @@
 -- Helping: what the leaves of every tree of the program keep: names are identifiers and no reserved words, and literals
 -- fit their type.
+use Rattle.sc_print.specs.Common.{ExprTree, ExprTree-F, fits, fold-ExprTree, is_ident}
 use Rattle.std.specs.Prelude.{Bool, ◌&&◌}
-use Rattle.sc_ast.specs.Identifiers.{is_ident}
-use Rattle.sc_ast.specs.Numbers.{fits}
-use Rattle.sc_ast.specs.declared.expr.ExprTree.{ExprTree, ExprTree-F, fold-ExprTree}
 use Rattle.sc_ast.specs.declared.expr.ExprTree.TheOpen as term
 
 abbrev pub kept_step : ExprTree-F Bool → Bool

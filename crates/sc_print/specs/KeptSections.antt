@@ -1,10 +1,9 @@
 -- Helping: what the names of sections keep.
+use Rattle.sc_print.specs.Common.{SectionTree, is_name}
 use Rattle.std.specs.Prelude.{Bool, ◌&&◌}
 use Rattle.std.specs.List.{list_all}
-use Rattle.sc_base.specs.Identifier.{is_name}
 use Rattle.sc_ast.specs.declared.section.ExportLine.{ExportLine}
 use Rattle.sc_ast.specs.declared.section.ImportLine.{ImportLine}
-use Rattle.sc_ast.specs.declared.section.SectionTree.{SectionTree}
 use Rattle.sc_print.specs.KeptDecls.{is_kept_decl}
 
 abbrev pub kept_export : ExportLine → Bool

@@ -1,14 +1,11 @@
 -- Helping: what the leaves of statements keep.
+use Rattle.sc_print.specs.Common.{ExprTree, StmtTree, StmtTree-F, fold-StmtTree, is_ident, is_place}
 use Rattle.std.specs.Prelude.{Bool, true, ◌&&◌, List, map, Option, Some, None}
 use Rattle.std.specs.List.{list_all}
-use Rattle.sc_ast.specs.Identifiers.{is_ident}
-use Rattle.sc_ast.specs.Places.{is_place}
-use Rattle.sc_ast.specs.declared.expr.ExprTree.{ExprTree}
 use Rattle.sc_ast.specs.declared.expr.CallTree.{CallTree}
 use Rattle.sc_ast.specs.declared.stmt.SimpleKind.{SimpleKind}
 use Rattle.sc_ast.specs.declared.stmt.SimpleKind.TheVariants.{Assign, AssignCall, Call}
 use Rattle.sc_ast.specs.declared.stmt.SimpleTree.{SimpleTree}
-use Rattle.sc_ast.specs.declared.stmt.StmtTree.{StmtTree, StmtTree-F, fold-StmtTree}
 use Rattle.sc_ast.specs.declared.stmt.StmtKind.{StmtKind, StmtKind-F, fold-StmtKind}
 use Rattle.sc_ast.specs.declared.stmt.StmtKind.TheOpen as layer
 use Rattle.sc_print.specs.Kept.{is_kept}

@@ -1,3 +1,5 @@
+pub mod Common
+pub mod Prelude
 pub mod DeclsRead
 pub mod Dense
 pub mod Kept

@@ -1,14 +1,6 @@
 -- What it means that printed texts read back.
+use Rattle.sc_print.specs.Common.{ExprTree, IsCut, Lexeme, Spells, Token, expr_words, lexeme_of, loosest_level, text_of}
 use Rattle.std.specs.Prelude.{◌≡◌, ℕ, List, map}
-use Rattle.sc_ast.specs.Pieces.{text_of}
-use Rattle.sc_ast.specs.ExprWords.{expr_words}
-use Rattle.sc_ast.specs.declared.expr.ExprTree.{ExprTree}
-use Rattle.sc_lex.specs.Cutting.{IsCut}
-use Rattle.sc_lex.specs.declared.token.Token.{Token}
-use Rattle.sc_base.specs.Levels.{loosest_level}
-use Rattle.sc_expr.specs.Grammar.{Spells}
-use Rattle.sc_expr.specs.Lexemes.{lexeme_of}
-use Rattle.sc_expr.specs.declared.lexeme.Lexeme.{Lexeme}
 use Rattle.sc_print.specs.Symbols.{symbols}
 
 -- lexemes that say what the words of the expression say spell it, whatever their lines

@@ -1,13 +1,6 @@
 -- What it means that printed sections read back.
+use Rattle.sc_print.specs.Common.{IsCut, Lexeme, SameButLines, SectionTree, SpellsSection, Token, lexeme_of, section_words}
 use Rattle.std.specs.Prelude.{◌≡◌, ℕ, List, map}
-use Rattle.sc_ast.specs.SectionWords.{section_words}
-use Rattle.sc_ast.specs.Lineless.{SameButLines}
-use Rattle.sc_ast.specs.declared.section.SectionTree.{SectionTree}
-use Rattle.sc_lex.specs.Cutting.{IsCut}
-use Rattle.sc_lex.specs.declared.token.Token.{Token}
-use Rattle.sc_expr.specs.Lexemes.{lexeme_of}
-use Rattle.sc_expr.specs.declared.lexeme.Lexeme.{Lexeme}
-use Rattle.sc_parse.specs.Sections.{SpellsSection}
 use Rattle.sc_print.specs.Symbols.{symbols}
 
 -- lexemes that say what the words of the section say spell a section that is the same, lines aside

@@ -1,14 +1,6 @@
 -- What it means that printed statements read back.
+use Rattle.sc_print.specs.Common.{IsCut, Lexeme, SpellsStmts, StmtTree, Token, layouts, lexeme_of, lineless_stmts, lines_at, text_of}
 use Rattle.std.specs.Prelude.{◌≡◌, ℕ, List, map}
-use Rattle.sc_ast.specs.Pieces.{text_of}
-use Rattle.sc_ast.specs.StmtWords.{layouts, lines_at}
-use Rattle.sc_ast.specs.Lineless.{lineless_stmts}
-use Rattle.sc_ast.specs.declared.stmt.StmtTree.{StmtTree}
-use Rattle.sc_lex.specs.Cutting.{IsCut}
-use Rattle.sc_lex.specs.declared.token.Token.{Token}
-use Rattle.sc_expr.specs.Lexemes.{lexeme_of}
-use Rattle.sc_expr.specs.declared.lexeme.Lexeme.{Lexeme}
-use Rattle.sc_parse.specs.Statements.{SpellsStmts}
 use Rattle.sc_print.specs.Symbols.{symbols}
 
 -- lexemes that say what the words of the statements say, at whatever level they are printed, spell statements that are

@@ -1,11 +1,8 @@
 -- What printed words say.
+use Rattle.sc_print.specs.Common.{Piece, Symbol, kind_of, or_unused, says, word}
 use Rattle.std.specs.Prelude.{List, [], ◌∷◌, ℕ}
 use Rattle.std.specs.List.{flat_map}
 use Rattle.std.specs.Option.{option_and_then}
-use Rattle.sc_ast.specs.Pieces.{Piece, word}
-use Rattle.sc_lex.specs.Kinds.{kind_of}
-use Rattle.sc_expr.specs.Lexemes.{says, or_unused}
-use Rattle.sc_expr.specs.declared.lexeme.Symbol.{Symbol}
 
 -- what a word says as a token of its kind
 unfoldable pub word_symbol : List ℕ → Symbol

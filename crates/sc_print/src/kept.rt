@@ -1,7 +1,6 @@
+ghost use Rattle.sc_print.specs.Prelude.{are_kept, is_kept, is_kept_stmt, kept_call, kept_kind, kept_option, kept_place, kept_simple};
 ghost use Rattle.std.specs.Prelude.{◌≡◌, true, IsTrue};
 ghost use Rattle.std.specs.List.{list_all};
-ghost use Rattle.sc_print.specs.Kept.{is_kept};
-ghost use Rattle.sc_print.specs.KeptStmts.{kept_place, kept_call, kept_simple, kept_option, kept_kind, is_kept_stmt, are_kept};
 
 use sc_ast::{
     CallTree, ExprTree, Exprs, PlaceTree, SimpleKind, SimpleTree, StmtKind, StmtTree, Stmts,

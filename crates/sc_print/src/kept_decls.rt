@@ -1,9 +1,8 @@
 //! What the leaves of declarations keep holds of all of them.
 
+ghost use Rattle.sc_print.specs.Prelude.{head_of, is_kept_decl, kept_base, kept_const, kept_function, kept_global, kept_head, kept_init, kept_length, kept_local, kept_member, kept_name, kept_param, kept_result, kept_struct, kept_type, kept_value, param_of, some_kept};
 ghost use Rattle.std.specs.Prelude.{◌≡◌, ◌<◌, true, IsTrue, map, length};
 ghost use Rattle.std.specs.List.{list_all};
-ghost use Rattle.sc_ast.specs.Heads.{param_of, head_of};
-ghost use Rattle.sc_print.specs.KeptDecls.{kept_base, kept_length, kept_type, kept_member, some_kept, kept_struct, kept_const, kept_init, kept_global, kept_name, kept_param, kept_result, kept_head, kept_value, kept_local, kept_function, is_kept_decl};
 
 use crate::kept::{keep_leaves, keeps_leaves};
 use sc_ast::{

@@ -1,8 +1,8 @@
 //! What the names of sections keep holds of all of them.
 
+ghost use Rattle.sc_print.specs.Prelude.{kept_export, kept_import, kept_section};
 ghost use Rattle.std.specs.Prelude.{◌≡◌, true, IsTrue};
 ghost use Rattle.std.specs.List.{list_all};
-ghost use Rattle.sc_print.specs.KeptSections.{kept_export, kept_import, kept_section};
 
 use crate::kept_decls::keeps_decls;
 use sc_ast::{ExportLine, ExportLines, ImportLine, ImportLines, SectionTree};

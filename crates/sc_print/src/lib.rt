@@ -1,25 +1,13 @@
 //! What is printed reads back: the bytes of a printed tree are cut into tokens that spell the tree again.
 #![tactic(auto)]
 
+ghost use Rattle.sc_print.specs.Prelude.{DeclsReadAs, DeclsSpell, ReadsAs, SameButLines, SaysAll, SectionReadsAs, SectionSpells, StmtsReadAs, StmtsSpell, WordsSpell, are_kept, decls_text, dense_text, expr_text, is_kept, is_kept_decl, kept_section, printed, section_height, section_words, stmts_text, symbols};
 ghost use Rattle.std.specs.Prelude.{◌≡◌, ℕ, IsTrue, List};
 ghost use Rattle.std.specs.List.{list_all};
 ghost use Rattle.sc_ast.specs.declared.expr.ExprTree.{ExprTree};
 ghost use Rattle.sc_ast.specs.declared.stmt.StmtTree.{StmtTree};
-ghost use Rattle.sc_ast.specs.Height.{section_height};
-ghost use Rattle.sc_ast.specs.Lineless.{SameButLines};
-ghost use Rattle.sc_ast.specs.SectionWords.{section_words, printed};
 ghost use Rattle.sc_ast.specs.declared.section.Decl.{Decl};
 ghost use Rattle.sc_ast.specs.declared.section.SectionTree.{SectionTree};
-ghost use Rattle.sc_print.specs.Kept.{is_kept};
-ghost use Rattle.sc_print.specs.KeptStmts.{are_kept};
-ghost use Rattle.sc_print.specs.KeptDecls.{is_kept_decl};
-ghost use Rattle.sc_print.specs.KeptSections.{kept_section};
-ghost use Rattle.sc_print.specs.ReadsBack.{WordsSpell, expr_text, ReadsAs};
-ghost use Rattle.sc_print.specs.StmtsRead.{StmtsSpell, stmts_text, StmtsReadAs};
-ghost use Rattle.sc_print.specs.Symbols.{symbols};
-ghost use Rattle.sc_print.specs.Dense.{dense_text, SaysAll};
-ghost use Rattle.sc_print.specs.DeclsRead.{DeclsSpell, decls_text, DeclsReadAs};
-ghost use Rattle.sc_print.specs.SectionsRead.{SectionSpells, SectionReadsAs};
 
 mod kept;
 mod kept_decls;

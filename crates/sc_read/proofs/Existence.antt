@@ -1,28 +1,8 @@
 -- Each text is read, or fails a phase.
-use Rattle.std.proofs.Common.{◌≡◌, ℕ, zero, suc, ◌+◌, ◌-◌, ◌<◌, ◌≤◌, ◌⊎◌, inl, inr, Bool, true, false, IsTrue, List, [], ◌∷◌, length, map, take, drop, Option, None, Some, Ok, Err, refl, sym, ap, ◌∙◌, subst, ⊎_elim, arith}
-use Rattle.std.specs.Prelude.{slice_range, Any}
-use Rattle.std.specs.List.{AllZip, AllByRecursion}
-use Rattle.std.proofs.lemmas.Bool.{cases_lt}
-use Rattle.std.proofs.lemmas.Option.{none-some}
-use Rattle.std.proofs.lemmas.List.{length-take-le}
-use Rattle.sc_lex.specs.Lines.{newlines, line_after, line_at}
-use Rattle.sc_lex.specs.Headings.{is_heading, begins_heading, name_at}
-use Rattle.sc_lex.specs.Cutting.{IsCut, RefusesBytes}
-use Rattle.sc_lex.specs.Splitting.{NoHeading, IsSection, AreSections, none, section, IsSplit, IsBadHeading, RefusesHeading}
-use Rattle.sc_lex.specs.declared.token.Token.{Token}
-use Rattle.sc_lex.specs.declared.section.Section.{Section}
-use Rattle.sc_lex.specs.declared.refusal.Refusal.{Refusal}
-use Rattle.sc_lex.specs.declared.refusal.Phase.{Phase}
+use Rattle.sc_read.proofs.Common.{AllByRecursion, AllZip, Any, AreSections, Bool, Err, Fails, FailsLex, FailsSyntax, First, HasTokens, HasTree, IsBadHeading, IsCut, IsCutInto, IsParsed, IsRead, IsSection, IsSplit, IsTrue, IsUncut, IsUnread, Lexeme, List, NoHeading, None, Ok, Option, Part, PassesLex, Phase, Reads, Refusal, RefusesBytes, RefusesHeading, Section, SectionTree, Some, Token, [], ap, arith, bad_heading, begins_heading, cases_lt, drop, false, here, in_preamble, in_section, inl, inr, is_heading, later, length, length-take-le, lexemes_of, line_after, line_at, map, name_at, newlines, none, none-some, part_of, parts_of, refl, section, slice_range, subst, suc, sym, take, tree_of, true, uncut, zero, ℕ, ⊎_elim, ◌+◌, ◌-◌, ◌<◌, ◌∙◌, ◌∷◌, ◌≡◌, ◌≤◌, ◌⊎◌}
 use Rattle.sc_lex.specs.declared.refusal.Phase.TheVariants as phase
-use Rattle.sc_ast.specs.declared.section.SectionTree.{SectionTree}
-use Rattle.sc_expr.specs.declared.lexeme.Lexeme.{Lexeme}
 use Rattle.sc_lex.specs.declared.fault.TextFault.TheVariants as fault
-use Rattle.sc_parse.specs.Limits.{IsParsed, lexemes_of}
-use Rattle.sc_parse.specs.Outcomes.{tree_of}
 use Rattle.sc_parse.proofs.Trees.{parsed, unparsed}
-use Rattle.sc_read.specs.First.{First, here, later}
-use Rattle.sc_read.specs.Reading.{Part, part_of, parts_of, HasTokens, PassesLex, IsRead, Reads, IsUncut, FailsLex, bad_heading, uncut, HasTree, IsUnread, FailsSyntax, in_preamble, in_section, Fails}
-use Rattle.sc_read.specs.Steps.{IsCutInto}
 use Rattle.sc_read.proofs.Pieces.{IsFirst, HoldsNot, find, IsStopped, decide_cut}
 use Rattle.sc_read.proofs.Steps.{InText, in_text, has_token}
 

@@ -1,3 +1,4 @@
+pub mod Common
 pub mod Existence
 pub mod Pieces
 pub mod Splits

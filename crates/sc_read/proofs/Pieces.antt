@@ -1,17 +1,5 @@
 -- Whether bytes are cut can be decided.
-use Rattle.std.proofs.Common.{◌≡◌, ℕ, zero, suc, ◌+◌, ◌-◌, ◌<◌, ◌≤◌, ◌⊎◌, inl, inr, Bool, true, false, IsTrue, List, [], ◌∷◌, length, take, drop, codes, Option, None, Some, refl, sym, ap, ◌∙◌, subst, ⊎_elim, arith}
-use Rattle.std.specs.Prelude.{slice_index, is_some}
-use Rattle.std.proofs.lemmas.Bool.{cases_lt, false≢true}
-use Rattle.std.proofs.lemmas.Option.{none-some}
-use Rattle.std.proofs.lemmas.List.{length-drop}
-use Rattle.sc_lex.specs.Lines.{line_len, is_white_space}
-use Rattle.sc_lex.specs.Kinds.{kind_of, may_follow, is_directive}
-use Rattle.sc_lex.specs.Cutting.{begins_block_comment, begins_line_comment, ends_comment, IsGap, white_space, block_comment, line_comment, IsToken, allows_directive, token_at, Cuts, nothing, gap, token, IsCut, IsStuck}
-use Rattle.sc_lex.specs.declared.token.Token.{Token}
-use Rattle.sc_lex.specs.declared.token.TokenKind.{TokenKind}
-use Rattle.sc_lex.proofs.Gaps.{gap_fits}
-use Rattle.sc_lex.proofs.Wording.{begins_with}
-use Rattle.sc_lex.proofs.Runs.{token_positive}
+use Rattle.sc_read.proofs.Common.{Bool, Cuts, IsCut, IsGap, IsStuck, IsToken, IsTrue, List, None, Option, Some, Token, TokenKind, [], allows_directive, ap, arith, begins_block_comment, begins_line_comment, begins_with, block_comment, cases_lt, codes, drop, ends_comment, false, false≢true, gap, gap_fits, inl, inr, is_directive, is_some, is_white_space, kind_of, length, length-drop, line_comment, line_len, may_follow, none-some, nothing, refl, slice_index, subst, suc, sym, take, token, token_at, token_positive, true, white_space, zero, ℕ, ⊎_elim, ◌+◌, ◌-◌, ◌<◌, ◌∙◌, ◌∷◌, ◌≡◌, ◌≤◌, ◌⊎◌}
 
 -- the first of n places from one on at which a test holds
 pub record IsFirst (p : ℕ → Bool) (from to at : ℕ) : Type 0 where

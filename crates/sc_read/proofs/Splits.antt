@@ -1,15 +1,6 @@
 -- A text is split in one way.
-use Rattle.std.proofs.Common.{◌≡◌, ℕ, ◌+◌, ◌<◌, ◌≤◌, IsTrue, List, [], ◌∷◌, length, map, take, drop, None, refl, sym, ap, ap₂, ◌∙◌, subst, ⊎_elim, arith}
-use Rattle.std.specs.Prelude.{slice_range}
-use Rattle.std.proofs.lemmas.Bool.{cases_lt, and_parts}
-use Rattle.std.proofs.lemmas.Option.{none-some}
-use Rattle.std.proofs.lemmas.List.{length-drop}
-use Rattle.sc_lex.specs.Lines.{line_at, begins_line}
-use Rattle.sc_lex.specs.Headings.{is_heading, begins_heading, name_at}
-use Rattle.sc_lex.specs.Splitting.{IsSection, AreSections, none, section, IsSplit, IsBadHeading}
-use Rattle.sc_lex.specs.declared.section.Section.{Section}
+use Rattle.sc_read.proofs.Common.{AreSections, IsBadHeading, IsSection, IsSplit, IsTrue, List, None, Part, Section, [], and_parts, ap, ap₂, arith, begins_heading, begins_line, cases_lt, drop, is_heading, length, length-drop, line_at, map, name_at, none, none-some, part_of, parts_of, refl, section, slice_range, subst, sym, take, ℕ, ⊎_elim, ◌+◌, ◌<◌, ◌∙◌, ◌∷◌, ◌≡◌, ◌≤◌}
 use Rattle.sc_lex.proofs.Splits.{heading_within, sections_rise}
-use Rattle.sc_read.specs.Reading.{Part, part_of, parts_of}
 
 begins : {text : List ℕ} {at end : ℕ} {ss : List Section} → AreSections text at end ss → at < end →
     IsTrue (is_heading text at)

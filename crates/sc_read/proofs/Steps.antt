@@ -1,25 +1,7 @@
 -- From what the functions over the sections find to what is said of the text.
-use Rattle.std.proofs.Common.{◌≡◌, ℕ, zero, suc, ◌+◌, ◌-◌, ◌<◌, ◌≤◌, IsTrue, true, false, List, [], ◌∷◌, ◌++◌, length, map, take, drop, get_or, codes, Option, Some, None, Result, Ok, Err, IfOk, refl, sym, ap, ◌∙◌, subst, arith}
-use Rattle.std.specs.Prelude.{slice_range, slice_index, slice_get, Any, All}
-use Rattle.std.specs.List.{AllZip, AllByRecursion}
-use Rattle.std.proofs.lemmas.Bool.{and_parts, false≢true}
-use Rattle.std.proofs.lemmas.Option.{none-some}
-use Rattle.std.proofs.lemmas.List.{get_or-take, length-take-le, length-drop, take_more, drop_more, take_all, take-append-drop}
-use Rattle.sc_lex.specs.Lines.{newlines, line_after, line_at, begins_line, is_white_space}
-use Rattle.sc_lex.specs.Headings.{begins_heading}
-use Rattle.sc_lex.specs.Cutting.{IsGap, white_space, block_comment, line_comment, begins_block_comment, begins_line_comment, Cuts, nothing, gap, token, IsCut, RefusesBytes}
-use Rattle.sc_lex.specs.Splitting.{IsSection, AreSections, none, section, IsSplit, RefusesHeading}
-use Rattle.sc_lex.proofs.Wording.{front_byte}
-use Rattle.sc_lex.proofs.Gaps.{slash_first, star_first}
-use Rattle.sc_lex.specs.declared.token.Token.{Token}
-use Rattle.sc_lex.specs.declared.section.Section.{Section}
-use Rattle.sc_lex.specs.declared.refusal.Refusal.{Refusal}
+use Rattle.sc_read.proofs.Common.{All, AllByRecursion, AllZip, Any, AreSections, Cuts, Err, Fails, FailsLex, FailsSyntax, First, HasTokens, HasTree, IfOk, IsCut, IsCutInto, IsCuttable, IsGap, IsParsable, IsParsed, IsRead, IsSection, IsSplit, IsTreeOf, IsTrue, IsUncut, IsUnread, List, None, Ok, Option, Part, PassesLex, Reads, Refusal, RefusesBytes, RefusesHeading, RefusesTokens, Result, Section, SectionTree, Some, Token, [], and_parts, ap, arith, bad_heading, begins_block_comment, begins_heading, begins_line, begins_line_comment, block_comment, codes, drop, false, false≢true, front_byte, gap, get_or, get_or-take, here, in_preamble, in_section, is_white_space, later, length, length-drop, length-take-le, lexemes_of, line_after, line_at, line_comment, map, newlines, none, none-some, nothing, part_of, parts_of, refl, section, slash_first, slice_get, slice_index, slice_range, star_first, subst, suc, sym, take, take-append-drop, take_all, token, true, uncut, white_space, zero, ℕ, ◌++◌, ◌+◌, ◌-◌, ◌<◌, ◌∙◌, ◌∷◌, ◌≡◌, ◌≤◌}
+use Rattle.std.proofs.lemmas.List.{take_more, drop_more}
 use Rattle.sc_lex.specs.declared.refusal.Phase.TheVariants as phase
-use Rattle.sc_ast.specs.declared.section.SectionTree.{SectionTree}
-use Rattle.sc_parse.specs.Limits.{IsParsed, lexemes_of}
-use Rattle.sc_read.specs.First.{First, here, later}
-use Rattle.sc_read.specs.Steps.{IsCutInto, IsCuttable, IsTreeOf, IsParsable, RefusesTokens}
-use Rattle.sc_read.specs.Reading.{Part, part_of, parts_of, HasTokens, PassesLex, IsRead, Reads, IsUncut, FailsLex, bad_heading, uncut, HasTree, IsUnread, FailsSyntax, in_preamble, in_section, Fails}
 
 -- what the loops over sections keep
 pub zip_push : {A B : Type 0} (R : A → B → Type 0) (xs : List A) (ys : List B) (x : A) (y : B) → AllZip R xs ys →

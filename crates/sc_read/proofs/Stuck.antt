@@ -1,14 +1,5 @@
 -- Bytes that are cut aren't refused.
-use Rattle.std.proofs.Common.{◌≡◌, ℕ, ◌+◌, ◌<◌, ◌≤◌, Bool, List, [], ◌∷◌, length, take, drop, Some, refl, sym, ◌∙◌, subst, ⊎_elim, arith}
-use Rattle.std.proofs.lemmas.Bool.{cases_lt}
-use Rattle.std.proofs.lemmas.Option.{none-some}
-use Rattle.std.proofs.lemmas.List.{length-drop}
-use Rattle.sc_lex.specs.Cutting.{IsGap, white_space, block_comment, line_comment, IsToken, allows_directive, Cuts, nothing, gap, token, IsCut, IsStuck, RefusesBytes}
-use Rattle.sc_lex.specs.declared.token.Token.{Token}
-use Rattle.sc_lex.specs.declared.token.TokenKind.{TokenKind}
-use Rattle.sc_lex.specs.declared.refusal.Refusal.{Refusal}
-use Rattle.sc_lex.proofs.Gaps.{one_gap, gap_fits}
-use Rattle.sc_lex.proofs.Runs.{token_positive}
+use Rattle.sc_read.proofs.Common.{Bool, Cuts, IsCut, IsGap, IsStuck, IsToken, List, Refusal, RefusesBytes, Some, Token, TokenKind, [], allows_directive, arith, block_comment, cases_lt, drop, gap, gap_fits, length, length-drop, line_comment, none-some, nothing, one_gap, refl, subst, sym, take, token, token_positive, white_space, ℕ, ⊎_elim, ◌+◌, ◌<◌, ◌∙◌, ◌∷◌, ◌≡◌, ◌≤◌}
 use Rattle.sc_lex.proofs.Fronts.{white_none}
 use Rattle.sc_lex.proofs.Cuts.{token_le}
 

@@ -1,21 +1,6 @@
 -- A text is read or refused in one way.
-use Rattle.std.proofs.Common.{◌≡◌, ℕ, ◌+◌, ◌<◌, ◌≤◌, List, [], ◌∷◌, ◌++◌, length, map, take, drop, refl, sym, ap, ap₂, ◌∙◌, subst, ⊎_elim, arith}
-use Rattle.std.specs.List.{AllZip}
-use Rattle.std.proofs.lemmas.Bool.{cases_lt}
-use Rattle.sc_lex.specs.Lines.{line_at}
-use Rattle.sc_lex.specs.Cutting.{IsCut, RefusesBytes}
-use Rattle.sc_lex.specs.Splitting.{IsSplit, IsBadHeading, RefusesHeading}
-use Rattle.sc_lex.specs.declared.token.Token.{Token}
-use Rattle.sc_lex.specs.declared.section.Section.{Section}
-use Rattle.sc_lex.specs.declared.refusal.Refusal.{Refusal}
-use Rattle.sc_lex.specs.declared.refusal.Phase.{Phase}
+use Rattle.sc_read.proofs.Common.{AllZip, Fails, FailsLex, FailsSyntax, First, HasTokens, HasTree, IsBadHeading, IsCut, IsParsed, IsRead, IsSplit, IsUncut, IsUnread, Lexeme, List, Part, PassesLex, Phase, Reads, Refusal, RefusesBytes, RefusesHeading, Section, SectionTree, SpellsSection, Token, [], ap, ap₂, arith, bad_heading, cases_lt, drop, here, in_preamble, in_section, later, length, lexemes_of, line_at, map, part_of, parts_of, refl, subst, sym, take, uncut, ℕ, ⊎_elim, ◌++◌, ◌+◌, ◌<◌, ◌∙◌, ◌∷◌, ◌≡◌, ◌≤◌}
 use Rattle.sc_lex.specs.declared.refusal.Phase.TheVariants as phase
-use Rattle.sc_ast.specs.declared.section.SectionTree.{SectionTree}
-use Rattle.sc_expr.specs.declared.lexeme.Lexeme.{Lexeme}
-use Rattle.sc_parse.specs.Sections.{SpellsSection}
-use Rattle.sc_parse.specs.Limits.{IsParsed, lexemes_of}
-use Rattle.sc_read.specs.First.{First, here, later}
-use Rattle.sc_read.specs.Reading.{Part, part_of, parts_of, HasTokens, PassesLex, IsRead, Reads, IsUncut, FailsLex, bad_heading, uncut, HasTree, IsUnread, FailsSyntax, in_preamble, in_section, Fails}
 use Rattle.sc_read.proofs.Stuck.{cut_refused}
 use Rattle.sc_read.proofs.Splits.{same_preamble, same_parts, split_good}
 

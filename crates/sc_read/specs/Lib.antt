@@ -1,3 +1,4 @@
+pub mod Common
 pub mod First
 pub mod Reading
 pub mod Steps

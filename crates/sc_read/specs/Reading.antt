@@ -1,18 +1,12 @@
 -- How a text is read: it is split into its preamble and its sections, these parts are cut into tokens, and the tokens
 -- of
 -- each section spell its tree.
+use Rattle.sc_read.specs.Common.{IsCut, IsParsed, IsSplit, RefusesBytes, RefusesHeading, Section, SectionTree, Token, lexemes_of, line_after, line_at}
 use Rattle.std.specs.Prelude.{◌≡◌, ℕ, ◌-◌, List, [], ◌∷◌, map, Any}
 use Rattle.std.specs.List.{AllZip}
-use Rattle.sc_lex.specs.Lines.{line_after, line_at}
-use Rattle.sc_lex.specs.Cutting.{IsCut, RefusesBytes}
-use Rattle.sc_lex.specs.Splitting.{IsSplit, RefusesHeading}
-use Rattle.sc_lex.specs.declared.token.Token.{Token}
-use Rattle.sc_lex.specs.declared.section.Section.{Section}
 use Rattle.sc_lex.specs.declared.refusal.Refusal.{Refusal}
 use Rattle.sc_lex.specs.declared.refusal.Phase.{Phase}
 use Rattle.sc_lex.specs.declared.refusal.Phase.TheVariants as phase
-use Rattle.sc_ast.specs.declared.section.SectionTree.{SectionTree}
-use Rattle.sc_parse.specs.Limits.{IsParsed, lexemes_of}
 use Rattle.sc_read.specs.First.{First}
 
 -- Bytes of a text that are cut by themselves, and the place in the text where they begin.

@@ -1,12 +1,7 @@
 -- Helping: what the functions over the sections of a text find.
+use Rattle.sc_read.specs.Common.{IsCut, IsParsed, Section, SectionTree, Token, lexemes_of, line_after}
 use Rattle.std.specs.Prelude.{◌≡◌, ℕ, ◌-◌, ◌<◌, List, length, Any}
 use Rattle.std.specs.List.{AllZip}
-use Rattle.sc_lex.specs.Lines.{line_after}
-use Rattle.sc_lex.specs.Cutting.{IsCut}
-use Rattle.sc_lex.specs.declared.token.Token.{Token}
-use Rattle.sc_lex.specs.declared.section.Section.{Section}
-use Rattle.sc_ast.specs.declared.section.SectionTree.{SectionTree}
-use Rattle.sc_parse.specs.Limits.{IsParsed, lexemes_of}
 
 abbrev pub IsCutInto : Section → List Token → Type 0
 IsCutInto section tokens = IsCut section.bytes.now tokens

@@ -1,6 +1,6 @@
+ghost use Rattle.sc_lex.specs.Prelude.{IsCut, RefusesBytes};
 ghost use Rattle.std.specs.Prelude.{◌≡◌, IfOk, IsErrOf};
 ghost use Rattle.std.specs.List.{AllZip};
-ghost use Rattle.sc_lex.specs.Cutting.{IsCut, RefusesBytes};
 ghost use Rattle.sc_lex.specs.declared.refusal.Refusal.{Refusal};
 ghost use Rattle.sc_lex.specs.declared.refusal.Phase.TheVariants.{Syntax};
 ghost use Rattle.sc_read.specs.First.{First};

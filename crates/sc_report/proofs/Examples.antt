@@ -1,9 +1,8 @@
 -- The text of a small program's interfaces.
-use Rattle.std.proofs.Common.{◌≡◌, [], ◌∷◌, codes, Some, None, refl}
+use Rattle.sc_report.proofs.Common.{None, Some, [], check_text, codes, refl, ◌∷◌, ◌≡◌}
 use Rattle.sc_event.specs.declared.interface.Interfaces.{Interfaces}
 use Rattle.sc_event.specs.declared.interface.Scalar.TheVariants.{Int, Unsigned}
 use Rattle.sc_event.specs.declared.interface.Import.TheVariants.{Input, Output, Function}
-use Rattle.sc_report.specs.Check.{check_text}
 
 abbrev store : Interfaces
 store = record {

@@ -1,2 +1,3 @@
+pub mod Common
 mod Examples
 pub mod Pieces

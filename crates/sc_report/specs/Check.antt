@@ -1,4 +1,5 @@
 -- The lines that tell the interfaces of a program.
+use Rattle.sc_event.specs.Prelude.{comp_name, export_at, spaced_names}
 use Rattle.std.specs.Prelude.{ℕ, List, ◌++◌, flat_map, map, codes, Option, Some, None}
 use Rattle.std.specs.Option.{option_map_or}
 use Rattle.sc_event.specs.declared.interface.Scalar.{Scalar}
@@ -8,8 +9,6 @@ use Rattle.sc_event.specs.declared.interface.Import.{Import}
 use Rattle.sc_event.specs.declared.interface.Import.TheVariants.{Input, Output, Function}
 use Rattle.sc_event.specs.declared.interface.Interface.{Interface}
 use Rattle.sc_event.specs.declared.interface.Interfaces.{Interfaces}
-use Rattle.sc_event.specs.Line.{comp_name, spaced_names}
-use Rattle.sc_event.specs.Lookup.{export_at}
 
 abbrev pub scalar_word : Scalar → List ℕ
 scalar_word Int = codes "int"

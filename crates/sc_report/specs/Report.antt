@@ -1,8 +1,8 @@
 -- The lines that tell of a run.
+use Rattle.sc_event.specs.Prelude.{comp_name, event_line}
 use Rattle.std.specs.Prelude.{ℕ, List, ◌++◌, flat_map, codes, decimal}
 use Rattle.std.specs.Int.{w32, to_be_bytes}
 use Rattle.hex.specs.Hex.{encode_lower}
-use Rattle.sc_event.specs.Line.{comp_name, event_line}
 use Rattle.sc_event.specs.declared.event.Event.{Event}
 use Rattle.sc_event.specs.declared.interface.Interfaces.{Interfaces}
 use Rattle.sc_core.specs.declared.cause.Cause.{Cause}

@@ -1,5 +1,5 @@
+ghost use Rattle.sc_event.specs.Prelude.{comp_name};
 ghost use Rattle.std.specs.Prelude.{◌≡◌};
-ghost use Rattle.sc_event.specs.Line.{comp_name};
 
 use sc_event::{CompId, Interfaces};
 

@@ -1,23 +1,5 @@
 -- Where a run begins.
-use Rattle.std.proofs.Common.{◌≡◌, refl, sym, ap, ◌∙◌, subst, ℕ, suc, List, [], ◌∷◌, map, length, Option, None, Some, arith}
-use Rattle.std.specs.Prelude.{slice_get}
-use Rattle.sc_core.specs.declared.program.ProgramTree.{ProgramTree}
-use Rattle.sc_core.specs.declared.run.RunEnd.TheVariants.{TurnsOut}
-use Rattle.sc_core.specs.declared.section.TypedGlobal.{TypedGlobal}
-use Rattle.sc_core.specs.declared.section.TypedSection.{TypedSection}
-use Rattle.sc_core.specs.declared.value.Cell.{Cell}
-use Rattle.sc_core.specs.declared.value.Value.{Value}
-use Rattle.sc_event.specs.declared.row.Entry.TheVariants.{Main}
-use Rattle.sc_core.specs.Value.{c_arith}
-use Rattle.sc_core.specs.Words.{State, Piece, and_then}
-use Rattle.sc_core.specs.Calls.{function, begun, done, found, back_own, run_in, call_own, run_step, within}
-use Rattle.sc_core.specs.Meaning.{function_of, entry_in, struct_zeros, global_block, first_blocks, globals_of, run_to, first_state, run_of}
-use Rattle.sc_run.specs.declared.work.Frame.{Frame}
-use Rattle.sc_run.specs.declared.work.Callee.{Callee}
-use Rattle.sc_run.specs.declared.work.To.TheVariants.{Nowhere}
-use Rattle.sc_run.specs.Seen.{Seen, seen_of}
-use Rattle.sc_run.specs.Resume.{library, bodies, Standing}
-use Rattle.sc_run.specs.Entering.{Begun, body_acts}
+use Rattle.sc_run.proofs.Common.{Begun, Callee, Cell, Frame, List, Main, None, Nowhere, Option, Piece, ProgramTree, Seen, Some, Standing, State, TurnsOut, TypedGlobal, TypedSection, Value, [], and_then, ap, arith, back_own, begun, bodies, body_acts, c_arith, call_own, done, entry_in, first_blocks, first_state, found, function, function_of, global_block, globals_of, length, library, map, refl, run_in, run_of, run_step, run_to, seen_of, slice_get, struct_zeros, subst, suc, sym, within, ℕ, ◌∙◌, ◌∷◌, ◌≡◌}
 use Rattle.sc_run.proofs.Blank.{blank}
 use Rattle.sc_run.proofs.Calling.{frame_at, enter_is, begun_seen, frame_is}
 

@@ -1,17 +1,7 @@
 -- Blocks whose ended variables hold no cells are loaded from and stored to as the others.
-use Rattle.std.proofs.Common.{◌≡◌, refl, sym, ap, ◌∙◌, ℕ, zero, suc, ◌==◌, Bool, true, false, if◌then◌else◌, List, [], ◌∷◌, ◌++◌, map, length, replicate, Option, None, Some, Result, Ok, Err}
-use Rattle.std.specs.Prelude.{slice_get, slice_set, nat_lt}
-use Rattle.std.proofs.lemmas.List.{map-set, map-append, length-map}
-use Rattle.sc_core.specs.declared.cause.Cause.{Cause}
-use Rattle.sc_core.specs.declared.cause.Cause.TheVariants.{OutOfBounds, BadType, Dangling}
-use Rattle.sc_core.specs.declared.value.Cell.{Cell}
+use Rattle.sc_run.proofs.Common.{BadType, Blocks, Bool, Cause, Cell, Dangling, Err, List, Memory, None, Null, Ok, Option, OutOfBounds, Pointer, Ptr, Result, Some, Value, Word, [], ap, bind, blocks_for, cell_of, cells_at, cleared, ended, false, given_back, if◌then◌else◌, is_live, length, length-map, live_cells, load, loaded, map, map-append, map-set, nat_lt, refl, replicate, slice_get, slice_set, store, suc, sym, true, with_blocks, with_cell, zero, ℕ, ◌++◌, ◌==◌, ◌∙◌, ◌∷◌, ◌≡◌}
 use Rattle.sc_core.specs.declared.value.Cell.TheVariants as cell
-use Rattle.sc_core.specs.declared.value.Pointer.{Pointer}
-use Rattle.sc_core.specs.declared.value.Value.{Value}
-use Rattle.sc_core.specs.declared.value.Value.TheVariants.{Word, Null, Ptr}
-use Rattle.sc_core.specs.Memory.{Blocks, Memory, with_blocks, bind, is_live, live_cells, cells_at, cell_of, loaded, load, with_cell, store, ended}
-use Rattle.sc_core.specs.Calls.{blocks_for}
-use Rattle.sc_blocks.specs.Rows.{ended_block, given_back, cleared}
+use Rattle.sc_blocks.specs.Rows.{ended_block}
 
 abbrev pub blank : Blocks → Blocks
 blank bs = map given_back bs

@@ -1,36 +1,8 @@
 -- Calls that begin.
-use Rattle.std.proofs.Common.{◌≡◌, refl, sym, ap, ◌∙◌, subst, ℕ, zero, suc, ◌≤◌, ◌++◌, List, [], ◌∷◌, map, length, reverse, Option, None, Some, Ok, Err, arith}
-use Rattle.sc_event.specs.declared.event.Event.TheVariants.{Call}
-use denote.Bor.{Bor}
-use Rattle.sc_core.specs.declared.expr.TypedExpr.{TypedExpr}
-use Rattle.sc_core.specs.declared.program.ProgramTree.{ProgramTree}
-use Rattle.sc_core.specs.declared.run.RunEnd.{RunEnd}
-use Rattle.sc_core.specs.declared.run.SourceRun.{SourceRun}
-use Rattle.sc_core.specs.declared.value.Value.{Value}
-use Rattle.sc_core.specs.Memory.{with_blocks}
-use Rattle.sc_core.specs.Types.{variables}
-use Rattle.sc_core.specs.Value.{c_arith}
-use Rattle.sc_core.specs.Words.{State, Piece, Reached, Stopped, and_then, turn, Left}
-use Rattle.sc_core.specs.Tree.{store_at}
-use Rattle.sc_core.specs.Calls.{Function, function, blocks_for, begun, done, found, word_in, run_in}
-use Rattle.sc_core.specs.Meaning.{function_of}
-use Rattle.sc_value.specs.Where.{here_of}
-use Rattle.sc_run.specs.declared.work.Frame.{Frame}
-use Rattle.sc_run.specs.declared.work.Callee.{Callee}
-use Rattle.sc_run.specs.declared.work.To.{To}
-use Rattle.sc_run.specs.declared.work.To.TheVariants.{Place}
-use Rattle.sc_run.specs.declared.work.Work.{Work}
-use Rattle.sc_run.specs.declared.work.Work.TheVariants.{Caller}
-use Rattle.sc_run.specs.declared.work.Step.{Step}
-use Rattle.sc_run.specs.declared.work.Step.TheVariants.{Stop}
-use Rattle.sc_run.specs.Seen.{Seen, seen_of}
-use Rattle.sc_run.specs.Comes.{CameTo, Comes}
-use Rattle.sc_run.specs.Resume.{way_in, library, bodies, calls_in, returned, result_goes, resume, Standing, Steps}
-use Rattle.sc_run.specs.Entering.{with_variables, Begun, told_call, entry_from, back_from, body_acts}
+use Rattle.sc_run.proofs.Common.{Begun, Bor, Call, Callee, Caller, CameTo, Comes, Err, Frame, Function, Left, List, None, Ok, Option, Piece, Place, ProgramTree, Reached, RunEnd, Seen, Some, SourceRun, Standing, State, Step, Steps, Stop, Stopped, To, TypedExpr, Value, Work, [], and_then, ap, arith, back_from, begun, blocks_for, bodies, body_acts, c_arith, calls_in, done, entry_from, found, function, function_of, here_of, length, library, map, refl, result_goes, resume, returned, reverse, run_in, seen_of, store_at, subst, suc, sym, then_then, told_call, turn, variables, way_in, with_blocks, with_variables, word_in, zero, ℕ, ◌++◌, ◌∙◌, ◌∷◌, ◌≡◌, ◌≤◌}
 use Rattle.sc_run.proofs.Blank.{blank_more, blank_new, length_same}
 use Rattle.sc_run.proofs.Coming.{with_memory, seen_with, blocks_seen}
 use Rattle.sc_run.proofs.Standing.{step_stops, step_ends, newest_first}
-use Rattle.sc_laws.proofs.Growing.{then_then}
 use Rattle.sc_run.proofs.Looping.{steps_as}
 
 -- a result that can't be stored

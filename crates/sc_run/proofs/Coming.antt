@@ -1,13 +1,5 @@
 -- Pieces of a run, one after the other.
-use Rattle.std.proofs.Common.{◌≡◌, refl, sym, ap, ◌∙◌, subst, ℕ, zero, suc, Result, Ok, Err, arith}
-use Rattle.sc_core.specs.declared.cause.Cause.{Cause}
-use Rattle.sc_core.specs.declared.run.RunEnd.{RunEnd}
-use Rattle.sc_core.specs.declared.run.RunEnd.TheVariants.{Blamed, TurnsOut}
-use Rattle.sc_core.specs.declared.value.Value.{Value}
-use Rattle.sc_core.specs.Memory.{Blocks, Memory, with_blocks, store}
-use Rattle.sc_core.specs.Words.{State, Here, Piece, Reached, Stopped, and_then, computed, turn, turn_of, Next, leave, stored}
-use Rattle.sc_run.specs.Seen.{Seen, seen_of}
-use Rattle.sc_run.specs.Comes.{CameTo, Comes, with_exit}
+use Rattle.sc_run.proofs.Common.{Blamed, Blocks, CameTo, Cause, Comes, Err, Here, Memory, Next, Ok, Piece, Reached, Result, RunEnd, Seen, State, Stopped, TurnsOut, Value, and_then, ap, arith, computed, leave, refl, seen_of, store, stored, subst, suc, sym, turn, turn_of, with_blocks, with_exit, zero, ℕ, ◌∙◌, ◌≡◌}
 use Rattle.sc_run.proofs.Blank.{blank, blanked, store_same, memory_with}
 
 abbrev pub with_memory : Seen → Memory → Seen

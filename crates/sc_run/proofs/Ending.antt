@@ -1,25 +1,5 @@
 -- Calls that end, and the end of the run.
-use Rattle.std.proofs.Common.{◌≡◌, sym, ap, ◌∙◌, subst, ℕ, suc, ◌≤◌, ◌++◌, List, [], ◌∷◌, reverse, Option, None, Some, Result, Ok, Err, arith}
-use Rattle.sc_event.specs.declared.event.Event.TheVariants.{Ret, End}
-use Rattle.sc_core.specs.declared.program.ProgramTree.{ProgramTree}
-use Rattle.sc_core.specs.declared.run.RunEnd.{RunEnd}
-use Rattle.sc_core.specs.declared.run.RunEnd.TheVariants.{Ended}
-use Rattle.sc_core.specs.declared.run.SourceRun.{SourceRun}
-use Rattle.sc_core.specs.declared.value.Value.{Value}
-use Rattle.sc_core.specs.Memory.{with_blocks, ended}
-use Rattle.sc_blocks.specs.Rows.{cleared}
-use Rattle.sc_core.specs.Words.{tell, State, Piece, Stopped, and_then, Exit, Left, leave}
-use Rattle.sc_core.specs.Calls.{back_own, done}
-use Rattle.sc_core.specs.Meaning.{run_to, exit_word}
-use Rattle.sc_run.specs.declared.work.Frame.{Frame}
-use Rattle.sc_run.specs.declared.work.To.{To}
-use Rattle.sc_run.specs.declared.work.Work.{Work}
-use Rattle.sc_run.specs.declared.work.Work.TheVariants.{Caller}
-use Rattle.sc_run.specs.declared.work.Step.{Step}
-use Rattle.sc_run.specs.declared.work.Step.TheVariants.{Stop}
-use Rattle.sc_run.specs.Seen.{Seen, seen_of}
-use Rattle.sc_run.specs.Resume.{closes, returned, back_to, result_goes, function_in, resume, Standing, Steps}
-use Rattle.sc_run.specs.Returning.{ended_as, variable_count, left_by, word_crossing, told_back, back_value}
+use Rattle.sc_run.proofs.Common.{Caller, End, Ended, Err, Exit, Frame, Left, List, None, Ok, Option, Piece, ProgramTree, Result, Ret, RunEnd, Seen, Some, SourceRun, Standing, State, Step, Steps, Stop, Stopped, To, Value, Work, [], and_then, ap, arith, back_own, back_to, back_value, cleared, closes, done, ended, ended_as, exit_word, function_in, leave, left_by, result_goes, resume, returned, reverse, run_to, seen_of, subst, suc, sym, tell, told_back, variable_count, with_blocks, word_crossing, ℕ, ◌++◌, ◌∙◌, ◌∷◌, ◌≡◌, ◌≤◌}
 use Rattle.sc_run.proofs.Blank.{left_same}
 use Rattle.sc_run.proofs.Coming.{with_memory, seen_with, blocks_seen}
 use Rattle.sc_run.proofs.Standing.{resume_stopped, newest_first}

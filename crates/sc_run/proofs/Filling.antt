@@ -1,17 +1,8 @@
 -- Globals, one after the other.
-use Rattle.std.proofs.Common.{◌≡◌, refl, sym, ap, ◌∙◌, ℕ, zero, suc, ◌+◌, ◌<◌, ◌≤◌, ◌==◌, ◌++◌, if◌then◌else◌, List, [], ◌∷◌, map, length, take, drop, get_or, Option, Some, append_assoc, add-one, drop-cons, arith}
-use Rattle.std.specs.Prelude.{slice_get}
-use Rattle.std.proofs.lemmas.List.{append-nil, drop_all, length-take, take_more, map-append}
+use Rattle.sc_run.proofs.Common.{Blocks, Cell, List, Memory, Option, Some, TypedGlobal, TypedSection, TypedStruct, Undef, [], add-one, ap, append-nil, append_assoc, arith, cell_with, drop, drop-cons, drop_all, first_blocks, get_or, global_block, globals_of, if◌then◌else◌, length, length-take, map, map-append, member_zeros, refl, repeated, slice_get, struct_zeros, suc, sym, take, take_more, with_blocks, with_words, zero, zeros_of, ℕ, ◌++◌, ◌+◌, ◌<◌, ◌==◌, ◌∙◌, ◌∷◌, ◌≡◌, ◌≤◌}
 use Rattle.std.proofs.Math.Dec.{eqb-suc-zero, eqb-zero-suc, eqb-suc-suc}
 use Rattle.sc_core.specs.declared.section.TypedMember.{TypedMember}
-use Rattle.sc_core.specs.declared.section.TypedGlobal.{TypedGlobal}
-use Rattle.sc_core.specs.declared.section.TypedSection.{TypedSection}
-use Rattle.sc_core.specs.declared.section.TypedStruct.{TypedStruct}
-use Rattle.sc_core.specs.declared.value.Cell.{Cell}
-use Rattle.sc_core.specs.declared.value.Cell.TheVariants.{Undef, Word, Null, Ptr}
-use Rattle.sc_core.specs.Memory.{Blocks, Memory, with_blocks}
-use Rattle.sc_core.specs.Meaning.{repeated, zeros_of, member_zeros, struct_zeros, with_words, global_block, first_blocks, globals_of}
-use Rattle.sc_run.specs.Starting.{cell_with}
+use Rattle.sc_core.specs.declared.value.Cell.TheVariants.{Word, Null, Ptr}
 use Rattle.sc_run.proofs.Making.{with_twice, with_none, at_itself}
 
 repeated_more : (zeros : List (List Cell)) (n : ℕ) (cells : List Cell) →

@@ -1,18 +1,7 @@
 -- Functions of a program's library, by the program's tree.
-use Rattle.std.proofs.Common.{◌≡◌, refl, sym, ap, ◌∙◌, subst, ℕ, zero, suc, List, [], ◌∷◌, map, None, Some}
-use Rattle.std.specs.Prelude.{slice_get, slice_index_or}
-use Rattle.std.specs.Option.{option_map}
+use Rattle.sc_run.proofs.Common.{EntryAt, List, None, ProgramTree, Some, TypedFunction, TypedSection, TypedStruct, [], ap, c_arith, entry_in, function, function_of, functions_in, library, map, option_map, refl, slice_get, slice_index_or, subst, suc, sym, zero, ℕ, ◌∙◌, ◌∷◌, ◌≡◌}
 use Rattle.std.proofs.lemmas.Option.{none-some, slice_get-map}
 use Rattle.sc_event.specs.declared.row.Entry.{Entry}
-use Rattle.sc_core.specs.declared.program.ProgramTree.{ProgramTree}
-use Rattle.sc_core.specs.declared.section.TypedStruct.{TypedStruct}
-use Rattle.sc_core.specs.declared.section.TypedFunction.{TypedFunction}
-use Rattle.sc_core.specs.declared.section.TypedSection.{TypedSection}
-use Rattle.sc_core.specs.Value.{c_arith}
-use Rattle.sc_core.specs.Calls.{function}
-use Rattle.sc_core.specs.Meaning.{function_of, functions_in, entry_in}
-use Rattle.sc_run.specs.Resume.{library}
-use Rattle.sc_run.specs.Finding.{EntryAt}
 
 module _ (program : ProgramTree) where
   abbrev main : ℕ

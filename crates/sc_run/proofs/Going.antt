@@ -1,31 +1,12 @@
 -- What the statements of a frame do goes on, as what functions do does: it adds events, gives no turn, and stops by a
 -- blame or without turns.
-use Rattle.std.proofs.Common.{◌≡◌, ℕ, List, Option}
-use Rattle.std.specs.Prelude.{is_some, bytes_eq, ◌==◌, ◌&&◌}
-use Rattle.std.specs.Option.{option_copied}
-use Rattle.sc_core.specs.declared.program.ProgramTree.{ProgramTree}
-use Rattle.sc_core.specs.declared.stmt.TypedStmt.{TypedStmt}
-use Rattle.sc_core.specs.declared.value.Value.{Value}
-use Rattle.sc_core.specs.Value.{c_arith}
-use Rattle.sc_core.specs.Words.{State, Here, Left, loop, Calls}
-use Rattle.sc_core.specs.Tree.{Acts, test, store_result, part_does, block_does}
-use Rattle.sc_core.specs.Calls.{run_step}
-use Rattle.sc_core.specs.Meaning.{main_name}
-use Rattle.sc_laws.specs.Growth.{Goes}
-use Rattle.sc_laws.specs.Interactions.{GoFrom, Never}
+use Rattle.sc_run.proofs.Common.{Acts, Back, Calls, Frame, GoFrom, Goes, Here, Left, List, Loop, Never, Nowhere, Option, Place, ProgramTree, State, To, TypedStmt, Value, block_acts, block_does, bodies, bytes_eq, c_arith, calls_go, calls_in, closes, here_of, is_some, library, loop, loop_acts, main_name, next_acts, option_copied, part_does, result_goes, run_step, stays, store_result, test, way_in, within_goes, ℕ, ◌&&◌, ◌==◌, ◌≡◌}
 use Rattle.sc_laws.proofs.Expressions.{ArithKeeps}
-use Rattle.sc_laws.proofs.Growing.{stays, calls_go, within_goes}
 use Rattle.sc_laws.proofs.Interactions.{MatchWith, match_loop}
 use Rattle.sc_laws.proofs.Loops.{one_round, loop_again}
 use Rattle.sc_laws.proofs.Matching.{match_goes, run_goes_on}
 use Rattle.sc_laws.proofs.Programs.{itself_keeps, program_obeys}
 use Rattle.sc_laws.proofs.Statements.{test_matches, store_result_matches, way_matches, part_matches, block_matches, closed_matches}
-use Rattle.sc_value.specs.Where.{here_of}
-use Rattle.sc_run.specs.declared.work.Frame.{Frame}
-use Rattle.sc_run.specs.declared.work.Loop.{Loop}
-use Rattle.sc_run.specs.declared.work.To.{To}
-use Rattle.sc_run.specs.declared.work.To.TheVariants.{Nowhere, Place, Back}
-use Rattle.sc_run.specs.Resume.{way_in, library, bodies, calls_in, block_acts, next_acts, loop_acts, closes, result_goes}
 
 itself : ArithKeeps Never c_arith c_arith
 itself = itself_keeps Never c_arith

@@ -1,44 +1,13 @@
 -- Calls in statements: refused, looked up, and of the environment.
-use Rattle.std.proofs.Common.{◌≡◌, refl, sym, ap, ◌∙◌, subst, ℕ, ◌++◌, Bool, true, false, ◌&&◌, if◌then◌else◌, List, [], ◌∷◌, map, length, drop, Option, None, Some, Result, Ok, Err, true≢false, arith}
-use Rattle.std.specs.Prelude.{is_some}
+use Rattle.sc_run.proofs.Common.{BadType, Blamed, Bool, Bor, Call, Callee, Comes, Cross, EntryAt, Err, Export, FoundAt, Frame, Function, In, Input, Left, List, None, Null, Ok, Option, Out, Output, Own, Piece, Place, ProgramTree, Ptr, Reached, Result, RunEnd, Seen, Some, State, Step, Steps, Stop, Stopped, To, TypedExpr, Value, Word, Work, [], and_then, ap, arith, assign_call, back_cross, back_from, back_own, bodies, c_arith, call, called, calls_in, computed, crossed, drop, entry_from, entry_in, false, first_word, found, function, here_of, if◌then◌else◌, is_some, is_word, leads, length, library, map, may_call, next_input, read_input, refl, result_goes, run_in, seen_of, simple_does, store_result, subst, sym, tell, then_then, true, true≢false, turn, values, way_in, word_in, ℕ, ◌&&◌, ◌++◌, ◌∙◌, ◌∷◌, ◌≡◌}
+use Rattle.sc_event.specs.Prelude.{imports, is_function, takes}
 use Rattle.std.specs.List.{list_all}
 use Rattle.std.proofs.lemmas.Bool.{false≢true}
 use Rattle.sc_base.proofs.Bools.{and_rest}
-use Rattle.sc_event.specs.declared.event.Event.TheVariants.{Call, In, Out}
-use Rattle.sc_event.specs.declared.row.Entry.TheVariants.{Export}
 use Rattle.sc_core.specs.declared.expr.CallTarget.{CallTarget}
-use Rattle.sc_core.specs.declared.expr.CallTarget.TheVariants.{Own, Cross, Input, Output}
-use denote.Bor.{Bor}
 use Rattle.sc_core.specs.declared.expr.TypedCall.{TypedCall}
-use Rattle.sc_core.specs.declared.expr.TypedExpr.{TypedExpr}
-use Rattle.sc_core.specs.declared.program.ProgramTree.{ProgramTree}
-use Rattle.sc_core.specs.declared.run.RunEnd.{RunEnd}
-use Rattle.sc_core.specs.declared.run.RunEnd.TheVariants.{Blamed}
-use Rattle.sc_core.specs.declared.cause.Cause.TheVariants.{BadType}
-use Rattle.sc_core.specs.declared.value.Value.{Value}
-use Rattle.sc_core.specs.declared.value.Value.TheVariants.{Word, Null, Ptr}
-use Rattle.sc_core.specs.Words.{tell, State, Piece, Reached, Stopped, and_then, computed, turn, Left}
 use Rattle.sc_core.specs.declared.stmt.TypedSimpleKind.{TypedSimpleKind}
-use Rattle.sc_core.specs.Value.{c_arith}
-use Rattle.sc_core.specs.Tree.{values, call, assign_call, store_result, simple_does}
-use Rattle.sc_core.specs.Calls.{Function, function, leads, found, word_in, is_word, crossed, first_word, next_input, read_input, may_call, back_own, back_cross, run_in, called}
-use Rattle.sc_core.specs.Meaning.{entry_in}
-use Rattle.sc_event.specs.Legal.{is_function, imports, takes}
-use Rattle.sc_value.specs.Where.{here_of}
-use Rattle.sc_run.specs.declared.work.Frame.{Frame}
-use Rattle.sc_run.specs.declared.work.Callee.{Callee}
-use Rattle.sc_run.specs.declared.work.To.{To}
-use Rattle.sc_run.specs.declared.work.To.TheVariants.{Place}
-use Rattle.sc_run.specs.declared.work.Work.{Work}
-use Rattle.sc_run.specs.declared.work.Step.{Step}
-use Rattle.sc_run.specs.declared.work.Step.TheVariants.{Stop}
-use Rattle.sc_run.specs.Seen.{Seen, seen_of}
-use Rattle.sc_run.specs.Comes.{Comes}
-use Rattle.sc_run.specs.Finding.{FoundAt, EntryAt}
-use Rattle.sc_run.specs.Resume.{way_in, library, bodies, calls_in, result_goes, Steps}
-use Rattle.sc_run.specs.Entering.{entry_from, back_from}
 use Rattle.sc_run.proofs.Standing.{step_stops}
-use Rattle.sc_laws.proofs.Growing.{then_then}
 use Rattle.sc_run.proofs.Looping.{steps_as, steps_on}
 
 -- words cross as they are

@@ -1,25 +1,7 @@
 -- Loops, and what waits behind statements.
-use Rattle.std.proofs.Common.{◌≡◌, refl, sym, ap, ◌∙◌, subst, ℕ, suc, ◌++◌, Bool, true, false, if◌then◌else◌, List, [], ◌∷◌, length, reverse, Ok, Err, arith}
-use Rattle.sc_core.specs.declared.program.ProgramTree.{ProgramTree}
-use Rattle.sc_core.specs.declared.run.RunEnd.{RunEnd}
-use Rattle.sc_core.specs.declared.value.Value.{Value}
+use Rattle.sc_run.proofs.Common.{Acts, Body as Body', Bool, Break, Comes, Err, Exit, Frame, Go, Left, List, Loop, Next, Now, Ok, Piece, ProgramTree, Run as Run', RunEnd, Seen, State, Step, Steps, Stop, Value, Work, [], and_then, ap, arith, block_acts, choose, does_now, evaluated, false, follow, here_of, if◌then◌else◌, in_loop, is_true, leave, length, loop_acts, next_acts, refl, resume, reverse, subst, suc, sym, then_then, true, turn, way_in, ℕ, ◌++◌, ◌∙◌, ◌∷◌, ◌≡◌}
+use Rattle.sc_core.specs.Prelude.{take}
 use Rattle.sc_core.specs.declared.value.Want.TheVariants as want
-use Rattle.sc_core.specs.Value.{is_true}
-use Rattle.sc_core.specs.Words.{State, Piece, and_then, turn, Exit, Next, Break, Left, leave, in_loop, follow, take, choose}
-use Rattle.sc_core.specs.Tree.{Acts, evaluated}
-use Rattle.sc_value.specs.Where.{here_of}
-use Rattle.sc_run.specs.declared.work.Frame.{Frame}
-use Rattle.sc_run.specs.declared.work.Loop.{Loop}
-use Rattle.sc_run.specs.declared.work.Work.{Work}
-use Rattle.sc_run.specs.declared.work.Work.TheVariants.{Body as Body'}
-use Rattle.sc_run.specs.declared.work.Now.{Now}
-use Rattle.sc_run.specs.declared.work.Now.TheVariants.{Run as Run'}
-use Rattle.sc_run.specs.declared.work.Step.{Step}
-use Rattle.sc_run.specs.declared.work.Step.TheVariants.{Go, Stop}
-use Rattle.sc_run.specs.Seen.{Seen}
-use Rattle.sc_run.specs.Comes.{Comes}
-use Rattle.sc_run.specs.Resume.{way_in, block_acts, next_acts, loop_acts, resume, does_now, Steps}
-use Rattle.sc_laws.proofs.Growing.{then_then}
 use Rattle.sc_run.proofs.Going.{loop_is}
 use Rattle.sc_run.proofs.Standing.{Acting, told_as, goes_on, step_stops, moved, newest_first}
 

@@ -1,25 +1,5 @@
 -- The variables of a call, one block after the other, and their initialisers.
-use Rattle.std.proofs.Common.{◌≡◌, refl, sym, ap, ◌∙◌, subst, ℕ, suc, ◌+◌, ◌<◌, ◌≤◌, ◌==◌, ◌++◌, Bool, true, false, if◌then◌else◌, List, [], ◌∷◌, map, length, take, drop, get_or, Option, None, Some, Result, Ok, Err, append_assoc, arith}
-use Rattle.std.specs.Prelude.{slice_get}
-use Rattle.std.proofs.lemmas.Bool.{eqb-true, eq-eqb}
-use Rattle.std.proofs.lemmas.List.{append-nil, length-append, length-map, length-take, drop_all, take-map, take_more, map-append}
-use Rattle.sc_core.specs.declared.expr.TypedExpr.{TypedExpr}
-use Rattle.sc_core.specs.declared.run.RunEnd.{RunEnd}
-use Rattle.sc_core.specs.declared.section.TypedStruct.{TypedStruct}
-use Rattle.sc_core.specs.declared.section.TypedLocal.{TypedLocal}
-use Rattle.sc_core.specs.declared.section.TypedParam.{TypedParam}
-use Rattle.sc_core.specs.declared.section.TypedFunction.{TypedFunction}
-use Rattle.sc_core.specs.Types.{cells_of}
-use Rattle.sc_core.specs.declared.value.Value.{Value}
-use Rattle.sc_core.specs.Memory.{Blocks, Memory, with_blocks}
-use Rattle.sc_core.specs.Value.{c_arith}
-use Rattle.sc_core.specs.Words.{State, Here, Piece, Reached, Stopped, Next, Left, in_order, follow, all_do}
-use Rattle.sc_core.specs.Tree.{Acts}
-use Rattle.sc_core.specs.Calls.{blocks_for}
-use Rattle.sc_core.specs.Meaning.{init_does, inits_do}
-use Rattle.sc_run.specs.Seen.{Seen, seen_of}
-use Rattle.sc_run.specs.Comes.{CameTo, Comes, with_exit}
-use Rattle.sc_run.specs.Entering.{block_for}
+use Rattle.sc_run.proofs.Common.{Acts, Blocks, Bool, CameTo, Comes, Err, Here, Left, List, Memory, Next, None, Ok, Option, Piece, Reached, Result, RunEnd, Seen, Some, State, Stopped, TypedExpr, TypedFunction, TypedLocal, TypedParam, TypedStruct, Value, [], all_do, ap, append-nil, append_assoc, arith, block_for, blocks_for, c_arith, cells_of, drop, drop_all, eq-eqb, eqb-true, false, follow, get_or, if◌then◌else◌, in_order, init_does, inits_do, length, length-append, length-map, length-take, map, map-append, refl, seen_of, slice_get, subst, suc, sym, take, take-map, take_more, true, with_blocks, with_exit, ℕ, ◌++◌, ◌+◌, ◌<◌, ◌==◌, ◌∙◌, ◌∷◌, ◌≡◌, ◌≤◌}
 use Rattle.sc_base.proofs.Lists.{drop-step}
 
 with_if : (b : Bool) (x y z : Blocks) → (if b then x else (if b then y else z)) ≡ (if b then x else z)

@@ -1,28 +1,5 @@
 -- A run that stands somewhere only adds events, so it may be stopped at a number of events.
-use Rattle.std.proofs.Common.{◌≡◌, refl, ap, ◌∙◌, subst, ℕ, suc, ◌≤◌, ◌<◌, if◌then◌else◌, List, [], ◌∷◌, length, take, reverse, Option, None, Some, length-append, arith}
-use Rattle.std.proofs.lemmas.List.{take-append-le}
-use Rattle.std.proofs.lemmas.Bool.{le-leb, lt-ltb}
-use Rattle.sc_event.specs.declared.event.Event.{Event}
-use Rattle.sc_event.specs.declared.event.Event.TheVariants.{End}
-use Rattle.sc_core.specs.declared.program.ProgramTree.{ProgramTree}
-use Rattle.sc_core.specs.declared.run.RunEnd.{RunEnd}
-use Rattle.sc_core.specs.declared.run.RunEnd.TheVariants.{Ended, EventsOut}
-use Rattle.sc_core.specs.declared.run.SourceRun.{SourceRun}
-use Rattle.sc_core.specs.declared.value.Value.{Value}
-use Rattle.sc_core.specs.Growth.{Front}
-use Rattle.sc_core.specs.Run.{stopped_at}
-use Rattle.sc_core.specs.Words.{State, Piece, Reached, Stopped, and_then, Left, in_order, in_loop}
-use Rattle.sc_core.specs.Calls.{back_own, done}
-use Rattle.sc_core.specs.Meaning.{run_to, exit_word}
-use Rattle.sc_laws.specs.Growth.{IsStop, Gone, Goes}
-use Rattle.sc_laws.proofs.Growing.{front_more, stays, earlier, then_goes, follow_goes, back_goes, done_goes}
-use Rattle.sc_run.specs.declared.work.Frame.{Frame}
-use Rattle.sc_run.specs.declared.work.Work.{Work}
-use Rattle.sc_run.specs.declared.work.Work.TheVariants.{Rest, First, Body as Body', Again, Caller}
-use Rattle.sc_run.specs.declared.work.Now.{Now}
-use Rattle.sc_run.specs.declared.work.Now.TheVariants.{Run as Run', Leave}
-use Rattle.sc_run.specs.Seen.{Seen}
-use Rattle.sc_run.specs.Resume.{exit_of, next_acts, closes, function_in, returned, back_to, resume, does_now, Standing}
+use Rattle.sc_run.proofs.Common.{Again, Body as Body', Caller, End, Ended, Event, EventsOut, First, Frame, Front, Goes, Gone, IsStop, Leave, Left, List, None, Now, Option, Piece, ProgramTree, Reached, Rest, Run as Run', RunEnd, Seen, Some, SourceRun, Standing, State, Stopped, Value, Work, [], and_then, ap, arith, back_goes, back_own, back_to, closes, does_now, done, done_goes, earlier, exit_of, exit_word, follow_goes, front_more, function_in, if◌then◌else◌, in_loop, in_order, le-leb, length, length-append, lt-ltb, next_acts, refl, resume, returned, reverse, run_to, stays, stopped_at, subst, suc, take, take-append-le, then_goes, ℕ, ◌<◌, ◌∙◌, ◌∷◌, ◌≡◌, ◌≤◌}
 use Rattle.sc_run.proofs.Going.{block_goes, next_goes, loop_goes, closes_goes, result_goes_on}
 
 -- two traces have the same front, as long as the shorter one goes

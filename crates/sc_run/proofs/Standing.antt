@@ -1,17 +1,5 @@
 -- Where a run stands, as pieces come to something and as things are left to wait.
-use Rattle.std.proofs.Common.{◌≡◌, refl, sym, ap, ◌∙◌, ℕ, suc, ◌≤◌, ◌++◌, List, [], ◌∷◌, reverse, Ok, Err, arith}
-use Rattle.std.proofs.lemmas.List.{reverse-append}
-use Rattle.sc_core.specs.declared.program.ProgramTree.{ProgramTree}
-use Rattle.sc_core.specs.declared.run.RunEnd.{RunEnd}
-use Rattle.sc_core.specs.declared.run.SourceRun.{SourceRun}
-use Rattle.sc_core.specs.Words.{State, Piece, Reached, Stopped, and_then, Left}
-use Rattle.sc_run.specs.declared.work.Frame.{Frame}
-use Rattle.sc_run.specs.declared.work.Work.{Work}
-use Rattle.sc_run.specs.declared.work.Work.TheVariants.{Rest, First, Body as Body', Again, Caller}
-use Rattle.sc_run.specs.Seen.{Seen}
-use Rattle.sc_run.specs.Comes.{CameTo, Comes}
-use Rattle.sc_run.specs.declared.work.Step.TheVariants.{Stop}
-use Rattle.sc_run.specs.Resume.{resume, Standing, Steps}
+use Rattle.sc_run.proofs.Common.{Again, Body as Body', Caller, CameTo, Comes, Err, First, Frame, Left, List, Ok, Piece, ProgramTree, Reached, Rest, RunEnd, Seen, SourceRun, Standing, State, Steps, Stop, Stopped, Work, [], and_then, ap, arith, refl, resume, reverse, reverse-append, suc, sym, ℕ, ◌++◌, ◌∙◌, ◌∷◌, ◌≡◌, ◌≤◌}
 use Rattle.sc_run.proofs.Coming.{then_stops}
 
 abbrev pub Acting : Type 0

@@ -1,26 +1,9 @@
 -- Statements, by their layers.
-use Rattle.std.proofs.Common.{◌≡◌, refl, sym, ap, ◌∙◌, subst, ℕ, ◌-◌, ◌≤◌, ◌++◌, List, [], ◌∷◌, length, take, drop, get_or, reverse, Option, None, Some, arith}
-use Rattle.std.proofs.lemmas.List.{take_all, length-drop}
-use denote.Bor.{Bor}
-use Rattle.sc_core.specs.declared.program.ProgramTree.{ProgramTree}
-use Rattle.sc_core.specs.declared.stmt.TypedStmt.{TypedStmt}
+use Rattle.sc_run.proofs.Common.{Acts, Bor, Exit, Frame, Left, List, Loop, Next, None, Option, Piece, ProgramTree, Rest, Route, Seen, Some, State, Step, Steps, TypedExpr, TypedStmt, Work, [], and_then, ap, arith, assign, block_acts, c_arith, calls_in, choose, drop, evaluated, follow, get_or, here_of, in_order, kind_step, layer_of, leave, length, length-drop, loop, loop_acts, part_acts, part_does, refl, resume, reverse, stmt_acts, stmt_at, stmt_step, subst, sym, take, take_all, test, way_in, ℕ, ◌++◌, ◌-◌, ◌∙◌, ◌∷◌, ◌≡◌, ◌≤◌}
 use Rattle.sc_core.specs.declared.stmt.TypedStmtKind.{TypedStmtKind, TypedStmtKind-F, roll-TypedStmtKind}
 use Rattle.sc_core.specs.declared.stmt.TypedStmtKind.TheOpen as layer
-use Rattle.sc_core.specs.declared.expr.TypedExpr.{TypedExpr}
 use Rattle.sc_core.specs.declared.value.Want.TheVariants as want
 use Rattle.sc_core.specs.declared.stmt.TypedSimple.{TypedSimple}
-use Rattle.sc_core.specs.Value.{c_arith}
-use Rattle.sc_core.specs.Words.{State, Piece, Left, and_then, choose, leave, loop, Next, Exit, Route, in_order, follow}
-use Rattle.sc_core.specs.Tree.{Acts, assign, evaluated, test, kind_step, stmt_step, part_does}
-use Rattle.sc_core.proofs.Layers.{stmt_at, layer_of}
-use Rattle.sc_value.specs.Where.{here_of}
-use Rattle.sc_run.specs.declared.work.Frame.{Frame}
-use Rattle.sc_run.specs.declared.work.Loop.{Loop}
-use Rattle.sc_run.specs.declared.work.Work.{Work}
-use Rattle.sc_run.specs.declared.work.Work.TheVariants.{Rest}
-use Rattle.sc_run.specs.declared.work.Step.{Step}
-use Rattle.sc_run.specs.Seen.{Seen}
-use Rattle.sc_run.specs.Resume.{way_in, calls_in, stmt_acts, block_acts, part_acts, loop_acts, resume, Steps}
 use Rattle.sc_run.proofs.Standing.{Acting}
 use Rattle.sc_run.proofs.Looping.{steps_as, steps_wait}
 

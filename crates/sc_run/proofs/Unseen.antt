@@ -1,26 +1,12 @@
 -- Expressions give the same where ended variables hold no cells.
-use Rattle.std.proofs.Common.{◌≡◌, refl, sym, ap, ◌∙◌, subst, ℕ, Bool, false, if◌then◌else◌, List, [], ◌∷◌, map, length, Result, Ok, Err, pos, ◌+ℤ◌, ℤ, not, ◌&&◌, ◌==◌}
-use Rattle.std.specs.Prelude.{nat_lt}
-use Rattle.sc_core.specs.declared.cause.Cause.{Cause}
-use Rattle.sc_core.specs.declared.cause.Cause.TheVariants.{BadPointer}
+use Rattle.sc_run.proofs.Common.{BadPointer, Blocks, Bool, Cause, Err, Here, List, Meant, Null, Ok, Pointer, Ptr, Result, TypedExpr, TypedStruct, Value, Ways, Word, [], ap, applied, applied_one, at_place, at_pointer, between, binary, bind, c_arith, choose, expr_at, false, if◌then◌else◌, is_array, is_inside, is_pointer, is_true, is_unsigned, is_unsigned_op, length, map, meant, meant_step, moved, moved_back, moved_on, nat_lt, not, of_bool, on_words, place_at, pos, refl, same_place, subst, sym, target_cells, term_of, term_step, typed, values, variable_at, wanted, ways, ℕ, ℤ, ◌&&◌, ◌+ℤ◌, ◌==◌, ◌∙◌, ◌∷◌, ◌≡◌}
 use Rattle.sc_base.specs.declared.op.BinaryOp.{BinaryOp}
 use Rattle.sc_base.specs.declared.op.BinaryOp.TheVariants as op
 use Rattle.sc_core.specs.declared.ty.Ty.{Ty}
-use Rattle.sc_core.specs.declared.expr.TypedExpr.{TypedExpr}
 use Rattle.sc_core.specs.declared.expr.TypedKind.{TypedKind, TypedKind-F}
 use Rattle.sc_core.specs.declared.expr.TypedKind.TheOpen as term
-use Rattle.sc_core.specs.declared.section.TypedStruct.{TypedStruct}
-use Rattle.sc_core.specs.declared.value.Pointer.{Pointer}
-use Rattle.sc_core.specs.declared.value.Value.{Value}
-use Rattle.sc_core.specs.declared.value.Value.TheVariants.{Word, Null, Ptr}
 use Rattle.sc_core.specs.declared.value.Want.{Want}
 use Rattle.sc_core.specs.declared.value.Want.TheVariants as want
-use Rattle.sc_core.specs.Memory.{Blocks, bind}
-use Rattle.sc_core.specs.Value.{c_arith, is_true, of_bool, place_at, moved, moved_on, moved_back, is_inside, same_place, between, on_words, applied_one}
-use Rattle.sc_core.specs.Types.{is_unsigned, is_array, is_pointer, target_cells}
-use Rattle.sc_core.specs.Words.{Here, choose}
-use Rattle.sc_core.specs.Tree.{Ways, Meant, variable_at, wanted, at_place, at_pointer, is_unsigned_op, applied, binary, term_step, meant_step, meant, ways, values}
-use Rattle.sc_core.proofs.Layers.{typed, expr_at, term_of}
 use Rattle.sc_core.proofs.Induction.{Under, expr_induction}
 use Rattle.sc_run.proofs.Blank.{blank, by_ok, cells_same, load_same}
 

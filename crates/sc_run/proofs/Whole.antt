@@ -1,26 +1,5 @@
 -- A run from its first step to its end.
-use Rattle.std.proofs.Common.{◌≡◌, refl, sym, ap, ◌∙◌, subst, ℕ, ◌≤◌, if◌then◌else◌, List, [], length, take, Option, None, Some}
-use Rattle.std.proofs.lemmas.Bool.{le-leb}
-use Rattle.sc_event.specs.declared.event.Event.{Event}
-use Rattle.sc_event.specs.declared.row.Entry.TheVariants.{Main}
-use Rattle.sc_core.specs.declared.program.ProgramTree.{ProgramTree}
-use Rattle.sc_core.specs.declared.run.RunEnd.{RunEnd}
-use Rattle.sc_core.specs.declared.run.RunEnd.TheVariants.{TurnsOut, EventsOut}
-use Rattle.sc_core.specs.declared.run.SourceRun.{SourceRun}
-use Rattle.sc_core.specs.Memory.{Memory}
-use Rattle.sc_core.specs.Run.{stopped_at}
-use Rattle.sc_core.specs.Value.{c_arith}
-use Rattle.sc_core.specs.Meaning.{entry_in, globals_of, run_of, meaning}
-use Rattle.sc_run.specs.declared.work.Frame.{Frame}
-use Rattle.sc_run.specs.declared.work.Callee.{Callee}
-use Rattle.sc_run.specs.declared.work.Work.{Work}
-use Rattle.sc_run.specs.declared.work.Now.{Now}
-use Rattle.sc_run.specs.declared.work.Step.{Step}
-use Rattle.sc_run.specs.declared.work.Step.TheVariants.{Go, Stop}
-use Rattle.sc_run.specs.Seen.{Seen}
-use Rattle.sc_run.specs.Finding.{EntryAt}
-use Rattle.sc_run.specs.Entering.{Begun, body_acts}
-use Rattle.sc_run.specs.Resume.{does_now, EndsAs, Standing, Stands, Steps}
+use Rattle.sc_run.proofs.Common.{Begun, Callee, EndsAs, EntryAt, Event, EventsOut, Frame, Go, List, Main, Memory, None, Now, Option, ProgramTree, RunEnd, Seen, Some, SourceRun, Standing, Stands, Step, Steps, Stop, TurnsOut, Work, [], ap, body_acts, c_arith, does_now, entry_in, globals_of, if◌then◌else◌, le-leb, length, meaning, refl, run_of, stopped_at, subst, sym, take, ℕ, ◌∙◌, ◌≡◌, ◌≤◌}
 use Rattle.sc_run.proofs.Beginning.{no_main, main_missing, begins}
 use Rattle.sc_run.proofs.Onward.{stopped_here}
 

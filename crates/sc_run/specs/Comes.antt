@@ -1,7 +1,6 @@
 -- Helping: what pieces of a run come to.
+use Rattle.sc_run.specs.Common.{Exit, Left, Piece, Reached, RunEnd, State, Stopped}
 use Rattle.std.specs.Prelude.{◌≡◌, ◌≤◌, Result, Ok, Err}
-use Rattle.sc_core.specs.declared.run.RunEnd.{RunEnd}
-use Rattle.sc_core.specs.Words.{State, Piece, Reached, Stopped, Exit, Left}
 use Rattle.sc_run.specs.Seen.{Seen, seen_of}
 
 -- the piece came to this, and this is seen then

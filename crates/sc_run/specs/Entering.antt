@@ -1,19 +1,6 @@
 -- Helping: how a call begins, as it is seen.
+use Rattle.sc_run.specs.Common.{Acts, Block, Call, Callee, Frame, Memory, Piece, ProgramTree, State, Undef, Value, back_cross, back_own, blocks_for, body_does, c_arith, cell_of, here_of, tell, variables, with_blocks, word_in}
 use Rattle.std.specs.Prelude.{◌≡◌, ℕ, ◌<◌, ◌^◌, ◌++◌, true, List, [], ◌∷◌, length, map, replicate, Option, None, Some}
-use Rattle.sc_event.specs.declared.event.Event.TheVariants.{Call}
-use Rattle.sc_core.specs.declared.program.ProgramTree.{ProgramTree}
-use Rattle.sc_core.specs.declared.value.Cell.TheVariants.{Undef}
-use Rattle.sc_core.specs.declared.value.Value.{Value}
-use Rattle.sc_core.specs.Memory.{Block, Memory, with_blocks, cell_of}
-use Rattle.sc_core.specs.Types.{variables}
-use Rattle.sc_core.specs.Value.{c_arith}
-use Rattle.sc_core.specs.Words.{State, Piece, tell}
-use Rattle.sc_core.specs.Tree.{Acts}
-use Rattle.sc_core.specs.Calls.{blocks_for, word_in, back_own, back_cross}
-use Rattle.sc_core.specs.Meaning.{body_does}
-use Rattle.sc_value.specs.Where.{here_of}
-use Rattle.sc_run.specs.declared.work.Frame.{Frame}
-use Rattle.sc_run.specs.declared.work.Callee.{Callee}
 use Rattle.sc_run.specs.Seen.{Seen}
 use Rattle.sc_run.specs.Resume.{calls_in}
 

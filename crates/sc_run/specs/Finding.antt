@@ -1,11 +1,7 @@
 -- Helping: functions that are looked up.
+use Rattle.sc_run.specs.Common.{Callee, ProgramTree, c_arith, entry_in, function, function_of}
 use Rattle.std.specs.Prelude.{◌≡◌, ℕ, Option, None, Some}
 use Rattle.sc_event.specs.declared.row.Entry.{Entry}
-use Rattle.sc_core.specs.declared.program.ProgramTree.{ProgramTree}
-use Rattle.sc_core.specs.Value.{c_arith}
-use Rattle.sc_core.specs.Calls.{function}
-use Rattle.sc_core.specs.Meaning.{function_of, entry_in}
-use Rattle.sc_run.specs.declared.work.Callee.{Callee}
 use Rattle.sc_run.specs.Resume.{library}
 
 -- the function of a compartment at a place, if there is one

@@ -1,3 +1,5 @@
+pub mod Common
+pub mod Prelude
 pub mod Comes
 pub mod Entering
 pub mod Finding

@@ -1,22 +1,11 @@
 -- Helping: what a run that has got somewhere does from there.
+use Rattle.sc_run.specs.Common.{Acts, Body, Break, Calls, Continue, Event, Exit, Frame, Function, Left, Library, Next, Piece, ProgramTree, Return, Run, RunEnd, State, Value, Ways, and_then, back_cross, back_own, block_does, c_arith, calls, closed, done, follow, function_of, here_of, in_loop, in_order, leave, library_of, loop, main_name, part_does, run_step, run_to, stmt_does, stopped_at, store_result, test, ways, within}
 use Rattle.std.specs.Prelude.{◌≡◌, ℕ, suc, ◌≤◌, ◌&&◌, ◌==◌, bytes_eq, List, [], ◌∷◌, reverse, Option, None, Some, is_some}
 use Rattle.std.specs.Option.{option_copied}
-use Rattle.sc_event.specs.declared.event.Event.{Event}
 use Rattle.sc_core.specs.declared.expr.TypedExpr.{TypedExpr}
 use Rattle.sc_core.specs.declared.stmt.TypedSimple.{TypedSimple}
 use Rattle.sc_core.specs.declared.stmt.TypedStmt.{TypedStmt}
-use Rattle.sc_core.specs.declared.program.ProgramTree.{ProgramTree}
-use Rattle.sc_core.specs.declared.run.RunEnd.{RunEnd}
 use Rattle.sc_core.specs.declared.run.SourceRun.{SourceRun}
-use Rattle.sc_core.specs.declared.value.Value.{Value}
-use Rattle.sc_core.specs.Run.{stopped_at}
-use Rattle.sc_core.specs.Value.{c_arith}
-use Rattle.sc_core.specs.Words.{State, Piece, and_then, Exit, Next, Break, Continue, Return, Left, leave, in_order, in_loop, follow, loop, Calls}
-use Rattle.sc_core.specs.Tree.{Ways, Acts, ways, test, store_result, part_does, block_does, stmt_does}
-use Rattle.sc_core.specs.Calls.{Function, Library, Body, back_own, back_cross, done, calls, run_step, within}
-use Rattle.sc_core.specs.Meaning.{main_name, closed, function_of, library_of, Run, run_to}
-use Rattle.sc_value.specs.Where.{here_of}
-use Rattle.sc_run.specs.declared.work.Frame.{Frame}
 use Rattle.sc_run.specs.declared.work.Loop.{Loop}
 use Rattle.sc_run.specs.declared.work.To.{To}
 use Rattle.sc_run.specs.declared.work.To.TheVariants.{Nowhere, Place, Back}

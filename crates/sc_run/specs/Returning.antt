@@ -1,16 +1,7 @@
 -- Helping: how a call ends, as it is seen.
+use Rattle.sc_run.specs.Common.{Frame, Piece, ProgramTree, Reached, Ret, RunEnd, State, Stopped, Value, cleared, crossing, option_value, variables, with_blocks}
+use Rattle.sc_event.specs.Prelude.{export_at}
 use Rattle.std.specs.Prelude.{ℕ, ◌++◌, [], ◌∷◌, length, Option, None, Some, Result, Ok, Err}
-use Rattle.sc_event.specs.declared.event.Event.TheVariants.{Ret}
-use Rattle.sc_event.specs.Lookup.{export_at}
-use Rattle.sc_core.specs.declared.program.ProgramTree.{ProgramTree}
-use Rattle.sc_core.specs.declared.run.RunEnd.{RunEnd}
-use Rattle.sc_core.specs.declared.value.Value.{Value}
-use Rattle.sc_core.specs.Memory.{with_blocks}
-use Rattle.sc_core.specs.Words.{State, Piece, Reached, Stopped}
-use Rattle.sc_core.specs.Calls.{crossing, option_value}
-use Rattle.sc_core.specs.Types.{variables}
-use Rattle.sc_blocks.specs.Rows.{cleared}
-use Rattle.sc_run.specs.declared.work.Frame.{Frame}
 use Rattle.sc_run.specs.Seen.{Seen}
 
 -- what was found, with the state as it was

@@ -1,11 +1,8 @@
 -- Helping: what of a state is kept while a program runs: the changes of frames are not, nor the cells of variables that
 -- have ended.
+use Rattle.sc_run.specs.Common.{Event, Memory, State, given_back, memory_of}
+use Rattle.sc_word.specs.Prelude.{word_of}
 use Rattle.std.specs.Prelude.{ℕ, List, map}
-use Rattle.sc_event.specs.declared.event.Event.{Event}
-use Rattle.sc_word.specs.Word.{word_of}
-use Rattle.sc_core.specs.Memory.{Memory}
-use Rattle.sc_core.specs.Words.{State}
-use Rattle.sc_blocks.specs.Rows.{memory_of, given_back}
 use Rattle.sc_run.specs.declared.machine.Machine.{Machine}
 
 pub record Seen : Type 0 where

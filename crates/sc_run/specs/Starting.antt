@@ -1,7 +1,7 @@
 -- Helping: the cells with which globals begin.
+use Rattle.sc_run.specs.Common.{Null, Ptr, Undef, Word}
 use Rattle.std.specs.Prelude.{ℕ, Option, None, Some}
 use Rattle.sc_core.specs.declared.value.Cell.{Cell}
-use Rattle.sc_core.specs.declared.value.Cell.TheVariants.{Undef, Word, Null, Ptr}
 
 -- a cell that begins with this word, if there is one; a pointer is given null
 abbrev pub cell_with : Option ℕ → Cell → Cell

@@ -1,13 +1,7 @@
 //! Calls: from their arguments to the first statement of what is called, and back (C11 6.5.2.2).
 
+ghost use Rattle.sc_run.specs.Prelude.{Advances, Begun, Steps, and_then, back_from, bodies, body_acts, c_arith, entry_from, function, function_of, kept_by, library, result_goes, run_in, told_call, turn, word_in};
 ghost use Rattle.std.specs.Prelude.{◌≡◌, ◌<◌, ◌^◌, IfOk, OnOk, Some, map, length};
-ghost use Rattle.sc_core.specs.Value.{c_arith};
-ghost use Rattle.sc_core.specs.Words.{and_then, turn};
-ghost use Rattle.sc_core.specs.Calls.{function, word_in, run_in};
-ghost use Rattle.sc_core.specs.Meaning.{function_of};
-ghost use Rattle.sc_run.specs.Seen.{kept_by};
-ghost use Rattle.sc_run.specs.Resume.{Steps, library, bodies, result_goes, Advances};
-ghost use Rattle.sc_run.specs.Entering.{Begun, told_call, entry_from, back_from, body_acts};
 
 use crate::machine::{Machine, init_all, make_blocks, store_at, take_turn, tell};
 use crate::work::{Callee, Frame, Leaving, Now, Run, Step, To, Work};

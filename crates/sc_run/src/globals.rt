@@ -1,10 +1,7 @@
 //! The variables with which a program begins (C11 6.2.4p3, 6.7.9p10).
 
+ghost use Rattle.sc_run.specs.Prelude.{base_zeros, cell_with, global_block, globals_of, member_zeros, memory_of, repeated, starred_zeros, struct_zeros, with_blocks, with_words, zeros_of};
 ghost use Rattle.std.specs.Prelude.{◌≡◌, ◌++◌, [], ◌∷◌, IfOk, OnOk, map, slice_get, slice_index_or};
-ghost use Rattle.sc_core.specs.Memory.{with_blocks};
-ghost use Rattle.sc_core.specs.Meaning.{base_zeros, starred_zeros, repeated, zeros_of, member_zeros, struct_zeros, with_words, global_block, globals_of};
-ghost use Rattle.sc_blocks.specs.Rows.{memory_of};
-ghost use Rattle.sc_run.specs.Starting.{cell_with};
 
 use sc_base::OutOfMemory;
 use sc_blocks::Blocks;

@@ -1,11 +1,7 @@
 //! What follows when control leaves statements (C11 6.8.5, 6.8.6).
 
+ghost use Rattle.sc_run.specs.Prelude.{Advances, State, Steps, back_value, block_acts, closes, ended_as, exit_of, exit_word, follow, in_loop, in_order, kept_by, leave, left_by, loop_acts, main_name, next_acts, told_back, variable_count, word_crossing};
 ghost use Rattle.std.specs.Prelude.{◌≡◌, ◌++◌, [], ◌∷◌, IfOk, OnOk, bytes_eq, ◌==◌, ◌&&◌};
-ghost use Rattle.sc_core.specs.Words.{State, leave, follow, in_order, in_loop};
-ghost use Rattle.sc_core.specs.Meaning.{main_name, exit_word};
-ghost use Rattle.sc_run.specs.Seen.{kept_by};
-ghost use Rattle.sc_run.specs.Resume.{Steps, exit_of, block_acts, next_acts, loop_acts, closes, Advances};
-ghost use Rattle.sc_run.specs.Returning.{ended_as, variable_count, left_by, word_crossing, told_back, back_value};
 
 use crate::calls::{hand_back, word_in};
 use crate::machine::{Machine, tell};

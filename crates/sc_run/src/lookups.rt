@@ -1,10 +1,8 @@
 //! The functions of a program, and those that calls lead to.
 
+ghost use Rattle.sc_run.specs.Prelude.{EntryAt, FoundAt, entry_in, is_word, place_named};
 ghost use Rattle.std.specs.Prelude.{◌≡◌, bytes_eq, Some, slice_get};
 ghost use Rattle.std.specs.List.{list_all};
-ghost use Rattle.sc_core.specs.Calls.{is_word};
-ghost use Rattle.sc_core.specs.Meaning.{place_named, entry_in};
-ghost use Rattle.sc_run.specs.Finding.{FoundAt, EntryAt};
 
 use crate::work::Callee;
 use sc_core::{ProgramTree, TypedFunction, TypedSection, Value};

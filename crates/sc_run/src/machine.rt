@@ -1,18 +1,8 @@
 //! The state of a run.
 
+ghost use Rattle.sc_run.specs.Prelude.{Comes, Next, all_do, assign, block_for, c_arith, evaluated, here_of, init_does, inits_do, kept_by, memory_of, store_at, stored, turn, way_in, with_blocks, with_exit, with_variables};
 ghost use Rattle.std.specs.Prelude.{◌≡◌, ◌<◌, ◌^◌, ◌++◌, [], ◌∷◌, suc, length, OnOk, slice_get};
 ghost use Rattle.sc_core.specs.declared.value.Want.TheVariants as want;
-ghost use Rattle.sc_core.specs.Memory.{with_blocks};
-ghost use Rattle.sc_core.specs.Value.{c_arith};
-ghost use Rattle.sc_core.specs.Words.{Next, turn, stored, all_do};
-ghost use Rattle.sc_core.specs.Tree.{evaluated, store_at, assign};
-ghost use Rattle.sc_core.specs.Meaning.{init_does, inits_do};
-ghost use Rattle.sc_blocks.specs.Rows.{memory_of};
-ghost use Rattle.sc_value.specs.Where.{here_of};
-ghost use Rattle.sc_run.specs.Seen.{kept_by};
-ghost use Rattle.sc_run.specs.Comes.{Comes, with_exit};
-ghost use Rattle.sc_run.specs.Resume.{way_in};
-ghost use Rattle.sc_run.specs.Entering.{block_for, with_variables};
 
 use crate::work::{Callee, Frame};
 use sc_base::OutOfMemory;

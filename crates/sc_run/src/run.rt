@@ -1,11 +1,8 @@
 //! Whole runs.
 
+ghost use Rattle.sc_run.specs.Prelude.{Advances, EndsAs, does_now, kept_by, meaning, stopped_at};
+ghost use Rattle.sc_word.specs.Prelude.{word_of};
 ghost use Rattle.std.specs.Prelude.{◌≡◌, [], map, take, IfOk};
-ghost use Rattle.sc_word.specs.Word.{word_of};
-ghost use Rattle.sc_core.specs.Run.{stopped_at};
-ghost use Rattle.sc_core.specs.Meaning.{meaning};
-ghost use Rattle.sc_run.specs.Seen.{kept_by};
-ghost use Rattle.sc_run.specs.Resume.{Advances, EndsAs, does_now};
 
 use crate::calls::{begin, start};
 use crate::globals::first_blocks;

@@ -1,17 +1,10 @@
 //! Calls in statements, and the statements that may stand in the head of a `for`.
 
+ghost use Rattle.sc_run.specs.Prelude.{Advances, Comes, Steps, and_then, assign, c_arith, call, calls_in, computed, first_word, here_of, is_word, kept_by, library, may_call, next_input, result_goes, simple_does, values, way_in};
+ghost use Rattle.sc_event.specs.Prelude.{imports, is_function, takes};
 ghost use Rattle.std.specs.Prelude.{◌≡◌, ◌&&◌, IfOk, length, map, drop};
 ghost use Rattle.std.specs.List.{list_all};
-ghost use Rattle.sc_event.specs.Legal.{is_function, imports, takes};
 ghost use Rattle.sc_core.specs.declared.cause.Cause.TheVariants.{BadType};
-ghost use Rattle.sc_core.specs.Value.{c_arith};
-ghost use Rattle.sc_core.specs.Words.{and_then, computed};
-ghost use Rattle.sc_core.specs.Tree.{assign, call, values, simple_does};
-ghost use Rattle.sc_core.specs.Calls.{is_word, may_call, first_word, next_input};
-ghost use Rattle.sc_value.specs.Where.{here_of};
-ghost use Rattle.sc_run.specs.Seen.{kept_by};
-ghost use Rattle.sc_run.specs.Comes.{Comes};
-ghost use Rattle.sc_run.specs.Resume.{Steps, way_in, library, calls_in, result_goes, Advances};
 
 use crate::calls::{enter, hand_back, word_in};
 use crate::lookups::{are_words, callee_at, entry_callee};

@@ -1,11 +1,8 @@
 //! Statements, one step at a time.
 
+ghost use Rattle.sc_run.specs.Prelude.{Advances, Next, Return, and_then, block_acts, choose, evaluated, follow, here_of, in_order, leave, loop, loop_acts, part_acts, stmt_acts, test, way_in};
 ghost use Rattle.std.specs.Prelude.{IfOk, Some};
 ghost use Rattle.sc_core.specs.declared.value.Want.TheVariants as want;
-ghost use Rattle.sc_core.specs.Words.{Next, Return, and_then, leave, follow, in_order, loop, choose};
-ghost use Rattle.sc_core.specs.Tree.{evaluated, test};
-ghost use Rattle.sc_value.specs.Where.{here_of};
-ghost use Rattle.sc_run.specs.Resume.{way_in, stmt_acts, block_acts, part_acts, loop_acts, Advances};
 
 use crate::machine::{evaluated, take_turn};
 use crate::simple::{assigned, call, simple};

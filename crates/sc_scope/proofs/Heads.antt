@@ -1,11 +1,6 @@
 -- The parameters of a function's head as those of a prototype.
-use Rattle.std.proofs.Common.{◌≡◌, ◌&&◌, List, [], ◌∷◌, map, refl, ap}
-use Rattle.std.specs.List.{list_all}
-use Rattle.sc_ast.specs.declared.section.FunctionParam.{FunctionParam}
-use Rattle.sc_ast.specs.declared.section.ParamTree.{ParamTree}
-use Rattle.sc_ast.specs.Heads.{param_of}
-use Rattle.sc_scope.specs.Declarations.{Text}
-use Rattle.sc_scope.specs.Names.{base_known}
+use Rattle.sc_scope.proofs.Common.{FunctionParam, List, ParamTree, Text, [], ap, base_known, list_all, map, refl, ◌&&◌, ◌∷◌, ◌≡◌}
+use Rattle.sc_ast.specs.Prelude.{param_of}
 
 pub params-known : (tags : List Text) (params : List FunctionParam) →
     list_all {X = ParamTree} (λ param. base_known tags param.ty.base) (map param_of params) ≡

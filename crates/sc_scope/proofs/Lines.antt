@@ -1,10 +1,6 @@
 -- Lines that are noted one after another.
-use Rattle.std.proofs.Common.{◌≡◌, ℕ, ◌||◌, List, [], ◌++◌, nat_eq, ap, sym, ◌∙◌}
-use Rattle.std.specs.Cmp.Lexicographic.{pointwise}
+use Rattle.sc_scope.proofs.Common.{BrokenLines, List, Text, [], among, ap, nat_eq, pointwise, sym, with_lines, ℕ, ◌++◌, ◌||◌, ◌∙◌, ◌≡◌}
 use Rattle.std.proofs.lemmas.List.Folds.{list_any-append}
-use Rattle.sc_scope.specs.declared.broken.BrokenLines.{BrokenLines}
-use Rattle.sc_scope.specs.Broken.{with_lines}
-use Rattle.sc_scope.specs.Declarations.{Text, among}
 use Rattle.sc_scope.proofs.Noting.{with_lines-nil, with_lines-append}
 
 -- no lines leave all as it is

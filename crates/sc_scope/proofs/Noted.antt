@@ -1,21 +1,7 @@
 -- The loops over locals, declarations and sections, one step further.
-use Rattle.std.proofs.Common.{◌≡◌, ℕ, suc, ◌+◌, ◌<◌, ◌≤◌, Bool, false, List, [], ◌∷◌, ◌++◌, length, get_or, take, drop, map, Option, refl, ap, sym, ◌∙◌, add-one, drop-cons, append_assoc, append-nil}
-use Rattle.std.specs.List.{filter_map}
-use Rattle.std.proofs.lemmas.List.{drop_all, take_more, map-append}
+use Rattle.sc_scope.proofs.Common.{Bool, BrokenLines, Decl, Function, FunctionTree, Global, GlobalTree, HeadTree, List, LocalTree, Option, Proto, SectionTree, Struct, StructTree, Text, [], add-one, all_in, ap, append-nil, append_assoc, decl_lines, declared, drop, drop-cons, drop_all, false, filter_map, function_in, function_lines, function_names, get_or, global_in, global_names, head_of_known, known, length, line_of_text, lines_from, local_known, local_names, locals_from, map, map-append, names_broken, noted, noted_all, param_names, proto_in, proto_names, refl, section_lines, stmt_lines, struct_in, struct_names, suc, sym, take, take_more, unless, with_decl, with_lines, ℕ, ◌++◌, ◌+◌, ◌<◌, ◌∙◌, ◌∷◌, ◌≡◌, ◌≤◌}
 use Rattle.std.proofs.lemmas.List.Elements.{filter_map-append}
-use Rattle.sc_ast.specs.declared.section.Decl.{Decl}
-use Rattle.sc_ast.specs.declared.section.Decl.TheVariants.{Struct, Global, Proto, Function}
-use Rattle.sc_ast.specs.declared.section.FunctionTree.{FunctionTree}
-use Rattle.sc_ast.specs.declared.section.GlobalTree.{GlobalTree}
-use Rattle.sc_ast.specs.declared.section.HeadTree.{HeadTree}
-use Rattle.sc_ast.specs.declared.section.LocalTree.{LocalTree}
-use Rattle.sc_ast.specs.declared.section.SectionTree.{SectionTree}
-use Rattle.sc_ast.specs.declared.section.StructTree.{StructTree}
-use Rattle.sc_scope.specs.declared.broken.BrokenLines.{BrokenLines}
-use Rattle.sc_scope.specs.Broken.{line_of_text, noted, noted_all, unless, with_lines}
-use Rattle.sc_scope.specs.Declarations.{Text, struct_in, global_in, proto_in, function_in, struct_names, global_names, proto_names, function_names}
 use Rattle.sc_scope.specs.declared.section_names.SectionNames.{SectionNames}
-use Rattle.sc_scope.specs.Names.{all_in, decl_lines, declared, function_lines, head_of_known, known, lines_from, local_known, local_names, locals_from, names_broken, param_names, section_lines, stmt_lines, with_decl}
 use Rattle.sc_scope.proofs.Lines.{step, done, then}
 use Rattle.sc_scope.proofs.Statements.{body-lines}
 use Rattle.sc_scope.proofs.Noting.{noted_all-append}

@@ -1,8 +1,5 @@
 -- Lines that are noted one after another.
-use Rattle.std.proofs.Common.{◌≡◌, ℕ, List, [], ◌∷◌, ◌++◌, map, Option, refl, ap, ◌∙◌}
-use Rattle.sc_scope.specs.declared.broken.BrokenLines.{BrokenLines}
-use Rattle.sc_scope.specs.Broken.{line_of_text, noted, noted_all, with_lines}
-use Rattle.std.proofs.lemmas.List.{map-append}
+use Rattle.sc_scope.proofs.Common.{BrokenLines, List, Option, [], ap, line_of_text, map, map-append, noted, noted_all, refl, with_lines, ℕ, ◌++◌, ◌∙◌, ◌∷◌, ◌≡◌}
 
 pub noted_all-append : (least : Option ℕ) (xs ys : List ℕ) →
     noted_all least (xs ++ ys) ≡ noted_all (noted_all least xs) ys

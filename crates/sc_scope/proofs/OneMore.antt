@@ -1,8 +1,6 @@
 -- Names of which no two are the same, one more at the end.
-use Rattle.std.proofs.Common.{◌≡◌, Bool, true, false, not, ◌&&◌, ◌||◌, nat_eq, List, [], ◌∷◌, ◌++◌, refl, ap, ◌∙◌}
-use Rattle.std.specs.Cmp.Lexicographic.{pointwise}
+use Rattle.sc_scope.proofs.Common.{Bool, List, Text, [], among, ap, are_distinct, false, nat_eq, not, pointwise, refl, true, ◌&&◌, ◌++◌, ◌||◌, ◌∙◌, ◌∷◌, ◌≡◌}
 use Rattle.std.proofs.lemmas.Cmp.{nat_list_eq_equiv}
-use Rattle.sc_scope.specs.Declarations.{Text, among, are_distinct}
 use Rattle.sc_scope.proofs.Lines.{among-append}
 
 regroup : (a e d b : Bool) → (not (a || (e || false)) && (d && not b)) ≡ ((not a && d) && not (e || b))

@@ -1,15 +1,9 @@
 -- The lines of a statement, by what it does.
-use Rattle.std.proofs.Common.{◌≡◌, ℕ, suc, ◌+◌, ◌<◌, ◌≤◌, Bool, true, false, List, [], ◌∷◌, ◌++◌, length, get_or, drop, map, Option, rules, refl, ap, sym, ◌∙◌, add-one, drop-cons}
-use Rattle.std.proofs.lemmas.List.{drop_all}
-use Rattle.sc_ast.specs.declared.expr.ExprTree.{ExprTree}
+use Rattle.sc_scope.proofs.Common.{Bool, BrokenLines, ExprTree, Known, List, Option, StmtTree, [], add-one, all_in, ap, body_lines, drop, drop-cons, drop_all, expr_known, false, get_or, length, map, part_lines, refl, rules, stmt_lines, suc, sym, true, unless, with_lines, ℕ, ◌++◌, ◌+◌, ◌<◌, ◌∙◌, ◌∷◌, ◌≡◌, ◌≤◌}
 use Rattle.sc_ast.specs.declared.stmt.SimpleTree.{SimpleTree}
-use Rattle.sc_ast.specs.declared.stmt.StmtTree.{StmtTree}
 use Rattle.sc_ast.specs.declared.stmt.StmtKind as kinds
 use Rattle.sc_ast.specs.declared.stmt.StmtKind.{the_lemmas}
-use Rattle.sc_scope.specs.declared.broken.BrokenLines.{BrokenLines}
-use Rattle.sc_scope.specs.Broken.{unless, with_lines}
 use Rattle.sc_scope.proofs.Lines.{nothing, then, step, done}
-use Rattle.sc_scope.specs.Names.{Known, all_in, body_lines, expr_known, part_lines, stmt_lines}
 
 module _ (known : Known) (looping : Bool) (line : ℕ) where
   pub empty-at : stmt_lines known (record { line = line; kind = kinds.Empty }) looping ≡ []

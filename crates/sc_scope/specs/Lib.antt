@@ -1,3 +1,5 @@
+pub mod Common
+pub mod Prelude
 pub mod Broken
 pub mod Declarations
 pub mod Interfaces

@@ -1,9 +1,8 @@
 -- The rules of names, and the lines of a section that break them (C11 6.2.1, 6.2.3).
+use Rattle.sc_scope.specs.Common.{BaseTree, Decl, Function, FunctionTree, Global, GlobalTree, HeadTree, ParamTree, Proto, SectionTree, Struct, StructTree, TypeName, head_of}
 use Rattle.std.specs.Prelude.{ℕ, Bool, true, false, not, ◌&&◌, ◌||◌, nat_eq, bytes_eq, List, [], ◌∷◌, ◌++◌, map, Option, Some, None}
 use Rattle.std.specs.List.{concat, list_all}
-use Rattle.sc_ast.specs.declared.types.BaseTree.{BaseTree}
 use Rattle.sc_ast.specs.declared.types.BaseTree.TheVariants as base
-use Rattle.sc_ast.specs.declared.types.TypeName.{TypeName}
 use Rattle.sc_ast.specs.declared.expr.ExprTree.{ExprTree, ExprTree-F, fold-ExprTree}
 use Rattle.sc_ast.specs.declared.expr.ExprTree.TheOpen as term
 use Rattle.sc_ast.specs.declared.expr.CallTree.{CallTree}
@@ -14,17 +13,8 @@ use Rattle.sc_ast.specs.declared.stmt.StmtTree.{StmtTree, fold-StmtTree}
 use Rattle.sc_ast.specs.declared.stmt.StmtKind.{StmtKind-F}
 use Rattle.sc_ast.specs.declared.stmt.StmtKind.TheOpen as kind
 use Rattle.sc_ast.specs.declared.section.MemberTree.{MemberTree}
-use Rattle.sc_ast.specs.declared.section.StructTree.{StructTree}
-use Rattle.sc_ast.specs.declared.section.GlobalTree.{GlobalTree}
-use Rattle.sc_ast.specs.declared.section.ParamTree.{ParamTree}
-use Rattle.sc_ast.specs.declared.section.HeadTree.{HeadTree}
 use Rattle.sc_ast.specs.declared.section.FunctionParam.{FunctionParam}
 use Rattle.sc_ast.specs.declared.section.LocalTree.{LocalTree}
-use Rattle.sc_ast.specs.declared.section.FunctionTree.{FunctionTree}
-use Rattle.sc_ast.specs.declared.section.Decl.{Decl}
-use Rattle.sc_ast.specs.declared.section.Decl.TheVariants.{Struct, Global, Proto, Function}
-use Rattle.sc_ast.specs.declared.section.SectionTree.{SectionTree}
-use Rattle.sc_ast.specs.Heads.{head_of}
 use Rattle.sc_scope.specs.Broken.{unless, line_of_text}
 use Rattle.sc_scope.specs.declared.section_names.SectionNames.{SectionNames}
 use Rattle.sc_scope.specs.Declarations.{Text, among, are_distinct, struct_names, global_names, proto_names, function_names, import_names}

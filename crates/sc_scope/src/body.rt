@@ -1,10 +1,8 @@
 //! The bodies of functions.
 
+ghost use Rattle.sc_scope.specs.Prelude.{all_in, among, call_known, expr_known, is_callable, known, knows, part_lines, simple_known, stmt_lines, with_lines};
 ghost use Rattle.std.specs.Prelude.{◌≡◌, ◌++◌, [], map};
 ghost use Rattle.std.specs.List.{list_all};
-ghost use Rattle.sc_scope.specs.Broken.{with_lines};
-ghost use Rattle.sc_scope.specs.Declarations.{among};
-ghost use Rattle.sc_scope.specs.Names.{all_in, call_known, expr_known, is_callable, known, knows, part_lines, simple_known, stmt_lines};
 
 use crate::BrokenLines;
 use crate::section_names::SectionNames;

@@ -1,5 +1,5 @@
+ghost use Rattle.sc_scope.specs.Prelude.{earlier, line_of_text, noted, unless, with_lines};
 ghost use Rattle.std.specs.Prelude.{◌≡◌, ◌∷◌, [], None};
-ghost use Rattle.sc_scope.specs.Broken.{earlier, line_of_text, noted, unless, with_lines};
 
 /// The earliest of the lines at which rules of a phase are broken, among those met so far. Lines are noted as they are
 /// counted in a section, from 1; the earliest is a line of the whole text, where the section begins at line `start`.

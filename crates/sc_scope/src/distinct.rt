@@ -1,9 +1,7 @@
 //! Names of which no two are the same.
 
+ghost use Rattle.sc_scope.specs.Prelude.{FunctionParam, among, are_distinct, member_names};
 ghost use Rattle.std.specs.Prelude.{◌≡◌, ◌++◌, [], ◌∷◌, not, map, OnOk, IfOk};
-ghost use Rattle.sc_ast.specs.declared.section.FunctionParam.{FunctionParam};
-ghost use Rattle.sc_scope.specs.Declarations.{among, are_distinct};
-ghost use Rattle.sc_scope.specs.Names.{member_names};
 
 use sc_ast::{FunctionParam, MemberTree};
 use sc_base::{Name, NameList, OutOfMemory};

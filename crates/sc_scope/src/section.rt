@@ -1,8 +1,7 @@
 //! Sections, and the whole phase.
 
+ghost use Rattle.sc_scope.specs.Prelude.{names_broken, refused_at, section_lines, with_lines};
 ghost use Rattle.std.specs.Prelude.{◌≡◌, OnOk, IfOk};
-ghost use Rattle.sc_scope.specs.Broken.{refused_at, with_lines};
-ghost use Rattle.sc_scope.specs.Names.{names_broken, section_lines};
 
 use crate::BrokenLines;
 use crate::decl::decl_lines;

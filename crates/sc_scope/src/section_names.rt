@@ -1,6 +1,5 @@
+ghost use Rattle.sc_scope.specs.Prelude.{declared, function_names, import_names, with_decl};
 ghost use Rattle.std.specs.Prelude.{◌≡◌, ◌++◌, [], map, OnOk, IfOk};
-ghost use Rattle.sc_scope.specs.Declarations.{function_names, import_names};
-ghost use Rattle.sc_scope.specs.Names.{declared, with_decl};
 
 use sc_ast::{Decl, SectionTree};
 use sc_base::{NameList, OutOfMemory};

@@ -1,11 +1,10 @@
 //! Types: a tag that is used is that of a struct that is defined before.
 
+ghost use Rattle.sc_scope.specs.Prelude.{FunctionParam, base_known, head_known, member_known, pointed_known, result_known};
+ghost use Rattle.sc_ast.specs.Prelude.{head_of};
 ghost use Rattle.std.specs.Prelude.{◌≡◌};
 ghost use Rattle.std.specs.List.{list_all};
-ghost use Rattle.sc_ast.specs.declared.section.FunctionParam.{FunctionParam};
 ghost use Rattle.sc_ast.specs.declared.section.ParamTree.{ParamTree};
-ghost use Rattle.sc_ast.specs.Heads.{head_of};
-ghost use Rattle.sc_scope.specs.Names.{base_known, head_known, member_known, pointed_known, result_known};
 
 use sc_ast::{
     BaseTree, FunctionHead, FunctionParam, HeadTree, Ident, MemberTree, ParamTree, TypeName,

@@ -1,11 +1,10 @@
 -- The rows of a trace, event by event.
+use Rattle.sc_event.specs.Prelude.{Standing, action_of, part, performer, rows_from, stands_after}
 use Rattle.std.proofs.Common.{◌≡◌, refl, sym, ap, ◌∙◌, arith, ℕ, suc, ◌+◌, ◌≤◌, Bool, true, false, List, [], ◌∷◌, ◌++◌, length, drop, Option, Some, None, if◌then◌else◌, append_assoc, length-append, append-nil}
 use Rattle.std.specs.Prelude.{◌==◌}
 use Rattle.sc_event.specs.declared.event.Event.{Event}
 use Rattle.sc_event.specs.declared.row.Entry.{Entry}
 use Rattle.sc_event.specs.declared.row.Row.{Row}
-use Rattle.sc_event.specs.Part.{action_of, rows_from, part}
-use Rattle.sc_event.specs.Standing.{Standing, stands_after, performer}
 use Rattle.sc_script.specs.Row.{row_of}
 
 -- no event is a row once the run has ended

@@ -1,5 +1,5 @@
+ghost use Rattle.sc_event.specs.Prelude.{action_of, part};
 ghost use Rattle.std.specs.Prelude.{◌≡◌, ◌+◌, ◌<◌, ◌^◌, ◌++◌, length, IfOk, OnOk};
-ghost use Rattle.sc_event.specs.Part.{action_of, part};
 ghost use Rattle.sc_script.specs.Row.{row_of};
 
 use crate::walk::Walk;

@@ -1,10 +1,6 @@
 -- Accesses byte by byte, and the numbers that their bytes make.
-use Rattle.std.proofs.Common.{◌≡◌, ℕ, zero, suc, ◌+◌, ◌-◌, ◌*◌, ◌^◌, ◌<◌, ◌≤◌, List, [], ◌∷◌, length, take, get_or, Some, IsSome, unwrap_or, refl, sym, ◌∙◌, ap, subst, arith, ⊎_elim}
+use Rattle.sc_store.proofs.Common.{HasBytes, IsSome, List, Memory, Some, [], ap, arith, byte_of, cases_eq, cases_lt, get_or, get_or-take, length, length-take-le, load_of, refl, stored, subst, suc, sym, take, unwrap_or, written, zero, ℕ, ⊎_elim, ◌*◌, ◌+◌, ◌-◌, ◌<◌, ◌^◌, ◌∙◌, ◌∷◌, ◌≡◌, ◌≤◌}
 use Rattle.std.specs.Int.{w32, to_le_bytes, sum_through, byte_worth}
-use Rattle.std.proofs.lemmas.Bool.{cases_lt, cases_eq}
-use Rattle.std.proofs.lemmas.List.{length-take-le, get_or-take}
-use Rattle.sc_store.specs.Memory.{Memory, HasBytes, load_of, byte_of, stored}
-use Rattle.sc_store.specs.Flat.{written}
 use Rattle.sc_store.proofs.Words.{stored-in, stored-apart}
 use Rattle.sc_store.proofs.Parts.{written-in, written-apart}
 

@@ -1,7 +1,5 @@
 -- Known values of the definitions.
-use Rattle.std.proofs.Common.{◌≡◌, refl, [], ◌∷◌}
-use Rattle.std.specs.Prelude.{Some, None}
-use Rattle.sc_store.specs.Memory.{Memory, zeros, load_of, byte_of, stored}
+use Rattle.sc_store.proofs.Common.{Memory, None, Some, [], byte_of, load_of, refl, stored, zeros, ◌∷◌, ◌≡◌}
 
 -- two regions that touch
 abbrev small : Memory

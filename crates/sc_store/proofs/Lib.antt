@@ -1,3 +1,4 @@
+pub mod Common
 pub mod Regions
 pub mod Words
 pub mod Parts

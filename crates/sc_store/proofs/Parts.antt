@@ -1,20 +1,11 @@
 -- Where the bytes of the parts stand, and what a write to one part leaves of all.
-use Rattle.std.proofs.Common.{◌≡◌, ℕ, zero, suc, ◌+◌, ◌-◌, ◌<◌, ◌≤◌, Bool, true, false, ◌&&◌, cond, nat_le, nat_lt, ◌↔◌, List, [], ◌∷◌, length, set, get_or, Option, None, Some, IsSome, is_some, refl, sym, ◌∙◌, ap, subst, arith, ⊎_elim}
+use Rattle.sc_store.proofs.Common.{All, AreApart, Bool, HasBytes, HoldsBytes, IsIn, IsSome, IsZero, List, Memory, None, Option, Region, Some, [], ap, arith, bytes_of, cases_lt, cond, false, get_or, get_or-map, get_or-set_same, is_some, length, length-map, length-set, lt-ltb, nat_le, nat_lt, nat_tests, piece_of, position, position_or_len, refl, region_of, regions_of, same_Some, set, spans, subst, suc, sym, true, written, zero, zeros, ℕ, ⊎_elim, ◌&&◌, ◌+◌, ◌-◌, ◌<◌, ◌↔◌, ◌∙◌, ◌∷◌, ◌≡◌, ◌≤◌}
 use Rattle.std.specs.Option.{option_or}
-use Rattle.std.specs.List.{position, position_or_len, All}
-use Rattle.std.proofs.lemmas.Bool.{cases_lt, lt-ltb}
-use Rattle.std.proofs.lemmas.Bool.Decides.{nat_tests}
-use Rattle.std.proofs.lemmas.List.{get_or-map, get_or-set_same, length-map, length-set}
-use Rattle.std.proofs.lemmas.Option.{same_Some}
 use Rattle.std.proofs.lemmas.List.Sums.{fails_before_first}
 use Rattle.std.proofs.lemmas.List.Quantifiers.{position-Some}
 use Rattle.std.proofs.Math.Seq.{map-set_same}
-use Rattle.sc_store.specs.declared.region.Region.{Region}
 use Rattle.sc_store.specs.declared.part.Part.{Part}
-use Rattle.sc_store.specs.Region.{IsIn, AreApart}
-use Rattle.sc_store.specs.Memory.{Memory, HoldsBytes, HasBytes, zeros}
 use Rattle.sc_store.proofs.Regions.{in_true, in_false, in_cases}
-use Rattle.sc_store.specs.Flat.{region_of, regions_of, piece_of, bytes_of, spans, IsZero, written}
 
 -- ---- a part that has the addresses of an access
 spans_in : (a n b : ℕ) (p : Part) → spans a n p ≡ true → a ≤ b → b < a + n → IsIn (region_of p) b

@@ -1,10 +1,6 @@
 -- What a copy into the bytes of a part makes of its memory.
-use Rattle.std.proofs.Common.{◌≡◌, ℕ, ◌+◌, ◌-◌, ◌<◌, ◌≤◌, List, ◌++◌, length, take, drop, get_or, None, Some, refl, sym, ◌∙◌, ap, arith, ⊎_elim, length-append, length-take-le, length-drop}
-use Rattle.std.proofs.lemmas.Bool.{cases_lt}
-use Rattle.std.proofs.lemmas.List.{get_or-take, get_or-drop, get_or_append_left, get_or-append_right, take_at}
+use Rattle.sc_store.proofs.Common.{List, Memory, None, Some, ap, arith, cases_lt, drop, get_or, get_or-append_right, get_or-drop, get_or-take, get_or_append_left, length, length-append, length-drop, length-take-le, refl, sym, take, take_at, written, ℕ, ⊎_elim, ◌++◌, ◌+◌, ◌-◌, ◌<◌, ◌∙◌, ◌≡◌, ◌≤◌}
 use borrow.Rule.Slice.PartMut.{put_mid}
-use Rattle.sc_store.specs.Memory.{Memory}
-use Rattle.sc_store.specs.Flat.{written}
 use Rattle.sc_store.proofs.Parts.{written-in, written-apart}
 
 length-put_mid : (o k : ℕ) (xs ys : List ℕ) → o + k ≤ length xs → length ys ≡ k → length (put_mid o k xs ys) ≡ length xs

@@ -1,11 +1,5 @@
 -- Addresses in regions, and where zeros stand.
-use Rattle.std.proofs.Common.{◌≡◌, ℕ, zero, suc, ◌+◌, ◌<◌, true, false, cond, ◌⊎◌, List, [], ◌∷◌, length, get_or, None, Some, refl, sym, ◌∙◌, ap, arith, inl, inr, ⊎_elim}
-use Rattle.std.proofs.lemmas.Bool.{cases_lt}
-use Rattle.std.proofs.lemmas.Bool.Decides.{nat_tests}
-use Rattle.std.proofs.lemmas.Option.{same_Some}
-use Rattle.sc_store.specs.declared.region.Region.{Region}
-use Rattle.sc_store.specs.Region.{IsIn, is_in, AreBelow}
-use Rattle.sc_store.specs.Memory.{HoldsBytes, zeros}
+use Rattle.sc_store.proofs.Common.{AreBelow, HoldsBytes, IsIn, List, None, Region, Some, [], ap, arith, cases_lt, cond, false, get_or, inl, inr, is_in, length, nat_tests, refl, same_Some, suc, sym, true, zero, zeros, ℕ, ⊎_elim, ◌+◌, ◌<◌, ◌∙◌, ◌∷◌, ◌≡◌, ◌⊎◌}
 
 -- ---- an address in a region: the test says what the fact does
 pub in_true : (r : Region) (a : ℕ) → IsIn r a → is_in r a ≡ true

@@ -1,10 +1,7 @@
 -- What a store changes, and what a load gives after it.
-use Rattle.std.proofs.Common.{◌≡◌, ℕ, zero, suc, ◌+◌, ◌-◌, ◌*◌, ◌%◌, ◌^◌, ◌<◌, ◌≤◌, true, false, ◌&&◌, nat_le, nat_lt, ◌⊎◌, ◌↔◌, Some, IsSome, unwrap_or, refl, sym, ◌∙◌, ap, subst, is_some, arith, ⊎_elim}
-use Rattle.std.proofs.lemmas.Bool.{cases_lt}
-use Rattle.std.proofs.lemmas.Bool.Decides.{nat_tests}
+use Rattle.sc_store.proofs.Common.{HasBytes, IsSome, Memory, Some, ap, arith, byte_of, cases_lt, false, is_some, load_of, nat_le, nat_lt, nat_tests, refl, stored, subst, suc, sym, true, unwrap_or, zero, ℕ, ⊎_elim, ◌%◌, ◌&&◌, ◌*◌, ◌+◌, ◌-◌, ◌<◌, ◌^◌, ◌↔◌, ◌∙◌, ◌≡◌, ◌≤◌, ◌⊎◌}
 use Rattle.std.proofs.Math.Arith.{mod-mul}
 use Rattle.std.proofs.Math.Nat.{pow-suc, pow-succ'}
-use Rattle.sc_store.specs.Memory.{Memory, HasBytes, load_of, byte_of, stored}
 
 -- an address within the access, and one apart from it
 inside : (a n b : ℕ) → a ≤ b → b < a + n → (nat_le a b && nat_lt b (a + n)) ≡ true

@@ -1,3 +1,4 @@
+pub mod Prelude
 pub mod Region
 pub mod Memory
 pub mod Laws

@@ -1,11 +1,7 @@
 -- Code has no more branches than it weighs.
-use Rattle.std.proofs.Common.{ℕ, ◌≤◌, List, [], ◌∷◌, map, sym, subst, arith}
-use Rattle.sc_core.specs.Sizes.{total}
-use Rattle.sc_core.proofs.Induction.{Each, everywhere}
-use Rattle.sc_tac.specs.declared.stmt.TacStmt.{TacStmt, TacStmt-F, fold-roll-TacStmt, map-TacStmt, roll-TacStmt}
+use Rattle.sc_tac.proofs.Common.{Each, List, TacStmt, TacStmt-F, [], arith, branch_step, branches, fold-roll-TacStmt, map, map-TacStmt, roll-TacStmt, stmt_branches, stmt_weight, subst, sym, total, weight, weight_step, ℕ, ◌∷◌, ◌≤◌}
+use Rattle.sc_core.proofs.Induction.{everywhere}
 use Rattle.sc_tac.specs.declared.stmt.TacStmt.TheOpen as tac
-use Rattle.sc_tac.specs.Branches.{branch_step, branches, stmt_branches}
-use Rattle.sc_tac.specs.Weights.{weight_step, stmt_weight, weight}
 use Rattle.sc_tac.proofs.Induction.{Inside, stmt_induction}
 
 abbrev Few : TacStmt → Type 0

@@ -1,18 +1,7 @@
 -- Places for the least intervals are clear at each point.
-use Rattle.std.proofs.Common.{◌≡◌, ◌≤◌, ◌<◌, ◌+◌, ◌-◌, ℕ, zero, suc, Bool, true, false, List, [], ◌∷◌, map, take, drop, Option, None, Some, refl, ◌∙◌, ap, subst, arith, get_or}
-use Rattle.std.specs.Prelude.{◌||◌, ◌==◌, if◌then◌else◌, slice_get}
-use Rattle.std.specs.List.{list_any, range_with_len}
-use Rattle.std.proofs.lemmas.Bool.{eq-eqb}
+use Rattle.sc_tac.proofs.Common.{Bool, Each, IsAssignment, IsClear, IsFunction, List, None, Option, PlacesAreClear, Point, Share, Some, Span, TacFnTree, Within, [], ap, arith, drop, eq-eqb, false, from_here, function_points, get_or, has_call, if◌then◌else◌, interval_of, intervals_of, is_one, is_used, list_any, map, one_or_none, or_first, range_with_len, refl, slice_get, span_from, subst, suc, take, true, zero, ℕ, ◌+◌, ◌-◌, ◌<◌, ◌==◌, ◌||◌, ◌∙◌, ◌∷◌, ◌≡◌, ◌≤◌}
 use Rattle.std.proofs.lemmas.Option.{same_Some, slice_get-get_or}
-use Rattle.sc_core.proofs.Induction.{Each}
-use Rattle.sc_tac.specs.declared.function.TacFnTree.{TacFnTree}
 use Rattle.sc_tac.specs.declared.place.Place.{Place}
-use Rattle.sc_tac.specs.Flow.{is_one}
-use Rattle.sc_tac.specs.Functions.{IsFunction}
-use Rattle.sc_tac.specs.Intervals.{is_used, Span, from_here, span_from, or_first, has_call, interval_of, intervals_of, Within}
-use Rattle.sc_tac.specs.Parts.{one_or_none}
-use Rattle.sc_tac.specs.Places.{IsAssignment, IsClear, PlacesAreClear, Share}
-use Rattle.sc_tac.specs.Points.{Point, function_points}
 use Rattle.sc_tac.proofs.Owned.{OwnPoint, points_own}
 
 or_left : (a b : Bool) → a ≡ true → (a || b) ≡ true

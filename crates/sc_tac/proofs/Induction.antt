@@ -1,7 +1,5 @@
 -- Induction over statements of code, layer by layer.
-use Rattle.std.proofs.Common.{List, [], ◌∷◌, map, subst}
-use Rattle.sc_core.proofs.Induction.{Each}
-use Rattle.sc_tac.specs.declared.stmt.TacStmt.{TacStmt, TacStmt-F, ind-TacStmt, map-TacStmt, roll-TacStmt}
+use Rattle.sc_tac.proofs.Common.{Each, List, TacStmt, TacStmt-F, [], ind-TacStmt, map, map-TacStmt, roll-TacStmt, subst, ◌∷◌}
 use Rattle.sc_tac.specs.declared.stmt.TacStmt.TheOpen as tac
 
 -- P of each statement directly inside

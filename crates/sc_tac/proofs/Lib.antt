@@ -1,3 +1,4 @@
+pub mod Common
 mod Bounds
 pub mod Clear
 pub mod Induction

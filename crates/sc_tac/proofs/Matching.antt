@@ -1,36 +1,20 @@
 -- Code under two arithmetics, of which the second gives what the first does or the first blames: its functions match.
-use Rattle.std.proofs.Common.{◌≡◌, refl, sym, subst, ℕ, ◌+◌, List, [], ◌∷◌, map, Option, Some, None, Result}
-use Rattle.std.specs.Prelude.{true, false}
-use Rattle.sc_event.specs.declared.row.Entry.TheVariants.{Main}
+use Rattle.sc_tac.proofs.Common.{Arith, Blocks, Break, Calls, CodeObeys, Codes, Continue, Each, Here, List, Main, Next, None, Option, Reached, Result, Return, Some, TacFnTree, TacSection, TacStmt, TacStmt-F, TacTree, Temps, WrappedCodeAgrees, [], and_then, c_arith, call_does, choose, closed, code_does, code_function, code_functions, code_globals, code_library, code_step, constant_value, false, fold-roll-TacStmt, functions_of, gets, is_unsigned, known, leave, load, map, map-TacStmt, no_temps, op_does, operated, read, read_all, received, refl, return_does, roles_in, roll-TacStmt, same_entry, second, start_of, stmt_does, store_does, stored, subst, sym, true, with_temp, wrapping, ℕ, ◌+◌, ◌∷◌, ◌≡◌}
+use Rattle.sc_laws.specs.Prelude.{FunctionsMatch, IsArithmetic, LibrariesMatch, Match, Never}
 use Rattle.sc_core.specs.declared.cause.Cause.{Cause}
 use Rattle.sc_core.specs.declared.expr.CallTarget.{CallTarget}
 use Rattle.sc_core.specs.declared.expr.CallTarget.TheVariants.{Own, Cross, Input, Output}
 use Rattle.sc_core.specs.declared.value.Value.{Value}
-use Rattle.sc_core.specs.Memory.{Blocks, load}
-use Rattle.sc_core.specs.Value.{Arith, c_arith, wrapping}
-use Rattle.sc_core.specs.Words.{Here, Reached, and_then, Next, Break, Continue, Return, leave, stored, choose, Calls}
-use Rattle.sc_core.specs.Calls.{functions_of}
-use Rattle.sc_core.specs.Scripts.{roles_in}
-use Rattle.sc_core.specs.Meaning.{closed}
-use Rattle.sc_laws.specs.Ends.{IsArithmetic}
-use Rattle.sc_laws.specs.Interactions.{FunctionsMatch, LibrariesMatch, Match, Never}
 use Rattle.sc_laws.proofs.Expressions.{ArithKeeps, Keeps, alike, on_words_keep, one_keeps}
 use Rattle.sc_laws.proofs.Interactions.{MatchWith, match_reached, match_then, match_computed, match_store, match_call, match_if, match_leave, match_all, match_loop}
 use Rattle.sc_laws.proofs.Programs.{Pairs, meets_at, lists_at, itself_keeps}
 use Rattle.sc_laws.proofs.ProgramLaws.{wrapped_agrees, wrapping_agrees}
 use Rattle.sc_laws.proofs.Statements.{closed_matches}
 use Rattle.sc_laws.proofs.Wrapping.{binary_fits, negated_fits}
-use Rattle.sc_tac.specs.declared.function.TacFnTree.{TacFnTree}
-use Rattle.sc_tac.specs.declared.program.TacSection.{TacSection}
-use Rattle.sc_tac.specs.declared.program.TacTree.{TacTree}
 use Rattle.sc_tac.specs.declared.stmt.TacOp.{TacOp}
 use Rattle.sc_tac.specs.declared.stmt.TacOp.TheVariants as tacop
-use Rattle.sc_tac.specs.declared.stmt.TacStmt.{TacStmt, TacStmt-F, fold-roll-TacStmt, map-TacStmt, roll-TacStmt}
 use Rattle.sc_tac.specs.declared.stmt.TacStmt.TheOpen as tac
-use Rattle.sc_tac.specs.Code.{Temps, Codes, with_temp, constant_value, is_unsigned, operated, start_of, received, known, read, second, read_all, gets, op_does, store_does, call_does, return_does, code_step, stmt_does, code_does, no_temps, code_function, code_functions, code_library, code_globals}
-use Rattle.sc_tac.specs.Laws.{CodeObeys, WrappedCodeAgrees}
-use Rattle.sc_tac.specs.Programs.{same_entry}
-use Rattle.sc_core.proofs.Induction.{Each, everywhere}
+use Rattle.sc_core.proofs.Induction.{everywhere}
 use Rattle.sc_tac.proofs.Induction.{Inside, stmt_induction}
 
 module _ (Soft : Cause → Type 0) (here : Here) where

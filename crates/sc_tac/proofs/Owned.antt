@@ -1,17 +1,8 @@
 -- What is live or assigned at a point of a function's code is a temporary of the function.
-use Rattle.std.proofs.Common.{◌≡◌, ◌<◌, ℕ, Bool, true, false, List, [], ◌∷◌, ◌++◌, map, Option, None, Some, refl, sym, ◌∙◌, subst, ⊎_elim}
-use Rattle.std.specs.Prelude.{◌&&◌, ◌==◌, not, nat_lt}
-use Rattle.std.specs.List.{list_all}
-use Rattle.std.proofs.lemmas.Bool.{or_cases, eqb-true, ltb-true}
+use Rattle.sc_tac.proofs.Common.{Ahead, Bool, Each, List, Lives, None, Option, Point, Set, Some, TacStmt, TacStmt-F, Trail, [], ahead_at, all_hold, eqb-true, everywhere, false, fold-TacStmt, fold-roll-TacStmt, if_calls, in_body, in_head, in_next, is_one, is_used, list_all, live_across, live_at_start, live_before, loop_points, ltb-true, map, map-TacStmt, names_own_temps, nat_lt, not, nothing_live, one_or_none, part_ahead, part_lives, plain, plain_points, point, points, readings, refl, round_first, row_first, row_points, subst, sym, trail, trail_step, true, with_parts, ℕ, ⊎_elim, ◌&&◌, ◌++◌, ◌<◌, ◌==◌, ◌∙◌, ◌∷◌, ◌≡◌}
+use Rattle.std.proofs.lemmas.Bool.{or_cases}
 use Rattle.sc_base.proofs.Bools.{and_first, and_rest}
-use Rattle.sc_core.proofs.Induction.{Each}
-use Rattle.sc_tac.specs.declared.stmt.TacStmt.{TacStmt, TacStmt-F, fold-TacStmt, fold-roll-TacStmt, map-TacStmt}
 use Rattle.sc_tac.specs.declared.stmt.TacStmt.TheOpen as tac
-use Rattle.sc_tac.specs.Flow.{Ahead, is_one, row_first, part_ahead, plain, round_first}
-use Rattle.sc_tac.specs.Functions.{names_own_temps}
-use Rattle.sc_tac.specs.Intervals.{is_used}
-use Rattle.sc_tac.specs.Parts.{one_or_none, all_hold, with_parts, everywhere}
-use Rattle.sc_tac.specs.Points.{Set, Point, Lives, nothing_live, ahead_at, Trail, readings, live_before, row_points, point, if_calls, live_across, plain_points, part_lives, live_at_start, in_next, in_body, in_head, loop_points, trail_step, trail, points}
 use Rattle.sc_tac.proofs.Induction.{Inside, stmt_induction}
 
 module _ (temps : ℕ) where

@@ -1,29 +1,6 @@
 -- Functions and programs by plans, on which rules and meanings compute.
-use Rattle.std.proofs.Common.{◌≡◌, refl, ap, ℕ, suc, zero, Bool, true, not, ◌&&◌, List, [], ◌∷◌, map, Option, codes}
-use Rattle.sc_event.specs.declared.event.Event.{Event}
-use Rattle.sc_event.specs.declared.interface.Interfaces.{Interfaces}
-use Rattle.sc_event.specs.declared.row.Entry.{Entry}
-use Rattle.sc_event.specs.declared.row.Entry.TheVariants.{Main}
-use Rattle.sc_core.specs.declared.section.TypedGlobal.{TypedGlobal}
+use Rattle.sc_tac.proofs.Common.{Arith, Bool, Codes, Entry, Event, Function, Interfaces, Library, List, Main, Option, Reading, TacFnTree, TacSection, TacStmt-F, TacTree, TypedGlobal, [], all_assigned_first, all_do, all_hold, and_then, ap, branch_step, branches, closed, code_function, code_functions, code_globals, code_library, code_meaning_by, code_step, codes, everywhere, frame_bound, has_none, is_assigned_first, map, no_temps, not, nothing_ahead, reading_step, refl, roles_in, row_first, row_fresh, run_by, run_step, same_entry, scripted_code_by, scripted_step, some_hold, stopped_at, suc, total, true, weight, weight_step, with_parts, zero, ℕ, ◌&&◌, ◌∷◌, ◌≡◌}
 use Rattle.sc_core.specs.declared.run.SourceRun.{SourceRun}
-use Rattle.sc_core.specs.Run.{stopped_at}
-use Rattle.sc_core.specs.Sizes.{total, frame_bound}
-use Rattle.sc_core.specs.Value.{Arith}
-use Rattle.sc_core.specs.Words.{and_then, all_do}
-use Rattle.sc_core.specs.Calls.{Function, Library, run_step}
-use Rattle.sc_core.specs.Scripts.{roles_in, scripted_step}
-use Rattle.sc_core.specs.Meaning.{closed, run_by}
-use Rattle.sc_tac.specs.declared.function.TacFnTree.{TacFnTree}
-use Rattle.sc_tac.specs.declared.program.TacSection.{TacSection}
-use Rattle.sc_tac.specs.declared.program.TacTree.{TacTree}
-use Rattle.sc_tac.specs.declared.stmt.TacStmt.{TacStmt-F}
-use Rattle.sc_tac.specs.Branches.{branch_step, branches}
-use Rattle.sc_tac.specs.Code.{Codes, no_temps, code_step, code_function, code_functions, code_library, code_globals, code_meaning_by, scripted_code_by}
-use Rattle.sc_tac.specs.Flow.{Reading, reading_step, row_first, row_fresh, nothing_ahead, is_assigned_first, all_assigned_first}
-use Rattle.sc_tac.specs.Functions.{some_hold, has_none}
-use Rattle.sc_tac.specs.Parts.{all_hold, with_parts, everywhere}
-use Rattle.sc_tac.specs.Programs.{same_entry}
-use Rattle.sc_tac.specs.Weights.{weight_step, weight}
 use Rattle.sc_tac.proofs.Shapes.{Shape, stmts, rows, rows_are}
 
 pub record Plan : Type 0 where

@@ -1,24 +1,16 @@
 -- The meanings of worked code, computed.
-use Rattle.std.proofs.Common.{◌≡◌, ◌==◌, ℕ, true, false, List, [], ◌∷◌, None, Some, codes}
+use Rattle.sc_tac.proofs.Common.{Event, Export, Interfaces, List, Main, None, Some, TypedGlobal, [], branches, c_arith, code_meaning, code_wrapped, codes, false, scripted_code_meaning, true, weight, wrapping, ℕ, ◌==◌, ◌∷◌, ◌≡◌}
 use Rattle.sc_base.specs.declared.op.BinaryOp.{BinaryOp}
 use Rattle.sc_base.specs.declared.op.BinaryOp.TheVariants as op
-use Rattle.sc_event.specs.declared.event.Event.{Event}
 use Rattle.sc_event.specs.declared.event.Event.TheVariants.{Call, Ret, Out, In, End}
 use Rattle.sc_event.specs.declared.interface.Import.TheVariants as import
-use Rattle.sc_event.specs.declared.interface.Interfaces.{Interfaces}
 use Rattle.sc_event.specs.declared.interface.Scalar.TheVariants as scalar
-use Rattle.sc_event.specs.declared.row.Entry.TheVariants.{Main, Export}
 use Rattle.sc_core.specs.declared.cause.Cause.TheVariants.{Overflow, OutOfBounds, Indeterminate, NoReturn}
 use Rattle.sc_core.specs.declared.run.RunEnd.TheVariants.{Ended, Blamed, TurnsOut, EventsOut}
-use Rattle.sc_core.specs.declared.section.TypedGlobal.{TypedGlobal}
 use Rattle.sc_core.specs.declared.ty.Ty.TheVariants as ty
-use Rattle.sc_core.specs.Value.{c_arith, wrapping}
 use Rattle.sc_tac.specs.declared.stmt.Constant.TheVariants as constant
 use Rattle.sc_tac.specs.declared.stmt.TacOp.TheVariants as tacop
 use Rattle.sc_tac.specs.declared.stmt.TacStmt.TheOpen as tac
-use Rattle.sc_tac.specs.Code.{code_meaning, code_wrapped, scripted_code_meaning}
-use Rattle.sc_tac.specs.Branches.{branches}
-use Rattle.sc_tac.specs.Weights.{weight}
 use Rattle.sc_tac.proofs.Shapes.{Shape, Done, Line, Fork, Cycle, stmts}
 use Rattle.sc_tac.proofs.Plans.{Plan, Sheet, branches_are, program, meaning_is, scripted_is, weight_is}
 

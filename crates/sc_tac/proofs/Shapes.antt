@@ -1,6 +1,5 @@
 -- Code by shapes, on which every fold computes.
-use Rattle.std.proofs.Common.{◌≡◌, refl, ap, ◌∙◌, ℕ, List, [], ◌∷◌, map}
-use Rattle.sc_tac.specs.declared.stmt.TacStmt.{TacStmt, TacStmt-F, fold-TacStmt, fold-roll-TacStmt, roll-TacStmt, map-TacStmt}
+use Rattle.sc_tac.proofs.Common.{List, TacStmt, TacStmt-F, [], ap, fold-TacStmt, fold-roll-TacStmt, map, map-TacStmt, refl, roll-TacStmt, ℕ, ◌∙◌, ◌∷◌, ◌≡◌}
 use Rattle.sc_tac.specs.declared.stmt.TacStmt.TheOpen as tac
 
 -- statements in order: each holds those that follow

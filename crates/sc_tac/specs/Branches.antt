@@ -1,6 +1,6 @@
 -- How many `If`s stand in code: nothing else branches.
+use Rattle.sc_tac.specs.Common.{total}
 use Rattle.std.specs.Prelude.{ℕ, suc, ◌+◌, List, map}
-use Rattle.sc_core.specs.Sizes.{total}
 use Rattle.sc_tac.specs.Parts.{parts}
 use Rattle.sc_tac.specs.declared.stmt.TacStmt.{TacStmt, TacStmt-F, fold-TacStmt}
 use Rattle.sc_tac.specs.declared.stmt.TacStmt.TheOpen as tac

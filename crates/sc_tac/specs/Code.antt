@@ -1,13 +1,11 @@
 -- The meaning of three-address code, in the words in which programs' meaning is told.
+use Rattle.sc_tac.specs.Common.{Arith, Blocks, Break, Calls, Continue, Does, Entry, Event, Function, Here, Library, Main, Memory, Next, Piece, Reached, Return, Run, State, Step, all_do, and_then, applied_one, between, c_arith, choose, closed, computed, depth_in, frame_bound, global_block, leave, load, loop, moved, moved_back, moved_on, on_words, roles_in, run_by, run_step, scripted_step, stopped_at, stored, struct_zeros, wrapping}
 use Rattle.std.specs.Prelude.{ℕ, pos, ◌+◌, Bool, true, false, ◌==◌, if◌then◌else◌, List, [], ◌∷◌, map, Option, None, Some, Result, Ok, Err, slice_get}
 use Rattle.std.specs.List.{position}
 use Rattle.sc_base.specs.declared.op.BinaryOp.TheVariants as op
 use Rattle.sc_base.specs.declared.op.UnaryOp.TheVariants as unary
-use Rattle.sc_event.specs.declared.event.Event.{Event}
 use Rattle.sc_event.specs.declared.interface.Scalar.{Scalar}
 use Rattle.sc_event.specs.declared.interface.Scalar.TheVariants.{Int, Unsigned}
-use Rattle.sc_event.specs.declared.row.Entry.{Entry}
-use Rattle.sc_event.specs.declared.row.Entry.TheVariants.{Main}
 use Rattle.sc_core.specs.declared.cause.Cause.{Cause}
 use Rattle.sc_core.specs.declared.cause.Cause.TheVariants.{Indeterminate}
 use Rattle.sc_core.specs.declared.expr.CallTarget.{CallTarget}
@@ -15,14 +13,6 @@ use Rattle.sc_core.specs.declared.expr.CallTarget.TheVariants.{Own, Cross, Input
 use Rattle.sc_core.specs.declared.run.SourceRun.{SourceRun}
 use Rattle.sc_core.specs.declared.value.Value.{Value}
 use Rattle.sc_core.specs.declared.value.Value.TheVariants.{Word, Null, Ptr}
-use Rattle.sc_core.specs.Memory.{Blocks, Memory, load}
-use Rattle.sc_core.specs.Value.{Arith, c_arith, wrapping, applied_one, on_words, moved, moved_on, moved_back, between}
-use Rattle.sc_core.specs.Sizes.{frame_bound}
-use Rattle.sc_core.specs.Run.{stopped_at}
-use Rattle.sc_core.specs.Words.{State, Here, Piece, Reached, and_then, computed, Next, Break, Continue, Return, Does, leave, stored, all_do, loop, choose, Calls}
-use Rattle.sc_core.specs.Calls.{Function, Library, Step, run_step}
-use Rattle.sc_core.specs.Scripts.{roles_in, scripted_step}
-use Rattle.sc_core.specs.Meaning.{Run, closed, depth_in, global_block, run_by, struct_zeros}
 use Rattle.sc_tac.specs.declared.function.TacFnTree.{TacFnTree}
 use Rattle.sc_tac.specs.declared.program.TacSection.{TacSection}
 use Rattle.sc_tac.specs.declared.program.TacTree.{TacTree}

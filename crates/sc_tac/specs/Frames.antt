@@ -1,7 +1,7 @@
 -- The frame of a function: the return address, the slots of temporaries, the objects of variables.
+use Rattle.sc_tac.specs.Common.{frame_bound, total}
 use Rattle.std.specs.Prelude.{◌≡◌, ◌≤◌, ◌⊎◌, ℕ, suc, ◌+◌, ◌*◌, ◌%◌, max, List, [], ◌∷◌, ◌++◌, map, zip, length, All, AllPairs}
 use Rattle.std.specs.List.{range_with_len}
-use Rattle.sc_core.specs.Sizes.{total, frame_bound}
 use Rattle.sc_tac.specs.declared.frame.FrameTree.{FrameTree}
 use Rattle.sc_tac.specs.declared.place.Place.{Place}
 use Rattle.sc_tac.specs.declared.place.Place.TheVariants.{Register, Slot}

@@ -1,10 +1,7 @@
 -- Laws of code: what holds of every library that obeys holds of it.
+use Rattle.sc_tac.specs.Common.{Arith, Event, c_arith, wrapping}
+use Rattle.sc_laws.specs.Prelude.{AgreesInRoom, IsArithmetic, LibrariesMatch, Obedient}
 use Rattle.std.specs.Prelude.{ℕ, Bool, List}
-use Rattle.sc_event.specs.declared.event.Event.{Event}
-use Rattle.sc_core.specs.Value.{Arith, c_arith, wrapping}
-use Rattle.sc_laws.specs.Ends.{IsArithmetic}
-use Rattle.sc_laws.specs.Interactions.{LibrariesMatch, Obedient}
-use Rattle.sc_laws.specs.Steady.{AgreesInRoom}
 use Rattle.sc_tac.specs.declared.program.TacTree.{TacTree}
 use Rattle.sc_tac.specs.Code.{code_library, code_run, scripted_code_run}
 

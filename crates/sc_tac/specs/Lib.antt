@@ -1,3 +1,5 @@
+pub mod Common
+pub mod Prelude
 pub mod Branches
 pub mod Code
 pub mod Flow

@@ -1,6 +1,6 @@
 -- How many instructions a statement takes at most, where each temporary is reached in memory by three instructions.
+use Rattle.sc_tac.specs.Common.{total}
 use Rattle.std.specs.Prelude.{ℕ, ◌+◌, ◌*◌, List, map, length}
-use Rattle.sc_core.specs.Sizes.{total}
 use Rattle.sc_tac.specs.declared.stmt.TacOp.{TacOp}
 use Rattle.sc_tac.specs.declared.stmt.TacOp.TheVariants as tacop
 use Rattle.sc_tac.specs.declared.stmt.TacStmt.{TacStmt, TacStmt-F, fold-TacStmt}

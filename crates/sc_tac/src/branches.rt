@@ -1,5 +1,5 @@
+ghost use Rattle.sc_tac.specs.Prelude.{branches, stmt_branches};
 ghost use Rattle.std.specs.Prelude.{◌≡◌, ◌<◌, ◌^◌};
-ghost use Rattle.sc_tac.specs.Branches.{branches, stmt_branches};
 
 use crate::function::TacFn;
 use crate::stmt::{TacStmt, TacStmts};

@@ -1,5 +1,4 @@
-ghost use Rattle.sc_tac.specs.Laws.{CodeObeys, WrappedCodeAgrees};
-ghost use Rattle.sc_tac.specs.Places.{PlacesAreClear};
+ghost use Rattle.sc_tac.specs.Prelude.{CodeObeys, PlacesAreClear, WrappedCodeAgrees};
 
 /// What functions of code do obeys the laws of libraries: that runs only go on, that more turns and events extend them,
 /// that traces are legal, and those of compartments that perform.

@@ -1,5 +1,5 @@
+ghost use Rattle.sc_tac.specs.Prelude.{register_count};
 ghost use Rattle.std.specs.Prelude.{◌≡◌};
-ghost use Rattle.sc_tac.specs.Places.{register_count};
 
 /// How many registers temporaries may lie in: the places of registers are the numbers below.
 pub fn reg_count() -> u32

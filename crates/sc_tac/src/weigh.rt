@@ -1,5 +1,5 @@
+ghost use Rattle.sc_tac.specs.Prelude.{call_weight, entry_weight, op_weight, stmt_weight, weight};
 ghost use Rattle.std.specs.Prelude.{◌≡◌, ◌+◌, ◌<◌, ◌^◌, length};
-ghost use Rattle.sc_tac.specs.Weights.{call_weight, entry_weight, op_weight, stmt_weight, weight};
 
 use crate::function::TacFn;
 use crate::stmt::{TacOp, TacStmt, TacStmts, Temps};

@@ -1,31 +1,13 @@
 -- What an answer says, from what was read.
-use Rattle.std.proofs.Common.{◌≡◌, ℕ, ◌+◌, ◌≤◌, ◌⊎◌, inl, inr, List, [], ◌++◌, length, Option, None, Some, Result, IsTrue, refl, sym, ap, ◌∙◌, subst, arith, length-append, ⊎_elim}
-use Rattle.std.proofs.lemmas.Bool.{false≢true}
-use Rattle.std.proofs.lemmas.List.{append-nil}
-use Rattle.std.proofs.lemmas.Option.{none-some}
+use Rattle.sc_top.proofs.Common.{Accepts, Answers, Check, Command, Compile, Exec, Explain, Fails, Failure, FindsBad, GivesUp, HasImage, ImageParts, IsAnswer, IsErrOf, IsGood, IsGoodText, IsImage, IsInput, IsOutput, IsTextOutput, IsTrue, IsUndisturbed, IsUnfit, IsWhole, IsWithin, IsWithinLimit, List, Meaning, None, Option, ProgramTree, Refusal, Refuses, Result, Run, SameAnswer, Says, Some, Status, Takes, Traffic, [], ap, append-nil, arith, bad, cause_in, cause_number, cause_of, compiles, false≢true, inl, inr, length, length-append, limit_of, none-some, refl, status_by, subst, sym, ℕ, ⊎_elim, ◌++◌, ◌+◌, ◌∙◌, ◌≡◌, ◌≤◌, ◌⊎◌}
 use Rattle.std.specs.Option.{option_map}
-use Rattle.std.specs.Prelude.{IsErrOf}
-use Rattle.sc_lex.specs.declared.refusal.Refusal.{Refusal}
 use Rattle.sc_lex.specs.declared.refusal.Phase.{Phase}
 use Rattle.sc_lex.specs.declared.refusal.Phase.TheVariants.{Syntax}
-use Rattle.sc_core.specs.declared.program.ProgramTree.{ProgramTree}
-use Rattle.sc_image.specs.declared.parts.ImageParts.{ImageParts}
-use Rattle.sc_image.specs.Reading.{cause_number, cause_of, bad}
-use Rattle.sc_image.specs.RoundTrip.{IsImage}
 use Rattle.sc_image.proofs.Images.{is_read_again}
-use Rattle.sc_edge.specs.Edge.{Takes}
-use Rattle.sc_types.specs.Acceptance.{Accepts, Fails}
-use Rattle.sc_words.specs.declared.command.Command.{Command}
-use Rattle.sc_words.specs.declared.command.Command.TheVariants.{Check, Meaning, Compile, Run, Exec, Explain, Make}
-use Rattle.sc_top.specs.declared.failure.Failure.{Failure}
+use Rattle.sc_words.specs.declared.command.Command.TheVariants.{Make}
 use Rattle.sc_top.specs.declared.failure.Failure.TheVariants as failure
-use Rattle.sc_top.specs.declared.status.Status.{Status}
 use Rattle.sc_top.specs.declared.status.Status.TheVariants as status
 use Rattle.sc_top.specs.declared.status.TooLarge.{TooLarge}
-use Rattle.sc_top.specs.Answer.{Traffic, IsWhole, IsInput, Refuses, cause_in, FindsBad, IsUnfit, GivesUp, Says, IsUndisturbed, IsWithinLimit, IsWithin, IsAnswer, IsGoodText, IsGood, Answers, SameAnswer}
-use Rattle.sc_top.specs.Command.{limit_of}
-use Rattle.sc_top.specs.Failure.{status_by}
-use Rattle.sc_top.specs.Output.{compiles, HasImage, IsTextOutput, IsOutput}
 use Rattle.sc_top.specs.Sizes.{too_large}
 use Rattle.sc_top.proofs.Lengths.{image_is_short}
 

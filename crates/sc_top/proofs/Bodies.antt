@@ -1,11 +1,6 @@
 -- Statements one after another.
-use Rattle.std.proofs.Common.{◌≡◌, ℕ, ◌≤◌, List, [], ◌∷◌, ◌++◌, slice_index, flat_map, codes, decimal, refl, sym, ap, ◌∙◌, arith, append_assoc, length, length-append, ◌+◌}
-use Rattle.std.proofs.lemmas.List.{append_cancel_left}
-use Rattle.std.specs.List.{AllByRecursion}
-use Rattle.std.proofs.lemmas.List.Elements.{All-from_recursion, recursion_from_All}
-use Rattle.sc_core.specs.declared.thin.ThinProgram.{ThinProgram}
-use Rattle.sc_top.specs.Statement.{IsStatement}
-use Rattle.sc_top.specs.Thin.{IsThin, head, IsBody, output_line, return_line}
+use Rattle.sc_top.proofs.Common.{All-from_recursion, AllByRecursion, IsBody, IsStatement, IsThin, List, ThinProgram, [], ap, append_assoc, append_cancel_left, arith, codes, decimal, head, length, length-append, output_line, recursion_from_All, refl, return_line, slice_index, sym, ℕ, ◌++◌, ◌+◌, ◌∙◌, ◌∷◌, ◌≡◌, ◌≤◌}
+use Rattle.std.proofs.Common.{flat_map}
 use Rattle.sc_top.proofs.Numbers.{same_number}
 use Rattle.sc_top.proofs.Statements.{same_statement}
 

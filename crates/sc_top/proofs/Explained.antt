@@ -1,30 +1,7 @@
 -- What holds of a thin text: its program, what its machine shows, and that its output is one.
-use Rattle.std.proofs.Common.{◌≡◌, ℕ, suc, ◌+◌, ◌<◌, inr, List, [], ◌∷◌, ◌++◌, Option, false, IsTrue, map, length, refl, sym, ap, ap₂, ◌∙◌, subst, arith}
-use Rattle.std.specs.Prelude.{nat_lt}
-use Rattle.std.proofs.lemmas.Bool.Decides.{nat_tests}
-use Rattle.sc_word.specs.Word.{word_of}
-use Rattle.sc_event.specs.declared.event.Event.TheVariants.{Out, End}
-use Rattle.sc_core.specs.declared.program.ProgramTree.{ProgramTree}
-use Rattle.sc_core.specs.declared.thin.ThinProgram.{ThinProgram}
-use Rattle.sc_core.specs.Thin.{whole_run, thin_meaning}
-use Rattle.sc_compile.specs.Image.{thin_image}
-use Rattle.sc_image.specs.declared.parts.ImageParts.{ImageParts}
-use Rattle.sc_image.specs.Interfaces.{interfaces_of}
-use Rattle.sc_image.specs.RoundTrip.{BytesNameOneImage}
-use Rattle.sc_lex.specs.declared.refusal.Refusal.{Refusal}
-use Rattle.sc_types.specs.Acceptance.{Accepts, Fails}
-use Rattle.sc_words.specs.declared.command.Command.{Command}
+use Rattle.sc_top.proofs.Common.{Accepts, BytesNameOneImage, Command, End, Fails, Failure, HasImage, ImageParts, IsAccounted, IsExecuted, IsOutput, IsOutputCause, IsTextOutput, IsThin, IsThinMeant, IsThinProgram, IsThinReading, IsThinText, IsTrue, List, Option, Out, ProgramTree, Refusal, Refuses, RunOptions, ThinProgram, [], ap, ap₂, arith, compiles, false, inr, interfaces_of, length, machine_run, machine_text, map, nat_lt, nat_tests, output, refl, subst, suc, sym, thin_image, thin_interfaces, thin_meaning, whole_run, word_of, ℕ, ◌++◌, ◌+◌, ◌<◌, ◌∙◌, ◌∷◌, ◌≡◌}
 use Rattle.sc_words.specs.declared.command.Command.TheVariants as commands
-use Rattle.sc_words.specs.declared.command.RunOptions.{RunOptions}
-use Rattle.sc_top.specs.Names.{thin_interfaces}
-use Rattle.sc_top.specs.Output.{machine_run, machine_text, compiles, HasImage, output, IsAccounted, IsTextOutput, IsExecuted, IsOutput}
-use Rattle.sc_top.specs.declared.failure.Failure.{Failure}
 use Rattle.sc_top.specs.declared.failure.Failure.TheVariants as failure
-use Rattle.sc_top.specs.Answer.{Refuses}
-use Rattle.sc_top.specs.Failure.{IsOutputCause}
-use Rattle.sc_top.specs.Texts.{IsThinText, IsThinReading, IsThinMeant}
-use Rattle.sc_top.specs.Thin.{IsThin}
-use Rattle.sc_top.specs.ThinMeaning.{IsThinProgram}
 
 -- the image of a thin program has the names of one
 pub thin_names : (thin : ThinProgram) → interfaces_of (thin_image thin) ≡ thin_interfaces

@@ -1,30 +1,12 @@
 -- The numbers of all events stand for something: in the meaning of a program, and where the machine runs an image.
-use Rattle.std.proofs.Common.{get_or, ◌≡◌, ◌∙◌, ap, ℕ, Result, Ok, Err, IfOk, All, List, [], ◌∷◌, map, IsSome, IsTrue, ◌<◌, length, refl, sym, subst, arith, zero, suc}
-use Rattle.std.specs.Prelude.{slice_get}
-use Rattle.std.proofs.lemmas.Bool.{and_parts, false≢true}
-use Rattle.std.proofs.lemmas.List.{length-map}
-use Rattle.sc_event.specs.declared.event.Event.{Event}
+use Rattle.sc_top.proofs.Common.{All, All-map, Err, Event, IfOk, ImageParts, Interfaces, IsExecuted, IsKnown, IsSome, IsTrue, IsWellFormed, IsWellTyped, IsWord, List, Ok, ProgramTree, Result, RunOptions, TracesAreLegal, [], and_parts, ap, arith, c_arith, comp_at, false≢true, get_or, image_bytes, interface_of, interfaces_of, length, length-map, machine_run, machine_text, main_fits, map, meant, refl, run_text, sections_fit, slice_get, subst, suc, sym, word_of, zero, ℕ, ◌<◌, ◌∙◌, ◌∷◌, ◌≡◌}
+use Rattle.sc_laws.specs.Prelude.{TracesAreLegal as SourceTracesAreLegal}
 use Rattle.sc_event.specs.declared.interface.Interface.{Interface}
-use Rattle.sc_event.specs.declared.interface.Interfaces.{Interfaces}
-use Rattle.sc_event.specs.Lookup.{IsKnown, comp_at}
 use Rattle.sc_event.proofs.Known.{legal_is_known}
-use Rattle.sc_word.specs.Word.{word_of}
 use Rattle.sc_word.proofs.Words.{word_of-lt}
-use Rattle.std.proofs.lemmas.List.Elements.{All-map}
-use Rattle.sc_core.specs.declared.program.ProgramTree.{ProgramTree}
 use Rattle.sc_core.specs.declared.section.TypedSection.{TypedSection}
 use Rattle.sc_base.specs.declared.stop.Stop.{Stop}
-use Rattle.sc_laws.specs.Laws.{TracesAreLegal as SourceTracesAreLegal}
-use Rattle.sc_core.specs.Value.{c_arith}
-use Rattle.sc_core.specs.WellTyped.{sections_fit, main_fits, IsWellTyped}
-use Rattle.sc_report.specs.Report.{run_text}
-use Rattle.sc_image.specs.Bytes.{image_bytes}
-use Rattle.sc_image.specs.declared.parts.ImageParts.{ImageParts}
-use Rattle.sc_image.specs.Interfaces.{interface_of, interfaces_of, TracesAreLegal}
-use Rattle.sc_image.specs.WellFormed.{IsWord, IsWellFormed}
 use Rattle.sc_words.specs.declared.command.MeaningOptions.{MeaningOptions}
-use Rattle.sc_words.specs.declared.command.RunOptions.{RunOptions}
-use Rattle.sc_top.specs.Output.{meant, machine_run, machine_text, IsExecuted}
 
 within : {A : Type 0} (xs : List A) (n : ℕ) → n < length xs → IsSome (slice_get xs n)
 within [] n lt = absurd (omega arith)

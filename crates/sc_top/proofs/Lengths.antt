@@ -1,15 +1,10 @@
 -- How many bytes an image has at most.
-use Rattle.std.proofs.Common.{◌≡◌, ℕ, suc, ◌+◌, ◌*◌, ◌≤◌, List, [], ◌∷◌, ◌++◌, length, flat_map, Some, refl, sym, ap, subst, arith, length-append}
-use Rattle.std.specs.Prelude.{slice_get}
-use Rattle.std.specs.List.{AllByRecursion}
-use Rattle.std.proofs.lemmas.List.Elements.{recursion_from_All}
+use Rattle.sc_top.proofs.Common.{AllByRecursion, ImageParts, IsComp, IsExport, IsWellFormed, List, Some, [], ap, arith, bit, code_bytes, comp_bytes, export_bytes, exports_bytes, flags, globals_bytes, image_bytes, import_bytes, imports_bytes, length, length-append, name_bytes, recursion_from_All, refl, slice_get, subst, suc, sym, ℕ, ◌*◌, ◌++◌, ◌+◌, ◌∷◌, ◌≡◌, ◌≤◌}
+use Rattle.std.proofs.Common.{flat_map}
 use Rattle.byteorder.specs.Endian.{little_bytes}
-use Rattle.sc_image.specs.declared.parts.ImageParts.{ImageParts}
 use Rattle.sc_image.specs.declared.parts.CompPart.{CompPart}
 use Rattle.sc_image.specs.declared.parts.ExportPart.{ExportPart}
 use Rattle.sc_image.specs.declared.parts.ImportPart.{ImportPart}
-use Rattle.sc_image.specs.Bytes.{bit, name_bytes, flags, export_bytes, import_bytes, exports_bytes, imports_bytes, code_bytes, globals_bytes, comp_bytes, image_bytes}
-use Rattle.sc_image.specs.WellFormed.{IsComp, IsExport, IsWellFormed}
 use Rattle.sc_image.proofs.Fits.{short_name}
 
 -- pieces of at most so many bytes

@@ -1,3 +1,4 @@
+pub mod Common
 pub mod Answers
 pub mod Bodies
 pub mod Explained

@@ -1,16 +1,12 @@
 -- Numbers at the front of a text.
-use Rattle.std.proofs.Common.{◌≡◌, ℕ, zero, suc, ◌+◌, ◌<◌, ◌≤◌, ◌^◌, Bool, true, false, ◌&&◌, nat_eq, List, [], ◌∷◌, ◌++◌, length, get_or, take, drop, Option, Some, None, Result, Ok, MatchOption, IfSome, IsNone, Bor, decimal, add-one, refl, sym, ap, ◌∙◌, subst, arith}
-use Rattle.std.specs.Char.{is_ascii_digit}
+use Rattle.sc_top.proofs.Common.{Bool, Bor, Decides-eqb, EndsNumber, IfSome, IsNone, IsNumber, IsUtf8, List, MatchOption, None, Ok, Option, Result, Some, [], add-one, all_ascii_digits, ap, arith, decimal, drop, false, get_or, is_ascii_digit, length, nat_eq, refl, subst, suc, sym, take, true, zero, ℕ, ◌&&◌, ◌++◌, ◌+◌, ◌<◌, ◌^◌, ◌∙◌, ◌∷◌, ◌≡◌, ◌≤◌}
 use Rattle.std.specs.Cmp.Derive.{both_true}
 use Rattle.std.specs.Cmp.Lexicographic.{pointwise}
-use Rattle.std.specs.Str.{all_ascii_digits, IsUtf8}
 use Rattle.std.specs.Str.Parse.{ParsesUnsigned, digits_value}
-use Rattle.std.proofs.lemmas.Bool.Decides.{Decides-eqb}
 use Rattle.std.proofs.lemmas.Fmt.{IsAscii-decimal, decimal_digit, digits_decimal, decimal_injective, decimal-digits_value, parse-decimal, first_decimal}
 use Rattle.std.proofs.lemmas.Slice.Eq.{strip_prefix_is, bytes_eq-Decides}
 use Rattle.std.proofs.lemmas.Str.{IsUtf8-from_ascii}
 use Rattle.std.proofs.lemmas.Str.Parse.{IsNumeralModel, numerals_by_value, tells_all_ascii_digits, parse_digits}
-use Rattle.sc_top.specs.Statement.{IsNumber, EndsNumber}
 
 -- digits mean what `parse` takes them for
 model : IsNumeralModel (λ ds. all_ascii_digits ds ≡ true) (digits_value 10)

@@ -1,7 +1,5 @@
 -- Statements with a number at the front of a text.
-use Rattle.std.proofs.Common.{◌≡◌, ℕ, ◌<◌, List, [], ◌∷◌, ◌++◌, length, decimal, sym, ap, ◌∙◌, arith}
-use Rattle.std.proofs.lemmas.List.{append_cancel_left}
-use Rattle.sc_top.specs.Statement.{IsStatement, IsNumber, EndsNumber}
+use Rattle.sc_top.proofs.Common.{EndsNumber, IsNumber, IsStatement, List, [], ap, append_cancel_left, arith, decimal, length, sym, ℕ, ◌++◌, ◌<◌, ◌∙◌, ◌∷◌, ◌≡◌}
 use Rattle.sc_top.proofs.Numbers.{same_number}
 
 pub ends-append : (after behind : List ℕ) → 0 < length after → EndsNumber after → EndsNumber (after ++ behind)

@@ -1,11 +1,6 @@
 -- What was read and written so far, in pieces.
-use Rattle.std.proofs.Common.{◌≡◌, ℕ, ◌+◌, ◌-◌, ◌≤◌, inl, inr, List, [], ◌++◌, length, take, drop, Option, None, Some, Result, Ok, Err, OnOk, refl, sym, ap, ◌∙◌, subst, arith, append_assoc, length-append, length-drop, ⊎_elim}
-use Rattle.std.proofs.lemmas.List.{append-nil, take-append-drop, take_all, take_rest}
+use Rattle.sc_top.proofs.Common.{Adds, Err, Fetches, IsAtEnd, List, None, Ok, OnOk, Option, Result, Rose, Some, Takes, Tells, Wrote, [], ap, append-nil, append_assoc, arith, drop, inl, inr, length, length-append, length-drop, refl, subst, sym, take, take-append-drop, take_all, take_rest, ℕ, ⊎_elim, ◌++◌, ◌+◌, ◌-◌, ◌∙◌, ◌≡◌, ◌≤◌}
 use Rattle.std.proofs.Math.Seq.{take-add}
-use Rattle.sc_edge.specs.Edge.{Rose, Takes, Adds, IsAtEnd}
-use Rattle.sc_top.specs.Answer.{Tells}
-use Rattle.sc_top.specs.Fetching.{Fetches}
-use Rattle.sc_top.specs.Writing.{Wrote}
 
 -- a count that rose later has risen
 pub rose_since : (before then_ after : ℕ) → before ≤ then_ → Rose then_ after → Rose before after

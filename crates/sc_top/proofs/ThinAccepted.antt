@@ -1,21 +1,5 @@
 -- A thin text is accepted, as a program that means what its thin program means.
-use Rattle.std.proofs.Common.{◌≡◌, ℕ, ◌≤◌, IsTrue, List, [], ◌∷◌, ◌++◌, length, codes, decimal, refl, ap, ◌∙◌, subst, length-append, arith}
-use Rattle.std.specs.List.{flat_map}
-use Rattle.std.proofs.lemmas.List.Elements.{recursion_from_All}
-use Rattle.sc_ast.specs.Height.{section_height}
-use Rattle.sc_ast.specs.Lineless.{SameButLines}
-use Rattle.sc_ast.specs.SectionWords.{section_words}
-use Rattle.sc_ast.specs.declared.section.SectionTree.{SectionTree}
-use Rattle.sc_print.specs.Symbols.{symbols}
-use Rattle.sc_print.specs.KeptSections.{kept_section}
-use Rattle.sc_print.specs.SectionsRead.{SectionSpells}
-use Rattle.sc_print.specs.Dense.{dense_text, SaysAll}
-use Rattle.sc_read.specs.Reading.{Reads}
-use Rattle.sc_core.specs.declared.thin.ThinProgram.{ThinProgram}
-use Rattle.sc_core.specs.declared.program.ProgramTree.{ProgramTree}
-use Rattle.sc_types.specs.Acceptance.{Accepts}
-use Rattle.sc_top.specs.Thin.{IsThin, head, output_line, return_line}
-use Rattle.sc_top.specs.ThinMeaning.{IsThinProgram}
+use Rattle.sc_top.proofs.Common.{Accepts, IsThin, IsThinProgram, IsTrue, List, ProgramTree, Reads, SameButLines, SaysAll, SectionSpells, SectionTree, ThinProgram, [], ap, arith, codes, decimal, dense_text, flat_map, head, kept_section, length, length-append, output_line, recursion_from_All, refl, return_line, section_height, section_words, subst, symbols, ℕ, ◌++◌, ◌∙◌, ◌∷◌, ◌≡◌, ◌≤◌}
 use Rattle.sc_top.proofs.Bodies.{AreSmall}
 use Rattle.sc_top.proofs.ThinReads.{ThinReading, thin_reading}
 use Rattle.sc_top.proofs.ThinLines.{tree_at, IsThinTree, thin_tree}

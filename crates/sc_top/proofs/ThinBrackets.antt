@@ -1,16 +1,6 @@
 -- Few brackets are open in a thin text.
-use Rattle.std.proofs.Common.{◌≡◌, ℕ, ◌+◌, ◌-◌, ◌≤◌, max, IsTrue, List, [], ◌∷◌, ◌++◌, codes, refl, sym, ap, ◌∙◌, subst, arith}
-use Rattle.std.proofs.lemmas.List.{append-nil}
-use Rattle.sc_base.specs.Identifier.{is_name}
-use Rattle.sc_base.specs.Reserved.{is_reserved}
-use Rattle.sc_ast.specs.Identifiers.{is_ident}
-use Rattle.sc_ast.specs.Pieces.{Piece, word, newline, line_of}
-use Rattle.sc_ast.specs.ExprWords.{literal_text}
-use Rattle.sc_ast.specs.StmtWords.{layouts, lines_at}
-use Rattle.sc_ast.specs.SectionWords.{import_words, section_words}
+use Rattle.sc_top.proofs.Common.{IsTrue, List, Piece, [], ap, append-nil, arith, codes, import_words, is_ident, is_name, is_reserved, layouts, line_of, lines_at, literal_text, max, newline, open_after, refl, section_words, subst, sym, symbols, word, word_symbol, ℕ, ◌++◌, ◌+◌, ◌-◌, ◌∙◌, ◌∷◌, ◌≡◌, ◌≤◌}
 use Rattle.sc_expr.specs.declared.lexeme.Symbol.{Symbol}
-use Rattle.sc_expr.specs.Brackets.{open_after}
-use Rattle.sc_print.specs.Symbols.{word_symbol, symbols}
 use Rattle.sc_print.proofs.Tables as tables
 use Rattle.sc_print.proofs.Leaves.{name_says}
 use Rattle.sc_print.proofs.Literals.{literal_says}

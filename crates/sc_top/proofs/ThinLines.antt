@@ -1,13 +1,10 @@
 -- A tree that is that of a thin program, lines aside, is that tree with lines.
-use Rattle.std.proofs.Common.{◌≡◌, ℕ, List, [], ◌∷◌, map, codes, Option, None, Some, refl, sym, ap, ap₂, ◌∙◌, subst, rules}
-use Rattle.std.proofs.lemmas.Option.{none-some}
-use Rattle.sc_ast.specs.Lineless.{lineless_stmt, lineless_kind, lineless_stmts, lineless_head, lineless_local, lineless_function, lineless_decl, lineless_import, lineless_export, SameButLines}
+use Rattle.sc_top.proofs.Common.{FunctionTree, List, None, Option, SameButLines, SectionTree, Some, StmtTree, [], ap, ap₂, codes, lineless_decl, lineless_export, lineless_function, lineless_head, lineless_import, lineless_kind, lineless_local, lineless_stmt, lineless_stmts, map, none-some, refl, rules, subst, sym, ℕ, ◌∙◌, ◌∷◌, ◌≡◌}
 use Rattle.sc_ast.specs.declared.types.BaseTree.TheVariants as base
 use Rattle.sc_ast.specs.declared.types.TypeName.{TypeName}
 use Rattle.sc_ast.specs.declared.expr.ExprTree.{ExprTree}
 use Rattle.sc_ast.specs.declared.expr.ExprTree.TheVariants as expr
 use Rattle.sc_ast.specs.declared.expr.CallTree.{CallTree}
-use Rattle.sc_ast.specs.declared.stmt.StmtTree.{StmtTree}
 use Rattle.sc_ast.specs.declared.stmt.StmtTree as stmts
 use Rattle.sc_ast.specs.declared.stmt.StmtKind.{StmtKind, StmtKind-F, roll-StmtKind, out-StmtKind, roll-out-StmtKind}
 use Rattle.sc_ast.specs.declared.stmt.StmtKind as kinds
@@ -17,10 +14,8 @@ use Rattle.sc_ast.specs.declared.section.ExportLine.{ExportLine}
 use Rattle.sc_ast.specs.declared.section.ImportLine.{ImportLine}
 use Rattle.sc_ast.specs.declared.section.HeadTree.{HeadTree}
 use Rattle.sc_ast.specs.declared.section.LocalTree.{LocalTree}
-use Rattle.sc_ast.specs.declared.section.FunctionTree.{FunctionTree}
 use Rattle.sc_ast.specs.declared.section.Decl.{Decl}
 use Rattle.sc_ast.specs.declared.section.Decl.TheVariants as decl
-use Rattle.sc_ast.specs.declared.section.SectionTree.{SectionTree}
 use Rattle.sc_top.proofs.ThinTree.{number, body_of, tree_of}
 
 abbrev pub output_call : ℕ → CallTree

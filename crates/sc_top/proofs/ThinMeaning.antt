@@ -1,9 +1,7 @@
 -- What a thin text means.
-use Rattle.std.proofs.Common.{◌≡◌, ℕ, true, List, [], ◌∷◌, ◌++◌, append_assoc, map, Some, refl, sym, ap, ◌∙◌, rules}
-use Rattle.sc_event.specs.declared.event.Event.{Event}
-use Rattle.sc_event.specs.declared.event.Event.TheVariants.{Out}
+use Rattle.sc_top.proofs.Common.{Acts, Body, Event, Function, Here, Left, Library, List, Next, Out, ProgramTree, Return, Some, State, StmtTree, [], all_do, and_then, ap, append-nil, append_assoc, back_own, begun, block_does, c_arith, calls, closed, done, first_state, follow, function_of, globals_of, in_order, leave, library_of, map, meaning, program_of, refl, rules, run_of, run_step, run_to, stmt_does, stopped_at, sym, tell, thin_meaning, true, typed_stmt, whole_run, within, ℕ, ◌++◌, ◌∙◌, ◌∷◌, ◌≡◌}
+use Rattle.sc_core.specs.Prelude.{Piece}
 use Rattle.sc_ast.specs.declared.expr.ExprTree as exprs
-use Rattle.sc_ast.specs.declared.stmt.StmtTree.{StmtTree}
 use Rattle.sc_ast.specs.declared.stmt.StmtTree as stmts
 use Rattle.sc_ast.specs.declared.stmt.StmtKind as kinds
 use Rattle.sc_core.specs.declared.expr.TypedExpr as typed_exprs
@@ -13,18 +11,7 @@ use Rattle.sc_core.specs.declared.stmt.TypedStmtKind as typed_stmt_kinds
 use Rattle.sc_core.specs.declared.ty.Ty.TheVariants as ty
 use Rattle.sc_core.specs.declared.run.SourceRun.{SourceRun}
 use Rattle.sc_core.specs.declared.section.TypedFunction.{TypedFunction}
-use Rattle.std.proofs.lemmas.List.{append-nil}
 use Rattle.sc_core.specs.declared.value.Value.TheVariants.{Word}
-use Rattle.sc_core.specs.declared.program.ProgramTree.{ProgramTree}
-use Rattle.sc_core.specs.Value.{c_arith}
-use Rattle.sc_core.specs.Words.{State, Here, Piece, Next, Return, Left, leave, follow, in_order, and_then, all_do, tell}
-use Rattle.sc_core.specs.Tree.{stmt_does, block_does, Acts}
-use Rattle.sc_core.specs.Calls.{calls, within, run_step, begun, done, back_own, Body, Function, Library}
-use Rattle.sc_core.specs.Meaning.{library_of, function_of, closed, run_to, run_of, meaning, first_state, globals_of}
-use Rattle.sc_core.specs.Thin.{whole_run, thin_meaning}
-use Rattle.sc_core.specs.Run.{stopped_at}
-use Rattle.sc_elab.specs.Statements.{typed_stmt}
-use Rattle.sc_elab.specs.Sections.{program_of}
 use Rattle.sc_elab.specs.Sections as sections
 use Rattle.sc_top.proofs.ThinLines.{IsThinBody, last, more, Lines, tree_at, output_at, return_at}
 use Rattle.sc_top.proofs.ThinRules.{tree, main, visible, callees}

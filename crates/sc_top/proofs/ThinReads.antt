@@ -1,25 +1,8 @@
 -- A thin text is read.
-use Rattle.std.proofs.Common.{◌≡◌, ℕ, ◌≤◌, max, IsTrue, List, [], ◌∷◌, ◌++◌, map, codes, refl, sym, ap, ◌∙◌, subst, arith}
-use Rattle.std.specs.List.{flat_map}
-use Rattle.std.proofs.lemmas.List.Elements.{recursion_from_All}
-use Rattle.sc_core.specs.declared.thin.ThinProgram.{ThinProgram}
-use Rattle.sc_lex.specs.Cutting.{nothing}
-use Rattle.sc_lex.specs.Splitting.{IsSplit}
+use Rattle.sc_top.proofs.Common.{IsSplit, IsThin, IsTrue, List, Reads, SameButLines, SaysAll, SectionSpells, SectionTree, ThinProgram, [], ap, arith, codes, dense_text, flat_map, head, kept_section, map, max, most_open, nothing, open_after, output_line, part_of, recursion_from_All, refl, return_line, section_height, section_words, subst, sym, symbol_of, symbols, ℕ, ◌++◌, ◌∙◌, ◌∷◌, ◌≡◌, ◌≤◌}
+use Rattle.sc_parse.specs.Prelude.{lexemes_of}
 use Rattle.sc_lex.specs.declared.token.Token.{Token}
-use Rattle.sc_ast.specs.Height.{section_height}
-use Rattle.sc_ast.specs.Lineless.{SameButLines}
-use Rattle.sc_ast.specs.SectionWords.{section_words}
-use Rattle.sc_ast.specs.declared.section.SectionTree.{SectionTree}
 use Rattle.sc_expr.specs.declared.lexeme.Lexeme.{Lexeme}
-use Rattle.sc_expr.specs.Brackets.{open_after, most_open}
-use Rattle.sc_expr.specs.Lexemes.{symbol_of}
-use Rattle.sc_parse.specs.Limits.{lexemes_of}
-use Rattle.sc_print.specs.Symbols.{symbols}
-use Rattle.sc_print.specs.KeptSections.{kept_section}
-use Rattle.sc_print.specs.SectionsRead.{SectionSpells}
-use Rattle.sc_print.specs.Dense.{dense_text, SaysAll}
-use Rattle.sc_read.specs.Reading.{Reads, part_of}
-use Rattle.sc_top.specs.Thin.{IsThin, head, output_line, return_line}
 use Rattle.sc_top.proofs.Bodies.{AreSmall}
 use Rattle.sc_top.proofs.ThinTree.{tree_of, thin_text, tree_kept, tree_low}
 use Rattle.sc_top.proofs.ThinSplit.{body_plain, section_of, one_section}

@@ -1,34 +1,19 @@
 -- The tree of a thin text breaks no rule.
-use Rattle.std.proofs.Common.{◌≡◌, ℕ, ◌+◌, ◌*◌, ◌≤◌, true, false, ◌&&◌, List, [], ◌∷◌, ◌++◌, map, length, codes, Some, refl, ap, ap₂, ◌∙◌, arith, rules}
-use Rattle.std.specs.Prelude.{nat_le}
-use Rattle.std.specs.List.{concat}
-use Rattle.std.proofs.lemmas.Bool.{le-leb}
+use Rattle.sc_top.proofs.Common.{Callees, FunctionTree, List, Scope, SectionTree, Some, StmtTree, Visible, [], ap, ap₂, arith, callees_of, codes, concat, counts_broken, false, le-leb, length, map, most_nodes, nat_le, program_of, refl, rules, scope_in, stmt_nodes, thin_interfaces, total, true, typed_stmt, types_broken, visible_of, ℕ, ◌&&◌, ◌*◌, ◌++◌, ◌+◌, ◌∙◌, ◌∷◌, ◌≡◌, ◌≤◌}
+use Rattle.sc_scope.specs.Prelude.{Known, line_of_text, names_broken, unless}
+use Rattle.sc_interfaces.specs.Prelude.{interface_broken}
 use Rattle.sc_ast.specs.declared.expr.ExprTree as exprs
-use Rattle.sc_ast.specs.declared.stmt.StmtTree.{StmtTree}
 use Rattle.sc_ast.specs.declared.stmt.StmtTree as stmts
 use Rattle.sc_ast.specs.declared.stmt.StmtKind as kinds
-use Rattle.sc_ast.specs.declared.section.SectionTree.{SectionTree}
 use Rattle.sc_core.specs.declared.expr.TypedExpr as typed_exprs
 use Rattle.sc_core.specs.declared.expr.TypedKind as typed_kinds
 use Rattle.sc_core.specs.declared.stmt.TypedStmt as typed_stmts
 use Rattle.sc_core.specs.declared.stmt.TypedStmtKind as typed_stmt_kinds
 use Rattle.sc_core.specs.declared.ty.Ty.TheVariants as ty
-use Rattle.sc_core.specs.Typing.{Scope}
-use Rattle.sc_core.specs.Sizes.{total, stmt_nodes}
-use Rattle.sc_scope.specs.Names.{Known, names_broken}
 use Rattle.sc_scope.specs.Names as names
-use Rattle.sc_interfaces.specs.Faces.{interface_broken}
-use Rattle.sc_elab.specs.Scopes.{Visible}
 use Rattle.sc_elab.specs.Statements as elab
-use Rattle.sc_elab.specs.Statements.{Callees, typed_stmt}
-use Rattle.sc_elab.specs.Sections.{types_broken, program_of, callees_of, visible_of, scope_in}
 use Rattle.sc_elab.specs.Sections as sections
-use Rattle.sc_types.specs.Counts.{counts_broken}
 use Rattle.sc_types.specs.Counts as counts
-use Rattle.sc_scope.specs.Broken.{unless, line_of_text}
-use Rattle.sc_core.specs.WellTyped.{most_nodes}
-use Rattle.sc_ast.specs.declared.section.FunctionTree.{FunctionTree}
-use Rattle.sc_top.specs.Names.{thin_interfaces}
 use Rattle.sc_top.proofs.Bodies.{AreSmall}
 use Rattle.sc_top.proofs.ThinLines.{IsThinBody, last, more, Lines, tree_at, main_tree, output_at, return_at}
 

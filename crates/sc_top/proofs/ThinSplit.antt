@@ -1,19 +1,7 @@
 -- A thin text is one section.
-use Rattle.std.proofs.Common.{◌≡◌, ℕ, zero, suc, ◌+◌, ◌-◌, ◌≤◌, Bool, true, not, ◌&&◌, IsTrue, List, [], ◌∷◌, ◌++◌, length, drop, get_or, codes, decimal, Some, refl, sym, ap, ◌∙◌, subst, ⊎_elim, arith, length-append}
-use Rattle.std.specs.Prelude.{◌==◌}
-use Rattle.std.specs.Char.{is_ascii_digit}
-use Rattle.std.specs.Str.{all_ascii_digits}
-use Rattle.std.specs.List.{flat_map, list_all}
-use Rattle.std.proofs.lemmas.Bool.{cases_lt, and_parts, false≢true, ne_eqb}
-use Rattle.std.proofs.lemmas.List.{take_all, get_or-append_right, get_or-drop}
-use Rattle.sc_base.specs.Identifier.{is_name}
-use Rattle.sc_lex.specs.Lines.{begins_line}
-use Rattle.sc_lex.specs.Words.{words}
-use Rattle.sc_lex.specs.Headings.{begins_heading, is_heading, heading_name, name_at}
-use Rattle.sc_lex.specs.Splitting.{NoHeading, IsSection, none, section, IsSplit}
+use Rattle.sc_top.proofs.Common.{Bool, IsSection, IsSplit, IsTrue, List, NoHeading, Some, [], all_ascii_digits, and_parts, ap, arith, begins_heading, begins_line, cases_lt, codes, decimal, drop, false≢true, flat_map, get_or, get_or-append_right, get_or-drop, head, heading_name, is_ascii_digit, is_heading, is_name, length, length-append, list_all, name_at, ne_eqb, none, not, output_line, refl, return_line, section, subst, suc, sym, take_all, true, words, zero, ℕ, ⊎_elim, ◌&&◌, ◌++◌, ◌+◌, ◌-◌, ◌==◌, ◌∙◌, ◌∷◌, ◌≡◌, ◌≤◌}
 use Rattle.sc_lex.specs.declared.section.Section.{Section}
 use Rattle.sc_lex.proofs.Wording.{front_byte}
-use Rattle.sc_top.specs.Thin.{head, output_line, return_line}
 use Rattle.sc_top.proofs.Numbers.{digits_of_decimal}
 use Rattle.sc_top.proofs.Bodies.{AreSmall}
 

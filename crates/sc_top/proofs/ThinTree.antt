@@ -1,30 +1,13 @@
 -- A thin text is the text of a section without empty lines.
-use Rattle.std.proofs.Common.{◌≡◌, ℕ, ◌≤◌, true, false, IsTrue, List, [], ◌∷◌, ◌++◌, map, codes, decimal, Some, None, refl, sym, ap, ap₂, ◌∙◌, append_assoc, arith, rules}
-use Rattle.std.specs.List.{flat_map}
-use Rattle.std.proofs.lemmas.Bool.{le-leb}
-use Rattle.std.proofs.lemmas.List.{append-nil}
+use Rattle.sc_top.proofs.Common.{IsTrue, List, None, Number, Piece, SectionTree, Some, StmtTree, [], ap, append-nil, append_assoc, ap₂, are_kept, arith, blank, codes, decimal, dense_text, false, fits, flat_map, head, import_words, is_kept_stmt, is_name, is_reserved, kept_section, layouts, le-leb, line_of, lines_at, literal_text, map, newline, output_line, piece_text, refl, return_line, rules, section_height, stmt_height, stmt_layout, stmts_height, sym, text_of, true, word, ℕ, ◌++◌, ◌∙◌, ◌∷◌, ◌≡◌, ◌≤◌}
 use Rattle.std.proofs.lemmas.Grind.{flat_map-append}
-use Rattle.sc_base.specs.Identifier.{is_name}
-use Rattle.sc_base.specs.Reserved.{is_reserved}
-use Rattle.sc_ast.specs.Numbers.{Number, fits}
-use Rattle.sc_ast.specs.Pieces.{Piece, word, blank, newline, piece_text, text_of, line_of}
-use Rattle.sc_ast.specs.ExprWords.{literal_text}
-use Rattle.sc_ast.specs.StmtWords.{stmt_layout, layouts, lines_at}
-use Rattle.sc_ast.specs.SectionWords.{import_words}
-use Rattle.sc_ast.specs.Height.{stmt_height, stmts_height, section_height}
 use Rattle.sc_ast.specs.declared.types.BaseTree.TheVariants as base
 use Rattle.sc_ast.specs.declared.expr.ExprTree as exprs
 use Rattle.sc_ast.specs.declared.expr.ExprTree.TheVariants as expr
-use Rattle.sc_ast.specs.declared.stmt.StmtTree.{StmtTree}
 use Rattle.sc_ast.specs.declared.stmt.StmtTree as stmts
 use Rattle.sc_ast.specs.declared.stmt.StmtKind as kinds
 use Rattle.sc_ast.specs.declared.stmt.StmtKind.TheVariants as stmt
 use Rattle.sc_ast.specs.declared.section.Decl.TheVariants as decl
-use Rattle.sc_ast.specs.declared.section.SectionTree.{SectionTree}
-use Rattle.sc_print.specs.KeptStmts.{is_kept_stmt, are_kept}
-use Rattle.sc_print.specs.KeptSections.{kept_section}
-use Rattle.sc_print.specs.Dense.{dense_text}
-use Rattle.sc_top.specs.Thin.{head, output_line, return_line}
 use Rattle.sc_top.proofs.Bodies.{AreSmall}
 
 abbrev pub number : ℕ → Number

@@ -1,15 +1,8 @@
 -- What an answer says of the bytes that were read and written.
+use Rattle.sc_top.specs.Common.{Accepts, Adds, Command, Fails, ImageParts, IsAtEnd, IsImage, ProgramTree, Refusal, Rose, Takes, bad, cause_number}
 use Rattle.std.specs.Prelude.{◌≡◌, ◌≢◌, ◌≤◌, ◌⊎◌, ◌+◌, ℕ, IsTrue, List, [], ◌++◌, length, Option, Some, None, option_and_then}
 use Rattle.std.specs.Option.{option_map}
-use Rattle.sc_lex.specs.declared.refusal.Refusal.{Refusal}
 use Rattle.sc_lex.specs.declared.refusal.Phase.TheVariants.{Syntax}
-use Rattle.sc_core.specs.declared.program.ProgramTree.{ProgramTree}
-use Rattle.sc_image.specs.declared.parts.ImageParts.{ImageParts}
-use Rattle.sc_image.specs.Reading.{cause_number, bad}
-use Rattle.sc_image.specs.RoundTrip.{IsImage}
-use Rattle.sc_edge.specs.Edge.{Rose, Takes, Adds, IsAtEnd}
-use Rattle.sc_types.specs.Acceptance.{Accepts, Fails}
-use Rattle.sc_words.specs.declared.command.Command.{Command}
 use Rattle.sc_top.specs.declared.status.Status.{Status}
 use Rattle.sc_top.specs.declared.status.Status.TheVariants.{Done, Usage, Refused, TooLarge, TooLong, BadImage, ReadFault, WriteFault, OutOfMemory, NotBuilt}
 use Rattle.sc_top.specs.declared.status.TooLarge as large

@@ -1,6 +1,6 @@
 -- What a command reads.
+use Rattle.sc_top.specs.Common.{Command}
 use Rattle.std.specs.Prelude.{ℕ, Option, Some, None}
-use Rattle.sc_words.specs.declared.command.Command.{Command}
 use Rattle.sc_words.specs.declared.command.Command.TheVariants.{Check, Meaning, Compile, Run, Exec, Explain, Make}
 
 -- a text or an image of at most so many bytes, or nothing

@@ -1,12 +1,10 @@
 -- Helping: how the faults of the parts are passed on, and which status tells a failure.
+use Rattle.sc_top.specs.Common.{Command, Rose, cause_number}
 use Rattle.std.specs.Prelude.{◌≡◌, ℕ, List, Result, Ok, Err, Option, Some}
 use Rattle.sc_image.specs.declared.fault.ImageFault.{ImageFault}
 use Rattle.sc_image.specs.declared.fault.ImageFault.TheVariants as image
-use Rattle.sc_image.specs.Reading.{cause_number}
 use Rattle.sc_lex.specs.declared.fault.TextFault.{TextFault}
 use Rattle.sc_lex.specs.declared.fault.TextFault.TheVariants as text
-use Rattle.sc_edge.specs.Edge.{Rose}
-use Rattle.sc_words.specs.declared.command.Command.{Command}
 use Rattle.sc_words.specs.declared.fault.WordsFault.{WordsFault}
 use Rattle.sc_words.specs.declared.fault.WordsFault.TheVariants as words
 use Rattle.sc_top.specs.declared.input.ReadFault as read

@@ -1,3 +1,5 @@
+pub mod Common
+pub mod Prelude
 pub mod Answer
 pub mod Command
 pub mod Failure

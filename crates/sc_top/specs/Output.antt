@@ -1,24 +1,12 @@
 -- What each command writes for the program of a text and its image, or for an image.
+use Rattle.sc_top.specs.Common.{Accepts, Command, ImageParts, Interfaces, IsImage, ProgramTree, Run, RunOptions, ThinProgram, image_bytes, interfaces_of, machine, meaning, thin_image}
+use Rattle.sc_word.specs.Prelude.{word_of}
 use Rattle.std.specs.Prelude.{◌≡◌, ℕ, Bool, true, false, IsTrue, List, [], ◌++◌, length, map, codes, Some, None}
-use Rattle.sc_word.specs.Word.{word_of}
-use Rattle.sc_event.specs.declared.interface.Interfaces.{Interfaces}
 use Rattle.sc_core.specs.declared.run.SourceRun.{SourceRun}
-use Rattle.sc_core.specs.Meaning.{meaning}
-use Rattle.sc_core.specs.declared.thin.ThinProgram.{ThinProgram}
-use Rattle.sc_core.specs.declared.program.ProgramTree.{ProgramTree}
-use Rattle.sc_image.specs.declared.parts.ImageParts.{ImageParts}
-use Rattle.sc_image.specs.Bytes.{image_bytes}
-use Rattle.sc_image.specs.Interfaces.{interfaces_of}
-use Rattle.sc_image.specs.Machine.{Run, machine}
-use Rattle.sc_image.specs.RoundTrip.{IsImage}
-use Rattle.sc_compile.specs.Image.{thin_image}
 use Rattle.sc_report.specs.Check.{check_text}
 use Rattle.sc_report.specs.Report.{meaning_text, run_text}
-use Rattle.sc_types.specs.Acceptance.{Accepts}
-use Rattle.sc_words.specs.declared.command.Command.{Command}
 use Rattle.sc_words.specs.declared.command.Command.TheVariants as commands
 use Rattle.sc_words.specs.declared.command.MeaningOptions.{MeaningOptions}
-use Rattle.sc_words.specs.declared.command.RunOptions.{RunOptions}
 use Rattle.sc_top.specs.Thin.{IsThin}
 
 -- what a program means, with so many turns and events and these inputs

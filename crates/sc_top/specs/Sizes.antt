@@ -1,13 +1,11 @@
 -- What of a program is too large to be compiled: first the globals of a section, then the frame of a function, then the
 -- code of a section.
+use Rattle.sc_top.specs.Common.{ProgramTree, cells_of, frame_bound, nodes, total, variables}
 use Rattle.std.specs.Prelude.{ℕ, ◌*◌, nat_lt, List, [], ◌∷◌, ◌++◌, flat_map, map, Option, Some, None, if◌then◌else◌}
 use Rattle.sc_event.specs.declared.interface.Interface.{Interface}
 use Rattle.sc_core.specs.declared.section.TypedFunction.{TypedFunction}
 use Rattle.sc_core.specs.declared.section.TypedGlobal.{TypedGlobal}
 use Rattle.sc_core.specs.declared.section.TypedSection.{TypedSection}
-use Rattle.sc_core.specs.declared.program.ProgramTree.{ProgramTree}
-use Rattle.sc_core.specs.Types.{cells_of, variables}
-use Rattle.sc_core.specs.Sizes.{total, nodes, frame_bound}
 use Rattle.sc_top.specs.declared.status.TooLarge.{TooLarge}
 use Rattle.sc_top.specs.declared.status.TooLarge.TheVariants.{Code, Globals, Frame}
 

@@ -1,13 +1,8 @@
 -- Helping: texts as the commands that compile read them.
+use Rattle.sc_top.specs.Common.{Accepts, Fails, ProgramTree, RunOptions, ThinProgram, thin_image, thin_meaning}
 use Rattle.std.specs.Prelude.{◌≡◌, ℕ, List, length}
-use Rattle.sc_core.specs.declared.program.ProgramTree.{ProgramTree}
-use Rattle.sc_core.specs.declared.thin.ThinProgram.{ThinProgram}
-use Rattle.sc_types.specs.Acceptance.{Accepts, Fails}
 use Rattle.sc_top.specs.declared.failure.Failure.{Failure}
 use Rattle.sc_top.specs.declared.failure.Failure.TheVariants.{Refused, OutOfMemory, NotBuilt}
-use Rattle.sc_core.specs.Thin.{thin_meaning}
-use Rattle.sc_compile.specs.Image.{thin_image}
-use Rattle.sc_words.specs.declared.command.RunOptions.{RunOptions}
 use Rattle.sc_top.specs.Output.{machine_run}
 use Rattle.sc_top.specs.Thin.{IsThin}
 use Rattle.sc_top.specs.ThinMeaning.{IsThinProgram}

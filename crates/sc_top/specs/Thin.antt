@@ -1,6 +1,6 @@
 -- Thin texts: programs of one compartment that output numbers and return one.
+use Rattle.sc_top.specs.Common.{ThinProgram}
 use Rattle.std.specs.Prelude.{◌≡◌, ◌≤◌, ℕ, List, ◌++◌, length, All, flat_map, codes, decimal}
-use Rattle.sc_core.specs.declared.thin.ThinProgram.{ThinProgram}
 
 -- the lines in front of the statements
 unfoldable pub head : List ℕ

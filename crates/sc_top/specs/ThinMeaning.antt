@@ -1,9 +1,6 @@
 -- The programs that thin texts are.
+use Rattle.sc_top.specs.Common.{ProgramTree, ThinProgram, meaning, thin_meaning}
 use Rattle.std.specs.Prelude.{◌≡◌, ℕ, List}
-use Rattle.sc_core.specs.declared.program.ProgramTree.{ProgramTree}
-use Rattle.sc_core.specs.declared.thin.ThinProgram.{ThinProgram}
-use Rattle.sc_core.specs.Meaning.{meaning}
-use Rattle.sc_core.specs.Thin.{thin_meaning}
 use Rattle.sc_top.specs.Names.{thin_interfaces}
 
 -- A program has the interfaces of a thin program, and means what that one means.

@@ -1,6 +1,6 @@
 -- Helping: what a call leaves that writes a text.
+use Rattle.sc_top.specs.Common.{Adds, Rose}
 use Rattle.std.specs.Prelude.{◌≤◌, ℕ, List, Option, Result, OnOk, OnErr}
-use Rattle.sc_edge.specs.Edge.{Rose, Adds}
 use Rattle.sc_top.specs.Answer.{Tells}
 
 -- it was written whole where there is no error, and else a fault cut it short

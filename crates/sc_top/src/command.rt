@@ -1,5 +1,5 @@
+ghost use Rattle.sc_top.specs.Prelude.{limit_of};
 ghost use Rattle.std.specs.Prelude.{◌≡◌};
-ghost use Rattle.sc_top.specs.Command.{limit_of};
 
 use sc_words::Command;
 

@@ -1,7 +1,5 @@
+ghost use Rattle.sc_top.specs.Prelude.{Exec, IsOutput, IsOutputCause};
 ghost use Rattle.std.specs.Prelude.{◌≡◌, ℕ, Some, IfOk, IfErr};
-ghost use Rattle.sc_words.specs.declared.command.Command.TheVariants.{Exec};
-ghost use Rattle.sc_top.specs.Failure.{IsOutputCause};
-ghost use Rattle.sc_top.specs.Output.{IsOutput};
 
 use crate::failure::Failure;
 use crate::machine::machine_text;

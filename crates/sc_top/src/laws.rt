@@ -1,19 +1,13 @@
 //! What holds of every text.
 
+ghost use Rattle.sc_top.specs.Prelude.{Accepts, Command, HasImage, IsAnswer, IsOutput, IsThin, IsThinProgram, IsWithin, SameAnswer, ThinProgram, compiles};
+ghost use Rattle.sc_image.specs.Prelude.{IsImage};
 ghost use Rattle.std.specs.Prelude.{◌≡◌, ◌≤◌, ℕ, List, length, IsTrue};
 ghost use Rattle.sc_core.specs.declared.program.ProgramTree.{ProgramTree};
-ghost use Rattle.sc_core.specs.declared.thin.ThinProgram.{ThinProgram};
 ghost use Rattle.sc_ast.specs.declared.section.SectionTree.{SectionTree};
 ghost use Rattle.sc_read.specs.Reading.{Reads};
-ghost use Rattle.sc_words.specs.declared.command.Command.{Command};
 ghost use Rattle.sc_top.specs.declared.status.Status.{Status};
 ghost use Rattle.sc_image.specs.declared.parts.ImageParts.{ImageParts};
-ghost use Rattle.sc_image.specs.RoundTrip.{IsImage};
-ghost use Rattle.sc_top.specs.Answer.{IsWithin, IsAnswer, SameAnswer};
-ghost use Rattle.sc_top.specs.Output.{compiles, HasImage, IsOutput};
-ghost use Rattle.sc_top.specs.Thin.{IsThin};
-ghost use Rattle.sc_top.specs.ThinMeaning.{IsThinProgram};
-ghost use Rattle.sc_types.specs.Acceptance.{Accepts};
 
 use sc_image::one_image;
 use sc_print::{dense_sections_are_cut, lines_add_no_height, words_of_sections_spell_them};

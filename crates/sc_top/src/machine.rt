@@ -1,9 +1,7 @@
+ghost use Rattle.sc_top.specs.Prelude.{IsThinMeant, machine_run, machine_text, thin_interfaces};
+ghost use Rattle.sc_event.specs.Prelude.{IsKnown};
 ghost use Rattle.std.specs.Prelude.{◌≡◌, ◌≤◌, length, All, IfOk, OnOk};
-ghost use Rattle.sc_event.specs.Lookup.{IsKnown};
 ghost use Rattle.sc_compile.specs.Image.{thin_image};
-ghost use Rattle.sc_top.specs.Names.{thin_interfaces};
-ghost use Rattle.sc_top.specs.Output.{machine_run, machine_text};
-ghost use Rattle.sc_top.specs.Texts.{IsThinMeant};
 
 use sc_base::{OutOfMemory, Text};
 use sc_compile::compile;

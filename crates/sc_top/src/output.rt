@@ -1,4 +1,4 @@
-ghost use Rattle.sc_top.specs.Writing.{Wrote};
+ghost use Rattle.sc_top.specs.Prelude.{Wrote};
 
 use sc_edge::{Failed, Sink};
 

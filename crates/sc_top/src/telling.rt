@@ -1,7 +1,5 @@
+ghost use Rattle.sc_top.specs.Prelude.{Tells, Wrote, bytes_of, large_text, owner_text, refusal_text, status_text};
 ghost use Rattle.std.specs.Prelude.{◌≡◌, ◌++◌, codes, decimal};
-ghost use Rattle.sc_top.specs.Answer.{Tells};
-ghost use Rattle.sc_top.specs.Status.{status_text, refusal_text, large_text, owner_text, bytes_of};
-ghost use Rattle.sc_top.specs.Writing.{Wrote};
 
 use crate::output::write_text;
 use crate::status::{fixed_text, kind_text, phase_word};

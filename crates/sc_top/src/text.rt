@@ -1,12 +1,8 @@
 //! The commands that read texts.
 
+ghost use Rattle.sc_top.specs.Prelude.{Accepts, Check, Compile, Explain, IsOutput, IsOutputCause, IsReading, IsThinReading, IsThinText, Meaning, Run, meant};
 ghost use Rattle.std.specs.Prelude.{◌≡◌, ◌≤◌, length, IfOk, IfErr};
 ghost use Rattle.sc_report.specs.Report.{meaning_text};
-ghost use Rattle.sc_types.specs.Acceptance.{Accepts};
-ghost use Rattle.sc_words.specs.declared.command.Command.TheVariants.{Check, Meaning, Compile, Run, Explain};
-ghost use Rattle.sc_top.specs.Failure.{IsOutputCause};
-ghost use Rattle.sc_top.specs.Output.{meant, IsOutput};
-ghost use Rattle.sc_top.specs.Texts.{IsThinText, IsReading, IsThinReading};
 
 use crate::failure::Failure;
 use crate::laws::thin_texts_are_accepted;

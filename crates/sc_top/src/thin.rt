@@ -1,8 +1,6 @@
+ghost use Rattle.sc_top.specs.Prelude.{EndsNumber, IsBody, IsNumber, IsStatement, IsThin, ThinProgram, head};
 ghost use Rattle.std.specs.Prelude.{◌≡◌, ◌<◌, ◌≤◌, ◌++◌, ℕ, List, true, Ok, length, IsNone, IfOk, IsOkAnd, IfSome, decimal};
 ghost use Rattle.std.specs.Str.{all_ascii_digits};
-ghost use Rattle.sc_core.specs.declared.thin.ThinProgram.{ThinProgram};
-ghost use Rattle.sc_top.specs.Statement.{IsStatement, IsNumber, EndsNumber};
-ghost use Rattle.sc_top.specs.Thin.{IsThin, IsBody, head};
 
 use sc_base::{OutOfMemory, Words};
 use sc_core::ThinProgram;

@@ -1,13 +1,9 @@
+ghost use Rattle.sc_top.specs.Prelude.{Answers, Command, IsOutput, IsOutputCause, IsSilent, Says, Tells, status_by, status_text};
 ghost use Rattle.std.specs.Prelude.{◌≡◌, ◌≢◌, ◌⊎◌, None, Some, map, IfOk, IfErr, IsErrOf};
 ghost use Rattle.std.specs.String.{string_bytes};
-ghost use Rattle.sc_words.specs.declared.command.Command.{Command};
 ghost use Rattle.sc_words.specs.Words.{command};
 ghost use Rattle.sc_top.specs.declared.failure.Failure.{Failure};
 ghost use Rattle.sc_top.specs.declared.status.Status.{Status};
-ghost use Rattle.sc_top.specs.Answer.{Answers, IsSilent, Says, Tells};
-ghost use Rattle.sc_top.specs.Failure.{status_by, IsOutputCause};
-ghost use Rattle.sc_top.specs.Output.{IsOutput};
-ghost use Rattle.sc_top.specs.Status.{status_text};
 
 use crate::Status;
 use crate::exec::execute;

@@ -1,12 +1,6 @@
 -- Tests that hold, lists that are empty, and the places of names.
-use Rattle.std.proofs.Common.{◌≡◌, refl, ap, ◌∙◌, ℕ, suc, ◌+◌, Bool, true, false, not, ◌&&◌, ◌||◌, if◌then◌else◌, List, [], ◌∷◌, ◌++◌, map, Option, None, Some, arith}
-use Rattle.std.specs.Prelude.{position, cond}
-use Rattle.std.specs.List.{concat, list_all, position_from}
-use Rattle.std.specs.Option.{option_map}
-use Rattle.std.proofs.lemmas.Bool.{false≢true, and_from}
+use Rattle.sc_types.proofs.Common.{Bool, List, None, Option, Some, [], and_first, and_from, and_rest, ap, arith, concat, cond, false, false≢true, if◌then◌else◌, list_all, map, not, option_map, position, position_from, refl, suc, true, unless, ℕ, ◌&&◌, ◌++◌, ◌+◌, ◌||◌, ◌∙◌, ◌∷◌, ◌≡◌}
 use Rattle.std.proofs.lemmas.Iterator.Adapters.{position_from-zero}
-use Rattle.sc_scope.specs.Broken.{unless}
-use Rattle.sc_base.proofs.Bools.{and_first, and_rest}
 
 pub not_true : (a : Bool) → not a ≡ true → a ≡ false
 not_true false h = refl

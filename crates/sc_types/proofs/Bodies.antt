@@ -1,37 +1,15 @@
 -- Statements that break no rule of names and of types are well typed.
-use Rattle.std.proofs.Common.{◌≡◌, refl, sym, ap, ◌∙◌, ℕ, Bool, true, ◌&&◌, List, [], ◌∷◌, ◌++◌, map, Option, None, Some}
-use Rattle.std.specs.List.{concat, list_all}
-use Rattle.std.specs.Option.{option_map}
-use Rattle.sc_ast.specs.declared.expr.ExprTree.{ExprTree}
-use Rattle.sc_ast.specs.declared.expr.CallTree.{CallTree}
-use Rattle.sc_ast.specs.declared.stmt.SimpleKind.{SimpleKind}
+use Rattle.sc_types.proofs.Common.{Bool, CallTree, Callable, Callees, ExprTree, Inside, Judged, Known, List, None, Option, Scope, SimpleKind, SimpleTree, Some, StmtKind, StmtKind-F, StmtTree, Ty, TypedExpr, TypedKind-F, TypedStmt, TypedStmtKind, TypedStmtKind-F, Visible, [], and_first, and_from, and_rest, ap, args_fit, assign_call_fits, assign_call_holds, call_fits, call_holds, call_known, concat, cond_holds, expr_at, expr_known, going_to_some, is_callable, is_target, judged, kind_fits, kind_lines, kind_step, layer_of, list_all, map, on_line, option_map, part_fits, part_lines, refl, result_goes, return_call_holds, returned_call_fits, roll-TypedStmtKind, simple_fits, simple_holds, simple_known, stmt_at, stmt_fits, stmt_induction, stmt_lines, stmt_step, sym, target_signature, term_judged, true, typed_args, typed_call, typed_simple, typed_simple_kind, typed_stmt, typed_value, unless, ℕ, ◌&&◌, ◌++◌, ◌∙◌, ◌∷◌, ◌≡◌}
 use Rattle.sc_ast.specs.declared.stmt.SimpleKind.TheVariants as simple
-use Rattle.sc_ast.specs.declared.stmt.SimpleTree.{SimpleTree}
-use Rattle.sc_ast.specs.declared.stmt.StmtTree.{StmtTree}
-use Rattle.sc_ast.specs.declared.stmt.StmtKind.{StmtKind, StmtKind-F}
 use Rattle.sc_ast.specs.declared.stmt.StmtKind.TheOpen as tree
-use Rattle.sc_ast.proofs.Induction.{Inside, stmt_induction}
 use Rattle.sc_ast.proofs.Induction as tree_induction
 use Rattle.sc_ast.proofs.Layers as tree_layers
-use Rattle.sc_core.specs.declared.ty.Ty.{Ty}
-use Rattle.sc_core.specs.declared.expr.TypedExpr.{TypedExpr}
-use Rattle.sc_core.specs.declared.expr.TypedKind.{TypedKind-F}
 use Rattle.sc_core.specs.declared.expr.TypedKind.TheOpen as term
-use Rattle.sc_core.specs.declared.stmt.TypedStmt.{TypedStmt}
-use Rattle.sc_core.specs.declared.stmt.TypedStmtKind.{TypedStmtKind, TypedStmtKind-F, roll-TypedStmtKind}
 use Rattle.sc_core.specs.declared.stmt.TypedStmtKind.TheOpen as layer
-use Rattle.sc_core.specs.Typing.{Scope, Judged, Callable, judged, term_judged, args_fit, is_target, result_goes, target_signature, call_fits, assign_call_fits, returned_call_fits, simple_fits, part_fits, kind_fits, stmt_fits}
-use Rattle.sc_core.proofs.Layers.{on_line, expr_at, layer_of, stmt_at}
 use Rattle.sc_core.proofs.Induction.{expr_induction}
-use Rattle.sc_scope.specs.Broken.{unless}
 use Rattle.sc_scope.specs.Names as names
-use Rattle.sc_scope.specs.Names.{Known, is_callable, call_known, expr_known, simple_known}
-use Rattle.sc_elab.specs.Scopes.{Visible}
 use Rattle.sc_elab.specs.Expressions as elab
-use Rattle.sc_elab.specs.Statements.{Callees, typed_args, typed_call, typed_value, going_to_some, typed_simple, typed_simple_kind, kind_step, stmt_step, typed_stmt, call_holds, assign_call_holds, cond_holds, return_call_holds, simple_holds, part_lines, kind_lines, stmt_lines}
 use Rattle.sc_types.proofs.Basics.{rule_holds, front_empty, back_empty}
-use Rattle.std.proofs.lemmas.Bool.{and_from}
-use Rattle.sc_base.proofs.Bools.{and_first, and_rest}
 
 -- the type of a judged expression is its own
 pub judged_ty : (scope : Scope) (e : TypedExpr) → (judged scope e).ty ≡ e.ty

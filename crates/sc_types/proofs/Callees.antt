@@ -1,36 +1,13 @@
 -- In a text that breaks no rule of interfaces, a call by its name is typed as the call of its target.
-use Rattle.std.proofs.Common.{◌≡◌, refl, sym, ap, ◌∙◌, ℕ, Bool, true, false, not, ◌&&◌, ◌||◌, ◌==◌, if◌then◌else◌, List, [], ◌∷◌, ◌++◌, map, None, Some, is_some, subst}
-use Rattle.std.specs.Prelude.{slice_get, bytes_eq}
-use Rattle.std.specs.List.{list_any}
-use Rattle.std.specs.Option.{option_map}
-use Rattle.std.proofs.lemmas.Bool.{false≢true}
-use Rattle.sc_base.specs.Numbering.{is_numbered}
-use Rattle.sc_event.specs.Lookup.{export_at}
+use Rattle.sc_types.proofs.Common.{Bool, Callable, Callees, Decl, ExportLine, FunctionTree, HeadTree, ImportLine, List, None, SectionTree, Some, [], agree, agrees_as, agrees_there, agrees_with, allowed, and_first, and_rest, ap, bytes_eq, callable_in, callees_of, declared, export_at, false, false≢true, function_names, functions_in, head_crosses, head_named, head_of, heads_in, if◌then◌else◌, import_named, import_names, import_of, import_target, imported_target, input_name, interface_of, interfaces_of, is_callable, is_environment, is_input, is_numbered, is_offered, is_output, is_some, known_in, list_any, map, not, number_or_zero, offered, offering, option_map, option_signature, or_first, output_name, promised, proto_names, proto_signature, refl, same_import, same_text, signature_by, slice_get, subst, sym, tags, target_or, target_signature, true, typed_section, ℕ, ◌&&◌, ◌++◌, ◌==◌, ◌||◌, ◌∙◌, ◌∷◌, ◌≡◌}
 use Rattle.sc_event.specs.declared.interface.Import.{Import}
 use Rattle.sc_event.specs.declared.interface.Import.TheVariants as import
-use Rattle.sc_ast.specs.declared.section.HeadTree.{HeadTree}
-use Rattle.sc_ast.specs.declared.section.FunctionTree.{FunctionTree}
-use Rattle.sc_ast.specs.declared.section.ExportLine.{ExportLine}
-use Rattle.sc_ast.specs.declared.section.ImportLine.{ImportLine}
-use Rattle.sc_ast.specs.declared.section.Decl.{Decl}
-use Rattle.sc_ast.specs.declared.section.SectionTree.{SectionTree}
-use Rattle.sc_ast.specs.Heads.{head_of}
 use Rattle.sc_core.specs.declared.ty.Ty.TheVariants as ty
-use Rattle.sc_core.specs.Typing.{Callable, proto_signature, same_import, allowed, option_signature, target_signature}
-use Rattle.sc_core.specs.WellTyped.{callable_in}
-use Rattle.sc_scope.specs.Declarations.{functions_in, function_names, proto_names, heads_in, import_names}
-use Rattle.sc_scope.specs.Interfaces.{number_or_zero, is_environment, offering, offered, import_of, promised, interface_of, interfaces_of}
-use Rattle.sc_interfaces.specs.Faces.{agree, agrees_with, head_crosses, is_input, is_output, input_name, output_name, is_offered, agrees_there, agrees_as}
-use Rattle.sc_scope.specs.Names.{is_callable, declared, known_in}
-use Rattle.sc_elab.specs.Statements.{Callees}
-use Rattle.sc_elab.specs.Sections.{tags, signature_by, head_named, or_first, import_target, import_named, imported_target, target_or, callees_of, typed_section}
 use Rattle.sc_types.proofs.Basics.{each_passes}
 use Rattle.sc_types.proofs.Places.{Text, same_refl, eq_refl}
 use Rattle.sc_types.proofs.Lookups.{each_at, FoundFunction, find_function, no_function, no_place, heads_of_functions, FoundHead, find_head}
 use Rattle.sc_types.proofs.Facts.{ExportFacts, ImportFacts, DeclFacts, FaceFacts}
 use Rattle.sc_types.proofs.Calls.{agreed_signature, input_signature, output_signature, FoundBy, found_by, get_map, any_at, own_at, FoundImport, find_import, Offering, find_offering, export_is}
-use Rattle.sc_base.proofs.Texts.{same_text}
-use Rattle.sc_base.proofs.Bools.{and_first, and_rest}
 
 same_import_refl : (i : Import) → same_import i i ≡ true
 same_import_refl import.Input = refl

@@ -1,36 +1,11 @@
 -- A call by its name in a section is the call of its target in the program.
-use Rattle.std.proofs.Common.{◌≡◌, refl, sym, ap, ◌∙◌, ℕ, zero, suc, ◌+◌, Bool, true, false, not, ◌||◌, if◌then◌else◌, List, [], ◌∷◌, ◌++◌, map, length, Option, None, Some, is_some, arith, append_assoc}
-use Rattle.std.specs.Prelude.{slice_get, bytes_eq, nat_eq}
-use Rattle.std.specs.List.{list_any, list_all}
-use Rattle.std.specs.Option.{option_map, option_and_then}
-use Rattle.std.proofs.lemmas.Bool.{false≢true}
-use Rattle.std.proofs.lemmas.Bool.Decides.{Decides-eqb}
-use Rattle.sc_base.specs.Numbering.{is_numbered, number_of}
-use Rattle.sc_event.specs.Lookup.{comp_at, export_at}
-use Rattle.sc_ast.specs.declared.types.BaseTree.{BaseTree}
+use Rattle.sc_types.proofs.Common.{BaseTree, Bool, Callees, Decides-eqb, ExportLine, FunctionParam, FunctionTree, HeadTree, ImportLine, List, None, Option, ParamTree, SectionTree, Some, TypeName, TypedParam, [], agree, and_first, and_rest, ap, append_assoc, arith, base_of, base_scalar, bytes_eq, comp_at, crosses, export_at, false, false≢true, functions_in, get_behind, gives_int, head_crosses, head_of, if◌then◌else◌, import_named, interface_of, interfaces_from, interfaces_of, is_input, is_int, is_numbered, is_output, is_some, length, list_all, list_any, map, nat_eq, not, number_of, offering, offers, option_and_then, option_map, param_of, param_ty, promised, proto_of, proto_signature, refl, result_crosses, result_of, result_ty, same_params, same_result, same_type, scalar_of, scalar_ty, signature_by, signature_of, slice_get, starred, suc, sym, tags, takes_int, takes_nothing, true, type_of_name, typed_function, typed_param, zero, ℕ, ◌++◌, ◌+◌, ◌||◌, ◌∙◌, ◌∷◌, ◌≡◌}
+use Rattle.sc_interfaces.specs.Prelude.{same_base}
 use Rattle.sc_ast.specs.declared.types.BaseTree.TheVariants as base_tree
-use Rattle.sc_ast.specs.declared.types.TypeName.{TypeName}
-use Rattle.sc_ast.specs.declared.section.ParamTree.{ParamTree}
-use Rattle.sc_ast.specs.declared.section.FunctionParam.{FunctionParam}
-use Rattle.sc_ast.specs.declared.section.HeadTree.{HeadTree}
-use Rattle.sc_ast.specs.declared.section.FunctionTree.{FunctionTree}
-use Rattle.sc_ast.specs.declared.section.ExportLine.{ExportLine}
-use Rattle.sc_ast.specs.declared.section.ImportLine.{ImportLine}
-use Rattle.sc_ast.specs.declared.section.SectionTree.{SectionTree}
-use Rattle.sc_ast.specs.Heads.{head_of, param_of}
 use Rattle.sc_core.specs.declared.ty.Ty.TheVariants as ty
-use Rattle.sc_core.specs.declared.section.TypedParam.{TypedParam}
-use Rattle.sc_core.specs.Typing.{starred, scalar_ty, result_ty, signature_of, proto_signature}
-use Rattle.sc_scope.specs.Declarations.{functions_in}
-use Rattle.sc_scope.specs.Interfaces.{offers, offering, base_scalar, scalar_of, promised, proto_of, interface_of, interfaces_from, interfaces_of}
-use Rattle.sc_interfaces.specs.Faces.{same_base, same_type, same_result, same_params, agree, crosses, result_crosses, head_crosses, is_int, gives_int, takes_nothing, takes_int, is_input, is_output}
-use Rattle.sc_elab.specs.Statements.{Callees}
-use Rattle.sc_elab.specs.Sections.{tags, base_of, type_of_name, param_ty, signature_by, import_named, typed_param, typed_function, result_of}
 use Rattle.sc_types.proofs.Basics.{Each, some_is, none_some, find}
 use Rattle.sc_types.proofs.Places.{Text, number_is}
 use Rattle.sc_types.proofs.Lookups.{same_sym, FoundFunction}
-use Rattle.sc_base.proofs.Lists.{get_behind}
-use Rattle.sc_base.proofs.Bools.{and_first, and_rest}
 
 -- Types that cross.
 

@@ -1,24 +1,12 @@
 -- Known values of the definitions, in small sections.
-use Rattle.std.proofs.Common.{◌≡◌, ℕ, codes, List, [], ◌∷◌, map, replicate, Option, Some, None, refl, rules, arith}
+use Rattle.sc_types.proofs.Common.{Decl, FunctionTree, List, None, Option, ParamTree, Proto, SectionTree, Some, Struct, Text, TypeName, TypeTree, [], arith, codes, concat, function_nodes, head_lines, heads_in, map, refl, replicate, rules, structs, structs_from, structs_in, typed_structs, ℕ, ◌∷◌, ◌≡◌}
 use Rattle.sc_ast.specs.declared.types.BaseTree.TheVariants as base
-use Rattle.sc_ast.specs.declared.types.TypeTree.{TypeTree}
-use Rattle.sc_ast.specs.declared.types.TypeName.{TypeName}
 use Rattle.sc_base.specs.declared.op.BinaryOp.TheVariants as binary
 use Rattle.sc_ast.specs.declared.expr.ExprTree as terms
 use Rattle.sc_ast.specs.declared.expr.ExprTree.TheVariants as term
 use Rattle.sc_ast.specs.declared.stmt.StmtTree as stmts
 use Rattle.sc_ast.specs.declared.stmt.StmtKind as kinds
 use Rattle.sc_ast.specs.declared.stmt.StmtKind.TheVariants as stmt
-use Rattle.sc_ast.specs.declared.section.Decl.{Decl}
-use Rattle.sc_ast.specs.declared.section.Decl.TheVariants.{Struct, Proto}
-use Rattle.sc_ast.specs.declared.section.FunctionTree.{FunctionTree}
-use Rattle.sc_ast.specs.declared.section.ParamTree.{ParamTree}
-use Rattle.sc_ast.specs.declared.section.SectionTree.{SectionTree}
-use Rattle.sc_scope.specs.Declarations.{Text, heads_in, structs_in}
-use Rattle.std.specs.List.{concat}
-use Rattle.sc_elab.specs.Sections.{structs, typed_structs}
-use Rattle.sc_types.specs.Counts.{head_lines, structs_from}
-use Rattle.sc_types.specs.TreeNodes.{function_nodes}
 
 abbrev y : Text
 y = codes "y"

@@ -1,22 +1,8 @@
 -- What sections keep that break no rule of interfaces.
-use Rattle.std.proofs.Common.{◌≡◌, refl, sym, ap, ◌∙◌, ℕ, Bool, true, false, not, ◌&&◌, ◌||◌, List, [], ◌∷◌, ◌++◌, map}
-use Rattle.std.specs.Prelude.{bytes_eq}
-use Rattle.std.proofs.lemmas.Bool.{false≢true, and_from}
-use Rattle.sc_base.specs.Numbering.{is_numbered}
-use Rattle.sc_ast.specs.declared.section.Decl.{Decl}
-use Rattle.sc_ast.specs.declared.section.Decl.TheVariants.{Struct, Global, Proto, Function}
-use Rattle.sc_ast.specs.declared.section.ExportLine.{ExportLine}
-use Rattle.sc_ast.specs.declared.section.ImportLine.{ImportLine}
-use Rattle.sc_ast.specs.declared.section.SectionTree.{SectionTree}
-use Rattle.sc_ast.specs.Heads.{head_of}
-use Rattle.sc_scope.specs.Declarations.{among, are_distinct, function_names, proto_names, export_names, import_names}
-use Rattle.sc_scope.specs.Interfaces.{main_name}
-use Rattle.sc_scope.specs.Broken.{unless}
-use Rattle.sc_interfaces.specs.Faces.{is_plain, export_holds, exports_from, is_offered, import_holds, imports_from, head_holds, head_fits, imported_agrees, main_holds, agrees_with, decls_from, name_holds, section_lines}
+use Rattle.sc_types.proofs.Common.{Bool, Decl, ExportLine, Function, Global, ImportLine, List, Proto, SectionTree, Struct, [], agrees_with, among, and_first, and_from, and_rest, ap, bytes_eq, decls_from, export_holds, export_names, exports_from, false, false≢true, function_names, head_fits, head_holds, head_of, import_holds, import_names, imported_agrees, imports_from, is_numbered, is_offered, is_plain, main_holds, main_name, map, name_holds, not, proto_names, refl, same_text, section_lines, sym, true, unless, ℕ, ◌&&◌, ◌++◌, ◌||◌, ◌∙◌, ◌∷◌, ◌≡◌}
+use Rattle.sc_scope.specs.Prelude.{are_distinct}
 use Rattle.sc_types.proofs.Basics.{not_true, rule_holds, front_empty, back_empty, Each}
 use Rattle.sc_types.proofs.Places.{Text, same_refl, numbered_front}
-use Rattle.sc_base.proofs.Texts.{same_text}
-use Rattle.sc_base.proofs.Bools.{and_first, and_rest}
 
 -- Names that are new one after another are distinct.
 

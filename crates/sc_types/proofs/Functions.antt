@@ -1,61 +1,24 @@
 -- Functions, globals and structs of a section that breaks no rule are well typed.
-use Rattle.std.proofs.Common.{◌≡◌, refl, sym, ap, ◌∙◌, ℕ, zero, suc, ◌+◌, ◌-◌, ◌%◌, ◌<◌, max, Bool, true, false, not, ◌&&◌, ◌==◌, if◌then◌else◌, List, [], ◌∷◌, ◌++◌, map, length, Option, None, Some, arith, subst, append_assoc}
-use Rattle.std.specs.Prelude.{◌^◌, slice_get, nat_le, nat_eq}
-use Rattle.std.specs.List.{concat, list_all}
-use Rattle.std.specs.Option.{option_map}
+use Rattle.sc_types.proofs.Common.{BaseTree, BaseTy, Bool, Callable, Callees, Decl, ExprTree, Function, FunctionParam, FunctionTree, Global, GlobalTree, List, LocalTree, MemberTree, None, Option, ParamTree, Proto, SectionTree, Some, StmtTree, Struct, StructTree, Ty, TypeName, TypeTree, TypedParam, TypedStmt, [], and_first, and_from, and_rest, ap, append-nil, append_assoc, arith, base_known, base_of, body_fits, concat, decl_lines, false, false≢true, filter_map-append, function_fits, function_names, functions_in, global_fits, global_names, globals_in, head_known, head_of, heads_in, if◌then◌else◌, import_names, init_height, init_holds, init_words, is_array, is_callable, is_null, is_numbered, is_sized, is_small, known_in, length, list_all, local_fits, local_holds, locals_from, map, map-append, map_twice, max, member_known, most_cells, most_height, most_params, nat_eq, nat_le, not, option_map, param_names, param_of, passed_fits, proto_names, refl, result_fits, result_known, result_of, scope_in, scope_of, slice_get, starred, stmt_height, stmt_lines, struct_cells, struct_in, struct_lines, struct_names, structs, structs_from, structs_in, subst, suc, sym, tags, target_signature, true, type_in, type_of, type_of_name, type_within, typed_function, typed_global, typed_init, typed_local, typed_locals, typed_param, typed_section, typed_stmt, unless, variable_fits, visible_in, visible_of, word_of_const, words_fit, zero, ℕ, ◌%◌, ◌&&◌, ◌++◌, ◌+◌, ◌-◌, ◌<◌, ◌==◌, ◌^◌, ◌∙◌, ◌∷◌, ◌≡◌}
+use Rattle.sc_scope.specs.Prelude.{are_distinct}
+use Rattle.sc_elab.specs.Prelude.{function_lines}
 use Rattle.std.proofs.Math.Nat.{le-max_left, le-max_right}
-use Rattle.std.proofs.lemmas.List.{append-nil, map-append}
-use Rattle.std.proofs.lemmas.List.Elements.{filter_map-append}
-use Rattle.std.proofs.lemmas.Bool.{false≢true, and_from}
-use Rattle.sc_base.specs.Numbering.{is_numbered}
-use Rattle.sc_ast.specs.declared.expr.ExprTree.{ExprTree}
-use Rattle.sc_ast.specs.declared.types.BaseTree.{BaseTree}
 use Rattle.sc_ast.specs.declared.types.BaseTree.TheVariants as base_tree
-use Rattle.sc_ast.specs.declared.types.TypeTree.{TypeTree}
-use Rattle.sc_ast.specs.declared.types.TypeName.{TypeName}
-use Rattle.sc_ast.specs.declared.stmt.StmtTree.{StmtTree}
-use Rattle.sc_ast.specs.declared.section.MemberTree.{MemberTree}
-use Rattle.sc_ast.specs.declared.section.StructTree.{StructTree}
 use Rattle.sc_ast.specs.declared.section.ConstTree.{ConstTree}
 use Rattle.sc_ast.specs.declared.section.InitTree.{InitTree}
 use Rattle.sc_ast.specs.declared.section.InitTree.TheVariants.{Absent, One, Many}
-use Rattle.sc_ast.specs.declared.section.GlobalTree.{GlobalTree}
-use Rattle.sc_ast.specs.declared.section.ParamTree.{ParamTree}
-use Rattle.sc_ast.specs.declared.section.FunctionParam.{FunctionParam}
-use Rattle.sc_ast.specs.declared.section.LocalTree.{LocalTree}
-use Rattle.sc_ast.specs.declared.section.FunctionTree.{FunctionTree}
-use Rattle.sc_ast.specs.declared.section.Decl.{Decl}
-use Rattle.sc_ast.specs.declared.section.Decl.TheVariants.{Struct, Global, Proto, Function}
-use Rattle.sc_ast.specs.declared.section.SectionTree.{SectionTree}
-use Rattle.sc_ast.specs.Heads.{head_of, param_of}
 use Rattle.sc_ast.specs.Height as surface
-use Rattle.sc_core.specs.declared.ty.Ty.{Ty}
 use Rattle.sc_core.specs.declared.ty.Ty.TheVariants as ty
-use Rattle.sc_core.specs.declared.ty.BaseTy.{BaseTy}
 use Rattle.sc_core.specs.declared.ty.BaseTy.TheVariants as base
-use Rattle.sc_core.specs.declared.stmt.TypedStmt.{TypedStmt}
 use Rattle.sc_core.specs.declared.section.TypedGlobal.{TypedGlobal}
-use Rattle.sc_core.specs.declared.section.TypedParam.{TypedParam}
 use Rattle.sc_core.specs.declared.section.TypedLocal.{TypedLocal}
-use Rattle.sc_core.specs.Types.{is_array, struct_cells}
-use Rattle.sc_core.specs.Height.{stmt_height}
-use Rattle.sc_core.specs.Typing.{Callable, starred, body_fits, target_signature}
-use Rattle.sc_core.specs.WellTyped.{type_within, variable_fits, words_fit, global_fits, passed_fits, result_fits, init_height, local_fits, function_fits, scope_of, most_params, most_cells, most_height}
-use Rattle.sc_scope.specs.Broken.{unless}
-use Rattle.sc_scope.specs.Declarations.{structs_in, globals_in, functions_in, heads_in, struct_names, struct_in, global_names, proto_names, function_names, import_names, are_distinct}
 use Rattle.sc_scope.specs.Names as names
-use Rattle.sc_scope.specs.Names.{base_known, is_callable, known_in, head_known, result_known, member_known, param_names}
-use Rattle.sc_elab.specs.Statements.{Callees, typed_stmt, stmt_lines}
-use Rattle.sc_elab.specs.Sections.{is_sized, base_of, type_of_name, type_of, is_null, word_of_const, init_words, init_holds, typed_global, typed_param, tags, structs, visible_of, visible_in, scope_in, typed_init, typed_local, typed_locals, result_of, typed_function, typed_section, local_holds, locals_from, function_lines, struct_lines, decl_lines}
 use Rattle.sc_types.specs.Counts as counts
-use Rattle.sc_types.specs.Counts.{is_small, type_in, structs_from}
 use Rattle.sc_types.proofs.Basics.{not_true, rule_holds, front_empty, back_empty}
 use Rattle.sc_types.proofs.Places.{Text, is_at_most, at_most, numbered_front}
 use Rattle.sc_types.proofs.Structs.{Known, AllKnown, AllSmall, structs_length, type_is_within, name_is_within, is_less}
 use Rattle.sc_types.proofs.Bodies.{fits}
 use Rattle.sc_types.proofs.Heights as heights
-use Rattle.sc_base.proofs.Lists.{map_twice}
-use Rattle.sc_base.proofs.Bools.{and_first, and_rest}
 
 pub map_length : {A B : Type 0} (f : A → B) (xs : List A) → length (map f xs) ≡ length xs
 map_length f [] = refl

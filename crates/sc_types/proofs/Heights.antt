@@ -1,35 +1,15 @@
 -- Typed trees are as high as the trees that they come from.
-use Rattle.std.proofs.Common.{◌≡◌, refl, sym, ap, ◌∙◌, ℕ, suc, ◌+◌, max, Bool, true, false, ◌&&◌, if◌then◌else◌, List, [], ◌∷◌, map, Option, None, Some, arith}
-use Rattle.std.specs.Option.{option_map}
-use Rattle.sc_ast.specs.declared.expr.ExprTree.{ExprTree, ExprTree-F, map-ExprTree}
+use Rattle.sc_types.proofs.Common.{BinaryOp, Bool, CallTree, Callees, ExprTree, ExprTree-F, Found, Inside, List, None, Option, SimpleKind, SimpleTree, Some, StmtKind, StmtKind-F, StmtTree, Ty, TypedExpr, TypedKind, TypedKind-F, TypedStmt, TypedStmtKind, TypedStmtKind-F, Under, Visible, [], ap, arith, beside, call_height, expr_at, expr_height, expr_induction, false, fold-roll-TypedExpr, found, going_to, going_to_all, going_to_some, highest, if◌then◌else◌, is_pointer, is_zero, kind_height, kind_step, layer_of, map, map-ExprTree, max, on_line, option_map, params_of, part_height, refl, roll-TypedKind, roll-TypedStmtKind, simple_height, stmt_at, stmt_height, stmt_induction, stmt_step, suc, sym, term_height, term_of, true, typed, typed_call, typed_simple, typed_simple_kind, typed_stmt, typed_value, variable_typed, ℕ, ◌&&◌, ◌+◌, ◌∙◌, ◌∷◌, ◌≡◌}
 use Rattle.sc_ast.specs.declared.expr.ExprTree.TheOpen as tree_term
-use Rattle.sc_base.specs.declared.op.BinaryOp.{BinaryOp}
 use Rattle.sc_base.specs.declared.op.BinaryOp.TheVariants as tree_op
-use Rattle.sc_ast.specs.declared.expr.CallTree.{CallTree}
-use Rattle.sc_ast.specs.declared.stmt.SimpleKind.{SimpleKind}
 use Rattle.sc_ast.specs.declared.stmt.SimpleKind.TheVariants as simple
-use Rattle.sc_ast.specs.declared.stmt.SimpleTree.{SimpleTree}
-use Rattle.sc_ast.specs.declared.stmt.StmtTree.{StmtTree}
-use Rattle.sc_ast.specs.declared.stmt.StmtKind.{StmtKind, StmtKind-F}
 use Rattle.sc_ast.specs.declared.stmt.StmtKind.TheOpen as tree
 use Rattle.sc_ast.specs.Height as surface
 use Rattle.sc_ast.proofs.Induction as tree_induction
-use Rattle.sc_ast.proofs.Induction.{Under, Inside, expr_induction, stmt_induction}
 use Rattle.sc_ast.proofs.Layers as tree_layers
-use Rattle.sc_core.specs.declared.ty.Ty.{Ty}
-use Rattle.sc_core.specs.declared.expr.TypedExpr.{TypedExpr, fold-roll-TypedExpr}
-use Rattle.sc_core.specs.declared.expr.TypedKind.{TypedKind, TypedKind-F, roll-TypedKind}
 use Rattle.sc_core.specs.declared.expr.TypedKind.TheOpen as term
-use Rattle.sc_core.specs.declared.stmt.TypedStmt.{TypedStmt}
-use Rattle.sc_core.specs.declared.stmt.TypedStmtKind.{TypedStmtKind, TypedStmtKind-F, roll-TypedStmtKind}
 use Rattle.sc_core.specs.declared.stmt.TypedStmtKind.TheOpen as layer
-use Rattle.sc_core.specs.Height.{highest, term_height, expr_height, call_height, simple_height, part_height, kind_height, stmt_height}
-use Rattle.sc_core.specs.Types.{is_pointer}
-use Rattle.sc_core.proofs.Layers.{typed, term_of, expr_at, on_line, layer_of, stmt_at}
-use Rattle.sc_elab.specs.Scopes.{Visible, found, Found}
 use Rattle.sc_elab.specs.Expressions as elab
-use Rattle.sc_elab.specs.Expressions.{going_to, beside, is_zero, variable_typed}
-use Rattle.sc_elab.specs.Statements.{Callees, going_to_some, going_to_all, params_of, typed_call, typed_value, typed_simple, typed_simple_kind, kind_step, stmt_step, typed_stmt}
 
 one_more : (n : ℕ) → suc n ≡ n + 1
 one_more n = omega arith

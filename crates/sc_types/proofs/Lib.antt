@@ -1,3 +1,4 @@
+pub mod Common
 mod Basics
 mod Bodies
 mod Callees

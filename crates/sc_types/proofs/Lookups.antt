@@ -1,23 +1,7 @@
 -- What is found by a name among a section's declarations.
-use Rattle.std.proofs.Common.{◌≡◌, refl, sym, ap, ◌∙◌, ℕ, zero, suc, Bool, true, false, ◌||◌, if◌then◌else◌, List, [], ◌∷◌, map, None, Some, subst}
-use Rattle.std.specs.Prelude.{slice_get, bytes_eq}
-use Rattle.std.specs.List.{list_any, list_all}
-use Rattle.std.specs.Option.{option_map}
-use Rattle.std.proofs.lemmas.Bool.{false≢true}
-use Rattle.std.proofs.lemmas.Slice.Eq.{bytes_eq-Decides}
-use Rattle.sc_base.specs.Numbering.{is_numbered, number_of}
-use Rattle.sc_ast.specs.declared.section.Decl.{Decl}
-use Rattle.sc_ast.specs.declared.section.Decl.TheVariants.{Struct, Global, Proto, Function}
-use Rattle.sc_ast.specs.declared.section.HeadTree.{HeadTree}
-use Rattle.sc_ast.specs.declared.section.FunctionTree.{FunctionTree}
-use Rattle.sc_ast.specs.Heads.{head_of}
-use Rattle.sc_scope.specs.Declarations.{heads_in, functions_in, function_names, proto_names}
-use Rattle.sc_scope.specs.Interfaces.{function_named}
-use Rattle.sc_elab.specs.Sections.{head_named}
+use Rattle.sc_types.proofs.Common.{Bool, Decl, Function, FunctionTree, Global, HeadTree, List, None, Proto, Some, Struct, [], and_first, and_rest, ap, bytes_eq, bytes_eq-Decides, false, false≢true, function_named, function_names, functions_in, head_named, head_of, heads_in, if◌then◌else◌, is_numbered, list_all, list_any, map, number_of, option_map, proto_names, refl, same_text, slice_get, subst, suc, sym, true, zero, ℕ, ◌||◌, ◌∙◌, ◌∷◌, ◌≡◌}
 use Rattle.sc_types.proofs.Basics.{Each, some_is, none_some, find}
 use Rattle.sc_types.proofs.Places.{Text, number_is}
-use Rattle.sc_base.proofs.Texts.{same_text}
-use Rattle.sc_base.proofs.Bools.{and_first, and_rest}
 
 pub each_at : {A : Type 0} (P : A → Type 0) (xs : List A) (i : ℕ) (x : A) → Each P xs → slice_get xs i ≡ Some x → P x
 each_at P [] i x h got = none_some x got

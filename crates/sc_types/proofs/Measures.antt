@@ -1,11 +1,5 @@
 -- Structs among declarations, and numbers of cells that stop.
-use Rattle.std.proofs.Common.{◌≡◌, ℕ, [], ◌∷◌, nat_le, refl, arith}
-use Rattle.std.proofs.lemmas.Bool.Decides.{nat_tests}
-use Rattle.sc_ast.specs.declared.section.Decl.{Decl}
-use Rattle.sc_ast.specs.declared.section.Decl.TheVariants.{Struct}
-use Rattle.sc_ast.specs.declared.section.StructTree.{StructTree}
-use Rattle.sc_ast.specs.Height.{limited}
-use Rattle.sc_scope.specs.Declarations.{structs_in}
+use Rattle.sc_types.proofs.Common.{Decl, Struct, StructTree, [], arith, limited, nat_le, nat_tests, refl, structs_in, ℕ, ◌∷◌, ◌≡◌}
 
 -- what is no struct adds none
 pub no-struct : (decl : Decl) → ((tree : StructTree) → decl ≡ Struct tree → ⊥) → structs_in (decl ∷ []) ≡ []

@@ -1,26 +1,8 @@
 -- The loops over declarations, locals and sections, one step further.
-use Rattle.std.proofs.Common.{◌≡◌, ℕ, suc, ◌+◌, ◌<◌, ◌≤◌, Bool, List, [], ◌∷◌, ◌++◌, length, get_or, drop, map, slice_get, Option, Some, None, refl, ap, sym, ◌∙◌, arith, append_assoc}
-use Rattle.std.specs.List.{concat, filter_map, list_all}
-use Rattle.std.proofs.lemmas.List.{drop_all, map-append}
-use Rattle.std.proofs.lemmas.List.Elements.{filter_map-append}
-use Rattle.sc_ast.specs.declared.section.Decl.{Decl}
-use Rattle.sc_ast.specs.declared.section.Decl.TheVariants.{Struct, Global, Proto, Function}
-use Rattle.sc_ast.specs.declared.section.FunctionParam.{FunctionParam}
-use Rattle.sc_ast.specs.declared.section.FunctionTree.{FunctionTree}
-use Rattle.sc_ast.specs.declared.section.GlobalTree.{GlobalTree}
-use Rattle.sc_ast.specs.declared.section.HeadTree.{HeadTree}
-use Rattle.sc_ast.specs.declared.section.LocalTree.{LocalTree}
-use Rattle.sc_ast.specs.declared.section.SectionTree.{SectionTree}
-use Rattle.sc_ast.specs.declared.section.StructTree.{StructTree}
+use Rattle.sc_types.proofs.Common.{Bool, BrokenLines, Decl, Function, FunctionParam, FunctionTree, Global, GlobalTree, HeadTree, List, LocalTree, None, Option, Proto, SectionTree, Some, Struct, StructTree, [], ap, append_assoc, arith, concat, done, drop, drop-step, drop_all, filter_map, filter_map-append, function_in, function_lines, functions_in, get_or, global_in, global_lines, globals_in, head_in, head_lines, heads_in, is_small, length, line_beyond, line_of_some, list_all, local_lines, map, map-append, param_small, refl, slice_get, struct_in, structs_from, structs_in, suc, sym, then, type_in, unless, with_lines, with_lines-append, with_lines-nil, ℕ, ◌++◌, ◌+◌, ◌<◌, ◌∙◌, ◌∷◌, ◌≡◌, ◌≤◌}
 use Rattle.sc_core.specs.declared.ty.Ty.TheVariants as ty
-use Rattle.sc_scope.specs.declared.broken.BrokenLines.{BrokenLines}
-use Rattle.sc_scope.specs.Broken.{unless, with_lines}
-use Rattle.sc_scope.specs.Declarations.{struct_in, structs_in, global_in, globals_in, head_in, heads_in, function_in, functions_in}
-use Rattle.sc_scope.proofs.Noting.{with_lines-nil, with_lines-append}
-use Rattle.sc_types.specs.Counts.{function_lines, global_lines, head_lines, is_small, line_beyond, line_of_some, local_lines, param_small, structs_from, type_in}
-use Rattle.sc_base.proofs.Lists.{drop-step}
 use Rattle.sc_types.proofs.Measures.{no-struct}
-use Rattle.sc_scope.proofs.Lines.{nothing, then, step, done}
+use Rattle.sc_scope.proofs.Lines.{nothing, step}
 
 concat-append : (xs ys : List (List ℕ)) → concat (xs ++ ys) ≡ concat xs ++ concat ys
 concat-append [] ys = refl

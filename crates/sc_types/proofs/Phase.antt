@@ -1,21 +1,7 @@
 -- The lines of a section, and of all sections one by one.
-use Rattle.std.proofs.Common.{◌≡◌, ℕ, suc, ◌+◌, ◌<◌, ◌≤◌, Bool, ◌&&◌, nat_le, List, [], ◌∷◌, ◌++◌, length, get_or, drop, map, slice_get, Option, Some, None, refl, ap, sym, ◌∙◌, add-one, drop-cons}
-use Rattle.std.specs.List.{concat}
-use Rattle.std.proofs.lemmas.List.{drop_all}
-use Rattle.sc_ast.specs.declared.section.ExportLine.{ExportLine}
-use Rattle.sc_ast.specs.declared.section.ImportLine.{ImportLine}
-use Rattle.sc_ast.specs.declared.section.SectionTree.{SectionTree}
-use Rattle.sc_core.specs.WellTyped.{most_compartments, most_exports, most_nodes}
-use Rattle.sc_scope.specs.declared.broken.BrokenLines.{BrokenLines}
-use Rattle.sc_scope.specs.Broken.{line_of_text, noted, noted_all, refused_at, unless, with_lines}
-use Rattle.sc_scope.specs.Declarations.{structs_in, globals_in, heads_in, functions_in}
-use Rattle.sc_elab.specs.Statements.{Callees}
-use Rattle.sc_elab.specs.Sections.{callees_of}
-use Rattle.sc_types.specs.Counts.{counts_broken, function_lines, global_lines, head_lines, line_beyond, line_of_some, lines_from, section_lines, structs_from}
-use Rattle.sc_types.specs.TreeNodes.{decls_nodes}
-use Rattle.sc_scope.proofs.Lines.{then}
+use Rattle.sc_types.proofs.Common.{Bool, BrokenLines, Callees, ExportLine, ImportLine, List, None, Option, SectionTree, Some, [], add-one, ap, callees_of, concat, counts_broken, decls_nodes, drop, drop-cons, drop_all, function_lines, functions_in, get_or, global_lines, globals_in, head_lines, heads_in, length, line_beyond, line_of_some, line_of_text, lines_from, map, most_compartments, most_exports, most_nodes, nat_le, noted, noted_all, noted_all-append, refl, refused_at, slice_get, structs_from, structs_in, suc, sym, then, unless, with_lines, ℕ, ◌&&◌, ◌++◌, ◌+◌, ◌<◌, ◌∙◌, ◌∷◌, ◌≡◌, ◌≤◌}
+use Rattle.sc_types.specs.Prelude.{section_lines}
 use Rattle.sc_types.proofs.TypedNodes.{section-nodes}
-use Rattle.sc_scope.proofs.Noting.{noted_all-append}
 
 pub section-noted : (section : SectionTree) (callees : Callees) (sizes : SectionTree) (short : Bool)
     (old a b c d e f g : BrokenLines) → sizes ≡ section →

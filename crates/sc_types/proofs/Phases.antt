@@ -1,27 +1,10 @@
 -- What the phases give to one another.
-use Rattle.std.proofs.Common.{◌≡◌, sym, ap, ◌∙◌, ℕ, zero, suc, ◌&&◌, List, [], ◌∷◌, ◌++◌, map, length, Option, None, Some, arith, subst}
-use Rattle.std.specs.Prelude.{nat_le, OnOk, Result, Ok, Err}
-use Rattle.std.specs.List.{All, concat}
-use Rattle.sc_lex.specs.declared.refusal.Phase.{Phase}
+use Rattle.sc_types.proofs.Common.{All, AreLow, Decl, Err, ExportLine, FailsRules, ImportLine, IsWellTyped, List, None, Ok, OnOk, Option, Phase, ProgramTree, Result, SectionTree, Some, [], ap, arith, callees_of, concat, counts_broken, functions_in, globals_in, head_of, heads_in, interface_broken, length, line_of_text, map, most_compartments, most_exports, most_nodes, most_params, names_broken, nat_le, param_of, program_of, refused_at, structs_in, subst, suc, sym, types_broken, unless, zero, ℕ, ◌&&◌, ◌++◌, ◌∙◌, ◌∷◌, ◌≡◌}
 use Rattle.sc_lex.specs.declared.refusal.Phase.TheVariants as phase
 use Rattle.sc_lex.specs.declared.refusal.Refusal.{Refusal}
-use Rattle.sc_ast.specs.declared.section.ExportLine.{ExportLine}
-use Rattle.sc_ast.specs.declared.section.ImportLine.{ImportLine}
-use Rattle.sc_ast.specs.declared.section.Decl.{Decl}
 use Rattle.sc_ast.specs.declared.section.Decl.TheVariants as decl
-use Rattle.sc_ast.specs.declared.section.SectionTree.{SectionTree}
-use Rattle.sc_ast.specs.Heads.{head_of, param_of}
-use Rattle.sc_core.specs.declared.program.ProgramTree.{ProgramTree}
-use Rattle.sc_core.specs.WellTyped.{most_compartments, most_exports, most_params, most_nodes, IsWellTyped}
-use Rattle.sc_scope.specs.Broken.{refused_at, unless, line_of_text}
-use Rattle.sc_scope.specs.Declarations.{heads_in, functions_in, structs_in, globals_in}
-use Rattle.sc_scope.specs.Names.{names_broken}
-use Rattle.sc_elab.specs.Sections.{types_broken, program_of, callees_of}
-use Rattle.sc_interfaces.specs.Faces.{interface_broken}
 use Rattle.sc_interfaces.specs.Offering.{IsWithinCounts, HasFewExports, HasFewParams}
 use Rattle.sc_types.specs.Counts as counts
-use Rattle.sc_types.specs.Counts.{counts_broken}
-use Rattle.sc_types.specs.Acceptance.{FailsRules, AreLow}
 use Rattle.sc_types.proofs.Basics.{Each, rule_holds, front_empty, back_empty, map_empty}
 use Rattle.sc_types.proofs.Places.{is_at_most}
 use Rattle.sc_types.proofs.Functions.{map_length}

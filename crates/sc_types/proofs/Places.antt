@@ -1,13 +1,5 @@
 -- The places of names in lists of names.
-use Rattle.std.proofs.Common.{◌≡◌, refl, sym, ap, ◌∙◌, ℕ, suc, ◌<◌, ◌≤◌, Bool, true, false, ◌||◌, ◌==◌, if◌then◌else◌, List, [], ◌∷◌, ◌++◌, length, Option, Some, arith, subst}
-use Rattle.std.specs.Prelude.{slice_get, bytes_eq, nat_lt, nat_le}
-use Rattle.std.specs.List.{list_any}
-use Rattle.std.specs.Option.{option_map}
-use Rattle.std.proofs.lemmas.Bool.{false≢true, le-leb, leb-true, lt-ltb}
-use Rattle.std.proofs.lemmas.Bool.Decides.{Decides-eqb}
-use Rattle.std.proofs.lemmas.Slice.Eq.{bytes_eq-Decides}
-use Rattle.sc_base.specs.Numbering.{is_numbered, number_of}
-use Rattle.sc_scope.specs.Interfaces.{number_or_zero}
+use Rattle.sc_types.proofs.Common.{Bool, Decides-eqb, List, Option, Some, [], ap, arith, bytes_eq, bytes_eq-Decides, false, false≢true, if◌then◌else◌, is_numbered, le-leb, leb-true, length, list_any, lt-ltb, nat_le, nat_lt, number_of, number_or_zero, option_map, refl, slice_get, subst, suc, sym, true, ℕ, ◌++◌, ◌<◌, ◌==◌, ◌||◌, ◌∙◌, ◌∷◌, ◌≡◌, ◌≤◌}
 use Rattle.sc_types.proofs.Basics.{find, position_is}
 
 abbrev pub Text : Type 0

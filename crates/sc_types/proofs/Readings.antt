@@ -1,33 +1,15 @@
 -- What is read of a text is low and has few stars, and what it fails is failed by the text.
-use Rattle.std.proofs.Common.{◌≡◌, refl, sym, ℕ, ◌+◌, ◌-◌, ◌≤◌, ◌<◌, ◌⊎◌, inl, inr, true, List, [], ◌∷◌, map, drop, length, Option, None, Some, Result, Ok, Err, IfOk, arith, subst}
-use Rattle.std.specs.Prelude.{nat_le, slice_range}
-use Rattle.std.specs.List.{list_all, AllZip}
-use Rattle.std.proofs.lemmas.List.{length-take}
-use Rattle.sc_lex.specs.Cutting.{Cuts, nothing, gap, token}
-use Rattle.sc_lex.specs.Splitting.{AreSections, none, section}
+use Rattle.sc_types.proofs.Common.{Accepts, AllZip, AreLow, AreSections, Cuts, Err, Fails, FailsRules, IfOk, IsRead, IsTyped, List, None, Ok, Option, Part, Phase, ProgramTree, Reads, Result, Section, SectionTree, Some, [], and_from, arith, counts_broken, drop, gap, inl, inr, interface_broken, length, length-take, list_all, map, names_broken, nat_le, none, nothing, part_of, program_of, refl, refused_at, section, section_height, slice_range, subst, sym, token, true, types_broken, ℕ, ◌+◌, ◌-◌, ◌<◌, ◌∷◌, ◌≡◌, ◌≤◌, ◌⊎◌}
+use Rattle.sc_expr.specs.Prelude.{lexeme_of}
+use Rattle.sc_parse.specs.Prelude.{lexemes_of}
 use Rattle.sc_lex.specs.declared.token.Token.{Token}
-use Rattle.sc_lex.specs.declared.section.Section.{Section}
-use Rattle.sc_lex.specs.declared.refusal.Phase.{Phase}
 use Rattle.sc_lex.specs.declared.refusal.Phase.TheVariants as phase
 use Rattle.sc_lex.proofs.Runs.{token_positive}
-use Rattle.sc_ast.specs.declared.section.SectionTree.{SectionTree}
-use Rattle.sc_ast.specs.Height.{section_height}
-use Rattle.sc_expr.specs.Lexemes.{lexeme_of}
-use Rattle.sc_parse.specs.Limits.{lexemes_of}
-use Rattle.sc_read.specs.Reading.{Part, part_of, IsRead, Reads}
 use Rattle.sc_read.specs.Reading as reading
-use Rattle.sc_core.specs.declared.program.ProgramTree.{ProgramTree}
-use Rattle.sc_scope.specs.Broken.{refused_at}
-use Rattle.sc_scope.specs.Names.{names_broken}
-use Rattle.sc_elab.specs.Sections.{types_broken, program_of}
-use Rattle.sc_interfaces.specs.Faces.{interface_broken}
-use Rattle.sc_types.specs.Counts.{counts_broken}
-use Rattle.sc_types.specs.Acceptance.{AreLow, IsTyped, FailsRules, Accepts, Fails}
 use Rattle.sc_types.proofs.Basics.{Each}
 use Rattle.sc_types.proofs.Functions.{map_length}
 use Rattle.sc_types.proofs.Places.{at_most}
 use Rattle.sc_types.proofs.Refusals.{no_line}
-use Rattle.std.proofs.lemmas.Bool.{and_from}
 
 low_from : (text : List ℕ) (parts : List Part) (trees : List SectionTree) → AllZip (IsRead text) parts trees →
     list_all {X = SectionTree} (λ tree. nat_le (section_height tree) 256) trees ≡ true

@@ -1,17 +1,7 @@
 -- Sections that break a rule are refused, and are those of no program.
-use Rattle.std.proofs.Common.{◌≡◌, refl, sym, ap, ◌∙◌, ℕ, List, [], ◌∷◌, None, Some, subst}
-use Rattle.sc_lex.specs.declared.refusal.Phase.{Phase}
+use Rattle.sc_types.proofs.Common.{Accepts, Fails, FailsRules, FailsTyped, IsTyped, List, None, Phase, ProgramTree, Reads, SectionTree, Some, [], ap, counts_broken, earlier, interface_broken, names_broken, noted_all, program_of, refl, refused_at, subst, sym, types_broken, ℕ, ◌∙◌, ◌∷◌, ◌≡◌}
 use Rattle.sc_lex.specs.declared.refusal.Phase.TheVariants as phase
-use Rattle.sc_ast.specs.declared.section.SectionTree.{SectionTree}
-use Rattle.sc_read.specs.Reading.{Reads}
 use Rattle.sc_read.specs.Reading as reading
-use Rattle.sc_core.specs.declared.program.ProgramTree.{ProgramTree}
-use Rattle.sc_scope.specs.Broken.{earlier, noted_all, refused_at}
-use Rattle.sc_scope.specs.Names.{names_broken}
-use Rattle.sc_elab.specs.Sections.{types_broken, program_of}
-use Rattle.sc_interfaces.specs.Faces.{interface_broken}
-use Rattle.sc_types.specs.Counts.{counts_broken}
-use Rattle.sc_types.specs.Acceptance.{IsTyped, FailsRules, Accepts, FailsTyped, Fails}
 use Rattle.sc_types.proofs.Basics.{none_some, some_is}
 
 -- a line that was noted stays noted

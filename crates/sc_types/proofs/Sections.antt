@@ -1,46 +1,13 @@
 -- Sections that break no rule are well typed, and have the interfaces of the text.
-use Rattle.std.proofs.Common.{◌≡◌, refl, sym, ap, ◌∙◌, ℕ, zero, suc, ◌≤◌, Bool, true, false, not, ◌&&◌, ◌||◌, ◌==◌, if◌then◌else◌, List, [], ◌∷◌, ◌++◌, map, length, Option, None, Some, is_some, arith, subst, append_assoc}
-use Rattle.std.specs.Prelude.{slice_get, bytes_eq, nat_le}
-use Rattle.std.specs.List.{list_any, list_all}
-use Rattle.std.specs.Option.{option_map}
-use Rattle.std.proofs.lemmas.List.{append-nil, map-append}
-use Rattle.std.proofs.lemmas.List.Elements.{filter_map-append}
-use Rattle.std.proofs.lemmas.Bool.{false≢true, and_from}
-use Rattle.std.proofs.lemmas.Bool.Decides.{Decides-eqb}
-use Rattle.sc_base.specs.Numbering.{is_numbered}
-use Rattle.sc_event.specs.Lookup.{export_at}
+use Rattle.sc_types.proofs.Common.{BaseTree, BaseTy, Bool, Callees, Decides-eqb, Decl, ExportLine, Function, FunctionTree, Global, HeadTree, ImportLine, Interface, List, None, Option, ParamTree, Proto, SectionTree, Signature, Some, Struct, Ty, TypeName, TypedFunction, TypedSection, [], agree, and_first, and_from, and_rest, ap, append-nil, append_assoc, are_distinct, arith, bytes_eq, callees_of, export_at, export_fits, export_name, export_names, false, false≢true, filter_map-append, function_named, function_names, functions_in, get_behind, globals_in, head_crosses, head_fits, head_of, heads_in, if◌then◌else◌, import_fits, import_name, import_names, import_of, input_name, interface_fits, interface_of, interfaces_of, is_environment, is_numbered, is_offered, is_plain_name, is_some, length, list_all, list_any, main_name, map, map-append, map_twice, most_exports, most_nodes, nat_le, not, number_or_zero, offered, offering, option_map, output_name, promised, proto_of, proto_signature, refl, same_base, same_results, same_signature, same_text, same_ty, same_type, same_types, signature_by, signature_of, slice_get, structs, structs_in, subst, suc, sym, tags, true, typed_function, typed_section, unless, zero, ℕ, ◌&&◌, ◌++◌, ◌==◌, ◌||◌, ◌∙◌, ◌∷◌, ◌≡◌, ◌≤◌}
 use Rattle.sc_event.specs.declared.interface.Import.TheVariants as import
-use Rattle.sc_event.specs.declared.interface.Interface.{Interface}
 use Rattle.sc_event.specs.declared.interface.Proto as event
-use Rattle.sc_ast.specs.declared.types.BaseTree.{BaseTree}
 use Rattle.sc_ast.specs.declared.types.BaseTree.TheVariants as tree_base
-use Rattle.sc_ast.specs.declared.types.TypeName.{TypeName}
-use Rattle.sc_ast.specs.declared.section.ParamTree.{ParamTree}
-use Rattle.sc_ast.specs.declared.section.HeadTree.{HeadTree}
-use Rattle.sc_ast.specs.declared.section.FunctionTree.{FunctionTree}
-use Rattle.sc_ast.specs.declared.section.ExportLine.{ExportLine}
-use Rattle.sc_ast.specs.declared.section.ImportLine.{ImportLine}
-use Rattle.sc_ast.specs.declared.section.Decl.{Decl}
-use Rattle.sc_ast.specs.declared.section.Decl.TheVariants.{Struct, Global, Proto, Function}
-use Rattle.sc_ast.specs.declared.section.SectionTree.{SectionTree}
-use Rattle.sc_ast.specs.Heads.{head_of}
-use Rattle.sc_core.specs.declared.ty.Ty.{Ty}
 use Rattle.sc_core.specs.declared.ty.Ty.TheVariants as ty
-use Rattle.sc_core.specs.declared.ty.BaseTy.{BaseTy}
 use Rattle.sc_core.specs.declared.ty.BaseTy.TheVariants as base
-use Rattle.sc_core.specs.declared.section.TypedFunction.{TypedFunction}
-use Rattle.sc_core.specs.declared.section.TypedSection.{TypedSection}
-use Rattle.sc_core.specs.Typing.{Signature, same_base, same_ty, signature_of, proto_signature}
-use Rattle.sc_core.specs.WellTyped.{most_exports, most_nodes, same_types, same_results, same_signature, is_plain_name, export_fits, import_fits, export_name, import_name, interface_fits, are_distinct}
-use Rattle.sc_scope.specs.Broken.{unless}
 use Rattle.sc_scope.specs.Declarations as decls
-use Rattle.sc_scope.specs.Declarations.{structs_in, globals_in, heads_in, functions_in, function_names, export_names, import_names}
-use Rattle.sc_scope.specs.Interfaces.{number_or_zero, is_environment, offering, offered, import_of, promised, proto_of, interface_of, interfaces_of, main_name, function_named}
 use Rattle.sc_scope.specs.Names as names
-use Rattle.sc_elab.specs.Statements.{Callees}
 use Rattle.sc_elab.specs.Sections as elab
-use Rattle.sc_elab.specs.Sections.{callees_of, signature_by, tags, structs, typed_function, typed_section}
-use Rattle.sc_interfaces.specs.Faces.{head_fits, head_crosses, agree, same_type, input_name, output_name, is_offered}
 use Rattle.sc_interfaces.specs.Faces as faces
 use Rattle.sc_types.specs.Counts as counts
 use Rattle.sc_types.proofs.Basics.{not_true, rule_holds, front_empty, back_empty, Each, none_some, some_item}
@@ -49,9 +16,6 @@ use Rattle.sc_types.proofs.Lookups.{each_at, each_function, FoundFunction, find_
 use Rattle.sc_types.proofs.Facts.{Fresh, fresh_distinct, ExportFacts, ImportFacts, DeclFacts, FaceFacts}
 use Rattle.sc_types.proofs.Calls.{agreed_signature, FoundBy, found_by, get_map, any_at, own_signature, Offering, find_offering, export_is}
 use Rattle.sc_types.proofs.Functions.{map_length}
-use Rattle.sc_base.proofs.Lists.{get_behind, map_twice}
-use Rattle.sc_base.proofs.Texts.{same_text}
-use Rattle.sc_base.proofs.Bools.{and_first, and_rest}
 
 -- Signatures are the same as themselves.
 

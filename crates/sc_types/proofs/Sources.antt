@@ -1,21 +1,7 @@
 -- The parts of a text, by the places at which its sections begin.
-use Rattle.std.proofs.Common.{◌≡◌, refl, sym, ap, ap₂, ◌∙◌, ℕ, zero, suc, ◌+◌, ◌-◌, ◌≤◌, ◌<◌, List, [], ◌∷◌, ◌++◌, map, take, drop, length, None, Some, arith, subst, add-one, get_or}
-use Rattle.std.specs.Prelude.{slice_range, slice_get, flat_map}
-use Rattle.std.specs.List.{concat}
-use Rattle.std.proofs.lemmas.List.{take_more, map-append}
-use Rattle.sc_lex.specs.Lines.{line_at}
-use Rattle.sc_lex.specs.Splitting.{AreSections, none, section, IsSplit}
-use Rattle.sc_lex.specs.declared.section.Section.{Section}
+use Rattle.sc_types.proofs.Common.{Accepts, AreSections, AreStarts, IsKept, IsRead, IsSource, IsSplit, List, None, ProgramTree, Reads, Section, SectionTree, Some, [], add-one, ap, ap₂, arith, as_many, concat, drop, first_start, flat_map, get_or, interfaces_from, length, line_at, map, map-append, none, part_of, parts_from, refl, section, slice_get, slice_range, source_of, start_of, subst, suc, sym, take, take_more, zero, ℕ, ◌++◌, ◌+◌, ◌-◌, ◌<◌, ◌∙◌, ◌∷◌, ◌≡◌, ◌≤◌}
 use Rattle.sc_lex.proofs.Splits.{progress_joined, sections_rise}
 use Rattle.sc_read.proofs.Splits.{split_good, same_parts}
-use Rattle.sc_read.proofs.Steps.{as_many}
-use Rattle.sc_read.specs.Reading.{part_of, IsRead, Reads}
-use Rattle.sc_ast.specs.declared.section.SectionTree.{SectionTree}
-use Rattle.sc_core.specs.declared.program.ProgramTree.{ProgramTree}
-use Rattle.sc_scope.specs.Interfaces.{interfaces_from}
-use Rattle.sc_types.specs.Acceptance.{Accepts}
-use Rattle.sc_types.specs.Source.{IsSource}
-use Rattle.sc_types.specs.Starts.{start_of, AreStarts, first_start, parts_from, source_of, IsKept}
 use Rattle.sc_types.proofs.Functions.{map_length}
 
 abbrev bytes_of : Section → List ℕ

@@ -1,33 +1,11 @@
 -- Structs whose tags are known and whose sizes are small fit.
-use Rattle.std.proofs.Common.{◌≡◌, refl, sym, ap, ◌∙◌, ℕ, zero, suc, ◌+◌, ◌*◌, ◌<◌, ◌≤◌, true, false, not, ◌==◌, List, [], ◌∷◌, ◌++◌, map, length, Option, None, Some, arith, subst, append_assoc}
-use Rattle.std.specs.Prelude.{slice_get, bytes_eq, nat_lt, nat_le, nat_eq}
-use Rattle.std.specs.List.{list_all}
-use Rattle.std.specs.Option.{option_map_or}
-use Rattle.std.proofs.lemmas.List.{append-nil}
-use Rattle.std.proofs.lemmas.Bool.{false≢true, ltb-true, and_from}
-use Rattle.sc_base.specs.Numbering.{is_numbered, number_of}
-use Rattle.sc_ast.specs.declared.types.BaseTree.{BaseTree}
+use Rattle.sc_types.proofs.Common.{BaseTree, BaseTy, List, MemberTree, None, Option, Some, StructTree, Ty, TypeName, TypeTree, [], and_first, and_from, and_rest, ap, append-nil, append_assoc, arith, base_cells, base_known, base_of, base_within, bytes_eq, cells_from, cells_of, end_of_member, false, false≢true, get_behind, is_numbered, is_sized, length, list_all, ltb-true, map, member_known, members_fit, members_from, most_cells, nat_eq, nat_le, nat_lt, not, number_of, number_or_zero, option_map_or, pointed_known, refl, same_text, slice_get, starred, starred_cells, starred_within, struct_cells, struct_fits, structs_fit, subst, suc, sym, true, type_of, type_of_name, type_with, type_within, typed_struct, typed_structs, zero, ℕ, ◌*◌, ◌++◌, ◌+◌, ◌<◌, ◌==◌, ◌∙◌, ◌∷◌, ◌≡◌, ◌≤◌}
 use Rattle.sc_ast.specs.declared.types.BaseTree.TheVariants as base_tree
-use Rattle.sc_ast.specs.declared.types.TypeTree.{TypeTree}
-use Rattle.sc_ast.specs.declared.types.TypeName.{TypeName}
-use Rattle.sc_ast.specs.declared.section.MemberTree.{MemberTree}
-use Rattle.sc_ast.specs.declared.section.StructTree.{StructTree}
-use Rattle.sc_core.specs.declared.ty.Ty.{Ty}
 use Rattle.sc_core.specs.declared.ty.Ty.TheVariants as ty
-use Rattle.sc_core.specs.declared.ty.BaseTy.{BaseTy}
 use Rattle.sc_core.specs.declared.ty.BaseTy.TheVariants as base
 use Rattle.sc_core.specs.declared.section.TypedStruct.{TypedStruct}
-use Rattle.sc_core.specs.Types.{cells_of, base_cells, starred_cells, struct_cells}
-use Rattle.sc_core.specs.Typing.{starred}
-use Rattle.sc_core.specs.WellTyped.{base_within, starred_within, type_within, members_fit, struct_fits, structs_fit, most_cells}
-use Rattle.sc_scope.specs.Interfaces.{number_or_zero}
-use Rattle.sc_scope.specs.Names.{base_known, pointed_known, member_known}
-use Rattle.sc_elab.specs.Sections.{is_sized, base_of, type_of_name, type_with, type_of, end_of_member, members_from, cells_from, typed_struct, typed_structs}
 use Rattle.sc_types.proofs.Basics.{either}
 use Rattle.sc_types.proofs.Places.{Text, eq_refl, less, at_most, is_at_most, number_within, number_front, number_next}
-use Rattle.sc_base.proofs.Lists.{get_behind}
-use Rattle.sc_base.proofs.Texts.{same_text}
-use Rattle.sc_base.proofs.Bools.{and_first, and_rest}
 
 -- Tags.
 

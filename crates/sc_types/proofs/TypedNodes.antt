@@ -1,45 +1,20 @@
 -- What is typed has as many nodes as its tree.
-use Rattle.std.proofs.Common.{◌≡◌, ℕ, suc, ◌+◌, Bool, true, false, ◌&&◌, cond, List, [], ◌∷◌, map, Option, None, Some, refl, ap, ap₂, sym, ◌∙◌, rules}
-use Rattle.std.specs.Option.{option_map}
-use Rattle.std.proofs.lemmas.List.{length-map}
-use Rattle.sc_base.specs.declared.op.BinaryOp.{BinaryOp}
+use Rattle.sc_types.proofs.Common.{BinaryOp, Bool, CallTree, Callees, Each, ExprTree, ExprTree-F, Found, FunctionTree, Inside, List, LocalTree, None, Option, SectionTree, SimpleKind, SimpleTree, Some, StmtKind, StmtKind-F, StmtTree, Ty, TypedExpr, TypedKind, TypedStmt, TypedStmtKind, Under, Visible, [], ap, ap₂, beside, call_nodes, cond, decayed, decls_nodes, expr_induction, expr_nodes, expr_step, false, found, function_nodes, functions_in, going_to, going_to_all, going_to_some, init_nodes, is_pointer, is_zero, kind_step as typed_kind_step, length-map, local_nodes, map, map-ExprTree, nodes, option_map, params_of, part_nodes, refl, result_of, rules, simple_nodes, step, stmt_induction, stmt_nodes, stmt_step as typed_stmt_step, suc, sym, the_lemmas, total, true, typed_call, typed_function, typed_init, typed_locals, typed_section, typed_simple, typed_simple_kind, typed_stmt, variable_typed, visible_in, visible_of, ℕ, ◌&&◌, ◌+◌, ◌∙◌, ◌∷◌, ◌≡◌}
+use Rattle.sc_elab.specs.Prelude.{typed}
+use Rattle.sc_types.specs.Prelude.{kind_step, stmt_step}
 use Rattle.sc_base.specs.declared.op.BinaryOp.TheVariants as tree_op
-use Rattle.sc_ast.specs.declared.expr.CallTree.{CallTree}
-use Rattle.sc_ast.specs.declared.expr.ExprTree.{ExprTree, ExprTree-F, map-ExprTree}
 use Rattle.sc_ast.specs.declared.expr.ExprTree.TheOpen as tree
-use Rattle.sc_ast.specs.declared.stmt.SimpleKind.{SimpleKind}
 use Rattle.sc_ast.specs.declared.stmt.SimpleKind.TheVariants as simple_tree
-use Rattle.sc_ast.specs.declared.stmt.SimpleTree.{SimpleTree}
-use Rattle.sc_ast.specs.declared.stmt.StmtKind.{StmtKind, StmtKind-F}
 use Rattle.sc_ast.specs.declared.stmt.StmtKind.TheOpen as layer
-use Rattle.sc_ast.specs.declared.stmt.StmtTree.{StmtTree}
-use Rattle.sc_ast.specs.declared.section.LocalTree.{LocalTree}
-use Rattle.sc_ast.specs.declared.section.FunctionTree.{FunctionTree}
-use Rattle.sc_ast.specs.declared.section.SectionTree.{SectionTree}
-use Rattle.sc_ast.proofs.Induction.{Each, Under, Inside, expr_induction, stmt_induction}
 use Rattle.sc_ast.proofs.Layers as layers
-use Rattle.sc_core.specs.declared.ty.Ty.{Ty}
 use Rattle.sc_base.specs.declared.op.UnaryOp.{UnaryOp}
 use Rattle.sc_base.specs.declared.op.BinaryOp as core_op
 use Rattle.sc_core.specs.declared.expr.VarRef.{VarRef}
-use Rattle.sc_core.specs.declared.expr.TypedExpr.{TypedExpr}
 use Rattle.sc_core.specs.declared.expr.TypedKind as term
-use Rattle.sc_core.specs.declared.expr.TypedKind.{TypedKind, the_lemmas}
 use Rattle.sc_core.specs.declared.expr.TypedCall.{TypedCall}
-use Rattle.sc_core.specs.declared.stmt.TypedStmt.{TypedStmt}
 use Rattle.sc_core.specs.declared.stmt.TypedStmtKind as kind
-use Rattle.sc_core.specs.declared.stmt.TypedStmtKind.{TypedStmtKind}
 use Rattle.sc_core.specs.declared.stmt.TypedSimple.{TypedSimple}
 use Rattle.sc_core.specs.Sizes as core
-use Rattle.sc_core.specs.Sizes.{nodes, total}
-use Rattle.sc_core.specs.Types.{is_pointer}
-use Rattle.sc_core.specs.Typing.{decayed}
-use Rattle.sc_scope.specs.Declarations.{functions_in}
-use Rattle.sc_elab.specs.Scopes.{Visible, Found, found}
-use Rattle.sc_elab.specs.Expressions.{beside, going_to, is_zero, step, typed, variable_typed}
-use Rattle.sc_elab.specs.Statements.{Callees, going_to_all, going_to_some, kind_step as typed_kind_step, params_of, stmt_step as typed_stmt_step, typed_call, typed_simple, typed_simple_kind, typed_stmt}
-use Rattle.sc_elab.specs.Sections.{result_of, typed_function, typed_init, typed_locals, typed_section, visible_in, visible_of}
-use Rattle.sc_types.specs.TreeNodes.{call_nodes, decls_nodes, expr_nodes, expr_step, function_nodes, init_nodes, kind_step, local_nodes, part_nodes, simple_nodes, stmt_nodes, stmt_step}
 
 -- The nodes of a typed expression, by what it is.
 

@@ -1,11 +1,7 @@
 -- A text fails one phase.
-use Rattle.std.proofs.Common.{◌≡◌, refl, ℕ, List, subst}
-use Rattle.sc_lex.specs.declared.refusal.Phase.{Phase}
+use Rattle.sc_types.proofs.Common.{Fails, FailsRules, FailsTyped, List, Phase, Reads, SectionTree, refl, subst, ℕ, ◌≡◌}
 use Rattle.sc_lex.specs.declared.refusal.Phase.TheVariants as phase
-use Rattle.sc_ast.specs.declared.section.SectionTree.{SectionTree}
-use Rattle.sc_read.specs.Reading.{Reads}
 use Rattle.sc_read.specs.Reading as reading
-use Rattle.sc_types.specs.Acceptance.{FailsRules, FailsTyped, Fails}
 use Rattle.sc_types.proofs.Refusals.{one_refusal}
 
 -- one phase fails, and phases other than Syntax in one line

@@ -1,39 +1,10 @@
 -- A text that breaks no rule is a well-typed program.
-use Rattle.std.proofs.Common.{◌≡◌, refl, sym, ap, ◌∙◌, ℕ, zero, suc, ◌+◌, ◌≤◌, Bool, true, false, not, ◌&&◌, ◌||◌, ◌==◌, if◌then◌else◌, List, [], ◌∷◌, ◌++◌, map, length, Some, arith, subst, append_assoc}
-use Rattle.std.specs.Prelude.{slice_get, bytes_eq, nat_le, codes}
-use Rattle.std.specs.List.{concat, list_any}
-use Rattle.std.specs.Option.{option_map}
-use Rattle.std.proofs.lemmas.Bool.{false≢true, and_from}
-use Rattle.sc_base.specs.Numbering.{is_numbered}
-use Rattle.sc_event.specs.declared.interface.Interface.{Interface}
-use Rattle.sc_ast.specs.declared.section.FunctionTree.{FunctionTree}
-use Rattle.sc_ast.specs.declared.section.ExportLine.{ExportLine}
-use Rattle.sc_ast.specs.declared.section.ImportLine.{ImportLine}
-use Rattle.sc_ast.specs.declared.section.StructTree.{StructTree}
-use Rattle.sc_ast.specs.declared.section.Decl.{Decl}
-use Rattle.sc_ast.specs.declared.section.Decl.TheVariants.{Struct, Global, Proto, Function}
-use Rattle.sc_ast.specs.declared.section.SectionTree.{SectionTree}
-use Rattle.sc_ast.specs.Heads.{head_of}
-use Rattle.sc_ast.specs.Height.{section_height}
+use Rattle.sc_types.proofs.Common.{AreLow, Bool, Callees, Decl, ExportLine, Function, FunctionTree, Global, ImportLine, Interface, IsWellTyped, List, Proto, SectionTree, Some, Struct, StructTree, TypedFunction, TypedSection, [], and_first, and_from, and_rest, ap, append_assoc, are_distinct, arith, bytes_eq, callees_of, codes, concat, counts_broken, decl_count, defines_main, environment, false, false≢true, functions_in, get_behind, globals_in, head_of, heads_in, if◌then◌else◌, interface_broken, interface_fits, interface_of, interfaces_from, interfaces_of, is_main, is_numbered, is_well_typed, length, line_of_text, list_any, main_fits, main_from, main_name, mains_in, map, map-append, most_compartments, most_exports, most_nodes, name_holds, names_broken, nat_le, not, option_map, program_of, refl, same_signature, section_fits, section_height, sections_fit, sections_from, signature_by, signature_of, slice_get, structs, structs_in, subst, suc, sym, tags, true, truth, typed_function, typed_global, typed_section, types_broken, unless, zero, ℕ, ◌&&◌, ◌++◌, ◌+◌, ◌==◌, ◌||◌, ◌∙◌, ◌∷◌, ◌≡◌, ◌≤◌}
 use Rattle.sc_core.specs.declared.ty.Ty.TheVariants as ty
-use Rattle.sc_core.specs.declared.section.TypedFunction.{TypedFunction}
-use Rattle.sc_core.specs.declared.section.TypedSection.{TypedSection}
-use Rattle.sc_core.specs.Value.{truth}
-use Rattle.sc_core.specs.Typing.{signature_of}
-use Rattle.sc_core.specs.WellTyped.{most_compartments, most_exports, most_nodes, are_distinct, same_signature, decl_count, section_fits, interface_fits, sections_fit, is_main, main_fits, mains_in, is_well_typed, IsWellTyped}
-use Rattle.sc_scope.specs.Broken.{unless, line_of_text}
-use Rattle.sc_scope.specs.Declarations.{structs_in, globals_in, heads_in, functions_in}
-use Rattle.sc_scope.specs.Interfaces.{environment, interface_of, interfaces_from, interfaces_of, main_name, defines_main, main_from}
 use Rattle.sc_scope.specs.Names as names
-use Rattle.sc_scope.specs.Names.{names_broken}
-use Rattle.sc_elab.specs.Statements.{Callees}
 use Rattle.sc_elab.specs.Sections as elab
-use Rattle.sc_elab.specs.Sections.{types_broken, program_of, callees_of, sections_from, structs, tags, signature_by, typed_function, typed_global, typed_section}
 use Rattle.sc_interfaces.specs.Faces as faces
-use Rattle.sc_interfaces.specs.Faces.{interface_broken, name_holds}
 use Rattle.sc_types.specs.Counts as counts
-use Rattle.sc_types.specs.Counts.{counts_broken}
-use Rattle.sc_types.specs.Acceptance.{AreLow}
 use Rattle.sc_types.proofs.Basics.{not_true, rule_holds, front_empty, back_empty, map_empty, Each, each_empty, each_passes, some_is, none_some}
 use Rattle.sc_types.proofs.Places.{Text, at_most, is_at_most}
 use Rattle.sc_types.proofs.Structs.{AllSmall, structs_all_fit, structs_length}
@@ -43,9 +14,6 @@ use Rattle.sc_types.proofs.Calls.{input_signature, get_map, any_at, own_signatur
 use Rattle.sc_types.proofs.Callees as called
 use Rattle.sc_types.proofs.Functions.{map_length, small_from, functions_are, globals_are, structs_known}
 use Rattle.sc_types.proofs.Sections.{none_beyond, interface_is}
-use Rattle.sc_base.proofs.Lists.{get_behind}
-use Rattle.std.proofs.lemmas.List.{map-append}
-use Rattle.sc_base.proofs.Bools.{and_first, and_rest}
 
 length_snoc : {A : Type 0} (xs : List A) (y : A) → length (xs ++ y ∷ []) ≡ suc (length xs)
 length_snoc [] y = refl

@@ -1,17 +1,13 @@
 -- Which texts are programs, and which phase refuses the others, at which line.
+use Rattle.sc_types.specs.Common.{ProgramTree, SectionTree, names_broken, program_of, refused_at, types_broken}
+use Rattle.sc_ast.specs.Prelude.{section_height}
+use Rattle.sc_interfaces.specs.Prelude.{interface_broken}
 use Rattle.std.specs.Prelude.{◌≡◌, ℕ, List, [], Some, IsTrue, nat_le}
 use Rattle.std.specs.List.{list_all}
 use Rattle.sc_lex.specs.declared.refusal.Phase.{Phase}
 use Rattle.sc_lex.specs.declared.refusal.Phase.TheVariants as phase
-use Rattle.sc_ast.specs.declared.section.SectionTree.{SectionTree}
-use Rattle.sc_ast.specs.Height.{section_height}
 use Rattle.sc_read.specs.Reading.{Reads}
 use Rattle.sc_read.specs.Reading as reading
-use Rattle.sc_core.specs.declared.program.ProgramTree.{ProgramTree}
-use Rattle.sc_scope.specs.Broken.{refused_at}
-use Rattle.sc_scope.specs.Names.{names_broken}
-use Rattle.sc_elab.specs.Sections.{types_broken, program_of}
-use Rattle.sc_interfaces.specs.Faces.{interface_broken}
 use Rattle.sc_types.specs.Counts.{counts_broken}
 
 -- no tree is higher than 256

@@ -1,4 +1,5 @@
 -- How much a program may hold, and the lines at which a text holds more.
+use Rattle.sc_types.specs.Common.{Callees, FunctionTree, LocalTree, SectionTree, callees_of, cells_of, functions_in, globals_in, heads_in, line_of_text, most_cells, most_compartments, most_exports, most_nodes, most_params, nodes, struct_names, structs, structs_in, total, type_of, type_of_name, typed_section, unless}
 use Rattle.std.specs.Prelude.{ℕ, suc, Bool, ◌&&◌, nat_le, List, [], ◌∷◌, ◌++◌, length, map, slice_get, Option, Some, None}
 use Rattle.std.specs.List.{concat, list_all}
 use Rattle.sc_ast.specs.declared.types.TypeTree.{TypeTree}
@@ -7,19 +8,9 @@ use Rattle.sc_ast.specs.declared.section.ImportLine.{ImportLine}
 use Rattle.sc_ast.specs.declared.section.StructTree.{StructTree}
 use Rattle.sc_ast.specs.declared.section.GlobalTree.{GlobalTree}
 use Rattle.sc_ast.specs.declared.section.HeadTree.{HeadTree}
-use Rattle.sc_ast.specs.declared.section.LocalTree.{LocalTree}
 use Rattle.sc_ast.specs.declared.section.FunctionParam.{FunctionParam}
-use Rattle.sc_ast.specs.declared.section.FunctionTree.{FunctionTree}
-use Rattle.sc_ast.specs.declared.section.SectionTree.{SectionTree}
 use Rattle.sc_core.specs.declared.ty.Ty.{Ty}
 use Rattle.sc_core.specs.declared.ty.Ty.TheVariants as ty
-use Rattle.sc_core.specs.Types.{cells_of}
-use Rattle.sc_core.specs.Sizes.{nodes, total}
-use Rattle.sc_core.specs.WellTyped.{most_compartments, most_params, most_exports, most_cells, most_nodes}
-use Rattle.sc_scope.specs.Broken.{unless, line_of_text}
-use Rattle.sc_scope.specs.Declarations.{struct_names, structs_in, globals_in, heads_in, functions_in}
-use Rattle.sc_elab.specs.Statements.{Callees}
-use Rattle.sc_elab.specs.Sections.{type_of, type_of_name, structs, typed_section, callees_of}
 
 -- the line of the first item beyond a count
 abbrev pub line_of_some : {A : Type 0} → (A → ℕ) → Option A → List ℕ

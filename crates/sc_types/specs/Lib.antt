@@ -1,3 +1,5 @@
+pub mod Common
+pub mod Prelude
 pub mod Acceptance
 pub mod Counts
 pub mod Measured

@@ -1,8 +1,7 @@
 -- Helping: the structs of a section, as they are kept beside it.
+use Rattle.sc_types.specs.Common.{SectionTree, Text, struct_names}
 use Rattle.std.specs.Prelude.{◌≡◌, List}
-use Rattle.sc_ast.specs.declared.section.SectionTree.{SectionTree}
 use Rattle.sc_core.specs.declared.section.TypedStruct.{TypedStruct}
-use Rattle.sc_scope.specs.Declarations.{Text, struct_names}
 use Rattle.sc_elab.specs.Sections as sections
 
 -- these are the tags of the section's structs, and the structs

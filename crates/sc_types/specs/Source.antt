@@ -1,9 +1,7 @@
 -- Texts that are programs, in their parts.
+use Rattle.sc_types.specs.Common.{IsSplit, ProgramTree, Section}
 use Rattle.std.specs.Prelude.{◌≡◌, ℕ, List, ◌++◌, length, map}
 use Rattle.std.specs.List.{concat}
-use Rattle.sc_lex.specs.Splitting.{IsSplit}
-use Rattle.sc_lex.specs.declared.section.Section.{Section}
-use Rattle.sc_core.specs.declared.program.ProgramTree.{ProgramTree}
 use Rattle.sc_types.specs.Acceptance.{Accepts}
 
 pub record SourceParts : Type 0 where

@@ -1,8 +1,6 @@
 -- Helping: the places of a text at which its sections begin.
+use Rattle.sc_types.specs.Common.{IsSplit, ProgramTree, Section}
 use Rattle.std.specs.Prelude.{◌≡◌, ℕ, List, [], ◌∷◌, length, map, take, slice_range}
-use Rattle.sc_lex.specs.Splitting.{IsSplit}
-use Rattle.sc_lex.specs.declared.section.Section.{Section}
-use Rattle.sc_core.specs.declared.program.ProgramTree.{ProgramTree}
 use Rattle.sc_types.specs.Acceptance.{Accepts}
 use Rattle.sc_types.specs.Source.{SourceParts}
 

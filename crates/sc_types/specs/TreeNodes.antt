@@ -1,5 +1,6 @@
 -- Helping: how many nodes a tree has: one for each expression, statement, local, parameter and function in it, itself
 -- included.
+use Rattle.sc_types.specs.Common.{FunctionTree, LocalTree, functions_in, total}
 use Rattle.std.specs.Prelude.{ℕ, suc, ◌+◌, List, length, map, Option, Some, None}
 use Rattle.sc_ast.specs.declared.expr.ExprTree.{ExprTree, ExprTree-F, fold-ExprTree}
 use Rattle.sc_ast.specs.declared.expr.ExprTree.TheOpen as term
@@ -10,11 +11,7 @@ use Rattle.sc_ast.specs.declared.stmt.SimpleTree.{SimpleTree}
 use Rattle.sc_ast.specs.declared.stmt.StmtTree.{StmtTree, StmtTree-F, fold-StmtTree}
 use Rattle.sc_ast.specs.declared.stmt.StmtKind.{StmtKind, StmtKind-F, fold-StmtKind}
 use Rattle.sc_ast.specs.declared.stmt.StmtKind.TheOpen as layer
-use Rattle.sc_ast.specs.declared.section.LocalTree.{LocalTree}
-use Rattle.sc_ast.specs.declared.section.FunctionTree.{FunctionTree}
 use Rattle.sc_ast.specs.declared.section.Decl.{Decl}
-use Rattle.sc_core.specs.Sizes.{total}
-use Rattle.sc_scope.specs.Declarations.{functions_in}
 
 abbrev pub expr_step : ExprTree-F ℕ → ℕ
 expr_step (term.Literal number) = 1

@@ -1,10 +1,7 @@
+ghost use Rattle.sc_types.specs.Prelude.{AreLow, FailsRules, IsTyped, counts_broken, names_broken, program_of, types_broken};
+ghost use Rattle.sc_interfaces.specs.Prelude.{interface_broken};
 ghost use Rattle.std.specs.Prelude.{◌≡◌, [], None, Some, OnOk, IfOk, IsErrOf};
 ghost use Rattle.sc_lex.specs.declared.refusal.Refusal.{Refusal};
-ghost use Rattle.sc_scope.specs.Names.{names_broken};
-ghost use Rattle.sc_elab.specs.Sections.{types_broken, program_of};
-ghost use Rattle.sc_interfaces.specs.Faces.{interface_broken};
-ghost use Rattle.sc_types.specs.Counts.{counts_broken};
-ghost use Rattle.sc_types.specs.Acceptance.{AreLow, IsTyped, FailsRules};
 
 use crate::counts::broken_count;
 use sc_ast::SectionTree;

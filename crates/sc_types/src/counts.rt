@@ -1,12 +1,8 @@
 //! Sections, and the whole phase.
 
+ghost use Rattle.sc_types.specs.Prelude.{Callees, counts_broken, decls_nodes, line_beyond, line_of_text, most_compartments, most_nodes, refused_at, section_lines, with_lines};
 ghost use Rattle.std.specs.Prelude.{◌≡◌, ◌&&◌, nat_le, length, IfOk, OnOk};
 ghost use Rattle.sc_ast.specs.declared.section.SectionTree.{SectionTree};
-ghost use Rattle.sc_core.specs.WellTyped.{most_compartments, most_nodes};
-ghost use Rattle.sc_scope.specs.Broken.{line_of_text, refused_at, with_lines};
-ghost use Rattle.sc_elab.specs.Statements.{Callees};
-ghost use Rattle.sc_types.specs.Counts.{counts_broken, line_beyond, section_lines};
-ghost use Rattle.sc_types.specs.TreeNodes.{decls_nodes};
 
 use crate::lines::{
     export_lines, functions_lines, globals_lines, heads_lines, import_lines, structs_lines,

@@ -1,10 +1,10 @@
 //! What holds of every text.
 
+ghost use Rattle.sc_types.specs.Prelude.{Accepts, Fails};
 ghost use Rattle.std.specs.Prelude.{◌≡◌, ◌≢◌, ◌⊎◌, ℕ, List};
 ghost use Rattle.sc_lex.specs.declared.refusal.Phase.{Phase};
 ghost use Rattle.sc_lex.specs.declared.refusal.Phase.TheVariants.{Syntax};
 ghost use Rattle.sc_core.specs.declared.program.ProgramTree.{ProgramTree};
-ghost use Rattle.sc_types.specs.Acceptance.{Accepts, Fails};
 
 use sc_read::{one_phase as one_phase_of_reading, one_reading, read_or_fails, read_or_refused};
 

@@ -1,13 +1,10 @@
 //! The lines of what is beyond a count.
 
+ghost use Rattle.sc_types.specs.Prelude.{function_lines, functions_in, global_lines, globals_in, head_lines, heads_in, line_beyond, local_lines, most_exports, param_small, structs_from, structs_in, with_lines};
 ghost use Rattle.std.specs.Prelude.{◌≡◌, ◌+◌, [], ◌∷◌, length, map, IfOk, OnOk};
 ghost use Rattle.std.specs.List.{concat, list_all};
 ghost use Rattle.sc_ast.specs.declared.section.ExportLine.{ExportLine};
 ghost use Rattle.sc_ast.specs.declared.section.ImportLine.{ImportLine};
-ghost use Rattle.sc_scope.specs.Broken.{with_lines};
-ghost use Rattle.sc_scope.specs.Declarations.{functions_in, globals_in, heads_in, structs_in};
-ghost use Rattle.sc_core.specs.WellTyped.{most_exports};
-ghost use Rattle.sc_types.specs.Counts.{function_lines, global_lines, head_lines, line_beyond, local_lines, param_small, structs_from};
 
 use crate::sizes::Sizes;
 use sc_ast::{Decl, Decls, ExportLines, FunctionParam, FunctionTree, ImportLines, LocalTrees};

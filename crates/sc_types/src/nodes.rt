@@ -1,9 +1,8 @@
 //! How many nodes trees have. Numbers stop at 4294967295.
 
+ghost use Rattle.sc_types.specs.Prelude.{call_nodes, decls_nodes, expr_nodes, function_nodes, init_nodes, kind_nodes, local_nodes, part_nodes, simple_nodes, stmt_nodes, stmts_nodes, total};
+ghost use Rattle.sc_ast.specs.Prelude.{limited};
 ghost use Rattle.std.specs.Prelude.{◌≡◌, ◌+◌, suc, [], ◌∷◌, map};
-ghost use Rattle.sc_ast.specs.Height.{limited};
-ghost use Rattle.sc_core.specs.Sizes.{total};
-ghost use Rattle.sc_types.specs.TreeNodes.{call_nodes, decls_nodes, expr_nodes, function_nodes, init_nodes, kind_nodes, local_nodes, part_nodes, simple_nodes, stmt_nodes, stmts_nodes};
 
 use sc_ast::{
     CallTree, Decl, Decls, ExprTree, FunctionTree, LocalTree, LocalTrees, SimpleKind, SimpleTree,

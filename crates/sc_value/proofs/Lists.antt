@@ -1,11 +1,6 @@
 -- The values of expressions, one after the other.
-use Rattle.std.proofs.Common.{◌≡◌, refl, sym, ap, ◌∙◌, ℕ, ◌+◌, ◌<◌, List, [], ◌∷◌, ◌++◌, map, length, drop, get_or, Result, Ok, Err, append_assoc, add-one, drop-cons}
-use Rattle.sc_core.specs.declared.cause.Cause.{Cause}
-use Rattle.sc_core.specs.declared.expr.TypedExpr.{TypedExpr}
-use Rattle.sc_core.specs.declared.value.Value.{Value}
+use Rattle.sc_value.proofs.Common.{Blocks, Cause, Err, List, Ok, Result, TypedExpr, Value, Ways, [], add-one, ap, append_assoc, bind, drop, drop-cons, get_or, length, map, refl, sym, values, ℕ, ◌++◌, ◌+◌, ◌<◌, ◌∙◌, ◌∷◌, ◌≡◌}
 use Rattle.sc_core.specs.declared.value.Want.TheVariants as want
-use Rattle.sc_core.specs.Memory.{Blocks, bind}
-use Rattle.sc_core.specs.Tree.{Ways, values}
 
 -- values that are there already, and those that follow
 abbrev pub behind : List Value → Result (List Value) Cause → Result (List Value) Cause

@@ -1,16 +1,10 @@
 -- What the store of blocks gives and takes is what the memory does.
-use Rattle.std.proofs.Common.{◌≡◌, refl, Bool, true, false, List, length, Option, None, Some, Result, Ok, Err, if◌then◌else◌}
-use Rattle.std.specs.Prelude.{slice_get, slice_set, nat_lt}
-use Rattle.sc_core.specs.declared.cause.Cause.{Cause}
+use Rattle.sc_value.proofs.Common.{Blocks, Bool, Cause, Err, List, None, Ok, Option, Ptr, Result, Some, Value, bind, cell_of, cells_at, false, if◌then◌else◌, is_live, length, living, load, load_cell, loaded, nat_lt, or_cause, put_in, read_cell, refl, slice_get, slice_set, store, store_cell, true, with_cell, ◌≡◌}
 use Rattle.sc_core.specs.declared.cause.Cause.TheVariants.{OutOfBounds, BadType, Dangling}
 use Rattle.sc_core.specs.declared.value.Cell.{Cell}
 use Rattle.sc_core.specs.declared.value.Cell.TheVariants as cell
 use Rattle.sc_core.specs.declared.value.Pointer.{Pointer}
-use Rattle.sc_core.specs.declared.value.Value.{Value}
-use Rattle.sc_core.specs.declared.value.Value.TheVariants.{Ptr}
-use Rattle.sc_core.specs.Memory.{Blocks, bind, is_live, cells_at, cell_of, loaded, load, with_cell, store}
 use Rattle.sc_blocks.specs.declared.fault.BlockFault.{BlockFault}
-use Rattle.sc_blocks.specs.Rows.{or_cause, read_cell, load_cell, store_cell, living, put_in}
 use Rattle.sc_value.specs.Access.{typed}
 
 loaded_is : (blocks : Blocks) (pointer : Bool) (o : Option Cell) →

@@ -1,25 +1,16 @@
 -- What an expression gives, by what its parts give.
-use Rattle.std.proofs.Common.{◌≡◌, refl, sym, ap, ◌∙◌, ℕ, Bool, true, false, List, None, Some, Result, Ok, Err, if◌then◌else◌, pos}
-use Rattle.sc_core.specs.declared.cause.Cause.{Cause}
+use Rattle.sc_value.proofs.Common.{Blocks, Bool, Cause, Err, Here, List, Meant, None, Ok, Result, Some, TypedExpr, Value, Ways, Word, ap, applied_one, at_pointer, binary, bind, c_arith, false, fold-roll-TypedExpr, if◌then◌else◌, is_true, is_unsigned, literal, meant, meant_step, moved, of_bool, pos, refl, sym, term_step, true, variable_at, wanted, ways, ℕ, ◌∙◌, ◌≡◌}
 use Rattle.sc_base.specs.declared.op.UnaryOp.{UnaryOp}
 use Rattle.sc_base.specs.declared.op.BinaryOp.{BinaryOp}
 use Rattle.sc_base.specs.declared.op.BinaryOp.TheVariants as op
 use Rattle.sc_core.specs.declared.ty.Ty.{Ty}
-use Rattle.sc_core.specs.declared.expr.TypedExpr.{TypedExpr, fold-roll-TypedExpr}
 use Rattle.sc_core.specs.declared.expr.TypedKind.{TypedKind, TypedKind-F, roll-TypedKind}
 use Rattle.sc_core.specs.declared.expr.TypedKind.TheOpen as term
 use Rattle.sc_core.specs.declared.expr.TypedKind.TheVariants.{Literal, Variable, Unary, Binary, Index, Member, Arrow, Deref, Address, rolls-Literal, rolls-Variable, rolls-Unary, rolls-Binary, rolls-Index, rolls-Member, rolls-Arrow, rolls-Deref, rolls-Address}
 use Rattle.sc_core.specs.declared.expr.VarRef.{VarRef}
 use Rattle.sc_core.specs.declared.section.TypedStruct.{TypedStruct}
-use Rattle.sc_core.specs.declared.value.Value.{Value}
-use Rattle.sc_core.specs.declared.value.Value.TheVariants.{Word}
 use Rattle.sc_core.specs.declared.value.Want.{Want}
 use Rattle.sc_core.specs.declared.value.Want.TheVariants as want
-use Rattle.sc_core.specs.Memory.{Blocks, bind}
-use Rattle.sc_core.specs.Value.{c_arith, is_true, of_bool, moved, applied_one}
-use Rattle.sc_core.specs.Types.{is_unsigned}
-use Rattle.sc_core.specs.Words.{Here}
-use Rattle.sc_core.specs.Tree.{Ways, Meant, variable_at, wanted, literal, at_pointer, binary, term_step, meant_step, meant, ways}
 use Rattle.sc_core.proofs.Layers.{expr_at, term_of}
 use Rattle.sc_value.specs.Evaluation.{decided, joined, or_else}
 

@@ -1,12 +1,6 @@
 -- Places that move.
-use Rattle.std.proofs.Common.{◌≡◌, refl, sym, ap, ◌∙◌, ℕ, zero, suc, ◌*◌, Bool, arith, pos, negsuc, ℤ, ◌*ℤ◌, neg_ℤ, mul-one}
+use Rattle.sc_value.proofs.Common.{Blocks, Bool, Cause, Result, Value, Word, ap, arith, moved, moved_back, mul-one, neg_ℤ, negsuc, number_of, pos, refl, suc, sym, zero, ℕ, ℤ, ◌*ℤ◌, ◌*◌, ◌∙◌, ◌≡◌}
 use Rattle.std.proofs.Math.IntN.{*ℤ-negsuc, neg_ℤ-neg_ℤ}
-use Rattle.sc_core.specs.declared.cause.Cause.{Cause}
-use Rattle.sc_core.specs.declared.value.Value.{Value}
-use Rattle.sc_core.specs.declared.value.Value.TheVariants.{Word}
-use Rattle.sc_core.specs.Memory.{Blocks}
-use Rattle.sc_core.specs.Value.{moved, moved_back, number_of}
-use Rattle.std.specs.Prelude.{Result}
 
 pub by_one : (blocks : Blocks) (offset : ℕ) (q : Value) →
     moved blocks (pos offset *ℤ pos 1) q ≡ moved blocks (pos offset) q

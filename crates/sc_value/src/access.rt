@@ -1,7 +1,7 @@
 //! Loads and stores of values (C11 6.3.2.1, 6.5.16).
 
+ghost use Rattle.sc_core.specs.Prelude.{cell_of, load, store, with_blocks};
 ghost use Rattle.std.specs.Prelude.{◌≡◌, Ok, Err, OnErr, MatchResult};
-ghost use Rattle.sc_core.specs.Memory.{cell_of, load, store, with_blocks};
 ghost use Rattle.sc_blocks.specs.Rows.{memory_of, cause_of};
 ghost use Rattle.sc_value.specs.Access.{typed};
 

@@ -1,9 +1,8 @@
 //! Expressions (C11 6.5), by recursion on the tree, whose height is at most 256.
 
+ghost use Rattle.sc_core.specs.Prelude.{applied, at_pointer, c_arith, is_unsigned_op, literal, values, variable_at, wanted, ways};
 ghost use Rattle.std.specs.Prelude.{◌≡◌, map, IfOk};
 ghost use Rattle.sc_base.specs.declared.op.BinaryOp.TheVariants.{Add};
-ghost use Rattle.sc_core.specs.Value.{c_arith};
-ghost use Rattle.sc_core.specs.Tree.{variable_at, wanted, literal, is_unsigned_op, at_pointer, applied, ways, values};
 ghost use Rattle.sc_blocks.specs.Rows.{memory_of};
 ghost use Rattle.sc_value.specs.Evaluation.{decided, joined};
 ghost use Rattle.sc_value.specs.Where.{here_of};

@@ -1,11 +1,10 @@
 //! Operators between two pointers (C11 6.5.6p9, 6.5.8p5, 6.5.9p6).
 
+ghost use Rattle.sc_word.specs.Prelude.{word_of};
+ghost use Rattle.sc_core.specs.Prelude.{apart, between, bind, in_elements, is_inside, of_bool, ordered, same_place};
 ghost use Rattle.std.specs.Prelude.{◌≡◌, ◌<◌, ◌^◌, pos, negsuc, ◌≤ℤ◌, ◌<ℤ◌, IfOk};
-ghost use Rattle.sc_word.specs.Word.{word_of};
 ghost use Rattle.std.specs.Prelude.{Ok};
-ghost use Rattle.sc_core.specs.Memory.{bind};
 ghost use Rattle.sc_core.specs.declared.value.Value.TheVariants.{Ptr};
-ghost use Rattle.sc_core.specs.Value.{of_bool, apart, in_elements, ordered, is_inside, same_place, between};
 ghost use Rattle.sc_blocks.specs.Rows.{memory_of};
 
 use crate::moves::count_at;

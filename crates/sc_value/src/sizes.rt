@@ -1,7 +1,7 @@
 //! Types as the meaning reads them, and how many cells they take (C11 6.2.5, 6.7.2.1).
 
+ghost use Rattle.sc_core.specs.Prelude.{base_cells, cells_of, is_array, is_pointer, is_unsigned, starred_cells, struct_cells, target_cells};
 ghost use Rattle.std.specs.Prelude.{◌≡◌, slice_get};
-ghost use Rattle.sc_core.specs.Types.{is_unsigned, is_array, is_pointer, struct_cells, base_cells, starred_cells, cells_of, target_cells};
 
 use sc_core::{BaseTy, Ty, TypedStruct};
 

@@ -1,8 +1,8 @@
 //! Operators on words (C11 6.5.3.3, 6.5.5 to 6.5.14).
 
+ghost use Rattle.sc_core.specs.Prelude.{applied_one, c_arith, c_binary, c_negated, is_less, is_true, number_of, of_bool, on_words, or_cause, truth};
 ghost use Rattle.std.specs.Prelude.{◌≡◌, true, false};
 ghost use Rattle.sc_base.specs.declared.op.UnaryOp.TheVariants.{Minus, BitNot};
-ghost use Rattle.sc_core.specs.Value.{or_cause, truth, is_less, c_binary, c_negated, on_words, applied_one, c_arith, number_of, is_true, of_bool};
 
 use sc_base::{BinaryOp, UnaryOp};
 use sc_core::{Cause, Value};

@@ -1,10 +1,5 @@
 -- Each instruction computes what its operator of C computes.
-use Rattle.std.proofs.Common.{◌≡◌, ℕ, ◌<◌, ◌^◌, ap, ◌∙◌, arith, ℤ, pos, ◌+ℤ◌, ◌-ℤ◌, ◌*ℤ◌, neg_ℤ, Ok}
-use Rattle.std.proofs.lemmas.Int.{ints}
-use Rattle.sc_word.specs.Word.{signed_of, word_of}
-use Rattle.sc_word.specs.CArithmetic.{checked, add_signed, sub_signed, mul_signed, neg_signed, div_signed, rem_signed, shl_signed, shr_signed, div_unsigned, rem_unsigned, shl_unsigned, shr_unsigned}
-use Rattle.sc_word.specs.Machine.{add_word, sub_word, sll_word, srl_word, sra_word, mul_word, div_word, divu_word, rem_word, remu_word}
-use Rattle.sc_word.specs.Agreement.{Agrees}
+use Rattle.sc_word.proofs.Common.{Agrees, Ok, add_signed, add_word, ap, arith, checked, div_signed, div_unsigned, div_word, divu_word, ints, mul_signed, mul_word, neg_signed, neg_ℤ, pos, rem_signed, rem_unsigned, rem_word, remu_word, shl_signed, shl_unsigned, shr_signed, shr_unsigned, signed_of, sll_word, sra_word, srl_word, sub_signed, sub_word, word_of, ℕ, ℤ, ◌*ℤ◌, ◌+ℤ◌, ◌-ℤ◌, ◌<◌, ◌^◌, ◌∙◌, ◌≡◌}
 use Rattle.sc_word.proofs.Words.{word_of-add, word_of-sub, word_of-mul}
 
 pub word_of-checked : (z : ℤ) (v : ℕ) → checked z ≡ Ok v → word_of z ≡ v

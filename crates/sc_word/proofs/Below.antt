@@ -1,11 +1,6 @@
 -- Each instruction computes a word from words.
-use Rattle.std.proofs.Common.{ℕ, pos, ◌-◌, ◌*◌, ◌/◌, ◌%◌, ◌^◌, ◌<◌, Bool, true, false, nat_lt, if◌then◌else◌, arith, ◌*ℤ◌, ◌-ℤ◌}
-use Rattle.std.specs.Prelude.{◌==◌, int_lt, int_div, int_rem}
-use Rattle.std.specs.Int.{int_shr}
+use Rattle.sc_word.proofs.Common.{Bool, add_word, arith, div-le_self, div_word, divu_word, false, if◌then◌else◌, int_div, int_lt, int_rem, int_shr, mod-le, mul_word, mulh_word, mulhsu_word, mulhu_word, nat_lt, pos, rem_word, remu_word, signed_of, sll_word, slt_word, sltu_word, sra_word, srl_word, sub_word, true, word_of, ℕ, ◌%◌, ◌*ℤ◌, ◌*◌, ◌-ℤ◌, ◌-◌, ◌/◌, ◌<◌, ◌==◌, ◌^◌}
 use Rattle.std.proofs.lemmas.Nat.{mul-lt}
-use Rattle.std.proofs.Math.Nat.{div-le_self, mod-le}
-use Rattle.sc_word.specs.Word.{signed_of, word_of}
-use Rattle.sc_word.specs.Machine.{add_word, sub_word, sll_word, srl_word, sra_word, slt_word, sltu_word, mul_word, mulh_word, mulhsu_word, mulhu_word, div_word, divu_word, rem_word, remu_word}
 use Rattle.sc_word.proofs.Words.{word_of-lt}
 
 either : (b : Bool) (x y : ℕ) → x < 2 ^ 32 → y < 2 ^ 32 → (if b then x else y) < 2 ^ 32

@@ -1,11 +1,5 @@
 -- Each operator that answers on all words is its instructions.
-use Rattle.std.proofs.Common.{◌≡◌, ℕ, zero, suc, ◌+◌, ◌-◌, ◌*◌, ◌<◌, ◌≤◌, ◌%◌, ◌^◌, refl, sym, ap, ◌∙◌, arith, ℤ, pos, ◌+ℤ◌, ◌*ℤ◌, neg_ℤ, Bool, true, false, ◌&&◌, ◌||◌, nat_lt, bit_and, bit_or, bit_xor}
-use Rattle.std.specs.Prelude.{◌==◌, not, int_lt}
-use Rattle.std.proofs.Math.Nat.{add-mul, mul_comm}
-use Rattle.std.proofs.lemmas.Int.{ints}
-use Rattle.sc_word.specs.Word.{signed_of, word_of}
-use Rattle.sc_word.specs.Machine.{sub_word, sltu_word}
-use Rattle.sc_word.specs.OnAllWords.{IsOnWords, bit, SignedWraps, TestsAreWords, OperatorsAreInstructions}
+use Rattle.sc_word.proofs.Common.{Bool, IsOnWords, OperatorsAreInstructions, SignedWraps, TestsAreWords, add-mul, ap, arith, bit, bit_and, bit_or, bit_xor, false, int_lt, ints, mul_comm, nat_lt, neg_ℤ, not, pos, refl, signed_of, sltu_word, sub_word, suc, sym, true, word_of, zero, ℕ, ℤ, ◌%◌, ◌&&◌, ◌*ℤ◌, ◌*◌, ◌+ℤ◌, ◌+◌, ◌-◌, ◌<◌, ◌==◌, ◌^◌, ◌||◌, ◌∙◌, ◌≡◌, ◌≤◌}
 use Rattle.sc_word.proofs.Words.{word_of-add, word_of-sub, word_of-mul}
 
 zero_left : (z : ℤ) → pos 0 +ℤ z ≡ z

@@ -1,8 +1,5 @@
 -- Words and the numbers that they stand for.
-use Rattle.std.proofs.Common.{◌≡◌, ℕ, ◌+◌, ◌-◌, ◌*◌, ◌<◌, ◌%◌, ◌^◌, refl, sym, ap, ◌∙◌, arith, ℤ, pos, negsuc, ◌+ℤ◌, ◌-ℤ◌, ◌*ℤ◌}
-use Rattle.std.specs.Int.{w32, cast_unsigned, int_wrap}
-use Rattle.std.proofs.lemmas.Int.{of_z-to_z, wrapping_add-bits, wrapping_sub-bits, wrapping_mul-bits}
-use Rattle.sc_word.specs.Word.{signed_of, word_of}
+use Rattle.sc_word.proofs.Common.{ap, arith, cast_unsigned, int_wrap, negsuc, of_z-to_z, pos, refl, signed_of, sym, w32, word_of, wrapping_add-bits, wrapping_mul-bits, wrapping_sub-bits, ℕ, ℤ, ◌%◌, ◌*ℤ◌, ◌*◌, ◌+ℤ◌, ◌+◌, ◌-ℤ◌, ◌-◌, ◌<◌, ◌^◌, ◌∙◌, ◌≡◌}
 
 pub word_of-lt : (z : ℤ) → word_of z < 2 ^ 32
 word_of-lt (pos n) = omega arith

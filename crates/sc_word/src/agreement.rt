@@ -1,7 +1,6 @@
 //! Laws that tie C's operators to instructions. Each is the contract of a function with nothing to do.
 
-ghost use Rattle.sc_word.specs.Agreement.{MachineComputesC};
-ghost use Rattle.sc_word.specs.OnAllWords.{OperatorsAreInstructions};
+ghost use Rattle.sc_word.specs.Prelude.{MachineComputesC, OperatorsAreInstructions};
 
 /// Wherever a C operator answers a word, its instruction answers the same word, so code may be
 /// compiled operator by operator.

@@ -1,11 +1,5 @@
 -- Words of which one is bare are no command.
-use Rattle.std.proofs.Common.{◌≡◌, Bool, cond, true, false, refl, sym, ap, subst, List, [], ◌∷◌, Option, Some, None, true≢false, eqb-true, arith}
-use Rattle.std.specs.Prelude.{◌&&◌, ◌==◌, not, find, length, option_and_then, option_map}
-use Rattle.std.specs.List.{list_all, list_any}
-use Rattle.std.specs.Str.{bytes_eq}
-use Rattle.sc_words.specs.Options.{Form, Setting, Text, begins_with_hyphen, settings, has_value, is_among, is_bare, more, named, named_option, options, when_complete}
-use Rattle.sc_words.specs.Words.{commands, form_of, parsed}
-use Rattle.sc_base.proofs.Texts.{same_text}
+use Rattle.sc_words.proofs.Common.{Bool, Form, List, None, Option, Setting, Some, Text, [], ap, arith, begins_with_hyphen, bytes_eq, commands, cond, eqb-true, false, find, form_of, has_value, is_among, is_bare, length, list_all, list_any, more, named, named_option, not, option_and_then, option_map, options, parsed, refl, same_text, settings, subst, sym, true, true≢false, when_complete, ◌&&◌, ◌==◌, ◌∷◌, ◌≡◌}
 
 -- ---- what holds of each command holds of the command of a name
 

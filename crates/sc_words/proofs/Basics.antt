@@ -1,9 +1,5 @@
 -- Booleans and kinds of faults, and words by their hyphens.
-use Rattle.std.proofs.Common.{◌≡◌, ℕ, Bool, true, false, refl, sym, [], ◌∷◌, true≢false, eqb-true}
-use Rattle.std.specs.Prelude.{◌&&◌, not, ◌==◌}
-use Rattle.clap.specs.Kinds.{Kinds, or_else}
-use Rattle.clap.specs.declared.error.kind.ErrorKind.{ErrorKind}
-use Rattle.sc_words.specs.Options.{Text, begins_with_hyphen, is_bare}
+use Rattle.sc_words.proofs.Common.{Bool, ErrorKind, Kinds, Text, [], begins_with_hyphen, eqb-true, false, is_bare, not, or_else, refl, sym, true, true≢false, ℕ, ◌&&◌, ◌==◌, ◌∷◌, ◌≡◌}
 
 -- ---- booleans
 

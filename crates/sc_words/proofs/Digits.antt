@@ -1,13 +1,9 @@
 -- Numbers as `parse` reads them, and lists cut at their commas.
-use Rattle.std.proofs.Common.{◌≡◌, ◌∙◌, ℕ, ℤ, pos, neg_ℤ, Bool, cond, true, false, suc, refl, sym, ap, ap₂, List, [], ◌∷◌, ◌++◌, length, ◌<◌, ◌≤◌, ◌+◌, Option, Some, None, Result, Ok, Err, true≢false, eqb-true, lt-ltb, ltb-true, leb-true, le-leb, eq-eqb, arith, append_assoc, slice_index, get_or, inl, inr, w32}
-use Rattle.std.specs.Prelude.{◌||◌, ◌⊎◌, ◌&&◌, ◌==◌, ◌≢◌, nat_lt, nat_le, option_and_then, option_map, OkIff}
-use Rattle.std.specs.List.{list_any, after_first, position_or_len}
+use Rattle.sc_words.proofs.Common.{Bool, Err, List, None, Ok, OkIff, Option, Result, Some, [], after_first, all_ascii_digits, ap, append_assoc, ap₂, arith, cond, eq-eqb, eqb-true, false, first_piece, get_or, in_front, inl, inr, integer, integer_list, integers, is_comma, le-leb, leb-true, length, list_any, lt-ltb, ltb-true, nat_le, nat_lt, neg_ℤ, number_within, onto_first, option_and_then, option_map, pieces, pieces_behind, pos, position_or_len, refl, slice_index, suc, sym, true, true≢false, w32, when_within, ℕ, ℤ, ◌&&◌, ◌++◌, ◌+◌, ◌<◌, ◌==◌, ◌||◌, ◌∙◌, ◌∷◌, ◌≡◌, ◌≢◌, ◌≤◌, ◌⊎◌}
 use Rattle.std.specs.Result.{result_ok}
-use Rattle.std.specs.Str.{all_ascii_digits}
 use Rattle.std.specs.Str.Parse.{ParsesSigned, ParsesUnsigned, digits_value}
 use Rattle.std.proofs.lemmas.Bool.{and_parts}
 use Rattle.std.proofs.lemmas.Str.Parse.{IsNumeralModel, numerals_by_value, parse_plain, parse_signed_minus, parse_signed_plain, tells_all_ascii_digits}
-use Rattle.sc_words.specs.Numbers.{first_piece, in_front, integer, integer_list, integers, is_comma, number_within, onto_first, pieces, pieces_behind, when_within}
 
 -- ---- numbers
 

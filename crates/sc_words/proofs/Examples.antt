@@ -1,11 +1,6 @@
 -- Words that are a command, with the command, and words that are none.
-use Rattle.std.proofs.Common.{◌≡◌, ℕ, ℤ, true, false, if◌then◌else◌, List, [], ◌∷◌, length, map, replicate, Some, None, codes, refl}
-use Rattle.std.specs.Prelude.{pos, neg_ℤ, ◌==◌}
-use Rattle.sc_words.specs.Numbers.{integers, onto_first, pieces}
-use Rattle.sc_words.specs.Options.{Text, settings}
-use Rattle.sc_words.specs.Words.{command}
+use Rattle.sc_words.proofs.Common.{Check, Compile, Exec, Explain, List, Make, Meaning, None, Run, Some, Text, [], codes, command, false, if◌then◌else◌, integers, length, map, neg_ℤ, onto_first, pieces, pos, refl, replicate, settings, true, ℕ, ℤ, ◌==◌, ◌∷◌, ◌≡◌}
 use Rattle.sc_words.specs.declared.command.Command.{Command}
-use Rattle.sc_words.specs.declared.command.Command.TheVariants.{Check, Meaning, Compile, Run, Exec, Explain, Make}
 use Rattle.sc_words.specs.declared.command.RunOptions.{RunOptions}
 
 -- the words between the spaces of a line

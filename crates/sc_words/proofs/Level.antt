@@ -1,17 +1,7 @@
 -- What a parse makes of the words behind a command's name: the options that they give, or a fault.
-use Rattle.std.proofs.Common.{◌≡◌, ◌∙◌, ℕ, Bool, cond, true, false, refl, sym, ap, ap₂, subst, List, [], ◌∷◌, ◌++◌, Option, Some, None, append-nil, append_assoc, true≢false, codes}
-use Rattle.std.specs.Prelude.{not, ◌==◌, fold, option_and_then}
-use Rattle.std.specs.List.{list_all}
-use Rattle.std.specs.Option.{option_map_or}
+use Rattle.sc_words.proofs.Common.{Bool, Form, Held, Kinds, List, None, Option, Row, Rule, Setting, Shape, Some, Step, Text, Waiting, Walk, [], after_flag, after_step, ap, append-nil, append_assoc, ap₂, arg_by_id, begins_with_hyphen, bytes_eq_self, check_fault, codes, cond, defaults_fault, each_once, false, finished, fold, has_option, has_row, has_value, idle, is_among, is_bare, level_fault, list_all, long_fault, long_met, more, name_and_value, named, named_option, not, nothing_held, option, option_and_then, option_map_or, options, or_else, reacted, refl, rows_after, settings, settle_fault, settled, short_of, step_fault, subst, sym, true, true≢false, turn_fault, use_fault, used, used_by_id, walk_fault, walked, when_complete, with_default, ℕ, ◌++◌, ◌==◌, ◌∙◌, ◌∷◌, ◌≡◌}
 use Rattle.std.proofs.lemmas.List.{map-append}
-use Rattle.clap.specs.Faults.{check_fault, defaults_fault, level_fault, long_fault, settle_fault, step_fault, turn_fault, use_fault, walk_fault}
-use Rattle.clap.specs.Kinds.{Kinds, or_else}
-use Rattle.clap.specs.Simple.{Shape}
-use Rattle.clap.specs.Lexer.{short_of}
-use Rattle.clap.specs.Walk.{Held, Row, Rule, Step, Waiting, Walk, after_flag, after_step, arg_by_id, finished, has_row, idle, long_met, nothing_held, option, reacted, rows_after, settled, used, used_by_id, walked, with_default}
 use Rattle.clap.specs.declared.error.kind.ErrorKind.TheVariants as kind
-use Rattle.sc_words.specs.Options.{Form, Setting, Text, begins_with_hyphen, each_once, settings, has_option, has_value, is_among, is_bare, more, name_and_value, named, named_option, options, when_complete}
-use Rattle.sc_base.proofs.Texts.{bytes_eq_self}
 use Rattle.sc_words.proofs.Basics.{by_hyphens, first_fails, first_not, not_empty, or_else_assoc, second_fails}
 use Rattle.sc_words.proofs.Lookup.{by_id, by_index, by_long, lookup, lookup_other, lookup_valued, ready, ready_alone, ready_rules, ready_valued}
 use Rattle.sc_words.proofs.Rows.{again_alone, again_valued, check, check_is, final, has_row_rows, new_alone, new_valued, no_default_fails, once_more, plain_row, repeated, row, rows, used_alone, used_valued}

@@ -1,3 +1,4 @@
+pub mod Common
 mod Bare
 mod Basics
 mod Digits

@@ -1,16 +1,6 @@
 -- The arguments of a command as the parse reads them, and the argument of a name.
-use Rattle.std.proofs.Common.{◌≡◌, ◌∙◌, ℕ, Bool, cond, true, false, refl, sym, ap, ap₂, List, [], ◌∷◌, ◌++◌, map, Option, Some, None, true≢false, codes}
-use Rattle.std.specs.Prelude.{◌||◌, ◌&&◌, not, if◌then◌else◌, find, is_some}
-use Rattle.std.specs.Option.{option_or}
-use Rattle.std.specs.Str.{bytes_eq}
-use Rattle.std.proofs.lemmas.List.Folds.{find-append}
-use Rattle.clap.specs.Simple.{Shape, new_shape}
-use Rattle.clap.specs.Walk.{Rule, arg_by_id, arg_by_index, arg_by_long, has_long}
+use Rattle.sc_words.proofs.Common.{Bool, Form, List, None, Option, Rule, Shape, Some, Text, [], alone_rule, ap, ap₂, arg_by_id, arg_by_index, arg_by_long, bytes_eq, codes, cond, false, find, find-append, has_long, has_value, if◌then◌else◌, is_among, is_some, map, new_shape, not, option_or, or-false, refl, same_text, sym, true, true≢false, valued_rule, ℕ, ◌&&◌, ◌++◌, ◌||◌, ◌∙◌, ◌∷◌, ◌≡◌}
 use Rattle.clap.specs.declared.builder.value_parser.ValueParser.TheVariants as vp
-use Rattle.sc_words.specs.Application.{alone_rule, valued_rule}
-use Rattle.sc_words.specs.Options.{Form, Text, has_value, is_among}
-use Rattle.sc_base.proofs.Texts.{same_text}
-use Rattle.std.proofs.Math.Bool.{or-false}
 
 -- ---- the arguments as the parse reads them
 

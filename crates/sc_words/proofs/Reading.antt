@@ -1,27 +1,11 @@
 -- The command that a parse which succeeds comes to.
-use Rattle.std.proofs.Common.{◌≡◌, ◌∙◌, Bool, true, false, refl, sym, ap, subst, List, [], Option, Some, None, codes}
-use Rattle.std.specs.Prelude.{Box, option_and_then, option_map}
-use Rattle.std.specs.Str.{bytes_eq}
-use Rattle.clap.specs.Walk.{Row, first_of, one_of}
+use Rattle.sc_words.proofs.Common.{App, Bool, Box, ErrorKind, Exec, Explain, Form, HasMatchesOf, IsAmong, IsReading, List, Make, Meaning, None, Option, Row, Run, Setting, Some, Tells, Text, Values, [], ap, application, bytes_eq, codes, command, command_with, commands, events, false, fault_of, first_of, first_value-rows, flag_text, form_of, has_option, has_value, inputs, is_among, is_bare, is_simple, limit, list_any, make, make_form, meaning, number_within, one_of, one_text-rows, option_and_then, option_map, parsed, refl, rows_of, run, same_text, subcommand_of, subcommand_rows, subcommand_rows_of, subst, sym, text_to_show, true, value_of, ◌∙◌, ◌≡◌}
 use Rattle.std.specs.Box.{box_value}
-use Rattle.std.specs.List.{list_any}
-use Rattle.clap.specs.Faults.{fault_of}
-use Rattle.clap.specs.Kinds.{IsAmong}
 use Rattle.clap.specs.Matches.{first_value, one_text, subcommand_name_of}
-use Rattle.clap.specs.Simple.{App, HasMatchesOf, is_simple, subcommand_of, subcommand_rows, subcommand_rows_of}
-use Rattle.clap.specs.Walk.{rows_of}
-use Rattle.clap.specs.declared.error.kind.ErrorKind.{ErrorKind}
 use Rattle.clap.specs.declared.parser.matches.ArgMatches.{ArgMatches}
 use Rattle.clap.specs.declared.parser.matches.ArgMatches.TheViews.{out-ArgMatches, out-SubCommand}
 use Rattle.clap.specs.declared.parser.matches.Found.{Found}
 use Rattle.clap.specs.declared.parser.matches.SubCommand.{SubCommand}
-use Rattle.clap.proofs.WalkLemmas.{first_value-rows, one_text-rows}
-use Rattle.sc_words.specs.Application.{IsReading, Tells, application, flag_text}
-use Rattle.sc_words.specs.Options.{Form, Setting, Text, has_option, has_value, is_among, is_bare, value_of}
-use Rattle.sc_words.specs.Words.{Values, command, parsed, command_with, commands, events, form_of, inputs, limit, make, make_form, meaning, run, text_to_show}
-use Rattle.sc_words.specs.Numbers.{number_within}
-use Rattle.sc_words.specs.declared.command.Command.TheVariants.{Meaning, Run, Exec, Explain, Make}
-use Rattle.sc_base.proofs.Texts.{same_text}
 use Rattle.sc_words.proofs.Bare.{by_command, none_bare}
 use Rattle.sc_words.proofs.Top.{Reads, has_matches, words_agree}
 

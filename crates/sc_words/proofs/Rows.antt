@@ -1,23 +1,10 @@
 -- The rows of the options that are given: what a use adds, what is found at the end, and what is checked there.
-use Rattle.std.proofs.Common.{◌≡◌, ◌∙◌, Bool, cond, true, false, refl, sym, ap, ap₂, List, [], ◌∷◌, ◌++◌, map, Option, Some, None, append-nil, true≢false, codes}
-use Rattle.std.specs.Prelude.{◌||◌, ◌&&◌, not, if◌then◌else◌, find, fold, option_and_then, option_map, slice_get, is_some}
-use Rattle.std.specs.List.{list_all, list_any}
-use Rattle.std.specs.Option.{option_map_or, option_or}
-use Rattle.std.specs.Str.{bytes_eq}
-use Rattle.std.proofs.lemmas.List.Folds.{find-append, list_any-append}
+use Rattle.sc_words.proofs.Common.{Bool, Form, Kinds, List, None, Option, Row, Rule, Setting, Some, Tells, Text, [], ap, append-nil, ap₂, at_row, bytes_eq, codes, cond, defaults_fault, each_once, false, find, find-append, find-map, find_passes, flag_text, fold, has_option, has_row, has_value, if◌then◌else◌, is_among, is_some, list_all, list_any, list_any-append, map, more, more_values, not, option_and_then, option_map, option_map_or, option_or, or_else, refl, row_text, same_either_way, same_text, slice_get, sym, true, true≢false, use_fault, used, with_default, with_values, ◌&&◌, ◌++◌, ◌||◌, ◌∙◌, ◌∷◌, ◌≡◌}
 use Rattle.clap.specs.Facts.{explicit_source}
-use Rattle.clap.specs.Faults.{defaults_fault, use_fault}
-use Rattle.clap.specs.Kinds.{Kinds, or_else}
 use Rattle.clap.specs.Takes.{is_given}
-use Rattle.clap.specs.Walk.{Row, Rule, at_row, has_row, more_values, row_text, used, with_default, with_values}
 use Rattle.clap.specs.declared.builder.value_parser.Reading.TheVariants.{AsWritten}
 use Rattle.clap.specs.declared.error.kind.ErrorKind.TheVariants as kind
 use Rattle.clap.specs.declared.parser.matches.ValueSource.TheVariants.{DefaultValue, CommandLine}
-use Rattle.clap.proofs.WalkLemmas.{find-map}
-use Rattle.sc_words.specs.Application.{Tells, flag_text}
-use Rattle.sc_words.specs.Options.{Form, Setting, Text, each_once, has_option, has_value, is_among, more}
-use Rattle.sc_base.proofs.Texts.{same_either_way, same_text}
-use Rattle.sc_base.proofs.Lists.{find_passes}
 use Rattle.sc_words.proofs.Basics.{not_empty}
 use Rattle.sc_words.proofs.Lookup.{ready_alone, ready_rules, ready_valued}
 use Rattle.sc_base.proofs.Bools.{and_false}

@@ -1,24 +1,8 @@
 -- What a parse makes of all the words: the command's name and its options, or a fault.
-use Rattle.std.proofs.Common.{◌≡◌, ◌∙◌, Bool, cond, true, false, refl, sym, ap, subst, List, [], ◌∷◌, ◌++◌, map, Option, Some, None, append-nil, append_assoc, true≢false, codes}
-use Rattle.std.specs.Prelude.{◌&&◌, ◌==◌, not, find, fold, option_and_then, option_map, is_some}
-use Rattle.std.specs.List.{list_all}
-use Rattle.std.specs.Option.{option_map_or}
-use Rattle.std.specs.Str.{bytes_eq}
-use Rattle.clap.specs.Faults.{check_fault, defaults_fault, entered_fault, fault_of, is_simple_and_free, level_fault, other_fault, settle_fault, step_fault, turn_fault, walk_fault}
-use Rattle.clap.specs.Kinds.{Kinds, or_else}
-use Rattle.clap.specs.Lexer.{short_of}
-use Rattle.clap.specs.Simple.{App, Shape, built, entered, is_simple, label_of, names_of, new_shape, rows_at, subcommand_of}
-use Rattle.clap.specs.Walk.{Held, Names, Row, Step, Walk, after_step, answers_to, finished, idle, nothing_held, rows_after, settled, subcommand_met, subcommand_or_other, walk_from, walked}
+use Rattle.sc_words.proofs.Common.{App, Bool, Form, Held, Kinds, List, Names, None, Option, Row, Setting, Shape, Some, Step, Tells, Text, Walk, [], after_step, answers_to, ap, append-nil, append_assoc, application, begins_with_hyphen, built, bytes_eq, check_fault, codes, commands, cond, defaults_fault, entered, entered_fault, false, fault_of, find, find-map, find_passes, finished, fold, form_of, idle, is_bare, is_simple, is_simple_and_free, is_some, label_of, level_fault, list_all, map, names_of, new_shape, not, nothing_held, option_and_then, option_map, option_map_or, options, or-false, or_else, other_fault, parsed, refl, rows_after, rows_at, same_text, settle_fault, settled, short_of, step_fault, subcommand_met, subcommand_of, subcommand_or_other, subst, sym, true, true≢false, turn_fault, walk_fault, walk_from, walked, ◌&&◌, ◌++◌, ◌==◌, ◌∙◌, ◌∷◌, ◌≡◌}
 use Rattle.clap.proofs.FaultLemmas.{stopped_fault}
 use Rattle.clap.proofs.SimpleLemmas.{label_first}
-use Rattle.clap.proofs.WalkLemmas.{find-map}
-use Rattle.std.proofs.Math.Bool.{or-false}
 use Rattle.clap.specs.declared.error.kind.ErrorKind.TheVariants as kind
-use Rattle.sc_words.specs.Application.{Tells, application}
-use Rattle.sc_words.specs.Options.{Form, Setting, Text, begins_with_hyphen, is_bare, options}
-use Rattle.sc_words.specs.Words.{commands, form_of, parsed}
-use Rattle.sc_base.proofs.Texts.{same_text}
-use Rattle.sc_base.proofs.Lists.{find_passes}
 use Rattle.sc_words.proofs.Basics.{by_hyphens, first_fails, first_not, not_empty}
 use Rattle.sc_words.proofs.Lookup.{ready, ready_rules}
 use Rattle.sc_words.proofs.Rows.{tells}

@@ -1,11 +1,8 @@
 //! Declarations other than functions, and the heads of functions.
 
+ghost use Rattle.sc_ast.specs.Prelude.{base_words, blank, blank_if, comma, const_words, declared_words, ended, global_words, head_of, head_words, init_words, length_words, member_line, minus_words, name_words, newline, param_of, param_words, params_words, result_words, star_words, struct_words, text_of, word};
 ghost use Rattle.std.specs.Prelude.{◌≡◌, ◌<◌, ◌++◌, ◌||◌, [], ◌∷◌, OnOk, codes, nat_lt, is_some, map};
 ghost use Rattle.std.specs.List.{flat_map, join_by};
-ghost use Rattle.sc_ast.specs.Heads.{param_of, head_of};
-ghost use Rattle.sc_ast.specs.Pieces.{word, blank, newline, text_of, blank_if, comma};
-ghost use Rattle.sc_ast.specs.StmtWords.{ended};
-ghost use Rattle.sc_ast.specs.SectionWords.{base_words, star_words, length_words, declared_words, member_line, struct_words, minus_words, const_words, init_words, global_words, name_words, param_words, params_words, result_words, head_words};
 
 use crate::ident::Ident;
 use crate::number::ArrayLength;

@@ -1,10 +1,9 @@
 //! Expressions.
 
+ghost use Rattle.sc_ast.specs.Prelude.{apart, binary_text, blank, call_words, closed, comma, expr_words, is_doubled, opened, place_words, prefix_words, text_of, unary_text, word, words_at};
+ghost use Rattle.sc_base.specs.Prelude.{level_of, loosest_level};
 ghost use Rattle.std.specs.Prelude.{◌≡◌, ◌<◌, ◌++◌, [], ◌∷◌, OnOk, codes};
 ghost use Rattle.std.specs.List.{join_by};
-ghost use Rattle.sc_base.specs.Levels.{loosest_level, level_of};
-ghost use Rattle.sc_ast.specs.Pieces.{word, blank, text_of, opened, closed, comma};
-ghost use Rattle.sc_ast.specs.ExprWords.{unary_text, binary_text, is_doubled, apart, prefix_words, words_at, expr_words, place_words, call_words};
 
 use crate::expr::{CallTree, ExprTree, Exprs};
 use crate::print::words::{append_closed, append_literal, append_opened};

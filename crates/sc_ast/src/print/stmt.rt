@@ -1,10 +1,8 @@
 //! Statements.
 
+ghost use Rattle.sc_ast.specs.Prelude.{assign_call_words, assign_words, behind_else, blank, block_words, call_words, chain_words, condition_words, deeper, else_words, expr_words, first_words, is_chain, kind_layout, layouts, line_of, lines_at, next_words, return_words, simple_words, stmt_layout, text_of, word};
 ghost use Rattle.std.specs.Prelude.{◌≡◌, ◌++◌, [], ◌∷◌, OnOk, codes};
 ghost use Rattle.std.specs.List.{list_all};
-ghost use Rattle.sc_ast.specs.Pieces.{word, blank, text_of, deeper, line_of};
-ghost use Rattle.sc_ast.specs.ExprWords.{expr_words, call_words};
-ghost use Rattle.sc_ast.specs.StmtWords.{assign_words, assign_call_words, simple_words, condition_words, first_words, next_words, return_words, stmt_layout, kind_layout, layouts, lines_at, block_words, is_chain, chain_words, behind_else, else_words};
 
 use crate::expr::{CallTree, ExprTree};
 use crate::place::PlaceTree;

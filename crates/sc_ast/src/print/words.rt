@@ -1,8 +1,7 @@
 //! Words that stand alone.
 
+ghost use Rattle.sc_ast.specs.Prelude.{closed, deeper, indent, literal_text, opened, text_of};
 ghost use Rattle.std.specs.Prelude.{◌≡◌, ◌++◌, [], ◌∷◌, OnOk};
-ghost use Rattle.sc_ast.specs.Pieces.{indent, text_of, opened, closed, deeper};
-ghost use Rattle.sc_ast.specs.ExprWords.{literal_text};
 
 use crate::number::Literal;
 use itoa::Buffer;

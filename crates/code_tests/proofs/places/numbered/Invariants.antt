@@ -1,5 +1,5 @@
+use Rattle.sc_tac.specs.Prelude.{AreIntervals}
 use Rattle.std.proofs.Common.{◌≡◌, length}
-use Rattle.sc_tac.specs.Intervals.{AreIntervals}
 use Rattle.code_tests.proofs.places.numbered.Given as goal
 
 abbrev pub invariant-loop-span : goal.invariant-loop-span

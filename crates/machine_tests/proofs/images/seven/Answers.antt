@@ -1,6 +1,6 @@
+use Rattle.sc_base.specs.Prelude.{is_name, name_of}
 use Rattle.std.proofs.Common.{◌≡◌, ℕ, List, Option, Some, sym, ◌∙◌}
 use Rattle.std.specs.Prelude.{codes}
-use Rattle.sc_base.specs.Identifier.{is_name, name_of}
 use Rattle.sc_image.proofs.Seven.{seven_is_well_formed}
 use Rattle.machine_tests.proofs.images.seven.Goals as goal
 

@@ -1,10 +1,4 @@
-use Rattle.std.proofs.Common.{◌≤◌, List, sym, subst}
-use Rattle.std.specs.Prelude.{All}
-use Rattle.std.specs.List.Sorted.{IsPermutation}
-use Rattle.sc_tac.specs.declared.interval.Interval.{Interval}
-use Rattle.sc_tac.specs.Places.{IsAssignment, IsSparing}
-use Rattle.sc_alloc.specs.declared.given.Given.{Given}
-use Rattle.sc_alloc.specs.Scan.{AreNumbered, ArePlaced}
+use Rattle.sc_alloc.proofs.Common.{All, AreNumbered, ArePlaced, Given, Interval, IsAssignment, IsPermutation, IsSparing, List, subst, sym, ◌≤◌}
 use Rattle.sc_alloc.proofs.Assignment.{all_ordered, moved_to, numbered, is_assignment, is_sparing, are_places}
 use Rattle.sc_alloc.proofs.places.assign.Goals as goal
 

@@ -1,6 +1,4 @@
-use Rattle.std.proofs.Common.{rules}
-use Rattle.std.proofs.lemmas.List.Sorted.{IsNonDecreasingBy-from_sort_by_key}
-use Rattle.sc_tac.specs.declared.interval.Interval.{Interval}
+use Rattle.sc_alloc.proofs.Common.{Interval, IsNonDecreasingBy-from_sort_by_key, rules}
 use Rattle.sc_alloc.proofs.places.by_start.Goals as goal
 
 pub returns-clause-rising : goal.returns-clause-rising

@@ -1,6 +1,4 @@
-use Rattle.std.proofs.Common.{◌≡◌, ◌<◌, ℕ, length, Some}
-use Rattle.std.specs.Prelude.{slice_get}
-use Rattle.sc_alloc.specs.declared.given.Given.{Given}
+use Rattle.sc_alloc.proofs.Common.{Given, Some, length, slice_get, ℕ, ◌<◌, ◌≡◌}
 use Rattle.sc_alloc.proofs.places.by_temp.Given as goal
 
 abbrev pub invariant-loop-one : goal.invariant-loop-one

@@ -1,6 +1,4 @@
-use Rattle.std.proofs.Common.{◌≡◌, map, take}
-use Rattle.sc_alloc.specs.declared.given.Given.{Given}
-use Rattle.sc_alloc.specs.Scan.{IsScan}
+use Rattle.sc_alloc.proofs.Common.{Given, IsScan, map, take, ◌≡◌}
 use Rattle.sc_alloc.proofs.places.scan.Given as goal
 
 abbrev pub invariant-loop-interval : goal.invariant-loop-interval

@@ -1,5 +1,4 @@
-use Rattle.std.proofs.Common.{◌≡◌, map, take}
-use Rattle.sc_ast.specs.Heads.{param_of}
+use Rattle.sc_ast.proofs.Common.{map, param_of, take, ◌≡◌}
 use Rattle.sc_ast.proofs.head.named_params.Given as goal
 
 abbrev pub invariant-loop-param : goal.invariant-loop-param

@@ -1,5 +1,4 @@
-use Rattle.std.proofs.Common.{◌≡◌, max, drop}
-use Rattle.sc_ast.specs.Height.{limited, stmts_height}
+use Rattle.sc_ast.proofs.Common.{drop, limited, max, stmts_height, ◌≡◌}
 use Rattle.sc_ast.proofs.height.+height.Given as goal
 
 abbrev pub invariant-stmts_height-loop-stmt : goal.invariant-stmts_height-loop-stmt

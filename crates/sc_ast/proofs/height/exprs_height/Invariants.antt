@@ -1,5 +1,4 @@
-use Rattle.std.proofs.Common.{◌≡◌, max, drop}
-use Rattle.sc_ast.specs.Height.{limited, exprs_height}
+use Rattle.sc_ast.proofs.Common.{drop, exprs_height, limited, max, ◌≡◌}
 use Rattle.sc_ast.proofs.height.exprs_height.Given as goal
 
 abbrev pub invariant-loop-expr : goal.invariant-loop-expr

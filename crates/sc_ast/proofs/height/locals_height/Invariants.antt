@@ -1,5 +1,4 @@
-use Rattle.std.proofs.Common.{◌≡◌, max, drop}
-use Rattle.sc_ast.specs.Height.{limited, locals_height}
+use Rattle.sc_ast.proofs.Common.{drop, limited, locals_height, max, ◌≡◌}
 use Rattle.sc_ast.proofs.height.locals_height.Given as goal
 
 abbrev pub invariant-loop-local : goal.invariant-loop-local

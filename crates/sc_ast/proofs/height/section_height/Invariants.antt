@@ -1,5 +1,4 @@
-use Rattle.std.proofs.Common.{◌≡◌, max, drop}
-use Rattle.sc_ast.specs.Height.{limited, decls_height}
+use Rattle.sc_ast.proofs.Common.{decls_height, drop, limited, max, ◌≡◌}
 use Rattle.sc_ast.proofs.height.section_height.Given as goal
 
 abbrev pub invariant-loop-decl : goal.invariant-loop-decl

@@ -1,7 +1,4 @@
-use Rattle.std.proofs.Common.{◌≡◌, ◌++◌, drop}
-use Rattle.std.specs.List.{flat_map}
-use Rattle.sc_ast.specs.Pieces.{text_of}
-use Rattle.sc_ast.specs.SectionWords.{export_words}
+use Rattle.sc_ast.proofs.Common.{drop, export_words, flat_map, text_of, ◌++◌, ◌≡◌}
 use Rattle.sc_ast.proofs.print.append_exports.Given as goal
 
 -- what is there and what is left to add is what is to be there

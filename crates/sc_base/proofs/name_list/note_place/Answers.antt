@@ -1,5 +1,5 @@
 -- The test of the map says whether the name is new.
-use Rattle.std.proofs.Common.{◌∙◌, sym}
+use Rattle.sc_base.proofs.Common.{sym, ◌∙◌}
 use Rattle.sc_base.proofs.Numbers.{known-place, noted-place}
 use Rattle.sc_base.proofs.name_list.note_place.Goals as goal
 

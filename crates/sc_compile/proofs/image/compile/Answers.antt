@@ -1,7 +1,4 @@
-use Rattle.std.proofs.Common.{◌∙◌, sym, ap, subst}
-use Rattle.sc_image.specs.WellFormed.{IsWellFormed}
-use Rattle.sc_compile.specs.Image.{image_of}
-use Rattle.sc_compile.specs.Correct.{IsForward, IsBackward}
+use Rattle.sc_compile.proofs.Common.{IsBackward, IsForward, IsWellFormed, ap, image_of, subst, sym, ◌∙◌}
 use Rattle.sc_compile.proofs.Formed.{well_formed}
 use Rattle.sc_compile.proofs.Correct.{forward, backward}
 use Rattle.sc_compile.proofs.image.compile.Goals as goal

@@ -1,5 +1,4 @@
-use Rattle.std.proofs.Common.{◌≡◌, map, take}
-use Rattle.sc_event.specs.declared.event.Event.TheVariants.{Out}
+use Rattle.sc_core.proofs.Common.{Out, map, take, ◌≡◌}
 use Rattle.sc_core.proofs.thin.output_events.Given as goal
 
 abbrev pub invariant-loop-word : goal.invariant-loop-word

@@ -1,10 +1,5 @@
 -- The heads of declarations, one after another.
-use Rattle.std.proofs.Common.{◌++◌, ◌∙◌, map, ap}
-use Rattle.sc_ast.specs.Heads.{head_of}
-use Rattle.sc_ast.specs.declared.section.FunctionTree.{FunctionTree}
-use Rattle.sc_scope.specs.Declarations.{head_in, heads_in, functions_in}
-use Rattle.sc_elab.specs.Sections.{signature_by}
-use Rattle.sc_elab.specs.Called.{head_name}
+use Rattle.sc_elab.proofs.Common.{FunctionTree, ap, functions_in, head_in, head_name, head_of, heads_in, map, signature_by, ◌++◌, ◌∙◌}
 use Rattle.sc_elab.proofs.Gathered.{gather_more, gather_end, made_of_both}
 use Rattle.sc_elab.proofs.calls.calling_heads.Goals as goal
 

@@ -1,7 +1,4 @@
-use Rattle.std.proofs.Common.{◌≡◌, ◌++◌, map, drop}
-use Rattle.sc_scope.specs.Declarations.{heads_in}
-use Rattle.sc_elab.specs.Sections.{signature_by}
-use Rattle.sc_elab.specs.Called.{head_name, calling_heads}
+use Rattle.sc_elab.proofs.Common.{calling_heads, drop, head_name, heads_in, map, signature_by, ◌++◌, ◌≡◌}
 use Rattle.sc_elab.proofs.calls.calling_heads.Given as goal
 
 abbrev pub invariant-loop-decl : goal.invariant-loop-decl

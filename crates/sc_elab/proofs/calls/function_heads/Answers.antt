@@ -1,6 +1,5 @@
 -- The heads of declarations, one after another.
-use Rattle.sc_scope.specs.Declarations.{function_in}
-use Rattle.sc_elab.specs.Called.{function_name, function_signature}
+use Rattle.sc_elab.proofs.Common.{function_in, function_name, function_signature}
 use Rattle.sc_elab.proofs.Gathered.{gather_more, gather_end}
 use Rattle.sc_elab.proofs.calls.function_heads.Goals as goal
 

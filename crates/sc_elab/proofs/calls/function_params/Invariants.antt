@@ -1,6 +1,4 @@
-use Rattle.std.proofs.Common.{◌≡◌, ◌++◌, map, drop}
-use Rattle.sc_ast.specs.Heads.{param_of}
-use Rattle.sc_elab.specs.Sections.{param_ty}
+use Rattle.sc_elab.proofs.Common.{drop, map, param_of, param_ty, ◌++◌, ◌≡◌}
 use Rattle.sc_elab.proofs.calls.function_params.Given as goal
 
 abbrev pub invariant-loop-param : goal.invariant-loop-param

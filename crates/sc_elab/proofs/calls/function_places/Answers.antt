@@ -1,6 +1,5 @@
 -- What is made of each declaration of a kind.
-use Rattle.sc_scope.specs.Declarations.{function_in}
-use Rattle.sc_elab.specs.Called.{function_name}
+use Rattle.sc_elab.proofs.Common.{function_in, function_name}
 use Rattle.sc_elab.proofs.Gathered.{gather_more, gather_end}
 use Rattle.sc_elab.proofs.calls.function_places.Goals as goal
 

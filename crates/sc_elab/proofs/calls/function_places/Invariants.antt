@@ -1,6 +1,4 @@
-use Rattle.std.proofs.Common.{◌≡◌, ◌++◌, map, drop}
-use Rattle.sc_scope.specs.Declarations.{functions_in}
-use Rattle.sc_elab.specs.Called.{function_name}
+use Rattle.sc_elab.proofs.Common.{drop, function_name, functions_in, map, ◌++◌, ◌≡◌}
 use Rattle.sc_elab.proofs.calls.function_places.Given as goal
 
 abbrev pub invariant-loop-decl : goal.invariant-loop-decl

@@ -1,5 +1,4 @@
-use Rattle.std.proofs.Common.{◌≡◌, ◌++◌, map, drop}
-use Rattle.sc_elab.specs.Sections.{param_ty}
+use Rattle.sc_elab.proofs.Common.{drop, map, param_ty, ◌++◌, ◌≡◌}
 use Rattle.sc_elab.proofs.calls.head_params.Given as goal
 
 abbrev pub invariant-loop-param : goal.invariant-loop-param

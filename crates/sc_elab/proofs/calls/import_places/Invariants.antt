@@ -1,5 +1,4 @@
-use Rattle.std.proofs.Common.{◌≡◌, ◌++◌, map, drop}
-use Rattle.sc_elab.specs.Called.{import_line_name}
+use Rattle.sc_elab.proofs.Common.{drop, import_line_name, map, ◌++◌, ◌≡◌}
 use Rattle.sc_elab.proofs.calls.import_places.Given as goal
 
 abbrev pub invariant-loop-line : goal.invariant-loop-line

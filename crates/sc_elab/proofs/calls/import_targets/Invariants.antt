@@ -1,5 +1,4 @@
-use Rattle.std.proofs.Common.{◌≡◌, ◌++◌, map, drop}
-use Rattle.sc_elab.specs.Sections.{import_target}
+use Rattle.sc_elab.proofs.Common.{drop, import_target, map, ◌++◌, ◌≡◌}
 use Rattle.sc_elab.proofs.calls.import_targets.Given as goal
 
 abbrev pub invariant-loop-import : goal.invariant-loop-import

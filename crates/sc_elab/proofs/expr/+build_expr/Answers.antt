@@ -1,4 +1,4 @@
-use Rattle.sc_elab.specs.Seen.{visible}
+use Rattle.sc_elab.proofs.Common.{visible}
 use Rattle.sc_elab.proofs.Parts.{member_built, arrow_built}
 use Rattle.sc_elab.proofs.expr.+build_expr.Goals as goal
 

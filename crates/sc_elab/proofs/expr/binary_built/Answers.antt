@@ -1,6 +1,5 @@
-use Rattle.std.proofs.Common.{◌≡◌, ◌∙◌, true, false, sym}
+use Rattle.sc_elab.proofs.Common.{false, judged, sym, true, ◌∙◌, ◌≡◌}
 use Rattle.sc_core.specs.declared.expr.TypedKind
-use Rattle.sc_core.specs.Typing.{judged}
 use Rattle.sc_elab.proofs.Parts.{value, binary_judged}
 use Rattle.sc_elab.proofs.expr.binary_built.Goals as goal
 

@@ -1,6 +1,5 @@
 -- One more local stands behind the others, and its initialiser sees it.
-use Rattle.std.proofs.Common.{◌≤◌, ◌<◌, ◌∙◌, ap, get_or, length, subst}
-use Rattle.std.proofs.lemmas.List.{drop_all}
+use Rattle.sc_elab.proofs.Common.{ap, drop_all, get_or, length, subst, ◌<◌, ◌∙◌, ◌≤◌}
 use Rattle.sc_elab.proofs.Functions.{more_stands, more_built, all_built}
 use Rattle.sc_elab.proofs.function.build_locals.Goals as goal
 

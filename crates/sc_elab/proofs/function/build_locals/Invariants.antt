@@ -1,6 +1,4 @@
-use Rattle.std.proofs.Common.{◌≡◌, ◌++◌, drop}
-use Rattle.sc_elab.specs.Sections.{typed_locals}
-use Rattle.sc_elab.specs.Stands.{StandsIn}
+use Rattle.sc_elab.proofs.Common.{StandsIn, drop, typed_locals, ◌++◌, ◌≡◌}
 use Rattle.sc_elab.proofs.function.build_locals.Given as goal
 
 abbrev pub invariant-loop-local : goal.invariant-loop-local

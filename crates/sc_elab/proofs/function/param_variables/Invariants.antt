@@ -1,5 +1,4 @@
-use Rattle.std.proofs.Common.{◌≡◌, ◌++◌, map, drop}
-use Rattle.sc_elab.specs.Sections.{typed_param}
+use Rattle.sc_elab.proofs.Common.{drop, map, typed_param, ◌++◌, ◌≡◌}
 use Rattle.sc_elab.proofs.function.param_variables.Given as goal
 
 abbrev pub invariant-loop-param : goal.invariant-loop-param

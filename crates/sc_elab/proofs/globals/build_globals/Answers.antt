@@ -1,6 +1,5 @@
 -- What is made of each declaration of a kind.
-use Rattle.sc_scope.specs.Declarations.{global_in}
-use Rattle.sc_elab.specs.Sections.{typed_global}
+use Rattle.sc_elab.proofs.Common.{global_in, typed_global}
 use Rattle.sc_elab.proofs.Gathered.{gather_more, gather_end}
 use Rattle.sc_elab.proofs.globals.build_globals.Goals as goal
 

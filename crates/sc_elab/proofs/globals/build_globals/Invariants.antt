@@ -1,6 +1,4 @@
-use Rattle.std.proofs.Common.{◌≡◌, ◌++◌, map, drop}
-use Rattle.sc_scope.specs.Declarations.{globals_in}
-use Rattle.sc_elab.specs.Sections.{typed_global}
+use Rattle.sc_elab.proofs.Common.{drop, globals_in, map, typed_global, ◌++◌, ◌≡◌}
 use Rattle.sc_elab.proofs.globals.build_globals.Given as goal
 
 abbrev pub invariant-loop-decl : goal.invariant-loop-decl

@@ -1,6 +1,5 @@
 -- What is made of each declaration of a kind.
-use Rattle.sc_scope.specs.Declarations.{global_in}
-use Rattle.sc_elab.specs.Sections.{global_variable}
+use Rattle.sc_elab.proofs.Common.{global_in, global_variable}
 use Rattle.sc_elab.proofs.Gathered.{gather_more, gather_end}
 use Rattle.sc_elab.proofs.globals.global_variables.Goals as goal
 

@@ -1,6 +1,4 @@
-use Rattle.std.proofs.Common.{◌≡◌, ◌++◌, map, drop}
-use Rattle.sc_scope.specs.Declarations.{globals_in}
-use Rattle.sc_elab.specs.Sections.{global_variable}
+use Rattle.sc_elab.proofs.Common.{drop, global_variable, globals_in, map, ◌++◌, ◌≡◌}
 use Rattle.sc_elab.proofs.globals.global_variables.Given as goal
 
 abbrev pub invariant-loop-decl : goal.invariant-loop-decl

@@ -1,5 +1,4 @@
-use Rattle.std.proofs.Common.{◌≡◌, ◌++◌, map, drop}
-use Rattle.sc_elab.specs.Sections.{word_of_const}
+use Rattle.sc_elab.proofs.Common.{drop, map, word_of_const, ◌++◌, ◌≡◌}
 use Rattle.sc_elab.proofs.globals.words_of.Given as goal
 
 abbrev pub invariant-loop-constant : goal.invariant-loop-constant

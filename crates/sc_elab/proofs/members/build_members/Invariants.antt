@@ -1,6 +1,4 @@
-use Rattle.std.proofs.Common.{◌≡◌, ◌++◌, drop}
-use Rattle.sc_elab.specs.Sections.{members_from, cells_from}
-use Rattle.sc_elab.specs.Placed.{names_of}
+use Rattle.sc_elab.proofs.Common.{cells_from, drop, members_from, names_of, ◌++◌, ◌≡◌}
 use Rattle.sc_elab.proofs.members.build_members.Given as goal
 
 abbrev pub invariant-loop-member : goal.invariant-loop-member

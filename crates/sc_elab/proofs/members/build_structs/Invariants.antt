@@ -1,6 +1,4 @@
-use Rattle.std.proofs.Common.{◌≡◌, [], drop}
-use Rattle.sc_scope.specs.Declarations.{structs_in}
-use Rattle.sc_elab.specs.Sections.{typed_structs}
+use Rattle.sc_elab.proofs.Common.{[], drop, structs_in, typed_structs, ◌≡◌}
 use Rattle.sc_elab.proofs.members.build_structs.Given as goal
 
 abbrev pub invariant-loop-decl : goal.invariant-loop-decl

@@ -1,5 +1,4 @@
-use Rattle.std.proofs.Common.{◌≡◌, ◌++◌, drop}
-use Rattle.sc_elab.specs.Sections.{sections_from}
+use Rattle.sc_elab.proofs.Common.{drop, sections_from, ◌++◌, ◌≡◌}
 use Rattle.sc_elab.proofs.program.build_sections.Given as goal
 
 abbrev pub invariant-loop-number : goal.invariant-loop-number

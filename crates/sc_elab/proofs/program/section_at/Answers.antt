@@ -1,5 +1,5 @@
 -- A section's interface stands at the section's number.
-use Rattle.std.proofs.Common.{◌∙◌, sym, ap, option_copied}
+use Rattle.sc_elab.proofs.Common.{ap, option_copied, sym, ◌∙◌}
 use Rattle.sc_elab.proofs.Programs.{has_comp, imports_at}
 use Rattle.sc_elab.proofs.program.section_at.Goals as goal
 

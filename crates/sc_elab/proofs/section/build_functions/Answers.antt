@@ -1,7 +1,5 @@
 -- What is made of each declaration of a kind.
-use Rattle.sc_scope.specs.Declarations.{function_in}
-use Rattle.sc_elab.specs.Sections.{typed_function}
-use Rattle.sc_elab.specs.Called.{called}
+use Rattle.sc_elab.proofs.Common.{called, function_in, typed_function}
 use Rattle.sc_elab.proofs.Gathered.{gather_more, gather_end}
 use Rattle.sc_elab.proofs.section.build_functions.Goals as goal
 

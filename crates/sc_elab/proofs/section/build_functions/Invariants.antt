@@ -1,7 +1,4 @@
-use Rattle.std.proofs.Common.{◌≡◌, ◌++◌, map, drop}
-use Rattle.sc_scope.specs.Declarations.{functions_in}
-use Rattle.sc_elab.specs.Sections.{typed_function}
-use Rattle.sc_elab.specs.Called.{called}
+use Rattle.sc_elab.proofs.Common.{called, drop, functions_in, map, typed_function, ◌++◌, ◌≡◌}
 use Rattle.sc_elab.proofs.section.build_functions.Given as goal
 
 abbrev pub invariant-loop-decl : goal.invariant-loop-decl

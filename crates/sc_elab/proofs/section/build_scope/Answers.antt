@@ -1,7 +1,5 @@
 -- The tags are those of the section.
-use Rattle.std.proofs.Common.{◌∙◌, ap, subst}
-use Rattle.sc_scope.specs.Declarations.{struct_names}
-use Rattle.sc_elab.specs.Called.{CallsIn}
+use Rattle.sc_elab.proofs.Common.{CallsIn, ap, struct_names, subst, ◌∙◌}
 use Rattle.sc_elab.proofs.section.build_scope.Goals as goal
 
 pub returns-clause-calls : goal.returns-clause-calls

@@ -1,6 +1,5 @@
 -- What the tables of calls give is what the program calls.
-use Rattle.std.proofs.Common.{◌≡◌, IfOk, subst}
-use Rattle.sc_elab.specs.Sections.{typed_section}
+use Rattle.sc_elab.proofs.Common.{IfOk, subst, typed_section, ◌≡◌}
 use Rattle.sc_elab.proofs.Calling.{called_kept}
 use Rattle.sc_elab.proofs.section.build_section.Goals as goal
 

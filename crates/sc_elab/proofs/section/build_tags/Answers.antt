@@ -1,6 +1,5 @@
 -- What is made of each declaration of a kind.
-use Rattle.sc_scope.specs.Declarations.{struct_in}
-use Rattle.sc_elab.specs.Called.{struct_name}
+use Rattle.sc_elab.proofs.Common.{struct_in, struct_name}
 use Rattle.sc_elab.proofs.Gathered.{gather_more, gather_end}
 use Rattle.sc_elab.proofs.section.build_tags.Goals as goal
 

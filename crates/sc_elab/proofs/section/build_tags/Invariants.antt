@@ -1,6 +1,4 @@
-use Rattle.std.proofs.Common.{◌≡◌, ◌++◌, map, drop}
-use Rattle.sc_scope.specs.Declarations.{structs_in}
-use Rattle.sc_elab.specs.Called.{struct_name}
+use Rattle.sc_elab.proofs.Common.{drop, map, struct_name, structs_in, ◌++◌, ◌≡◌}
 use Rattle.sc_elab.proofs.section.build_tags.Given as goal
 
 abbrev pub invariant-loop-decl : goal.invariant-loop-decl

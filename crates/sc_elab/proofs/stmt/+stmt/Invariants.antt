@@ -1,5 +1,4 @@
-use Rattle.std.proofs.Common.{◌≡◌, ◌++◌, map, drop}
-use Rattle.sc_elab.specs.Seen.{stmt_in}
+use Rattle.sc_elab.proofs.Common.{drop, map, stmt_in, ◌++◌, ◌≡◌}
 use Rattle.sc_elab.proofs.stmt.+stmt.Given as goal
 
 abbrev pub invariant-build_stmts-loop-stmt : goal.invariant-build_stmts-loop-stmt

@@ -1,7 +1,5 @@
 -- Each argument goes to the first of the parameters that are left.
-use Rattle.std.proofs.Common.{◌∙◌, ap}
-use Rattle.std.proofs.lemmas.List.{drop_all}
-use Rattle.sc_elab.specs.Seen.{args_in}
+use Rattle.sc_elab.proofs.Common.{ap, args_in, drop_all, ◌∙◌}
 use Rattle.sc_elab.proofs.Kept.{args_nil, args_next}
 use Rattle.sc_elab.proofs.Loops.{one_more, all_done}
 use Rattle.sc_elab.proofs.stmt.build_args.Goals as goal

@@ -1,5 +1,4 @@
-use Rattle.std.proofs.Common.{◌≡◌, ◌++◌, drop}
-use Rattle.sc_elab.specs.Seen.{args_in}
+use Rattle.sc_elab.proofs.Common.{args_in, drop, ◌++◌, ◌≡◌}
 use Rattle.sc_elab.proofs.stmt.build_args.Given as goal
 
 abbrev pub invariant-loop-arg : goal.invariant-loop-arg

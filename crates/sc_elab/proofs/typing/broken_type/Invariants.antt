@@ -1,7 +1,4 @@
-use Rattle.std.proofs.Common.{◌≡◌, drop, map}
-use Rattle.std.specs.List.{concat}
-use Rattle.sc_scope.specs.Broken.{noted_all, refused_at}
-use Rattle.sc_elab.specs.Sections.{types_broken}
+use Rattle.sc_elab.proofs.Common.{concat, drop, map, noted_all, refused_at, types_broken, ◌≡◌}
 use Rattle.sc_elab.proofs.Phases.{lines_in}
 use Rattle.sc_elab.proofs.typing.broken_type.Given as goal
 

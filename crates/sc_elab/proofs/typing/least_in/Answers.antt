@@ -1,4 +1,4 @@
-use Rattle.std.proofs.Common.{[]}
+use Rattle.sc_elab.proofs.Common.{[]}
 use Rattle.sc_elab.proofs.Phases.{section-noted}
 use Rattle.sc_elab.proofs.typing.least_in.Goals as goal
 

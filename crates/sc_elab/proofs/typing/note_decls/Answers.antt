@@ -1,5 +1,4 @@
-use Rattle.sc_elab.specs.Called.{called}
-use Rattle.sc_elab.specs.Sections.{decl_lines}
+use Rattle.sc_elab.proofs.Common.{called, decl_lines}
 use Rattle.sc_elab.proofs.Noted.{noted-next, noted-all}
 use Rattle.sc_elab.proofs.typing.note_decls.Goals as goal
 

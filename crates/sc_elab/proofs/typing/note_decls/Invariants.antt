@@ -1,8 +1,4 @@
-use Rattle.std.proofs.Common.{◌≡◌, drop, map}
-use Rattle.std.specs.List.{concat}
-use Rattle.sc_scope.specs.Broken.{with_lines}
-use Rattle.sc_elab.specs.Called.{called}
-use Rattle.sc_elab.specs.Sections.{decl_lines}
+use Rattle.sc_elab.proofs.Common.{called, concat, decl_lines, drop, map, with_lines, ◌≡◌}
 use Rattle.sc_elab.proofs.typing.note_decls.Given as goal
 
 abbrev pub invariant-loop-decl : goal.invariant-loop-decl

@@ -1,7 +1,5 @@
-use Rattle.sc_elab.specs.Called.{called}
-use Rattle.sc_elab.specs.Sections.{scope_in}
+use Rattle.sc_elab.proofs.Common.{called, length, scope_in}
 use Rattle.sc_elab.proofs.FunctionLines.{suits, function_noted}
-use Rattle.std.proofs.Common.{length}
 use Rattle.sc_elab.proofs.typing.note_function.Goals as goal
 
 pub returns : goal.returns

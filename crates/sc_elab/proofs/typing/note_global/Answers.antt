@@ -1,5 +1,4 @@
-use Rattle.std.proofs.Common.{◌∙◌, ap}
-use Rattle.sc_scope.specs.Broken.{with_lines, unless}
+use Rattle.sc_elab.proofs.Common.{ap, unless, with_lines, ◌∙◌}
 use Rattle.sc_elab.proofs.FunctionLines.{global_noted}
 use Rattle.sc_elab.proofs.typing.note_global.Goals as goal
 

@@ -1,7 +1,4 @@
-use Rattle.std.proofs.Common.{◌≡◌, ◌≤◌, ◌<◌, ◌+◌, ◌∙◌, ap, get_or, length, subst, refl, arith}
-use Rattle.sc_elab.specs.Called.{called}
-use Rattle.sc_elab.specs.Sections.{scope_in}
-use Rattle.sc_elab.specs.Stands.{StandsIn}
+use Rattle.sc_elab.proofs.Common.{StandsIn, ap, arith, called, get_or, length, refl, scope_in, subst, ◌+◌, ◌<◌, ◌∙◌, ◌≡◌, ◌≤◌}
 use Rattle.sc_elab.proofs.Functions.{head_kept, more_stands}
 use Rattle.sc_elab.proofs.FunctionLines.{suits, local_noted, locals_noted}
 use Rattle.sc_elab.proofs.typing.note_locals.Goals as goal

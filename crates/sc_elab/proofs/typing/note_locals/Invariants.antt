@@ -1,8 +1,4 @@
-use Rattle.std.proofs.Common.{◌≡◌, drop}
-use Rattle.sc_scope.specs.Broken.{with_lines}
-use Rattle.sc_elab.specs.Called.{called}
-use Rattle.sc_elab.specs.Sections.{locals_from}
-use Rattle.sc_elab.specs.Stands.{StandsIn}
+use Rattle.sc_elab.proofs.Common.{StandsIn, called, drop, locals_from, with_lines, ◌≡◌}
 use Rattle.sc_elab.proofs.typing.note_locals.Given as goal
 
 abbrev pub invariant-loop-local : goal.invariant-loop-local

@@ -1,5 +1,4 @@
-use Rattle.std.proofs.Common.{◌<◌, length, IfSome, sym, subst, ◌∙◌}
-use Rattle.sc_event.specs.OpenCall.{StandsBy}
+use Rattle.sc_event.proofs.Common.{IfSome, StandsBy, length, subst, sym, ◌<◌, ◌∙◌}
 use Rattle.sc_event.proofs.OpenCalls.{awaited}
 use Rattle.sc_event.proofs.legality.awaits.Goals as goal
 

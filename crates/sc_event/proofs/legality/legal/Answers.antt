@@ -1,4 +1,4 @@
-use Rattle.std.proofs.Common.{◌+◌, ◌<◌, length, IfSome, sym, subst, ◌∙◌, arith, Option, Some, None, ℕ}
+use Rattle.sc_event.proofs.Common.{IfSome, None, Option, Some, arith, length, subst, sym, ℕ, ◌+◌, ◌<◌, ◌∙◌}
 use Rattle.sc_event.proofs.Allowed.{IsOpenAt, begins, ended, goes_on}
 use Rattle.sc_event.proofs.legality.legal.Goals as goal
 

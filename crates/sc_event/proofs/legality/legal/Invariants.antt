@@ -1,4 +1,4 @@
-use Rattle.std.proofs.Common.{◌<◌, IfSome}
+use Rattle.sc_event.proofs.Common.{IfSome, ◌<◌}
 use Rattle.sc_event.proofs.Allowed.{IsOpenAt}
 use Rattle.sc_event.proofs.legality.legal.Given as goal
 

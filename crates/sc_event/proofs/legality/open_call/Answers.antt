@@ -1,4 +1,4 @@
-use Rattle.std.proofs.Common.{◌≡◌, ◌+◌, ◌-◌, suc, sym, subst, ◌∙◌, arith, get_or}
+use Rattle.sc_event.proofs.Common.{arith, get_or, subst, suc, sym, ◌+◌, ◌-◌, ◌∙◌, ◌≡◌}
 use Rattle.sc_event.proofs.OpenCalls.{goes_on, few}
 use Rattle.sc_event.proofs.legality.open_call.Goals as goal
 

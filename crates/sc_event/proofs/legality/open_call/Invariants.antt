@@ -1,5 +1,4 @@
-use Rattle.std.proofs.Common.{◌≡◌, ◌-◌, ◌≤◌}
-use Rattle.sc_event.specs.OpenCall.{open_call}
+use Rattle.sc_event.proofs.Common.{open_call, ◌-◌, ◌≡◌, ◌≤◌}
 use Rattle.sc_event.proofs.legality.open_call.Given as goal
 
 abbrev pub invariant-loop-behind : goal.invariant-loop-behind

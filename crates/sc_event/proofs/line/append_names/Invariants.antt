@@ -1,5 +1,4 @@
-use Rattle.std.proofs.Common.{◌≡◌, ◌++◌, take}
-use Rattle.sc_event.specs.Line.{spaced_names}
+use Rattle.sc_event.proofs.Common.{spaced_names, take, ◌++◌, ◌≡◌}
 use Rattle.sc_event.proofs.line.append_names.Given as goal
 
 abbrev pub invariant-loop-name : goal.invariant-loop-name

@@ -1,5 +1,4 @@
-use Rattle.std.proofs.Common.{◌≡◌, ◌++◌, take}
-use Rattle.sc_event.specs.Line.{spaced_words}
+use Rattle.sc_event.proofs.Common.{spaced_words, take, ◌++◌, ◌≡◌}
 use Rattle.sc_event.proofs.line.append_words.Given as goal
 
 abbrev pub invariant-loop-word : goal.invariant-loop-word

@@ -1,5 +1,4 @@
-use Rattle.std.proofs.Common.{◌≡◌, map, take}
-use Rattle.sc_expr.specs.Lexemes.{lexeme_of}
+use Rattle.sc_expr.proofs.Common.{lexeme_of, map, take, ◌≡◌}
 use Rattle.sc_expr.proofs.lexeme.lexemes.Given as goal
 
 abbrev pub invariant-loop-token : goal.invariant-loop-token

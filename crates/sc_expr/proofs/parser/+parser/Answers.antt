@@ -1,6 +1,5 @@
-use Rattle.std.proofs.Common.{arith, ◌≡◌, ◌+◌, ◌-◌, sym, ◌∙◌}
+use Rattle.sc_expr.proofs.Common.{arith, found, read, read_nested, sym, ◌+◌, ◌-◌, ◌∙◌, ◌≡◌}
 use Rattle.std.proofs.lemmas.Result.{err_from_is_err_and}
-use Rattle.sc_expr.specs.Reading.{found, read, read_nested}
 use Rattle.sc_expr.proofs.Steps.{read_fails, read_goes, fails_on, turns_on, turns_stop}
 use Rattle.sc_expr.proofs.parser.+parser.Goals as goal
 

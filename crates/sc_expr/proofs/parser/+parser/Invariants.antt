@@ -1,5 +1,4 @@
-use Rattle.std.proofs.Common.{◌≡◌, ◌≤◌, ◌+◌, ◌-◌, ◌*◌}
-use Rattle.sc_expr.specs.Reading.{found, read, read_nested, go_on}
+use Rattle.sc_expr.proofs.Common.{found, go_on, read, read_nested, ◌*◌, ◌+◌, ◌-◌, ◌≡◌, ◌≤◌}
 use Rattle.sc_expr.proofs.parser.+parser.Given as goal
 
 abbrev pub decreases-parse_level : goal.decreases-parse_level

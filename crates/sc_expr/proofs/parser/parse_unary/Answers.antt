@@ -1,5 +1,4 @@
-use Rattle.std.proofs.Common.{arith}
-use Rattle.sc_base.specs.Levels.{unary_level}
+use Rattle.sc_expr.proofs.Common.{arith, unary_level}
 use Rattle.sc_expr.proofs.Theorem.{found_front, found_height, refused_front}
 use Rattle.sc_expr.proofs.parser.parse_unary.Goals as goal
 

@@ -1,5 +1,4 @@
-use Rattle.std.proofs.Common.{◌≡◌, ◌≤◌, ◌+◌, drop}
-use Rattle.sc_core.specs.Sizes.{total}
+use Rattle.sc_frame.proofs.Common.{drop, total, ◌+◌, ◌≡◌, ◌≤◌}
 use Rattle.sc_frame.proofs.bound.fits.Given as goal
 
 -- what is summed and what is left to sum is all

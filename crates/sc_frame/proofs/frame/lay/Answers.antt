@@ -1,7 +1,6 @@
-use Rattle.std.proofs.Common.{rules, ◌≡◌, ◌≤◌, arith, subst, sym, ap}
+use Rattle.sc_frame.proofs.Common.{HasRoom, IsFrame, ap, arith, frame_of, rules, slots_of, subst, sym, ◌≡◌, ◌≤◌}
 use Rattle.sc_tac.specs.declared.function.TacFnTree.{TacFnTree}
 use Rattle.sc_tac.specs.declared.frame.FrameTree.{FrameTree}
-use Rattle.sc_tac.specs.Frames.{IsFrame, HasRoom, frame_of, slots_of}
 use Rattle.sc_frame.proofs.Room.{has_room, is_frame}
 use Rattle.sc_frame.proofs.frame.lay.Goals as goal
 

@@ -1,6 +1,4 @@
-use Rattle.std.proofs.Common.{◌≡◌, ◌+◌, ◌*◌, ◌++◌, drop}
-use Rattle.sc_core.specs.Sizes.{total}
-use Rattle.sc_tac.specs.Frames.{offsets_from}
+use Rattle.sc_frame.proofs.Common.{drop, offsets_from, total, ◌*◌, ◌++◌, ◌+◌, ◌≡◌}
 use Rattle.sc_frame.proofs.frame.lay_objects.Given as goal
 
 abbrev pub invariant-loop-count : goal.invariant-loop-count

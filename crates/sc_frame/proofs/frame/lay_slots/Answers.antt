@@ -1,6 +1,5 @@
-use Rattle.std.proofs.Common.{◌+◌, ◌*◌, arith}
+use Rattle.sc_frame.proofs.Common.{arith, map-range_with_len_more, ◌*◌, ◌+◌}
 use Rattle.std.proofs.lemmas.Grind.{common_steps}
-use Rattle.std.proofs.lemmas.List.FromFn.{map-range_with_len_more}
 use Rattle.sc_frame.proofs.frame.lay_slots.Goals as goal
 
 pub loop-slot-preserved : goal.loop-slot-preserved

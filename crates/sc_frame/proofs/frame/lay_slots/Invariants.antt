@@ -1,5 +1,4 @@
-use Rattle.std.proofs.Common.{◌≡◌, ◌+◌, ◌*◌, map}
-use Rattle.std.specs.List.{range_with_len}
+use Rattle.sc_frame.proofs.Common.{map, range_with_len, ◌*◌, ◌+◌, ◌≡◌}
 use Rattle.sc_frame.proofs.frame.lay_slots.Given as goal
 
 abbrev pub invariant-loop-slot : goal.invariant-loop-slot

@@ -1,7 +1,4 @@
-use Rattle.std.proofs.Common.{◌≡◌, ◌≤◌, max, drop, IsTrue}
-use Rattle.std.specs.List.{list_all}
-use Rattle.sc_tac.specs.Frames.{slots_of}
-use Rattle.sc_tac.specs.Places.{is_place}
+use Rattle.sc_frame.proofs.Common.{IsTrue, drop, is_place, list_all, max, slots_of, ◌≡◌, ◌≤◌}
 use Rattle.sc_frame.proofs.frame.slots_of.Given as goal
 
 abbrev pub invariant-loop-place : goal.invariant-loop-place

@@ -1,5 +1,5 @@
+use Rattle.sc_image.specs.Prelude.{is_argument}
 use Rattle.std.proofs.Common.{◌≡◌}
-use Rattle.sc_image.specs.Cross.{is_argument}
 use Rattle.sc_gate.proofs.Kept.{cleared_first}
 use Rattle.sc_gate.proofs.clear.keep.Given as goal
 

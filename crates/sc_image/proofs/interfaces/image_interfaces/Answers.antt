@@ -1,6 +1,4 @@
-use Rattle.std.proofs.Common.{◌≡◌, ◌<◌, List, length, get_or, ap, subst, ◌∙◌}
-use Rattle.sc_image.specs.declared.parts.ImageParts.{ImageParts}
-use Rattle.sc_image.specs.declared.parts.CompPart.{CompPart}
+use Rattle.sc_image.proofs.Common.{CompPart, ImageParts, List, ap, get_or, length, subst, ◌<◌, ◌∙◌, ◌≡◌}
 use Rattle.sc_image.proofs.Keeping.{few_params}
 use Rattle.sc_image.proofs.interfaces.image_interfaces.Goals as goal
 

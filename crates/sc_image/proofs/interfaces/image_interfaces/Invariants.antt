@@ -1,5 +1,4 @@
-use Rattle.std.proofs.Common.{◌≡◌, map, take}
-use Rattle.sc_image.specs.Interfaces.{interface_of}
+use Rattle.sc_image.proofs.Common.{interface_of, map, take, ◌≡◌}
 use Rattle.sc_image.proofs.interfaces.image_interfaces.Given as goal
 
 abbrev pub invariant-loop-comp : goal.invariant-loop-comp

@@ -1,5 +1,4 @@
-use Rattle.std.proofs.Common.{◌≡◌, map, take}
-use Rattle.sc_image.specs.Interfaces.{proto_of}
+use Rattle.sc_image.proofs.Common.{map, proto_of, take, ◌≡◌}
 use Rattle.sc_image.proofs.interfaces.protos_of.Given as goal
 
 abbrev pub invariant-loop-export : goal.invariant-loop-export

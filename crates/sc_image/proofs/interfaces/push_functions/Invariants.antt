@@ -1,5 +1,4 @@
-use Rattle.std.proofs.Common.{◌≡◌, ◌++◌, map, take}
-use Rattle.sc_image.specs.Interfaces.{import_of}
+use Rattle.sc_image.proofs.Common.{import_of, map, take, ◌++◌, ◌≡◌}
 use Rattle.sc_image.proofs.interfaces.push_functions.Given as goal
 
 abbrev pub invariant-loop-other : goal.invariant-loop-other

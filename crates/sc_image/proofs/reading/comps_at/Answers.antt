@@ -1,5 +1,4 @@
-use Rattle.std.proofs.lemmas.Result.{err_from_is_err_and}
-use Rattle.sc_image.specs.Reading.{fields_at, comp_at}
+use Rattle.sc_image.proofs.Common.{comp_at, err_from_is_err_and, fields_at}
 use Rattle.sc_image.proofs.Loops.{begins, goes_on, ends, is_done}
 use Rattle.sc_image.proofs.reading.comps_at.Goals as goal
 

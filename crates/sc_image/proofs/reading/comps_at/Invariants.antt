@@ -1,5 +1,4 @@
-use Rattle.std.proofs.Common.{◌≡◌, ◌-◌}
-use Rattle.sc_image.specs.Reading.{fields_at, comp_at}
+use Rattle.sc_image.proofs.Common.{comp_at, fields_at, ◌-◌, ◌≡◌}
 use Rattle.sc_image.proofs.Loops.{with_front}
 use Rattle.sc_image.proofs.reading.comps_at.Given as goal
 

@@ -1,4 +1,4 @@
-use Rattle.std.proofs.Common.{arith}
+use Rattle.sc_image.proofs.Common.{arith}
 use Rattle.sc_image.proofs.Images.{parts_are_few}
 use Rattle.sc_image.proofs.reading.image_of.Goals as goal
 

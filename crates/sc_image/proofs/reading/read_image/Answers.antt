@@ -1,4 +1,4 @@
-use Rattle.std.proofs.Common.{arith}
+use Rattle.sc_image.proofs.Common.{arith}
 use Rattle.sc_image.proofs.Images.{is_read}
 use Rattle.sc_image.proofs.reading.read_image.Goals as goal
 

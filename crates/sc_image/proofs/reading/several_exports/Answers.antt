@@ -1,5 +1,5 @@
-use Rattle.std.proofs.lemmas.Result.{err_from_is_err_and}
-use Rattle.sc_image.specs.Reading.{fields_at, export_at}
+use Rattle.sc_image.proofs.Common.{err_from_is_err_and, fields_at}
+use Rattle.sc_image.specs.Reading.{export_at}
 use Rattle.sc_image.proofs.Loops.{begins, goes_on, ends, is_done}
 use Rattle.sc_image.proofs.reading.several_exports.Goals as goal
 

@@ -1,5 +1,5 @@
-use Rattle.std.proofs.Common.{◌≡◌, ◌-◌}
-use Rattle.sc_image.specs.Reading.{fields_at, export_at}
+use Rattle.sc_image.proofs.Common.{fields_at, ◌-◌, ◌≡◌}
+use Rattle.sc_image.specs.Reading.{export_at}
 use Rattle.sc_image.proofs.Loops.{with_front}
 use Rattle.sc_image.proofs.reading.several_exports.Given as goal
 

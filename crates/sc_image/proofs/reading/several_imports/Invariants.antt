@@ -1,5 +1,4 @@
-use Rattle.std.proofs.Common.{◌≡◌, ◌-◌}
-use Rattle.sc_image.specs.Reading.{fields_at, import_at}
+use Rattle.sc_image.proofs.Common.{fields_at, import_at, ◌-◌, ◌≡◌}
 use Rattle.sc_image.proofs.Loops.{with_front}
 use Rattle.sc_image.proofs.reading.several_imports.Given as goal
 

@@ -1,6 +1,4 @@
-use Rattle.std.proofs.lemmas.Result.{err_from_is_err_and}
-use Rattle.sc_image.specs.declared.fault.BadImage.TheVariants.{Contents}
-use Rattle.sc_image.specs.Reading.{fields_at, number_at}
+use Rattle.sc_image.proofs.Common.{Contents, err_from_is_err_and, fields_at, number_at}
 use Rattle.sc_image.proofs.Loops.{begins, goes_on, ends, is_done}
 use Rattle.sc_image.proofs.reading.several_words.Goals as goal
 

@@ -1,6 +1,4 @@
-use Rattle.std.proofs.Common.{◌≡◌, ◌-◌}
-use Rattle.sc_image.specs.declared.fault.BadImage.TheVariants.{Contents}
-use Rattle.sc_image.specs.Reading.{fields_at, number_at}
+use Rattle.sc_image.proofs.Common.{Contents, fields_at, number_at, ◌-◌, ◌≡◌}
 use Rattle.sc_image.proofs.Loops.{with_front}
 use Rattle.sc_image.proofs.reading.several_words.Given as goal
 

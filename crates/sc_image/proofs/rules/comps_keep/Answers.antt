@@ -1,4 +1,4 @@
-use Rattle.sc_image.specs.Rules.{comps_keep}
+use Rattle.sc_image.proofs.Common.{comps_keep}
 use Rattle.sc_image.proofs.Keeping.{refused_by, goes_further, all_kept}
 use Rattle.sc_image.proofs.rules.comps_keep.Goals as goal
 

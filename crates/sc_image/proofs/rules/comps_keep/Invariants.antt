@@ -1,5 +1,4 @@
-use Rattle.std.proofs.Common.{◌≡◌, drop}
-use Rattle.sc_image.specs.Rules.{comps_keep}
+use Rattle.sc_image.proofs.Common.{comps_keep, drop, ◌≡◌}
 use Rattle.sc_image.proofs.rules.comps_keep.Given as goal
 
 abbrev pub invariant-loop-c : goal.invariant-loop-c

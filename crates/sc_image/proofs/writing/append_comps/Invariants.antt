@@ -1,5 +1,4 @@
-use Rattle.std.proofs.Common.{◌≡◌, ◌++◌, flat_map, take}
-use Rattle.sc_image.specs.Bytes.{comp_bytes}
+use Rattle.sc_image.proofs.Common.{comp_bytes, flat_map, take, ◌++◌, ◌≡◌}
 use Rattle.sc_image.proofs.writing.append_comps.Given as goal
 
 abbrev pub invariant-loop-comp : goal.invariant-loop-comp

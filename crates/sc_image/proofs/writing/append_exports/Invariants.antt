@@ -1,5 +1,4 @@
-use Rattle.std.proofs.Common.{◌≡◌, ◌++◌, flat_map, take}
-use Rattle.sc_image.specs.Bytes.{export_bytes}
+use Rattle.sc_image.proofs.Common.{export_bytes, flat_map, take, ◌++◌, ◌≡◌}
 use Rattle.sc_image.proofs.writing.append_exports.Given as goal
 
 abbrev pub invariant-loop-export : goal.invariant-loop-export

@@ -1,5 +1,4 @@
-use Rattle.std.proofs.Common.{◌≡◌, ◌++◌, flat_map, take}
-use Rattle.sc_image.specs.Bytes.{import_bytes}
+use Rattle.sc_image.proofs.Common.{flat_map, import_bytes, take, ◌++◌, ◌≡◌}
 use Rattle.sc_image.proofs.writing.append_imports.Given as goal
 
 abbrev pub invariant-loop-import : goal.invariant-loop-import

@@ -1,5 +1,4 @@
-use Rattle.std.proofs.Common.{◌≡◌, map, take}
-use Rattle.sc_interfaces.specs.Offering.{export_places}
+use Rattle.sc_interfaces.proofs.Common.{export_places, map, take, ◌≡◌}
 use Rattle.sc_interfaces.proofs.building.all_export_places.Given as goal
 
 abbrev pub invariant-loop-section : goal.invariant-loop-section

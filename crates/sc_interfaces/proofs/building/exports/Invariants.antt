@@ -1,5 +1,4 @@
-use Rattle.std.proofs.Common.{◌≡◌, map, take}
-use Rattle.sc_interfaces.specs.Offering.{export_by, function_places}
+use Rattle.sc_interfaces.proofs.Common.{export_by, function_places, map, take, ◌≡◌}
 use Rattle.sc_interfaces.proofs.building.exports.Given as goal
 
 abbrev pub invariant-loop-line : goal.invariant-loop-line

@@ -1,5 +1,4 @@
-use Rattle.std.proofs.Common.{◌≡◌, [], map, drop}
-use Rattle.sc_interfaces.specs.Offering.{all_placed, function_name}
+use Rattle.sc_interfaces.proofs.Common.{[], all_placed, drop, function_name, map, ◌≡◌}
 use Rattle.sc_interfaces.proofs.building.function_places.Given as goal
 
 abbrev pub invariant-loop-at : goal.invariant-loop-at

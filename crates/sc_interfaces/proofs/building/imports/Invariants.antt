@@ -1,5 +1,4 @@
-use Rattle.std.proofs.Common.{◌≡◌, map, take}
-use Rattle.sc_interfaces.specs.Offering.{import_by}
+use Rattle.sc_interfaces.proofs.Common.{import_by, map, take, ◌≡◌}
 use Rattle.sc_interfaces.proofs.building.imports.Given as goal
 
 abbrev pub invariant-loop-line : goal.invariant-loop-line

@@ -1,5 +1,4 @@
-use Rattle.std.proofs.Common.{◌≡◌, ◌++◌, drop}
-use Rattle.sc_interfaces.specs.Offering.{interfaces_by}
+use Rattle.sc_interfaces.proofs.Common.{drop, interfaces_by, ◌++◌, ◌≡◌}
 use Rattle.sc_interfaces.proofs.building.interface_list.Given as goal
 
 abbrev pub invariant-loop-number : goal.invariant-loop-number

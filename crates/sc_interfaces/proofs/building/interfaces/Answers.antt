@@ -1,4 +1,4 @@
-use Rattle.std.proofs.Common.{◌∙◌}
+use Rattle.sc_interfaces.proofs.Common.{◌∙◌}
 use Rattle.sc_interfaces.proofs.Offered.{built}
 use Rattle.sc_interfaces.proofs.building.interfaces.Goals as goal
 

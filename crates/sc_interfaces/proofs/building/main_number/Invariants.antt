@@ -1,5 +1,4 @@
-use Rattle.std.proofs.Common.{◌≡◌, drop}
-use Rattle.sc_interfaces.specs.Offering.{main_by}
+use Rattle.sc_interfaces.proofs.Common.{drop, main_by, ◌≡◌}
 use Rattle.sc_interfaces.proofs.building.main_number.Given as goal
 
 abbrev pub invariant-loop-number : goal.invariant-loop-number

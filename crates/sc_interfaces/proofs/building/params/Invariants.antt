@@ -1,6 +1,4 @@
-use Rattle.std.proofs.Common.{◌≡◌, ◌≤◌, map, take}
-use Rattle.sc_ast.specs.declared.section.FunctionParam.{FunctionParam}
-use Rattle.sc_scope.specs.Interfaces.{scalar_of}
+use Rattle.sc_interfaces.proofs.Common.{FunctionParam, map, scalar_of, take, ◌≡◌, ◌≤◌}
 use Rattle.sc_interfaces.proofs.building.params.Given as goal
 
 abbrev pub invariant-loop-param : goal.invariant-loop-param

@@ -1,5 +1,4 @@
-use Rattle.std.proofs.Common.{ap, drop}
-use Rattle.sc_interfaces.specs.Tables.{decls_told}
+use Rattle.sc_interfaces.proofs.Common.{ap, decls_told, drop}
 use Rattle.sc_interfaces.proofs.Steps.{decls_turn, told_end, drop_past}
 use Rattle.sc_interfaces.proofs.decls.decls_told.Goals as goal
 

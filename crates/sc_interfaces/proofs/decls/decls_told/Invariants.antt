@@ -1,6 +1,4 @@
-use Rattle.std.proofs.Common.{◌≡◌, drop}
-use Rattle.sc_scope.specs.Broken.{with_lines}
-use Rattle.sc_interfaces.specs.Tables.{decls_told, no_heads}
+use Rattle.sc_interfaces.proofs.Common.{decls_told, drop, no_heads, with_lines, ◌≡◌}
 use Rattle.sc_interfaces.proofs.decls.decls_told.Given as goal
 
 abbrev pub invariant-loop-decl : goal.invariant-loop-decl

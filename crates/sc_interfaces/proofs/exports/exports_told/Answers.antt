@@ -1,5 +1,4 @@
-use Rattle.std.proofs.Common.{ap, drop}
-use Rattle.sc_interfaces.specs.Tables.{exports_told}
+use Rattle.sc_interfaces.proofs.Common.{ap, drop, exports_told}
 use Rattle.sc_interfaces.proofs.Steps.{exports_turn, told_end, drop_past}
 use Rattle.sc_interfaces.proofs.exports.exports_told.Goals as goal
 

@@ -1,6 +1,4 @@
-use Rattle.std.proofs.Common.{◌≡◌, [], drop}
-use Rattle.sc_scope.specs.Broken.{with_lines}
-use Rattle.sc_interfaces.specs.Tables.{exports_told}
+use Rattle.sc_interfaces.proofs.Common.{[], drop, exports_told, with_lines, ◌≡◌}
 use Rattle.sc_interfaces.proofs.exports.exports_told.Given as goal
 
 abbrev pub invariant-loop-line : goal.invariant-loop-line

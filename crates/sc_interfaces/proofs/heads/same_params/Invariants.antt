@@ -1,5 +1,4 @@
-use Rattle.std.proofs.Common.{◌≡◌, drop}
-use Rattle.sc_interfaces.specs.Faces.{same_params}
+use Rattle.sc_interfaces.proofs.Common.{drop, same_params, ◌≡◌}
 use Rattle.sc_interfaces.proofs.heads.same_params.Given as goal
 
 abbrev pub invariant-loop-i : goal.invariant-loop-i

@@ -1,5 +1,4 @@
-use Rattle.std.proofs.Common.{◌≡◌, drop}
-use Rattle.sc_interfaces.specs.Tables.{imports_added, no_heads}
+use Rattle.sc_interfaces.proofs.Common.{drop, imports_added, no_heads, ◌≡◌}
 use Rattle.sc_interfaces.proofs.imports.imported_heads.Given as goal
 
 abbrev pub invariant-loop-line : goal.invariant-loop-line

@@ -1,6 +1,4 @@
-use Rattle.std.proofs.Common.{◌≡◌, [], map, drop}
-use Rattle.sc_ast.specs.declared.section.ImportLine.{ImportLine}
-use Rattle.sc_interfaces.specs.Tables.{all_numbered}
+use Rattle.sc_interfaces.proofs.Common.{ImportLine, [], all_numbered, drop, map, ◌≡◌}
 use Rattle.sc_interfaces.proofs.imports.imported_names.Given as goal
 
 abbrev pub invariant-loop-line : goal.invariant-loop-line

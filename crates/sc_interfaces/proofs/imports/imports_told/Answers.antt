@@ -1,5 +1,4 @@
-use Rattle.std.proofs.Common.{ap, drop}
-use Rattle.sc_interfaces.specs.Tables.{imports_told}
+use Rattle.sc_interfaces.proofs.Common.{ap, drop, imports_told}
 use Rattle.sc_interfaces.proofs.Steps.{imports_turn, told_end, drop_past}
 use Rattle.sc_interfaces.proofs.imports.imports_told.Goals as goal
 

@@ -1,6 +1,4 @@
-use Rattle.std.proofs.Common.{◌≡◌, [], drop}
-use Rattle.sc_scope.specs.Broken.{with_lines}
-use Rattle.sc_interfaces.specs.Tables.{imports_told}
+use Rattle.sc_interfaces.proofs.Common.{[], drop, imports_told, with_lines, ◌≡◌}
 use Rattle.sc_interfaces.proofs.imports.imports_told.Given as goal
 
 abbrev pub invariant-loop-line : goal.invariant-loop-line

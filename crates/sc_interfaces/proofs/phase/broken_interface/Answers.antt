@@ -1,4 +1,4 @@
-use Rattle.std.proofs.Common.{◌∙◌}
+use Rattle.sc_interfaces.proofs.Common.{◌∙◌}
 use Rattle.sc_interfaces.proofs.Telling.{sections_turn, sections_end}
 use Rattle.sc_interfaces.proofs.phase.broken_interface.Goals as goal
 

@@ -1,8 +1,4 @@
-use Rattle.std.proofs.Common.{◌≡◌, [], None, false, ◌||◌, drop}
-use Rattle.std.specs.List.{list_any}
-use Rattle.sc_scope.specs.Broken.{noted_all}
-use Rattle.sc_scope.specs.Interfaces.{defines_main}
-use Rattle.sc_interfaces.specs.Tables.{lines_told}
+use Rattle.sc_interfaces.proofs.Common.{None, [], defines_main, drop, false, lines_told, list_any, noted_all, ◌||◌, ◌≡◌}
 use Rattle.sc_interfaces.proofs.phase.broken_interface.Given as goal
 
 abbrev pub invariant-loop-number : goal.invariant-loop-number

@@ -1,6 +1,4 @@
-use Rattle.std.proofs.Common.{◌≡◌, [], map, drop}
-use Rattle.sc_ast.specs.declared.section.ExportLine.{ExportLine}
-use Rattle.sc_interfaces.specs.Tables.{all_numbered}
+use Rattle.sc_interfaces.proofs.Common.{ExportLine, [], all_numbered, drop, map, ◌≡◌}
 use Rattle.sc_interfaces.proofs.tables.exports.Given as goal
 
 abbrev pub invariant-loop-line : goal.invariant-loop-line

@@ -1,6 +1,4 @@
-use Rattle.std.proofs.Common.{◌≡◌, drop}
-use Rattle.sc_scope.specs.Declarations.{heads_in}
-use Rattle.sc_interfaces.specs.Tables.{all_added, no_heads}
+use Rattle.sc_interfaces.proofs.Common.{all_added, drop, heads_in, no_heads, ◌≡◌}
 use Rattle.sc_interfaces.proofs.tables.heads.Given as goal
 
 abbrev pub invariant-loop-decl : goal.invariant-loop-decl

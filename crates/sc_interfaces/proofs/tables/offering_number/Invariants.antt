@@ -1,5 +1,4 @@
-use Rattle.std.proofs.Common.{◌≡◌, drop}
-use Rattle.sc_interfaces.specs.Tables.{offering_number}
+use Rattle.sc_interfaces.proofs.Common.{drop, offering_number, ◌≡◌}
 use Rattle.sc_interfaces.proofs.tables.offering_number.Given as goal
 
 abbrev pub invariant-loop-number : goal.invariant-loop-number

@@ -1,6 +1,4 @@
-use Rattle.std.proofs.Common.{◌≡◌, [], drop}
-use Rattle.sc_scope.specs.Declarations.{proto_names}
-use Rattle.sc_interfaces.specs.Tables.{all_numbered}
+use Rattle.sc_interfaces.proofs.Common.{[], all_numbered, drop, proto_names, ◌≡◌}
 use Rattle.sc_interfaces.proofs.tables.protos.Given as goal
 
 abbrev pub invariant-loop-decl : goal.invariant-loop-decl

@@ -1,5 +1,4 @@
-use Rattle.std.proofs.Common.{◌≡◌, map, take}
-use Rattle.sc_interfaces.specs.Tables.{table_of}
+use Rattle.sc_interfaces.proofs.Common.{map, table_of, take, ◌≡◌}
 use Rattle.sc_interfaces.proofs.tables.section_tables.Given as goal
 
 abbrev pub invariant-loop-section : goal.invariant-loop-section

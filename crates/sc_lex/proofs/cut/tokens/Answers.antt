@@ -1,8 +1,4 @@
-use Rattle.std.proofs.Common.{◌≡◌, drop}
-use Rattle.std.proofs.lemmas.List.{take_rest}
-use Rattle.sc_lex.specs.Cutting.{allows_directive}
-use Rattle.sc_lex.specs.Pieces.{IsPiece, NoPiece}
-use Rattle.sc_lex.specs.declared.refusal.Phase.TheVariants.{Lex}
+use Rattle.sc_lex.proofs.Common.{IsPiece, Lex, NoPiece, allows_directive, drop, take_rest, ◌≡◌}
 use Rattle.sc_lex.proofs.Cuts.{progress_start, progress_on, progress_refused, progress_uncut}
 use Rattle.sc_lex.proofs.cut.tokens.Goals as goal
 

@@ -1,4 +1,4 @@
-use Rattle.std.proofs.Common.{◌-◌, length}
+use Rattle.sc_lex.proofs.Common.{length, ◌-◌}
 use Rattle.sc_lex.proofs.Cuts.{Progress}
 use Rattle.sc_lex.proofs.cut.tokens.Given as goal
 

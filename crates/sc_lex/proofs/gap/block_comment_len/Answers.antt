@@ -1,5 +1,4 @@
-use Rattle.std.proofs.Common.{sym, ◌∙◌}
-use Rattle.sc_lex.specs.Cutting.{block_comment}
+use Rattle.sc_lex.proofs.Common.{block_comment, sym, ◌∙◌}
 use Rattle.sc_lex.proofs.gap.block_comment_len.Goals as goal
 
 pub returns-then-ends_comment-clause-found : goal.returns-then-ends_comment-clause-found

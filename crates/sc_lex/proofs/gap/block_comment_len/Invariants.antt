@@ -1,6 +1,4 @@
-use Rattle.std.proofs.Common.{ℕ, ◌≤◌, ◌<◌}
-use Rattle.std.specs.Prelude.{IsTrue}
-use Rattle.sc_lex.specs.Cutting.{ends_comment}
+use Rattle.sc_lex.proofs.Common.{IsTrue, ends_comment, ℕ, ◌<◌, ◌≤◌}
 use Rattle.sc_lex.proofs.gap.block_comment_len.Given as goal
 
 -- the comment has not ended yet

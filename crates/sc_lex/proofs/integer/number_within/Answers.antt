@@ -1,4 +1,4 @@
-use Rattle.std.proofs.Common.{sym, ◌∙◌}
+use Rattle.sc_lex.proofs.Common.{sym, ◌∙◌}
 use Rattle.sc_lex.proofs.Numbers.{no_digit, too_great, none_stands, empty_stands, some_stands}
 use Rattle.sc_lex.proofs.integer.number_within.Goals as goal
 

@@ -1,4 +1,4 @@
-use Rattle.std.proofs.Common.{sym, ◌∙◌}
+use Rattle.sc_lex.proofs.Common.{sym, ◌∙◌}
 use Rattle.sc_lex.proofs.Fronts.{directive_found, directive_none}
 use Rattle.sc_lex.proofs.kind.directive_at.Goals as goal
 

@@ -1,4 +1,4 @@
-use Rattle.std.proofs.Common.{sym, ◌∙◌}
+use Rattle.sc_lex.proofs.Common.{sym, ◌∙◌}
 use Rattle.sc_lex.proofs.Fronts.{mark_three, mark_two, mark_one, mark_none}
 use Rattle.sc_lex.proofs.kind.mark_at.Goals as goal
 

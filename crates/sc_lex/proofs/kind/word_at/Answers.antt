@@ -1,4 +1,4 @@
-use Rattle.std.proofs.Common.{sym, ◌∙◌}
+use Rattle.sc_lex.proofs.Common.{sym, ◌∙◌}
 use Rattle.sc_lex.proofs.Fronts.{word_found, word_none}
 use Rattle.sc_lex.proofs.kind.word_at.Goals as goal
 

@@ -1,4 +1,4 @@
-use Rattle.sc_lex.specs.Splitting.{NoHeading}
+use Rattle.sc_lex.proofs.Common.{NoHeading}
 use Rattle.sc_lex.proofs.section.next_heading.Given as goal
 
 abbrev pub invariant-loop-at : goal.invariant-loop-at

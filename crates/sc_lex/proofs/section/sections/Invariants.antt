@@ -1,4 +1,4 @@
-use Rattle.std.proofs.Common.{◌-◌, length}
+use Rattle.sc_lex.proofs.Common.{length, ◌-◌}
 use Rattle.sc_lex.proofs.Splits.{Progress}
 use Rattle.sc_lex.proofs.section.sections.Given as goal
 

@@ -1,7 +1,4 @@
-use Rattle.std.proofs.Common.{ap, ◌∙◌, ◌-◌}
-use Rattle.std.specs.Option.{unwrap_or}
-use Rattle.sc_live.specs.Marks.{mark_from}
-use Rattle.sc_live.specs.Walks.{interval_at}
+use Rattle.sc_live.proofs.Common.{ap, interval_at, mark_from, unwrap_or, ◌-◌, ◌∙◌}
 use Rattle.sc_live.proofs.Spans.{interval_known}
 use Rattle.sc_live.proofs.function.interval.Goals as goal
 

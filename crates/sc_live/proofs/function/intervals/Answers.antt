@@ -1,6 +1,4 @@
-use Rattle.std.proofs.Common.{◌<◌, ◌∙◌, sym, subst}
-use Rattle.sc_tac.specs.Intervals.{AreIntervals}
-use Rattle.sc_tac.specs.Points.{function_points}
+use Rattle.sc_live.proofs.Common.{AreIntervals, function_points, subst, sym, ◌<◌, ◌∙◌}
 use Rattle.sc_live.proofs.Spans.{are_intervals, one_more}
 use Rattle.sc_live.proofs.function.intervals.Goals as goal
 

@@ -1,6 +1,4 @@
-use Rattle.std.proofs.Common.{subst}
-use Rattle.sc_tac.specs.Points.{function_points}
-use Rattle.sc_live.specs.Walks.{Holds}
+use Rattle.sc_live.proofs.Common.{Holds, function_points, subst}
 use Rattle.sc_live.proofs.Starting.{all_walked}
 use Rattle.sc_live.proofs.function.walked.Goals as goal
 

@@ -1,6 +1,4 @@
-use Rattle.std.proofs.Common.{◌≡◌, ℕ, slice_get, take}
-use Rattle.sc_tac.specs.Flow.{is_one}
-use Rattle.sc_live.specs.Marks.{marked}
+use Rattle.sc_live.proofs.Common.{is_one, marked, slice_get, take, ℕ, ◌≡◌}
 use Rattle.sc_live.proofs.marks.mark_all.Given as goal
 
 abbrev pub invariant-loop-temp : goal.invariant-loop-temp

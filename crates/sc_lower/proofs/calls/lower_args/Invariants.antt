@@ -1,8 +1,4 @@
-use Rattle.std.proofs.Common.{◌≡◌, ◌≤◌, ◌+◌, map, drop}
-use Rattle.sc_core.specs.Sizes.{total, expr_nodes}
-use Rattle.sc_lower.specs.Expressions.{forms}
-use Rattle.sc_lower.specs.Statements.{many}
-use Rattle.sc_lower.specs.Results.{values_of}
+use Rattle.sc_lower.proofs.Common.{drop, expr_nodes, forms, many, map, total, values_of, ◌+◌, ◌≡◌, ◌≤◌}
 use Rattle.sc_lower.proofs.Lowered.{values_behind}
 use Rattle.sc_lower.proofs.calls.lower_args.Given as goal
 

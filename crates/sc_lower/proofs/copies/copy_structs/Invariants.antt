@@ -1,4 +1,4 @@
-use Rattle.std.proofs.Common.{◌≡◌, ◌++◌, drop}
+use Rattle.sc_lower.proofs.Common.{drop, ◌++◌, ◌≡◌}
 use Rattle.sc_lower.proofs.copies.copy_structs.Given as goal
 
 abbrev pub invariant-loop-from : goal.invariant-loop-from

@@ -1,8 +1,4 @@
-use Rattle.std.proofs.Common.{◌≡◌, ◌≤◌, ◌+◌, map, drop}
-use Rattle.sc_core.specs.Sizes.{total, local_nodes}
-use Rattle.sc_lower.specs.Statements.{in_turn}
-use Rattle.sc_lower.specs.Programs.{inits_code}
-use Rattle.sc_lower.specs.Results.{fragment_of}
+use Rattle.sc_lower.proofs.Common.{drop, fragment_of, in_turn, inits_code, local_nodes, map, total, ◌+◌, ◌≡◌, ◌≤◌}
 use Rattle.sc_lower.proofs.Lowered.{fragment_behind}
 use Rattle.sc_lower.proofs.function.lower_inits.Given as goal
 

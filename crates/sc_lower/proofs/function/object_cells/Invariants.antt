@@ -1,6 +1,4 @@
-use Rattle.std.proofs.Common.{◌≡◌, ◌++◌, map, drop}
-use Rattle.sc_core.specs.declared.section.TypedLocal.{TypedLocal}
-use Rattle.sc_core.specs.Types.{cells_of, variables}
+use Rattle.sc_lower.proofs.Common.{TypedLocal, cells_of, drop, map, variables, ◌++◌, ◌≡◌}
 use Rattle.sc_lower.proofs.function.object_cells.Given as goal
 
 abbrev pub invariant-loop-local : goal.invariant-loop-local

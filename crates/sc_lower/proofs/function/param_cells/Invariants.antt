@@ -1,6 +1,4 @@
-use Rattle.std.proofs.Common.{◌≡◌, ◌++◌, map, drop}
-use Rattle.sc_core.specs.declared.section.TypedParam.{TypedParam}
-use Rattle.sc_core.specs.Types.{cells_of}
+use Rattle.sc_lower.proofs.Common.{TypedParam, cells_of, drop, map, ◌++◌, ◌≡◌}
 use Rattle.sc_lower.proofs.function.param_cells.Given as goal
 
 abbrev pub invariant-loop-param : goal.invariant-loop-param

@@ -1,5 +1,4 @@
-use Rattle.std.proofs.Common.{◌≡◌, ◌+◌, map, drop}
-use Rattle.sc_core.specs.Sizes.{total, stmt_nodes}
+use Rattle.sc_lower.proofs.Common.{drop, map, stmt_nodes, total, ◌+◌, ◌≡◌}
 use Rattle.sc_lower.proofs.nodes.+nodes.Given as goal
 
 abbrev pub invariant-stmts_nodes-loop-stmt : goal.invariant-stmts_nodes-loop-stmt

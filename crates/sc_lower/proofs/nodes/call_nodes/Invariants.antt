@@ -1,5 +1,4 @@
-use Rattle.std.proofs.Common.{◌≡◌, ◌+◌, map, drop}
-use Rattle.sc_core.specs.Sizes.{total, expr_nodes}
+use Rattle.sc_lower.proofs.Common.{drop, expr_nodes, map, total, ◌+◌, ◌≡◌}
 use Rattle.sc_lower.proofs.nodes.call_nodes.Given as goal
 
 abbrev pub invariant-loop-arg : goal.invariant-loop-arg

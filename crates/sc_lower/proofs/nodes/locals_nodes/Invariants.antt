@@ -1,5 +1,4 @@
-use Rattle.std.proofs.Common.{◌≡◌, ◌+◌, map, drop}
-use Rattle.sc_core.specs.Sizes.{total, local_nodes}
+use Rattle.sc_lower.proofs.Common.{drop, local_nodes, map, total, ◌+◌, ◌≡◌}
 use Rattle.sc_lower.proofs.nodes.locals_nodes.Given as goal
 
 abbrev pub invariant-loop-local : goal.invariant-loop-local

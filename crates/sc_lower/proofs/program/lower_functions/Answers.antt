@@ -1,5 +1,4 @@
-use Rattle.std.proofs.Common.{◌∙◌}
-use Rattle.sc_lower.specs.Programs.{lowered_function}
+use Rattle.sc_lower.proofs.Common.{lowered_function, ◌∙◌}
 use Rattle.sc_lower.proofs.Lowering.{function_at, lowerable_at, map_next}
 use Rattle.sc_lower.proofs.program.lower_functions.Goals as goal
 

@@ -1,5 +1,4 @@
-use Rattle.std.proofs.Common.{◌≡◌, ◌++◌, map, drop}
-use Rattle.sc_lower.specs.Programs.{lowered_function}
+use Rattle.sc_lower.proofs.Common.{drop, lowered_function, map, ◌++◌, ◌≡◌}
 use Rattle.sc_lower.proofs.program.lower_functions.Given as goal
 
 abbrev pub invariant-loop-function : goal.invariant-loop-function

@@ -1,5 +1,4 @@
-use Rattle.std.proofs.Common.{◌≡◌, ◌++◌, drop}
-use Rattle.sc_lower.specs.Programs.{lowered_sections}
+use Rattle.sc_lower.proofs.Common.{drop, lowered_sections, ◌++◌, ◌≡◌}
 use Rattle.sc_lower.proofs.program.lower_sections.Given as goal
 
 abbrev pub invariant-loop-section : goal.invariant-loop-section

@@ -1,7 +1,4 @@
-use Rattle.std.proofs.Common.{◌≡◌, ◌≤◌, ◌+◌, map, drop}
-use Rattle.sc_core.specs.Sizes.{total, stmt_nodes}
-use Rattle.sc_lower.specs.Statements.{block_code}
-use Rattle.sc_lower.specs.Results.{fragment_of}
+use Rattle.sc_lower.proofs.Common.{block_code, drop, fragment_of, map, stmt_nodes, total, ◌+◌, ◌≡◌, ◌≤◌}
 use Rattle.sc_lower.proofs.Lowered.{fragment_behind}
 use Rattle.sc_lower.proofs.stmt.+lower.Given as goal
 

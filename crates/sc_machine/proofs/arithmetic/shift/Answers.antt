@@ -1,5 +1,4 @@
-use Rattle.std.proofs.Common.{refl}
-use Rattle.sc_image.specs.Step.{execute_by}
+use Rattle.sc_machine.proofs.Common.{execute_by, refl}
 use Rattle.sc_machine.proofs.arithmetic.shift.Goals as goal
 
 pub returns : goal.returns

@@ -1,6 +1,4 @@
-use Rattle.std.proofs.Common.{sym, ◌∙◌, ap}
-use Rattle.sc_image.specs.Step.{Goes}
-use Rattle.sc_machine.specs.Hart.{state_in}
+use Rattle.sc_machine.proofs.Common.{Goes, ap, state_in, sym, ◌∙◌}
 use Rattle.sc_machine.proofs.Crossings.{call_made}
 use Rattle.sc_machine.proofs.calling.call_out.Goals as goal
 

@@ -1,5 +1,4 @@
-use Rattle.std.proofs.Common.{◌≡◌, None, Some, false, sym, ◌∙◌, arith}
-use Rattle.sc_image.specs.Calls.{export_at, may_call}
+use Rattle.sc_machine.proofs.Common.{None, Some, arith, export_at, false, may_call, sym, ◌∙◌, ◌≡◌}
 use Rattle.sc_machine.proofs.Crossings.{not_exported, not_imported, exporter_within, exporter_few, export_few, export_takes, takes_few}
 use Rattle.sc_machine.proofs.calling.find_callee.Goals as goal
 

@@ -1,5 +1,4 @@
-use Rattle.std.proofs.Common.{◌≡◌, true, sym, ◌∙◌}
-use Rattle.sc_image.specs.Calls.{may_input, may_output}
+use Rattle.sc_machine.proofs.Common.{may_input, may_output, sym, true, ◌∙◌, ◌≡◌}
 use Rattle.sc_machine.proofs.environment.environment_call.Goals as goal
 
 pub returns-in-1-clause-outcome : goal.returns-in-1-clause-outcome

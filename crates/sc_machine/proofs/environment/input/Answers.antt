@@ -1,4 +1,4 @@
-use Rattle.std.proofs.Common.{refl, add-one}
+use Rattle.sc_machine.proofs.Common.{add-one, refl}
 use Rattle.sc_machine.proofs.environment.input.Goals as goal
 
 pub returns-clause-state : goal.returns-clause-state

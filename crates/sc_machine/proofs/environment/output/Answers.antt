@@ -1,4 +1,4 @@
-use Rattle.std.proofs.Common.{refl}
+use Rattle.sc_machine.proofs.Common.{refl}
 use Rattle.sc_machine.proofs.environment.output.Goals as goal
 
 pub returns-clause-state : goal.returns-clause-state

@@ -1,8 +1,4 @@
-use Rattle.std.specs.Prelude.{map}
-use Rattle.sc_word.specs.Word.{word_of}
-use Rattle.std.proofs.Common.{refl}
-use Rattle.sc_image.specs.Step.{execute_by}
-use Rattle.sc_machine.specs.Hart.{state_in}
+use Rattle.sc_machine.proofs.Common.{execute_by, map, refl, state_in, word_of}
 use Rattle.sc_machine.proofs.execute.execute.Goals as goal
 
 pub returns-in-Load-clause-outcome : goal.returns-in-Load-clause-outcome

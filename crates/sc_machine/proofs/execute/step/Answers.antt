@@ -1,7 +1,4 @@
-use Rattle.std.specs.Prelude.{map}
-use Rattle.sc_word.specs.Word.{word_of}
-use Rattle.std.proofs.Common.{◌∙◌, sym}
-use Rattle.sc_machine.specs.Hart.{state_in}
+use Rattle.sc_machine.proofs.Common.{map, state_in, sym, word_of, ◌∙◌}
 use Rattle.sc_image.proofs.Stepping.{step_nowhere, step_illegal, step_executes}
 use Rattle.sc_machine.proofs.execute.step.Goals as goal
 

@@ -1,4 +1,4 @@
-use Rattle.std.proofs.Common.{sym}
+use Rattle.sc_machine.proofs.Common.{sym}
 use Rattle.sc_machine.proofs.Words.{short_globals}
 use Rattle.sc_machine.proofs.here.globals.Goals as goal
 

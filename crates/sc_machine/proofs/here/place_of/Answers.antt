@@ -1,7 +1,6 @@
-use Rattle.std.proofs.Common.{rules}
+use Rattle.sc_machine.proofs.Common.{Callee, rules}
 use Rattle.std.proofs.lemmas.List.Sorted.{answers_always}
 use Rattle.std.proofs.lemmas.Map.Lookups.{exact_unsigned}
-use Rattle.sc_machine.specs.declared.calling.Callee.{Callee}
 use Rattle.sc_machine.proofs.here.place_of.Goals as goal
 
 pub returns-in-Ok-clause-entry : goal.returns-in-Ok-clause-entry

@@ -1,6 +1,4 @@
-use Rattle.std.proofs.Common.{◌≡◌, true, false, sym, ◌∙◌, refl}
-use Rattle.std.specs.Prelude.{slice_index}
-use Rattle.sc_image.specs.Step.{compares, execute_by}
+use Rattle.sc_machine.proofs.Common.{compares, execute_by, false, refl, slice_index, sym, true, ◌∙◌, ◌≡◌}
 use Rattle.sc_machine.proofs.jump.branch.Goals as goal
 
 pub returns-then-not-compares-clause-outcome : goal.returns-then-not-compares-clause-outcome

@@ -1,4 +1,4 @@
-use Rattle.sc_image.specs.Step.{execute_by}
+use Rattle.sc_machine.proofs.Common.{execute_by}
 use Rattle.sc_machine.proofs.jump.jal.Goals as goal
 
 pub returns-clause-outcome : goal.returns-clause-outcome

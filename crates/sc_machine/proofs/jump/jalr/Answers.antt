@@ -1,7 +1,4 @@
-use Rattle.std.proofs.Common.{◌≡◌, ℕ, ◌⊎◌, ap, sym, ◌∙◌, ⊎_elim}
-use Rattle.sc_image.specs.Layout.{gate}
-use Rattle.sc_image.specs.Step.{Goes}
-use Rattle.sc_machine.specs.Hart.{state_in}
+use Rattle.sc_machine.proofs.Common.{Goes, ap, gate, state_in, sym, ℕ, ⊎_elim, ◌∙◌, ◌≡◌, ◌⊎◌}
 use Rattle.sc_machine.proofs.Jumps.{jalr_jumps, jalr_returns}
 use Rattle.sc_machine.proofs.jump.jalr.Goals as goal
 

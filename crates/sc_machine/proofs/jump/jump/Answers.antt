@@ -1,7 +1,4 @@
-use Rattle.std.proofs.Common.{◌≡◌, false, sym, ◌∙◌, ap}
-use Rattle.std.specs.Prelude.{is_some}
-use Rattle.sc_image.specs.Layout.{word_at}
-use Rattle.sc_machine.specs.Hart.{state_in}
+use Rattle.sc_machine.proofs.Common.{ap, false, is_some, state_in, sym, word_at, ◌∙◌, ◌≡◌}
 use Rattle.sc_machine.proofs.Jumps.{jump_elsewhere}
 use Rattle.sc_machine.proofs.jump.jump.Goals as goal
 

@@ -1,7 +1,5 @@
-use Rattle.std.proofs.Common.{◌∙◌, ◌+◌, ap, arith, get_or}
+use Rattle.sc_machine.proofs.Common.{ap, arith, get_or, next_there, stored, written_more, ◌+◌, ◌∙◌}
 use Rattle.sc_machine.proofs.Start.{one_there, one_stored}
-use Rattle.sc_store.proofs.Access.{written_more, next_there}
-use Rattle.sc_store.specs.Memory.{stored}
 use Rattle.sc_machine.proofs.loading.fill.Goals as goal
 
 pub store8-requires : goal.store8-requires

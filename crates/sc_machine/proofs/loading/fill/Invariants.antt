@@ -1,5 +1,4 @@
-use Rattle.std.proofs.Common.{◌≡◌, take}
-use Rattle.sc_store.specs.Flat.{written}
+use Rattle.sc_machine.proofs.Common.{take, written, ◌≡◌}
 use Rattle.sc_machine.proofs.loading.fill.Given as goal
 
 abbrev pub invariant-loop-k : goal.invariant-loop-k

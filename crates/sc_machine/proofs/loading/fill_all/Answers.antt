@@ -1,4 +1,4 @@
-use Rattle.std.proofs.Common.{refl}
+use Rattle.sc_machine.proofs.Common.{refl}
 use Rattle.sc_machine.proofs.Start.{place_there, next_filled}
 use Rattle.sc_machine.proofs.loading.fill_all.Goals as goal
 

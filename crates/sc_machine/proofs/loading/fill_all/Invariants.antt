@@ -1,5 +1,4 @@
-use Rattle.std.proofs.Common.{◌≡◌, take}
-use Rattle.sc_machine.specs.Regions.{all_data, filled_with}
+use Rattle.sc_machine.proofs.Common.{all_data, filled_with, take, ◌≡◌}
 use Rattle.sc_machine.proofs.loading.fill_all.Given as goal
 
 abbrev pub invariant-loop-number : goal.invariant-loop-number

@@ -1,6 +1,4 @@
-use Rattle.std.proofs.Common.{List, ◌++◌, ◌∷◌, [], length, ◌∙◌, refl, ap}
-use Rattle.sc_store.specs.declared.region.Region.{Region}
-use Rattle.sc_image.specs.Layout.{stack_size}
+use Rattle.sc_machine.proofs.Common.{List, Region, [], ap, length, refl, stack_size, ◌++◌, ◌∙◌, ◌∷◌}
 use Rattle.sc_machine.proofs.Start.{next_regions}
 use Rattle.sc_machine.proofs.loading.regions.Goals as goal
 

@@ -1,5 +1,4 @@
-use Rattle.std.proofs.Common.{◌≡◌, take}
-use Rattle.sc_machine.specs.Regions.{all_data, regions_of}
+use Rattle.sc_machine.proofs.Common.{all_data, regions_of, take, ◌≡◌}
 use Rattle.sc_machine.proofs.loading.regions.Given as goal
 
 abbrev pub invariant-loop-number : goal.invariant-loop-number

@@ -1,4 +1,4 @@
-use Rattle.std.proofs.Common.{◌∙◌, refl}
+use Rattle.sc_machine.proofs.Common.{refl, ◌∙◌}
 use Rattle.sc_machine.proofs.Start.{next_top}
 use Rattle.sc_machine.proofs.loading.stack_tops.Goals as goal
 

@@ -1,5 +1,4 @@
-use Rattle.std.proofs.Common.{◌≡◌, take}
-use Rattle.sc_image.specs.State.{stack_tops}
+use Rattle.sc_machine.proofs.Common.{stack_tops, take, ◌≡◌}
 use Rattle.sc_machine.proofs.loading.stack_tops.Given as goal
 
 abbrev pub invariant-loop-number : goal.invariant-loop-number

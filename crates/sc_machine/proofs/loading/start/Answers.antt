@@ -1,7 +1,4 @@
-use Rattle.std.proofs.Common.{◌<◌, All, arith, sym, subst, length}
-use Rattle.std.proofs.lemmas.List.Elements.{All-nil}
-use Rattle.sc_gate.specs.Waiting.{Waiting}
-use Rattle.sc_image.specs.State.{Crossing}
+use Rattle.sc_machine.proofs.Common.{All, All-nil, Crossing, Waiting, arith, length, subst, sym, ◌<◌}
 use Rattle.sc_machine.proofs.Start.{length_tops}
 use Rattle.sc_machine.proofs.loading.start.Goals as goal
 

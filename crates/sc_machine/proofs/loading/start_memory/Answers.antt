@@ -1,4 +1,4 @@
-use Rattle.std.proofs.Common.{◌∙◌}
+use Rattle.sc_machine.proofs.Common.{◌∙◌}
 use Rattle.sc_machine.proofs.Start.{all_few, starts, regions_apart, regions_below}
 use Rattle.sc_machine.proofs.loading.start_memory.Goals as goal
 

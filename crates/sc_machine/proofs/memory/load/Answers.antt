@@ -1,7 +1,4 @@
-use Rattle.std.proofs.Common.{subst, ◌∙◌, ap}
-use Rattle.sc_store.specs.Memory.{HasBytes}
-use Rattle.sc_image.specs.Step.{Goes}
-use Rattle.sc_machine.specs.Hart.{at, active_in}
+use Rattle.sc_machine.proofs.Common.{Goes, HasBytes, active_in, ap, at, subst, ◌∙◌}
 use Rattle.sc_machine.proofs.Access.{backed_bytes, load_goes}
 use Rattle.sc_machine.proofs.memory.load.Goals as goal
 

@@ -1,7 +1,4 @@
-use Rattle.std.proofs.Common.{subst, sym, ◌∙◌, ap₂}
-use Rattle.sc_store.specs.Memory.{HasBytes}
-use Rattle.sc_image.specs.Step.{Goes, store_size}
-use Rattle.sc_machine.specs.Hart.{at, active_in, IsBacked}
+use Rattle.sc_machine.proofs.Common.{Goes, HasBytes, IsBacked, active_in, ap₂, at, store_size, subst, sym, ◌∙◌}
 use Rattle.sc_machine.proofs.Access.{backed_bytes, stored_backed, store_goes}
 use Rattle.sc_machine.proofs.memory.store.Goals as goal
 

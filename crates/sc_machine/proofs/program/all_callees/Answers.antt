@@ -1,5 +1,4 @@
-use Rattle.std.proofs.Common.{arith}
-use Rattle.std.proofs.lemmas.List.{length_push}
+use Rattle.sc_machine.proofs.Common.{arith, length_push}
 use Rattle.sc_machine.proofs.Callees.{callees_more}
 use Rattle.sc_machine.proofs.program.all_callees.Goals as goal
 

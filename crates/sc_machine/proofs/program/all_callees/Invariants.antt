@@ -1,5 +1,4 @@
-use Rattle.std.proofs.Common.{◌≡◌, length}
-use Rattle.sc_machine.specs.Passing.{AreCallees}
+use Rattle.sc_machine.proofs.Common.{AreCallees, length, ◌≡◌}
 use Rattle.sc_machine.proofs.program.all_callees.Given as goal
 
 abbrev pub invariant-loop-number : goal.invariant-loop-number

@@ -1,5 +1,4 @@
-use Rattle.std.proofs.Common.{All}
-use Rattle.sc_machine.specs.Passing.{IsCallee}
+use Rattle.sc_machine.proofs.Common.{All, IsCallee}
 use Rattle.sc_machine.proofs.program.callees_of.Given as goal
 
 abbrev pub invariant-loop-import : goal.invariant-loop-import

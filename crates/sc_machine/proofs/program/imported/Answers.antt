@@ -1,4 +1,4 @@
-use Rattle.std.proofs.Common.{sym}
+use Rattle.sc_machine.proofs.Common.{sym}
 use Rattle.sc_machine.proofs.Imports.{imported}
 use Rattle.sc_machine.proofs.program.imported.Goals as goal
 

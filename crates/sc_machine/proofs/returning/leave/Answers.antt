@@ -1,7 +1,4 @@
-use Rattle.std.proofs.Common.{◌<◌, ◌∙◌, All, arith, subst, length, length-set, length-append}
-use Rattle.std.proofs.lemmas.List.Elements.{All-head, All-tail}
-use Rattle.sc_gate.specs.Waiting.{crossing_of}
-use Rattle.sc_image.specs.State.{Crossing}
+use Rattle.sc_machine.proofs.Common.{All, All-head, All-tail, Crossing, arith, crossing_of, length, length-append, length-set, subst, ◌<◌, ◌∙◌}
 use Rattle.sc_machine.proofs.returning.leave.Goals as goal
 
 pub returns-clause-stays : goal.returns-clause-stays

@@ -1,8 +1,4 @@
-use Rattle.std.specs.Prelude.{map}
-use Rattle.sc_word.specs.Word.{word_of}
-use Rattle.std.proofs.Common.{◌≡◌, ◌∙◌, sym, suc, ◌+◌, ◌-◌, ◌<◌, arith, length}
-use Rattle.sc_image.proofs.Running.{run_stopped}
-use Rattle.sc_machine.specs.Hart.{state_in}
+use Rattle.sc_machine.proofs.Common.{arith, length, map, run_stopped, state_in, suc, sym, word_of, ◌+◌, ◌-◌, ◌<◌, ◌∙◌, ◌≡◌}
 use Rattle.sc_machine.proofs.Runs.{room_left, no_steps, trapped, gone}
 use Rattle.sc_machine.proofs.run.run.Goals as goal
 

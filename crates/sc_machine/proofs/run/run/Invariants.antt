@@ -1,8 +1,4 @@
-use Rattle.std.specs.Prelude.{map}
-use Rattle.sc_word.specs.Word.{word_of}
-use Rattle.std.proofs.Common.{◌≡◌, ◌-◌}
-use Rattle.sc_image.specs.Machine.{run}
-use Rattle.sc_machine.specs.Hart.{state_in, CanRun}
+use Rattle.sc_machine.proofs.Common.{CanRun, map, run, state_in, word_of, ◌-◌, ◌≡◌}
 use Rattle.sc_machine.proofs.run.run.Given as goal
 
 abbrev pub invariant-loop : goal.invariant-loop

@@ -1,8 +1,5 @@
-use Rattle.std.proofs.Common.{◌≡◌, ◌+◌, ◌-◌, [], length}
+use Rattle.sc_parse.proofs.Common.{[], args_behind, behind, length, separated, ◌+◌, ◌-◌, ◌≡◌}
 use Rattle.sc_expr.specs.declared.mark.Mark.TheVariants as mark
-use Rattle.sc_expr.specs.Fronts.{behind}
-use Rattle.sc_parse.specs.Readers.{separated}
-use Rattle.sc_parse.specs.StmtReaders.{args_behind}
 use Rattle.sc_parse.proofs.calls.all_args.Given as goal
 
 -- what is read is what the rest of the loop reads

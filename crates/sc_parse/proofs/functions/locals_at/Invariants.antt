@@ -1,6 +1,4 @@
-use Rattle.std.proofs.Common.{◌≡◌, ◌+◌, ◌-◌, [], length}
-use Rattle.sc_parse.specs.Readers.{declaration_at, grouped}
-use Rattle.sc_parse.specs.SectionReaders.{locals_behind, no_base}
+use Rattle.sc_parse.proofs.Common.{[], declaration_at, grouped, length, locals_behind, no_base, ◌+◌, ◌-◌, ◌≡◌}
 use Rattle.sc_parse.proofs.functions.locals_at.Given as goal
 
 -- what is read is what the rest of the loop reads

@@ -1,4 +1,4 @@
-use Rattle.std.proofs.Common.{◌∙◌, arith}
+use Rattle.sc_parse.proofs.Common.{arith, ◌∙◌}
 use Rattle.sc_parse.proofs.Steps.{item_next}
 use Rattle.sc_parse.proofs.functions.with_locals.Goals as goal
 

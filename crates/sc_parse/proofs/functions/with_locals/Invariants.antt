@@ -1,8 +1,5 @@
-use Rattle.std.proofs.Common.{◌≡◌, ◌+◌, ◌-◌, length}
+use Rattle.sc_parse.proofs.Common.{behind, length, locals_behind, separated, ◌+◌, ◌-◌, ◌≡◌}
 use Rattle.sc_expr.specs.declared.mark.Mark.TheVariants as mark
-use Rattle.sc_expr.specs.Fronts.{behind}
-use Rattle.sc_parse.specs.Readers.{separated}
-use Rattle.sc_parse.specs.SectionReaders.{locals_behind}
 use Rattle.sc_parse.proofs.functions.with_locals.Given as goal
 
 -- what is read is what the rest of the loop reads

@@ -1,6 +1,4 @@
-use Rattle.std.proofs.Common.{◌≡◌, ◌+◌, ◌-◌, [], length}
-use Rattle.sc_parse.specs.Fronts.{behind_inner_comma}
-use Rattle.sc_parse.specs.Readers.{const_at, adds, separated}
+use Rattle.sc_parse.proofs.Common.{[], adds, behind_inner_comma, const_at, length, separated, ◌+◌, ◌-◌, ◌≡◌}
 use Rattle.sc_parse.proofs.globals.all_consts.Given as goal
 
 -- what is read is what the rest of the loop reads

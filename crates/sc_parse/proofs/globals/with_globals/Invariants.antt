@@ -1,7 +1,5 @@
-use Rattle.std.proofs.Common.{◌≡◌, ◌+◌, ◌-◌, length}
+use Rattle.sc_parse.proofs.Common.{behind, globals_behind, length, separated, ◌+◌, ◌-◌, ◌≡◌}
 use Rattle.sc_expr.specs.declared.mark.Mark.TheVariants as mark
-use Rattle.sc_expr.specs.Fronts.{behind}
-use Rattle.sc_parse.specs.Readers.{globals_behind, separated}
 use Rattle.sc_parse.proofs.globals.with_globals.Given as goal
 
 -- what is read is what the rest of the loop reads

@@ -1,7 +1,5 @@
-use Rattle.std.proofs.Common.{◌≡◌, ◌+◌, ◌-◌, [], length}
+use Rattle.sc_parse.proofs.Common.{[], adds, behind, length, param_at, separated, ◌+◌, ◌-◌, ◌≡◌}
 use Rattle.sc_expr.specs.declared.mark.Mark.TheVariants as mark
-use Rattle.sc_expr.specs.Fronts.{behind}
-use Rattle.sc_parse.specs.Readers.{param_at, adds, separated}
 use Rattle.sc_parse.proofs.heads.all_params.Given as goal
 
 -- what is read is what the rest of the loop reads

@@ -1,7 +1,5 @@
-use Rattle.std.proofs.Common.{◌≡◌, ◌+◌, ◌-◌, length}
+use Rattle.sc_parse.proofs.Common.{begins_with, declaration_at, grouped, length, members_behind, ◌+◌, ◌-◌, ◌≡◌}
 use Rattle.sc_expr.specs.declared.mark.Mark.TheVariants as mark
-use Rattle.sc_parse.specs.Fronts.{begins_with}
-use Rattle.sc_parse.specs.Readers.{declaration_at, members_behind, grouped}
 use Rattle.sc_parse.proofs.members.member_lines.Given as goal
 
 -- what is read is what the rest of the loop reads

@@ -1,4 +1,4 @@
-use Rattle.std.proofs.Common.{◌∙◌, arith}
+use Rattle.sc_parse.proofs.Common.{arith, ◌∙◌}
 use Rattle.sc_parse.proofs.Steps.{item_next}
 use Rattle.sc_parse.proofs.members.with_members.Goals as goal
 

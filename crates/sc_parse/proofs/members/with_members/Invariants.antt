@@ -1,7 +1,5 @@
-use Rattle.std.proofs.Common.{◌≡◌, ◌+◌, ◌-◌, length}
+use Rattle.sc_parse.proofs.Common.{adds, behind, length, member_at, separated, ◌+◌, ◌-◌, ◌≡◌}
 use Rattle.sc_expr.specs.declared.mark.Mark.TheVariants as mark
-use Rattle.sc_expr.specs.Fronts.{behind}
-use Rattle.sc_parse.specs.Readers.{member_at, adds, separated}
 use Rattle.sc_parse.proofs.members.with_members.Given as goal
 
 -- what is read is what the rest of the loop reads

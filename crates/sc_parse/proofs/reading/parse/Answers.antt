@@ -1,6 +1,4 @@
-use Rattle.std.proofs.Common.{◌≡◌, ◌<◌, length, Any, ◌∙◌, subst}
-use Rattle.sc_parse.specs.Limits.{lexemes_of, whole_line}
-use Rattle.sc_parse.specs.Outcomes.{Parses}
+use Rattle.sc_parse.proofs.Common.{Any, Parses, length, lexemes_of, subst, whole_line, ◌<◌, ◌∙◌, ◌≡◌}
 use Rattle.sc_parse.proofs.Trees.{parsed, unparsed, line_token}
 use Rattle.sc_parse.proofs.reading.parse.Goals as goal
 

@@ -1,6 +1,4 @@
-use Rattle.std.proofs.Common.{◌≡◌, ◌+◌, ◌-◌, [], length}
-use Rattle.sc_parse.specs.Readers.{grouped}
-use Rattle.sc_parse.specs.SectionReaders.{decl_at, is_empty}
+use Rattle.sc_parse.proofs.Common.{[], decl_at, grouped, is_empty, length, ◌+◌, ◌-◌, ◌≡◌}
 use Rattle.sc_parse.proofs.section.decls_at.Given as goal
 
 -- what is read is what the rest of the loop reads

@@ -1,5 +1,4 @@
-use Rattle.std.proofs.Common.{◌≡◌, ◌+◌, ◌-◌, [], length}
-use Rattle.sc_parse.specs.SectionReaders.{directives, lines_at}
+use Rattle.sc_parse.proofs.Common.{[], directives, length, lines_at, ◌+◌, ◌-◌, ◌≡◌}
 use Rattle.sc_parse.proofs.section.directives_at.Given as goal
 
 -- what is read is what the rest of the loop reads

@@ -1,8 +1,5 @@
-use Rattle.std.proofs.Common.{◌≡◌, ◌+◌, ◌-◌, ◌*◌, [], length}
+use Rattle.sc_parse.proofs.Common.{[], adds, begins_with, grouped, length, stmt_at, ◌*◌, ◌+◌, ◌-◌, ◌≡◌}
 use Rattle.sc_expr.specs.declared.mark.Mark.TheVariants as mark
-use Rattle.sc_parse.specs.Fronts.{begins_with}
-use Rattle.sc_parse.specs.Readers.{adds, grouped}
-use Rattle.sc_parse.specs.StmtReaders.{stmt_at}
 use Rattle.sc_parse.proofs.stmts.+statements.Given as goal
 
 abbrev pub decreases-stmt_at : goal.decreases-stmt_at

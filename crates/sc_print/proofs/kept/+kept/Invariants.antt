@@ -1,5 +1,4 @@
-use Rattle.std.proofs.Common.{◌≡◌, drop}
-use Rattle.sc_print.specs.KeptStmts.{are_kept}
+use Rattle.sc_print.proofs.Common.{are_kept, drop, ◌≡◌}
 use Rattle.sc_print.proofs.kept.+kept.Given as goal
 
 -- what is left keeps it exactly where all of them do

@@ -1,6 +1,4 @@
-use Rattle.std.proofs.Common.{◌≡◌, drop}
-use Rattle.std.specs.List.{list_all}
-use Rattle.sc_print.specs.Kept.{is_kept}
+use Rattle.sc_print.proofs.Common.{drop, is_kept, list_all, ◌≡◌}
 use Rattle.sc_print.proofs.kept.keeps_args.Given as goal
 
 -- what is left keeps it exactly where all of them do

@@ -1,6 +1,4 @@
-use Rattle.std.proofs.Common.{◌≡◌, drop}
-use Rattle.std.specs.List.{list_all}
-use Rattle.sc_print.specs.KeptDecls.{kept_const}
+use Rattle.sc_print.proofs.Common.{drop, kept_const, list_all, ◌≡◌}
 use Rattle.sc_print.proofs.kept_decls.keeps_consts.Given as goal
 
 -- what is left keeps it exactly where all of them do

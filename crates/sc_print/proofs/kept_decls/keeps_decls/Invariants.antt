@@ -1,6 +1,4 @@
-use Rattle.std.proofs.Common.{◌≡◌, drop}
-use Rattle.std.specs.List.{list_all}
-use Rattle.sc_print.specs.KeptDecls.{is_kept_decl}
+use Rattle.sc_print.proofs.Common.{drop, is_kept_decl, list_all, ◌≡◌}
 use Rattle.sc_print.proofs.kept_decls.keeps_decls.Given as goal
 
 -- what is left keeps it exactly where all of them do

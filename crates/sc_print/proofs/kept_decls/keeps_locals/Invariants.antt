@@ -1,6 +1,4 @@
-use Rattle.std.proofs.Common.{◌≡◌, drop}
-use Rattle.std.specs.List.{list_all}
-use Rattle.sc_print.specs.KeptDecls.{kept_local}
+use Rattle.sc_print.proofs.Common.{drop, kept_local, list_all, ◌≡◌}
 use Rattle.sc_print.proofs.kept_decls.keeps_locals.Given as goal
 
 -- what is left keeps it exactly where all of them do

@@ -1,7 +1,4 @@
-use Rattle.std.proofs.Common.{◌≡◌, drop, map}
-use Rattle.std.specs.List.{list_all}
-use Rattle.sc_ast.specs.Heads.{param_of}
-use Rattle.sc_print.specs.KeptDecls.{kept_param}
+use Rattle.sc_print.proofs.Common.{drop, kept_param, list_all, map, param_of, ◌≡◌}
 use Rattle.sc_print.proofs.kept_decls.keeps_named_params.Given as goal
 
 -- what is left keeps it exactly where all of them do

@@ -1,6 +1,4 @@
-use Rattle.std.proofs.Common.{◌≡◌, drop}
-use Rattle.std.specs.List.{list_all}
-use Rattle.sc_print.specs.KeptSections.{kept_export}
+use Rattle.sc_print.proofs.Common.{drop, kept_export, list_all, ◌≡◌}
 use Rattle.sc_print.proofs.kept_sections.keeps_exports.Given as goal
 
 -- what is left keeps it exactly where all of them do

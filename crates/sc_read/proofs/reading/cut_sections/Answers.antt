@@ -1,7 +1,4 @@
-use Rattle.std.proofs.Common.{◌≡◌, Err, sym, ap, ◌∙◌}
-use Rattle.std.proofs.lemmas.Result.{err_from_is_err_and}
-use Rattle.sc_lex.specs.declared.fault.TextFault.TheVariants.{Refused}
-use Rattle.sc_read.specs.Steps.{IsCutInto}
+use Rattle.sc_read.proofs.Common.{Err, IsCutInto, Refused, ap, err_from_is_err_and, sym, ◌∙◌, ◌≡◌}
 use Rattle.sc_read.proofs.Steps.{more_sections, first_bad}
 use Rattle.sc_read.proofs.reading.cut_sections.Goals as goal
 

@@ -1,6 +1,4 @@
-use Rattle.std.proofs.Common.{take}
-use Rattle.std.specs.List.{AllZip}
-use Rattle.sc_read.specs.Steps.{IsCutInto}
+use Rattle.sc_read.proofs.Common.{AllZip, IsCutInto, take}
 use Rattle.sc_read.proofs.reading.cut_sections.Given as goal
 
 abbrev pub invariant-loop-section : goal.invariant-loop-section

@@ -1,7 +1,4 @@
-use Rattle.std.proofs.Common.{◌≡◌, Err, sym, ap, ◌∙◌, arith}
-use Rattle.std.proofs.lemmas.Result.{err_from_is_err_and}
-use Rattle.sc_lex.specs.declared.fault.TextFault.TheVariants.{Refused}
-use Rattle.sc_read.specs.Steps.{IsCutInto, IsTreeOf}
+use Rattle.sc_read.proofs.Common.{Err, IsCutInto, IsTreeOf, Refused, ap, arith, err_from_is_err_and, sym, ◌∙◌, ◌≡◌}
 use Rattle.sc_read.proofs.Steps.{more_sections, first_bad, as_many, zip_at}
 use Rattle.sc_read.proofs.reading.parse_sections.Goals as goal
 

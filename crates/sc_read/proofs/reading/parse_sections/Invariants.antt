@@ -1,6 +1,4 @@
-use Rattle.std.proofs.Common.{take}
-use Rattle.std.specs.List.{AllZip}
-use Rattle.sc_read.specs.Steps.{IsTreeOf}
+use Rattle.sc_read.proofs.Common.{AllZip, IsTreeOf, take}
 use Rattle.sc_read.proofs.reading.parse_sections.Given as goal
 
 abbrev pub invariant-loop-at : goal.invariant-loop-at

@@ -1,14 +1,5 @@
-use Rattle.std.proofs.Common.{◌≡◌, List, [], ◌∷◌, drop, Err, refl, sym, ap, ◌∙◌, subst}
-use Rattle.std.proofs.lemmas.Result.{err_from_is_err_and}
-use Rattle.std.specs.List.{AllZip}
-use Rattle.sc_lex.specs.Cutting.{IsCut, RefusesBytes}
-use Rattle.sc_lex.specs.Splitting.{IsSplit}
-use Rattle.sc_lex.specs.declared.refusal.Refusal.{Refusal}
+use Rattle.sc_read.proofs.Common.{AllZip, Err, Fails, First, IsCut, IsCutInto, IsCuttable, IsParsable, IsSplit, IsTreeOf, List, Refusal, Refused, RefusesBytes, RefusesTokens, [], ap, drop, err_from_is_err_and, refl, subst, sym, ◌∙◌, ◌∷◌, ◌≡◌}
 use Rattle.sc_lex.specs.declared.refusal.Phase.TheVariants.{Syntax}
-use Rattle.sc_lex.specs.declared.fault.TextFault.TheVariants.{Refused}
-use Rattle.sc_read.specs.First.{First}
-use Rattle.sc_read.specs.Reading.{Fails}
-use Rattle.sc_read.specs.Steps.{IsCutInto, IsCuttable, IsTreeOf, IsParsable, RefusesTokens}
 use Rattle.sc_read.proofs.Steps.{heading_fails, preamble_uncut, section_uncut, lex_phase, preamble_spells, reads, section_unread, begins_with, is_empty, if_ok_more}
 use Rattle.sc_read.proofs.reading.read_trees.Goals as goal
 

@@ -1,5 +1,4 @@
-use Rattle.std.proofs.Common.{◌≡◌, ◌++◌, flat_map, take}
-use Rattle.sc_report.specs.Check.{export_line}
+use Rattle.sc_report.proofs.Common.{export_line, flat_map, take, ◌++◌, ◌≡◌}
 use Rattle.sc_report.proofs.interface.append_exports.Given as goal
 
 abbrev pub invariant-loop-export : goal.invariant-loop-export

@@ -1,5 +1,4 @@
-use Rattle.std.proofs.Common.{◌≡◌, ◌++◌, flat_map, take}
-use Rattle.sc_report.specs.Check.{import_line}
+use Rattle.sc_report.proofs.Common.{flat_map, import_line, take, ◌++◌, ◌≡◌}
 use Rattle.sc_report.proofs.interface.append_imports.Given as goal
 
 abbrev pub invariant-loop-import : goal.invariant-loop-import

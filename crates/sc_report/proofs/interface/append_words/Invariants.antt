@@ -1,6 +1,4 @@
-use Rattle.std.proofs.Common.{◌≡◌, ◌++◌, map, take}
-use Rattle.sc_event.specs.Line.{spaced_names}
-use Rattle.sc_report.specs.Check.{scalar_word}
+use Rattle.sc_report.proofs.Common.{map, scalar_word, spaced_names, take, ◌++◌, ◌≡◌}
 use Rattle.sc_report.proofs.interface.append_words.Given as goal
 
 abbrev pub invariant-loop-param : goal.invariant-loop-param

@@ -1,4 +1,4 @@
-use Rattle.sc_report.specs.Check.{interface_text}
+use Rattle.sc_report.proofs.Common.{interface_text}
 use Rattle.sc_report.proofs.Pieces.{flat_turn}
 use Rattle.sc_report.proofs.interface.check_text.Goals as goal
 

@@ -1,5 +1,4 @@
-use Rattle.std.proofs.Common.{◌≡◌, flat_map, take}
-use Rattle.sc_report.specs.Check.{interface_text}
+use Rattle.sc_report.proofs.Common.{flat_map, interface_text, take, ◌≡◌}
 use Rattle.sc_report.proofs.interface.check_text.Given as goal
 
 abbrev pub invariant-loop-comp : goal.invariant-loop-comp

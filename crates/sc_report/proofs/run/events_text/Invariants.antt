@@ -1,5 +1,4 @@
-use Rattle.std.proofs.Common.{◌≡◌, flat_map, take}
-use Rattle.sc_event.specs.Line.{event_line}
+use Rattle.sc_report.proofs.Common.{event_line, flat_map, take, ◌≡◌}
 use Rattle.sc_report.proofs.run.events_text.Given as goal
 
 abbrev pub invariant-loop-event : goal.invariant-loop-event

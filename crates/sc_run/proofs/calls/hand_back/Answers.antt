@@ -1,4 +1,4 @@
-use Rattle.sc_run.specs.Seen.{kept_by}
+use Rattle.sc_run.proofs.Common.{kept_by}
 use Rattle.sc_run.proofs.Calling.{unstored}
 use Rattle.sc_run.proofs.calls.hand_back.Goals as goal
 

@@ -1,9 +1,5 @@
-use Rattle.sc_core.specs.Value.{c_arith}
-use Rattle.sc_core.specs.Words.{all_do, take, in_order}
-use Rattle.sc_core.specs.Meaning.{inits_do}
-use Rattle.sc_value.specs.Where.{here_of}
-use Rattle.sc_run.specs.Seen.{kept_by}
-use Rattle.sc_run.specs.Resume.{block_acts}
+use Rattle.sc_run.proofs.Common.{all_do, block_acts, c_arith, here_of, in_order, inits_do, kept_by}
+use Rattle.sc_core.specs.Prelude.{take}
 use Rattle.sc_run.proofs.Standing.{step_stops}
 use Rattle.sc_run.proofs.calls.start.Goals as goal
 

@@ -1,5 +1,4 @@
-use Rattle.std.proofs.Common.{◌≡◌, map, take}
-use Rattle.sc_core.specs.Calls.{word_in}
+use Rattle.sc_run.proofs.Common.{map, take, word_in, ◌≡◌}
 use Rattle.sc_run.proofs.calls.words_of.Given as goal
 
 abbrev pub invariant-loop-value : goal.invariant-loop-value

@@ -1,4 +1,4 @@
-use Rattle.sc_blocks.specs.Rows.{memory_of}
+use Rattle.sc_run.proofs.Common.{memory_of}
 use Rattle.sc_run.proofs.Filling.{section_more}
 use Rattle.sc_run.proofs.globals.first_blocks.Goals as goal
 

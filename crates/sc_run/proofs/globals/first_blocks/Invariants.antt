@@ -1,6 +1,4 @@
-use Rattle.std.proofs.Common.{◌≡◌, take}
-use Rattle.sc_core.specs.Meaning.{globals_of}
-use Rattle.sc_blocks.specs.Rows.{memory_of}
+use Rattle.sc_run.proofs.Common.{globals_of, memory_of, take, ◌≡◌}
 use Rattle.sc_run.proofs.globals.first_blocks.Given as goal
 
 abbrev pub invariant-loop-at : goal.invariant-loop-at

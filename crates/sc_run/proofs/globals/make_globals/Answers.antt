@@ -1,7 +1,4 @@
-use Rattle.std.proofs.Common.{◌≡◌, ◌<◌, ◌++◌, ◌∙◌, ap, subst, [], ◌∷◌, length, get_or}
-use Rattle.sc_core.specs.Memory.{with_blocks}
-use Rattle.sc_core.specs.Meaning.{struct_zeros, global_block}
-use Rattle.sc_blocks.specs.Rows.{memory_of}
+use Rattle.sc_run.proofs.Common.{[], ap, get_or, global_block, length, memory_of, struct_zeros, subst, with_blocks, ◌++◌, ◌<◌, ◌∙◌, ◌∷◌, ◌≡◌}
 use Rattle.sc_run.proofs.Filling.{global_more}
 use Rattle.sc_run.proofs.globals.make_globals.Goals as goal
 

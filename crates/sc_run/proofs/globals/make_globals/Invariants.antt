@@ -1,7 +1,4 @@
-use Rattle.std.proofs.Common.{◌≡◌, ◌++◌, [], map, take}
-use Rattle.sc_core.specs.Memory.{with_blocks}
-use Rattle.sc_core.specs.Meaning.{struct_zeros, global_block}
-use Rattle.sc_blocks.specs.Rows.{memory_of}
+use Rattle.sc_run.proofs.Common.{[], global_block, map, memory_of, struct_zeros, take, with_blocks, ◌++◌, ◌≡◌}
 use Rattle.sc_run.proofs.globals.make_globals.Given as goal
 
 abbrev pub invariant-loop-global : goal.invariant-loop-global

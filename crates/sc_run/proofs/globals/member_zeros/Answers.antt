@@ -1,4 +1,4 @@
-use Rattle.std.proofs.Common.{◌∙◌, ◌++◌, ap}
+use Rattle.sc_run.proofs.Common.{ap, ◌++◌, ◌∙◌}
 use Rattle.sc_run.proofs.Filling.{member_more}
 use Rattle.sc_run.proofs.globals.member_zeros.Goals as goal
 

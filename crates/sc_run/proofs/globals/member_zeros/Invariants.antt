@@ -1,5 +1,4 @@
-use Rattle.std.proofs.Common.{◌≡◌, take}
-use Rattle.sc_core.specs.Meaning.{member_zeros}
+use Rattle.sc_run.proofs.Common.{member_zeros, take, ◌≡◌}
 use Rattle.sc_run.proofs.globals.member_zeros.Given as goal
 
 abbrev pub invariant-loop-member : goal.invariant-loop-member

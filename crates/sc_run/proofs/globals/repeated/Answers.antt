@@ -1,4 +1,4 @@
-use Rattle.std.proofs.Common.{◌∙◌}
+use Rattle.sc_run.proofs.Common.{◌∙◌}
 use Rattle.sc_run.proofs.Filling.{once_more}
 use Rattle.sc_run.proofs.globals.repeated.Goals as goal
 

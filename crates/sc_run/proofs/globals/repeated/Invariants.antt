@@ -1,5 +1,4 @@
-use Rattle.std.proofs.Common.{◌≡◌}
-use Rattle.sc_core.specs.Meaning.{repeated}
+use Rattle.sc_run.proofs.Common.{repeated, ◌≡◌}
 use Rattle.sc_run.proofs.globals.repeated.Given as goal
 
 abbrev pub invariant-loop-time : goal.invariant-loop-time

@@ -1,5 +1,4 @@
-use Rattle.std.proofs.Common.{◌≡◌, [], drop}
-use Rattle.sc_core.specs.Meaning.{struct_zeros}
+use Rattle.sc_run.proofs.Common.{[], drop, struct_zeros, ◌≡◌}
 use Rattle.sc_run.proofs.globals.struct_zeros.Given as goal
 
 abbrev pub invariant-loop-found : goal.invariant-loop-found

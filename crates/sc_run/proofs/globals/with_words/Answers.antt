@@ -1,6 +1,4 @@
-use Rattle.std.proofs.Common.{refl, ◌∙◌, ◌+◌, ◌++◌, ap, drop, get_or}
-use Rattle.sc_core.specs.declared.value.Cell.TheVariants.{Undef}
-use Rattle.sc_core.specs.Meaning.{with_words}
+use Rattle.sc_run.proofs.Common.{Undef, ap, drop, get_or, refl, with_words, ◌++◌, ◌+◌, ◌∙◌}
 use Rattle.sc_run.proofs.Filling.{word_more, words_all}
 use Rattle.sc_run.proofs.globals.with_words.Goals as goal
 

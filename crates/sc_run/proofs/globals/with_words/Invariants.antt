@@ -1,5 +1,4 @@
-use Rattle.std.proofs.Common.{◌≡◌, ◌++◌, drop}
-use Rattle.sc_core.specs.Meaning.{with_words}
+use Rattle.sc_run.proofs.Common.{drop, with_words, ◌++◌, ◌≡◌}
 use Rattle.sc_run.proofs.globals.with_words.Given as goal
 
 abbrev pub invariant-loop-at : goal.invariant-loop-at

@@ -1,9 +1,4 @@
-use Rattle.std.proofs.Common.{◌≡◌, refl, length, rules, arith}
-use Rattle.std.proofs.lemmas.Result.{IfOk-weaker}
-use Rattle.sc_core.specs.Words.{leave}
-use Rattle.sc_run.specs.declared.work.Work.TheVariants.{Rest, First, Body, Again, Caller}
-use Rattle.sc_run.specs.Seen.{kept_by}
-use Rattle.sc_run.specs.Resume.{exit_of}
+use Rattle.sc_run.proofs.Common.{Again, Body, Caller, First, IfOk-weaker, Rest, arith, exit_of, kept_by, leave, length, refl, rules, ◌≡◌}
 use Rattle.sc_run.proofs.Looping.{nothing_waits, taken, caller_taken}
 use Rattle.sc_run.proofs.leaves.leave.Goals as goal
 

@@ -1,9 +1,4 @@
-use Rattle.std.proofs.Common.{refl, ap}
-use Rattle.std.specs.Option.{option_copied}
-use Rattle.std.proofs.lemmas.Result.{IfOk-weaker}
-use Rattle.sc_core.specs.Words.{in_loop}
-use Rattle.sc_run.specs.declared.work.Work.TheVariants.{Again}
-use Rattle.sc_run.specs.Seen.{kept_by}
+use Rattle.sc_run.proofs.Common.{Again, IfOk-weaker, ap, in_loop, kept_by, option_copied, refl}
 use Rattle.sc_run.proofs.Stating.{part_steps}
 use Rattle.sc_run.proofs.leaves.next_part.Goals as goal
 

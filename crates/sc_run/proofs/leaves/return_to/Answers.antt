@@ -1,5 +1,4 @@
-use Rattle.sc_run.specs.Seen.{kept_by}
-use Rattle.sc_run.specs.Resume.{exit_of}
+use Rattle.sc_run.proofs.Common.{exit_of, kept_by}
 use Rattle.sc_run.proofs.Ending.{return_stops, return_steps}
 use Rattle.sc_run.proofs.leaves.return_to.Goals as goal
 

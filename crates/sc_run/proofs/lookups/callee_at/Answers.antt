@@ -1,5 +1,4 @@
-use Rattle.std.proofs.Common.{◌∙◌, sym, ap}
-use Rattle.std.specs.Prelude.{slice_get}
+use Rattle.sc_run.proofs.Common.{ap, slice_get, sym, ◌∙◌}
 use Rattle.sc_run.proofs.Finding.{none_at}
 use Rattle.sc_run.proofs.lookups.callee_at.Goals as goal
 

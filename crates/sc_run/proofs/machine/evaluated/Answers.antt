@@ -1,6 +1,4 @@
-use Rattle.sc_value.specs.Where.{here_of}
-use Rattle.sc_run.specs.Seen.{kept_by}
-use Rattle.sc_run.specs.Resume.{way_in}
+use Rattle.sc_run.proofs.Common.{here_of, kept_by, way_in}
 use Rattle.sc_run.proofs.Unseen.{way_same}
 use Rattle.sc_run.proofs.Coming.{computed_comes, given_err}
 use Rattle.sc_run.proofs.machine.evaluated.Goals as goal

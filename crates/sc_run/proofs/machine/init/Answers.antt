@@ -1,12 +1,6 @@
-use Rattle.std.proofs.Common.{subst}
+use Rattle.sc_run.proofs.Common.{Comes, Next, evaluated, here_of, kept_by, stored, subst, variable_at, way_in, with_exit}
 use Rattle.sc_core.specs.declared.expr.VarRef.TheVariants.{Local}
-use Rattle.sc_core.specs.Words.{Next, stored}
-use Rattle.sc_core.specs.Tree.{evaluated, variable_at}
 use Rattle.sc_core.specs.declared.value.Want.TheVariants as want
-use Rattle.sc_value.specs.Where.{here_of}
-use Rattle.sc_run.specs.Seen.{kept_by}
-use Rattle.sc_run.specs.Comes.{Comes, with_exit}
-use Rattle.sc_run.specs.Resume.{way_in}
 use Rattle.sc_run.proofs.Coming.{then_goes}
 use Rattle.sc_run.proofs.Making.{init_is}
 use Rattle.sc_run.proofs.machine.init.Goals as goal

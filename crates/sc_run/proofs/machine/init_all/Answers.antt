@@ -1,6 +1,4 @@
-use Rattle.std.proofs.Common.{◌≡◌, ◌<◌, ◌≤◌, subst, length, get_or}
-use Rattle.sc_value.specs.Where.{here_of}
-use Rattle.sc_run.specs.Seen.{kept_by}
+use Rattle.sc_run.proofs.Common.{get_or, here_of, kept_by, length, subst, ◌<◌, ◌≡◌, ◌≤◌}
 use Rattle.sc_run.proofs.Making.{started_more, started_blamed, started_all}
 use Rattle.sc_run.proofs.machine.init_all.Goals as goal
 

@@ -1,5 +1,4 @@
-use Rattle.sc_value.specs.Where.{here_of}
-use Rattle.sc_run.specs.Seen.{kept_by}
+use Rattle.sc_run.proofs.Common.{here_of, kept_by}
 use Rattle.sc_run.proofs.Making.{Started}
 use Rattle.sc_run.proofs.machine.init_all.Given as goal
 

@@ -1,9 +1,4 @@
-use Rattle.std.proofs.Common.{◌≡◌, ◌<◌, ◌+◌, ap, sym, ◌∙◌, subst, [], length, get_or, arith}
-use Rattle.std.proofs.lemmas.List.{length-map}
-use Rattle.sc_core.specs.declared.section.TypedParam.{TypedParam}
-use Rattle.sc_core.specs.declared.section.TypedLocal.{TypedLocal}
-use Rattle.sc_core.specs.Types.{cells_of}
-use Rattle.sc_blocks.specs.Rows.{memory_of}
+use Rattle.sc_run.proofs.Common.{TypedLocal, TypedParam, [], ap, arith, cells_of, get_or, length, length-map, memory_of, subst, sym, ◌+◌, ◌<◌, ◌∙◌, ◌≡◌}
 use Rattle.sc_run.proofs.Making.{one_more, param_sizes}
 use Rattle.sc_run.proofs.machine.make_blocks.Goals as goal
 

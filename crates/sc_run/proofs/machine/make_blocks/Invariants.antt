@@ -1,5 +1,4 @@
-use Rattle.std.proofs.Common.{◌≡◌, ◌++◌, take}
-use Rattle.sc_blocks.specs.Rows.{memory_of}
+use Rattle.sc_run.proofs.Common.{memory_of, take, ◌++◌, ◌≡◌}
 use Rattle.sc_run.proofs.Making.{with_sizes, param_sizes, local_sizes}
 use Rattle.sc_run.proofs.machine.make_blocks.Given as goal
 

@@ -1,6 +1,4 @@
-use Rattle.sc_blocks.specs.Rows.{memory_of}
-use Rattle.sc_value.specs.Where.{here_of}
-use Rattle.sc_run.specs.Seen.{kept_by}
+use Rattle.sc_run.proofs.Common.{here_of, kept_by, memory_of}
 use Rattle.sc_run.proofs.Coming.{stored_ok, stored_err}
 use Rattle.sc_run.proofs.machine.stored.Goals as goal
 

@@ -1,4 +1,4 @@
-use Rattle.std.proofs.Common.{◌≡◌, length, take}
+use Rattle.sc_run.proofs.Common.{length, take, ◌≡◌}
 use Rattle.sc_run.proofs.run.first_events.Given as goal
 
 abbrev pub invariant-loop-first : goal.invariant-loop-first

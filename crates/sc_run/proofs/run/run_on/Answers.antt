@@ -1,6 +1,4 @@
-use Rattle.std.proofs.Common.{◌≤◌, sym, subst}
-use Rattle.sc_run.specs.Seen.{kept_by}
-use Rattle.sc_run.specs.Resume.{Standing, does_now}
+use Rattle.sc_run.proofs.Common.{Standing, does_now, kept_by, subst, sym, ◌≤◌}
 use Rattle.sc_run.proofs.Whole.{since_step, since_stop, since_events}
 use Rattle.sc_run.proofs.run.run_on.Goals as goal
 

@@ -1,4 +1,4 @@
-use Rattle.sc_run.specs.Seen.{kept_by}
+use Rattle.sc_run.proofs.Common.{kept_by}
 use Rattle.sc_run.proofs.Whole.{Since}
 use Rattle.sc_run.proofs.run.run_on.Given as goal
 

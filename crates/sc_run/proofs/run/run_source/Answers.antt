@@ -1,10 +1,5 @@
-use Rattle.std.proofs.Common.{◌∙◌, ap, subst, map}
-use Rattle.sc_word.specs.Word.{word_of}
-use Rattle.sc_core.specs.Meaning.{globals_of, meaning}
-use Rattle.sc_blocks.specs.Rows.{memory_of}
-use Rattle.sc_run.specs.Seen.{kept_by}
-use Rattle.sc_run.specs.Entering.{body_acts}
-use Rattle.sc_run.specs.Resume.{Steps}
+use Rattle.sc_run.proofs.Common.{Steps, ap, body_acts, globals_of, kept_by, map, meaning, memory_of, subst, ◌∙◌}
+use Rattle.sc_word.specs.Prelude.{word_of}
 use Rattle.sc_run.proofs.Whole.{seen_at_first, over_at_once, gone_through}
 use Rattle.sc_run.proofs.run.run_source.Goals as goal
 

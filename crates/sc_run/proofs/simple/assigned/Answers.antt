@@ -1,7 +1,4 @@
-use Rattle.sc_core.specs.Tree.{assign}
-use Rattle.sc_value.specs.Where.{here_of}
-use Rattle.sc_run.specs.Seen.{kept_by}
-use Rattle.sc_run.specs.Resume.{way_in}
+use Rattle.sc_run.proofs.Common.{assign, here_of, kept_by, way_in}
 use Rattle.sc_run.proofs.Standing.{step_ends}
 use Rattle.sc_run.proofs.simple.assigned.Goals as goal
 

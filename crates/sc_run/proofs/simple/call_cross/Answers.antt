@@ -1,5 +1,4 @@
-use Rattle.std.proofs.lemmas.Result.{IfOk-weaker}
-use Rattle.sc_run.specs.Seen.{kept_by}
+use Rattle.sc_run.proofs.Common.{IfOk-weaker, kept_by}
 use Rattle.sc_run.proofs.Invoking.{cross_refused, cross_missing, cross_enters}
 use Rattle.sc_run.proofs.simple.call_cross.Goals as goal
 

@@ -1,6 +1,4 @@
-use Rattle.std.proofs.Common.{sym}
-use Rattle.sc_core.specs.declared.expr.CallTarget.TheVariants.{Input}
-use Rattle.sc_run.specs.Seen.{kept_by}
+use Rattle.sc_run.proofs.Common.{Input, kept_by, sym}
 use Rattle.sc_run.proofs.Invoking.{refused, input_steps}
 use Rattle.sc_run.proofs.simple.call_input.Goals as goal
 

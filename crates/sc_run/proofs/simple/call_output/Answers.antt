@@ -1,6 +1,4 @@
-use Rattle.std.proofs.Common.{sym}
-use Rattle.sc_core.specs.declared.expr.CallTarget.TheVariants.{Output}
-use Rattle.sc_run.specs.Seen.{kept_by}
+use Rattle.sc_run.proofs.Common.{Output, kept_by, sym}
 use Rattle.sc_run.proofs.Invoking.{refused, output_steps}
 use Rattle.sc_run.proofs.simple.call_output.Goals as goal
 

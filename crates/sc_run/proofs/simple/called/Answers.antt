@@ -1,6 +1,4 @@
-use Rattle.std.proofs.lemmas.Result.{IfOk-weaker}
-use Rattle.sc_core.specs.declared.expr.CallTarget.TheVariants.{Cross}
-use Rattle.sc_run.specs.Seen.{kept_by}
+use Rattle.sc_run.proofs.Common.{Cross, IfOk-weaker, kept_by}
 use Rattle.sc_run.proofs.Invoking.{as_called}
 use Rattle.sc_run.proofs.simple.called.Goals as goal
 

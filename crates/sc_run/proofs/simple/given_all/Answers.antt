@@ -1,8 +1,4 @@
-use Rattle.std.proofs.Common.{sym, ◌∙◌, map}
-use Rattle.sc_core.specs.Tree.{values}
-use Rattle.sc_value.specs.Where.{here_of}
-use Rattle.sc_run.specs.Seen.{kept_by}
-use Rattle.sc_run.specs.Resume.{way_in}
+use Rattle.sc_run.proofs.Common.{here_of, kept_by, map, sym, values, way_in, ◌∙◌}
 use Rattle.sc_run.proofs.Unseen.{values_same}
 use Rattle.sc_run.proofs.Coming.{computed_comes, given_err}
 use Rattle.sc_run.proofs.simple.given_all.Goals as goal

@@ -1,10 +1,5 @@
-use Rattle.std.proofs.Common.{subst}
-use Rattle.std.proofs.lemmas.Result.{IfOk-weaker}
+use Rattle.sc_run.proofs.Common.{IfOk-weaker, Steps, assign, here_of, kept_by, subst, way_in}
 use Rattle.sc_core.specs.declared.stmt.TypedSimpleKind.TheVariants.{Assign, AssignCall, Call}
-use Rattle.sc_core.specs.Tree.{assign}
-use Rattle.sc_value.specs.Where.{here_of}
-use Rattle.sc_run.specs.Seen.{kept_by}
-use Rattle.sc_run.specs.Resume.{Steps, way_in}
 use Rattle.sc_run.proofs.Invoking.{simple_as, stored_call}
 use Rattle.sc_run.proofs.simple.simple.Goals as goal
 

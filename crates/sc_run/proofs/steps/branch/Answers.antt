@@ -1,9 +1,5 @@
+use Rattle.sc_run.proofs.Common.{block_acts, choose, evaluated, here_of, kept_by, way_in}
 use Rattle.sc_core.specs.declared.value.Want.TheVariants as want
-use Rattle.sc_core.specs.Words.{choose}
-use Rattle.sc_core.specs.Tree.{evaluated}
-use Rattle.sc_value.specs.Where.{here_of}
-use Rattle.sc_run.specs.Seen.{kept_by}
-use Rattle.sc_run.specs.Resume.{way_in, block_acts}
 use Rattle.sc_run.proofs.Standing.{step_stops}
 use Rattle.sc_run.proofs.steps.branch.Goals as goal
 

@@ -1,8 +1,4 @@
-use Rattle.std.proofs.Common.{refl}
-use Rattle.std.proofs.lemmas.Result.{IfOk-weaker}
-use Rattle.sc_core.specs.Words.{in_order}
-use Rattle.sc_run.specs.declared.work.Work.TheVariants.{First}
-use Rattle.sc_run.specs.Seen.{kept_by}
+use Rattle.sc_run.proofs.Common.{First, IfOk-weaker, in_order, kept_by, refl}
 use Rattle.sc_run.proofs.Stating.{part_steps}
 use Rattle.sc_run.proofs.steps.first_part.Goals as goal
 

@@ -1,10 +1,5 @@
-use Rattle.std.proofs.Common.{Some}
+use Rattle.sc_run.proofs.Common.{Return, Some, evaluated, here_of, kept_by, leave, way_in}
 use Rattle.sc_core.specs.declared.value.Want.TheVariants as want
-use Rattle.sc_core.specs.Words.{leave, Return}
-use Rattle.sc_core.specs.Tree.{evaluated}
-use Rattle.sc_value.specs.Where.{here_of}
-use Rattle.sc_run.specs.Seen.{kept_by}
-use Rattle.sc_run.specs.Resume.{way_in}
 use Rattle.sc_run.proofs.Standing.{step_stops}
 use Rattle.sc_run.proofs.steps.returned_value.Goals as goal
 

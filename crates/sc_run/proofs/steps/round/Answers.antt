@@ -1,5 +1,4 @@
-use Rattle.std.proofs.Common.{sym}
-use Rattle.sc_run.specs.Seen.{kept_by}
+use Rattle.sc_run.proofs.Common.{kept_by, sym}
 use Rattle.sc_run.proofs.Looping.{round_in, round_out, round_err}
 use Rattle.sc_run.proofs.steps.round.Goals as goal
 

@@ -1,5 +1,4 @@
-use Rattle.std.proofs.lemmas.Result.{IfOk-weaker}
-use Rattle.sc_run.specs.Seen.{kept_by}
+use Rattle.sc_run.proofs.Common.{IfOk-weaker, kept_by}
 use Rattle.sc_run.proofs.Stating.{list_steps, first_and_rest, rest_of}
 use Rattle.sc_run.proofs.steps.run_list.Goals as goal
 

@@ -1,12 +1,7 @@
-use Rattle.std.proofs.Common.{refl, sym, ◌∙◌, None}
-use Rattle.std.specs.Option.{option_copied}
-use Rattle.std.proofs.lemmas.Result.{IfOk-weaker}
+use Rattle.sc_run.proofs.Common.{Go, IfOk-weaker, Leave, None, kept_by, option_copied, refl, sym, ◌∙◌}
 use Rattle.sc_core.specs.declared.stmt.TypedStmtKind.TheOpen as layer
 use Rattle.sc_core.specs.declared.stmt.TypedStmtKind.TheVariants.{rolls-Empty, rolls-Assign, rolls-AssignCall, rolls-Call, rolls-If, rolls-While, rolls-For, rolls-Break, rolls-Continue, rolls-Return, rolls-ReturnValue, rolls-ReturnCall}
 use Rattle.sc_run.specs.declared.work.Leaving.TheVariants as leaving
-use Rattle.sc_run.specs.declared.work.Now.TheVariants.{Leave}
-use Rattle.sc_run.specs.declared.work.Step.TheVariants.{Go}
-use Rattle.sc_run.specs.Seen.{kept_by}
 use Rattle.sc_run.proofs.Invoking.{stored_call}
 use Rattle.sc_run.proofs.Looping.{steps_later}
 use Rattle.sc_run.proofs.Stating.{layer_acts, stmt_as, assign_layer, if_layer, while_layer, for_layer, next_as}

@@ -1,6 +1,4 @@
-use Rattle.std.proofs.Common.{◌≡◌, drop, map}
-use Rattle.sc_scope.specs.Broken.{with_lines}
-use Rattle.sc_scope.specs.Names.{all_in, known, stmt_lines}
+use Rattle.sc_scope.proofs.Common.{all_in, drop, known, map, stmt_lines, with_lines, ◌≡◌}
 use Rattle.sc_scope.proofs.body.+body.Given as goal
 
 -- the lines noted and those of what is left are those of all

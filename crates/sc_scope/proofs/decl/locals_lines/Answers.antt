@@ -1,4 +1,4 @@
-use Rattle.sc_ast.specs.declared.section.LocalTree.{LocalTree}
+use Rattle.sc_scope.proofs.Common.{LocalTree}
 use Rattle.sc_scope.proofs.Noted.{local-noted, locals-noted, pushed}
 use Rattle.sc_scope.proofs.decl.locals_lines.Goals as goal
 

@@ -1,7 +1,4 @@
-use Rattle.std.proofs.Common.{◌≡◌, ◌++◌, drop, map}
-use Rattle.sc_ast.specs.declared.section.LocalTree.{LocalTree}
-use Rattle.sc_scope.specs.Broken.{with_lines}
-use Rattle.sc_scope.specs.Names.{locals_from}
+use Rattle.sc_scope.proofs.Common.{LocalTree, drop, locals_from, map, with_lines, ◌++◌, ◌≡◌}
 use Rattle.sc_scope.proofs.decl.locals_lines.Given as goal
 
 -- what is noted and what is left to note is what is to be noted

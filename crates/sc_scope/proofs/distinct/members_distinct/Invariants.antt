@@ -1,6 +1,4 @@
-use Rattle.std.proofs.Common.{◌≡◌, take}
-use Rattle.sc_scope.specs.Declarations.{are_distinct}
-use Rattle.sc_scope.specs.Names.{member_names}
+use Rattle.sc_scope.proofs.Common.{are_distinct, member_names, take, ◌≡◌}
 use Rattle.sc_scope.proofs.distinct.members_distinct.Given as goal
 
 abbrev pub invariant-loop-member : goal.invariant-loop-member

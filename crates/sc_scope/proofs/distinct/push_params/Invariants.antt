@@ -1,6 +1,4 @@
-use Rattle.std.proofs.Common.{◌≡◌, take, map}
-use Rattle.sc_ast.specs.declared.section.FunctionParam.{FunctionParam}
-use Rattle.sc_scope.specs.Declarations.{are_distinct}
+use Rattle.sc_scope.proofs.Common.{FunctionParam, are_distinct, map, take, ◌≡◌}
 use Rattle.sc_scope.proofs.distinct.push_params.Given as goal
 
 abbrev pub invariant-loop-param : goal.invariant-loop-param

@@ -1,6 +1,4 @@
-use Rattle.std.proofs.Common.{◌≡◌, drop}
-use Rattle.sc_scope.specs.Broken.{noted_all, refused_at}
-use Rattle.sc_scope.specs.Names.{names_broken}
+use Rattle.sc_scope.proofs.Common.{drop, names_broken, noted_all, refused_at, ◌≡◌}
 use Rattle.sc_scope.proofs.section.broken_name.Given as goal
 
 -- what is noted and what is left to note is what is to be noted

@@ -1,6 +1,4 @@
-use Rattle.std.proofs.Common.{◌≡◌, take, drop}
-use Rattle.sc_scope.specs.Broken.{with_lines}
-use Rattle.sc_scope.specs.Names.{declared, lines_from, section_lines}
+use Rattle.sc_scope.proofs.Common.{declared, drop, lines_from, section_lines, take, with_lines, ◌≡◌}
 use Rattle.sc_scope.proofs.section.section_lines.Given as goal
 
 -- what is noted and what is left to note is what is to be noted

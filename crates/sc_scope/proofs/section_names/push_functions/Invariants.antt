@@ -1,5 +1,4 @@
-use Rattle.std.proofs.Common.{◌≡◌, ◌++◌, drop}
-use Rattle.sc_scope.specs.Declarations.{function_names}
+use Rattle.sc_scope.proofs.Common.{drop, function_names, ◌++◌, ◌≡◌}
 use Rattle.sc_scope.proofs.section_names.push_functions.Given as goal
 
 -- the names there and those of what is left are those that are to be there

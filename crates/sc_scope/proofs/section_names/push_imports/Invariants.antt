@@ -1,5 +1,4 @@
-use Rattle.std.proofs.Common.{◌≡◌, ◌++◌, drop, map}
-use Rattle.sc_ast.specs.declared.section.ImportLine.{ImportLine}
+use Rattle.sc_scope.proofs.Common.{ImportLine, drop, map, ◌++◌, ◌≡◌}
 use Rattle.sc_scope.proofs.section_names.push_imports.Given as goal
 
 -- the names there and those of what is left are those that are to be there

@@ -1,5 +1,5 @@
+use Rattle.sc_event.specs.Prelude.{part, rows_from}
 use Rattle.std.proofs.Common.{◌≡◌, ◌≤◌, ◌++◌, length, drop, Some}
-use Rattle.sc_event.specs.Part.{rows_from, part}
 use Rattle.sc_script.proofs.rows.part.Given as goal
 
 abbrev pub invariant-loop-event : goal.invariant-loop-event

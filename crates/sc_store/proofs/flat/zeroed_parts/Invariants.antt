@@ -1,6 +1,4 @@
-use Rattle.std.proofs.Common.{◌≡◌, take}
-use Rattle.std.specs.List.{All}
-use Rattle.sc_store.specs.Flat.{regions_of, IsZero}
+use Rattle.sc_store.proofs.Common.{All, IsZero, regions_of, take, ◌≡◌}
 use Rattle.sc_store.proofs.flat.zeroed_parts.Given as goal
 
 abbrev pub invariant-loop-region : goal.invariant-loop-region

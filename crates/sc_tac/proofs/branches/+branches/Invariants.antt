@@ -1,5 +1,4 @@
-use Rattle.std.proofs.Common.{◌≡◌, ◌+◌, drop}
-use Rattle.sc_tac.specs.Branches.{branches}
+use Rattle.sc_tac.proofs.Common.{branches, drop, ◌+◌, ◌≡◌}
 use Rattle.sc_tac.proofs.branches.+branches.Given as goal
 
 -- what is summed and what is left to sum is the sum of all

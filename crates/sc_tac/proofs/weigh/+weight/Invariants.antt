@@ -1,5 +1,4 @@
-use Rattle.std.proofs.Common.{◌≡◌, ◌+◌, drop}
-use Rattle.sc_tac.specs.Weights.{weight}
+use Rattle.sc_tac.proofs.Common.{drop, weight, ◌+◌, ◌≡◌}
 use Rattle.sc_tac.proofs.weigh.+weight.Given as goal
 
 -- what is summed and what is left to sum is the weight of all

@@ -1,7 +1,4 @@
-use Rattle.std.proofs.Common.{All, ap, sym, subst, ◌∙◌}
-use Rattle.sc_event.specs.declared.interface.Interfaces.{Interfaces}
-use Rattle.sc_event.specs.Lookup.{IsKnown}
-use Rattle.sc_top.specs.Output.{machine_run, machine_text}
+use Rattle.sc_top.proofs.Common.{All, Interfaces, IsKnown, ap, machine_run, machine_text, subst, sym, ◌∙◌}
 use Rattle.sc_top.proofs.Known.{machine_run_known, executed}
 use Rattle.sc_top.proofs.exec.execute.Goals as goal
 

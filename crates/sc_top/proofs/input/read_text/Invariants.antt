@@ -1,4 +1,4 @@
-use Rattle.std.proofs.Common.{◌-◌, length}
+use Rattle.sc_top.proofs.Common.{length, ◌-◌}
 use Rattle.sc_top.proofs.Streams.{HasTaken}
 use Rattle.sc_top.proofs.input.read_text.Given as goal
 

@@ -1,9 +1,4 @@
-use Rattle.std.proofs.Common.{◌≡◌, All, IfOk, ap, sym, subst, ◌∙◌}
-use Rattle.sc_event.specs.declared.interface.Interfaces.{Interfaces}
-use Rattle.sc_event.specs.Lookup.{IsKnown}
-use Rattle.sc_image.specs.declared.parts.ImageParts.{ImageParts}
-use Rattle.sc_image.specs.Interfaces.{interfaces_of}
-use Rattle.sc_top.specs.Output.{machine_run, machine_text}
+use Rattle.sc_top.proofs.Common.{All, IfOk, ImageParts, Interfaces, IsKnown, ap, interfaces_of, machine_run, machine_text, subst, sym, ◌∙◌, ◌≡◌}
 use Rattle.sc_top.proofs.Explained.{thin_names}
 use Rattle.sc_top.proofs.Known.{machine_run_known}
 use Rattle.sc_top.proofs.machine.compiled_text.Goals as goal

@@ -1,6 +1,4 @@
-use Rattle.std.proofs.Common.{rules, ◌≡◌, All, sym, subst}
-use Rattle.sc_event.specs.Lookup.{IsKnown}
-use Rattle.sc_top.specs.Output.{machine_run}
+use Rattle.sc_top.proofs.Common.{All, IsKnown, machine_run, rules, subst, sym, ◌≡◌}
 use Rattle.sc_top.proofs.Known.{shown_text}
 use Rattle.sc_top.proofs.machine.machine_text.Goals as goal
 

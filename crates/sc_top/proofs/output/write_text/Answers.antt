@@ -1,4 +1,4 @@
-use Rattle.std.proofs.Common.{rules}
+use Rattle.sc_top.proofs.Common.{rules}
 use Rattle.sc_top.proofs.Streams.{more_added, part_wrote}
 use Rattle.sc_top.proofs.output.write_text.Goals as goal
 

@@ -1,4 +1,4 @@
-use Rattle.std.proofs.Common.{◌-◌, length}
+use Rattle.sc_top.proofs.Common.{length, ◌-◌}
 use Rattle.sc_top.proofs.Streams.{HasAdded}
 use Rattle.sc_top.proofs.output.write_text.Given as goal
 

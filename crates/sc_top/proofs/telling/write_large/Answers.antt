@@ -1,5 +1,4 @@
-use Rattle.std.proofs.Common.{rules, ◌++◌, codes, decimal, refl, sym, ap}
-use Rattle.sc_top.specs.Status.{owner_text, bytes_of}
+use Rattle.sc_top.proofs.Common.{ap, bytes_of, codes, decimal, owner_text, refl, rules, sym, ◌++◌}
 use Rattle.sc_top.proofs.Streams.{cut_wrote, then_wrote}
 use Rattle.sc_top.proofs.telling.write_large.Goals as goal
 

@@ -1,4 +1,4 @@
-use Rattle.std.proofs.Common.{rules, ◌++◌, codes, ap}
+use Rattle.sc_top.proofs.Common.{ap, codes, rules, ◌++◌}
 use Rattle.sc_top.proofs.Streams.{cut_wrote, then_wrote}
 use Rattle.sc_top.proofs.telling.write_name.Goals as goal
 

@@ -1,4 +1,4 @@
-use Rattle.std.proofs.Common.{rules, ◌≡◌, ◌++◌, codes, decimal, ap}
+use Rattle.sc_top.proofs.Common.{ap, codes, decimal, rules, ◌++◌, ◌≡◌}
 use Rattle.sc_top.proofs.Streams.{cut_wrote, then_wrote}
 use Rattle.sc_top.proofs.telling.write_number.Goals as goal
 

@@ -1,5 +1,4 @@
-use Rattle.std.proofs.Common.{rules, ◌++◌, codes, ap}
-use Rattle.sc_top.specs.Status.{owner_text}
+use Rattle.sc_top.proofs.Common.{ap, codes, owner_text, rules, ◌++◌}
 use Rattle.sc_top.proofs.Streams.{cut_wrote, then_wrote}
 use Rattle.sc_top.proofs.telling.write_owner.Goals as goal
 

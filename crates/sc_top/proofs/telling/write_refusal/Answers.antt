@@ -1,4 +1,4 @@
-use Rattle.std.proofs.Common.{rules, ◌++◌, codes, decimal, refl, sym, ap}
+use Rattle.sc_top.proofs.Common.{ap, codes, decimal, refl, rules, sym, ◌++◌}
 use Rattle.sc_top.proofs.Streams.{cut_wrote, then_wrote}
 use Rattle.sc_top.proofs.telling.write_refusal.Goals as goal
 

@@ -1,5 +1,4 @@
-use Rattle.std.proofs.Common.{rules, ◌++◌, codes, decimal, sym, ap, ap₂, ◌∙◌}
-use Rattle.sc_top.specs.Status.{own_text}
+use Rattle.sc_top.proofs.Common.{ap, ap₂, codes, decimal, own_text, rules, sym, ◌++◌, ◌∙◌}
 use Rattle.sc_top.proofs.Streams.{cut_wrote, then_wrote}
 use Rattle.sc_top.proofs.telling.write_status.Goals as goal
 

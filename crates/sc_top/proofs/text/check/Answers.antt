@@ -1,8 +1,5 @@
-use Rattle.std.proofs.Common.{ap, ◌∙◌}
-use Rattle.std.proofs.lemmas.Bool.{false≢true}
-use Rattle.sc_core.specs.declared.program.ProgramTree.{ProgramTree}
+use Rattle.sc_top.proofs.Common.{Check, ProgramTree, ap, false≢true, ◌∙◌}
 use Rattle.sc_report.specs.Check.{check_text}
-use Rattle.sc_words.specs.declared.command.Command.TheVariants.{Check}
 use Rattle.sc_top.proofs.Explained.{plain_output}
 use Rattle.sc_top.proofs.text.check.Goals as goal
 

@@ -1,5 +1,4 @@
-use Rattle.std.proofs.Common.{rules, refl}
-use Rattle.sc_words.specs.declared.command.Command.TheVariants.{Compile}
+use Rattle.sc_top.proofs.Common.{Compile, refl, rules}
 use Rattle.sc_top.proofs.Explained.{thin_cause}
 use Rattle.sc_top.proofs.text.compiled.Goals as goal
 

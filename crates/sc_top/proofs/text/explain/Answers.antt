@@ -1,9 +1,4 @@
-use Rattle.std.proofs.Common.{rules, codes, ◌++◌, Some, None, refl, sym, ap, subst, ◌∙◌}
-use Rattle.sc_event.specs.declared.interface.Interfaces.{Interfaces}
-use Rattle.sc_core.specs.declared.program.ProgramTree.{ProgramTree}
-use Rattle.sc_compile.specs.Image.{thin_image}
-use Rattle.sc_words.specs.declared.command.Command.TheVariants.{Explain}
-use Rattle.sc_top.specs.Output.{machine_text, IsTextOutput}
+use Rattle.sc_top.proofs.Common.{Explain, Interfaces, IsTextOutput, None, ProgramTree, Some, ap, codes, machine_text, refl, rules, subst, sym, thin_image, ◌++◌, ◌∙◌}
 use Rattle.sc_top.proofs.Explained.{thin_cause, thin_output, accounted}
 use Rattle.sc_top.proofs.text.explain.Goals as goal
 

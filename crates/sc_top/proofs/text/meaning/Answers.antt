@@ -1,9 +1,4 @@
-use Rattle.std.proofs.Common.{ap, ◌∙◌}
-use Rattle.std.proofs.lemmas.Bool.{false≢true}
-use Rattle.sc_core.specs.declared.program.ProgramTree.{ProgramTree}
-use Rattle.sc_report.specs.Report.{meaning_text}
-use Rattle.sc_words.specs.declared.command.Command.TheVariants.{Meaning}
-use Rattle.sc_top.specs.Output.{meant}
+use Rattle.sc_top.proofs.Common.{Meaning, ProgramTree, ap, false≢true, meaning_text, meant, ◌∙◌}
 use Rattle.sc_top.proofs.Explained.{plain_output}
 use Rattle.sc_top.proofs.text.meaning.Goals as goal
 

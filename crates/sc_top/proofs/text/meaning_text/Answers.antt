@@ -1,8 +1,4 @@
-use Rattle.std.proofs.Common.{All, map, sym, ap, ◌∙◌, subst}
-use Rattle.sc_event.specs.declared.interface.Interfaces.{Interfaces}
-use Rattle.sc_event.specs.Lookup.{IsKnown}
-use Rattle.sc_word.specs.Word.{word_of}
-use Rattle.sc_core.specs.Meaning.{meaning}
+use Rattle.sc_top.proofs.Common.{All, Interfaces, IsKnown, ap, map, meaning, subst, sym, word_of, ◌∙◌}
 use Rattle.sc_top.proofs.Known.{meant_known}
 use Rattle.sc_top.proofs.text.meaning_text.Goals as goal
 

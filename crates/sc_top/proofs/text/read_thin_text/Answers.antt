@@ -1,5 +1,4 @@
-use Rattle.std.proofs.Common.{IfSome, IsNone, refl, sym, subst}
-use Rattle.sc_top.specs.Thin.{IsThin}
+use Rattle.sc_top.proofs.Common.{IfSome, IsNone, IsThin, refl, subst, sym}
 use Rattle.sc_top.proofs.Explained.{thin_program}
 use Rattle.sc_top.proofs.text.read_thin_text.Goals as goal
 

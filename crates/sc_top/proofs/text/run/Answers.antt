@@ -1,9 +1,4 @@
-use Rattle.std.proofs.Common.{rules, refl, ap, ◌∙◌}
-use Rattle.sc_event.specs.declared.interface.Interfaces.{Interfaces}
-use Rattle.sc_core.specs.declared.program.ProgramTree.{ProgramTree}
-use Rattle.sc_compile.specs.Image.{thin_image}
-use Rattle.sc_words.specs.declared.command.Command.TheVariants.{Run}
-use Rattle.sc_top.specs.Output.{machine_text}
+use Rattle.sc_top.proofs.Common.{Interfaces, ProgramTree, Run, ap, machine_text, refl, rules, thin_image, ◌∙◌}
 use Rattle.sc_top.proofs.Explained.{thin_cause, thin_output}
 use Rattle.sc_top.proofs.text.run.Goals as goal
 

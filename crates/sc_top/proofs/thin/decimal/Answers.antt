@@ -1,5 +1,4 @@
-use Rattle.std.proofs.Common.{◌≡◌, ◌<◌, true, length, slice_index_or, sym, ◌∙◌, subst, arith}
-use Rattle.std.specs.Str.{all_ascii_digits}
+use Rattle.sc_top.proofs.Common.{all_ascii_digits, arith, length, slice_index_or, subst, sym, true, ◌<◌, ◌∙◌, ◌≡◌}
 use Rattle.sc_top.proofs.Numbers.{leading_zero, no_text, reads_back, prints_back}
 use Rattle.sc_top.proofs.thin.decimal.Goals as goal
 use Rattle.sc_top.proofs.thin.decimal.Goals.{else-digits-gt1-via-then-digits-gt1+else-digits-eq48, else-digits-gt1-via-else-digits-gt1}

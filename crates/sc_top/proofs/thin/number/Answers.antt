@@ -1,4 +1,4 @@
-use Rattle.std.proofs.Common.{refl}
+use Rattle.sc_top.proofs.Common.{refl}
 use Rattle.sc_top.proofs.Numbers.{no_number, a_number}
 use Rattle.sc_top.proofs.thin.number.Goals as goal
 

@@ -1,4 +1,4 @@
-use Rattle.std.proofs.Common.{refl, ◌∙◌, sym}
+use Rattle.sc_top.proofs.Common.{refl, sym, ◌∙◌}
 use Rattle.sc_top.proofs.Bodies.{no_return, other_end, a_body}
 use Rattle.sc_top.proofs.Numbers.{same_bytes, other_bytes}
 use Rattle.sc_top.proofs.thin.read_statements.Goals as goal

@@ -1,4 +1,4 @@
-use Rattle.std.proofs.Common.{length}
+use Rattle.sc_top.proofs.Common.{length}
 use Rattle.sc_top.proofs.Bodies.{HasRead}
 use Rattle.sc_top.proofs.thin.read_statements.Given as goal
 

@@ -1,6 +1,4 @@
-use Rattle.std.proofs.Common.{◌∙◌, sym, ap, ◌++◌, subst}
-use Rattle.std.proofs.lemmas.List.{append_cancel_left}
-use Rattle.sc_top.specs.Thin.{IsBody, head}
+use Rattle.sc_top.proofs.Common.{IsBody, ap, append_cancel_left, head, subst, sym, ◌++◌, ◌∙◌}
 use Rattle.sc_top.proofs.thin.read_thin.Goals as goal
 
 pub returns-in-Some-clause-thick : goal.returns-in-Some-clause-thick

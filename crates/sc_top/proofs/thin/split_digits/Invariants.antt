@@ -1,5 +1,4 @@
-use Rattle.std.proofs.Common.{◌≡◌, take, true}
-use Rattle.std.specs.Str.{all_ascii_digits}
+use Rattle.sc_top.proofs.Common.{all_ascii_digits, take, true, ◌≡◌}
 use Rattle.sc_top.proofs.thin.split_digits.Given as goal
 
 abbrev pub invariant-loop-end : goal.invariant-loop-end

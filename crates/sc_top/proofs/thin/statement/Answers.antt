@@ -1,4 +1,4 @@
-use Rattle.std.proofs.Common.{refl}
+use Rattle.sc_top.proofs.Common.{refl}
 use Rattle.sc_top.proofs.Statements.{no_front, no_number_in, no_end, a_statement}
 use Rattle.sc_top.proofs.thin.statement.Goals as goal
 

@@ -1,4 +1,4 @@
-use Rattle.sc_elab.specs.Sections.{callees_of}
+use Rattle.sc_types.proofs.Common.{callees_of}
 use Rattle.sc_types.proofs.Phase.{counts-begun, count-noted, counts-noted}
 use Rattle.sc_types.proofs.counts.broken_count.Goals as goal
 

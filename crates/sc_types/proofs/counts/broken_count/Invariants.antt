@@ -1,6 +1,4 @@
-use Rattle.std.proofs.Common.{◌≡◌, drop}
-use Rattle.sc_scope.specs.Broken.{noted_all, refused_at}
-use Rattle.sc_types.specs.Counts.{counts_broken, lines_from}
+use Rattle.sc_types.proofs.Common.{counts_broken, drop, lines_from, noted_all, refused_at, ◌≡◌}
 use Rattle.sc_types.proofs.counts.broken_count.Given as goal
 
 -- what is noted and what is left to note is what is to be noted

@@ -1,5 +1,4 @@
-use Rattle.sc_ast.specs.declared.section.ExportLine.{ExportLine}
-use Rattle.sc_core.specs.WellTyped.{most_exports}
+use Rattle.sc_types.proofs.Common.{ExportLine, most_exports}
 use Rattle.sc_types.proofs.Noted.{none-beyond, some-beyond}
 use Rattle.sc_types.proofs.lines.export_lines.Goals as goal
 

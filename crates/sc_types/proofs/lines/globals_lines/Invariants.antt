@@ -1,8 +1,4 @@
-use Rattle.std.proofs.Common.{◌≡◌, drop, map}
-use Rattle.std.specs.List.{concat}
-use Rattle.sc_scope.specs.Broken.{with_lines}
-use Rattle.sc_scope.specs.Declarations.{globals_in}
-use Rattle.sc_types.specs.Counts.{global_lines}
+use Rattle.sc_types.proofs.Common.{concat, drop, global_lines, globals_in, map, with_lines, ◌≡◌}
 use Rattle.sc_types.proofs.lines.globals_lines.Given as goal
 
 -- what is noted and what is left to note is what is to be noted

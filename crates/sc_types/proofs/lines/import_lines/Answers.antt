@@ -1,5 +1,4 @@
-use Rattle.sc_ast.specs.declared.section.ImportLine.{ImportLine}
-use Rattle.sc_core.specs.WellTyped.{most_exports}
+use Rattle.sc_types.proofs.Common.{ImportLine, most_exports}
 use Rattle.sc_types.proofs.Noted.{none-beyond, some-beyond}
 use Rattle.sc_types.proofs.lines.import_lines.Goals as goal
 

@@ -1,7 +1,4 @@
-use Rattle.std.proofs.Common.{◌≡◌, drop, map}
-use Rattle.std.specs.List.{concat}
-use Rattle.sc_scope.specs.Broken.{with_lines}
-use Rattle.sc_types.specs.Counts.{local_lines}
+use Rattle.sc_types.proofs.Common.{concat, drop, local_lines, map, with_lines, ◌≡◌}
 use Rattle.sc_types.proofs.lines.locals_lines.Given as goal
 
 -- what is noted and what is left to note is what is to be noted

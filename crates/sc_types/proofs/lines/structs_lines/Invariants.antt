@@ -1,7 +1,4 @@
-use Rattle.std.proofs.Common.{◌≡◌, drop}
-use Rattle.sc_scope.specs.Broken.{with_lines}
-use Rattle.sc_scope.specs.Declarations.{structs_in}
-use Rattle.sc_types.specs.Counts.{structs_from}
+use Rattle.sc_types.proofs.Common.{drop, structs_from, structs_in, with_lines, ◌≡◌}
 use Rattle.sc_types.proofs.lines.structs_lines.Given as goal
 
 -- what is noted and what is left to note is what is to be noted

@@ -1,7 +1,4 @@
-use Rattle.std.proofs.Common.{◌≡◌, ◌+◌, ◌≤◌, drop, map}
-use Rattle.sc_ast.specs.Height.{limited}
-use Rattle.sc_core.specs.Sizes.{total}
-use Rattle.sc_types.specs.TreeNodes.{call_nodes, expr_nodes}
+use Rattle.sc_types.proofs.Common.{call_nodes, drop, expr_nodes, limited, map, total, ◌+◌, ◌≡◌, ◌≤◌}
 use Rattle.sc_types.proofs.nodes.call_nodes.Given as goal
 
 -- what is counted and what is left to count is what is to be counted

@@ -1,6 +1,4 @@
-use Rattle.std.proofs.Common.{◌≡◌, ◌+◌, ◌≤◌, drop}
-use Rattle.sc_ast.specs.Height.{limited}
-use Rattle.sc_types.specs.TreeNodes.{decls_nodes}
+use Rattle.sc_types.proofs.Common.{decls_nodes, drop, limited, ◌+◌, ◌≡◌, ◌≤◌}
 use Rattle.sc_types.proofs.nodes.decls_nodes.Given as goal
 
 -- what is counted and what is left to count is what is to be counted

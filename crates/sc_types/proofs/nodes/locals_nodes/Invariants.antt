@@ -1,7 +1,4 @@
-use Rattle.std.proofs.Common.{◌≡◌, ◌+◌, ◌≤◌, drop, map}
-use Rattle.sc_ast.specs.Height.{limited}
-use Rattle.sc_core.specs.Sizes.{total}
-use Rattle.sc_types.specs.TreeNodes.{local_nodes}
+use Rattle.sc_types.proofs.Common.{drop, limited, local_nodes, map, total, ◌+◌, ◌≡◌, ◌≤◌}
 use Rattle.sc_types.proofs.nodes.locals_nodes.Given as goal
 
 -- what is counted and what is left to count is what is to be counted

@@ -1,6 +1,4 @@
-use Rattle.std.proofs.Common.{◌≡◌, Err, ap}
-use Rattle.std.proofs.lemmas.Result.{err_from_is_err_and}
-use Rattle.sc_lex.specs.declared.fault.TextFault.TheVariants.{Refused}
+use Rattle.sc_types.proofs.Common.{Err, Refused, ap, err_from_is_err_and, ◌≡◌}
 use Rattle.sc_types.proofs.Readings.{reads_low, unread_fails, untyped_fails, typed_accepted}
 use Rattle.sc_types.proofs.text.read_program.Goals as goal
 

@@ -1,7 +1,4 @@
-use Rattle.std.proofs.Common.{◌≡◌, Err, ap}
-use Rattle.std.proofs.lemmas.Result.{err_from_is_err_and}
-use Rattle.sc_lex.specs.declared.fault.TextFault.TheVariants.{Refused}
-use Rattle.sc_read.proofs.Steps.{heading_fails}
+use Rattle.sc_types.proofs.Common.{Err, Refused, ap, err_from_is_err_and, heading_fails, ◌≡◌}
 use Rattle.sc_types.proofs.Readings.{unread_fails}
 use Rattle.sc_types.proofs.text.section_starts.Goals as goal
 

@@ -1,7 +1,4 @@
-use Rattle.std.proofs.Common.{◌≡◌, map, drop}
-use Rattle.sc_core.specs.Value.{c_arith}
-use Rattle.sc_core.specs.Tree.{ways, values}
-use Rattle.sc_blocks.specs.Rows.{memory_of}
+use Rattle.sc_value.proofs.Common.{c_arith, drop, map, memory_of, values, ways, ◌≡◌}
 use Rattle.sc_value.specs.Where.{here_of}
 use Rattle.sc_value.proofs.Lists.{behind}
 use Rattle.sc_value.proofs.expressions.evaluate_all.Given as goal

@@ -1,7 +1,6 @@
-use Rattle.std.proofs.Common.{arith}
+use Rattle.sc_value.proofs.Common.{arith, memory_of}
 use Rattle.std.specs.Int.{w64}
 use Rattle.std.proofs.lemmas.Int.{ints, to_z-of_z}
-use Rattle.sc_blocks.specs.Rows.{memory_of}
 use Rattle.sc_value.proofs.Shifts.{back_is}
 use Rattle.sc_value.proofs.moves.moved_back.Goals as goal
 

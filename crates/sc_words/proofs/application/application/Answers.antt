@@ -1,11 +1,6 @@
-use Rattle.std.proofs.Common.{◌≡◌, ◌∙◌, ap₂, ap, codes, List, [], ◌∷◌, ◌++◌, false}
-use Rattle.std.proofs.lemmas.Result.{IfOk-weaker}
-use Rattle.clap.specs.Words.{App, AddsSubcommand, app_of, with_subcommand}
-use Rattle.clap.specs.Simple.{Shape}
+use Rattle.sc_words.proofs.Common.{AddsSubcommand, App, Form, IfOk-weaker, IsCommandOf, List, Shape, Text, [], ap, app_of, ap₂, codes, false, make_form, shape_with, top, with_subcommand, ◌++◌, ◌∙◌, ◌∷◌, ◌≡◌}
 use Rattle.clap.specs.declared.builder.command.Command.{Command}
-use Rattle.sc_words.specs.Application.{IsCommandOf, shape_with, top}
-use Rattle.sc_words.specs.Options.{Form, Text}
-use Rattle.sc_words.specs.Words.{make_form, with_values}
+use Rattle.sc_words.specs.Words.{with_values}
 use Rattle.sc_words.proofs.application.application.Goals as goal
 
 -- one command more

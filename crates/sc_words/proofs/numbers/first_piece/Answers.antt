@@ -1,4 +1,4 @@
-use Rattle.std.proofs.Common.{arith}
+use Rattle.sc_words.proofs.Common.{arith}
 use Rattle.sc_words.proofs.Digits.{no_comma}
 use Rattle.sc_words.proofs.numbers.first_piece.Goals as goal
 

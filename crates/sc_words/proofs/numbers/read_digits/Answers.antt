@@ -1,4 +1,4 @@
-use Rattle.std.proofs.Common.{◌∙◌, sym}
+use Rattle.sc_words.proofs.Common.{sym, ◌∙◌}
 use Rattle.sc_words.proofs.Digits.{digits_read}
 use Rattle.sc_words.proofs.numbers.read_digits.Goals as goal
 

@@ -1,4 +1,4 @@
-use Rattle.std.proofs.Common.{◌∙◌, sym}
+use Rattle.sc_words.proofs.Common.{sym, ◌∙◌}
 use Rattle.sc_words.proofs.Digits.{integer_read}
 use Rattle.sc_words.proofs.numbers.read_integer.Goals as goal
 

@@ -1,7 +1,6 @@
-use Rattle.std.proofs.Common.{◌≡◌, ◌∙◌, ◌+◌, ◌++◌, ◌∷◌, [], List, ℕ, ℤ, Some, None, ap, sym, subst, option_map, rules, w32, FitsSigned}
+use Rattle.sc_words.proofs.Common.{FitsSigned, List, None, Some, [], ap, first_piece, integer, option_map, pieces_behind, rules, subst, sym, w32, ℕ, ℤ, ◌++◌, ◌+◌, ◌∙◌, ◌∷◌, ◌≡◌}
 use Rattle.std.proofs.lemmas.Int.{to_z-of_z}
 use Rattle.std.specs.Borrow.{Bor}
-use Rattle.sc_words.specs.Numbers.{first_piece, integer, pieces_behind}
 use Rattle.sc_words.proofs.Digits.{IsReadUpTo, ends, goes_on, refused, too_long}
 use Rattle.sc_words.proofs.numbers.read_list.Goals as goal
 

@@ -1,8 +1,4 @@
-use Rattle.std.proofs.Common.{◌≡◌, ◌∙◌, ap, sym, map, inl, inr}
-use Rattle.std.specs.String.{string_bytes}
-use Rattle.clap.specs.Words.{app_of, is_simple_and_free, kind_of}
-use Rattle.clap.proofs.WalkLemmas.{list_any-map}
-use Rattle.sc_words.specs.Options.{is_bare}
+use Rattle.sc_words.proofs.Common.{ap, app_of, inl, inr, is_bare, is_simple_and_free, kind_of, list_any-map, map, string_bytes, sym, ◌∙◌, ◌≡◌}
 use Rattle.sc_words.specs.declared.fault.WordsFault.TheVariants.{Usage}
 use Rattle.sc_words.proofs.Bare.{bare_words}
 use Rattle.sc_words.proofs.Reading.{reading, refusal}

@@ -1,7 +1,4 @@
-use Rattle.std.proofs.Common.{◌∙◌, map}
-use Rattle.std.specs.String.{string_bytes}
-use Rattle.std.proofs.lemmas.Result.{IfOk-weaker}
-use Rattle.clap.specs.Words.{found_of}
+use Rattle.sc_words.proofs.Common.{IfOk-weaker, found_of, map, string_bytes, ◌∙◌}
 use Rattle.sc_words.proofs.Reading.{commanded}
 use Rattle.sc_words.proofs.read.read_command.Goals as goal
 

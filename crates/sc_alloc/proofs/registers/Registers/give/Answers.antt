@@ -1,8 +1,5 @@
-use Rattle.std.proofs.Common.{rules, ◌<◌, None, sym, arith}
+use Rattle.sc_alloc.proofs.Common.{AllOver, None, Register, arith, is_over, register_count, rules, sym, ◌<◌}
 use Rattle.std.proofs.lemmas.List.Quantifiers.{position-Some}
-use Rattle.sc_tac.specs.declared.place.Place.TheVariants.{Register}
-use Rattle.sc_tac.specs.Places.{register_count}
-use Rattle.sc_alloc.specs.Scan.{is_over, AllOver}
 use Rattle.sc_alloc.proofs.FreeRegisters.{all_held, found_over, register_given}
 use Rattle.sc_alloc.proofs.registers.Registers.give.Goals as goal
 

@@ -1,7 +1,4 @@
-use Rattle.std.proofs.Common.{rules, ◌≡◌, List, sym, subst}
-use Rattle.std.specs.BinaryHeap.{heap_items}
-use Rattle.sc_alloc.specs.declared.given.Given.{Given}
-use Rattle.sc_alloc.specs.Scan.{with_place, AreFair, AreRegisters, AreSlots}
+use Rattle.sc_alloc.proofs.Common.{AreFair, AreRegisters, AreSlots, Given, List, heap_items, rules, subst, sym, with_place, ◌≡◌}
 use Rattle.sc_alloc.proofs.Choices.{fair_pushed}
 use Rattle.sc_alloc.proofs.scan.Scan.add.Goals as goal
 

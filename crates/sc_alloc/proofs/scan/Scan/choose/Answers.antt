@@ -1,4 +1,4 @@
-use Rattle.std.specs.BinaryHeap.{heap_items}
+use Rattle.sc_alloc.proofs.Common.{heap_items}
 use Rattle.sc_alloc.proofs.Choices.{register_fair, slot_fair}
 use Rattle.sc_alloc.proofs.FreeRegisters.{registers_kept}
 use Rattle.sc_alloc.proofs.FreeSlots.{slots_kept}

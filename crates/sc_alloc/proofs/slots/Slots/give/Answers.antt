@@ -1,4 +1,4 @@
-use Rattle.std.specs.BinaryHeap.{heap_items}
+use Rattle.sc_alloc.proofs.Common.{heap_items}
 use Rattle.sc_alloc.proofs.FreeSlots.{slot_given}
 use Rattle.sc_alloc.proofs.slots.Slots.give.Goals as goal
 

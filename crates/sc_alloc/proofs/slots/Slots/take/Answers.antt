@@ -1,6 +1,4 @@
-use Rattle.std.proofs.Common.{sym, subst}
-use Rattle.std.specs.BinaryHeap.{heap_items}
-use Rattle.sc_alloc.specs.Scan.{IsOut}
+use Rattle.sc_alloc.proofs.Common.{IsOut, heap_items, subst, sym}
 use Rattle.sc_alloc.proofs.FreeSlots.{fresh}
 use Rattle.sc_alloc.proofs.slots.Slots.take.Goals as goal
 

@@ -1,5 +1,4 @@
-use Rattle.std.proofs.Common.{rules, ◌<◌}
-use Rattle.std.specs.BinaryHeap.{heap_items, heap_len}
+use Rattle.sc_alloc.proofs.Common.{heap_items, heap_len, rules, ◌<◌}
 use Rattle.sc_alloc.proofs.FreeSlots.{popped, taken}
 use Rattle.sc_alloc.proofs.slots.Slots.take_free.Goals as goal
 

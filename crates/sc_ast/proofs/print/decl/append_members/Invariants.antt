@@ -1,7 +1,4 @@
-use Rattle.std.proofs.Common.{◌≡◌, ◌++◌, drop}
-use Rattle.std.specs.List.{flat_map}
-use Rattle.sc_ast.specs.Pieces.{text_of}
-use Rattle.sc_ast.specs.SectionWords.{member_line}
+use Rattle.sc_ast.proofs.Common.{drop, flat_map, member_line, text_of, ◌++◌, ◌≡◌}
 use Rattle.sc_ast.proofs.print.decl.append_members.Given as goal
 
 -- what is there and what is left to add is what is to be there

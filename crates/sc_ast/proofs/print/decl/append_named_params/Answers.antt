@@ -1,5 +1,4 @@
-use Rattle.std.proofs.Common.{arith}
-use Rattle.std.proofs.lemmas.Grind.{common_steps}
+use Rattle.sc_ast.proofs.Common.{arith, common_steps}
 use Rattle.sc_ast.proofs.Params.{first_param}
 use Rattle.sc_ast.proofs.print.decl.append_named_params.Goals as goal
 

@@ -1,8 +1,4 @@
-use Rattle.std.proofs.Common.{◌≡◌, ◌++◌, drop, map}
-use Rattle.std.specs.List.{flat_map}
-use Rattle.sc_ast.specs.Heads.{param_of}
-use Rattle.sc_ast.specs.Pieces.{text_of, comma}
-use Rattle.sc_ast.specs.SectionWords.{param_words}
+use Rattle.sc_ast.proofs.Common.{comma, drop, flat_map, map, param_of, param_words, text_of, ◌++◌, ◌≡◌}
 use Rattle.sc_ast.proofs.print.decl.append_named_params.Given as goal
 
 -- what is there and what is left to add is what is to be there

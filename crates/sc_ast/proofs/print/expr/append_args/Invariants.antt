@@ -1,7 +1,4 @@
-use Rattle.std.proofs.Common.{◌≡◌, ◌++◌, drop}
-use Rattle.std.specs.List.{flat_map}
-use Rattle.sc_ast.specs.Pieces.{text_of, comma}
-use Rattle.sc_ast.specs.ExprWords.{expr_words}
+use Rattle.sc_ast.proofs.Common.{comma, drop, expr_words, flat_map, text_of, ◌++◌, ◌≡◌}
 use Rattle.sc_ast.proofs.print.expr.append_args.Given as goal
 
 -- what is there and what is left of the arguments is what is to be there

@@ -1,6 +1,4 @@
-use Rattle.std.proofs.Common.{◌≡◌, ◌++◌, drop}
-use Rattle.sc_ast.specs.Pieces.{text_of}
-use Rattle.sc_ast.specs.StmtWords.{layouts, lines_at, chain_words}
+use Rattle.sc_ast.proofs.Common.{chain_words, drop, layouts, lines_at, text_of, ◌++◌, ◌≡◌}
 use Rattle.sc_ast.proofs.print.stmt.+stmt.Given as goal
 
 -- what is there and what is left of the lines is what is to be there

@@ -1,6 +1,4 @@
-use Rattle.std.proofs.Common.{◌≡◌, drop}
-use Rattle.std.specs.List.{list_all}
-use Rattle.sc_ast.specs.StmtWords.{layouts}
+use Rattle.sc_ast.proofs.Common.{drop, layouts, list_all, ◌≡◌}
 use Rattle.sc_ast.proofs.print.stmt.are_ifs.Given as goal
 
 abbrev pub invariant-loop-stmt : goal.invariant-loop-stmt

@@ -1,4 +1,4 @@
-use Rattle.std.proofs.Common.{◌≡◌, ◌++◌, ◌*◌, replicate}
+use Rattle.sc_ast.proofs.Common.{replicate, ◌*◌, ◌++◌, ◌≡◌}
 use Rattle.sc_ast.proofs.print.words.append_indent.Given as goal
 
 abbrev pub invariant-loop : goal.invariant-loop

@@ -1,5 +1,4 @@
-use Rattle.std.proofs.Common.{◌<◌, ◌++◌, [], ◌∷◌, length, sym, ap, ◌∙◌, subst}
-use Rattle.sc_blocks.specs.Rows.{memory_of, living}
+use Rattle.sc_blocks.proofs.Common.{[], ap, length, living, memory_of, subst, sym, ◌++◌, ◌<◌, ◌∙◌, ◌∷◌}
 use Rattle.sc_blocks.proofs.Memories.{row_is, memory_changed}
 use Rattle.sc_blocks.proofs.blocks.Blocks.add.Goals as goal
 

@@ -1,4 +1,4 @@
-use Rattle.std.proofs.Common.{◌≤◌, length, subst, arith}
+use Rattle.sc_blocks.proofs.Common.{arith, length, subst, ◌≤◌}
 use Rattle.sc_blocks.proofs.Memories.{none_end}
 use Rattle.sc_blocks.proofs.blocks.Blocks.end.Goals as goal
 

@@ -1,4 +1,4 @@
-use Rattle.std.proofs.Common.{◌∙◌}
+use Rattle.sc_blocks.proofs.Common.{◌∙◌}
 use Rattle.sc_blocks.proofs.Memories.{memory_more_by}
 use Rattle.sc_blocks.proofs.blocks.Blocks.make_row.Goals as goal
 

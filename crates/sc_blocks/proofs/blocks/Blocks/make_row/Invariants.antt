@@ -1,5 +1,4 @@
-use Rattle.std.proofs.Common.{◌≡◌, suc, ◌-◌, length}
-use Rattle.sc_blocks.specs.Rows.{memory_of}
+use Rattle.sc_blocks.proofs.Common.{length, memory_of, suc, ◌-◌, ◌≡◌}
 use Rattle.sc_blocks.proofs.blocks.Blocks.make_row.Given as goal
 
 abbrev pub invariant-loop-comp : goal.invariant-loop-comp

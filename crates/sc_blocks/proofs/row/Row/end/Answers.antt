@@ -1,8 +1,4 @@
-use Rattle.std.proofs.Common.{◌≡◌, ◌+◌, ◌-◌, suc, None, length, sym, ap, ◌∙◌, arith}
-use Rattle.std.proofs.lemmas.List.{map-set, length-map}
-use Rattle.sc_blocks.specs.Cells.{block_of}
-use Rattle.sc_blocks.specs.Rows.{ended_block, cleared}
-use Rattle.std.specs.Prelude.{slice_set}
+use Rattle.sc_blocks.proofs.Common.{None, ap, arith, block_of, cleared, ended_block, length, length-map, map-set, slice_set, suc, sym, ◌+◌, ◌-◌, ◌∙◌, ◌≡◌}
 use Rattle.sc_blocks.proofs.Ending.{none_cleared, one_cleared, cleared_to}
 use Rattle.sc_blocks.proofs.row.Row.end.Goals as goal
 

@@ -1,6 +1,4 @@
-use Rattle.std.proofs.Common.{◌≡◌, ◌+◌, ◌-◌, ◌≤◌, map}
-use Rattle.sc_blocks.specs.Cells.{block_of}
-use Rattle.sc_blocks.specs.Rows.{cleared}
+use Rattle.sc_blocks.proofs.Common.{block_of, cleared, map, ◌+◌, ◌-◌, ◌≡◌, ◌≤◌}
 use Rattle.sc_blocks.proofs.row.Row.end.Given as goal
 
 abbrev pub invariant-loop-block : goal.invariant-loop-block

@@ -1,4 +1,4 @@
-use Rattle.std.proofs.Common.{arith}
+use Rattle.sc_blocks.proofs.Common.{arith}
 use Rattle.sc_blocks.proofs.Storing.{stored}
 use Rattle.sc_blocks.proofs.row.Row.store.Goals as goal
 

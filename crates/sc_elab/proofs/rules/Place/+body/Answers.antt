@@ -1,6 +1,4 @@
-use Rattle.sc_elab.specs.Called.{called}
-use Rattle.sc_elab.specs.Seen.{visible}
-use Rattle.sc_elab.specs.Statements.{stmt_lines}
+use Rattle.sc_elab.proofs.Common.{called, stmt_lines, visible}
 use Rattle.sc_elab.proofs.Noted.{on_ok, noted-if, noted-while, noted-for, noted-empty, noted-break, noted-continue, noted-next, noted-all}
 use Rattle.sc_elab.proofs.rules.Place.+body.Goals as goal
 

@@ -1,11 +1,4 @@
-use Rattle.std.proofs.Common.{◌≡◌, drop, map}
-use Rattle.std.specs.List.{concat}
-use Rattle.sc_core.specs.Typing.{Scope}
-use Rattle.sc_scope.specs.Broken.{with_lines}
-use Rattle.sc_elab.specs.Called.{called}
-use Rattle.sc_elab.specs.Judging.{Suits}
-use Rattle.sc_elab.specs.Seen.{visible}
-use Rattle.sc_elab.specs.Statements.{stmt_lines}
+use Rattle.sc_elab.proofs.Common.{Scope, Suits, called, concat, drop, map, stmt_lines, visible, with_lines, ◌≡◌}
 use Rattle.sc_elab.proofs.rules.Place.+body.Given as goal
 
 abbrev pub invariant-note_stmts-loop-stmt : goal.invariant-note_stmts-loop-stmt

@@ -1,7 +1,5 @@
-use Rattle.std.proofs.Common.{◌<◌, subst}
+use Rattle.sc_elab.proofs.Common.{goes_in, subst, visible, ◌<◌}
 use Rattle.sc_core.specs.declared.ty.Ty.TheVariants as ty
-use Rattle.sc_elab.specs.Seen.{visible}
-use Rattle.sc_elab.specs.Judging.{goes_in}
 use Rattle.sc_elab.proofs.Ruled.{all_go-not, all_go-next}
 use Rattle.sc_elab.proofs.rules.Place.all_go.Goals as goal
 

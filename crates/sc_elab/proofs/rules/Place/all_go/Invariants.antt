@@ -1,7 +1,4 @@
-use Rattle.std.proofs.Common.{◌≡◌, drop}
-use Rattle.sc_core.specs.Typing.{Scope}
-use Rattle.sc_elab.specs.Seen.{visible}
-use Rattle.sc_elab.specs.Judging.{Suits, goes_in, all_go}
+use Rattle.sc_elab.proofs.Common.{Scope, Suits, all_go, drop, goes_in, visible, ◌≡◌}
 use Rattle.sc_elab.proofs.rules.Place.all_go.Given as goal
 
 abbrev pub invariant-loop-i : goal.invariant-loop-i

@@ -1,8 +1,4 @@
-use Rattle.sc_core.specs.Typing.{result_goes}
-use Rattle.sc_elab.specs.Called.{called}
-use Rattle.sc_elab.specs.Expressions.{typed}
-use Rattle.sc_elab.specs.Statements.{call_holds}
-use Rattle.sc_elab.specs.Seen.{visible, expr_in}
+use Rattle.sc_elab.proofs.Common.{call_holds, called, expr_in, result_goes, typed, visible}
 use Rattle.sc_elab.proofs.Ruled.{takes_call_is}
 use Rattle.sc_elab.proofs.rules.Place.assign_call_holds.Goals as goal
 

@@ -1,7 +1,4 @@
-use Rattle.std.proofs.Common.{◌∙◌}
-use Rattle.sc_core.specs.Typing.{judged, assign_fits}
-use Rattle.sc_elab.specs.Expressions.{typed, going_to}
-use Rattle.sc_elab.specs.Seen.{visible, expr_in}
+use Rattle.sc_elab.proofs.Common.{assign_fits, expr_in, going_to, judged, typed, visible, ◌∙◌}
 use Rattle.sc_elab.proofs.Ruled.{takes_is}
 use Rattle.sc_elab.proofs.rules.Place.assign_holds.Goals as goal
 

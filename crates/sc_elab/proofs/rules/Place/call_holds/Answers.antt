@@ -1,10 +1,5 @@
-use Rattle.std.proofs.Common.{◌∙◌, ap, sym}
+use Rattle.sc_elab.proofs.Common.{all_go, ap, args_fit, call_holds, called, goes_in, judged, sym, visible, ◌∙◌}
 use Rattle.std.specs.Option.{option_copied}
-use Rattle.sc_core.specs.Typing.{judged, args_fit}
-use Rattle.sc_elab.specs.Called.{called}
-use Rattle.sc_elab.specs.Seen.{visible}
-use Rattle.sc_elab.specs.Judging.{goes_in, all_go}
-use Rattle.sc_elab.specs.Statements.{call_holds}
 use Rattle.sc_elab.proofs.Ruled.{ok_map, args_go}
 use Rattle.sc_elab.proofs.rules.Place.call_holds.Goals as goal
 

@@ -1,6 +1,4 @@
-use Rattle.std.proofs.Common.{◌∙◌}
-use Rattle.sc_core.specs.Typing.{is_scalar, judged}
-use Rattle.sc_elab.specs.Seen.{expr_in}
+use Rattle.sc_elab.proofs.Common.{expr_in, is_scalar, judged, ◌∙◌}
 use Rattle.sc_elab.proofs.rules.Place.cond_holds.Goals as goal
 
 pub returns : goal.returns

@@ -1,6 +1,4 @@
-use Rattle.std.proofs.Common.{◌≡◌, ℕ, take}
-use Rattle.std.specs.Prelude.{◌||◌}
-use Rattle.sc_tac.specs.Flow.{is_one}
+use Rattle.sc_live.proofs.Common.{is_one, take, ℕ, ◌||◌, ◌≡◌}
 use Rattle.sc_live.proofs.live.LiveSet.insert_all.Given as goal
 
 abbrev pub invariant-loop-temp : goal.invariant-loop-temp

@@ -1,5 +1,4 @@
-use Rattle.std.proofs.Common.{rules}
-use Rattle.std.specs.Prelude.{◌==◌, not}
+use Rattle.sc_live.proofs.Common.{not, rules, ◌==◌}
 use Rattle.std.proofs.lemmas.Fn.{filter_same}
 use Rattle.sc_live.proofs.LiveSets.{removed}
 use Rattle.sc_live.proofs.live.LiveSet.remove.Goals as goal

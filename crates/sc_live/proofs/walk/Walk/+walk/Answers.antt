@@ -1,4 +1,4 @@
-use Rattle.std.proofs.Common.{◌∙◌}
+use Rattle.sc_live.proofs.Common.{◌∙◌}
 use Rattle.sc_live.proofs.Looping.{cycled}
 use Rattle.sc_live.proofs.Walking.{forked, part_walked, stepped}
 use Rattle.sc_live.proofs.walk.Walk.+walk.Goals as goal

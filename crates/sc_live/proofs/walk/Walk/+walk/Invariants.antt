@@ -1,5 +1,4 @@
-use Rattle.std.proofs.Common.{◌≤◌, length, drop}
-use Rattle.sc_live.specs.Walks.{WalkedAll, lives_at}
+use Rattle.sc_live.proofs.Common.{WalkedAll, drop, length, lives_at, ◌≤◌}
 use Rattle.sc_live.proofs.walk.Walk.+walk.Given as goal
 
 abbrev pub invariant-row-loop-at : goal.invariant-row-loop-at

@@ -1,4 +1,4 @@
-use Rattle.std.proofs.Common.{refl}
+use Rattle.sc_live.proofs.Common.{refl}
 use Rattle.sc_live.proofs.LiveSets.{none_assigned, one_assigned}
 use Rattle.sc_live.proofs.Walking.{relived, walked_as}
 use Rattle.sc_live.proofs.walk.Walk.assign.Goals as goal

@@ -1,7 +1,4 @@
-use Rattle.std.proofs.Common.{ap, ◌∙◌}
-use Rattle.std.specs.Prelude.{[], ◌∷◌, false, ◌||◌, ◌==◌}
-use Rattle.sc_tac.specs.Flow.{is_one}
-use Rattle.sc_tac.specs.Points.{point}
+use Rattle.sc_live.proofs.Common.{[], ap, false, is_one, point, ◌==◌, ◌||◌, ◌∙◌, ◌∷◌}
 use Rattle.sc_live.proofs.LiveSets.{set_is}
 use Rattle.sc_live.proofs.Walking.{relived_before, walked_as}
 use Rattle.sc_live.proofs.walk.Walk.join.Goals as goal

@@ -1,6 +1,4 @@
-use Rattle.std.proofs.Common.{ap}
-use Rattle.std.specs.Prelude.{[], ◌∷◌, false}
-use Rattle.sc_tac.specs.Points.{point}
+use Rattle.sc_live.proofs.Common.{[], ap, false, point, ◌∷◌}
 use Rattle.sc_live.proofs.LiveSets.{set_is}
 use Rattle.sc_live.proofs.Walking.{relived_before, walked_as}
 use Rattle.sc_live.proofs.walk.Walk.read.Goals as goal

@@ -1,4 +1,4 @@
-use Rattle.std.proofs.Common.{sym}
+use Rattle.sc_machine.proofs.Common.{sym}
 use Rattle.sc_machine.proofs.Access.{looked_below, looked_data, looked_there}
 use Rattle.sc_machine.proofs.here.Here.are_data.Goals as goal
 

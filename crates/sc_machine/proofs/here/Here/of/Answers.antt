@@ -1,5 +1,4 @@
-use Rattle.std.proofs.Common.{◌+◌, ◌∙◌, arith, ap, length}
-use Rattle.sc_image.specs.Layout.{code_of, globals_of}
+use Rattle.sc_machine.proofs.Common.{ap, arith, code_of, globals_of, length, ◌+◌, ◌∙◌}
 use Rattle.sc_machine.proofs.here.Here.of.Goals as goal
 
 pub invariant_of-result : goal.invariant_of-result

@@ -1,4 +1,4 @@
-use Rattle.std.proofs.Common.{sym, ◌∙◌}
+use Rattle.sc_machine.proofs.Common.{sym, ◌∙◌}
 use Rattle.sc_machine.proofs.Words.{misaligned, looked_code_below, looked_word, looked_within}
 use Rattle.sc_machine.proofs.here.Here.word_at.Goals as goal
 

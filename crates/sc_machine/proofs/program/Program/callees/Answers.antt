@@ -1,4 +1,4 @@
-use Rattle.std.proofs.Common.{arith, sym}
+use Rattle.sc_machine.proofs.Common.{arith, sym}
 use Rattle.sc_machine.proofs.Callees.{callees_at}
 use Rattle.sc_machine.proofs.program.Program.callees.Goals as goal
 

@@ -1,4 +1,4 @@
-use Rattle.std.proofs.Common.{IsSome, sym, ◌∙◌, subst, arith}
+use Rattle.sc_store.proofs.Common.{IsSome, arith, subst, sym, ◌∙◌}
 use Rattle.sc_store.proofs.Parts.{found, found_spans, found_bytes}
 use Rattle.sc_store.proofs.flat.FlatStore.byte.Goals as goal
 

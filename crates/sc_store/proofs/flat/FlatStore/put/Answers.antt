@@ -1,6 +1,4 @@
-use Rattle.std.proofs.Common.{IsSome, [], ◌∷◌, sym, subst, arith}
-use Rattle.sc_store.specs.Memory.{HoldsBytes}
-use Rattle.sc_store.specs.Flat.{bytes_of}
+use Rattle.sc_store.proofs.Common.{HoldsBytes, IsSome, [], arith, bytes_of, subst, sym, ◌∷◌}
 use Rattle.sc_store.proofs.Parts.{found, found_spans, found_written, found_regions, byte_holds}
 use Rattle.sc_store.proofs.flat.FlatStore.put.Goals as goal
 

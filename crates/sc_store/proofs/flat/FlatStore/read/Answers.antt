@@ -1,4 +1,4 @@
-use Rattle.std.proofs.Common.{◌+◌, ◌∙◌, length, arith}
+use Rattle.sc_store.proofs.Common.{arith, length, ◌+◌, ◌∙◌}
 use Rattle.sc_store.proofs.Parts.{found_spans, found_bytes}
 use Rattle.sc_store.proofs.flat.FlatStore.read.Goals as goal
 

@@ -1,5 +1,4 @@
-use Rattle.std.proofs.Common.{◌≡◌, ◌+◌, ◌<◌, ℕ, Some, get_or}
-use Rattle.sc_store.specs.Flat.{bytes_of}
+use Rattle.sc_store.proofs.Common.{Some, bytes_of, get_or, ℕ, ◌+◌, ◌<◌, ◌≡◌}
 use Rattle.sc_store.proofs.flat.FlatStore.read_each.Given as goal
 
 -- the bytes so far

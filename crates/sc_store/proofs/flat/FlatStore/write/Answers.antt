@@ -1,6 +1,4 @@
-use Rattle.std.proofs.Common.{length, sym, subst, arith}
-use Rattle.sc_store.specs.Memory.{HoldsBytes}
-use Rattle.sc_store.specs.Flat.{bytes_of}
+use Rattle.sc_store.proofs.Common.{HoldsBytes, arith, bytes_of, length, subst, sym}
 use Rattle.sc_store.proofs.Parts.{found_spans, found_written, found_regions, written_holds}
 use Rattle.sc_store.proofs.flat.FlatStore.write.Goals as goal
 

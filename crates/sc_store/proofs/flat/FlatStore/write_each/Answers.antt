@@ -1,5 +1,4 @@
-use Rattle.std.proofs.Common.{◌+◌, ◌∙◌, ap, get_or, [], ◌∷◌}
-use Rattle.sc_store.specs.Flat.{bytes_of, written}
+use Rattle.sc_store.proofs.Common.{[], ap, bytes_of, get_or, written, ◌+◌, ◌∙◌, ◌∷◌}
 use Rattle.sc_store.proofs.Access.{next_there, written_more}
 use Rattle.sc_store.proofs.flat.FlatStore.write_each.Goals as goal
 

@@ -1,5 +1,4 @@
-use Rattle.std.proofs.Common.{◌≡◌, take}
-use Rattle.sc_store.specs.Flat.{bytes_of, written}
+use Rattle.sc_store.proofs.Common.{bytes_of, take, written, ◌≡◌}
 use Rattle.sc_store.proofs.flat.FlatStore.write_each.Given as goal
 
 -- the bytes so far

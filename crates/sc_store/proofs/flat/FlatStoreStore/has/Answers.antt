@@ -1,5 +1,4 @@
-use Rattle.std.proofs.Common.{◌↔◌, IsSome, IsTrue, sym, subst}
-use Rattle.sc_store.specs.Flat.{bytes_of}
+use Rattle.sc_store.proofs.Common.{IsSome, IsTrue, bytes_of, subst, sym, ◌↔◌}
 use Rattle.sc_store.proofs.Parts.{has_found}
 use Rattle.sc_store.proofs.flat.FlatStoreStore.has.Goals as goal
 

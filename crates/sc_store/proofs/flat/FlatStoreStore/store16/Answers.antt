@@ -1,5 +1,4 @@
-use Rattle.std.proofs.Common.{arith}
-use Rattle.sc_store.specs.Flat.{bytes_of}
+use Rattle.sc_store.proofs.Common.{arith, bytes_of}
 use Rattle.sc_store.proofs.Access.{store_written}
 use Rattle.sc_store.proofs.flat.FlatStoreStore.store16.Goals as goal
 

@@ -1,5 +1,4 @@
-use Rattle.std.proofs.Common.{◌∙◌, ap, arith}
-use Rattle.sc_store.specs.Flat.{bytes_of, written}
+use Rattle.sc_store.proofs.Common.{ap, arith, bytes_of, written, ◌∙◌}
 use Rattle.sc_store.proofs.Access.{first_stored}
 use Rattle.sc_store.proofs.flat.FlatStoreStore.store32.Goals as goal
 

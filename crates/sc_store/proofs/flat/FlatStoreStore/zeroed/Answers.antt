@@ -1,6 +1,4 @@
-use Rattle.std.proofs.Common.{sym, subst}
-use Rattle.sc_store.specs.Region.{AreApart}
-use Rattle.sc_store.specs.Memory.{HoldsBytes}
+use Rattle.sc_store.proofs.Common.{AreApart, HoldsBytes, subst, sym}
 use Rattle.sc_store.proofs.Parts.{zeros_of}
 use Rattle.sc_store.proofs.Regions.{zeros_hold}
 use Rattle.sc_store.proofs.flat.FlatStoreStore.zeroed.Goals as goal

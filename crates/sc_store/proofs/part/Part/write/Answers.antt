@@ -1,4 +1,4 @@
-use Rattle.std.proofs.Common.{length, arith}
+use Rattle.sc_store.proofs.Common.{arith, length}
 use Rattle.sc_store.proofs.Parts.{spans_low, spans_high}
 use Rattle.sc_store.proofs.Pieces.{copied_piece}
 use Rattle.sc_store.proofs.part.Part.write.Goals as goal
