@@ -30,7 +30,7 @@ pub use Rattle.rv_code.specs.Prelude.{HasWord, signed}
 unfoldable pub use Rattle.rv_code.specs.Prelude.{branch_in, branch_op_of, decoded, jalr_in, load_in, load_op_of, op_imm_in, op_imm_op_of, op_in, op_op_of, store_in, store_op_of, system_in}
 pub use Rattle.sc_store.proofs.Words.{load_of-same, stored-apart}
 pub use Rattle.sc_store.specs.Prelude.{HoldsBytes, Memory, byte_of, is_in, load_of, stored}
-pub use Rattle.sc_image.specs.Common.{Auipc, BadCall, BadJump, Branch, Breakpoint, Call, Ebreak, Ecall, End, Ended, Entry, Event, EventsOut, Export, Fence, Illegal, In, Instr, Jal, Jalr, Load, LoadOp, Lui, Main, Misaligned, NoImport, Op, OpImm, OpOp, Out, Owner, Region, Ret, Shift, ShiftOp, StepsOut, Stop, Store, StoreOp, Trap, TrapReason, Upper, little_bytes, little_number}
+pub use Rattle.sc_image.specs.Common.{BadCall, BadJump, Branch, Breakpoint, Call, Ebreak, Ecall, End, Ended, Entry, Event, EventsOut, Export, Fence, Illegal, In, Instr, Jalr, Load, LoadOp, Main, Misaligned, NoImport, Op, OpImm, OpOp, Out, Owner, Region, Ret, Shift, ShiftOp, StepsOut, Stop, Store, StoreOp, Trap, TrapReason, little_bytes, little_number}
 pub use Rattle.sc_image.specs.Prelude.{Adds, AreSilent, BadOrImage, BytesNameOneImage, Crossing, Entered, EntersByEvent, Fails, FitsItsFields, FollowsFromOwn, Goes, GoesOnSame, ImageInMemory, IsAt, IsByte, IsCall, IsChain, IsComp, IsDistinct, IsExport, IsImage, IsImport, IsReached, IsSilent, IsSteady, IsWellFormed, IsWord, KeepsWords, Kept, LeavesOthers, LegalByWords, LooksSame, OpenCall, Outcome, Own, Read, Run, Running, RunsAreSteady, State, StepsByInstruction, StepsTell, StretchesCompose, TellingComposes, Tells, TracesAreLegal, Traps, Waits, Walks, a0, a7, activates, after, after_outcome, after_step, after_steps, are_distinct, arguments, bad, bit, by_owner, byte_at, bytes_at, bytes_in_version, call_of, called, calls, cause_of, code_bytes, code_of, code_start, comp_bytes, comp_of_code, comp_of_data, compares, comps_keep, computed, continued, count_read, data_of, data_regions, data_start, data_with, ended, execute, export_at, export_bytes, export_called, exports_bytes, exports_keep, exports_of, extended, flags, gate, given_back, gives, globals_bytes, globals_of, has_result, if_decoded, if_fetched, if_good, image_bytes, image_of, import_bytes, import_of, imports_bytes, imports_keep, input, input_at, inputs_in, interface_of, interfaces_of, is_argument, is_end, is_ended, is_entry, is_import, is_result, is_same_import, is_same_name, jalr_target, jump, keeps_rules, kept, kept_by, kept_from, leaves, load_size, loaded, machine, may_call, may_input, may_output, most_globals, name_bytes, next, number_at, number_that, observation, observation_of, on_registers, open_after, open_calls, output, own, params_of, proto_of, ra, refused, reg, returned, returned_to, saved_sp, shift_on_registers, shows_entry, sp, stack_size, stack_top, stack_tops, start, step, stops_or, store_size, stretch, then_on, unless, unless_stopped, version, walk, with_pc, with_stored, without_latest, word_interface, word_interfaces, word_proto, written, ◌>>=◌}
 unfoldable pub use Rattle.sc_image.specs.Prelude.{are_data, code_at, comp_at, comp_name_at, execute_by, exports_at, fields_at, globals_at, image_in_version, import_at, imports_at, name_at, parts_in_version, run, start_memory, step_by, stopped, word_at}
 pub use Rattle.sc_image.specs.declared.fault.BadImage.{BadImage}
