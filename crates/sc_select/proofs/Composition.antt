@@ -1,0 +1,301 @@
+-- What the code of statements in order, of choices and of loops is made of, and that the jumps of their parts reach.
+use Rattle.std.proofs.Common.{◌≡◌, ◌<◌, ◌≤◌, ◌+◌, ◌-◌, ℕ, zero, suc, List, [], ◌∷◌, ◌++◌, append_assoc, arith, length, map, drop, drop-cons, get_or, refl, sym, ap, ◌∙◌, subst}
+use Rattle.std.specs.Prelude.{Bool, true, ◌&&◌, ℤ, pos}
+use Rattle.std.proofs.lemmas.List.{length-append}
+use Rattle.rv_code.specs.declared.instr.Instr.{Instr}
+use Rattle.rv_code.specs.declared.instr.Instr.TheVariants.{OpImm}
+use Rattle.rv_code.specs.declared.instr.OpImmOp.TheVariants.{Addi}
+use Rattle.sc_base.proofs.Bools.{and_first, and_rest}
+use Rattle.sc_tac.specs.declared.frame.FrameTree.{FrameTree}
+use Rattle.sc_tac.specs.declared.place.Place.{Place}
+use Rattle.sc_tac.specs.declared.stmt.TacStmt.{TacStmt, fold-TacStmt, fold-roll-TacStmt, roll-TacStmt}
+use Rattle.sc_tac.specs.declared.stmt.TacStmt.TheOpen as tac
+use Rattle.sc_tac.specs.declared.stmt.TacStmt.TheVariants as emit
+use Rattle.sc_tac.specs.Functions.{passes_few}
+use Rattle.sc_tac.specs.Parts.{everywhere, with_parts}
+use Rattle.sc_tac.specs.Weights.{stmt_weight, weight}
+use Rattle.sc_select.specs.Bounds.{Fits, most_lines}
+use Rattle.sc_select.specs.Lines.{Line, plain, plainly}
+use Rattle.sc_select.specs.Selection.{Piece, choice, cycle, fork, jump_back, jump_over, round_begins, select, select_all, select_step}
+use Rattle.sc_select.proofs.Sizes.{row_is_sized}
+
+-- FEW ARGUMENTS
+few_in_fork : (cond : ℕ) (first second : List TacStmt) →
+    everywhere passes_few (emit.If cond first second ∷ []) ≡ true →
+    (everywhere passes_few first ≡ true) × (everywhere passes_few second ≡ true)
+unfolding roll-TacStmt denote.Hole.Carrier.roll
+few_in_fork cond first second h =
+    let k = sym (fold-roll-TacStmt Bool (with_parts passes_few) (tac.If cond first second)) ∙
+    and_first (fold-TacStmt Bool (with_parts passes_few) (emit.If cond first second)) _ h in (
+      and_first (everywhere passes_few first) _ k,
+      and_first (everywhere passes_few second) _ (and_rest (everywhere passes_few first) _ k),
+    )
+
+few_in_cycle : (head body next : List TacStmt) → everywhere passes_few (emit.Loop head body next ∷ []) ≡ true →
+    (everywhere passes_few head ≡ true) × (everywhere passes_few body ≡ true) × (everywhere passes_few next ≡ true)
+unfolding roll-TacStmt denote.Hole.Carrier.roll
+few_in_cycle head body next h =
+    let k = sym (fold-roll-TacStmt Bool (with_parts passes_few) (tac.Loop head body next)) ∙
+    and_first (fold-TacStmt Bool (with_parts passes_few) (emit.Loop head body next)) _ h in
+    let rest = and_rest (everywhere passes_few head) _ k in (
+      and_first (everywhere passes_few head) _ k,
+      and_first (everywhere passes_few body) _ rest,
+      and_first (everywhere passes_few next) _ (and_rest (everywhere passes_few body) _ rest),
+    )
+
+few_from : (stmts : List TacStmt) (i : ℕ) → everywhere passes_few stmts ≡ true →
+    everywhere passes_few (drop i stmts) ≡ true
+few_from stmts zero h = h
+few_from [] (suc i) h = h
+few_from (x ∷ rest) (suc i) h =
+    few_from rest i (and_rest (fold-TacStmt Bool (with_parts passes_few) x) _ h)
+
+-- WEIGHTS
+weight_from : (stmts : List TacStmt) (i : ℕ) → weight (drop i stmts) ≤ weight stmts
+weight_from stmts zero = omega arith
+weight_from [] (suc i) = omega arith
+weight_from (x ∷ rest) (suc i) = omega (arith, weight_from rest i)
+
+parted : (stmts : List TacStmt) (i : ℕ) (x : TacStmt) → i < length stmts → x ≡ get_or stmts i x →
+    drop i stmts ≡ x ∷ drop (suc i) stmts
+parted stmts i x h is = drop-cons stmts i x h ∙ ap (λ y. y ∷ drop (suc i) stmts) (sym is)
+
+-- a statement among others weighs no more than they
+pub no_heavier : (stmts : List TacStmt) (i : ℕ) (x : TacStmt) → i < length stmts → x ≡ get_or stmts i x →
+    stmt_weight x ≤ weight stmts
+no_heavier stmts i x h is =
+    let parts : weight (drop i stmts) ≡ stmt_weight x + weight (drop (suc i) stmts) = ap weight (parted stmts i x h is) in
+    omega (arith, parts, weight_from stmts i)
+
+-- LINES
+three_parts : (xs ys zs rest : List Line) → (xs ++ (ys ++ zs)) ++ rest ≡ xs ++ (ys ++ (zs ++ rest))
+three_parts xs ys zs rest = append_assoc xs (ys ++ zs) rest ∙ ap (λ t. xs ++ t) (append_assoc ys zs rest)
+
+module _ (frame : FrameTree) (places : List Place) where
+  abbrev size : List TacStmt → ℕ
+  size stmts = (select_all frame places stmts).size
+
+  -- how many lines statements have put in front
+  pub counted : (stmts : List TacStmt) (b c : ℕ) (new old : List Line) (n m : ℕ) → n ≡ length new → m ≡ length old →
+      new ≡ (select_all frame places stmts).lines b c ++ old → n ≡ size stmts + m
+  counted stmts b c new old n m hn hm h =
+      let lines : List Line = (select_all frame places stmts).lines b c in
+      let whole : length new ≡ length (lines ++ old) = ap length h in
+      omega (arith, hn, hm, whole, length-append lines old, (row_is_sized frame places stmts).sized b c)
+
+  -- A CHOICE
+  fork_is : (cond : ℕ) (first second : List TacStmt) → select frame places (emit.If cond first second) ≡
+      fork frame places cond (select_all frame places first) (select_all frame places second)
+  unfolding roll-TacStmt denote.Hole.Carrier.roll
+  fork_is cond first second = fold-roll-TacStmt Piece (select_step frame places) (tac.If cond first second)
+
+  fork_size : (cond : ℕ) (first second : List TacStmt) → (select frame places (emit.If cond first second)).size ≡
+      length (choice frame places cond) + (2 + (size first + size second))
+  fork_size cond first second = ap (λ p. p.size) (fork_is cond first second)
+
+  fork_breaks : (cond : ℕ) (first second : List TacStmt) (b c : ℕ) →
+      Fits frame places (emit.If cond first second ∷ []) b c → size first + size second + 2 + b < 262143
+  fork_breaks cond first second b c h =
+      let whole : (select frame places (emit.If cond first second)).size + 0 + b < 262143 = h.breaks in
+      omega (arith, whole, fork_size cond first second)
+
+  fork_continues : (cond : ℕ) (first second : List TacStmt) (b c : ℕ) →
+      Fits frame places (emit.If cond first second ∷ []) b c → size first + size second + 2 + c < 262143
+  fork_continues cond first second b c h =
+      let whole : (select frame places (emit.If cond first second)).size + 0 + c < 262143 = h.continues in
+      omega (arith, whole, fork_size cond first second)
+
+  -- all that a choice's jumps need
+  pub fork_reaches : (cond : ℕ) (first second : List TacStmt) (b c : ℕ) →
+      Fits frame places (emit.If cond first second ∷ []) b c →
+      (size first + size second + 2 + b < 262143) × (size first + size second + 2 + c < 262143)
+  fork_reaches cond first second b c h =
+      (fork_breaks cond first second b c h, fork_continues cond first second b c h)
+
+  pub second_fits : (cond : ℕ) (first second : List TacStmt) (b c : ℕ) →
+      Fits frame places (emit.If cond first second ∷ []) b c → Fits frame places second b c
+  second_fits cond first second b c h = record {
+    few_arguments = (few_in_fork cond first second h.few_arguments).1;
+    breaks = omega (arith, fork_breaks cond first second b c h);
+    continues = omega (arith, fork_continues cond first second b c h);
+  }
+
+  pub first_fits : (cond : ℕ) (first second : List TacStmt) (b c n : ℕ) → n ≡ size second →
+      Fits frame places (emit.If cond first second ∷ []) b c → Fits frame places first (n + b + 1) (n + c + 1)
+  first_fits cond first second b c n is h = record {
+    few_arguments = (few_in_fork cond first second h.few_arguments).0;
+    breaks = omega (arith, is, fork_breaks cond first second b c h);
+    continues = omega (arith, is, fork_continues cond first second b c h);
+  }
+
+  pub fork_written : (cond : ℕ) (first second : List TacStmt) (b c n m : ℕ) (old l1 l2 l3 l4 new : List Line) →
+      n ≡ size second → m ≡ size first → l1 ≡ (select_all frame places second).lines b c ++ old →
+      l2 ≡ jump_over n ∷ l1 → l3 ≡ (select_all frame places first).lines (n + b + 1) (n + c + 1) ++ l2 →
+      l4 ≡ jump_over (m + 1) ∷ l3 → new ≡ plainly (choice frame places cond) ++ l4 →
+      new ≡ (select frame places (emit.If cond first second)).lines b c ++ old
+  fork_written cond first second b c n m old l1 l2 l3 l4 new n_is m_is h1 h2 h3 h4 h5 =
+      let k = size second in
+      let branch : List Line = plainly (choice frame places cond) in
+      let lines1 : List Line = (select_all frame places second).lines b c in
+      let lines3 : List Line = (select_all frame places first).lines (suc (k + b)) (suc (k + c)) in
+      let to_break : n + b + 1 ≡ suc (k + b) = omega (arith, n_is) in
+      let to_continue : n + c + 1 ≡ suc (k + c) = omega (arith, n_is) in
+      let over : m + 1 ≡ suc (size first) = omega (arith, m_is) in
+      let e2 : l2 ≡ (jump_over k ∷ lines1) ++ old =
+      h2 ∙ ap (λ i. jump_over i ∷ l1) n_is ∙ ap (λ t. jump_over k ∷ t) h1 in
+      let e3 : l3 ≡ lines3 ++ ((jump_over k ∷ lines1) ++ old) =
+      h3 ∙ ap (λ i. (select_all frame places first).lines i (n + c + 1) ++ l2) to_break ∙
+      ap (λ i. (select_all frame places first).lines (suc (k + b)) i ++ l2) to_continue ∙ ap (λ t. lines3 ++ t) e2 in
+      let e4 : l4 ≡ jump_over (suc (size first)) ∷ (lines3 ++ ((jump_over k ∷ lines1) ++ old)) =
+      h4 ∙ ap (λ i. jump_over i ∷ l3) over ∙ ap (λ t. jump_over (suc (size first)) ∷ t) e3 in
+      let inner : (lines3 ++ (jump_over k ∷ lines1)) ++ old ≡ lines3 ++ ((jump_over k ∷ lines1) ++ old) =
+      append_assoc lines3 (jump_over k ∷ lines1) old in
+      let e5 : new ≡ (branch ++ (jump_over (suc (size first)) ∷ (lines3 ++ (jump_over k ∷ lines1)))) ++ old =
+      h5 ∙ ap (λ t. branch ++ t) (e4 ∙ ap (λ t. jump_over (suc (size first)) ∷ t) (sym inner)) ∙
+      sym (append_assoc branch (jump_over (suc (size first)) ∷ (lines3 ++ (jump_over k ∷ lines1))) old) in
+      e5 ∙ ap (λ p. p.lines b c ++ old) (sym (fork_is cond first second))
+
+  -- A LOOP
+  cycle_is : (head body next : List TacStmt) → select frame places (emit.Loop head body next) ≡ cycle frame places
+      (select_all frame places head) (select_all frame places body) (select_all frame places next)
+  unfolding roll-TacStmt denote.Hole.Carrier.roll
+  cycle_is head body next = fold-roll-TacStmt Piece (select_step frame places) (tac.Loop head body next)
+
+  pub cycle_reaches : (head body next : List TacStmt) (b c : ℕ) →
+      Fits frame places (emit.Loop head body next ∷ []) b c → 2 + (size head + (size body + size next)) < 262143
+  cycle_reaches head body next b c h =
+      let whole : (select frame places (emit.Loop head body next)).size + 0 + b < 262143 = h.breaks in
+      let parts : (select frame places (emit.Loop head body next)).size ≡ 2 + (size head + (size body + size next)) =
+      ap (λ p. p.size) (cycle_is head body next) in
+      omega (arith, whole, parts)
+
+  pub next_fits : (head body next : List TacStmt) (b c : ℕ) → Fits frame places (emit.Loop head body next ∷ []) b c →
+      Fits frame places next 1 0
+  next_fits head body next b c h = record {
+    few_arguments = (few_in_cycle head body next h.few_arguments).2;
+    breaks = omega (arith, cycle_reaches head body next b c h);
+    continues = omega (arith, cycle_reaches head body next b c h);
+  }
+
+  pub body_fits : (head body next : List TacStmt) (b c n : ℕ) → n ≡ suc (size next) →
+      Fits frame places (emit.Loop head body next ∷ []) b c → Fits frame places body n 0
+  body_fits head body next b c n is h = record {
+    few_arguments = (few_in_cycle head body next h.few_arguments).1;
+    breaks = omega (arith, is, cycle_reaches head body next b c h);
+    continues = omega (arith, cycle_reaches head body next b c h);
+  }
+
+  pub head_fits : (head body next : List TacStmt) (b c n : ℕ) → n ≡ size body + suc (size next) →
+      Fits frame places (emit.Loop head body next ∷ []) b c → Fits frame places head n 0
+  head_fits head body next b c n is h = record {
+    few_arguments = (few_in_cycle head body next h.few_arguments).0;
+    breaks = omega (arith, is, cycle_reaches head body next b c h);
+    continues = omega (arith, cycle_reaches head body next b c h);
+  }
+
+  -- how far it is from the end of the loop to where its parts end
+  pub first_distance : (next : List TacStmt) (first : Instr) (old l1 l2 : List Line) (end n : ℕ) →
+      l1 ≡ plain first ∷ old → l2 ≡ (select_all frame places next).lines 1 0 ++ l1 → end ≡ length old →
+      n ≡ length l2 → n - end ≡ suc (size next)
+  first_distance next first old l1 l2 end n h1 h2 end_is n_is =
+      let start : length l1 ≡ suc (length old) = ap length h1 in
+      omega (arith, start, counted next 1 0 l2 l1 n (length l1) n_is refl h2, end_is)
+
+  pub second_distance : (body next : List TacStmt) (first : Instr) (old l1 l2 l3 : List Line) (end d n : ℕ) →
+      l1 ≡ plain first ∷ old → l2 ≡ (select_all frame places next).lines 1 0 ++ l1 →
+      l3 ≡ (select_all frame places body).lines d 0 ++ l2 → end ≡ length old → n ≡ length l3 →
+      n - end ≡ size body + suc (size next)
+  second_distance body next first old l1 l2 l3 end d n h1 h2 h3 end_is n_is =
+      let start : length l1 ≡ suc (length old) = ap length h1 in
+      let after : length l2 ≡ size next + length l1 = counted next 1 0 l2 l1 (length l2) (length l1) refl refl h2 in
+      omega (arith, start, after, counted body d 0 l3 l2 n (length l2) n_is refl h3, end_is)
+
+  pub third_distance : (head body next : List TacStmt) (first begin : Instr) (old l1 l2 l3 l4 l5 : List Line)
+      (end d e n : ℕ) → l1 ≡ plain first ∷ old → l2 ≡ (select_all frame places next).lines 1 0 ++ l1 →
+      l3 ≡ (select_all frame places body).lines d 0 ++ l2 → l4 ≡ (select_all frame places head).lines e 0 ++ l3 →
+      l5 ≡ plain begin ∷ l4 → end ≡ length old → n ≡ length l5 →
+      n - end - 1 ≡ suc (size head + (size body + size next))
+  third_distance head body next first begin old l1 l2 l3 l4 l5 end d e n h1 h2 h3 h4 h5 end_is n_is =
+      let start : length l1 ≡ suc (length old) = ap length h1 in
+      let after : length l2 ≡ size next + length l1 = counted next 1 0 l2 l1 (length l2) (length l1) refl refl h2 in
+      let between : length l3 ≡ size body + length l2 =
+      counted body d 0 l3 l2 (length l3) (length l2) refl refl h3 in
+      let before : length l4 ≡ size head + length l3 =
+      counted head e 0 l4 l3 (length l4) (length l3) refl refl h4 in
+      let whole : length l5 ≡ suc (length l4) = ap length h5 in
+      omega (arith, start, after, between, before, whole, end_is, n_is)
+
+  pub cycle_written : (head body next : List TacStmt) (d e lines end source : ℕ) (offset : ℤ) (first begin jump : Instr)
+      (old l1 l2 l3 l4 l5 new : List Line) → d ≡ suc (size next) → e ≡ size body + suc (size next) →
+      lines ≡ suc (size head + (size body + size next)) → end ≡ length old → source ≡ 0 → offset ≡ pos 0 →
+      begin ≡ OpImm Addi source source offset → l1 ≡ plain first ∷ old →
+      l2 ≡ (select_all frame places next).lines 1 0 ++ l1 → l3 ≡ (select_all frame places body).lines d 0 ++ l2 →
+      l4 ≡ (select_all frame places head).lines e 0 ++ l3 → l5 ≡ plain begin ∷ l4 →
+      plain jump ≡ jump_back lines →
+      ((front rest : List Line) (line : Line) → l5 ≡ front ++ line ∷ rest → length rest ≡ end →
+      new ≡ front ++ record line { instr = jump } ∷ rest) →
+      new ≡ (select frame places (emit.Loop head body next)).lines 0 0 ++ old
+  cycle_written head body next d e lines end source offset first begin jump old l1 l2 l3 l4 l5 new d_is e_is lines_is end_is
+      source_is offset_is begin_is h1 h2 h3 h4 h5 back replaced =
+      let xs : List Line = (select_all frame places head).lines (size body + suc (size next)) 0 in
+      let ys : List Line = (select_all frame places body).lines (suc (size next)) 0 in
+      let zs : List Line = (select_all frame places next).lines 1 0 in
+      let last : Line = jump_back (suc (size head + (size body + size next))) in
+      let e3 : l3 ≡ ys ++ (zs ++ (plain first ∷ old)) =
+      h3 ∙ ap (λ n. (select_all frame places body).lines n 0 ++ l2) d_is ∙
+      ap (λ t. ys ++ t) (h2 ∙ ap (λ t. zs ++ t) h1) in
+      let e4 : l4 ≡ xs ++ (ys ++ (zs ++ (plain first ∷ old))) =
+      h4 ∙ ap (λ n. (select_all frame places head).lines n 0 ++ l3) e_is ∙ ap (λ t. xs ++ t) e3 in
+      let opens : plain begin ≡ round_begins =
+      ap plain (begin_is ∙ ap (λ r. OpImm Addi r r offset) source_is ∙ ap (λ o. OpImm Addi 0 0 o) offset_is) in
+      let e5 : l5 ≡ round_begins ∷ (xs ++ (ys ++ (zs ++ (plain first ∷ old)))) =
+      h5 ∙ ap (λ l. l ∷ l4) opens ∙ ap (λ t. round_begins ∷ t) e4 in
+      let split : l5 ≡ (round_begins ∷ (xs ++ (ys ++ zs))) ++ (plain first ∷ old) =
+      e5 ∙ ap (λ t. round_begins ∷ t) (sym (three_parts xs ys zs (plain first ∷ old))) in
+      let put : new ≡ (round_begins ∷ (xs ++ (ys ++ zs))) ++ (plain jump ∷ old) =
+      replaced (round_begins ∷ (xs ++ (ys ++ zs))) old (plain first) split (sym end_is) in
+      let same : plain jump ≡ last = back ∙ ap jump_back lines_is in
+      let joined : (xs ++ (ys ++ zs)) ++ (last ∷ old) ≡ (xs ++ (ys ++ (zs ++ (last ∷ [])))) ++ old =
+      sym (append_assoc (xs ++ (ys ++ zs)) (last ∷ []) old) ∙
+      ap (λ t. t ++ old) (three_parts xs ys zs (last ∷ [])) in
+      put ∙ ap (λ l. (round_begins ∷ (xs ++ (ys ++ zs))) ++ (l ∷ old)) same ∙
+      ap (λ t. round_begins ∷ t) joined ∙
+      ap (λ p. p.lines 0 0 ++ old) (sym (cycle_is head body next))
+
+  -- STATEMENTS IN ORDER
+  size_from : (stmts : List TacStmt) (i : ℕ) → size (drop i stmts) ≤ size stmts
+  size_from stmts zero = omega arith
+  size_from [] (suc i) = omega arith
+  size_from (x ∷ rest) (suc i) = omega (arith, size_from rest i)
+
+  -- what the statements from one on need is no more than what all need
+  pub rest_reaches : (stmts : List TacStmt) (i b c : ℕ) → Fits frame places stmts b c →
+      (size (drop i stmts) + b < 262143) × (size (drop i stmts) + c < 262143)
+  rest_reaches stmts i b c h =
+      (omega (arith, size_from stmts i, h.breaks), omega (arith, size_from stmts i, h.continues))
+
+  pub one_fits : (stmts : List TacStmt) (i : ℕ) (x : TacStmt) (b c n : ℕ) → i < length stmts →
+      x ≡ get_or stmts i x → n ≡ size (drop (suc i) stmts) → Fits frame places stmts b c →
+      Fits frame places (x ∷ []) (n + b) (n + c)
+  one_fits stmts i x b c n h is n_is fits =
+      let parts : size (drop i stmts) ≡ (select frame places x).size + size (drop (suc i) stmts) =
+      ap size (parted stmts i x h is) in
+      record {
+        few_arguments = ap (λ b. b && true) (and_first (fold-TacStmt Bool (with_parts passes_few) x) _
+            (subst (λ l. everywhere passes_few l ≡ true) (parted stmts i x h is)
+            (few_from stmts i fits.few_arguments)));
+        breaks = omega (arith, n_is, parts, size_from stmts i, fits.breaks);
+        continues = omega (arith, n_is, parts, size_from stmts i, fits.continues);
+      }
+
+  pub one_written : (stmts : List TacStmt) (i : ℕ) (x : TacStmt) (b c n : ℕ) (old l1 l2 : List Line) →
+      i < length stmts → x ≡ get_or stmts i x → n ≡ size (drop (suc i) stmts) →
+      l1 ≡ (select_all frame places (drop (suc i) stmts)).lines b c ++ old →
+      l2 ≡ (select frame places x).lines (n + b) (n + c) ++ l1 →
+      l2 ≡ (select_all frame places (drop i stmts)).lines b c ++ old
+  one_written stmts i x b c n old l1 l2 h is n_is h1 h2 =
+      let rest : List TacStmt = drop (suc i) stmts in
+      let first : List Line = (select frame places x).lines (size rest + b) (size rest + c) in
+      let e2 : l2 ≡ first ++ ((select_all frame places rest).lines b c ++ old) = cc in
+      e2 ∙ sym (append_assoc first ((select_all frame places rest).lines b c) old) ∙
+      ap (λ l. (select_all frame places l).lines b c ++ old) (sym (parted stmts i x h is))

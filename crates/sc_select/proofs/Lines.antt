@@ -1,0 +1,71 @@
+-- Lines that are kept as instructions and targets, the last ones first.
+use Rattle.std.proofs.Common.{◌≡◌, ℕ, suc, List, [], ◌∷◌, ◌++◌, length, reverse, Option, pred, slice_set, append_assoc, refl, sym, ap, ap₂, ◌∙◌}
+use Rattle.std.proofs.lemmas.List.{reverse-append, length-reverse, reverse-reverse}
+use Rattle.rv_code.specs.declared.instr.Instr.{Instr}
+use Rattle.sc_tac.specs.declared.machine_code.Target.{Target}
+use Rattle.sc_select.specs.Lines.{Line, lines_of}
+
+lines_append : (is js : List Instr) (ts us : List (Option Target)) → length is ≡ length ts →
+    lines_of (is ++ js) (ts ++ us) ≡ lines_of is ts ++ lines_of js us
+lines_append [] js [] us h = refl
+lines_append [] js (t ∷ ts) us h = absurd (cc)
+lines_append (i ∷ is) js [] us h = absurd (cc)
+lines_append (i ∷ is) js (t ∷ ts) us h = ap (λ rest. record { instr = i; target = t } ∷ rest)
+    (lines_append is js ts us (ap pred h))
+
+lines_length : (is : List Instr) (ts : List (Option Target)) → length is ≡ length ts → length (lines_of is ts) ≡ length is
+lines_length [] ts h = refl
+lines_length (i ∷ is) [] h = absurd (cc)
+lines_length (i ∷ is) (t ∷ ts) h = ap suc (lines_length is ts (ap pred h))
+
+-- how many lines there are
+pub reversed_length : (is : List Instr) (ts : List (Option Target)) → length is ≡ length ts →
+    length is ≡ length (reverse (lines_of is ts))
+reversed_length is ts h = sym (length-reverse (lines_of is ts) ∙ lines_length is ts h)
+
+-- one more
+pub pushed : (is : List Instr) (ts : List (Option Target)) (i : Instr) (t : Option Target) → length is ≡ length ts →
+    reverse (lines_of (is ++ i ∷ []) (ts ++ t ∷ [])) ≡ record { instr = i; target = t } ∷ reverse (lines_of is ts)
+pushed is ts i t h =
+    ap reverse (lines_append is (i ∷ []) ts (t ∷ []) h) ∙
+    reverse-append (lines_of is ts) (record { instr = i; target = t } ∷ [])
+
+seam : {A : Type 0} (xs : List A) (y : A) (ys : List A) → reverse (xs ++ y ∷ ys) ≡ reverse ys ++ y ∷ reverse xs
+seam xs y ys =
+    reverse-append xs (y ∷ ys) ∙ ap (λ zs. zs ++ reverse xs) (reverse-append (y ∷ []) ys) ∙
+    append_assoc (reverse ys) (y ∷ []) (reverse xs)
+
+set_lines : (is : List Instr) (ts : List (Option Target)) (R F : List Line) (line : Line) (x : Instr) →
+    lines_of is ts ≡ R ++ line ∷ F →
+    lines_of (slice_set is (length R) x) ts ≡ R ++ record line { instr = x } ∷ F
+set_lines [] ts [] F line x h = absurd (cc)
+set_lines [] ts (r ∷ R) F line x h = absurd (cc)
+set_lines (i ∷ is) [] [] F line x h = absurd (cc)
+set_lines (i ∷ is) [] (r ∷ R) F line x h = absurd (cc)
+set_lines (i ∷ is) (t ∷ ts) [] F line x h =
+    ap₂ {A = Line} {B = List Line} (λ l ls. record l { instr = x } ∷ ls) head tail
+  where
+    head : ◌≡◌ {A = Line} (record { instr = i; target = t }) line
+    head = cc
+
+    tail : lines_of is ts ≡ F
+    tail = cc
+set_lines (i ∷ is) (t ∷ ts) (r ∷ R) F line x h =
+    ap₂ {A = Line} {B = List Line} (λ l ls. l ∷ ls) head (set_lines is ts R F line x tail)
+  where
+    head : ◌≡◌ {A = Line} (record { instr = i; target = t }) r
+    head = cc
+
+    tail : lines_of is ts ≡ R ++ line ∷ F
+    tail = cc
+
+-- one line instead of another
+pub replaced : (is : List Instr) (ts : List (Option Target)) (front rest : List Line) (line : Line) (x : Instr) (b : ℕ) →
+    reverse (lines_of is ts) ≡ front ++ line ∷ rest → length rest ≡ b →
+    reverse (lines_of (slice_set is b x) ts) ≡ front ++ record line { instr = x } ∷ rest
+replaced is ts front rest line x b h k =
+    ap (λ n. reverse (lines_of (slice_set is n x) ts)) (sym (length-reverse rest ∙ k)) ∙
+    ap reverse (set_lines is ts (reverse rest) (reverse front) line x
+    (sym (reverse-reverse (lines_of is ts)) ∙ ap reverse h ∙ seam front line rest)) ∙
+    seam (reverse rest) (record line { instr = x }) (reverse front) ∙
+    ap₂ {A = List Line} {B = List Line} (λ f r. f ++ record line { instr = x } ∷ r) (reverse-reverse front) (reverse-reverse rest)

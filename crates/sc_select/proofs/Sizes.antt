@@ -1,0 +1,92 @@
+-- Pieces have as many lines as they say.
+use Rattle.std.proofs.Common.{◌≡◌, ℕ, suc, ◌+◌, List, [], ◌∷◌, ◌++◌, map, length, arith, refl, sym, subst}
+use Rattle.std.proofs.lemmas.List.{length-append, length-map}
+use Rattle.sc_core.proofs.Induction.{Each, everywhere}
+use Rattle.sc_tac.specs.declared.frame.FrameTree.{FrameTree}
+use Rattle.sc_tac.specs.declared.place.Place.{Place}
+use Rattle.sc_tac.specs.declared.stmt.TacStmt.{TacStmt, TacStmt-F, fold-roll-TacStmt, map-TacStmt, roll-TacStmt}
+use Rattle.sc_tac.specs.declared.stmt.TacStmt.TheOpen as tac
+use Rattle.sc_tac.proofs.Induction.{Inside, stmt_induction}
+use Rattle.sc_select.specs.Lines.{Line, plain, plainly}
+use Rattle.sc_select.specs.Selection.{Piece, followed, in_order, jump_over, jump_back, round_begins, choice, fork, cycle, select_step, select, select_all}
+
+pub record IsSized (piece : Piece) : Type 0 where
+  pub sized : (to_break to_continue : ℕ) → length (piece.lines to_break to_continue) ≡ piece.size
+
+followed_sized : (e f : Piece) → IsSized e → IsSized f → IsSized (followed e f)
+followed_sized e f he hf = record {
+  sized = λ b c.
+      omega (
+        arith,
+        length-append (e.lines (f.size + b) (f.size + c)) (f.lines b c),
+        he.sized (f.size + b) (f.size + c),
+        hf.sized b c,
+      );
+}
+
+module _ (frame : FrameTree) (places : List Place) where
+  fork_sized : (cond : ℕ) (e f : Piece) → IsSized e → IsSized f → IsSized (fork frame places cond e f)
+  fork_sized cond e f he hf = record {
+    sized = λ b c.
+        let first : List Line = e.lines (suc (f.size + b)) (suc (f.size + c)) in
+        let second : List Line = jump_over f.size ∷ f.lines b c in
+        omega (
+          arith,
+          length-append (plainly (choice frame places cond)) (jump_over (suc e.size) ∷ (first ++ second)),
+          length-map (choice frame places cond) plain,
+          length-append first second,
+          he.sized (suc (f.size + b)) (suc (f.size + c)),
+          hf.sized b c,
+        );
+  }
+
+  cycle_sized : (h b n : Piece) → IsSized h → IsSized b → IsSized n → IsSized (cycle frame places h b n)
+  cycle_sized h b n hh hb hn = record {
+    sized = λ to_break to_continue.
+        let back : List Line = jump_back (suc (h.size + (b.size + n.size))) ∷ [] in
+        let last : List Line = n.lines 1 0 ++ back in
+        let middle : List Line = b.lines (suc n.size) 0 ++ last in
+        omega (
+          arith,
+          length-append (h.lines (b.size + suc n.size) 0) middle,
+          length-append (b.lines (suc n.size) 0) last,
+          length-append (n.lines 1 0) back,
+          hh.sized (b.size + suc n.size) 0,
+          hb.sized (suc n.size) 0,
+          hn.sized 1 0,
+        );
+  }
+
+  abbrev Sized : TacStmt → Type 0
+  Sized stmt = IsSized (select frame places stmt)
+
+  row_sized : (stmts : List TacStmt) → Each Sized stmts → IsSized (in_order (map (select frame places) stmts))
+  row_sized [] h = record { sized = λ b c. refl }
+  row_sized (stmt ∷ rest) h = followed_sized (select frame places stmt) _ h.0 (row_sized rest h.1)
+
+  layer_sized : (layer : TacStmt-F TacStmt) → Inside Sized layer →
+      IsSized (select_step frame places (map-TacStmt _ _ (select frame places) layer))
+  layer_sized (tac.Const dest value) h = record { sized = λ b c. refl }
+  layer_sized (tac.Copy dest from) h = record { sized = λ b c. refl }
+  layer_sized (tac.Op dest op left right) h = record { sized = λ b c. refl }
+  layer_sized (tac.ObjectPlace dest object) h = record { sized = λ b c. refl }
+  layer_sized (tac.GlobalPlace dest global) h = record { sized = λ b c. refl }
+  layer_sized (tac.Load dest place pointer) h = record { sized = λ b c. refl }
+  layer_sized (tac.Store place value) h = record { sized = λ b c. refl }
+  layer_sized (tac.If cond first second) h = fork_sized cond _ _ (row_sized first h.0) (row_sized second h.1)
+  layer_sized (tac.Loop head body next) h =
+      cycle_sized _ _ _ (row_sized head h.0) (row_sized body h.1) (row_sized next h.2)
+  layer_sized tac.Break h = record { sized = λ b c. refl }
+  layer_sized tac.Continue h = record { sized = λ b c. refl }
+  layer_sized (tac.CallOwn dest function args) h = record { sized = λ b c. refl }
+  layer_sized (tac.CallCross dest comp index args) h = record { sized = λ b c. refl }
+  layer_sized (tac.Input dest) h = record { sized = λ b c. refl }
+  layer_sized (tac.Output value) h = record { sized = λ b c. refl }
+  layer_sized (tac.Return value) h = record { sized = λ b c. refl }
+
+  pub stmt_sized : (stmt : TacStmt) → IsSized (select frame places stmt)
+  stmt_sized = stmt_induction Sized (λ layer h.
+      subst IsSized (sym (fold-roll-TacStmt Piece (select_step frame places) layer)) (layer_sized layer h))
+
+  pub row_is_sized : (stmts : List TacStmt) → IsSized (select_all frame places stmts)
+  row_is_sized stmts = row_sized stmts (everywhere Sized stmt_sized stmts)

@@ -1,0 +1,18 @@
+-- What the jumps of code need: distances that a JAL can hold.
+use Rattle.std.specs.Prelude.{◌<◌, ℕ, ◌+◌, List, IsTrue}
+use Rattle.sc_tac.specs.declared.frame.FrameTree.{FrameTree}
+use Rattle.sc_tac.specs.declared.place.Place.{Place}
+use Rattle.sc_tac.specs.declared.stmt.TacStmt.{TacStmt}
+use Rattle.sc_tac.specs.Functions.{passes_few}
+use Rattle.sc_tac.specs.Parts.{everywhere}
+use Rattle.sc_select.specs.Selection.{select_all}
+
+-- fewer lines than a jump can lead over: 2 ^ 20 bytes, less its own line
+abbrev pub most_lines : ℕ
+most_lines = 262143
+
+-- Helping: statements whose jumps lead no further than they may, and whose calls have registers for their arguments
+pub record Fits (frame : FrameTree) (places : List Place) (stmts : List TacStmt) (to_break to_continue : ℕ) : Type 0 where
+  pub few_arguments : IsTrue (everywhere passes_few stmts)
+  pub breaks : (select_all frame places stmts).size + to_break < most_lines
+  pub continues : (select_all frame places stmts).size + to_continue < most_lines

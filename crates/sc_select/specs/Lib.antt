@@ -1,0 +1,5 @@
+pub mod Bounds
+pub mod Lines
+pub mod Operators
+pub mod Pieces
+pub mod Selection

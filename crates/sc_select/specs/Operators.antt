@@ -1,0 +1,92 @@
+-- The instructions of operators, by the registers of the result and of the operands. The result is written last, since it
+-- may lie where an operand lies.
+use Rattle.std.specs.Prelude.{ℕ, ℤ, pos, negsuc, ◌+◌, ◌*◌, ◌%◌, ◌^◌, Bool, true, false, List, [], ◌∷◌, ◌++◌, if◌then◌else◌}
+use Rattle.rv_code.specs.declared.instr.Instr.{Instr}
+use Rattle.rv_code.specs.declared.instr.Instr.TheVariants.{OpImm, Op}
+use Rattle.rv_code.specs.declared.instr.OpImmOp.TheVariants.{Sltiu, Xori}
+use Rattle.rv_code.specs.declared.instr.OpOp.{OpOp}
+use Rattle.rv_code.specs.declared.instr.OpOp.TheVariants.{Add, Sub, Sll, Slt, Sltu, Xor, Srl, Sra, Or, And, Mul, Div, Divu, Rem, Remu}
+use Rattle.sc_base.specs.declared.op.BinaryOp.{BinaryOp}
+use Rattle.sc_base.specs.declared.op.BinaryOp.TheVariants as op
+use Rattle.sc_base.specs.declared.op.UnaryOp.{UnaryOp}
+use Rattle.sc_base.specs.declared.op.UnaryOp.TheVariants as unary
+use Rattle.sc_tac.specs.declared.stmt.TacOp.{TacOp}
+use Rattle.sc_tac.specs.declared.stmt.TacOp.TheVariants as tacop
+use Rattle.sc_tac.specs.Code.{is_unsigned}
+use Rattle.sc_select.specs.Pieces.{first_scratch, second_scratch, address_scratch, move, loading, moved_by}
+
+-- of the two, the one for unsigned words
+abbrev pub by_sign : Bool → (of_signed of_unsigned : OpOp) → OpOp
+by_sign true of_signed of_unsigned = of_unsigned
+by_sign false of_signed of_unsigned = of_signed
+
+-- the bytes of so many cells, as a word
+abbrev pub bytes_of : ℕ → ℕ
+bytes_of cells = 4 * cells % 2 ^ 32
+
+-- 1 where a register is 0, else 0
+abbrev pub is_zero : (rd rs : ℕ) → Instr
+is_zero rd rs = OpImm Sltiu rd rs (pos 1)
+
+-- 1 where a register isn't 0, else 0
+abbrev pub is_not_zero : (rd rs : ℕ) → Instr
+is_not_zero rd rs = Op Sltu rd 0 rs
+
+-- 1 for 0 and 0 for 1
+abbrev pub inverted : (rd rs : ℕ) → Instr
+inverted rd rs = OpImm Xori rd rs (pos 1)
+
+abbrev pub unary_code : (rd rs : ℕ) → UnaryOp → List Instr
+unary_code rd rs unary.Minus = Op Sub rd 0 rs ∷ []
+unary_code rd rs unary.Plus = move rd rs ∷ []
+unary_code rd rs unary.Not = is_zero rd rs ∷ []
+unary_code rd rs unary.BitNot = OpImm Xori rd rs (negsuc 0) ∷ []
+
+abbrev pub binary_code : (rd left right : ℕ) → (unsigned : Bool) → BinaryOp → List Instr
+binary_code rd left right unsigned op.OrElse =
+    Op Or first_scratch left right ∷ is_not_zero rd first_scratch ∷ []
+binary_code rd left right unsigned op.AndAlso =
+    is_not_zero first_scratch left ∷ is_not_zero second_scratch right ∷ Op And rd first_scratch second_scratch ∷ []
+binary_code rd left right unsigned op.BitOr = Op Or rd left right ∷ []
+binary_code rd left right unsigned op.BitXor = Op Xor rd left right ∷ []
+binary_code rd left right unsigned op.BitAnd = Op And rd left right ∷ []
+binary_code rd left right unsigned op.Equal = Op Xor first_scratch left right ∷ is_zero rd first_scratch ∷ []
+binary_code rd left right unsigned op.NotEqual = Op Xor first_scratch left right ∷ is_not_zero rd first_scratch ∷ []
+binary_code rd left right unsigned op.Less = Op (by_sign unsigned Slt Sltu) rd left right ∷ []
+binary_code rd left right unsigned op.Greater = Op (by_sign unsigned Slt Sltu) rd right left ∷ []
+binary_code rd left right unsigned op.LessEqual =
+    Op (by_sign unsigned Slt Sltu) first_scratch right left ∷ inverted rd first_scratch ∷ []
+binary_code rd left right unsigned op.GreaterEqual =
+    Op (by_sign unsigned Slt Sltu) first_scratch left right ∷ inverted rd first_scratch ∷ []
+binary_code rd left right unsigned op.ShiftLeft = Op Sll rd left right ∷ []
+binary_code rd left right unsigned op.ShiftRight = Op (by_sign unsigned Sra Srl) rd left right ∷ []
+binary_code rd left right unsigned op.Add = Op Add rd left right ∷ []
+binary_code rd left right unsigned op.Sub = Op Sub rd left right ∷ []
+binary_code rd left right unsigned op.Mul = Op Mul rd left right ∷ []
+binary_code rd left right unsigned op.Div = Op (by_sign unsigned Div Divu) rd left right ∷ []
+binary_code rd left right unsigned op.Rem = Op (by_sign unsigned Rem Remu) rd left right ∷ []
+
+-- so many elements forth or back
+abbrev pub stepped : Bool → OpOp
+stepped true = Sub
+stepped false = Add
+
+abbrev pub pointer_move : (rd left right : ℕ) → (minus : Bool) → (cells : ℕ) → List Instr
+pointer_move rd left right minus cells =
+    loading address_scratch (bytes_of cells) ++
+    Op Mul second_scratch right address_scratch ∷ Op (stepped minus) rd left second_scratch ∷ []
+
+-- the bytes between two addresses, by those of an element
+abbrev pub pointer_difference : (rd left right : ℕ) → (cells : ℕ) → List Instr
+pointer_difference rd left right cells =
+    Op Sub first_scratch left right ∷
+    loading address_scratch (bytes_of cells) ++ Op Div rd first_scratch address_scratch ∷ []
+
+abbrev pub op_code : (rd left right : ℕ) → TacOp → List Instr
+op_code rd left right (tacop.Unary o scalar) = unary_code rd left o
+op_code rd left right (tacop.Binary o scalar) = binary_code rd left right (is_unsigned scalar) o
+op_code rd left right tacop.PointerNot = is_zero rd left ∷ []
+op_code rd left right (tacop.PointerMove minus cells index) = pointer_move rd left right minus cells
+op_code rd left right (tacop.PointerMember offset) = moved_by rd left (bytes_of offset)
+op_code rd left right (tacop.PointerDifference cells) = pointer_difference rd left right cells
+op_code rd left right (tacop.PointerCompare o) = binary_code rd left right true o

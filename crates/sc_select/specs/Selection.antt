@@ -1,0 +1,250 @@
+-- Instruction selection: the instructions of each statement of three-address code, where each temporary has its place.
+use Rattle.std.specs.Prelude.{ℕ, zero, suc, ℤ, pos, ◌+◌, ◌*◌, List, [], ◌∷◌, ◌++◌, map, length, Option, None, Some, slice_get, neg_ℤ}
+use Rattle.std.specs.Option.{unwrap_or}
+use Rattle.sc_event.specs.declared.row.Entry.{Entry}
+use Rattle.sc_event.specs.declared.row.Entry.TheVariants.{Main}
+use Rattle.rv_code.specs.declared.instr.Instr.{Instr}
+use Rattle.rv_code.specs.declared.instr.Instr.TheVariants.{Upper, Jal, Jalr, Branch, Load, Store, OpImm, Ecall}
+use Rattle.rv_code.specs.declared.instr.UpperOp.TheVariants.{Lui}
+use Rattle.rv_code.specs.declared.instr.BranchOp.TheVariants.{Bne}
+use Rattle.rv_code.specs.declared.instr.LoadOp.TheVariants.{Lw}
+use Rattle.rv_code.specs.declared.instr.StoreOp.TheVariants.{Sw}
+use Rattle.rv_code.specs.declared.instr.OpImmOp.TheVariants.{Addi}
+use Rattle.sc_tac.specs.declared.frame.FrameTree.{FrameTree}
+use Rattle.sc_tac.specs.declared.function.TacFnTree.{TacFnTree}
+use Rattle.sc_tac.specs.declared.machine_code.CodeTree.{CodeTree}
+use Rattle.sc_tac.specs.declared.machine_code.Target.TheVariants.{Function, Entry as EntryOf, Global}
+use Rattle.sc_tac.specs.declared.place.Place.{Place}
+use Rattle.sc_tac.specs.declared.place.Place.TheVariants.{Register, Slot}
+use Rattle.sc_tac.specs.declared.stmt.Constant.{Constant}
+use Rattle.sc_tac.specs.declared.stmt.Constant.TheVariants as constant
+use Rattle.sc_tac.specs.declared.stmt.TacOp.{TacOp}
+use Rattle.sc_tac.specs.declared.stmt.TacStmt.{TacStmt, TacStmt-F, fold-TacStmt}
+use Rattle.sc_tac.specs.declared.stmt.TacStmt.TheOpen as tac
+use Rattle.sc_select.specs.Lines.{Line, plain, plainly, linked, code_of_lines}
+use Rattle.sc_select.specs.Pieces.{ra, sp, first_scratch, second_scratch, a0, a7, register_of, move, loading, moved_by, load_word, store_word, frame_taken, frame_left}
+use Rattle.sc_select.specs.Operators.{op_code}
+
+-- how many lines a piece of code has, and which, where so many lie between its end and where a break leads, and a continue
+pub record Piece : Type 0 where
+  pub size : ℕ
+  pub lines : (to_break to_continue : ℕ) → List Line
+
+abbrev pub straight : List Line → Piece
+straight lines = record { size = length lines; lines = λ to_break to_continue. lines }
+
+abbrev pub nothing : Piece
+nothing = straight []
+
+abbrev pub followed : Piece → Piece → Piece
+followed first second = record {
+  size = first.size + second.size;
+  lines = λ to_break to_continue.
+      first.lines (second.size + to_break) (second.size + to_continue) ++ second.lines to_break to_continue;
+}
+
+abbrev pub in_order : List Piece → Piece
+in_order [] = nothing
+in_order (piece ∷ pieces) = followed piece (in_order pieces)
+
+-- a jump over so many lines
+abbrev pub jump_over : ℕ → Line
+jump_over lines = plain (Jal 0 (pos (4 * suc lines)))
+
+-- a jump back to where so many lines begin, behind which it stands
+abbrev pub jump_back : ℕ → Line
+jump_back lines = plain (Jal 0 (neg_ℤ (pos (4 * lines))))
+
+-- what each round of a loop begins with, so that no round is without an instruction
+abbrev pub round_begins : Line
+round_begins = plain (OpImm Addi 0 0 (pos 0))
+
+abbrev pub word_of_constant : Constant → ℕ
+word_of_constant (constant.Word w) = w
+word_of_constant constant.Null = 0
+
+-- the register in which the value at a place is at hand: its own, or a scratch register
+abbrev pub at_hand : (scratch : ℕ) → Option Place → ℕ
+at_hand scratch (Some (Register r)) = register_of r
+at_hand scratch _ = scratch
+
+-- the environment's calls by their numbers in a7
+abbrev pub environment_call : ℕ → List Instr
+environment_call number = OpImm Addi a7 0 (pos number) ∷ Ecall ∷ []
+
+module _ (frame : FrameTree) where
+  abbrev pub slot_offset : ℕ → ℕ
+  slot_offset slot = unwrap_or (slice_get frame.slots slot) 0
+
+  abbrev pub object_offset : ℕ → ℕ
+  object_offset object = unwrap_or (slice_get frame.objects object) 0
+
+  -- the instructions after which the value at a place is at hand
+  abbrev pub taken : (scratch : ℕ) → Option Place → List Instr
+  taken scratch (Some (Slot slot)) = load_word scratch (slot_offset slot)
+  taken scratch _ = []
+
+  -- those that bring a result at hand to its place
+  abbrev pub kept : Option Place → List Instr
+  kept (Some (Slot slot)) = store_word first_scratch (slot_offset slot)
+  kept _ = []
+
+  -- the value at a place into a register
+  abbrev pub brought : (rd : ℕ) → Option Place → List Instr
+  brought rd (Some (Register r)) = move rd (register_of r) ∷ []
+  brought rd (Some (Slot slot)) = load_word rd (slot_offset slot)
+  brought rd None = []
+
+  -- a register into a place
+  abbrev pub put : (rs : ℕ) → Option Place → List Instr
+  put rs (Some (Register r)) = move (register_of r) rs ∷ []
+  put rs (Some (Slot slot)) = store_word rs (slot_offset slot)
+  put rs None = []
+
+  -- the value at one place into another
+  abbrev pub copied : (dest from : Option Place) → List Instr
+  copied (Some (Register r)) from = brought (register_of r) from
+  copied (Some (Slot slot)) from =
+      taken first_scratch from ++ store_word (at_hand first_scratch from) (slot_offset slot)
+  copied None from = []
+
+module _ (frame : FrameTree) (places : List Place) where
+  abbrev pub place_of : ℕ → Option Place
+  place_of t = slice_get places t
+
+  -- an operand and its register
+  abbrev pub take : (scratch t : ℕ) → List Instr
+  take scratch t = taken frame scratch (place_of t)
+
+  abbrev pub operand : (scratch t : ℕ) → ℕ
+  operand scratch t = at_hand scratch (place_of t)
+
+  -- the register of a result, which then is kept
+  abbrev pub result_register : ℕ → ℕ
+  result_register dest = operand first_scratch dest
+
+  abbrev pub keep : ℕ → List Instr
+  keep dest = kept frame (place_of dest)
+
+  abbrev pub take_second : Option ℕ → List Instr
+  take_second None = []
+  take_second (Some t) = take second_scratch t
+
+  abbrev pub second_operand : Option ℕ → ℕ
+  second_operand None = 0
+  second_operand (Some t) = operand second_scratch t
+
+  abbrev pub operation : (dest : ℕ) → TacOp → (left : ℕ) → (right : Option ℕ) → List Instr
+  operation dest o left right =
+      take first_scratch left ++ take_second right ++
+      op_code (result_register dest) (operand first_scratch left) (second_operand right) o ++ keep dest
+
+  abbrev pub load_from : (dest place : ℕ) → List Instr
+  load_from dest place =
+      take first_scratch place ++ Load Lw (result_register dest) (operand first_scratch place) (pos 0) ∷ keep dest
+
+  abbrev pub store_to : (place value : ℕ) → List Instr
+  store_to place value =
+      take first_scratch place ++ take second_scratch value ++
+      Store Sw (operand first_scratch place) (operand second_scratch value) (pos 0) ∷ []
+
+  abbrev pub place_of_global : (dest global : ℕ) → List Line
+  place_of_global dest global =
+      linked (Global global) (Upper Lui (result_register dest) 0) ∷
+      plainly (OpImm Addi (result_register dest) (result_register dest) (pos 0) ∷ keep dest)
+
+  -- arguments into the registers from this one on
+  abbrev pub pass : (rd : ℕ) → List ℕ → List Instr
+  pass rd [] = []
+  pass rd (t ∷ ts) = brought frame rd (place_of t) ++ pass (suc rd) ts
+
+  -- what a call gave to where it is wanted
+  abbrev pub receive : Option ℕ → List Instr
+  receive None = []
+  receive (Some dest) = put frame a0 (place_of dest)
+
+  abbrev pub call_own : (dest : Option ℕ) → (function : ℕ) → (args : List ℕ) → List Line
+  call_own dest function args =
+      plainly (pass a0 args) ++ linked (Function function) (Jal ra (pos 0)) ∷ plainly (receive dest)
+
+  abbrev pub call_cross : (dest : Option ℕ) → (comp index : ℕ) → (args : List ℕ) → List Line
+  call_cross dest comp index args =
+      plainly (pass a0 args) ++ linked (EntryOf comp index) (Upper Lui first_scratch 0) ∷
+      plainly (Jalr ra first_scratch (pos 0) ∷ receive dest)
+
+  abbrev pub return : Option ℕ → List Instr
+  return None = frame_left frame.bytes
+  return (Some t) = brought frame a0 (place_of t) ++ frame_left frame.bytes
+
+  -- one branch, over the jump to the second part
+  abbrev pub choice : ℕ → List Instr
+  choice cond = take first_scratch cond ++ Branch Bne (operand first_scratch cond) 0 (pos 8) ∷ []
+
+  abbrev pub fork : ℕ → Piece → Piece → Piece
+  fork cond first second = record {
+    size = length (choice cond) + (2 + (first.size + second.size));
+    lines = λ to_break to_continue.
+        plainly (choice cond) ++ (jump_over (suc first.size) ∷
+        (first.lines (suc (second.size + to_break)) (suc (second.size + to_continue)) ++
+        (jump_over second.size ∷ second.lines to_break to_continue)));
+  }
+
+  -- a break leads behind the jump back, a continue to the next part
+  abbrev pub cycle : Piece → Piece → Piece → Piece
+  cycle head body next = record {
+    size = 2 + (head.size + (body.size + next.size));
+    lines = λ to_break to_continue.
+        round_begins ∷ (head.lines (body.size + suc next.size) 0 ++ (body.lines (suc next.size) 0 ++
+        (next.lines 1 0 ++ (jump_back (suc (head.size + (body.size + next.size))) ∷ []))));
+  }
+
+  abbrev pub straightly : List Instr → Piece
+  straightly instrs = straight (plainly instrs)
+
+  abbrev pub select_step : TacStmt-F Piece → Piece
+  select_step (tac.Const dest value) = straightly (loading (result_register dest) (word_of_constant value) ++ keep dest)
+  select_step (tac.Copy dest from) = straightly (copied frame (place_of dest) (place_of from))
+  select_step (tac.Op dest o left right) = straightly (operation dest o left right)
+  select_step (tac.ObjectPlace dest object) =
+      straightly (moved_by (result_register dest) sp (object_offset frame object) ++ keep dest)
+  select_step (tac.GlobalPlace dest global) = straight (place_of_global dest global)
+  select_step (tac.Load dest place pointer) = straightly (load_from dest place)
+  select_step (tac.Store place value) = straightly (store_to place value)
+  select_step (tac.If cond first second) = fork cond (in_order first) (in_order second)
+  select_step (tac.Loop head body next) = cycle (in_order head) (in_order body) (in_order next)
+  select_step tac.Break = record { size = 1; lines = λ to_break to_continue. jump_over to_break ∷ [] }
+  select_step tac.Continue = record { size = 1; lines = λ to_break to_continue. jump_over to_continue ∷ [] }
+  select_step (tac.CallOwn dest function args) = straight (call_own dest function args)
+  select_step (tac.CallCross dest comp index args) = straight (call_cross dest comp index args)
+  select_step (tac.Input dest) = straightly (environment_call 1 ++ receive dest)
+  select_step (tac.Output value) = straightly (brought frame a0 (place_of value) ++ environment_call 2)
+  select_step (tac.Return value) = straightly (return value)
+
+  abbrev pub select : TacStmt → Piece
+  select = fold-TacStmt Piece select_step
+
+  abbrev pub select_all : List TacStmt → Piece
+  select_all stmts = in_order (map select stmts)
+
+  -- the arguments from this one on into their variables
+  abbrev pub store_arguments : (params from : ℕ) → List Instr
+  store_arguments zero from = []
+  store_arguments (suc params) from =
+      store_word (a0 + from) (object_offset frame from) ++ store_arguments params (suc from)
+
+  -- the way into a function
+  abbrev pub entrance : ℕ → List Instr
+  entrance params = frame_taken frame.bytes ++ store_arguments params 0
+
+  -- its closing brace: `main` gives 0
+  abbrev pub closing : Option Entry → List Instr
+  closing (Some Main) = OpImm Addi a0 0 (pos 0) ∷ frame_left frame.bytes
+  closing _ = frame_left frame.bytes
+
+  abbrev pub function_lines : TacFnTree → List Line
+  function_lines f =
+      plainly (entrance f.params) ++ (select_all f.body).lines 0 0 ++ plainly (closing f.entry)
+
+-- the code of a function
+abbrev pub code_of : TacFnTree → List Place → FrameTree → CodeTree
+code_of f places frame = code_of_lines (function_lines frame places f)
