@@ -54,7 +54,7 @@ fn is_register(place: &Place) -> bool {
 #[test]
 fn nineteen_at_once(rt: HostRuntime) {
     let spans = [from_to(0, 1); 19];
-    let places = places_of(rt.alloc(), &spans).unwrap();
+    let places = places_of(rt.alloc(), &spans).expect(&rt, "places");
     let places = places.as_slice();
     for register in 0..18 {
         assert!(rt; places.contains(&Place::Register(register)));
@@ -65,7 +65,7 @@ fn nineteen_at_once(rt: HostRuntime) {
 #[test]
 fn one_after_the_other(rt: HostRuntime) {
     let spans = [from_to(0, 1), from_to(2, 3)];
-    let places = places_of(rt.alloc(), &spans).unwrap();
+    let places = places_of(rt.alloc(), &spans).expect(&rt, "places");
     assert!(rt; places.as_slice().iter().all(is_register));
 }
 
@@ -73,7 +73,7 @@ fn one_after_the_other(rt: HostRuntime) {
 fn over_a_call(rt: HostRuntime) {
     let mut span = from_to(0, 2);
     span.spans_call = true;
-    let places = places_of(rt.alloc(), &[span]).unwrap();
+    let places = places_of(rt.alloc(), &[span]).expect(&rt, "places");
     assert!(rt; places.as_slice() == [Place::Slot(0)].as_slice());
 }
 
@@ -109,7 +109,7 @@ fn is_apart(alloc: Global, spans: &[Interval], places: &[Place], place: Place) -
     let mut taken = vec![in alloc; false; POINTS as usize].ok()?;
     for (span, own) in spans.iter().zip(places) {
         if *own == place {
-            for point in span.first..span.last + 1 {
+            for point in span.first..span.last.saturating_add(1) {
                 let entry = taken.get_mut(point as usize)?;
                 if *entry {
                     return Some(false);
@@ -132,10 +132,10 @@ fn slot_count(places: &[Place]) -> u32 {
 }
 
 #[test]
-fn a_hundred_thousand(rt: HostRuntime) {
+fn a_hundred_thousand(rt: HostRuntime) -> Result<(), Fail> {
     let alloc = rt.alloc();
-    let spans = many(alloc, 100_000).unwrap();
-    let assigned = places_of(alloc, spans.as_slice()).unwrap();
+    let spans = many(alloc, 100_000)?;
+    let assigned = places_of(alloc, spans.as_slice()).expect(&rt, "places");
     let places = assigned.as_slice();
     let registers = places.iter().filter(|place| is_register(place)).count();
     let slots = slot_count(places);
@@ -148,4 +148,5 @@ fn a_hundred_thousand(rt: HostRuntime) {
         assert!(rt; is_apart(alloc, spans.as_slice(), places, Place::Slot(slot)) == Some(true));
     }
     let _ = println!(rt; "{registers} in registers, {slots} slots");
+    Ok(())
 }

@@ -72,7 +72,7 @@ fn functions_are_within_their_bounds(rt: HostRuntime) -> Result<(), Fail> {
                 branches = branches.wrapping_add(function.branches());
                 assert!(rt; temps <= nodes);
                 assert!(rt; u64::from(weight) < 24 * u64::from(nodes));
-                let homes = homes_of(alloc, function)?.unwrap();
+                let homes = homes_of(alloc, function)?.expect(&rt, "a frame that fits");
                 let Homes {
                     registers,
                     slots,
