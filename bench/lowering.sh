@@ -8,20 +8,10 @@
 set -e
 top=$(cd "$(dirname "$0")/.." && pwd)
 work=${1:-$(mktemp -d)}
-crates="sc_base sc_event sc_word sc_lex sc_ast sc_expr sc_parse sc_read sc_scope sc_interfaces sc_core sc_elab sc_types
-    sc_laws sc_kinds sc_tac sc_lower"
-mkdir -p "$work/crates/bench_lowering/src"
-for crate in $crates; do
-    mkdir -p "$work/crates/$crate"
-    for part in src specs proofs; do
-        [ -d "$top/crates/$crate/$part" ] || continue
-        rm -rf "$work/crates/$crate/$part"
-        cp -r "$top/crates/$crate/$part" "$work/crates/$crate/"
-    done
-    grep "^$crate:" "$top/crates.txt"
-done > "$work/crates.txt"
+. "$top/bench/copy.sh"
+copy_crates "$work" sc_types sc_lower
 echo "bench_lowering: sc_types sc_tac sc_lower" >> "$work/crates.txt"
-cp "$top/HANDLES" "$work/"
+mkdir -p "$work/crates/bench_lowering/src"
 cp "$top/bench/lowering_main.txt" "$work/crates/bench_lowering/src/main.rt"
 (cd "$work/crates/bench_lowering" && rt run < /dev/null > "$work/log" 2>&1) || { tail "$work/log"; exit 1; }
 

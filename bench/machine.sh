@@ -7,19 +7,10 @@
 set -e
 top=$(cd "$(dirname "$0")/.." && pwd)
 work=${1:-$(mktemp -d)}
-crates="sc_event sc_word rv_code sc_store sc_core sc_image sc_gate sc_machine"
+. "$top/bench/copy.sh"
+copy_crates "$work" sc_machine
+echo "bench_machine: sc_base sc_event sc_store sc_image sc_machine sqlite_items" >> "$work/crates.txt"
 mkdir -p "$work/crates/bench_machine/src" "$work/crates/bench_machine/proofs/alone" "$work/crates/bench_machine/proofs/pair" "$work/loops"
-for crate in $crates; do
-    mkdir -p "$work/crates/$crate"
-    for part in src specs proofs; do
-        [ -d "$top/crates/$crate/$part" ] || continue
-        rm -rf "$work/crates/$crate/$part"
-        cp -r "$top/crates/$crate/$part" "$work/crates/$crate/"
-    done
-    grep "^$crate:" "$top/crates.txt"
-done > "$work/crates.txt"
-echo "bench_machine: sc_event sc_core sc_store sc_image sc_machine sqlite_items" >> "$work/crates.txt"
-cp "$top/HANDLES" "$work/"
 cp "$top/bench/machine_main.txt" "$work/crates/bench_machine/src/main.rt"
 cp "$top/bench/machine_answers.txt" "$work/crates/bench_machine/proofs/alone/Answers.antt"
 cp "$top/bench/machine_pair_answers.txt" "$work/crates/bench_machine/proofs/pair/Answers.antt"
