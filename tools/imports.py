@@ -21,6 +21,7 @@ import re
 import sys
 
 KIT = "/opt/rattle/rattle"
+WIDTH = 120
 FIRST = {"proofs": ["Rattle.std.proofs.Common", "Rattle.std.specs.Prelude"], "specs": ["Rattle.std.specs.Prelude"], "src": ["Rattle.std.specs.Prelude"]}
 ABOUT = {
     "specs.Prelude": "-- The names of this crate that its contracts, its proofs and the crates above cite, passed on from one place. Declares nothing.",
@@ -50,8 +51,25 @@ def line_of(before, module, names):
     return f"{before}use {module}.{{{', '.join(names)}}}" + (";" if before == "ghost " else "")
 
 
+def broken(row):
+    """The line of items as lines of the same module, each of at most WIDTH columns where that can be had."""
+    found = ITEMS.match(row) if len(row) > WIDTH else None
+    if not found:
+        return [row]
+    rows = []
+    for pair in pairs_of(found[3]):
+        longer = line_of(found[1], found[2], [*names, said(*pair)]) if rows else ""
+        if rows and len(longer) <= WIDTH:
+            names.append(said(*pair))
+            rows[-1] = longer
+        else:
+            names = [said(*pair)]
+            rows.append(line_of(found[1], found[2], names))
+    return rows
+
+
 class Text:
-    """A file: its lines, each import on one."""
+    """A file: its lines, each import on one, as long as that is (they are broken when it is written)."""
 
     def __init__(self, path, crate=None, kind=None):
         self.path, self.crate, self.kind = path, crate, kind
@@ -67,7 +85,11 @@ class Text:
                 while "}" not in parts[-1]:
                     parts.append(next(rows).strip())
                 row = re.sub(r"\{ ", "{", re.sub(r",? \}", "}", " ".join(parts)))
-            self.lines.append(row)
+            found, above = ITEMS.match(row), ITEMS.match(self.lines[-1] if self.lines else "")
+            if found and above and found[1] == above[1] and found[2] == above[2]:
+                self.lines[-1] = line_of(found[1], found[2], [*above[3].split(", "), *found[3].split(", ")])
+            else:
+                self.lines.append(row)
 
     def imports(self):
         """Its lines of items."""
@@ -94,7 +116,7 @@ class Text:
         return {name for it in found for name in it.replace("(", " ").replace(")", " ").split()}
 
     def write(self):
-        text = "\n".join(self.lines)
+        text = "\n".join(it for row in self.lines for it in broken(row))
         if text != self.before:
             with open(self.path, "w", encoding="utf-8") as it:
                 it.write(text)
@@ -457,7 +479,7 @@ def write_ours(plan, crate, which, passed, unfolded):
     if passed:
         os.makedirs(top, exist_ok=True)
         with open(path, "w", encoding="utf-8") as it:
-            it.write("\n".join([ABOUT[which], *plan.rows(passed, unfolded), ""]))
+            it.write("\n".join([ABOUT[which], *(it for row in plan.rows(passed, unfolded) for it in broken(row)), ""]))
         at = next((number for number, row in enumerate(lines) if re.match(r"(pub )?mod ", row)), 0)
         at += name == "Prelude" and lines[at : at + 1] == ["pub mod Common"]
         lines.insert(at, f"pub mod {name}")

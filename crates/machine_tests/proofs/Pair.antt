@@ -1,8 +1,10 @@
 -- The images of the tests with two compartments are images: the second offers a function that returns at once, which
 -- the first may call or not.
 use Rattle.sc_base.specs.Prelude.{is_name}
-use Rattle.sc_image.specs.Prelude.{IsByte, IsComp, IsDistinct, IsExport, IsImport, IsWellFormed, IsWord, stretch, word_at}
-use Rattle.std.proofs.Common.{◌≡◌, ◌≢◌, ℕ, zero, suc, ◌*◌, ◌<◌, ◌≤◌, List, [], ◌∷◌, length, get_or, Bool, true, false, All, Option, Some, None, refl, subst, ap, arith, lit<, lit≤}
+use Rattle.sc_image.specs.Prelude.{IsByte, IsComp, IsDistinct, IsExport, IsImport, IsWellFormed, IsWord, stretch}
+use Rattle.sc_image.specs.Prelude.{word_at}
+use Rattle.std.proofs.Common.{◌≡◌, ◌≢◌, ℕ, zero, suc, ◌*◌, ◌<◌, ◌≤◌, List, [], ◌∷◌, length, get_or, Bool, true, false}
+use Rattle.std.proofs.Common.{All, Option, Some, None, refl, subst, ap, arith, lit<, lit≤}
 use Rattle.std.specs.Prelude.{codes, IsSome, if◌then◌else◌}
 use Rattle.std.specs.List.{slice_get}
 use Rattle.std.proofs.lemmas.List.Elements.{All-nil, All-cons}

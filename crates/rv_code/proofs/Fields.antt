@@ -1,6 +1,11 @@
 -- A word of each form is cut into the fields that it was made of, and a word's fields make it again.
-use Rattle.rv_code.proofs.Common.{IsBranchOffset, IsImmediate, IsJumpOffset, IsReg, IsUpper, arith, b_imm_of, b_word, funct3_of, funct7_of, i_imm_of, i_word, j_imm_of, j_word, opcode_of, r_word, rd_of, residue, rs1_of, rs2_of, s_imm_of, s_word, u_imm_of, u_word, ℕ, ℤ, ◌%◌, ◌*◌, ◌+◌, ◌/◌, ◌<◌, ◌^◌, ◌≡◌}
-use Rattle.rv_code.proofs.Numbers.{residue-signed-12, residue-signed-13, residue-signed-21, signed-residue-12, signed-residue-13, signed-residue-21, residue-even-13, residue-even-21, residue-below-13, residue-below-21}
+use Rattle.rv_code.proofs.Common.{IsBranchOffset, IsImmediate, IsJumpOffset, IsReg, IsUpper, arith, b_imm_of, b_word}
+use Rattle.rv_code.proofs.Common.{funct3_of, funct7_of, i_imm_of, i_word, j_imm_of, j_word, opcode_of, r_word, rd_of}
+use Rattle.rv_code.proofs.Common.{residue, rs1_of, rs2_of, s_imm_of, s_word, u_imm_of, u_word, ℕ, ℤ, ◌%◌, ◌*◌, ◌+◌, ◌/◌}
+use Rattle.rv_code.proofs.Common.{◌<◌, ◌^◌, ◌≡◌}
+use Rattle.rv_code.proofs.Numbers.{residue-signed-12, residue-signed-13, residue-signed-21, signed-residue-12}
+use Rattle.rv_code.proofs.Numbers.{signed-residue-13, signed-residue-21, residue-even-13, residue-even-21}
+use Rattle.rv_code.proofs.Numbers.{residue-below-13, residue-below-21}
 
 pub record RFields (w opcode rd funct3 rs1 rs2 funct7 : ℕ) : Type 0 where
   pub opcode_is : opcode_of w ≡ opcode

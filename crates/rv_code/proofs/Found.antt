@@ -1,9 +1,20 @@
 -- What a word is decoded to has that word.
-use Rattle.rv_code.proofs.Common.{Auipc, Bool, Branch, Ebreak, Ecall, Fence, HasWord, Instr, IsBranchOffset, IsImmediate, IsJumpOffset, Jal, Jalr, Load, Lui, None, Op, OpImm, Option, Shift, Some, Store, Upper, arith, b_imm_of, branch_funct3, branch_in, branch_op_of, branch_opcode, cond, decoded, ebreak_word, ecall_word, eqb-true, false, fence_funct3, fence_in, fence_opcode, funct3_of, funct7_of, i_imm_of, j_imm_of, jal_opcode, jalr_funct3, jalr_in, jalr_opcode, load_funct3, load_in, load_op_of, load_opcode, nat_eq, op_funct3, op_funct7, op_imm_funct3, op_imm_in, op_imm_op_of, op_imm_opcode, op_in, op_op_of, op_opcode, opcode_of, rd_of, refl, rs1_of, rs2_of, s_imm_of, shift_funct3, shift_funct7, shift_in, shift_op_of, store_funct3, store_in, store_op_of, store_opcode, subst, system_in, true, u_imm_of, upper_opcode, word_of, ℕ, ◌%◌, ◌*◌, ◌+◌, ◌/◌, ◌<◌, ◌^◌, ◌≡◌}
+use Rattle.rv_code.proofs.Common.{Auipc, Bool, Branch, Ebreak, Ecall, Fence, HasWord, Instr, IsBranchOffset}
+use Rattle.rv_code.proofs.Common.{IsImmediate, IsJumpOffset, Jal, Jalr, Load, Lui, None, Op, OpImm, Option, Shift, Some}
+use Rattle.rv_code.proofs.Common.{Store, Upper, arith, b_imm_of, branch_funct3, branch_in, branch_op_of, branch_opcode}
+use Rattle.rv_code.proofs.Common.{cond, decoded, ebreak_word, ecall_word, eqb-true, false, fence_funct3, fence_in}
+use Rattle.rv_code.proofs.Common.{fence_opcode, funct3_of, funct7_of, i_imm_of, j_imm_of, jal_opcode, jalr_funct3}
+use Rattle.rv_code.proofs.Common.{jalr_in, jalr_opcode, load_funct3, load_in, load_op_of, load_opcode, nat_eq}
+use Rattle.rv_code.proofs.Common.{op_funct3, op_funct7, op_imm_funct3, op_imm_in, op_imm_op_of, op_imm_opcode, op_in}
+use Rattle.rv_code.proofs.Common.{op_op_of, op_opcode, opcode_of, rd_of, refl, rs1_of, rs2_of, s_imm_of, shift_funct3}
+use Rattle.rv_code.proofs.Common.{shift_funct7, shift_in, shift_op_of, store_funct3, store_in, store_op_of}
+use Rattle.rv_code.proofs.Common.{store_opcode, subst, system_in, true, u_imm_of, upper_opcode, word_of, ℕ, ◌%◌, ◌*◌}
+use Rattle.rv_code.proofs.Common.{◌+◌, ◌/◌, ◌<◌, ◌^◌, ◌≡◌}
 use Rattle.std.specs.Option.{option_map, option_or}
 use Rattle.rv_code.specs.declared.instr.UpperOp.{UpperOp}
 use Rattle.rv_code.proofs.Numbers.{IsImmediate-signed, IsBranchOffset-signed, IsJumpOffset-signed}
-use Rattle.rv_code.proofs.Ops.{branch_funct3_of, load_funct3_of, store_funct3_of, op_imm_funct3_of, shift_functs_of, op_functs_of}
+use Rattle.rv_code.proofs.Ops.{branch_funct3_of, load_funct3_of, store_funct3_of, op_imm_funct3_of, shift_functs_of}
+use Rattle.rv_code.proofs.Ops.{op_functs_of}
 use Rattle.rv_code.proofs.Fields.{r_joined, i_joined, s_joined, b_joined, u_joined, j_joined}
 
 -- what was found, if anything, has the word w

@@ -1,5 +1,8 @@
 -- Words that an assembler gives, read and written by the definitions.
-use Rattle.rv_code.proofs.Common.{Beq, Bgeu, Branch, Ecall, Jal, Lbu, Load, Lui, Mulhsu, None, Op, Shift, Some, Srai, Store, Sw, Upper, branch_in, branch_op_of, decoded, load_in, load_op_of, negsuc, op_imm_in, op_imm_op_of, op_in, op_op_of, pos, refl, shift_in, shift_op_of, system_in, word_of, ◌≡◌}
+use Rattle.rv_code.proofs.Common.{Beq, Bgeu, Branch, Ecall, Jal, Lbu, Load, Lui, Mulhsu, None, Op, Shift, Some, Srai}
+use Rattle.rv_code.proofs.Common.{Store, Sw, Upper, branch_in, branch_op_of, decoded, load_in, load_op_of, negsuc}
+use Rattle.rv_code.proofs.Common.{op_imm_in, op_imm_op_of, op_in, op_op_of, pos, refl, shift_in, shift_op_of, system_in}
+use Rattle.rv_code.proofs.Common.{word_of, ◌≡◌}
 
 -- lui a0, 0x12345
 lui : word_of (Upper Lui 10 0x12345000) ≡ 0x12345537

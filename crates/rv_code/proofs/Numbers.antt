@@ -1,5 +1,7 @@
 -- Residues and the signed numbers that they stand for, and words cut into fields.
-use Rattle.rv_code.proofs.Common.{IsBranchOffset, IsImmediate, IsJumpOffset, ap, arith, cases_lt, le-ltb, lt-ltb, negsuc, pos, refl, residue, signed, suc, ℕ, ℤ, ⊎_elim, ◌%◌, ◌*◌, ◌-◌, ◌<◌, ◌^◌, ◌∙◌, ◌≡◌, ◌≤◌}
+use Rattle.rv_code.proofs.Common.{IsBranchOffset, IsImmediate, IsJumpOffset, ap, arith, cases_lt, le-ltb, lt-ltb}
+use Rattle.rv_code.proofs.Common.{negsuc, pos, refl, residue, signed, suc, ℕ, ℤ, ⊎_elim, ◌%◌, ◌*◌, ◌-◌, ◌<◌, ◌^◌, ◌∙◌}
+use Rattle.rv_code.proofs.Common.{◌≡◌, ◌≤◌}
 use Rattle.std.proofs.lemmas.Int.{ints}
 
 -- what `signed` gives in the lower half and in the upper one

@@ -1,7 +1,13 @@
 -- Words and instructions stand for one another.
-use Rattle.rv_code.proofs.Common.{Auipc, Branch, Ebreak, Ecall, Fence, HasWord, IfSome, Instr, IsInstr, IsNone, Jal, Jalr, Load, Lui, None, Op, OpImm, Option, Shift, Some, Store, Upper, arith, branch_funct3, decoded, false, fence_funct3, fence_opcode, jalr_funct3, jalr_opcode, lit<, load_funct3, op_funct3, op_funct7, op_imm_funct3, refl, residue, shift_funct3, shift_funct7, store_funct3, sym, true, word_of, ℕ, ◌%◌, ◌*◌, ◌+◌, ◌/◌, ◌<◌, ◌^◌, ◌∙◌, ◌≡◌}
+use Rattle.rv_code.proofs.Common.{Auipc, Branch, Ebreak, Ecall, Fence, HasWord, IfSome, Instr, IsInstr, IsNone, Jal}
+use Rattle.rv_code.proofs.Common.{Jalr, Load, Lui, None, Op, OpImm, Option, Shift, Some, Store, Upper, arith}
+use Rattle.rv_code.proofs.Common.{branch_funct3, decoded, false, fence_funct3, fence_opcode, jalr_funct3, jalr_opcode}
+use Rattle.rv_code.proofs.Common.{lit<, load_funct3, op_funct3, op_funct7, op_imm_funct3, refl, residue, shift_funct3}
+use Rattle.rv_code.proofs.Common.{shift_funct7, store_funct3, sym, true, word_of, ℕ, ◌%◌, ◌*◌, ◌+◌, ◌/◌, ◌<◌, ◌^◌, ◌∙◌}
+use Rattle.rv_code.proofs.Common.{◌≡◌}
 use Rattle.rv_code.proofs.Numbers.{residue-below-12, residue-below-13, residue-below-21}
-use Rattle.rv_code.proofs.Ops.{branch_funct3-below, load_funct3-below, store_funct3-below, op_imm_funct3-below, shift_funct3-below, op_funct3-below, shift_funct7-below, op_funct7-below}
+use Rattle.rv_code.proofs.Ops.{branch_funct3-below, load_funct3-below, store_funct3-below, op_imm_funct3-below}
+use Rattle.rv_code.proofs.Ops.{shift_funct3-below, op_funct3-below, shift_funct7-below, op_funct7-below}
 use Rattle.rv_code.proofs.Read.{decoded-word}
 use Rattle.rv_code.proofs.Found.{decoded_has}
 

@@ -1,7 +1,17 @@
 -- The word of an instruction is decoded to that instruction.
-use Rattle.rv_code.proofs.Common.{Auipc, Branch, BranchOp, Ebreak, Ecall, Fence, HasWord, Instr, Jal, Jalr, Load, LoadOp, Lui, Op, OpImm, OpImmOp, OpOp, Shift, ShiftOp, Some, Store, StoreOp, Upper, branch_funct3, branch_in, branch_opcode, decoded, fence_funct3, fence_in, fence_opcode, j_imm_of, jal_opcode, jalr_funct3, jalr_in, jalr_opcode, lit<, load_funct3, load_in, load_opcode, op_funct3, op_funct7, op_imm_funct3, op_imm_in, op_imm_opcode, op_in, op_opcode, opcode_of, rd_of, refl, shift_funct3, shift_funct7, shift_in, store_funct3, store_in, store_opcode, system_in, u_imm_of, upper_opcode, word_of, ℕ, ℤ, ◌∙◌, ◌≡◌}
-use Rattle.rv_code.proofs.Ops.{branch_op_of-own, load_op_of-own, store_op_of-own, op_imm_op_of-own, op_imm_op_of-shift, shift_op_of-own, op_op_of-own, branch_funct3-below, load_funct3-below, store_funct3-below, op_imm_funct3-below, shift_funct3-below, op_funct3-below}
-use Rattle.rv_code.proofs.Fields.{RFields, IFields, SFields, BFields, UFields, JFields, r_fields, i_fields, s_fields, b_fields, u_fields, j_fields}
+use Rattle.rv_code.proofs.Common.{Auipc, Branch, BranchOp, Ebreak, Ecall, Fence, HasWord, Instr, Jal, Jalr, Load}
+use Rattle.rv_code.proofs.Common.{LoadOp, Lui, Op, OpImm, OpImmOp, OpOp, Shift, ShiftOp, Some, Store, StoreOp, Upper}
+use Rattle.rv_code.proofs.Common.{branch_funct3, branch_in, branch_opcode, decoded, fence_funct3, fence_in}
+use Rattle.rv_code.proofs.Common.{fence_opcode, j_imm_of, jal_opcode, jalr_funct3, jalr_in, jalr_opcode, lit<}
+use Rattle.rv_code.proofs.Common.{load_funct3, load_in, load_opcode, op_funct3, op_funct7, op_imm_funct3, op_imm_in}
+use Rattle.rv_code.proofs.Common.{op_imm_opcode, op_in, op_opcode, opcode_of, rd_of, refl, shift_funct3, shift_funct7}
+use Rattle.rv_code.proofs.Common.{shift_in, store_funct3, store_in, store_opcode, system_in, u_imm_of, upper_opcode}
+use Rattle.rv_code.proofs.Common.{word_of, ℕ, ℤ, ◌∙◌, ◌≡◌}
+use Rattle.rv_code.proofs.Ops.{branch_op_of-own, load_op_of-own, store_op_of-own, op_imm_op_of-own, op_imm_op_of-shift}
+use Rattle.rv_code.proofs.Ops.{shift_op_of-own, op_op_of-own, branch_funct3-below, load_funct3-below}
+use Rattle.rv_code.proofs.Ops.{store_funct3-below, op_imm_funct3-below, shift_funct3-below, op_funct3-below}
+use Rattle.rv_code.proofs.Fields.{RFields, IFields, SFields, BFields, UFields, JFields, r_fields, i_fields, s_fields}
+use Rattle.rv_code.proofs.Fields.{b_fields, u_fields, j_fields}
 
 -- which case of `decoded` an opcode takes
 

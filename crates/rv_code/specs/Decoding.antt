@@ -9,9 +9,14 @@ use Rattle.rv_code.specs.declared.instr.OpImmOp.{OpImmOp}
 use Rattle.rv_code.specs.declared.instr.ShiftOp.{ShiftOp}
 use Rattle.rv_code.specs.declared.instr.OpOp.{OpOp}
 use Rattle.rv_code.specs.declared.instr.Instr.{Instr}
-use Rattle.rv_code.specs.declared.instr.Instr.TheVariants.{Upper, Jal, Jalr, Branch, Load, Store, OpImm, Shift, Op, Fence, Ecall, Ebreak}
+use Rattle.rv_code.specs.declared.instr.Instr.TheVariants.{Upper, Jal, Jalr, Branch, Load, Store, OpImm, Shift, Op}
+use Rattle.rv_code.specs.declared.instr.Instr.TheVariants.{Fence, Ecall, Ebreak}
 use Rattle.rv_code.specs.Ranges.{signed}
-use Rattle.rv_code.specs.Table.{upper_opcode, jal_opcode, jalr_opcode, branch_opcode, load_opcode, store_opcode, op_imm_opcode, op_opcode, fence_opcode, ecall_word, ebreak_word, jalr_funct3, fence_funct3, branch_funct3, load_funct3, store_funct3, op_imm_funct3, shift_funct3, shift_funct7, op_funct3, op_funct7, branch_ops, load_ops, store_ops, op_imm_ops, shift_ops, op_ops}
+use Rattle.rv_code.specs.Table.{upper_opcode, jal_opcode, jalr_opcode, branch_opcode, load_opcode, store_opcode}
+use Rattle.rv_code.specs.Table.{op_imm_opcode, op_opcode, fence_opcode, ecall_word, ebreak_word, jalr_funct3}
+use Rattle.rv_code.specs.Table.{fence_funct3, branch_funct3, load_funct3, store_funct3, op_imm_funct3, shift_funct3}
+use Rattle.rv_code.specs.Table.{shift_funct7, op_funct3, op_funct7, branch_ops, load_ops, store_ops, op_imm_ops}
+use Rattle.rv_code.specs.Table.{shift_ops, op_ops}
 
 -- The fields of a word.
 

@@ -13,7 +13,8 @@ use Rattle.rv_code.specs.declared.instr.OpImmOp.TheVariants.{Addi, Slti, Sltiu, 
 use Rattle.rv_code.specs.declared.instr.ShiftOp.{ShiftOp}
 use Rattle.rv_code.specs.declared.instr.ShiftOp.TheVariants.{Slli, Srli, Srai}
 use Rattle.rv_code.specs.declared.instr.OpOp.{OpOp}
-use Rattle.rv_code.specs.declared.instr.OpOp.TheVariants.{Add, Sub, Sll, Slt, Sltu, Xor, Srl, Sra, Or, And, Mul, Mulh, Mulhsu, Mulhu, Div, Divu, Rem, Remu}
+use Rattle.rv_code.specs.declared.instr.OpOp.TheVariants.{Add, Sub, Sll, Slt, Sltu, Xor, Srl, Sra, Or, And, Mul, Mulh}
+use Rattle.rv_code.specs.declared.instr.OpOp.TheVariants.{Mulhsu, Mulhu, Div, Divu, Rem, Remu}
 
 -- opcodes, bits 6 to 0
 

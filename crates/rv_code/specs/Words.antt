@@ -1,9 +1,13 @@
 -- The word of an instruction, by arithmetic on its fields.
 use Rattle.std.specs.Prelude.{◌≡◌, ℕ, ◌+◌, ◌*◌, ◌/◌, ◌%◌, ◌^◌, ℤ}
 use Rattle.rv_code.specs.declared.instr.Instr.{Instr}
-use Rattle.rv_code.specs.declared.instr.Instr.TheVariants.{Upper, Jal, Jalr, Branch, Load, Store, OpImm, Shift, Op, Fence, Ecall, Ebreak}
+use Rattle.rv_code.specs.declared.instr.Instr.TheVariants.{Upper, Jal, Jalr, Branch, Load, Store, OpImm, Shift, Op}
+use Rattle.rv_code.specs.declared.instr.Instr.TheVariants.{Fence, Ecall, Ebreak}
 use Rattle.rv_code.specs.Ranges.{residue, IsReg, IsAmount, IsUpper, IsImmediate, IsBranchOffset, IsJumpOffset}
-use Rattle.rv_code.specs.Table.{upper_opcode, jal_opcode, jalr_opcode, branch_opcode, load_opcode, store_opcode, op_imm_opcode, op_opcode, fence_opcode, ecall_word, ebreak_word, jalr_funct3, fence_funct3, branch_funct3, load_funct3, store_funct3, op_imm_funct3, shift_funct3, shift_funct7, op_funct3, op_funct7}
+use Rattle.rv_code.specs.Table.{upper_opcode, jal_opcode, jalr_opcode, branch_opcode, load_opcode, store_opcode}
+use Rattle.rv_code.specs.Table.{op_imm_opcode, op_opcode, fence_opcode, ecall_word, ebreak_word, jalr_funct3}
+use Rattle.rv_code.specs.Table.{fence_funct3, branch_funct3, load_funct3, store_funct3, op_imm_funct3, shift_funct3}
+use Rattle.rv_code.specs.Table.{shift_funct7, op_funct3, op_funct7}
 
 -- The forms. Each summand is a field, times the power of two of its lowest bit.
 

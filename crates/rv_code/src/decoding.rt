@@ -1,6 +1,9 @@
 //! From a word to its instruction.
 
-ghost use Rattle.rv_code.specs.Prelude.{HasWord, IsBranchOffset, IsImmediate, IsJumpOffset, b_imm_of, branch_in, decoded, fence_in, funct3_of, funct7_of, i_imm_of, j_imm_of, jalr_in, load_in, op_imm_in, op_in, rd_of, rs1_of, rs2_of, s_imm_of, shift_in, signed, store_in, system_in, u_imm_of};
+ghost use Rattle.rv_code.specs.Prelude.{HasWord, IsBranchOffset, IsImmediate, IsJumpOffset, b_imm_of, branch_in};
+ghost use Rattle.rv_code.specs.Prelude.{decoded, fence_in, funct3_of, funct7_of, i_imm_of, j_imm_of, jalr_in, load_in};
+ghost use Rattle.rv_code.specs.Prelude.{op_imm_in, op_in, rd_of, rs1_of, rs2_of, s_imm_of, shift_in, signed, store_in};
+ghost use Rattle.rv_code.specs.Prelude.{system_in, u_imm_of};
 ghost use Rattle.std.specs.Prelude.{◌≡◌, ◌*◌, ◌/◌, ◌%◌, ◌^◌, ◌<◌, IfSome, IsNone};
 
 use crate::field::{BranchOffset, Immediate, JumpOffset, Reg, ShiftAmount, UpperImmediate};

@@ -1,6 +1,8 @@
 //! From an instruction to its word.
 
-ghost use Rattle.rv_code.specs.Prelude.{HasWord, IsAmount, IsBranchOffset, IsImmediate, IsInstr, IsJumpOffset, IsReg, IsUpper, b_word, decoded, i_word, j_word, r_word, residue, s_word, u_word, word_of};
+ghost use Rattle.rv_code.specs.Prelude.{HasWord, IsAmount, IsBranchOffset, IsImmediate, IsInstr, IsJumpOffset, IsReg};
+ghost use Rattle.rv_code.specs.Prelude.{IsUpper, b_word, decoded, i_word, j_word, r_word, residue, s_word, u_word};
+ghost use Rattle.rv_code.specs.Prelude.{word_of};
 ghost use Rattle.std.specs.Prelude.{◌≡◌, ◌*◌, ◌^◌, ◌<◌, Some};
 
 use crate::field::{BranchOffset, Immediate, JumpOffset, Reg, UpperImmediate};

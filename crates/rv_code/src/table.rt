@@ -1,6 +1,8 @@
 //! The opcodes and function codes of the instructions, both ways, as the manual lists them.
 
-ghost use Rattle.rv_code.specs.Prelude.{branch_funct3, branch_op_of, load_funct3, load_op_of, op_funct3, op_funct7, op_imm_funct3, op_imm_op_of, op_op_of, shift_funct3, shift_funct7, shift_op_of, store_funct3, store_op_of, upper_opcode};
+ghost use Rattle.rv_code.specs.Prelude.{branch_funct3, branch_op_of, load_funct3, load_op_of, op_funct3, op_funct7};
+ghost use Rattle.rv_code.specs.Prelude.{op_imm_funct3, op_imm_op_of, op_op_of, shift_funct3, shift_funct7, shift_op_of};
+ghost use Rattle.rv_code.specs.Prelude.{store_funct3, store_op_of, upper_opcode};
 ghost use Rattle.std.specs.Prelude.{◌≡◌};
 
 use crate::instr::{BranchOp, LoadOp, OpImmOp, OpOp, ShiftOp, StoreOp, UpperOp};

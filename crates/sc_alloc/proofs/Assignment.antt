@@ -1,5 +1,11 @@
 -- Places that were given fairly are an assignment, and a sparing one.
-use Rattle.sc_alloc.proofs.Common.{All, All-permutation, AreFair, AreIntervals, AreKnown, AreNumbered, ArePlaced, ArePlaces, Bool, Contains, Contains-permutation, Given, Interval, IsAssignment, IsPermutation, IsPermutation-sym, IsSparing, IsTrue, List, Place, Slot, Some, [], ap, arith, cases_order, count_by, eq-eqb, get_or, get_or_from_slice_get, is_place, length, length_permutation, list_all, map, option_map, refl, same_Some, slice_get, slice_get-get_or, slice_get-map, slice_get_within, subst, suc, sum_by-IsPermutation, sym, zero, ℕ, ⊎_elim, ◌<◌, ◌∙◌, ◌∷◌, ◌≡◌, ◌≤◌}
+use Rattle.sc_alloc.proofs.Common.{All, All-permutation, AreFair, AreIntervals, AreKnown, AreNumbered, ArePlaced}
+use Rattle.sc_alloc.proofs.Common.{ArePlaces, Bool, Contains, Contains-permutation, Given, Interval, IsAssignment}
+use Rattle.sc_alloc.proofs.Common.{IsPermutation, IsPermutation-sym, IsSparing, IsTrue, List, Place, Slot, Some, [], ap}
+use Rattle.sc_alloc.proofs.Common.{arith, cases_order, count_by, eq-eqb, get_or, get_or_from_slice_get, is_place}
+use Rattle.sc_alloc.proofs.Common.{length, length_permutation, list_all, map, option_map, refl, same_Some, slice_get}
+use Rattle.sc_alloc.proofs.Common.{slice_get-get_or, slice_get-map, slice_get_within, subst, suc, sum_by-IsPermutation}
+use Rattle.sc_alloc.proofs.Common.{sym, zero, ℕ, ⊎_elim, ◌<◌, ◌∙◌, ◌∷◌, ◌≡◌, ◌≤◌}
 use Rattle.sc_alloc.proofs.Counts.{one, only, once_from, has_temp}
 
 abbrev interval_of : Given → Interval

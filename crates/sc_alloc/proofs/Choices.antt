@@ -1,5 +1,9 @@
 -- What an interval's place keeps, and what all keep with it.
-use Rattle.sc_alloc.proofs.Common.{AllBegun, AllOver, AreFair, Given, Interval, IsFair, IsHeld, IsHeldWithin, IsNonDecreasingBy, List, Place, Register, Slot, Some, [], ap, arith, false, get_or, get_or_from_slice_get, length, map, option_map, refl, register_count, slice_get, slice_get-map, slice_get_within, subst, suc, sym, take, true, with_place, zero, ℕ, ⊎_elim, ◌++◌, ◌<◌, ◌∙◌, ◌∷◌, ◌≡◌, ◌≤◌, ◌⊎◌}
+use Rattle.sc_alloc.proofs.Common.{AllBegun, AllOver, AreFair, Given, Interval, IsFair, IsHeld, IsHeldWithin}
+use Rattle.sc_alloc.proofs.Common.{IsNonDecreasingBy, List, Place, Register, Slot, Some, [], ap, arith, false, get_or}
+use Rattle.sc_alloc.proofs.Common.{get_or_from_slice_get, length, map, option_map, refl, register_count, slice_get}
+use Rattle.sc_alloc.proofs.Common.{slice_get-map, slice_get_within, subst, suc, sym, take, true, with_place, zero, ℕ}
+use Rattle.sc_alloc.proofs.Common.{⊎_elim, ◌++◌, ◌<◌, ◌∙◌, ◌∷◌, ◌≡◌, ◌≤◌, ◌⊎◌}
 use Rattle.sc_alloc.proofs.Lists.{get_pushed}
 use Rattle.sc_alloc.proofs.FreeRegisters.{held_kept}
 

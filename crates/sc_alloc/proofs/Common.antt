@@ -1,9 +1,15 @@
 -- The names that several proofs of this crate cite, passed on from one place. Declares nothing.
-pub use Rattle.std.proofs.Common.{All, Bool, IsTrue, List, None, Option, Some, [], ap, arith, cond, eq-eqb, false, get_or, inl, inr, length, length-append, length-set, map, nat_eq, ne_eqb, refl, replicate, rules, slice_get, slice_set, subst, suc, sym, take, true, zero, ℕ, ⊎_elim, ◌++◌, ◌+◌, ◌<◌, ◌∙◌, ◌∷◌, ◌≡◌, ◌≢◌, ◌≤◌, ◌⊎◌}
+pub use Rattle.std.proofs.Common.{All, Bool, IsTrue, List, None, Option, Some, [], ap, arith, cond, eq-eqb, false}
+pub use Rattle.std.proofs.Common.{get_or, inl, inr, length, length-append, length-set, map, nat_eq, ne_eqb, refl}
+pub use Rattle.std.proofs.Common.{replicate, rules, slice_get, slice_set, subst, suc, sym, take, true, zero, ℕ, ⊎_elim}
+pub use Rattle.std.proofs.Common.{◌++◌, ◌+◌, ◌<◌, ◌∙◌, ◌∷◌, ◌≡◌, ◌≢◌, ◌≤◌, ◌⊎◌}
 pub use Rattle.std.proofs.lemmas.Bool.{cases_eq, cases_order}
-pub use Rattle.std.proofs.lemmas.List.Sorted.{All-permutation, Contains-permutation, IsNonDecreasingBy-from_sort_by_key, IsPermutation-sym, length_permutation, sum_by-IsPermutation, sum_by_popped, sum_by_pushed}
+pub use Rattle.std.proofs.lemmas.List.Sorted.{All-permutation, Contains-permutation, IsNonDecreasingBy-from_sort_by_key}
+pub use Rattle.std.proofs.lemmas.List.Sorted.{IsPermutation-sym, length_permutation, sum_by-IsPermutation}
+pub use Rattle.std.proofs.lemmas.List.Sorted.{sum_by_popped, sum_by_pushed}
 pub use Rattle.std.proofs.lemmas.List.Sums.{sum_by-cons}
-pub use Rattle.std.proofs.lemmas.Option.{get_or_from_slice_get, same_Some, slice_get-get_or, slice_get-map, slice_get_within}
+pub use Rattle.std.proofs.lemmas.Option.{get_or_from_slice_get, same_Some, slice_get-get_or, slice_get-map}
+pub use Rattle.std.proofs.lemmas.Option.{slice_get_within}
 pub use Rattle.std.specs.BinaryHeap.{heap_items, heap_len}
 pub use Rattle.std.specs.List.{Contains, count_by, list_all, position}
 pub use Rattle.std.specs.List.Sorted.{IsNonDecreasingBy, IsPermutation}
@@ -13,5 +19,6 @@ pub use Rattle.sc_tac.specs.Prelude.{AreIntervals, ArePlaces, IsAssignment, IsSp
 pub use Rattle.sc_tac.specs.declared.interval.Interval.{Interval}
 pub use Rattle.sc_tac.specs.declared.place.Place.{Place}
 pub use Rattle.sc_tac.specs.declared.place.Place.TheVariants.{Register, Slot}
-pub use Rattle.sc_alloc.specs.Scan.{AllBegun, AllOver, AreFair, AreKnown, AreNumbered, ArePlaced, AreRegisters, AreSlots, IsFair, IsHeld, IsHeldWithin, IsOut, IsScan, is_of, is_over, with_place}
+pub use Rattle.sc_alloc.specs.Scan.{AllBegun, AllOver, AreFair, AreKnown, AreNumbered, ArePlaced, AreRegisters}
+pub use Rattle.sc_alloc.specs.Scan.{AreSlots, IsFair, IsHeld, IsHeldWithin, IsOut, IsScan, is_of, is_over, with_place}
 pub use Rattle.sc_alloc.specs.declared.given.Given.{Given}

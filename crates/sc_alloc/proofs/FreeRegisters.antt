@@ -1,5 +1,9 @@
 -- A register that is given, and one that isn't.
-use Rattle.sc_alloc.proofs.Common.{AllOver, AreRegisters, Given, Interval, IsHeld, List, None, Option, Place, Register, Slot, Some, [], ap, arith, cases_eq, false, get_behind, get_or, is_over, length, length-set, position, refl, register_count, replicate, slice_get, slice_get-get_or, slice_set, subst, suc, sym, true, with_place, zero, ℕ, ⊎_elim, ◌++◌, ◌<◌, ◌∙◌, ◌∷◌, ◌≡◌, ◌≤◌}
+use Rattle.sc_alloc.proofs.Common.{AllOver, AreRegisters, Given, Interval, IsHeld, List, None, Option, Place, Register}
+use Rattle.sc_alloc.proofs.Common.{Slot, Some, [], ap, arith, cases_eq, false, get_behind, get_or, is_over, length}
+use Rattle.sc_alloc.proofs.Common.{length-set, position, refl, register_count, replicate, slice_get, slice_get-get_or}
+use Rattle.sc_alloc.proofs.Common.{slice_set, subst, suc, sym, true, with_place, zero, ℕ, ⊎_elim, ◌++◌, ◌<◌, ◌∙◌, ◌∷◌}
+use Rattle.sc_alloc.proofs.Common.{◌≡◌, ◌≤◌}
 use Rattle.sc_alloc.proofs.Lists.{get_pushed, get_kept, get_set_same, get_set_other, get_replicate, all_fail}
 
 pub all_over_pushed : (given : List Given) (x : Interval) (place other : Place) (at : ℕ) → AllOver given other at →

@@ -1,5 +1,7 @@
 -- Lists that grow at their end.
-use Rattle.sc_alloc.proofs.Common.{Bool, List, None, Option, Some, [], ap, arith, false, inl, inr, length, option_map, position, position-cons, refl, replicate, same_Some, slice_get, slice_set, suc, sym, true, zero, ℕ, ⊎_elim, ◌++◌, ◌<◌, ◌∙◌, ◌∷◌, ◌≡◌, ◌≢◌, ◌⊎◌}
+use Rattle.sc_alloc.proofs.Common.{Bool, List, None, Option, Some, [], ap, arith, false, inl, inr, length, option_map}
+use Rattle.sc_alloc.proofs.Common.{position, position-cons, refl, replicate, same_Some, slice_get, slice_set, suc, sym}
+use Rattle.sc_alloc.proofs.Common.{true, zero, ℕ, ⊎_elim, ◌++◌, ◌<◌, ◌∙◌, ◌∷◌, ◌≡◌, ◌≢◌, ◌⊎◌}
 
 -- an element of a list with one more at its end
 pub get_pushed : {A : Type 0} (xs : List A) (x y : A) (i : ℕ) → slice_get (xs ++ x ∷ []) i ≡ Some y →

@@ -1,6 +1,7 @@
 -- What a linear scan keeps, of the intervals that got a place so far, in the order in which they begin.
 use Rattle.sc_tac.specs.Prelude.{is_place, register_count}
-use Rattle.std.specs.Prelude.{◌≡◌, ◌≢◌, ◌≤◌, ◌<◌, ◌==◌, ℕ, suc, Bool, true, false, nat_lt, List, [], ◌∷◌, ◌++◌, length, All, Option, None, Some, MatchOption, slice_get, IsTrue}
+use Rattle.std.specs.Prelude.{◌≡◌, ◌≢◌, ◌≤◌, ◌<◌, ◌==◌, ℕ, suc, Bool, true, false, nat_lt, List, [], ◌∷◌, ◌++◌, length}
+use Rattle.std.specs.Prelude.{All, Option, None, Some, MatchOption, slice_get, IsTrue}
 use Rattle.std.specs.BinaryHeap.{heap_items}
 use Rattle.std.specs.List.{count_by}
 use Rattle.std.specs.declared.cmp.Reverse.{Reverse}

@@ -1,5 +1,6 @@
 -- Known values of the definitions.
-use Rattle.sc_ast.proofs.Common.{None, Some, [], arith, array_length, codes, expr_height, expr_words, false, is_ident, is_place, lineless_stmt, number_of, refl, rules, text_of, the_lemmas, true, ◌∷◌, ◌≡◌}
+use Rattle.sc_ast.proofs.Common.{None, Some, [], arith, array_length, codes, expr_height, expr_words, false, is_ident}
+use Rattle.sc_ast.proofs.Common.{is_place, lineless_stmt, number_of, refl, rules, text_of, the_lemmas, true, ◌∷◌, ◌≡◌}
 use Rattle.sc_base.specs.Prelude.{is_name, is_reserved}
 use Rattle.sc_base.specs.declared.op.UnaryOp.TheVariants as unary
 use Rattle.sc_base.specs.declared.op.BinaryOp.TheVariants as binary

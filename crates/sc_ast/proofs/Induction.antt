@@ -1,5 +1,7 @@
 -- Induction over expressions and statements, layer by layer.
-use Rattle.sc_ast.proofs.Common.{ExprTree, ExprTree-F, List, StmtKind, StmtKind-F, StmtTree, [], ind-ExprTree, ind-StmtTree, map, map-ExprTree, map-StmtKind, roll-ExprTree, roll-StmtKind, roll-StmtTree, subst, ℕ, ◌∷◌}
+use Rattle.sc_ast.proofs.Common.{ExprTree, ExprTree-F, List, StmtKind, StmtKind-F, StmtTree, [], ind-ExprTree}
+use Rattle.sc_ast.proofs.Common.{ind-StmtTree, map, map-ExprTree, map-StmtKind, roll-ExprTree, roll-StmtKind}
+use Rattle.sc_ast.proofs.Common.{roll-StmtTree, subst, ℕ, ◌∷◌}
 use Rattle.sc_ast.specs.declared.expr.ExprTree.TheOpen as term
 use Rattle.sc_ast.specs.declared.stmt.StmtKind.TheOpen as layer
 

@@ -1,5 +1,8 @@
 -- A fold at an expression or a statement, by its layer: one equation for all forms, whose right side computes.
-use Rattle.sc_ast.proofs.Common.{ExprTree, ExprTree-F, StmtKind, StmtKind-F, StmtTree, StmtTree-F, ap, fold-ExprTree, fold-StmtKind, fold-StmtTree, fold-roll-ExprTree, fold-roll-StmtKind, fold-roll-StmtTree, map-ExprTree, map-StmtKind, roll-ExprTree, roll-StmtKind, ℕ, ◌∙◌, ◌≡◌}
+use Rattle.sc_ast.proofs.Common.{ExprTree, ExprTree-F, StmtKind, StmtKind-F, StmtTree, StmtTree-F, ap, fold-ExprTree}
+use Rattle.sc_ast.proofs.Common.{fold-StmtKind, fold-StmtTree, fold-roll-ExprTree, fold-roll-StmtKind}
+use Rattle.sc_ast.proofs.Common.{fold-roll-StmtTree, map-ExprTree, map-StmtKind, roll-ExprTree, roll-StmtKind, ℕ, ◌∙◌}
+use Rattle.sc_ast.proofs.Common.{◌≡◌}
 
 -- an expression's fold, by its layer
 pub expr_at : {A : Type 0} (step : ExprTree-F A → A) (t : ExprTree-F ExprTree) →

@@ -1,5 +1,7 @@
 -- Parameters with commas between them.
-use Rattle.sc_ast.proofs.Common.{List, [], ap, arith, comma, drop, flat_map, flat_map-append, get_or, length, map, param_of, param_words, params_words, piece_text, sym, text_of, ◌++◌, ◌∙◌, ◌∷◌, ◌≡◌, ◌≤◌}
+use Rattle.sc_ast.proofs.Common.{List, [], ap, arith, comma, drop, flat_map, flat_map-append, get_or, length, map}
+use Rattle.sc_ast.proofs.Common.{param_of, param_words, params_words, piece_text, sym, text_of, ◌++◌, ◌∙◌, ◌∷◌, ◌≡◌}
+use Rattle.sc_ast.proofs.Common.{◌≤◌}
 use Rattle.sc_ast.specs.declared.section.FunctionParam.{FunctionParam}
 
 -- the first, and the others behind it

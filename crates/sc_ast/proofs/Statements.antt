@@ -1,5 +1,8 @@
 -- The height of each kind of statement, and a statement without its lines.
-use Rattle.sc_ast.proofs.Common.{CallTree, ExprTree, List, Option, SimpleKind, SimpleTree, StmtKind, StmtTree, ap, arith, call_height, expr_height, kind_height, kind_of, lineless_kind, lineless_stmt, max, option_height, refl, rules, simple_kind_height, stmt_height, stmts_height, ℕ, ◌+◌, ◌∙◌, ◌≡◌}
+use Rattle.sc_ast.proofs.Common.{CallTree, ExprTree, List, Option, SimpleKind, SimpleTree, StmtKind, StmtTree, ap}
+use Rattle.sc_ast.proofs.Common.{arith, call_height, expr_height, kind_height, kind_of, lineless_kind, lineless_stmt}
+use Rattle.sc_ast.proofs.Common.{max, option_height, refl, rules, simple_kind_height, stmt_height, stmts_height, ℕ, ◌+◌}
+use Rattle.sc_ast.proofs.Common.{◌∙◌, ◌≡◌}
 use Rattle.sc_ast.specs.declared.stmt.SimpleKind.TheVariants as simple
 use Rattle.sc_ast.specs.declared.stmt.StmtKind.{the_lemmas}
 use Rattle.sc_ast.specs.declared.stmt.StmtKind.TheVariants as stmt

@@ -1,5 +1,7 @@
 -- The texts of small trees, computed.
-use Rattle.sc_ast.proofs.Common.{CallTree, ExprTree, List, None, SimpleKind, SimpleTree, Some, StmtKind, StmtTree, [], arith, codes, export_words, expr_words, false, import_words, layouts, lines_at, map, printed, refl, rules, text_of, the_lemmas, true, ℕ, ◌++◌, ◌∷◌, ◌≡◌}
+use Rattle.sc_ast.proofs.Common.{CallTree, ExprTree, List, None, SimpleKind, SimpleTree, Some, StmtKind, StmtTree, []}
+use Rattle.sc_ast.proofs.Common.{arith, codes, export_words, expr_words, false, import_words, layouts, lines_at, map}
+use Rattle.sc_ast.proofs.Common.{printed, refl, rules, text_of, the_lemmas, true, ℕ, ◌++◌, ◌∷◌, ◌≡◌}
 use Rattle.std.specs.Fmt.{digits}
 use Rattle.sc_ast.specs.declared.types.BaseTree.{BaseTree}
 use Rattle.sc_ast.specs.declared.types.BaseTree.TheVariants as base

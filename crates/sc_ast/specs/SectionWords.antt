@@ -1,5 +1,6 @@
 -- How a section is printed: its compartment line, its directives, and its declarations, one a line.
-use Rattle.std.specs.Prelude.{ℕ, Bool, true, false, ◌||◌, nat_lt, codes, List, [], ◌∷◌, ◌++◌, replicate, Option, Some, None, is_some}
+use Rattle.std.specs.Prelude.{ℕ, Bool, true, false, ◌||◌, nat_lt, codes, List, [], ◌∷◌, ◌++◌, replicate, Option, Some}
+use Rattle.std.specs.Prelude.{None, is_some}
 use Rattle.std.specs.List.{flat_map, join_by}
 use Rattle.sc_ast.specs.Numbers.{Number}
 use Rattle.sc_ast.specs.Heads.{head_of}

@@ -1,5 +1,6 @@
 -- How statements are printed: one a line, and what stands in braces one level deeper.
-use Rattle.std.specs.Prelude.{ℕ, Bool, true, false, ◌&&◌, ◌==◌, codes, List, [], ◌∷◌, ◌++◌, length, map, Option, Some, None, if◌then◌else◌}
+use Rattle.std.specs.Prelude.{ℕ, Bool, true, false, ◌&&◌, ◌==◌, codes, List, [], ◌∷◌, ◌++◌, length, map, Option, Some}
+use Rattle.std.specs.Prelude.{None, if◌then◌else◌}
 use Rattle.std.specs.List.{flat_map, list_all}
 use Rattle.sc_ast.specs.Pieces.{Piece, word, blank, indent, newline, deeper, line_of}
 use Rattle.sc_ast.specs.ExprWords.{expr_words, place_words, call_words}

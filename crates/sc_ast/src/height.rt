@@ -1,6 +1,8 @@
 //! How high trees are. Heights stop at 4294967295.
 
-ghost use Rattle.sc_ast.specs.Prelude.{call_height, decl_height, expr_height, exprs_height, function_height, init_height, kind_height, limited, local_height, locals_height, option_height, section_height, simple_kind_height, stmt_height, stmts_height};
+ghost use Rattle.sc_ast.specs.Prelude.{call_height, decl_height, expr_height, exprs_height, function_height};
+ghost use Rattle.sc_ast.specs.Prelude.{init_height, kind_height, limited, local_height, locals_height, option_height};
+ghost use Rattle.sc_ast.specs.Prelude.{section_height, simple_kind_height, stmt_height, stmts_height};
 ghost use Rattle.std.specs.Prelude.{◌≡◌, ◌+◌};
 
 use crate::expr::{CallTree, ExprTree, Exprs};

@@ -1,7 +1,9 @@
 //! Sections as text: two blanks a level, one statement or declaration a line, and the parentheses that the grammar
 //! needs.
 
-ghost use Rattle.sc_ast.specs.Prelude.{blank, decl_words, export_words, function_words, head_of, head_words, heading_words, import_words, layouts, lines_at, local_line, newline, printed, text_of, value_words, word};
+ghost use Rattle.sc_ast.specs.Prelude.{blank, decl_words, export_words, function_words, head_of, head_words};
+ghost use Rattle.sc_ast.specs.Prelude.{heading_words, import_words, layouts, lines_at, local_line, newline, printed};
+ghost use Rattle.sc_ast.specs.Prelude.{text_of, value_words, word};
 ghost use Rattle.std.specs.Prelude.{◌≡◌, ◌++◌, [], ◌∷◌, OnOk, IfOk, codes};
 ghost use Rattle.std.specs.List.{flat_map};
 

@@ -1,5 +1,6 @@
 -- A name that has no value comes last.
-use Rattle.sc_base.proofs.Common.{Bool, List, None, Some, [], ap, cond, false, first_by_name, if◌then◌else◌, insert_entry, pointwise, refl, true, ℕ, ◌++◌, ◌==◌, ◌∷◌, ◌≡◌}
+use Rattle.sc_base.proofs.Common.{Bool, List, None, Some, [], ap, cond, false, first_by_name, if◌then◌else◌}
+use Rattle.sc_base.proofs.Common.{insert_entry, pointwise, refl, true, ℕ, ◌++◌, ◌==◌, ◌∷◌, ◌≡◌}
 
 module _ {V : Type 0} (name : List ℕ) (value : V) where
   absent_at : (b : Bool) (e : List ℕ × V) (es : List (List ℕ × V)) →

@@ -1,5 +1,8 @@
 -- Lists: an element at the end of the first part, one step of a loop, the first or the only one that passes, and maps.
-use Rattle.sc_base.proofs.Common.{Bool, List, None, Some, [], add-one, and_from, and_parts, ap, arith, cases_lt, cond, drop, drop-cons, false, find, get_or, if◌then◌else◌, length, list_all, lt-ltb, ltb, map, nat_lt, not, position, position_or_len, refl, slice_get, suc, sym, take, take_more, true, ℕ, ⊎_elim, ◌++◌, ◌+◌, ◌<◌, ◌∙◌, ◌∷◌, ◌≡◌, ◌≤◌}
+use Rattle.sc_base.proofs.Common.{Bool, List, None, Some, [], add-one, and_from, and_parts, ap, arith, cases_lt, cond}
+use Rattle.sc_base.proofs.Common.{drop, drop-cons, false, find, get_or, if◌then◌else◌, length, list_all, lt-ltb, ltb}
+use Rattle.sc_base.proofs.Common.{map, nat_lt, not, position, position_or_len, refl, slice_get, suc, sym, take}
+use Rattle.sc_base.proofs.Common.{take_more, true, ℕ, ⊎_elim, ◌++◌, ◌+◌, ◌<◌, ◌∙◌, ◌∷◌, ◌≡◌, ◌≤◌}
 use Rattle.std.specs.Option.{option_map}
 use Rattle.std.proofs.lemmas.List.Sums.{passes_at_first, fails_before_first}
 

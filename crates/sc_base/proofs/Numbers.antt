@@ -1,5 +1,8 @@
 -- The first places of names in a list, one more name behind.
-use Rattle.sc_base.proofs.Common.{Bool, HasPlaces, IndexMap, List, None, Option, Some, Updates, [], ap, arith, cond, false, get, is_numbered, is_some, length, list_any, nat_eq, number_of, pointwise, position_from, refl, same_text, suc, sym, true, true≢false, ℕ, ◌++◌, ◌+◌, ◌==◌, ◌||◌, ◌∙◌, ◌∷◌, ◌≡◌}
+use Rattle.sc_base.proofs.Common.{Bool, HasPlaces, IndexMap, List, None, Option, Some, Updates, [], ap, arith, cond}
+use Rattle.sc_base.proofs.Common.{false, get, is_numbered, is_some, length, list_any, nat_eq, number_of, pointwise}
+use Rattle.sc_base.proofs.Common.{position_from, refl, same_text, suc, sym, true, true≢false, ℕ, ◌++◌, ◌+◌, ◌==◌, ◌||◌}
+use Rattle.sc_base.proofs.Common.{◌∙◌, ◌∷◌, ◌≡◌}
 use Rattle.std.proofs.lemmas.Cmp.{nat_list_eq_equiv}
 use Rattle.std.proofs.lemmas.Iterator.Adapters.{position_from-zero}
 

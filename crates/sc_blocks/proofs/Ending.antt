@@ -1,5 +1,7 @@
 -- Blocks of a row that end.
-use Rattle.sc_blocks.proofs.Common.{Blocks, Bool, Cell, List, None, Option, Some, [], ap, arith, block_of, cleared, ended, ended_block, false, given_back, leb-false, leb-true, length, living, map, nat_le, refl, slice_set, suc, true, zero, ℕ, ◌+◌, ◌-◌, ◌<◌, ◌∷◌, ◌≡◌, ◌≤◌}
+use Rattle.sc_blocks.proofs.Common.{Blocks, Bool, Cell, List, None, Option, Some, [], ap, arith, block_of, cleared}
+use Rattle.sc_blocks.proofs.Common.{ended, ended_block, false, given_back, leb-false, leb-true, length, living, map}
+use Rattle.sc_blocks.proofs.Common.{nat_le, refl, slice_set, suc, true, zero, ℕ, ◌+◌, ◌-◌, ◌<◌, ◌∷◌, ◌≡◌, ◌≤◌}
 
 -- a row has no cells of blocks that have ended
 pub none_cleared : (first : ℕ) (os : List (Option (List Cell))) → cleared first 0 (map block_of os) ≡ map block_of os

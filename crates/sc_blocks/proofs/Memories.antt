@@ -1,5 +1,7 @@
 -- The memory of rows, as rows are made and change.
-use Rattle.sc_blocks.proofs.Common.{Blocks, Bool, List, Memory, [], ap, arith, cleared, eqb-true, false, get_or, get_or_default, if◌then◌else◌, length, memory_of, refl, slice_index_or, slice_set, subst, suc, sym, true, with_blocks, zero, ℕ, ◌++◌, ◌<◌, ◌==◌, ◌∙◌, ◌∷◌, ◌≡◌, ◌≤◌}
+use Rattle.sc_blocks.proofs.Common.{Blocks, Bool, List, Memory, [], ap, arith, cleared, eqb-true, false, get_or}
+use Rattle.sc_blocks.proofs.Common.{get_or_default, if◌then◌else◌, length, memory_of, refl, slice_index_or, slice_set}
+use Rattle.sc_blocks.proofs.Common.{subst, suc, sym, true, with_blocks, zero, ℕ, ◌++◌, ◌<◌, ◌==◌, ◌∙◌, ◌∷◌, ◌≡◌, ◌≤◌}
 use Rattle.std.proofs.Math.Dec.{eqb-suc-zero, eqb-zero-suc, eqb-suc-suc}
 use Rattle.sc_blocks.proofs.Ending.{nothing_cleared}
 

@@ -1,5 +1,7 @@
 -- A store into one block of a row.
-use Rattle.sc_blocks.proofs.Common.{Block, Blocks, Cell, Err, List, MatchResult, Ok, Option, Result, Some, ap, bind, block_of, cause_of, cells_at, get_or, length, live_cells, living, map, map-set, put_in, refl, slice_get, slice_set, store_cell, stored_in, sym, ℕ, ◌<◌, ◌∙◌, ◌≡◌}
+use Rattle.sc_blocks.proofs.Common.{Block, Blocks, Cell, Err, List, MatchResult, Ok, Option, Result, Some, ap, bind}
+use Rattle.sc_blocks.proofs.Common.{block_of, cause_of, cells_at, get_or, length, live_cells, living, map, map-set}
+use Rattle.sc_blocks.proofs.Common.{put_in, refl, slice_get, slice_set, store_cell, stored_in, sym, ℕ, ◌<◌, ◌∙◌, ◌≡◌}
 use Rattle.std.specs.Option.{option_map}
 use Rattle.std.proofs.lemmas.Option.{slice_get-map, slice_get_read}
 use Rattle.sc_core.specs.declared.cause.Cause.{Cause}

@@ -1,7 +1,9 @@
-ghost use Rattle.std.specs.Prelude.{◌≡◌, ◌<◌, ◌^◌, ℕ, [], ◌∷◌, ◌++◌, length, replicate, IfOk, OnOk, OnErr, Ok, Err, MatchResult, IsTrue, slice_get};
+ghost use Rattle.std.specs.Prelude.{◌≡◌, ◌<◌, ◌^◌, ℕ, [], ◌∷◌, ◌++◌, length, replicate, IfOk, OnOk, OnErr, Ok, Err};
+ghost use Rattle.std.specs.Prelude.{MatchResult, IsTrue, slice_get};
 ghost use Rattle.sc_core.specs.declared.value.Cell.TheVariants.{Undef};
 ghost use Rattle.sc_core.specs.Memory.{with_blocks};
-ghost use Rattle.sc_blocks.specs.Rows.{memory_of, or_cause, cause_of, living, cleared, is_place, load_cell, store_cell, cell_count};
+ghost use Rattle.sc_blocks.specs.Rows.{memory_of, or_cause, cause_of, living, cleared, is_place, load_cell, store_cell};
+ghost use Rattle.sc_blocks.specs.Rows.{cell_count};
 
 use crate::BlockFault;
 use crate::cells::Cells;

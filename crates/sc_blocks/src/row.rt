@@ -3,7 +3,8 @@ ghost use Rattle.std.specs.Option.{option_copied};
 ghost use Rattle.sc_core.specs.declared.value.Cell.TheVariants.{Ptr};
 ghost use Rattle.sc_core.specs.Memory.{is_live, cells_at};
 ghost use Rattle.sc_blocks.specs.Cells.{block_of, stored_in};
-ghost use Rattle.sc_blocks.specs.Rows.{or_cause, cause_of, living, cleared, read_cell, load_cell, store_cell, cell_count};
+ghost use Rattle.sc_blocks.specs.Rows.{or_cause, cause_of, living, cleared, read_cell, load_cell, store_cell};
+ghost use Rattle.sc_blocks.specs.Rows.{cell_count};
 
 use crate::BlockFault;
 use crate::cells::Cells;

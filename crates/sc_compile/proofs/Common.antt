@@ -1,5 +1,10 @@
 -- The names that several proofs of this crate cite, passed on from one place. Declares nothing.
-pub use Rattle.std.proofs.Common.{All, Bool, FitsSigned, IsSome, IsTrue, List, None, Option, Some, [], ap, append-nil, append_assoc, ap₂, arith, codes, false, flat_map, get_or-set_other, get_or-set_same, if◌then◌else◌, int_le, le-ltb, leb-false, leb-true, length, length-append, length-set, lit<, lit≤, lt-ltb, ltb-false, ltb-true, map, nat_eq, nat_le, nat_lt, ne_eqb, negsuc, pos, refl, rules, set, subst, suc, sym, take, take_all, true, zero, ℕ, ℤ, ⊎_elim, ◌%◌, ◌&&◌, ◌*◌, ◌++◌, ◌+◌, ◌-◌, ◌/◌, ◌<◌, ◌^◌, ◌↔◌, ◌∙◌, ◌∷◌, ◌≡◌, ◌≢◌, ◌≤ℤ◌, ◌≤◌}
+pub use Rattle.std.proofs.Common.{All, Bool, FitsSigned, IsSome, IsTrue, List, None, Option, Some, [], ap, append-nil}
+pub use Rattle.std.proofs.Common.{append_assoc, ap₂, arith, codes, false, flat_map, get_or-set_other, get_or-set_same}
+pub use Rattle.std.proofs.Common.{if◌then◌else◌, int_le, le-ltb, leb-false, leb-true, length, length-append, length-set}
+pub use Rattle.std.proofs.Common.{lit<, lit≤, lt-ltb, ltb-false, ltb-true, map, nat_eq, nat_le, nat_lt, ne_eqb, negsuc}
+pub use Rattle.std.proofs.Common.{pos, refl, rules, set, subst, suc, sym, take, take_all, true, zero, ℕ, ℤ, ⊎_elim, ◌%◌}
+pub use Rattle.std.proofs.Common.{◌&&◌, ◌*◌, ◌++◌, ◌+◌, ◌-◌, ◌/◌, ◌<◌, ◌^◌, ◌↔◌, ◌∙◌, ◌∷◌, ◌≡◌, ◌≢◌, ◌≤ℤ◌, ◌≤◌}
 pub use Rattle.std.proofs.lemmas.List.{length-map, length_push, map-append, map_push}
 pub use Rattle.std.proofs.lemmas.List.Elements.{All-append, All-cons, All-head, All-map, All-nil, All-tail, All-weaker}
 pub use Rattle.std.specs.List.{slice_get}
@@ -16,9 +21,12 @@ pub use Rattle.rv_code.specs.declared.instr.Instr.{Instr}
 pub use Rattle.rv_code.specs.declared.instr.Instr.TheVariants.{Ecall, Jalr, OpImm, Upper}
 pub use Rattle.rv_code.specs.declared.instr.OpImmOp.TheVariants.{Addi}
 pub use Rattle.rv_code.specs.declared.instr.UpperOp.TheVariants.{Lui}
-pub use Rattle.sc_image.specs.Prelude.{Goes, IsByte, IsWellFormed, IsWord, Run, State, a0, a7, code_start, execute, gate, gives, is_end, is_ended, machine, ra, reg, start, step, with_event, with_pc}
+pub use Rattle.sc_image.specs.Prelude.{Goes, IsByte, IsWellFormed, IsWord, Run, State, a0, a7, code_start, execute}
+pub use Rattle.sc_image.specs.Prelude.{gate, gives, is_end, is_ended, machine, ra, reg, start, step, with_event}
+pub use Rattle.sc_image.specs.Prelude.{with_pc}
 unfoldable pub use Rattle.sc_image.specs.Prelude.{execute_by, run, step_by, stopped, word_at}
-pub use Rattle.sc_compile.specs.Code.{HasWords, is_short, lower_part, output_call, outputting, returning, thin_code, upper_part}
+pub use Rattle.sc_compile.specs.Code.{HasWords, is_short, lower_part, output_call, outputting, returning, thin_code}
+pub use Rattle.sc_compile.specs.Code.{upper_part}
 unfoldable pub use Rattle.sc_compile.specs.Code.{loading}
 pub use Rattle.sc_compile.specs.Common.{ImageParts, ThinProgram}
 pub use Rattle.sc_compile.specs.Correct.{IsBackward, IsForward, IsNoTrap, StopsAs, enough_steps}

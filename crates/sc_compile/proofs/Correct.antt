@@ -1,5 +1,9 @@
 -- What the machine shows on a thin program's image is the program's meaning.
-use Rattle.sc_compile.proofs.Common.{Bool, Ended, Event, EventsOut, HasWords, IsBackward, IsForward, IsNoTrap, List, Run, StepsOut, Stop, StopsAs, ThinProgram, Trap, [], ap, arith, enough_steps, false, flat_map, is_short, le-ltb, length, length-append, loading, lt-ltb, machine, nat_lt, outputting, refl, subst, sym, take, take_all, thin_code, thin_image, thin_meaning, true, whole_run, ℕ, ⊎_elim, ◌*◌, ◌<◌, ◌↔◌, ◌∙◌, ◌∷◌, ◌≡◌, ◌≤◌}
+use Rattle.sc_compile.proofs.Common.{Bool, Ended, Event, EventsOut, HasWords, IsBackward, IsForward, IsNoTrap, List}
+use Rattle.sc_compile.proofs.Common.{Run, StepsOut, Stop, StopsAs, ThinProgram, Trap, [], ap, arith, enough_steps}
+use Rattle.sc_compile.proofs.Common.{false, flat_map, is_short, le-ltb, length, length-append, loading, lt-ltb, machine}
+use Rattle.sc_compile.proofs.Common.{nat_lt, outputting, refl, subst, sym, take, take_all, thin_code, thin_image}
+use Rattle.sc_compile.proofs.Common.{thin_meaning, true, whole_run, ℕ, ⊎_elim, ◌*◌, ◌<◌, ◌↔◌, ◌∙◌, ◌∷◌, ◌≡◌, ◌≤◌}
 use Rattle.std.proofs.lemmas.Bool.{cases_lt}
 use Rattle.sc_core.specs.declared.run.RunEnd.TheVariants.{Ended as MeaningEnded, EventsOut as MeaningEventsOut}
 use Rattle.sc_compile.proofs.Runs.{Because, Shows}

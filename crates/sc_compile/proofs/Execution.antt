@@ -1,12 +1,22 @@
 -- The machine on the code of a thin program.
-use Rattle.sc_compile.proofs.Common.{Addi, All, All-head, All-tail, Bool, Ecall, End, Event, Goes, Instr, IsInstr, IsWord, Jalr, List, Lui, None, OpImm, Option, Out, Some, State, ThinProgram, Upper, [], a0, a7, add_word, ap, append-nil, append_assoc, ap₂, arith, code_start, decoded-word_of, execute, execute_by, false, flat_map, gate, get_or-set_other, get_or-set_same, gives, is_end, is_ended, is_short, length, length-append, length-map, length-set, length_push, lit<, loading, lower_part, map, map-append, map_push, nat_eq, nat_le, ne_eqb, output_call, outputting, pos, ra, refl, reg, returning, rules, set, signed_of, slice_get, start, step, subst, suc, sym, take, thin_code, thin_image, true, upper_part, whole_run, with_event, with_pc, word_at, word_of, ℕ, ℤ, ◌%◌, ◌*◌, ◌++◌, ◌+◌, ◌-◌, ◌/◌, ◌<◌, ◌∙◌, ◌∷◌, ◌≡◌, ◌≤◌}
+use Rattle.sc_compile.proofs.Common.{Addi, All, All-head, All-tail, Bool, Ecall, End, Event, Goes, Instr, IsInstr}
+use Rattle.sc_compile.proofs.Common.{IsWord, Jalr, List, Lui, None, OpImm, Option, Out, Some, State, ThinProgram, Upper}
+use Rattle.sc_compile.proofs.Common.{[], a0, a7, add_word, ap, append-nil, append_assoc, ap₂, arith, code_start}
+use Rattle.sc_compile.proofs.Common.{decoded-word_of, execute, execute_by, false, flat_map, gate, get_or-set_other}
+use Rattle.sc_compile.proofs.Common.{get_or-set_same, gives, is_end, is_ended, is_short, length, length-append}
+use Rattle.sc_compile.proofs.Common.{length-map, length-set, length_push, lit<, loading, lower_part, map, map-append}
+use Rattle.sc_compile.proofs.Common.{map_push, nat_eq, nat_le, ne_eqb, output_call, outputting, pos, ra, refl, reg}
+use Rattle.sc_compile.proofs.Common.{returning, rules, set, signed_of, slice_get, start, step, subst, suc, sym, take}
+use Rattle.sc_compile.proofs.Common.{thin_code, thin_image, true, upper_part, whole_run, with_event, with_pc, word_at}
+use Rattle.sc_compile.proofs.Common.{word_of, ℕ, ℤ, ◌%◌, ◌*◌, ◌++◌, ◌+◌, ◌-◌, ◌/◌, ◌<◌, ◌∙◌, ◌∷◌, ◌≡◌, ◌≤◌}
 use Rattle.sc_word.specs.Prelude.{word_of as word_of_ℤ}
 use Rattle.std.specs.Option.{option_map, option_map_or}
 use Rattle.std.proofs.lemmas.Bool.Decides.{nat_tests}
 use Rattle.std.proofs.Math.Seq.{take-append_seam}
 use Rattle.std.proofs.lemmas.Option.{slice_get-map}
 use Rattle.sc_image.proofs.Stepping.{step_executes}
-use Rattle.sc_compile.proofs.Loading.{IsUpper-upper_part, IsImmediate-lower_part, IsImmediate-signed_of, short_loaded, long_loaded}
+use Rattle.sc_compile.proofs.Loading.{IsUpper-upper_part, IsImmediate-lower_part, IsImmediate-signed_of, short_loaded}
+use Rattle.sc_compile.proofs.Loading.{long_loaded}
 use Rattle.sc_compile.proofs.Runs.{IsOpen, Runs, Runs-step, Runs-end}
 use Rattle.sc_base.proofs.Lists.{get_behind}
 

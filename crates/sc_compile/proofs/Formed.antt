@@ -1,5 +1,11 @@
 -- A thin program's image is well formed.
-use Rattle.sc_compile.proofs.Common.{Addi, All, All-append, All-cons, All-map, All-nil, All-weaker, Bool, Ecall, HasWord-own, Instr, IsByte, IsInstr, IsSome, IsTrue, IsWellFormed, IsWord, Jalr, List, Lui, OpImm, ThinProgram, Upper, [], ap, arith, code_start, codes, false, flat_map, is_short, length, length-append, length-map, lit<, lit≤, loading, lower_part, main_comp, map, output_call, outputting, pos, refl, returning, rules, signed_of, slice_get, thin_code, thin_image, true, upper_part, word-below, word_at, word_of, ℕ, ◌<◌, ◌∷◌, ◌≡◌, ◌≢◌, ◌≤◌}
+use Rattle.sc_compile.proofs.Common.{Addi, All, All-append, All-cons, All-map, All-nil, All-weaker, Bool, Ecall}
+use Rattle.sc_compile.proofs.Common.{HasWord-own, Instr, IsByte, IsInstr, IsSome, IsTrue, IsWellFormed, IsWord, Jalr}
+use Rattle.sc_compile.proofs.Common.{List, Lui, OpImm, ThinProgram, Upper, [], ap, arith, code_start, codes, false}
+use Rattle.sc_compile.proofs.Common.{flat_map, is_short, length, length-append, length-map, lit<, lit≤, loading}
+use Rattle.sc_compile.proofs.Common.{lower_part, main_comp, map, output_call, outputting, pos, refl, returning, rules}
+use Rattle.sc_compile.proofs.Common.{signed_of, slice_get, thin_code, thin_image, true, upper_part, word-below, word_at}
+use Rattle.sc_compile.proofs.Common.{word_of, ℕ, ◌<◌, ◌∷◌, ◌≡◌, ◌≢◌, ◌≤◌}
 use Rattle.sc_base.specs.Prelude.{is_name}
 use Rattle.sc_image.proofs.OneComp.{IsLone, one_well_formed}
 use Rattle.sc_compile.proofs.Loading.{IsUpper-upper_part, IsImmediate-lower_part, IsImmediate-signed_of}

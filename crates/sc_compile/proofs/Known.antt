@@ -1,5 +1,8 @@
 -- Known values: how words are loaded, the program that outputs 7 and returns 0, and what the machine does on its image.
-use Rattle.sc_compile.proofs.Common.{Addi, End, Ended, EventsOut, Lui, OpImm, Out, StepsOut, ThinProgram, Upper, [], decoded, execute_by, jalr_in, loading, machine, map, negsuc, op_imm_in, op_imm_op_of, pos, refl, run, step_by, stopped, system_in, thin_code, thin_image, word_at, word_of, ◌∷◌, ◌≡◌}
+use Rattle.sc_compile.proofs.Common.{Addi, End, Ended, EventsOut, Lui, OpImm, Out, StepsOut, ThinProgram, Upper, []}
+use Rattle.sc_compile.proofs.Common.{decoded, execute_by, jalr_in, loading, machine, map, negsuc, op_imm_in}
+use Rattle.sc_compile.proofs.Common.{op_imm_op_of, pos, refl, run, step_by, stopped, system_in, thin_code, thin_image}
+use Rattle.sc_compile.proofs.Common.{word_at, word_of, ◌∷◌, ◌≡◌}
 
 abbrev seven : ThinProgram
 seven = record { outputs = 7 ∷ []; result = 0 }

@@ -1,5 +1,8 @@
 -- The instructions that load a word.
-use Rattle.sc_compile.proofs.Common.{Bool, FitsSigned, IsImmediate, IsUpper, add_word, arith, false, if◌then◌else◌, int_le, is_short, leb-true, lower_part, ltb-false, ltb-true, nat_lt, negsuc, pos, refl, rules, signed_of, suc, true, upper_part, ℕ, ℤ, ◌%◌, ◌&&◌, ◌*◌, ◌+◌, ◌-◌, ◌/◌, ◌<◌, ◌^◌, ◌∙◌, ◌≡◌, ◌≤ℤ◌, ◌≤◌}
+use Rattle.sc_compile.proofs.Common.{Bool, FitsSigned, IsImmediate, IsUpper, add_word, arith, false, if◌then◌else◌}
+use Rattle.sc_compile.proofs.Common.{int_le, is_short, leb-true, lower_part, ltb-false, ltb-true, nat_lt, negsuc, pos}
+use Rattle.sc_compile.proofs.Common.{refl, rules, signed_of, suc, true, upper_part, ℕ, ℤ, ◌%◌, ◌&&◌, ◌*◌, ◌+◌, ◌-◌, ◌/◌}
+use Rattle.sc_compile.proofs.Common.{◌<◌, ◌^◌, ◌∙◌, ◌≡◌, ◌≤ℤ◌, ◌≤◌}
 use Rattle.sc_word.specs.Prelude.{word_of}
 use Rattle.std.specs.Int.{w32, cast_unsigned}
 use Rattle.std.proofs.Math.Facts.{sfits_to_z}

@@ -1,5 +1,8 @@
 -- Runs of the machine whose events are the first ones of a given trace.
-use Rattle.sc_compile.proofs.Common.{Bool, Ended, Event, EventsOut, Goes, ImageParts, List, None, Run, Some, State, StepsOut, Stop, Trap, ap, arith, false, is_ended, leb-false, leb-true, length, nat_le, refl, run, step, stopped, subst, suc, sym, take, take_all, true, zero, ℕ, ◌<◌, ◌∙◌, ◌≡◌, ◌≤◌}
+use Rattle.sc_compile.proofs.Common.{Bool, Ended, Event, EventsOut, Goes, ImageParts, List, None, Run, Some, State}
+use Rattle.sc_compile.proofs.Common.{StepsOut, Stop, Trap, ap, arith, false, is_ended, leb-false, leb-true, length}
+use Rattle.sc_compile.proofs.Common.{nat_le, refl, run, step, stopped, subst, suc, sym, take, take_all, true, zero, ℕ}
+use Rattle.sc_compile.proofs.Common.{◌<◌, ◌∙◌, ◌≡◌, ◌≤◌}
 use Rattle.sc_image.proofs.Running.{run_stopped, run_out, run_goes}
 
 -- Why a run stops that shows the events of `whole` one after another, the last in its step number `cost`:

@@ -1,7 +1,8 @@
 -- Helping: the code of a thin program.
 use Rattle.sc_compile.specs.Common.{IsWord, ThinProgram, a0, a7, ra, signed}
 use Rattle.sc_word.specs.Prelude.{signed_of}
-use Rattle.std.specs.Prelude.{ℕ, ℤ, pos, negsuc, ◌+◌, ◌*◌, ◌/◌, ◌%◌, ◌^◌, Bool, ◌&&◌, int_le, All, List, [], ◌∷◌, ◌++◌, flat_map, if◌then◌else◌}
+use Rattle.std.specs.Prelude.{ℕ, ℤ, pos, negsuc, ◌+◌, ◌*◌, ◌/◌, ◌%◌, ◌^◌, Bool, ◌&&◌, int_le, All, List, [], ◌∷◌, ◌++◌}
+use Rattle.std.specs.Prelude.{flat_map, if◌then◌else◌}
 use Rattle.rv_code.specs.declared.instr.Instr.{Instr}
 use Rattle.rv_code.specs.declared.instr.Instr.TheVariants.{Upper, Jalr, OpImm, Ecall}
 use Rattle.rv_code.specs.declared.instr.UpperOp.TheVariants.{Lui}

@@ -3,7 +3,8 @@ use Rattle.sc_compile.specs.Common.{ImageParts, ThinProgram, machine}
 use Rattle.sc_core.specs.Prelude.{thin_meaning}
 use Rattle.std.specs.Prelude.{◌≡◌, ℕ, ◌+◌, ◌*◌, ◌≤◌, ◌↔◌, List, length}
 use Rattle.sc_core.specs.declared.run.RunEnd.{RunEnd}
-use Rattle.sc_core.specs.declared.run.RunEnd.TheVariants.{Ended as MeaningEnded, Blamed, TurnsOut, EventsOut as MeaningEventsOut}
+use Rattle.sc_core.specs.declared.run.RunEnd.TheVariants.{Ended as MeaningEnded, Blamed, TurnsOut}
+use Rattle.sc_core.specs.declared.run.RunEnd.TheVariants.{EventsOut as MeaningEventsOut}
 use Rattle.sc_base.specs.declared.stop.Stop.{Stop}
 use Rattle.sc_base.specs.declared.stop.Stop.TheVariants.{Ended, EventsOut, Trap}
 use Rattle.sc_compile.specs.Code.{thin_code}

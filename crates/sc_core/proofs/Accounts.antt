@@ -1,15 +1,19 @@
 -- A program of three compartments with structs, loops and inputs, computed: its reader stores past the end of a
 -- request.
-use Rattle.sc_core.proofs.Common.{Blamed, Call, Cross, End, Ended, Event, Global, In, Input, Interfaces, List, Local, None, Out, OutOfBounds, Own, Ret, Some, Ty, TypedStruct, [], codes, meaning, scripted_meaning, ℕ, ◌++◌, ◌==◌, ◌∷◌, ◌≡◌}
+use Rattle.sc_core.proofs.Common.{Blamed, Call, Cross, End, Ended, Event, Global, In, Input, Interfaces, List, Local}
+use Rattle.sc_core.proofs.Common.{None, Out, OutOfBounds, Own, Ret, Some, Ty, TypedStruct, [], codes, meaning}
+use Rattle.sc_core.proofs.Common.{scripted_meaning, ℕ, ◌++◌, ◌==◌, ◌∷◌, ◌≡◌}
 use Rattle.sc_event.specs.declared.interface.Scalar.TheVariants as scalar
 use Rattle.sc_event.specs.declared.interface.Import.TheVariants as import
 use Rattle.sc_core.specs.declared.ty.Ty.TheVariants as ty
 use Rattle.sc_core.specs.declared.ty.BaseTy.TheVariants as base
 use Rattle.sc_base.specs.declared.op.UnaryOp.TheVariants as unary
 use Rattle.sc_base.specs.declared.op.BinaryOp.TheVariants as op
-use Rattle.sc_core.proofs.Shapes.{Shape, Var, One, Two, At, Arrow, Amp, Lines, NoLine, AssignLine, AssignCallLine, CallLine, IfLine, WhileLine, ForLine}
+use Rattle.sc_core.proofs.Shapes.{Shape, Var, One, Two, At, Arrow, Amp, Lines, NoLine, AssignLine, AssignCallLine}
+use Rattle.sc_core.proofs.Shapes.{CallLine, IfLine, WhileLine, ForLine}
 use Rattle.sc_core.proofs.Plans.{Plan, Sheet, program}
-use Rattle.sc_core.proofs.Programs.{lit, local, global, param, plus, ints, slot, global_of, proto, interface, two_ints, main_with, sheet, element, output_then}
+use Rattle.sc_core.proofs.Programs.{lit, local, global, param, plus, ints, slot, global_of, proto, interface, two_ints}
+use Rattle.sc_core.proofs.Programs.{main_with, sheet, element, output_then}
 use Rattle.sc_core.proofs.Causes.{int, two, return, unsigned}
 use Rattle.sc_core.proofs.Rows.{by_plan, scripted_by_plan}
 

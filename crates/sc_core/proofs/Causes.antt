@@ -1,14 +1,20 @@
 -- A program for each kind of undefined behaviour that the worked programs don't have, and for what the statements and
 -- operators do, computed.
-use Rattle.sc_core.proofs.Common.{BadPointer, BadShift, BadType, BinaryOp, Blamed, End, Ended, Global, In, Indeterminate, Input, Interfaces, List, Local, NullUse, Out, OutOfBounds, Overflow, Own, Some, SourceRun, TurnsOut, TypedStruct, ZeroDivisor, [], codes, meaning, wrapped, ℕ, ◌∷◌, ◌≡◌}
+use Rattle.sc_core.proofs.Common.{BadPointer, BadShift, BadType, BinaryOp, Blamed, End, Ended, Global, In}
+use Rattle.sc_core.proofs.Common.{Indeterminate, Input, Interfaces, List, Local, NullUse, Out, OutOfBounds, Overflow}
+use Rattle.sc_core.proofs.Common.{Own, Some, SourceRun, TurnsOut, TypedStruct, ZeroDivisor, [], codes, meaning, wrapped}
+use Rattle.sc_core.proofs.Common.{ℕ, ◌∷◌, ◌≡◌}
 use Rattle.sc_event.specs.declared.interface.Import.TheVariants as import
 use Rattle.sc_core.specs.declared.ty.Ty.TheVariants as ty
 use Rattle.sc_base.specs.declared.op.UnaryOp.TheVariants as unary
 use Rattle.sc_base.specs.declared.op.BinaryOp.TheVariants as op
 use Rattle.sc_core.specs.declared.cause.Cause.{Cause}
-use Rattle.sc_core.proofs.Shapes.{Shape, Lit, Var, One, Two, At, Dot, Star, Amp, Lines, NoLine, AssignLine, AssignCallLine, IfLine, WhileLine, ForLine, BreakLine, ContinueLine, ReturnValueLine, ReturnCallLine}
+use Rattle.sc_core.proofs.Shapes.{Shape, Lit, Var, One, Two, At, Dot, Star, Amp, Lines, NoLine, AssignLine}
+use Rattle.sc_core.proofs.Shapes.{AssignCallLine, IfLine, WhileLine, ForLine, BreakLine, ContinueLine, ReturnValueLine}
+use Rattle.sc_core.proofs.Shapes.{ReturnCallLine}
 use Rattle.sc_core.proofs.Plans.{Slot, Sheet, program}
-use Rattle.sc_core.proofs.Programs.{lit, local, global, param, plus, ints, int_pointer, slot, global_of, interface, main_with, plan, sheet, alone, output_then}
+use Rattle.sc_core.proofs.Programs.{lit, local, global, param, plus, ints, int_pointer, slot, global_of, interface}
+use Rattle.sc_core.proofs.Programs.{main_with, plan, sheet, alone, output_then}
 use Rattle.sc_core.proofs.Rows.{by_plan, wrapped_by_plan}
 
 abbrev pub one_main : List Slot → Lines → List Sheet

@@ -1,5 +1,7 @@
 -- Induction over typed expressions and statements, layer by layer.
-use Rattle.sc_core.proofs.Common.{List, Ty, TypedExpr, TypedKind, TypedKind-F, TypedStmt, TypedStmtKind, TypedStmtKind-F, [], ind-TypedExpr, ind-TypedStmt, map, map-TypedKind, map-TypedStmtKind, roll-TypedExpr, roll-TypedStmt, subst, ℕ, ◌∷◌}
+use Rattle.sc_core.proofs.Common.{List, Ty, TypedExpr, TypedKind, TypedKind-F, TypedStmt, TypedStmtKind}
+use Rattle.sc_core.proofs.Common.{TypedStmtKind-F, [], ind-TypedExpr, ind-TypedStmt, map, map-TypedKind}
+use Rattle.sc_core.proofs.Common.{map-TypedStmtKind, roll-TypedExpr, roll-TypedStmt, subst, ℕ, ◌∷◌}
 use Rattle.sc_core.specs.declared.stmt.TypedStmtKind.TheOpen as layer
 use Rattle.sc_core.specs.declared.expr.TypedKind.TheOpen as term
 use Rattle.sc_core.proofs.Layers.{typed, on_line}

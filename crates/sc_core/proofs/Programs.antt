@@ -1,12 +1,14 @@
 -- Worked programs, as plans.
-use Rattle.sc_core.proofs.Common.{CallTarget, Cross, Global, Import, Interface, Interfaces, List, Local, None, Option, Output, Own, Param, Proto, Scalar, Some, Ty, TypedGlobal, [], codes, ℕ, ◌∷◌}
+use Rattle.sc_core.proofs.Common.{CallTarget, Cross, Global, Import, Interface, Interfaces, List, Local, None, Option}
+use Rattle.sc_core.proofs.Common.{Output, Own, Param, Proto, Scalar, Some, Ty, TypedGlobal, [], codes, ℕ, ◌∷◌}
 use Rattle.sc_event.specs.declared.interface.Scalar.TheVariants as scalar
 use Rattle.sc_event.specs.declared.interface.Import.TheVariants as import
 use Rattle.sc_core.specs.declared.ty.Ty.TheVariants as ty
 use Rattle.sc_core.specs.declared.ty.BaseTy.TheVariants as base
 use Rattle.sc_base.specs.declared.op.UnaryOp.TheVariants as unary
 use Rattle.sc_base.specs.declared.op.BinaryOp.TheVariants as op
-use Rattle.sc_core.proofs.Shapes.{Shape, Lit, Var, One, Two, At, Star, Amp, Lines, NoLine, AssignLine, AssignCallLine, CallLine, ReturnValueLine}
+use Rattle.sc_core.proofs.Shapes.{Shape, Lit, Var, One, Two, At, Star, Amp, Lines, NoLine, AssignLine, AssignCallLine}
+use Rattle.sc_core.proofs.Shapes.{CallLine, ReturnValueLine}
 use Rattle.sc_core.proofs.Plans.{Slot, Plan, Sheet}
 
 -- expressions of type `int`

@@ -1,8 +1,14 @@
 -- The meanings of worked programs, computed.
-use Rattle.sc_core.proofs.Common.{Blamed, Bool, Call, Dangling, End, Ended, Event, EventsOut, Indeterminate, Interfaces, List, NoReturn, Out, OutOfBounds, Overflow, Ret, Some, TurnsOut, [], ap, c_arith, code_bound, deepest, depth, false, meaning, negated_word, not, on_all_words, refl, scripted_depth_by, scripted_meaning, stopped_at, wrapped, wrapped_depth, wrapping, ℕ, ◌==◌, ◌∷◌, ◌≡◌}
+use Rattle.sc_core.proofs.Common.{Blamed, Bool, Call, Dangling, End, Ended, Event, EventsOut, Indeterminate, Interfaces}
+use Rattle.sc_core.proofs.Common.{List, NoReturn, Out, OutOfBounds, Overflow, Ret, Some, TurnsOut, [], ap, c_arith}
+use Rattle.sc_core.proofs.Common.{code_bound, deepest, depth, false, meaning, negated_word, not, on_all_words, refl}
+use Rattle.sc_core.proofs.Common.{scripted_depth_by, scripted_meaning, stopped_at, wrapped, wrapped_depth, wrapping, ℕ}
+use Rattle.sc_core.proofs.Common.{◌==◌, ◌∷◌, ◌≡◌}
 use Rattle.sc_base.specs.declared.op.BinaryOp.TheVariants as op
 use Rattle.sc_core.proofs.Plans.{Sheet, program, quick_run, quick_scripted, run_is, scripted_run_is}
-use Rattle.sc_core.proofs.Programs.{alone, seven, min_by_minus_one, uninitialised, missing_return, leak, store_interfaces, store_sheets, deep_interfaces, deep, two_stores_interfaces, two_stores, reentry_interfaces, reentry}
+use Rattle.sc_core.proofs.Programs.{alone, seven, min_by_minus_one, uninitialised, missing_return, leak}
+use Rattle.sc_core.proofs.Programs.{store_interfaces, store_sheets, deep_interfaces, deep, two_stores_interfaces}
+use Rattle.sc_core.proofs.Programs.{two_stores, reentry_interfaces, reentry}
 
 -- The meaning of a program by its plan: what follows computes.
 pub by_plan : (interfaces : Interfaces) (sheets : List Sheet) (inputs : List ℕ) (turns events : ℕ) →

@@ -1,5 +1,6 @@
 -- A thin run that is stopped before its end.
-use Rattle.sc_core.proofs.Common.{End, Event, EventsOut, List, Out, SourceRun, [], arith, length, length-append, lt-ltb, map, refl, take, thin_meaning, ℕ, ◌++◌, ◌<◌, ◌∙◌, ◌∷◌, ◌≡◌, ◌≤◌}
+use Rattle.sc_core.proofs.Common.{End, Event, EventsOut, List, Out, SourceRun, [], arith, length, length-append, lt-ltb}
+use Rattle.sc_core.proofs.Common.{map, refl, take, thin_meaning, ℕ, ◌++◌, ◌<◌, ◌∙◌, ◌∷◌, ◌≡◌, ◌≤◌}
 use Rattle.std.proofs.lemmas.List.{take-append-le, take-map, length-map}
 use Rattle.sc_core.specs.declared.thin.ThinProgram.{ThinProgram}
 

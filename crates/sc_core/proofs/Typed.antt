@@ -1,12 +1,24 @@
 -- Which programs of plans are well typed.
-use Rattle.sc_core.proofs.Common.{Bool, Callable, Input, Interface, Interfaces, List, None, Option, Own, Scope, Some, Ty, TypedSection, TypedStmt, [], ap, callable_in, codes, decl_count, false, function_fits, global_fits, goes_into, has_distinct_names, has_few_compartments, has_main, has_one_main, init_fits, init_height, interface_fits, is_well_typed, length, list_all, local_fits, map, most_height, most_nodes, most_params, nat_le, nodes, params_fit, refl, result_fits, scope_of, section_fits, sections_fit, slice_get, stmt_fits, stmt_height, structs_fit, suc, total, true, variable_fits, ℕ, ◌&&◌, ◌==◌, ◌∙◌, ◌∷◌, ◌≡◌}
+use Rattle.sc_core.proofs.Common.{Bool, Callable, Input, Interface, Interfaces, List, None, Option, Own, Scope, Some}
+use Rattle.sc_core.proofs.Common.{Ty, TypedSection, TypedStmt, [], ap, callable_in, codes, decl_count, false}
+use Rattle.sc_core.proofs.Common.{function_fits, global_fits, goes_into, has_distinct_names, has_few_compartments}
+use Rattle.sc_core.proofs.Common.{has_main, has_one_main, init_fits, init_height, interface_fits, is_well_typed, length}
+use Rattle.sc_core.proofs.Common.{list_all, local_fits, map, most_height, most_nodes, most_params, nat_le, nodes}
+use Rattle.sc_core.proofs.Common.{params_fit, refl, result_fits, scope_of, section_fits, sections_fit, slice_get}
+use Rattle.sc_core.proofs.Common.{stmt_fits, stmt_height, structs_fit, suc, total, true, variable_fits, ℕ, ◌&&◌, ◌==◌}
+use Rattle.sc_core.proofs.Common.{◌∙◌, ◌∷◌, ◌≡◌}
 use Rattle.sc_base.specs.Prelude.{all_hold}
 use Rattle.sc_core.proofs.Shapes.{Shape, Lines, stmts, NoLine, BreakLine, CallLine, AssignLine}
-use Rattle.sc_core.proofs.Measures.{shape_height, height_is, lines_high, lines_high_are, judge, judge_is, lines_fit, lines_fit_are}
-use Rattle.sc_core.proofs.Plans.{Slot, Plan, Sheet, local, init_of, function, section, program, plan_nodes, plan_nodes_is}
-use Rattle.sc_core.proofs.Programs.{alone, seven, min_by_minus_one, uninitialised, missing_return, leak, store_interfaces, store_sheets, two_stores_interfaces, two_stores, reentry_interfaces, reentry, lit}
+use Rattle.sc_core.proofs.Measures.{shape_height, height_is, lines_high, lines_high_are, judge, judge_is, lines_fit}
+use Rattle.sc_core.proofs.Measures.{lines_fit_are}
+use Rattle.sc_core.proofs.Plans.{Slot, Plan, Sheet, local, init_of, function, section, program, plan_nodes}
+use Rattle.sc_core.proofs.Plans.{plan_nodes_is}
+use Rattle.sc_core.proofs.Programs.{alone, seven, min_by_minus_one, uninitialised, missing_return, leak}
+use Rattle.sc_core.proofs.Programs.{store_interfaces, store_sheets, two_stores_interfaces, two_stores}
+use Rattle.sc_core.proofs.Programs.{reentry_interfaces, reentry, lit}
 use Rattle.sc_core.proofs.Accounts.{accounts_interfaces, accounts}
-use Rattle.sc_core.proofs.Causes.{one_main, return, int, two, recursive, main_again, pointer_read, reader, three_inputs, null, pointer, pointer_at}
+use Rattle.sc_core.proofs.Causes.{one_main, return, int, two, recursive, main_again, pointer_read, reader, three_inputs}
+use Rattle.sc_core.proofs.Causes.{null, pointer, pointer_at}
 use Rattle.sc_base.specs.declared.op.BinaryOp.TheVariants as op
 
 all_of_map : {X Y : Type 0} (test : Y → Bool) (f : X → Y) (xs : List X) →

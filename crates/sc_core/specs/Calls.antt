@@ -1,7 +1,9 @@
 -- Calls: the variables and the frame of a function begin, its body runs, and they end (C11 6.2.4, 6.5.2.2). The same
 -- for trees and for code.
-use Rattle.sc_core.specs.Common.{Call, Entry, Export, In, Interfaces, Out, Proto, Ret, Scalar, export_at, imports, is_function, is_input, is_output, takes}
-use Rattle.std.specs.Prelude.{ℕ, zero, suc, ◌++◌, Bool, true, false, ◌&&◌, ◌==◌, if◌then◌else◌, List, [], ◌∷◌, length, map, replicate, drop, Option, None, Some, is_some, slice_get, slice_index_or}
+use Rattle.sc_core.specs.Common.{Call, Entry, Export, In, Interfaces, Out, Proto, Ret, Scalar, export_at, imports}
+use Rattle.sc_core.specs.Common.{is_function, is_input, is_output, takes}
+use Rattle.std.specs.Prelude.{ℕ, zero, suc, ◌++◌, Bool, true, false, ◌&&◌, ◌==◌, if◌then◌else◌, List, [], ◌∷◌, length}
+use Rattle.std.specs.Prelude.{map, replicate, drop, Option, None, Some, is_some, slice_get, slice_index_or}
 use Rattle.std.specs.List.{list_all}
 use Rattle.sc_core.specs.declared.cause.Cause.TheVariants.{BadType}
 use Rattle.sc_core.specs.declared.expr.CallTarget.{CallTarget}

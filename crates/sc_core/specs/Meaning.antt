@@ -1,6 +1,8 @@
 -- What a program means.
 use Rattle.sc_core.specs.Common.{End, Entry, Event, Export, Main, Proto, export_at}
-use Rattle.std.specs.Prelude.{ℕ, zero, suc, ◌+◌, ◌-◌, ◌++◌, max, Bool, true, ◌&&◌, if◌then◌else◌, ◌==◌, nat_lt, List, [], ◌∷◌, codes, bytes_eq, length, map, Option, None, Some, is_some, Ok, slice_get, slice_index_or}
+use Rattle.std.specs.Prelude.{ℕ, zero, suc, ◌+◌, ◌-◌, ◌++◌, max, Bool, true, ◌&&◌, if◌then◌else◌, ◌==◌, nat_lt, List}
+use Rattle.std.specs.Prelude.{[], ◌∷◌, codes, bytes_eq, length, map, Option, None, Some, is_some, Ok, slice_get}
+use Rattle.std.specs.Prelude.{slice_index_or}
 use Rattle.std.specs.List.{position}
 use Rattle.sc_core.specs.declared.cause.Cause.TheVariants.{NoReturn}
 use Rattle.sc_core.specs.declared.ty.Ty.{Ty}
@@ -27,7 +29,8 @@ use Rattle.sc_core.specs.Value.{Arith, c_arith, wrapping}
 use Rattle.sc_core.specs.Types.{variables}
 use Rattle.sc_core.specs.Sizes.{nodes, frame_bound}
 use Rattle.sc_core.specs.Run.{stopped_at}
-use Rattle.sc_core.specs.Words.{FrameChange, Opened, Closed, State, Here, Piece, Reached, Stopped, and_then, Exit, Next, Break, Continue, Return, leave, follow, in_order, all_do, Calls}
+use Rattle.sc_core.specs.Words.{FrameChange, Opened, Closed, State, Here, Piece, Reached, Stopped, and_then, Exit, Next}
+use Rattle.sc_core.specs.Words.{Break, Continue, Return, leave, follow, in_order, all_do, Calls}
 use Rattle.sc_core.specs.Tree.{Acts, at_place, variable_at, ways, assign, block_does}
 use Rattle.sc_core.specs.Calls.{Function, Library, Step, found, word_in, call_own, run_step, within}
 use Rattle.sc_core.specs.Scripts.{roles_in, scripted_step}

@@ -1,5 +1,6 @@
 -- Memory: the variables of each compartment, and loads and stores (C11 6.2.4, 6.3.2.1, 6.5.6).
-use Rattle.std.specs.Prelude.{ℕ, zero, suc, Bool, true, false, if◌then◌else◌, ◌==◌, nat_lt, List, [], ◌∷◌, length, map, Option, None, Some, Result, Ok, Err, slice_get, slice_set}
+use Rattle.std.specs.Prelude.{ℕ, zero, suc, Bool, true, false, if◌then◌else◌, ◌==◌, nat_lt, List, [], ◌∷◌, length, map}
+use Rattle.std.specs.Prelude.{Option, None, Some, Result, Ok, Err, slice_get, slice_set}
 use Rattle.sc_core.specs.declared.cause.Cause.{Cause}
 use Rattle.sc_core.specs.declared.cause.Cause.TheVariants.{Dangling, OutOfBounds, Indeterminate, BadType, NullUse}
 use Rattle.sc_core.specs.declared.value.Cell.{Cell}

@@ -1,16 +1,53 @@
 -- The names of this crate that its contracts, its proofs and the crates above cite, passed on from one place. Declares nothing.
-pub use Rattle.sc_core.specs.Calls.{Body, Function, Library, Step, back_cross, back_own, begun, blocks_for, call_cross, call_own, called, calls, crossed, crossing, done, first_word, found, function, functions_of, is_word, leads, may_call, next_input, option_value, read_input, run_in, run_step, within, word_back, word_in}
+pub use Rattle.sc_core.specs.Calls.{Body, Function, Library, Step, back_cross, back_own, begun, blocks_for, call_cross}
+pub use Rattle.sc_core.specs.Calls.{call_own, called, calls, crossed, crossing, done, first_word, found, function}
+pub use Rattle.sc_core.specs.Calls.{functions_of, is_word, leads, may_call, next_input, option_value, read_input}
+pub use Rattle.sc_core.specs.Calls.{run_in, run_step, within, word_back, word_in}
 pub use Rattle.sc_core.specs.Growth.{Front}
-pub use Rattle.sc_core.specs.Height.{call_height, expr_height, highest, kind_height, part_height, simple_height, stmt_height, term_height}
-pub use Rattle.sc_core.specs.Meaning.{Run, at_brace, base_zeros, body_does, closed, deepest, depth, depth_by, depth_in, entry_in, exit_word, first_blocks, first_state, function_of, functions_in, global_block, globals_of, init_does, inits_do, library_of, main_name, meaning, meaning_by, member_zeros, place_named, place_of_export, repeated, run_by, run_of, run_to, scripted_by, scripted_depth_by, scripted_meaning, scripted_run_of, scripted_wrapped, starred_zeros, struct_zeros, with_words, wrapped, wrapped_depth, zeros_of}
-pub use Rattle.sc_core.specs.Memory.{Block, Blocks, Memory, bind, cell_of, cells_at, ended, is_live, live_cells, load, loaded, store, with_blocks, with_cell}
+pub use Rattle.sc_core.specs.Height.{call_height, expr_height, highest, kind_height, part_height, simple_height}
+pub use Rattle.sc_core.specs.Height.{stmt_height, term_height}
+pub use Rattle.sc_core.specs.Meaning.{Run, at_brace, base_zeros, body_does, closed, deepest, depth, depth_by, depth_in}
+pub use Rattle.sc_core.specs.Meaning.{entry_in, exit_word, first_blocks, first_state, function_of, functions_in}
+pub use Rattle.sc_core.specs.Meaning.{global_block, globals_of, init_does, inits_do, library_of, main_name, meaning}
+pub use Rattle.sc_core.specs.Meaning.{meaning_by, member_zeros, place_named, place_of_export, repeated, run_by, run_of}
+pub use Rattle.sc_core.specs.Meaning.{run_to, scripted_by, scripted_depth_by, scripted_meaning, scripted_run_of}
+pub use Rattle.sc_core.specs.Meaning.{scripted_wrapped, starred_zeros, struct_zeros, with_words, wrapped, wrapped_depth}
+pub use Rattle.sc_core.specs.Meaning.{zeros_of}
+pub use Rattle.sc_core.specs.Memory.{Block, Blocks, Memory, bind, cell_of, cells_at, ended, is_live, live_cells, load}
+pub use Rattle.sc_core.specs.Memory.{loaded, store, with_blocks, with_cell}
 pub use Rattle.sc_core.specs.Run.{reaches, stopped_at}
 pub use Rattle.sc_core.specs.Scripts.{Roles, acts, asks, is_number, performs, roles_in, rows_left, scripted_step}
-pub use Rattle.sc_core.specs.Sizes.{call_nodes, code_bound, expr_nodes, frame_bound, init_nodes, kind_nodes, local_nodes, nodes, part_nodes, simple_nodes, stmt_nodes, term_nodes, total}
+pub use Rattle.sc_core.specs.Sizes.{call_nodes, code_bound, expr_nodes, frame_bound, init_nodes, kind_nodes}
+pub use Rattle.sc_core.specs.Sizes.{local_nodes, nodes, part_nodes, simple_nodes, stmt_nodes, term_nodes, total}
 pub use Rattle.sc_core.specs.Thin.{thin_meaning, whole_run}
-pub use Rattle.sc_core.specs.Tree.{Acts, Meant, Ways, applied, assign, assign_call, at_place, at_pointer, binary, block_does, call, call_alone, evaluated, is_unsigned_op, kind_step, literal, meant, meant_step, part_does, simple_does, stmt_does, stmt_step, store_at, store_result, term_step, test, values, variable_at, wanted, ways}
-pub use Rattle.sc_core.specs.Types.{base_cells, cells_of, is_array, is_pointer, is_unsigned, starred_cells, struct_cells, target_cells, variables}
-pub use Rattle.sc_core.specs.Typing.{Callable, Judged, Scope, Signature, all_go_into, allowed, are_equatable, are_ordered, args_fit, assign_call_fits, assign_fits, binary_fits, body_fits, both_ints, call_fits, common, decayed, difference_fits, goes_into, has_member, init_fits, is_address, is_int, is_integer, is_scalar, is_target, is_type, judged, kind_fits, literal_fits, member_of, option_goes, option_signature, part_fits, pointer_to, points, proto_signature, result_goes, result_ty, returned_call_fits, returned_fits, same_base, same_import, same_pointers, same_ty, scalar_ty, signature_of, simple_fits, starred, stmt_fits, sum_fits, target, target_signature, term_judged, type_goes, unary_fits, variable_ty}
-pub use Rattle.sc_core.specs.Value.{Arith, apart, applied_one, as_word, between, c_arith, c_binary, c_negated, cause_of, in_elements, is_inside, is_less, is_true, is_zero, moved, moved_back, moved_on, negated_word, number_of, of_bool, on_all_words, on_word, on_words, or_cause, ordered, place_at, same_place, truth, wrapping}
-pub use Rattle.sc_core.specs.WellTyped.{IsWellTyped, are_distinct, base_within, callable_in, decl_count, export_fits, export_name, function_fits, global_fits, has_distinct_names, has_few_compartments, has_main, has_one_main, import_fits, import_name, init_height, interface_fits, is_main, is_plain_name, is_well_typed, local_fits, main_fits, mains_in, members_fit, most_cells, most_compartments, most_exports, most_height, most_nodes, most_params, params_fit, passed_fits, result_fits, same_results, same_signature, same_types, scope_of, section_fits, sections_fit, starred_within, struct_fits, structs_fit, type_within, variable_fits, words_fit}
-pub use Rattle.sc_core.specs.Words.{Break, Calls, Closed, Continue, Does, Exit, FrameChange, Here, Left, Next, On, Opened, Out, Piece, Reached, Return, Route, State, Stopped, all_do, and_then, choose, computed, follow, in_loop, in_order, leave, loop, rounds, stored, take, tell, turn, turn_of, with_memory}
+pub use Rattle.sc_core.specs.Tree.{Acts, Meant, Ways, applied, assign, assign_call, at_place, at_pointer, binary}
+pub use Rattle.sc_core.specs.Tree.{block_does, call, call_alone, evaluated, is_unsigned_op, kind_step, literal, meant}
+pub use Rattle.sc_core.specs.Tree.{meant_step, part_does, simple_does, stmt_does, stmt_step, store_at, store_result}
+pub use Rattle.sc_core.specs.Tree.{term_step, test, values, variable_at, wanted, ways}
+pub use Rattle.sc_core.specs.Types.{base_cells, cells_of, is_array, is_pointer, is_unsigned, starred_cells}
+pub use Rattle.sc_core.specs.Types.{struct_cells, target_cells, variables}
+pub use Rattle.sc_core.specs.Typing.{Callable, Judged, Scope, Signature, all_go_into, allowed, are_equatable}
+pub use Rattle.sc_core.specs.Typing.{are_ordered, args_fit, assign_call_fits, assign_fits, binary_fits, body_fits}
+pub use Rattle.sc_core.specs.Typing.{both_ints, call_fits, common, decayed, difference_fits, goes_into, has_member}
+pub use Rattle.sc_core.specs.Typing.{init_fits, is_address, is_int, is_integer, is_scalar, is_target, is_type, judged}
+pub use Rattle.sc_core.specs.Typing.{kind_fits, literal_fits, member_of, option_goes, option_signature, part_fits}
+pub use Rattle.sc_core.specs.Typing.{pointer_to, points, proto_signature, result_goes, result_ty, returned_call_fits}
+pub use Rattle.sc_core.specs.Typing.{returned_fits, same_base, same_import, same_pointers, same_ty, scalar_ty}
+pub use Rattle.sc_core.specs.Typing.{signature_of, simple_fits, starred, stmt_fits, sum_fits, target, target_signature}
+pub use Rattle.sc_core.specs.Typing.{term_judged, type_goes, unary_fits, variable_ty}
+pub use Rattle.sc_core.specs.Value.{Arith, apart, applied_one, as_word, between, c_arith, c_binary, c_negated, cause_of}
+pub use Rattle.sc_core.specs.Value.{in_elements, is_inside, is_less, is_true, is_zero, moved, moved_back, moved_on}
+pub use Rattle.sc_core.specs.Value.{negated_word, number_of, of_bool, on_all_words, on_word, on_words, or_cause}
+pub use Rattle.sc_core.specs.Value.{ordered, place_at, same_place, truth, wrapping}
+pub use Rattle.sc_core.specs.WellTyped.{IsWellTyped, are_distinct, base_within, callable_in, decl_count, export_fits}
+pub use Rattle.sc_core.specs.WellTyped.{export_name, function_fits, global_fits, has_distinct_names}
+pub use Rattle.sc_core.specs.WellTyped.{has_few_compartments, has_main, has_one_main, import_fits, import_name}
+pub use Rattle.sc_core.specs.WellTyped.{init_height, interface_fits, is_main, is_plain_name, is_well_typed, local_fits}
+pub use Rattle.sc_core.specs.WellTyped.{main_fits, mains_in, members_fit, most_cells, most_compartments, most_exports}
+pub use Rattle.sc_core.specs.WellTyped.{most_height, most_nodes, most_params, params_fit, passed_fits, result_fits}
+pub use Rattle.sc_core.specs.WellTyped.{same_results, same_signature, same_types, scope_of, section_fits, sections_fit}
+pub use Rattle.sc_core.specs.WellTyped.{starred_within, struct_fits, structs_fit, type_within, variable_fits, words_fit}
+pub use Rattle.sc_core.specs.Words.{Break, Calls, Closed, Continue, Does, Exit, FrameChange, Here, Left, Next, On}
+pub use Rattle.sc_core.specs.Words.{Opened, Out, Piece, Reached, Return, Route, State, Stopped, all_do, and_then}
+pub use Rattle.sc_core.specs.Words.{choose, computed, follow, in_loop, in_order, leave, loop, rounds, stored, take}
+pub use Rattle.sc_core.specs.Words.{tell, turn, turn_of, with_memory}

@@ -1,6 +1,7 @@
 -- What expressions give and what statements do, as folds of the typed trees (C11 6.5, 6.8).
 use Rattle.sc_core.specs.Common.{BinaryOp}
-use Rattle.std.specs.Prelude.{ℕ, pos, ◌+◌, Bool, ◌||◌, if◌then◌else◌, List, [], ◌∷◌, map, Option, None, Some, Result, Ok}
+use Rattle.std.specs.Prelude.{ℕ, pos, ◌+◌, Bool, ◌||◌, if◌then◌else◌, List, [], ◌∷◌, map, Option, None, Some, Result}
+use Rattle.std.specs.Prelude.{Ok}
 use Rattle.sc_core.specs.declared.cause.Cause.{Cause}
 use Rattle.sc_base.specs.declared.op.BinaryOp.TheVariants as op
 use Rattle.sc_core.specs.declared.ty.Ty.{Ty}
@@ -24,7 +25,8 @@ use Rattle.sc_core.specs.declared.value.Want.TheVariants as want
 use Rattle.sc_core.specs.Memory.{Blocks, bind, load, store, with_blocks}
 use Rattle.sc_core.specs.Value.{Arith, is_true, of_bool, moved, moved_on, moved_back, between, on_words, applied_one}
 use Rattle.sc_core.specs.Types.{is_unsigned, is_array, is_pointer, target_cells}
-use Rattle.sc_core.specs.Words.{State, Here, Piece, and_then, computed, Next, Break, Continue, Return, Does, leave, stored, follow, in_order, all_do, loop, choose, Calls}
+use Rattle.sc_core.specs.Words.{State, Here, Piece, and_then, computed, Next, Break, Continue, Return, Does, leave}
+use Rattle.sc_core.specs.Words.{stored, follow, in_order, all_do, loop, choose, Calls}
 
 -- an expression's place or value, as it is wanted, in the blocks of its compartment
 abbrev pub Ways : Type 0

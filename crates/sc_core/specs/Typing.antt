@@ -1,7 +1,7 @@
 -- Which expressions and statements have their types (C11 6.5 to 6.8).
 use Rattle.sc_core.specs.Common.{BinaryOp, Import, Interfaces, Proto, Scalar, UnaryOp, all_hold, export_at}
-use Rattle.std.specs.Prelude.{ℕ, zero, suc, ◌-◌, ◌^◌, Bool, true, false, not, ◌&&◌, ◌||◌, ◌==◌, nat_lt, nat_le}
-use Rattle.std.specs.Prelude.{List, [], ◌∷◌, map, length, Option, None, Some, is_some, slice_get}
+use Rattle.std.specs.Prelude.{ℕ, zero, suc, ◌-◌, ◌^◌, Bool, true, false, not, ◌&&◌, ◌||◌, ◌==◌, nat_lt, nat_le, List}
+use Rattle.std.specs.Prelude.{[], ◌∷◌, map, length, Option, None, Some, is_some, slice_get}
 use Rattle.std.specs.List.{list_any, list_all}
 use Rattle.sc_event.specs.declared.interface.Scalar.TheVariants as scalar
 use Rattle.sc_event.specs.declared.interface.Import.TheVariants as import

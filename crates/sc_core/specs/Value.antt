@@ -1,11 +1,17 @@
 -- What operators give on values (C11 6.5), over an arithmetic of words.
 use Rattle.sc_core.specs.Common.{BinaryOp, UnaryOp}
-use Rattle.sc_word.specs.Prelude.{add_signed, add_word, div_signed, div_unsigned, div_word, divu_word, mul_signed, mul_word, neg_signed, rem_signed, rem_unsigned, rem_word, remu_word, shl_signed, shl_unsigned, shr_signed, shr_unsigned, signed_of, sll_word, sra_word, srl_word, sub_signed, sub_word, word_of}
-use Rattle.std.specs.Prelude.{ℕ, ℤ, pos, negsuc, Bool, true, false, not, ◌&&◌, ◌||◌, ◌+ℤ◌, ◌-ℤ◌, ◌*ℤ◌, neg_ℤ, ◌-◌, ◌%◌, ◌^◌, if◌then◌else◌, ◌==◌, nat_lt, nat_le, int_lt, int_div, int_rem, length, Result, Ok, Err, bit_and, bit_or, bit_xor}
+use Rattle.sc_word.specs.Prelude.{add_signed, add_word, div_signed, div_unsigned, div_word, divu_word, mul_signed}
+use Rattle.sc_word.specs.Prelude.{mul_word, neg_signed, rem_signed, rem_unsigned, rem_word, remu_word, shl_signed}
+use Rattle.sc_word.specs.Prelude.{shl_unsigned, shr_signed, shr_unsigned, signed_of, sll_word, sra_word, srl_word}
+use Rattle.sc_word.specs.Prelude.{sub_signed, sub_word, word_of}
+use Rattle.std.specs.Prelude.{ℕ, ℤ, pos, negsuc, Bool, true, false, not, ◌&&◌, ◌||◌, ◌+ℤ◌, ◌-ℤ◌, ◌*ℤ◌, neg_ℤ, ◌-◌, ◌%◌}
+use Rattle.std.specs.Prelude.{◌^◌, if◌then◌else◌, ◌==◌, nat_lt, nat_le, int_lt, int_div, int_rem, length, Result, Ok}
+use Rattle.std.specs.Prelude.{Err, bit_and, bit_or, bit_xor}
 use Rattle.sc_word.specs.declared.fault.WordFault.{WordFault}
 use Rattle.sc_word.specs.declared.fault.WordFault.TheVariants as fault
 use Rattle.sc_core.specs.declared.cause.Cause.{Cause}
-use Rattle.sc_core.specs.declared.cause.Cause.TheVariants.{Overflow, ZeroDivisor, BadShift, OutOfBounds, NullUse, BadType, BadPointer}
+use Rattle.sc_core.specs.declared.cause.Cause.TheVariants.{Overflow, ZeroDivisor, BadShift, OutOfBounds, NullUse}
+use Rattle.sc_core.specs.declared.cause.Cause.TheVariants.{BadType, BadPointer}
 use Rattle.sc_base.specs.declared.op.UnaryOp.TheVariants as unary
 use Rattle.sc_base.specs.declared.op.BinaryOp.TheVariants as op
 use Rattle.sc_core.specs.declared.value.Pointer.{Pointer}

@@ -1,8 +1,7 @@
 -- What every program keeps: its types, its names where they matter, its interfaces and its counts.
 use Rattle.sc_core.specs.Common.{Import, Interfaces, Proto, all_hold, export_at}
-use Rattle.std.specs.Prelude.{ℕ, zero, suc, ◌+◌, Bool, true, false, not, ◌&&◌, ◌==◌, nat_lt, nat_le, IsTrue}
-use Rattle.std.specs.Prelude.{List, [], ◌∷◌, ◌++◌, map, length, take, codes, bytes_eq, slice_get}
-use Rattle.std.specs.Prelude.{Option, None, Some, is_some}
+use Rattle.std.specs.Prelude.{ℕ, zero, suc, ◌+◌, Bool, true, false, not, ◌&&◌, ◌==◌, nat_lt, nat_le, IsTrue, List, []}
+use Rattle.std.specs.Prelude.{◌∷◌, ◌++◌, map, length, take, codes, bytes_eq, slice_get, Option, None, Some, is_some}
 use Rattle.std.specs.List.{list_any, list_all}
 use Rattle.sc_event.specs.declared.interface.Interface.{Interface}
 use Rattle.sc_event.specs.declared.interface.Import.TheVariants as import
@@ -25,7 +24,8 @@ use Rattle.sc_core.specs.Types.{is_array, cells_of}
 use Rattle.sc_core.specs.Sizes.{nodes, total}
 use Rattle.sc_core.specs.Height.{expr_height, stmt_height}
 use Rattle.sc_core.specs.Meaning.{main_name}
-use Rattle.sc_core.specs.Typing.{Scope, Callable, Signature, signature_of, proto_signature, same_ty, body_fits, init_fits}
+use Rattle.sc_core.specs.Typing.{Scope, Callable, Signature, signature_of, proto_signature, same_ty, body_fits}
+use Rattle.sc_core.specs.Typing.{init_fits}
 
 -- the counts that a program may reach
 abbrev pub most_compartments : ℕ

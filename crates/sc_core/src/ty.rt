@@ -1,4 +1,5 @@
-ghost use Rattle.sc_core.specs.Prelude.{common, decayed, is_array, is_integer, is_pointer, pointer_to, same_base, same_ty, starred, target, type_goes};
+ghost use Rattle.sc_core.specs.Prelude.{common, decayed, is_array, is_integer, is_pointer, pointer_to, same_base};
+ghost use Rattle.sc_core.specs.Prelude.{same_ty, starred, target, type_goes};
 ghost use Rattle.std.specs.Prelude.{◌≡◌, suc, IfOk};
 
 use sc_base::OutOfMemory;

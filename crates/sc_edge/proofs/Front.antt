@@ -1,5 +1,6 @@
 -- What a read leaves: the bytes that it gave and the rest are what there was.
-use Rattle.std.proofs.Common.{◌≡◌, ◌≤◌, ℕ, ◌+◌, ◌-◌, List, ◌++◌, length, take, drop, sym, ◌∙◌, ap, take-append-drop, length-take, length-drop, arith}
+use Rattle.std.proofs.Common.{◌≡◌, ◌≤◌, ℕ, ◌+◌, ◌-◌, List, ◌++◌, length, take, drop, sym, ◌∙◌, ap, take-append-drop}
+use Rattle.std.proofs.Common.{length-take, length-drop, arith}
 use Rattle.std.proofs.lemmas.List.{take_at, take_all, drop-drop}
 
 pub front_taken : (items now buf rest : List ℕ) (at n : ℕ) → now ≡ items →

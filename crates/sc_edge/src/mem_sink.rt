@@ -1,7 +1,8 @@
 // A sink of bytes in memory.
 #![tactic(auto)]
 
-ghost use Rattle.std.specs.Prelude.{◌≡◌, ◌<◌, ◌≤◌, ◌-◌, ◌↔◌, ◌⊎◌, ℕ, List, [], Some, length, take, min, vec_capacity, IfOk, OnErr, IsErr, Contains};
+ghost use Rattle.std.specs.Prelude.{◌≡◌, ◌<◌, ◌≤◌, ◌-◌, ◌↔◌, ◌⊎◌, ℕ, List, [], Some, length, take, min, vec_capacity};
+ghost use Rattle.std.specs.Prelude.{IfOk, OnErr, IsErr, Contains};
 ghost use Rattle.sc_edge.specs.Edge.{Rose, Adds};
 ghost use Rattle.sc_edge.specs.Memory.{SinkState, after_write, after_failed_write};
 

@@ -1,7 +1,8 @@
 // A source of bytes in memory.
 #![tactic(auto)]
 
-ghost use Rattle.std.specs.Prelude.{◌≡◌, ◌<◌, ◌≤◌, ◌↔◌, ℕ, List, [], Some, length, take, drop, min, Ok, IfOk, OnOk, OnErr, IsErr, Contains};
+ghost use Rattle.std.specs.Prelude.{◌≡◌, ◌<◌, ◌≤◌, ◌↔◌, ℕ, List, [], Some, length, take, drop, min, Ok, IfOk, OnOk};
+ghost use Rattle.std.specs.Prelude.{OnErr, IsErr, Contains};
 ghost use Rattle.sc_edge.specs.Edge.{Rose, Takes, IsAtEnd};
 ghost use Rattle.sc_edge.specs.Memory.{SourceState, after_read, after_failed_read};
 

@@ -1,5 +1,6 @@
 -- Known values of the definitions that are built.
-use Rattle.sc_elab.proofs.Common.{Local, None, Some, Visible, [], arith, codes, false, found, refl, rules, the_lemmas, true, typed, typed_structs, word_of_const, ◌∷◌, ◌≡◌}
+use Rattle.sc_elab.proofs.Common.{Local, None, Some, Visible, [], arith, codes, false, found, refl, rules, the_lemmas}
+use Rattle.sc_elab.proofs.Common.{true, typed, typed_structs, word_of_const, ◌∷◌, ◌≡◌}
 use Rattle.sc_ast.specs.declared.expr.ExprTree.TheVariants as tree
 use Rattle.sc_ast.specs.declared.types.BaseTree.TheVariants as base_tree
 use Rattle.sc_base.specs.declared.op.BinaryOp.TheVariants as op

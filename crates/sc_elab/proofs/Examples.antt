@@ -1,5 +1,7 @@
 -- Small names and expressions with their types, computed.
-use Rattle.sc_elab.proofs.Common.{Global, Local, Param, Some, Ty, TypedExpr, VarRef, Visible, [], binary_ty, binary_typed, codes, false, found, literal_typed, no_ty, refl, rules, step, true, unary_ty, ℕ, ◌∷◌, ◌≡◌}
+use Rattle.sc_elab.proofs.Common.{Global, Local, Param, Some, Ty, TypedExpr, VarRef, Visible, [], binary_ty}
+use Rattle.sc_elab.proofs.Common.{binary_typed, codes, false, found, literal_typed, no_ty, refl, rules, step, true}
+use Rattle.sc_elab.proofs.Common.{unary_ty, ℕ, ◌∷◌, ◌≡◌}
 use Rattle.sc_base.specs.declared.op.UnaryOp.TheVariants as unary
 use Rattle.sc_ast.specs.declared.expr.ExprTree.TheOpen as tree
 use Rattle.sc_core.specs.declared.ty.Ty.TheVariants as ty

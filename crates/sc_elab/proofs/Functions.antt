@@ -1,5 +1,11 @@
 -- What stands for a function while it is built gives its typed form.
-use Rattle.sc_elab.proofs.Common.{ExprTree, FunctionScope, FunctionTree, List, LocalTree, None, Option, SectionScope, SectionTree, Some, Stands, StandsIn, Ty, TypedLocal, TypedSection, [], ap, arith, called, drop, drop-step, functions_in, get_or, globals_in, going_to, length, local_in, local_variable, map, option_map, refl, stmt_in, suc, sym, tags, take, take-suc, type_of, type_of_name, typed, typed_function, typed_global, typed_init, typed_local, typed_locals, typed_param, typed_section, typed_stmt, value_in, visible, visible_in, ℕ, ◌++◌, ◌+◌, ◌<◌, ◌∙◌, ◌∷◌, ◌≡◌}
+use Rattle.sc_elab.proofs.Common.{ExprTree, FunctionScope, FunctionTree, List, LocalTree, None, Option, SectionScope}
+use Rattle.sc_elab.proofs.Common.{SectionTree, Some, Stands, StandsIn, Ty, TypedLocal, TypedSection, [], ap, arith}
+use Rattle.sc_elab.proofs.Common.{called, drop, drop-step, functions_in, get_or, globals_in, going_to, length, local_in}
+use Rattle.sc_elab.proofs.Common.{local_variable, map, option_map, refl, stmt_in, suc, sym, tags, take, take-suc}
+use Rattle.sc_elab.proofs.Common.{type_of, type_of_name, typed, typed_function, typed_global, typed_init, typed_local}
+use Rattle.sc_elab.proofs.Common.{typed_locals, typed_param, typed_section, typed_stmt, value_in, visible, visible_in}
+use Rattle.sc_elab.proofs.Common.{ℕ, ◌++◌, ◌+◌, ◌<◌, ◌∙◌, ◌∷◌, ◌≡◌}
 use Rattle.sc_core.specs.declared.section.TypedFunction.{TypedFunction}
 use Rattle.sc_elab.specs.Statements as statements
 use Rattle.sc_elab.proofs.Loops.{one_more, all_done}

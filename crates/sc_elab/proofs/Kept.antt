@@ -1,5 +1,8 @@
 -- What the building of expressions and calls keeps.
-use Rattle.sc_elab.proofs.Common.{ExprTree, ExprTree-F, FunctionScope, IsTrue, List, Option, SectionScope, Ty, TypedExpr, Visible, [], ap, args_in, drop, drop-step, expr_in, first_of, get_or, going_to_some, length, out-ExprTree, refl, rest_of, roll-ExprTree, roll-out-ExprTree, rules, subst, sym, the_lemmas, typed, visible, ℕ, ◌+◌, ◌<◌, ◌∙◌, ◌∷◌, ◌≡◌}
+use Rattle.sc_elab.proofs.Common.{ExprTree, ExprTree-F, FunctionScope, IsTrue, List, Option, SectionScope, Ty}
+use Rattle.sc_elab.proofs.Common.{TypedExpr, Visible, [], ap, args_in, drop, drop-step, expr_in, first_of, get_or}
+use Rattle.sc_elab.proofs.Common.{going_to_some, length, out-ExprTree, refl, rest_of, roll-ExprTree, roll-out-ExprTree}
+use Rattle.sc_elab.proofs.Common.{rules, subst, sym, the_lemmas, typed, visible, ℕ, ◌+◌, ◌<◌, ◌∙◌, ◌∷◌, ◌≡◌}
 use Rattle.sc_ast.specs.Places as tree_place
 use Rattle.sc_core.specs.declared.expr.TypedExpr as exprs
 use Rattle.sc_core.specs.declared.expr.TypedKind as kinds

@@ -1,5 +1,8 @@
 -- Structs and their members, one after another.
-use Rattle.sc_elab.proofs.Common.{Decl, List, MemberTree, None, Option, Some, StructTree, TypedMember, TypedStruct, [], ap, cells_from, cons_option, drop, drop-step, drop_all, end_of_member, get_or, length, members_from, refl, struct_in, structs_in, sym, type_of, typed_struct, typed_structs, ℕ, ◌++◌, ◌+◌, ◌<◌, ◌∙◌, ◌∷◌, ◌≡◌, ◌≤◌}
+use Rattle.sc_elab.proofs.Common.{Decl, List, MemberTree, None, Option, Some, StructTree, TypedMember, TypedStruct, []}
+use Rattle.sc_elab.proofs.Common.{ap, cells_from, cons_option, drop, drop-step, drop_all, end_of_member, get_or, length}
+use Rattle.sc_elab.proofs.Common.{members_from, refl, struct_in, structs_in, sym, type_of, typed_struct, typed_structs}
+use Rattle.sc_elab.proofs.Common.{ℕ, ◌++◌, ◌+◌, ◌<◌, ◌∙◌, ◌∷◌, ◌≡◌, ◌≤◌}
 
 module _ (tags : List (List ℕ)) (structs : List TypedStruct) where
   -- a member at its offset

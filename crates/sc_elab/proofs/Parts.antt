@@ -1,5 +1,12 @@
 -- What is judged of an expression by its parts is what is judged of the whole.
-use Rattle.sc_elab.proofs.Common.{BaseTy, Bool, Err, Found, Global, IfOk, Judged, List, None, Ok, Option, Result, Scope, Some, Suits, Ty, TypedExpr, TypedMember, TypedStruct, VarRef, Visible, [], ap, binary_fits, bytes_eq, decayed, eq-eqb, false, found, has_member, if◌then◌else◌, is_address, is_int, is_pointer, is_some, is_type, is_zero, judged, list_any, literal_fits, member_named, member_of, member_offset, member_ty, no_ty, option_and_then, or-true, pointer_to, position, refl, same_base, same_ty, slice_get, struct_of, subst, suc, sym, target, term_judged, true, true≢false, unary_fits, variable_ty, variable_typed, zero, zero_step, ℕ, ◌&&◌, ◌==◌, ◌||◌, ◌∙◌, ◌∷◌, ◌≡◌}
+use Rattle.sc_elab.proofs.Common.{BaseTy, Bool, Err, Found, Global, IfOk, Judged, List, None, Ok, Option, Result, Scope}
+use Rattle.sc_elab.proofs.Common.{Some, Suits, Ty, TypedExpr, TypedMember, TypedStruct, VarRef, Visible, [], ap}
+use Rattle.sc_elab.proofs.Common.{binary_fits, bytes_eq, decayed, eq-eqb, false, found, has_member, if◌then◌else◌}
+use Rattle.sc_elab.proofs.Common.{is_address, is_int, is_pointer, is_some, is_type, is_zero, judged, list_any}
+use Rattle.sc_elab.proofs.Common.{literal_fits, member_named, member_of, member_offset, member_ty, no_ty}
+use Rattle.sc_elab.proofs.Common.{option_and_then, or-true, pointer_to, position, refl, same_base, same_ty, slice_get}
+use Rattle.sc_elab.proofs.Common.{struct_of, subst, suc, sym, target, term_judged, true, true≢false, unary_fits}
+use Rattle.sc_elab.proofs.Common.{variable_ty, variable_typed, zero, zero_step, ℕ, ◌&&◌, ◌==◌, ◌||◌, ◌∙◌, ◌∷◌, ◌≡◌}
 use Rattle.sc_base.specs.declared.op.BinaryOp.{BinaryOp}
 use Rattle.sc_base.specs.declared.op.UnaryOp.{UnaryOp}
 use Rattle.sc_core.specs.declared.ty.Ty.TheVariants as ty
@@ -7,7 +14,9 @@ use Rattle.sc_core.specs.declared.ty.BaseTy.TheVariants as base
 use Rattle.sc_core.specs.declared.expr.TypedKind
 use Rattle.sc_core.specs.declared.expr.TypedKind.{TypedKind-F, roll-TypedKind, out-TypedKind, roll-out-TypedKind}
 use Rattle.sc_core.specs.declared.expr.TypedKind.TheOpen as term
-use Rattle.sc_core.specs.declared.expr.TypedKind.TheVariants.{rolls-Literal, rolls-Variable, rolls-Unary, rolls-Binary, rolls-Index, rolls-Member, rolls-Arrow, rolls-Deref, rolls-Address}
+use Rattle.sc_core.specs.declared.expr.TypedKind.TheVariants.{rolls-Literal, rolls-Variable, rolls-Unary, rolls-Binary}
+use Rattle.sc_core.specs.declared.expr.TypedKind.TheVariants.{rolls-Index, rolls-Member, rolls-Arrow, rolls-Deref}
+use Rattle.sc_core.specs.declared.expr.TypedKind.TheVariants.{rolls-Address}
 use Rattle.sc_core.proofs.Layers.{typed as typed_as}
 use Rattle.sc_core.proofs.Layers as layers
 use Rattle.sc_elab.specs.declared.expr.Built.{Built}

@@ -1,5 +1,8 @@
 -- Sections and their interfaces, one after another.
-use Rattle.sc_elab.proofs.Common.{List, None, SectionTree, Some, TypedSection, [], ap, arith, callees_of, drop, drop-step, get_or, import_of, interface_of, interfaces_from, interfaces_of, length, map, refl, sections_from, slice_get, suc, sym, typed_section, zero, ℕ, ◌++◌, ◌+◌, ◌<◌, ◌∙◌, ◌∷◌, ◌≡◌}
+use Rattle.sc_elab.proofs.Common.{List, None, SectionTree, Some, TypedSection, [], ap, arith, callees_of, drop}
+use Rattle.sc_elab.proofs.Common.{drop-step, get_or, import_of, interface_of, interfaces_from, interfaces_of, length}
+use Rattle.sc_elab.proofs.Common.{map, refl, sections_from, slice_get, suc, sym, typed_section, zero, ℕ, ◌++◌, ◌+◌, ◌<◌}
+use Rattle.sc_elab.proofs.Common.{◌∙◌, ◌∷◌, ◌≡◌}
 use Rattle.std.proofs.Common.{option_map}
 use Rattle.sc_event.specs.declared.interface.Interface.{Interface}
 use Rattle.sc_event.specs.declared.interface.Interfaces.{Interfaces}

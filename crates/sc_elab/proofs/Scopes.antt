@@ -1,5 +1,8 @@
 -- Variables and members are found by their names' first places.
-use Rattle.sc_elab.proofs.Common.{Bool, Found, List, None, Option, Some, Ty, TypedParam, TypedStruct, VarRef, [], ap, bytes_eq, cond, found_in, map, member_named, member_names, number_of, option_and_then, option_map, placed, position, position-cons, refl, slice_get, slice_get-map, suc, sym, variable_names, ℕ, ◌∙◌, ◌∷◌, ◌≡◌}
+use Rattle.sc_elab.proofs.Common.{Bool, Found, List, None, Option, Some, Ty, TypedParam, TypedStruct, VarRef, [], ap}
+use Rattle.sc_elab.proofs.Common.{bytes_eq, cond, found_in, map, member_named, member_names, number_of, option_and_then}
+use Rattle.sc_elab.proofs.Common.{option_map, placed, position, position-cons, refl, slice_get, slice_get-map, suc, sym}
+use Rattle.sc_elab.proofs.Common.{variable_names, ℕ, ◌∙◌, ◌∷◌, ◌≡◌}
 
 pub position-map : {A B : Type 0} (f : A → B) (p : B → Bool) (xs : List A) →
     position p (map f xs) ≡ position (λ x. p (f x)) xs

@@ -1,5 +1,6 @@
 -- What the names of calls stand for in a section.
-use Rattle.sc_elab.specs.Common.{CallTarget, Decl, FunctionTree, HeadTree, Import, ImportLine, Own, SectionTree, Signature, StructTree, functions_in, head_of, heads_in, number_of}
+use Rattle.sc_elab.specs.Common.{CallTarget, Decl, FunctionTree, HeadTree, Import, ImportLine, Own, SectionTree}
+use Rattle.sc_elab.specs.Common.{Signature, StructTree, functions_in, head_of, heads_in, number_of}
 use Rattle.std.specs.Prelude.{◌≡◌, ℕ, List, ◌++◌, map, Option, Some, None, slice_get}
 use Rattle.std.specs.Option.{option_and_then}
 use Rattle.sc_elab.specs.Sections.{target_or, signature_by, import_target}

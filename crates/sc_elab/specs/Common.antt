@@ -15,8 +15,11 @@ pub use Rattle.sc_ast.specs.declared.stmt.SimpleKind.{SimpleKind}
 pub use Rattle.sc_ast.specs.declared.stmt.SimpleTree.{SimpleTree}
 pub use Rattle.sc_ast.specs.declared.stmt.StmtKind.{StmtKind, StmtKind-F, fold-StmtKind}
 pub use Rattle.sc_ast.specs.declared.stmt.StmtTree.{StmtTree, StmtTree-F, fold-StmtTree}
-pub use Rattle.sc_scope.specs.Prelude.{function_named, function_names, functions_in, globals_in, heads_in, import_of, interfaces_of, line_of_text, number_or_zero, struct_names, structs_in, unless}
-pub use Rattle.sc_core.specs.Prelude.{Judged, Scope, Signature, args_fit, assign_fits, cells_of, common, decayed, goes_into, has_member, init_fits, is_pointer, is_scalar, is_target, is_type, judged, pointer_to, result_goes, returned_fits, starred, target, variable_ty}
+pub use Rattle.sc_scope.specs.Prelude.{function_named, function_names, functions_in, globals_in, heads_in, import_of}
+pub use Rattle.sc_scope.specs.Prelude.{interfaces_of, line_of_text, number_or_zero, struct_names, structs_in, unless}
+pub use Rattle.sc_core.specs.Prelude.{Judged, Scope, Signature, args_fit, assign_fits, cells_of, common, decayed}
+pub use Rattle.sc_core.specs.Prelude.{goes_into, has_member, init_fits, is_pointer, is_scalar, is_target, is_type}
+pub use Rattle.sc_core.specs.Prelude.{judged, pointer_to, result_goes, returned_fits, starred, target, variable_ty}
 pub use Rattle.sc_core.specs.declared.expr.CallTarget.{CallTarget}
 pub use Rattle.sc_core.specs.declared.expr.CallTarget.TheVariants.{Cross, Input, Output, Own}
 pub use Rattle.sc_core.specs.declared.expr.TypedCall.{TypedCall}

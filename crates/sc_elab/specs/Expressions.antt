@@ -1,6 +1,7 @@
 -- Expressions with their types (C11 6.5). Where an expression breaks the rules of types, it gets some type that doesn't
 -- fit.
-use Rattle.sc_elab.specs.Common.{ExprTree, ExprTree-F, Global, Number, Ty, TypedExpr, TypedMember, common, decayed, fold-ExprTree, fold-TypedExpr, is_pointer, pointer_to, target}
+use Rattle.sc_elab.specs.Common.{ExprTree, ExprTree-F, Global, Number, Ty, TypedExpr, TypedMember, common, decayed}
+use Rattle.sc_elab.specs.Common.{fold-ExprTree, fold-TypedExpr, is_pointer, pointer_to, target}
 use Rattle.std.specs.Prelude.{ℕ, zero, Bool, true, false, ◌&&◌, if◌then◌else◌, Option, Some, None}
 use Rattle.std.specs.Option.{option_map_or}
 use Rattle.sc_base.specs.declared.op.UnaryOp.{UnaryOp}

@@ -1,5 +1,6 @@
 -- Helping: how expressions are judged while they are built.
-use Rattle.sc_elab.specs.Common.{ExprTree, Scope, StmtKind, StmtTree, Ty, fold-StmtKind, goes_into, has_member, is_type, judged, variable_ty}
+use Rattle.sc_elab.specs.Common.{ExprTree, Scope, StmtKind, StmtTree, Ty, fold-StmtKind, goes_into, has_member, is_type}
+use Rattle.sc_elab.specs.Common.{judged, variable_ty}
 use Rattle.std.specs.Prelude.{◌≡◌, ℕ, Bool, true, false, ◌&&◌, List, [], ◌∷◌, Option, Some, None, slice_get}
 use Rattle.sc_elab.specs.Scopes.{Visible, Found, found}
 use Rattle.sc_elab.specs.Expressions.{no_ty, typed, going_to}

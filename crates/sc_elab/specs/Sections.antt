@@ -1,6 +1,12 @@
 -- Sections and programs with their types, and the lines of the declarations that break the rules of types.
-use Rattle.sc_elab.specs.Common.{CallTarget, Cross, Decl, ExprTree, FunctionTree, HeadTree, Import, ImportLine, Input, LocalTree, Output, Own, Scope, SectionTree, Signature, StructTree, Ty, TypedExpr, TypedLocal, TypedMember, TypedParam, TypedStruct, cells_of, function_named, function_names, functions_in, globals_in, head_of, heads_in, import_of, init_fits, interfaces_of, limited, line_of_text, number_of, number_or_zero, starred, struct_names, structs_in, unless}
-use Rattle.std.specs.Prelude.{ℕ, zero, suc, ◌+◌, ◌-◌, ◌%◌, ◌^◌, Bool, true, false, ◌&&◌, not, nat_eq, nat_le, bytes_eq, List, [], ◌∷◌, ◌++◌, length, map, take, Option, Some, None, if◌then◌else◌}
+use Rattle.sc_elab.specs.Common.{CallTarget, Cross, Decl, ExprTree, FunctionTree, HeadTree, Import, ImportLine, Input}
+use Rattle.sc_elab.specs.Common.{LocalTree, Output, Own, Scope, SectionTree, Signature, StructTree, Ty, TypedExpr}
+use Rattle.sc_elab.specs.Common.{TypedLocal, TypedMember, TypedParam, TypedStruct, cells_of, function_named}
+use Rattle.sc_elab.specs.Common.{function_names, functions_in, globals_in, head_of, heads_in, import_of, init_fits}
+use Rattle.sc_elab.specs.Common.{interfaces_of, limited, line_of_text, number_of, number_or_zero, starred, struct_names}
+use Rattle.sc_elab.specs.Common.{structs_in, unless}
+use Rattle.std.specs.Prelude.{ℕ, zero, suc, ◌+◌, ◌-◌, ◌%◌, ◌^◌, Bool, true, false, ◌&&◌, not, nat_eq, nat_le, bytes_eq}
+use Rattle.std.specs.Prelude.{List, [], ◌∷◌, ◌++◌, length, map, take, Option, Some, None, if◌then◌else◌}
 use Rattle.std.specs.List.{concat, list_all}
 use Rattle.std.specs.Option.{option_map, option_map_or}
 use Rattle.sc_event.specs.declared.interface.Import.TheVariants as import

@@ -1,10 +1,12 @@
 -- Helping: what is visible in a function's body, and what its expressions and statements are there.
-use Rattle.sc_elab.specs.Common.{CallTree, ExprTree, SimpleKind, SimpleTree, StmtKind, StmtTree, Ty, TypedCall, TypedExpr, TypedSimple, TypedSimpleKind, TypedStmt, TypedStmtKind, fold-StmtKind}
+use Rattle.sc_elab.specs.Common.{CallTree, ExprTree, SimpleKind, SimpleTree, StmtKind, StmtTree, Ty, TypedCall}
+use Rattle.sc_elab.specs.Common.{TypedExpr, TypedSimple, TypedSimpleKind, TypedStmt, TypedStmtKind, fold-StmtKind}
 use Rattle.std.specs.Prelude.{List, Option, map}
 use Rattle.std.specs.Option.{option_map}
 use Rattle.sc_elab.specs.Scopes.{Visible}
 use Rattle.sc_elab.specs.Expressions.{typed, going_to}
-use Rattle.sc_elab.specs.Statements.{going_to_some, going_to_all, typed_call, typed_simple_kind, typed_simple, typed_stmt, kind_step, stmt_step}
+use Rattle.sc_elab.specs.Statements.{going_to_some, going_to_all, typed_call, typed_simple_kind, typed_simple}
+use Rattle.sc_elab.specs.Statements.{typed_stmt, kind_step, stmt_step}
 use Rattle.sc_elab.specs.declared.scope.SectionScope.{SectionScope}
 use Rattle.sc_elab.specs.declared.scope.FunctionScope.{FunctionScope}
 use Rattle.sc_elab.specs.Called.{called}

@@ -1,5 +1,8 @@
 -- Statements with their types, and the lines of those that break the rules of types (C11 6.8).
-use Rattle.sc_elab.specs.Common.{CallTarget, CallTree, ExprTree, Judged, Scope, Signature, SimpleKind, SimpleTree, StmtKind-F, StmtTree, StmtTree-F, Ty, TypedCall, TypedExpr, TypedSimple, TypedSimpleKind, TypedStmt, TypedStmtKind, all_hold, args_fit, assign_fits, fold-StmtTree, is_scalar, is_target, judged, result_goes, returned_fits, unless}
+use Rattle.sc_elab.specs.Common.{CallTarget, CallTree, ExprTree, Judged, Scope, Signature, SimpleKind, SimpleTree}
+use Rattle.sc_elab.specs.Common.{StmtKind-F, StmtTree, StmtTree-F, Ty, TypedCall, TypedExpr, TypedSimple}
+use Rattle.sc_elab.specs.Common.{TypedSimpleKind, TypedStmt, TypedStmtKind, all_hold, args_fit, assign_fits}
+use Rattle.sc_elab.specs.Common.{fold-StmtTree, is_scalar, is_target, judged, result_goes, returned_fits, unless}
 use Rattle.std.specs.Prelude.{ℕ, Bool, false, ◌&&◌, not, List, [], ◌∷◌, ◌++◌, map, Option, Some, None, is_some}
 use Rattle.std.specs.List.{concat}
 use Rattle.std.specs.Option.{option_map}

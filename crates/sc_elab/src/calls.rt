@@ -1,6 +1,8 @@
 //! Whom a section calls by name.
 
-ghost use Rattle.sc_elab.specs.Prelude.{CallsIn, calling_heads, function_name, function_signature, functions_in, head_name, head_of, heads_in, import_line_name, import_target, param_of, param_ty, signature_by};
+ghost use Rattle.sc_elab.specs.Prelude.{CallsIn, calling_heads, function_name, function_signature, functions_in};
+ghost use Rattle.sc_elab.specs.Prelude.{head_name, head_of, heads_in, import_line_name, import_target, param_of};
+ghost use Rattle.sc_elab.specs.Prelude.{param_ty, signature_by};
 ghost use Rattle.std.specs.Prelude.{◌≡◌, ◌++◌, ◌∷◌, [], map, IfOk, OnOk};
 
 use crate::callees::{Callees, Signature};

@@ -1,4 +1,6 @@
-ghost use Rattle.sc_elab.specs.Prelude.{Scope, Suits, beside, binary_typed, decayed, expr_in, going_to, is_address, is_zero, judged, literal_typed, member_offset, member_ty, no_ty, or_int, pointer_to, target, unary_ty, variable_typed, visible};
+ghost use Rattle.sc_elab.specs.Prelude.{Scope, Suits, beside, binary_typed, decayed, expr_in, going_to, is_address};
+ghost use Rattle.sc_elab.specs.Prelude.{is_zero, judged, literal_typed, member_offset, member_ty, no_ty, or_int};
+ghost use Rattle.sc_elab.specs.Prelude.{pointer_to, target, unary_ty, variable_typed, visible};
 ghost use Rattle.std.specs.Prelude.{◌≡◌, ◌&&◌, true, false, is_some, IfOk};
 ghost use Rattle.sc_core.specs.declared.expr.TypedKind;
 

@@ -1,6 +1,7 @@
 //! Functions.
 
-ghost use Rattle.sc_elab.specs.Prelude.{Stands, StandsIn, called, local_in, local_variable, result_of, type_of, type_of_name, typed_function, typed_locals, typed_param, value_in};
+ghost use Rattle.sc_elab.specs.Prelude.{Stands, StandsIn, called, local_in, local_variable, result_of, type_of};
+ghost use Rattle.sc_elab.specs.Prelude.{type_of_name, typed_function, typed_locals, typed_param, value_in};
 ghost use Rattle.std.specs.Prelude.{◌≡◌, ◌++◌, ◌∷◌, [], length, map, IfOk};
 ghost use Rattle.std.specs.Option.{option_map};
 

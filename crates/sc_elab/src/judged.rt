@@ -1,7 +1,9 @@
 //! The rules of types on expressions, by what is judged of their parts (C11 6.5).
 
 ghost use Rattle.std.specs.Prelude.{◌≡◌, ◌&&◌, IfOk};
-ghost use Rattle.sc_core.specs.Typing.{is_int, points, is_address, is_scalar, is_target, both_ints, same_pointers, are_equatable, are_ordered, sum_fits, difference_fits, binary_fits, unary_fits, literal_fits, is_type, goes_into};
+ghost use Rattle.sc_core.specs.Typing.{is_int, points, is_address, is_scalar, is_target, both_ints, same_pointers};
+ghost use Rattle.sc_core.specs.Typing.{are_equatable, are_ordered, sum_fits, difference_fits, binary_fits, unary_fits};
+ghost use Rattle.sc_core.specs.Typing.{literal_fits, is_type, goes_into};
 
 use sc_base::{BinaryOp, OutOfMemory, UnaryOp};
 use sc_core::Ty;

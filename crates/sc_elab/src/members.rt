@@ -1,6 +1,7 @@
 //! Structs with their offsets.
 
-ghost use Rattle.sc_elab.specs.Prelude.{cells_from, cells_of, limited, member_names, members_from, names_of, structs_in, typed_struct, typed_structs};
+ghost use Rattle.sc_elab.specs.Prelude.{cells_from, cells_of, limited, member_names, members_from, names_of};
+ghost use Rattle.sc_elab.specs.Prelude.{structs_in, typed_struct, typed_structs};
 ghost use Rattle.std.specs.Prelude.{◌≡◌, ◌+◌, ◌∷◌, [], IfOk};
 
 use crate::structs::Structs;

@@ -1,6 +1,9 @@
 //! The rules of types on the parts of statements (C11 6.5.2.2, 6.5.16.1, 6.8), by what is judged of their expressions.
 
-ghost use Rattle.sc_elab.specs.Prelude.{Scope, Suits, all_go, assign_call_holds, assign_holds, call_holds, called, cond_holds, goes_in, init_goes, init_holds, is_null, is_sized, is_target, option_goes, result_goes, return_call_holds, return_value_holds, simple_holds, visible};
+ghost use Rattle.sc_elab.specs.Prelude.{Scope, Suits, all_go, assign_call_holds, assign_holds, call_holds, called};
+ghost use Rattle.sc_elab.specs.Prelude.{cond_holds, goes_in, init_goes, init_holds, is_null, is_sized, is_target};
+ghost use Rattle.sc_elab.specs.Prelude.{option_goes, result_goes, return_call_holds, return_value_holds, simple_holds};
+ghost use Rattle.sc_elab.specs.Prelude.{visible};
 ghost use Rattle.std.specs.Prelude.{◌≡◌, ◌&&◌, Some, IfOk};
 ghost use Rattle.sc_ast.specs.declared.section.InitTree;
 

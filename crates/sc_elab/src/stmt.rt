@@ -1,4 +1,6 @@
-ghost use Rattle.sc_elab.specs.Prelude.{Scope, Suits, args_in, call_in, called, expr_in, first_of, going_to_some, judged, kind_in, params_of, part_in, rest_of, returned_in, simple_in, stmt_in, value_in, visible};
+ghost use Rattle.sc_elab.specs.Prelude.{Scope, Suits, args_in, call_in, called, expr_in, first_of, going_to_some};
+ghost use Rattle.sc_elab.specs.Prelude.{judged, kind_in, params_of, part_in, rest_of, returned_in, simple_in, stmt_in};
+ghost use Rattle.sc_elab.specs.Prelude.{value_in, visible};
 ghost use Rattle.std.specs.Prelude.{◌≡◌, ◌++◌, ◌∷◌, [], map, drop, IfOk};
 ghost use Rattle.sc_ast.specs.declared.stmt.StmtKind;
 ghost use Rattle.sc_core.specs.declared.stmt.TypedStmtKind;

@@ -1,5 +1,10 @@
 -- The open call that is found in a trace is the one by which the run stands where it stands.
-use Rattle.sc_event.proofs.Common.{Call, End, Event, HasEntered, IfSome, In, List, None, Option, Out, Ret, Some, Standing, StandsBy, [], ap, arith, at_start, awaits, get_or, get_or_from_slice_get, here_or, length, none-some, open_after, open_call, option_and_then, option_map_or, refl, resumed, returned_before, slice_get, slice_get-get_or, slice_get_within, stands_after, stands_behind, subst, suc, sym, take, take_more, zero, ℕ, ◌++◌, ◌+◌, ◌<◌, ◌==◌, ◌∙◌, ◌∷◌, ◌≡◌, ◌≤◌}
+use Rattle.sc_event.proofs.Common.{Call, End, Event, HasEntered, IfSome, In, List, None, Option, Out, Ret, Some}
+use Rattle.sc_event.proofs.Common.{Standing, StandsBy, [], ap, arith, at_start, awaits, get_or, get_or_from_slice_get}
+use Rattle.sc_event.proofs.Common.{here_or, length, none-some, open_after, open_call, option_and_then, option_map_or}
+use Rattle.sc_event.proofs.Common.{refl, resumed, returned_before, slice_get, slice_get-get_or, slice_get_within}
+use Rattle.sc_event.proofs.Common.{stands_after, stands_behind, subst, suc, sym, take, take_more, zero, ℕ, ◌++◌, ◌+◌}
+use Rattle.sc_event.proofs.Common.{◌<◌, ◌==◌, ◌∙◌, ◌∷◌, ◌≡◌, ◌≤◌}
 
 same_count : (a b : ℕ) → ◌≡◌ {A = Option ℕ} (Some a) (Some b) → a ≡ b
 same_count a b e = ap (λ o. option_map_or (λ n. n) o a) e

@@ -1,5 +1,8 @@
 -- A compartment's next row is its next event: what the rows are behind the events that it has performed.
-use Rattle.sc_event.proofs.Common.{Bool, Event, List, None, Option, Some, Standing, [], action_of, ap, arith, at_start, cond, count_of, drop, false, filter, if◌then◌else◌, length, none-some, option_map_or, part, performer, rows_from, stands_after, stands_behind, subst, suc, true, ℕ, ◌++◌, ◌+◌, ◌==◌, ◌∙◌, ◌∷◌, ◌≡◌}
+use Rattle.sc_event.proofs.Common.{Bool, Event, List, None, Option, Some, Standing, [], action_of, ap, arith, at_start}
+use Rattle.sc_event.proofs.Common.{cond, count_of, drop, false, filter, if◌then◌else◌, length, none-some, option_map_or}
+use Rattle.sc_event.proofs.Common.{part, performer, rows_from, stands_after, stands_behind, subst, suc, true, ℕ, ◌++◌}
+use Rattle.sc_event.proofs.Common.{◌+◌, ◌==◌, ◌∙◌, ◌∷◌, ◌≡◌}
 use Rattle.sc_event.specs.declared.row.Row.{Row}
 
 -- the row of an event that happens where the run stands

@@ -1,4 +1,5 @@
-ghost use Rattle.sc_event.specs.Prelude.{comp_at, export_at, fits_result, imports, imports_of, is_function, is_input, is_output, may_return, takes};
+ghost use Rattle.sc_event.specs.Prelude.{comp_at, export_at, fits_result, imports, imports_of, is_function, is_input};
+ghost use Rattle.sc_event.specs.Prelude.{is_output, may_return, takes};
 ghost use Rattle.std.specs.Prelude.{◌≡◌};
 ghost use Rattle.sc_event.specs.declared.row.Entry.TheVariants.{Export};
 ghost use Rattle.std.specs.Option.{option_copied};

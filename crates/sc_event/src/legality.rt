@@ -1,6 +1,7 @@
 //! Whether the interfaces allow a trace.
 
-ghost use Rattle.sc_event.specs.Prelude.{Standing, StandsBy, awaits, is_allowed, is_end, legal, may_perform, may_return, open_after, open_call, returned_before};
+ghost use Rattle.sc_event.specs.Prelude.{Standing, StandsBy, awaits, is_allowed, is_end, legal, may_perform};
+ghost use Rattle.sc_event.specs.Prelude.{may_return, open_after, open_call, returned_before};
 ghost use Rattle.std.specs.Prelude.{◌≡◌, ℕ, ◌+◌, ◌^◌, ◌≤◌, ◌<◌, length, IfSome};
 
 use crate::{CompId, Entry, Event, Interfaces};

@@ -1,6 +1,7 @@
 //! The lines that tell events.
 
-ghost use Rattle.sc_event.specs.Prelude.{IsKnown, comp_at, comp_name, event_line, export_at, export_name, line, spaced_names, spaced_words};
+ghost use Rattle.sc_event.specs.Prelude.{IsKnown, comp_at, comp_name, event_line, export_at, export_name, line};
+ghost use Rattle.sc_event.specs.Prelude.{spaced_names, spaced_words};
 ghost use Rattle.std.specs.Prelude.{◌≡◌, ◌++◌, codes, IsSome, IfOk, OnOk};
 
 use crate::{CompId, Event, Interfaces, Name, OutOfMemory, Text};

@@ -1,5 +1,8 @@
 -- Brackets along lexemes that spell an expression: behind them as many are open as before.
-use Rattle.sc_expr.proofs.Common.{BinaryOp, ExprTree, Lexeme, List, Mark, Prefix, Some, Spells, Symbol, [], ap, arith, arrow, binary_of, index, joined, literal, looser, max, member, most_open, none-some, open_after, open_behind, parenthesised, prefix_of, refl, variable, «prefix», ℕ, ◌++◌, ◌+◌, ◌-◌, ◌∙◌, ◌∷◌, ◌≡◌, ◌≤◌}
+use Rattle.sc_expr.proofs.Common.{BinaryOp, ExprTree, Lexeme, List, Mark, Prefix, Some, Spells, Symbol, [], ap, arith}
+use Rattle.sc_expr.proofs.Common.{arrow, binary_of, index, joined, literal, looser, max, member, most_open, none-some}
+use Rattle.sc_expr.proofs.Common.{open_after, open_behind, parenthesised, prefix_of, refl, variable, «prefix», ℕ, ◌++◌}
+use Rattle.sc_expr.proofs.Common.{◌+◌, ◌-◌, ◌∙◌, ◌∷◌, ◌≡◌, ◌≤◌}
 use Rattle.sc_expr.specs.declared.mark.Mark.TheVariants as mark
 use Rattle.sc_expr.specs.declared.lexeme.Symbol.TheVariants as symbol
 

@@ -1,12 +1,19 @@
 -- What is spelled within the limits is read.
-use Rattle.sc_expr.proofs.Common.{BinaryOp, ExprTree, Extension, IsIdent, IsMark, Lexeme, List, Mark, None, Option, Prefix, Reader, Some, Spells, Symbol, [], ap, append_assoc, arith, arrow, cond, expr_height, extended_with, extension_at, extension_by, extension_level, extension_of, extension_within, found, go_on, index, joined, le-leb, lead_by, lead_of, leaf_of, level_of, literal, looser, lt-leb, max, member, most_open, none-some, operand_with, option_map, parenthesised, prefix_of, prefixed, read, read_nested, refl, subst, suc, sym, variable, within, zero, «prefix», ℕ, ◌++◌, ◌+◌, ◌-◌, ◌<◌, ◌∙◌, ◌∷◌, ◌≡◌, ◌≤◌}
+use Rattle.sc_expr.proofs.Common.{BinaryOp, ExprTree, Extension, IsIdent, IsMark, Lexeme, List, Mark, None, Option}
+use Rattle.sc_expr.proofs.Common.{Prefix, Reader, Some, Spells, Symbol, [], ap, append_assoc, arith, arrow, cond}
+use Rattle.sc_expr.proofs.Common.{expr_height, extended_with, extension_at, extension_by, extension_level, extension_of}
+use Rattle.sc_expr.proofs.Common.{extension_within, found, go_on, index, joined, le-leb, lead_by, lead_of, leaf_of}
+use Rattle.sc_expr.proofs.Common.{level_of, literal, looser, lt-leb, max, member, most_open, none-some, operand_with}
+use Rattle.sc_expr.proofs.Common.{option_map, parenthesised, prefix_of, prefixed, read, read_nested, refl, subst, suc}
+use Rattle.sc_expr.proofs.Common.{sym, variable, within, zero, «prefix», ℕ, ◌++◌, ◌+◌, ◌-◌, ◌<◌, ◌∙◌, ◌∷◌, ◌≡◌, ◌≤◌}
 use Rattle.sc_ast.specs.declared.expr.ExprTree.TheVariants as expr
 use Rattle.sc_expr.specs.declared.mark.Mark.TheVariants as mark
 use Rattle.sc_expr.specs.declared.operator.Extension.TheVariants as extension
 use Rattle.sc_expr.specs.declared.lexeme.Symbol.TheVariants as symbol
 use Rattle.sc_expr.specs.declared.parser.Lead.TheVariants as lead
 use Rattle.sc_expr.proofs.Options.{same_some}
-use Rattle.sc_expr.proofs.Heights.{literal_height, variable_height, prefixed_height, joined_height, index_height, member_height, arrow_height, positive}
+use Rattle.sc_expr.proofs.Heights.{literal_height, variable_height, prefixed_height, joined_height, index_height}
+use Rattle.sc_expr.proofs.Heights.{member_height, arrow_height, positive}
 use Rattle.sc_expr.proofs.Balance.{says, plain_binary, plain_prefix, open_low, most_behind, most_bracketed, most_plain}
 use Rattle.sc_expr.proofs.Ahead.{no_unary, mark_operator}
 use Rattle.sc_expr.proofs.Steps.{read_goes, nested_at, turns_on, turns_end}

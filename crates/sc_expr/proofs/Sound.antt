@@ -1,14 +1,24 @@
 -- What is read is spelled so, and within the limits.
-use Rattle.sc_expr.proofs.Common.{BinaryOp, ExprTree, Extension, Found, IsMark, Lead, Lexeme, List, Mark, None, Option, Prefix, Reader, Some, Spells, Symbol, [], ap, append_assoc, ap₂, arith, arrow, behind, cases_lt, expr_height, extended_with, extension_at, extension_by, extension_level, extension_within, found, go_on, index, joined, joined_with, lead_of, lead_with, leaf_at, leaf_of, leb, leb-true, level_of, level_with, literal, looser, max, member, most_open, name_at, named_with, none-some, open_behind, operand_with, paren_with, parenthesised, prefix_of, prefix_with, read, read_within, refl, subst, suc, sym, true, turn_with, variable, zero, «prefix», ℕ, ⊎_elim, ◌++◌, ◌+◌, ◌-◌, ◌<◌, ◌∙◌, ◌∷◌, ◌≡◌, ◌≤◌}
+use Rattle.sc_expr.proofs.Common.{BinaryOp, ExprTree, Extension, Found, IsMark, Lead, Lexeme, List, Mark, None, Option}
+use Rattle.sc_expr.proofs.Common.{Prefix, Reader, Some, Spells, Symbol, [], ap, append_assoc, ap₂, arith, arrow, behind}
+use Rattle.sc_expr.proofs.Common.{cases_lt, expr_height, extended_with, extension_at, extension_by, extension_level}
+use Rattle.sc_expr.proofs.Common.{extension_within, found, go_on, index, joined, joined_with, lead_of, lead_with}
+use Rattle.sc_expr.proofs.Common.{leaf_at, leaf_of, leb, leb-true, level_of, level_with, literal, looser, max, member}
+use Rattle.sc_expr.proofs.Common.{most_open, name_at, named_with, none-some, open_behind, operand_with, paren_with}
+use Rattle.sc_expr.proofs.Common.{parenthesised, prefix_of, prefix_with, read, read_within, refl, subst, suc, sym, true}
+use Rattle.sc_expr.proofs.Common.{turn_with, variable, zero, «prefix», ℕ, ⊎_elim, ◌++◌, ◌+◌, ◌-◌, ◌<◌, ◌∙◌, ◌∷◌, ◌≡◌}
+use Rattle.sc_expr.proofs.Common.{◌≤◌}
 use Rattle.sc_ast.specs.declared.expr.ExprTree.TheVariants as expr
 use Rattle.sc_expr.specs.declared.mark.Mark.TheVariants as mark
 use Rattle.sc_expr.specs.declared.operator.Extension.TheVariants as extension
 use Rattle.sc_expr.specs.declared.lexeme.Symbol.TheVariants as symbol
 use Rattle.sc_expr.specs.declared.parser.Lead.TheVariants as lead
 use Rattle.sc_expr.proofs.Options.{same_some, bound, cond_is}
-use Rattle.sc_expr.proofs.Heights.{literal_height, variable_height, prefixed_height, joined_height, index_height, member_height, arrow_height}
+use Rattle.sc_expr.proofs.Heights.{literal_height, variable_height, prefixed_height, joined_height, index_height}
+use Rattle.sc_expr.proofs.Heights.{member_height, arrow_height}
 use Rattle.sc_expr.proofs.Balance.{says, plain_binary, plain_prefix, most_behind, most_bracketed, most_plain}
-use Rattle.sc_expr.proofs.Ahead.{operator_low, operator_mark, index_mark, member_mark, arrow_mark, Ahead, ahead, nothing_within, behind_mark, name_ahead, paren_lead, prefix_lead}
+use Rattle.sc_expr.proofs.Ahead.{operator_low, operator_mark, index_mark, member_mark, arrow_mark, Ahead, ahead}
+use Rattle.sc_expr.proofs.Ahead.{nothing_within, behind_mark, name_ahead, paren_lead, prefix_lead}
 
 -- An expression stands at the front: it is spelled at this level within the limits, and what goes on behind it is of
 -- the second level or a looser one.

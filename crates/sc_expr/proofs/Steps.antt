@@ -1,5 +1,8 @@
 -- What reading is at a level of height, at a bracket, and at a turn.
-use Rattle.sc_expr.proofs.Common.{Extension, Fails, Found, Lexeme, List, None, Option, OutOfMemory, Reader, Refused, Some, SyntaxFault, ap, arith, extended_with, extension_within, go_on, level_with, operand_with, read, read_nested, read_within, refl, suc, zero, ℕ, ◌+◌, ◌<◌, ◌>>=◌, ◌∙◌, ◌≡◌}
+use Rattle.sc_expr.proofs.Common.{Extension, Fails, Found, Lexeme, List, None, Option, OutOfMemory, Reader, Refused}
+use Rattle.sc_expr.proofs.Common.{Some, SyntaxFault, ap, arith, extended_with, extension_within, go_on, level_with}
+use Rattle.sc_expr.proofs.Common.{operand_with, read, read_nested, read_within, refl, suc, zero, ℕ, ◌+◌, ◌<◌, ◌>>=◌}
+use Rattle.sc_expr.proofs.Common.{◌∙◌, ◌≡◌}
 
 pub one_level : (free room level : ℕ) (ts : List Lexeme) →
     read free (suc room) level ts ≡ level_with (read_nested free) (read free room) room level ts

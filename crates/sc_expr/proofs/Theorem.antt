@@ -1,5 +1,7 @@
 -- Reading gives exactly the fronts within the limits, and lexemes spell one expression at most.
-use Rattle.sc_expr.proofs.Common.{Agrees, Bor, Err, ExprTree, Found, IfOk, IsErrOf, IsFront, Lexeme, List, None, Ok, Refused, Result, Some, Spells, SyntaxFault, [], ap, arith, expr_height, found, max, most_open, none-some, read, read_expr, subst, sym, ℕ, ◌-◌, ◌<◌, ◌∙◌, ◌≡◌, ◌≤◌}
+use Rattle.sc_expr.proofs.Common.{Agrees, Bor, Err, ExprTree, Found, IfOk, IsErrOf, IsFront, Lexeme, List, None, Ok}
+use Rattle.sc_expr.proofs.Common.{Refused, Result, Some, Spells, SyntaxFault, [], ap, arith, expr_height, found, max}
+use Rattle.sc_expr.proofs.Common.{most_open, none-some, read, read_expr, subst, sym, ℕ, ◌-◌, ◌<◌, ◌∙◌, ◌≡◌, ◌≤◌}
 use Rattle.sc_expr.specs.declared.parser.Built.{Built}
 use Rattle.sc_expr.proofs.Options.{same_some}
 use Rattle.sc_expr.proofs.Balance.{open_low}

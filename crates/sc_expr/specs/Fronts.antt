@@ -1,6 +1,7 @@
 -- What stands at the front of a list of lexemes.
 use Rattle.sc_expr.specs.Common.{ExprTree, expr_height}
-use Rattle.std.specs.Prelude.{◌≡◌, ℕ, Bool, false, List, [], ◌∷◌, ◌++◌, ◌≤◌, ◌<◌, Option, Some, None, Result, Ok, Err, if◌then◌else◌}
+use Rattle.std.specs.Prelude.{◌≡◌, ℕ, Bool, false, List, [], ◌∷◌, ◌++◌, ◌≤◌, ◌<◌, Option, Some, None, Result, Ok, Err}
+use Rattle.std.specs.Prelude.{if◌then◌else◌}
 use Rattle.sc_expr.specs.declared.fault.SyntaxFault.{SyntaxFault}
 use Rattle.sc_expr.specs.declared.fault.SyntaxFault.TheVariants.{Refused, OutOfMemory}
 use Rattle.sc_expr.specs.declared.mark.Mark.{Mark}

@@ -1,5 +1,8 @@
 -- Frames have room: ranges that stand one behind the other don't meet.
-use Rattle.sc_frame.proofs.Common.{All, AllPairs, Apart, HasRoom, IsFrame, List, Range, [], ap, arith, end_of, frame_of, inl, length, length-map-range_with_len, map, object_range, offsets_from, range_with_len, ranges_of, refl, slots_of, subst, suc, sym, total, word_at, zero, zip, ℕ, ◌%◌, ◌*◌, ◌++◌, ◌+◌, ◌∷◌, ◌≡◌, ◌≤◌}
+use Rattle.sc_frame.proofs.Common.{All, AllPairs, Apart, HasRoom, IsFrame, List, Range, [], ap, arith, end_of, frame_of}
+use Rattle.sc_frame.proofs.Common.{inl, length, length-map-range_with_len, map, object_range, offsets_from}
+use Rattle.sc_frame.proofs.Common.{range_with_len, ranges_of, refl, slots_of, subst, suc, sym, total, word_at, zero}
+use Rattle.sc_frame.proofs.Common.{zip, ℕ, ◌%◌, ◌*◌, ◌++◌, ◌+◌, ◌∷◌, ◌≡◌, ◌≤◌}
 use Rattle.std.proofs.lemmas.List.Elements.{All-nil, All-cons}
 use Rattle.std.proofs.lemmas.List.Kept.{AllPairs-cons}
 use Rattle.sc_tac.specs.declared.place.Place.{Place}

@@ -1,5 +1,10 @@
 -- What a memory holds are bytes, at addresses of 32 bits: at the start, and after a store.
-use Rattle.sc_image.proofs.Common.{Bool, CompPart, HoldsBytes, ImageParts, IsByte, IsWellFormed, Memory, None, Option, Some, are_data, arith, byte_of, comp_of_data, data_start, false, get_or_from_slice_get, globals_of, if◌then◌else◌, leb-true, length, ltb-true, most_globals, nat_le, nat_lt, option_and_then, refl, refused, slice_get, slice_get_cases, slice_get_within, stack_size, start_memory, stored, stretch, subst, sym, true, ℕ, ⊎_elim, ◌%◌, ◌&&◌, ◌+◌, ◌-◌, ◌/◌, ◌<◌, ◌^◌, ◌∙◌, ◌≡◌, ◌≤◌}
+use Rattle.sc_image.proofs.Common.{Bool, CompPart, HoldsBytes, ImageParts, IsByte, IsWellFormed, Memory, None, Option}
+use Rattle.sc_image.proofs.Common.{Some, are_data, arith, byte_of, comp_of_data, data_start, false}
+use Rattle.sc_image.proofs.Common.{get_or_from_slice_get, globals_of, if◌then◌else◌, leb-true, length, ltb-true}
+use Rattle.sc_image.proofs.Common.{most_globals, nat_le, nat_lt, option_and_then, refl, refused, slice_get}
+use Rattle.sc_image.proofs.Common.{slice_get_cases, slice_get_within, stack_size, start_memory, stored, stretch, subst}
+use Rattle.sc_image.proofs.Common.{sym, true, ℕ, ⊎_elim, ◌%◌, ◌&&◌, ◌+◌, ◌-◌, ◌/◌, ◌<◌, ◌^◌, ◌∙◌, ◌≡◌, ◌≤◌}
 use Rattle.sc_image.proofs.AtStart.{data_byte, start_is}
 use Rattle.sc_image.proofs.Cases.{allowed_data}
 use Rattle.sc_image.proofs.Data.{data_bounds}

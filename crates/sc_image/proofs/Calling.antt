@@ -1,5 +1,9 @@
 -- Calls between compartments, returns, inputs, and jumps that are no calls, on small images.
-use Rattle.sc_image.proofs.Common.{BadCall, BadJump, Bool, Breakpoint, Call, Ended, EventsOut, Export, ImageParts, ImportPart, In, IsCall, List, Misaligned, NoImport, None, Ret, Some, State, Trap, [], a0, are_data, codes, decoded, execute_by, false, jalr_in, load_in, load_op_of, machine, op_imm_in, op_imm_op_of, op_in, op_op_of, refl, reg, replicate, run, step_by, stopped, store_in, store_op_of, system_in, true, word_at, ℕ, ◌∷◌, ◌≡◌}
+use Rattle.sc_image.proofs.Common.{BadCall, BadJump, Bool, Breakpoint, Call, Ended, EventsOut, Export, ImageParts}
+use Rattle.sc_image.proofs.Common.{ImportPart, In, IsCall, List, Misaligned, NoImport, None, Ret, Some, State, Trap, []}
+use Rattle.sc_image.proofs.Common.{a0, are_data, codes, decoded, execute_by, false, jalr_in, load_in, load_op_of}
+use Rattle.sc_image.proofs.Common.{machine, op_imm_in, op_imm_op_of, op_in, op_op_of, refl, reg, replicate, run}
+use Rattle.sc_image.proofs.Common.{step_by, stopped, store_in, store_op_of, system_in, true, word_at, ℕ, ◌∷◌, ◌≡◌}
 
 -- A with this code, which may call the export f of B, or not; and B, which begins with f
 abbrev pair : (imports : List ImportPart) → (params : ℕ) (result : Bool) → (a b : List ℕ) → ImageParts

@@ -1,13 +1,24 @@
 -- What a step can come to, in two states at once that a compartment can't tell apart: the same registers, pc, inputs
 -- and events, and the same
 -- bytes at its addresses. A relation between the outcomes holds if it holds of each kind of outcome.
-use Rattle.sc_image.proofs.Common.{BadCall, BadJump, Bool, Branch, Breakpoint, Crossing, Ebreak, Ecall, Event, Fence, Goes, HasWord, HoldsBytes, Illegal, ImageParts, Instr, IsWellFormed, IsWord, Jalr, List, Load, LoadOp, Memory, Misaligned, NoImport, None, Op, OpImm, Option, Outcome, Owner, Shift, ShiftOp, Some, State, Store, StoreOp, TrapReason, Traps, a7, add_word-lt, ap, are_data, arith, by_owner, called, calls, comp_of_code, compares, computed, decoded, execute, execute_by, export_at, export_called, extended, false, gate, gives, if_decoded, if_fetched, if◌then◌else◌, input, is_some, jalr_target, jump, leaves, length, length-set, load_of-same, load_size, loaded, may_call, may_input, may_output, nat_eq, next, not, on_registers, output, params_of, ra, refl, refused, reg, returned, set, shift_on_registers, slice_index, sll_word-lt, sra_word-lt, srl_word-lt, step, step_by, store_size, subst, true, unless, with_pc, with_stored, word_at, word_of-lt, written, ℕ, ◌%◌, ◌&&◌, ◌+◌, ◌<◌, ◌==◌, ◌≡◌}
+use Rattle.sc_image.proofs.Common.{Auipc, BadCall, BadJump, Bool, Branch, Breakpoint, Crossing, Ebreak, Ecall, Event}
+use Rattle.sc_image.proofs.Common.{Fence, Goes, HasWord, HoldsBytes, Illegal, ImageParts, Instr, IsWellFormed, IsWord}
+use Rattle.sc_image.proofs.Common.{Jal, Jalr, List, Load, LoadOp, Lui, Memory, Misaligned, NoImport, None, Op, OpImm}
+use Rattle.sc_image.proofs.Common.{Option, Outcome, Owner, Shift, ShiftOp, Some, State, Store, StoreOp, TrapReason}
+use Rattle.sc_image.proofs.Common.{Traps, Upper, a7, add_word-lt, ap, are_data, arith, by_owner, called, calls}
+use Rattle.sc_image.proofs.Common.{comp_of_code, compares, computed, decoded, execute, execute_by, export_at}
+use Rattle.sc_image.proofs.Common.{export_called, extended, false, gate, gives, if_decoded, if_fetched, if◌then◌else◌}
+use Rattle.sc_image.proofs.Common.{input, is_some, jalr_target, jump, leaves, length, length-set, load_of-same}
+use Rattle.sc_image.proofs.Common.{load_size, loaded, may_call, may_input, may_output, nat_eq, next, not, on_registers}
+use Rattle.sc_image.proofs.Common.{output, params_of, ra, refl, refused, reg, returned, set, shift_on_registers}
+use Rattle.sc_image.proofs.Common.{slice_index, sll_word-lt, sra_word-lt, srl_word-lt, step, step_by, store_size, subst}
+use Rattle.sc_image.proofs.Common.{true, unless, with_pc, with_stored, word_at, word_of-lt, written, ℕ, ◌%◌, ◌&&◌, ◌+◌}
+use Rattle.sc_image.proofs.Common.{◌<◌, ◌==◌, ◌≡◌}
 use Rattle.sc_word.specs.Prelude.{add_word, word_of}
 use Rattle.rv_code.specs.declared.instr.ShiftOp.TheVariants.{Slli, Srli, Srai}
 use Rattle.rv_code.proofs.OneEach.{HasWord-decoded}
-use Rattle.sc_image.proofs.Words.{AreWords, written_words, written_zero, computed_word, loaded_word, in_code, code_address}
-use Rattle.rv_code.specs.declared.instr.Instr.TheVariants.{Upper, Jal}
-use Rattle.rv_code.specs.declared.instr.UpperOp.TheVariants.{Lui, Auipc}
+use Rattle.sc_image.proofs.Words.{AreWords, written_words, written_zero, computed_word, loaded_word, in_code}
+use Rattle.sc_image.proofs.Words.{code_address}
 use Rattle.sc_image.proofs.Data.{data_bounds, within_data}
 
 -- each byte of an access that is the compartment's

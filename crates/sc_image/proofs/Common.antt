@@ -1,14 +1,28 @@
 -- The names that several proofs of this crate cite, passed on from one place. Declares nothing.
-pub use Rattle.std.proofs.Common.{All, Bool, Err, IsSome, IsTrue, List, None, Ok, Option, Result, Some, [], ap, append-nil, append_assoc, ap₂, arith, codes, cond, drop, drop_at, eq-eqb, eqb-true, false, flat_map, get_or, get_or-drop, get_or-set_other, get_or-set_same, get_or-take, if◌then◌else◌, inl, inr, is_some, le-leb, le-ltb, leb-true, length, length-append, length-drop, length-set, length-take, length-take-le, lit<, lit≤, lt-ltb, ltb, ltb-true, map, nat_eq, nat_le, nat_lt, ne_eqb, not, position, refl, replicate, set, slice_index, slice_set, subst, suc, suc-add, sym, take, take-append-drop, take_at, true, true≢false, unwrap_or, zero, zero-add, ℕ, ⊎_elim, ◌%◌, ◌&&◌, ◌*◌, ◌++◌, ◌+◌, ◌-◌, ◌/◌, ◌<◌, ◌==◌, ◌^◌, ◌||◌, ◌↔◌, ◌∙◌, ◌∷◌, ◌≡◌, ◌≢◌, ◌≤◌, ◌⊎◌}
+pub use Rattle.std.proofs.Common.{All, Bool, Err, IsSome, IsTrue, List, None, Ok, Option, Result, Some, [], ap}
+pub use Rattle.std.proofs.Common.{append-nil, append_assoc, ap₂, arith, codes, cond, drop, drop_at, eq-eqb, eqb-true}
+pub use Rattle.std.proofs.Common.{false, flat_map, get_or, get_or-drop, get_or-set_other, get_or-set_same, get_or-take}
+pub use Rattle.std.proofs.Common.{if◌then◌else◌, inl, inr, is_some, le-leb, le-ltb, leb-true, length, length-append}
+pub use Rattle.std.proofs.Common.{length-drop, length-set, length-take, length-take-le, lit<, lit≤, lt-ltb, ltb}
+pub use Rattle.std.proofs.Common.{ltb-true, map, nat_eq, nat_le, nat_lt, ne_eqb, not, position, refl, replicate, set}
+pub use Rattle.std.proofs.Common.{slice_index, slice_set, subst, suc, suc-add, sym, take, take-append-drop, take_at}
+pub use Rattle.std.proofs.Common.{true, true≢false, unwrap_or, zero, zero-add, ℕ, ⊎_elim, ◌%◌, ◌&&◌, ◌*◌, ◌++◌, ◌+◌}
+pub use Rattle.std.proofs.Common.{◌-◌, ◌/◌, ◌<◌, ◌==◌, ◌^◌, ◌||◌, ◌↔◌, ◌∙◌, ◌∷◌, ◌≡◌, ◌≢◌, ◌≤◌, ◌⊎◌}
 pub use Rattle.std.proofs.Math.Seq.{drop-append_seam, drop-length}
-pub use Rattle.std.proofs.lemmas.Bool.{and_from, and_parts, cases_lt, eqb-false, false_from_ne_true, lt-leb, not-true, not_from_false, or_left, or_right}
-pub use Rattle.std.proofs.lemmas.Bool.Decides.{Decides-and, Decides-like, nat_tests, not_from_Decides, same_from_decides}
-pub use Rattle.std.proofs.lemmas.List.{drop_more, get_or-append_right, get_or_append_left, get_or_default, get_or_past, length-map, length-replicate, nil_from_length, take-replicate}
-pub use Rattle.std.proofs.lemmas.List.Elements.{All-cons, All-from_recursion, All-head, All-nil, All-tail, recursion_from_All}
+pub use Rattle.std.proofs.lemmas.Bool.{and_from, and_parts, cases_lt, eqb-false, false_from_ne_true, lt-leb, not-true}
+pub use Rattle.std.proofs.lemmas.Bool.{not_from_false, or_left, or_right}
+pub use Rattle.std.proofs.lemmas.Bool.Decides.{Decides-and, Decides-like, nat_tests, not_from_Decides}
+pub use Rattle.std.proofs.lemmas.Bool.Decides.{same_from_decides}
+pub use Rattle.std.proofs.lemmas.List.{drop_more, get_or-append_right, get_or_append_left, get_or_default, get_or_past}
+pub use Rattle.std.proofs.lemmas.List.{length-map, length-replicate, nil_from_length, take-replicate}
+pub use Rattle.std.proofs.lemmas.List.Elements.{All-cons, All-from_recursion, All-head, All-nil, All-tail}
+pub use Rattle.std.proofs.lemmas.List.Elements.{recursion_from_All}
 pub use Rattle.std.proofs.lemmas.List.Quantifiers.{position-Some}
-pub use Rattle.std.proofs.lemmas.Map.Made.{AllPairs-from_IsDistinct, IsDistinct-from_AllPairs, IsDistinct-from_count, distinct_count-from_IsDistinct, hash_set_len-from_list}
+pub use Rattle.std.proofs.lemmas.Map.Made.{AllPairs-from_IsDistinct, IsDistinct-from_AllPairs, IsDistinct-from_count}
+pub use Rattle.std.proofs.lemmas.Map.Made.{distinct_count-from_IsDistinct, hash_set_len-from_list}
 pub use Rattle.std.proofs.lemmas.Nat.{and_le_l, le_bytes_2, le_bytes_4, or_lt, xor_lt}
-pub use Rattle.std.proofs.lemmas.Option.{get_or_from_slice_get, slice_get-get_or, slice_get-map, slice_get_cases, slice_get_past, slice_get_within}
+pub use Rattle.std.proofs.lemmas.Option.{get_or_from_slice_get, slice_get-get_or, slice_get-map, slice_get_cases}
+pub use Rattle.std.proofs.lemmas.Option.{slice_get_past, slice_get_within}
 pub use Rattle.std.proofs.lemmas.Result.{err_from_is_err_and}
 pub use Rattle.std.specs.Bool.{Decides}
 pub use Rattle.std.specs.Cmp.{IsEquivalence, unsigned_Decides}
@@ -17,24 +31,62 @@ pub use Rattle.std.specs.List.{AllByRecursion, list_all, list_any, position_or_l
 pub use Rattle.std.specs.Option.{IsSomeAnd, option_and_then, option_map, option_map_or}
 pub use Rattle.sc_base.specs.Prelude.{is_between, is_name_byte, is_nondigit}
 unfoldable pub use Rattle.sc_base.specs.Prelude.{is_name}
-pub use Rattle.sc_event.specs.Prelude.{Activation, Standing, at_start, awaits, fits_result, imports, is_allowed, is_function, is_input, is_legal_from, is_output, may_perform, may_return, performer, resumed, stands_after, stands_behind, takes}
+pub use Rattle.sc_event.specs.Prelude.{Activation, Standing, at_start, awaits, fits_result, imports, is_allowed}
+pub use Rattle.sc_event.specs.Prelude.{is_function, is_input, is_legal_from, is_output, may_perform, may_return}
+pub use Rattle.sc_event.specs.Prelude.{performer, resumed, stands_after, stands_behind, takes}
 pub use Rattle.sc_event.specs.declared.interface.Import.{Import}
 pub use Rattle.sc_event.specs.declared.interface.Interface.{Interface}
 pub use Rattle.sc_event.specs.declared.interface.Interfaces.{Interfaces}
 pub use Rattle.sc_event.specs.declared.interface.Proto.{Proto}
 pub use Rattle.sc_event.specs.declared.interface.Scalar.{Scalar}
 pub use Rattle.sc_event.specs.declared.interface.Scalar.TheVariants.{Int}
-pub use Rattle.sc_word.proofs.Below.{add_word-lt, div_word-lt, divu_word-lt, mul_word-lt, mulh_word-lt, mulhsu_word-lt, mulhu_word-lt, rem_word-lt, remu_word-lt, sll_word-lt, slt_word-lt, sltu_word-lt, sra_word-lt, srl_word-lt, sub_word-lt}
+pub use Rattle.sc_word.proofs.Below.{add_word-lt, div_word-lt, divu_word-lt, mul_word-lt, mulh_word-lt, mulhsu_word-lt}
+pub use Rattle.sc_word.proofs.Below.{mulhu_word-lt, rem_word-lt, remu_word-lt, sll_word-lt, slt_word-lt, sltu_word-lt}
+pub use Rattle.sc_word.proofs.Below.{sra_word-lt, srl_word-lt, sub_word-lt}
 pub use Rattle.sc_word.proofs.Words.{word_of-lt}
 pub use Rattle.rv_code.specs.Prelude.{HasWord, signed}
-unfoldable pub use Rattle.rv_code.specs.Prelude.{branch_in, branch_op_of, decoded, jalr_in, load_in, load_op_of, op_imm_in, op_imm_op_of, op_in, op_op_of, store_in, store_op_of, system_in}
+unfoldable pub use Rattle.rv_code.specs.Prelude.{branch_in, branch_op_of, decoded, jalr_in, load_in, load_op_of}
+unfoldable pub use Rattle.rv_code.specs.Prelude.{op_imm_in, op_imm_op_of, op_in, op_op_of, store_in, store_op_of}
+unfoldable pub use Rattle.rv_code.specs.Prelude.{system_in}
 pub use Rattle.sc_store.proofs.Words.{load_of-same, stored-apart}
 pub use Rattle.sc_store.specs.Prelude.{HoldsBytes, Memory, byte_of, is_in, load_of, stored}
-pub use Rattle.sc_image.specs.Common.{BadCall, BadJump, Branch, Breakpoint, Call, Ebreak, Ecall, End, Ended, Entry, Event, EventsOut, Export, Fence, Illegal, In, Instr, Jalr, Load, LoadOp, Main, Misaligned, NoImport, Op, OpImm, OpOp, Out, Owner, Region, Ret, Shift, ShiftOp, StepsOut, Stop, Store, StoreOp, Trap, TrapReason, little_bytes, little_number}
-pub use Rattle.sc_image.specs.Prelude.{Adds, AreSilent, BadOrImage, BytesNameOneImage, Crossing, Entered, EntersByEvent, Fails, FitsItsFields, FollowsFromOwn, Goes, GoesOnSame, ImageInMemory, IsAt, IsByte, IsCall, IsChain, IsComp, IsDistinct, IsExport, IsImage, IsImport, IsReached, IsSilent, IsSteady, IsWellFormed, IsWord, KeepsWords, Kept, LeavesOthers, LegalByWords, LooksSame, OpenCall, Outcome, Own, Read, Run, Running, RunsAreSteady, State, StepsByInstruction, StepsTell, StretchesCompose, TellingComposes, Tells, TracesAreLegal, Traps, Waits, Walks, a0, a7, activates, after, after_outcome, after_step, after_steps, are_distinct, arguments, bad, bit, by_owner, byte_at, bytes_at, bytes_in_version, call_of, called, calls, cause_of, code_bytes, code_of, code_start, comp_bytes, comp_of_code, comp_of_data, compares, comps_keep, computed, continued, count_read, data_of, data_regions, data_start, data_with, ended, execute, export_at, export_bytes, export_called, exports_bytes, exports_keep, exports_of, extended, flags, gate, given_back, gives, globals_bytes, globals_of, has_result, if_decoded, if_fetched, if_good, image_bytes, image_of, import_bytes, import_of, imports_bytes, imports_keep, input, input_at, inputs_in, interface_of, interfaces_of, is_argument, is_end, is_ended, is_entry, is_import, is_result, is_same_import, is_same_name, jalr_target, jump, keeps_rules, kept, kept_by, kept_from, leaves, load_size, loaded, machine, may_call, may_input, may_output, most_globals, name_bytes, next, number_at, number_that, observation, observation_of, on_registers, open_after, open_calls, output, own, params_of, proto_of, ra, refused, reg, returned, returned_to, saved_sp, shift_on_registers, shows_entry, sp, stack_size, stack_top, stack_tops, start, step, stops_or, store_size, stretch, then_on, unless, unless_stopped, version, walk, with_pc, with_stored, without_latest, word_interface, word_interfaces, word_proto, written, ◌>>=◌}
-unfoldable pub use Rattle.sc_image.specs.Prelude.{are_data, code_at, comp_at, comp_name_at, execute_by, exports_at, fields_at, globals_at, image_in_version, import_at, imports_at, name_at, parts_in_version, run, start_memory, step_by, stopped, word_at}
+pub use Rattle.sc_image.specs.Common.{Auipc, BadCall, BadJump, Branch, Breakpoint, Call, Ebreak, Ecall, End, Ended}
+pub use Rattle.sc_image.specs.Common.{Entry, Event, EventsOut, Export, Fence, Illegal, In, Instr, Jal, Jalr, Load}
+pub use Rattle.sc_image.specs.Common.{LoadOp, Lui, Main, Misaligned, NoImport, Op, OpImm, OpOp, Out, Owner, Region, Ret}
+pub use Rattle.sc_image.specs.Common.{Shift, ShiftOp, StepsOut, Stop, Store, StoreOp, Trap, TrapReason, Upper}
+pub use Rattle.sc_image.specs.Common.{little_bytes, little_number}
+pub use Rattle.sc_image.specs.Prelude.{Adds, AreSilent, BadOrImage, BytesNameOneImage, Crossing, Entered, EntersByEvent}
+pub use Rattle.sc_image.specs.Prelude.{Fails, FitsItsFields, FollowsFromOwn, Goes, GoesOnSame, ImageInMemory, IsAt}
+pub use Rattle.sc_image.specs.Prelude.{IsByte, IsCall, IsChain, IsComp, IsDistinct, IsExport, IsImage, IsImport}
+pub use Rattle.sc_image.specs.Prelude.{IsReached, IsSilent, IsSteady, IsWellFormed, IsWord, KeepsWords, Kept}
+pub use Rattle.sc_image.specs.Prelude.{LeavesOthers, LegalByWords, LooksSame, OpenCall, Outcome, Own, Read, Run}
+pub use Rattle.sc_image.specs.Prelude.{Running, RunsAreSteady, State, StepsByInstruction, StepsTell, StretchesCompose}
+pub use Rattle.sc_image.specs.Prelude.{TellingComposes, Tells, TracesAreLegal, Traps, Waits, Walks, a0, a7, activates}
+pub use Rattle.sc_image.specs.Prelude.{after, after_outcome, after_step, after_steps, are_distinct, arguments, bad, bit}
+pub use Rattle.sc_image.specs.Prelude.{by_owner, byte_at, bytes_at, bytes_in_version, call_of, called, calls, cause_of}
+pub use Rattle.sc_image.specs.Prelude.{code_bytes, code_of, code_start, comp_bytes, comp_of_code, comp_of_data}
+pub use Rattle.sc_image.specs.Prelude.{compares, comps_keep, computed, continued, count_read, data_of, data_regions}
+pub use Rattle.sc_image.specs.Prelude.{data_start, data_with, ended, execute, export_at, export_bytes, export_called}
+pub use Rattle.sc_image.specs.Prelude.{exports_bytes, exports_keep, exports_of, extended, flags, gate, given_back}
+pub use Rattle.sc_image.specs.Prelude.{gives, globals_bytes, globals_of, has_result, if_decoded, if_fetched, if_good}
+pub use Rattle.sc_image.specs.Prelude.{image_bytes, image_of, import_bytes, import_of, imports_bytes, imports_keep}
+pub use Rattle.sc_image.specs.Prelude.{input, input_at, inputs_in, interface_of, interfaces_of, is_argument, is_end}
+pub use Rattle.sc_image.specs.Prelude.{is_ended, is_entry, is_import, is_result, is_same_import, is_same_name}
+pub use Rattle.sc_image.specs.Prelude.{jalr_target, jump, keeps_rules, kept, kept_by, kept_from, leaves, load_size}
+pub use Rattle.sc_image.specs.Prelude.{loaded, machine, may_call, may_input, may_output, most_globals, name_bytes, next}
+pub use Rattle.sc_image.specs.Prelude.{number_at, number_that, observation, observation_of, on_registers, open_after}
+pub use Rattle.sc_image.specs.Prelude.{open_calls, output, own, params_of, proto_of, ra, refused, reg, returned}
+pub use Rattle.sc_image.specs.Prelude.{returned_to, saved_sp, shift_on_registers, shows_entry, sp, stack_size}
+pub use Rattle.sc_image.specs.Prelude.{stack_top, stack_tops, start, step, stops_or, store_size, stretch, then_on}
+pub use Rattle.sc_image.specs.Prelude.{unless, unless_stopped, version, walk, with_pc, with_stored, without_latest}
+pub use Rattle.sc_image.specs.Prelude.{word_interface, word_interfaces, word_proto, written, ◌>>=◌}
+unfoldable pub use Rattle.sc_image.specs.Prelude.{are_data, code_at, comp_at, comp_name_at, execute_by, exports_at}
+unfoldable pub use Rattle.sc_image.specs.Prelude.{fields_at, globals_at, image_in_version, import_at, imports_at}
+unfoldable pub use Rattle.sc_image.specs.Prelude.{name_at, parts_in_version, run, start_memory, step_by, stopped}
+unfoldable pub use Rattle.sc_image.specs.Prelude.{word_at}
 pub use Rattle.sc_image.specs.declared.fault.BadImage.{BadImage}
-pub use Rattle.sc_image.specs.declared.fault.BadImage.TheVariants.{Compartment, Contents, Count, Exports, Imports, Mark, Start, Version, Whole}
+pub use Rattle.sc_image.specs.declared.fault.BadImage.TheVariants.{Compartment, Contents, Count, Exports, Imports, Mark}
+pub use Rattle.sc_image.specs.declared.fault.BadImage.TheVariants.{Start, Version, Whole}
 pub use Rattle.sc_image.specs.declared.parts.CompPart.{CompPart}
 pub use Rattle.sc_image.specs.declared.parts.ExportPart.{ExportPart}
 pub use Rattle.sc_image.specs.declared.parts.ImageParts.{ImageParts}

@@ -1,5 +1,7 @@
 -- A compartment's data lie in one piece.
-use Rattle.sc_image.proofs.Common.{Bool, ImageParts, ap₂, are_data, arith, data_start, false, globals_of, length, nat_le, nat_lt, nat_tests, stack_size, stack_top, suc, sym, true, zero, ℕ, ◌&&◌, ◌+◌, ◌<◌, ◌||◌, ◌∙◌, ◌≡◌, ◌≤◌}
+use Rattle.sc_image.proofs.Common.{Bool, ImageParts, ap₂, are_data, arith, data_start, false, globals_of, length}
+use Rattle.sc_image.proofs.Common.{nat_le, nat_lt, nat_tests, stack_size, stack_top, suc, sym, true, zero, ℕ, ◌&&◌, ◌+◌}
+use Rattle.sc_image.proofs.Common.{◌<◌, ◌||◌, ◌∙◌, ◌≡◌, ◌≤◌}
 
 byte_is : (low mid count a : ℕ) →
     (nat_le low a && nat_lt a (low + mid) || (nat_le (low + mid) a && nat_lt a (low + mid + count) || false)) ≡

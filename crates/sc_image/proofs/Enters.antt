@@ -1,5 +1,17 @@
 -- What belongs to a compartment that a call or a return makes active.
-use Rattle.sc_image.proofs.Common.{Adds, Bool, Call, CompPart, Crossing, End, Entered, EntersByEvent, Event, Export, ExportPart, Goes, ImageParts, In, IsChain, IsExport, IsSteady, IsWellFormed, Kept, List, None, Option, Out, Outcome, Own, Ret, Some, State, Waits, [], a0, activates, after_outcome, ap, arguments, arith, called, data_of, drop, drop-append_seam, drop-length, eq-eqb, eqb-true, export_at, exports_of, false, flat_map, gate, get_or, get_or-append_right, get_or-drop, get_or-set_other, get_or-take, get_or_append_left, get_or_from_slice_get, given_back, has_result, if◌then◌else◌, input_at, is_argument, is_result, is_some, kept, kept_by, kept_from, length, length-append, length-drop, length-take-le, nat_eq, nat_le, nat_lt, nat_tests, ne_eqb, observation_of, option_map_or, own, params_of, position-Some, ra, refl, reg, replicate, returned, returned_to, saved_sp, slice_get, slice_get-get_or, slice_get_within, sp, step, subst, suc, sym, true, unwrap_or, written, zero, ℕ, ◌&&◌, ◌++◌, ◌+◌, ◌-◌, ◌<◌, ◌==◌, ◌∙◌, ◌∷◌, ◌≡◌, ◌≢◌, ◌≤◌}
+use Rattle.sc_image.proofs.Common.{Adds, Bool, Call, CompPart, Crossing, End, Entered, EntersByEvent, Event, Export}
+use Rattle.sc_image.proofs.Common.{ExportPart, Goes, ImageParts, In, IsChain, IsExport, IsSteady, IsWellFormed, Kept}
+use Rattle.sc_image.proofs.Common.{List, None, Option, Out, Outcome, Own, Ret, Some, State, Waits, [], a0, activates}
+use Rattle.sc_image.proofs.Common.{after_outcome, ap, arguments, arith, called, data_of, drop, drop-append_seam}
+use Rattle.sc_image.proofs.Common.{drop-length, eq-eqb, eqb-true, export_at, exports_of, false, flat_map, gate, get_or}
+use Rattle.sc_image.proofs.Common.{get_or-append_right, get_or-drop, get_or-set_other, get_or-take, get_or_append_left}
+use Rattle.sc_image.proofs.Common.{get_or_from_slice_get, given_back, has_result, if◌then◌else◌, input_at, is_argument}
+use Rattle.sc_image.proofs.Common.{is_result, is_some, kept, kept_by, kept_from, length, length-append, length-drop}
+use Rattle.sc_image.proofs.Common.{length-take-le, nat_eq, nat_le, nat_lt, nat_tests, ne_eqb, observation_of}
+use Rattle.sc_image.proofs.Common.{option_map_or, own, params_of, position-Some, ra, refl, reg, replicate, returned}
+use Rattle.sc_image.proofs.Common.{returned_to, saved_sp, slice_get, slice_get-get_or, slice_get_within, sp, step}
+use Rattle.sc_image.proofs.Common.{subst, suc, sym, true, unwrap_or, written, zero, ℕ, ◌&&◌, ◌++◌, ◌+◌, ◌-◌, ◌<◌, ◌==◌}
+use Rattle.sc_image.proofs.Common.{◌∙◌, ◌∷◌, ◌≡◌, ◌≢◌, ◌≤◌}
 use Rattle.sc_image.proofs.Cases.{step_of}
 
 -- Registers that hold these words from a0 on, of which so many count.

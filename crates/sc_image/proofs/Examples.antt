@@ -1,5 +1,8 @@
 -- Small programs of other instructions, and the bytes of other tables.
-use Rattle.sc_image.proofs.Common.{BadJump, ImageParts, List, Misaligned, Owner, Trap, [], a0, are_data, branch_in, branch_op_of, codes, comp_bytes, decoded, execute_by, false, jalr_in, load_in, load_op_of, machine, op_imm_in, op_imm_op_of, op_in, op_op_of, refl, reg, run, start_memory, step_by, stopped, store_in, store_op_of, true, word_at, ℕ, ◌∷◌, ◌≡◌}
+use Rattle.sc_image.proofs.Common.{BadJump, ImageParts, List, Misaligned, Owner, Trap, [], a0, are_data, branch_in}
+use Rattle.sc_image.proofs.Common.{branch_op_of, codes, comp_bytes, decoded, execute_by, false, jalr_in, load_in}
+use Rattle.sc_image.proofs.Common.{load_op_of, machine, op_imm_in, op_imm_op_of, op_in, op_op_of, refl, reg, run}
+use Rattle.sc_image.proofs.Common.{start_memory, step_by, stopped, store_in, store_op_of, true, word_at, ℕ, ◌∷◌, ◌≡◌}
 
 abbrev with_code : (code globals : List ℕ) → ImageParts
 with_code code globals = record {

@@ -1,8 +1,19 @@
 -- The fields of an image: what is read is what is written.
-use Rattle.sc_image.proofs.Common.{AllByRecursion, BadImage, Bool, CompPart, Compartment, Contents, Count, ExportPart, Exports, ImageParts, ImportPart, Imports, List, Mark, Ok, Start, Version, [], and_from, and_parts, ap, append_assoc, arith, bit, bytes_in_version, code_at, code_bytes, codes, comp_at, comp_bytes, comp_name_at, eq-eqb, eqb-true, export_bytes, exports_at, exports_bytes, false, flags, get_or, globals_at, globals_bytes, import_at, import_bytes, imports_at, imports_bytes, is_between, is_name, is_name_byte, is_nondigit, is_same_name, le-leb, leb-true, length, list_all, little_bytes, lt-ltb, ltb-true, most_globals, name_at, name_bytes, nat_le, nat_lt, nat_tests, not, not-true, not_from_false, number_at, parts_in_version, refl, same_text, stretch, suc, sym, true, zero, ℕ, ◌%◌, ◌&&◌, ◌*◌, ◌++◌, ◌+◌, ◌/◌, ◌<◌, ◌==◌, ◌^◌, ◌∙◌, ◌∷◌, ◌≡◌, ◌≤◌}
+use Rattle.sc_image.proofs.Common.{AllByRecursion, BadImage, Bool, CompPart, Compartment, Contents, Count, ExportPart}
+use Rattle.sc_image.proofs.Common.{Exports, ImageParts, ImportPart, Imports, List, Mark, Ok, Start, Version, []}
+use Rattle.sc_image.proofs.Common.{and_from, and_parts, ap, append_assoc, arith, bit, bytes_in_version, code_at}
+use Rattle.sc_image.proofs.Common.{code_bytes, codes, comp_at, comp_bytes, comp_name_at, eq-eqb, eqb-true, export_bytes}
+use Rattle.sc_image.proofs.Common.{exports_at, exports_bytes, false, flags, get_or, globals_at, globals_bytes}
+use Rattle.sc_image.proofs.Common.{import_at, import_bytes, imports_at, imports_bytes, is_between, is_name}
+use Rattle.sc_image.proofs.Common.{is_name_byte, is_nondigit, is_same_name, le-leb, leb-true, length, list_all}
+use Rattle.sc_image.proofs.Common.{little_bytes, lt-ltb, ltb-true, most_globals, name_at, name_bytes, nat_le, nat_lt}
+use Rattle.sc_image.proofs.Common.{nat_tests, not, not-true, not_from_false, number_at, parts_in_version, refl}
+use Rattle.sc_image.proofs.Common.{same_text, stretch, suc, sym, true, zero, ℕ, ◌%◌, ◌&&◌, ◌*◌, ◌++◌, ◌+◌, ◌/◌, ◌<◌}
+use Rattle.sc_image.proofs.Common.{◌==◌, ◌^◌, ◌∙◌, ◌∷◌, ◌≡◌, ◌≤◌}
 use Rattle.sc_image.specs.Reading.{export_at}
 use Rattle.sc_image.proofs.Fits.{short_name}
-use Rattle.sc_image.proofs.Fields.{IsBytes, IsField, restated, made, tested, followed, bytes_field, number_field, byte_field, many_field, two_wide, four_wide}
+use Rattle.sc_image.proofs.Fields.{IsBytes, IsField, restated, made, tested, followed, bytes_field, number_field}
+use Rattle.sc_image.proofs.Fields.{byte_field, many_field, two_wide, four_wide}
 
 -- names
 

@@ -1,5 +1,6 @@
 -- The lengths in a well-formed image fit the fields that they are written in.
-use Rattle.sc_image.proofs.Common.{All, CompPart, FitsItsFields, ImageParts, IsComp, IsTrue, IsWellFormed, List, Some, arith, get_or, is_name, length, slice_get, slice_get-get_or, ℕ, ◌≡◌, ◌≤◌}
+use Rattle.sc_image.proofs.Common.{All, CompPart, FitsItsFields, ImageParts, IsComp, IsTrue, IsWellFormed, List, Some}
+use Rattle.sc_image.proofs.Common.{arith, get_or, is_name, length, slice_get, slice_get-get_or, ℕ, ◌≡◌, ◌≤◌}
 use Rattle.sc_base.proofs.Filled.{name_is_short}
 
 fits : (image : ImageParts) (c : ℕ) (comp : CompPart) → IsComp image c comp → FitsItsFields comp

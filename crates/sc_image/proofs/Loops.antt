@@ -1,5 +1,6 @@
 -- Fields of one kind are read one after the other, as a loop does it.
-use Rattle.sc_image.proofs.Common.{Err, Fails, List, Ok, Read, [], ap, append-nil, append_assoc, arith, fields_at, refl, suc, sym, ℕ, ◌++◌, ◌+◌, ◌-◌, ◌<◌, ◌>>=◌, ◌∙◌, ◌∷◌, ◌≡◌, ◌≤◌}
+use Rattle.sc_image.proofs.Common.{Err, Fails, List, Ok, Read, [], ap, append-nil, append_assoc, arith, fields_at, refl}
+use Rattle.sc_image.proofs.Common.{suc, sym, ℕ, ◌++◌, ◌+◌, ◌-◌, ◌<◌, ◌>>=◌, ◌∙◌, ◌∷◌, ◌≡◌, ◌≤◌}
 use Rattle.sc_image.specs.declared.fault.ImageFault.{ImageFault}
 use Rattle.sc_image.specs.declared.fault.ImageFault.TheVariants as faults
 

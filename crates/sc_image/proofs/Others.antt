@@ -1,5 +1,12 @@
 -- A step leaves what belongs to other compartments.
-use Rattle.sc_image.proofs.Common.{Adds, Bool, Call, Crossing, Event, Export, Goes, ImageParts, IsChain, IsSteady, IsWellFormed, LeavesOthers, List, Memory, None, Outcome, Ret, Running, Some, State, [], a0, activates, after_outcome, ap, are_data, arguments, arith, called, data_of, drop, drop-append_seam, eq-eqb, false, flat_map, get_or-set_other, given_back, has_result, if◌then◌else◌, input_at, kept_by, length, nat_eq, ne_eqb, observation_of, own, params_of, refl, reg, returned, returned_to, saved_sp, shows_entry, sp, step, store_size, stored, stored-apart, subst, sym, true, written, ℕ, ◌++◌, ◌+◌, ◌<◌, ◌==◌, ◌||◌, ◌∙◌, ◌∷◌, ◌≡◌, ◌≢◌, ◌≤◌}
+use Rattle.sc_image.proofs.Common.{Adds, Bool, Call, Crossing, Event, Export, Goes, ImageParts, IsChain, IsSteady}
+use Rattle.sc_image.proofs.Common.{IsWellFormed, LeavesOthers, List, Memory, None, Outcome, Ret, Running, Some, State}
+use Rattle.sc_image.proofs.Common.{[], a0, activates, after_outcome, ap, are_data, arguments, arith, called, data_of}
+use Rattle.sc_image.proofs.Common.{drop, drop-append_seam, eq-eqb, false, flat_map, get_or-set_other, given_back}
+use Rattle.sc_image.proofs.Common.{has_result, if◌then◌else◌, input_at, kept_by, length, nat_eq, ne_eqb, observation_of}
+use Rattle.sc_image.proofs.Common.{own, params_of, refl, reg, returned, returned_to, saved_sp, shows_entry, sp, step}
+use Rattle.sc_image.proofs.Common.{store_size, stored, stored-apart, subst, sym, true, written, ℕ, ◌++◌, ◌+◌, ◌<◌, ◌==◌}
+use Rattle.sc_image.proofs.Common.{◌||◌, ◌∙◌, ◌∷◌, ◌≡◌, ◌≢◌, ◌≤◌}
 use Rattle.sc_image.proofs.Cases.{allowed_data, step_of}
 use Rattle.sc_image.proofs.Data.{data_bounds}
 use Rattle.sc_image.proofs.Bytes.{few_globals}

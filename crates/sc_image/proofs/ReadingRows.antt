@@ -1,5 +1,10 @@
 -- What is read from the bytes of small images, and why other bytes are none.
-use Rattle.sc_image.proofs.Common.{Compartment, Contents, Count, Err, Exports, ImageParts, ImportPart, Imports, List, Mark, None, Ok, Some, Start, Version, Whole, [], bad, code_at, codes, comp_at, comp_name_at, exports_at, false, fields_at, globals_at, image_bytes, image_in_version, image_of, import_at, imports_at, is_name, keeps_rules, map, name_at, nat_le, number_that, parts_in_version, range_with_len, refl, replicate, take, true, word_at, ℕ, ◌++◌, ◌∷◌, ◌≡◌}
+use Rattle.sc_image.proofs.Common.{Compartment, Contents, Count, Err, Exports, ImageParts, ImportPart, Imports, List}
+use Rattle.sc_image.proofs.Common.{Mark, None, Ok, Some, Start, Version, Whole, [], bad, code_at, codes, comp_at}
+use Rattle.sc_image.proofs.Common.{comp_name_at, exports_at, false, fields_at, globals_at, image_bytes}
+use Rattle.sc_image.proofs.Common.{image_in_version, image_of, import_at, imports_at, is_name, keeps_rules, map}
+use Rattle.sc_image.proofs.Common.{name_at, nat_le, number_that, parts_in_version, range_with_len, refl, replicate}
+use Rattle.sc_image.proofs.Common.{take, true, word_at, ℕ, ◌++◌, ◌∷◌, ◌≡◌}
 use Rattle.sc_image.specs.Reading.{export_at}
 
 abbrev from_start : List ℕ

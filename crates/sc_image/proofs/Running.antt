@@ -1,5 +1,8 @@
 -- A run may be cut into pieces: it goes on from the state that it stopped in.
-use Rattle.sc_image.proofs.Common.{Bool, Ended, Event, EventsOut, Goes, ImageParts, List, None, Option, Outcome, Run, Some, State, StepsOut, Stop, Trap, TrapReason, Traps, after, ap, continued, false, if◌then◌else◌, is_ended, length, nat_le, refl, run, step, stopped, stops_or, subst, suc, sym, true, unless_stopped, zero, zero-add, ℕ, ◌+◌, ◌∙◌, ◌≡◌}
+use Rattle.sc_image.proofs.Common.{Bool, Ended, Event, EventsOut, Goes, ImageParts, List, None, Option, Outcome, Run}
+use Rattle.sc_image.proofs.Common.{Some, State, StepsOut, Stop, Trap, TrapReason, Traps, after, ap, continued, false}
+use Rattle.sc_image.proofs.Common.{if◌then◌else◌, is_ended, length, nat_le, refl, run, step, stopped, stops_or, subst}
+use Rattle.sc_image.proofs.Common.{suc, sym, true, unless_stopped, zero, zero-add, ℕ, ◌+◌, ◌∙◌, ◌≡◌}
 use Rattle.std.proofs.Math.Nat.{suc-add}
 
 -- a run that stops before another step doesn't stop for want of steps

@@ -1,5 +1,8 @@
 -- The image of a program that outputs 7 and returns 0: its bytes, and what the machine does on it.
-use Rattle.sc_image.proofs.Common.{All, All-cons, All-nil, Bool, CompPart, End, Ended, EventsOut, ImageParts, IsByte, IsWellFormed, IsWord, List, NoImport, Out, StepsOut, Trap, [], codes, decoded, execute_by, false, image_bytes, is_name, jalr_in, lit<, lit≤, machine, op_imm_in, op_imm_op_of, refl, run, step_by, stopped, system_in, true, word_at, ℕ, ◌∷◌, ◌≡◌}
+use Rattle.sc_image.proofs.Common.{All, All-cons, All-nil, Bool, CompPart, End, Ended, EventsOut, ImageParts, IsByte}
+use Rattle.sc_image.proofs.Common.{IsWellFormed, IsWord, List, NoImport, Out, StepsOut, Trap, [], codes, decoded}
+use Rattle.sc_image.proofs.Common.{execute_by, false, image_bytes, is_name, jalr_in, lit<, lit≤, machine, op_imm_in}
+use Rattle.sc_image.proofs.Common.{op_imm_op_of, refl, run, step_by, stopped, system_in, true, word_at, ℕ, ◌∷◌, ◌≡◌}
 use Rattle.sc_image.proofs.OneComp.{IsLone, one_well_formed}
 
 abbrev only_comp : List ℕ → Bool → CompPart

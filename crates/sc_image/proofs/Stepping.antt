@@ -1,5 +1,6 @@
 -- What a step is, by what lies at pc.
-use Rattle.sc_image.proofs.Common.{BadJump, Illegal, ImageParts, Instr, List, None, Some, State, Traps, decoded, execute, refl, step, step_by, word_at, ℕ, ◌≡◌}
+use Rattle.sc_image.proofs.Common.{BadJump, Illegal, ImageParts, Instr, List, None, Some, State, Traps, decoded}
+use Rattle.sc_image.proofs.Common.{execute, refl, step, step_by, word_at, ℕ, ◌≡◌}
 
 -- an instruction
 pub step_executes : (image : ImageParts) (inputs : List ℕ) (state : State) (word : ℕ) (instr : Instr) →

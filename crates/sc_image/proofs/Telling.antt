@@ -1,5 +1,13 @@
 -- Stretches that tell events, and the steps that tell one.
-use Rattle.sc_image.proofs.Common.{Bool, CompPart, End, Ended, Event, Goes, ImageParts, IsCall, IsSome, IsWellFormed, List, None, Option, Outcome, Some, State, StepsTell, Stop, TellingComposes, Tells, Traps, Walks, [], a0, ap, append-nil, append_assoc, arith, called, calls, code_of, code_start, comp_of_code, ended, eq-eqb, eqb-true, false, gate, if◌then◌else◌, is_end, is_ended, is_some, jump, leaves, leb-true, length, length-append, list_any, lt-leb, nat_eq, nat_le, option_map_or, params_of, ra, refl, reg, returned, run, slice_get, slice_get_within, step, stopped, subst, suc, suc-add, sym, then_on, true, walk, word_at, zero, zero-add, ℕ, ◌%◌, ◌&&◌, ◌++◌, ◌+◌, ◌-◌, ◌/◌, ◌<◌, ◌||◌, ◌∙◌, ◌∷◌, ◌≡◌, ◌≢◌, ◌≤◌}
+use Rattle.sc_image.proofs.Common.{Bool, CompPart, End, Ended, Event, Goes, ImageParts, IsCall, IsSome, IsWellFormed}
+use Rattle.sc_image.proofs.Common.{List, None, Option, Outcome, Some, State, StepsTell, Stop, TellingComposes, Tells}
+use Rattle.sc_image.proofs.Common.{Traps, Walks, [], a0, ap, append-nil, append_assoc, arith, called, calls, code_of}
+use Rattle.sc_image.proofs.Common.{code_start, comp_of_code, ended, eq-eqb, eqb-true, false, gate, if◌then◌else◌}
+use Rattle.sc_image.proofs.Common.{is_end, is_ended, is_some, jump, leaves, leb-true, length, length-append, list_any}
+use Rattle.sc_image.proofs.Common.{lt-leb, nat_eq, nat_le, option_map_or, params_of, ra, refl, reg, returned, run}
+use Rattle.sc_image.proofs.Common.{slice_get, slice_get_within, step, stopped, subst, suc, suc-add, sym, then_on, true}
+use Rattle.sc_image.proofs.Common.{walk, word_at, zero, zero-add, ℕ, ◌%◌, ◌&&◌, ◌++◌, ◌+◌, ◌-◌, ◌/◌, ◌<◌, ◌||◌, ◌∙◌}
+use Rattle.sc_image.proofs.Common.{◌∷◌, ◌≡◌, ◌≢◌, ◌≤◌}
 use Rattle.sc_image.proofs.Words.{entry_code}
 use Rattle.sc_image.proofs.Reached.{called_other}
 use Rattle.sc_image.proofs.Traces.{ended_by}

@@ -1,5 +1,19 @@
 -- The trace of a run is one that the image's interfaces allow.
-use Rattle.sc_image.proofs.Common.{Activation, All, Bool, Call, CompPart, Crossing, End, Ended, Entry, Event, EventsOut, Export, ExportPart, Goes, ImageParts, Import, ImportPart, In, Int, Interface, Interfaces, IsChain, IsSteady, IsWellFormed, IsWord, List, Main, None, Option, Out, Outcome, Proto, Ret, Run, Some, Standing, State, StepsOut, Stop, TracesAreLegal, Traps, [], a0, after, and_from, and_parts, ap, arguments, arith, at_start, cond, drop, eq-eqb, exports_of, false, fits_result, get_or_from_slice_get, given_back, has_result, if◌then◌else◌, import_of, imports, inl, input_at, inr, interface_of, interfaces_of, is_allowed, is_end, is_ended, is_function, is_input, is_legal_from, is_output, length, length-append, length-drop, length-replicate, length-take-le, list_any, ltb, ltb-true, machine, map, may_return, nat_le, option_and_then, option_map, option_map_or, or_left, or_right, params_of, position, position_or_len, proto_of, refl, reg, replicate, resumed, returned, run, slice_get, slice_get-map, slice_get_within, stands_after, stands_behind, start, step, stopped, stops_or, subst, suc, sym, takes, true, true≢false, zero, ℕ, ◌&&◌, ◌++◌, ◌-◌, ◌<◌, ◌==◌, ◌||◌, ◌∙◌, ◌∷◌, ◌≡◌, ◌≤◌, ◌⊎◌}
+use Rattle.sc_image.proofs.Common.{Activation, All, Bool, Call, CompPart, Crossing, End, Ended, Entry, Event, EventsOut}
+use Rattle.sc_image.proofs.Common.{Export, ExportPart, Goes, ImageParts, Import, ImportPart, In, Int, Interface}
+use Rattle.sc_image.proofs.Common.{Interfaces, IsChain, IsSteady, IsWellFormed, IsWord, List, Main, None, Option, Out}
+use Rattle.sc_image.proofs.Common.{Outcome, Proto, Ret, Run, Some, Standing, State, StepsOut, Stop, TracesAreLegal}
+use Rattle.sc_image.proofs.Common.{Traps, [], a0, after, and_from, and_parts, ap, arguments, arith, at_start, cond}
+use Rattle.sc_image.proofs.Common.{drop, eq-eqb, exports_of, false, fits_result, get_or_from_slice_get, given_back}
+use Rattle.sc_image.proofs.Common.{has_result, if◌then◌else◌, import_of, imports, inl, input_at, inr, interface_of}
+use Rattle.sc_image.proofs.Common.{interfaces_of, is_allowed, is_end, is_ended, is_function, is_input, is_legal_from}
+use Rattle.sc_image.proofs.Common.{is_output, length, length-append, length-drop, length-replicate, length-take-le}
+use Rattle.sc_image.proofs.Common.{list_any, ltb, ltb-true, machine, map, may_return, nat_le, option_and_then}
+use Rattle.sc_image.proofs.Common.{option_map, option_map_or, or_left, or_right, params_of, position, position_or_len}
+use Rattle.sc_image.proofs.Common.{proto_of, refl, reg, replicate, resumed, returned, run, slice_get, slice_get-map}
+use Rattle.sc_image.proofs.Common.{slice_get_within, stands_after, stands_behind, start, step, stopped, stops_or, subst}
+use Rattle.sc_image.proofs.Common.{suc, sym, takes, true, true≢false, zero, ℕ, ◌&&◌, ◌++◌, ◌-◌, ◌<◌, ◌==◌, ◌||◌, ◌∙◌}
+use Rattle.sc_image.proofs.Common.{◌∷◌, ◌≡◌, ◌≤◌, ◌⊎◌}
 use Rattle.sc_event.specs.declared.interface.Import.TheVariants.{Input, Output}
 use Rattle.sc_event.specs.Lookup as lookup
 use Rattle.sc_event.specs.Legal as law

@@ -1,5 +1,17 @@
 -- Parts are well formed exactly where their fields are good and they keep the rules on a whole image.
-use Rattle.sc_image.proofs.Common.{All, All-from_recursion, AllByRecursion, AllPairs-from_IsDistinct, Bool, CompPart, Decides, Decides-and, Decides-like, ExportPart, ImageParts, ImportPart, IsByte, IsComp, IsDistinct, IsDistinct-from_AllPairs, IsDistinct-from_count, IsEquivalence, IsExport, IsImport, IsSomeAnd, IsWellFormed, IsWord, List, None, Option, Some, [], and_from, and_parts, ap, are_distinct, arith, bytes_decides, code_of, code_start, codes, comps_keep, cond, distinct_count-from_IsDistinct, eq-eqb, eqb-false, eqb-true, exports_keep, false, false_from_ne_true, get_or_default, imports_keep, is_entry, is_import, is_same_import, is_same_name, is_some, keeps_rules, length, list_all, lit≤, lt-ltb, ltb-true, map, nat_eq, nat_le, nat_lt, ne_eqb, not-true, not_from_Decides, not_from_false, option_map_or, recursion_from_All, refl, same_from_decides, slice_get, slice_get_within, stretch, subst, suc, sym, true, unsigned_Decides, word_at, zero, zero-add, ℕ, ◌%◌, ◌&&◌, ◌*◌, ◌+◌, ◌-◌, ◌/◌, ◌<◌, ◌==◌, ◌^◌, ◌∙◌, ◌∷◌, ◌≡◌, ◌≤◌}
+use Rattle.sc_image.proofs.Common.{All, All-from_recursion, AllByRecursion, AllPairs-from_IsDistinct, Bool, CompPart}
+use Rattle.sc_image.proofs.Common.{Decides, Decides-and, Decides-like, ExportPart, ImageParts, ImportPart, IsByte}
+use Rattle.sc_image.proofs.Common.{IsComp, IsDistinct, IsDistinct-from_AllPairs, IsDistinct-from_count, IsEquivalence}
+use Rattle.sc_image.proofs.Common.{IsExport, IsImport, IsSomeAnd, IsWellFormed, IsWord, List, None, Option, Some, []}
+use Rattle.sc_image.proofs.Common.{and_from, and_parts, ap, are_distinct, arith, bytes_decides, code_of, code_start}
+use Rattle.sc_image.proofs.Common.{codes, comps_keep, cond, distinct_count-from_IsDistinct, eq-eqb, eqb-false, eqb-true}
+use Rattle.sc_image.proofs.Common.{exports_keep, false, false_from_ne_true, get_or_default, imports_keep, is_entry}
+use Rattle.sc_image.proofs.Common.{is_import, is_same_import, is_same_name, is_some, keeps_rules, length, list_all}
+use Rattle.sc_image.proofs.Common.{lit≤, lt-ltb, ltb-true, map, nat_eq, nat_le, nat_lt, ne_eqb, not-true}
+use Rattle.sc_image.proofs.Common.{not_from_Decides, not_from_false, option_map_or, recursion_from_All, refl}
+use Rattle.sc_image.proofs.Common.{same_from_decides, slice_get, slice_get_within, stretch, subst, suc, sym, true}
+use Rattle.sc_image.proofs.Common.{unsigned_Decides, word_at, zero, zero-add, ℕ, ◌%◌, ◌&&◌, ◌*◌, ◌+◌, ◌-◌, ◌/◌, ◌<◌}
+use Rattle.sc_image.proofs.Common.{◌==◌, ◌^◌, ◌∙◌, ◌∷◌, ◌≡◌, ◌≤◌}
 use Rattle.sc_image.proofs.Fits.{all_of}
 use Rattle.sc_image.proofs.Fields.{IsBytes, bytes_fit}
 use Rattle.sc_image.proofs.FileFields.{FitsExport, FitsImport, FitsComp, FitsParts}

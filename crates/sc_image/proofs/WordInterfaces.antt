@@ -1,5 +1,11 @@
 -- Legal traces don't depend on the types of scalars.
-use Rattle.sc_image.proofs.Common.{Bool, Call, End, Entry, Event, Export, Import, In, Int, Interface, Interfaces, LegalByWords, List, Main, None, Option, Out, Proto, Ret, Scalar, Some, Standing, [], ap, ap₂, at_start, awaits, false, fits_result, imports, is_function, is_input, is_legal_from, is_output, length, length-map, list_any, may_perform, may_return, option_and_then, option_map, option_map_or, performer, refl, slice_get, slice_get-map, stands_after, takes, word_interface, word_interfaces, word_proto, ℕ, ◌&&◌, ◌==◌, ◌∙◌, ◌∷◌, ◌≡◌}
+use Rattle.sc_image.proofs.Common.{Bool, Call, End, Entry, Event, Export, Import, In, Int, Interface, Interfaces}
+use Rattle.sc_image.proofs.Common.{LegalByWords, List, Main, None, Option, Out, Proto, Ret, Scalar, Some, Standing, []}
+use Rattle.sc_image.proofs.Common.{ap, ap₂, at_start, awaits, false, fits_result, imports, is_function, is_input}
+use Rattle.sc_image.proofs.Common.{is_legal_from, is_output, length, length-map, list_any, may_perform, may_return}
+use Rattle.sc_image.proofs.Common.{option_and_then, option_map, option_map_or, performer, refl, slice_get}
+use Rattle.sc_image.proofs.Common.{slice_get-map, stands_after, takes, word_interface, word_interfaces, word_proto, ℕ}
+use Rattle.sc_image.proofs.Common.{◌&&◌, ◌==◌, ◌∙◌, ◌∷◌, ◌≡◌}
 use Rattle.sc_event.specs.Prelude.{comp_at, export_at}
 
 module _ (interfaces : Interfaces) where

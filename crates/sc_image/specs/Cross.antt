@@ -1,7 +1,8 @@
 -- What passes between compartments, and between a compartment and the environment: calls, returns, outputs and inputs.
 -- Numbers alone pass: every register that isn't named here is 0 on the other side.
 use Rattle.sc_image.specs.Common.{Call, End, Export, In, Out, Ret}
-use Rattle.std.specs.Prelude.{ℕ, suc, ◌+◌, Bool, ◌&&◌, nat_eq, nat_le, nat_lt, List, [], ◌∷◌, ◌++◌, take, drop, slice_get, slice_set, Option, Some, None, unwrap_or, if◌then◌else◌}
+use Rattle.std.specs.Prelude.{ℕ, suc, ◌+◌, Bool, ◌&&◌, nat_eq, nat_le, nat_lt, List, [], ◌∷◌, ◌++◌, take, drop}
+use Rattle.std.specs.Prelude.{slice_get, slice_set, Option, Some, None, unwrap_or, if◌then◌else◌}
 use Rattle.sc_image.specs.declared.parts.ImageParts.{ImageParts}
 use Rattle.sc_image.specs.Layout.{gate}
 use Rattle.sc_image.specs.Calls.{has_result}

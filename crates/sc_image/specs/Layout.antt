@@ -1,7 +1,8 @@
 -- Where things lie in memory. A compartment has a stretch of addresses for its code and one for its data, both found by
 -- its number.
 use Rattle.sc_image.specs.Common.{Region, is_in}
-use Rattle.std.specs.Prelude.{ℕ, zero, suc, ◌+◌, ◌-◌, ◌*◌, ◌/◌, ◌%◌, Bool, true, ◌&&◌, nat_le, nat_eq, List, [], ◌∷◌, length, map, slice_get, Option, None, if◌then◌else◌}
+use Rattle.std.specs.Prelude.{ℕ, zero, suc, ◌+◌, ◌-◌, ◌*◌, ◌/◌, ◌%◌, Bool, true, ◌&&◌, nat_le, nat_eq, List, [], ◌∷◌}
+use Rattle.std.specs.Prelude.{length, map, slice_get, Option, None, if◌then◌else◌}
 use Rattle.std.specs.List.{list_any}
 use Rattle.std.specs.Option.{option_map_or}
 use Rattle.sc_image.specs.declared.parts.ImageParts.{ImageParts}

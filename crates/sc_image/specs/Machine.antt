@@ -1,6 +1,7 @@
 -- A run: steps until something stops it.
 use Rattle.sc_image.specs.Common.{End, Ended, Event, EventsOut, StepsOut, Stop, Trap}
-use Rattle.std.specs.Prelude.{ℕ, zero, suc, Bool, true, false, nat_le, ◌-◌, List, length, slice_get, Option, Some, None, if◌then◌else◌}
+use Rattle.std.specs.Prelude.{ℕ, zero, suc, Bool, true, false, nat_le, ◌-◌, List, length, slice_get, Option, Some, None}
+use Rattle.std.specs.Prelude.{if◌then◌else◌}
 use Rattle.std.specs.Option.{option_map_or}
 use Rattle.sc_image.specs.declared.parts.ImageParts.{ImageParts}
 use Rattle.sc_image.specs.State.{State, start}

@@ -1,8 +1,10 @@
 -- Reading an image from its bytes, field by field in the order of the file, and why bytes are none.
 use Rattle.sc_image.specs.Common.{is_between, is_name, little_number}
-use Rattle.std.specs.Prelude.{◌≡◌, ℕ, zero, suc, ◌/◌, ◌%◌, Bool, ◌&&◌, ◌==◌, not, nat_lt, nat_le, List, [], ◌∷◌, length, take, drop, codes, Option, Some, None, Result, Ok, Err, if◌then◌else◌}
+use Rattle.std.specs.Prelude.{◌≡◌, ℕ, zero, suc, ◌/◌, ◌%◌, Bool, ◌&&◌, ◌==◌, not, nat_lt, nat_le, List, [], ◌∷◌, length}
+use Rattle.std.specs.Prelude.{take, drop, codes, Option, Some, None, Result, Ok, Err, if◌then◌else◌}
 use Rattle.sc_image.specs.declared.fault.BadImage.{BadImage}
-use Rattle.sc_image.specs.declared.fault.BadImage.TheVariants.{Mark, Version, Count, Start, Compartment, Exports, Imports, Contents, Whole}
+use Rattle.sc_image.specs.declared.fault.BadImage.TheVariants.{Mark, Version, Count, Start, Compartment, Exports}
+use Rattle.sc_image.specs.declared.fault.BadImage.TheVariants.{Imports, Contents, Whole}
 use Rattle.sc_image.specs.declared.fault.ImageFault.{ImageFault}
 use Rattle.sc_image.specs.declared.fault.ImageFault.TheVariants as faults
 use Rattle.sc_image.specs.declared.parts.ImageParts.{ImageParts}

@@ -1,12 +1,19 @@
 -- What one instruction does (RISC-V Unprivileged ISA, RV32I and M), and when it traps.
-use Rattle.sc_image.specs.Common.{Auipc, BadCall, BadJump, Branch, BranchOp, Breakpoint, Ebreak, Ecall, Fence, Illegal, Instr, Jal, Jalr, Load, LoadOp, Lui, Misaligned, NoImport, Op, OpImm, OpImmOp, OpOp, Owner, Shift, ShiftOp, Store, StoreOp, TrapReason, Upper, add_word, decoded, div_word, divu_word, load_of, mul_word, mulh_word, mulhsu_word, mulhu_word, rem_word, remu_word, signed, signed_of, sll_word, slt_word, sltu_word, sra_word, srl_word, stored, sub_word, word_of}
-use Rattle.std.specs.Prelude.{ℕ, ℤ, ◌+◌, ◌*◌, ◌/◌, ◌%◌, ◌^◌, Bool, ◌&&◌, ◌==◌, not, nat_eq, nat_lt, nat_le, int_lt, int_le, List, Option, Some, None, if◌then◌else◌, bit_and, bit_or, bit_xor, is_some}
+use Rattle.sc_image.specs.Common.{Auipc, BadCall, BadJump, Branch, BranchOp, Breakpoint, Ebreak, Ecall, Fence, Illegal}
+use Rattle.sc_image.specs.Common.{Instr, Jal, Jalr, Load, LoadOp, Lui, Misaligned, NoImport, Op, OpImm, OpImmOp, OpOp}
+use Rattle.sc_image.specs.Common.{Owner, Shift, ShiftOp, Store, StoreOp, TrapReason, Upper, add_word, decoded, div_word}
+use Rattle.sc_image.specs.Common.{divu_word, load_of, mul_word, mulh_word, mulhsu_word, mulhu_word, rem_word, remu_word}
+use Rattle.sc_image.specs.Common.{signed, signed_of, sll_word, slt_word, sltu_word, sra_word, srl_word, stored}
+use Rattle.sc_image.specs.Common.{sub_word, word_of}
+use Rattle.std.specs.Prelude.{ℕ, ℤ, ◌+◌, ◌*◌, ◌/◌, ◌%◌, ◌^◌, Bool, ◌&&◌, ◌==◌, not, nat_eq, nat_lt, nat_le, int_lt}
+use Rattle.std.specs.Prelude.{int_le, List, Option, Some, None, if◌then◌else◌, bit_and, bit_or, bit_xor, is_some}
 use Rattle.rv_code.specs.declared.instr.BranchOp.TheVariants.{Beq, Bne, Blt, Bge, Bltu, Bgeu}
 use Rattle.rv_code.specs.declared.instr.LoadOp.TheVariants.{Lb, Lh, Lw, Lbu, Lhu}
 use Rattle.rv_code.specs.declared.instr.StoreOp.TheVariants.{Sb, Sh, Sw}
 use Rattle.rv_code.specs.declared.instr.OpImmOp.TheVariants.{Addi, Slti, Sltiu, Xori, Ori, Andi}
 use Rattle.rv_code.specs.declared.instr.ShiftOp.TheVariants.{Slli, Srli, Srai}
-use Rattle.rv_code.specs.declared.instr.OpOp.TheVariants.{Add, Sub, Sll, Slt, Sltu, Xor, Srl, Sra, Or, And, Mul, Mulh, Mulhsu, Mulhu, Div, Divu, Rem, Remu}
+use Rattle.rv_code.specs.declared.instr.OpOp.TheVariants.{Add, Sub, Sll, Slt, Sltu, Xor, Srl, Sra, Or, And, Mul, Mulh}
+use Rattle.rv_code.specs.declared.instr.OpOp.TheVariants.{Mulhsu, Mulhu, Div, Divu, Rem, Remu}
 use Rattle.sc_image.specs.declared.parts.ImageParts.{ImageParts}
 use Rattle.sc_image.specs.Layout.{gate, comp_of_code, word_at, are_data}
 use Rattle.sc_image.specs.Calls.{may_input, may_output, may_call, export_at, params_of}

@@ -1,13 +1,19 @@
 -- Stretches of a run, for proofs about code: so many steps that lead from one state to another, and what they say of
 -- whole runs.
-use Rattle.sc_image.specs.Common.{Auipc, BadJump, Branch, BranchOp, Breakpoint, Ebreak, Ecall, Fence, Instr, Jal, Jalr, Load, LoadOp, Lui, Op, OpImm, OpImmOp, OpOp, Region, Shift, ShiftOp, StepsOut, Stop, Store, StoreOp, Trap, TrapReason, Upper, add_word, decoded, little_bytes, load_of, word_of}
-use Rattle.std.specs.Prelude.{◌≡◌, ℕ, zero, suc, ◌+◌, ◌*◌, ◌<◌, ◌≤◌, ℤ, true, false, List, ◌∷◌, ◌++◌, length, flat_map, slice_get, Some, None}
+use Rattle.sc_image.specs.Common.{Auipc, BadJump, Branch, BranchOp, Breakpoint, Ebreak, Ecall, Fence, Instr, Jal, Jalr}
+use Rattle.sc_image.specs.Common.{Load, LoadOp, Lui, Op, OpImm, OpImmOp, OpOp, Region, Shift, ShiftOp, StepsOut, Stop}
+use Rattle.sc_image.specs.Common.{Store, StoreOp, Trap, TrapReason, Upper, add_word, decoded, little_bytes, load_of}
+use Rattle.sc_image.specs.Common.{word_of}
+use Rattle.std.specs.Prelude.{◌≡◌, ℕ, zero, suc, ◌+◌, ◌*◌, ◌<◌, ◌≤◌, ℤ, true, false, List, ◌∷◌, ◌++◌, length, flat_map}
+use Rattle.std.specs.Prelude.{slice_get, Some, None}
 use Rattle.sc_image.specs.declared.parts.ImageParts.{ImageParts}
 use Rattle.sc_image.specs.declared.parts.CompPart.{CompPart}
 use Rattle.sc_image.specs.WellFormed.{IsWord, IsWellFormed}
-use Rattle.sc_image.specs.Layout.{stack_size, code_start, data_start, stack_top, code_of, word_at, data_regions, are_data}
+use Rattle.sc_image.specs.Layout.{stack_size, code_start, data_start, stack_top, code_of, word_at, data_regions}
+use Rattle.sc_image.specs.Layout.{are_data}
 use Rattle.sc_image.specs.State.{State, reg, start_memory}
-use Rattle.sc_image.specs.Step.{Outcome, Goes, Traps, next, gives, computed, on_registers, shift_on_registers, compares, load, store, jump, calls, leaves, jalr_target, environment_call, step}
+use Rattle.sc_image.specs.Step.{Outcome, Goes, Traps, next, gives, computed, on_registers, shift_on_registers, compares}
+use Rattle.sc_image.specs.Step.{load, store, jump, calls, leaves, jalr_target, environment_call, step}
 use Rattle.sc_image.specs.Machine.{is_ended, stopped, run}
 use Rattle.sc_image.specs.Isolation.{IsReached}
 

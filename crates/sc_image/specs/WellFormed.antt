@@ -1,6 +1,7 @@
 -- Which parts make an image.
 use Rattle.sc_image.specs.Common.{is_name}
-use Rattle.std.specs.Prelude.{List, ◌≡◌, ◌≢◌, ℕ, ◌*◌, ◌^◌, ◌<◌, ◌≤◌, IsTrue, length, map, All, AllPairs, codes, slice_get, Some, IsSome}
+use Rattle.std.specs.Prelude.{List, ◌≡◌, ◌≢◌, ℕ, ◌*◌, ◌^◌, ◌<◌, ◌≤◌, IsTrue, length, map, All, AllPairs, codes}
+use Rattle.std.specs.Prelude.{slice_get, Some, IsSome}
 use Rattle.std.specs.Option.{IsSomeAnd}
 use Rattle.sc_image.specs.declared.parts.ImageParts.{ImageParts}
 use Rattle.sc_image.specs.declared.parts.CompPart.{CompPart}

@@ -1,7 +1,9 @@
 //! Laws of images and of the machine that runs them. Each law is the contract of a function with nothing to do, for the
 //! proofs of callers.
 
-ghost use Rattle.sc_image.specs.Prelude.{BadOrImage, BytesNameOneImage, EntersByEvent, FollowsFromOwn, ImageInMemory, LeavesOthers, LegalByWords, RunsAreSteady, StepsByInstruction, StepsTell, StretchesCompose, TellingComposes, TracesAreLegal};
+ghost use Rattle.sc_image.specs.Prelude.{BadOrImage, BytesNameOneImage, EntersByEvent, FollowsFromOwn, ImageInMemory};
+ghost use Rattle.sc_image.specs.Prelude.{LeavesOthers, LegalByWords, RunsAreSteady, StepsByInstruction, StepsTell};
+ghost use Rattle.sc_image.specs.Prelude.{StretchesCompose, TellingComposes, TracesAreLegal};
 
 /// Bytes are those of one image at most.
 pub fn one_image()

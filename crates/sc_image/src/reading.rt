@@ -1,7 +1,9 @@
 //! Images read from their bytes. Behind the first two, each function takes a field from the front of the bytes that are
 //! left.
 
-ghost use Rattle.sc_image.specs.Prelude.{Gives, bad, bytes_at, code_at, comp_at, comp_name_at, exports_at, fields_at, globals_at, image_bytes, image_of, import_at, imports_at, mark_at, name_at, number_at, number_that, parts_in_version, version};
+ghost use Rattle.sc_image.specs.Prelude.{Gives, bad, bytes_at, code_at, comp_at, comp_name_at, exports_at, fields_at};
+ghost use Rattle.sc_image.specs.Prelude.{globals_at, image_bytes, image_of, import_at, imports_at, mark_at, name_at};
+ghost use Rattle.sc_image.specs.Prelude.{number_at, number_that, parts_in_version, version};
 ghost use Rattle.sc_base.specs.Prelude.{is_between};
 ghost use Rattle.std.specs.Prelude.{◌≡◌, ◌≤◌, ◌==◌, nat_le, nat_lt, Some, None, IfOk, OnOk, IsErrOf};
 ghost use Rattle.sc_image.specs.Reading.{export_at};

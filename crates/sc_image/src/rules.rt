@@ -1,6 +1,7 @@
 //! The rules on a whole image.
 
-ghost use Rattle.sc_image.specs.Prelude.{are_distinct, code_of, comps_keep, exports_keep, imports_keep, is_entry, is_import, is_same_import, is_same_name, keeps_rules};
+ghost use Rattle.sc_image.specs.Prelude.{are_distinct, code_of, comps_keep, exports_keep, imports_keep, is_entry};
+ghost use Rattle.sc_image.specs.Prelude.{is_import, is_same_import, is_same_name, keeps_rules};
 ghost use Rattle.std.specs.Prelude.{◌≡◌, ◌≤◌, ◌==◌, ◌&&◌, length, map, IfOk};
 ghost use Rattle.std.specs.HashSet.{IsFromIterResult};
 ghost use Rattle.std.specs.List.{list_all};

@@ -1,4 +1,5 @@
-ghost use Rattle.sc_image.specs.Prelude.{FitsItsFields, code_bytes, comp_bytes, export_bytes, exports_bytes, flags, globals_bytes, image_bytes, import_bytes, imports_bytes, name_bytes};
+ghost use Rattle.sc_image.specs.Prelude.{FitsItsFields, code_bytes, comp_bytes, export_bytes, exports_bytes, flags};
+ghost use Rattle.sc_image.specs.Prelude.{globals_bytes, image_bytes, import_bytes, imports_bytes, name_bytes};
 ghost use Rattle.std.specs.Prelude.{◌≡◌, ◌*◌, ◌^◌, ◌<◌, ◌++◌, length, flat_map, All, IfOk, OnOk};
 ghost use Rattle.byteorder.specs.Endian.{little_bytes};
 

@@ -1,5 +1,10 @@
 -- A head agrees with the first of its name and its name has no conflict, exactly where it agrees with all of its name.
-use Rattle.sc_interfaces.proofs.Common.{Agreements, Bool, HeadTree, List, None, Option, Some, Text, [], added, added_beside, agree, agrees_first, agrees_with, all_added, all_numbered, allowed, among, and-true, and_assoc, ap, bytes_eq, cond, false, first_by_name, forbidden, if◌then◌else◌, is_numbered, is_some, list_any-append, nat_list_eq_equiv, no_heads, not, numbered, pointwise, refl, sym, true, with_first, ◌&&◌, ◌++◌, ◌==◌, ◌||◌, ◌∙◌, ◌∷◌, ◌≡◌}
+use Rattle.sc_interfaces.proofs.Common.{Agreements, Bool, HeadTree, List, None, Option, Some, Text, [], added}
+use Rattle.sc_interfaces.proofs.Common.{added_beside, agree, agrees_first, agrees_with, all_added, all_numbered}
+use Rattle.sc_interfaces.proofs.Common.{allowed, among, and-true, and_assoc, ap, bytes_eq, cond, false, first_by_name}
+use Rattle.sc_interfaces.proofs.Common.{forbidden, if◌then◌else◌, is_numbered, is_some, list_any-append}
+use Rattle.sc_interfaces.proofs.Common.{nat_list_eq_equiv, no_heads, not, numbered, pointwise, refl, sym, true}
+use Rattle.sc_interfaces.proofs.Common.{with_first, ◌&&◌, ◌++◌, ◌==◌, ◌||◌, ◌∙◌, ◌∷◌, ◌≡◌}
 use Rattle.std.proofs.lemmas.Slice.Eq.{bytes_eq-Decides}
 use Rattle.sc_interfaces.proofs.Agreeing.{agree_symm, agree_left}
 

@@ -1,5 +1,6 @@
 -- A section with nothing in it is within the counts.
-use Rattle.sc_interfaces.proofs.Common.{All, All-cons, All-nil, HasFewExports, HasFewParams, IsWithinCounts, SectionTree, [], ap, arith, functions_in, length, subst, sym, ◌∷◌, ◌≡◌}
+use Rattle.sc_interfaces.proofs.Common.{All, All-cons, All-nil, HasFewExports, HasFewParams, IsWithinCounts}
+use Rattle.sc_interfaces.proofs.Common.{SectionTree, [], ap, arith, functions_in, length, subst, sym, ◌∷◌, ◌≡◌}
 
 pub bare_within : (section : SectionTree) → section.exports ≡ [] → section.decls ≡ [] → IsWithinCounts (section ∷ [])
 bare_within section exports decls = record {

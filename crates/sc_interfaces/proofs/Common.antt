@@ -1,5 +1,8 @@
 -- The names that several proofs of this crate cite, passed on from one place. Declares nothing.
-pub use Rattle.std.proofs.Common.{All, Bool, IfNone, List, None, Option, Some, [], ap, ap₂, arith, bytes_eq, codes, cond, drop, drop-cons, eqb-true, false, get_or, if◌then◌else◌, inl, inr, is_some, length, length-take-le, map, min, nat_eq, nat_lt, not, refl, slice_get, subst, suc, sym, take, true, zero, ℕ, ◌&&◌, ◌++◌, ◌+◌, ◌<◌, ◌==◌, ◌||◌, ◌∙◌, ◌∷◌, ◌≡◌, ◌≤◌, ◌⊎◌}
+pub use Rattle.std.proofs.Common.{All, Bool, IfNone, List, None, Option, Some, [], ap, ap₂, arith, bytes_eq, codes}
+pub use Rattle.std.proofs.Common.{cond, drop, drop-cons, eqb-true, false, get_or, if◌then◌else◌, inl, inr, is_some}
+pub use Rattle.std.proofs.Common.{length, length-take-le, map, min, nat_eq, nat_lt, not, refl, slice_get, subst, suc}
+pub use Rattle.std.proofs.Common.{sym, take, true, zero, ℕ, ◌&&◌, ◌++◌, ◌+◌, ◌<◌, ◌==◌, ◌||◌, ◌∙◌, ◌∷◌, ◌≡◌, ◌≤◌, ◌⊎◌}
 pub use Rattle.std.proofs.Math.Bool.{and-true, and_assoc, or_assoc}
 pub use Rattle.std.proofs.lemmas.Cmp.{nat_eq_equiv, nat_list_eq_equiv}
 pub use Rattle.std.proofs.lemmas.List.{length-map, take-map}
@@ -15,11 +18,26 @@ pub use Rattle.sc_ast.specs.declared.section.Decl.TheVariants.{Global, Struct}
 pub use Rattle.sc_ast.specs.declared.section.FunctionParam.{FunctionParam}
 pub use Rattle.sc_ast.specs.declared.section.ParamTree.{ParamTree}
 pub use Rattle.sc_ast.specs.declared.types.TypeName.{TypeName}
-pub use Rattle.sc_scope.specs.Prelude.{Text, among, defines_main, environment, export_names, function_in, function_named, function_names, functions_in, head_in, heads_in, import_names, import_of, interface_of, interfaces_from, interfaces_of, is_environment, line_of_text, main_from, main_name, noted, number_or_zero, offered, offering, offers, promised, proto_names, proto_of, refused_at, scalar_of, unless, with_lines}
+pub use Rattle.sc_scope.specs.Prelude.{Text, among, defines_main, environment, export_names, function_in}
+pub use Rattle.sc_scope.specs.Prelude.{function_named, function_names, functions_in, head_in, heads_in, import_names}
+pub use Rattle.sc_scope.specs.Prelude.{import_of, interface_of, interfaces_from, interfaces_of, is_environment}
+pub use Rattle.sc_scope.specs.Prelude.{line_of_text, main_from, main_name, noted, number_or_zero, offered, offering}
+pub use Rattle.sc_scope.specs.Prelude.{offers, promised, proto_names, proto_of, refused_at, scalar_of, unless}
+pub use Rattle.sc_scope.specs.Prelude.{with_lines}
 unfoldable pub use Rattle.sc_scope.specs.Prelude.{noted_all}
-pub use Rattle.sc_interfaces.specs.Common.{Decl, ExportLine, Function, HeadTree, ImportLine, Proto, SectionTable, SectionTree}
+pub use Rattle.sc_interfaces.specs.Common.{Decl, ExportLine, Function, HeadTree, ImportLine, Proto, SectionTable}
+pub use Rattle.sc_interfaces.specs.Common.{SectionTree}
 pub use Rattle.sc_interfaces.specs.Faces.{agrees_with, is_input, is_output, takes_int}
-pub use Rattle.sc_interfaces.specs.Offering.{HasFewExports, HasFewParams, IsWithinCounts, Placed, all_placed, export_by, export_name, export_places, function_at, function_name, function_places, import_by, interface_by, interfaces_by, main_by, offered_by, promised_by}
-pub use Rattle.sc_interfaces.specs.Prelude.{added, agree, agrees_first, all_added, all_numbered, allowed, decl_told, decls_told, environment_added, export_fits, exports_told, first_added, forbidden, gives_int, head_added, head_crosses, head_fits_by, import_added, import_fits, imported_by, imports_added, imports_told, input_head, input_name, int_type, interface_broken, is_offered_by, is_plain, main_holds, no_heads, offering_number, offering_table, others_added, output_head, output_name, same_base, same_params, same_result, same_type, section_told, table_of, takes_nothing}
+pub use Rattle.sc_interfaces.specs.Offering.{HasFewExports, HasFewParams, IsWithinCounts, Placed, all_placed, export_by}
+pub use Rattle.sc_interfaces.specs.Offering.{export_name, export_places, function_at, function_name, function_places}
+pub use Rattle.sc_interfaces.specs.Offering.{import_by, interface_by, interfaces_by, main_by, offered_by, promised_by}
+pub use Rattle.sc_interfaces.specs.Prelude.{added, agree, agrees_first, all_added, all_numbered, allowed, decl_told}
+pub use Rattle.sc_interfaces.specs.Prelude.{decls_told, environment_added, export_fits, exports_told, first_added}
+pub use Rattle.sc_interfaces.specs.Prelude.{forbidden, gives_int, head_added, head_crosses, head_fits_by, import_added}
+pub use Rattle.sc_interfaces.specs.Prelude.{import_fits, imported_by, imports_added, imports_told, input_head}
+pub use Rattle.sc_interfaces.specs.Prelude.{input_name, int_type, interface_broken, is_offered_by, is_plain, main_holds}
+pub use Rattle.sc_interfaces.specs.Prelude.{no_heads, offering_number, offering_table, others_added, output_head}
+pub use Rattle.sc_interfaces.specs.Prelude.{output_name, same_base, same_params, same_result, same_type, section_told}
+pub use Rattle.sc_interfaces.specs.Prelude.{table_of, takes_nothing}
 pub use Rattle.sc_interfaces.specs.Tables.{added_beside, lines_told}
 pub use Rattle.sc_interfaces.specs.declared.agreements.Agreements.{Agreements}

@@ -1,5 +1,7 @@
 -- Small texts, the lines at which they break the rules of interfaces, and their interfaces.
-use Rattle.sc_interfaces.proofs.Common.{Decl, ExportLine, Function, FunctionParam, ImportLine, List, None, Option, ParamTree, Proto, SectionTree, Some, Text, TypeName, [], codes, interface_broken, interfaces_of, noted_all, refl, refused_at, ℕ, ◌∷◌, ◌≡◌}
+use Rattle.sc_interfaces.proofs.Common.{Decl, ExportLine, Function, FunctionParam, ImportLine, List, None, Option}
+use Rattle.sc_interfaces.proofs.Common.{ParamTree, Proto, SectionTree, Some, Text, TypeName, [], codes}
+use Rattle.sc_interfaces.proofs.Common.{interface_broken, interfaces_of, noted_all, refl, refused_at, ℕ, ◌∷◌, ◌≡◌}
 use Rattle.sc_event.specs.declared.interface.Scalar.TheVariants as scalar
 use Rattle.sc_event.specs.declared.interface.Import.TheVariants as import
 use Rattle.sc_ast.specs.declared.types.BaseTree.TheVariants.{Int, Unsigned}

@@ -1,5 +1,18 @@
 -- The interfaces by tables of places are the interfaces of the sections.
-use Rattle.sc_interfaces.proofs.Common.{All, All-get_or, All-head, All-tail, Bool, Decl, ExportLine, FunctionParam, HasFewExports, HasFewParams, ImportLine, IsWithinCounts, List, None, Option, Placed, SectionTable, SectionTree, Some, Text, [], all_placed, ap, ap₂, arith, cond, defines_main, export_by, export_name, export_names, export_places, false, first_by_name, function_at, function_in, function_name, function_named, function_names, function_places, functions_in, get_or_from_slice_get, if◌then◌else◌, import_by, import_of, inl, input_name, inr, interface_by, interface_of, interfaces_by, interfaces_from, interfaces_of, is_environment, is_some, length, length-map, main_by, main_from, main_name, map, min, nat_list_eq_equiv, nat_lt, not, number_of, number_or_zero, offered, offered_by, offering, option_and_then, option_map, pointwise, position, position_or_len, promised, promised_by, proto_of, refl, scalar_of, slice_get, slice_get-map, slice_get_within, subst, suc, sym, table_of, true, with_first, ℕ, ◌++◌, ◌+◌, ◌<◌, ◌==◌, ◌∙◌, ◌∷◌, ◌≡◌, ◌≤◌, ◌⊎◌}
+use Rattle.sc_interfaces.proofs.Common.{All, All-get_or, All-head, All-tail, Bool, Decl, ExportLine, FunctionParam}
+use Rattle.sc_interfaces.proofs.Common.{HasFewExports, HasFewParams, ImportLine, IsWithinCounts, List, None, Option}
+use Rattle.sc_interfaces.proofs.Common.{Placed, SectionTable, SectionTree, Some, Text, [], all_placed, ap, ap₂, arith}
+use Rattle.sc_interfaces.proofs.Common.{cond, defines_main, export_by, export_name, export_names, export_places, false}
+use Rattle.sc_interfaces.proofs.Common.{first_by_name, function_at, function_in, function_name, function_named}
+use Rattle.sc_interfaces.proofs.Common.{function_names, function_places, functions_in, get_or_from_slice_get}
+use Rattle.sc_interfaces.proofs.Common.{if◌then◌else◌, import_by, import_of, inl, input_name, inr, interface_by}
+use Rattle.sc_interfaces.proofs.Common.{interface_of, interfaces_by, interfaces_from, interfaces_of, is_environment}
+use Rattle.sc_interfaces.proofs.Common.{is_some, length, length-map, main_by, main_from, main_name, map, min}
+use Rattle.sc_interfaces.proofs.Common.{nat_list_eq_equiv, nat_lt, not, number_of, number_or_zero, offered, offered_by}
+use Rattle.sc_interfaces.proofs.Common.{offering, option_and_then, option_map, pointwise, position, position_or_len}
+use Rattle.sc_interfaces.proofs.Common.{promised, promised_by, proto_of, refl, scalar_of, slice_get, slice_get-map}
+use Rattle.sc_interfaces.proofs.Common.{slice_get_within, subst, suc, sym, table_of, true, with_first, ℕ, ◌++◌, ◌+◌}
+use Rattle.sc_interfaces.proofs.Common.{◌<◌, ◌==◌, ◌∙◌, ◌∷◌, ◌≡◌, ◌≤◌, ◌⊎◌}
 use Rattle.std.proofs.lemmas.Bool.Decides.{nat_tests}
 use Rattle.sc_event.specs.declared.interface.Scalar.{Scalar}
 use Rattle.sc_event.specs.declared.interface.Proto.{Proto}

@@ -1,5 +1,7 @@
 -- The first 8 of a list.
-use Rattle.sc_interfaces.proofs.Common.{IfNone, List, None, Option, Some, [], ap, arith, false, is_some, length, length-map, length-take-le, map, refl, suc, sym, take, take-map, true, zero, ℕ, ◌<◌, ◌∙◌, ◌∷◌, ◌≡◌, ◌≤◌}
+use Rattle.sc_interfaces.proofs.Common.{IfNone, List, None, Option, Some, [], ap, arith, false, is_some, length}
+use Rattle.sc_interfaces.proofs.Common.{length-map, length-take-le, map, refl, suc, sym, take, take-map, true, zero, ℕ}
+use Rattle.sc_interfaces.proofs.Common.{◌<◌, ◌∙◌, ◌∷◌, ◌≡◌, ◌≤◌}
 
 pub take_all : {A : Type 0} (n : ℕ) (xs : List A) → length xs ≤ n → take n xs ≡ xs
 take_all zero [] h = refl

@@ -1,5 +1,10 @@
 -- One turn of a loop.
-use Rattle.sc_interfaces.proofs.Common.{Agreements, Bool, Decl, ExportLine, Function, Global, ImportLine, List, ParamTree, Proto, SectionTable, Struct, Text, [], all_added, ap, arith, decl_told, decls_told, drop, drop-cons, export_fits, exports_told, false, get_or, head_added, head_in, heads_in, import_fits, imports_told, length, numbered, refl, same_params, same_type, suc, sym, true, unless, with_lines, ℕ, ◌&&◌, ◌++◌, ◌+◌, ◌<◌, ◌∙◌, ◌∷◌, ◌≡◌, ◌≤◌}
+use Rattle.sc_interfaces.proofs.Common.{Agreements, Bool, Decl, ExportLine, Function, Global, ImportLine, List}
+use Rattle.sc_interfaces.proofs.Common.{ParamTree, Proto, SectionTable, Struct, Text, [], all_added, ap, arith}
+use Rattle.sc_interfaces.proofs.Common.{decl_told, decls_told, drop, drop-cons, export_fits, exports_told, false}
+use Rattle.sc_interfaces.proofs.Common.{get_or, head_added, head_in, heads_in, import_fits, imports_told, length}
+use Rattle.sc_interfaces.proofs.Common.{numbered, refl, same_params, same_type, suc, sym, true, unless, with_lines, ℕ}
+use Rattle.sc_interfaces.proofs.Common.{◌&&◌, ◌++◌, ◌+◌, ◌<◌, ◌∙◌, ◌∷◌, ◌≡◌, ◌≤◌}
 use Rattle.std.proofs.Math.ListN.{drop_of_length-le}
 use Rattle.sc_scope.specs.declared.broken.BrokenLines.{BrokenLines}
 use Rattle.sc_scope.proofs.Noting.{with_lines-append, with_lines-nil}

@@ -1,8 +1,25 @@
 -- The rules by tables are the rules.
-use Rattle.sc_interfaces.proofs.Common.{Agreements, Bool, Decl, ExportLine, Function, Global, HeadTree, ImportLine, List, None, Option, ParamTree, Proto, SectionTable, SectionTree, Some, Struct, Text, TypeName, [], added, agree, agrees_first, agrees_with, all_added, all_numbered, allowed, among, and-true, and_assoc, ap, ap₂, arith, bytes_eq, decl_told, decls_told, defines_main, drop, environment, environment_added, export_names, exports_told, false, first_added, first_by_name, forbidden, function_names, get_or, gives_int, head_added, head_crosses, head_fits_by, head_in, head_of, heads_in, if◌then◌else◌, import_added, import_names, imported_by, imports_added, imports_told, input_head, input_name, int_type, is_environment, is_input, is_offered_by, is_output, is_plain, is_some, length, length-map, line_of_text, lines_told, list_all, list_all-append, list_any, list_any-append, main_holds, main_name, map, no_heads, not, noted, noted_all, numbered, offering, offering_number, offering_table, offers, option_and_then, option_map, or_assoc, others_added, output_head, output_name, proto_names, refl, refused_at, same_params, same_result, section_told, slice_get, slice_get-map, slice_get_read, suc, sym, table_of, takes_int, takes_nothing, true, unless, ℕ, ◌&&◌, ◌++◌, ◌+◌, ◌<◌, ◌==◌, ◌||◌, ◌∙◌, ◌∷◌, ◌≡◌, ◌≤◌}
+use Rattle.sc_interfaces.proofs.Common.{Agreements, Bool, Decl, ExportLine, Function, Global, HeadTree, ImportLine}
+use Rattle.sc_interfaces.proofs.Common.{List, None, Option, ParamTree, Proto, SectionTable, SectionTree, Some, Struct}
+use Rattle.sc_interfaces.proofs.Common.{Text, TypeName, [], added, agree, agrees_first, agrees_with, all_added}
+use Rattle.sc_interfaces.proofs.Common.{all_numbered, allowed, among, and-true, and_assoc, ap, ap₂, arith, bytes_eq}
+use Rattle.sc_interfaces.proofs.Common.{decl_told, decls_told, defines_main, drop, environment, environment_added}
+use Rattle.sc_interfaces.proofs.Common.{export_names, exports_told, false, first_added, first_by_name, forbidden}
+use Rattle.sc_interfaces.proofs.Common.{function_names, get_or, gives_int, head_added, head_crosses, head_fits_by}
+use Rattle.sc_interfaces.proofs.Common.{head_in, head_of, heads_in, if◌then◌else◌, import_added, import_names}
+use Rattle.sc_interfaces.proofs.Common.{imported_by, imports_added, imports_told, input_head, input_name, int_type}
+use Rattle.sc_interfaces.proofs.Common.{is_environment, is_input, is_offered_by, is_output, is_plain, is_some, length}
+use Rattle.sc_interfaces.proofs.Common.{length-map, line_of_text, lines_told, list_all, list_all-append, list_any}
+use Rattle.sc_interfaces.proofs.Common.{list_any-append, main_holds, main_name, map, no_heads, not, noted, noted_all}
+use Rattle.sc_interfaces.proofs.Common.{numbered, offering, offering_number, offering_table, offers, option_and_then}
+use Rattle.sc_interfaces.proofs.Common.{option_map, or_assoc, others_added, output_head, output_name, proto_names, refl}
+use Rattle.sc_interfaces.proofs.Common.{refused_at, same_params, same_result, section_told, slice_get, slice_get-map}
+use Rattle.sc_interfaces.proofs.Common.{slice_get_read, suc, sym, table_of, takes_int, takes_nothing, true, unless, ℕ}
+use Rattle.sc_interfaces.proofs.Common.{◌&&◌, ◌++◌, ◌+◌, ◌<◌, ◌==◌, ◌||◌, ◌∙◌, ◌∷◌, ◌≡◌, ◌≤◌}
 use Rattle.sc_interfaces.specs.Faces
 use Rattle.sc_interfaces.proofs.Agreeing.{type_symm}
-use Rattle.sc_interfaces.proofs.Allowing.{same_text, is_numbered-numbered, all_numbered_same, allowed_forbidden, allowed_added, allowed_same}
+use Rattle.sc_interfaces.proofs.Allowing.{same_text, is_numbered-numbered, all_numbered_same, allowed_forbidden}
+use Rattle.sc_interfaces.proofs.Allowing.{allowed_added, allowed_same}
 use Rattle.sc_interfaces.proofs.Steps.{drop_item, drop_past}
 
 -- two lists hold the same names

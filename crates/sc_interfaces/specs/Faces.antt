@@ -1,6 +1,10 @@
 -- The rules of interfaces, and the lines of the sections that break them.
-use Rattle.sc_interfaces.specs.Common.{Decl, ExportLine, Function, HeadTree, ImportLine, Proto, SectionTree, Text, among, defines_main, environment, export_names, function_names, head_of, heads_in, import_names, is_environment, line_of_text, main_name, offering, proto_names, unless}
-use Rattle.std.specs.Prelude.{ℕ, suc, Bool, true, false, not, ◌&&◌, ◌||◌, nat_eq, bytes_eq, codes, take, List, [], ◌∷◌, ◌++◌, map, Option, Some, None, is_some, if◌then◌else◌}
+use Rattle.sc_interfaces.specs.Common.{Decl, ExportLine, Function, HeadTree, ImportLine, Proto, SectionTree, Text}
+use Rattle.sc_interfaces.specs.Common.{among, defines_main, environment, export_names, function_names, head_of}
+use Rattle.sc_interfaces.specs.Common.{heads_in, import_names, is_environment, line_of_text, main_name, offering}
+use Rattle.sc_interfaces.specs.Common.{proto_names, unless}
+use Rattle.std.specs.Prelude.{ℕ, suc, Bool, true, false, not, ◌&&◌, ◌||◌, nat_eq, bytes_eq, codes, take, List, [], ◌∷◌}
+use Rattle.std.specs.Prelude.{◌++◌, map, Option, Some, None, is_some, if◌then◌else◌}
 use Rattle.std.specs.List.{list_all, list_any}
 use Rattle.sc_ast.specs.declared.types.BaseTree.{BaseTree}
 use Rattle.sc_ast.specs.declared.types.BaseTree.TheVariants as base

@@ -1,6 +1,9 @@
 -- Helping: the interfaces of sections by tables of places, in which a name is found at once.
-use Rattle.sc_interfaces.specs.Common.{Decl, ExportLine, ImportLine, SectionTable, SectionTree, Text, among, first_by_name, function_in, functions_in, is_environment, main_name, number_or_zero, scalar_of, with_first}
-use Rattle.std.specs.Prelude.{ℕ, suc, ◌≤◌, bytes_eq, List, [], ◌∷◌, All, length, map, min, take, slice_get, Option, Some, None, if◌then◌else◌}
+use Rattle.sc_interfaces.specs.Common.{Decl, ExportLine, ImportLine, SectionTable, SectionTree, Text, among}
+use Rattle.sc_interfaces.specs.Common.{first_by_name, function_in, functions_in, is_environment, main_name}
+use Rattle.sc_interfaces.specs.Common.{number_or_zero, scalar_of, with_first}
+use Rattle.std.specs.Prelude.{ℕ, suc, ◌≤◌, bytes_eq, List, [], ◌∷◌, All, length, map, min, take, slice_get, Option}
+use Rattle.std.specs.Prelude.{Some, None, if◌then◌else◌}
 use Rattle.std.specs.Option.{option_and_then, option_map}
 use Rattle.sc_event.specs.declared.interface.Proto.{Proto}
 use Rattle.sc_event.specs.declared.interface.Import.{Import}

@@ -1,6 +1,10 @@
 -- Helping: the rules of interfaces by tables of the names that sections declare, in which a name is found at once.
-use Rattle.sc_interfaces.specs.Common.{Decl, ExportLine, Function, HeadTree, ImportLine, Proto, SectionTable, SectionTree, Text, among, environment, export_names, first_by_name, function_names, head_in, head_of, heads_in, import_names, is_environment, line_of_text, main_name, numbered, proto_names, unless, with_first}
-use Rattle.std.specs.Prelude.{ℕ, suc, Bool, true, not, ◌&&◌, ◌||◌, ◌==◌, bytes_eq, List, [], ◌∷◌, ◌++◌, map, slice_get, Option, Some, None, is_some, if◌then◌else◌}
+use Rattle.sc_interfaces.specs.Common.{Decl, ExportLine, Function, HeadTree, ImportLine, Proto, SectionTable}
+use Rattle.sc_interfaces.specs.Common.{SectionTree, Text, among, environment, export_names, first_by_name}
+use Rattle.sc_interfaces.specs.Common.{function_names, head_in, head_of, heads_in, import_names, is_environment}
+use Rattle.sc_interfaces.specs.Common.{line_of_text, main_name, numbered, proto_names, unless, with_first}
+use Rattle.std.specs.Prelude.{ℕ, suc, Bool, true, not, ◌&&◌, ◌||◌, ◌==◌, bytes_eq, List, [], ◌∷◌, ◌++◌, map, slice_get}
+use Rattle.std.specs.Prelude.{Option, Some, None, is_some, if◌then◌else◌}
 use Rattle.std.specs.Option.{option_and_then}
 use Rattle.sc_interfaces.specs.declared.agreements.Agreements.{Agreements}
 use Rattle.sc_interfaces.specs.declared.imports.Imported.{Imported}

@@ -1,4 +1,5 @@
-ghost use Rattle.sc_interfaces.specs.Prelude.{allowed, decl_told, decls_told, head_added, head_fits_by, head_in, no_heads, unless, with_lines};
+ghost use Rattle.sc_interfaces.specs.Prelude.{allowed, decl_told, decls_told, head_added, head_fits_by, head_in};
+ghost use Rattle.sc_interfaces.specs.Prelude.{no_heads, unless, with_lines};
 ghost use Rattle.std.specs.Prelude.{◌≡◌, ◌&&◌, OnOk};
 ghost use Rattle.sc_ast.specs.declared.section.Decl.TheVariants.{Proto, Function};
 

@@ -1,4 +1,5 @@
-ghost use Rattle.sc_interfaces.specs.Prelude.{among, interface_broken, line_of_text, main_name, name_fits, noted_all, refused_at, section_told, unless, with_lines};
+ghost use Rattle.sc_interfaces.specs.Prelude.{among, interface_broken, line_of_text, main_name, name_fits, noted_all};
+ghost use Rattle.sc_interfaces.specs.Prelude.{refused_at, section_told, unless, with_lines};
 ghost use Rattle.std.specs.Prelude.{◌≡◌, ◌||◌, IfOk, OnOk, map};
 
 use crate::decls::decls_told;

@@ -1,6 +1,19 @@
 -- What statements that fit do: they ask for calls that fit alone, and leave a function with a value of its result's
 -- kind.
-use Rattle.sc_kinds.proofs.Common.{Acts, Arith, Blocks, Bool, Break, CallTarget, Callable, Calls, Cause, Continue, Each, Exit, Here, Inside, Judged, List, Next, None, Ok, Option, Result, Return, Scope, Signature, Some, State, Ty, TypedExpr, TypedFunction, TypedStruct, Value, Ways, Word, [], all_do, all_go_into, and_first, and_from, and_rest, and_then, ap, args_fit, assign, assign_call, assign_call_fits, at_brace, at_place, bind, block_does, body_does, body_fits, call, call_alone, call_fits, choose, closed, computed, decayed, evaluated, false, false≢true, goes_into, has_kind, have_kinds, in_order, init_does, inits_do, is_integer, is_of, is_pointer, is_scalar, is_some, is_target, judged, kind_fits, kind_step, layer_of, leave, list_all, loop, map, not, on_line, option_goes, part_does, part_fits, refl, result_goes, returned_call_fits, returned_fits, returns_kind, same_ty, simple_does, simple_fits, stmt_at, stmt_does, stmt_fits, stmt_induction, stmt_step, store, store_at, store_result, stored, subst, suc, sym, target_signature, test, true, type_goes, values, variable_at, ways, with_memory, ℕ, ◌&&◌, ◌∙◌, ◌∷◌, ◌≡◌}
+use Rattle.sc_kinds.proofs.Common.{Acts, Arith, Blocks, Bool, Break, CallTarget, Callable, Calls, Cause, Continue, Each}
+use Rattle.sc_kinds.proofs.Common.{Exit, Here, Inside, Judged, List, Next, None, Ok, Option, Result, Return, Scope}
+use Rattle.sc_kinds.proofs.Common.{Signature, Some, State, Ty, TypedExpr, TypedFunction, TypedStruct, Value, Ways, Word}
+use Rattle.sc_kinds.proofs.Common.{[], all_do, all_go_into, and_first, and_from, and_rest, and_then, ap, args_fit}
+use Rattle.sc_kinds.proofs.Common.{assign, assign_call, assign_call_fits, at_brace, at_place, bind, block_does}
+use Rattle.sc_kinds.proofs.Common.{body_does, body_fits, call, call_alone, call_fits, choose, closed, computed, decayed}
+use Rattle.sc_kinds.proofs.Common.{evaluated, false, false≢true, goes_into, has_kind, have_kinds, in_order, init_does}
+use Rattle.sc_kinds.proofs.Common.{inits_do, is_integer, is_of, is_pointer, is_scalar, is_some, is_target, judged}
+use Rattle.sc_kinds.proofs.Common.{kind_fits, kind_step, layer_of, leave, list_all, loop, map, not, on_line}
+use Rattle.sc_kinds.proofs.Common.{option_goes, part_does, part_fits, refl, result_goes, returned_call_fits}
+use Rattle.sc_kinds.proofs.Common.{returned_fits, returns_kind, same_ty, simple_does, simple_fits, stmt_at, stmt_does}
+use Rattle.sc_kinds.proofs.Common.{stmt_fits, stmt_induction, stmt_step, store, store_at, store_result, stored, subst}
+use Rattle.sc_kinds.proofs.Common.{suc, sym, target_signature, test, true, type_goes, values, variable_at, ways}
+use Rattle.sc_kinds.proofs.Common.{with_memory, ℕ, ◌&&◌, ◌∙◌, ◌∷◌, ◌≡◌}
 use Rattle.sc_core.specs.declared.expr.TypedCall.{TypedCall}
 use Rattle.sc_core.specs.declared.expr.VarRef.TheVariants.{Local}
 use Rattle.sc_core.specs.declared.stmt.TypedStmt.{TypedStmt}
@@ -13,7 +26,8 @@ use Rattle.sc_core.specs.declared.section.TypedLocal.{TypedLocal}
 use Rattle.sc_core.specs.declared.value.Want.{Want}
 use Rattle.sc_core.specs.declared.value.Want.TheVariants as want
 use Rattle.sc_kinds.proofs.Values.{either, bind_made, same_kind, integer_kind, decayed_kind, value_kind, typed_so}
-use Rattle.sc_kinds.proofs.Pieces.{Same, Any, itself, then_same, weaken, computed_same, choose_same, exit_kind, ExitOk, DoSame, leave_same, in_order_ok, follow_same, EachSame, all_same, loop_same}
+use Rattle.sc_kinds.proofs.Pieces.{Same, Any, itself, then_same, weaken, computed_same, choose_same, exit_kind, ExitOk}
+use Rattle.sc_kinds.proofs.Pieces.{DoSame, leave_same, in_order_ok, follow_same, EachSame, all_same, loop_same}
 
 -- a value goes into places of its own kind
 pub goes_kind : (place value : Ty) → type_goes place value ≡ true → is_pointer place ≡ is_pointer value

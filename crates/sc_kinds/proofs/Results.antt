@@ -1,5 +1,21 @@
 -- What functions of a well-typed program return, and which calls they ask for.
-use Rattle.sc_kinds.proofs.Common.{Arith, BadType, Body, Bool, CallTarget, Callable, Function, Here, Interface, Interfaces, Library, List, None, Null, Option, Piece, Ptr, Reached, Signature, Some, State, Stopped, Ty, TypedFunction, TypedSection, Value, Word, [], allowed, and_first, and_from, and_rest, and_then, ap, are_distinct, back_own, begun, body_does, body_fits, bytes_eq, call_cross, call_own, callable_in, called, calls, closed, codes, crossing, done, entry_in, eq-eqb, eqb-true, export_fits, false, false≢true, found, function, function_at, function_fits, function_of, functions_in, global_fits, has_kind, have_kinds, if◌then◌else◌, import_name, is_plain_name, is_pointer, is_some, is_well_typed, is_word, leads, length, library_of, list_all, list_any, local_fits, main_fits, main_name, mains_in, map, may_call, most_compartments, most_params, nat_le, not, option_and_then, option_map, option_map_or, option_signature, option_value, passed_fits, place_of_export, position, proto_signature, refl, result_fits, result_ty, returns_kind, run_step, same_import, same_results, same_signature, same_types, scalar_ty, scope_of, section_functions, sections_fit, signature_of, slice_get, slice_index_or, structs_fit, subst, suc, sym, target_signature, true, turn, within, word_back, zero, ℕ, ◌&&◌, ◌++◌, ◌==◌, ◌∙◌, ◌∷◌, ◌≡◌}
+use Rattle.sc_kinds.proofs.Common.{Arith, BadType, Body, Bool, CallTarget, Callable, Function, Here, Interface}
+use Rattle.sc_kinds.proofs.Common.{Interfaces, Library, List, None, Null, Option, Piece, Ptr, Reached, Signature, Some}
+use Rattle.sc_kinds.proofs.Common.{State, Stopped, Ty, TypedFunction, TypedSection, Value, Word, [], allowed, and_first}
+use Rattle.sc_kinds.proofs.Common.{and_from, and_rest, and_then, ap, are_distinct, back_own, begun, body_does}
+use Rattle.sc_kinds.proofs.Common.{body_fits, bytes_eq, call_cross, call_own, callable_in, called, calls, closed, codes}
+use Rattle.sc_kinds.proofs.Common.{crossing, done, entry_in, eq-eqb, eqb-true, export_fits, false, false≢true, found}
+use Rattle.sc_kinds.proofs.Common.{function, function_at, function_fits, function_of, functions_in, global_fits}
+use Rattle.sc_kinds.proofs.Common.{has_kind, have_kinds, if◌then◌else◌, import_name, is_plain_name, is_pointer, is_some}
+use Rattle.sc_kinds.proofs.Common.{is_well_typed, is_word, leads, length, library_of, list_all, list_any, local_fits}
+use Rattle.sc_kinds.proofs.Common.{main_fits, main_name, mains_in, map, may_call, most_compartments, most_params}
+use Rattle.sc_kinds.proofs.Common.{nat_le, not, option_and_then, option_map, option_map_or, option_signature}
+use Rattle.sc_kinds.proofs.Common.{option_value, passed_fits, place_of_export, position, proto_signature, refl}
+use Rattle.sc_kinds.proofs.Common.{result_fits, result_ty, returns_kind, run_step, same_import, same_results}
+use Rattle.sc_kinds.proofs.Common.{same_signature, same_types, scalar_ty, scope_of, section_functions, sections_fit}
+use Rattle.sc_kinds.proofs.Common.{signature_of, slice_get, slice_index_or, structs_fit, subst, suc, sym}
+use Rattle.sc_kinds.proofs.Common.{target_signature, true, turn, within, word_back, zero, ℕ, ◌&&◌, ◌++◌, ◌==◌, ◌∙◌, ◌∷◌}
+use Rattle.sc_kinds.proofs.Common.{◌≡◌}
 use Rattle.sc_event.specs.Prelude.{comp_at, export_at, imports, is_function, is_input, is_output, takes}
 use Rattle.std.proofs.lemmas.Option.{slice_get-map}
 use Rattle.std.proofs.lemmas.List.{length-map}
@@ -16,7 +32,8 @@ use Rattle.sc_core.specs.declared.program.ProgramTree.{ProgramTree}
 use Rattle.sc_kinds.proofs.Values.{same_kind}
 use Rattle.sc_kinds.proofs.Pieces.{Lasting, Same, Any, then_same, ExitOk}
 use Rattle.sc_kinds.proofs.Bodies.{CallsFit, body_same, closed_same}
-use Rattle.sc_kinds.proofs.Sections.{ForSection, for_section, for_interface, index_map, all_at, first_of, found_passes, any_along, named_so, own_names_differ}
+use Rattle.sc_kinds.proofs.Sections.{ForSection, for_section, for_interface, index_map, all_at, first_of, found_passes}
+use Rattle.sc_kinds.proofs.Sections.{any_along, named_so, own_names_differ}
 
 -- OPTIONS
 record Of {A B : Type 0} (f : A → B) (o : Option A) (y : B) : Type 0 where

@@ -1,5 +1,9 @@
 -- What the sections of a well-typed program keep, by their numbers.
-use Rattle.sc_kinds.proofs.Common.{Bool, Interface, Interfaces, List, None, Option, Some, TypedFunction, TypedSection, [], and_first, and_rest, ap, are_distinct, bytes_eq, cond, false, false≢true, interface_fits, list_all, list_any, map, not, option_map, position, refl, section_fits, sections_fit, slice_get, slice_index_or, subst, suc, sym, true, zero, ℕ, ◌&&◌, ◌++◌, ◌||◌, ◌∙◌, ◌∷◌, ◌≡◌}
+use Rattle.sc_kinds.proofs.Common.{Bool, Interface, Interfaces, List, None, Option, Some, TypedFunction, TypedSection}
+use Rattle.sc_kinds.proofs.Common.{[], and_first, and_rest, ap, are_distinct, bytes_eq, cond, false, false≢true}
+use Rattle.sc_kinds.proofs.Common.{interface_fits, list_all, list_any, map, not, option_map, position, refl}
+use Rattle.sc_kinds.proofs.Common.{section_fits, sections_fit, slice_get, slice_index_or, subst, suc, sym, true, zero}
+use Rattle.sc_kinds.proofs.Common.{ℕ, ◌&&◌, ◌++◌, ◌||◌, ◌∙◌, ◌∷◌, ◌≡◌}
 use Rattle.sc_base.proofs.Lists.{position-cons}
 use Rattle.sc_base.proofs.Texts.{same_text, bytes_eq_self}
 use Rattle.sc_kinds.proofs.Values.{either}

@@ -1,5 +1,17 @@
 -- Values have the kinds of their types: expressions.
-use Rattle.sc_kinds.proofs.Common.{Arith, BadPointer, Blocks, Bool, Cause, Err, Here, Judged, List, Meant, None, Null, Ok, Option, Ptr, Result, Scope, Some, Ty, TypedExpr, TypedStruct, Under, Value, Word, and_first, and_rest, ap, apart, applied, applied_one, are_equatable, are_ordered, as_word, at_place, at_pointer, between, binary, binary_fits, bind, both_ints, cells_at, choose, common, decayed, difference_fits, expr_at, expr_induction, false, false≢true, if◌then◌else◌, in_elements, int_div, int_rem, is_address, is_array, is_int, is_integer, is_live, is_of, is_pointer, is_scalar, is_true, is_type, is_unsigned, is_unsigned_op, is_zero, judged, length, literal, load, loaded, meant, meant_step, moved, moved_back, moved_on, nat_le, negsuc, not, of_bool, on_word, on_words, ordered, place_at, pointer_to, points, pos, refl, same_place, same_pointers, same_ty, slice_get, subst, suc, sum_fits, sym, target_cells, term_judged, term_of, term_step, true, typed, unary_fits, variable_at, wanted, ways, ℕ, ℤ, ◌&&◌, ◌-◌, ◌^◌, ◌||◌, ◌∙◌, ◌≡◌}
+use Rattle.sc_kinds.proofs.Common.{Arith, BadPointer, Blocks, Bool, Cause, Err, Here, Judged, List, Meant, None, Null}
+use Rattle.sc_kinds.proofs.Common.{Ok, Option, Ptr, Result, Scope, Some, Ty, TypedExpr, TypedStruct, Under, Value, Word}
+use Rattle.sc_kinds.proofs.Common.{and_first, and_rest, ap, apart, applied, applied_one, are_equatable, are_ordered}
+use Rattle.sc_kinds.proofs.Common.{as_word, at_place, at_pointer, between, binary, binary_fits, bind, both_ints}
+use Rattle.sc_kinds.proofs.Common.{cells_at, choose, common, decayed, difference_fits, expr_at, expr_induction, false}
+use Rattle.sc_kinds.proofs.Common.{false≢true, if◌then◌else◌, in_elements, int_div, int_rem, is_address, is_array}
+use Rattle.sc_kinds.proofs.Common.{is_int, is_integer, is_live, is_of, is_pointer, is_scalar, is_true, is_type}
+use Rattle.sc_kinds.proofs.Common.{is_unsigned, is_unsigned_op, is_zero, judged, length, literal, load, loaded, meant}
+use Rattle.sc_kinds.proofs.Common.{meant_step, moved, moved_back, moved_on, nat_le, negsuc, not, of_bool, on_word}
+use Rattle.sc_kinds.proofs.Common.{on_words, ordered, place_at, pointer_to, points, pos, refl, same_place}
+use Rattle.sc_kinds.proofs.Common.{same_pointers, same_ty, slice_get, subst, suc, sum_fits, sym, target_cells}
+use Rattle.sc_kinds.proofs.Common.{term_judged, term_of, term_step, true, typed, unary_fits, variable_at, wanted, ways}
+use Rattle.sc_kinds.proofs.Common.{ℕ, ℤ, ◌&&◌, ◌-◌, ◌^◌, ◌||◌, ◌∙◌, ◌≡◌}
 use Rattle.sc_word.specs.Prelude.{word_of}
 use Rattle.sc_base.specs.declared.op.UnaryOp.{UnaryOp}
 use Rattle.sc_base.specs.declared.op.UnaryOp.TheVariants as unary

@@ -1,7 +1,9 @@
 -- Values have the kind of their types: words for integers, pointers and null for pointers. So no operator of a program
 -- meets an operand that it has no meaning for, and numbers alone cross between compartments.
 use Rattle.sc_event.specs.Prelude.{export_at}
-use Rattle.sc_core.specs.Prelude.{Arith, Blocks, Function, Here, IsWellTyped, Reached, Scope, State, called, calls, crossing, entry_in, function, is_pointer, judged, library_of, option_value, run_step, ways, within}
+use Rattle.sc_core.specs.Prelude.{Arith, Blocks, Function, Here, IsWellTyped, Reached, Scope, State, called, calls}
+use Rattle.sc_core.specs.Prelude.{crossing, entry_in, function, is_pointer, judged, library_of, option_value, run_step}
+use Rattle.sc_core.specs.Prelude.{ways, within}
 use Rattle.std.specs.Prelude.{◌≡◌, ℕ, Bool, true, false, not, ◌&&◌, List, [], ◌∷◌, Option, None, Some, Ok, slice_get}
 use Rattle.sc_core.specs.declared.ty.Ty.{Ty}
 use Rattle.sc_core.specs.declared.expr.TypedExpr.{TypedExpr}

@@ -1,8 +1,18 @@
 -- Calls and scripts in two runs, of which the second may be richer or go on.
-use Rattle.sc_laws.proofs.Common.{Action, BadType, Blamed, Body, Bool, Call, CallTarget, Cause, Cross, Export, Function, Goes, Grown, Here, Input, Interfaces, Library, List, Meets, None, Option, Output, Own, Piece, Roles, Row, Some, State, Step, Stopped, TurnsOut, Value, Word, [], acts, and_then, ap, ap₂, arith, asks, back_cross, back_own, begun, call_cross, call_own, called, calls, crossed, done, false, found, function, if◌then◌else◌, is_number, length, map, may_call, performs, refl, rows_left, run_in, run_step, scripted_step, subst, suc, sym, tell, true, turn, within, word_in, zero, ℕ, ◌+◌, ◌<◌, ◌∙◌, ◌∷◌, ◌≡◌, ◌≤◌, ◌⊎◌}
+use Rattle.sc_laws.proofs.Common.{Action, BadType, Blamed, Body, Bool, Call, CallTarget, Cause, Cross, Export, Function}
+use Rattle.sc_laws.proofs.Common.{Goes, Grown, Here, Input, Interfaces, Library, List, Meets, None, Option, Output, Own}
+use Rattle.sc_laws.proofs.Common.{Piece, Roles, Row, Some, State, Step, Stopped, TurnsOut, Value, Word, [], acts}
+use Rattle.sc_laws.proofs.Common.{and_then, ap, ap₂, arith, asks, back_cross, back_own, begun, call_cross, call_own}
+use Rattle.sc_laws.proofs.Common.{called, calls, crossed, done, false, found, function, if◌then◌else◌, is_number}
+use Rattle.sc_laws.proofs.Common.{length, map, may_call, performs, refl, rows_left, run_in, run_step, scripted_step}
+use Rattle.sc_laws.proofs.Common.{subst, suc, sym, tell, true, turn, within, word_in, zero, ℕ, ◌+◌, ◌<◌, ◌∙◌, ◌∷◌, ◌≡◌}
+use Rattle.sc_laws.proofs.Common.{◌≤◌, ◌⊎◌}
 use Rattle.sc_event.specs.declared.row.Action.TheVariants as act
-use Rattle.sc_laws.proofs.Growing.{stays, earlier, back_goes, then_goes, BodyGoes, StepGoes, begun_goes, done_goes, own_goes, cross_goes, calls_go, performs_go, within_goes, asks_is, asks_go, then_then}
-use Rattle.sc_laws.proofs.Libraries.{Anywhere, CallsTwins, FunctionTwins, LibraryTwins, function_twins, entered_same, may_same}
+use Rattle.sc_laws.proofs.Growing.{stays, earlier, back_goes, then_goes, BodyGoes, StepGoes, begun_goes, done_goes}
+use Rattle.sc_laws.proofs.Growing.{own_goes, cross_goes, calls_go, performs_go, within_goes, asks_is, asks_go}
+use Rattle.sc_laws.proofs.Growing.{then_then}
+use Rattle.sc_laws.proofs.Libraries.{Anywhere, CallsTwins, FunctionTwins, LibraryTwins, function_twins, entered_same}
+use Rattle.sc_laws.proofs.Libraries.{may_same}
 use Rattle.sc_laws.proofs.Below.{richer, richer_piece, Below, along, Ahead, below_kept}
 
 module _ (d : ℕ) (Soft : Cause → Type 0) (Turns : Type 0) (spent : (d ≡ 0) ⊎ Turns) where

@@ -1,5 +1,12 @@
 -- No compartment that performs is blamed, whatever the trace is.
-use Rattle.sc_laws.proofs.Common.{Action, BadType, Blamed, Body, Bool, Call, CallTarget, Cause, Cross, Ended, EventsOut, Export, Here, Input, Kept, Library, List, Main, Memory, Obedient, Option, Output, Own, Piece, Property, Reached, Roles, Row, RunEnd, Set, SourceRun, State, Stopped, TurnsOut, Value, Word, [], acts, asks, back_cross, back_own, begun, call_cross, call_own, called, calls, crossed, done, false, first_state, found_kept, function, if◌then◌else◌, is_number, length, map, may_call, performs, reaches, refl, roles_run, rows_left, run_by, run_in, run_step, run_to, scripted_step, stopped_at, subst, suc, take, tell, then_kept, true, turn, turn_of, within, word_in, zero, ℕ, ◌∷◌, ◌≡◌}
+use Rattle.sc_laws.proofs.Common.{Action, BadType, Blamed, Body, Bool, Call, CallTarget, Cause, Cross, Ended, EventsOut}
+use Rattle.sc_laws.proofs.Common.{Export, Here, Input, Kept, Library, List, Main, Memory, Obedient, Option, Output, Own}
+use Rattle.sc_laws.proofs.Common.{Piece, Property, Reached, Roles, Row, RunEnd, Set, SourceRun, State, Stopped}
+use Rattle.sc_laws.proofs.Common.{TurnsOut, Value, Word, [], acts, asks, back_cross, back_own, begun, call_cross}
+use Rattle.sc_laws.proofs.Common.{call_own, called, calls, crossed, done, false, first_state, found_kept, function}
+use Rattle.sc_laws.proofs.Common.{if◌then◌else◌, is_number, length, map, may_call, performs, reaches, refl, roles_run}
+use Rattle.sc_laws.proofs.Common.{rows_left, run_by, run_in, run_step, run_to, scripted_step, stopped_at, subst, suc}
+use Rattle.sc_laws.proofs.Common.{take, tell, then_kept, true, turn, turn_of, within, word_in, zero, ℕ, ◌∷◌, ◌≡◌}
 use Rattle.sc_event.specs.declared.row.Action.TheVariants as act
 use Rattle.sc_laws.proofs.Growing.{BodyGoes, calls_go, within_goes}
 use Rattle.sc_laws.proofs.Matching.{scripted_goes_on}

@@ -1,5 +1,11 @@
 -- The links of a chain come one after another, and a chain is found.
-use Rattle.sc_laws.proofs.Common.{AreFresh, Blamed, Bool, Cause, ChainRises, Event, EventsOut, HasChain, IsBlamedOutside, IsChain, IsRising, IsWithin, Library, Link, List, Memory, Obedient, PassesBlame, RunEnd, Set, SourceRun, TurnsOut, [], ap, ap₂, arith, cases_eq, eq-eqb, eqb-true, false, if◌then◌else◌, leb-false, length, length-append, longer, nat_le, ne_eqb, nobody, performed_by, reaches, refl, roles_in, roles_run, stopped_at, suc, sym, take, true, turnless, with, zero, ℕ, ⊎_elim, ◌++◌, ◌+◌, ◌<◌, ◌==◌, ◌||◌, ◌∙◌, ◌∷◌, ◌≡◌, ◌≤◌, ◌⊎◌}
+use Rattle.sc_laws.proofs.Common.{AreFresh, Blamed, Bool, Cause, ChainRises, Event, EventsOut, HasChain}
+use Rattle.sc_laws.proofs.Common.{IsBlamedOutside, IsChain, IsRising, IsWithin, Library, Link, List, Memory, Obedient}
+use Rattle.sc_laws.proofs.Common.{PassesBlame, RunEnd, Set, SourceRun, TurnsOut, [], ap, ap₂, arith, cases_eq, eq-eqb}
+use Rattle.sc_laws.proofs.Common.{eqb-true, false, if◌then◌else◌, leb-false, length, length-append, longer, nat_le}
+use Rattle.sc_laws.proofs.Common.{ne_eqb, nobody, performed_by, reaches, refl, roles_in, roles_run, stopped_at, suc}
+use Rattle.sc_laws.proofs.Common.{sym, take, true, turnless, with, zero, ℕ, ⊎_elim, ◌++◌, ◌+◌, ◌<◌, ◌==◌, ◌||◌, ◌∙◌}
+use Rattle.sc_laws.proofs.Common.{◌∷◌, ◌≡◌, ◌≤◌, ◌⊎◌}
 use Rattle.sc_laws.proofs.Blames.{nobody_is_blamed}
 use Rattle.sc_laws.proofs.FollowingRuns.{passes_blames}
 

@@ -1,11 +1,19 @@
 -- The names that several proofs of this crate cite, passed on from one place. Declares nothing.
-pub use Rattle.std.proofs.Common.{Bool, Err, List, None, Ok, Option, Result, Some, [], ap, append-nil, append_assoc, ap₂, arith, bytes_eq, cond, drop, eq-eqb, eqb-true, false, filter, if◌then◌else◌, inl, inr, int_div, int_lt, int_rem, is_some, le-leb, le-ltb, leb-false, leb-true, length, length-append, lt-ltb, ltb-false, map, max, nat_le, nat_lt, ne_eqb, neg_ℤ, not, pos, refl, slice_get, slice_index_or, subst, suc, sym, take, take_all, true, zero, ℕ, ℤ, ⊎_elim, ◌%◌, ◌&&◌, ◌*ℤ◌, ◌*◌, ◌++◌, ◌+ℤ◌, ◌+◌, ◌-ℤ◌, ◌-◌, ◌/◌, ◌<◌, ◌==◌, ◌^◌, ◌||◌, ◌∙◌, ◌∷◌, ◌≡◌, ◌≤◌, ◌⊎◌}
+pub use Rattle.std.proofs.Common.{Bool, Err, List, None, Ok, Option, Result, Some, [], ap, append-nil, append_assoc}
+pub use Rattle.std.proofs.Common.{ap₂, arith, bytes_eq, cond, drop, eq-eqb, eqb-true, false, filter, if◌then◌else◌, inl}
+pub use Rattle.std.proofs.Common.{inr, int_div, int_lt, int_rem, is_some, le-leb, le-ltb, leb-false, leb-true, length}
+pub use Rattle.std.proofs.Common.{length-append, lt-ltb, ltb-false, map, max, nat_le, nat_lt, ne_eqb, neg_ℤ, not, pos}
+pub use Rattle.std.proofs.Common.{refl, slice_get, slice_index_or, subst, suc, sym, take, take_all, true, zero, ℕ, ℤ}
+pub use Rattle.std.proofs.Common.{⊎_elim, ◌%◌, ◌&&◌, ◌*ℤ◌, ◌*◌, ◌++◌, ◌+ℤ◌, ◌+◌, ◌-ℤ◌, ◌-◌, ◌/◌, ◌<◌, ◌==◌, ◌^◌, ◌||◌}
+pub use Rattle.std.proofs.Common.{◌∙◌, ◌∷◌, ◌≡◌, ◌≤◌, ◌⊎◌}
 pub use Rattle.std.proofs.lemmas.Bool.{and_from, and_parts, both_ways, cases_eq, lt-leb}
 pub use Rattle.std.proofs.lemmas.List.{length-map, take-append-le}
 pub use Rattle.std.specs.List.{list_all, position_or_len}
 pub use Rattle.std.specs.Option.{option_map, option_map_or}
 pub use Rattle.sc_base.specs.declared.op.BinaryOp.{BinaryOp}
-pub use Rattle.sc_event.specs.Prelude.{Standing, action_of, at_start, awaits, count_of, export_at, fits_result, imports, is_allowed, is_function, is_input, is_legal_from, is_output, legal, may_perform, may_return, part, performer, rows_from, stands_after, stands_behind, takes}
+pub use Rattle.sc_event.specs.Prelude.{Standing, action_of, at_start, awaits, count_of, export_at, fits_result, imports}
+pub use Rattle.sc_event.specs.Prelude.{is_allowed, is_function, is_input, is_legal_from, is_output, legal, may_perform}
+pub use Rattle.sc_event.specs.Prelude.{may_return, part, performer, rows_from, stands_after, stands_behind, takes}
 pub use Rattle.sc_event.specs.declared.event.Event.TheVariants.{Call, End, In, Out, Ret}
 pub use Rattle.sc_event.specs.declared.interface.Interfaces.{Interfaces}
 pub use Rattle.sc_event.specs.declared.interface.Proto.{Proto}
@@ -16,7 +24,25 @@ pub use Rattle.sc_event.specs.declared.row.Row.{Row}
 pub use Rattle.sc_core.proofs.Induction.{Each, Inside, Under, everywhere, expr_induction, stmt_induction}
 pub use Rattle.sc_core.proofs.Keeping.{IsHalt, Kept, Property, found_kept, then_kept}
 pub use Rattle.sc_core.proofs.Layers.{expr_at, layer_of, on_line, stmt_at, term_of, typed}
-pub use Rattle.sc_core.specs.Prelude.{Acts, Arith, Blocks, Body, Break, Calls, Closed, Continue, Does, Exit, FrameChange, Front, Function, Here, Left, Library, Meant, Memory, Next, On, Opened, Piece, Reached, Return, Roles, Route, Run, State, Step, Stopped, Ways, acts, all_do, and_then, applied, applied_one, as_word, asks, assign, assign_call, at_brace, at_place, at_pointer, back_cross, back_own, begun, binary, bind, block_does, blocks_for, body_does, c_arith, c_binary, c_negated, call, call_alone, call_cross, call_own, called, calls, cause_of, cells_of, choose, closed, computed, crossed, crossing, deepest, depth_in, done, ended, entry_in, evaluated, exit_word, expr_nodes, first_blocks, first_state, first_word, follow, found, frame_bound, function, function_of, functions_in, functions_of, globals_of, in_loop, in_order, init_does, inits_do, is_number, is_pointer, is_true, is_unsigned, is_unsigned_op, is_word, kind_nodes, kind_step, leads, leave, library_of, local_nodes, loop, main_name, may_call, meant, meant_step, moved, negated_word, next_input, nodes, on_all_words, on_words, option_value, or_cause, part_does, part_nodes, performs, place_named, place_of_export, reaches, read_input, roles_in, rounds, rows_left, run_by, run_in, run_of, run_step, run_to, scripted_step, simple_does, stmt_does, stmt_nodes, stmt_step, stopped_at, store, store_at, store_result, stored, tell, term_step, test, total, turn, turn_of, values, variable_at, variables, ways, with_blocks, with_memory, within, word_back, word_in, wrapping}
+pub use Rattle.sc_core.specs.Prelude.{Acts, Arith, Blocks, Body, Break, Calls, Closed, Continue, Does, Exit}
+pub use Rattle.sc_core.specs.Prelude.{FrameChange, Front, Function, Here, Left, Library, Meant, Memory, Next, On}
+pub use Rattle.sc_core.specs.Prelude.{Opened, Piece, Reached, Return, Roles, Route, Run, State, Step, Stopped, Ways}
+pub use Rattle.sc_core.specs.Prelude.{acts, all_do, and_then, applied, applied_one, as_word, asks, assign, assign_call}
+pub use Rattle.sc_core.specs.Prelude.{at_brace, at_place, at_pointer, back_cross, back_own, begun, binary, bind}
+pub use Rattle.sc_core.specs.Prelude.{block_does, blocks_for, body_does, c_arith, c_binary, c_negated, call, call_alone}
+pub use Rattle.sc_core.specs.Prelude.{call_cross, call_own, called, calls, cause_of, cells_of, choose, closed, computed}
+pub use Rattle.sc_core.specs.Prelude.{crossed, crossing, deepest, depth_in, done, ended, entry_in, evaluated, exit_word}
+pub use Rattle.sc_core.specs.Prelude.{expr_nodes, first_blocks, first_state, first_word, follow, found, frame_bound}
+pub use Rattle.sc_core.specs.Prelude.{function, function_of, functions_in, functions_of, globals_of, in_loop, in_order}
+pub use Rattle.sc_core.specs.Prelude.{init_does, inits_do, is_number, is_pointer, is_true, is_unsigned, is_unsigned_op}
+pub use Rattle.sc_core.specs.Prelude.{is_word, kind_nodes, kind_step, leads, leave, library_of, local_nodes, loop}
+pub use Rattle.sc_core.specs.Prelude.{main_name, may_call, meant, meant_step, moved, negated_word, next_input, nodes}
+pub use Rattle.sc_core.specs.Prelude.{on_all_words, on_words, option_value, or_cause, part_does, part_nodes, performs}
+pub use Rattle.sc_core.specs.Prelude.{place_named, place_of_export, reaches, read_input, roles_in, rounds, rows_left}
+pub use Rattle.sc_core.specs.Prelude.{run_by, run_in, run_of, run_step, run_to, scripted_step, simple_does, stmt_does}
+pub use Rattle.sc_core.specs.Prelude.{stmt_nodes, stmt_step, stopped_at, store, store_at, store_result, stored, tell}
+pub use Rattle.sc_core.specs.Prelude.{term_step, test, total, turn, turn_of, values, variable_at, variables, ways}
+pub use Rattle.sc_core.specs.Prelude.{with_blocks, with_memory, within, word_back, word_in, wrapping}
 pub use Rattle.sc_core.specs.declared.cause.Cause.TheVariants.{BadType, NoReturn, OutOfBounds}
 pub use Rattle.sc_core.specs.declared.expr.CallTarget.TheVariants.{Cross, Input, Output, Own}
 pub use Rattle.sc_core.specs.declared.expr.TypedExpr.{TypedExpr}
@@ -28,8 +54,25 @@ pub use Rattle.sc_core.specs.declared.section.TypedStruct.{TypedStruct}
 pub use Rattle.sc_core.specs.declared.stmt.TypedSimple.{TypedSimple}
 pub use Rattle.sc_core.specs.declared.stmt.TypedSimpleKind.{TypedSimpleKind}
 pub use Rattle.sc_core.specs.declared.stmt.TypedStmt.{TypedStmt, TypedStmt-F, fold-TypedStmt}
-pub use Rattle.sc_core.specs.declared.stmt.TypedStmtKind.{TypedStmtKind, TypedStmtKind-F, fold-TypedStmtKind, map-TypedStmtKind, roll-TypedStmtKind}
+pub use Rattle.sc_core.specs.declared.stmt.TypedStmtKind.{TypedStmtKind, TypedStmtKind-F, fold-TypedStmtKind}
+pub use Rattle.sc_core.specs.declared.stmt.TypedStmtKind.{map-TypedStmtKind, roll-TypedStmtKind}
 pub use Rattle.sc_core.specs.declared.value.Value.TheVariants.{Null, Ptr, Word}
 pub use Rattle.sc_core.specs.declared.value.Want.{Want}
-pub use Rattle.sc_laws.specs.Common.{Blamed, CallTarget, Cause, Ended, Entry, Event, EventsOut, ProgramTree, RunEnd, SourceRun, TurnsOut, Value}
-pub use Rattle.sc_laws.specs.Prelude.{AgreeingRunAlike, AgreesInRoom, AgreesUntilBlame, Alike, AreFresh, AreTold, Asks, BehavioursAgree, BlameIsPassed, BlameRemains, Blames, BodiesAgree, CallsAgree, ChainExists, ChainIsLeast, ChainRises, ChainsRise, DeepestIsReached, Doing, EmptySetIsMeaning, ExtendedByMore, Extends, FixedPoint, FunctionsAgree, FunctionsMatch, Gives, GoFrom, Goes, Gone, Grown, Halts, HasChain, HasFixedPoint, HoldsOfSets, Includes, Interaction, IsArithmetic, IsBlamedOutside, IsChain, IsFinal, IsFixed, IsRising, IsSpent, IsSteady, IsStop, IsWithin, KeepsBlames, KeepsRooms, Lasts, LeastIsChain, LeavesRooms, LibrariesAgree, LibrariesMatch, Link, Match, MeaningGoesOn, Meets, MoreGoesOn, MoreMayPerform, Never, NobodyWhoPerformsIsBlamed, Obedient, OnlyGoesOn, OtherLinesAgree, PassesBlame, PassesBlames, PiecesAgree, Plays, ProgramsObey, Reads, RoomsAreKept, RunsAgree, RunsUntilBlame, Set, Spends, SpendsTurns, StopsSo, StopsSpent, Stores, TellsWithMore, TracesAreLegal, TurnsOutMeansTurns, WrappedAgrees, WrappingAgrees, blamed, blamed_run, last, library_run, longer, main_call, nobody, now, performed, performed_by, piece_without_line, played, roles_run, same, same_run, turnless, with, without_line}
+pub use Rattle.sc_laws.specs.Common.{Blamed, CallTarget, Cause, Ended, Entry, Event, EventsOut, ProgramTree, RunEnd}
+pub use Rattle.sc_laws.specs.Common.{SourceRun, TurnsOut, Value}
+pub use Rattle.sc_laws.specs.Prelude.{AgreeingRunAlike, AgreesInRoom, AgreesUntilBlame, Alike, AreFresh, AreTold, Asks}
+pub use Rattle.sc_laws.specs.Prelude.{BehavioursAgree, BlameIsPassed, BlameRemains, Blames, BodiesAgree, CallsAgree}
+pub use Rattle.sc_laws.specs.Prelude.{ChainExists, ChainIsLeast, ChainRises, ChainsRise, DeepestIsReached, Doing}
+pub use Rattle.sc_laws.specs.Prelude.{EmptySetIsMeaning, ExtendedByMore, Extends, FixedPoint, FunctionsAgree}
+pub use Rattle.sc_laws.specs.Prelude.{FunctionsMatch, Gives, GoFrom, Goes, Gone, Grown, Halts, HasChain, HasFixedPoint}
+pub use Rattle.sc_laws.specs.Prelude.{HoldsOfSets, Includes, Interaction, IsArithmetic, IsBlamedOutside, IsChain}
+pub use Rattle.sc_laws.specs.Prelude.{IsFinal, IsFixed, IsRising, IsSpent, IsSteady, IsStop, IsWithin, KeepsBlames}
+pub use Rattle.sc_laws.specs.Prelude.{KeepsRooms, Lasts, LeastIsChain, LeavesRooms, LibrariesAgree, LibrariesMatch}
+pub use Rattle.sc_laws.specs.Prelude.{Link, Match, MeaningGoesOn, Meets, MoreGoesOn, MoreMayPerform, Never}
+pub use Rattle.sc_laws.specs.Prelude.{NobodyWhoPerformsIsBlamed, Obedient, OnlyGoesOn, OtherLinesAgree, PassesBlame}
+pub use Rattle.sc_laws.specs.Prelude.{PassesBlames, PiecesAgree, Plays, ProgramsObey, Reads, RoomsAreKept, RunsAgree}
+pub use Rattle.sc_laws.specs.Prelude.{RunsUntilBlame, Set, Spends, SpendsTurns, StopsSo, StopsSpent, Stores}
+pub use Rattle.sc_laws.specs.Prelude.{TellsWithMore, TracesAreLegal, TurnsOutMeansTurns, WrappedAgrees, WrappingAgrees}
+pub use Rattle.sc_laws.specs.Prelude.{blamed, blamed_run, last, library_run, longer, main_call, nobody, now, performed}
+pub use Rattle.sc_laws.specs.Prelude.{performed_by, piece_without_line, played, roles_run, same, same_run, turnless}
+pub use Rattle.sc_laws.specs.Prelude.{with, without_line}

@@ -1,5 +1,7 @@
 -- What functions do with as many open calls as they have turns is a fixed point.
-use Rattle.sc_laws.proofs.Common.{Blamed, Ended, EventsOut, HasFixedPoint, Here, IsFixed, IsSteady, Library, Never, Obedient, Piece, Reached, Roles, RunEnd, State, Step, Stopped, TurnsOut, ap, arith, inl, now, refl, run_step, scripted_step, suc, sym, within, ℕ, ◌+◌, ◌<◌, ◌∙◌, ◌≡◌}
+use Rattle.sc_laws.proofs.Common.{Blamed, Ended, EventsOut, HasFixedPoint, Here, IsFixed, IsSteady, Library, Never}
+use Rattle.sc_laws.proofs.Common.{Obedient, Piece, Reached, Roles, RunEnd, State, Step, Stopped, TurnsOut, ap, arith}
+use Rattle.sc_laws.proofs.Common.{inl, now, refl, run_step, scripted_step, suc, sym, within, ℕ, ◌+◌, ◌<◌, ◌∙◌, ◌≡◌}
 use Rattle.sc_laws.proofs.Growing.{BodyGoes, StepGoes, within_goes}
 use Rattle.sc_laws.proofs.Matching.{run_goes_on, scripted_goes_on}
 use Rattle.sc_laws.proofs.Below.{richer, richer_piece, Passes, Below, along, passed}

@@ -1,10 +1,27 @@
 -- Calls in two runs along one trace, of which the second has more compartments that perform their parts of it.
-use Rattle.sc_laws.proofs.Common.{Action, BadType, Blamed, Blocks, Body, Bool, Call, CallTarget, Cross, Event, Export, Front, Function, Goes, Gone, Here, In, Input, IsFixed, Library, List, Meets, None, Option, Out, Output, Own, Piece, Proto, Reached, Ret, Row, Scalar, Some, Standing, State, Step, Stopped, TurnsOut, Value, Word, [], action_of, acts, and_from, and_parts, and_then, ap, ap₂, arith, asks, at_start, back_cross, begun, blocks_for, both_ways, call_cross, call_own, called, calls, count_of, crossed, crossing, done, drop, ended, eq-eqb, export_at, false, first_word, found, function, if◌then◌else◌, imports, is_function, is_number, is_output, is_word, last, length, list_all, map, may_call, next_input, now, option_value, part, performer, performs, read_input, refl, roles_in, rows_left, run_in, run_step, scripted_step, stands_after, stands_behind, subst, suc, sym, takes, tell, true, turn, turn_of, with_blocks, within, word_back, word_in, zero, ℕ, ◌++◌, ◌∙◌, ◌∷◌, ◌≡◌, ◌≤◌}
+use Rattle.sc_laws.proofs.Common.{Action, BadType, Blamed, Blocks, Body, Bool, Call, CallTarget, Cross, Event, Export}
+use Rattle.sc_laws.proofs.Common.{Front, Function, Goes, Gone, Here, In, Input, IsFixed, Library, List, Meets, None}
+use Rattle.sc_laws.proofs.Common.{Option, Out, Output, Own, Piece, Proto, Reached, Ret, Row, Scalar, Some, Standing}
+use Rattle.sc_laws.proofs.Common.{State, Step, Stopped, TurnsOut, Value, Word, [], action_of, acts, and_from, and_parts}
+use Rattle.sc_laws.proofs.Common.{and_then, ap, ap₂, arith, asks, at_start, back_cross, begun, blocks_for, both_ways}
+use Rattle.sc_laws.proofs.Common.{call_cross, call_own, called, calls, count_of, crossed, crossing, done, drop, ended}
+use Rattle.sc_laws.proofs.Common.{eq-eqb, export_at, false, first_word, found, function, if◌then◌else◌, imports}
+use Rattle.sc_laws.proofs.Common.{is_function, is_number, is_output, is_word, last, length, list_all, map, may_call}
+use Rattle.sc_laws.proofs.Common.{next_input, now, option_value, part, performer, performs, read_input, refl, roles_in}
+use Rattle.sc_laws.proofs.Common.{rows_left, run_in, run_step, scripted_step, stands_after, stands_behind, subst, suc}
+use Rattle.sc_laws.proofs.Common.{sym, takes, tell, true, turn, turn_of, with_blocks, within, word_back, word_in, zero}
+use Rattle.sc_laws.proofs.Common.{ℕ, ◌++◌, ◌∙◌, ◌∷◌, ◌≡◌, ◌≤◌}
 use Rattle.sc_event.specs.declared.row.Action.TheVariants as act
-use Rattle.sc_laws.proofs.Growing.{front_same, front_more, more, reached, stays, no_turn, earlier, then_from, then_goes, BodyGoes, done_goes, own_goes, cross_goes, back_goes, calls_go, performs_go, LibraryGoes, run_step_goes, scripted_goes, asks_is, asks_go, run_goes}
+use Rattle.sc_laws.proofs.Growing.{front_same, front_more, more, reached, stays, no_turn, earlier, then_from, then_goes}
+use Rattle.sc_laws.proofs.Growing.{BodyGoes, done_goes, own_goes, cross_goes, back_goes, calls_go, performs_go}
+use Rattle.sc_laws.proofs.Growing.{LibraryGoes, run_step_goes, scripted_goes, asks_is, asks_go, run_goes}
 use Rattle.sc_laws.proofs.Libraries.{CallsTwins, FunctionTwins, LibraryTwins, function_twins}
-use Rattle.sc_laws.proofs.Rows.{InLine, in_line_before, NextIs, over, next_told_is, Next, row_of_next, rows_behind, told as next_told}
-use Rattle.sc_laws.proofs.Following.{Abreast, Beyond, KeepsUp, Keeping, near_blocks, near_tell, whole, beyond_then, follow_kept, Stands, OneSided, Performs, Perform, left_goes, perform_kept, stands_stored, MovesOrReturns, beyond_back, beyond_in, KeepsUp as follows, Performs as performing, MovesOn as passed, MovesOrReturns as passing}
+use Rattle.sc_laws.proofs.Rows.{InLine, in_line_before, NextIs, over, next_told_is, Next, row_of_next, rows_behind}
+use Rattle.sc_laws.proofs.Rows.{told as next_told}
+use Rattle.sc_laws.proofs.Following.{Abreast, Beyond, KeepsUp, Keeping, near_blocks, near_tell, whole, beyond_then}
+use Rattle.sc_laws.proofs.Following.{follow_kept, Stands, OneSided, Performs, Perform, left_goes, perform_kept}
+use Rattle.sc_laws.proofs.Following.{stands_stored, MovesOrReturns, beyond_back, beyond_in, KeepsUp as follows}
+use Rattle.sc_laws.proofs.Following.{Performs as performing, MovesOn as passed, MovesOrReturns as passing}
 
 -- a call of this compartment, whose first block is this
 abbrev pub at : (comp first : ℕ) → Here

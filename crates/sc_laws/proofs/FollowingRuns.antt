@@ -1,12 +1,24 @@
 -- Whole runs along one trace, of which the second has more compartments that perform their parts of it; the least set.
-use Rattle.sc_laws.proofs.Common.{Blamed, Bool, Cause, Ended, Event, EventsOut, Front, Function, Includes, IsChain, IsFixed, IsStop, IsWithin, KeepsBlames, LeastIsChain, Library, Link, List, Main, Memory, Never, None, Obedient, Option, PassesBlame, PassesBlames, Piece, Reached, RunEnd, Set, Some, SourceRun, Standing, State, Step, Stopped, StopsSo, TellsWithMore, TurnsOut, Value, [], and_then, ap, append-nil, arith, at_start, begun, call_own, done, eqb-true, exit_word, false, first_state, found, function, if◌then◌else◌, inl, inr, last, leb-false, length, length-append, longer, lt-leb, nobody, now, performed_by, reaches, refl, roles_in, roles_run, run_by, run_to, stands_behind, stopped_at, subst, suc, sym, take, take_all, true, turnless, with, within, zero, ℕ, ◌++◌, ◌+◌, ◌<◌, ◌==◌, ◌||◌, ◌∙◌, ◌∷◌, ◌≡◌, ◌≤◌}
+use Rattle.sc_laws.proofs.Common.{Blamed, Bool, Cause, Ended, Event, EventsOut, Front, Function, Includes, IsChain}
+use Rattle.sc_laws.proofs.Common.{IsFixed, IsStop, IsWithin, KeepsBlames, LeastIsChain, Library, Link, List, Main}
+use Rattle.sc_laws.proofs.Common.{Memory, Never, None, Obedient, Option, PassesBlame, PassesBlames, Piece, Reached}
+use Rattle.sc_laws.proofs.Common.{RunEnd, Set, Some, SourceRun, Standing, State, Step, Stopped, StopsSo, TellsWithMore}
+use Rattle.sc_laws.proofs.Common.{TurnsOut, Value, [], and_then, ap, append-nil, arith, at_start, begun, call_own, done}
+use Rattle.sc_laws.proofs.Common.{eqb-true, exit_word, false, first_state, found, function, if◌then◌else◌, inl, inr}
+use Rattle.sc_laws.proofs.Common.{last, leb-false, length, length-append, longer, lt-leb, nobody, now, performed_by}
+use Rattle.sc_laws.proofs.Common.{reaches, refl, roles_in, roles_run, run_by, run_to, stands_behind, stopped_at, subst}
+use Rattle.sc_laws.proofs.Common.{suc, sym, take, take_all, true, turnless, with, within, zero, ℕ, ◌++◌, ◌+◌, ◌<◌, ◌==◌}
+use Rattle.sc_laws.proofs.Common.{◌||◌, ◌∙◌, ◌∷◌, ◌≡◌, ◌≤◌}
 use Rattle.sc_event.specs.declared.event.Event.TheVariants as event
 use Rattle.sc_laws.proofs.Growing.{front_same, front_more, BodyGoes, within_goes}
 use Rattle.sc_laws.proofs.Matching.{library_twins, scripted_goes_on, library_goes}
 use Rattle.sc_laws.proofs.Fixed.{scripted_fixed}
 use Rattle.sc_laws.proofs.Runs.{front_long, trace_is, take_fronts}
 use Rattle.sc_laws.proofs.Rows.{InLine, in_line_before, NextIs, over, next_told_is, told as next_told}
-use Rattle.sc_laws.proofs.Following.{Abreast, KeepsUp, Keeping, Beyond, whole, follow_kept, follow_at, OneSided, Performs, Perform, left_goes, perform_kept, perform_at, MovesOrReturns, MovesOn, Agreed, IfBlamed, BeyondIn, KeepsUp as follows, Performs as performing, MovesOn as passed, MovesOrReturns as passing}
+use Rattle.sc_laws.proofs.Following.{Abreast, KeepsUp, Keeping, Beyond, whole, follow_kept, follow_at, OneSided}
+use Rattle.sc_laws.proofs.Following.{Performs, Perform, left_goes, perform_kept, perform_at, MovesOrReturns, MovesOn}
+use Rattle.sc_laws.proofs.Following.{Agreed, IfBlamed, BeyondIn, KeepsUp as follows, Performs as performing}
+use Rattle.sc_laws.proofs.Following.{MovesOn as passed, MovesOrReturns as passing}
 use Rattle.sc_laws.proofs.FollowingCalls.{at, first_step, second_step, N, Bodies, Telling, performs_next, all_bodies}
 
 -- what is shown of a piece goes on from where it is

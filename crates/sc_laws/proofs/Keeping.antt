@@ -1,6 +1,9 @@
 -- To show that the functions of a library keep a property of states, show it of what changes memory, of turns and of
 -- calls.
-use Rattle.sc_laws.proofs.Common.{Blamed, Blocks, CallTarget, Calls, Cause, Err, Function, Gone, Grown, Here, Kept, Library, List, Meets, Never, None, Obedient, Ok, Option, Piece, Property, Reached, Result, Some, State, Stopped, Value, and_then, ap, arith, computed, function, refl, subst, suc, sym, turn, turn_of, with_blocks, zero, ℕ, ◌<◌, ◌≡◌}
+use Rattle.sc_laws.proofs.Common.{Blamed, Blocks, CallTarget, Calls, Cause, Err, Function, Gone, Grown, Here, Kept}
+use Rattle.sc_laws.proofs.Common.{Library, List, Meets, Never, None, Obedient, Ok, Option, Piece, Property, Reached}
+use Rattle.sc_laws.proofs.Common.{Result, Some, State, Stopped, Value, and_then, ap, arith, computed, function, refl}
+use Rattle.sc_laws.proofs.Common.{subst, suc, sym, turn, turn_of, with_blocks, zero, ℕ, ◌<◌, ◌≡◌}
 use Rattle.sc_laws.proofs.Growing.{CallsGo}
 use Rattle.sc_laws.proofs.Twins.{Kept as RelationKept, KeptAt}
 use Rattle.sc_laws.proofs.Libraries.{FunctionTwins, LibraryTwins}

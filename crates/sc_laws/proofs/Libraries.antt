@@ -1,5 +1,8 @@
 -- Two libraries side by side, function by function.
-use Rattle.sc_laws.proofs.Common.{CallTarget, Calls, Cross, Entry, Export, Function, Here, Input, Library, List, Meets, None, Option, Output, Own, Piece, Some, State, Value, ap, function, imports, is_function, is_input, is_output, is_some, is_word, leads, length, list_all, may_call, refl, takes, ℕ, ◌&&◌, ◌==◌, ◌∙◌, ◌≡◌}
+use Rattle.sc_laws.proofs.Common.{CallTarget, Calls, Cross, Entry, Export, Function, Here, Input, Library, List, Meets}
+use Rattle.sc_laws.proofs.Common.{None, Option, Output, Own, Piece, Some, State, Value, ap, function, imports}
+use Rattle.sc_laws.proofs.Common.{is_function, is_input, is_output, is_some, is_word, leads, length, list_all, may_call}
+use Rattle.sc_laws.proofs.Common.{refl, takes, ℕ, ◌&&◌, ◌==◌, ◌∙◌, ◌≡◌}
 use Rattle.sc_laws.proofs.Twins.{Twins}
 
 -- a call of any compartment

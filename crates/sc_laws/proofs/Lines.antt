@@ -1,12 +1,30 @@
 -- A program whose trees stand on other lines does the same up to the lines of blames.
-use Rattle.sc_laws.proofs.Common.{Acts, Arith, Bool, Break, CallTarget, Calls, CallsAgree, Cause, Continue, Does, Each, Entry, Err, Exit, Export, FunctionsAgree, Here, Inside, Left, LibrariesAgree, List, Local, Main, Next, None, Ok, On, Option, OtherLinesAgree, Piece, PiecesAgree, ProgramTree, Proto, Result, Return, Route, RunsAgree, Some, State, TypedExpr, TypedFunction, TypedLocal, TypedSection, TypedSimple, TypedSimpleKind, TypedStmt, TypedStmt-F, TypedStmtKind, TypedStmtKind-F, TypedStruct, Value, Want, Ways, [], all_do, ap, ap₂, assign, assign_call, at_brace, at_place, block_does, body_does, bytes_eq, call, call_alone, cells_of, choose, closed, computed, cond, entry_in, evaluated, everywhere, export_at, expr_nodes, false, first_blocks, fold-TypedStmt, fold-TypedStmtKind, follow, frame_bound, function_of, functions_in, functions_of, globals_of, if◌then◌else◌, in_loop, in_order, init_does, inits_do, is_some, is_true, kind_nodes, kind_step, layer_of, leave, length, length-map, library_of, local_nodes, loop, main_name, map, map-TypedStmtKind, nat_lt, nodes, not, on_line, option_map, part_does, part_nodes, place_named, place_of_export, position_or_len, refl, roll-TypedStmtKind, rounds, run_by, run_of, run_step, simple_does, slice_get, stmt_at, stmt_does, stmt_induction, stmt_nodes, stmt_step, store, store_at, store_result, stored, subst, suc, sym, test, total, true, turn, values, variable_at, variables, ways, zero, ℕ, ◌&&◌, ◌++◌, ◌+◌, ◌==◌, ◌∙◌, ◌∷◌, ◌≡◌}
+use Rattle.sc_laws.proofs.Common.{Acts, Arith, Bool, Break, CallTarget, Calls, CallsAgree, Cause, Continue, Does, Each}
+use Rattle.sc_laws.proofs.Common.{Entry, Err, Exit, Export, FunctionsAgree, Here, Inside, Left, LibrariesAgree, List}
+use Rattle.sc_laws.proofs.Common.{Local, Main, Next, None, Ok, On, Option, OtherLinesAgree, Piece, PiecesAgree}
+use Rattle.sc_laws.proofs.Common.{ProgramTree, Proto, Result, Return, Route, RunsAgree, Some, State, TypedExpr}
+use Rattle.sc_laws.proofs.Common.{TypedFunction, TypedLocal, TypedSection, TypedSimple, TypedSimpleKind, TypedStmt}
+use Rattle.sc_laws.proofs.Common.{TypedStmt-F, TypedStmtKind, TypedStmtKind-F, TypedStruct, Value, Want, Ways, []}
+use Rattle.sc_laws.proofs.Common.{all_do, ap, ap₂, assign, assign_call, at_brace, at_place, block_does, body_does}
+use Rattle.sc_laws.proofs.Common.{bytes_eq, call, call_alone, cells_of, choose, closed, computed, cond, entry_in}
+use Rattle.sc_laws.proofs.Common.{evaluated, everywhere, export_at, expr_nodes, false, first_blocks, fold-TypedStmt}
+use Rattle.sc_laws.proofs.Common.{fold-TypedStmtKind, follow, frame_bound, function_of, functions_in, functions_of}
+use Rattle.sc_laws.proofs.Common.{globals_of, if◌then◌else◌, in_loop, in_order, init_does, inits_do, is_some, is_true}
+use Rattle.sc_laws.proofs.Common.{kind_nodes, kind_step, layer_of, leave, length, length-map, library_of, local_nodes}
+use Rattle.sc_laws.proofs.Common.{loop, main_name, map, map-TypedStmtKind, nat_lt, nodes, not, on_line, option_map}
+use Rattle.sc_laws.proofs.Common.{part_does, part_nodes, place_named, place_of_export, position_or_len, refl}
+use Rattle.sc_laws.proofs.Common.{roll-TypedStmtKind, rounds, run_by, run_of, run_step, simple_does, slice_get, stmt_at}
+use Rattle.sc_laws.proofs.Common.{stmt_does, stmt_induction, stmt_nodes, stmt_step, store, store_at, store_result}
+use Rattle.sc_laws.proofs.Common.{stored, subst, suc, sym, test, total, true, turn, values, variable_at, variables}
+use Rattle.sc_laws.proofs.Common.{ways, zero, ℕ, ◌&&◌, ◌++◌, ◌+◌, ◌==◌, ◌∙◌, ◌∷◌, ◌≡◌}
 use Rattle.sc_core.specs.Prelude.{Out, take}
 use Rattle.std.proofs.lemmas.Option.{slice_get-map}
 use Rattle.sc_core.specs.declared.section.TypedParam.{TypedParam}
 use Rattle.sc_core.specs.declared.stmt.TypedSimpleKind.TheVariants as simple
 use Rattle.sc_core.specs.declared.stmt.TypedStmtKind.TheOpen as layer
 use Rattle.sc_core.specs.declared.value.Want.TheVariants as want
-use Rattle.sc_laws.specs.Lines.{simple_lined, layer_lined, stmt_lined, local_lined, function_lined, section_lined, program_lined}
+use Rattle.sc_laws.specs.Lines.{simple_lined, layer_lined, stmt_lined, local_lined, function_lined, section_lined}
+use Rattle.sc_laws.specs.Lines.{program_lined}
 use Rattle.sc_laws.proofs.Agreement.{itself, then_agree, agreeing_run_alike}
 use Rattle.sc_laws.proofs.Programs.{Pairs, meets_at, lists_at}
 

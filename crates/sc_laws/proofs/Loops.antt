@@ -1,5 +1,6 @@
 -- A loop whose parts are trees is a round, and then the loop again.
-use Rattle.sc_laws.proofs.Common.{Calls, Cause, Does, GoFrom, Goes, Here, State, and_then, arith, follow, in_loop, loop, played, refl, rounds, suc, sym, turn, ℕ, ◌<◌, ◌∙◌, ◌≡◌}
+use Rattle.sc_laws.proofs.Common.{Calls, Cause, Does, GoFrom, Goes, Here, State, and_then, arith, follow, in_loop, loop}
+use Rattle.sc_laws.proofs.Common.{played, refl, rounds, suc, sym, turn, ℕ, ◌<◌, ◌∙◌, ◌≡◌}
 use Rattle.sc_laws.proofs.Interactions.{DoingWith, MatchWith, follow_grown, turn_same, trees, rounds_are}
 use Rattle.sc_laws.proofs.Matching.{match_goes}
 

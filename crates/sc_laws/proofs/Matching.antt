@@ -1,5 +1,10 @@
 -- Functions that match are related in every relation that the words of the meaning keep.
-use Rattle.sc_laws.proofs.Common.{Alike, Asks, Blamed, Blames, Blocks, Calls, Cause, Doing, Err, Function, FunctionsMatch, Gives, GoFrom, Goes, Gone, Halts, Here, Interaction, Lasts, LibrariesMatch, Library, Match, Meets, Never, None, Obedient, Ok, Option, Piece, Plays, Reached, Reads, Roles, Some, Spends, State, Stopped, Stores, Value, and_then, arith, function, inl, inr, played, refl, run_step, scripted_step, subst, suc, sym, turn, with_memory, zero, ℕ, ◌+◌, ◌<◌, ◌≡◌}
+use Rattle.sc_laws.proofs.Common.{Alike, Asks, Blamed, Blames, Blocks, Calls, Cause, Doing, Err, Function}
+use Rattle.sc_laws.proofs.Common.{FunctionsMatch, Gives, GoFrom, Goes, Gone, Halts, Here, Interaction, Lasts}
+use Rattle.sc_laws.proofs.Common.{LibrariesMatch, Library, Match, Meets, Never, None, Obedient, Ok, Option, Piece}
+use Rattle.sc_laws.proofs.Common.{Plays, Reached, Reads, Roles, Some, Spends, State, Stopped, Stores, Value, and_then}
+use Rattle.sc_laws.proofs.Common.{arith, function, inl, inr, played, refl, run_step, scripted_step, subst, suc, sym}
+use Rattle.sc_laws.proofs.Common.{turn, with_memory, zero, ℕ, ◌+◌, ◌<◌, ◌≡◌}
 use Rattle.sc_laws.proofs.Growing.{stays, FunctionGoes, LibraryGoes, StepGoes, run_step_goes, scripted_goes}
 use Rattle.sc_laws.proofs.Twins.{Twins, Kept, KeptAt}
 use Rattle.sc_laws.proofs.Expressions.{alike}

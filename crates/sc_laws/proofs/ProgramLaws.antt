@@ -1,5 +1,10 @@
 -- The laws: of every library that obeys, and so of every program.
-use Rattle.sc_laws.proofs.Common.{BlameIsPassed, BlameRemains, ChainExists, ChainIsLeast, ChainsRise, EmptySetIsMeaning, Event, FixedPoint, HoldsOfSets, Library, List, MeaningGoesOn, Memory, MoreGoesOn, MoreMayPerform, NobodyWhoPerformsIsBlamed, Obedient, OnlyGoesOn, ProgramsObey, RoomsAreKept, Set, SourceRun, TracesAreLegal, TurnsOutMeansTurns, WrappedAgrees, WrappingAgrees, c_arith, globals_of, library_of, performed_by, refl, roles_in, run_step, scripted_step, wrapping, ℕ}
+use Rattle.sc_laws.proofs.Common.{BlameIsPassed, BlameRemains, ChainExists, ChainIsLeast, ChainsRise, EmptySetIsMeaning}
+use Rattle.sc_laws.proofs.Common.{Event, FixedPoint, HoldsOfSets, Library, List, MeaningGoesOn, Memory, MoreGoesOn}
+use Rattle.sc_laws.proofs.Common.{MoreMayPerform, NobodyWhoPerformsIsBlamed, Obedient, OnlyGoesOn, ProgramsObey}
+use Rattle.sc_laws.proofs.Common.{RoomsAreKept, Set, SourceRun, TracesAreLegal, TurnsOutMeansTurns, WrappedAgrees}
+use Rattle.sc_laws.proofs.Common.{WrappingAgrees, c_arith, globals_of, library_of, performed_by, refl, roles_in}
+use Rattle.sc_laws.proofs.Common.{run_step, scripted_step, wrapping, ℕ}
 use Rattle.sc_laws.proofs.Growing.{within_goes}
 use Rattle.sc_laws.proofs.Matching.{run_goes_on, scripted_goes_on}
 use Rattle.sc_laws.proofs.Programs.{program_obeys}

@@ -1,6 +1,9 @@
 -- A program under two arithmetics, of which the second gives what the first does or the first blames: what its
 -- functions do matches.
-use Rattle.sc_laws.proofs.Common.{Arith, Cause, FunctionsMatch, LibrariesMatch, List, Meets, Never, Obedient, ProgramTree, TypedFunction, TypedSection, TypedStruct, [], bytes_eq, closed, function_of, functions_in, functions_of, is_some, length, library_of, main_name, map, refl, slice_get, slice_index_or, suc, zero, ℕ, ◌&&◌, ◌==◌, ◌∷◌}
+use Rattle.sc_laws.proofs.Common.{Arith, Cause, FunctionsMatch, LibrariesMatch, List, Meets, Never, Obedient}
+use Rattle.sc_laws.proofs.Common.{ProgramTree, TypedFunction, TypedSection, TypedStruct, [], bytes_eq, closed}
+use Rattle.sc_laws.proofs.Common.{function_of, functions_in, functions_of, is_some, length, library_of, main_name, map}
+use Rattle.sc_laws.proofs.Common.{refl, slice_get, slice_index_or, suc, zero, ℕ, ◌&&◌, ◌==◌, ◌∷◌}
 use Rattle.sc_laws.proofs.Expressions.{alike, ArithKeeps}
 use Rattle.sc_laws.proofs.Interactions.{match_then}
 use Rattle.sc_laws.proofs.Statements.{body_matches, closed_matches}

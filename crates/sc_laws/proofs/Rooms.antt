@@ -1,5 +1,15 @@
 -- Frames: each change is of a moment within the trace, and a call that returns leaves the open room as it was.
-use Rattle.sc_laws.proofs.Common.{Action, AreTold, BadType, Blamed, Body, Bool, Call, CallTarget, Closed, Cross, DeepestIsReached, Event, Export, FrameChange, Function, Here, In, Input, KeepsRooms, Kept, LeavesRooms, Library, List, Main, Memory, Obedient, Opened, Option, Out, Output, Own, Piece, Property, Reached, Ret, Roles, Row, State, Step, Stopped, TurnsOut, Value, Word, [], acts, and_then, ap, arith, asks, back_cross, back_own, begun, call_cross, call_own, called, calls, crossed, crossing, deepest, done, export_at, false, first_state, first_word, found_kept, function, if◌then◌else◌, is_number, length, length-append, lt-ltb, map, max, may_call, nat_lt, next_input, performs, refl, rows_left, run_by, run_in, run_step, run_to, scripted_step, subst, suc, tell, then_kept, true, turn, turn_of, within, word_in, zero, ℕ, ◌&&◌, ◌++◌, ◌+◌, ◌-◌, ◌==◌, ◌∙◌, ◌∷◌, ◌≡◌, ◌≤◌}
+use Rattle.sc_laws.proofs.Common.{Action, AreTold, BadType, Blamed, Body, Bool, Call, CallTarget, Closed, Cross}
+use Rattle.sc_laws.proofs.Common.{DeepestIsReached, Event, Export, FrameChange, Function, Here, In, Input, KeepsRooms}
+use Rattle.sc_laws.proofs.Common.{Kept, LeavesRooms, Library, List, Main, Memory, Obedient, Opened, Option, Out, Output}
+use Rattle.sc_laws.proofs.Common.{Own, Piece, Property, Reached, Ret, Roles, Row, State, Step, Stopped, TurnsOut, Value}
+use Rattle.sc_laws.proofs.Common.{Word, [], acts, and_then, ap, arith, asks, back_cross, back_own, begun, call_cross}
+use Rattle.sc_laws.proofs.Common.{call_own, called, calls, crossed, crossing, deepest, done, export_at, false}
+use Rattle.sc_laws.proofs.Common.{first_state, first_word, found_kept, function, if◌then◌else◌, is_number, length}
+use Rattle.sc_laws.proofs.Common.{length-append, lt-ltb, map, max, may_call, nat_lt, next_input, performs, refl}
+use Rattle.sc_laws.proofs.Common.{rows_left, run_by, run_in, run_step, run_to, scripted_step, subst, suc, tell}
+use Rattle.sc_laws.proofs.Common.{then_kept, true, turn, turn_of, within, word_in, zero, ℕ, ◌&&◌, ◌++◌, ◌+◌, ◌-◌, ◌==◌}
+use Rattle.sc_laws.proofs.Common.{◌∙◌, ◌∷◌, ◌≡◌, ◌≤◌}
 use Rattle.sc_event.specs.declared.row.Action.TheVariants as act
 use Rattle.sc_laws.specs.Rooms.{room_after, open_room, AllBefore}
 use Rattle.sc_laws.proofs.Growing.{BodyGoes, StepGoes, calls_go, within_goes}

@@ -1,5 +1,8 @@
 -- Where a compartment stands in its rows, and how traces go on along another.
-use Rattle.sc_laws.proofs.Common.{Bool, Event, Front, List, None, Option, Row, Some, Standing, [], action_of, ap, append_assoc, at_start, count_of, drop, eq-eqb, false, filter, if◌then◌else◌, inl, inr, length, part, performer, refl, rows_from, stands_after, stands_behind, subst, suc, sym, true, zero, ℕ, ◌++◌, ◌==◌, ◌∙◌, ◌∷◌, ◌≡◌, ◌⊎◌}
+use Rattle.sc_laws.proofs.Common.{Bool, Event, Front, List, None, Option, Row, Some, Standing, [], action_of, ap}
+use Rattle.sc_laws.proofs.Common.{append_assoc, at_start, count_of, drop, eq-eqb, false, filter, if◌then◌else◌, inl}
+use Rattle.sc_laws.proofs.Common.{inr, length, part, performer, refl, rows_from, stands_after, stands_behind, subst}
+use Rattle.sc_laws.proofs.Common.{suc, sym, true, zero, ℕ, ◌++◌, ◌==◌, ◌∙◌, ◌∷◌, ◌≡◌, ◌⊎◌}
 use Rattle.sc_laws.proofs.Growing.{front_more}
 
 -- STANDING

@@ -1,5 +1,6 @@
 -- Two runs side by side: which relations of them the words of the meaning keep.
-use Rattle.sc_laws.proofs.Common.{Blamed, Blocks, Cause, Goes, Gone, Grown, Here, Piece, Reached, Result, State, Stopped, and_then, computed, turn, with_blocks, ℕ, ◌<◌}
+use Rattle.sc_laws.proofs.Common.{Blamed, Blocks, Cause, Goes, Gone, Grown, Here, Piece, Reached, Result, State}
+use Rattle.sc_laws.proofs.Common.{Stopped, and_then, computed, turn, with_blocks, ℕ, ◌<◌}
 use Rattle.sc_laws.proofs.Expressions.{Keeps}
 
 -- A relation of two runs: which states are related, and which pieces are.

@@ -1,5 +1,8 @@
 -- Two libraries that do the same, whatever their functions carry, up to the lines of blames.
-use Rattle.sc_laws.specs.Common.{Arith, Blamed, Body, CallTarget, Calls, Ended, Entry, EventsOut, Function, Here, Library, Memory, Piece, ProgramTree, Reached, Roles, Run, RunEnd, SourceRun, State, Stopped, TurnsOut, Value, function, library_of, run_by, run_of, run_step, scripted_step, stopped_at}
+use Rattle.sc_laws.specs.Common.{Arith, Blamed, Body, CallTarget, Calls, Ended, Entry, EventsOut, Function, Here}
+use Rattle.sc_laws.specs.Common.{Library, Memory, Piece, ProgramTree, Reached, Roles, Run, RunEnd, SourceRun, State}
+use Rattle.sc_laws.specs.Common.{Stopped, TurnsOut, Value, function, library_of, run_by, run_of, run_step}
+use Rattle.sc_laws.specs.Common.{scripted_step, stopped_at}
 use Rattle.std.specs.Prelude.{◌≡◌, ℕ, List, Option, None, Some}
 use Rattle.sc_laws.specs.Lines.{program_lined}
 

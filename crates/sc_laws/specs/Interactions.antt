@@ -1,7 +1,8 @@
 -- What functions may do, whatever they are written in, so that the laws hold of them. It is told as a tree: what is
 -- given or blamed, what the blocks of the compartment decide, and what comes after new blocks, after a turn and after a
 -- call.
-use Rattle.sc_laws.specs.Common.{Blamed, Blocks, CallTarget, Calls, Cause, Entry, Function, Here, Library, Piece, Reached, State, Stopped, TurnsOut, Value, and_then, function, turn, with_memory}
+use Rattle.sc_laws.specs.Common.{Blamed, Blocks, CallTarget, Calls, Cause, Entry, Function, Here, Library, Piece}
+use Rattle.sc_laws.specs.Common.{Reached, State, Stopped, TurnsOut, Value, and_then, function, turn, with_memory}
 use Rattle.std.specs.Prelude.{◌≡◌, ◌⊎◌, ℕ, zero, suc, ◌<◌, List, Option}
 use Rattle.sc_laws.specs.Agreement.{Meets}
 use Rattle.sc_laws.specs.Growth.{Goes}

@@ -1,5 +1,6 @@
 -- Runs that are out of turns, and the turns that they had left.
-use Rattle.sc_laws.specs.Common.{Arith, Here, Library, Memory, Piece, ProgramTree, State, Stopped, TurnsOut, Value, and_then, call_own, first_state, found, function, leads, library_of, run_step, within}
+use Rattle.sc_laws.specs.Common.{Arith, Here, Library, Memory, Piece, ProgramTree, State, Stopped, TurnsOut, Value}
+use Rattle.sc_laws.specs.Common.{and_then, call_own, first_state, found, function, leads, library_of, run_step, within}
 use Rattle.std.specs.Prelude.{◌≡◌, ℕ, suc, true, List, [], Option, is_some}
 use Rattle.sc_event.specs.declared.row.Entry.TheVariants.{Main}
 use Rattle.sc_laws.specs.Interactions.{Obedient}

@@ -1,5 +1,9 @@
 -- Bytes are cut in one way, and what the loop over them keeps.
-use Rattle.sc_lex.proofs.Common.{Bool, Cuts, IsCut, IsGap, IsPiece, IsStuck, IsToken, Lex, List, NoPiece, Refusal, RefusesBytes, Some, Token, TokenKind, [], allows_directive, ap, append-nil, ap₂, arith, block_comment, cases_lt, drop, gap, kind_of, length, length-drop, line_after, line_at, line_comment, newlines, none-some, nothing, placed, refl, subst, sym, take, token, token_at, white_space, ℕ, ⊎_elim, ◌++◌, ◌+◌, ◌-◌, ◌<◌, ◌∙◌, ◌∷◌, ◌≡◌, ◌≤◌}
+use Rattle.sc_lex.proofs.Common.{Bool, Cuts, IsCut, IsGap, IsPiece, IsStuck, IsToken, Lex, List, NoPiece, Refusal}
+use Rattle.sc_lex.proofs.Common.{RefusesBytes, Some, Token, TokenKind, [], allows_directive, ap, append-nil, ap₂, arith}
+use Rattle.sc_lex.proofs.Common.{block_comment, cases_lt, drop, gap, kind_of, length, length-drop, line_after, line_at}
+use Rattle.sc_lex.proofs.Common.{line_comment, newlines, none-some, nothing, placed, refl, subst, sym, take, token}
+use Rattle.sc_lex.proofs.Common.{token_at, white_space, ℕ, ⊎_elim, ◌++◌, ◌+◌, ◌-◌, ◌<◌, ◌∙◌, ◌∷◌, ◌≡◌, ◌≤◌}
 use Rattle.sc_lex.specs.declared.cut.Piece.{Piece}
 use Rattle.sc_lex.specs.declared.cut.Piece.TheVariants as pieces
 use Rattle.sc_lex.proofs.Gaps.{one_gap, gap_fits}

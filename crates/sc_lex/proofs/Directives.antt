@@ -1,5 +1,6 @@
 -- What the words of a directive are, one by one.
-use Rattle.sc_lex.proofs.Common.{Bool, List, [], arith, bytes_eq, codes, false, get_or, is_empty, is_export, is_import, is_name, length, ne_eqb, refl, sym, true, words, ℕ, ◌&&◌, ◌<◌, ◌∷◌, ◌≡◌}
+use Rattle.sc_lex.proofs.Common.{Bool, List, [], arith, bytes_eq, codes, false, get_or, is_empty, is_export, is_import}
+use Rattle.sc_lex.proofs.Common.{is_name, length, ne_eqb, refl, sym, true, words, ℕ, ◌&&◌, ◌<◌, ◌∷◌, ◌≡◌}
 use Rattle.sc_base.proofs.Bools.{and_false}
 use Rattle.sc_lex.proofs.Wording.{words_full}
 

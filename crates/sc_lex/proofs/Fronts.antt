@@ -1,7 +1,14 @@
 -- The token at the front of a text.
-use Rattle.sc_lex.proofs.Common.{Bool, IfNone, IfSome, IsToken, IsTrue, List, Mark, NoToken, None, Option, Some, TokenKind, and_from, and_parts, ap, arith, begins_block_comment, begins_line_comment, cases_lt, directive_kind, eq-eqb, false, false≢true, get_or-take, is_directive, is_inside_line, is_mark, is_name_byte, is_white_space, kind_of, le-leb, leb-true, length, length-take, length-take-le, line_kind, line_len, list_all, mark_kind, nat_le, none-some, or_cases, prefix_len, refl, slice_index, sym, take, true, word_kind, ℕ, ⊎_elim, ◌&&◌, ◌<◌, ◌==◌, ◌||◌, ◌∙◌, ◌≡◌, ◌≤◌}
+use Rattle.sc_lex.proofs.Common.{Bool, IfNone, IfSome, IsToken, IsTrue, List, Mark, NoToken, None, Option, Some}
+use Rattle.sc_lex.proofs.Common.{TokenKind, and_from, and_parts, ap, arith, begins_block_comment, begins_line_comment}
+use Rattle.sc_lex.proofs.Common.{cases_lt, directive_kind, eq-eqb, false, false≢true, get_or-take, is_directive}
+use Rattle.sc_lex.proofs.Common.{is_inside_line, is_mark, is_name_byte, is_white_space, kind_of, le-leb, leb-true}
+use Rattle.sc_lex.proofs.Common.{length, length-take, length-take-le, line_kind, line_len, list_all, mark_kind, nat_le}
+use Rattle.sc_lex.proofs.Common.{none-some, or_cases, prefix_len, refl, slice_index, sym, take, true, word_kind, ℕ}
+use Rattle.sc_lex.proofs.Common.{⊎_elim, ◌&&◌, ◌<◌, ◌==◌, ◌||◌, ◌∙◌, ◌≡◌, ◌≤◌}
 use Rattle.sc_lex.proofs.Gaps.{slash_first, star_first}
-use Rattle.sc_lex.proofs.Texts.{IsRun, word_run, directive_run, mark_is, no_mark, kind_of-word, kind_of-directive, kind_of-mark, kind_of-white_space}
+use Rattle.sc_lex.proofs.Texts.{IsRun, word_run, directive_run, mark_is, no_mark, kind_of-word, kind_of-directive}
+use Rattle.sc_lex.proofs.Texts.{kind_of-mark, kind_of-white_space}
 use Rattle.sc_lex.proofs.Runs.{token_positive, run_all, run_positive, run_token, run_none}
 
 head_of : (text : List ℕ) (n : ℕ) → 0 < n → slice_index (take n text) 0 ≡ slice_index text 0

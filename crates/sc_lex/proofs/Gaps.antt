@@ -1,5 +1,8 @@
 -- White space and comments at the front of a text.
-use Rattle.sc_lex.proofs.Common.{IsGap, IsTrue, List, [], ap, arith, begins_block_comment, begins_line_comment, block_comment, cases_lt, codes, drop, ends_comment, false, false≢true, is_inside_line, is_white_space, length, length-drop, line_comment, line_len, prefix_len-le-length, refl, slice_index, sym, true, white_space, ℕ, ⊎_elim, ◌+◌, ◌<◌, ◌∙◌, ◌∷◌, ◌≡◌, ◌≤◌}
+use Rattle.sc_lex.proofs.Common.{IsGap, IsTrue, List, [], ap, arith, begins_block_comment, begins_line_comment}
+use Rattle.sc_lex.proofs.Common.{block_comment, cases_lt, codes, drop, ends_comment, false, false≢true, is_inside_line}
+use Rattle.sc_lex.proofs.Common.{is_white_space, length, length-drop, line_comment, line_len, prefix_len-le-length}
+use Rattle.sc_lex.proofs.Common.{refl, slice_index, sym, true, white_space, ℕ, ⊎_elim, ◌+◌, ◌<◌, ◌∙◌, ◌∷◌, ◌≡◌, ◌≤◌}
 use Rattle.sc_lex.proofs.Runs.{run_positive}
 use Rattle.sc_lex.proofs.Wording.{begins_with, front_byte}
 

@@ -1,5 +1,9 @@
 -- The number that digits stand for.
-use Rattle.sc_lex.proofs.Common.{Bool, List, None, Option, Some, [], and_left, and_right, ap, arith, cond, digit_value, drop, false, fold, fold-append, fold_more, get_or, is_digit, is_empty, is_number, le-leb, le-ltb, leb, length, list_all, list_all-append, list_all_at, lt-leb, lt-ltb, not, number, refl, sym, take, take-append-drop, take_all, take_more, true, ℕ, ◌&&◌, ◌*◌, ◌+◌, ◌<◌, ◌∙◌, ◌∷◌, ◌≡◌, ◌≤◌}
+use Rattle.sc_lex.proofs.Common.{Bool, List, None, Option, Some, [], and_left, and_right, ap, arith, cond, digit_value}
+use Rattle.sc_lex.proofs.Common.{drop, false, fold, fold-append, fold_more, get_or, is_digit, is_empty, is_number}
+use Rattle.sc_lex.proofs.Common.{le-leb, le-ltb, leb, length, list_all, list_all-append, list_all_at, lt-leb, lt-ltb}
+use Rattle.sc_lex.proofs.Common.{not, number, refl, sym, take, take-append-drop, take_all, take_more, true, ℕ, ◌&&◌}
+use Rattle.sc_lex.proofs.Common.{◌*◌, ◌+◌, ◌<◌, ◌∙◌, ◌∷◌, ◌≡◌, ◌≤◌}
 use Rattle.std.proofs.Math.Nat.{mul-le-mul_left}
 
 pub product_fits : (value base : ℕ) → value ≤ 4294967295 → base ≤ 16 → value * base ≤ 68719476720

@@ -1,5 +1,7 @@
 -- Tokens that cut bytes are slices of them, one behind another.
-use Rattle.sc_lex.proofs.Common.{All, AllPairs, AreSpans, Bool, Cuts, IsCut, IsSpan, IsToken, List, Token, TokenKind, arith, drop, gap, length-drop, nothing, refl, suc, token, token_at, zero, ℕ, ◌+◌, ◌-◌, ◌∷◌, ◌≡◌, ◌≤◌}
+use Rattle.sc_lex.proofs.Common.{All, AllPairs, AreSpans, Bool, Cuts, IsCut, IsSpan, IsToken, List, Token, TokenKind}
+use Rattle.sc_lex.proofs.Common.{arith, drop, gap, length-drop, nothing, refl, suc, token, token_at, zero, ℕ, ◌+◌, ◌-◌}
+use Rattle.sc_lex.proofs.Common.{◌∷◌, ◌≡◌, ◌≤◌}
 use Rattle.sc_lex.proofs.Runs.{token_positive}
 
 all_cons : (P : Token → Type 0) (t : Token) (ts : List Token) → P t → All P ts → All P (t ∷ ts)

@@ -1,5 +1,10 @@
 -- Sections that follow one another, and what the loop over them keeps.
-use Rattle.sc_lex.proofs.Common.{AreSections, IsBadHeading, IsSection, IsSplit, IsTrue, Lex, List, NoHeading, None, Refusal, RefusesHeading, [], and_parts, ap, arith, begins_heading, begins_line, cases_lt, cond, drop, drop-drop, flat_map, is_heading, length, length-drop, length-take-le, line_after, line_at, min, name_at, newlines, none, none-some, refl, section, slice_range, sum_by-append, sym, take, take_all, ℕ, ⊎_elim, ◌++◌, ◌+◌, ◌-◌, ◌<◌, ◌==◌, ◌∙◌, ◌∷◌, ◌≡◌, ◌≤◌}
+use Rattle.sc_lex.proofs.Common.{AreSections, IsBadHeading, IsSection, IsSplit, IsTrue, Lex, List, NoHeading, None}
+use Rattle.sc_lex.proofs.Common.{Refusal, RefusesHeading, [], and_parts, ap, arith, begins_heading, begins_line}
+use Rattle.sc_lex.proofs.Common.{cases_lt, cond, drop, drop-drop, flat_map, is_heading, length, length-drop}
+use Rattle.sc_lex.proofs.Common.{length-take-le, line_after, line_at, min, name_at, newlines, none, none-some, refl}
+use Rattle.sc_lex.proofs.Common.{section, slice_range, sum_by-append, sym, take, take_all, ℕ, ⊎_elim, ◌++◌, ◌+◌, ◌-◌}
+use Rattle.sc_lex.proofs.Common.{◌<◌, ◌==◌, ◌∙◌, ◌∷◌, ◌≡◌, ◌≤◌}
 use Rattle.std.proofs.Math.Seq.{take-add}
 use Rattle.sc_lex.specs.declared.section.Section.{Section}
 use Rattle.sc_lex.proofs.Wording.{heading_fits}

@@ -1,5 +1,6 @@
 -- How bytes are cut into tokens, with white space and comments between them.
-use Rattle.std.specs.Prelude.{◌≡◌, ℕ, ◌+◌, ◌<◌, ◌≤◌, Bool, ◌&&◌, nat_eq, codes, List, [], ◌∷◌, length, take, drop, slice_index, IsTrue, Some, None}
+use Rattle.std.specs.Prelude.{◌≡◌, ℕ, ◌+◌, ◌<◌, ◌≤◌, Bool, ◌&&◌, nat_eq, codes, List, [], ◌∷◌, length, take, drop}
+use Rattle.std.specs.Prelude.{slice_index, IsTrue, Some, None}
 use Rattle.std.specs.List.{starts_with}
 use Rattle.sc_lex.specs.Lines.{is_white_space, line_len, newlines, line_after, line_at, begins_line}
 use Rattle.sc_lex.specs.Headings.{begins_heading}

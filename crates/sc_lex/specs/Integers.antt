@@ -1,6 +1,7 @@
 -- Integer constants (C11 6.4.4.1) of at most 32 bits.
 use Rattle.sc_base.specs.Prelude.{is_between}
-use Rattle.std.specs.Prelude.{ℕ, ◌+◌, ◌-◌, ◌*◌, Bool, not, ◌&&◌, ◌||◌, ◌==◌, nat_lt, nat_le, List, length, take, drop, fold, slice_index, Option, Some, None, if◌then◌else◌}
+use Rattle.std.specs.Prelude.{ℕ, ◌+◌, ◌-◌, ◌*◌, Bool, not, ◌&&◌, ◌||◌, ◌==◌, nat_lt, nat_le, List, length, take, drop}
+use Rattle.std.specs.Prelude.{fold, slice_index, Option, Some, None, if◌then◌else◌}
 use Rattle.std.specs.List.{list_all}
 use Rattle.sc_lex.specs.Words.{is_empty}
 use Rattle.sc_lex.specs.declared.integer.IntegerConstant.{IntegerConstant}

@@ -1,6 +1,7 @@
 -- The kind of token that a text is.
 use Rattle.sc_base.specs.Prelude.{is_name, is_name_byte, is_reserved}
-use Rattle.std.specs.Prelude.{ℕ, Bool, true, false, not, ◌&&◌, ◌==◌, bytes_eq, codes, List, [], ◌∷◌, slice_index, Option, Some, None, is_some, if◌then◌else◌}
+use Rattle.std.specs.Prelude.{ℕ, Bool, true, false, not, ◌&&◌, ◌==◌, bytes_eq, codes, List, [], ◌∷◌, slice_index}
+use Rattle.std.specs.Prelude.{Option, Some, None, is_some, if◌then◌else◌}
 use Rattle.std.specs.List.{list_all}
 use Rattle.std.specs.Option.{option_or}
 use Rattle.sc_lex.specs.Lines.{is_inside_line}
@@ -9,7 +10,8 @@ use Rattle.sc_lex.specs.Headings.{heading_name}
 use Rattle.sc_lex.specs.Tables.{is_mark}
 use Rattle.sc_lex.specs.Integers.{is_integer}
 use Rattle.sc_lex.specs.declared.token.TokenKind.{TokenKind}
-use Rattle.sc_lex.specs.declared.token.TokenKind.TheVariants.{Ident, Reserved, Integer, Mark, Compartment, Export, Import}
+use Rattle.sc_lex.specs.declared.token.TokenKind.TheVariants.{Ident, Reserved, Integer, Mark, Compartment, Export}
+use Rattle.sc_lex.specs.declared.token.TokenKind.TheVariants.{Import}
 
 -- the words `#pragma export` and a name
 abbrev pub is_export : List (List ℕ) → Bool

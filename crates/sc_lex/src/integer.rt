@@ -1,6 +1,7 @@
 //! Integer constants.
 
-ghost use Rattle.sc_lex.specs.Prelude.{base_of, digit_value, digits_of, greatest_of, has_suffix, integer_of, is_hexadecimal, is_integer, is_number, number, without_suffix};
+ghost use Rattle.sc_lex.specs.Prelude.{base_of, digit_value, digits_of, greatest_of, has_suffix, integer_of};
+ghost use Rattle.sc_lex.specs.Prelude.{is_hexadecimal, is_integer, is_number, number, without_suffix};
 ghost use Rattle.std.specs.Prelude.{◌≡◌, ◌≤◌, IsTrue, IfSome, Some, None, length, if◌then◌else◌};
 
 // The greatest value of type `int`.

@@ -1,8 +1,10 @@
 //! The kinds of texts, and the token at the front of a text.
 
-ghost use Rattle.sc_lex.specs.Prelude.{IsToken, NoToken, begins_block_comment, begins_line_comment, is_directive, is_export, is_import, is_mark, line_kind, word_kind, words};
+ghost use Rattle.sc_lex.specs.Prelude.{IsToken, NoToken, begins_block_comment, begins_line_comment, is_directive};
+ghost use Rattle.sc_lex.specs.Prelude.{is_export, is_import, is_mark, line_kind, word_kind, words};
 ghost use Rattle.sc_base.specs.Prelude.{is_name_byte};
-ghost use Rattle.std.specs.Prelude.{◌≡◌, ◌≢◌, ℕ, ◌≤◌, ◌<◌, Bool, true, false, [], get_or, length, take, nat_le, ◌&&◌, slice_index, IsTrue, IfSome, IfNone};
+ghost use Rattle.std.specs.Prelude.{◌≡◌, ◌≢◌, ℕ, ◌≤◌, ◌<◌, Bool, true, false, [], get_or, length, take, nat_le, ◌&&◌};
+ghost use Rattle.std.specs.Prelude.{slice_index, IsTrue, IfSome, IfNone};
 ghost use Rattle.std.specs.List.{prefix_len};
 ghost use Rattle.sc_lex.specs.declared.token.TokenKind.{TokenKind};
 

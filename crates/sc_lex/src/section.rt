@@ -1,4 +1,5 @@
-ghost use Rattle.sc_lex.specs.Prelude.{IsBadHeading, IsSection, IsSplit, NoHeading, RefusesHeading, is_heading, line_at, name_at};
+ghost use Rattle.sc_lex.specs.Prelude.{IsBadHeading, IsSection, IsSplit, NoHeading, RefusesHeading, is_heading};
+ghost use Rattle.sc_lex.specs.Prelude.{line_at, name_at};
 ghost use Rattle.std.specs.Prelude.{◌≡◌, ℕ, ◌+◌, ◌<◌, ◌≤◌, ◌++◌, length, IsTrue, IfOk, OnOk, IfSome, IfNone, IsErrOf};
 ghost use Rattle.std.specs.List.{flat_map};
 ghost use Rattle.sc_lex.specs.declared.refusal.Refusal.{Refusal};

@@ -1,5 +1,6 @@
 -- Sets of temporaries as lists.
-use Rattle.sc_live.proofs.Common.{List, None, Option, Set, Some, [], ap, arith, filter, is_one, not, one_or_none, set_of, sym, ℕ, ◌&&◌, ◌==◌, ◌∙◌, ◌∷◌, ◌≡◌}
+use Rattle.sc_live.proofs.Common.{List, None, Option, Set, Some, [], ap, arith, filter, is_one, not, one_or_none}
+use Rattle.sc_live.proofs.Common.{set_of, sym, ℕ, ◌&&◌, ◌==◌, ◌∙◌, ◌∷◌, ◌≡◌}
 
 removed_one : (temp t : ℕ) (xs : List ℕ) →
     is_one t (filter (λ x. not (x == temp)) xs) ≡ (not (temp == t) && is_one t xs)

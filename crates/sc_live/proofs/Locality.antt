@@ -1,5 +1,9 @@
 -- What a piece of code says of a temporary depends on what is live of that temporary alone.
-use Rattle.sc_live.proofs.Common.{Bool, List, Lives, None, Option, Point, Set, Some, TacStmt, TacStmt-F, Trail, [], ahead_at, ap, false, fold-roll-TacStmt, if_calls, in_body, in_head, in_next, is_one, live_across, live_at_start, live_before, loop_points, map, map-TacStmt, not, one_or_none, part_lives, plain_points, point, readings, refl, row_first, row_points, stmt_points, subst, sym, trail, trail_step, true, ℕ, ◌&&◌, ◌++◌, ◌==◌, ◌||◌, ◌∷◌, ◌≡◌}
+use Rattle.sc_live.proofs.Common.{Bool, List, Lives, None, Option, Point, Set, Some, TacStmt, TacStmt-F, Trail, []}
+use Rattle.sc_live.proofs.Common.{ahead_at, ap, false, fold-roll-TacStmt, if_calls, in_body, in_head, in_next, is_one}
+use Rattle.sc_live.proofs.Common.{live_across, live_at_start, live_before, loop_points, map, map-TacStmt, not}
+use Rattle.sc_live.proofs.Common.{one_or_none, part_lives, plain_points, point, readings, refl, row_first, row_points}
+use Rattle.sc_live.proofs.Common.{stmt_points, subst, sym, trail, trail_step, true, ℕ, ◌&&◌, ◌++◌, ◌==◌, ◌||◌, ◌∷◌, ◌≡◌}
 use Rattle.sc_core.proofs.Induction.{Each, everywhere}
 use Rattle.sc_tac.proofs.Induction.{Inside, stmt_induction}
 use Rattle.sc_tac.specs.declared.stmt.TacStmt.TheOpen as tac

@@ -1,9 +1,15 @@
 -- One round of a loop, from nothing that is live at its end, tells its points: what is then live at its start is used
 -- from the loop's start to its end, and of nothing else do the points differ.
-use Rattle.sc_live.proofs.Common.{Bool, Holds, List, Lives, Mark, None, Option, Passed, Point, Set, Some, TacStmt, Trail, Walk, Walked, WalkedAll, WalkedOver, [], ap, append_assoc, arith, false, if◌then◌else◌, in_body, in_head, in_next, is_one, is_used, length, live_at_start, live_before, lives_at, loop_points, map, mark_from, mark_here, mark_of, marked, min, nearest_call, nothing, one_or_none, part_lives, point, refl, row_points, set_of, slice_get, subst, suc, sym, trail, true, ℕ, ◌++◌, ◌<◌, ◌||◌, ◌∙◌, ◌∷◌, ◌≡◌, ◌≤◌}
+use Rattle.sc_live.proofs.Common.{Bool, Holds, List, Lives, Mark, None, Option, Passed, Point, Set, Some, TacStmt}
+use Rattle.sc_live.proofs.Common.{Trail, Walk, Walked, WalkedAll, WalkedOver, [], ap, append_assoc, arith, false}
+use Rattle.sc_live.proofs.Common.{if◌then◌else◌, in_body, in_head, in_next, is_one, is_used, length, live_at_start}
+use Rattle.sc_live.proofs.Common.{live_before, lives_at, loop_points, map, mark_from, mark_here, mark_of, marked, min}
+use Rattle.sc_live.proofs.Common.{nearest_call, nothing, one_or_none, part_lives, point, refl, row_points, set_of}
+use Rattle.sc_live.proofs.Common.{slice_get, subst, suc, sym, trail, true, ℕ, ◌++◌, ◌<◌, ◌||◌, ◌∙◌, ◌∷◌, ◌≡◌, ◌≤◌}
 use Rattle.sc_tac.specs.declared.stmt.TacStmt.TheOpen as tac
 use Rattle.sc_tac.specs.declared.stmt.TacStmt.TheVariants as emit
-use Rattle.sc_live.proofs.Locality.{SamePoints, SameLives, SameSet, all_local, alone, before_same, part_same, same_append}
+use Rattle.sc_live.proofs.Locality.{SamePoints, SameLives, SameSet, all_local, alone, before_same, part_same}
+use Rattle.sc_live.proofs.Locality.{same_append}
 use Rattle.sc_live.proofs.Marking.{ends_within, here_last, last_or, to_last}
 use Rattle.sc_live.proofs.Walking.{over_layer, relived_before, walked_on}
 

@@ -1,5 +1,8 @@
 -- Marks of temporaries, point by point.
-use Rattle.sc_live.proofs.Common.{Bool, Holds, List, Mark, None, Option, Passed, Point, Some, Walk, Walked, [], ap, arith, false, if◌then◌else◌, is_used, length, mark_from, mark_here, mark_of, mark_to, marked, min, nearest_call, refl, set_of, slice_get, suc, sym, true, ℕ, ◌<◌, ◌∙◌, ◌∷◌, ◌≡◌, ◌≤◌}
+use Rattle.sc_live.proofs.Common.{Bool, Holds, List, Mark, None, Option, Passed, Point, Some, Walk, Walked, [], ap}
+use Rattle.sc_live.proofs.Common.{arith, false, if◌then◌else◌, is_used, length, mark_from, mark_here, mark_of, mark_to}
+use Rattle.sc_live.proofs.Common.{marked, min, nearest_call, refl, set_of, slice_get, suc, sym, true, ℕ, ◌<◌, ◌∙◌, ◌∷◌}
+use Rattle.sc_live.proofs.Common.{◌≡◌, ◌≤◌}
 
 -- the end of a mark, or this
 abbrev pub last_or : ℕ → Option Mark → ℕ

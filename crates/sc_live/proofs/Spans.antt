@@ -1,5 +1,10 @@
 -- Marks among all points of a function tell its intervals.
-use Rattle.sc_live.proofs.Common.{AreIntervals, Bool, Holds, List, Mark, None, Option, Point, Some, Span, Walk, [], ap, arith, drop, false, from_here, has_call, if◌then◌else◌, inl, inr, interval_at, interval_of, is_met, is_used, leb, length, list_any, map, mark_from, mark_here, mark_of, nearest_call, option_map, or_first, range_with_len, refl, slice_get, span_from, subst, suc, sym, take, true, unwrap_or, zero-add, ℕ, ◌++◌, ◌+◌, ◌-◌, ◌<◌, ◌||◌, ◌∙◌, ◌∷◌, ◌≡◌, ◌≤◌, ◌⊎◌}
+use Rattle.sc_live.proofs.Common.{AreIntervals, Bool, Holds, List, Mark, None, Option, Point, Some, Span, Walk, [], ap}
+use Rattle.sc_live.proofs.Common.{arith, drop, false, from_here, has_call, if◌then◌else◌, inl, inr, interval_at}
+use Rattle.sc_live.proofs.Common.{interval_of, is_met, is_used, leb, length, list_any, map, mark_from, mark_here}
+use Rattle.sc_live.proofs.Common.{mark_of, nearest_call, option_map, or_first, range_with_len, refl, slice_get}
+use Rattle.sc_live.proofs.Common.{span_from, subst, suc, sym, take, true, unwrap_or, zero-add, ℕ, ◌++◌, ◌+◌, ◌-◌, ◌<◌}
+use Rattle.sc_live.proofs.Common.{◌||◌, ◌∙◌, ◌∷◌, ◌≡◌, ◌≤◌, ◌⊎◌}
 use Rattle.std.proofs.lemmas.List.FromFn.{get_or-map-range_with_len, length-map-range_with_len, map-range_with_len_more}
 use Rattle.std.proofs.lemmas.Option.{get_or_from_slice_get, slice_get_within}
 use Rattle.std.proofs.lemmas.Bool.Decides.{leb_tells}

@@ -1,5 +1,6 @@
 -- Walks over all of a function's code.
-use Rattle.sc_live.proofs.Common.{Holds, List, TacStmt, Walk, WalkedAll, [], append-nil, lives_at, map, nothing_live, points, row_points, subst, trail, ℕ, ◌≡◌}
+use Rattle.sc_live.proofs.Common.{Holds, List, TacStmt, Walk, WalkedAll, [], append-nil, lives_at, map, nothing_live}
+use Rattle.sc_live.proofs.Common.{points, row_points, subst, trail, ℕ, ◌≡◌}
 
 pub all_walked : (temps : ℕ) (body : List TacStmt) (broken continued : List ℕ) (a b : Walk) → a.live ≡ [] →
     broken ≡ [] → continued ≡ [] → Holds temps a [] → WalkedAll body (lives_at a.live broken continued) a b →

@@ -1,5 +1,10 @@
 -- Walks, piece by piece.
-use Rattle.sc_live.proofs.Common.{Bool, Holds, List, Lives, Option, Point, Set, TacStmt, TacStmt-F, Trail, Walk, Walked, WalkedAll, WalkedOver, [], ap, append_assoc, arith, drop, drop-cons, false, fold-roll-TacStmt, get_or, if_calls, is_one, length, live_before, live_first, lives_at, map, map-TacStmt, not, one_or_none, plain_points, point, refl, roll-TacStmt, row_points, set_of, subst, suc, sym, trail, trail_step, true, ℕ, ◌&&◌, ◌++◌, ◌-◌, ◌<◌, ◌==◌, ◌||◌, ◌∙◌, ◌∷◌, ◌≡◌, ◌≤◌}
+use Rattle.sc_live.proofs.Common.{Bool, Holds, List, Lives, Option, Point, Set, TacStmt, TacStmt-F, Trail, Walk, Walked}
+use Rattle.sc_live.proofs.Common.{WalkedAll, WalkedOver, [], ap, append_assoc, arith, drop, drop-cons, false}
+use Rattle.sc_live.proofs.Common.{fold-roll-TacStmt, get_or, if_calls, is_one, length, live_before, live_first}
+use Rattle.sc_live.proofs.Common.{lives_at, map, map-TacStmt, not, one_or_none, plain_points, point, refl, roll-TacStmt}
+use Rattle.sc_live.proofs.Common.{row_points, set_of, subst, suc, sym, trail, trail_step, true, ℕ, ◌&&◌, ◌++◌, ◌-◌, ◌<◌}
+use Rattle.sc_live.proofs.Common.{◌==◌, ◌||◌, ◌∙◌, ◌∷◌, ◌≡◌, ◌≤◌}
 use Rattle.std.proofs.Math.Bool.{or_comm}
 use Rattle.sc_tac.specs.declared.stmt.TacStmt.TheOpen as tac
 use Rattle.sc_tac.specs.declared.stmt.TacStmt.TheVariants as emit

@@ -1,5 +1,15 @@
 -- Lowered code assigns each temporary before it reads it.
-use Rattle.sc_lower.proofs.Common.{Ahead, BinaryOp, Bool, Constant, Each, Global, Int, List, Local, Low, Lowered, Lows, None, Param, Reading, Some, TacOp, TacStmt, TacStmt-F, Ty, TypedExpr, TypedKind, TypedKind-F, TypedStruct, Under, VarRef, Want, [], alone, and_code, and_first, and_from, and_rest, ap, at_place, between_op, binary, binary_code, constant_of, either, eq-eqb, eqb-true, everywhere, expr_at, expr_induction, false, false≢true, fold-TacStmt, fold-roll-TacStmt, from_first, from_one, from_two, if◌then◌else◌, inl, inr, is_array, is_pointer, is_unsigned_op, loaded, lowered, lowered_step, map, map-TacStmt, member, move_op, not, not_op, or_code, place_code, reading, reading_step, refl, roll-TacStmt, row_first, row_fresh, scalar_in, subst, sym, target_cells, term_of, term_step, true, truth_code, unary_op, with_parts, ℕ, ◌&&◌, ◌++◌, ◌+◌, ◌==◌, ◌||◌, ◌∙◌, ◌∷◌, ◌≡◌, ◌⊎◌}
+use Rattle.sc_lower.proofs.Common.{Ahead, BinaryOp, Bool, Constant, Each, Global, Int, List, Local, Low, Lowered, Lows}
+use Rattle.sc_lower.proofs.Common.{None, Param, Reading, Some, TacOp, TacStmt, TacStmt-F, Ty, TypedExpr, TypedKind}
+use Rattle.sc_lower.proofs.Common.{TypedKind-F, TypedStruct, Under, VarRef, Want, [], alone, and_code, and_first}
+use Rattle.sc_lower.proofs.Common.{and_from, and_rest, ap, at_place, between_op, binary, binary_code, constant_of}
+use Rattle.sc_lower.proofs.Common.{either, eq-eqb, eqb-true, everywhere, expr_at, expr_induction, false, false≢true}
+use Rattle.sc_lower.proofs.Common.{fold-TacStmt, fold-roll-TacStmt, from_first, from_one, from_two, if◌then◌else◌, inl}
+use Rattle.sc_lower.proofs.Common.{inr, is_array, is_pointer, is_unsigned_op, loaded, lowered, lowered_step, map}
+use Rattle.sc_lower.proofs.Common.{map-TacStmt, member, move_op, not, not_op, or_code, place_code, reading}
+use Rattle.sc_lower.proofs.Common.{reading_step, refl, roll-TacStmt, row_first, row_fresh, scalar_in, subst, sym}
+use Rattle.sc_lower.proofs.Common.{target_cells, term_of, term_step, true, truth_code, unary_op, with_parts, ℕ, ◌&&◌}
+use Rattle.sc_lower.proofs.Common.{◌++◌, ◌+◌, ◌==◌, ◌||◌, ◌∙◌, ◌∷◌, ◌≡◌, ◌⊎◌}
 use Rattle.sc_base.specs.declared.op.BinaryOp.TheVariants as op
 use Rattle.sc_base.specs.declared.op.UnaryOp.TheVariants as unary
 use Rattle.sc_core.specs.declared.expr.TypedKind.TheOpen as term

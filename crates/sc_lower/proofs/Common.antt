@@ -1,5 +1,9 @@
 -- The names that several proofs of this crate cite, passed on from one place. Declares nothing.
-pub use Rattle.std.proofs.Common.{Bool, Err, IfOk, List, None, Ok, Option, Result, Some, [], add-one, ap, append_assoc, arith, bytes_eq, codes, cond, drop, drop-cons, eq-eqb, eqb-true, false, get_or, if◌then◌else◌, inl, inr, is_some, le-leb, leb-true, length, length-append, lt-ltb, map, nat_le, nat_lt, not, pos, position, refl, slice_get, slice_index_or, subst, suc, sym, true, zero, ℕ, ◌&&◌, ◌*◌, ◌++◌, ◌+◌, ◌<◌, ◌==◌, ◌||◌, ◌∙◌, ◌∷◌, ◌≡◌, ◌≤◌, ◌⊎◌}
+pub use Rattle.std.proofs.Common.{Bool, Err, IfOk, List, None, Ok, Option, Result, Some, [], add-one, ap, append_assoc}
+pub use Rattle.std.proofs.Common.{arith, bytes_eq, codes, cond, drop, drop-cons, eq-eqb, eqb-true, false, get_or}
+pub use Rattle.std.proofs.Common.{if◌then◌else◌, inl, inr, is_some, le-leb, leb-true, length, length-append, lt-ltb}
+pub use Rattle.std.proofs.Common.{map, nat_le, nat_lt, not, pos, position, refl, slice_get, slice_index_or, subst, suc}
+pub use Rattle.std.proofs.Common.{sym, true, zero, ℕ, ◌&&◌, ◌*◌, ◌++◌, ◌+◌, ◌<◌, ◌==◌, ◌||◌, ◌∙◌, ◌∷◌, ◌≡◌, ◌≤◌, ◌⊎◌}
 pub use Rattle.std.proofs.lemmas.Bool.{and_from, false≢true}
 pub use Rattle.std.proofs.lemmas.List.{length-map}
 pub use Rattle.std.proofs.lemmas.Option.{slice_get-map, slice_get_read}
@@ -20,8 +24,40 @@ pub use Rattle.sc_event.specs.declared.row.Entry.TheVariants.{Export, Main}
 pub use Rattle.sc_core.proofs.Induction.{Each, Inside, Under, expr_induction, stmt_induction}
 pub use Rattle.sc_core.proofs.Layers.{expr_at, layer_of, on_line, stmt_at, term_of, typed}
 pub use Rattle.sc_core.proofs.Plans.{Plan, Sheet, Slot, init_of, local, plan_nodes, plan_nodes_is, program, section}
-pub use Rattle.sc_core.proofs.Shapes.{Amp, Arrow, AssignCallLine, AssignLine, At, BreakLine, CallLine, ContinueLine, Dot, EmptyLine, ForLine, IfLine, Lines, Lit, NoLine, One, ReturnCallLine, ReturnLine, ReturnValueLine, Shape, Star, Two, Var, WhileLine, call_of, expr, part, stmts}
-pub use Rattle.sc_core.specs.Prelude.{Acts, Arith, Blocks, Body, Break, Callable, Calls, Continue, Does, Exit, Function, Here, IsWellTyped, Judged, Left, Library, Meant, Next, On, Out, Piece, Reached, Return, Roles, Route, Scope, Signature, State, Step, Stopped, Ways, acts, all_do, all_go_into, allowed, and_then, applied, applied_one, are_distinct, are_equatable, are_ordered, args_fit, asks, assign_call, assign_call_fits, assign_fits, at_brace, at_pointer, back_cross, back_own, begun, between, binary_fits, bind, block_does, body_does, body_fits, both_ints, c_arith, call, call_cross, call_fits, call_nodes, call_own, callable_in, called, calls, cells_of, choose, closed, common, computed, crossed, crossing, decayed, deepest, difference_fits, done, entry_in, export_fits, expr_nodes, first_blocks, first_state, follow, found, frame_bound, function, function_fits, function_of, functions_in, global_fits, globals_of, goes_into, import_fits, import_name, in_loop, in_order, init_does, init_fits, init_nodes, inits_do, interface_fits, is_address, is_array, is_int, is_main, is_number, is_plain_name, is_pointer, is_scalar, is_target, is_true, is_type, is_unsigned, is_unsigned_op, is_well_typed, is_word, judged, kind_fits, kind_nodes, leads, leave, library_of, literal, load, local_fits, local_nodes, loop, main_fits, main_name, mains_in, may_call, meaning, meant, meant_step, most_cells, most_compartments, most_exports, most_nodes, most_params, moved, moved_back, moved_on, nodes, of_bool, on_words, option_goes, option_signature, option_value, part_does, part_fits, part_nodes, passed_fits, performs, place_named, place_of_export, points, proto_signature, result_fits, result_goes, result_ty, returned_call_fits, returned_fits, roles_in, rounds, rows_left, run_by, run_in, run_of, run_step, same_base, same_import, same_pointers, same_results, same_signature, same_ty, same_types, scalar_ty, scope_of, scripted_run_of, scripted_step, section_fits, sections_fit, signature_of, simple_does, simple_fits, simple_nodes, stmt_fits, stmt_nodes, stmt_step, stopped_at, store, store_result, stored, structs_fit, sum_fits, take, target_cells, target_signature, tell, term_judged, term_nodes, total, truth, turn, turn_of, type_goes, type_within, unary_fits, values, variable_at, variable_fits, variable_ty, variables, wanted, ways, with_memory, within, word_back, word_in, wrapping}
+pub use Rattle.sc_core.proofs.Shapes.{Amp, Arrow, AssignCallLine, AssignLine, At, BreakLine, CallLine, ContinueLine}
+pub use Rattle.sc_core.proofs.Shapes.{Dot, EmptyLine, ForLine, IfLine, Lines, Lit, NoLine, One, ReturnCallLine}
+pub use Rattle.sc_core.proofs.Shapes.{ReturnLine, ReturnValueLine, Shape, Star, Two, Var, WhileLine, call_of, expr}
+pub use Rattle.sc_core.proofs.Shapes.{part, stmts}
+pub use Rattle.sc_core.specs.Prelude.{Acts, Arith, Blocks, Body, Break, Callable, Calls, Continue, Does, Exit, Function}
+pub use Rattle.sc_core.specs.Prelude.{Here, IsWellTyped, Judged, Left, Library, Meant, Next, On, Out, Piece, Reached}
+pub use Rattle.sc_core.specs.Prelude.{Return, Roles, Route, Scope, Signature, State, Step, Stopped, Ways, acts, all_do}
+pub use Rattle.sc_core.specs.Prelude.{all_go_into, allowed, and_then, applied, applied_one, are_distinct, are_equatable}
+pub use Rattle.sc_core.specs.Prelude.{are_ordered, args_fit, asks, assign_call, assign_call_fits, assign_fits, at_brace}
+pub use Rattle.sc_core.specs.Prelude.{at_pointer, back_cross, back_own, begun, between, binary_fits, bind, block_does}
+pub use Rattle.sc_core.specs.Prelude.{body_does, body_fits, both_ints, c_arith, call, call_cross, call_fits, call_nodes}
+pub use Rattle.sc_core.specs.Prelude.{call_own, callable_in, called, calls, cells_of, choose, closed, common, computed}
+pub use Rattle.sc_core.specs.Prelude.{crossed, crossing, decayed, deepest, difference_fits, done, entry_in, export_fits}
+pub use Rattle.sc_core.specs.Prelude.{expr_nodes, first_blocks, first_state, follow, found, frame_bound, function}
+pub use Rattle.sc_core.specs.Prelude.{function_fits, function_of, functions_in, global_fits, globals_of, goes_into}
+pub use Rattle.sc_core.specs.Prelude.{import_fits, import_name, in_loop, in_order, init_does, init_fits, init_nodes}
+pub use Rattle.sc_core.specs.Prelude.{inits_do, interface_fits, is_address, is_array, is_int, is_main, is_number}
+pub use Rattle.sc_core.specs.Prelude.{is_plain_name, is_pointer, is_scalar, is_target, is_true, is_type, is_unsigned}
+pub use Rattle.sc_core.specs.Prelude.{is_unsigned_op, is_well_typed, is_word, judged, kind_fits, kind_nodes, leads}
+pub use Rattle.sc_core.specs.Prelude.{leave, library_of, literal, load, local_fits, local_nodes, loop, main_fits}
+pub use Rattle.sc_core.specs.Prelude.{main_name, mains_in, may_call, meaning, meant, meant_step, most_cells}
+pub use Rattle.sc_core.specs.Prelude.{most_compartments, most_exports, most_nodes, most_params, moved, moved_back}
+pub use Rattle.sc_core.specs.Prelude.{moved_on, nodes, of_bool, on_words, option_goes, option_signature, option_value}
+pub use Rattle.sc_core.specs.Prelude.{part_does, part_fits, part_nodes, passed_fits, performs, place_named}
+pub use Rattle.sc_core.specs.Prelude.{place_of_export, points, proto_signature, result_fits, result_goes, result_ty}
+pub use Rattle.sc_core.specs.Prelude.{returned_call_fits, returned_fits, roles_in, rounds, rows_left, run_by, run_in}
+pub use Rattle.sc_core.specs.Prelude.{run_of, run_step, same_base, same_import, same_pointers, same_results}
+pub use Rattle.sc_core.specs.Prelude.{same_signature, same_ty, same_types, scalar_ty, scope_of, scripted_run_of}
+pub use Rattle.sc_core.specs.Prelude.{scripted_step, section_fits, sections_fit, signature_of, simple_does, simple_fits}
+pub use Rattle.sc_core.specs.Prelude.{simple_nodes, stmt_fits, stmt_nodes, stmt_step, stopped_at, store, store_result}
+pub use Rattle.sc_core.specs.Prelude.{stored, structs_fit, sum_fits, take, target_cells, target_signature, tell}
+pub use Rattle.sc_core.specs.Prelude.{term_judged, term_nodes, total, truth, turn, turn_of, type_goes, type_within}
+pub use Rattle.sc_core.specs.Prelude.{unary_fits, values, variable_at, variable_fits, variable_ty, variables, wanted}
+pub use Rattle.sc_core.specs.Prelude.{ways, with_memory, within, word_back, word_in, wrapping}
 pub use Rattle.sc_core.specs.declared.cause.Cause.{Cause}
 pub use Rattle.sc_core.specs.declared.cause.Cause.TheVariants.{BadType, NoReturn, Overflow}
 pub use Rattle.sc_core.specs.declared.expr.CallTarget.{CallTarget}
@@ -36,17 +72,45 @@ pub use Rattle.sc_core.specs.declared.value.Value.{Value}
 pub use Rattle.sc_core.specs.declared.value.Value.TheVariants.{Null, Word}
 pub use Rattle.sc_core.specs.declared.value.Want.{Want}
 pub use Rattle.sc_laws.proofs.Agreement.{calls_agree, itself, own_agree, performs_agree, run_agree, then_agree}
-pub use Rattle.sc_laws.specs.Prelude.{BodiesAgree, CallsAgree, FunctionsAgree, LibrariesAgree, Meets, PiecesAgree, RunsAgree, piece_without_line, without_line}
+pub use Rattle.sc_laws.specs.Prelude.{BodiesAgree, CallsAgree, FunctionsAgree, LibrariesAgree, Meets, PiecesAgree}
+pub use Rattle.sc_laws.specs.Prelude.{RunsAgree, piece_without_line, without_line}
 pub use Rattle.sc_kinds.proofs.Results.{function_imported, input_imported, output_imported, reached_good}
-pub use Rattle.sc_kinds.proofs.Sections.{ForSection, Placed, all_at, any_along, for_interface, for_section, found_passes, index_map, named_so, own_names_differ}
+pub use Rattle.sc_kinds.proofs.Sections.{ForSection, Placed, all_at, any_along, for_interface, for_section}
+pub use Rattle.sc_kinds.proofs.Sections.{found_passes, index_map, named_so, own_names_differ}
 pub use Rattle.sc_kinds.proofs.Values.{address_fits, either}
 pub use Rattle.sc_tac.proofs.Shapes.{Cycle, Done, Fork, Line, rows, rows_are}
-pub use Rattle.sc_tac.specs.Prelude.{Ahead, Codes, IsFunction, IsProgram, Reading, Temps, all_assigned_first, are_entered, call_does, calls_exports, calls_imports, calls_own, code_does, code_function, code_functions, code_globals, code_library, code_meaning, code_meaning_by, code_run, code_step, code_wrapped, constant_value, count, cross_call_fits, enters_by_words, entry_known, entry_weight, everywhere, exports_entered, function_entered, gets, has_none, has_operands, in_section, is_assigned_first, is_entered, is_one, known, main_entered, names_own_global, names_own_object, names_own_temps, no_temps, nothing_ahead, numbered, one_or_none, op_does, op_weight, operated, own_call_fits, part_ahead, passes_few, passes_words, read, read_all, reading, reading_step, received, returns_result, row_first, row_fresh, same_entry, scripted_code_run, some_hold, start_of, stmt_does, stmt_weight, stray_break, stray_continue, takes_result, takes_two, weight, weight_step, with_parts, with_temp}
+pub use Rattle.sc_tac.specs.Prelude.{Ahead, Codes, IsFunction, IsProgram, Reading, Temps, all_assigned_first}
+pub use Rattle.sc_tac.specs.Prelude.{are_entered, call_does, calls_exports, calls_imports, calls_own, code_does}
+pub use Rattle.sc_tac.specs.Prelude.{code_function, code_functions, code_globals, code_library, code_meaning}
+pub use Rattle.sc_tac.specs.Prelude.{code_meaning_by, code_run, code_step, code_wrapped, constant_value, count}
+pub use Rattle.sc_tac.specs.Prelude.{cross_call_fits, enters_by_words, entry_known, entry_weight, everywhere}
+pub use Rattle.sc_tac.specs.Prelude.{exports_entered, function_entered, gets, has_none, has_operands, in_section}
+pub use Rattle.sc_tac.specs.Prelude.{is_assigned_first, is_entered, is_one, known, main_entered, names_own_global}
+pub use Rattle.sc_tac.specs.Prelude.{names_own_object, names_own_temps, no_temps, nothing_ahead, numbered, one_or_none}
+pub use Rattle.sc_tac.specs.Prelude.{op_does, op_weight, operated, own_call_fits, part_ahead, passes_few, passes_words}
+pub use Rattle.sc_tac.specs.Prelude.{read, read_all, reading, reading_step, received, returns_result, row_first}
+pub use Rattle.sc_tac.specs.Prelude.{row_fresh, same_entry, scripted_code_run, some_hold, start_of, stmt_does}
+pub use Rattle.sc_tac.specs.Prelude.{stmt_weight, stray_break, stray_continue, takes_result, takes_two, weight}
+pub use Rattle.sc_tac.specs.Prelude.{weight_step, with_parts, with_temp}
 pub use Rattle.sc_tac.specs.declared.function.TacFnTree.{TacFnTree}
 pub use Rattle.sc_tac.specs.declared.program.TacSection.{TacSection}
 pub use Rattle.sc_tac.specs.declared.stmt.Constant.{Constant}
 pub use Rattle.sc_tac.specs.declared.stmt.TacOp.{TacOp}
 pub use Rattle.sc_tac.specs.declared.stmt.TacStmt.{fold-roll-TacStmt, map-TacStmt}
 unfoldable pub use Rattle.sc_tac.specs.declared.stmt.TacStmt.{roll-TacStmt}
-pub use Rattle.sc_lower.specs.Common.{BinaryOp, Const, Global, GlobalPlace, If, Interfaces, Load, Local, ObjectPlace, Op, Param, ProgramTree, TacStmt, TacStmt-F, Ty, TypedCall, TypedExpr, TypedFunction, TypedKind-F, TypedLocal, TypedSection, TypedSimple, TypedSimpleKind, TypedStmt, TypedStmtKind-F, TypedStruct, fold-TacStmt}
-pub use Rattle.sc_lower.specs.Prelude.{AreFunctions, Forms, IsLowerable, IsOperands, KeepsBranches, KeepsMeaning, KeepsRules, Low, Lowered, Lows, Many, Part, Parts, after, alone, and_code, assign, at_place, between_op, binary, binary_code, block_code, body_code, both, call_alone, call_branches, call_code, call_for, code_of, constant_of, cycle, entry_of, export_called, exports_of, expr_branches, first_of, fork, forms, fragment_of, from_first, from_one, from_two, ifs, ifs_step, in_turn, init_branches, init_code, inits_code, just, kind_branches, kind_step, loaded, local_branches, lowered, lowered_function, lowered_program, lowered_section, lowered_sections, lowered_step, many, member, move_op, not_op, op_branches, or_code, part_branches, part_code, place_code, return_value, scalar_in, scalar_of, simple_branches, simple_code, stmt_branches, stmt_code, stmt_ifs, store_at, term_branches, term_step, test, truth_code, unary_op, values_of}
+pub use Rattle.sc_lower.specs.Common.{BinaryOp, Const, Global, GlobalPlace, If, Interfaces, Load, Local, ObjectPlace}
+pub use Rattle.sc_lower.specs.Common.{Op, Param, ProgramTree, TacStmt, TacStmt-F, Ty, TypedCall, TypedExpr}
+pub use Rattle.sc_lower.specs.Common.{TypedFunction, TypedKind-F, TypedLocal, TypedSection, TypedSimple}
+pub use Rattle.sc_lower.specs.Common.{TypedSimpleKind, TypedStmt, TypedStmtKind-F, TypedStruct, fold-TacStmt}
+pub use Rattle.sc_lower.specs.Prelude.{AreFunctions, Forms, IsLowerable, IsOperands, KeepsBranches, KeepsMeaning}
+pub use Rattle.sc_lower.specs.Prelude.{KeepsRules, Low, Lowered, Lows, Many, Part, Parts, after, alone, and_code}
+pub use Rattle.sc_lower.specs.Prelude.{assign, at_place, between_op, binary, binary_code, block_code, body_code, both}
+pub use Rattle.sc_lower.specs.Prelude.{call_alone, call_branches, call_code, call_for, code_of, constant_of, cycle}
+pub use Rattle.sc_lower.specs.Prelude.{entry_of, export_called, exports_of, expr_branches, first_of, fork, forms}
+pub use Rattle.sc_lower.specs.Prelude.{fragment_of, from_first, from_one, from_two, ifs, ifs_step, in_turn}
+pub use Rattle.sc_lower.specs.Prelude.{init_branches, init_code, inits_code, just, kind_branches, kind_step, loaded}
+pub use Rattle.sc_lower.specs.Prelude.{local_branches, lowered, lowered_function, lowered_program, lowered_section}
+pub use Rattle.sc_lower.specs.Prelude.{lowered_sections, lowered_step, many, member, move_op, not_op, op_branches}
+pub use Rattle.sc_lower.specs.Prelude.{or_code, part_branches, part_code, place_code, return_value, scalar_in}
+pub use Rattle.sc_lower.specs.Prelude.{scalar_of, simple_branches, simple_code, stmt_branches, stmt_code, stmt_ifs}
+pub use Rattle.sc_lower.specs.Prelude.{store_at, term_branches, term_step, test, truth_code, unary_op, values_of}

@@ -1,5 +1,15 @@
 -- An entry leads to the same function in the code of a well-typed program.
-use Rattle.sc_lower.proofs.Common.{Bool, Entry, Export, ForSection, Interface, Interfaces, List, Main, None, Option, ProgramTree, Proto, Some, TacFnTree, TypedFunction, TypedSection, [], all_at, and_first, and_rest, any_along, ap, are_distinct, arith as numbers, bytes_eq, bytes_eq_self, codes, comp_at, cond, entry_in, entry_of, eq-eqb, eqb-true, export_at, export_called, export_fits, exports_of, false, false≢true, for_section, function_entered, if◌then◌else◌, import_name, is_main, is_plain_name, is_well_typed, length, list_all, list_any, lowered_function, lowered_section, lowered_sections, main_fits, main_name, mains_in, map, most_compartments, nat_le, not, option_and_then, option_map, place_named, place_of_export, position, refl, same_entry, same_text, sections_fit, slice_get, subst, suc, sym, true, truth, zero, ℕ, ◌&&◌, ◌++◌, ◌+◌, ◌==◌, ◌||◌, ◌∙◌, ◌∷◌, ◌≡◌, ◌≤◌}
+use Rattle.sc_lower.proofs.Common.{Bool, Entry, Export, ForSection, Interface, Interfaces, List, Main, None, Option}
+use Rattle.sc_lower.proofs.Common.{ProgramTree, Proto, Some, TacFnTree, TypedFunction, TypedSection, [], all_at}
+use Rattle.sc_lower.proofs.Common.{and_first, and_rest, any_along, ap, are_distinct, arith as numbers, bytes_eq}
+use Rattle.sc_lower.proofs.Common.{bytes_eq_self, codes, comp_at, cond, entry_in, entry_of, eq-eqb, eqb-true, export_at}
+use Rattle.sc_lower.proofs.Common.{export_called, export_fits, exports_of, false, false≢true, for_section}
+use Rattle.sc_lower.proofs.Common.{function_entered, if◌then◌else◌, import_name, is_main, is_plain_name, is_well_typed}
+use Rattle.sc_lower.proofs.Common.{length, list_all, list_any, lowered_function, lowered_section, lowered_sections}
+use Rattle.sc_lower.proofs.Common.{main_fits, main_name, mains_in, map, most_compartments, nat_le, not, option_and_then}
+use Rattle.sc_lower.proofs.Common.{option_map, place_named, place_of_export, position, refl, same_entry, same_text}
+use Rattle.sc_lower.proofs.Common.{sections_fit, slice_get, subst, suc, sym, true, truth, zero, ℕ, ◌&&◌, ◌++◌, ◌+◌}
+use Rattle.sc_lower.proofs.Common.{◌==◌, ◌||◌, ◌∙◌, ◌∷◌, ◌≡◌, ◌≤◌}
 use Rattle.std.proofs.Math.Dec.{eqb-suc-zero, eqb-zero-suc, eqb-suc-suc}
 use Rattle.sc_base.proofs.Lists.{position-cons}
 

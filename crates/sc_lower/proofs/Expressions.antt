@@ -1,5 +1,16 @@
 -- The code of expressions gives their places and values.
-use Rattle.sc_lower.proofs.Common.{Arith, BinaryOp, Blocks, Bool, Calls, Cause, Const, Constant, Global, GlobalPlace, Here, If, Int, List, Load, Local, Low, Lowered, Lows, Meant, None, Null, ObjectPlace, Ok, Op, Param, Result, Some, State, TacOp, TacStmt, Temps, Ty, TypedExpr, TypedKind, TypedKind-F, TypedStruct, UnaryOp, Under, Value, VarRef, Want, Word, [], alone, and_code, ap, applied, applied_one, arith as numbers, at_place, at_pointer, between, between_op, binary, binary_code, bind, choose, constant_of, constant_value, expr_at, expr_induction, false, from_first, from_one, from_two, gets, if◌then◌else◌, is_array, is_pointer, is_true, is_unsigned, is_unsigned_op, literal, load, loaded, lowered, lowered_step, meant, meant_step, member, move_op, moved, not, not_op, of_bool, on_words, operated, or_code, place_code, pos, refl, scalar_in, start_of, subst, sym, target_cells, term_of, term_step, true, truth_code, typed, unary_op, variable_at, wanted, ℕ, ◌+◌, ◌<◌, ◌∙◌, ◌∷◌, ◌≡◌, ◌≤◌}
+use Rattle.sc_lower.proofs.Common.{Arith, BinaryOp, Blocks, Bool, Calls, Cause, Const, Constant, Global, GlobalPlace}
+use Rattle.sc_lower.proofs.Common.{Here, If, Int, List, Load, Local, Low, Lowered, Lows, Meant, None, Null, ObjectPlace}
+use Rattle.sc_lower.proofs.Common.{Ok, Op, Param, Result, Some, State, TacOp, TacStmt, Temps, Ty, TypedExpr, TypedKind}
+use Rattle.sc_lower.proofs.Common.{TypedKind-F, TypedStruct, UnaryOp, Under, Value, VarRef, Want, Word, [], alone}
+use Rattle.sc_lower.proofs.Common.{and_code, ap, applied, applied_one, arith as numbers, at_place, at_pointer, between}
+use Rattle.sc_lower.proofs.Common.{between_op, binary, binary_code, bind, choose, constant_of, constant_value, expr_at}
+use Rattle.sc_lower.proofs.Common.{expr_induction, false, from_first, from_one, from_two, gets, if◌then◌else◌, is_array}
+use Rattle.sc_lower.proofs.Common.{is_pointer, is_true, is_unsigned, is_unsigned_op, literal, load, loaded, lowered}
+use Rattle.sc_lower.proofs.Common.{lowered_step, meant, meant_step, member, move_op, moved, not, not_op, of_bool}
+use Rattle.sc_lower.proofs.Common.{on_words, operated, or_code, place_code, pos, refl, scalar_in, start_of, subst, sym}
+use Rattle.sc_lower.proofs.Common.{target_cells, term_of, term_step, true, truth_code, typed, unary_op, variable_at}
+use Rattle.sc_lower.proofs.Common.{wanted, ℕ, ◌+◌, ◌<◌, ◌∙◌, ◌∷◌, ◌≡◌, ◌≤◌}
 use Rattle.sc_core.specs.Prelude.{at_place as place_way, binary as binary_way, term_step as term_way}
 use Rattle.sc_base.specs.declared.op.BinaryOp.TheVariants as op
 use Rattle.sc_base.specs.declared.op.UnaryOp.TheVariants as unary
@@ -7,9 +18,11 @@ use Rattle.sc_core.specs.declared.expr.TypedKind.TheOpen as term
 use Rattle.sc_core.specs.declared.value.Want.TheVariants as want
 use Rattle.sc_tac.specs.declared.stmt.TacOp.TheVariants as tacop
 use Rattle.sc_tac.specs.declared.stmt.TacStmt.TheOpen as tac
-use Rattle.sc_tac.specs.declared.stmt.TacStmt.TheVariants.{rolls-Const, rolls-Op, rolls-ObjectPlace, rolls-GlobalPlace, rolls-Load, rolls-If}
+use Rattle.sc_tac.specs.declared.stmt.TacStmt.TheVariants.{rolls-Const, rolls-Op, rolls-ObjectPlace, rolls-GlobalPlace}
+use Rattle.sc_tac.specs.declared.stmt.TacStmt.TheVariants.{rolls-Load, rolls-If}
 use Rattle.sc_tac.specs.declared.stmt.Constant.TheVariants as constant
-use Rattle.sc_lower.proofs.Gives.{run, Gives, run_one, gives_along, seq, weaken, gets_gives, read_then, op_two, op_one, if_gives}
+use Rattle.sc_lower.proofs.Gives.{run, Gives, run_one, gives_along, seq, weaken, gets_gives, read_then, op_two, op_one}
+use Rattle.sc_lower.proofs.Gives.{if_gives}
 use Rattle.sc_lower.proofs.Operators.{not_twice, not_is, unary_is, words_is, between_is, move_is}
 
 module _ (arith : Arith) (here : Here) (calls : Calls) where

@@ -1,5 +1,17 @@
 -- The code of functions assigns each temporary before it reads it, on every path.
-use Rattle.sc_lower.proofs.Common.{Ahead, Bool, CallTarget, Callable, Each, Forms, Inside, List, Local, Low, Lows, Many, None, Option, Part, Parts, Scope, Some, TacStmt, Ty, TypedCall, TypedExpr, TypedLocal, TypedSimple, TypedSimpleKind, TypedStmt, TypedStmtKind, TypedStmtKind-F, TypedStruct, [], after, all_assigned_first, all_go_into, alone, and_first, and_from, and_rest, ap, assign, assign_call_fits, assign_fits, at_place, block_code, body_fits, both, call_alone, call_code, call_fits, call_for, cycle, false, false≢true, first_of, fork, forms, goes_into, in_turn, init_code, init_fits, inits_code, inl, inr, is_assigned_first, is_one, is_scalar, is_target, is_type, judged, just, kind_fits, kind_step, layer_of, length, list_all, many, map, not, nothing_ahead, part_ahead, part_code, part_fits, place_code, refl, result_goes, return_value, returned_call_fits, simple_code, simple_fits, stmt_at, stmt_code, stmt_fits, stmt_induction, store_at, subst, suc, sym, target_signature, test as tests, true, variable_ty, zero, ℕ, ◌&&◌, ◌==◌, ◌||◌, ◌∙◌, ◌∷◌, ◌≡◌, ◌⊎◌}
+use Rattle.sc_lower.proofs.Common.{Ahead, Bool, CallTarget, Callable, Each, Forms, Inside, List, Local, Low, Lows, Many}
+use Rattle.sc_lower.proofs.Common.{None, Option, Part, Parts, Scope, Some, TacStmt, Ty, TypedCall, TypedExpr}
+use Rattle.sc_lower.proofs.Common.{TypedLocal, TypedSimple, TypedSimpleKind, TypedStmt, TypedStmtKind, TypedStmtKind-F}
+use Rattle.sc_lower.proofs.Common.{TypedStruct, [], after, all_assigned_first, all_go_into, alone, and_first, and_from}
+use Rattle.sc_lower.proofs.Common.{and_rest, ap, assign, assign_call_fits, assign_fits, at_place, block_code, body_fits}
+use Rattle.sc_lower.proofs.Common.{both, call_alone, call_code, call_fits, call_for, cycle, false, false≢true, first_of}
+use Rattle.sc_lower.proofs.Common.{fork, forms, goes_into, in_turn, init_code, init_fits, inits_code, inl, inr}
+use Rattle.sc_lower.proofs.Common.{is_assigned_first, is_one, is_scalar, is_target, is_type, judged, just, kind_fits}
+use Rattle.sc_lower.proofs.Common.{kind_step, layer_of, length, list_all, many, map, not, nothing_ahead, part_ahead}
+use Rattle.sc_lower.proofs.Common.{part_code, part_fits, place_code, refl, result_goes, return_value}
+use Rattle.sc_lower.proofs.Common.{returned_call_fits, simple_code, simple_fits, stmt_at, stmt_code, stmt_fits}
+use Rattle.sc_lower.proofs.Common.{stmt_induction, store_at, subst, suc, sym, target_signature, test as tests, true}
+use Rattle.sc_lower.proofs.Common.{variable_ty, zero, ℕ, ◌&&◌, ◌==◌, ◌||◌, ◌∙◌, ◌∷◌, ◌≡◌, ◌⊎◌}
 use Rattle.sc_core.specs.declared.expr.CallTarget.TheVariants as target
 use Rattle.sc_core.specs.declared.stmt.TypedStmtKind.TheOpen as layer
 use Rattle.sc_core.specs.declared.stmt.TypedSimpleKind.TheVariants as simple
@@ -10,7 +22,9 @@ use Rattle.sc_lower.proofs.Tests.{scalar_fits, all_append}
 use Rattle.sc_lower.proofs.Passing.{returned_value, signed, InitsFit}
 use Rattle.sc_lower.proofs.Statements.{Shaped, shaped, not_output, goes_promised}
 use Rattle.sc_lower.proofs.Strays.{value_straight, target_straight, is_straight, Straight, local_straight}
-use Rattle.sc_lower.proofs.Assigned.{or_second, first, fresh, first_append, fresh_append, first_one, fresh_one, straight_fresh, plain_reads, only_reads, no_reads, one_read, two_read, Settled, into, out_of, if_reads, expr_settled, local_settled}
+use Rattle.sc_lower.proofs.Assigned.{or_second, first, fresh, first_append, fresh_append, first_one, fresh_one}
+use Rattle.sc_lower.proofs.Assigned.{straight_fresh, plain_reads, only_reads, no_reads, one_read, two_read, Settled}
+use Rattle.sc_lower.proofs.Assigned.{into, out_of, if_reads, expr_settled, local_settled}
 
 never : (c : Bool) → (c ≡ true → false ≡ true) → c ≡ false
 never true h = sym (h refl)

@@ -1,5 +1,11 @@
 -- What a stretch of code gives: a value in a temporary, or a blame.
-use Rattle.sc_lower.proofs.Common.{Arith, Blamed, Bool, Break, Calls, Cause, Codes, Continue, Does, Err, Exit, Here, Left, List, Next, None, Ok, Piece, Reached, Result, Return, Some, State, Stopped, TacOp, TacStmt, TacStmt-F, Temps, Value, [], and_then, ap, arith as numbers, bind, code_does, code_step, computed, false, fold-roll-TacStmt, follow, gets, if◌then◌else◌, in_order, known, leave, map-TacStmt, op_does, operated, read, refl, roll-TacStmt, stmt_does, subst, sym, take, true, with_temp, ℕ, ◌++◌, ◌<◌, ◌∙◌, ◌∷◌, ◌≡◌, ◌≤◌}
+use Rattle.sc_lower.proofs.Common.{Arith, Blamed, Bool, Break, Calls, Cause, Codes, Continue, Does, Err, Exit, Here}
+use Rattle.sc_lower.proofs.Common.{Left, List, Next, None, Ok, Piece, Reached, Result, Return, Some, State, Stopped}
+use Rattle.sc_lower.proofs.Common.{TacOp, TacStmt, TacStmt-F, Temps, Value, [], and_then, ap, arith as numbers, bind}
+use Rattle.sc_lower.proofs.Common.{code_does, code_step, computed, false, fold-roll-TacStmt, follow, gets}
+use Rattle.sc_lower.proofs.Common.{if◌then◌else◌, in_order, known, leave, map-TacStmt, op_does, operated, read, refl}
+use Rattle.sc_lower.proofs.Common.{roll-TacStmt, stmt_does, subst, sym, take, true, with_temp, ℕ, ◌++◌, ◌<◌, ◌∙◌, ◌∷◌}
+use Rattle.sc_lower.proofs.Common.{◌≡◌, ◌≤◌}
 use Rattle.std.proofs.lemmas.Grind.{common_steps}
 
 abbrev pub Keeps : ℕ → Temps → Temps → Type 0

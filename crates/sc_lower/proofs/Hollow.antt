@@ -1,6 +1,14 @@
 -- A library whose functions have their variables and frames, and nothing that they do: callers can't tell the
 -- difference.
-use Rattle.sc_lower.proofs.Common.{BadType, Blamed, BodiesAgree, Body, Call, CallTarget, CallsAgree, Cross, Export, Function, FunctionsAgree, Here, Input, LibrariesAgree, Library, List, Meets, None, Option, Output, Own, Piece, PiecesAgree, Some, State, Stopped, TurnsOut, Value, Word, [], acts, and_then, ap, asks, back_cross, back_own, begun, call_cross, call_own, called, calls, calls_agree, crossed, done, found, function, if◌then◌else◌, imports, is_function, is_number, is_some, is_word, itself, leads, length, list_all, map, may_call, option_map, own_agree, performs, performs_agree, refl, run_in, slice_get, slice_get-map, slice_index_or, subst, suc, sym, takes, tell, turn, word_in, zero, ℕ, ◌&&◌, ◌∙◌, ◌∷◌, ◌≡◌}
+use Rattle.sc_lower.proofs.Common.{BadType, Blamed, BodiesAgree, Body, Call, CallTarget, CallsAgree, Cross, Export}
+use Rattle.sc_lower.proofs.Common.{Function, FunctionsAgree, Here, Input, LibrariesAgree, Library, List, Meets, None}
+use Rattle.sc_lower.proofs.Common.{Option, Output, Own, Piece, PiecesAgree, Some, State, Stopped, TurnsOut, Value, Word}
+use Rattle.sc_lower.proofs.Common.{[], acts, and_then, ap, asks, back_cross, back_own, begun, call_cross, call_own}
+use Rattle.sc_lower.proofs.Common.{called, calls, calls_agree, crossed, done, found, function, if◌then◌else◌, imports}
+use Rattle.sc_lower.proofs.Common.{is_function, is_number, is_some, is_word, itself, leads, length, list_all, map}
+use Rattle.sc_lower.proofs.Common.{may_call, option_map, own_agree, performs, performs_agree, refl, run_in, slice_get}
+use Rattle.sc_lower.proofs.Common.{slice_get-map, slice_index_or, subst, suc, sym, takes, tell, turn, word_in, zero, ℕ}
+use Rattle.sc_lower.proofs.Common.{◌&&◌, ◌∙◌, ◌∷◌, ◌≡◌}
 use Rattle.sc_event.specs.declared.row.Row.{Row}
 use Rattle.sc_event.specs.declared.row.Action.{Action}
 use Rattle.sc_event.specs.declared.row.Action.TheVariants as act

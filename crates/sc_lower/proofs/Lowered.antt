@@ -1,5 +1,7 @@
 -- Code in the making, and the code of an operator by that of its operands.
-use Rattle.sc_lower.proofs.Common.{BinaryOp, IfOk, IsOperands, List, Lowered, Many, Part, Result, TacStmt, TypedExpr, TypedStruct, Want, ap, binary, code_of, expr_at, forms, lowered, lowered_step, subst, sym, term_step, ℕ, ◌++◌, ◌∙◌, ◌≡◌}
+use Rattle.sc_lower.proofs.Common.{BinaryOp, IfOk, IsOperands, List, Lowered, Many, Part, Result, TacStmt, TypedExpr}
+use Rattle.sc_lower.proofs.Common.{TypedStruct, Want, ap, binary, code_of, expr_at, forms, lowered, lowered_step, subst}
+use Rattle.sc_lower.proofs.Common.{sym, term_step, ℕ, ◌++◌, ◌∙◌, ◌≡◌}
 use Rattle.sc_lower.specs.declared.calls.Values.{Values}
 use Rattle.sc_core.specs.declared.expr.TypedExpr.{fold-roll-TypedExpr}
 use Rattle.sc_core.specs.declared.expr.TypedKind.TheOpen as term

@@ -1,5 +1,10 @@
 -- What is made of a program, section by section and function by function, keeps the rules.
-use Rattle.sc_lower.proofs.Common.{AreFunctions, Interfaces, IsFunction, IsLowerable, IsProgram, IsWellTyped, List, ProgramTree, Some, TacFnTree, TacSection, TypedFunction, TypedSection, TypedStruct, [], add-one, and_first, ap, append_assoc, arith as numbers, drop, drop-cons, get_or, leb-true, length, lowered_function, lowered_program, lowered_sections, map, most_compartments, nat_le, refl, slice_get, slice_get_read, subst, sym, ℕ, ◌++◌, ◌+◌, ◌<◌, ◌∙◌, ◌∷◌, ◌≡◌, ◌≤◌}
+use Rattle.sc_lower.proofs.Common.{AreFunctions, Interfaces, IsFunction, IsLowerable, IsProgram, IsWellTyped, List}
+use Rattle.sc_lower.proofs.Common.{ProgramTree, Some, TacFnTree, TacSection, TypedFunction, TypedSection, TypedStruct}
+use Rattle.sc_lower.proofs.Common.{[], add-one, and_first, ap, append_assoc, arith as numbers, drop, drop-cons, get_or}
+use Rattle.sc_lower.proofs.Common.{leb-true, length, lowered_function, lowered_program, lowered_sections, map}
+use Rattle.sc_lower.proofs.Common.{most_compartments, nat_le, refl, slice_get, slice_get_read, subst, sym, ℕ, ◌++◌, ◌+◌}
+use Rattle.sc_lower.proofs.Common.{◌<◌, ◌∙◌, ◌∷◌, ◌≡◌, ◌≤◌}
 use Rattle.sc_lower.proofs.Rules.{lowerable}
 use Rattle.sc_lower.proofs.Programs.{program_kept}
 

@@ -1,5 +1,8 @@
 -- Operators of code compute what those of trees do.
-use Rattle.sc_lower.proofs.Common.{Arith, BinaryOp, Blocks, Bool, List, Ok, Ty, TypedStruct, UnaryOp, Value, ap, applied_one, at_pointer, between, between_op, false, if◌then◌else◌, is_pointer, is_true, is_unsigned, move_op, moved_back, moved_on, not, not_op, of_bool, on_words, operated, refl, scalar_in, scalar_of, target_cells, true, unary_op, ℕ, ◌≡◌}
+use Rattle.sc_lower.proofs.Common.{Arith, BinaryOp, Blocks, Bool, List, Ok, Ty, TypedStruct, UnaryOp, Value, ap}
+use Rattle.sc_lower.proofs.Common.{applied_one, at_pointer, between, between_op, false, if◌then◌else◌, is_pointer}
+use Rattle.sc_lower.proofs.Common.{is_true, is_unsigned, move_op, moved_back, moved_on, not, not_op, of_bool, on_words}
+use Rattle.sc_lower.proofs.Common.{operated, refl, scalar_in, scalar_of, target_cells, true, unary_op, ℕ, ◌≡◌}
 use Rattle.sc_tac.specs.Prelude.{is_unsigned as is_unsigned_scalar}
 use Rattle.sc_base.specs.declared.op.UnaryOp.TheVariants as unary
 use Rattle.sc_base.specs.declared.op.BinaryOp.TheVariants as op

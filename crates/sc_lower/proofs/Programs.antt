@@ -1,8 +1,21 @@
 -- The code of a well-typed program keeps the rules of programs.
-use Rattle.sc_lower.proofs.Common.{Bool, Entry, Export, Interface, Interfaces, IsProgram, KeepsRules, List, Main, None, Option, ProgramTree, Proto, Some, TacFnTree, TacSection, Ty, TypedFunction, TypedSection, [], and_first, and_from, and_rest, any_along, ap, are_distinct, are_entered, arith as numbers, beq, bytes_eq, comp_at, count, entry_known, entry_of, eq-eqb, export_at, export_called, export_fits, exports_entered, exports_of, false, false≢true, found_passes, if◌then◌else◌, interface_fits, is_entered, is_main, is_some, is_well_typed, length, length-map, list_all, list_any, lowered_function, lowered_program, lowered_section, lowered_sections, main_entered, main_fits, main_name, map, named_so, not, numbered, option_and_then, option_map, position, proto_signature, refl, result_ty, same_either_way, same_entry, same_results, same_signature, same_text, same_types, scalar_ty, section_fits, sections_fit, signature_of, slice_get, subst, suc, sym, true, truth, ℕ, ◌&&◌, ◌+◌, ◌==◌, ◌||◌, ◌∙◌, ◌∷◌, ◌≡◌}
+use Rattle.sc_lower.proofs.Common.{Bool, Entry, Export, Interface, Interfaces, IsProgram, KeepsRules, List, Main, None}
+use Rattle.sc_lower.proofs.Common.{Option, ProgramTree, Proto, Some, TacFnTree, TacSection, Ty, TypedFunction}
+use Rattle.sc_lower.proofs.Common.{TypedSection, [], and_first, and_from, and_rest, any_along, ap, are_distinct}
+use Rattle.sc_lower.proofs.Common.{are_entered, arith as numbers, beq, bytes_eq, comp_at, count, entry_known, entry_of}
+use Rattle.sc_lower.proofs.Common.{eq-eqb, export_at, export_called, export_fits, exports_entered, exports_of, false}
+use Rattle.sc_lower.proofs.Common.{false≢true, found_passes, if◌then◌else◌, interface_fits, is_entered, is_main}
+use Rattle.sc_lower.proofs.Common.{is_some, is_well_typed, length, length-map, list_all, list_any, lowered_function}
+use Rattle.sc_lower.proofs.Common.{lowered_program, lowered_section, lowered_sections, main_entered, main_fits}
+use Rattle.sc_lower.proofs.Common.{main_name, map, named_so, not, numbered, option_and_then, option_map, position}
+use Rattle.sc_lower.proofs.Common.{proto_signature, refl, result_ty, same_either_way, same_entry, same_results}
+use Rattle.sc_lower.proofs.Common.{same_signature, same_text, same_types, scalar_ty, section_fits, sections_fit}
+use Rattle.sc_lower.proofs.Common.{signature_of, slice_get, subst, suc, sym, true, truth, ℕ, ◌&&◌, ◌+◌, ◌==◌, ◌||◌, ◌∙◌}
+use Rattle.sc_lower.proofs.Common.{◌∷◌, ◌≡◌}
 use Rattle.sc_core.specs.declared.ty.Ty.TheVariants as ty
 use Rattle.sc_lower.proofs.Entries.{not_true, first_at, main_is, called_so, export_of, sections_so, mains_so}
-use Rattle.sc_lower.proofs.Rules.{place as place_of, types_length, any_headed, exports_fit, distinct_names, beq_same, function_kept}
+use Rattle.sc_lower.proofs.Rules.{place as place_of, types_length, any_headed, exports_fit, distinct_names, beq_same}
+use Rattle.sc_lower.proofs.Rules.{function_kept}
 use Rattle.sc_lower.proofs.Sections.{all_made, result_same, globals_named, own_called, exports_called, imports_called}
 
 -- COUNTS

@@ -1,5 +1,11 @@
 -- Worked programs: the code of each, and what the code means, which is what the program means.
-use Rattle.sc_lower.proofs.Common.{Amp, Arrow, AssignCallLine, AssignLine, At, BinaryOp, Blamed, Bool, BreakLine, Call, CallLine, ContinueLine, Cross, Cycle, Done, Dot, EmptyLine, End, Ended, ForLine, Fork, IfLine, In, Input, Interfaces, Line, Lines, List, Lit, Local, NoLine, None, One, Output, Overflow, Own, Plan, Ret, ReturnCallLine, ReturnLine, ReturnValueLine, Shape, Sheet, Some, SourceRun, Star, TacOp, Two, TypedStruct, Var, WhileLine, [], c_arith, code_meaning, code_wrapped, codes, false, lowered_program, meaning, program, refl, roll-TacStmt, true, wrapping, ℕ, ◌∷◌, ◌≡◌}
+use Rattle.sc_lower.proofs.Common.{Amp, Arrow, AssignCallLine, AssignLine, At, BinaryOp, Blamed, Bool, BreakLine, Call}
+use Rattle.sc_lower.proofs.Common.{CallLine, ContinueLine, Cross, Cycle, Done, Dot, EmptyLine, End, Ended, ForLine}
+use Rattle.sc_lower.proofs.Common.{Fork, IfLine, In, Input, Interfaces, Line, Lines, List, Lit, Local, NoLine, None}
+use Rattle.sc_lower.proofs.Common.{One, Output, Overflow, Own, Plan, Ret, ReturnCallLine, ReturnLine, ReturnValueLine}
+use Rattle.sc_lower.proofs.Common.{Shape, Sheet, Some, SourceRun, Star, TacOp, Two, TypedStruct, Var, WhileLine, []}
+use Rattle.sc_lower.proofs.Common.{c_arith, code_meaning, code_wrapped, codes, false, lowered_program, meaning, program}
+use Rattle.sc_lower.proofs.Common.{refl, roll-TacStmt, true, wrapping, ℕ, ◌∷◌, ◌≡◌}
 use Rattle.sc_base.specs.declared.op.BinaryOp.TheVariants as op
 use Rattle.sc_base.specs.declared.op.UnaryOp.TheVariants as unary
 use Rattle.sc_event.specs.declared.event.Event.TheVariants.{Out}
@@ -7,7 +13,8 @@ use Rattle.sc_event.specs.declared.interface.Scalar.TheVariants as scalar
 use Rattle.sc_core.specs.declared.section.TypedGlobal.{TypedGlobal}
 use Rattle.sc_core.specs.declared.ty.BaseTy.TheVariants as base
 use Rattle.sc_core.specs.declared.ty.Ty.TheVariants as ty
-use Rattle.sc_core.proofs.Programs.{lit, global, param, local, plus, ints, int_pointer, slot, global_of, main_with, plan}
+use Rattle.sc_core.proofs.Programs.{lit, global, param, local, plus, ints, int_pointer, slot, global_of, main_with}
+use Rattle.sc_core.proofs.Programs.{plan}
 use Rattle.sc_core.proofs.Rows.{by_plan}
 use Rattle.sc_tac.specs.declared.stmt.Constant.TheVariants as constant
 use Rattle.sc_tac.specs.declared.stmt.TacOp.TheVariants as tacop

@@ -1,5 +1,24 @@
 -- The code of a function of a well-typed program keeps the rules of functions.
-use Rattle.sc_lower.proofs.Common.{All, Bool, CallTarget, Callable, Export, ForSection, Interface, Interfaces, IsFunction, IsLowerable, List, Main, None, Option, Part, Placed, ProgramTree, Proto, Scalar, Scope, Signature, Some, TacStmt-F, Ty, TypedFunction, TypedLocal, TypedParam, TypedSection, TypedStruct, [], all_assigned_first, all_at, allowed, and_first, and_from, and_rest, ap, are_distinct, arith as numbers, beq, block_code, body_code, body_fits, both, bytes_eq, callable_in, cells_of, comp_at, enters_by_words, entry_of, eq-eqb, eqb-true, everywhere, export_at, export_called, export_fits, exports_of, false, false≢true, first_of as first_temp, for_interface, for_section, found_passes, function_fits, global_fits, has_none, has_operands, if◌then◌else◌, import_fits, import_name, in_turn, init_fits, inits_code, is_array, is_plain_name, is_some, is_type, is_well_typed, le-leb, leb-true, length, length-append, length-map, list_all, list_any, local_fits, lowered_function, lt-ltb, main_fits, main_name, map, most_cells, most_exports, most_nodes, most_params, named_so, names_own_object, names_own_temps, nat_le, nat_lt, nodes, not, one_or_none, option_and_then, option_map, option_signature, own_names_differ, passed_fits, passes_few, passes_words, position, proto_signature, refl, result_fits, returns_result, same_base, same_import, same_signature, same_ty, same_types, scalar_ty, scope_of, signature_of, slice_get, slice_get-map, slice_index_or, stray_break, stray_continue, structs_fit, subst, suc, sym, takes_two, target_signature, total, true, type_within, variable_fits, variables, zero, ℕ, ◌&&◌, ◌++◌, ◌+◌, ◌<◌, ◌==◌, ◌∙◌, ◌∷◌, ◌≡◌, ◌≤◌}
+use Rattle.sc_lower.proofs.Common.{All, Bool, CallTarget, Callable, Export, ForSection, Interface, Interfaces}
+use Rattle.sc_lower.proofs.Common.{IsFunction, IsLowerable, List, Main, None, Option, Part, Placed, ProgramTree, Proto}
+use Rattle.sc_lower.proofs.Common.{Scalar, Scope, Signature, Some, TacStmt-F, Ty, TypedFunction, TypedLocal, TypedParam}
+use Rattle.sc_lower.proofs.Common.{TypedSection, TypedStruct, [], all_assigned_first, all_at, allowed, and_first}
+use Rattle.sc_lower.proofs.Common.{and_from, and_rest, ap, are_distinct, arith as numbers, beq, block_code, body_code}
+use Rattle.sc_lower.proofs.Common.{body_fits, both, bytes_eq, callable_in, cells_of, comp_at, enters_by_words, entry_of}
+use Rattle.sc_lower.proofs.Common.{eq-eqb, eqb-true, everywhere, export_at, export_called, export_fits, exports_of}
+use Rattle.sc_lower.proofs.Common.{false, false≢true, first_of as first_temp, for_interface, for_section, found_passes}
+use Rattle.sc_lower.proofs.Common.{function_fits, global_fits, has_none, has_operands, if◌then◌else◌, import_fits}
+use Rattle.sc_lower.proofs.Common.{import_name, in_turn, init_fits, inits_code, is_array, is_plain_name, is_some}
+use Rattle.sc_lower.proofs.Common.{is_type, is_well_typed, le-leb, leb-true, length, length-append, length-map}
+use Rattle.sc_lower.proofs.Common.{list_all, list_any, local_fits, lowered_function, lt-ltb, main_fits, main_name, map}
+use Rattle.sc_lower.proofs.Common.{most_cells, most_exports, most_nodes, most_params, named_so, names_own_object}
+use Rattle.sc_lower.proofs.Common.{names_own_temps, nat_le, nat_lt, nodes, not, one_or_none, option_and_then}
+use Rattle.sc_lower.proofs.Common.{option_map, option_signature, own_names_differ, passed_fits, passes_few}
+use Rattle.sc_lower.proofs.Common.{passes_words, position, proto_signature, refl, result_fits, returns_result}
+use Rattle.sc_lower.proofs.Common.{same_base, same_import, same_signature, same_ty, same_types, scalar_ty, scope_of}
+use Rattle.sc_lower.proofs.Common.{signature_of, slice_get, slice_get-map, slice_index_or, stray_break, stray_continue}
+use Rattle.sc_lower.proofs.Common.{structs_fit, subst, suc, sym, takes_two, target_signature, total, true, type_within}
+use Rattle.sc_lower.proofs.Common.{variable_fits, variables, zero, ℕ, ◌&&◌, ◌++◌, ◌+◌, ◌<◌, ◌==◌, ◌∙◌, ◌∷◌, ◌≡◌, ◌≤◌}
 use Rattle.std.proofs.lemmas.List.Sums.{AllPass-from_list_all}
 use Rattle.sc_event.specs.declared.interface.Import.TheVariants as import
 use Rattle.sc_event.specs.declared.interface.Scalar.TheVariants as scalar

@@ -1,5 +1,16 @@
 -- The code of a well-typed program keeps the rules of programs.
-use Rattle.sc_lower.proofs.Common.{Bool, CallTarget, Callable, Interface, Interfaces, Judged, List, None, Option, ProgramTree, Proto, Scalar, Scope, Signature, Some, TacSection, Ty, TypedExpr, TypedFunction, TypedLocal, TypedParam, TypedSection, TypedStruct, [], all_go_into, allowed, and_first, and_from, and_rest, any_along, ap, calls_exports, calls_imports, calls_own, cells_of, cross_call_fits, decayed, eq-eqb, export_at, false, false≢true, function_imported, goes_into, imports, in_section, input_imported, is_array, is_function, is_input, is_output, is_some, is_well_typed, judged, length, length-map, list_all, list_any, lowered_function, lowered_section, lt-ltb, map, names_own_global, not, option_map, option_map_or, option_signature, output_imported, own_call_fits, passed_fits, passes_words, proto_signature, refl, result_ty, same_import, scalar_ty, scope_of, signature_of, slice_get, slice_get-map, subst, suc, sym, takes_result, target_signature, true, type_goes, ℕ, ◌++◌, ◌<◌, ◌==◌, ◌∙◌, ◌∷◌, ◌≡◌}
+use Rattle.sc_lower.proofs.Common.{Bool, CallTarget, Callable, Interface, Interfaces, Judged, List, None, Option}
+use Rattle.sc_lower.proofs.Common.{ProgramTree, Proto, Scalar, Scope, Signature, Some, TacSection, Ty, TypedExpr}
+use Rattle.sc_lower.proofs.Common.{TypedFunction, TypedLocal, TypedParam, TypedSection, TypedStruct, [], all_go_into}
+use Rattle.sc_lower.proofs.Common.{allowed, and_first, and_from, and_rest, any_along, ap, calls_exports, calls_imports}
+use Rattle.sc_lower.proofs.Common.{calls_own, cells_of, cross_call_fits, decayed, eq-eqb, export_at, false, false≢true}
+use Rattle.sc_lower.proofs.Common.{function_imported, goes_into, imports, in_section, input_imported, is_array}
+use Rattle.sc_lower.proofs.Common.{is_function, is_input, is_output, is_some, is_well_typed, judged, length, length-map}
+use Rattle.sc_lower.proofs.Common.{list_all, list_any, lowered_function, lowered_section, lt-ltb, map, names_own_global}
+use Rattle.sc_lower.proofs.Common.{not, option_map, option_map_or, option_signature, output_imported, own_call_fits}
+use Rattle.sc_lower.proofs.Common.{passed_fits, passes_words, proto_signature, refl, result_ty, same_import, scalar_ty}
+use Rattle.sc_lower.proofs.Common.{scope_of, signature_of, slice_get, slice_get-map, subst, suc, sym, takes_result}
+use Rattle.sc_lower.proofs.Common.{target_signature, true, type_goes, ℕ, ◌++◌, ◌<◌, ◌==◌, ◌∙◌, ◌∷◌, ◌≡◌}
 use Rattle.sc_event.specs.declared.interface.Import.{Import}
 use Rattle.sc_event.specs.declared.interface.Import.TheVariants as import
 use Rattle.sc_core.specs.declared.expr.CallTarget.TheVariants as target

@@ -1,5 +1,14 @@
 -- The code of statements and functions takes at most a temporary for each node, and weighs at most 24 for each.
-use Rattle.sc_lower.proofs.Common.{CallTarget, Each, Forms, Inside, List, Local, Low, Lows, Many, None, Option, Part, Parts, Some, TacStmt, TypedCall, TypedExpr, TypedFunction, TypedLocal, TypedSimple, TypedSimpleKind, TypedStmt, TypedStmtKind, TypedStmtKind-F, TypedStruct, [], after, alone, ap, arith as numbers, assign, at_place, block_code, body_code, both, call_alone, call_code, call_for, call_nodes, cycle, entry_weight, expr_nodes, first_of, fork, forms, in_turn, init_code, init_nodes, inits_code, just, kind_nodes, kind_step, layer_of, length, local_nodes, many, map, nodes, on_line, part_code, part_nodes, place_code, return_value, simple_code, simple_nodes, stmt_at, stmt_code, stmt_induction, stmt_nodes, store_at, subst, suc, sym, test, total, weight, ℕ, ◌*◌, ◌+◌, ◌<◌, ◌∙◌, ◌∷◌, ◌≤◌}
+use Rattle.sc_lower.proofs.Common.{CallTarget, Each, Forms, Inside, List, Local, Low, Lows, Many, None, Option, Part}
+use Rattle.sc_lower.proofs.Common.{Parts, Some, TacStmt, TypedCall, TypedExpr, TypedFunction, TypedLocal, TypedSimple}
+use Rattle.sc_lower.proofs.Common.{TypedSimpleKind, TypedStmt, TypedStmtKind, TypedStmtKind-F, TypedStruct, [], after}
+use Rattle.sc_lower.proofs.Common.{alone, ap, arith as numbers, assign, at_place, block_code, body_code, both}
+use Rattle.sc_lower.proofs.Common.{call_alone, call_code, call_for, call_nodes, cycle, entry_weight, expr_nodes}
+use Rattle.sc_lower.proofs.Common.{first_of, fork, forms, in_turn, init_code, init_nodes, inits_code, just, kind_nodes}
+use Rattle.sc_lower.proofs.Common.{kind_step, layer_of, length, local_nodes, many, map, nodes, on_line, part_code}
+use Rattle.sc_lower.proofs.Common.{part_nodes, place_code, return_value, simple_code, simple_nodes, stmt_at, stmt_code}
+use Rattle.sc_lower.proofs.Common.{stmt_induction, stmt_nodes, store_at, subst, suc, sym, test, total, weight, ℕ, ◌*◌}
+use Rattle.sc_lower.proofs.Common.{◌+◌, ◌<◌, ◌∙◌, ◌∷◌, ◌≤◌}
 use Rattle.sc_core.specs.declared.expr.CallTarget.TheVariants as target
 use Rattle.sc_core.specs.declared.stmt.TypedStmtKind.TheOpen as layer
 use Rattle.sc_core.specs.declared.stmt.TypedSimpleKind.TheVariants as simple
@@ -7,7 +16,8 @@ use Rattle.sc_core.specs.declared.value.Want.TheVariants as want
 use Rattle.sc_core.proofs.Induction.{everywhere}
 use Rattle.sc_tac.specs.declared.stmt.TacStmt.TheOpen as tac
 use Rattle.sc_tac.specs.declared.stmt.TacStmt.TheVariants as emit
-use Rattle.sc_lower.proofs.Bounds.{weight_append, weight_one, at_most, place_weight, if_weight, Rises, place_rises, alone_rises, expr_rises}
+use Rattle.sc_lower.proofs.Bounds.{weight_append, weight_one, at_most, place_weight, if_weight, Rises, place_rises}
+use Rattle.sc_lower.proofs.Bounds.{alone_rises, expr_rises}
 
 -- code that takes at most so many temporaries from the free ones on, and weighs at most 24 for each, and so much more
 pub record Grows (p : Parts) (k more : ℕ) : Type 0 where

@@ -1,6 +1,23 @@
 -- The code of statements that fit does what they do.
-use Rattle.sc_lower.proofs.Common.{Acts, Arith, Bool, Break, CallTarget, Callable, Calls, Cause, Codes, Continue, Each, Err, Forms, Here, Inside, Judged, Left, List, Local, Low, Next, None, Ok, Option, Part, Parts, Piece, Reached, Result, Return, Scope, Signature, Some, State, Stopped, TacStmt, Temps, Ty, TypedCall, TypedExpr, TypedFunction, TypedLocal, TypedSimple, TypedSimpleKind, TypedStmt, TypedStmtKind, TypedStmtKind-F, TypedStruct, Value, Ways, [], all_do, all_go_into, allowed, alone, and_first, and_rest, and_then, ap, args_fit, arith as numbers, assign, assign_call, assign_call_fits, at_place, block_code, block_does, body_code, body_does, body_fits, call as calls_of, call_alone, call_code, call_does, call_fits, call_for, choose, computed, cycle, false, false≢true, first_of, follow, forms, goes_into, in_order, in_turn, init_code, init_does, inits_code, inits_do, is_scalar, is_some, is_target, is_true, judged, just, kind_fits, kind_step, layer_of, leave, length, list_all, list_any, loop, many, map, on_line, option_goes, part_code, part_does, part_fits, place_code, received, refl, result_goes, return_value, returned_call_fits, same_import, simple_code, simple_does, simple_fits, stmt_at, stmt_code, stmt_does, stmt_fits, stmt_induction, stmt_step, store, store_at, store_result, stored, subst, suc, sym, target_signature, test, true, values, variable_at, ways, with_memory, with_temp, ℕ, ◌++◌, ◌<◌, ◌∙◌, ◌∷◌, ◌≡◌, ◌≤◌}
-use Rattle.sc_core.specs.Prelude.{assign as assigns, at_place as place_way, call_alone as calls_alone, kind_step as kind_acts, stmt_does as stmt_acts, store_at as stores_at, test as tests}
+use Rattle.sc_lower.proofs.Common.{Acts, Arith, Bool, Break, CallTarget, Callable, Calls, Cause, Codes, Continue, Each}
+use Rattle.sc_lower.proofs.Common.{Err, Forms, Here, Inside, Judged, Left, List, Local, Low, Next, None, Ok, Option}
+use Rattle.sc_lower.proofs.Common.{Part, Parts, Piece, Reached, Result, Return, Scope, Signature, Some, State, Stopped}
+use Rattle.sc_lower.proofs.Common.{TacStmt, Temps, Ty, TypedCall, TypedExpr, TypedFunction, TypedLocal, TypedSimple}
+use Rattle.sc_lower.proofs.Common.{TypedSimpleKind, TypedStmt, TypedStmtKind, TypedStmtKind-F, TypedStruct, Value, Ways}
+use Rattle.sc_lower.proofs.Common.{[], all_do, all_go_into, allowed, alone, and_first, and_rest, and_then, ap, args_fit}
+use Rattle.sc_lower.proofs.Common.{arith as numbers, assign, assign_call, assign_call_fits, at_place, block_code}
+use Rattle.sc_lower.proofs.Common.{block_does, body_code, body_does, body_fits, call as calls_of, call_alone, call_code}
+use Rattle.sc_lower.proofs.Common.{call_does, call_fits, call_for, choose, computed, cycle, false, false≢true, first_of}
+use Rattle.sc_lower.proofs.Common.{follow, forms, goes_into, in_order, in_turn, init_code, init_does, inits_code}
+use Rattle.sc_lower.proofs.Common.{inits_do, is_scalar, is_some, is_target, is_true, judged, just, kind_fits, kind_step}
+use Rattle.sc_lower.proofs.Common.{layer_of, leave, length, list_all, list_any, loop, many, map, on_line, option_goes}
+use Rattle.sc_lower.proofs.Common.{part_code, part_does, part_fits, place_code, received, refl, result_goes}
+use Rattle.sc_lower.proofs.Common.{return_value, returned_call_fits, same_import, simple_code, simple_does, simple_fits}
+use Rattle.sc_lower.proofs.Common.{stmt_at, stmt_code, stmt_does, stmt_fits, stmt_induction, stmt_step, store, store_at}
+use Rattle.sc_lower.proofs.Common.{store_result, stored, subst, suc, sym, target_signature, test, true, values}
+use Rattle.sc_lower.proofs.Common.{variable_at, ways, with_memory, with_temp, ℕ, ◌++◌, ◌<◌, ◌∙◌, ◌∷◌, ◌≡◌, ◌≤◌}
+use Rattle.sc_core.specs.Prelude.{assign as assigns, at_place as place_way, call_alone as calls_alone}
+use Rattle.sc_core.specs.Prelude.{kind_step as kind_acts, stmt_does as stmt_acts, store_at as stores_at, test as tests}
 use Rattle.sc_event.specs.declared.interface.Import.TheVariants as import
 use Rattle.sc_core.specs.declared.ty.Ty.TheVariants as ty
 use Rattle.sc_core.specs.declared.expr.CallTarget.TheVariants as target
@@ -11,7 +28,9 @@ use Rattle.sc_tac.specs.declared.stmt.TacStmt.TheOpen as tac
 use Rattle.sc_tac.specs.declared.stmt.TacStmt.TheVariants as emit
 use Rattle.sc_lower.proofs.Gives.{Keeps, run, with_temp_same, run_append, first_is}
 use Rattle.sc_lower.proofs.Expressions.{Computes, alone_computes, place_computes, place_gives, expr_fits}
-use Rattle.sc_lower.proofs.Matching.{answers, value_answers, none_answers, blamed, BackMatches, ends_then, Matches, ActsMatch, matches_along, leave_matches, follow_matches, if_matches, rounds_match, code_then, read_matches, computed_matches, one_matches, GivesAll, codes_then}
+use Rattle.sc_lower.proofs.Matching.{answers, value_answers, none_answers, blamed, BackMatches, ends_then, Matches}
+use Rattle.sc_lower.proofs.Matching.{ActsMatch, matches_along, leave_matches, follow_matches, if_matches, rounds_match}
+use Rattle.sc_lower.proofs.Matching.{code_then, read_matches, computed_matches, one_matches, GivesAll, codes_then}
 
 -- whether what is called gives a result
 abbrev pub promises : Option Signature → Bool

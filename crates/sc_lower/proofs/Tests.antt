@@ -1,5 +1,18 @@
 -- The statements of lowered code pass each test that the statements which are emitted pass.
-use Rattle.sc_lower.proofs.Common.{BinaryOp, Bool, CallTarget, Constant, Global, Int, Judged, List, Local, Low, Lowered, Lows, None, Option, Param, Scope, Some, TacOp, TacStmt, TacStmt-F, Ty, TypedExpr, TypedKind, TypedKind-F, TypedStruct, UnaryOp, Under, VarRef, Want, [], address_fits, alone, and_code, and_first, and_from, and_rest, ap, are_equatable, are_ordered, arith as numbers, at_place, between_op, binary, binary_code, binary_fits, both_ints, common, constant_of, decayed, difference_fits, either, everywhere, expr_at, expr_induction, false, false≢true, first_of, fold-TacStmt, fold-roll-TacStmt, from_first, from_one, from_two, if◌then◌else◌, is_address, is_array, is_int, is_pointer, is_scalar, is_type, is_unsigned_op, judged, length, loaded, lowered, lowered_step, map-TacStmt, member, move_op, not_op, or_code, place_code, points, refl, roll-TacStmt, same_pointers, same_ty, scalar_in, scalar_of, slice_get, subst, suc, sum_fits, sym, takes_two, target_cells, term_judged, term_of, term_step, true, truth_code, unary_fits, unary_op, variable_ty, with_parts, zero, ℕ, ◌&&◌, ◌++◌, ◌+◌, ◌<◌, ◌||◌, ◌∙◌, ◌∷◌, ◌≡◌, ◌≤◌}
+use Rattle.sc_lower.proofs.Common.{BinaryOp, Bool, CallTarget, Constant, Global, Int, Judged, List, Local, Low, Lowered}
+use Rattle.sc_lower.proofs.Common.{Lows, None, Option, Param, Scope, Some, TacOp, TacStmt, TacStmt-F, Ty, TypedExpr}
+use Rattle.sc_lower.proofs.Common.{TypedKind, TypedKind-F, TypedStruct, UnaryOp, Under, VarRef, Want, [], address_fits}
+use Rattle.sc_lower.proofs.Common.{alone, and_code, and_first, and_from, and_rest, ap, are_equatable, are_ordered}
+use Rattle.sc_lower.proofs.Common.{arith as numbers, at_place, between_op, binary, binary_code, binary_fits, both_ints}
+use Rattle.sc_lower.proofs.Common.{common, constant_of, decayed, difference_fits, either, everywhere, expr_at}
+use Rattle.sc_lower.proofs.Common.{expr_induction, false, false≢true, first_of, fold-TacStmt, fold-roll-TacStmt}
+use Rattle.sc_lower.proofs.Common.{from_first, from_one, from_two, if◌then◌else◌, is_address, is_array, is_int}
+use Rattle.sc_lower.proofs.Common.{is_pointer, is_scalar, is_type, is_unsigned_op, judged, length, loaded, lowered}
+use Rattle.sc_lower.proofs.Common.{lowered_step, map-TacStmt, member, move_op, not_op, or_code, place_code, points}
+use Rattle.sc_lower.proofs.Common.{refl, roll-TacStmt, same_pointers, same_ty, scalar_in, scalar_of, slice_get, subst}
+use Rattle.sc_lower.proofs.Common.{suc, sum_fits, sym, takes_two, target_cells, term_judged, term_of, term_step, true}
+use Rattle.sc_lower.proofs.Common.{truth_code, unary_fits, unary_op, variable_ty, with_parts, zero, ℕ, ◌&&◌, ◌++◌, ◌+◌}
+use Rattle.sc_lower.proofs.Common.{◌<◌, ◌||◌, ◌∙◌, ◌∷◌, ◌≡◌, ◌≤◌}
 use Rattle.sc_base.specs.declared.op.BinaryOp.TheVariants as op
 use Rattle.sc_base.specs.declared.op.UnaryOp.TheVariants as unary
 use Rattle.sc_core.specs.declared.expr.CallTarget.TheVariants as target

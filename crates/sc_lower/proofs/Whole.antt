@@ -1,5 +1,23 @@
 -- The code of a well-typed program runs as the program does.
-use Rattle.sc_lower.proofs.Common.{Arith, BadType, Blamed, BodiesAgree, Body, Bool, CallTarget, Callable, Cross, Export, ForSection, Function, Here, Input, Interfaces, KeepsMeaning, Left, Library, List, Main, None, Option, Output, Own, Piece, PiecesAgree, ProgramTree, Proto, Reached, Roles, RunsAgree, Scalar, Some, State, Step, Stopped, TacSection, Temps, TurnsOut, TypedFunction, TypedParam, TypedSection, TypedStruct, Value, [], all_at, allowed, and_first, and_rest, and_then, ap, back_own, begun, body_code, body_does, body_fits, bytes_eq, call_cross, call_own, callable_in, called, calls, closed, code_does, code_function, code_functions, code_globals, code_library, code_run, crossing, deepest, done, export_at, false, first_blocks, first_state, for_section, found, function, function_fits, function_of, functions_in, global_fits, globals_of, if◌then◌else◌, index_map, is_some, is_well_typed, itself, length, library_of, list_all, list_any, local_fits, lowered_function, lowered_program, lowered_section, lowered_sections, main_name, map, may_call, most_params, nat_le, no_temps, option_map, option_signature, option_value, passed_fits, performs, proto_signature, reached_good, refl, result_fits, result_ty, roles_in, rows_left, run_agree, run_by, run_of, run_step, same_import, scope_of, scripted_code_run, scripted_run_of, scripted_step, signature_of, slice_get, slice_get-map, slice_index_or, structs_fit, subst, suc, sym, target_signature, then_agree, true, turn, within, word_back, zero, ℕ, ◌&&◌, ◌==◌, ◌∙◌, ◌∷◌, ◌≡◌}
+use Rattle.sc_lower.proofs.Common.{Arith, BadType, Blamed, BodiesAgree, Body, Bool, CallTarget, Callable, Cross, Export}
+use Rattle.sc_lower.proofs.Common.{ForSection, Function, Here, Input, Interfaces, KeepsMeaning, Left, Library, List}
+use Rattle.sc_lower.proofs.Common.{Main, None, Option, Output, Own, Piece, PiecesAgree, ProgramTree, Proto, Reached}
+use Rattle.sc_lower.proofs.Common.{Roles, RunsAgree, Scalar, Some, State, Step, Stopped, TacSection, Temps, TurnsOut}
+use Rattle.sc_lower.proofs.Common.{TypedFunction, TypedParam, TypedSection, TypedStruct, Value, [], all_at, allowed}
+use Rattle.sc_lower.proofs.Common.{and_first, and_rest, and_then, ap, back_own, begun, body_code, body_does, body_fits}
+use Rattle.sc_lower.proofs.Common.{bytes_eq, call_cross, call_own, callable_in, called, calls, closed, code_does}
+use Rattle.sc_lower.proofs.Common.{code_function, code_functions, code_globals, code_library, code_run, crossing}
+use Rattle.sc_lower.proofs.Common.{deepest, done, export_at, false, first_blocks, first_state, for_section, found}
+use Rattle.sc_lower.proofs.Common.{function, function_fits, function_of, functions_in, global_fits, globals_of}
+use Rattle.sc_lower.proofs.Common.{if◌then◌else◌, index_map, is_some, is_well_typed, itself, length, library_of}
+use Rattle.sc_lower.proofs.Common.{list_all, list_any, local_fits, lowered_function, lowered_program, lowered_section}
+use Rattle.sc_lower.proofs.Common.{lowered_sections, main_name, map, may_call, most_params, nat_le, no_temps}
+use Rattle.sc_lower.proofs.Common.{option_map, option_signature, option_value, passed_fits, performs, proto_signature}
+use Rattle.sc_lower.proofs.Common.{reached_good, refl, result_fits, result_ty, roles_in, rows_left, run_agree, run_by}
+use Rattle.sc_lower.proofs.Common.{run_of, run_step, same_import, scope_of, scripted_code_run, scripted_run_of}
+use Rattle.sc_lower.proofs.Common.{scripted_step, signature_of, slice_get, slice_get-map, slice_index_or, structs_fit}
+use Rattle.sc_lower.proofs.Common.{subst, suc, sym, target_signature, then_agree, true, turn, within, word_back, zero}
+use Rattle.sc_lower.proofs.Common.{ℕ, ◌&&◌, ◌==◌, ◌∙◌, ◌∷◌, ◌≡◌}
 use Rattle.sc_tac.specs.Prelude.{first_blocks as code_blocks}
 use Rattle.sc_event.specs.declared.event.Event.{Event}
 use Rattle.sc_event.specs.declared.interface.Import.TheVariants as import
@@ -7,7 +25,8 @@ use Rattle.sc_core.specs.declared.ty.Ty.TheVariants as ty
 use Rattle.sc_kinds.proofs.Pieces.{Lasting}
 use Rattle.sc_lower.proofs.Entries.{first_at, main_is, sections_so, entered_same}
 use Rattle.sc_lower.proofs.Hollow.{shell, hollow, calls_alike, own_alike, performs_alike}
-use Rattle.sc_lower.proofs.Matching.{answers, some_answers, BackMatches, back_from, back_agrees, back_answers, close_matches}
+use Rattle.sc_lower.proofs.Matching.{answers, some_answers, BackMatches, back_from, back_agrees, back_answers}
+use Rattle.sc_lower.proofs.Matching.{close_matches}
 use Rattle.sc_lower.proofs.Statements.{promises, CallsMatch, body_matches}
 
 lasting_then : {V W : Type 0} (G : W → Type 0) (o : Piece V) (k : V → State → Piece W) →

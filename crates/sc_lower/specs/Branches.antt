@@ -1,5 +1,7 @@
 -- How many branches programs and code have.
-use Rattle.sc_lower.specs.Common.{BinaryOp, TacStmt, TacStmt-F, TypedCall, TypedExpr, TypedFunction, TypedKind-F, TypedLocal, TypedSimple, TypedSimpleKind, TypedStmt, TypedStmtKind-F, TypedStruct, fold-TacStmt, fold-TypedExpr, fold-TypedStmt, total}
+use Rattle.sc_lower.specs.Common.{BinaryOp, TacStmt, TacStmt-F, TypedCall, TypedExpr, TypedFunction, TypedKind-F}
+use Rattle.sc_lower.specs.Common.{TypedLocal, TypedSimple, TypedSimpleKind, TypedStmt, TypedStmtKind-F, TypedStruct}
+use Rattle.sc_lower.specs.Common.{fold-TacStmt, fold-TypedExpr, fold-TypedStmt, total}
 use Rattle.std.specs.Prelude.{◌≡◌, ℕ, suc, ◌+◌, List, map, Option, None, Some}
 use Rattle.sc_base.specs.declared.op.BinaryOp.TheVariants as op
 use Rattle.sc_core.specs.declared.expr.TypedKind.TheOpen as term

@@ -2,7 +2,9 @@
 pub use Rattle.sc_base.specs.declared.op.BinaryOp.{BinaryOp}
 pub use Rattle.sc_event.specs.Prelude.{comp_at}
 pub use Rattle.sc_event.specs.declared.interface.Interfaces.{Interfaces}
-pub use Rattle.sc_core.specs.Prelude.{Arith, IsWellTyped, cells_of, depth_by, is_array, is_pointer, is_unsigned, is_unsigned_op, main_name, most_cells, most_exports, most_nodes, most_params, nodes, run_of, scripted_depth_by, scripted_run_of, target_cells, total, variables}
+pub use Rattle.sc_core.specs.Prelude.{Arith, IsWellTyped, cells_of, depth_by, is_array, is_pointer, is_unsigned}
+pub use Rattle.sc_core.specs.Prelude.{is_unsigned_op, main_name, most_cells, most_exports, most_nodes, most_params}
+pub use Rattle.sc_core.specs.Prelude.{nodes, run_of, scripted_depth_by, scripted_run_of, target_cells, total, variables}
 pub use Rattle.sc_core.specs.declared.expr.TypedCall.{TypedCall}
 pub use Rattle.sc_core.specs.declared.expr.TypedExpr.{TypedExpr, TypedExpr-F, fold-TypedExpr}
 pub use Rattle.sc_core.specs.declared.expr.TypedKind.{TypedKind-F}
@@ -17,6 +19,9 @@ pub use Rattle.sc_core.specs.declared.stmt.TypedSimpleKind.{TypedSimpleKind}
 pub use Rattle.sc_core.specs.declared.stmt.TypedStmt.{TypedStmt, fold-TypedStmt}
 pub use Rattle.sc_core.specs.declared.stmt.TypedStmtKind.{TypedStmtKind-F}
 pub use Rattle.sc_core.specs.declared.ty.Ty.{Ty}
-pub use Rattle.sc_tac.specs.Prelude.{IsFunction, IsProgram, code_depth_by, code_run, scripted_code_depth_by, scripted_code_run}
+pub use Rattle.sc_tac.specs.Prelude.{IsFunction, IsProgram, code_depth_by, code_run, scripted_code_depth_by}
+pub use Rattle.sc_tac.specs.Prelude.{scripted_code_run}
 pub use Rattle.sc_tac.specs.declared.stmt.TacStmt.{TacStmt, TacStmt-F, fold-TacStmt}
-pub use Rattle.sc_tac.specs.declared.stmt.TacStmt.TheVariants.{Break, CallCross, CallOwn, Const, Continue, GlobalPlace, If, Input, Load, Loop, ObjectPlace, Op, Output, Return, Store}
+pub use Rattle.sc_tac.specs.declared.stmt.TacStmt.TheVariants.{Break, CallCross, CallOwn, Const, Continue, GlobalPlace}
+pub use Rattle.sc_tac.specs.declared.stmt.TacStmt.TheVariants.{If, Input, Load, Loop, ObjectPlace, Op, Output, Return}
+pub use Rattle.sc_tac.specs.declared.stmt.TacStmt.TheVariants.{Store}

@@ -1,5 +1,7 @@
 -- The code of expressions: one temporary for each node at most, numbered upward.
-use Rattle.sc_lower.specs.Common.{BinaryOp, Const, Global, GlobalPlace, If, Load, Local, ObjectPlace, Op, Param, TacStmt, Ty, TypedExpr, TypedExpr-F, TypedKind-F, TypedStruct, fold-TypedExpr, is_array, is_pointer, is_unsigned, is_unsigned_op, target_cells}
+use Rattle.sc_lower.specs.Common.{BinaryOp, Const, Global, GlobalPlace, If, Load, Local, ObjectPlace, Op, Param}
+use Rattle.sc_lower.specs.Common.{TacStmt, Ty, TypedExpr, TypedExpr-F, TypedKind-F, TypedStruct, fold-TypedExpr}
+use Rattle.sc_lower.specs.Common.{is_array, is_pointer, is_unsigned, is_unsigned_op, target_cells}
 use Rattle.std.specs.Prelude.{ℕ, suc, ◌+◌, Bool, true, false, List, [], ◌∷◌, ◌++◌, None, Some, if◌then◌else◌}
 use Rattle.sc_base.specs.declared.op.UnaryOp.{UnaryOp}
 use Rattle.sc_base.specs.declared.op.UnaryOp.TheVariants as unary

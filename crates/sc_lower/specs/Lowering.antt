@@ -1,5 +1,7 @@
 -- What lowering keeps.
-use Rattle.sc_lower.specs.Common.{Arith, IsFunction, IsProgram, IsWellTyped, ProgramTree, TypedFunction, TypedSection, code_depth_by, code_run, depth_by, run_of, scripted_code_depth_by, scripted_code_run, scripted_depth_by, scripted_run_of}
+use Rattle.sc_lower.specs.Common.{Arith, IsFunction, IsProgram, IsWellTyped, ProgramTree, TypedFunction, TypedSection}
+use Rattle.sc_lower.specs.Common.{code_depth_by, code_run, depth_by, run_of, scripted_code_depth_by, scripted_code_run}
+use Rattle.sc_lower.specs.Common.{scripted_depth_by, scripted_run_of}
 use Rattle.sc_laws.specs.Prelude.{RunsAgree}
 use Rattle.std.specs.Prelude.{◌≡◌, ℕ, Bool, List, Some, slice_get}
 use Rattle.sc_event.specs.declared.event.Event.{Event}

@@ -1,8 +1,19 @@
 -- The names of this crate that its contracts, its proofs and the crates above cite, passed on from one place. Declares nothing.
-pub use Rattle.sc_core.specs.Prelude.{IsWellTyped, base_cells, call_nodes, cells_of, expr_nodes, init_nodes, is_unsigned, is_unsigned_op, local_nodes, main_name, most_cells, most_exports, most_nodes, most_params, nodes, part_nodes, simple_nodes, starred_cells, stmt_nodes, struct_cells, target_cells, total, variables}
-pub use Rattle.sc_lower.specs.Branches.{KeepsBranches, call_branches, expr_branches, ifs, ifs_step, init_branches, kind_branches, local_branches, op_branches, part_branches, simple_branches, stmt_branches, stmt_ifs, term_branches}
-pub use Rattle.sc_lower.specs.Expressions.{Forms, Low, Lowered, Lows, alone, and_code, at_place, between_op, binary, binary_code, constant_of, forms, from_first, from_one, from_two, is_sub, loaded, lowered, lowered_step, member, move_op, not_op, or_code, place_code, scalar_in, scalar_of, term_step, truth_code, unary_op}
+pub use Rattle.sc_core.specs.Prelude.{IsWellTyped, base_cells, call_nodes, cells_of, expr_nodes, init_nodes}
+pub use Rattle.sc_core.specs.Prelude.{is_unsigned, is_unsigned_op, local_nodes, main_name, most_cells, most_exports}
+pub use Rattle.sc_core.specs.Prelude.{most_nodes, most_params, nodes, part_nodes, simple_nodes, starred_cells}
+pub use Rattle.sc_core.specs.Prelude.{stmt_nodes, struct_cells, target_cells, total, variables}
+pub use Rattle.sc_lower.specs.Branches.{KeepsBranches, call_branches, expr_branches, ifs, ifs_step, init_branches}
+pub use Rattle.sc_lower.specs.Branches.{kind_branches, local_branches, op_branches, part_branches, simple_branches}
+pub use Rattle.sc_lower.specs.Branches.{stmt_branches, stmt_ifs, term_branches}
+pub use Rattle.sc_lower.specs.Expressions.{Forms, Low, Lowered, Lows, alone, and_code, at_place, between_op, binary}
+pub use Rattle.sc_lower.specs.Expressions.{binary_code, constant_of, forms, from_first, from_one, from_two, is_sub}
+pub use Rattle.sc_lower.specs.Expressions.{loaded, lowered, lowered_step, member, move_op, not_op, or_code, place_code}
+pub use Rattle.sc_lower.specs.Expressions.{scalar_in, scalar_of, term_step, truth_code, unary_op}
 pub use Rattle.sc_lower.specs.Lowering.{KeepsMeaning, KeepsRules}
-pub use Rattle.sc_lower.specs.Programs.{body_code, entry_of, export_called, exports_of, init_code, inits_code, lowered_function, lowered_program, lowered_section, lowered_sections}
+pub use Rattle.sc_lower.specs.Programs.{body_code, entry_of, export_called, exports_of, init_code, inits_code}
+pub use Rattle.sc_lower.specs.Programs.{lowered_function, lowered_program, lowered_section, lowered_sections}
 pub use Rattle.sc_lower.specs.Results.{AreFunctions, IsLowerable, IsOperands, code_of, fragment_of, values_of}
-pub use Rattle.sc_lower.specs.Statements.{Many, Part, Parts, after, args, assign, block_code, both, call_alone, call_code, call_for, cycle, first_of, fork, in_turn, just, kind_step, many, part_code, return_value, simple_code, stmt_code, store_at, test}
+pub use Rattle.sc_lower.specs.Statements.{Many, Part, Parts, after, args, assign, block_code, both, call_alone}
+pub use Rattle.sc_lower.specs.Statements.{call_code, call_for, cycle, first_of, fork, in_turn, just, kind_step, many}
+pub use Rattle.sc_lower.specs.Statements.{part_code, return_value, simple_code, stmt_code, store_at, test}

@@ -1,6 +1,8 @@
 -- The code of functions and programs.
-use Rattle.sc_lower.specs.Common.{Interfaces, Local, ProgramTree, TypedExpr, TypedFunction, TypedLocal, TypedSection, TypedStruct, comp_at, main_name, nodes, variables}
-use Rattle.std.specs.Prelude.{ℕ, suc, ◌&&◌, ◌==◌, if◌then◌else◌, bytes_eq, List, [], ◌∷◌, map, length, Option, None, Some, is_some}
+use Rattle.sc_lower.specs.Common.{Interfaces, Local, ProgramTree, TypedExpr, TypedFunction, TypedLocal, TypedSection}
+use Rattle.sc_lower.specs.Common.{TypedStruct, comp_at, main_name, nodes, variables}
+use Rattle.std.specs.Prelude.{ℕ, suc, ◌&&◌, ◌==◌, if◌then◌else◌, bytes_eq, List, [], ◌∷◌, map, length, Option, None}
+use Rattle.std.specs.Prelude.{Some, is_some}
 use Rattle.std.specs.List.{position}
 use Rattle.std.specs.Option.{option_map}
 use Rattle.sc_event.specs.declared.interface.Interface.{Interface}

@@ -1,5 +1,6 @@
 -- What lowering hands back, as the definitions have it.
-use Rattle.sc_lower.specs.Common.{Interfaces, IsFunction, Ty, TypedFunction, TypedLocal, TypedStruct, cells_of, comp_at, most_cells, most_exports, most_nodes, most_params, nodes}
+use Rattle.sc_lower.specs.Common.{Interfaces, IsFunction, Ty, TypedFunction, TypedLocal, TypedStruct, cells_of, comp_at}
+use Rattle.sc_lower.specs.Common.{most_cells, most_exports, most_nodes, most_params, nodes}
 use Rattle.std.specs.Prelude.{◌≡◌, ◌≤◌, ℕ, List, length, Some, slice_get}
 use Rattle.std.specs.List.{All}
 use Rattle.sc_core.specs.declared.section.TypedParam.{TypedParam}

@@ -1,5 +1,7 @@
 -- The code of statements, in the order in which it runs: values first, then places, then stores.
-use Rattle.sc_lower.specs.Common.{Break, CallCross, CallOwn, Continue, If, Input, Loop, Output, Return, Store, TacStmt, TypedCall, TypedSimple, TypedSimpleKind, TypedStmt, TypedStmtKind-F, TypedStruct, fold-TypedStmt}
+use Rattle.sc_lower.specs.Common.{Break, CallCross, CallOwn, Continue, If, Input, Loop, Output, Return, Store, TacStmt}
+use Rattle.sc_lower.specs.Common.{TypedCall, TypedSimple, TypedSimpleKind, TypedStmt, TypedStmtKind-F, TypedStruct}
+use Rattle.sc_lower.specs.Common.{fold-TypedStmt}
 use Rattle.std.specs.Prelude.{ℕ, suc, List, [], ◌∷◌, ◌++◌, map, Option, None, Some}
 use Rattle.sc_core.specs.declared.expr.CallTarget.{CallTarget}
 use Rattle.sc_core.specs.declared.expr.CallTarget.TheVariants as target

@@ -1,6 +1,8 @@
 //! Calls (C11 6.5.2.2): arguments from left to right, then the call.
 
-ghost use Rattle.sc_lower.specs.Prelude.{args, call_alone, call_code, call_for, call_nodes, expr_nodes, first_of, forms, fragment_of, many, most_nodes, return_value, store_at, total, values_of};
+ghost use Rattle.sc_lower.specs.Prelude.{args, call_alone, call_code, call_for, call_nodes, expr_nodes, first_of};
+ghost use Rattle.sc_lower.specs.Prelude.{forms, fragment_of, many, most_nodes, return_value, store_at, total};
+ghost use Rattle.sc_lower.specs.Prelude.{values_of};
 ghost use Rattle.std.specs.Prelude.{◌≡◌, ◌≤◌, ◌+◌, ◌++◌, ◌∷◌, [], suc, map, None, Some, IfOk};
 
 use crate::code::{Fragment, Scope, single};

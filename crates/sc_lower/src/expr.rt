@@ -1,6 +1,8 @@
 //! Expressions (C11 6.5), by recursion on the tree, whose height is at most 256.
 
-ghost use Rattle.sc_lower.specs.Prelude.{IsOperands, Lowered, and_code, binary, binary_code, code_of, constant_of, expr_nodes, forms, fragment_of, most_nodes, move_op, or_code, place_code, store_at, truth_code};
+ghost use Rattle.sc_lower.specs.Prelude.{IsOperands, Lowered, and_code, binary, binary_code, code_of, constant_of};
+ghost use Rattle.sc_lower.specs.Prelude.{expr_nodes, forms, fragment_of, most_nodes, move_op, or_code, place_code};
+ghost use Rattle.sc_lower.specs.Prelude.{store_at, truth_code};
 ghost use Rattle.std.specs.Prelude.{◌≡◌, ◌≤◌, ◌<◌, ◌+◌, ℕ, ◌++◌, ◌∷◌, [], suc, None, Some, IfOk};
 ghost use Rattle.sc_base.specs.declared.op.BinaryOp.TheVariants as op;
 ghost use Rattle.sc_tac.specs.declared.stmt.TacStmt;

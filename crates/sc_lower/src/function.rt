@@ -1,6 +1,8 @@
 //! Functions: how they are entered, their variables, and their code.
 
-ghost use Rattle.sc_lower.specs.Prelude.{body_code, cells_of, entry_of, export_called, exports_of, fragment_of, in_turn, init_code, inits_code, local_nodes, lowered_function, main_name, most_cells, most_exports, most_nodes, most_params, nodes, total, variables};
+ghost use Rattle.sc_lower.specs.Prelude.{body_code, cells_of, entry_of, export_called, exports_of, fragment_of};
+ghost use Rattle.sc_lower.specs.Prelude.{in_turn, init_code, inits_code, local_nodes, lowered_function, main_name};
+ghost use Rattle.sc_lower.specs.Prelude.{most_cells, most_exports, most_nodes, most_params, nodes, total, variables};
 ghost use Rattle.sc_event.specs.Prelude.{comp_at};
 ghost use Rattle.std.specs.Prelude.{◌≡◌, ◌≤◌, ◌<◌, ◌+◌, ◌++◌, ◌==◌, ◌&&◌, bytes_eq, map, length, IfOk, IfSome};
 ghost use Rattle.std.specs.List.{position, All};

@@ -1,6 +1,7 @@
 //! How many nodes typed trees have.
 
-ghost use Rattle.sc_lower.specs.Prelude.{call_nodes, expr_nodes, init_nodes, local_nodes, most_nodes, nodes, part_nodes, simple_nodes, stmt_nodes, total};
+ghost use Rattle.sc_lower.specs.Prelude.{call_nodes, expr_nodes, init_nodes, local_nodes, most_nodes, nodes};
+ghost use Rattle.sc_lower.specs.Prelude.{part_nodes, simple_nodes, stmt_nodes, total};
 ghost use Rattle.std.specs.Prelude.{◌≡◌, ◌≤◌, ◌+◌, suc, map, length};
 
 use sc_core::{

@@ -1,6 +1,7 @@
 //! Sections and programs.
 
-ghost use Rattle.sc_lower.specs.Prelude.{AreFunctions, IsWellTyped, lowered_function, lowered_program, lowered_section, lowered_sections};
+ghost use Rattle.sc_lower.specs.Prelude.{AreFunctions, IsWellTyped, lowered_function, lowered_program, lowered_section};
+ghost use Rattle.sc_lower.specs.Prelude.{lowered_sections};
 ghost use Rattle.std.specs.Prelude.{◌≡◌, ◌<◌, map, IfOk};
 
 use crate::copies::{copy_globals, copy_interfaces, copy_structs};

@@ -1,6 +1,7 @@
 //! What operators become, by the types of their operands.
 
-ghost use Rattle.sc_lower.specs.Prelude.{between_op, binary_code, constant_of, is_sub, is_unsigned_op, move_op, not_op, place_code, scalar_in, scalar_of, truth_code, unary_op};
+ghost use Rattle.sc_lower.specs.Prelude.{between_op, binary_code, constant_of, is_sub, is_unsigned_op, move_op, not_op};
+ghost use Rattle.sc_lower.specs.Prelude.{place_code, scalar_in, scalar_of, truth_code, unary_op};
 ghost use Rattle.std.specs.Prelude.{◌≡◌, ◌++◌, IfOk};
 
 use crate::cells::{is_unsigned, target_cells};

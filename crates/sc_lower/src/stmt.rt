@@ -1,6 +1,8 @@
 //! Statements (C11 6.8), by recursion on the tree.
 
-ghost use Rattle.sc_lower.specs.Prelude.{after, assign, block_code, expr_nodes, forms, fragment_of, most_nodes, part_code, part_nodes, return_value, simple_code, simple_nodes, stmt_code, stmt_nodes, test, total};
+ghost use Rattle.sc_lower.specs.Prelude.{after, assign, block_code, expr_nodes, forms, fragment_of, most_nodes};
+ghost use Rattle.sc_lower.specs.Prelude.{part_code, part_nodes, return_value, simple_code, simple_nodes, stmt_code};
+ghost use Rattle.sc_lower.specs.Prelude.{stmt_nodes, test, total};
 ghost use Rattle.std.specs.Prelude.{◌≡◌, ◌≤◌, ◌+◌, ◌++◌, ◌∷◌, [], suc, map, Some, IfOk};
 ghost use Rattle.sc_core.specs.declared.value.Want.TheVariants as want;
 ghost use Rattle.sc_tac.specs.declared.stmt.TacStmt;

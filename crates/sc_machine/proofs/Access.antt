@@ -1,5 +1,11 @@
 -- Which accesses are allowed, and that there is memory for them.
-use Rattle.sc_machine.proofs.Common.{Bool, CompPart, HasBytes, ImageParts, IsBacked, IsLookedUp, IsPlace, List, Memory, None, Some, State, TrapReason, Traps, ap, are_data, arith, comp_of_data, data_start, extended, false, gives, globals_of, if◌then◌else◌, is_some, le-leb, le-ltb, length, load, load_of, load_size, lt-leb, most_globals, nat_le, nat_lt, next, refl, refused, slice_get, slice_get_cases, stack_size, stack_top, start_is, start_memory, store, store_size, stored, stretch, subst, sym, true, with_stored, ℕ, ⊎_elim, ◌%◌, ◌+◌, ◌-◌, ◌<◌, ◌∙◌, ◌≡◌, ◌≤◌}
+use Rattle.sc_machine.proofs.Common.{Bool, CompPart, HasBytes, ImageParts, IsBacked, IsLookedUp, IsPlace, List, Memory}
+use Rattle.sc_machine.proofs.Common.{None, Some, State, TrapReason, Traps, ap, are_data, arith, comp_of_data}
+use Rattle.sc_machine.proofs.Common.{data_start, extended, false, gives, globals_of, if◌then◌else◌, is_some, le-leb}
+use Rattle.sc_machine.proofs.Common.{le-ltb, length, load, load_of, load_size, lt-leb, most_globals, nat_le, nat_lt}
+use Rattle.sc_machine.proofs.Common.{next, refl, refused, slice_get, slice_get_cases, stack_size, stack_top, start_is}
+use Rattle.sc_machine.proofs.Common.{start_memory, store, store_size, stored, stretch, subst, sym, true, with_stored, ℕ}
+use Rattle.sc_machine.proofs.Common.{⊎_elim, ◌%◌, ◌+◌, ◌-◌, ◌<◌, ◌∙◌, ◌≡◌, ◌≤◌}
 use Rattle.std.proofs.lemmas.Bool.Decides.{nat_tests}
 use Rattle.rv_code.specs.declared.instr.LoadOp.{LoadOp}
 use Rattle.rv_code.specs.declared.instr.StoreOp.{StoreOp}

@@ -1,5 +1,6 @@
 -- Lists of functions that compartments may call.
-use Rattle.sc_machine.proofs.Common.{All, AreCallees, Callee, ImageParts, IsCallee, List, None, Option, Some, [], arith, length, slice_get, subst, suc, zero, ℕ, ◌++◌, ◌+◌, ◌∷◌, ◌≡◌}
+use Rattle.sc_machine.proofs.Common.{All, AreCallees, Callee, ImageParts, IsCallee, List, None, Option, Some, [], arith}
+use Rattle.sc_machine.proofs.Common.{length, slice_get, subst, suc, zero, ℕ, ◌++◌, ◌+◌, ◌∷◌, ◌≡◌}
 
 module _ (image : ImageParts) where
   pub callees_at : (lists : List (List Callee)) (c i n : ℕ) (callees : List Callee) → n ≡ c + i →

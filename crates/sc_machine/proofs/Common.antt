@@ -1,5 +1,10 @@
 -- The names that several proofs of this crate cite, passed on from one place. Declares nothing.
-pub use Rattle.std.proofs.Common.{All, Bool, IsSome, List, None, OnSome, Option, Some, [], add-one, add-zero, add_assoc, ap, ap₂, arith, eq-eqb, eqb-true, false, fold, get_or, if◌then◌else◌, is_some, le-leb, le-ltb, leb-false, leb-true, length, length-append, length-set, lt-ltb, map, nat_eq, nat_le, nat_lt, ne_eqb, position, refl, rules, slice_index, subst, suc, sum, sym, take, true, unwrap_or, zero, ℕ, ℤ, ⊎_elim, ◌%◌, ◌&&◌, ◌*◌, ◌++◌, ◌+◌, ◌-◌, ◌/◌, ◌<◌, ◌==◌, ◌^◌, ◌∙◌, ◌∷◌, ◌≡◌, ◌≢◌, ◌≤◌, ◌⊎◌}
+pub use Rattle.std.proofs.Common.{All, Bool, IsSome, List, None, OnSome, Option, Some, [], add-one, add-zero, add_assoc}
+pub use Rattle.std.proofs.Common.{ap, ap₂, arith, eq-eqb, eqb-true, false, fold, get_or, if◌then◌else◌, is_some, le-leb}
+pub use Rattle.std.proofs.Common.{le-ltb, leb-false, leb-true, length, length-append, length-set, lt-ltb, map, nat_eq}
+pub use Rattle.std.proofs.Common.{nat_le, nat_lt, ne_eqb, position, refl, rules, slice_index, subst, suc, sum, sym}
+pub use Rattle.std.proofs.Common.{take, true, unwrap_or, zero, ℕ, ℤ, ⊎_elim, ◌%◌, ◌&&◌, ◌*◌, ◌++◌, ◌+◌, ◌-◌, ◌/◌, ◌<◌}
+pub use Rattle.std.proofs.Common.{◌==◌, ◌^◌, ◌∙◌, ◌∷◌, ◌≡◌, ◌≢◌, ◌≤◌, ◌⊎◌}
 pub use Rattle.std.proofs.lemmas.Bool.{cases_eq, cases_lt, lt-leb}
 pub use Rattle.std.proofs.lemmas.List.{get_or-map, get_or_past, length-map, length_push}
 pub use Rattle.std.proofs.lemmas.List.Elements.{All-cons, All-head, All-nil, All-tail}
@@ -10,11 +15,19 @@ pub use Rattle.sc_base.specs.declared.stop.TrapReason.{TrapReason}
 pub use Rattle.sc_base.specs.declared.stop.TrapReason.TheVariants.{BadJump, Misaligned, NoImport}
 pub use Rattle.sc_word.specs.Prelude.{add_word, word_of}
 pub use Rattle.sc_store.proofs.Access.{next_there, written-stored, written_more}
-pub use Rattle.sc_store.specs.Prelude.{AreApart, AreBelow, HasBytes, IsIn, Memory, byte_of, is_in, load_of, stored, written, zeros}
+pub use Rattle.sc_store.specs.Prelude.{AreApart, AreBelow, HasBytes, IsIn, Memory, byte_of, is_in, load_of, stored}
+pub use Rattle.sc_store.specs.Prelude.{written, zeros}
 pub use Rattle.sc_store.specs.declared.region.Region.{Region}
 pub use Rattle.sc_image.proofs.AtStart.{start_is}
 pub use Rattle.sc_image.proofs.Running.{run_goes, run_more, run_stopped, run_traps}
-pub use Rattle.sc_image.specs.Prelude.{Crossing, Filled, Goes, IsDistinct, IsEntry, IsExport, IsWellFormed, Outcome, Run, State, Traps, are_data, byte_at, called, calls, code_of, code_start, comp_of_code, comp_of_data, compares, continued, data_start, data_with, execute, export_at, export_called, exports_of, extended, gate, gives, globals_of, is_ended, jump, leaves, load, load_size, machine, may_call, may_input, may_output, most_globals, next, params_of, ra, refused, reg, returned, stack_size, stack_top, stack_tops, start, step, stops_or, store, store_size, stretch, with_pc, with_reg, with_stored}
+pub use Rattle.sc_image.specs.Prelude.{Crossing, Filled, Goes, IsDistinct, IsEntry, IsExport, IsWellFormed, Outcome}
+pub use Rattle.sc_image.specs.Prelude.{Run, State, Traps, are_data, byte_at, called, calls, code_of, code_start}
+pub use Rattle.sc_image.specs.Prelude.{comp_of_code, comp_of_data, compares, continued, data_start, data_with, execute}
+pub use Rattle.sc_image.specs.Prelude.{export_at, export_called, exports_of, extended, gate, gives, globals_of}
+pub use Rattle.sc_image.specs.Prelude.{is_ended, jump, leaves, load, load_size, machine, may_call, may_input}
+pub use Rattle.sc_image.specs.Prelude.{may_output, most_globals, next, params_of, ra, refused, reg, returned}
+pub use Rattle.sc_image.specs.Prelude.{stack_size, stack_top, stack_tops, start, step, stops_or, store, store_size}
+pub use Rattle.sc_image.specs.Prelude.{stretch, with_pc, with_reg, with_stored}
 unfoldable pub use Rattle.sc_image.specs.Prelude.{execute_by, run, start_memory, stopped, word_at}
 pub use Rattle.sc_image.specs.declared.parts.CompPart.{CompPart}
 pub use Rattle.sc_image.specs.declared.parts.ExportPart.{ExportPart}

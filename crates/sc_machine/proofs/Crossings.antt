@@ -1,5 +1,10 @@
 -- Calls of other compartments and returns, by what was found.
-use Rattle.sc_machine.proofs.Common.{BadJump, Callee, CompPart, ExportPart, Goes, ImageParts, IsCallee, IsWellFormed, List, NoImport, None, Option, Some, State, TrapReason, Traps, [], ap, arith, called, calls, comp_of_code, eq-eqb, export_at, export_called, exports_of, false, get_or, length, may_call, ne_eqb, option_map_or, params_of, position, ra, refl, slice_get, slice_get-get_or, slice_get_within, subst, sym, true, ℕ, ◌<◌, ◌==◌, ◌∙◌, ◌≡◌, ◌≢◌, ◌≤◌}
+use Rattle.sc_machine.proofs.Common.{BadJump, Callee, CompPart, ExportPart, Goes, ImageParts, IsCallee, IsWellFormed}
+use Rattle.sc_machine.proofs.Common.{List, NoImport, None, Option, Some, State, TrapReason, Traps, [], ap, arith}
+use Rattle.sc_machine.proofs.Common.{called, calls, comp_of_code, eq-eqb, export_at, export_called, exports_of, false}
+use Rattle.sc_machine.proofs.Common.{get_or, length, may_call, ne_eqb, option_map_or, params_of, position, ra, refl}
+use Rattle.sc_machine.proofs.Common.{slice_get, slice_get-get_or, slice_get_within, subst, sym, true, ℕ, ◌<◌, ◌==◌, ◌∙◌}
+use Rattle.sc_machine.proofs.Common.{◌≡◌, ◌≢◌, ◌≤◌}
 use Rattle.std.proofs.lemmas.List.Quantifiers.{position-Some}
 
 module _ (image : ImageParts) (state : State) (target : ℕ) where

@@ -1,5 +1,8 @@
 -- Jumps, by the case of their target.
-use Rattle.sc_machine.proofs.Common.{Goes, ImageParts, List, Misaligned, None, Outcome, State, Traps, add_word, ap, arith, calls, cases_eq, eq-eqb, execute, execute_by, false, gate, is_some, jump, leaves, ne_eqb, refl, reg, returned, sym, true, with_pc, with_reg, word_at, word_of, ℕ, ℤ, ⊎_elim, ◌%◌, ◌*◌, ◌+◌, ◌/◌, ◌≡◌, ◌≢◌}
+use Rattle.sc_machine.proofs.Common.{Goes, ImageParts, List, Misaligned, None, Outcome, State, Traps, add_word, ap}
+use Rattle.sc_machine.proofs.Common.{arith, calls, cases_eq, eq-eqb, execute, execute_by, false, gate, is_some, jump}
+use Rattle.sc_machine.proofs.Common.{leaves, ne_eqb, refl, reg, returned, sym, true, with_pc, with_reg, word_at}
+use Rattle.sc_machine.proofs.Common.{word_of, ℕ, ℤ, ⊎_elim, ◌%◌, ◌*◌, ◌+◌, ◌/◌, ◌≡◌, ◌≢◌}
 use Rattle.rv_code.specs.declared.instr.Instr.TheVariants.{Jalr}
 use Rattle.sc_machine.proofs.Words.{below_code}
 

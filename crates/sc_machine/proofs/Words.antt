@@ -1,5 +1,8 @@
 -- The code of an image.
-use Rattle.sc_machine.proofs.Common.{CompPart, ImageParts, IsLookedUp, IsPlace, IsWellFormed, List, None, OnSome, Option, Some, arith, code_of, code_start, eq-eqb, le-leb, length, lt-leb, most_globals, ne_eqb, refl, slice_get_within, stretch, sym, word_at, ℕ, ◌%◌, ◌*◌, ◌+◌, ◌-◌, ◌/◌, ◌<◌, ◌≡◌, ◌≢◌, ◌≤◌}
+use Rattle.sc_machine.proofs.Common.{CompPart, ImageParts, IsLookedUp, IsPlace, IsWellFormed, List, None, OnSome}
+use Rattle.sc_machine.proofs.Common.{Option, Some, arith, code_of, code_start, eq-eqb, le-leb, length, lt-leb}
+use Rattle.sc_machine.proofs.Common.{most_globals, ne_eqb, refl, slice_get_within, stretch, sym, word_at, ℕ, ◌%◌, ◌*◌}
+use Rattle.sc_machine.proofs.Common.{◌+◌, ◌-◌, ◌/◌, ◌<◌, ◌≡◌, ◌≢◌, ◌≤◌}
 use Rattle.std.proofs.Common.{slice_get}
 
 -- where an address has no whole word, and where it may have one

@@ -1,5 +1,6 @@
 -- What is called, and what passes in the registers.
-use Rattle.sc_machine.specs.Common.{ImageParts, cleared_for_call, cleared_for_return, comp_of_code, export_at, gate, may_call, params_of, ra, sp, written}
+use Rattle.sc_machine.specs.Common.{ImageParts, cleared_for_call, cleared_for_return, comp_of_code, export_at, gate}
+use Rattle.sc_machine.specs.Common.{may_call, params_of, ra, sp, written}
 use Rattle.std.specs.Prelude.{◌≡◌, ◌<◌, ◌≤◌, ℕ, suc, Bool, true, List, [], ◌∷◌, All, length, Some}
 use Rattle.sc_machine.specs.declared.calling.Callee.{Callee}
 use Rattle.sc_machine.specs.declared.hart.Core.{Core}

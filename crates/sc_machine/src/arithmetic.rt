@@ -1,7 +1,8 @@
 //! The instructions that only compute (RISC-V Unprivileged ISA, chapters "RV32I Base Integer
 //! Instruction Set" and "M Extension").
 
-ghost use Rattle.sc_machine.specs.Prelude.{Goes, ImageParts, Instr, State, at, compares, computed, execute, on_registers, shift_on_registers};
+ghost use Rattle.sc_machine.specs.Prelude.{Goes, ImageParts, Instr, State, at, compares, computed, execute};
+ghost use Rattle.sc_machine.specs.Prelude.{on_registers, shift_on_registers};
 ghost use Rattle.std.specs.Prelude.{◌≡◌, ◌+◌, ◌^◌, ◌<◌, ℕ, ℤ, List};
 
 use crate::hart::{Core, word_of};

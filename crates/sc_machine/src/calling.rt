@@ -1,6 +1,8 @@
 //! Calls of other compartments.
 
-ghost use Rattle.sc_machine.specs.Prelude.{IsCallee, IsReady, IsWellFormed, LeavesSound, Memory, State, StaysSound, Traps, arguments, called, calls, comp_of_code, entered, export_at, export_called, exports_of, may_call, outcome_of, params_of, state_in};
+ghost use Rattle.sc_machine.specs.Prelude.{IsCallee, IsReady, IsWellFormed, LeavesSound, Memory, State, StaysSound};
+ghost use Rattle.sc_machine.specs.Prelude.{Traps, arguments, called, calls, comp_of_code, entered, export_at};
+ghost use Rattle.sc_machine.specs.Prelude.{export_called, exports_of, may_call, outcome_of, params_of, state_in};
 ghost use Rattle.std.specs.Prelude.{◌≡◌, ◌==◌, position, ◌+◌, ◌^◌, ◌<◌, ◌≤◌, Some, IfOk, IfErr, OnErr};
 
 use crate::hart::{Core, Hart};

@@ -1,6 +1,8 @@
 //! Calls of the environment.
 
-ghost use Rattle.sc_machine.specs.Prelude.{Goes, IsReady, LeavesSound, Memory, StaysSound, environment_call, input, input_at, may_input, may_output, next, outcome_of, output, state_in, word_of};
+ghost use Rattle.sc_machine.specs.Prelude.{Goes, IsReady, LeavesSound, Memory, StaysSound, environment_call, input};
+ghost use Rattle.sc_machine.specs.Prelude.{input_at, may_input, may_output, next, outcome_of, output, state_in};
+ghost use Rattle.sc_machine.specs.Prelude.{word_of};
 ghost use Rattle.std.specs.Prelude.{◌≡◌, ◌+◌, ◌^◌, ◌<◌, map, OnErr};
 
 use crate::hart::Hart;

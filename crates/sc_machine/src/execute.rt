@@ -1,6 +1,7 @@
 //! One step, by the instruction at the pc. A step that can't be made changes nothing.
 
-ghost use Rattle.sc_machine.specs.Prelude.{IsBacked, IsReady, LeavesSound, execute, outcome_of, state_in, step, word_of};
+ghost use Rattle.sc_machine.specs.Prelude.{IsBacked, IsReady, LeavesSound, execute, outcome_of, state_in, step};
+ghost use Rattle.sc_machine.specs.Prelude.{word_of};
 ghost use Rattle.std.specs.Prelude.{◌≡◌, ◌+◌, ◌^◌, ◌<◌, map, OnErr};
 
 use crate::arithmetic::{op, op_imm, shift, upper};

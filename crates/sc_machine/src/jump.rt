@@ -1,6 +1,7 @@
 //! Jumps and branches, and what lies beyond the own code.
 
-ghost use Rattle.sc_machine.specs.Prelude.{Instr, IsReady, IsReg, LeavesSound, Memory, State, Traps, add_word, at, calls, comp_in, execute, jump, outcome_of, state_in, word_of};
+ghost use Rattle.sc_machine.specs.Prelude.{Instr, IsReady, IsReg, LeavesSound, Memory, State, Traps, add_word, at};
+ghost use Rattle.sc_machine.specs.Prelude.{calls, comp_in, execute, jump, outcome_of, state_in, word_of};
 ghost use Rattle.std.specs.Prelude.{◌≡◌, ◌+◌, ◌^◌, ◌<◌, ℕ, List, OnErr};
 ghost use Rattle.sc_base.specs.declared.stop.TrapReason.TheVariants.{BadJump};
 

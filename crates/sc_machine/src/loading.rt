@@ -1,6 +1,7 @@
 //! The state that a run starts in.
 
-ghost use Rattle.sc_machine.specs.Prelude.{HasBytes, HasRoom, IsSound, stack_tops, start, start_memory, state_in, zeros};
+ghost use Rattle.sc_machine.specs.Prelude.{HasBytes, HasRoom, IsSound, stack_tops, start, start_memory, state_in};
+ghost use Rattle.sc_machine.specs.Prelude.{zeros};
 ghost use Rattle.sc_store.specs.Prelude.{written};
 ghost use Rattle.std.specs.Prelude.{◌≡◌, ◌+◌, ◌<◌, ◌^◌, ◌≤◌, length, vec_capacity, All, IfOk};
 ghost use Rattle.sc_machine.specs.Regions.{HasFewGlobals, all_data, regions_of, filled_with};

@@ -1,6 +1,7 @@
 //! Loads and stores, through whatever keeps the bytes.
 
-ghost use Rattle.sc_machine.specs.Prelude.{HasBytes, IsBacked, State, active_in, at, extended, load, load_of, load_size, outcome_of, refused, start_memory, store, store_size, stored};
+ghost use Rattle.sc_machine.specs.Prelude.{HasBytes, IsBacked, State, active_in, at, extended, load, load_of};
+ghost use Rattle.sc_machine.specs.Prelude.{load_size, outcome_of, refused, start_memory, store, store_size, stored};
 ghost use Rattle.std.specs.Prelude.{◌≡◌, ◌+◌, ◌^◌, ◌<◌, ◌≤◌, ℕ, length, OnErr, OnSome, IfNone, IfSome};
 
 use crate::hart::Core;

@@ -1,5 +1,13 @@
 -- Types and declarators are read exactly as they are spelled.
-use Rattle.sc_parse.proofs.Common.{BaseTree, Bool, Declarator, IsIdent, IsInteger, IsKeyword, IsMark, Keyword, Lexeme, List, Mark, None, Number, Option, Some, SpellsBase, SpellsDeclarator, SpellsStars, SpellsTypeName, Symbol, TypeName, [], ap, append_assoc, arith, array, array_length, base_at, base_by, begins_with, behind, behind_mark, bound, bracketed_length, cond, declarator, declarator_at, drop, elements_at, false, int, integer_by, is_int, is_mark, keyword_at, keyword_by, length_at, name_ahead, name_at, none-some, one-add, option_map_or, past_int, prefix_len, refl, same_some, signed, signed_int, star, star_count, struct, subst, suc, sym, true, type_name, type_name_at, type_of, unsigned, unsigned_int, ℕ, ◌++◌, ◌+◌, ◌>>=◌, ◌∙◌, ◌∷◌, ◌≡◌}
+use Rattle.sc_parse.proofs.Common.{BaseTree, Bool, Declarator, IsIdent, IsInteger, IsKeyword, IsMark, Keyword, Lexeme}
+use Rattle.sc_parse.proofs.Common.{List, Mark, None, Number, Option, Some, SpellsBase, SpellsDeclarator, SpellsStars}
+use Rattle.sc_parse.proofs.Common.{SpellsTypeName, Symbol, TypeName, [], ap, append_assoc, arith, array, array_length}
+use Rattle.sc_parse.proofs.Common.{base_at, base_by, begins_with, behind, behind_mark, bound, bracketed_length, cond}
+use Rattle.sc_parse.proofs.Common.{declarator, declarator_at, drop, elements_at, false, int, integer_by, is_int}
+use Rattle.sc_parse.proofs.Common.{is_mark, keyword_at, keyword_by, length_at, name_ahead, name_at, none-some, one-add}
+use Rattle.sc_parse.proofs.Common.{option_map_or, past_int, prefix_len, refl, same_some, signed, signed_int, star}
+use Rattle.sc_parse.proofs.Common.{star_count, struct, subst, suc, sym, true, type_name, type_name_at, type_of}
+use Rattle.sc_parse.proofs.Common.{unsigned, unsigned_int, ℕ, ◌++◌, ◌+◌, ◌>>=◌, ◌∙◌, ◌∷◌, ◌≡◌}
 use Rattle.sc_ast.specs.declared.types.BaseTree.TheVariants as base
 use Rattle.sc_expr.specs.declared.mark.Keyword.TheVariants as word
 use Rattle.sc_expr.specs.declared.mark.Mark.TheVariants as mark

@@ -1,5 +1,12 @@
 -- What declarations begin with.
-use Rattle.sc_parse.proofs.Common.{BaseTree, Declares, GlobalTree, HeadTree, InitTree, IsGlobal, Lexeme, List, None, Option, Separated, SpellsBase, SpellsDeclarator, SpellsHead, SpellsInit, SpellsResult, SpellsStars, SpellsStruct, SpellsTypeName, StructTree, TypeName, TypeTree, [], a_result, absent, ap, append_assoc, arith, array, begins_call, begins_head, begins_struct, begins_with, declares, drop, false, first_line, global, head, int, length, length-append, line_at, many, many_comma, more, no_result, past_base, past_stars, signed, signed_int, star, subst, sym, true, type_name, unsigned, unsigned_int, ℕ, ◌++◌, ◌<◌, ◌∙◌, ◌∷◌, ◌≡◌}
+use Rattle.sc_parse.proofs.Common.{BaseTree, Declares, GlobalTree, HeadTree, InitTree, IsGlobal, Lexeme, List, None}
+use Rattle.sc_parse.proofs.Common.{Option, Separated, SpellsBase, SpellsDeclarator, SpellsHead, SpellsInit}
+use Rattle.sc_parse.proofs.Common.{SpellsResult, SpellsStars, SpellsStruct, SpellsTypeName, StructTree, TypeName}
+use Rattle.sc_parse.proofs.Common.{TypeTree, [], a_result, absent, ap, append_assoc, arith, array, begins_call}
+use Rattle.sc_parse.proofs.Common.{begins_head, begins_struct, begins_with, declares, drop, false, first_line, global}
+use Rattle.sc_parse.proofs.Common.{head, int, length, length-append, line_at, many, many_comma, more, no_result}
+use Rattle.sc_parse.proofs.Common.{past_base, past_stars, signed, signed_int, star, subst, sym, true, type_name}
+use Rattle.sc_parse.proofs.Common.{unsigned, unsigned_int, ℕ, ◌++◌, ◌<◌, ◌∙◌, ◌∷◌, ◌≡◌}
 use Rattle.sc_expr.specs.declared.mark.Mark.TheVariants as mark
 use Rattle.sc_parse.specs.Lists as lists
 use Rattle.sc_parse.specs.Types as types

@@ -1,9 +1,15 @@
 -- Declarations of variables and structs are read exactly as they are spelled.
-use Rattle.sc_parse.proofs.Common.{BaseTree, Declarator, Declares, IsMark, IsMember, Lexeme, List, MemberTree, None, Option, Reader, Separated, Some, SpellsBase, SpellsDeclarator, TypeTree, [], adds, all_separated, ap, append_assoc, array, base_at, behind, behind_mark, bound, declaration_at, declarator, declarator_at, declares, first_line, int, member_at, members_behind, more, one, refl, same_some, signed, signed_int, struct, subst, sym, type_of, unsigned, unsigned_int, ℕ, ◌++◌, ◌>>=◌, ◌∙◌, ◌∷◌, ◌≡◌}
+use Rattle.sc_parse.proofs.Common.{BaseTree, Declarator, Declares, IsMark, IsMember, Lexeme, List, MemberTree, None}
+use Rattle.sc_parse.proofs.Common.{Option, Reader, Separated, Some, SpellsBase, SpellsDeclarator, TypeTree, [], adds}
+use Rattle.sc_parse.proofs.Common.{all_separated, ap, append_assoc, array, base_at, behind, behind_mark, bound}
+use Rattle.sc_parse.proofs.Common.{declaration_at, declarator, declarator_at, declares, first_line, int, member_at}
+use Rattle.sc_parse.proofs.Common.{members_behind, more, one, refl, same_some, signed, signed_int, struct, subst, sym}
+use Rattle.sc_parse.proofs.Common.{type_of, unsigned, unsigned_int, ℕ, ◌++◌, ◌>>=◌, ◌∙◌, ◌∷◌, ◌≡◌}
 use Rattle.sc_expr.specs.declared.mark.Mark.TheVariants as mark
 use Rattle.sc_parse.specs.Types.{plain}
 use Rattle.sc_parse.proofs.Exact.{Taken, Added, Exact, ExactAdder, Any, took, glued, separated_exact}
-use Rattle.sc_parse.proofs.Bases.{NoInt, NoBracket, base_exact, no_length, in_brackets, declarator_sound, declarator_reads, stars_no_int}
+use Rattle.sc_parse.proofs.Bases.{NoInt, NoBracket, base_exact, no_length, in_brackets, declarator_sound}
+use Rattle.sc_parse.proofs.Bases.{declarator_reads, stars_no_int}
 
 abbrev pub Comma : List Lexeme → Option (List Lexeme)
 Comma = behind mark.Comma

@@ -1,5 +1,10 @@
 -- Declarations in a section are read exactly as they are spelled.
-use Rattle.sc_parse.proofs.Common.{BaseTree, Decl, Declares, FunctionHead, FunctionTree, GlobalTree, Grouped, HeadTree, IsGlobal, IsMark, Lexeme, List, None, Separated, Some, SpellsDecl, SpellsFunction, SpellsHead, [], a_function, a_struct, adds, ap, append_assoc, arith, behind, decl_at, declares, decls_height, false, function, function_behind, globals, grouped, head_of, headed_at, is_empty, length, length-append, map, max, more, prototype, refl, struct_decl_at, subst, sym, true, ℕ, ◌++◌, ◌+◌, ◌<◌, ◌∙◌, ◌∷◌, ◌≡◌, ◌≤◌}
+use Rattle.sc_parse.proofs.Common.{BaseTree, Decl, Declares, FunctionHead, FunctionTree, GlobalTree, Grouped, HeadTree}
+use Rattle.sc_parse.proofs.Common.{IsGlobal, IsMark, Lexeme, List, None, Separated, Some, SpellsDecl, SpellsFunction}
+use Rattle.sc_parse.proofs.Common.{SpellsHead, [], a_function, a_struct, adds, ap, append_assoc, arith, behind, decl_at}
+use Rattle.sc_parse.proofs.Common.{declares, decls_height, false, function, function_behind, globals, grouped, head_of}
+use Rattle.sc_parse.proofs.Common.{headed_at, is_empty, length, length-append, map, max, more, prototype, refl}
+use Rattle.sc_parse.proofs.Common.{struct_decl_at, subst, sym, true, ℕ, ◌++◌, ◌+◌, ◌<◌, ◌∙◌, ◌∷◌, ◌≡◌, ◌≤◌}
 use Rattle.sc_ast.specs.declared.section.Decl.TheVariants as decl
 use Rattle.sc_expr.specs.declared.mark.Mark.TheVariants as mark
 use Rattle.sc_parse.specs.Lists as lists

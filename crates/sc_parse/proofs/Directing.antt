@@ -1,5 +1,9 @@
 -- Directives are read exactly as they are spelled.
-use Rattle.sc_parse.proofs.Common.{Directives, ExportLine, ImportLine, Lexeme, Line, List, None, Option, Some, SpellsDirectives, Symbol, [], ap, append-nil, append_assoc, arith, directives, drop, export, export_line, import_line, length, line_at, line_by, lines_at, none-some, option_map_or, refl, same_some, subst, suc, sym, with_line, zero, ℕ, ◌++◌, ◌<◌, ◌∙◌, ◌∷◌, ◌≡◌}
+use Rattle.sc_parse.proofs.Common.{Directives, ExportLine, ImportLine, Lexeme, Line, List, None, Option, Some}
+use Rattle.sc_parse.proofs.Common.{SpellsDirectives, Symbol, [], ap, append-nil, append_assoc, arith, directives, drop}
+use Rattle.sc_parse.proofs.Common.{export, export_line, import_line, length, line_at, line_by, lines_at, none-some}
+use Rattle.sc_parse.proofs.Common.{option_map_or, refl, same_some, subst, suc, sym, with_line, zero, ℕ, ◌++◌, ◌<◌, ◌∙◌}
+use Rattle.sc_parse.proofs.Common.{◌∷◌, ◌≡◌}
 use Rattle.sc_expr.specs.declared.lexeme.Symbol.TheVariants as symbol
 use Rattle.sc_parse.specs.declared.section.Line.TheVariants as line
 use Rattle.sc_parse.specs.Sections.{none}

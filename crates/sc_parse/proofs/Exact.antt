@@ -1,5 +1,8 @@
 -- Readers that read exactly what is spelled, alone and in lists.
-use Rattle.sc_parse.proofs.Common.{Adder, Bool, Grouped, IsMark, Lexeme, List, None, Option, Reader, Separated, Some, [], adds, ap, append-nil, append_assoc, arith, bound, cond, false, grouped, length, length-append, more, next, none, none-some, one, option_map_or, refl, same_some, separated, subst, suc, sym, true, zero, ℕ, ◌++◌, ◌+◌, ◌<◌, ◌>>=◌, ◌∙◌, ◌∷◌, ◌≡◌, ◌≤◌}
+use Rattle.sc_parse.proofs.Common.{Adder, Bool, Grouped, IsMark, Lexeme, List, None, Option, Reader, Separated, Some}
+use Rattle.sc_parse.proofs.Common.{[], adds, ap, append-nil, append_assoc, arith, bound, cond, false, grouped, length}
+use Rattle.sc_parse.proofs.Common.{length-append, more, next, none, none-some, one, option_map_or, refl, same_some}
+use Rattle.sc_parse.proofs.Common.{separated, subst, suc, sym, true, zero, ℕ, ◌++◌, ◌+◌, ◌<◌, ◌>>=◌, ◌∙◌, ◌∷◌, ◌≡◌, ◌≤◌}
 use Rattle.sc_expr.specs.declared.mark.Mark.TheVariants as mark
 
 -- A front of the lexemes, with what it spells.

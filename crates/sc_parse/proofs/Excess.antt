@@ -1,5 +1,6 @@
 -- Brackets along a section.
-use Rattle.sc_parse.proofs.Common.{IsExcess, Lexeme, List, [], ap, arith, get_or, length, max, most_open, open_after, refl, sym, take, take_more, ℕ, ◌++◌, ◌+◌, ◌<◌, ◌∙◌, ◌∷◌, ◌≡◌, ◌≤◌}
+use Rattle.sc_parse.proofs.Common.{IsExcess, Lexeme, List, [], ap, arith, get_or, length, max, most_open, open_after}
+use Rattle.sc_parse.proofs.Common.{refl, sym, take, take_more, ℕ, ◌++◌, ◌+◌, ◌<◌, ◌∙◌, ◌∷◌, ◌≡◌, ◌≤◌}
 
 -- how many brackets are open behind lexemes
 abbrev open_along : ℕ → List Lexeme → ℕ

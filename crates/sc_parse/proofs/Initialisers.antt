@@ -1,5 +1,11 @@
 -- Globals and what they begin with are read exactly as they are spelled.
-use Rattle.sc_parse.proofs.Common.{BaseTree, Bool, ConstTree, Decl, Declares, GlobalTree, InitTree, IsGlobal, IsMark, Lexeme, List, None, Option, Separated, Some, SpellsConst, SpellsInit, [], absent, all_consts, ap, append_assoc, begins_with, behind, behind_inner_comma, behind_mark, bound, cond, const_at, consts_at, declaration_at, declarator_at, false, global, global_at, global_decl, globals_behind, init_at, init_behind, many, many_comma, negated, non_empty, one_at, option_map_or, past_comma, refl, same_some, subst, sym, true, ℕ, ◌++◌, ◌>>=◌, ◌∙◌, ◌∷◌, ◌≡◌}
+use Rattle.sc_parse.proofs.Common.{BaseTree, Bool, ConstTree, Decl, Declares, GlobalTree, InitTree, IsGlobal, IsMark}
+use Rattle.sc_parse.proofs.Common.{Lexeme, List, None, Option, Separated, Some, SpellsConst, SpellsInit, [], absent}
+use Rattle.sc_parse.proofs.Common.{all_consts, ap, append_assoc, begins_with, behind, behind_inner_comma, behind_mark}
+use Rattle.sc_parse.proofs.Common.{bound, cond, const_at, consts_at, declaration_at, declarator_at, false, global}
+use Rattle.sc_parse.proofs.Common.{global_at, global_decl, globals_behind, init_at, init_behind, many, many_comma}
+use Rattle.sc_parse.proofs.Common.{negated, non_empty, one_at, option_map_or, past_comma, refl, same_some, subst, sym}
+use Rattle.sc_parse.proofs.Common.{true, ℕ, ◌++◌, ◌>>=◌, ◌∙◌, ◌∷◌, ◌≡◌}
 use Rattle.sc_ast.specs.declared.section.InitTree.TheVariants as init
 use Rattle.sc_ast.specs.declared.section.Decl.TheVariants as decl
 use Rattle.sc_expr.specs.declared.mark.Mark.TheVariants as mark
@@ -7,7 +13,8 @@ use Rattle.sc_parse.specs.Declarations.{plain, one}
 use Rattle.sc_parse.proofs.Exact.{Taken, Exact, ExactAdder, Any, took, glued}
 use Rattle.sc_parse.proofs.Bases.{NoInt, NoBracket, declarator_sound}
 use Rattle.sc_parse.proofs.Declared.{any_left, any_right, declaration_exact, declarator_complete, declarator_no_int}
-use Rattle.sc_parse.proofs.Structures.{non_empty_some, non_empty_is, separated_some, const_sound, const_complete, all_consts_exact}
+use Rattle.sc_parse.proofs.Structures.{non_empty_some, non_empty_is, separated_some, const_sound, const_complete}
+use Rattle.sc_parse.proofs.Structures.{all_consts_exact}
 
 -- Constants and a comma that may stand behind them.
 pub data IsListed : List Lexeme → List ConstTree → Type 0 where

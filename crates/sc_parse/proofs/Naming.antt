@@ -1,5 +1,7 @@
 -- A head as that of a function.
-use Rattle.sc_parse.proofs.Common.{FunctionHead, FunctionParam, HeadTree, IsTrue, List, None, Option, ParamTree, Some, [], ap, cond, function_head, function_param, has_nameless, head_of, map, named_head, named_params, none-some, param_of, refl, sym, ℕ, ◌>>=◌, ◌∙◌, ◌∷◌, ◌≡◌}
+use Rattle.sc_parse.proofs.Common.{FunctionHead, FunctionParam, HeadTree, IsTrue, List, None, Option, ParamTree, Some}
+use Rattle.sc_parse.proofs.Common.{[], ap, cond, function_head, function_param, has_nameless, head_of, map, named_head}
+use Rattle.sc_parse.proofs.Common.{named_params, none-some, param_of, refl, sym, ℕ, ◌>>=◌, ◌∙◌, ◌∷◌, ◌≡◌}
 
 params_named : (params : List FunctionParam) → named_params (map param_of params) ≡ Some params
 params_named [] = refl

@@ -1,5 +1,18 @@
 -- Blocks and the statements that hold them are read exactly as they are spelled.
-use Rattle.sc_parse.proofs.Common.{Bool, ExprTree, Grouped, IsKeyword, IsMark, Keyword, Lexeme, List, Mark, None, Option, Reader, SimpleKind, SimpleTree, Some, SpellsBlock, SpellsCondition, SpellsIf, SpellsPart, SpellsStmtKind, SpellsStmts, SpellsTest, StmtKind, StmtTree, [], adds, alone, ap, append-nil, append_assoc, arith, before_mark, begins_with, behind, behind_mark, block, block_at, bound, call_at, choice, cond, condition_at, drop, else_at, else_behind, empty, ended_at, expr_at, expr_height, false, first_line, first_part, for_behind, for_head, for_height, for_loop, for_parts, grouped, if_behind, if_height, is_else, is_if, keyword_at, kind_by, kind_height, kind_of, last_part, length, loop_of, middle_part, none-some, option_height, otherwise, otherwise_if, part_at, plain, plain_at, plain_height, refl, return_call, return_call_height, return_nothing, return_value, returned, same_some, simple_at, simple_or_none, stmt_at, stmt_tree, stmt_within, stmts_at, stmts_height, subst, suc, sym, test_at, tree_height, true, value_height, value_returned, while_behind, while_height, while_loop, zero, ℕ, ◌++◌, ◌+◌, ◌<◌, ◌>>=◌, ◌∙◌, ◌∷◌, ◌≡◌, ◌≤◌}
+use Rattle.sc_parse.proofs.Common.{Bool, ExprTree, Grouped, IsKeyword, IsMark, Keyword, Lexeme, List, Mark, None}
+use Rattle.sc_parse.proofs.Common.{Option, Reader, SimpleKind, SimpleTree, Some, SpellsBlock, SpellsCondition, SpellsIf}
+use Rattle.sc_parse.proofs.Common.{SpellsPart, SpellsStmtKind, SpellsStmts, SpellsTest, StmtKind, StmtTree, [], adds}
+use Rattle.sc_parse.proofs.Common.{alone, ap, append-nil, append_assoc, arith, before_mark, begins_with, behind}
+use Rattle.sc_parse.proofs.Common.{behind_mark, block, block_at, bound, call_at, choice, cond, condition_at, drop}
+use Rattle.sc_parse.proofs.Common.{else_at, else_behind, empty, ended_at, expr_at, expr_height, false, first_line}
+use Rattle.sc_parse.proofs.Common.{first_part, for_behind, for_head, for_height, for_loop, for_parts, grouped}
+use Rattle.sc_parse.proofs.Common.{if_behind, if_height, is_else, is_if, keyword_at, kind_by, kind_height, kind_of}
+use Rattle.sc_parse.proofs.Common.{last_part, length, loop_of, middle_part, none-some, option_height, otherwise}
+use Rattle.sc_parse.proofs.Common.{otherwise_if, part_at, plain, plain_at, plain_height, refl, return_call}
+use Rattle.sc_parse.proofs.Common.{return_call_height, return_nothing, return_value, returned, same_some, simple_at}
+use Rattle.sc_parse.proofs.Common.{simple_or_none, stmt_at, stmt_tree, stmt_within, stmts_at, stmts_height, subst, suc}
+use Rattle.sc_parse.proofs.Common.{sym, test_at, tree_height, true, value_height, value_returned, while_behind}
+use Rattle.sc_parse.proofs.Common.{while_height, while_loop, zero, ℕ, ◌++◌, ◌+◌, ◌<◌, ◌>>=◌, ◌∙◌, ◌∷◌, ◌≡◌, ◌≤◌}
 use Rattle.sc_ast.specs.declared.stmt.StmtKind.TheVariants as stmt
 use Rattle.sc_expr.specs.declared.mark.Keyword.TheVariants as word
 use Rattle.sc_expr.specs.declared.mark.Mark.TheVariants as mark
@@ -9,9 +22,11 @@ use Rattle.sc_parse.specs.StmtReaders as readers
 use Rattle.sc_parse.specs.declared.stmts.ForHead.{ForHead}
 use Rattle.sc_parse.proofs.Exact.{Taken, Exact, ExactAdder, took, glued, One, adds_exact, grouped_exact}
 use Rattle.sc_parse.proofs.Bases.{Word, word_ahead, mark_is}
-use Rattle.sc_parse.proofs.Expressions.{Few, few_left, few_right, few_tail, expr_exact, expr_starts, call_exact, call_begins, no_call, no_mark, false-true}
+use Rattle.sc_parse.proofs.Expressions.{Few, few_left, few_right, few_tail, expr_exact, expr_starts, call_exact}
+use Rattle.sc_parse.proofs.Expressions.{call_begins, no_call, no_mark, false-true}
 use Rattle.sc_parse.proofs.Simples.{simple_exact}
-use Rattle.sc_parse.proofs.Parts.{condition_exact, first_line_some, kind_no_word, kind_no_mark, call_no_mark, IsPart, part_sound, part_reads, IsTest, test_sound, test_reads}
+use Rattle.sc_parse.proofs.Parts.{condition_exact, first_line_some, kind_no_word, kind_no_mark, call_no_mark, IsPart}
+use Rattle.sc_parse.proofs.Parts.{part_sound, part_reads, IsTest, test_sound, test_reads}
 use Rattle.sc_parse.proofs.Ended.{NoElse, kind_starts, IsKind, IsStmt, a_stmt, stmt_starts, ended_sound}
 
 -- behind a `}` no `else` stands at the front

@@ -1,5 +1,13 @@
 -- Parameters and heads are read exactly as they are spelled.
-use Rattle.sc_parse.proofs.Common.{BaseTree, Bool, HeadTree, IsMark, Keyword, Lexeme, List, None, Option, ParamTree, Separated, Some, SpellsBase, SpellsHead, SpellsParam, SpellsParams, SpellsResult, SpellsTypeName, TypeName, [], a_result, adds, all_separated, ap, append_assoc, behind, behind_mark, bound, cond, drop, false, first_line, head, head_at, head_tree, int, is_void, keyword_at, more, name_ahead, name_at, named, nameless, no_params, no_result, none-some, option_map_or, param_at, param_tree, params_at, params_in_parens, refl, result_at, same_some, signed, signed_int, some_params, struct, subst, sym, true, type_name, type_name_at, unsigned, unsigned_int, ℕ, ◌++◌, ◌>>=◌, ◌∙◌, ◌∷◌, ◌≡◌}
+use Rattle.sc_parse.proofs.Common.{BaseTree, Bool, HeadTree, IsMark, Keyword, Lexeme, List, None, Option, ParamTree}
+use Rattle.sc_parse.proofs.Common.{Separated, Some, SpellsBase, SpellsHead, SpellsParam, SpellsParams, SpellsResult}
+use Rattle.sc_parse.proofs.Common.{SpellsTypeName, TypeName, [], a_result, adds, all_separated, ap, append_assoc}
+use Rattle.sc_parse.proofs.Common.{behind, behind_mark, bound, cond, drop, false, first_line, head, head_at, head_tree}
+use Rattle.sc_parse.proofs.Common.{int, is_void, keyword_at, more, name_ahead, name_at, named, nameless, no_params}
+use Rattle.sc_parse.proofs.Common.{no_result, none-some, option_map_or, param_at, param_tree, params_at}
+use Rattle.sc_parse.proofs.Common.{params_in_parens, refl, result_at, same_some, signed, signed_int, some_params}
+use Rattle.sc_parse.proofs.Common.{struct, subst, sym, true, type_name, type_name_at, unsigned, unsigned_int, ℕ, ◌++◌}
+use Rattle.sc_parse.proofs.Common.{◌>>=◌, ◌∙◌, ◌∷◌, ◌≡◌}
 use Rattle.sc_expr.specs.declared.mark.Keyword.TheVariants as word
 use Rattle.sc_expr.specs.declared.mark.Mark.TheVariants as mark
 use Rattle.sc_parse.specs.Lists as lists

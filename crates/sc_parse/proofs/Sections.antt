@@ -1,5 +1,10 @@
 -- Sections are read exactly as they are spelled, within the limits of height and of brackets, and no lexemes spell two.
-use Rattle.sc_parse.proofs.Common.{Decl, Grouped, Lexeme, List, SectionTree, Some, SpellsDecl, SpellsSection, Symbol, [], ap, append-nil, arith, bound, compartment_at, compartment_by, decl_at, decls_at, decls_height, directives, directives_at, is_empty, length, length-append, max, most_open, none-some, refl, same_some, section, section_at, section_height, section_tree, section_within, subst, sym, true, ℕ, ◌++◌, ◌+◌, ◌>>=◌, ◌∙◌, ◌∷◌, ◌≡◌, ◌≤◌}
+use Rattle.sc_parse.proofs.Common.{Decl, Grouped, Lexeme, List, SectionTree, Some, SpellsDecl, SpellsSection, Symbol}
+use Rattle.sc_parse.proofs.Common.{[], ap, append-nil, arith, bound, compartment_at, compartment_by, decl_at, decls_at}
+use Rattle.sc_parse.proofs.Common.{decls_height, directives, directives_at, is_empty, length, length-append, max}
+use Rattle.sc_parse.proofs.Common.{most_open, none-some, refl, same_some, section, section_at, section_height}
+use Rattle.sc_parse.proofs.Common.{section_tree, section_within, subst, sym, true, ℕ, ◌++◌, ◌+◌, ◌>>=◌, ◌∙◌, ◌∷◌, ◌≡◌}
+use Rattle.sc_parse.proofs.Common.{◌≤◌}
 use Rattle.sc_expr.specs.declared.lexeme.Symbol.TheVariants as symbol
 use Rattle.sc_parse.specs.Lists as lists
 use Rattle.sc_parse.proofs.Exact.{grouped_sound}

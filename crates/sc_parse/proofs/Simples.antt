@@ -1,5 +1,16 @@
 -- Assignments, `++` and `--`, and calls are read exactly as they are spelled.
-use Rattle.sc_parse.proofs.Common.{BinaryOp, Bool, CallTree, ExprTree, IsMark, IsTrue, Lexeme, List, Mark, None, Option, Prefix, SimpleKind, Some, Spells, SpellsCall, SpellsKind, SpellsPlace, Symbol, [], ap, append_assoc, arith, arrow, assign, assign_call, assignment_at, begins_call, begins_value, begins_with, bound, call, call_alone, call_at, call_height, change_at, change_of, changed, compound, compound_of, cond, cond_is, drop, expr_at, expr_height, false, index, is_place, is_some, joined, lead_by, literal, looser, lt-ltb, ltb, ltb-true, makes_value, mark_at, mark_by, max, member, none-some, operand_behind, option_map_or, parenthesised, place_at, placed, prefix, prefix_of, prefixed, read, read_sound, refl, rules, same_some, simple_at, simple_kind_height, step_at, step_before, step_behind, step_of, stepped, subst, sym, the_lemmas, true, unary_level, unary_place, unstepped, updates, value_behind, variable, ℕ, ◌++◌, ◌+◌, ◌-◌, ◌<◌, ◌>>=◌, ◌∙◌, ◌∷◌, ◌≡◌, ◌≤◌}
+use Rattle.sc_parse.proofs.Common.{BinaryOp, Bool, CallTree, ExprTree, IsMark, IsTrue, Lexeme, List, Mark, None, Option}
+use Rattle.sc_parse.proofs.Common.{Prefix, SimpleKind, Some, Spells, SpellsCall, SpellsKind, SpellsPlace, Symbol, []}
+use Rattle.sc_parse.proofs.Common.{ap, append_assoc, arith, arrow, assign, assign_call, assignment_at, begins_call}
+use Rattle.sc_parse.proofs.Common.{begins_value, begins_with, bound, call, call_alone, call_at, call_height, change_at}
+use Rattle.sc_parse.proofs.Common.{change_of, changed, compound, compound_of, cond, cond_is, drop, expr_at, expr_height}
+use Rattle.sc_parse.proofs.Common.{false, index, is_place, is_some, joined, lead_by, literal, looser, lt-ltb, ltb}
+use Rattle.sc_parse.proofs.Common.{ltb-true, makes_value, mark_at, mark_by, max, member, none-some, operand_behind}
+use Rattle.sc_parse.proofs.Common.{option_map_or, parenthesised, place_at, placed, prefix, prefix_of, prefixed, read}
+use Rattle.sc_parse.proofs.Common.{read_sound, refl, rules, same_some, simple_at, simple_kind_height, step_at}
+use Rattle.sc_parse.proofs.Common.{step_before, step_behind, step_of, stepped, subst, sym, the_lemmas, true}
+use Rattle.sc_parse.proofs.Common.{unary_level, unary_place, unstepped, updates, value_behind, variable, ℕ, ◌++◌, ◌+◌}
+use Rattle.sc_parse.proofs.Common.{◌-◌, ◌<◌, ◌>>=◌, ◌∙◌, ◌∷◌, ◌≡◌, ◌≤◌}
 use Rattle.sc_ast.specs.declared.expr.ExprTree.TheVariants as expr
 use Rattle.sc_base.specs.declared.op.UnaryOp.{UnaryOp}
 use Rattle.sc_ast.specs.declared.stmt.SimpleKind.TheVariants as simple
@@ -14,7 +25,9 @@ use Rattle.sc_parse.specs.Statements as statements
 use Rattle.sc_parse.specs.Statements.{one}
 use Rattle.sc_parse.specs.StmtReaders as readers
 use Rattle.sc_parse.proofs.Exact.{Taken, Exact, took, glued}
-use Rattle.sc_parse.proofs.Expressions.{Few, few_left, few_right, few_tail, NoExtension, unary_reads, expr_exact, call_exact, call_begins, no_call, begins_expr, expr_starts, starts_expr, false-true}
+use Rattle.sc_parse.proofs.Expressions.{Few, few_left, few_right, few_tail, NoExtension, unary_reads, expr_exact}
+use Rattle.sc_parse.proofs.Expressions.{call_exact, call_begins, no_call, begins_expr, expr_starts, starts_expr}
+use Rattle.sc_parse.proofs.Expressions.{false-true}
 
 -- a mark at the front
 pub record Marked (ts : List Lexeme) (m : Mark) : Type 0 where

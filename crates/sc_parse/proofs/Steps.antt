@@ -1,5 +1,7 @@
 -- What the loops of readers are at a turn.
-use Rattle.sc_parse.proofs.Common.{Adder, Bool, Directives, Lexeme, Line, List, None, Option, Some, ap, arith, drop, false, grouped, line_at, lines_at, refl, separated, stmt_at, stmt_within, suc, true, with_line, zero, ℕ, ◌+◌, ◌<◌, ◌≡◌}
+use Rattle.sc_parse.proofs.Common.{Adder, Bool, Directives, Lexeme, Line, List, None, Option, Some, ap, arith, drop}
+use Rattle.sc_parse.proofs.Common.{false, grouped, line_at, lines_at, refl, separated, stmt_at, stmt_within, suc, true}
+use Rattle.sc_parse.proofs.Common.{with_line, zero, ℕ, ◌+◌, ◌<◌, ◌≡◌}
 use Rattle.std.proofs.lemmas.List.Sums.{prefix_len-le-length}
 
 pub ruleset lengths = (prefix_len-le-length)

@@ -1,5 +1,10 @@
 -- What a section with its lexemes is parsed to.
-use Rattle.sc_parse.proofs.Common.{Any, Bool, Err, IfOk, IsErrOf, IsExcess, IsParsed, Lexeme, List, None, Ok, Option, Parses, Result, SectionTree, Some, Token, [], ap, arith, cond, cond_is, false, le-leb, leb, leb-true, length, length-map, lexeme_of, lexemes_of, line_after, map, most_open, none-some, open_after, option_map, refl, same_some, section_at, subst, suc, sym, take, tree_of, true, whole_line, zero, ℕ, ◌+◌, ◌-◌, ◌<◌, ◌∙◌, ◌∷◌, ◌≡◌, ◌≤◌}
+use Rattle.sc_parse.proofs.Common.{Any, Bool, Err, IfOk, IsErrOf, IsExcess, IsParsed, Lexeme, List, None, Ok, Option}
+use Rattle.sc_parse.proofs.Common.{Parses, Result, SectionTree, Some, Token, [], ap, arith, cond, cond_is, false}
+use Rattle.sc_parse.proofs.Common.{le-leb, leb, leb-true, length, length-map, lexeme_of, lexemes_of, line_after, map}
+use Rattle.sc_parse.proofs.Common.{most_open, none-some, open_after, option_map, refl, same_some, section_at, subst}
+use Rattle.sc_parse.proofs.Common.{suc, sym, take, tree_of, true, whole_line, zero, ℕ, ◌+◌, ◌-◌, ◌<◌, ◌∙◌, ◌∷◌, ◌≡◌}
+use Rattle.sc_parse.proofs.Common.{◌≤◌}
 use Rattle.std.proofs.lemmas.Bool.{lt-leb}
 use Rattle.sc_lex.specs.declared.refusal.Refusal.{Refusal}
 use Rattle.sc_lex.specs.declared.fault.TextFault.{TextFault}

@@ -1,5 +1,12 @@
 -- Declarations in a section are spelled as they are read.
-use Rattle.sc_parse.proofs.Common.{BaseTree, Bool, Decl, Declares, FunctionHead, FunctionTree, GlobalTree, HeadTree, IsGlobal, Keyword, Lexeme, List, None, Option, Reader, Separated, Some, SpellsDecl, SpellsHead, [], a_function, a_struct, adds, ap, arith, begins_head, begins_struct, behind, behind_head, behind_mark, body_behind, bound, cond, decl_at, declaration_at, declares, decls_height, drop, false, function, function_behind, globals, globals_behind, head_at, head_of, headed_at, is_struct_word, keyword_at, map, more, named_head, names_struct, option_map_or, prototype, refl, same_some, struct_at, struct_decl_at, subst, sym, true, ℕ, ◌++◌, ◌>>=◌, ◌∙◌, ◌∷◌, ◌≡◌, ◌≤◌}
+use Rattle.sc_parse.proofs.Common.{BaseTree, Bool, Decl, Declares, FunctionHead, FunctionTree, GlobalTree, HeadTree}
+use Rattle.sc_parse.proofs.Common.{IsGlobal, Keyword, Lexeme, List, None, Option, Reader, Separated, Some, SpellsDecl}
+use Rattle.sc_parse.proofs.Common.{SpellsHead, [], a_function, a_struct, adds, ap, arith, begins_head, begins_struct}
+use Rattle.sc_parse.proofs.Common.{behind, behind_head, behind_mark, body_behind, bound, cond, decl_at, declaration_at}
+use Rattle.sc_parse.proofs.Common.{declares, decls_height, drop, false, function, function_behind, globals}
+use Rattle.sc_parse.proofs.Common.{globals_behind, head_at, head_of, headed_at, is_struct_word, keyword_at, map, more}
+use Rattle.sc_parse.proofs.Common.{named_head, names_struct, option_map_or, prototype, refl, same_some, struct_at}
+use Rattle.sc_parse.proofs.Common.{struct_decl_at, subst, sym, true, ℕ, ◌++◌, ◌>>=◌, ◌∙◌, ◌∷◌, ◌≡◌, ◌≤◌}
 use Rattle.sc_ast.specs.declared.section.Decl.TheVariants as decl
 use Rattle.sc_expr.specs.declared.mark.Keyword.TheVariants as word
 use Rattle.sc_expr.specs.declared.mark.Mark.TheVariants as mark

@@ -1,5 +1,7 @@
 -- How declarations are spelled (C11 6.7, 6.9). Each declarator gives an entry, at the line of its declaration.
-use Rattle.sc_parse.specs.Common.{BaseTree, ConstTree, Decl, ExprTree, FunctionHead, FunctionTree, HeadTree, InitTree, IsIdent, IsMark, Lexeme, LocalTree, MemberTree, Number, ParamTree, Spells, StmtTree, StructTree, TypeName, TypeTree, head_of, loosest_level}
+use Rattle.sc_parse.specs.Common.{BaseTree, ConstTree, Decl, ExprTree, FunctionHead, FunctionTree, HeadTree, InitTree}
+use Rattle.sc_parse.specs.Common.{IsIdent, IsMark, Lexeme, LocalTree, MemberTree, Number, ParamTree, Spells, StmtTree}
+use Rattle.sc_parse.specs.Common.{StructTree, TypeName, TypeTree, head_of, loosest_level}
 use Rattle.std.specs.Prelude.{ℕ, true, false, List, [], ◌∷◌, ◌++◌, map, Option, Some, None}
 use Rattle.sc_ast.specs.declared.section.InitTree.TheVariants as init
 use Rattle.sc_ast.specs.declared.section.GlobalTree.{GlobalTree}

@@ -1,6 +1,9 @@
 -- Helping: reading types, lists and declarations from left to right.
-use Rattle.sc_parse.specs.Common.{BaseTree, ConstTree, Decl, Declarator, HeadTree, InitTree, Keyword, Lexeme, MemberTree, Number, ParamTree, StructTree, TypeName, TypeTree, array_length, behind, name_at, non_empty, ◌>>=◌}
-use Rattle.std.specs.Prelude.{ℕ, zero, suc, ◌+◌, Bool, true, false, ◌||◌, List, [], ◌∷◌, ◌++◌, length, drop, Option, Some, None, is_some, if◌then◌else◌}
+use Rattle.sc_parse.specs.Common.{BaseTree, ConstTree, Decl, Declarator, HeadTree, InitTree, Keyword, Lexeme}
+use Rattle.sc_parse.specs.Common.{MemberTree, Number, ParamTree, StructTree, TypeName, TypeTree, array_length, behind}
+use Rattle.sc_parse.specs.Common.{name_at, non_empty, ◌>>=◌}
+use Rattle.std.specs.Prelude.{ℕ, zero, suc, ◌+◌, Bool, true, false, ◌||◌, List, [], ◌∷◌, ◌++◌, length, drop, Option}
+use Rattle.std.specs.Prelude.{Some, None, is_some, if◌then◌else◌}
 use Rattle.std.specs.Option.{option_map_or}
 use Rattle.sc_ast.specs.declared.types.BaseTree.TheVariants as base
 use Rattle.sc_ast.specs.declared.section.InitTree.TheVariants as init
@@ -8,7 +11,8 @@ use Rattle.sc_ast.specs.declared.section.Decl.TheVariants as decl
 use Rattle.sc_expr.specs.declared.mark.Keyword.TheVariants as word
 use Rattle.sc_expr.specs.declared.mark.Mark.TheVariants as mark
 use Rattle.sc_parse.specs.Lists.{first_line}
-use Rattle.sc_parse.specs.Fronts.{Reader, past_int, is_void, keyword_at, integer_by, begins_with, begins_call, star_count, behind_inner_comma}
+use Rattle.sc_parse.specs.Fronts.{Reader, past_int, is_void, keyword_at, integer_by, begins_with, begins_call}
+use Rattle.sc_parse.specs.Fronts.{star_count, behind_inner_comma}
 
 abbrev pub base_by : Option Keyword → Reader BaseTree
 base_by (Some word.Int) ts = Some (base.Int, ts)

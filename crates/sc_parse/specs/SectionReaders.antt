@@ -1,7 +1,10 @@
 -- Helping: reading functions and sections from left to right, where `free` brackets may be open and trees may be as
 -- high as `limit`.
-use Rattle.sc_parse.specs.Common.{BaseTree, Decl, Declarator, ExportLine, ExprTree, FunctionHead, FunctionTree, HeadTree, ImportLine, Lexeme, LocalTree, ParamTree, SectionTree, StmtTree, Symbol, TypeName, behind, ◌>>=◌}
-use Rattle.std.specs.Prelude.{ℕ, zero, suc, ◌+◌, Bool, true, false, not, List, [], ◌∷◌, ◌++◌, length, drop, Option, Some, None, if◌then◌else◌}
+use Rattle.sc_parse.specs.Common.{BaseTree, Decl, Declarator, ExportLine, ExprTree, FunctionHead, FunctionTree}
+use Rattle.sc_parse.specs.Common.{HeadTree, ImportLine, Lexeme, LocalTree, ParamTree, SectionTree, StmtTree, Symbol}
+use Rattle.sc_parse.specs.Common.{TypeName, behind, ◌>>=◌}
+use Rattle.std.specs.Prelude.{ℕ, zero, suc, ◌+◌, Bool, true, false, not, List, [], ◌∷◌, ◌++◌, length, drop, Option}
+use Rattle.std.specs.Prelude.{Some, None, if◌then◌else◌}
 use Rattle.std.specs.Option.{option_map_or}
 use Rattle.sc_ast.specs.declared.section.FunctionParam.{FunctionParam}
 use Rattle.sc_ast.specs.declared.section.Decl.TheVariants as decl
@@ -12,7 +15,8 @@ use Rattle.sc_parse.specs.declared.section.Line.TheVariants as line
 use Rattle.sc_parse.specs.declared.section.Directives.{Directives}
 use Rattle.sc_parse.specs.Lists.{first_line}
 use Rattle.sc_parse.specs.Fronts.{Reader, keyword_at, is_base}
-use Rattle.sc_parse.specs.Readers.{Adder, adds, grouped, declaration_at, declarator_at, type_of, struct_at, head_at, begins_struct, begins_head, globals_behind}
+use Rattle.sc_parse.specs.Readers.{Adder, adds, grouped, declaration_at, declarator_at, type_of, struct_at, head_at}
+use Rattle.sc_parse.specs.Readers.{begins_struct, begins_head, globals_behind}
 use Rattle.sc_parse.specs.StmtReaders.{expr_at, stmt_at, stmts_at}
 
 -- what a local begins with

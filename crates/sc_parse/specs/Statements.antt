@@ -1,5 +1,6 @@
 -- How calls and statements are spelled (C11 6.5.2.2, 6.5.16, 6.8).
-use Rattle.sc_parse.specs.Common.{BinaryOp, CallTree, ExprTree, IsIdent, IsMark, Lexeme, Mark, SimpleKind, SimpleTree, Spells, StmtKind, StmtTree, is_place, kind_of, loosest_level, unary_level}
+use Rattle.sc_parse.specs.Common.{BinaryOp, CallTree, ExprTree, IsIdent, IsMark, Lexeme, Mark, SimpleKind, SimpleTree}
+use Rattle.sc_parse.specs.Common.{Spells, StmtKind, StmtTree, is_place, kind_of, loosest_level, unary_level}
 use Rattle.std.specs.Prelude.{◌≡◌, ℕ, false, IsTrue, List, [], ◌∷◌, ◌++◌, Option, Some, None}
 use Rattle.sc_ast.specs.declared.expr.ExprTree.TheVariants as expr
 use Rattle.sc_base.specs.declared.op.BinaryOp.TheVariants as binary

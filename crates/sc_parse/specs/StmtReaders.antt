@@ -1,7 +1,10 @@
 -- Helping: reading calls and statements from left to right, where the parts of a statement may be so high and `free`
 -- brackets may be open.
-use Rattle.sc_parse.specs.Common.{BinaryOp, CallTree, ExprTree, Keyword, Lexeme, Mark, SimpleKind, SimpleTree, StmtKind, StmtTree, Symbol, behind, is_place, kind_of, loosest_level, name_at, read, unary_level, ◌>>=◌}
-use Rattle.std.specs.Prelude.{ℕ, zero, suc, ◌+◌, ◌-◌, Bool, true, false, nat_le, nat_lt, List, [], ◌∷◌, length, drop, Option, Some, None, if◌then◌else◌}
+use Rattle.sc_parse.specs.Common.{BinaryOp, CallTree, ExprTree, Keyword, Lexeme, Mark, SimpleKind, SimpleTree, StmtKind}
+use Rattle.sc_parse.specs.Common.{StmtTree, Symbol, behind, is_place, kind_of, loosest_level, name_at, read}
+use Rattle.sc_parse.specs.Common.{unary_level, ◌>>=◌}
+use Rattle.std.specs.Prelude.{ℕ, zero, suc, ◌+◌, ◌-◌, Bool, true, false, nat_le, nat_lt, List, [], ◌∷◌, length, drop}
+use Rattle.std.specs.Prelude.{Option, Some, None, if◌then◌else◌}
 use Rattle.std.specs.Option.{option_map_or}
 use Rattle.sc_ast.specs.declared.stmt.SimpleKind.TheVariants as simple
 use Rattle.sc_ast.specs.declared.stmt.StmtKind.TheVariants as stmt

@@ -1,6 +1,7 @@
 //! Expressions in statements, and calls.
 
-ghost use Rattle.sc_parse.specs.Prelude.{Agrees, all_separated, args_at, args_behind, args_in_parens, call_at, condition_at, expr_at};
+ghost use Rattle.sc_parse.specs.Prelude.{Agrees, all_separated, args_at, args_behind, args_in_parens, call_at};
+ghost use Rattle.sc_parse.specs.Prelude.{condition_at, expr_at};
 ghost use Rattle.std.specs.Prelude.{◌≡◌, ◌+◌, [], length};
 
 use crate::front::{begins_with, ended_by, name_at, skip, take};

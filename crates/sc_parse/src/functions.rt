@@ -1,6 +1,8 @@
 //! Locals and functions.
 
-ghost use Rattle.sc_parse.specs.Prelude.{Agrees, all_separated, behind_head, body_behind, declaration_at, function_behind, grouped, headed_at, local_at, locals_at, locals_behind, named_head, no_base, value_at};
+ghost use Rattle.sc_parse.specs.Prelude.{Agrees, all_separated, behind_head, body_behind, declaration_at};
+ghost use Rattle.sc_parse.specs.Prelude.{function_behind, grouped, headed_at, local_at, locals_at, locals_behind};
+ghost use Rattle.sc_parse.specs.Prelude.{named_head, no_base, value_at};
 ghost use Rattle.std.specs.Prelude.{◌≡◌, ◌+◌, [], length};
 
 use crate::calls::expr_at;

@@ -1,6 +1,8 @@
 //! Globals and what they begin with.
 
-ghost use Rattle.sc_parse.specs.Prelude.{Agrees, adds, all_consts, all_separated, behind_inner_comma, const_at, consts_at, declaration_at, global_at, globals_behind, init_at, init_behind, literal_at, one_at, past_comma, separated};
+ghost use Rattle.sc_parse.specs.Prelude.{Agrees, adds, all_consts, all_separated, behind_inner_comma, const_at};
+ghost use Rattle.sc_parse.specs.Prelude.{consts_at, declaration_at, global_at, globals_behind, init_at, init_behind};
+ghost use Rattle.sc_parse.specs.Prelude.{literal_at, one_at, past_comma, separated};
 ghost use Rattle.std.specs.Prelude.{◌≡◌, ◌≤◌, ◌+◌, [], length};
 
 use crate::front::{first_line, integer_by, skip, skip_inner_comma, take};

@@ -1,6 +1,8 @@
 //! Parameters, and the heads of functions and prototypes.
 
-ghost use Rattle.sc_parse.specs.Prelude.{Agrees, adds, all_separated, begins_head, head_at, is_void, keyword_at, name_at, param_at, params_at, params_in_parens, past_base, result_at, star_count};
+ghost use Rattle.sc_parse.specs.Prelude.{Agrees, adds, all_separated, begins_head, head_at, is_void, keyword_at};
+ghost use Rattle.sc_parse.specs.Prelude.{name_at, param_at, params_at, params_in_parens, past_base, result_at};
+ghost use Rattle.sc_parse.specs.Prelude.{star_count};
 ghost use Rattle.std.specs.Prelude.{◌≡◌, ℕ, ◌+◌, List, [], length, drop, true, false, None, Some};
 
 use crate::front::{

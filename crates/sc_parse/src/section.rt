@@ -1,6 +1,9 @@
 //! Directives, declarations and sections.
 
-ghost use Rattle.sc_parse.specs.Prelude.{Agrees, SectionTree, SpellsSection, adds, begins_struct, compartment_at, compartment_by, decl_at, decls_at, directives, directives_at, grouped, headed_at, is_empty, is_struct_word, keyword_at, line_at, line_by, lines_at, names_struct, section_at, struct_decl_at, with_line};
+ghost use Rattle.sc_parse.specs.Prelude.{Agrees, SectionTree, SpellsSection, adds, begins_struct, compartment_at};
+ghost use Rattle.sc_parse.specs.Prelude.{compartment_by, decl_at, decls_at, directives, directives_at, grouped};
+ghost use Rattle.sc_parse.specs.Prelude.{headed_at, is_empty, is_struct_word, keyword_at, line_at, line_by, lines_at};
+ghost use Rattle.sc_parse.specs.Prelude.{names_struct, section_at, struct_decl_at, with_line};
 ghost use Rattle.std.specs.Prelude.{◌≡◌, ◌≤◌, ◌+◌, ◌-◌, ℕ, List, [], length, drop, true, false, IsSome, IfOk};
 ghost use Rattle.sc_expr.specs.declared.lexeme.Lexeme.{Lexeme};
 

@@ -1,6 +1,9 @@
 //! Assignments, `++` and `--`, and calls as statements.
 
-ghost use Rattle.sc_parse.specs.Prelude.{Agrees, always, assignment_at, begins_value, call_alone, change_at, change_of, changed, compound_of, makes_value, mark_at, mark_by, operand_behind, part_at, place_at, simple_at, step_at, step_of, stepped, test_at, unstepped, updates, value_behind};
+ghost use Rattle.sc_parse.specs.Prelude.{Agrees, always, assignment_at, begins_value, call_alone, change_at, change_of};
+ghost use Rattle.sc_parse.specs.Prelude.{changed, compound_of, makes_value, mark_at, mark_by, operand_behind, part_at};
+ghost use Rattle.sc_parse.specs.Prelude.{place_at, simple_at, step_at, step_of, stepped, test_at, unstepped, updates};
+ghost use Rattle.sc_parse.specs.Prelude.{value_behind};
 ghost use Rattle.std.specs.Prelude.{◌≡◌, ◌≤◌, ◌+◌, drop, length, IsSome, IfOk, Some};
 ghost use Rattle.sc_parse.specs.Statements.{one};
 ghost use Rattle.sc_parse.specs.StmtReaders.{step_before};

@@ -1,6 +1,9 @@
 //! Statements and blocks.
 
-ghost use Rattle.sc_parse.specs.Prelude.{Agrees, adds, block_at, else_at, else_behind, ended_at, first_part, for_behind, for_head, if_behind, is_else, keyword_at, kind_by, last_part, loop_of, middle_part, plain_at, returned, simple_or_none, stmt_at, stmt_within, stmts_at, value_returned, while_behind};
+ghost use Rattle.sc_parse.specs.Prelude.{Agrees, adds, block_at, else_at, else_behind, ended_at, first_part};
+ghost use Rattle.sc_parse.specs.Prelude.{for_behind, for_head, if_behind, is_else, keyword_at, kind_by, last_part};
+ghost use Rattle.sc_parse.specs.Prelude.{loop_of, middle_part, plain_at, returned, simple_or_none, stmt_at};
+ghost use Rattle.sc_parse.specs.Prelude.{stmt_within, stmts_at, value_returned, while_behind};
 ghost use Rattle.sc_ast.specs.Prelude.{kind_of};
 ghost use Rattle.std.specs.Prelude.{◌≡◌, ◌≤◌, ◌+◌, [], ◌∷◌, length, drop, true, false, IfOk};
 ghost use Rattle.sc_parse.specs.StmtReaders.{alone};

@@ -1,6 +1,7 @@
 //! Types and declarators.
 
-ghost use Rattle.sc_parse.specs.Prelude.{Agrees, base_at, base_by, bracketed_length, declarator_at, elements_at, length_at, type_name_at};
+ghost use Rattle.sc_parse.specs.Prelude.{Agrees, base_at, base_by, bracketed_length, declarator_at, elements_at};
+ghost use Rattle.sc_parse.specs.Prelude.{length_at, type_name_at};
 ghost use Rattle.std.specs.Prelude.{◌≡◌, ◌+◌, length};
 
 use crate::front::{integer_by, keyword_at, name_at, past_int, skip, star_count, take};

@@ -1,25 +1,53 @@
 -- The names that several proofs of this crate cite, passed on from one place. Declares nothing.
-pub use Rattle.std.proofs.Common.{Bool, IsTrue, List, None, Option, Some, [], ap, append-nil, append_assoc, ap₂, arith, bytes_eq, codes, drop, eq-eqb, eqb-true, false, get_or, if◌then◌else◌, is_some, le-leb, le-ltb, leb-true, length, length-append, lt-ltb, ltb-false, map, max, nat_le, nat_lt, ne_eqb, not, refl, replicate, rules, slice_index, slice_range, subst, suc, sym, take, true, zero, ℕ, ⊎_elim, ◌%◌, ◌&&◌, ◌*◌, ◌++◌, ◌+◌, ◌-◌, ◌/◌, ◌<◌, ◌==◌, ◌^◌, ◌||◌, ◌∙◌, ◌∷◌, ◌≡◌, ◌≤◌}
+pub use Rattle.std.proofs.Common.{Bool, IsTrue, List, None, Option, Some, [], ap, append-nil, append_assoc, ap₂, arith}
+pub use Rattle.std.proofs.Common.{bytes_eq, codes, drop, eq-eqb, eqb-true, false, get_or, if◌then◌else◌, is_some}
+pub use Rattle.std.proofs.Common.{le-leb, le-ltb, leb-true, length, length-append, lt-ltb, ltb-false, map, max, nat_le}
+pub use Rattle.std.proofs.Common.{nat_lt, ne_eqb, not, refl, replicate, rules, slice_index, slice_range, subst, suc}
+pub use Rattle.std.proofs.Common.{sym, take, true, zero, ℕ, ⊎_elim, ◌%◌, ◌&&◌, ◌*◌, ◌++◌, ◌+◌, ◌-◌, ◌/◌, ◌<◌, ◌==◌, ◌^◌}
+pub use Rattle.std.proofs.Common.{◌||◌, ◌∙◌, ◌∷◌, ◌≡◌, ◌≤◌}
 pub use Rattle.std.proofs.Math.Seq.{drop-append_seam, get_or-append_seam, take-append_seam}
-pub use Rattle.std.proofs.lemmas.Bool.{and_from, and_parts, cases_lt, false_from_ne_true, false≢true, not-true, or_cases, or_left, or_right}
+pub use Rattle.std.proofs.lemmas.Bool.{and_from, and_parts, cases_lt, false_from_ne_true, false≢true, not-true}
+pub use Rattle.std.proofs.lemmas.Bool.{or_cases, or_left, or_right}
 pub use Rattle.std.proofs.lemmas.Grind.{flat_map-append}
 pub use Rattle.std.proofs.lemmas.List.Folds.{list_all-append}
 pub use Rattle.std.proofs.lemmas.Slice.Eq.{bytes_eq-Decides, slice_eq-Decides}
 pub use Rattle.std.specs.List.{filter, flat_map, join_by, list_all, list_any, prefix_len, slice_split}
 pub use Rattle.std.specs.Option.{option_and_then}
-pub use Rattle.sc_base.specs.Prelude.{is_between, is_digit, is_name_byte, is_nondigit, level_of, loosest_level, name_of, reserved_words}
+pub use Rattle.sc_base.specs.Prelude.{is_between, is_digit, is_name_byte, is_nondigit, level_of, loosest_level, name_of}
+pub use Rattle.sc_base.specs.Prelude.{reserved_words}
 unfoldable pub use Rattle.sc_base.specs.Prelude.{is_name, is_reserved}
 pub use Rattle.sc_base.specs.declared.op.BinaryOp.{BinaryOp}
 pub use Rattle.sc_base.specs.declared.op.UnaryOp.{UnaryOp}
 pub use Rattle.sc_lex.proofs.Fronts.{directive_found, mark_one, mark_two, word_found}
 pub use Rattle.sc_lex.proofs.Texts.{kind_of-directive, word_run}
-pub use Rattle.sc_lex.specs.Prelude.{Cuts, IsToken, allows_directive, base_of, begins_block_comment, begins_heading, begins_line, begins_line_comment, digit_value, digits_of, gap, greatest_of, has_suffix, is_blank, is_empty, is_export, is_hexadecimal, is_import, is_inside_line, is_unsigned, is_white_space, line_len, marks, nothing, number, only_name, token, token_at, value_of, white_space, without_suffix}
-unfoldable pub use Rattle.sc_lex.specs.Prelude.{heading_name, integer_of, is_integer, is_mark, is_number, kind_of, line_kind, word_kind, words}
+pub use Rattle.sc_lex.specs.Prelude.{Cuts, IsToken, allows_directive, base_of, begins_block_comment, begins_heading}
+pub use Rattle.sc_lex.specs.Prelude.{begins_line, begins_line_comment, digit_value, digits_of, gap, greatest_of}
+pub use Rattle.sc_lex.specs.Prelude.{has_suffix, is_blank, is_empty, is_export, is_hexadecimal, is_import}
+pub use Rattle.sc_lex.specs.Prelude.{is_inside_line, is_unsigned, is_white_space, line_len, marks, nothing, number}
+pub use Rattle.sc_lex.specs.Prelude.{only_name, token, token_at, value_of, white_space, without_suffix}
+unfoldable pub use Rattle.sc_lex.specs.Prelude.{heading_name, integer_of, is_integer, is_mark, is_number, kind_of}
+unfoldable pub use Rattle.sc_lex.specs.Prelude.{line_kind, word_kind, words}
 pub use Rattle.sc_lex.specs.declared.token.TokenKind.{TokenKind}
 pub use Rattle.sc_ast.proofs.Induction.{Each, Inside, Under, everywhere, expr_induction, stmt_induction}
 pub use Rattle.sc_ast.proofs.Layers.{expr_at, stmt_at}
 pub use Rattle.sc_ast.proofs.Statements.{bare_stmt, for_height, if_height, tree_height, while_height}
-pub use Rattle.sc_ast.specs.Prelude.{Layout, Number, Piece, Printed, SameButLines, apart, array_length, assign_call_words, assign_words, base_words, behind_else, binary_text, binary_words, blank, blank_if, block_words, call_height, call_words, chain_words, comma, condition_words, const_words, decl_height, decl_words, declared_words, decls_height, deeper, else_words, ended, equals, expr_height, expr_step, expr_words, first_words, fits, for_words, function_height, function_words, global_words, head_of, head_words, heading_words, highest, if_words, in_parens, indent, init_words, is_chain, is_doubled, is_ident, is_place, kind_height, kind_layout, layouts, length_number, length_words, line_of, lineless_decl, lineless_export, lineless_function, lineless_function_head, lineless_import, lineless_kind, lineless_local, lineless_option, lineless_stmt, lineless_stmts, lines_at, literal_text, local_height, local_line, locals_height, member_line, minus_words, name_words, newline, next_words, number_of, option_height, param_of, param_words, params_words, piece_text, place_words, prefix_words, printed, result_words, return_words, section_height, section_words, simple_words, star_words, stmt_height, stmt_layout, stmts_height, struct_words, text_of, unary_text, value_words, word, words_at}
+pub use Rattle.sc_ast.specs.Prelude.{Layout, Number, Piece, Printed, SameButLines, apart, array_length}
+pub use Rattle.sc_ast.specs.Prelude.{assign_call_words, assign_words, base_words, behind_else, binary_text}
+pub use Rattle.sc_ast.specs.Prelude.{binary_words, blank, blank_if, block_words, call_height, call_words, chain_words}
+pub use Rattle.sc_ast.specs.Prelude.{comma, condition_words, const_words, decl_height, decl_words, declared_words}
+pub use Rattle.sc_ast.specs.Prelude.{decls_height, deeper, else_words, ended, equals, expr_height, expr_step}
+pub use Rattle.sc_ast.specs.Prelude.{expr_words, first_words, fits, for_words, function_height, function_words}
+pub use Rattle.sc_ast.specs.Prelude.{global_words, head_of, head_words, heading_words, highest, if_words, in_parens}
+pub use Rattle.sc_ast.specs.Prelude.{indent, init_words, is_chain, is_doubled, is_ident, is_place, kind_height}
+pub use Rattle.sc_ast.specs.Prelude.{kind_layout, layouts, length_number, length_words, line_of, lineless_decl}
+pub use Rattle.sc_ast.specs.Prelude.{lineless_export, lineless_function, lineless_function_head, lineless_import}
+pub use Rattle.sc_ast.specs.Prelude.{lineless_kind, lineless_local, lineless_option, lineless_stmt, lineless_stmts}
+pub use Rattle.sc_ast.specs.Prelude.{lines_at, literal_text, local_height, local_line, locals_height, member_line}
+pub use Rattle.sc_ast.specs.Prelude.{minus_words, name_words, newline, next_words, number_of, option_height, param_of}
+pub use Rattle.sc_ast.specs.Prelude.{param_words, params_words, piece_text, place_words, prefix_words, printed}
+pub use Rattle.sc_ast.specs.Prelude.{result_words, return_words, section_height, section_words, simple_words}
+pub use Rattle.sc_ast.specs.Prelude.{star_words, stmt_height, stmt_layout, stmts_height, struct_words, text_of}
+pub use Rattle.sc_ast.specs.Prelude.{unary_text, value_words, word, words_at}
 unfoldable pub use Rattle.sc_ast.specs.Prelude.{export_words, import_words}
 pub use Rattle.sc_ast.specs.declared.expr.CallTree.{CallTree}
 pub use Rattle.sc_ast.specs.declared.expr.ExprTree.{map-ExprTree}
@@ -39,10 +67,25 @@ unfoldable pub use Rattle.sc_ast.specs.declared.stmt.StmtKind.{roll-StmtKind}
 pub use Rattle.sc_ast.specs.declared.types.BaseTree.{BaseTree}
 pub use Rattle.sc_ast.specs.declared.types.TypeName.{TypeName}
 pub use Rattle.sc_ast.specs.declared.types.TypeTree.{TypeTree}
-pub use Rattle.sc_expr.specs.Prelude.{IsMark, Spells, arrow, binary_of, import_of, index, joined, lexeme_of, literal, looser, member, or_unused, parenthesised, prefix_of, prefixed, symbol_of, variable, «prefix»}
+pub use Rattle.sc_expr.specs.Prelude.{IsMark, Spells, arrow, binary_of, import_of, index, joined, lexeme_of, literal}
+pub use Rattle.sc_expr.specs.Prelude.{looser, member, or_unused, parenthesised, prefix_of, prefixed, symbol_of}
+pub use Rattle.sc_expr.specs.Prelude.{variable, «prefix»}
 unfoldable pub use Rattle.sc_expr.specs.Prelude.{keyword_of, mark_of, says}
 pub use Rattle.sc_expr.specs.declared.mark.Mark.{Mark}
-pub use Rattle.sc_parse.specs.Prelude.{Declares, Grouped, IsGlobal, IsLocal, IsMember, Separated, SpellsArgs, SpellsBase, SpellsBlock, SpellsCall, SpellsCondition, SpellsConst, SpellsDecl, SpellsDeclarator, SpellsDirectives, SpellsFunction, SpellsHead, SpellsIf, SpellsInit, SpellsKind, SpellsParam, SpellsParams, SpellsPart, SpellsPlace, SpellsResult, SpellsSection, SpellsSimple, SpellsStars, SpellsStmtKind, SpellsStmts, SpellsStruct, SpellsTest, SpellsTypeName, SpellsValue, first_line, more, no_args, one, some_args, type_name}
+pub use Rattle.sc_parse.specs.Prelude.{Declares, Grouped, IsGlobal, IsLocal, IsMember, Separated, SpellsArgs}
+pub use Rattle.sc_parse.specs.Prelude.{SpellsBase, SpellsBlock, SpellsCall, SpellsCondition, SpellsConst, SpellsDecl}
+pub use Rattle.sc_parse.specs.Prelude.{SpellsDeclarator, SpellsDirectives, SpellsFunction, SpellsHead, SpellsIf}
+pub use Rattle.sc_parse.specs.Prelude.{SpellsInit, SpellsKind, SpellsParam, SpellsParams, SpellsPart, SpellsPlace}
+pub use Rattle.sc_parse.specs.Prelude.{SpellsResult, SpellsSection, SpellsSimple, SpellsStars, SpellsStmtKind}
+pub use Rattle.sc_parse.specs.Prelude.{SpellsStmts, SpellsStruct, SpellsTest, SpellsTypeName, SpellsValue, first_line}
+pub use Rattle.sc_parse.specs.Prelude.{more, no_args, one, some_args, type_name}
 pub use Rattle.sc_print.specs.Common.{Decl, ExprTree, ExprTree-F, Lexeme, SectionTree, StmtTree, Symbol, Token}
-pub use Rattle.sc_print.specs.Prelude.{DeclsReadAs, ReadsAs, SaysAll, SectionReadsAs, SectionSpells, StmtsReadAs, StmtsSpell, WordsSpell, all_kept, are_kept, decls_text, dense_decl, dense_text, dense_words, expr_text, is_kept, is_kept_decl, is_kept_stmt, kept_base, kept_call, kept_const, kept_export, kept_function, kept_global, kept_head, kept_import, kept_init, kept_kind, kept_length, kept_local, kept_member, kept_name, kept_option, kept_param, kept_place, kept_result, kept_section, kept_simple, kept_step, kept_struct, kept_type, kept_value, piece_symbols, some_kept, stmts_text, symbols}
+pub use Rattle.sc_print.specs.Prelude.{DeclsReadAs, ReadsAs, SaysAll, SectionReadsAs, SectionSpells, StmtsReadAs}
+pub use Rattle.sc_print.specs.Prelude.{StmtsSpell, WordsSpell, all_kept, are_kept, decls_text, dense_decl, dense_text}
+pub use Rattle.sc_print.specs.Prelude.{dense_words, expr_text, is_kept, is_kept_decl, is_kept_stmt, kept_base}
+pub use Rattle.sc_print.specs.Prelude.{kept_call, kept_const, kept_export, kept_function, kept_global, kept_head}
+pub use Rattle.sc_print.specs.Prelude.{kept_import, kept_init, kept_kind, kept_length, kept_local, kept_member}
+pub use Rattle.sc_print.specs.Prelude.{kept_name, kept_option, kept_param, kept_place, kept_result, kept_section}
+pub use Rattle.sc_print.specs.Prelude.{kept_simple, kept_step, kept_struct, kept_type, kept_value, piece_symbols}
+pub use Rattle.sc_print.specs.Prelude.{some_kept, stmts_text, symbols}
 unfoldable pub use Rattle.sc_print.specs.Prelude.{word_symbol}

@@ -1,5 +1,10 @@
 -- Pieces that stand apart are cut into their words.
-use Rattle.sc_print.proofs.Common.{Cuts, IsToken, IsTrue, List, Piece, Some, Symbol, Token, TokenKind, [], allows_directive, ap, append-nil, append_assoc, ap₂, arith, drop, drop-append_seam, gap, is_white_space, kind_of, length, length-append, map, nothing, option_and_then, or_unused, refl, replicate, says, slice_index, slice_range, subst, suc, sym, symbol_of, symbols, take, take-append_seam, text_of, token, token_at, true, white_space, word_symbol, zero, ℕ, ◌*◌, ◌++◌, ◌+◌, ◌-◌, ◌∙◌, ◌∷◌, ◌≡◌}
+use Rattle.sc_print.proofs.Common.{Cuts, IsToken, IsTrue, List, Piece, Some, Symbol, Token, TokenKind, []}
+use Rattle.sc_print.proofs.Common.{allows_directive, ap, append-nil, append_assoc, ap₂, arith, drop, drop-append_seam}
+use Rattle.sc_print.proofs.Common.{gap, is_white_space, kind_of, length, length-append, map, nothing, option_and_then}
+use Rattle.sc_print.proofs.Common.{or_unused, refl, replicate, says, slice_index, slice_range, subst, suc, sym}
+use Rattle.sc_print.proofs.Common.{symbol_of, symbols, take, take-append_seam, text_of, token, token_at, true}
+use Rattle.sc_print.proofs.Common.{white_space, word_symbol, zero, ℕ, ◌*◌, ◌++◌, ◌+◌, ◌-◌, ◌∙◌, ◌∷◌, ◌≡◌}
 use Rattle.sc_print.proofs.Spacing as spacing
 use Rattle.sc_print.proofs.Spacing.{Tidy}
 

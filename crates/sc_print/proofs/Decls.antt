@@ -1,5 +1,13 @@
 -- The words of declarations spell them, lines aside.
-use Rattle.sc_print.proofs.Common.{BaseTree, Bool, InitTree, IsTrue, Lexeme, List, None, Number, Option, Separated, Some, SpellsBase, SpellsConst, SpellsDeclarator, SpellsInit, SpellsStars, SpellsTypeName, TypeTree, [], and_from, and_parts, ap, append-nil, arith, array_length, base_words, blank, cases_lt, codes, comma, const_words, declared_words, false, false≢true, fits, flat_map, init_words, is_ident, join_by, kept_base, kept_const, kept_init, kept_length, kept_type, le-leb, leb-true, length_number, length_words, list_all, literal_text, lt-ltb, minus_words, more, nat_le, nat_lt, one, or_right, star_words, subst, suc, sym, symbols, true, word, word_symbol, zero, ℕ, ⊎_elim, ◌++◌, ◌+◌, ◌||◌, ◌∙◌, ◌∷◌, ◌≡◌, ◌≤◌}
+use Rattle.sc_print.proofs.Common.{BaseTree, Bool, InitTree, IsTrue, Lexeme, List, None, Number, Option, Separated}
+use Rattle.sc_print.proofs.Common.{Some, SpellsBase, SpellsConst, SpellsDeclarator, SpellsInit, SpellsStars}
+use Rattle.sc_print.proofs.Common.{SpellsTypeName, TypeTree, [], and_from, and_parts, ap, append-nil, arith}
+use Rattle.sc_print.proofs.Common.{array_length, base_words, blank, cases_lt, codes, comma, const_words, declared_words}
+use Rattle.sc_print.proofs.Common.{false, false≢true, fits, flat_map, init_words, is_ident, join_by, kept_base}
+use Rattle.sc_print.proofs.Common.{kept_const, kept_init, kept_length, kept_type, le-leb, leb-true, length_number}
+use Rattle.sc_print.proofs.Common.{length_words, list_all, literal_text, lt-ltb, minus_words, more, nat_le, nat_lt, one}
+use Rattle.sc_print.proofs.Common.{or_right, star_words, subst, suc, sym, symbols, true, word, word_symbol, zero, ℕ}
+use Rattle.sc_print.proofs.Common.{⊎_elim, ◌++◌, ◌+◌, ◌||◌, ◌∙◌, ◌∷◌, ◌≡◌, ◌≤◌}
 use Rattle.sc_base.specs.declared.op.UnaryOp.TheVariants as unary
 use Rattle.sc_ast.specs.declared.types.BaseTree.TheVariants as base
 use Rattle.sc_ast.specs.declared.section.ConstTree.{ConstTree}

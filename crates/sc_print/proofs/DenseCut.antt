@@ -1,5 +1,9 @@
 -- Sections without empty lines are cut into the words of the section.
-use Rattle.sc_print.proofs.Common.{Decl, FunctionTree, IsTrue, List, Piece, SaysAll, SectionTree, [], and_parts, ap, ap₂, decl_words, dense_decl, dense_text, dense_words, export_words, flat_map, function_words, heading_words, import_words, is_kept_decl, kept_section, list_all, newline, refl, section_words, subst, sym, symbols, text_of, true, ℕ, ◌++◌, ◌∙◌, ◌∷◌, ◌≡◌}
+use Rattle.sc_print.proofs.Common.{Decl, FunctionTree, IsTrue, List, Piece, SaysAll, SectionTree, [], and_parts, ap}
+use Rattle.sc_print.proofs.Common.{ap₂, decl_words, dense_decl, dense_text, dense_words, export_words, flat_map}
+use Rattle.sc_print.proofs.Common.{function_words, heading_words, import_words, is_kept_decl, kept_section, list_all}
+use Rattle.sc_print.proofs.Common.{newline, refl, section_words, subst, sym, symbols, text_of, true, ℕ, ◌++◌, ◌∙◌, ◌∷◌}
+use Rattle.sc_print.proofs.Common.{◌≡◌}
 use Rattle.sc_ast.specs.declared.section.Decl.TheVariants as decl
 use Rattle.sc_print.proofs.Spelling.{joined_symbols}
 use Rattle.sc_print.proofs.Spacing.{Tidy, line_end, tidy_append}

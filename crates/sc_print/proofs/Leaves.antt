@@ -1,5 +1,6 @@
 -- What names say.
-use Rattle.sc_print.proofs.Common.{IsTrue, List, Some, [], and_parts, arith, false≢true, is_ident, is_name, is_reserved, kind_of, length, not, not-true, refl, says, word_kind, word_symbol, ℕ, ◌<◌, ◌∷◌, ◌≡◌}
+use Rattle.sc_print.proofs.Common.{IsTrue, List, Some, [], and_parts, arith, false≢true, is_ident, is_name, is_reserved}
+use Rattle.sc_print.proofs.Common.{kind_of, length, not, not-true, refl, says, word_kind, word_symbol, ℕ, ◌<◌, ◌∷◌, ◌≡◌}
 use Rattle.sc_lex.specs.declared.token.TokenKind.TheVariants as kind
 use Rattle.sc_expr.specs.declared.lexeme.Symbol.TheVariants as symbol
 

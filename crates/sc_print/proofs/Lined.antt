@@ -1,5 +1,10 @@
 -- Lines that are directives, and tidy pieces behind them, are cut into their words.
-use Rattle.sc_print.proofs.Common.{Cuts, IsToken, List, Piece, Some, [], allows_directive, and_from, ap, append_assoc, ap₂, arith, begins_heading, begins_line, directive_found, drop, drop-append_seam, eq-eqb, get_or-append_seam, is_inside_line, kind_of, length, length-append, line_kind, line_len, newline, or_right, refl, slice_index, subst, sym, symbols, take, take-append_seam, text_of, token, token_at, true, word, ℕ, ◌++◌, ◌-◌, ◌<◌, ◌==◌, ◌∙◌, ◌∷◌, ◌≡◌}
+use Rattle.sc_print.proofs.Common.{Cuts, IsToken, List, Piece, Some, [], allows_directive, and_from, ap, append_assoc}
+use Rattle.sc_print.proofs.Common.{ap₂, arith, begins_heading, begins_line, directive_found, drop, drop-append_seam}
+use Rattle.sc_print.proofs.Common.{eq-eqb, get_or-append_seam, is_inside_line, kind_of, length, length-append}
+use Rattle.sc_print.proofs.Common.{line_kind, line_len, newline, or_right, refl, slice_index, subst, sym, symbols, take}
+use Rattle.sc_print.proofs.Common.{take-append_seam, text_of, token, token_at, true, word, ℕ, ◌++◌, ◌-◌, ◌<◌, ◌==◌, ◌∙◌}
+use Rattle.sc_print.proofs.Common.{◌∷◌, ◌≡◌}
 use Rattle.sc_print.proofs.Apart.{run_is}
 use Rattle.sc_print.proofs.Spacing.{Tidy}
 use Rattle.sc_print.proofs.DirectiveWords.{IsLine, kind_of_line}

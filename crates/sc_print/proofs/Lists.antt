@@ -1,5 +1,6 @@
 -- Lists of lexemes by what they say.
-use Rattle.sc_print.proofs.Common.{ExprTree, Lexeme, List, Spells, Symbol, [], ap, arith, cases_lt, length, looser, map, refl, subst, suc, sym, zero, ℕ, ⊎_elim, ◌++◌, ◌∙◌, ◌∷◌, ◌≡◌, ◌≤◌}
+use Rattle.sc_print.proofs.Common.{ExprTree, Lexeme, List, Spells, Symbol, [], ap, arith, cases_lt, length, looser, map}
+use Rattle.sc_print.proofs.Common.{refl, subst, suc, sym, zero, ℕ, ⊎_elim, ◌++◌, ◌∙◌, ◌∷◌, ◌≡◌, ◌≤◌}
 
 -- the lexemes say this
 abbrev pub Say : List Symbol → List Lexeme → Type 0

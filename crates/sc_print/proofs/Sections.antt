@@ -1,5 +1,19 @@
 -- The words of whole declarations spell them, lines aside.
-use Rattle.sc_print.proofs.Common.{BaseTree, Bool, Decl, Declares, ExprTree, FunctionTree, GlobalTree, Grouped, HeadTree, IsGlobal, IsLocal, IsMark, IsMember, IsTrue, Lexeme, List, LocalTree, MemberTree, None, Option, ParamTree, Piece, Separated, Some, SpellsBase, SpellsDecl, SpellsFunction, SpellsHead, SpellsParam, SpellsParams, SpellsResult, SpellsStruct, SpellsValue, StructTree, TypeName, [], and_parts, ap, append-nil, append_assoc, ap₂, are_kept, base_words, blank, blank_if, codes, comma, decl_words, declared_words, ended, expr_words, false, false≢true, first_line, flat_map, function_words, global_words, head_of, head_words, init_words, is_ident, is_kept_decl, join_by, kept_base, kept_function, kept_global, kept_head, kept_init, kept_local, kept_member, kept_name, kept_param, kept_result, kept_struct, kept_type, kept_value, layouts, lineless_decl, lineless_function_head, lineless_local, lineless_stmts, lines_at, list_all, local_line, map, member_line, more, nat_lt, newline, one, param_words, params_words, refl, result_words, some_kept, star_words, struct_words, subst, sym, symbols, true, type_name, value_words, word, word_symbol, ℕ, ◌&&◌, ◌++◌, ◌||◌, ◌∙◌, ◌∷◌, ◌≡◌}
+use Rattle.sc_print.proofs.Common.{BaseTree, Bool, Decl, Declares, ExprTree, FunctionTree, GlobalTree, Grouped}
+use Rattle.sc_print.proofs.Common.{HeadTree, IsGlobal, IsLocal, IsMark, IsMember, IsTrue, Lexeme, List, LocalTree}
+use Rattle.sc_print.proofs.Common.{MemberTree, None, Option, ParamTree, Piece, Separated, Some, SpellsBase, SpellsDecl}
+use Rattle.sc_print.proofs.Common.{SpellsFunction, SpellsHead, SpellsParam, SpellsParams, SpellsResult, SpellsStruct}
+use Rattle.sc_print.proofs.Common.{SpellsValue, StructTree, TypeName, [], and_parts, ap, append-nil, append_assoc, ap₂}
+use Rattle.sc_print.proofs.Common.{are_kept, base_words, blank, blank_if, codes, comma, decl_words, declared_words}
+use Rattle.sc_print.proofs.Common.{ended, expr_words, false, false≢true, first_line, flat_map, function_words}
+use Rattle.sc_print.proofs.Common.{global_words, head_of, head_words, init_words, is_ident, is_kept_decl, join_by}
+use Rattle.sc_print.proofs.Common.{kept_base, kept_function, kept_global, kept_head, kept_init, kept_local, kept_member}
+use Rattle.sc_print.proofs.Common.{kept_name, kept_param, kept_result, kept_struct, kept_type, kept_value, layouts}
+use Rattle.sc_print.proofs.Common.{lineless_decl, lineless_function_head, lineless_local, lineless_stmts, lines_at}
+use Rattle.sc_print.proofs.Common.{list_all, local_line, map, member_line, more, nat_lt, newline, one, param_words}
+use Rattle.sc_print.proofs.Common.{params_words, refl, result_words, some_kept, star_words, struct_words, subst, sym}
+use Rattle.sc_print.proofs.Common.{symbols, true, type_name, value_words, word, word_symbol, ℕ, ◌&&◌, ◌++◌, ◌||◌, ◌∙◌}
+use Rattle.sc_print.proofs.Common.{◌∷◌, ◌≡◌}
 use Rattle.sc_ast.specs.declared.section.FunctionHead.{FunctionHead}
 use Rattle.sc_ast.specs.declared.section.Decl.TheVariants as decl
 use Rattle.sc_expr.specs.declared.mark.Mark.TheVariants as mark

@@ -1,5 +1,10 @@
 -- The words of calls and simple statements spell them.
-use Rattle.sc_print.proofs.Common.{CallTree, ExprTree, IsTrue, Lexeme, List, Piece, Separated, SimpleKind, Spells, SpellsArgs, SpellsCall, SpellsCondition, SpellsKind, SpellsPlace, [], and_parts, ap, append-nil, blank, call_words, codes, comma, condition_words, equals, expr_words, flat_map, is_ident, is_kept, is_place, join_by, kept_call, kept_place, kept_simple, list_all, loosest_level, more, no_args, one, place_words, simple_words, some_args, subst, sym, symbols, true, word, word_symbol, ℕ, ◌++◌, ◌∙◌, ◌∷◌, ◌≡◌}
+use Rattle.sc_print.proofs.Common.{CallTree, ExprTree, IsTrue, Lexeme, List, Piece, Separated, SimpleKind, Spells}
+use Rattle.sc_print.proofs.Common.{SpellsArgs, SpellsCall, SpellsCondition, SpellsKind, SpellsPlace, [], and_parts, ap}
+use Rattle.sc_print.proofs.Common.{append-nil, blank, call_words, codes, comma, condition_words, equals, expr_words}
+use Rattle.sc_print.proofs.Common.{flat_map, is_ident, is_kept, is_place, join_by, kept_call, kept_place, kept_simple}
+use Rattle.sc_print.proofs.Common.{list_all, loosest_level, more, no_args, one, place_words, simple_words, some_args}
+use Rattle.sc_print.proofs.Common.{subst, sym, symbols, true, word, word_symbol, ℕ, ◌++◌, ◌∙◌, ◌∷◌, ◌≡◌}
 use Rattle.sc_ast.specs.declared.stmt.SimpleKind.TheVariants as simple
 use Rattle.sc_parse.specs.Statements as spell
 use Rattle.sc_print.proofs.Tables as tables

@@ -1,5 +1,12 @@
 -- The words of an expression stand apart.
-use Rattle.sc_print.proofs.Common.{BinaryOp, Bool, ExprTree, ExprTree-F, IsTrue, List, Piece, Printed, Some, TokenKind, UnaryOp, Under, [], and_parts, ap, append-nil, append_assoc, arith, binary_text, binary_words, blank, bytes_eq, codes, expr_at, expr_induction, expr_step, false, false≢true, flat_map-append, if◌then◌else◌, in_parens, indent, is_doubled, is_ident, is_kept, is_name_byte, kept_step, length, literal_text, lt-ltb, map-ExprTree, nat_lt, ne_eqb, newline, piece_text, prefix_words, refl, slice_index, subst, sym, text_of, true, unary_text, word, word_kind, word_run, words_at, ℕ, ◌&&◌, ◌++◌, ◌-◌, ◌<◌, ◌==◌, ◌∙◌, ◌∷◌, ◌≡◌, ◌≤◌}
+use Rattle.sc_print.proofs.Common.{BinaryOp, Bool, ExprTree, ExprTree-F, IsTrue, List, Piece, Printed, Some, TokenKind}
+use Rattle.sc_print.proofs.Common.{UnaryOp, Under, [], and_parts, ap, append-nil, append_assoc, arith, binary_text}
+use Rattle.sc_print.proofs.Common.{binary_words, blank, bytes_eq, codes, expr_at, expr_induction, expr_step, false}
+use Rattle.sc_print.proofs.Common.{false≢true, flat_map-append, if◌then◌else◌, in_parens, indent, is_doubled, is_ident}
+use Rattle.sc_print.proofs.Common.{is_kept, is_name_byte, kept_step, length, literal_text, lt-ltb, map-ExprTree, nat_lt}
+use Rattle.sc_print.proofs.Common.{ne_eqb, newline, piece_text, prefix_words, refl, slice_index, subst, sym, text_of}
+use Rattle.sc_print.proofs.Common.{true, unary_text, word, word_kind, word_run, words_at, ℕ, ◌&&◌, ◌++◌, ◌-◌, ◌<◌, ◌==◌}
+use Rattle.sc_print.proofs.Common.{◌∙◌, ◌∷◌, ◌≡◌, ◌≤◌}
 use Rattle.sc_base.specs.Levels as levels
 use Rattle.sc_base.specs.declared.op.UnaryOp.TheVariants as unary
 use Rattle.sc_ast.specs.declared.expr.ExprTree.TheOpen as term
@@ -7,7 +14,9 @@ use Rattle.sc_lex.specs.declared.token.TokenKind.TheVariants as kind
 use Rattle.sc_print.proofs.Tables.{at_least_2}
 use Rattle.sc_print.proofs.Leaves.{name_kind, name_some}
 use Rattle.sc_print.proofs.Literals.{literal_kind, literal_some}
-use Rattle.sc_print.proofs.Apart.{IsWord, Calm, starts, plain_word, open_paren, close_paren, open_square, close_square, dot, arrow, binary_word, is_loud, Quiet, IsSign, plus, minus, ampersand, Opens, quiet, sign, minus_word, plus_word, not_word, tilde_word, star_word, and_word}
+use Rattle.sc_print.proofs.Apart.{IsWord, Calm, starts, plain_word, open_paren, close_paren, open_square, close_square}
+use Rattle.sc_print.proofs.Apart.{dot, arrow, binary_word, is_loud, Quiet, IsSign, plus, minus, ampersand, Opens, quiet}
+use Rattle.sc_print.proofs.Apart.{sign, minus_word, plus_word, not_word, tilde_word, star_word, and_word}
 
 -- Each word among the pieces is the token at its place, where this stands behind the pieces.
 pub data Tidy : List Piece → List ℕ → Type 0 where

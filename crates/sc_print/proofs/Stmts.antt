@@ -1,5 +1,18 @@
 -- The words of statements spell them, lines aside.
-use Rattle.sc_print.proofs.Common.{Bool, Each, ExprTree, Inside, IsTrue, Layout, Lexeme, List, None, Option, Piece, SimpleKind, SimpleTree, Some, SpellsBlock, SpellsCondition, SpellsIf, SpellsKind, SpellsPart, SpellsSimple, SpellsStmtKind, SpellsStmts, SpellsTest, StmtKind, StmtKind-F, StmtTree, StmtsSpell, [], all_kept, and_parts, ap, append-nil, append_assoc, ap₂, are_kept, arith, assign_call_words, assign_words, bare_stmt, behind_else, blank, block_words, call_words, chain_words, codes, condition_words, deeper, else_words, ended, eqb-true, expr_words, false, false≢true, first_line, first_words, for_words, if_words, if◌then◌else◌, indent, is_chain, is_kept, is_kept_stmt, kept_call, kept_kind, kept_option, kept_place, kept_simple, kind_layout, layouts, length, line_of, lineless_kind, lineless_option, lineless_stmt, lineless_stmts, lines_at, list_all, map, map-StmtKind, ne_eqb, newline, next_words, refl, return_words, roll-StmtKind, rules, simple_words, stmt_at, stmt_induction, stmt_layout, subst, sym, symbols, true, word, word_symbol, ℕ, ◌&&◌, ◌++◌, ◌==◌, ◌∙◌, ◌∷◌, ◌≡◌}
+use Rattle.sc_print.proofs.Common.{Bool, Each, ExprTree, Inside, IsTrue, Layout, Lexeme, List, None, Option, Piece}
+use Rattle.sc_print.proofs.Common.{SimpleKind, SimpleTree, Some, SpellsBlock, SpellsCondition, SpellsIf, SpellsKind}
+use Rattle.sc_print.proofs.Common.{SpellsPart, SpellsSimple, SpellsStmtKind, SpellsStmts, SpellsTest, StmtKind}
+use Rattle.sc_print.proofs.Common.{StmtKind-F, StmtTree, StmtsSpell, [], all_kept, and_parts, ap, append-nil}
+use Rattle.sc_print.proofs.Common.{append_assoc, ap₂, are_kept, arith, assign_call_words, assign_words, bare_stmt}
+use Rattle.sc_print.proofs.Common.{behind_else, blank, block_words, call_words, chain_words, codes, condition_words}
+use Rattle.sc_print.proofs.Common.{deeper, else_words, ended, eqb-true, expr_words, false, false≢true, first_line}
+use Rattle.sc_print.proofs.Common.{first_words, for_words, if_words, if◌then◌else◌, indent, is_chain, is_kept}
+use Rattle.sc_print.proofs.Common.{is_kept_stmt, kept_call, kept_kind, kept_option, kept_place, kept_simple}
+use Rattle.sc_print.proofs.Common.{kind_layout, layouts, length, line_of, lineless_kind, lineless_option, lineless_stmt}
+use Rattle.sc_print.proofs.Common.{lineless_stmts, lines_at, list_all, map, map-StmtKind, ne_eqb, newline, next_words}
+use Rattle.sc_print.proofs.Common.{refl, return_words, roll-StmtKind, rules, simple_words, stmt_at, stmt_induction}
+use Rattle.sc_print.proofs.Common.{stmt_layout, subst, sym, symbols, true, word, word_symbol, ℕ, ◌&&◌, ◌++◌, ◌==◌, ◌∙◌}
+use Rattle.sc_print.proofs.Common.{◌∷◌, ◌≡◌}
 use Rattle.sc_ast.specs.Prelude.{kind_of}
 use Rattle.sc_ast.specs.StmtWords as printing
 use Rattle.sc_ast.specs.declared.stmt.SimpleKind.TheVariants as simple

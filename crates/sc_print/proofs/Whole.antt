@@ -1,11 +1,17 @@
 -- The words of whole sections spell them, and their text is cut into them.
-use Rattle.sc_print.proofs.Common.{Decl, IsTrue, Lexeme, List, Piece, SameButLines, SectionSpells, SectionTree, SpellsDirectives, SpellsSection, [], and_parts, ap, append_assoc, begins_heading, decl_words, export_words, flat_map, import_words, is_kept_decl, is_name, kept_export, kept_import, kept_section, lineless_decl, lineless_export, lineless_import, list_all, map, printed, refl, section_words, subst, sym, symbols, text_of, true, word_symbol, ℕ, ◌&&◌, ◌++◌, ◌∙◌, ◌∷◌, ◌≡◌}
+use Rattle.sc_print.proofs.Common.{Decl, IsTrue, Lexeme, List, Piece, SameButLines, SectionSpells, SectionTree}
+use Rattle.sc_print.proofs.Common.{SpellsDirectives, SpellsSection, [], and_parts, ap, append_assoc, begins_heading}
+use Rattle.sc_print.proofs.Common.{decl_words, export_words, flat_map, import_words, is_kept_decl, is_name, kept_export}
+use Rattle.sc_print.proofs.Common.{kept_import, kept_section, lineless_decl, lineless_export, lineless_import, list_all}
+use Rattle.sc_print.proofs.Common.{map, printed, refl, section_words, subst, sym, symbols, text_of, true, word_symbol}
+use Rattle.sc_print.proofs.Common.{ℕ, ◌&&◌, ◌++◌, ◌∙◌, ◌∷◌, ◌≡◌}
 use Rattle.sc_ast.specs.declared.section.ExportLine.{ExportLine}
 use Rattle.sc_ast.specs.declared.section.ImportLine.{ImportLine}
 use Rattle.sc_parse.specs.Sections as spell
 use Rattle.sc_print.proofs.Lists.{Say, first_of, none_of, parts_of}
 use Rattle.sc_print.proofs.Spelling.{joined_symbols}
-use Rattle.sc_print.proofs.DirectiveWords.{export_text, export_says, export_line_is, import_text, import_says, import_line_is, heading_text, heading_says, heading_line_is, heading_begins}
+use Rattle.sc_print.proofs.DirectiveWords.{export_text, export_says, export_line_is, import_text, import_says}
+use Rattle.sc_print.proofs.DirectiveWords.{import_line_is, heading_text, heading_says, heading_line_is, heading_begins}
 use Rattle.sc_print.proofs.Lined.{Lined, tidy, line, found_lines}
 use Rattle.sc_print.proofs.Cut.{Found}
 use Rattle.sc_print.proofs.Sections.{decls_read}

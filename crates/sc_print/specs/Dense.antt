@@ -1,5 +1,6 @@
 -- Sections that are printed without empty lines.
-use Rattle.sc_print.specs.Common.{Decl, IsCut, Piece, SectionTree, Symbol, Token, decl_words, export_words, heading_words, import_words, symbol_of, text_of}
+use Rattle.sc_print.specs.Common.{Decl, IsCut, Piece, SectionTree, Symbol, Token, decl_words, export_words}
+use Rattle.sc_print.specs.Common.{heading_words, import_words, symbol_of, text_of}
 use Rattle.std.specs.Prelude.{◌≡◌, ℕ, List, ◌++◌, map, drop}
 use Rattle.std.specs.List.{flat_map}
 use Rattle.sc_ast.specs.declared.section.Decl.TheVariants.{Function}

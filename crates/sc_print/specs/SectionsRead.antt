@@ -1,5 +1,6 @@
 -- What it means that printed sections read back.
-use Rattle.sc_print.specs.Common.{IsCut, Lexeme, SameButLines, SectionTree, SpellsSection, Token, lexeme_of, section_words}
+use Rattle.sc_print.specs.Common.{IsCut, Lexeme, SameButLines, SectionTree, SpellsSection, Token, lexeme_of}
+use Rattle.sc_print.specs.Common.{section_words}
 use Rattle.std.specs.Prelude.{◌≡◌, ℕ, List, map}
 use Rattle.sc_print.specs.Symbols.{symbols}
 

@@ -1,4 +1,5 @@
-ghost use Rattle.sc_print.specs.Prelude.{are_kept, is_kept, is_kept_stmt, kept_call, kept_kind, kept_option, kept_place, kept_simple};
+ghost use Rattle.sc_print.specs.Prelude.{are_kept, is_kept, is_kept_stmt, kept_call, kept_kind, kept_option};
+ghost use Rattle.sc_print.specs.Prelude.{kept_place, kept_simple};
 ghost use Rattle.std.specs.Prelude.{◌≡◌, true, IsTrue};
 ghost use Rattle.std.specs.List.{list_all};
 

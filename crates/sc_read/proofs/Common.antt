@@ -1,5 +1,9 @@
 -- The names that several proofs of this crate cite, passed on from one place. Declares nothing.
-pub use Rattle.std.proofs.Common.{All, Any, Bool, Err, IfOk, IsTrue, List, None, Ok, Option, Result, Some, [], ap, ap₂, arith, codes, drop, false, get_or, get_or-take, inl, inr, is_some, length, length-drop, length-take-le, map, refl, slice_get, slice_index, slice_range, subst, suc, sym, take, take-append-drop, take_all, true, zero, ℕ, ⊎_elim, ◌++◌, ◌+◌, ◌-◌, ◌<◌, ◌∙◌, ◌∷◌, ◌≡◌, ◌≤◌, ◌⊎◌}
+pub use Rattle.std.proofs.Common.{All, Any, Bool, Err, IfOk, IsTrue, List, None, Ok, Option, Result, Some, [], ap, ap₂}
+pub use Rattle.std.proofs.Common.{arith, codes, drop, false, get_or, get_or-take, inl, inr, is_some, length}
+pub use Rattle.std.proofs.Common.{length-drop, length-take-le, map, refl, slice_get, slice_index, slice_range, subst}
+pub use Rattle.std.proofs.Common.{suc, sym, take, take-append-drop, take_all, true, zero, ℕ, ⊎_elim, ◌++◌, ◌+◌, ◌-◌}
+pub use Rattle.std.proofs.Common.{◌<◌, ◌∙◌, ◌∷◌, ◌≡◌, ◌≤◌, ◌⊎◌}
 pub use Rattle.std.proofs.lemmas.Bool.{and_parts, cases_lt, false≢true}
 pub use Rattle.std.proofs.lemmas.Option.{none-some}
 pub use Rattle.std.proofs.lemmas.Result.{err_from_is_err_and}
@@ -7,7 +11,12 @@ pub use Rattle.std.specs.List.{AllByRecursion, AllZip}
 pub use Rattle.sc_lex.proofs.Gaps.{gap_fits, one_gap, slash_first, star_first}
 pub use Rattle.sc_lex.proofs.Runs.{token_positive}
 pub use Rattle.sc_lex.proofs.Wording.{begins_with, front_byte}
-pub use Rattle.sc_lex.specs.Prelude.{AreSections, Cuts, IsBadHeading, IsCut, IsGap, IsSection, IsSplit, IsStuck, IsToken, NoHeading, RefusesBytes, RefusesHeading, allows_directive, begins_block_comment, begins_heading, begins_line, begins_line_comment, block_comment, ends_comment, gap, is_directive, is_heading, is_white_space, kind_of, line_after, line_at, line_comment, line_len, may_follow, name_at, newlines, none, nothing, section, token, token_at, white_space}
+pub use Rattle.sc_lex.specs.Prelude.{AreSections, Cuts, IsBadHeading, IsCut, IsGap, IsSection, IsSplit, IsStuck}
+pub use Rattle.sc_lex.specs.Prelude.{IsToken, NoHeading, RefusesBytes, RefusesHeading, allows_directive}
+pub use Rattle.sc_lex.specs.Prelude.{begins_block_comment, begins_heading, begins_line, begins_line_comment}
+pub use Rattle.sc_lex.specs.Prelude.{block_comment, ends_comment, gap, is_directive, is_heading, is_white_space}
+pub use Rattle.sc_lex.specs.Prelude.{kind_of, line_after, line_at, line_comment, line_len, may_follow, name_at}
+pub use Rattle.sc_lex.specs.Prelude.{newlines, none, nothing, section, token, token_at, white_space}
 pub use Rattle.sc_lex.specs.declared.fault.TextFault.TheVariants.{Refused}
 pub use Rattle.sc_lex.specs.declared.refusal.Phase.{Phase}
 pub use Rattle.sc_lex.specs.declared.refusal.Refusal.{Refusal}
@@ -16,5 +25,6 @@ pub use Rattle.sc_expr.specs.declared.lexeme.Lexeme.{Lexeme}
 pub use Rattle.sc_parse.specs.Prelude.{IsParsed, SpellsSection, lexemes_of, tree_of}
 pub use Rattle.sc_read.specs.Common.{Section, SectionTree, Token}
 pub use Rattle.sc_read.specs.First.{First, here, later}
-pub use Rattle.sc_read.specs.Reading.{Fails, FailsLex, FailsSyntax, HasTokens, HasTree, IsRead, IsUncut, IsUnread, Part, PassesLex, Reads, bad_heading, in_preamble, in_section, part_of, parts_of, uncut}
+pub use Rattle.sc_read.specs.Reading.{Fails, FailsLex, FailsSyntax, HasTokens, HasTree, IsRead, IsUncut, IsUnread, Part}
+pub use Rattle.sc_read.specs.Reading.{PassesLex, Reads, bad_heading, in_preamble, in_section, part_of, parts_of, uncut}
 pub use Rattle.sc_read.specs.Steps.{IsCutInto, IsCuttable, IsParsable, IsTreeOf, RefusesTokens}

@@ -1,5 +1,13 @@
 -- Each text is read, or fails a phase.
-use Rattle.sc_read.proofs.Common.{AllByRecursion, AllZip, Any, AreSections, Bool, Err, Fails, FailsLex, FailsSyntax, First, HasTokens, HasTree, IsBadHeading, IsCut, IsCutInto, IsParsed, IsRead, IsSection, IsSplit, IsTrue, IsUncut, IsUnread, Lexeme, List, NoHeading, None, Ok, Option, Part, PassesLex, Phase, Reads, Refusal, RefusesBytes, RefusesHeading, Section, SectionTree, Some, Token, [], ap, arith, bad_heading, begins_heading, cases_lt, drop, false, here, in_preamble, in_section, inl, inr, is_heading, later, length, length-take-le, lexemes_of, line_after, line_at, map, name_at, newlines, none, none-some, part_of, parts_of, refl, section, slice_range, subst, suc, sym, take, tree_of, true, uncut, zero, ℕ, ⊎_elim, ◌+◌, ◌-◌, ◌<◌, ◌∙◌, ◌∷◌, ◌≡◌, ◌≤◌, ◌⊎◌}
+use Rattle.sc_read.proofs.Common.{AllByRecursion, AllZip, Any, AreSections, Bool, Err, Fails, FailsLex, FailsSyntax}
+use Rattle.sc_read.proofs.Common.{First, HasTokens, HasTree, IsBadHeading, IsCut, IsCutInto, IsParsed, IsRead}
+use Rattle.sc_read.proofs.Common.{IsSection, IsSplit, IsTrue, IsUncut, IsUnread, Lexeme, List, NoHeading, None, Ok}
+use Rattle.sc_read.proofs.Common.{Option, Part, PassesLex, Phase, Reads, Refusal, RefusesBytes, RefusesHeading, Section}
+use Rattle.sc_read.proofs.Common.{SectionTree, Some, Token, [], ap, arith, bad_heading, begins_heading, cases_lt, drop}
+use Rattle.sc_read.proofs.Common.{false, here, in_preamble, in_section, inl, inr, is_heading, later, length}
+use Rattle.sc_read.proofs.Common.{length-take-le, lexemes_of, line_after, line_at, map, name_at, newlines, none}
+use Rattle.sc_read.proofs.Common.{none-some, part_of, parts_of, refl, section, slice_range, subst, suc, sym, take}
+use Rattle.sc_read.proofs.Common.{tree_of, true, uncut, zero, ℕ, ⊎_elim, ◌+◌, ◌-◌, ◌<◌, ◌∙◌, ◌∷◌, ◌≡◌, ◌≤◌, ◌⊎◌}
 use Rattle.sc_lex.specs.declared.refusal.Phase.TheVariants as phase
 use Rattle.sc_lex.specs.declared.fault.TextFault.TheVariants as fault
 use Rattle.sc_parse.proofs.Trees.{parsed, unparsed}

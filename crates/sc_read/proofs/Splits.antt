@@ -1,5 +1,8 @@
 -- A text is split in one way.
-use Rattle.sc_read.proofs.Common.{AreSections, IsBadHeading, IsSection, IsSplit, IsTrue, List, None, Part, Section, [], and_parts, ap, ap₂, arith, begins_heading, begins_line, cases_lt, drop, is_heading, length, length-drop, line_at, map, name_at, none, none-some, part_of, parts_of, refl, section, slice_range, subst, sym, take, ℕ, ⊎_elim, ◌+◌, ◌<◌, ◌∙◌, ◌∷◌, ◌≡◌, ◌≤◌}
+use Rattle.sc_read.proofs.Common.{AreSections, IsBadHeading, IsSection, IsSplit, IsTrue, List, None, Part, Section, []}
+use Rattle.sc_read.proofs.Common.{and_parts, ap, ap₂, arith, begins_heading, begins_line, cases_lt, drop, is_heading}
+use Rattle.sc_read.proofs.Common.{length, length-drop, line_at, map, name_at, none, none-some, part_of, parts_of, refl}
+use Rattle.sc_read.proofs.Common.{section, slice_range, subst, sym, take, ℕ, ⊎_elim, ◌+◌, ◌<◌, ◌∙◌, ◌∷◌, ◌≡◌, ◌≤◌}
 use Rattle.sc_lex.proofs.Splits.{heading_within, sections_rise}
 
 begins : {text : List ℕ} {at end : ℕ} {ss : List Section} → AreSections text at end ss → at < end →

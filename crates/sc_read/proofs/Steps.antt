@@ -1,5 +1,17 @@
 -- From what the functions over the sections find to what is said of the text.
-use Rattle.sc_read.proofs.Common.{All, AllByRecursion, AllZip, Any, AreSections, Cuts, Err, Fails, FailsLex, FailsSyntax, First, HasTokens, HasTree, IfOk, IsCut, IsCutInto, IsCuttable, IsGap, IsParsable, IsParsed, IsRead, IsSection, IsSplit, IsTreeOf, IsTrue, IsUncut, IsUnread, List, None, Ok, Option, Part, PassesLex, Reads, Refusal, RefusesBytes, RefusesHeading, RefusesTokens, Result, Section, SectionTree, Some, Token, [], and_parts, ap, arith, bad_heading, begins_block_comment, begins_heading, begins_line, begins_line_comment, block_comment, codes, drop, false, false≢true, front_byte, gap, get_or, get_or-take, here, in_preamble, in_section, is_white_space, later, length, length-drop, length-take-le, lexemes_of, line_after, line_at, line_comment, map, newlines, none, none-some, nothing, part_of, parts_of, refl, section, slash_first, slice_get, slice_index, slice_range, star_first, subst, suc, sym, take, take-append-drop, take_all, token, true, uncut, white_space, zero, ℕ, ◌++◌, ◌+◌, ◌-◌, ◌<◌, ◌∙◌, ◌∷◌, ◌≡◌, ◌≤◌}
+use Rattle.sc_read.proofs.Common.{All, AllByRecursion, AllZip, Any, AreSections, Cuts, Err, Fails, FailsLex}
+use Rattle.sc_read.proofs.Common.{FailsSyntax, First, HasTokens, HasTree, IfOk, IsCut, IsCutInto, IsCuttable, IsGap}
+use Rattle.sc_read.proofs.Common.{IsParsable, IsParsed, IsRead, IsSection, IsSplit, IsTreeOf, IsTrue, IsUncut, IsUnread}
+use Rattle.sc_read.proofs.Common.{List, None, Ok, Option, Part, PassesLex, Reads, Refusal, RefusesBytes, RefusesHeading}
+use Rattle.sc_read.proofs.Common.{RefusesTokens, Result, Section, SectionTree, Some, Token, [], and_parts, ap, arith}
+use Rattle.sc_read.proofs.Common.{bad_heading, begins_block_comment, begins_heading, begins_line, begins_line_comment}
+use Rattle.sc_read.proofs.Common.{block_comment, codes, drop, false, false≢true, front_byte, gap, get_or, get_or-take}
+use Rattle.sc_read.proofs.Common.{here, in_preamble, in_section, is_white_space, later, length, length-drop}
+use Rattle.sc_read.proofs.Common.{length-take-le, lexemes_of, line_after, line_at, line_comment, map, newlines, none}
+use Rattle.sc_read.proofs.Common.{none-some, nothing, part_of, parts_of, refl, section, slash_first, slice_get}
+use Rattle.sc_read.proofs.Common.{slice_index, slice_range, star_first, subst, suc, sym, take, take-append-drop}
+use Rattle.sc_read.proofs.Common.{take_all, token, true, uncut, white_space, zero, ℕ, ◌++◌, ◌+◌, ◌-◌, ◌<◌, ◌∙◌, ◌∷◌}
+use Rattle.sc_read.proofs.Common.{◌≡◌, ◌≤◌}
 use Rattle.std.proofs.lemmas.List.{take_more, drop_more}
 use Rattle.sc_lex.specs.declared.refusal.Phase.TheVariants as phase
 

@@ -1,5 +1,8 @@
 -- Bytes that are cut aren't refused.
-use Rattle.sc_read.proofs.Common.{Bool, Cuts, IsCut, IsGap, IsStuck, IsToken, List, Refusal, RefusesBytes, Some, Token, TokenKind, [], allows_directive, arith, block_comment, cases_lt, drop, gap, gap_fits, length, length-drop, line_comment, none-some, nothing, one_gap, refl, subst, sym, take, token, token_positive, white_space, ℕ, ⊎_elim, ◌+◌, ◌<◌, ◌∙◌, ◌∷◌, ◌≡◌, ◌≤◌}
+use Rattle.sc_read.proofs.Common.{Bool, Cuts, IsCut, IsGap, IsStuck, IsToken, List, Refusal, RefusesBytes, Some, Token}
+use Rattle.sc_read.proofs.Common.{TokenKind, [], allows_directive, arith, block_comment, cases_lt, drop, gap, gap_fits}
+use Rattle.sc_read.proofs.Common.{length, length-drop, line_comment, none-some, nothing, one_gap, refl, subst, sym}
+use Rattle.sc_read.proofs.Common.{take, token, token_positive, white_space, ℕ, ⊎_elim, ◌+◌, ◌<◌, ◌∙◌, ◌∷◌, ◌≡◌, ◌≤◌}
 use Rattle.sc_lex.proofs.Fronts.{white_none}
 use Rattle.sc_lex.proofs.Cuts.{token_le}
 

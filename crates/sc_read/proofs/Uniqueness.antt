@@ -1,5 +1,10 @@
 -- A text is read or refused in one way.
-use Rattle.sc_read.proofs.Common.{AllZip, Fails, FailsLex, FailsSyntax, First, HasTokens, HasTree, IsBadHeading, IsCut, IsParsed, IsRead, IsSplit, IsUncut, IsUnread, Lexeme, List, Part, PassesLex, Phase, Reads, Refusal, RefusesBytes, RefusesHeading, Section, SectionTree, SpellsSection, Token, [], ap, ap₂, arith, bad_heading, cases_lt, drop, here, in_preamble, in_section, later, length, lexemes_of, line_at, map, part_of, parts_of, refl, subst, sym, take, uncut, ℕ, ⊎_elim, ◌++◌, ◌+◌, ◌<◌, ◌∙◌, ◌∷◌, ◌≡◌, ◌≤◌}
+use Rattle.sc_read.proofs.Common.{AllZip, Fails, FailsLex, FailsSyntax, First, HasTokens, HasTree, IsBadHeading, IsCut}
+use Rattle.sc_read.proofs.Common.{IsParsed, IsRead, IsSplit, IsUncut, IsUnread, Lexeme, List, Part, PassesLex, Phase}
+use Rattle.sc_read.proofs.Common.{Reads, Refusal, RefusesBytes, RefusesHeading, Section, SectionTree, SpellsSection}
+use Rattle.sc_read.proofs.Common.{Token, [], ap, ap₂, arith, bad_heading, cases_lt, drop, here, in_preamble, in_section}
+use Rattle.sc_read.proofs.Common.{later, length, lexemes_of, line_at, map, part_of, parts_of, refl, subst, sym, take}
+use Rattle.sc_read.proofs.Common.{uncut, ℕ, ⊎_elim, ◌++◌, ◌+◌, ◌<◌, ◌∙◌, ◌∷◌, ◌≡◌, ◌≤◌}
 use Rattle.sc_lex.specs.declared.refusal.Phase.TheVariants as phase
 use Rattle.sc_read.proofs.Stuck.{cut_refused}
 use Rattle.sc_read.proofs.Splits.{same_preamble, same_parts, split_good}

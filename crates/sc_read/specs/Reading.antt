@@ -1,7 +1,8 @@
 -- How a text is read: it is split into its preamble and its sections, these parts are cut into tokens, and the tokens
 -- of
 -- each section spell its tree.
-use Rattle.sc_read.specs.Common.{IsCut, IsParsed, IsSplit, RefusesBytes, RefusesHeading, Section, SectionTree, Token, lexemes_of, line_after, line_at}
+use Rattle.sc_read.specs.Common.{IsCut, IsParsed, IsSplit, RefusesBytes, RefusesHeading, Section, SectionTree, Token}
+use Rattle.sc_read.specs.Common.{lexemes_of, line_after, line_at}
 use Rattle.std.specs.Prelude.{◌≡◌, ℕ, ◌-◌, List, [], ◌∷◌, map, Any}
 use Rattle.std.specs.List.{AllZip}
 use Rattle.sc_lex.specs.declared.refusal.Refusal.{Refusal}

@@ -1,5 +1,6 @@
 -- Texts that are told piece by piece.
-use Rattle.sc_report.proofs.Common.{Err, List, Ok, OnOk, Result, [], ap, append_assoc, flat_map, get_or, length, sym, take, ℕ, ◌++◌, ◌+◌, ◌<◌, ◌∙◌, ◌∷◌, ◌≡◌}
+use Rattle.sc_report.proofs.Common.{Err, List, Ok, OnOk, Result, [], ap, append_assoc, flat_map, get_or, length, sym}
+use Rattle.sc_report.proofs.Common.{take, ℕ, ◌++◌, ◌+◌, ◌<◌, ◌∙◌, ◌∷◌, ◌≡◌}
 use Rattle.std.proofs.lemmas.List.{flat_map_more, take_more}
 
 -- three pieces, one behind the other

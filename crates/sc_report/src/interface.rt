@@ -1,7 +1,8 @@
 ghost use Rattle.sc_event.specs.Prelude.{spaced_names};
 ghost use Rattle.std.specs.Prelude.{◌≡◌, ◌++◌, flat_map, map, IfOk, OnOk};
 ghost use Rattle.sc_event.specs.declared.interface.Import.TheVariants.{Function};
-ghost use Rattle.sc_report.specs.Check.{scalar_word, result_word, params_end, types_end, function_end, export_line, function_line, import_line, comp_line, interface_text, main_line, check_text};
+ghost use Rattle.sc_report.specs.Check.{scalar_word, result_word, params_end, types_end, function_end, export_line};
+ghost use Rattle.sc_report.specs.Check.{function_line, import_line, comp_line, interface_text, main_line, check_text};
 
 use crate::names::comp_name;
 use sc_base::{OutOfMemory, Text};

@@ -1,7 +1,8 @@
 ghost use Rattle.sc_event.specs.Prelude.{IsKnown};
 ghost use Rattle.std.specs.Prelude.{◌≡◌, ◌++◌, All, IfOk, OnOk};
 ghost use Rattle.sc_base.specs.declared.stop.Stop.TheVariants.{Trap};
-ghost use Rattle.sc_report.specs.Report.{events_text, cause_word, number_end, cause_end, blame_line, end_line, meaning_text, reason_word, address_end, stop_line, run_text};
+ghost use Rattle.sc_report.specs.Report.{events_text, cause_word, number_end, cause_end, blame_line, end_line};
+ghost use Rattle.sc_report.specs.Report.{meaning_text, reason_word, address_end, stop_line, run_text};
 
 use crate::names::comp_name;
 use itoa::Buffer;

@@ -1,5 +1,10 @@
 -- Where a run begins.
-use Rattle.sc_run.proofs.Common.{Begun, Callee, Cell, Frame, List, Main, None, Nowhere, Option, Piece, ProgramTree, Seen, Some, Standing, State, TurnsOut, TypedGlobal, TypedSection, Value, [], and_then, ap, arith, back_own, begun, bodies, body_acts, c_arith, call_own, done, entry_in, first_blocks, first_state, found, function, function_of, global_block, globals_of, length, library, map, refl, run_in, run_of, run_step, run_to, seen_of, slice_get, struct_zeros, subst, suc, sym, within, ℕ, ◌∙◌, ◌∷◌, ◌≡◌}
+use Rattle.sc_run.proofs.Common.{Begun, Callee, Cell, Frame, List, Main, None, Nowhere, Option, Piece, ProgramTree}
+use Rattle.sc_run.proofs.Common.{Seen, Some, Standing, State, TurnsOut, TypedGlobal, TypedSection, Value, [], and_then}
+use Rattle.sc_run.proofs.Common.{ap, arith, back_own, begun, bodies, body_acts, c_arith, call_own, done, entry_in}
+use Rattle.sc_run.proofs.Common.{first_blocks, first_state, found, function, function_of, global_block, globals_of}
+use Rattle.sc_run.proofs.Common.{length, library, map, refl, run_in, run_of, run_step, run_to, seen_of, slice_get}
+use Rattle.sc_run.proofs.Common.{struct_zeros, subst, suc, sym, within, ℕ, ◌∙◌, ◌∷◌, ◌≡◌}
 use Rattle.sc_run.proofs.Blank.{blank}
 use Rattle.sc_run.proofs.Calling.{frame_at, enter_is, begun_seen, frame_is}
 

@@ -1,5 +1,10 @@
 -- Blocks whose ended variables hold no cells are loaded from and stored to as the others.
-use Rattle.sc_run.proofs.Common.{BadType, Blocks, Bool, Cause, Cell, Dangling, Err, List, Memory, None, Null, Ok, Option, OutOfBounds, Pointer, Ptr, Result, Some, Value, Word, [], ap, bind, blocks_for, cell_of, cells_at, cleared, ended, false, given_back, if◌then◌else◌, is_live, length, length-map, live_cells, load, loaded, map, map-append, map-set, nat_lt, refl, replicate, slice_get, slice_set, store, suc, sym, true, with_blocks, with_cell, zero, ℕ, ◌++◌, ◌==◌, ◌∙◌, ◌∷◌, ◌≡◌}
+use Rattle.sc_run.proofs.Common.{BadType, Blocks, Bool, Cause, Cell, Dangling, Err, List, Memory, None, Null, Ok}
+use Rattle.sc_run.proofs.Common.{Option, OutOfBounds, Pointer, Ptr, Result, Some, Value, Word, [], ap, bind, blocks_for}
+use Rattle.sc_run.proofs.Common.{cell_of, cells_at, cleared, ended, false, given_back, if◌then◌else◌, is_live, length}
+use Rattle.sc_run.proofs.Common.{length-map, live_cells, load, loaded, map, map-append, map-set, nat_lt, refl}
+use Rattle.sc_run.proofs.Common.{replicate, slice_get, slice_set, store, suc, sym, true, with_blocks, with_cell, zero}
+use Rattle.sc_run.proofs.Common.{ℕ, ◌++◌, ◌==◌, ◌∙◌, ◌∷◌, ◌≡◌}
 use Rattle.sc_core.specs.declared.value.Cell.TheVariants as cell
 use Rattle.sc_blocks.specs.Rows.{ended_block}
 

@@ -1,5 +1,12 @@
 -- Calls that begin.
-use Rattle.sc_run.proofs.Common.{Begun, Bor, Call, Callee, Caller, CameTo, Comes, Err, Frame, Function, Left, List, None, Ok, Option, Piece, Place, ProgramTree, Reached, RunEnd, Seen, Some, SourceRun, Standing, State, Step, Steps, Stop, Stopped, To, TypedExpr, Value, Work, [], and_then, ap, arith, back_from, begun, blocks_for, bodies, body_acts, c_arith, calls_in, done, entry_from, found, function, function_of, here_of, length, library, map, refl, result_goes, resume, returned, reverse, run_in, seen_of, store_at, subst, suc, sym, then_then, told_call, turn, variables, way_in, with_blocks, with_variables, word_in, zero, ℕ, ◌++◌, ◌∙◌, ◌∷◌, ◌≡◌, ◌≤◌}
+use Rattle.sc_run.proofs.Common.{Begun, Bor, Call, Callee, Caller, CameTo, Comes, Err, Frame, Function, Left, List}
+use Rattle.sc_run.proofs.Common.{None, Ok, Option, Piece, Place, ProgramTree, Reached, RunEnd, Seen, Some, SourceRun}
+use Rattle.sc_run.proofs.Common.{Standing, State, Step, Steps, Stop, Stopped, To, TypedExpr, Value, Work, [], and_then}
+use Rattle.sc_run.proofs.Common.{ap, arith, back_from, begun, blocks_for, bodies, body_acts, c_arith, calls_in, done}
+use Rattle.sc_run.proofs.Common.{entry_from, found, function, function_of, here_of, length, library, map, refl}
+use Rattle.sc_run.proofs.Common.{result_goes, resume, returned, reverse, run_in, seen_of, store_at, subst, suc, sym}
+use Rattle.sc_run.proofs.Common.{then_then, told_call, turn, variables, way_in, with_blocks, with_variables, word_in}
+use Rattle.sc_run.proofs.Common.{zero, ℕ, ◌++◌, ◌∙◌, ◌∷◌, ◌≡◌, ◌≤◌}
 use Rattle.sc_run.proofs.Blank.{blank_more, blank_new, length_same}
 use Rattle.sc_run.proofs.Coming.{with_memory, seen_with, blocks_seen}
 use Rattle.sc_run.proofs.Standing.{step_stops, step_ends, newest_first}

@@ -1,5 +1,8 @@
 -- Pieces of a run, one after the other.
-use Rattle.sc_run.proofs.Common.{Blamed, Blocks, CameTo, Cause, Comes, Err, Here, Memory, Next, Ok, Piece, Reached, Result, RunEnd, Seen, State, Stopped, TurnsOut, Value, and_then, ap, arith, computed, leave, refl, seen_of, store, stored, subst, suc, sym, turn, turn_of, with_blocks, with_exit, zero, ℕ, ◌∙◌, ◌≡◌}
+use Rattle.sc_run.proofs.Common.{Blamed, Blocks, CameTo, Cause, Comes, Err, Here, Memory, Next, Ok, Piece, Reached}
+use Rattle.sc_run.proofs.Common.{Result, RunEnd, Seen, State, Stopped, TurnsOut, Value, and_then, ap, arith, computed}
+use Rattle.sc_run.proofs.Common.{leave, refl, seen_of, store, stored, subst, suc, sym, turn, turn_of, with_blocks}
+use Rattle.sc_run.proofs.Common.{with_exit, zero, ℕ, ◌∙◌, ◌≡◌}
 use Rattle.sc_run.proofs.Blank.{blank, blanked, store_same, memory_with}
 
 abbrev pub with_memory : Seen → Memory → Seen

@@ -1,13 +1,34 @@
 -- The names that several proofs of this crate cite, passed on from one place. Declares nothing.
-pub use Rattle.std.proofs.Common.{Bool, Err, List, None, Ok, Option, Result, Some, [], add-one, ap, append-nil, append_assoc, arith, bytes_eq, drop, drop-cons, eq-eqb, eqb-true, false, get_or, if◌then◌else◌, is_some, le-leb, length, length-append, length-drop, length-take, lt-ltb, map, nat_lt, not, pos, refl, replicate, reverse, rules, slice_get, slice_index_or, slice_set, subst, suc, sym, take, take_all, true, true≢false, zero, ℕ, ℤ, ◌&&◌, ◌++◌, ◌+ℤ◌, ◌+◌, ◌-◌, ◌<◌, ◌==◌, ◌∙◌, ◌∷◌, ◌≡◌, ◌≤◌}
-pub use Rattle.std.proofs.lemmas.List.{drop_all, length-map, map-append, map-set, reverse-append, take-append-le, take-map, take_more}
+pub use Rattle.std.proofs.Common.{Bool, Err, List, None, Ok, Option, Result, Some, [], add-one, ap, append-nil}
+pub use Rattle.std.proofs.Common.{append_assoc, arith, bytes_eq, drop, drop-cons, eq-eqb, eqb-true, false, get_or}
+pub use Rattle.std.proofs.Common.{if◌then◌else◌, is_some, le-leb, length, length-append, length-drop, length-take}
+pub use Rattle.std.proofs.Common.{lt-ltb, map, nat_lt, not, pos, refl, replicate, reverse, rules, slice_get}
+pub use Rattle.std.proofs.Common.{slice_index_or, slice_set, subst, suc, sym, take, take_all, true, true≢false, zero, ℕ}
+pub use Rattle.std.proofs.Common.{ℤ, ◌&&◌, ◌++◌, ◌+ℤ◌, ◌+◌, ◌-◌, ◌<◌, ◌==◌, ◌∙◌, ◌∷◌, ◌≡◌, ◌≤◌}
+pub use Rattle.std.proofs.lemmas.List.{drop_all, length-map, map-append, map-set, reverse-append, take-append-le}
+pub use Rattle.std.proofs.lemmas.List.{take-map, take_more}
 pub use Rattle.std.proofs.lemmas.Result.{IfOk-weaker}
 pub use Rattle.std.specs.Option.{option_copied, option_map}
 pub use denote.Bor.{Bor}
 pub use Rattle.sc_event.specs.declared.event.Event.TheVariants.{End, In, Out}
 pub use Rattle.sc_event.specs.declared.row.Entry.TheVariants.{Export, Main}
 pub use Rattle.sc_core.proofs.Layers.{expr_at, layer_of, stmt_at, term_of, typed}
-pub use Rattle.sc_core.specs.Prelude.{Acts, Blocks, Break, Calls, Exit, Front, Function, Here, Left, Meant, Memory, Next, Piece, Reached, Return, Route, State, Stopped, Ways, all_do, and_then, applied, applied_one, assign, assign_call, at_place, at_pointer, back_cross, back_own, begun, between, binary, bind, block_does, blocks_for, c_arith, call, call_own, called, cell_of, cells_at, cells_of, choose, computed, crossed, done, ended, entry_in, evaluated, exit_word, first_blocks, first_state, first_word, follow, found, function, function_of, functions_in, global_block, globals_of, in_loop, in_order, init_does, inits_do, is_array, is_inside, is_live, is_pointer, is_true, is_unsigned, is_unsigned_op, is_word, kind_step, leads, leave, live_cells, load, loaded, loop, main_name, may_call, meaning, meant, meant_step, member_zeros, moved, moved_back, moved_on, next_input, of_bool, on_words, part_does, place_at, read_input, repeated, run_in, run_of, run_step, run_to, same_place, simple_does, stmt_step, stopped_at, store, store_at, store_result, stored, struct_zeros, target_cells, tell, term_step, test, turn, turn_of, values, variable_at, variables, wanted, ways, with_blocks, with_cell, with_words, within, word_in, zeros_of}
+pub use Rattle.sc_core.specs.Prelude.{Acts, Blocks, Break, Calls, Exit, Front, Function, Here, Left, Meant, Memory}
+pub use Rattle.sc_core.specs.Prelude.{Next, Piece, Reached, Return, Route, State, Stopped, Ways, all_do, and_then}
+pub use Rattle.sc_core.specs.Prelude.{applied, applied_one, assign, assign_call, at_place, at_pointer, back_cross}
+pub use Rattle.sc_core.specs.Prelude.{back_own, begun, between, binary, bind, block_does, blocks_for, c_arith, call}
+pub use Rattle.sc_core.specs.Prelude.{call_own, called, cell_of, cells_at, cells_of, choose, computed, crossed, done}
+pub use Rattle.sc_core.specs.Prelude.{ended, entry_in, evaluated, exit_word, first_blocks, first_state, first_word}
+pub use Rattle.sc_core.specs.Prelude.{follow, found, function, function_of, functions_in, global_block, globals_of}
+pub use Rattle.sc_core.specs.Prelude.{in_loop, in_order, init_does, inits_do, is_array, is_inside, is_live, is_pointer}
+pub use Rattle.sc_core.specs.Prelude.{is_true, is_unsigned, is_unsigned_op, is_word, kind_step, leads, leave}
+pub use Rattle.sc_core.specs.Prelude.{live_cells, load, loaded, loop, main_name, may_call, meaning, meant, meant_step}
+pub use Rattle.sc_core.specs.Prelude.{member_zeros, moved, moved_back, moved_on, next_input, of_bool, on_words}
+pub use Rattle.sc_core.specs.Prelude.{part_does, place_at, read_input, repeated, run_in, run_of, run_step, run_to}
+pub use Rattle.sc_core.specs.Prelude.{same_place, simple_does, stmt_step, stopped_at, store, store_at, store_result}
+pub use Rattle.sc_core.specs.Prelude.{stored, struct_zeros, target_cells, tell, term_step, test, turn, turn_of, values}
+pub use Rattle.sc_core.specs.Prelude.{variable_at, variables, wanted, ways, with_blocks, with_cell, with_words, within}
+pub use Rattle.sc_core.specs.Prelude.{word_in, zeros_of}
 pub use Rattle.sc_core.specs.declared.cause.Cause.{Cause}
 pub use Rattle.sc_core.specs.declared.cause.Cause.TheVariants.{BadPointer, BadType, Dangling, OutOfBounds}
 pub use Rattle.sc_core.specs.declared.expr.CallTarget.TheVariants.{Cross, Input, Output, Own}
@@ -24,10 +45,17 @@ pub use Rattle.sc_core.specs.declared.stmt.TypedStmt.{TypedStmt}
 pub use Rattle.sc_core.specs.declared.value.Cell.{Cell}
 pub use Rattle.sc_core.specs.declared.value.Pointer.{Pointer}
 pub use Rattle.sc_core.specs.declared.value.Value.TheVariants.{Null, Ptr, Word}
-pub use Rattle.sc_laws.proofs.Growing.{back_goes, calls_go, done_goes, earlier, follow_goes, front_more, stays, then_goes, then_then, within_goes}
+pub use Rattle.sc_laws.proofs.Growing.{back_goes, calls_go, done_goes, earlier, follow_goes, front_more, stays}
+pub use Rattle.sc_laws.proofs.Growing.{then_goes, then_then, within_goes}
 pub use Rattle.sc_laws.specs.Prelude.{GoFrom, Goes, Gone, IsStop, Never}
-pub use Rattle.sc_run.specs.Common.{Call, Callee, Event, Frame, ProgramTree, Ret, RunEnd, Undef, Value, cleared, given_back}
-pub use Rattle.sc_run.specs.Prelude.{Begun, CameTo, Comes, EndsAs, EntryAt, FoundAt, Seen, Standing, Stands, Steps, back_from, back_to, back_value, block_acts, block_for, bodies, body_acts, calls_in, cell_with, closes, does_now, ended_as, entry_from, exit_of, function_in, here_of, kept_by, left_by, library, loop_acts, memory_of, next_acts, part_acts, result_goes, resume, returned, seen_of, stmt_acts, told_back, told_call, variable_count, way_in, with_exit, with_variables, word_crossing}
+pub use Rattle.sc_run.specs.Common.{Call, Callee, Event, Frame, ProgramTree, Ret, RunEnd, Undef, Value, cleared}
+pub use Rattle.sc_run.specs.Common.{given_back}
+pub use Rattle.sc_run.specs.Prelude.{Begun, CameTo, Comes, EndsAs, EntryAt, FoundAt, Seen, Standing, Stands, Steps}
+pub use Rattle.sc_run.specs.Prelude.{back_from, back_to, back_value, block_acts, block_for, bodies, body_acts, calls_in}
+pub use Rattle.sc_run.specs.Prelude.{cell_with, closes, does_now, ended_as, entry_from, exit_of, function_in, here_of}
+pub use Rattle.sc_run.specs.Prelude.{kept_by, left_by, library, loop_acts, memory_of, next_acts, part_acts, result_goes}
+pub use Rattle.sc_run.specs.Prelude.{resume, returned, seen_of, stmt_acts, told_back, told_call, variable_count, way_in}
+pub use Rattle.sc_run.specs.Prelude.{with_exit, with_variables, word_crossing}
 pub use Rattle.sc_run.specs.declared.work.Loop.{Loop}
 pub use Rattle.sc_run.specs.declared.work.Now.{Now}
 pub use Rattle.sc_run.specs.declared.work.Now.TheVariants.{Leave, Run}

@@ -1,5 +1,10 @@
 -- Calls that end, and the end of the run.
-use Rattle.sc_run.proofs.Common.{Caller, End, Ended, Err, Exit, Frame, Left, List, None, Ok, Option, Piece, ProgramTree, Result, Ret, RunEnd, Seen, Some, SourceRun, Standing, State, Step, Steps, Stop, Stopped, To, Value, Work, [], and_then, ap, arith, back_own, back_to, back_value, cleared, closes, done, ended, ended_as, exit_word, function_in, leave, left_by, result_goes, resume, returned, reverse, run_to, seen_of, subst, suc, sym, tell, told_back, variable_count, with_blocks, word_crossing, ℕ, ◌++◌, ◌∙◌, ◌∷◌, ◌≡◌, ◌≤◌}
+use Rattle.sc_run.proofs.Common.{Caller, End, Ended, Err, Exit, Frame, Left, List, None, Ok, Option, Piece, ProgramTree}
+use Rattle.sc_run.proofs.Common.{Result, Ret, RunEnd, Seen, Some, SourceRun, Standing, State, Step, Steps, Stop}
+use Rattle.sc_run.proofs.Common.{Stopped, To, Value, Work, [], and_then, ap, arith, back_own, back_to, back_value}
+use Rattle.sc_run.proofs.Common.{cleared, closes, done, ended, ended_as, exit_word, function_in, leave, left_by}
+use Rattle.sc_run.proofs.Common.{result_goes, resume, returned, reverse, run_to, seen_of, subst, suc, sym, tell}
+use Rattle.sc_run.proofs.Common.{told_back, variable_count, with_blocks, word_crossing, ℕ, ◌++◌, ◌∙◌, ◌∷◌, ◌≡◌, ◌≤◌}
 use Rattle.sc_run.proofs.Blank.{left_same}
 use Rattle.sc_run.proofs.Coming.{with_memory, seen_with, blocks_seen}
 use Rattle.sc_run.proofs.Standing.{resume_stopped, newest_first}

@@ -1,5 +1,10 @@
 -- Globals, one after the other.
-use Rattle.sc_run.proofs.Common.{Blocks, Cell, List, Memory, Option, Some, TypedGlobal, TypedSection, TypedStruct, Undef, [], add-one, ap, append-nil, append_assoc, arith, cell_with, drop, drop-cons, drop_all, first_blocks, get_or, global_block, globals_of, if◌then◌else◌, length, length-take, map, map-append, member_zeros, refl, repeated, slice_get, struct_zeros, suc, sym, take, take_more, with_blocks, with_words, zero, zeros_of, ℕ, ◌++◌, ◌+◌, ◌<◌, ◌==◌, ◌∙◌, ◌∷◌, ◌≡◌, ◌≤◌}
+use Rattle.sc_run.proofs.Common.{Blocks, Cell, List, Memory, Option, Some, TypedGlobal, TypedSection, TypedStruct}
+use Rattle.sc_run.proofs.Common.{Undef, [], add-one, ap, append-nil, append_assoc, arith, cell_with, drop, drop-cons}
+use Rattle.sc_run.proofs.Common.{drop_all, first_blocks, get_or, global_block, globals_of, if◌then◌else◌, length}
+use Rattle.sc_run.proofs.Common.{length-take, map, map-append, member_zeros, refl, repeated, slice_get, struct_zeros}
+use Rattle.sc_run.proofs.Common.{suc, sym, take, take_more, with_blocks, with_words, zero, zeros_of, ℕ, ◌++◌, ◌+◌, ◌<◌}
+use Rattle.sc_run.proofs.Common.{◌==◌, ◌∙◌, ◌∷◌, ◌≡◌, ◌≤◌}
 use Rattle.std.proofs.Math.Dec.{eqb-suc-zero, eqb-zero-suc, eqb-suc-suc}
 use Rattle.sc_core.specs.declared.section.TypedMember.{TypedMember}
 use Rattle.sc_core.specs.declared.value.Cell.TheVariants.{Word, Null, Ptr}

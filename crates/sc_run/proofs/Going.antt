@@ -1,12 +1,17 @@
 -- What the statements of a frame do goes on, as what functions do does: it adds events, gives no turn, and stops by a
 -- blame or without turns.
-use Rattle.sc_run.proofs.Common.{Acts, Back, Calls, Frame, GoFrom, Goes, Here, Left, List, Loop, Never, Nowhere, Option, Place, ProgramTree, State, To, TypedStmt, Value, block_acts, block_does, bodies, bytes_eq, c_arith, calls_go, calls_in, closes, here_of, is_some, library, loop, loop_acts, main_name, next_acts, option_copied, part_does, result_goes, run_step, stays, store_result, test, way_in, within_goes, ℕ, ◌&&◌, ◌==◌, ◌≡◌}
+use Rattle.sc_run.proofs.Common.{Acts, Back, Calls, Frame, GoFrom, Goes, Here, Left, List, Loop, Never, Nowhere, Option}
+use Rattle.sc_run.proofs.Common.{Place, ProgramTree, State, To, TypedStmt, Value, block_acts, block_does, bodies}
+use Rattle.sc_run.proofs.Common.{bytes_eq, c_arith, calls_go, calls_in, closes, here_of, is_some, library, loop}
+use Rattle.sc_run.proofs.Common.{loop_acts, main_name, next_acts, option_copied, part_does, result_goes, run_step}
+use Rattle.sc_run.proofs.Common.{stays, store_result, test, way_in, within_goes, ℕ, ◌&&◌, ◌==◌, ◌≡◌}
 use Rattle.sc_laws.proofs.Expressions.{ArithKeeps}
 use Rattle.sc_laws.proofs.Interactions.{MatchWith, match_loop}
 use Rattle.sc_laws.proofs.Loops.{one_round, loop_again}
 use Rattle.sc_laws.proofs.Matching.{match_goes, run_goes_on}
 use Rattle.sc_laws.proofs.Programs.{itself_keeps, program_obeys}
-use Rattle.sc_laws.proofs.Statements.{test_matches, store_result_matches, way_matches, part_matches, block_matches, closed_matches}
+use Rattle.sc_laws.proofs.Statements.{test_matches, store_result_matches, way_matches, part_matches, block_matches}
+use Rattle.sc_laws.proofs.Statements.{closed_matches}
 
 itself : ArithKeeps Never c_arith c_arith
 itself = itself_keeps Never c_arith

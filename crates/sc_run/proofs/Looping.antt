@@ -1,5 +1,10 @@
 -- Loops, and what waits behind statements.
-use Rattle.sc_run.proofs.Common.{Acts, Body as Body', Bool, Break, Comes, Err, Exit, Frame, Go, Left, List, Loop, Next, Now, Ok, Piece, ProgramTree, Run as Run', RunEnd, Seen, State, Step, Steps, Stop, Value, Work, [], and_then, ap, arith, block_acts, choose, does_now, evaluated, false, follow, here_of, if◌then◌else◌, in_loop, is_true, leave, length, loop_acts, next_acts, refl, resume, reverse, subst, suc, sym, then_then, true, turn, way_in, ℕ, ◌++◌, ◌∙◌, ◌∷◌, ◌≡◌}
+use Rattle.sc_run.proofs.Common.{Acts, Body as Body', Bool, Break, Comes, Err, Exit, Frame, Go, Left, List, Loop, Next}
+use Rattle.sc_run.proofs.Common.{Now, Ok, Piece, ProgramTree, Run as Run', RunEnd, Seen, State, Step, Steps, Stop}
+use Rattle.sc_run.proofs.Common.{Value, Work, [], and_then, ap, arith, block_acts, choose, does_now, evaluated, false}
+use Rattle.sc_run.proofs.Common.{follow, here_of, if◌then◌else◌, in_loop, is_true, leave, length, loop_acts, next_acts}
+use Rattle.sc_run.proofs.Common.{refl, resume, reverse, subst, suc, sym, then_then, true, turn, way_in, ℕ, ◌++◌, ◌∙◌}
+use Rattle.sc_run.proofs.Common.{◌∷◌, ◌≡◌}
 use Rattle.sc_core.specs.Prelude.{take}
 use Rattle.sc_core.specs.declared.value.Want.TheVariants as want
 use Rattle.sc_run.proofs.Going.{loop_is}

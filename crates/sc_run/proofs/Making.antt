@@ -1,5 +1,12 @@
 -- The variables of a call, one block after the other, and their initialisers.
-use Rattle.sc_run.proofs.Common.{Acts, Blocks, Bool, CameTo, Comes, Err, Here, Left, List, Memory, Next, None, Ok, Option, Piece, Reached, Result, RunEnd, Seen, Some, State, Stopped, TypedExpr, TypedFunction, TypedLocal, TypedParam, TypedStruct, Value, [], all_do, ap, append-nil, append_assoc, arith, block_for, blocks_for, c_arith, cells_of, drop, drop_all, eq-eqb, eqb-true, false, follow, get_or, if◌then◌else◌, in_order, init_does, inits_do, length, length-append, length-map, length-take, map, map-append, refl, seen_of, slice_get, subst, suc, sym, take, take-map, take_more, true, with_blocks, with_exit, ℕ, ◌++◌, ◌+◌, ◌<◌, ◌==◌, ◌∙◌, ◌∷◌, ◌≡◌, ◌≤◌}
+use Rattle.sc_run.proofs.Common.{Acts, Blocks, Bool, CameTo, Comes, Err, Here, Left, List, Memory, Next, None, Ok}
+use Rattle.sc_run.proofs.Common.{Option, Piece, Reached, Result, RunEnd, Seen, Some, State, Stopped, TypedExpr}
+use Rattle.sc_run.proofs.Common.{TypedFunction, TypedLocal, TypedParam, TypedStruct, Value, [], all_do, ap, append-nil}
+use Rattle.sc_run.proofs.Common.{append_assoc, arith, block_for, blocks_for, c_arith, cells_of, drop, drop_all, eq-eqb}
+use Rattle.sc_run.proofs.Common.{eqb-true, false, follow, get_or, if◌then◌else◌, in_order, init_does, inits_do, length}
+use Rattle.sc_run.proofs.Common.{length-append, length-map, length-take, map, map-append, refl, seen_of, slice_get}
+use Rattle.sc_run.proofs.Common.{subst, suc, sym, take, take-map, take_more, true, with_blocks, with_exit, ℕ, ◌++◌, ◌+◌}
+use Rattle.sc_run.proofs.Common.{◌<◌, ◌==◌, ◌∙◌, ◌∷◌, ◌≡◌, ◌≤◌}
 use Rattle.sc_base.proofs.Lists.{drop-step}
 
 with_if : (b : Bool) (x y z : Blocks) → (if b then x else (if b then y else z)) ≡ (if b then x else z)

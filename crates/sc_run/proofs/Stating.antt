@@ -1,5 +1,10 @@
 -- Statements, by their layers.
-use Rattle.sc_run.proofs.Common.{Acts, Bor, Exit, Frame, Left, List, Loop, Next, None, Option, Piece, ProgramTree, Rest, Route, Seen, Some, State, Step, Steps, TypedExpr, TypedStmt, Work, [], and_then, ap, arith, assign, block_acts, c_arith, calls_in, choose, drop, evaluated, follow, get_or, here_of, in_order, kind_step, layer_of, leave, length, length-drop, loop, loop_acts, part_acts, part_does, refl, resume, reverse, stmt_acts, stmt_at, stmt_step, subst, sym, take, take_all, test, way_in, ℕ, ◌++◌, ◌-◌, ◌∙◌, ◌∷◌, ◌≡◌, ◌≤◌}
+use Rattle.sc_run.proofs.Common.{Acts, Bor, Exit, Frame, Left, List, Loop, Next, None, Option, Piece, ProgramTree, Rest}
+use Rattle.sc_run.proofs.Common.{Route, Seen, Some, State, Step, Steps, TypedExpr, TypedStmt, Work, [], and_then, ap}
+use Rattle.sc_run.proofs.Common.{arith, assign, block_acts, c_arith, calls_in, choose, drop, evaluated, follow, get_or}
+use Rattle.sc_run.proofs.Common.{here_of, in_order, kind_step, layer_of, leave, length, length-drop, loop, loop_acts}
+use Rattle.sc_run.proofs.Common.{part_acts, part_does, refl, resume, reverse, stmt_acts, stmt_at, stmt_step, subst, sym}
+use Rattle.sc_run.proofs.Common.{take, take_all, test, way_in, ℕ, ◌++◌, ◌-◌, ◌∙◌, ◌∷◌, ◌≡◌, ◌≤◌}
 use Rattle.sc_core.specs.declared.stmt.TypedStmtKind.{TypedStmtKind, TypedStmtKind-F, roll-TypedStmtKind}
 use Rattle.sc_core.specs.declared.stmt.TypedStmtKind.TheOpen as layer
 use Rattle.sc_core.specs.declared.value.Want.TheVariants as want

@@ -1,5 +1,12 @@
 -- Expressions give the same where ended variables hold no cells.
-use Rattle.sc_run.proofs.Common.{BadPointer, Blocks, Bool, Cause, Err, Here, List, Meant, Null, Ok, Pointer, Ptr, Result, TypedExpr, TypedStruct, Value, Ways, Word, [], ap, applied, applied_one, at_place, at_pointer, between, binary, bind, c_arith, choose, expr_at, false, if◌then◌else◌, is_array, is_inside, is_pointer, is_true, is_unsigned, is_unsigned_op, length, map, meant, meant_step, moved, moved_back, moved_on, nat_lt, not, of_bool, on_words, place_at, pos, refl, same_place, subst, sym, target_cells, term_of, term_step, typed, values, variable_at, wanted, ways, ℕ, ℤ, ◌&&◌, ◌+ℤ◌, ◌==◌, ◌∙◌, ◌∷◌, ◌≡◌}
+use Rattle.sc_run.proofs.Common.{BadPointer, Blocks, Bool, Cause, Err, Here, List, Meant, Null, Ok, Pointer, Ptr}
+use Rattle.sc_run.proofs.Common.{Result, TypedExpr, TypedStruct, Value, Ways, Word, [], ap, applied, applied_one}
+use Rattle.sc_run.proofs.Common.{at_place, at_pointer, between, binary, bind, c_arith, choose, expr_at, false}
+use Rattle.sc_run.proofs.Common.{if◌then◌else◌, is_array, is_inside, is_pointer, is_true, is_unsigned, is_unsigned_op}
+use Rattle.sc_run.proofs.Common.{length, map, meant, meant_step, moved, moved_back, moved_on, nat_lt, not, of_bool}
+use Rattle.sc_run.proofs.Common.{on_words, place_at, pos, refl, same_place, subst, sym, target_cells, term_of}
+use Rattle.sc_run.proofs.Common.{term_step, typed, values, variable_at, wanted, ways, ℕ, ℤ, ◌&&◌, ◌+ℤ◌, ◌==◌, ◌∙◌, ◌∷◌}
+use Rattle.sc_run.proofs.Common.{◌≡◌}
 use Rattle.sc_base.specs.declared.op.BinaryOp.{BinaryOp}
 use Rattle.sc_base.specs.declared.op.BinaryOp.TheVariants as op
 use Rattle.sc_core.specs.declared.ty.Ty.{Ty}

@@ -1,5 +1,9 @@
 -- A run from its first step to its end.
-use Rattle.sc_run.proofs.Common.{Begun, Callee, EndsAs, EntryAt, Event, EventsOut, Frame, Go, List, Main, Memory, None, Now, Option, ProgramTree, RunEnd, Seen, Some, SourceRun, Standing, Stands, Step, Steps, Stop, TurnsOut, Work, [], ap, body_acts, c_arith, does_now, entry_in, globals_of, if◌then◌else◌, le-leb, length, meaning, refl, run_of, stopped_at, subst, sym, take, ℕ, ◌∙◌, ◌≡◌, ◌≤◌}
+use Rattle.sc_run.proofs.Common.{Begun, Callee, EndsAs, EntryAt, Event, EventsOut, Frame, Go, List, Main, Memory, None}
+use Rattle.sc_run.proofs.Common.{Now, Option, ProgramTree, RunEnd, Seen, Some, SourceRun, Standing, Stands, Step, Steps}
+use Rattle.sc_run.proofs.Common.{Stop, TurnsOut, Work, [], ap, body_acts, c_arith, does_now, entry_in, globals_of}
+use Rattle.sc_run.proofs.Common.{if◌then◌else◌, le-leb, length, meaning, refl, run_of, stopped_at, subst, sym, take, ℕ}
+use Rattle.sc_run.proofs.Common.{◌∙◌, ◌≡◌, ◌≤◌}
 use Rattle.sc_run.proofs.Beginning.{no_main, main_missing, begins}
 use Rattle.sc_run.proofs.Onward.{stopped_here}
 

@@ -1,5 +1,6 @@
 -- Helping: how a call ends, as it is seen.
-use Rattle.sc_run.specs.Common.{Frame, Piece, ProgramTree, Reached, Ret, RunEnd, State, Stopped, Value, cleared, crossing, option_value, variables, with_blocks}
+use Rattle.sc_run.specs.Common.{Frame, Piece, ProgramTree, Reached, Ret, RunEnd, State, Stopped, Value, cleared}
+use Rattle.sc_run.specs.Common.{crossing, option_value, variables, with_blocks}
 use Rattle.sc_event.specs.Prelude.{export_at}
 use Rattle.std.specs.Prelude.{ℕ, ◌++◌, [], ◌∷◌, length, Option, None, Some, Result, Ok, Err}
 use Rattle.sc_run.specs.Seen.{Seen}

@@ -1,6 +1,8 @@
 //! Calls: from their arguments to the first statement of what is called, and back (C11 6.5.2.2).
 
-ghost use Rattle.sc_run.specs.Prelude.{Advances, Begun, Steps, and_then, back_from, bodies, body_acts, c_arith, entry_from, function, function_of, kept_by, library, result_goes, run_in, told_call, turn, word_in};
+ghost use Rattle.sc_run.specs.Prelude.{Advances, Begun, Steps, and_then, back_from, bodies, body_acts, c_arith};
+ghost use Rattle.sc_run.specs.Prelude.{entry_from, function, function_of, kept_by, library, result_goes, run_in};
+ghost use Rattle.sc_run.specs.Prelude.{told_call, turn, word_in};
 ghost use Rattle.std.specs.Prelude.{◌≡◌, ◌<◌, ◌^◌, IfOk, OnOk, Some, map, length};
 
 use crate::machine::{Machine, init_all, make_blocks, store_at, take_turn, tell};

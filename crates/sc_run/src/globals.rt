@@ -1,6 +1,7 @@
 //! The variables with which a program begins (C11 6.2.4p3, 6.7.9p10).
 
-ghost use Rattle.sc_run.specs.Prelude.{base_zeros, cell_with, global_block, globals_of, member_zeros, memory_of, repeated, starred_zeros, struct_zeros, with_blocks, with_words, zeros_of};
+ghost use Rattle.sc_run.specs.Prelude.{base_zeros, cell_with, global_block, globals_of, member_zeros, memory_of};
+ghost use Rattle.sc_run.specs.Prelude.{repeated, starred_zeros, struct_zeros, with_blocks, with_words, zeros_of};
 ghost use Rattle.std.specs.Prelude.{◌≡◌, ◌++◌, [], ◌∷◌, IfOk, OnOk, map, slice_get, slice_index_or};
 
 use sc_base::OutOfMemory;

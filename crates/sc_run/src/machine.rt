@@ -1,6 +1,8 @@
 //! The state of a run.
 
-ghost use Rattle.sc_run.specs.Prelude.{Comes, Next, all_do, assign, block_for, c_arith, evaluated, here_of, init_does, inits_do, kept_by, memory_of, store_at, stored, turn, way_in, with_blocks, with_exit, with_variables};
+ghost use Rattle.sc_run.specs.Prelude.{Comes, Next, all_do, assign, block_for, c_arith, evaluated, here_of, init_does};
+ghost use Rattle.sc_run.specs.Prelude.{inits_do, kept_by, memory_of, store_at, stored, turn, way_in, with_blocks};
+ghost use Rattle.sc_run.specs.Prelude.{with_exit, with_variables};
 ghost use Rattle.std.specs.Prelude.{◌≡◌, ◌<◌, ◌^◌, ◌++◌, [], ◌∷◌, suc, length, OnOk, slice_get};
 ghost use Rattle.sc_core.specs.declared.value.Want.TheVariants as want;
 

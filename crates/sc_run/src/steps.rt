@@ -1,6 +1,7 @@
 //! Statements, one step at a time.
 
-ghost use Rattle.sc_run.specs.Prelude.{Advances, Next, Return, and_then, block_acts, choose, evaluated, follow, here_of, in_order, leave, loop, loop_acts, part_acts, stmt_acts, test, way_in};
+ghost use Rattle.sc_run.specs.Prelude.{Advances, Next, Return, and_then, block_acts, choose, evaluated, follow};
+ghost use Rattle.sc_run.specs.Prelude.{here_of, in_order, leave, loop, loop_acts, part_acts, stmt_acts, test, way_in};
 ghost use Rattle.std.specs.Prelude.{IfOk, Some};
 ghost use Rattle.sc_core.specs.declared.value.Want.TheVariants as want;
 

@@ -1,5 +1,7 @@
 -- Known values of the definitions, in small sections.
-use Rattle.sc_scope.proofs.Common.{Decl, ExprTree, Function, FunctionParam, Global, List, LocalTree, None, Option, SectionTree, Some, StmtTree, Struct, Text, [], codes, names_broken, refl, rules, section_lines, ℕ, ◌∷◌, ◌≡◌}
+use Rattle.sc_scope.proofs.Common.{Decl, ExprTree, Function, FunctionParam, Global, List, LocalTree, None, Option}
+use Rattle.sc_scope.proofs.Common.{SectionTree, Some, StmtTree, Struct, Text, [], codes, names_broken, refl, rules}
+use Rattle.sc_scope.proofs.Common.{section_lines, ℕ, ◌∷◌, ◌≡◌}
 use Rattle.sc_ast.specs.declared.types.BaseTree.TheVariants as base
 use Rattle.sc_ast.specs.declared.types.TypeTree.{TypeTree}
 use Rattle.sc_ast.specs.declared.expr.ExprTree as terms

@@ -1,5 +1,6 @@
 -- Lines that are noted one after another.
-use Rattle.sc_scope.proofs.Common.{BrokenLines, List, Option, [], ap, line_of_text, map, map-append, noted, noted_all, refl, with_lines, ℕ, ◌++◌, ◌∙◌, ◌∷◌, ◌≡◌}
+use Rattle.sc_scope.proofs.Common.{BrokenLines, List, Option, [], ap, line_of_text, map, map-append, noted, noted_all}
+use Rattle.sc_scope.proofs.Common.{refl, with_lines, ℕ, ◌++◌, ◌∙◌, ◌∷◌, ◌≡◌}
 
 pub noted_all-append : (least : Option ℕ) (xs ys : List ℕ) →
     noted_all least (xs ++ ys) ≡ noted_all (noted_all least xs) ys

@@ -1,5 +1,6 @@
 -- Names of which no two are the same, one more at the end.
-use Rattle.sc_scope.proofs.Common.{Bool, List, Text, [], among, ap, are_distinct, false, nat_eq, not, pointwise, refl, true, ◌&&◌, ◌++◌, ◌||◌, ◌∙◌, ◌∷◌, ◌≡◌}
+use Rattle.sc_scope.proofs.Common.{Bool, List, Text, [], among, ap, are_distinct, false, nat_eq, not, pointwise, refl}
+use Rattle.sc_scope.proofs.Common.{true, ◌&&◌, ◌++◌, ◌||◌, ◌∙◌, ◌∷◌, ◌≡◌}
 use Rattle.std.proofs.lemmas.Cmp.{nat_list_eq_equiv}
 use Rattle.sc_scope.proofs.Lines.{among-append}
 

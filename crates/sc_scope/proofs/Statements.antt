@@ -1,5 +1,8 @@
 -- The lines of a statement, by what it does.
-use Rattle.sc_scope.proofs.Common.{Bool, BrokenLines, ExprTree, Known, List, Option, StmtTree, [], add-one, all_in, ap, body_lines, drop, drop-cons, drop_all, expr_known, false, get_or, length, map, part_lines, refl, rules, stmt_lines, suc, sym, true, unless, with_lines, ℕ, ◌++◌, ◌+◌, ◌<◌, ◌∙◌, ◌∷◌, ◌≡◌, ◌≤◌}
+use Rattle.sc_scope.proofs.Common.{Bool, BrokenLines, ExprTree, Known, List, Option, StmtTree, [], add-one, all_in, ap}
+use Rattle.sc_scope.proofs.Common.{body_lines, drop, drop-cons, drop_all, expr_known, false, get_or, length, map}
+use Rattle.sc_scope.proofs.Common.{part_lines, refl, rules, stmt_lines, suc, sym, true, unless, with_lines, ℕ, ◌++◌}
+use Rattle.sc_scope.proofs.Common.{◌+◌, ◌<◌, ◌∙◌, ◌∷◌, ◌≡◌, ◌≤◌}
 use Rattle.sc_ast.specs.declared.stmt.SimpleTree.{SimpleTree}
 use Rattle.sc_ast.specs.declared.stmt.StmtKind as kinds
 use Rattle.sc_ast.specs.declared.stmt.StmtKind.{the_lemmas}

@@ -1,5 +1,6 @@
 -- Lines at which the rules of a phase are broken, and the line at which the phase refuses the text.
-use Rattle.std.specs.Prelude.{ℕ, ◌+◌, ◌-◌, min, Bool, true, false, List, [], ◌∷◌, map, Option, Some, None, if◌then◌else◌, nat_eq}
+use Rattle.std.specs.Prelude.{ℕ, ◌+◌, ◌-◌, min, Bool, true, false, List, [], ◌∷◌, map, Option, Some, None}
+use Rattle.std.specs.Prelude.{if◌then◌else◌, nat_eq}
 use Rattle.sc_scope.specs.declared.broken.BrokenLines.{BrokenLines}
 
 -- the last line that is told: all later lines share its number

@@ -1,6 +1,8 @@
 -- What the sections of a text offer and use, as the interfaces of its program.
-use Rattle.sc_scope.specs.Common.{BaseTree, ExportLine, FunctionTree, HeadTree, ImportLine, ParamTree, SectionTree, TypeName, head_of, number_of}
-use Rattle.std.specs.Prelude.{ℕ, zero, suc, Bool, not, ◌&&◌, ◌==◌, bytes_eq, codes, List, [], ◌∷◌, map, Option, Some, None, if◌then◌else◌}
+use Rattle.sc_scope.specs.Common.{BaseTree, ExportLine, FunctionTree, HeadTree, ImportLine, ParamTree, SectionTree}
+use Rattle.sc_scope.specs.Common.{TypeName, head_of, number_of}
+use Rattle.std.specs.Prelude.{ℕ, zero, suc, Bool, not, ◌&&◌, ◌==◌, bytes_eq, codes, List, [], ◌∷◌, map, Option, Some}
+use Rattle.std.specs.Prelude.{None, if◌then◌else◌}
 use Rattle.std.specs.Option.{option_map, option_map_or}
 use Rattle.sc_event.specs.declared.interface.Scalar.{Scalar}
 use Rattle.sc_event.specs.declared.interface.Scalar.TheVariants as scalar

@@ -1,6 +1,8 @@
 -- The rules of names, and the lines of a section that break them (C11 6.2.1, 6.2.3).
-use Rattle.sc_scope.specs.Common.{BaseTree, Decl, Function, FunctionTree, Global, GlobalTree, HeadTree, ParamTree, Proto, SectionTree, Struct, StructTree, TypeName, head_of}
-use Rattle.std.specs.Prelude.{ℕ, Bool, true, false, not, ◌&&◌, ◌||◌, nat_eq, bytes_eq, List, [], ◌∷◌, ◌++◌, map, Option, Some, None}
+use Rattle.sc_scope.specs.Common.{BaseTree, Decl, Function, FunctionTree, Global, GlobalTree, HeadTree, ParamTree}
+use Rattle.sc_scope.specs.Common.{Proto, SectionTree, Struct, StructTree, TypeName, head_of}
+use Rattle.std.specs.Prelude.{ℕ, Bool, true, false, not, ◌&&◌, ◌||◌, nat_eq, bytes_eq, List, [], ◌∷◌, ◌++◌, map, Option}
+use Rattle.std.specs.Prelude.{Some, None}
 use Rattle.std.specs.List.{concat, list_all}
 use Rattle.sc_ast.specs.declared.types.BaseTree.TheVariants as base
 use Rattle.sc_ast.specs.declared.expr.ExprTree.{ExprTree, ExprTree-F, fold-ExprTree}
@@ -17,7 +19,8 @@ use Rattle.sc_ast.specs.declared.section.FunctionParam.{FunctionParam}
 use Rattle.sc_ast.specs.declared.section.LocalTree.{LocalTree}
 use Rattle.sc_scope.specs.Broken.{unless, line_of_text}
 use Rattle.sc_scope.specs.declared.section_names.SectionNames.{SectionNames}
-use Rattle.sc_scope.specs.Declarations.{Text, among, are_distinct, struct_names, global_names, proto_names, function_names, import_names}
+use Rattle.sc_scope.specs.Declarations.{Text, among, are_distinct, struct_names, global_names, proto_names}
+use Rattle.sc_scope.specs.Declarations.{function_names, import_names}
 
 -- Bodies.
 

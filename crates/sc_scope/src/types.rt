@@ -1,6 +1,7 @@
 //! Types: a tag that is used is that of a struct that is defined before.
 
-ghost use Rattle.sc_scope.specs.Prelude.{FunctionParam, base_known, head_known, member_known, pointed_known, result_known};
+ghost use Rattle.sc_scope.specs.Prelude.{FunctionParam, base_known, head_known, member_known, pointed_known};
+ghost use Rattle.sc_scope.specs.Prelude.{result_known};
 ghost use Rattle.sc_ast.specs.Prelude.{head_of};
 ghost use Rattle.std.specs.Prelude.{◌≡◌};
 ghost use Rattle.std.specs.List.{list_all};

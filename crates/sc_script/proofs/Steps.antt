@@ -1,6 +1,7 @@
 -- The rows of a trace, event by event.
 use Rattle.sc_event.specs.Prelude.{Standing, action_of, part, performer, rows_from, stands_after}
-use Rattle.std.proofs.Common.{◌≡◌, refl, sym, ap, ◌∙◌, arith, ℕ, suc, ◌+◌, ◌≤◌, Bool, true, false, List, [], ◌∷◌, ◌++◌, length, drop, Option, Some, None, if◌then◌else◌, append_assoc, length-append, append-nil}
+use Rattle.std.proofs.Common.{◌≡◌, refl, sym, ap, ◌∙◌, arith, ℕ, suc, ◌+◌, ◌≤◌, Bool, true, false, List, [], ◌∷◌, ◌++◌}
+use Rattle.std.proofs.Common.{length, drop, Option, Some, None, if◌then◌else◌, append_assoc, length-append, append-nil}
 use Rattle.std.specs.Prelude.{◌==◌}
 use Rattle.sc_event.specs.declared.event.Event.{Event}
 use Rattle.sc_event.specs.declared.row.Entry.{Entry}

@@ -1,22 +1,15 @@
 -- What the code of statements in order, of choices and of loops is made of, and that the jumps of their parts reach.
-use Rattle.std.proofs.Common.{◌≡◌, ◌<◌, ◌≤◌, ◌+◌, ◌-◌, ℕ, zero, suc, List, [], ◌∷◌, ◌++◌, append_assoc, arith, length, map, drop, drop-cons, get_or, refl, sym, ap, ◌∙◌, subst}
-use Rattle.std.specs.Prelude.{Bool, true, ◌&&◌, ℤ, pos}
-use Rattle.std.proofs.lemmas.List.{length-append}
-use Rattle.rv_code.specs.declared.instr.Instr.{Instr}
-use Rattle.rv_code.specs.declared.instr.Instr.TheVariants.{OpImm}
-use Rattle.rv_code.specs.declared.instr.OpImmOp.TheVariants.{Addi}
+use Rattle.sc_select.proofs.Common.{Addi, Bool, FrameTree, Instr, Line, List, OpImm, Piece, Place, TacStmt, [], ap}
+use Rattle.sc_select.proofs.Common.{append_assoc, arith, choice, cycle, drop, drop-cons, fold-TacStmt}
+use Rattle.sc_select.proofs.Common.{fold-roll-TacStmt, fork, get_or, jump_back, jump_over, length, length-append, map}
+use Rattle.sc_select.proofs.Common.{plain, plainly, pos, refl, roll-TacStmt, round_begins, select, select_all}
+use Rattle.sc_select.proofs.Common.{select_step, subst, suc, sym, true, zero, ℕ, ℤ, ◌&&◌, ◌++◌, ◌+◌, ◌-◌, ◌<◌, ◌∙◌, ◌∷◌}
+use Rattle.sc_select.proofs.Common.{◌≡◌, ◌≤◌}
+use Rattle.sc_tac.specs.Prelude.{everywhere, passes_few, stmt_weight, weight, with_parts}
 use Rattle.sc_base.proofs.Bools.{and_first, and_rest}
-use Rattle.sc_tac.specs.declared.frame.FrameTree.{FrameTree}
-use Rattle.sc_tac.specs.declared.place.Place.{Place}
-use Rattle.sc_tac.specs.declared.stmt.TacStmt.{TacStmt, fold-TacStmt, fold-roll-TacStmt, roll-TacStmt}
 use Rattle.sc_tac.specs.declared.stmt.TacStmt.TheOpen as tac
 use Rattle.sc_tac.specs.declared.stmt.TacStmt.TheVariants as emit
-use Rattle.sc_tac.specs.Functions.{passes_few}
-use Rattle.sc_tac.specs.Parts.{everywhere, with_parts}
-use Rattle.sc_tac.specs.Weights.{stmt_weight, weight}
 use Rattle.sc_select.specs.Bounds.{Fits, most_lines}
-use Rattle.sc_select.specs.Lines.{Line, plain, plainly}
-use Rattle.sc_select.specs.Selection.{Piece, choice, cycle, fork, jump_back, jump_over, round_begins, select, select_all, select_step}
 use Rattle.sc_select.proofs.Sizes.{row_is_sized}
 
 -- FEW ARGUMENTS

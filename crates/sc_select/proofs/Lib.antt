@@ -1,3 +1,4 @@
+pub mod Common
 pub mod Composition
 pub mod Lines
 pub mod Sizes

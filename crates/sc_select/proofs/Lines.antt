@@ -1,9 +1,9 @@
 -- Lines that are kept as instructions and targets, the last ones first.
-use Rattle.std.proofs.Common.{◌≡◌, ℕ, suc, List, [], ◌∷◌, ◌++◌, length, reverse, Option, pred, slice_set, append_assoc, refl, sym, ap, ap₂, ◌∙◌}
-use Rattle.std.proofs.lemmas.List.{reverse-append, length-reverse, reverse-reverse}
-use Rattle.rv_code.specs.declared.instr.Instr.{Instr}
+use Rattle.sc_select.proofs.Common.{Instr, Line, List, Option, [], ap, append_assoc, ap₂, length, length-reverse, pred}
+use Rattle.sc_select.proofs.Common.{refl, reverse, reverse-append, reverse-reverse, slice_set, suc, sym, ℕ, ◌++◌, ◌∙◌}
+use Rattle.sc_select.proofs.Common.{◌∷◌, ◌≡◌}
 use Rattle.sc_tac.specs.declared.machine_code.Target.{Target}
-use Rattle.sc_select.specs.Lines.{Line, lines_of}
+use Rattle.sc_select.specs.Lines.{lines_of}
 
 lines_append : (is js : List Instr) (ts us : List (Option Target)) → length is ≡ length ts →
     lines_of (is ++ js) (ts ++ us) ≡ lines_of is ts ++ lines_of js us

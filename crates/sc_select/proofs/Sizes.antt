@@ -1,14 +1,12 @@
 -- Pieces have as many lines as they say.
-use Rattle.std.proofs.Common.{◌≡◌, ℕ, suc, ◌+◌, List, [], ◌∷◌, ◌++◌, map, length, arith, refl, sym, subst}
-use Rattle.std.proofs.lemmas.List.{length-append, length-map}
+use Rattle.sc_select.proofs.Common.{FrameTree, Line, List, Piece, Place, TacStmt, TacStmt-F, [], arith, choice, cycle}
+use Rattle.sc_select.proofs.Common.{fold-roll-TacStmt, followed, fork, in_order, jump_back, jump_over, length}
+use Rattle.sc_select.proofs.Common.{length-append, length-map, map, map-TacStmt, plain, plainly, refl, roll-TacStmt}
+use Rattle.sc_select.proofs.Common.{round_begins, select, select_all, select_step, subst, suc, sym, ℕ, ◌++◌, ◌+◌, ◌∷◌}
+use Rattle.sc_select.proofs.Common.{◌≡◌}
 use Rattle.sc_core.proofs.Induction.{Each, everywhere}
-use Rattle.sc_tac.specs.declared.frame.FrameTree.{FrameTree}
-use Rattle.sc_tac.specs.declared.place.Place.{Place}
-use Rattle.sc_tac.specs.declared.stmt.TacStmt.{TacStmt, TacStmt-F, fold-roll-TacStmt, map-TacStmt, roll-TacStmt}
 use Rattle.sc_tac.specs.declared.stmt.TacStmt.TheOpen as tac
 use Rattle.sc_tac.proofs.Induction.{Inside, stmt_induction}
-use Rattle.sc_select.specs.Lines.{Line, plain, plainly}
-use Rattle.sc_select.specs.Selection.{Piece, followed, in_order, jump_over, jump_back, round_begins, choice, fork, cycle, select_step, select, select_all}
 
 pub record IsSized (piece : Piece) : Type 0 where
   pub sized : (to_break to_continue : ℕ) → length (piece.lines to_break to_continue) ≡ piece.size

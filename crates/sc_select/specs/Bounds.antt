@@ -1,10 +1,6 @@
 -- What the jumps of code need: distances that a JAL can hold.
+use Rattle.sc_select.specs.Common.{FrameTree, Place, TacStmt, everywhere, passes_few}
 use Rattle.std.specs.Prelude.{◌<◌, ℕ, ◌+◌, List, IsTrue}
-use Rattle.sc_tac.specs.declared.frame.FrameTree.{FrameTree}
-use Rattle.sc_tac.specs.declared.place.Place.{Place}
-use Rattle.sc_tac.specs.declared.stmt.TacStmt.{TacStmt}
-use Rattle.sc_tac.specs.Functions.{passes_few}
-use Rattle.sc_tac.specs.Parts.{everywhere}
 use Rattle.sc_select.specs.Selection.{select_all}
 
 -- fewer lines than a jump can lead over: 2 ^ 20 bytes, less its own line

@@ -1,3 +1,5 @@
+pub mod Common
+pub mod Prelude
 pub mod Bounds
 pub mod Lines
 pub mod Operators

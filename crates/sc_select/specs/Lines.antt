@@ -1,7 +1,6 @@
 -- Lines of code.
+use Rattle.sc_select.specs.Common.{CodeTree, Instr}
 use Rattle.std.specs.Prelude.{ℕ, suc, List, [], ◌∷◌, ◌++◌, map, Option, None, Some}
-use Rattle.rv_code.specs.declared.instr.Instr.{Instr}
-use Rattle.sc_tac.specs.declared.machine_code.CodeTree.{CodeTree}
 use Rattle.sc_tac.specs.declared.machine_code.Relocation.{Relocation}
 use Rattle.sc_tac.specs.declared.machine_code.Target.{Target}
 

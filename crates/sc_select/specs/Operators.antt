@@ -1,18 +1,15 @@
 -- The instructions of operators, by the registers of the result and of the operands. The result is written last, since it
 -- may lie where an operand lies.
-use Rattle.std.specs.Prelude.{ℕ, ℤ, pos, negsuc, ◌+◌, ◌*◌, ◌%◌, ◌^◌, Bool, true, false, List, [], ◌∷◌, ◌++◌, if◌then◌else◌}
-use Rattle.rv_code.specs.declared.instr.Instr.{Instr}
-use Rattle.rv_code.specs.declared.instr.Instr.TheVariants.{OpImm, Op}
-use Rattle.rv_code.specs.declared.instr.OpImmOp.TheVariants.{Sltiu, Xori}
+use Rattle.sc_select.specs.Common.{Add, And, Div, Divu, Instr, Mul, Op, OpImm, Or, Rem, Remu, Sll, Slt, Sltiu, Sltu}
+use Rattle.sc_select.specs.Common.{Sra, Srl, Sub, TacOp, Xor, Xori, is_unsigned}
+use Rattle.std.specs.Prelude.{ℕ, ℤ, pos, negsuc, ◌+◌, ◌*◌, ◌%◌, ◌^◌, Bool, true, false, List, [], ◌∷◌, ◌++◌}
+use Rattle.std.specs.Prelude.{if◌then◌else◌}
 use Rattle.rv_code.specs.declared.instr.OpOp.{OpOp}
-use Rattle.rv_code.specs.declared.instr.OpOp.TheVariants.{Add, Sub, Sll, Slt, Sltu, Xor, Srl, Sra, Or, And, Mul, Div, Divu, Rem, Remu}
 use Rattle.sc_base.specs.declared.op.BinaryOp.{BinaryOp}
 use Rattle.sc_base.specs.declared.op.BinaryOp.TheVariants as op
 use Rattle.sc_base.specs.declared.op.UnaryOp.{UnaryOp}
 use Rattle.sc_base.specs.declared.op.UnaryOp.TheVariants as unary
-use Rattle.sc_tac.specs.declared.stmt.TacOp.{TacOp}
 use Rattle.sc_tac.specs.declared.stmt.TacOp.TheVariants as tacop
-use Rattle.sc_tac.specs.Code.{is_unsigned}
 use Rattle.sc_select.specs.Pieces.{first_scratch, second_scratch, address_scratch, move, loading, moved_by}
 
 -- of the two, the one for unsigned words

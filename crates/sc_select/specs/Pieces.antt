@@ -1,16 +1,10 @@
 -- Pieces of machine code: a word loaded into a register, words of the frame near the stack pointer and far from it, the
 -- places of temporaries, the way into a function and out of it (RISC-V Unprivileged ISA, RV32I).
-use Rattle.std.specs.Prelude.{ℕ, ℤ, pos, negsuc, ◌+◌, ◌*◌, ◌/◌, ◌%◌, ◌^◌, Bool, ◌&&◌, nat_lt, int_le, List, [], ◌∷◌, ◌++◌, if◌then◌else◌}
-use Rattle.rv_code.specs.declared.instr.Instr.{Instr}
-use Rattle.rv_code.specs.declared.instr.Instr.TheVariants.{Upper, Jalr, Load, Store, OpImm, Op}
-use Rattle.rv_code.specs.declared.instr.UpperOp.TheVariants.{Lui}
-use Rattle.rv_code.specs.declared.instr.LoadOp.TheVariants.{Lw}
-use Rattle.rv_code.specs.declared.instr.StoreOp.TheVariants.{Sw}
-use Rattle.rv_code.specs.declared.instr.OpImmOp.TheVariants.{Addi}
-use Rattle.rv_code.specs.declared.instr.OpOp.TheVariants.{Add}
-use Rattle.rv_code.specs.Ranges.{signed}
-use Rattle.sc_word.specs.Machine.{sub_word}
-use Rattle.sc_word.specs.Word.{signed_of}
+use Rattle.sc_select.specs.Common.{Add, Addi, Instr, Jalr, Load, Lui, Lw, Op, OpImm, Store, Sw, Upper}
+use Rattle.sc_word.specs.Prelude.{signed_of, sub_word}
+use Rattle.rv_code.specs.Prelude.{signed}
+use Rattle.std.specs.Prelude.{ℕ, ℤ, pos, negsuc, ◌+◌, ◌*◌, ◌/◌, ◌%◌, ◌^◌, Bool, ◌&&◌, nat_lt, int_le, List, [], ◌∷◌}
+use Rattle.std.specs.Prelude.{◌++◌, if◌then◌else◌}
 
 -- Registers by their numbers: the return address, the stack pointer, three that pieces compute in, and from a0 on those of
 -- arguments. The rest are for temporaries.

@@ -1,28 +1,21 @@
 -- Instruction selection: the instructions of each statement of three-address code, where each temporary has its place.
-use Rattle.std.specs.Prelude.{ℕ, zero, suc, ℤ, pos, ◌+◌, ◌*◌, List, [], ◌∷◌, ◌++◌, map, length, Option, None, Some, slice_get, neg_ℤ}
+use Rattle.sc_select.specs.Common.{Addi, Branch, CodeTree, Ecall, FrameTree, Instr, Jal, Jalr, Load, Lui, Lw, OpImm}
+use Rattle.sc_select.specs.Common.{Place, Store, Sw, TacOp, TacStmt, TacStmt-F, Upper, fold-TacStmt}
+use Rattle.std.specs.Prelude.{ℕ, zero, suc, ℤ, pos, ◌+◌, ◌*◌, List, [], ◌∷◌, ◌++◌, map, length, Option, None, Some}
+use Rattle.std.specs.Prelude.{slice_get, neg_ℤ}
 use Rattle.std.specs.Option.{unwrap_or}
 use Rattle.sc_event.specs.declared.row.Entry.{Entry}
 use Rattle.sc_event.specs.declared.row.Entry.TheVariants.{Main}
-use Rattle.rv_code.specs.declared.instr.Instr.{Instr}
-use Rattle.rv_code.specs.declared.instr.Instr.TheVariants.{Upper, Jal, Jalr, Branch, Load, Store, OpImm, Ecall}
-use Rattle.rv_code.specs.declared.instr.UpperOp.TheVariants.{Lui}
 use Rattle.rv_code.specs.declared.instr.BranchOp.TheVariants.{Bne}
-use Rattle.rv_code.specs.declared.instr.LoadOp.TheVariants.{Lw}
-use Rattle.rv_code.specs.declared.instr.StoreOp.TheVariants.{Sw}
-use Rattle.rv_code.specs.declared.instr.OpImmOp.TheVariants.{Addi}
-use Rattle.sc_tac.specs.declared.frame.FrameTree.{FrameTree}
 use Rattle.sc_tac.specs.declared.function.TacFnTree.{TacFnTree}
-use Rattle.sc_tac.specs.declared.machine_code.CodeTree.{CodeTree}
 use Rattle.sc_tac.specs.declared.machine_code.Target.TheVariants.{Function, Entry as EntryOf, Global}
-use Rattle.sc_tac.specs.declared.place.Place.{Place}
 use Rattle.sc_tac.specs.declared.place.Place.TheVariants.{Register, Slot}
 use Rattle.sc_tac.specs.declared.stmt.Constant.{Constant}
 use Rattle.sc_tac.specs.declared.stmt.Constant.TheVariants as constant
-use Rattle.sc_tac.specs.declared.stmt.TacOp.{TacOp}
-use Rattle.sc_tac.specs.declared.stmt.TacStmt.{TacStmt, TacStmt-F, fold-TacStmt}
 use Rattle.sc_tac.specs.declared.stmt.TacStmt.TheOpen as tac
 use Rattle.sc_select.specs.Lines.{Line, plain, plainly, linked, code_of_lines}
-use Rattle.sc_select.specs.Pieces.{ra, sp, first_scratch, second_scratch, a0, a7, register_of, move, loading, moved_by, load_word, store_word, frame_taken, frame_left}
+use Rattle.sc_select.specs.Pieces.{ra, sp, first_scratch, second_scratch, a0, a7, register_of, move, loading, moved_by}
+use Rattle.sc_select.specs.Pieces.{load_word, store_word, frame_taken, frame_left}
 use Rattle.sc_select.specs.Operators.{op_code}
 
 -- how many lines a piece of code has, and which, where so many lie between its end and where a break leads, and a continue

@@ -1,9 +1,7 @@
 //! Calls of functions.
 
+ghost use Rattle.sc_select.specs.Prelude.{Jal, call_cross, call_own, pass, plainly, receive};
 ghost use Rattle.std.specs.Prelude.{◌≡◌, ◌≤◌, ◌++◌, OnOk, length};
-ghost use Rattle.rv_code.specs.declared.instr.Instr.TheVariants.{Jal};
-ghost use Rattle.sc_select.specs.Lines.{plainly};
-ghost use Rattle.sc_select.specs.Selection.{call_cross, call_own, pass, receive};
 
 use crate::backward::Backward;
 use crate::homes::Homes;

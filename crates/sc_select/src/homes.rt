@@ -1,7 +1,6 @@
+ghost use Rattle.sc_select.specs.Prelude.{at_hand, is_place, object_offset, operand, register_count, register_of};
+ghost use Rattle.sc_select.specs.Prelude.{slot_offset};
 ghost use Rattle.std.specs.Prelude.{◌≡◌, ◌<◌, IsTrue, IfSome, length, slice_get};
-ghost use Rattle.sc_tac.specs.Places.{is_place, register_count};
-ghost use Rattle.sc_select.specs.Pieces.{register_of};
-ghost use Rattle.sc_select.specs.Selection.{at_hand, object_offset, operand, slot_offset};
 
 use rv_code::Reg;
 use sc_tac::{Frame, Place, Places};

@@ -1,13 +1,10 @@
 //! The instructions of operators.
 
+ghost use Rattle.sc_select.specs.Prelude.{Op, OpImm, Slt, Sltiu, Sltu, Xori, is_unsigned, plainly};
 ghost use Rattle.std.specs.Prelude.{◌≡◌, ◌++◌, ◌∷◌, [], false, OnOk};
-ghost use Rattle.rv_code.specs.declared.instr.Instr.TheVariants.{OpImm, Op};
-ghost use Rattle.rv_code.specs.declared.instr.OpImmOp.TheVariants.{Sltiu, Xori};
 ghost use Rattle.sc_base.specs.declared.op.BinaryOp.TheVariants as op;
-ghost use Rattle.sc_tac.specs.Code.{is_unsigned};
-ghost use Rattle.sc_select.specs.Lines.{plainly};
-ghost use Rattle.sc_select.specs.Operators.{binary_code, by_sign, bytes_of, inverted, is_not_zero, is_zero, op_code, pointer_difference, pointer_move, stepped, unary_code};
-ghost use Rattle.rv_code.specs.declared.instr.OpOp.TheVariants.{Slt, Sltu};
+ghost use Rattle.sc_select.specs.Operators.{binary_code, by_sign, bytes_of, inverted, is_not_zero, is_zero, op_code};
+ghost use Rattle.sc_select.specs.Operators.{pointer_difference, pointer_move, stepped, unary_code};
 
 use crate::backward::Backward;
 use crate::pieces::{

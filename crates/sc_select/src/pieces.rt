@@ -1,15 +1,13 @@
 //! Pieces of code: constants, words of the frame, the way into a function and out of it.
 
+ghost use Rattle.sc_select.specs.Prelude.{Add, Addi, Load, Op, OpImm, Store, Upper, far_from_sp, frame_left};
+ghost use Rattle.sc_select.specs.Prelude.{frame_taken, load_word, loading, lower_part, move, moved_by, plainly};
+ghost use Rattle.sc_select.specs.Prelude.{store_word, upper_part};
+ghost use Rattle.rv_code.specs.Prelude.{IsImmediate, IsReg};
 ghost use Rattle.std.specs.Prelude.{◌≡◌, ◌++◌, ◌∷◌, ◌<◌, OnOk};
-ghost use Rattle.rv_code.specs.declared.instr.Instr.TheVariants.{Upper, Load, Store, OpImm, Op};
 ghost use Rattle.rv_code.specs.declared.instr.UpperOp.TheVariants.{Lui};
 ghost use Rattle.rv_code.specs.declared.instr.LoadOp.TheVariants.{Lw};
 ghost use Rattle.rv_code.specs.declared.instr.StoreOp.TheVariants.{Sw};
-ghost use Rattle.rv_code.specs.declared.instr.OpImmOp.TheVariants.{Addi};
-ghost use Rattle.rv_code.specs.declared.instr.OpOp.TheVariants.{Add};
-ghost use Rattle.rv_code.specs.Ranges.{IsImmediate, IsReg};
-ghost use Rattle.sc_select.specs.Pieces.{far_from_sp, frame_left, frame_taken, load_word, loading, lower_part, move, moved_by, store_word, upper_part};
-ghost use Rattle.sc_select.specs.Lines.{plainly};
 
 use crate::backward::Backward;
 use rv_code::{Immediate, Instr, LoadOp, OpImmOp, OpOp, Reg, StoreOp, UpperImmediate, UpperOp};

@@ -1,9 +1,10 @@
 //! Statements without others inside. Code is written from its end: what is done first is written last.
 
+ghost use Rattle.sc_select.specs.Prelude.{brought, choice, copied, environment_call, keep, load_from, loading};
+ghost use Rattle.sc_select.specs.Prelude.{moved_by, object_offset, operation, place_of_global, plainly, put, receive};
+ghost use Rattle.sc_select.specs.Prelude.{result_register, return, second_operand, store_to, take, take_second};
+ghost use Rattle.sc_select.specs.Prelude.{word_of_constant};
 ghost use Rattle.std.specs.Prelude.{◌≡◌, ◌++◌, ◌∷◌, [], ◌+◌, ◌<◌, OnOk, Some, None, length, slice_get};
-ghost use Rattle.sc_select.specs.Lines.{plainly};
-ghost use Rattle.sc_select.specs.Selection.{brought, choice, copied, environment_call, keep, load_from, object_offset, operation, place_of_global, put, receive, result_register, return, second_operand, store_to, take, take_second, word_of_constant};
-ghost use Rattle.sc_select.specs.Pieces.{loading, moved_by};
 
 use crate::backward::Backward;
 use crate::homes::{Homes, register_of};

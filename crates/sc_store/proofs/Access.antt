@@ -1,5 +1,8 @@
 -- Accesses byte by byte, and the numbers that their bytes make.
-use Rattle.sc_store.proofs.Common.{HasBytes, IsSome, List, Memory, Some, [], ap, arith, byte_of, cases_eq, cases_lt, get_or, get_or-take, length, length-take-le, load_of, refl, stored, subst, suc, sym, take, unwrap_or, written, zero, ℕ, ⊎_elim, ◌*◌, ◌+◌, ◌-◌, ◌<◌, ◌^◌, ◌∙◌, ◌∷◌, ◌≡◌, ◌≤◌}
+use Rattle.sc_store.proofs.Common.{HasBytes, IsSome, List, Memory, Some, [], ap, arith, byte_of, cases_eq, cases_lt}
+use Rattle.sc_store.proofs.Common.{get_or, get_or-take, length, length-take-le, load_of, refl, stored, subst, suc, sym}
+use Rattle.sc_store.proofs.Common.{take, unwrap_or, written, zero, ℕ, ⊎_elim, ◌*◌, ◌+◌, ◌-◌, ◌<◌, ◌^◌, ◌∙◌, ◌∷◌, ◌≡◌}
+use Rattle.sc_store.proofs.Common.{◌≤◌}
 use Rattle.std.specs.Int.{w32, to_le_bytes, sum_through, byte_worth}
 use Rattle.sc_store.proofs.Words.{stored-in, stored-apart}
 use Rattle.sc_store.proofs.Parts.{written-in, written-apart}

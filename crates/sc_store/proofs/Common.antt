@@ -1,9 +1,15 @@
 -- The names that several proofs of this crate cite, passed on from one place. Declares nothing.
-pub use Rattle.std.proofs.Common.{Bool, IsSome, IsTrue, List, None, Option, Some, [], ap, arith, cond, drop, false, get_or, get_or-drop, get_or-set_same, get_or-take, inl, inr, is_some, length, length-append, length-drop, length-set, length-take-le, lt-ltb, nat_le, nat_lt, refl, set, subst, suc, sym, take, take_at, true, unwrap_or, zero, ℕ, ⊎_elim, ◌%◌, ◌&&◌, ◌*◌, ◌++◌, ◌+◌, ◌-◌, ◌<◌, ◌^◌, ◌↔◌, ◌∙◌, ◌∷◌, ◌≡◌, ◌≤◌, ◌⊎◌}
+pub use Rattle.std.proofs.Common.{Bool, IsSome, IsTrue, List, None, Option, Some, [], ap, arith, cond, drop, false}
+pub use Rattle.std.proofs.Common.{get_or, get_or-drop, get_or-set_same, get_or-take, inl, inr, is_some, length}
+pub use Rattle.std.proofs.Common.{length-append, length-drop, length-set, length-take-le, lt-ltb, nat_le, nat_lt, refl}
+pub use Rattle.std.proofs.Common.{set, subst, suc, sym, take, take_at, true, unwrap_or, zero, ℕ, ⊎_elim, ◌%◌, ◌&&◌, ◌*◌}
+pub use Rattle.std.proofs.Common.{◌++◌, ◌+◌, ◌-◌, ◌<◌, ◌^◌, ◌↔◌, ◌∙◌, ◌∷◌, ◌≡◌, ◌≤◌, ◌⊎◌}
 pub use Rattle.std.proofs.lemmas.Bool.{cases_eq, cases_lt}
 pub use Rattle.std.proofs.lemmas.Bool.Decides.{nat_tests}
 pub use Rattle.std.proofs.lemmas.List.{get_or-append_right, get_or-map, get_or_append_left, length-map}
 pub use Rattle.std.proofs.lemmas.Option.{same_Some}
 pub use Rattle.std.specs.List.{All, position, position_or_len}
-pub use Rattle.sc_store.specs.Prelude.{AreApart, AreBelow, HasBytes, HoldsBytes, IsIn, IsZero, Memory, byte_of, bytes_of, is_in, load_of, piece_of, region_of, regions_of, spans, stored, written, zeros}
+pub use Rattle.sc_store.specs.Prelude.{AreApart, AreBelow, HasBytes, HoldsBytes, IsIn, IsZero, Memory, byte_of}
+pub use Rattle.sc_store.specs.Prelude.{bytes_of, is_in, load_of, piece_of, region_of, regions_of, spans, stored}
+pub use Rattle.sc_store.specs.Prelude.{written, zeros}
 pub use Rattle.sc_store.specs.declared.region.Region.{Region}

@@ -1,5 +1,7 @@
 -- Addresses in regions, and where zeros stand.
-use Rattle.sc_store.proofs.Common.{AreBelow, HoldsBytes, IsIn, List, None, Region, Some, [], ap, arith, cases_lt, cond, false, get_or, inl, inr, is_in, length, nat_tests, refl, same_Some, suc, sym, true, zero, zeros, ℕ, ⊎_elim, ◌+◌, ◌<◌, ◌∙◌, ◌∷◌, ◌≡◌, ◌⊎◌}
+use Rattle.sc_store.proofs.Common.{AreBelow, HoldsBytes, IsIn, List, None, Region, Some, [], ap, arith, cases_lt, cond}
+use Rattle.sc_store.proofs.Common.{false, get_or, inl, inr, is_in, length, nat_tests, refl, same_Some, suc, sym, true}
+use Rattle.sc_store.proofs.Common.{zero, zeros, ℕ, ⊎_elim, ◌+◌, ◌<◌, ◌∙◌, ◌∷◌, ◌≡◌, ◌⊎◌}
 
 -- ---- an address in a region: the test says what the fact does
 pub in_true : (r : Region) (a : ℕ) → IsIn r a → is_in r a ≡ true

@@ -1,5 +1,7 @@
 -- What a store changes, and what a load gives after it.
-use Rattle.sc_store.proofs.Common.{HasBytes, IsSome, Memory, Some, ap, arith, byte_of, cases_lt, false, is_some, load_of, nat_le, nat_lt, nat_tests, refl, stored, subst, suc, sym, true, unwrap_or, zero, ℕ, ⊎_elim, ◌%◌, ◌&&◌, ◌*◌, ◌+◌, ◌-◌, ◌<◌, ◌^◌, ◌↔◌, ◌∙◌, ◌≡◌, ◌≤◌, ◌⊎◌}
+use Rattle.sc_store.proofs.Common.{HasBytes, IsSome, Memory, Some, ap, arith, byte_of, cases_lt, false, is_some}
+use Rattle.sc_store.proofs.Common.{load_of, nat_le, nat_lt, nat_tests, refl, stored, subst, suc, sym, true, unwrap_or}
+use Rattle.sc_store.proofs.Common.{zero, ℕ, ⊎_elim, ◌%◌, ◌&&◌, ◌*◌, ◌+◌, ◌-◌, ◌<◌, ◌^◌, ◌↔◌, ◌∙◌, ◌≡◌, ◌≤◌, ◌⊎◌}
 use Rattle.std.proofs.Math.Arith.{mod-mul}
 use Rattle.std.proofs.Math.Nat.{pow-suc, pow-succ'}
 

@@ -1,5 +1,7 @@
 -- Code has no more branches than it weighs.
-use Rattle.sc_tac.proofs.Common.{Each, List, TacStmt, TacStmt-F, [], arith, branch_step, branches, fold-roll-TacStmt, map, map-TacStmt, roll-TacStmt, stmt_branches, stmt_weight, subst, sym, total, weight, weight_step, ℕ, ◌∷◌, ◌≤◌}
+use Rattle.sc_tac.proofs.Common.{Each, List, TacStmt, TacStmt-F, [], arith, branch_step, branches, fold-roll-TacStmt}
+use Rattle.sc_tac.proofs.Common.{map, map-TacStmt, roll-TacStmt, stmt_branches, stmt_weight, subst, sym, total, weight}
+use Rattle.sc_tac.proofs.Common.{weight_step, ℕ, ◌∷◌, ◌≤◌}
 use Rattle.sc_core.proofs.Induction.{everywhere}
 use Rattle.sc_tac.specs.declared.stmt.TacStmt.TheOpen as tac
 use Rattle.sc_tac.proofs.Induction.{Inside, stmt_induction}

@@ -1,5 +1,10 @@
 -- Places for the least intervals are clear at each point.
-use Rattle.sc_tac.proofs.Common.{Bool, Each, IsAssignment, IsClear, IsFunction, List, None, Option, PlacesAreClear, Point, Share, Some, Span, TacFnTree, Within, [], ap, arith, drop, eq-eqb, false, from_here, function_points, get_or, has_call, if◌then◌else◌, interval_of, intervals_of, is_one, is_used, list_any, map, one_or_none, or_first, range_with_len, refl, slice_get, span_from, subst, suc, take, true, zero, ℕ, ◌+◌, ◌-◌, ◌<◌, ◌==◌, ◌||◌, ◌∙◌, ◌∷◌, ◌≡◌, ◌≤◌}
+use Rattle.sc_tac.proofs.Common.{Bool, Each, IsAssignment, IsClear, IsFunction, List, None, Option, PlacesAreClear}
+use Rattle.sc_tac.proofs.Common.{Point, Share, Some, Span, TacFnTree, Within, [], ap, arith, drop, eq-eqb, false}
+use Rattle.sc_tac.proofs.Common.{from_here, function_points, get_or, has_call, if◌then◌else◌, interval_of, intervals_of}
+use Rattle.sc_tac.proofs.Common.{is_one, is_used, list_any, map, one_or_none, or_first, range_with_len, refl, slice_get}
+use Rattle.sc_tac.proofs.Common.{span_from, subst, suc, take, true, zero, ℕ, ◌+◌, ◌-◌, ◌<◌, ◌==◌, ◌||◌, ◌∙◌, ◌∷◌, ◌≡◌}
+use Rattle.sc_tac.proofs.Common.{◌≤◌}
 use Rattle.std.proofs.lemmas.Option.{same_Some, slice_get-get_or}
 use Rattle.sc_tac.specs.declared.place.Place.{Place}
 use Rattle.sc_tac.proofs.Owned.{OwnPoint, points_own}

@@ -1,5 +1,6 @@
 -- Induction over statements of code, layer by layer.
-use Rattle.sc_tac.proofs.Common.{Each, List, TacStmt, TacStmt-F, [], ind-TacStmt, map, map-TacStmt, roll-TacStmt, subst, ◌∷◌}
+use Rattle.sc_tac.proofs.Common.{Each, List, TacStmt, TacStmt-F, [], ind-TacStmt, map, map-TacStmt, roll-TacStmt, subst}
+use Rattle.sc_tac.proofs.Common.{◌∷◌}
 use Rattle.sc_tac.specs.declared.stmt.TacStmt.TheOpen as tac
 
 -- P of each statement directly inside

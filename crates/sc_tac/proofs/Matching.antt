@@ -1,12 +1,20 @@
 -- Code under two arithmetics, of which the second gives what the first does or the first blames: its functions match.
-use Rattle.sc_tac.proofs.Common.{Arith, Blocks, Break, Calls, CodeObeys, Codes, Continue, Each, Here, List, Main, Next, None, Option, Reached, Result, Return, Some, TacFnTree, TacSection, TacStmt, TacStmt-F, TacTree, Temps, WrappedCodeAgrees, [], and_then, c_arith, call_does, choose, closed, code_does, code_function, code_functions, code_globals, code_library, code_step, constant_value, false, fold-roll-TacStmt, functions_of, gets, is_unsigned, known, leave, load, map, map-TacStmt, no_temps, op_does, operated, read, read_all, received, refl, return_does, roles_in, roll-TacStmt, same_entry, second, start_of, stmt_does, store_does, stored, subst, sym, true, with_temp, wrapping, ℕ, ◌+◌, ◌∷◌, ◌≡◌}
+use Rattle.sc_tac.proofs.Common.{Arith, Blocks, Break, Calls, CodeObeys, Codes, Continue, Each, Here, List, Main, Next}
+use Rattle.sc_tac.proofs.Common.{None, Option, Reached, Result, Return, Some, TacFnTree, TacSection, TacStmt, TacStmt-F}
+use Rattle.sc_tac.proofs.Common.{TacTree, Temps, WrappedCodeAgrees, [], and_then, c_arith, call_does, choose, closed}
+use Rattle.sc_tac.proofs.Common.{code_does, code_function, code_functions, code_globals, code_library, code_step}
+use Rattle.sc_tac.proofs.Common.{constant_value, false, fold-roll-TacStmt, functions_of, gets, is_unsigned, known}
+use Rattle.sc_tac.proofs.Common.{leave, load, map, map-TacStmt, no_temps, op_does, operated, read, read_all, received}
+use Rattle.sc_tac.proofs.Common.{refl, return_does, roles_in, roll-TacStmt, same_entry, second, start_of, stmt_does}
+use Rattle.sc_tac.proofs.Common.{store_does, stored, subst, sym, true, with_temp, wrapping, ℕ, ◌+◌, ◌∷◌, ◌≡◌}
 use Rattle.sc_laws.specs.Prelude.{FunctionsMatch, IsArithmetic, LibrariesMatch, Match, Never}
 use Rattle.sc_core.specs.declared.cause.Cause.{Cause}
 use Rattle.sc_core.specs.declared.expr.CallTarget.{CallTarget}
 use Rattle.sc_core.specs.declared.expr.CallTarget.TheVariants.{Own, Cross, Input, Output}
 use Rattle.sc_core.specs.declared.value.Value.{Value}
 use Rattle.sc_laws.proofs.Expressions.{ArithKeeps, Keeps, alike, on_words_keep, one_keeps}
-use Rattle.sc_laws.proofs.Interactions.{MatchWith, match_reached, match_then, match_computed, match_store, match_call, match_if, match_leave, match_all, match_loop}
+use Rattle.sc_laws.proofs.Interactions.{MatchWith, match_reached, match_then, match_computed, match_store, match_call}
+use Rattle.sc_laws.proofs.Interactions.{match_if, match_leave, match_all, match_loop}
 use Rattle.sc_laws.proofs.Programs.{Pairs, meets_at, lists_at, itself_keeps}
 use Rattle.sc_laws.proofs.ProgramLaws.{wrapped_agrees, wrapping_agrees}
 use Rattle.sc_laws.proofs.Statements.{closed_matches}

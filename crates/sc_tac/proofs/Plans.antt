@@ -1,5 +1,12 @@
 -- Functions and programs by plans, on which rules and meanings compute.
-use Rattle.sc_tac.proofs.Common.{Arith, Bool, Codes, Entry, Event, Function, Interfaces, Library, List, Main, Option, Reading, TacFnTree, TacSection, TacStmt-F, TacTree, TypedGlobal, [], all_assigned_first, all_do, all_hold, and_then, ap, branch_step, branches, closed, code_function, code_functions, code_globals, code_library, code_meaning_by, code_step, codes, everywhere, frame_bound, has_none, is_assigned_first, map, no_temps, not, nothing_ahead, reading_step, refl, roles_in, row_first, row_fresh, run_by, run_step, same_entry, scripted_code_by, scripted_step, some_hold, stopped_at, suc, total, true, weight, weight_step, with_parts, zero, ℕ, ◌&&◌, ◌∷◌, ◌≡◌}
+use Rattle.sc_tac.proofs.Common.{Arith, Bool, Codes, Entry, Event, Function, Interfaces, Library, List, Main, Option}
+use Rattle.sc_tac.proofs.Common.{Reading, TacFnTree, TacSection, TacStmt-F, TacTree, TypedGlobal, []}
+use Rattle.sc_tac.proofs.Common.{all_assigned_first, all_do, all_hold, and_then, ap, branch_step, branches, closed}
+use Rattle.sc_tac.proofs.Common.{code_function, code_functions, code_globals, code_library, code_meaning_by, code_step}
+use Rattle.sc_tac.proofs.Common.{codes, everywhere, frame_bound, has_none, is_assigned_first, map, no_temps, not}
+use Rattle.sc_tac.proofs.Common.{nothing_ahead, reading_step, refl, roles_in, row_first, row_fresh, run_by, run_step}
+use Rattle.sc_tac.proofs.Common.{same_entry, scripted_code_by, scripted_step, some_hold, stopped_at, suc, total, true}
+use Rattle.sc_tac.proofs.Common.{weight, weight_step, with_parts, zero, ℕ, ◌&&◌, ◌∷◌, ◌≡◌}
 use Rattle.sc_core.specs.declared.run.SourceRun.{SourceRun}
 use Rattle.sc_tac.proofs.Shapes.{Shape, stmts, rows, rows_are}
 

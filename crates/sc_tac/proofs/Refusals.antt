@@ -1,12 +1,19 @@
 -- Worked code that the rules allow, and code that each of them refuses.
-use Rattle.sc_tac.proofs.Common.{Bool, Export, IsFunction, IsProgram, IsTrue, List, Main, None, Some, TacStmt-F, [], arith, calls_exports, calls_imports, calls_own, enters_by_words, entry_known, entry_weight, everywhere, false, has_none, has_operands, is_assigned_first, is_entered, names_own_global, names_own_object, names_own_temps, passes_few, refl, returns_result, stray_break, stray_continue, subst, sym, true, weight, ℕ, ◌&&◌, ◌*◌, ◌+◌, ◌<◌, ◌∙◌, ◌∷◌, ◌≡◌, ◌≤◌}
+use Rattle.sc_tac.proofs.Common.{Bool, Export, IsFunction, IsProgram, IsTrue, List, Main, None, Some, TacStmt-F, []}
+use Rattle.sc_tac.proofs.Common.{arith, calls_exports, calls_imports, calls_own, enters_by_words, entry_known}
+use Rattle.sc_tac.proofs.Common.{entry_weight, everywhere, false, has_none, has_operands, is_assigned_first, is_entered}
+use Rattle.sc_tac.proofs.Common.{names_own_global, names_own_object, names_own_temps, passes_few, refl, returns_result}
+use Rattle.sc_tac.proofs.Common.{stray_break, stray_continue, subst, sym, true, weight, ℕ, ◌&&◌, ◌*◌, ◌+◌, ◌<◌, ◌∙◌}
+use Rattle.sc_tac.proofs.Common.{◌∷◌, ◌≡◌, ◌≤◌}
 use Rattle.sc_base.specs.declared.op.BinaryOp.TheVariants as op
 use Rattle.sc_event.specs.declared.interface.Scalar.TheVariants as scalar
 use Rattle.sc_tac.specs.declared.stmt.TacOp.TheVariants as tacop
 use Rattle.sc_tac.specs.declared.stmt.TacStmt.TheOpen as tac
 use Rattle.sc_tac.proofs.Shapes.{Done, Line, Fork, Cycle, stmts}
-use Rattle.sc_tac.proofs.Plans.{Plan, Sheet, function, section, program, weight_is, shape_passes, everywhere_is, has_none_is, assigned_first_is, all_assigned_is}
-use Rattle.sc_tac.proofs.Runs.{word, output, give, alone, main_with, skips_two, int_global, across_interfaces, asking, answering, caller, callee, across}
+use Rattle.sc_tac.proofs.Plans.{Plan, Sheet, function, section, program, weight_is, shape_passes, everywhere_is}
+use Rattle.sc_tac.proofs.Plans.{has_none_is, assigned_first_is, all_assigned_is}
+use Rattle.sc_tac.proofs.Runs.{word, output, give, alone, main_with, skips_two, int_global, across_interfaces, asking}
+use Rattle.sc_tac.proofs.Runs.{answering, caller, callee, across}
 
 -- the loop with a `continue` keeps every rule
 pub the_loop_is_allowed : IsFunction (function (main_with 14 (1 ∷ []) 20 skips_two))

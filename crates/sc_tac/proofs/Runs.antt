@@ -1,5 +1,7 @@
 -- The meanings of worked code, computed.
-use Rattle.sc_tac.proofs.Common.{Event, Export, Interfaces, List, Main, None, Some, TypedGlobal, [], branches, c_arith, code_meaning, code_wrapped, codes, false, scripted_code_meaning, true, weight, wrapping, ℕ, ◌==◌, ◌∷◌, ◌≡◌}
+use Rattle.sc_tac.proofs.Common.{Event, Export, Interfaces, List, Main, None, Some, TypedGlobal, [], branches, c_arith}
+use Rattle.sc_tac.proofs.Common.{code_meaning, code_wrapped, codes, false, scripted_code_meaning, true, weight}
+use Rattle.sc_tac.proofs.Common.{wrapping, ℕ, ◌==◌, ◌∷◌, ◌≡◌}
 use Rattle.sc_base.specs.declared.op.BinaryOp.{BinaryOp}
 use Rattle.sc_base.specs.declared.op.BinaryOp.TheVariants as op
 use Rattle.sc_event.specs.declared.event.Event.TheVariants.{Call, Ret, Out, In, End}

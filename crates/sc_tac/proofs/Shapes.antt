@@ -1,5 +1,6 @@
 -- Code by shapes, on which every fold computes.
-use Rattle.sc_tac.proofs.Common.{List, TacStmt, TacStmt-F, [], ap, fold-TacStmt, fold-roll-TacStmt, map, map-TacStmt, refl, roll-TacStmt, ℕ, ◌∙◌, ◌∷◌, ◌≡◌}
+use Rattle.sc_tac.proofs.Common.{List, TacStmt, TacStmt-F, [], ap, fold-TacStmt, fold-roll-TacStmt, map, map-TacStmt}
+use Rattle.sc_tac.proofs.Common.{refl, roll-TacStmt, ℕ, ◌∙◌, ◌∷◌, ◌≡◌}
 use Rattle.sc_tac.specs.declared.stmt.TacStmt.TheOpen as tac
 
 -- statements in order: each holds those that follow

@@ -1,6 +1,11 @@
 -- The meaning of three-address code, in the words in which programs' meaning is told.
-use Rattle.sc_tac.specs.Common.{Arith, Blocks, Break, Calls, Continue, Does, Entry, Event, Function, Here, Library, Main, Memory, Next, Piece, Reached, Return, Run, State, Step, all_do, and_then, applied_one, between, c_arith, choose, closed, computed, depth_in, frame_bound, global_block, leave, load, loop, moved, moved_back, moved_on, on_words, roles_in, run_by, run_step, scripted_step, stopped_at, stored, struct_zeros, wrapping}
-use Rattle.std.specs.Prelude.{ℕ, pos, ◌+◌, Bool, true, false, ◌==◌, if◌then◌else◌, List, [], ◌∷◌, map, Option, None, Some, Result, Ok, Err, slice_get}
+use Rattle.sc_tac.specs.Common.{Arith, Blocks, Break, Calls, Continue, Does, Entry, Event, Function, Here, Library}
+use Rattle.sc_tac.specs.Common.{Main, Memory, Next, Piece, Reached, Return, Run, State, Step, all_do, and_then}
+use Rattle.sc_tac.specs.Common.{applied_one, between, c_arith, choose, closed, computed, depth_in, frame_bound}
+use Rattle.sc_tac.specs.Common.{global_block, leave, load, loop, moved, moved_back, moved_on, on_words, roles_in}
+use Rattle.sc_tac.specs.Common.{run_by, run_step, scripted_step, stopped_at, stored, struct_zeros, wrapping}
+use Rattle.std.specs.Prelude.{ℕ, pos, ◌+◌, Bool, true, false, ◌==◌, if◌then◌else◌, List, [], ◌∷◌, map, Option, None}
+use Rattle.std.specs.Prelude.{Some, Result, Ok, Err, slice_get}
 use Rattle.std.specs.List.{position}
 use Rattle.sc_base.specs.declared.op.BinaryOp.TheVariants as op
 use Rattle.sc_base.specs.declared.op.UnaryOp.TheVariants as unary

@@ -1,6 +1,7 @@
 -- The frame of a function: the return address, the slots of temporaries, the objects of variables.
 use Rattle.sc_tac.specs.Common.{frame_bound, total}
-use Rattle.std.specs.Prelude.{◌≡◌, ◌≤◌, ◌⊎◌, ℕ, suc, ◌+◌, ◌*◌, ◌%◌, max, List, [], ◌∷◌, ◌++◌, map, zip, length, All, AllPairs}
+use Rattle.std.specs.Prelude.{◌≡◌, ◌≤◌, ◌⊎◌, ℕ, suc, ◌+◌, ◌*◌, ◌%◌, max, List, [], ◌∷◌, ◌++◌, map, zip, length, All}
+use Rattle.std.specs.Prelude.{AllPairs}
 use Rattle.std.specs.List.{range_with_len}
 use Rattle.sc_tac.specs.declared.frame.FrameTree.{FrameTree}
 use Rattle.sc_tac.specs.declared.place.Place.{Place}

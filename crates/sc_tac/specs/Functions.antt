@@ -1,6 +1,7 @@
 -- What a function of three-address code keeps.
 use Rattle.sc_tac.specs.Common.{Entry, most_nodes, most_params}
-use Rattle.std.specs.Prelude.{◌≤◌, ◌<◌, ℕ, ◌+◌, ◌*◌, Bool, true, false, not, ◌||◌, ◌==◌, nat_lt, nat_le, List, map, length, take, Option, None, Some, is_some, IsTrue}
+use Rattle.std.specs.Prelude.{◌≤◌, ◌<◌, ℕ, ◌+◌, ◌*◌, Bool, true, false, not, ◌||◌, ◌==◌, nat_lt, nat_le, List, map}
+use Rattle.std.specs.Prelude.{length, take, Option, None, Some, is_some, IsTrue}
 use Rattle.std.specs.Bool.{beq}
 use Rattle.std.specs.List.{list_any, list_all}
 use Rattle.sc_tac.specs.declared.function.TacFnTree.{TacFnTree}

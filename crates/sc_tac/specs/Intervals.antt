@@ -1,5 +1,6 @@
 -- The intervals of temporaries: from the first point of a function's code at which one is used to the last.
-use Rattle.std.specs.Prelude.{◌≡◌, ◌≤◌, ℕ, suc, ◌-◌, Bool, ◌||◌, if◌then◌else◌, List, [], ◌∷◌, map, take, drop, Option, None, Some, slice_get}
+use Rattle.std.specs.Prelude.{◌≡◌, ◌≤◌, ℕ, suc, ◌-◌, Bool, ◌||◌, if◌then◌else◌, List, [], ◌∷◌, map, take, drop, Option}
+use Rattle.std.specs.Prelude.{None, Some, slice_get}
 use Rattle.std.specs.List.{list_any, range_with_len}
 use Rattle.sc_tac.specs.declared.function.TacFnTree.{TacFnTree}
 use Rattle.sc_tac.specs.declared.interval.Interval.{Interval}

@@ -1,13 +1,29 @@
 -- The names of this crate that its contracts, its proofs and the crates above cite, passed on from one place. Declares nothing.
 pub use Rattle.sc_tac.specs.Branches.{branch_step, branches, stmt_branches}
-pub use Rattle.sc_tac.specs.Code.{Codes, Temps, call_does, code_depth_by, code_does, code_function, code_functions, code_globals, code_library, code_meaning, code_meaning_by, code_run, code_step, code_wrapped, constant_value, first_blocks, function_entered, gets, is_unsigned, known, no_temps, op_does, operated, read, read_all, received, return_does, scripted_code_by, scripted_code_depth_by, scripted_code_meaning, scripted_code_run, second, start_of, stmt_does, store_does, with_temp}
-pub use Rattle.sc_tac.specs.Flow.{Ahead, Reading, all_assigned_first, is_assigned_first, is_one, nothing_ahead, part_ahead, plain, reading, reading_step, round_first, row_first, row_fresh}
-pub use Rattle.sc_tac.specs.Frames.{Apart, HasRoom, IsFrame, Range, end_of, frame_of, object_range, offsets_from, ranges_of, slots_of, slots_up_to, word_at}
-pub use Rattle.sc_tac.specs.Functions.{IsFunction, enters_by_words, has_none, has_operands, names_own_object, names_own_temps, passes_few, passes_words, returns_result, some_hold, stray_break, stray_continue, takes_two}
-pub use Rattle.sc_tac.specs.Intervals.{AreIntervals, Span, Within, from_here, has_call, interval_of, intervals_of, is_used, or_first, span_from}
+pub use Rattle.sc_tac.specs.Code.{Codes, Temps, call_does, code_depth_by, code_does, code_function, code_functions}
+pub use Rattle.sc_tac.specs.Code.{code_globals, code_library, code_meaning, code_meaning_by, code_run, code_step}
+pub use Rattle.sc_tac.specs.Code.{code_wrapped, constant_value, first_blocks, function_entered, gets, is_unsigned}
+pub use Rattle.sc_tac.specs.Code.{known, no_temps, op_does, operated, read, read_all, received, return_does}
+pub use Rattle.sc_tac.specs.Code.{scripted_code_by, scripted_code_depth_by, scripted_code_meaning, scripted_code_run}
+pub use Rattle.sc_tac.specs.Code.{second, start_of, stmt_does, store_does, with_temp}
+pub use Rattle.sc_tac.specs.Flow.{Ahead, Reading, all_assigned_first, is_assigned_first, is_one, nothing_ahead}
+pub use Rattle.sc_tac.specs.Flow.{part_ahead, plain, reading, reading_step, round_first, row_first, row_fresh}
+pub use Rattle.sc_tac.specs.Frames.{Apart, HasRoom, IsFrame, Range, end_of, frame_of, object_range, offsets_from}
+pub use Rattle.sc_tac.specs.Frames.{ranges_of, slots_of, slots_up_to, word_at}
+pub use Rattle.sc_tac.specs.Functions.{IsFunction, enters_by_words, has_none, has_operands, names_own_object}
+pub use Rattle.sc_tac.specs.Functions.{names_own_temps, passes_few, passes_words, returns_result, some_hold}
+pub use Rattle.sc_tac.specs.Functions.{stray_break, stray_continue, takes_two}
+pub use Rattle.sc_tac.specs.Intervals.{AreIntervals, Span, Within, from_here, has_call, interval_of, intervals_of}
+pub use Rattle.sc_tac.specs.Intervals.{is_used, or_first, span_from}
 pub use Rattle.sc_tac.specs.Laws.{CodeObeys, WrappedCodeAgrees}
 pub use Rattle.sc_tac.specs.Parts.{all_hold, everywhere, one_or_none, with_parts}
-pub use Rattle.sc_tac.specs.Places.{ArePlaces, IsAssignment, IsClear, IsSparing, PlacesAreClear, Share, is_place, register_count}
-pub use Rattle.sc_tac.specs.Points.{Lives, Point, Set, Trail, ahead_at, function_points, if_calls, in_body, in_head, in_next, live_across, live_at_start, live_before, loop_points, nothing, nothing_live, part_lives, plain_points, point, points, readings, row_points, stmt_points, trail, trail_step}
-pub use Rattle.sc_tac.specs.Programs.{IsProgram, are_entered, calls_exports, calls_imports, calls_own, count, cross_call_fits, entry_known, exports_entered, in_section, is_entered, main_entered, names_own_global, numbered, own_call_fits, same_entry, takes_result}
+pub use Rattle.sc_tac.specs.Places.{ArePlaces, IsAssignment, IsClear, IsSparing, PlacesAreClear, Share, is_place}
+pub use Rattle.sc_tac.specs.Places.{register_count}
+pub use Rattle.sc_tac.specs.Points.{Lives, Point, Set, Trail, ahead_at, function_points, if_calls, in_body, in_head}
+pub use Rattle.sc_tac.specs.Points.{in_next, live_across, live_at_start, live_before, loop_points, nothing}
+pub use Rattle.sc_tac.specs.Points.{nothing_live, part_lives, plain_points, point, points, readings, row_points}
+pub use Rattle.sc_tac.specs.Points.{stmt_points, trail, trail_step}
+pub use Rattle.sc_tac.specs.Programs.{IsProgram, are_entered, calls_exports, calls_imports, calls_own, count}
+pub use Rattle.sc_tac.specs.Programs.{cross_call_fits, entry_known, exports_entered, in_section, is_entered}
+pub use Rattle.sc_tac.specs.Programs.{main_entered, names_own_global, numbered, own_call_fits, same_entry, takes_result}
 pub use Rattle.sc_tac.specs.Weights.{call_weight, entry_weight, op_weight, stmt_weight, weight, weight_step}

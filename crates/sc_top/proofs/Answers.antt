@@ -1,5 +1,12 @@
 -- What an answer says, from what was read.
-use Rattle.sc_top.proofs.Common.{Accepts, Answers, Check, Command, Compile, Exec, Explain, Fails, Failure, FindsBad, GivesUp, HasImage, ImageParts, IsAnswer, IsErrOf, IsGood, IsGoodText, IsImage, IsInput, IsOutput, IsTextOutput, IsTrue, IsUndisturbed, IsUnfit, IsWhole, IsWithin, IsWithinLimit, List, Meaning, None, Option, ProgramTree, Refusal, Refuses, Result, Run, SameAnswer, Says, Some, Status, Takes, Traffic, [], ap, append-nil, arith, bad, cause_in, cause_number, cause_of, compiles, false≢true, inl, inr, length, length-append, limit_of, none-some, refl, status_by, subst, sym, ℕ, ⊎_elim, ◌++◌, ◌+◌, ◌∙◌, ◌≡◌, ◌≤◌, ◌⊎◌}
+use Rattle.sc_top.proofs.Common.{Accepts, Answers, Check, Command, Compile, Exec, Explain, Fails, Failure, FindsBad}
+use Rattle.sc_top.proofs.Common.{GivesUp, HasImage, ImageParts, IsAnswer, IsErrOf, IsGood, IsGoodText, IsImage, IsInput}
+use Rattle.sc_top.proofs.Common.{IsOutput, IsTextOutput, IsTrue, IsUndisturbed, IsUnfit, IsWhole, IsWithin}
+use Rattle.sc_top.proofs.Common.{IsWithinLimit, List, Meaning, None, Option, ProgramTree, Refusal, Refuses, Result, Run}
+use Rattle.sc_top.proofs.Common.{SameAnswer, Says, Some, Status, Takes, Traffic, [], ap, append-nil, arith, bad}
+use Rattle.sc_top.proofs.Common.{cause_in, cause_number, cause_of, compiles, false≢true, inl, inr, length}
+use Rattle.sc_top.proofs.Common.{length-append, limit_of, none-some, refl, status_by, subst, sym, ℕ, ⊎_elim, ◌++◌, ◌+◌}
+use Rattle.sc_top.proofs.Common.{◌∙◌, ◌≡◌, ◌≤◌, ◌⊎◌}
 use Rattle.std.specs.Option.{option_map}
 use Rattle.sc_lex.specs.declared.refusal.Phase.{Phase}
 use Rattle.sc_lex.specs.declared.refusal.Phase.TheVariants.{Syntax}

@@ -1,5 +1,8 @@
 -- Statements one after another.
-use Rattle.sc_top.proofs.Common.{All-from_recursion, AllByRecursion, IsBody, IsStatement, IsThin, List, ThinProgram, [], ap, append_assoc, append_cancel_left, arith, codes, decimal, head, length, length-append, output_line, recursion_from_All, refl, return_line, slice_index, sym, ℕ, ◌++◌, ◌+◌, ◌∙◌, ◌∷◌, ◌≡◌, ◌≤◌}
+use Rattle.sc_top.proofs.Common.{All-from_recursion, AllByRecursion, IsBody, IsStatement, IsThin, List, ThinProgram, []}
+use Rattle.sc_top.proofs.Common.{ap, append_assoc, append_cancel_left, arith, codes, decimal, head, length}
+use Rattle.sc_top.proofs.Common.{length-append, output_line, recursion_from_All, refl, return_line, slice_index, sym, ℕ}
+use Rattle.sc_top.proofs.Common.{◌++◌, ◌+◌, ◌∙◌, ◌∷◌, ◌≡◌, ◌≤◌}
 use Rattle.std.proofs.Common.{flat_map}
 use Rattle.sc_top.proofs.Numbers.{same_number}
 use Rattle.sc_top.proofs.Statements.{same_statement}

@@ -1,5 +1,11 @@
 -- The names that several proofs of this crate cite, passed on from one place. Declares nothing.
-pub use Rattle.std.proofs.Common.{All, Bool, Bor, Err, IfOk, IfSome, IsErrOf, IsNone, IsSome, IsTrue, List, MatchOption, None, Ok, OnOk, Option, Result, Some, [], add-one, ap, append-nil, append_assoc, ap₂, arith, codes, decimal, drop, false, get_or, get_or-drop, inl, inr, le-leb, length, length-append, length-drop, map, max, nat_eq, nat_le, nat_lt, ne_eqb, not, refl, rules, slice_get, slice_index, slice_index_or, subst, suc, sym, take, take-append-drop, take_all, true, zero, ℕ, ⊎_elim, ◌&&◌, ◌*◌, ◌++◌, ◌+◌, ◌-◌, ◌<◌, ◌==◌, ◌^◌, ◌∙◌, ◌∷◌, ◌≡◌, ◌≤◌, ◌⊎◌}
+pub use Rattle.std.proofs.Common.{All, Bool, Bor, Err, IfOk, IfSome, IsErrOf, IsNone, IsSome, IsTrue, List, MatchOption}
+pub use Rattle.std.proofs.Common.{None, Ok, OnOk, Option, Result, Some, [], add-one, ap, append-nil, append_assoc, ap₂}
+pub use Rattle.std.proofs.Common.{arith, codes, decimal, drop, false, get_or, get_or-drop, inl, inr, le-leb, length}
+pub use Rattle.std.proofs.Common.{length-append, length-drop, map, max, nat_eq, nat_le, nat_lt, ne_eqb, not, refl}
+pub use Rattle.std.proofs.Common.{rules, slice_get, slice_index, slice_index_or, subst, suc, sym, take}
+pub use Rattle.std.proofs.Common.{take-append-drop, take_all, true, zero, ℕ, ⊎_elim, ◌&&◌, ◌*◌, ◌++◌, ◌+◌, ◌-◌, ◌<◌}
+pub use Rattle.std.proofs.Common.{◌==◌, ◌^◌, ◌∙◌, ◌∷◌, ◌≡◌, ◌≤◌, ◌⊎◌}
 pub use Rattle.std.proofs.lemmas.Bool.{and_parts, cases_lt, false≢true}
 pub use Rattle.std.proofs.lemmas.Bool.Decides.{Decides-eqb, nat_tests}
 pub use Rattle.std.proofs.lemmas.List.{append_cancel_left, get_or-append_right, length-map, take_rest}
@@ -12,23 +18,45 @@ unfoldable pub use Rattle.sc_base.specs.Prelude.{is_name, is_reserved}
 pub use Rattle.sc_event.specs.Prelude.{IsKnown, comp_at}
 pub use Rattle.sc_event.specs.declared.event.Event.{Event}
 pub use Rattle.sc_event.specs.declared.event.Event.TheVariants.{End, Out}
-pub use Rattle.sc_lex.specs.Prelude.{IsSection, IsSplit, NoHeading, begins_heading, begins_line, is_heading, name_at, none, nothing, section}
+pub use Rattle.sc_lex.specs.Prelude.{IsSection, IsSplit, NoHeading, begins_heading, begins_line, is_heading, name_at}
+pub use Rattle.sc_lex.specs.Prelude.{none, nothing, section}
 unfoldable pub use Rattle.sc_lex.specs.Prelude.{heading_name, words}
-pub use Rattle.sc_ast.specs.Prelude.{Number, Piece, SameButLines, blank, fits, is_ident, layouts, line_of, lineless_decl, lineless_export, lineless_function, lineless_head, lineless_import, lineless_kind, lineless_local, lineless_stmt, lineless_stmts, lines_at, literal_text, newline, piece_text, section_height, section_words, stmt_height, stmt_layout, stmts_height, text_of, word}
+pub use Rattle.sc_ast.specs.Prelude.{Number, Piece, SameButLines, blank, fits, is_ident, layouts, line_of}
+pub use Rattle.sc_ast.specs.Prelude.{lineless_decl, lineless_export, lineless_function, lineless_head, lineless_import}
+pub use Rattle.sc_ast.specs.Prelude.{lineless_kind, lineless_local, lineless_stmt, lineless_stmts, lines_at}
+pub use Rattle.sc_ast.specs.Prelude.{literal_text, newline, piece_text, section_height, section_words, stmt_height}
+pub use Rattle.sc_ast.specs.Prelude.{stmt_layout, stmts_height, text_of, word}
 unfoldable pub use Rattle.sc_ast.specs.Prelude.{import_words}
 pub use Rattle.sc_ast.specs.declared.section.FunctionTree.{FunctionTree}
 pub use Rattle.sc_ast.specs.declared.section.SectionTree.{SectionTree}
 pub use Rattle.sc_ast.specs.declared.stmt.StmtTree.{StmtTree}
 pub use Rattle.sc_expr.specs.Prelude.{most_open, open_after, symbol_of}
-pub use Rattle.sc_print.specs.Prelude.{SaysAll, SectionSpells, are_kept, dense_text, is_kept_stmt, kept_section, symbols, word_symbol}
+pub use Rattle.sc_print.specs.Prelude.{SaysAll, SectionSpells, are_kept, dense_text, is_kept_stmt, kept_section}
+pub use Rattle.sc_print.specs.Prelude.{symbols, word_symbol}
 pub use Rattle.sc_read.specs.Reading.{Reads, part_of}
 pub use Rattle.sc_word.specs.Prelude.{word_of}
-pub use Rattle.sc_core.specs.Prelude.{Acts, Body, Function, Here, IsWellTyped, Left, Library, Next, Return, Scope, State, all_do, and_then, back_own, begun, block_does, c_arith, calls, closed, done, first_state, follow, function_of, globals_of, in_order, leave, library_of, main_fits, meaning, most_nodes, run_of, run_step, run_to, sections_fit, stmt_does, stmt_nodes, stopped_at, tell, thin_meaning, total, whole_run, within}
-pub use Rattle.sc_elab.specs.Prelude.{Callees, Visible, callees_of, program_of, scope_in, typed_stmt, types_broken, visible_of}
+pub use Rattle.sc_core.specs.Prelude.{Acts, Body, Function, Here, IsWellTyped, Left, Library, Next, Return, Scope}
+pub use Rattle.sc_core.specs.Prelude.{State, all_do, and_then, back_own, begun, block_does, c_arith, calls, closed}
+pub use Rattle.sc_core.specs.Prelude.{done, first_state, follow, function_of, globals_of, in_order, leave, library_of}
+pub use Rattle.sc_core.specs.Prelude.{main_fits, meaning, most_nodes, run_of, run_step, run_to, sections_fit, stmt_does}
+pub use Rattle.sc_core.specs.Prelude.{stmt_nodes, stopped_at, tell, thin_meaning, total, whole_run, within}
+pub use Rattle.sc_elab.specs.Prelude.{Callees, Visible, callees_of, program_of, scope_in, typed_stmt, types_broken}
+pub use Rattle.sc_elab.specs.Prelude.{visible_of}
 pub use Rattle.sc_types.specs.Prelude.{Accepts, Fails, counts_broken}
-pub use Rattle.sc_image.specs.Prelude.{BytesNameOneImage, IsComp, IsExport, IsImage, IsWellFormed, IsWord, TracesAreLegal, bad, bit, cause_number, cause_of, code_bytes, comp_bytes, export_bytes, exports_bytes, flags, globals_bytes, image_bytes, import_bytes, imports_bytes, interface_of, interfaces_of, name_bytes}
+pub use Rattle.sc_image.specs.Prelude.{BytesNameOneImage, IsComp, IsExport, IsImage, IsWellFormed, IsWord}
+pub use Rattle.sc_image.specs.Prelude.{TracesAreLegal, bad, bit, cause_number, cause_of, code_bytes, comp_bytes}
+pub use Rattle.sc_image.specs.Prelude.{export_bytes, exports_bytes, flags, globals_bytes, image_bytes, import_bytes}
+pub use Rattle.sc_image.specs.Prelude.{imports_bytes, interface_of, interfaces_of, name_bytes}
 pub use Rattle.sc_report.specs.Report.{meaning_text, run_text}
-pub use Rattle.sc_top.specs.Common.{Adds, ImageParts, Interfaces, IsAtEnd, ProgramTree, Refusal, Rose, RunOptions, Takes, thin_image}
-pub use Rattle.sc_top.specs.Prelude.{Answers, Check, Command, Compile, EndsNumber, Exec, Explain, Fetches, FindsBad, GivesUp, HasImage, IsAccounted, IsAnswer, IsBody, IsExecuted, IsGood, IsGoodText, IsInput, IsNumber, IsOutput, IsOutputCause, IsStatement, IsTextOutput, IsThin, IsThinMeant, IsThinProgram, IsThinReading, IsThinText, IsUndisturbed, IsUnfit, IsWhole, IsWithin, IsWithinLimit, Meaning, Refuses, Run, SameAnswer, Says, Status, Tells, ThinProgram, Traffic, Wrote, bytes_of, cause_in, compiles, limit_of, machine_run, machine_text, meant, output, output_line, own_text, owner_text, return_line, status_by, thin_interfaces}
+pub use Rattle.sc_top.specs.Common.{Adds, ImageParts, Interfaces, IsAtEnd, ProgramTree, Refusal, Rose, RunOptions}
+pub use Rattle.sc_top.specs.Common.{Takes, thin_image}
+pub use Rattle.sc_top.specs.Prelude.{Answers, Check, Command, Compile, EndsNumber, Exec, Explain, Fetches, FindsBad}
+pub use Rattle.sc_top.specs.Prelude.{GivesUp, HasImage, IsAccounted, IsAnswer, IsBody, IsExecuted, IsGood, IsGoodText}
+pub use Rattle.sc_top.specs.Prelude.{IsInput, IsNumber, IsOutput, IsOutputCause, IsStatement, IsTextOutput, IsThin}
+pub use Rattle.sc_top.specs.Prelude.{IsThinMeant, IsThinProgram, IsThinReading, IsThinText, IsUndisturbed, IsUnfit}
+pub use Rattle.sc_top.specs.Prelude.{IsWhole, IsWithin, IsWithinLimit, Meaning, Refuses, Run, SameAnswer, Says, Status}
+pub use Rattle.sc_top.specs.Prelude.{Tells, ThinProgram, Traffic, Wrote, bytes_of, cause_in, compiles, limit_of}
+pub use Rattle.sc_top.specs.Prelude.{machine_run, machine_text, meant, output, output_line, own_text, owner_text}
+pub use Rattle.sc_top.specs.Prelude.{return_line, status_by, thin_interfaces}
 unfoldable pub use Rattle.sc_top.specs.Prelude.{head}
 pub use Rattle.sc_top.specs.declared.failure.Failure.{Failure}

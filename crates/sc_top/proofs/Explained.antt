@@ -1,5 +1,11 @@
 -- What holds of a thin text: its program, what its machine shows, and that its output is one.
-use Rattle.sc_top.proofs.Common.{Accepts, BytesNameOneImage, Command, End, Fails, Failure, HasImage, ImageParts, IsAccounted, IsExecuted, IsOutput, IsOutputCause, IsTextOutput, IsThin, IsThinMeant, IsThinProgram, IsThinReading, IsThinText, IsTrue, List, Option, Out, ProgramTree, Refusal, Refuses, RunOptions, ThinProgram, [], ap, ap₂, arith, compiles, false, inr, interfaces_of, length, machine_run, machine_text, map, nat_lt, nat_tests, output, refl, subst, suc, sym, thin_image, thin_interfaces, thin_meaning, whole_run, word_of, ℕ, ◌++◌, ◌+◌, ◌<◌, ◌∙◌, ◌∷◌, ◌≡◌}
+use Rattle.sc_top.proofs.Common.{Accepts, BytesNameOneImage, Command, End, Fails, Failure, HasImage, ImageParts}
+use Rattle.sc_top.proofs.Common.{IsAccounted, IsExecuted, IsOutput, IsOutputCause, IsTextOutput, IsThin, IsThinMeant}
+use Rattle.sc_top.proofs.Common.{IsThinProgram, IsThinReading, IsThinText, IsTrue, List, Option, Out, ProgramTree}
+use Rattle.sc_top.proofs.Common.{Refusal, Refuses, RunOptions, ThinProgram, [], ap, ap₂, arith, compiles, false, inr}
+use Rattle.sc_top.proofs.Common.{interfaces_of, length, machine_run, machine_text, map, nat_lt, nat_tests, output, refl}
+use Rattle.sc_top.proofs.Common.{subst, suc, sym, thin_image, thin_interfaces, thin_meaning, whole_run, word_of, ℕ}
+use Rattle.sc_top.proofs.Common.{◌++◌, ◌+◌, ◌<◌, ◌∙◌, ◌∷◌, ◌≡◌}
 use Rattle.sc_words.specs.declared.command.Command.TheVariants as commands
 use Rattle.sc_top.specs.declared.failure.Failure.TheVariants as failure
 

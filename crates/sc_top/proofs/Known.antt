@@ -1,5 +1,10 @@
 -- The numbers of all events stand for something: in the meaning of a program, and where the machine runs an image.
-use Rattle.sc_top.proofs.Common.{All, All-map, Err, Event, IfOk, ImageParts, Interfaces, IsExecuted, IsKnown, IsSome, IsTrue, IsWellFormed, IsWellTyped, IsWord, List, Ok, ProgramTree, Result, RunOptions, TracesAreLegal, [], and_parts, ap, arith, c_arith, comp_at, false≢true, get_or, image_bytes, interface_of, interfaces_of, length, length-map, machine_run, machine_text, main_fits, map, meant, refl, run_text, sections_fit, slice_get, subst, suc, sym, word_of, zero, ℕ, ◌<◌, ◌∙◌, ◌∷◌, ◌≡◌}
+use Rattle.sc_top.proofs.Common.{All, All-map, Err, Event, IfOk, ImageParts, Interfaces, IsExecuted, IsKnown, IsSome}
+use Rattle.sc_top.proofs.Common.{IsTrue, IsWellFormed, IsWellTyped, IsWord, List, Ok, ProgramTree, Result, RunOptions}
+use Rattle.sc_top.proofs.Common.{TracesAreLegal, [], and_parts, ap, arith, c_arith, comp_at, false≢true, get_or}
+use Rattle.sc_top.proofs.Common.{image_bytes, interface_of, interfaces_of, length, length-map, machine_run}
+use Rattle.sc_top.proofs.Common.{machine_text, main_fits, map, meant, refl, run_text, sections_fit, slice_get, subst}
+use Rattle.sc_top.proofs.Common.{suc, sym, word_of, zero, ℕ, ◌<◌, ◌∙◌, ◌∷◌, ◌≡◌}
 use Rattle.sc_laws.specs.Prelude.{TracesAreLegal as SourceTracesAreLegal}
 use Rattle.sc_event.specs.declared.interface.Interface.{Interface}
 use Rattle.sc_event.proofs.Known.{legal_is_known}

@@ -1,9 +1,13 @@
 -- Numbers at the front of a text.
-use Rattle.sc_top.proofs.Common.{Bool, Bor, Decides-eqb, EndsNumber, IfSome, IsNone, IsNumber, IsUtf8, List, MatchOption, None, Ok, Option, Result, Some, [], add-one, all_ascii_digits, ap, arith, decimal, drop, false, get_or, is_ascii_digit, length, nat_eq, refl, subst, suc, sym, take, true, zero, ℕ, ◌&&◌, ◌++◌, ◌+◌, ◌<◌, ◌^◌, ◌∙◌, ◌∷◌, ◌≡◌, ◌≤◌}
+use Rattle.sc_top.proofs.Common.{Bool, Bor, Decides-eqb, EndsNumber, IfSome, IsNone, IsNumber, IsUtf8, List}
+use Rattle.sc_top.proofs.Common.{MatchOption, None, Ok, Option, Result, Some, [], add-one, all_ascii_digits, ap, arith}
+use Rattle.sc_top.proofs.Common.{decimal, drop, false, get_or, is_ascii_digit, length, nat_eq, refl, subst, suc, sym}
+use Rattle.sc_top.proofs.Common.{take, true, zero, ℕ, ◌&&◌, ◌++◌, ◌+◌, ◌<◌, ◌^◌, ◌∙◌, ◌∷◌, ◌≡◌, ◌≤◌}
 use Rattle.std.specs.Cmp.Derive.{both_true}
 use Rattle.std.specs.Cmp.Lexicographic.{pointwise}
 use Rattle.std.specs.Str.Parse.{ParsesUnsigned, digits_value}
-use Rattle.std.proofs.lemmas.Fmt.{IsAscii-decimal, decimal_digit, digits_decimal, decimal_injective, decimal-digits_value, parse-decimal, first_decimal}
+use Rattle.std.proofs.lemmas.Fmt.{IsAscii-decimal, decimal_digit, digits_decimal, decimal_injective}
+use Rattle.std.proofs.lemmas.Fmt.{decimal-digits_value, parse-decimal, first_decimal}
 use Rattle.std.proofs.lemmas.Slice.Eq.{strip_prefix_is, bytes_eq-Decides}
 use Rattle.std.proofs.lemmas.Str.{IsUtf8-from_ascii}
 use Rattle.std.proofs.lemmas.Str.Parse.{IsNumeralModel, numerals_by_value, tells_all_ascii_digits, parse_digits}

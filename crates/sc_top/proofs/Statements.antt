@@ -1,5 +1,6 @@
 -- Statements with a number at the front of a text.
-use Rattle.sc_top.proofs.Common.{EndsNumber, IsNumber, IsStatement, List, [], ap, append_cancel_left, arith, decimal, length, sym, ℕ, ◌++◌, ◌<◌, ◌∙◌, ◌∷◌, ◌≡◌}
+use Rattle.sc_top.proofs.Common.{EndsNumber, IsNumber, IsStatement, List, [], ap, append_cancel_left, arith, decimal}
+use Rattle.sc_top.proofs.Common.{length, sym, ℕ, ◌++◌, ◌<◌, ◌∙◌, ◌∷◌, ◌≡◌}
 use Rattle.sc_top.proofs.Numbers.{same_number}
 
 pub ends-append : (after behind : List ℕ) → 0 < length after → EndsNumber after → EndsNumber (after ++ behind)

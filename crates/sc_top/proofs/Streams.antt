@@ -1,5 +1,8 @@
 -- What was read and written so far, in pieces.
-use Rattle.sc_top.proofs.Common.{Adds, Err, Fetches, IsAtEnd, List, None, Ok, OnOk, Option, Result, Rose, Some, Takes, Tells, Wrote, [], ap, append-nil, append_assoc, arith, drop, inl, inr, length, length-append, length-drop, refl, subst, sym, take, take-append-drop, take_all, take_rest, ℕ, ⊎_elim, ◌++◌, ◌+◌, ◌-◌, ◌∙◌, ◌≡◌, ◌≤◌}
+use Rattle.sc_top.proofs.Common.{Adds, Err, Fetches, IsAtEnd, List, None, Ok, OnOk, Option, Result, Rose, Some, Takes}
+use Rattle.sc_top.proofs.Common.{Tells, Wrote, [], ap, append-nil, append_assoc, arith, drop, inl, inr, length}
+use Rattle.sc_top.proofs.Common.{length-append, length-drop, refl, subst, sym, take, take-append-drop, take_all}
+use Rattle.sc_top.proofs.Common.{take_rest, ℕ, ⊎_elim, ◌++◌, ◌+◌, ◌-◌, ◌∙◌, ◌≡◌, ◌≤◌}
 use Rattle.std.proofs.Math.Seq.{take-add}
 
 -- a count that rose later has risen

@@ -1,5 +1,9 @@
 -- A thin text is accepted, as a program that means what its thin program means.
-use Rattle.sc_top.proofs.Common.{Accepts, IsThin, IsThinProgram, IsTrue, List, ProgramTree, Reads, SameButLines, SaysAll, SectionSpells, SectionTree, ThinProgram, [], ap, arith, codes, decimal, dense_text, flat_map, head, kept_section, length, length-append, output_line, recursion_from_All, refl, return_line, section_height, section_words, subst, symbols, ℕ, ◌++◌, ◌∙◌, ◌∷◌, ◌≡◌, ◌≤◌}
+use Rattle.sc_top.proofs.Common.{Accepts, IsThin, IsThinProgram, IsTrue, List, ProgramTree, Reads, SameButLines}
+use Rattle.sc_top.proofs.Common.{SaysAll, SectionSpells, SectionTree, ThinProgram, [], ap, arith, codes, decimal}
+use Rattle.sc_top.proofs.Common.{dense_text, flat_map, head, kept_section, length, length-append, output_line}
+use Rattle.sc_top.proofs.Common.{recursion_from_All, refl, return_line, section_height, section_words, subst, symbols}
+use Rattle.sc_top.proofs.Common.{ℕ, ◌++◌, ◌∙◌, ◌∷◌, ◌≡◌, ◌≤◌}
 use Rattle.sc_top.proofs.Bodies.{AreSmall}
 use Rattle.sc_top.proofs.ThinReads.{ThinReading, thin_reading}
 use Rattle.sc_top.proofs.ThinLines.{tree_at, IsThinTree, thin_tree}

@@ -1,5 +1,8 @@
 -- Few brackets are open in a thin text.
-use Rattle.sc_top.proofs.Common.{IsTrue, List, Piece, [], ap, append-nil, arith, codes, import_words, is_ident, is_name, is_reserved, layouts, line_of, lines_at, literal_text, max, newline, open_after, refl, section_words, subst, sym, symbols, word, word_symbol, ℕ, ◌++◌, ◌+◌, ◌-◌, ◌∙◌, ◌∷◌, ◌≡◌, ◌≤◌}
+use Rattle.sc_top.proofs.Common.{IsTrue, List, Piece, [], ap, append-nil, arith, codes, import_words, is_ident, is_name}
+use Rattle.sc_top.proofs.Common.{is_reserved, layouts, line_of, lines_at, literal_text, max, newline, open_after, refl}
+use Rattle.sc_top.proofs.Common.{section_words, subst, sym, symbols, word, word_symbol, ℕ, ◌++◌, ◌+◌, ◌-◌, ◌∙◌, ◌∷◌}
+use Rattle.sc_top.proofs.Common.{◌≡◌, ◌≤◌}
 use Rattle.sc_expr.specs.declared.lexeme.Symbol.{Symbol}
 use Rattle.sc_print.proofs.Tables as tables
 use Rattle.sc_print.proofs.Leaves.{name_says}

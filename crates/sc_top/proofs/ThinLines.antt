@@ -1,5 +1,8 @@
 -- A tree that is that of a thin program, lines aside, is that tree with lines.
-use Rattle.sc_top.proofs.Common.{FunctionTree, List, None, Option, SameButLines, SectionTree, Some, StmtTree, [], ap, ap₂, codes, lineless_decl, lineless_export, lineless_function, lineless_head, lineless_import, lineless_kind, lineless_local, lineless_stmt, lineless_stmts, map, none-some, refl, rules, subst, sym, ℕ, ◌∙◌, ◌∷◌, ◌≡◌}
+use Rattle.sc_top.proofs.Common.{FunctionTree, List, None, Option, SameButLines, SectionTree, Some, StmtTree, [], ap}
+use Rattle.sc_top.proofs.Common.{ap₂, codes, lineless_decl, lineless_export, lineless_function, lineless_head}
+use Rattle.sc_top.proofs.Common.{lineless_import, lineless_kind, lineless_local, lineless_stmt, lineless_stmts, map}
+use Rattle.sc_top.proofs.Common.{none-some, refl, rules, subst, sym, ℕ, ◌∙◌, ◌∷◌, ◌≡◌}
 use Rattle.sc_ast.specs.declared.types.BaseTree.TheVariants as base
 use Rattle.sc_ast.specs.declared.types.TypeName.{TypeName}
 use Rattle.sc_ast.specs.declared.expr.ExprTree.{ExprTree}

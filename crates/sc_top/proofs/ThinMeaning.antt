@@ -1,5 +1,10 @@
 -- What a thin text means.
-use Rattle.sc_top.proofs.Common.{Acts, Body, Event, Function, Here, Left, Library, List, Next, Out, ProgramTree, Return, Some, State, StmtTree, [], all_do, and_then, ap, append-nil, append_assoc, back_own, begun, block_does, c_arith, calls, closed, done, first_state, follow, function_of, globals_of, in_order, leave, library_of, map, meaning, program_of, refl, rules, run_of, run_step, run_to, stmt_does, stopped_at, sym, tell, thin_meaning, true, typed_stmt, whole_run, within, ℕ, ◌++◌, ◌∙◌, ◌∷◌, ◌≡◌}
+use Rattle.sc_top.proofs.Common.{Acts, Body, Event, Function, Here, Left, Library, List, Next, Out, ProgramTree, Return}
+use Rattle.sc_top.proofs.Common.{Some, State, StmtTree, [], all_do, and_then, ap, append-nil, append_assoc, back_own}
+use Rattle.sc_top.proofs.Common.{begun, block_does, c_arith, calls, closed, done, first_state, follow, function_of}
+use Rattle.sc_top.proofs.Common.{globals_of, in_order, leave, library_of, map, meaning, program_of, refl, rules, run_of}
+use Rattle.sc_top.proofs.Common.{run_step, run_to, stmt_does, stopped_at, sym, tell, thin_meaning, true, typed_stmt}
+use Rattle.sc_top.proofs.Common.{whole_run, within, ℕ, ◌++◌, ◌∙◌, ◌∷◌, ◌≡◌}
 use Rattle.sc_core.specs.Prelude.{Piece}
 use Rattle.sc_ast.specs.declared.expr.ExprTree as exprs
 use Rattle.sc_ast.specs.declared.stmt.StmtTree as stmts

@@ -1,5 +1,9 @@
 -- A thin text is read.
-use Rattle.sc_top.proofs.Common.{IsSplit, IsThin, IsTrue, List, Reads, SameButLines, SaysAll, SectionSpells, SectionTree, ThinProgram, [], ap, arith, codes, dense_text, flat_map, head, kept_section, map, max, most_open, nothing, open_after, output_line, part_of, recursion_from_All, refl, return_line, section_height, section_words, subst, sym, symbol_of, symbols, ℕ, ◌++◌, ◌∙◌, ◌∷◌, ◌≡◌, ◌≤◌}
+use Rattle.sc_top.proofs.Common.{IsSplit, IsThin, IsTrue, List, Reads, SameButLines, SaysAll, SectionSpells}
+use Rattle.sc_top.proofs.Common.{SectionTree, ThinProgram, [], ap, arith, codes, dense_text, flat_map, head}
+use Rattle.sc_top.proofs.Common.{kept_section, map, max, most_open, nothing, open_after, output_line, part_of}
+use Rattle.sc_top.proofs.Common.{recursion_from_All, refl, return_line, section_height, section_words, subst, sym}
+use Rattle.sc_top.proofs.Common.{symbol_of, symbols, ℕ, ◌++◌, ◌∙◌, ◌∷◌, ◌≡◌, ◌≤◌}
 use Rattle.sc_parse.specs.Prelude.{lexemes_of}
 use Rattle.sc_lex.specs.declared.token.Token.{Token}
 use Rattle.sc_expr.specs.declared.lexeme.Lexeme.{Lexeme}

@@ -1,5 +1,9 @@
 -- The tree of a thin text breaks no rule.
-use Rattle.sc_top.proofs.Common.{Callees, FunctionTree, List, Scope, SectionTree, Some, StmtTree, Visible, [], ap, ap₂, arith, callees_of, codes, concat, counts_broken, false, le-leb, length, map, most_nodes, nat_le, program_of, refl, rules, scope_in, stmt_nodes, thin_interfaces, total, true, typed_stmt, types_broken, visible_of, ℕ, ◌&&◌, ◌*◌, ◌++◌, ◌+◌, ◌∙◌, ◌∷◌, ◌≡◌, ◌≤◌}
+use Rattle.sc_top.proofs.Common.{Callees, FunctionTree, List, Scope, SectionTree, Some, StmtTree, Visible, [], ap, ap₂}
+use Rattle.sc_top.proofs.Common.{arith, callees_of, codes, concat, counts_broken, false, le-leb, length, map}
+use Rattle.sc_top.proofs.Common.{most_nodes, nat_le, program_of, refl, rules, scope_in, stmt_nodes, thin_interfaces}
+use Rattle.sc_top.proofs.Common.{total, true, typed_stmt, types_broken, visible_of, ℕ, ◌&&◌, ◌*◌, ◌++◌, ◌+◌, ◌∙◌, ◌∷◌}
+use Rattle.sc_top.proofs.Common.{◌≡◌, ◌≤◌}
 use Rattle.sc_scope.specs.Prelude.{Known, line_of_text, names_broken, unless}
 use Rattle.sc_interfaces.specs.Prelude.{interface_broken}
 use Rattle.sc_ast.specs.declared.expr.ExprTree as exprs

@@ -1,5 +1,10 @@
 -- A thin text is one section.
-use Rattle.sc_top.proofs.Common.{Bool, IsSection, IsSplit, IsTrue, List, NoHeading, Some, [], all_ascii_digits, and_parts, ap, arith, begins_heading, begins_line, cases_lt, codes, decimal, drop, false≢true, flat_map, get_or, get_or-append_right, get_or-drop, head, heading_name, is_ascii_digit, is_heading, is_name, length, length-append, list_all, name_at, ne_eqb, none, not, output_line, refl, return_line, section, subst, suc, sym, take_all, true, words, zero, ℕ, ⊎_elim, ◌&&◌, ◌++◌, ◌+◌, ◌-◌, ◌==◌, ◌∙◌, ◌∷◌, ◌≡◌, ◌≤◌}
+use Rattle.sc_top.proofs.Common.{Bool, IsSection, IsSplit, IsTrue, List, NoHeading, Some, [], all_ascii_digits}
+use Rattle.sc_top.proofs.Common.{and_parts, ap, arith, begins_heading, begins_line, cases_lt, codes, decimal, drop}
+use Rattle.sc_top.proofs.Common.{false≢true, flat_map, get_or, get_or-append_right, get_or-drop, head, heading_name}
+use Rattle.sc_top.proofs.Common.{is_ascii_digit, is_heading, is_name, length, length-append, list_all, name_at, ne_eqb}
+use Rattle.sc_top.proofs.Common.{none, not, output_line, refl, return_line, section, subst, suc, sym, take_all, true}
+use Rattle.sc_top.proofs.Common.{words, zero, ℕ, ⊎_elim, ◌&&◌, ◌++◌, ◌+◌, ◌-◌, ◌==◌, ◌∙◌, ◌∷◌, ◌≡◌, ◌≤◌}
 use Rattle.sc_lex.specs.declared.section.Section.{Section}
 use Rattle.sc_lex.proofs.Wording.{front_byte}
 use Rattle.sc_top.proofs.Numbers.{digits_of_decimal}

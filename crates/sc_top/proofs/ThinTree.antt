@@ -1,5 +1,10 @@
 -- A thin text is the text of a section without empty lines.
-use Rattle.sc_top.proofs.Common.{IsTrue, List, None, Number, Piece, SectionTree, Some, StmtTree, [], ap, append-nil, append_assoc, ap₂, are_kept, arith, blank, codes, decimal, dense_text, false, fits, flat_map, head, import_words, is_kept_stmt, is_name, is_reserved, kept_section, layouts, le-leb, line_of, lines_at, literal_text, map, newline, output_line, piece_text, refl, return_line, rules, section_height, stmt_height, stmt_layout, stmts_height, sym, text_of, true, word, ℕ, ◌++◌, ◌∙◌, ◌∷◌, ◌≡◌, ◌≤◌}
+use Rattle.sc_top.proofs.Common.{IsTrue, List, None, Number, Piece, SectionTree, Some, StmtTree, [], ap, append-nil}
+use Rattle.sc_top.proofs.Common.{append_assoc, ap₂, are_kept, arith, blank, codes, decimal, dense_text, false, fits}
+use Rattle.sc_top.proofs.Common.{flat_map, head, import_words, is_kept_stmt, is_name, is_reserved, kept_section}
+use Rattle.sc_top.proofs.Common.{layouts, le-leb, line_of, lines_at, literal_text, map, newline, output_line}
+use Rattle.sc_top.proofs.Common.{piece_text, refl, return_line, rules, section_height, stmt_height, stmt_layout}
+use Rattle.sc_top.proofs.Common.{stmts_height, sym, text_of, true, word, ℕ, ◌++◌, ◌∙◌, ◌∷◌, ◌≡◌, ◌≤◌}
 use Rattle.std.proofs.lemmas.Grind.{flat_map-append}
 use Rattle.sc_ast.specs.declared.types.BaseTree.TheVariants as base
 use Rattle.sc_ast.specs.declared.expr.ExprTree as exprs

@@ -1,10 +1,13 @@
 -- What an answer says of the bytes that were read and written.
-use Rattle.sc_top.specs.Common.{Accepts, Adds, Command, Fails, ImageParts, IsAtEnd, IsImage, ProgramTree, Refusal, Rose, Takes, bad, cause_number}
-use Rattle.std.specs.Prelude.{◌≡◌, ◌≢◌, ◌≤◌, ◌⊎◌, ◌+◌, ℕ, IsTrue, List, [], ◌++◌, length, Option, Some, None, option_and_then}
+use Rattle.sc_top.specs.Common.{Accepts, Adds, Command, Fails, ImageParts, IsAtEnd, IsImage, ProgramTree, Refusal, Rose}
+use Rattle.sc_top.specs.Common.{Takes, bad, cause_number}
+use Rattle.std.specs.Prelude.{◌≡◌, ◌≢◌, ◌≤◌, ◌⊎◌, ◌+◌, ℕ, IsTrue, List, [], ◌++◌, length, Option, Some, None}
+use Rattle.std.specs.Prelude.{option_and_then}
 use Rattle.std.specs.Option.{option_map}
 use Rattle.sc_lex.specs.declared.refusal.Phase.TheVariants.{Syntax}
 use Rattle.sc_top.specs.declared.status.Status.{Status}
-use Rattle.sc_top.specs.declared.status.Status.TheVariants.{Done, Usage, Refused, TooLarge, TooLong, BadImage, ReadFault, WriteFault, OutOfMemory, NotBuilt}
+use Rattle.sc_top.specs.declared.status.Status.TheVariants.{Done, Usage, Refused, TooLarge, TooLong, BadImage}
+use Rattle.sc_top.specs.declared.status.Status.TheVariants.{ReadFault, WriteFault, OutOfMemory, NotBuilt}
 use Rattle.sc_top.specs.declared.status.TooLarge as large
 use Rattle.sc_top.specs.Command.{Intake, Text, Image, Nothing, intake, limit_of}
 use Rattle.sc_top.specs.Output.{compiles, HasImage, IsOutput}

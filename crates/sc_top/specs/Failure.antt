@@ -10,7 +10,8 @@ use Rattle.sc_words.specs.declared.fault.WordsFault.TheVariants as words
 use Rattle.sc_top.specs.declared.input.ReadFault as read
 use Rattle.sc_top.specs.declared.input.ReadFault.TheVariants as faults
 use Rattle.sc_top.specs.declared.failure.Failure.{Failure}
-use Rattle.sc_top.specs.declared.failure.Failure.TheVariants.{Usage, Refused, TooLarge, TooLong, BadImage, ReadFault, WriteFault, OutOfMemory, NotBuilt}
+use Rattle.sc_top.specs.declared.failure.Failure.TheVariants.{Usage, Refused, TooLarge, TooLong, BadImage, ReadFault}
+use Rattle.sc_top.specs.declared.failure.Failure.TheVariants.{WriteFault, OutOfMemory, NotBuilt}
 use Rattle.sc_top.specs.declared.status.Status.{Status}
 use Rattle.sc_top.specs.declared.status.Status.TheVariants as status
 use Rattle.sc_top.specs.Answer.{IsLonger, Refuses, IsUnfit, FindsBad, GivesUp}

@@ -1,5 +1,6 @@
 -- What each command writes for the program of a text and its image, or for an image.
-use Rattle.sc_top.specs.Common.{Accepts, Command, ImageParts, Interfaces, IsImage, ProgramTree, Run, RunOptions, ThinProgram, image_bytes, interfaces_of, machine, meaning, thin_image}
+use Rattle.sc_top.specs.Common.{Accepts, Command, ImageParts, Interfaces, IsImage, ProgramTree, Run, RunOptions}
+use Rattle.sc_top.specs.Common.{ThinProgram, image_bytes, interfaces_of, machine, meaning, thin_image}
 use Rattle.sc_word.specs.Prelude.{word_of}
 use Rattle.std.specs.Prelude.{◌≡◌, ℕ, Bool, true, false, IsTrue, List, [], ◌++◌, length, map, codes, Some, None}
 use Rattle.sc_core.specs.declared.run.SourceRun.{SourceRun}

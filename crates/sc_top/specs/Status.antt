@@ -7,7 +7,8 @@ use Rattle.sc_words.specs.Usage.{usage_text}
 use Rattle.sc_top.specs.declared.status.TooLarge as large
 use Rattle.sc_top.specs.declared.status.TooLarge.TheVariants as which
 use Rattle.sc_top.specs.declared.status.Status.{Status}
-use Rattle.sc_top.specs.declared.status.Status.TheVariants.{Done, Usage, Refused, TooLarge, TooLong, BadImage, ReadFault, WriteFault, OutOfMemory, NotBuilt}
+use Rattle.sc_top.specs.declared.status.Status.TheVariants.{Done, Usage, Refused, TooLarge, TooLong, BadImage}
+use Rattle.sc_top.specs.declared.status.Status.TheVariants.{ReadFault, WriteFault, OutOfMemory, NotBuilt}
 
 abbrev pub status_number : Status → ℕ
 status_number Done = 0

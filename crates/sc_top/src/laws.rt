@@ -1,6 +1,7 @@
 //! What holds of every text.
 
-ghost use Rattle.sc_top.specs.Prelude.{Accepts, Command, HasImage, IsAnswer, IsOutput, IsThin, IsThinProgram, IsWithin, SameAnswer, ThinProgram, compiles};
+ghost use Rattle.sc_top.specs.Prelude.{Accepts, Command, HasImage, IsAnswer, IsOutput, IsThin, IsThinProgram, IsWithin};
+ghost use Rattle.sc_top.specs.Prelude.{SameAnswer, ThinProgram, compiles};
 ghost use Rattle.sc_image.specs.Prelude.{IsImage};
 ghost use Rattle.std.specs.Prelude.{◌≡◌, ◌≤◌, ℕ, List, length, IsTrue};
 ghost use Rattle.sc_core.specs.declared.program.ProgramTree.{ProgramTree};

@@ -1,6 +1,7 @@
 //! The commands that read texts.
 
-ghost use Rattle.sc_top.specs.Prelude.{Accepts, Check, Compile, Explain, IsOutput, IsOutputCause, IsReading, IsThinReading, IsThinText, Meaning, Run, meant};
+ghost use Rattle.sc_top.specs.Prelude.{Accepts, Check, Compile, Explain, IsOutput, IsOutputCause, IsReading};
+ghost use Rattle.sc_top.specs.Prelude.{IsThinReading, IsThinText, Meaning, Run, meant};
 ghost use Rattle.std.specs.Prelude.{◌≡◌, ◌≤◌, length, IfOk, IfErr};
 ghost use Rattle.sc_report.specs.Report.{meaning_text};
 

@@ -1,5 +1,6 @@
 ghost use Rattle.sc_top.specs.Prelude.{EndsNumber, IsBody, IsNumber, IsStatement, IsThin, ThinProgram, head};
-ghost use Rattle.std.specs.Prelude.{◌≡◌, ◌<◌, ◌≤◌, ◌++◌, ℕ, List, true, Ok, length, IsNone, IfOk, IsOkAnd, IfSome, decimal};
+ghost use Rattle.std.specs.Prelude.{◌≡◌, ◌<◌, ◌≤◌, ◌++◌, ℕ, List, true, Ok, length, IsNone, IfOk, IsOkAnd, IfSome};
+ghost use Rattle.std.specs.Prelude.{decimal};
 ghost use Rattle.std.specs.Str.{all_ascii_digits};
 
 use sc_base::{OutOfMemory, Words};

@@ -1,4 +1,5 @@
-ghost use Rattle.sc_top.specs.Prelude.{Answers, Command, IsOutput, IsOutputCause, IsSilent, Says, Tells, status_by, status_text};
+ghost use Rattle.sc_top.specs.Prelude.{Answers, Command, IsOutput, IsOutputCause, IsSilent, Says, Tells, status_by};
+ghost use Rattle.sc_top.specs.Prelude.{status_text};
 ghost use Rattle.std.specs.Prelude.{◌≡◌, ◌≢◌, ◌⊎◌, None, Some, map, IfOk, IfErr, IsErrOf};
 ghost use Rattle.std.specs.String.{string_bytes};
 ghost use Rattle.sc_words.specs.Words.{command};

@@ -1,5 +1,7 @@
 -- Tests that hold, lists that are empty, and the places of names.
-use Rattle.sc_types.proofs.Common.{Bool, List, None, Option, Some, [], and_first, and_from, and_rest, ap, arith, concat, cond, false, false≢true, if◌then◌else◌, list_all, map, not, option_map, position, position_from, refl, suc, true, unless, ℕ, ◌&&◌, ◌++◌, ◌+◌, ◌||◌, ◌∙◌, ◌∷◌, ◌≡◌}
+use Rattle.sc_types.proofs.Common.{Bool, List, None, Option, Some, [], and_first, and_from, and_rest, ap, arith, concat}
+use Rattle.sc_types.proofs.Common.{cond, false, false≢true, if◌then◌else◌, list_all, map, not, option_map, position}
+use Rattle.sc_types.proofs.Common.{position_from, refl, suc, true, unless, ℕ, ◌&&◌, ◌++◌, ◌+◌, ◌||◌, ◌∙◌, ◌∷◌, ◌≡◌}
 use Rattle.std.proofs.lemmas.Iterator.Adapters.{position_from-zero}
 
 pub not_true : (a : Bool) → not a ≡ true → a ≡ false

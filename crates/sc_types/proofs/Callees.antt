@@ -1,13 +1,25 @@
 -- In a text that breaks no rule of interfaces, a call by its name is typed as the call of its target.
-use Rattle.sc_types.proofs.Common.{Bool, Callable, Callees, Decl, ExportLine, FunctionTree, HeadTree, ImportLine, List, None, SectionTree, Some, [], agree, agrees_as, agrees_there, agrees_with, allowed, and_first, and_rest, ap, bytes_eq, callable_in, callees_of, declared, export_at, false, false≢true, function_names, functions_in, head_crosses, head_named, head_of, heads_in, if◌then◌else◌, import_named, import_names, import_of, import_target, imported_target, input_name, interface_of, interfaces_of, is_callable, is_environment, is_input, is_numbered, is_offered, is_output, is_some, known_in, list_any, map, not, number_or_zero, offered, offering, option_map, option_signature, or_first, output_name, promised, proto_names, proto_signature, refl, same_import, same_text, signature_by, slice_get, subst, sym, tags, target_or, target_signature, true, typed_section, ℕ, ◌&&◌, ◌++◌, ◌==◌, ◌||◌, ◌∙◌, ◌∷◌, ◌≡◌}
+use Rattle.sc_types.proofs.Common.{Bool, Callable, Callees, Decl, ExportLine, FunctionTree, HeadTree, ImportLine, List}
+use Rattle.sc_types.proofs.Common.{None, SectionTree, Some, [], agree, agrees_as, agrees_there, agrees_with, allowed}
+use Rattle.sc_types.proofs.Common.{and_first, and_rest, ap, bytes_eq, callable_in, callees_of, declared, export_at}
+use Rattle.sc_types.proofs.Common.{false, false≢true, function_names, functions_in, head_crosses, head_named, head_of}
+use Rattle.sc_types.proofs.Common.{heads_in, if◌then◌else◌, import_named, import_names, import_of, import_target}
+use Rattle.sc_types.proofs.Common.{imported_target, input_name, interface_of, interfaces_of, is_callable}
+use Rattle.sc_types.proofs.Common.{is_environment, is_input, is_numbered, is_offered, is_output, is_some, known_in}
+use Rattle.sc_types.proofs.Common.{list_any, map, not, number_or_zero, offered, offering, option_map, option_signature}
+use Rattle.sc_types.proofs.Common.{or_first, output_name, promised, proto_names, proto_signature, refl, same_import}
+use Rattle.sc_types.proofs.Common.{same_text, signature_by, slice_get, subst, sym, tags, target_or, target_signature}
+use Rattle.sc_types.proofs.Common.{true, typed_section, ℕ, ◌&&◌, ◌++◌, ◌==◌, ◌||◌, ◌∙◌, ◌∷◌, ◌≡◌}
 use Rattle.sc_event.specs.declared.interface.Import.{Import}
 use Rattle.sc_event.specs.declared.interface.Import.TheVariants as import
 use Rattle.sc_core.specs.declared.ty.Ty.TheVariants as ty
 use Rattle.sc_types.proofs.Basics.{each_passes}
 use Rattle.sc_types.proofs.Places.{Text, same_refl, eq_refl}
-use Rattle.sc_types.proofs.Lookups.{each_at, FoundFunction, find_function, no_function, no_place, heads_of_functions, FoundHead, find_head}
+use Rattle.sc_types.proofs.Lookups.{each_at, FoundFunction, find_function, no_function, no_place, heads_of_functions}
+use Rattle.sc_types.proofs.Lookups.{FoundHead, find_head}
 use Rattle.sc_types.proofs.Facts.{ExportFacts, ImportFacts, DeclFacts, FaceFacts}
-use Rattle.sc_types.proofs.Calls.{agreed_signature, input_signature, output_signature, FoundBy, found_by, get_map, any_at, own_at, FoundImport, find_import, Offering, find_offering, export_is}
+use Rattle.sc_types.proofs.Calls.{agreed_signature, input_signature, output_signature, FoundBy, found_by, get_map}
+use Rattle.sc_types.proofs.Calls.{any_at, own_at, FoundImport, find_import, Offering, find_offering, export_is}
 
 same_import_refl : (i : Import) → same_import i i ≡ true
 same_import_refl import.Input = refl

@@ -1,5 +1,16 @@
 -- A call by its name in a section is the call of its target in the program.
-use Rattle.sc_types.proofs.Common.{BaseTree, Bool, Callees, Decides-eqb, ExportLine, FunctionParam, FunctionTree, HeadTree, ImportLine, List, None, Option, ParamTree, SectionTree, Some, TypeName, TypedParam, [], agree, and_first, and_rest, ap, append_assoc, arith, base_of, base_scalar, bytes_eq, comp_at, crosses, export_at, false, false≢true, functions_in, get_behind, gives_int, head_crosses, head_of, if◌then◌else◌, import_named, interface_of, interfaces_from, interfaces_of, is_input, is_int, is_numbered, is_output, is_some, length, list_all, list_any, map, nat_eq, not, number_of, offering, offers, option_and_then, option_map, param_of, param_ty, promised, proto_of, proto_signature, refl, result_crosses, result_of, result_ty, same_params, same_result, same_type, scalar_of, scalar_ty, signature_by, signature_of, slice_get, starred, suc, sym, tags, takes_int, takes_nothing, true, type_of_name, typed_function, typed_param, zero, ℕ, ◌++◌, ◌+◌, ◌||◌, ◌∙◌, ◌∷◌, ◌≡◌}
+use Rattle.sc_types.proofs.Common.{BaseTree, Bool, Callees, Decides-eqb, ExportLine, FunctionParam, FunctionTree}
+use Rattle.sc_types.proofs.Common.{HeadTree, ImportLine, List, None, Option, ParamTree, SectionTree, Some, TypeName}
+use Rattle.sc_types.proofs.Common.{TypedParam, [], agree, and_first, and_rest, ap, append_assoc, arith, base_of}
+use Rattle.sc_types.proofs.Common.{base_scalar, bytes_eq, comp_at, crosses, export_at, false, false≢true, functions_in}
+use Rattle.sc_types.proofs.Common.{get_behind, gives_int, head_crosses, head_of, if◌then◌else◌, import_named}
+use Rattle.sc_types.proofs.Common.{interface_of, interfaces_from, interfaces_of, is_input, is_int, is_numbered}
+use Rattle.sc_types.proofs.Common.{is_output, is_some, length, list_all, list_any, map, nat_eq, not, number_of}
+use Rattle.sc_types.proofs.Common.{offering, offers, option_and_then, option_map, param_of, param_ty, promised}
+use Rattle.sc_types.proofs.Common.{proto_of, proto_signature, refl, result_crosses, result_of, result_ty, same_params}
+use Rattle.sc_types.proofs.Common.{same_result, same_type, scalar_of, scalar_ty, signature_by, signature_of, slice_get}
+use Rattle.sc_types.proofs.Common.{starred, suc, sym, tags, takes_int, takes_nothing, true, type_of_name}
+use Rattle.sc_types.proofs.Common.{typed_function, typed_param, zero, ℕ, ◌++◌, ◌+◌, ◌||◌, ◌∙◌, ◌∷◌, ◌≡◌}
 use Rattle.sc_interfaces.specs.Prelude.{same_base}
 use Rattle.sc_ast.specs.declared.types.BaseTree.TheVariants as base_tree
 use Rattle.sc_core.specs.declared.ty.Ty.TheVariants as ty

@@ -1,5 +1,10 @@
 -- The names that several proofs of this crate cite, passed on from one place. Declares nothing.
-pub use Rattle.std.proofs.Common.{Bool, Err, IfOk, List, None, Ok, OnOk, Option, Result, Some, [], add-one, ap, append-nil, append_assoc, ap₂, arith, bytes_eq, codes, cond, drop, drop-cons, false, flat_map, get_or, if◌then◌else◌, inl, inr, is_some, le-leb, leb-true, length, length-take, lt-ltb, ltb-true, map, max, nat_eq, nat_le, nat_lt, not, position, refl, replicate, rules, slice_get, slice_range, subst, suc, sym, take, true, zero, ℕ, ◌%◌, ◌&&◌, ◌*◌, ◌++◌, ◌+◌, ◌-◌, ◌<◌, ◌==◌, ◌^◌, ◌||◌, ◌∙◌, ◌∷◌, ◌≡◌, ◌≤◌, ◌⊎◌}
+pub use Rattle.std.proofs.Common.{Bool, Err, IfOk, List, None, Ok, OnOk, Option, Result, Some, [], add-one, ap}
+pub use Rattle.std.proofs.Common.{append-nil, append_assoc, ap₂, arith, bytes_eq, codes, cond, drop, drop-cons, false}
+pub use Rattle.std.proofs.Common.{flat_map, get_or, if◌then◌else◌, inl, inr, is_some, le-leb, leb-true, length}
+pub use Rattle.std.proofs.Common.{length-take, lt-ltb, ltb-true, map, max, nat_eq, nat_le, nat_lt, not, position, refl}
+pub use Rattle.std.proofs.Common.{replicate, rules, slice_get, slice_range, subst, suc, sym, take, true, zero, ℕ, ◌%◌}
+pub use Rattle.std.proofs.Common.{◌&&◌, ◌*◌, ◌++◌, ◌+◌, ◌-◌, ◌<◌, ◌==◌, ◌^◌, ◌||◌, ◌∙◌, ◌∷◌, ◌≡◌, ◌≤◌, ◌⊎◌}
 pub use Rattle.std.proofs.lemmas.Bool.{and_from, false≢true}
 pub use Rattle.std.proofs.lemmas.Bool.Decides.{Decides-eqb, nat_tests}
 pub use Rattle.std.proofs.lemmas.List.{drop_all, length-map, map-append, take_more}
@@ -43,13 +48,38 @@ pub use Rattle.sc_read.proofs.Steps.{as_many, heading_fails}
 pub use Rattle.sc_read.specs.Reading.{IsRead, Part, Reads, part_of}
 pub use Rattle.sc_scope.proofs.Lines.{done, then}
 pub use Rattle.sc_scope.proofs.Noting.{noted_all-append, with_lines-append, with_lines-nil}
-pub use Rattle.sc_scope.specs.Prelude.{Known, Text, among, base_known, base_scalar, call_known, declared, defines_main, earlier, environment, export_names, expr_known, function_in, function_named, function_names, functions_in, global_in, global_names, globals_in, head_in, head_known, heads_in, import_names, import_of, interface_of, interfaces_from, interfaces_of, is_callable, is_environment, known_in, line_of_text, main_from, main_name, member_known, names_broken, noted, number_or_zero, offered, offering, offers, param_names, pointed_known, promised, proto_names, proto_of, refused_at, result_known, scalar_of, simple_known, struct_in, struct_names, structs_in, unless, with_lines}
+pub use Rattle.sc_scope.specs.Prelude.{Known, Text, among, base_known, base_scalar, call_known, declared, defines_main}
+pub use Rattle.sc_scope.specs.Prelude.{earlier, environment, export_names, expr_known, function_in, function_named}
+pub use Rattle.sc_scope.specs.Prelude.{function_names, functions_in, global_in, global_names, globals_in, head_in}
+pub use Rattle.sc_scope.specs.Prelude.{head_known, heads_in, import_names, import_of, interface_of, interfaces_from}
+pub use Rattle.sc_scope.specs.Prelude.{interfaces_of, is_callable, is_environment, known_in, line_of_text, main_from}
+pub use Rattle.sc_scope.specs.Prelude.{main_name, member_known, names_broken, noted, number_or_zero, offered, offering}
+pub use Rattle.sc_scope.specs.Prelude.{offers, param_names, pointed_known, promised, proto_names, proto_of, refused_at}
+pub use Rattle.sc_scope.specs.Prelude.{result_known, scalar_of, simple_known, struct_in, struct_names, structs_in}
+pub use Rattle.sc_scope.specs.Prelude.{unless, with_lines}
 unfoldable pub use Rattle.sc_scope.specs.Prelude.{noted_all}
 pub use Rattle.sc_scope.specs.declared.broken.BrokenLines.{BrokenLines}
-pub use Rattle.sc_interfaces.specs.Faces.{agrees_as, agrees_there, agrees_with, decls_from, export_holds, exports_from, head_fits, head_holds, import_holds, imported_agrees, imports_from, is_input, is_offered, is_output, name_holds, section_lines, takes_int}
-pub use Rattle.sc_interfaces.specs.Prelude.{agree, crosses, gives_int, head_crosses, input_name, interface_broken, is_int, is_plain, main_holds, output_name, result_crosses, same_params, same_result, same_type, takes_nothing}
+pub use Rattle.sc_interfaces.specs.Faces.{agrees_as, agrees_there, agrees_with, decls_from, export_holds, exports_from}
+pub use Rattle.sc_interfaces.specs.Faces.{head_fits, head_holds, import_holds, imported_agrees, imports_from, is_input}
+pub use Rattle.sc_interfaces.specs.Faces.{is_offered, is_output, name_holds, section_lines, takes_int}
+pub use Rattle.sc_interfaces.specs.Prelude.{agree, crosses, gives_int, head_crosses, input_name, interface_broken}
+pub use Rattle.sc_interfaces.specs.Prelude.{is_int, is_plain, main_holds, output_name, result_crosses, same_params}
+pub use Rattle.sc_interfaces.specs.Prelude.{same_result, same_type, takes_nothing}
 pub use Rattle.sc_core.proofs.Layers.{expr_at, layer_of, on_line, stmt_at, term_of, typed}
-pub use Rattle.sc_core.specs.Prelude.{Callable, IsWellTyped, Judged, Scope, Signature, allowed, are_distinct, args_fit, assign_call_fits, base_cells, base_within, body_fits, call_fits, call_height, callable_in, cells_of, decayed, decl_count, export_fits, export_name, expr_height, function_fits, global_fits, highest, import_fits, import_name, init_height, interface_fits, is_array, is_main, is_plain_name, is_pointer, is_target, is_well_typed, judged, kind_fits, kind_height, local_fits, main_fits, mains_in, members_fit, most_cells, most_compartments, most_exports, most_height, most_nodes, most_params, nodes, option_signature, part_fits, part_height, passed_fits, proto_signature, result_fits, result_goes, result_ty, returned_call_fits, same_base, same_import, same_results, same_signature, same_ty, same_types, scalar_ty, scope_of, section_fits, sections_fit, signature_of, simple_fits, simple_height, starred, starred_cells, starred_within, stmt_fits, stmt_height, struct_cells, struct_fits, structs_fit, target_signature, term_height, term_judged, total, truth, type_within, variable_fits, words_fit}
+pub use Rattle.sc_core.specs.Prelude.{Callable, IsWellTyped, Judged, Scope, Signature, allowed, are_distinct, args_fit}
+pub use Rattle.sc_core.specs.Prelude.{assign_call_fits, base_cells, base_within, body_fits, call_fits, call_height}
+pub use Rattle.sc_core.specs.Prelude.{callable_in, cells_of, decayed, decl_count, export_fits, export_name, expr_height}
+pub use Rattle.sc_core.specs.Prelude.{function_fits, global_fits, highest, import_fits, import_name, init_height}
+pub use Rattle.sc_core.specs.Prelude.{interface_fits, is_array, is_main, is_plain_name, is_pointer, is_target}
+pub use Rattle.sc_core.specs.Prelude.{is_well_typed, judged, kind_fits, kind_height, local_fits, main_fits, mains_in}
+pub use Rattle.sc_core.specs.Prelude.{members_fit, most_cells, most_compartments, most_exports, most_height, most_nodes}
+pub use Rattle.sc_core.specs.Prelude.{most_params, nodes, option_signature, part_fits, part_height, passed_fits}
+pub use Rattle.sc_core.specs.Prelude.{proto_signature, result_fits, result_goes, result_ty, returned_call_fits}
+pub use Rattle.sc_core.specs.Prelude.{same_base, same_import, same_results, same_signature, same_ty, same_types}
+pub use Rattle.sc_core.specs.Prelude.{scalar_ty, scope_of, section_fits, sections_fit, signature_of, simple_fits}
+pub use Rattle.sc_core.specs.Prelude.{simple_height, starred, starred_cells, starred_within, stmt_fits, stmt_height}
+pub use Rattle.sc_core.specs.Prelude.{struct_cells, struct_fits, structs_fit, target_signature, term_height}
+pub use Rattle.sc_core.specs.Prelude.{term_judged, total, truth, type_within, variable_fits, words_fit}
 pub use Rattle.sc_core.specs.declared.expr.TypedExpr.{TypedExpr, fold-roll-TypedExpr}
 pub use Rattle.sc_core.specs.declared.expr.TypedKind.{TypedKind, TypedKind-F, the_lemmas}
 unfoldable pub use Rattle.sc_core.specs.declared.expr.TypedKind.{roll-TypedKind}
@@ -61,7 +91,22 @@ pub use Rattle.sc_core.specs.declared.stmt.TypedStmtKind.{TypedStmtKind, TypedSt
 unfoldable pub use Rattle.sc_core.specs.declared.stmt.TypedStmtKind.{roll-TypedStmtKind}
 pub use Rattle.sc_core.specs.declared.ty.BaseTy.{BaseTy}
 pub use Rattle.sc_core.specs.declared.ty.Ty.{Ty}
-pub use Rattle.sc_elab.specs.Prelude.{Callees, Found, Visible, assign_call_holds, base_of, beside, call_holds, callees_of, cells_from, cond_holds, decl_lines, end_of_member, found, going_to, going_to_all, going_to_some, head_named, import_named, import_target, imported_target, init_holds, init_words, is_null, is_sized, is_zero, kind_lines, kind_step, local_holds, locals_from, members_from, or_first, param_ty, params_of, part_lines, program_of, result_of, return_call_holds, scope_in, sections_from, signature_by, simple_holds, step, stmt_lines, stmt_step, struct_lines, structs, tags, target_or, type_of, type_of_name, type_with, typed_args, typed_call, typed_function, typed_global, typed_init, typed_local, typed_param, typed_section, typed_simple, typed_simple_kind, typed_stmt, typed_struct, typed_value, types_broken, variable_typed, visible_in, visible_of, word_of_const}
+pub use Rattle.sc_elab.specs.Prelude.{Callees, Found, Visible, assign_call_holds, base_of, beside, call_holds}
+pub use Rattle.sc_elab.specs.Prelude.{callees_of, cells_from, cond_holds, decl_lines, end_of_member, found, going_to}
+pub use Rattle.sc_elab.specs.Prelude.{going_to_all, going_to_some, head_named, import_named, import_target}
+pub use Rattle.sc_elab.specs.Prelude.{imported_target, init_holds, init_words, is_null, is_sized, is_zero, kind_lines}
+pub use Rattle.sc_elab.specs.Prelude.{kind_step, local_holds, locals_from, members_from, or_first, param_ty, params_of}
+pub use Rattle.sc_elab.specs.Prelude.{part_lines, program_of, result_of, return_call_holds, scope_in, sections_from}
+pub use Rattle.sc_elab.specs.Prelude.{signature_by, simple_holds, step, stmt_lines, stmt_step, struct_lines, structs}
+pub use Rattle.sc_elab.specs.Prelude.{tags, target_or, type_of, type_of_name, type_with, typed_args, typed_call}
+pub use Rattle.sc_elab.specs.Prelude.{typed_function, typed_global, typed_init, typed_local, typed_param, typed_section}
+pub use Rattle.sc_elab.specs.Prelude.{typed_simple, typed_simple_kind, typed_stmt, typed_struct, typed_value}
+pub use Rattle.sc_elab.specs.Prelude.{types_broken, variable_typed, visible_in, visible_of, word_of_const}
 unfoldable pub use Rattle.sc_elab.specs.Prelude.{typed_locals, typed_structs}
 pub use Rattle.sc_types.specs.Common.{FunctionTree, LocalTree, ProgramTree, Section, SectionTree}
-pub use Rattle.sc_types.specs.Prelude.{Accepts, AreLow, AreStarts, Fails, FailsRules, FailsTyped, IsKept, IsSource, IsTyped, call_nodes, counts_broken, decls_nodes, expr_nodes, expr_step, first_start, function_lines, function_nodes, global_lines, head_lines, init_nodes, is_small, line_beyond, line_of_some, lines_from, local_lines, local_nodes, param_small, part_nodes, parts_from, simple_nodes, source_of, start_of, stmt_nodes, stmts_nodes, structs_from, type_in}
+pub use Rattle.sc_types.specs.Prelude.{Accepts, AreLow, AreStarts, Fails, FailsRules, FailsTyped, IsKept, IsSource}
+pub use Rattle.sc_types.specs.Prelude.{IsTyped, call_nodes, counts_broken, decls_nodes, expr_nodes, expr_step}
+pub use Rattle.sc_types.specs.Prelude.{first_start, function_lines, function_nodes, global_lines, head_lines}
+pub use Rattle.sc_types.specs.Prelude.{init_nodes, is_small, line_beyond, line_of_some, lines_from, local_lines}
+pub use Rattle.sc_types.specs.Prelude.{local_nodes, param_small, part_nodes, parts_from, simple_nodes, source_of}
+pub use Rattle.sc_types.specs.Prelude.{start_of, stmt_nodes, stmts_nodes, structs_from, type_in}

@@ -1,5 +1,15 @@
 -- Typed trees are as high as the trees that they come from.
-use Rattle.sc_types.proofs.Common.{BinaryOp, Bool, CallTree, Callees, ExprTree, ExprTree-F, Found, Inside, List, None, Option, SimpleKind, SimpleTree, Some, StmtKind, StmtKind-F, StmtTree, Ty, TypedExpr, TypedKind, TypedKind-F, TypedStmt, TypedStmtKind, TypedStmtKind-F, Under, Visible, [], ap, arith, beside, call_height, expr_at, expr_height, expr_induction, false, fold-roll-TypedExpr, found, going_to, going_to_all, going_to_some, highest, if◌then◌else◌, is_pointer, is_zero, kind_height, kind_step, layer_of, map, map-ExprTree, max, on_line, option_map, params_of, part_height, refl, roll-TypedKind, roll-TypedStmtKind, simple_height, stmt_at, stmt_height, stmt_induction, stmt_step, suc, sym, term_height, term_of, true, typed, typed_call, typed_simple, typed_simple_kind, typed_stmt, typed_value, variable_typed, ℕ, ◌&&◌, ◌+◌, ◌∙◌, ◌∷◌, ◌≡◌}
+use Rattle.sc_types.proofs.Common.{BinaryOp, Bool, CallTree, Callees, ExprTree, ExprTree-F, Found, Inside, List, None}
+use Rattle.sc_types.proofs.Common.{Option, SimpleKind, SimpleTree, Some, StmtKind, StmtKind-F, StmtTree, Ty, TypedExpr}
+use Rattle.sc_types.proofs.Common.{TypedKind, TypedKind-F, TypedStmt, TypedStmtKind, TypedStmtKind-F, Under, Visible}
+use Rattle.sc_types.proofs.Common.{[], ap, arith, beside, call_height, expr_at, expr_height, expr_induction, false}
+use Rattle.sc_types.proofs.Common.{fold-roll-TypedExpr, found, going_to, going_to_all, going_to_some, highest}
+use Rattle.sc_types.proofs.Common.{if◌then◌else◌, is_pointer, is_zero, kind_height, kind_step, layer_of, map}
+use Rattle.sc_types.proofs.Common.{map-ExprTree, max, on_line, option_map, params_of, part_height, refl, roll-TypedKind}
+use Rattle.sc_types.proofs.Common.{roll-TypedStmtKind, simple_height, stmt_at, stmt_height, stmt_induction, stmt_step}
+use Rattle.sc_types.proofs.Common.{suc, sym, term_height, term_of, true, typed, typed_call, typed_simple}
+use Rattle.sc_types.proofs.Common.{typed_simple_kind, typed_stmt, typed_value, variable_typed, ℕ, ◌&&◌, ◌+◌, ◌∙◌, ◌∷◌}
+use Rattle.sc_types.proofs.Common.{◌≡◌}
 use Rattle.sc_ast.specs.declared.expr.ExprTree.TheOpen as tree_term
 use Rattle.sc_base.specs.declared.op.BinaryOp.TheVariants as tree_op
 use Rattle.sc_ast.specs.declared.stmt.SimpleKind.TheVariants as simple

@@ -1,5 +1,10 @@
 -- What is found by a name among a section's declarations.
-use Rattle.sc_types.proofs.Common.{Bool, Decl, Function, FunctionTree, Global, HeadTree, List, None, Proto, Some, Struct, [], and_first, and_rest, ap, bytes_eq, bytes_eq-Decides, false, false≢true, function_named, function_names, functions_in, head_named, head_of, heads_in, if◌then◌else◌, is_numbered, list_all, list_any, map, number_of, option_map, proto_names, refl, same_text, slice_get, subst, suc, sym, true, zero, ℕ, ◌||◌, ◌∙◌, ◌∷◌, ◌≡◌}
+use Rattle.sc_types.proofs.Common.{Bool, Decl, Function, FunctionTree, Global, HeadTree, List, None, Proto, Some}
+use Rattle.sc_types.proofs.Common.{Struct, [], and_first, and_rest, ap, bytes_eq, bytes_eq-Decides, false, false≢true}
+use Rattle.sc_types.proofs.Common.{function_named, function_names, functions_in, head_named, head_of, heads_in}
+use Rattle.sc_types.proofs.Common.{if◌then◌else◌, is_numbered, list_all, list_any, map, number_of, option_map}
+use Rattle.sc_types.proofs.Common.{proto_names, refl, same_text, slice_get, subst, suc, sym, true, zero, ℕ, ◌||◌, ◌∙◌}
+use Rattle.sc_types.proofs.Common.{◌∷◌, ◌≡◌}
 use Rattle.sc_types.proofs.Basics.{Each, some_is, none_some, find}
 use Rattle.sc_types.proofs.Places.{Text, number_is}
 

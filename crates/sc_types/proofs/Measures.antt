@@ -1,5 +1,6 @@
 -- Structs among declarations, and numbers of cells that stop.
-use Rattle.sc_types.proofs.Common.{Decl, Struct, StructTree, [], arith, limited, nat_le, nat_tests, refl, structs_in, ℕ, ◌∷◌, ◌≡◌}
+use Rattle.sc_types.proofs.Common.{Decl, Struct, StructTree, [], arith, limited, nat_le, nat_tests, refl, structs_in, ℕ}
+use Rattle.sc_types.proofs.Common.{◌∷◌, ◌≡◌}
 
 -- what is no struct adds none
 pub no-struct : (decl : Decl) → ((tree : StructTree) → decl ≡ Struct tree → ⊥) → structs_in (decl ∷ []) ≡ []

@@ -1,5 +1,8 @@
 -- The places of names in lists of names.
-use Rattle.sc_types.proofs.Common.{Bool, Decides-eqb, List, Option, Some, [], ap, arith, bytes_eq, bytes_eq-Decides, false, false≢true, if◌then◌else◌, is_numbered, le-leb, leb-true, length, list_any, lt-ltb, nat_le, nat_lt, number_of, number_or_zero, option_map, refl, slice_get, subst, suc, sym, true, ℕ, ◌++◌, ◌<◌, ◌==◌, ◌||◌, ◌∙◌, ◌∷◌, ◌≡◌, ◌≤◌}
+use Rattle.sc_types.proofs.Common.{Bool, Decides-eqb, List, Option, Some, [], ap, arith, bytes_eq, bytes_eq-Decides}
+use Rattle.sc_types.proofs.Common.{false, false≢true, if◌then◌else◌, is_numbered, le-leb, leb-true, length, list_any}
+use Rattle.sc_types.proofs.Common.{lt-ltb, nat_le, nat_lt, number_of, number_or_zero, option_map, refl, slice_get}
+use Rattle.sc_types.proofs.Common.{subst, suc, sym, true, ℕ, ◌++◌, ◌<◌, ◌==◌, ◌||◌, ◌∙◌, ◌∷◌, ◌≡◌, ◌≤◌}
 use Rattle.sc_types.proofs.Basics.{find, position_is}
 
 abbrev pub Text : Type 0

@@ -1,5 +1,10 @@
 -- What is read of a text is low and has few stars, and what it fails is failed by the text.
-use Rattle.sc_types.proofs.Common.{Accepts, AllZip, AreLow, AreSections, Cuts, Err, Fails, FailsRules, IfOk, IsRead, IsTyped, List, None, Ok, Option, Part, Phase, ProgramTree, Reads, Result, Section, SectionTree, Some, [], and_from, arith, counts_broken, drop, gap, inl, inr, interface_broken, length, length-take, list_all, map, names_broken, nat_le, none, nothing, part_of, program_of, refl, refused_at, section, section_height, slice_range, subst, sym, token, true, types_broken, ℕ, ◌+◌, ◌-◌, ◌<◌, ◌∷◌, ◌≡◌, ◌≤◌, ◌⊎◌}
+use Rattle.sc_types.proofs.Common.{Accepts, AllZip, AreLow, AreSections, Cuts, Err, Fails, FailsRules, IfOk, IsRead}
+use Rattle.sc_types.proofs.Common.{IsTyped, List, None, Ok, Option, Part, Phase, ProgramTree, Reads, Result, Section}
+use Rattle.sc_types.proofs.Common.{SectionTree, Some, [], and_from, arith, counts_broken, drop, gap, inl, inr}
+use Rattle.sc_types.proofs.Common.{interface_broken, length, length-take, list_all, map, names_broken, nat_le, none}
+use Rattle.sc_types.proofs.Common.{nothing, part_of, program_of, refl, refused_at, section, section_height, slice_range}
+use Rattle.sc_types.proofs.Common.{subst, sym, token, true, types_broken, ℕ, ◌+◌, ◌-◌, ◌<◌, ◌∷◌, ◌≡◌, ◌≤◌, ◌⊎◌}
 use Rattle.sc_expr.specs.Prelude.{lexeme_of}
 use Rattle.sc_parse.specs.Prelude.{lexemes_of}
 use Rattle.sc_lex.specs.declared.token.Token.{Token}

@@ -1,5 +1,8 @@
 -- Sections that break a rule are refused, and are those of no program.
-use Rattle.sc_types.proofs.Common.{Accepts, Fails, FailsRules, FailsTyped, IsTyped, List, None, Phase, ProgramTree, Reads, SectionTree, Some, [], ap, counts_broken, earlier, interface_broken, names_broken, noted_all, program_of, refl, refused_at, subst, sym, types_broken, ℕ, ◌∙◌, ◌∷◌, ◌≡◌}
+use Rattle.sc_types.proofs.Common.{Accepts, Fails, FailsRules, FailsTyped, IsTyped, List, None, Phase, ProgramTree}
+use Rattle.sc_types.proofs.Common.{Reads, SectionTree, Some, [], ap, counts_broken, earlier, interface_broken}
+use Rattle.sc_types.proofs.Common.{names_broken, noted_all, program_of, refl, refused_at, subst, sym, types_broken, ℕ}
+use Rattle.sc_types.proofs.Common.{◌∙◌, ◌∷◌, ◌≡◌}
 use Rattle.sc_lex.specs.declared.refusal.Phase.TheVariants as phase
 use Rattle.sc_read.specs.Reading as reading
 use Rattle.sc_types.proofs.Basics.{none_some, some_is}

@@ -1,5 +1,20 @@
 -- Sections that break no rule are well typed, and have the interfaces of the text.
-use Rattle.sc_types.proofs.Common.{BaseTree, BaseTy, Bool, Callees, Decides-eqb, Decl, ExportLine, Function, FunctionTree, Global, HeadTree, ImportLine, Interface, List, None, Option, ParamTree, Proto, SectionTree, Signature, Some, Struct, Ty, TypeName, TypedFunction, TypedSection, [], agree, and_first, and_from, and_rest, ap, append-nil, append_assoc, are_distinct, arith, bytes_eq, callees_of, export_at, export_fits, export_name, export_names, false, false≢true, filter_map-append, function_named, function_names, functions_in, get_behind, globals_in, head_crosses, head_fits, head_of, heads_in, if◌then◌else◌, import_fits, import_name, import_names, import_of, input_name, interface_fits, interface_of, interfaces_of, is_environment, is_numbered, is_offered, is_plain_name, is_some, length, list_all, list_any, main_name, map, map-append, map_twice, most_exports, most_nodes, nat_le, not, number_or_zero, offered, offering, option_map, output_name, promised, proto_of, proto_signature, refl, same_base, same_results, same_signature, same_text, same_ty, same_type, same_types, signature_by, signature_of, slice_get, structs, structs_in, subst, suc, sym, tags, true, typed_function, typed_section, unless, zero, ℕ, ◌&&◌, ◌++◌, ◌==◌, ◌||◌, ◌∙◌, ◌∷◌, ◌≡◌, ◌≤◌}
+use Rattle.sc_types.proofs.Common.{BaseTree, BaseTy, Bool, Callees, Decides-eqb, Decl, ExportLine, Function}
+use Rattle.sc_types.proofs.Common.{FunctionTree, Global, HeadTree, ImportLine, Interface, List, None, Option, ParamTree}
+use Rattle.sc_types.proofs.Common.{Proto, SectionTree, Signature, Some, Struct, Ty, TypeName, TypedFunction}
+use Rattle.sc_types.proofs.Common.{TypedSection, [], agree, and_first, and_from, and_rest, ap, append-nil, append_assoc}
+use Rattle.sc_types.proofs.Common.{are_distinct, arith, bytes_eq, callees_of, export_at, export_fits, export_name}
+use Rattle.sc_types.proofs.Common.{export_names, false, false≢true, filter_map-append, function_named, function_names}
+use Rattle.sc_types.proofs.Common.{functions_in, get_behind, globals_in, head_crosses, head_fits, head_of, heads_in}
+use Rattle.sc_types.proofs.Common.{if◌then◌else◌, import_fits, import_name, import_names, import_of, input_name}
+use Rattle.sc_types.proofs.Common.{interface_fits, interface_of, interfaces_of, is_environment, is_numbered, is_offered}
+use Rattle.sc_types.proofs.Common.{is_plain_name, is_some, length, list_all, list_any, main_name, map, map-append}
+use Rattle.sc_types.proofs.Common.{map_twice, most_exports, most_nodes, nat_le, not, number_or_zero, offered, offering}
+use Rattle.sc_types.proofs.Common.{option_map, output_name, promised, proto_of, proto_signature, refl, same_base}
+use Rattle.sc_types.proofs.Common.{same_results, same_signature, same_text, same_ty, same_type, same_types}
+use Rattle.sc_types.proofs.Common.{signature_by, signature_of, slice_get, structs, structs_in, subst, suc, sym, tags}
+use Rattle.sc_types.proofs.Common.{true, typed_function, typed_section, unless, zero, ℕ, ◌&&◌, ◌++◌, ◌==◌, ◌||◌, ◌∙◌}
+use Rattle.sc_types.proofs.Common.{◌∷◌, ◌≡◌, ◌≤◌}
 use Rattle.sc_event.specs.declared.interface.Import.TheVariants as import
 use Rattle.sc_event.specs.declared.interface.Proto as event
 use Rattle.sc_ast.specs.declared.types.BaseTree.TheVariants as tree_base
@@ -14,7 +29,8 @@ use Rattle.sc_types.proofs.Basics.{not_true, rule_holds, front_empty, back_empty
 use Rattle.sc_types.proofs.Places.{Text, same_refl, eq_refl, at_most}
 use Rattle.sc_types.proofs.Lookups.{each_at, each_function, FoundFunction, find_function}
 use Rattle.sc_types.proofs.Facts.{Fresh, fresh_distinct, ExportFacts, ImportFacts, DeclFacts, FaceFacts}
-use Rattle.sc_types.proofs.Calls.{agreed_signature, FoundBy, found_by, get_map, any_at, own_signature, Offering, find_offering, export_is}
+use Rattle.sc_types.proofs.Calls.{agreed_signature, FoundBy, found_by, get_map, any_at, own_signature, Offering}
+use Rattle.sc_types.proofs.Calls.{find_offering, export_is}
 use Rattle.sc_types.proofs.Functions.{map_length}
 
 -- Signatures are the same as themselves.

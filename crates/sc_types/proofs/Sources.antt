@@ -1,5 +1,10 @@
 -- The parts of a text, by the places at which its sections begin.
-use Rattle.sc_types.proofs.Common.{Accepts, AreSections, AreStarts, IsKept, IsRead, IsSource, IsSplit, List, None, ProgramTree, Reads, Section, SectionTree, Some, [], add-one, ap, ap₂, arith, as_many, concat, drop, first_start, flat_map, get_or, interfaces_from, length, line_at, map, map-append, none, part_of, parts_from, refl, section, slice_get, slice_range, source_of, start_of, subst, suc, sym, take, take_more, zero, ℕ, ◌++◌, ◌+◌, ◌-◌, ◌<◌, ◌∙◌, ◌∷◌, ◌≡◌, ◌≤◌}
+use Rattle.sc_types.proofs.Common.{Accepts, AreSections, AreStarts, IsKept, IsRead, IsSource, IsSplit, List, None}
+use Rattle.sc_types.proofs.Common.{ProgramTree, Reads, Section, SectionTree, Some, [], add-one, ap, ap₂, arith, as_many}
+use Rattle.sc_types.proofs.Common.{concat, drop, first_start, flat_map, get_or, interfaces_from, length, line_at, map}
+use Rattle.sc_types.proofs.Common.{map-append, none, part_of, parts_from, refl, section, slice_get, slice_range}
+use Rattle.sc_types.proofs.Common.{source_of, start_of, subst, suc, sym, take, take_more, zero, ℕ, ◌++◌, ◌+◌, ◌-◌, ◌<◌}
+use Rattle.sc_types.proofs.Common.{◌∙◌, ◌∷◌, ◌≡◌, ◌≤◌}
 use Rattle.sc_lex.proofs.Splits.{progress_joined, sections_rise}
 use Rattle.sc_read.proofs.Splits.{split_good, same_parts}
 use Rattle.sc_types.proofs.Functions.{map_length}

@@ -1,11 +1,25 @@
 -- A text that breaks no rule is a well-typed program.
-use Rattle.sc_types.proofs.Common.{AreLow, Bool, Callees, Decl, ExportLine, Function, FunctionTree, Global, ImportLine, Interface, IsWellTyped, List, Proto, SectionTree, Some, Struct, StructTree, TypedFunction, TypedSection, [], and_first, and_from, and_rest, ap, append_assoc, are_distinct, arith, bytes_eq, callees_of, codes, concat, counts_broken, decl_count, defines_main, environment, false, false≢true, functions_in, get_behind, globals_in, head_of, heads_in, if◌then◌else◌, interface_broken, interface_fits, interface_of, interfaces_from, interfaces_of, is_main, is_numbered, is_well_typed, length, line_of_text, list_any, main_fits, main_from, main_name, mains_in, map, map-append, most_compartments, most_exports, most_nodes, name_holds, names_broken, nat_le, not, option_map, program_of, refl, same_signature, section_fits, section_height, sections_fit, sections_from, signature_by, signature_of, slice_get, structs, structs_in, subst, suc, sym, tags, true, truth, typed_function, typed_global, typed_section, types_broken, unless, zero, ℕ, ◌&&◌, ◌++◌, ◌+◌, ◌==◌, ◌||◌, ◌∙◌, ◌∷◌, ◌≡◌, ◌≤◌}
+use Rattle.sc_types.proofs.Common.{AreLow, Bool, Callees, Decl, ExportLine, Function, FunctionTree, Global, ImportLine}
+use Rattle.sc_types.proofs.Common.{Interface, IsWellTyped, List, Proto, SectionTree, Some, Struct, StructTree}
+use Rattle.sc_types.proofs.Common.{TypedFunction, TypedSection, [], and_first, and_from, and_rest, ap, append_assoc}
+use Rattle.sc_types.proofs.Common.{are_distinct, arith, bytes_eq, callees_of, codes, concat, counts_broken, decl_count}
+use Rattle.sc_types.proofs.Common.{defines_main, environment, false, false≢true, functions_in, get_behind, globals_in}
+use Rattle.sc_types.proofs.Common.{head_of, heads_in, if◌then◌else◌, interface_broken, interface_fits, interface_of}
+use Rattle.sc_types.proofs.Common.{interfaces_from, interfaces_of, is_main, is_numbered, is_well_typed, length}
+use Rattle.sc_types.proofs.Common.{line_of_text, list_any, main_fits, main_from, main_name, mains_in, map, map-append}
+use Rattle.sc_types.proofs.Common.{most_compartments, most_exports, most_nodes, name_holds, names_broken, nat_le, not}
+use Rattle.sc_types.proofs.Common.{option_map, program_of, refl, same_signature, section_fits, section_height}
+use Rattle.sc_types.proofs.Common.{sections_fit, sections_from, signature_by, signature_of, slice_get, structs}
+use Rattle.sc_types.proofs.Common.{structs_in, subst, suc, sym, tags, true, truth, typed_function, typed_global}
+use Rattle.sc_types.proofs.Common.{typed_section, types_broken, unless, zero, ℕ, ◌&&◌, ◌++◌, ◌+◌, ◌==◌, ◌||◌, ◌∙◌, ◌∷◌}
+use Rattle.sc_types.proofs.Common.{◌≡◌, ◌≤◌}
 use Rattle.sc_core.specs.declared.ty.Ty.TheVariants as ty
 use Rattle.sc_scope.specs.Names as names
 use Rattle.sc_elab.specs.Sections as elab
 use Rattle.sc_interfaces.specs.Faces as faces
 use Rattle.sc_types.specs.Counts as counts
-use Rattle.sc_types.proofs.Basics.{not_true, rule_holds, front_empty, back_empty, map_empty, Each, each_empty, each_passes, some_is, none_some}
+use Rattle.sc_types.proofs.Basics.{not_true, rule_holds, front_empty, back_empty, map_empty, Each, each_empty}
+use Rattle.sc_types.proofs.Basics.{each_passes, some_is, none_some}
 use Rattle.sc_types.proofs.Places.{Text, at_most, is_at_most}
 use Rattle.sc_types.proofs.Structs.{AllSmall, structs_all_fit, structs_length}
 use Rattle.sc_types.proofs.Lookups.{each_at, each_function, same_sym, FoundFunction, find_function}

@@ -1,9 +1,14 @@
 -- The names of this crate that its contracts, its proofs and the crates above cite, passed on from one place. Declares nothing.
-pub use Rattle.sc_scope.specs.Prelude.{functions_in, globals_in, heads_in, line_of_text, names_broken, refused_at, struct_names, structs_in, with_lines}
+pub use Rattle.sc_scope.specs.Prelude.{functions_in, globals_in, heads_in, line_of_text, names_broken, refused_at}
+pub use Rattle.sc_scope.specs.Prelude.{struct_names, structs_in, with_lines}
 pub use Rattle.sc_core.specs.Prelude.{most_compartments, most_exports, most_nodes, total}
 pub use Rattle.sc_elab.specs.Prelude.{Callees, program_of, type_of_name, types_broken}
 pub use Rattle.sc_types.specs.Acceptance.{Accepts, AreLow, Fails, FailsRules, FailsTyped, IsTyped}
-pub use Rattle.sc_types.specs.Counts.{counts_broken, function_lines, global_lines, head_lines, is_small, line_beyond, line_of_some, lines_from, local_lines, param_small, section_lines, structs_from, type_in}
+pub use Rattle.sc_types.specs.Counts.{counts_broken, function_lines, global_lines, head_lines, is_small, line_beyond}
+pub use Rattle.sc_types.specs.Counts.{line_of_some, lines_from, local_lines, param_small, section_lines, structs_from}
+pub use Rattle.sc_types.specs.Counts.{type_in}
 pub use Rattle.sc_types.specs.Source.{IsSource}
 pub use Rattle.sc_types.specs.Starts.{AreStarts, IsKept, first_start, parts_from, source_of, start_of}
-pub use Rattle.sc_types.specs.TreeNodes.{call_nodes, decls_nodes, expr_nodes, expr_step, function_nodes, init_nodes, kind_nodes, kind_step, local_nodes, part_nodes, simple_nodes, stmt_nodes, stmt_step, stmts_nodes}
+pub use Rattle.sc_types.specs.TreeNodes.{call_nodes, decls_nodes, expr_nodes, expr_step, function_nodes, init_nodes}
+pub use Rattle.sc_types.specs.TreeNodes.{kind_nodes, kind_step, local_nodes, part_nodes, simple_nodes, stmt_nodes}
+pub use Rattle.sc_types.specs.TreeNodes.{stmt_step, stmts_nodes}

@@ -1,6 +1,8 @@
 //! The lines of what is beyond a count.
 
-ghost use Rattle.sc_types.specs.Prelude.{function_lines, functions_in, global_lines, globals_in, head_lines, heads_in, line_beyond, local_lines, most_exports, param_small, structs_from, structs_in, with_lines};
+ghost use Rattle.sc_types.specs.Prelude.{function_lines, functions_in, global_lines, globals_in, head_lines, heads_in};
+ghost use Rattle.sc_types.specs.Prelude.{line_beyond, local_lines, most_exports, param_small, structs_from, structs_in};
+ghost use Rattle.sc_types.specs.Prelude.{with_lines};
 ghost use Rattle.std.specs.Prelude.{◌≡◌, ◌+◌, [], ◌∷◌, length, map, IfOk, OnOk};
 ghost use Rattle.std.specs.List.{concat, list_all};
 ghost use Rattle.sc_ast.specs.declared.section.ExportLine.{ExportLine};

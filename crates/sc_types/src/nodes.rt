@@ -1,6 +1,7 @@
 //! How many nodes trees have. Numbers stop at 4294967295.
 
-ghost use Rattle.sc_types.specs.Prelude.{call_nodes, decls_nodes, expr_nodes, function_nodes, init_nodes, kind_nodes, local_nodes, part_nodes, simple_nodes, stmt_nodes, stmts_nodes, total};
+ghost use Rattle.sc_types.specs.Prelude.{call_nodes, decls_nodes, expr_nodes, function_nodes, init_nodes, kind_nodes};
+ghost use Rattle.sc_types.specs.Prelude.{local_nodes, part_nodes, simple_nodes, stmt_nodes, stmts_nodes, total};
 ghost use Rattle.sc_ast.specs.Prelude.{limited};
 ghost use Rattle.std.specs.Prelude.{◌≡◌, ◌+◌, suc, [], ◌∷◌, map};
 

@@ -1,4 +1,5 @@
-ghost use Rattle.std.specs.Prelude.{◌≡◌, ◌<◌, ◌≤◌, Some, map, take, drop, length, slice_get, slice_range, IfOk, IsErrOf};
+ghost use Rattle.std.specs.Prelude.{◌≡◌, ◌<◌, ◌≤◌, Some, map, take, drop, length, slice_get, slice_range, IfOk};
+ghost use Rattle.std.specs.Prelude.{IsErrOf};
 ghost use Rattle.sc_lex.specs.declared.refusal.Refusal.{Refusal};
 ghost use Rattle.sc_types.specs.Acceptance.{Accepts, Fails};
 ghost use Rattle.sc_types.specs.Source.{IsSource};

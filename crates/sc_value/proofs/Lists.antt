@@ -1,5 +1,7 @@
 -- The values of expressions, one after the other.
-use Rattle.sc_value.proofs.Common.{Blocks, Cause, Err, List, Ok, Result, TypedExpr, Value, Ways, [], add-one, ap, append_assoc, bind, drop, drop-cons, get_or, length, map, refl, sym, values, ℕ, ◌++◌, ◌+◌, ◌<◌, ◌∙◌, ◌∷◌, ◌≡◌}
+use Rattle.sc_value.proofs.Common.{Blocks, Cause, Err, List, Ok, Result, TypedExpr, Value, Ways, [], add-one, ap}
+use Rattle.sc_value.proofs.Common.{append_assoc, bind, drop, drop-cons, get_or, length, map, refl, sym, values, ℕ, ◌++◌}
+use Rattle.sc_value.proofs.Common.{◌+◌, ◌<◌, ◌∙◌, ◌∷◌, ◌≡◌}
 use Rattle.sc_core.specs.declared.value.Want.TheVariants as want
 
 -- values that are there already, and those that follow

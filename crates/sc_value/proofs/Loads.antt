@@ -1,5 +1,8 @@
 -- What the store of blocks gives and takes is what the memory does.
-use Rattle.sc_value.proofs.Common.{Blocks, Bool, Cause, Err, List, None, Ok, Option, Ptr, Result, Some, Value, bind, cell_of, cells_at, false, if◌then◌else◌, is_live, length, living, load, load_cell, loaded, nat_lt, or_cause, put_in, read_cell, refl, slice_get, slice_set, store, store_cell, true, with_cell, ◌≡◌}
+use Rattle.sc_value.proofs.Common.{Blocks, Bool, Cause, Err, List, None, Ok, Option, Ptr, Result, Some, Value, bind}
+use Rattle.sc_value.proofs.Common.{cell_of, cells_at, false, if◌then◌else◌, is_live, length, living, load, load_cell}
+use Rattle.sc_value.proofs.Common.{loaded, nat_lt, or_cause, put_in, read_cell, refl, slice_get, slice_set, store}
+use Rattle.sc_value.proofs.Common.{store_cell, true, with_cell, ◌≡◌}
 use Rattle.sc_core.specs.declared.cause.Cause.TheVariants.{OutOfBounds, BadType, Dangling}
 use Rattle.sc_core.specs.declared.value.Cell.{Cell}
 use Rattle.sc_core.specs.declared.value.Cell.TheVariants as cell

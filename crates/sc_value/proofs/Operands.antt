@@ -1,12 +1,19 @@
 -- What an expression gives, by what its parts give.
-use Rattle.sc_value.proofs.Common.{Blocks, Bool, Cause, Err, Here, List, Meant, None, Ok, Result, Some, TypedExpr, Value, Ways, Word, ap, applied_one, at_pointer, binary, bind, c_arith, false, fold-roll-TypedExpr, if◌then◌else◌, is_true, is_unsigned, literal, meant, meant_step, moved, of_bool, pos, refl, sym, term_step, true, variable_at, wanted, ways, ℕ, ◌∙◌, ◌≡◌}
+use Rattle.sc_value.proofs.Common.{Blocks, Bool, Cause, Err, Here, List, Meant, None, Ok, Result, Some, TypedExpr}
+use Rattle.sc_value.proofs.Common.{Value, Ways, Word, ap, applied_one, at_pointer, binary, bind, c_arith, false}
+use Rattle.sc_value.proofs.Common.{fold-roll-TypedExpr, if◌then◌else◌, is_true, is_unsigned, literal, meant, meant_step}
+use Rattle.sc_value.proofs.Common.{moved, of_bool, pos, refl, sym, term_step, true, variable_at, wanted, ways, ℕ, ◌∙◌}
+use Rattle.sc_value.proofs.Common.{◌≡◌}
 use Rattle.sc_base.specs.declared.op.UnaryOp.{UnaryOp}
 use Rattle.sc_base.specs.declared.op.BinaryOp.{BinaryOp}
 use Rattle.sc_base.specs.declared.op.BinaryOp.TheVariants as op
 use Rattle.sc_core.specs.declared.ty.Ty.{Ty}
 use Rattle.sc_core.specs.declared.expr.TypedKind.{TypedKind, TypedKind-F, roll-TypedKind}
 use Rattle.sc_core.specs.declared.expr.TypedKind.TheOpen as term
-use Rattle.sc_core.specs.declared.expr.TypedKind.TheVariants.{Literal, Variable, Unary, Binary, Index, Member, Arrow, Deref, Address, rolls-Literal, rolls-Variable, rolls-Unary, rolls-Binary, rolls-Index, rolls-Member, rolls-Arrow, rolls-Deref, rolls-Address}
+use Rattle.sc_core.specs.declared.expr.TypedKind.TheVariants.{Literal, Variable, Unary, Binary, Index, Member, Arrow}
+use Rattle.sc_core.specs.declared.expr.TypedKind.TheVariants.{Deref, Address, rolls-Literal, rolls-Variable}
+use Rattle.sc_core.specs.declared.expr.TypedKind.TheVariants.{rolls-Unary, rolls-Binary, rolls-Index, rolls-Member}
+use Rattle.sc_core.specs.declared.expr.TypedKind.TheVariants.{rolls-Arrow, rolls-Deref, rolls-Address}
 use Rattle.sc_core.specs.declared.expr.VarRef.{VarRef}
 use Rattle.sc_core.specs.declared.section.TypedStruct.{TypedStruct}
 use Rattle.sc_core.specs.declared.value.Want.{Want}

@@ -1,5 +1,6 @@
 -- Places that move.
-use Rattle.sc_value.proofs.Common.{Blocks, Bool, Cause, Result, Value, Word, ap, arith, moved, moved_back, mul-one, neg_ℤ, negsuc, number_of, pos, refl, suc, sym, zero, ℕ, ℤ, ◌*ℤ◌, ◌*◌, ◌∙◌, ◌≡◌}
+use Rattle.sc_value.proofs.Common.{Blocks, Bool, Cause, Result, Value, Word, ap, arith, moved, moved_back, mul-one}
+use Rattle.sc_value.proofs.Common.{neg_ℤ, negsuc, number_of, pos, refl, suc, sym, zero, ℕ, ℤ, ◌*ℤ◌, ◌*◌, ◌∙◌, ◌≡◌}
 use Rattle.std.proofs.Math.IntN.{*ℤ-negsuc, neg_ℤ-neg_ℤ}
 
 pub by_one : (blocks : Blocks) (offset : ℕ) (q : Value) →

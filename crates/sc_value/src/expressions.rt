@@ -1,6 +1,7 @@
 //! Expressions (C11 6.5), by recursion on the tree, whose height is at most 256.
 
-ghost use Rattle.sc_core.specs.Prelude.{applied, at_pointer, c_arith, is_unsigned_op, literal, values, variable_at, wanted, ways};
+ghost use Rattle.sc_core.specs.Prelude.{applied, at_pointer, c_arith, is_unsigned_op, literal, values, variable_at};
+ghost use Rattle.sc_core.specs.Prelude.{wanted, ways};
 ghost use Rattle.std.specs.Prelude.{◌≡◌, map, IfOk};
 ghost use Rattle.sc_base.specs.declared.op.BinaryOp.TheVariants.{Add};
 ghost use Rattle.sc_blocks.specs.Rows.{memory_of};

@@ -2,8 +2,7 @@
 
 ghost use Rattle.sc_word.specs.Prelude.{word_of};
 ghost use Rattle.sc_core.specs.Prelude.{apart, between, bind, in_elements, is_inside, of_bool, ordered, same_place};
-ghost use Rattle.std.specs.Prelude.{◌≡◌, ◌<◌, ◌^◌, pos, negsuc, ◌≤ℤ◌, ◌<ℤ◌, IfOk};
-ghost use Rattle.std.specs.Prelude.{Ok};
+ghost use Rattle.std.specs.Prelude.{◌≡◌, ◌<◌, ◌^◌, pos, negsuc, ◌≤ℤ◌, ◌<ℤ◌, IfOk, Ok};
 ghost use Rattle.sc_core.specs.declared.value.Value.TheVariants.{Ptr};
 ghost use Rattle.sc_blocks.specs.Rows.{memory_of};
 

@@ -1,6 +1,7 @@
 //! Types as the meaning reads them, and how many cells they take (C11 6.2.5, 6.7.2.1).
 
-ghost use Rattle.sc_core.specs.Prelude.{base_cells, cells_of, is_array, is_pointer, is_unsigned, starred_cells, struct_cells, target_cells};
+ghost use Rattle.sc_core.specs.Prelude.{base_cells, cells_of, is_array, is_pointer, is_unsigned, starred_cells};
+ghost use Rattle.sc_core.specs.Prelude.{struct_cells, target_cells};
 ghost use Rattle.std.specs.Prelude.{◌≡◌, slice_get};
 
 use sc_core::{BaseTy, Ty, TypedStruct};

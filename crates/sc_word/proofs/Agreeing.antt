@@ -1,5 +1,9 @@
 -- Each instruction computes what its operator of C computes.
-use Rattle.sc_word.proofs.Common.{Agrees, Ok, add_signed, add_word, ap, arith, checked, div_signed, div_unsigned, div_word, divu_word, ints, mul_signed, mul_word, neg_signed, neg_ℤ, pos, rem_signed, rem_unsigned, rem_word, remu_word, shl_signed, shl_unsigned, shr_signed, shr_unsigned, signed_of, sll_word, sra_word, srl_word, sub_signed, sub_word, word_of, ℕ, ℤ, ◌*ℤ◌, ◌+ℤ◌, ◌-ℤ◌, ◌<◌, ◌^◌, ◌∙◌, ◌≡◌}
+use Rattle.sc_word.proofs.Common.{Agrees, Ok, add_signed, add_word, ap, arith, checked, div_signed, div_unsigned}
+use Rattle.sc_word.proofs.Common.{div_word, divu_word, ints, mul_signed, mul_word, neg_signed, neg_ℤ, pos, rem_signed}
+use Rattle.sc_word.proofs.Common.{rem_unsigned, rem_word, remu_word, shl_signed, shl_unsigned, shr_signed, shr_unsigned}
+use Rattle.sc_word.proofs.Common.{signed_of, sll_word, sra_word, srl_word, sub_signed, sub_word, word_of, ℕ, ℤ, ◌*ℤ◌}
+use Rattle.sc_word.proofs.Common.{◌+ℤ◌, ◌-ℤ◌, ◌<◌, ◌^◌, ◌∙◌, ◌≡◌}
 use Rattle.sc_word.proofs.Words.{word_of-add, word_of-sub, word_of-mul}
 
 pub word_of-checked : (z : ℤ) (v : ℕ) → checked z ≡ Ok v → word_of z ≡ v

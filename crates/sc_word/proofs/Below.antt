@@ -1,5 +1,9 @@
 -- Each instruction computes a word from words.
-use Rattle.sc_word.proofs.Common.{Bool, add_word, arith, div-le_self, div_word, divu_word, false, if◌then◌else◌, int_div, int_lt, int_rem, int_shr, mod-le, mul_word, mulh_word, mulhsu_word, mulhu_word, nat_lt, pos, rem_word, remu_word, signed_of, sll_word, slt_word, sltu_word, sra_word, srl_word, sub_word, true, word_of, ℕ, ◌%◌, ◌*ℤ◌, ◌*◌, ◌-ℤ◌, ◌-◌, ◌/◌, ◌<◌, ◌==◌, ◌^◌}
+use Rattle.sc_word.proofs.Common.{Bool, add_word, arith, div-le_self, div_word, divu_word, false, if◌then◌else◌}
+use Rattle.sc_word.proofs.Common.{int_div, int_lt, int_rem, int_shr, mod-le, mul_word, mulh_word, mulhsu_word}
+use Rattle.sc_word.proofs.Common.{mulhu_word, nat_lt, pos, rem_word, remu_word, signed_of, sll_word, slt_word}
+use Rattle.sc_word.proofs.Common.{sltu_word, sra_word, srl_word, sub_word, true, word_of, ℕ, ◌%◌, ◌*ℤ◌, ◌*◌, ◌-ℤ◌, ◌-◌}
+use Rattle.sc_word.proofs.Common.{◌/◌, ◌<◌, ◌==◌, ◌^◌}
 use Rattle.std.proofs.lemmas.Nat.{mul-lt}
 use Rattle.sc_word.proofs.Words.{word_of-lt}
 

@@ -1,5 +1,8 @@
 -- Each operator that answers on all words is its instructions.
-use Rattle.sc_word.proofs.Common.{Bool, IsOnWords, OperatorsAreInstructions, SignedWraps, TestsAreWords, add-mul, ap, arith, bit, bit_and, bit_or, bit_xor, false, int_lt, ints, mul_comm, nat_lt, neg_ℤ, not, pos, refl, signed_of, sltu_word, sub_word, suc, sym, true, word_of, zero, ℕ, ℤ, ◌%◌, ◌&&◌, ◌*ℤ◌, ◌*◌, ◌+ℤ◌, ◌+◌, ◌-◌, ◌<◌, ◌==◌, ◌^◌, ◌||◌, ◌∙◌, ◌≡◌, ◌≤◌}
+use Rattle.sc_word.proofs.Common.{Bool, IsOnWords, OperatorsAreInstructions, SignedWraps, TestsAreWords, add-mul, ap}
+use Rattle.sc_word.proofs.Common.{arith, bit, bit_and, bit_or, bit_xor, false, int_lt, ints, mul_comm, nat_lt, neg_ℤ}
+use Rattle.sc_word.proofs.Common.{not, pos, refl, signed_of, sltu_word, sub_word, suc, sym, true, word_of, zero, ℕ, ℤ}
+use Rattle.sc_word.proofs.Common.{◌%◌, ◌&&◌, ◌*ℤ◌, ◌*◌, ◌+ℤ◌, ◌+◌, ◌-◌, ◌<◌, ◌==◌, ◌^◌, ◌||◌, ◌∙◌, ◌≡◌, ◌≤◌}
 use Rattle.sc_word.proofs.Words.{word_of-add, word_of-sub, word_of-mul}
 
 zero_left : (z : ℤ) → pos 0 +ℤ z ≡ z

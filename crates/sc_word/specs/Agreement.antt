@@ -2,8 +2,10 @@
 -- answers the same one.
 use Rattle.std.specs.Prelude.{ℕ, ◌≡◌, ◌^◌, ◌<◌, Result, Ok}
 use Rattle.sc_word.specs.declared.fault.WordFault.{WordFault}
-use Rattle.sc_word.specs.CArithmetic.{add_signed, sub_signed, mul_signed, neg_signed, div_signed, rem_signed, shl_signed, shr_signed, div_unsigned, rem_unsigned, shl_unsigned, shr_unsigned}
-use Rattle.sc_word.specs.Machine.{add_word, sub_word, sll_word, srl_word, sra_word, mul_word, div_word, divu_word, rem_word, remu_word}
+use Rattle.sc_word.specs.CArithmetic.{add_signed, sub_signed, mul_signed, neg_signed, div_signed, rem_signed}
+use Rattle.sc_word.specs.CArithmetic.{shl_signed, shr_signed, div_unsigned, rem_unsigned, shl_unsigned, shr_unsigned}
+use Rattle.sc_word.specs.Machine.{add_word, sub_word, sll_word, srl_word, sra_word, mul_word, div_word, divu_word}
+use Rattle.sc_word.specs.Machine.{rem_word, remu_word}
 
 -- on all words a and b, the instruction answers each word that the operator answers
 abbrev pub Agrees : (ℕ → ℕ → Result ℕ WordFault) → (ℕ → ℕ → ℕ) → Type 0

@@ -1,7 +1,8 @@
 -- What C's operators compute on `int` and `unsigned int` of 32 bits, and the fault where they compute nothing (C11
 -- 6.5.5 to 6.5.8, 6.5.3.3).
 -- Signed arithmetic is that of the whole numbers, as far as the result fits. Unsigned arithmetic is modulo 2 ^ 32.
-use Rattle.std.specs.Prelude.{ℕ, ℤ, pos, ◌+ℤ◌, ◌-ℤ◌, ◌*ℤ◌, neg_ℤ, ◌*◌, ◌/◌, ◌%◌, ◌^◌, Result, Ok, Err, if◌then◌else◌, ◌==◌, nat_le, int_lt, int_div, int_rem}
+use Rattle.std.specs.Prelude.{ℕ, ℤ, pos, ◌+ℤ◌, ◌-ℤ◌, ◌*ℤ◌, neg_ℤ, ◌*◌, ◌/◌, ◌%◌, ◌^◌, Result, Ok, Err, if◌then◌else◌}
+use Rattle.std.specs.Prelude.{◌==◌, nat_le, int_lt, int_div, int_rem}
 use Rattle.std.specs.Int.{int_shr}
 use Rattle.sc_word.specs.declared.fault.WordFault.{WordFault}
 use Rattle.sc_word.specs.declared.fault.WordFault.TheVariants.{Overflow, ZeroDivisor, BadShift}

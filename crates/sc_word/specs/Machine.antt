@@ -1,7 +1,8 @@
 -- What the instructions of RV32I and M compute from two registers: the word that ADD gives is `add_word`, and so on.
 -- RISC-V Unprivileged ISA, chapters "RV32I Base Integer Instruction Set" and "M Extension for Integer Multiplication
 -- and Division".
-use Rattle.std.specs.Prelude.{ℕ, pos, ◌-ℤ◌, ◌*ℤ◌, ◌+◌, ◌-◌, ◌*◌, ◌/◌, ◌%◌, ◌^◌, if◌then◌else◌, ◌==◌, nat_lt, int_lt, int_div, int_rem}
+use Rattle.std.specs.Prelude.{ℕ, pos, ◌-ℤ◌, ◌*ℤ◌, ◌+◌, ◌-◌, ◌*◌, ◌/◌, ◌%◌, ◌^◌, if◌then◌else◌, ◌==◌, nat_lt, int_lt}
+use Rattle.std.specs.Prelude.{int_div, int_rem}
 use Rattle.std.specs.Int.{int_shr}
 use Rattle.sc_word.specs.Word.{signed_of, word_of}
 

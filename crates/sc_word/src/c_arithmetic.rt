@@ -1,6 +1,7 @@
 //! The operators of C on `int` and `unsigned int` of 32 bits, both held as `u32`.
 
-ghost use Rattle.sc_word.specs.Prelude.{add_signed, div_signed, div_unsigned, mul_signed, neg_signed, rem_signed, rem_unsigned, shl_signed, shl_unsigned, shr_signed, shr_unsigned, sub_signed};
+ghost use Rattle.sc_word.specs.Prelude.{add_signed, div_signed, div_unsigned, mul_signed, neg_signed, rem_signed};
+ghost use Rattle.sc_word.specs.Prelude.{rem_unsigned, shl_signed, shl_unsigned, shr_signed, shr_unsigned, sub_signed};
 ghost use Rattle.std.specs.Prelude.{◌≡◌};
 
 use crate::fault::WordFault;

@@ -1,7 +1,9 @@
 //! The register instructions of RV32IM, from the words of the two source registers to the word of
 //! the destination (RISC-V Unprivileged ISA, chapters RV32I and M).
 
-ghost use Rattle.sc_word.specs.Prelude.{add_word, div_word, divu_word, mul_word, mulh_word, mulhsu_word, mulhu_word, rem_word, remu_word, sll_word, slt_word, sltu_word, sra_word, srl_word, sub_word, word_of};
+ghost use Rattle.sc_word.specs.Prelude.{add_word, div_word, divu_word, mul_word, mulh_word, mulhsu_word, mulhu_word};
+ghost use Rattle.sc_word.specs.Prelude.{rem_word, remu_word, sll_word, slt_word, sltu_word, sra_word, srl_word};
+ghost use Rattle.sc_word.specs.Prelude.{sub_word, word_of};
 ghost use Rattle.std.specs.Prelude.{◌≡◌};
 ghost use Rattle.std.specs.Int.{int_shr};
 

@@ -1,5 +1,9 @@
 -- Words of which one is bare are no command.
-use Rattle.sc_words.proofs.Common.{Bool, Form, List, None, Option, Setting, Some, Text, [], ap, arith, begins_with_hyphen, bytes_eq, commands, cond, eqb-true, false, find, form_of, has_value, is_among, is_bare, length, list_all, list_any, more, named, named_option, not, option_and_then, option_map, options, parsed, refl, same_text, settings, subst, sym, true, true≢false, when_complete, ◌&&◌, ◌==◌, ◌∷◌, ◌≡◌}
+use Rattle.sc_words.proofs.Common.{Bool, Form, List, None, Option, Setting, Some, Text, [], ap, arith}
+use Rattle.sc_words.proofs.Common.{begins_with_hyphen, bytes_eq, commands, cond, eqb-true, false, find, form_of}
+use Rattle.sc_words.proofs.Common.{has_value, is_among, is_bare, length, list_all, list_any, more, named, named_option}
+use Rattle.sc_words.proofs.Common.{not, option_and_then, option_map, options, parsed, refl, same_text, settings, subst}
+use Rattle.sc_words.proofs.Common.{sym, true, true≢false, when_complete, ◌&&◌, ◌==◌, ◌∷◌, ◌≡◌}
 
 -- ---- what holds of each command holds of the command of a name
 

@@ -1,5 +1,6 @@
 -- Booleans and kinds of faults, and words by their hyphens.
-use Rattle.sc_words.proofs.Common.{Bool, ErrorKind, Kinds, Text, [], begins_with_hyphen, eqb-true, false, is_bare, not, or_else, refl, sym, true, true≢false, ℕ, ◌&&◌, ◌==◌, ◌∷◌, ◌≡◌}
+use Rattle.sc_words.proofs.Common.{Bool, ErrorKind, Kinds, Text, [], begins_with_hyphen, eqb-true, false, is_bare, not}
+use Rattle.sc_words.proofs.Common.{or_else, refl, sym, true, true≢false, ℕ, ◌&&◌, ◌==◌, ◌∷◌, ◌≡◌}
 
 -- ---- booleans
 

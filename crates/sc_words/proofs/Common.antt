@@ -1,12 +1,23 @@
 -- The names that several proofs of this crate cite, passed on from one place. Declares nothing.
-pub use Rattle.std.proofs.Common.{Bool, Box, Err, FitsSigned, List, None, Ok, OkIff, Option, Result, Some, [], ap, append-nil, append_assoc, ap₂, arith, codes, cond, eq-eqb, eqb-true, false, find, fold, get_or, if◌then◌else◌, inl, inr, is_some, le-leb, leb-true, length, lt-ltb, ltb-true, map, nat_le, nat_lt, neg_ℤ, not, option_and_then, option_map, pos, refl, replicate, rules, slice_get, slice_index, subst, suc, sym, true, true≢false, w32, ℕ, ℤ, ◌&&◌, ◌++◌, ◌+◌, ◌<◌, ◌==◌, ◌||◌, ◌∙◌, ◌∷◌, ◌≡◌, ◌≢◌, ◌≤◌, ◌⊎◌}
+pub use Rattle.std.proofs.Common.{Bool, Box, Err, FitsSigned, List, None, Ok, OkIff, Option, Result, Some, [], ap}
+pub use Rattle.std.proofs.Common.{append-nil, append_assoc, ap₂, arith, codes, cond, eq-eqb, eqb-true, false, find}
+pub use Rattle.std.proofs.Common.{fold, get_or, if◌then◌else◌, inl, inr, is_some, le-leb, leb-true, length, lt-ltb}
+pub use Rattle.std.proofs.Common.{ltb-true, map, nat_le, nat_lt, neg_ℤ, not, option_and_then, option_map, pos, refl}
+pub use Rattle.std.proofs.Common.{replicate, rules, slice_get, slice_index, subst, suc, sym, true, true≢false, w32, ℕ}
+pub use Rattle.std.proofs.Common.{ℤ, ◌&&◌, ◌++◌, ◌+◌, ◌<◌, ◌==◌, ◌||◌, ◌∙◌, ◌∷◌, ◌≡◌, ◌≢◌, ◌≤◌, ◌⊎◌}
 pub use Rattle.clap.proofs.WalkLemmas.{find-map, first_value-rows, list_any-map, one_text-rows}
-pub use Rattle.clap.specs.Faults.{check_fault, entered_fault, fault_of, is_simple_and_free, level_fault, long_fault, other_fault, settle_fault, step_fault, turn_fault, use_fault}
+pub use Rattle.clap.specs.Faults.{check_fault, entered_fault, fault_of, is_simple_and_free, level_fault, long_fault}
+pub use Rattle.clap.specs.Faults.{other_fault, settle_fault, step_fault, turn_fault, use_fault}
 unfoldable pub use Rattle.clap.specs.Faults.{defaults_fault, walk_fault}
 pub use Rattle.clap.specs.Kinds.{IsAmong, Kinds, or_else}
 pub use Rattle.clap.specs.Lexer.{short_of}
-pub use Rattle.clap.specs.Simple.{App, HasMatchesOf, Shape, built, entered, is_simple, label_of, names_of, new_shape, rows_at, subcommand_of, subcommand_rows, subcommand_rows_of}
-pub use Rattle.clap.specs.Walk.{Held, Names, Row, Rule, Step, Waiting, Walk, after_flag, after_step, answers_to, arg_by_id, arg_by_index, arg_by_long, at_row, finished, first_of, has_long, has_row, idle, long_met, more_values, nothing_held, one_of, option, reacted, row_text, rows_after, rows_of, settled, subcommand_met, subcommand_or_other, used, used_by_id, walk_from, with_default, with_values}
+pub use Rattle.clap.specs.Simple.{App, HasMatchesOf, Shape, built, entered, is_simple, label_of, names_of, new_shape}
+pub use Rattle.clap.specs.Simple.{rows_at, subcommand_of, subcommand_rows, subcommand_rows_of}
+pub use Rattle.clap.specs.Walk.{Held, Names, Row, Rule, Step, Waiting, Walk, after_flag, after_step, answers_to}
+pub use Rattle.clap.specs.Walk.{arg_by_id, arg_by_index, arg_by_long, at_row, finished, first_of, has_long, has_row}
+pub use Rattle.clap.specs.Walk.{idle, long_met, more_values, nothing_held, one_of, option, reacted, row_text}
+pub use Rattle.clap.specs.Walk.{rows_after, rows_of, settled, subcommand_met, subcommand_or_other, used, used_by_id}
+pub use Rattle.clap.specs.Walk.{walk_from, with_default, with_values}
 unfoldable pub use Rattle.clap.specs.Walk.{walked}
 pub use Rattle.clap.specs.Words.{AddsSubcommand, app_of, found_of, kind_of, with_subcommand}
 pub use Rattle.clap.specs.declared.error.kind.ErrorKind.{ErrorKind}
@@ -19,11 +30,16 @@ pub use Rattle.std.specs.Str.{all_ascii_digits, bytes_eq}
 pub use Rattle.std.specs.String.{string_bytes}
 pub use Rattle.sc_base.proofs.Lists.{find_passes}
 pub use Rattle.sc_base.proofs.Texts.{bytes_eq_self, same_either_way, same_text}
-pub use Rattle.sc_words.specs.Application.{IsCommandOf, IsReading, Tells, alone_rule, application, flag_text, shape_with, top, valued_rule}
-pub use Rattle.sc_words.specs.Numbers.{first_piece, in_front, integer, integer_list, is_comma, number_within, onto_first, pieces_behind, when_within}
+pub use Rattle.sc_words.specs.Application.{IsCommandOf, IsReading, Tells, alone_rule, application, flag_text}
+pub use Rattle.sc_words.specs.Application.{shape_with, top, valued_rule}
+pub use Rattle.sc_words.specs.Numbers.{first_piece, in_front, integer, integer_list, is_comma, number_within}
+pub use Rattle.sc_words.specs.Numbers.{onto_first, pieces_behind, when_within}
 unfoldable pub use Rattle.sc_words.specs.Numbers.{integers, pieces}
-pub use Rattle.sc_words.specs.Options.{Form, Setting, Text, begins_with_hyphen, each_once, has_option, has_value, is_among, is_bare, more, name_and_value, named, named_option, options, value_of, when_complete}
+pub use Rattle.sc_words.specs.Options.{Form, Setting, Text, begins_with_hyphen, each_once, has_option, has_value}
+pub use Rattle.sc_words.specs.Options.{is_among, is_bare, more, name_and_value, named, named_option, options, value_of}
+pub use Rattle.sc_words.specs.Options.{when_complete}
 unfoldable pub use Rattle.sc_words.specs.Options.{settings}
-pub use Rattle.sc_words.specs.Words.{Values, command_with, commands, events, form_of, inputs, limit, make, make_form, meaning, parsed, run, text_to_show}
+pub use Rattle.sc_words.specs.Words.{Values, command_with, commands, events, form_of, inputs, limit, make, make_form}
+pub use Rattle.sc_words.specs.Words.{meaning, parsed, run, text_to_show}
 unfoldable pub use Rattle.sc_words.specs.Words.{command}
 pub use Rattle.sc_words.specs.declared.command.Command.TheVariants.{Check, Compile, Exec, Explain, Make, Meaning, Run}

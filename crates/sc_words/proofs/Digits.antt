@@ -1,9 +1,16 @@
 -- Numbers as `parse` reads them, and lists cut at their commas.
-use Rattle.sc_words.proofs.Common.{Bool, Err, List, None, Ok, OkIff, Option, Result, Some, [], after_first, all_ascii_digits, ap, append_assoc, ap₂, arith, cond, eq-eqb, eqb-true, false, first_piece, get_or, in_front, inl, inr, integer, integer_list, integers, is_comma, le-leb, leb-true, length, list_any, lt-ltb, ltb-true, nat_le, nat_lt, neg_ℤ, number_within, onto_first, option_and_then, option_map, pieces, pieces_behind, pos, position_or_len, refl, slice_index, suc, sym, true, true≢false, w32, when_within, ℕ, ℤ, ◌&&◌, ◌++◌, ◌+◌, ◌<◌, ◌==◌, ◌||◌, ◌∙◌, ◌∷◌, ◌≡◌, ◌≢◌, ◌≤◌, ◌⊎◌}
+use Rattle.sc_words.proofs.Common.{Bool, Err, List, None, Ok, OkIff, Option, Result, Some, [], after_first}
+use Rattle.sc_words.proofs.Common.{all_ascii_digits, ap, append_assoc, ap₂, arith, cond, eq-eqb, eqb-true, false}
+use Rattle.sc_words.proofs.Common.{first_piece, get_or, in_front, inl, inr, integer, integer_list, integers, is_comma}
+use Rattle.sc_words.proofs.Common.{le-leb, leb-true, length, list_any, lt-ltb, ltb-true, nat_le, nat_lt, neg_ℤ}
+use Rattle.sc_words.proofs.Common.{number_within, onto_first, option_and_then, option_map, pieces, pieces_behind, pos}
+use Rattle.sc_words.proofs.Common.{position_or_len, refl, slice_index, suc, sym, true, true≢false, w32, when_within, ℕ}
+use Rattle.sc_words.proofs.Common.{ℤ, ◌&&◌, ◌++◌, ◌+◌, ◌<◌, ◌==◌, ◌||◌, ◌∙◌, ◌∷◌, ◌≡◌, ◌≢◌, ◌≤◌, ◌⊎◌}
 use Rattle.std.specs.Result.{result_ok}
 use Rattle.std.specs.Str.Parse.{ParsesSigned, ParsesUnsigned, digits_value}
 use Rattle.std.proofs.lemmas.Bool.{and_parts}
-use Rattle.std.proofs.lemmas.Str.Parse.{IsNumeralModel, numerals_by_value, parse_plain, parse_signed_minus, parse_signed_plain, tells_all_ascii_digits}
+use Rattle.std.proofs.lemmas.Str.Parse.{IsNumeralModel, numerals_by_value, parse_plain, parse_signed_minus}
+use Rattle.std.proofs.lemmas.Str.Parse.{parse_signed_plain, tells_all_ascii_digits}
 
 -- ---- numbers
 

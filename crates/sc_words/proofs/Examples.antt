@@ -1,5 +1,7 @@
 -- Words that are a command, with the command, and words that are none.
-use Rattle.sc_words.proofs.Common.{Check, Compile, Exec, Explain, List, Make, Meaning, None, Run, Some, Text, [], codes, command, false, if◌then◌else◌, integers, length, map, neg_ℤ, onto_first, pieces, pos, refl, replicate, settings, true, ℕ, ℤ, ◌==◌, ◌∷◌, ◌≡◌}
+use Rattle.sc_words.proofs.Common.{Check, Compile, Exec, Explain, List, Make, Meaning, None, Run, Some, Text, [], codes}
+use Rattle.sc_words.proofs.Common.{command, false, if◌then◌else◌, integers, length, map, neg_ℤ, onto_first, pieces, pos}
+use Rattle.sc_words.proofs.Common.{refl, replicate, settings, true, ℕ, ℤ, ◌==◌, ◌∷◌, ◌≡◌}
 use Rattle.sc_words.specs.declared.command.Command.{Command}
 use Rattle.sc_words.specs.declared.command.RunOptions.{RunOptions}
 

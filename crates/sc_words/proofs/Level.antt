@@ -1,10 +1,21 @@
 -- What a parse makes of the words behind a command's name: the options that they give, or a fault.
-use Rattle.sc_words.proofs.Common.{Bool, Form, Held, Kinds, List, None, Option, Row, Rule, Setting, Shape, Some, Step, Text, Waiting, Walk, [], after_flag, after_step, ap, append-nil, append_assoc, ap₂, arg_by_id, begins_with_hyphen, bytes_eq_self, check_fault, codes, cond, defaults_fault, each_once, false, finished, fold, has_option, has_row, has_value, idle, is_among, is_bare, level_fault, list_all, long_fault, long_met, more, name_and_value, named, named_option, not, nothing_held, option, option_and_then, option_map_or, options, or_else, reacted, refl, rows_after, settings, settle_fault, settled, short_of, step_fault, subst, sym, true, true≢false, turn_fault, use_fault, used, used_by_id, walk_fault, walked, when_complete, with_default, ℕ, ◌++◌, ◌==◌, ◌∙◌, ◌∷◌, ◌≡◌}
+use Rattle.sc_words.proofs.Common.{Bool, Form, Held, Kinds, List, None, Option, Row, Rule, Setting, Shape, Some, Step}
+use Rattle.sc_words.proofs.Common.{Text, Waiting, Walk, [], after_flag, after_step, ap, append-nil, append_assoc, ap₂}
+use Rattle.sc_words.proofs.Common.{arg_by_id, begins_with_hyphen, bytes_eq_self, check_fault, codes, cond}
+use Rattle.sc_words.proofs.Common.{defaults_fault, each_once, false, finished, fold, has_option, has_row, has_value}
+use Rattle.sc_words.proofs.Common.{idle, is_among, is_bare, level_fault, list_all, long_fault, long_met, more}
+use Rattle.sc_words.proofs.Common.{name_and_value, named, named_option, not, nothing_held, option, option_and_then}
+use Rattle.sc_words.proofs.Common.{option_map_or, options, or_else, reacted, refl, rows_after, settings, settle_fault}
+use Rattle.sc_words.proofs.Common.{settled, short_of, step_fault, subst, sym, true, true≢false, turn_fault, use_fault}
+use Rattle.sc_words.proofs.Common.{used, used_by_id, walk_fault, walked, when_complete, with_default, ℕ, ◌++◌, ◌==◌}
+use Rattle.sc_words.proofs.Common.{◌∙◌, ◌∷◌, ◌≡◌}
 use Rattle.std.proofs.lemmas.List.{map-append}
 use Rattle.clap.specs.declared.error.kind.ErrorKind.TheVariants as kind
 use Rattle.sc_words.proofs.Basics.{by_hyphens, first_fails, first_not, not_empty, or_else_assoc, second_fails}
-use Rattle.sc_words.proofs.Lookup.{by_id, by_index, by_long, lookup, lookup_other, lookup_valued, ready, ready_alone, ready_rules, ready_valued}
-use Rattle.sc_words.proofs.Rows.{again_alone, again_valued, check, check_is, final, has_row_rows, new_alone, new_valued, no_default_fails, once_more, plain_row, repeated, row, rows, used_alone, used_valued}
+use Rattle.sc_words.proofs.Lookup.{by_id, by_index, by_long, lookup, lookup_other, lookup_valued, ready, ready_alone}
+use Rattle.sc_words.proofs.Lookup.{ready_rules, ready_valued}
+use Rattle.sc_words.proofs.Rows.{again_alone, again_valued, check, check_is, final, has_row_rows, new_alone, new_valued}
+use Rattle.sc_words.proofs.Rows.{no_default_fails, once_more, plain_row, repeated, row, rows, used_alone, used_valued}
 
 -- ---- the walk over the words of one command
 

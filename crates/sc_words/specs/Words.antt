@@ -1,5 +1,6 @@
 -- The command that the words of a command line are.
-use Rattle.std.specs.Prelude.{ℕ, ℤ, Bool, if◌then◌else◌, List, [], ◌∷◌, codes, Option, Some, None, option_and_then, option_map, find}
+use Rattle.std.specs.Prelude.{ℕ, ℤ, Bool, if◌then◌else◌, List, [], ◌∷◌, codes, Option, Some, None, option_and_then}
+use Rattle.std.specs.Prelude.{option_map, find}
 use Rattle.std.specs.Str.{bytes_eq}
 use Rattle.sc_words.specs.Numbers.{number_within, integer_list}
 use Rattle.sc_words.specs.Options.{Form, Setting, Text, has_option, options, value_of}

@@ -1,6 +1,9 @@
 //! Declarations other than functions, and the heads of functions.
 
-ghost use Rattle.sc_ast.specs.Prelude.{base_words, blank, blank_if, comma, const_words, declared_words, ended, global_words, head_of, head_words, init_words, length_words, member_line, minus_words, name_words, newline, param_of, param_words, params_words, result_words, star_words, struct_words, text_of, word};
+ghost use Rattle.sc_ast.specs.Prelude.{base_words, blank, blank_if, comma, const_words, declared_words, ended};
+ghost use Rattle.sc_ast.specs.Prelude.{global_words, head_of, head_words, init_words, length_words, member_line};
+ghost use Rattle.sc_ast.specs.Prelude.{minus_words, name_words, newline, param_of, param_words, params_words};
+ghost use Rattle.sc_ast.specs.Prelude.{result_words, star_words, struct_words, text_of, word};
 ghost use Rattle.std.specs.Prelude.{◌≡◌, ◌<◌, ◌++◌, ◌||◌, [], ◌∷◌, OnOk, codes, nat_lt, is_some, map};
 ghost use Rattle.std.specs.List.{flat_map, join_by};
 

@@ -1,6 +1,7 @@
 //! Expressions.
 
-ghost use Rattle.sc_ast.specs.Prelude.{apart, binary_text, blank, call_words, closed, comma, expr_words, is_doubled, opened, place_words, prefix_words, text_of, unary_text, word, words_at};
+ghost use Rattle.sc_ast.specs.Prelude.{apart, binary_text, blank, call_words, closed, comma, expr_words, is_doubled};
+ghost use Rattle.sc_ast.specs.Prelude.{opened, place_words, prefix_words, text_of, unary_text, word, words_at};
 ghost use Rattle.sc_base.specs.Prelude.{level_of, loosest_level};
 ghost use Rattle.std.specs.Prelude.{◌≡◌, ◌<◌, ◌++◌, [], ◌∷◌, OnOk, codes};
 ghost use Rattle.std.specs.List.{join_by};

@@ -1,6 +1,9 @@
 //! Statements.
 
-ghost use Rattle.sc_ast.specs.Prelude.{assign_call_words, assign_words, behind_else, blank, block_words, call_words, chain_words, condition_words, deeper, else_words, expr_words, first_words, is_chain, kind_layout, layouts, line_of, lines_at, next_words, return_words, simple_words, stmt_layout, text_of, word};
+ghost use Rattle.sc_ast.specs.Prelude.{assign_call_words, assign_words, behind_else, blank, block_words, call_words};
+ghost use Rattle.sc_ast.specs.Prelude.{chain_words, condition_words, deeper, else_words, expr_words, first_words};
+ghost use Rattle.sc_ast.specs.Prelude.{is_chain, kind_layout, layouts, line_of, lines_at, next_words, return_words};
+ghost use Rattle.sc_ast.specs.Prelude.{simple_words, stmt_layout, text_of, word};
 ghost use Rattle.std.specs.Prelude.{◌≡◌, ◌++◌, [], ◌∷◌, OnOk, codes};
 ghost use Rattle.std.specs.List.{list_all};
 

@@ -1,4 +1,5 @@
-use Rattle.sc_alloc.proofs.Common.{All, AreNumbered, ArePlaced, Given, Interval, IsAssignment, IsPermutation, IsSparing, List, subst, sym, ◌≤◌}
+use Rattle.sc_alloc.proofs.Common.{All, AreNumbered, ArePlaced, Given, Interval, IsAssignment, IsPermutation, IsSparing}
+use Rattle.sc_alloc.proofs.Common.{List, subst, sym, ◌≤◌}
 use Rattle.sc_alloc.proofs.Assignment.{all_ordered, moved_to, numbered, is_assignment, is_sparing, are_places}
 use Rattle.sc_alloc.proofs.places.assign.Goals as goal
 

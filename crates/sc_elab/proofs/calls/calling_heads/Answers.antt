@@ -1,5 +1,6 @@
 -- The heads of declarations, one after another.
-use Rattle.sc_elab.proofs.Common.{FunctionTree, ap, functions_in, head_in, head_name, head_of, heads_in, map, signature_by, ◌++◌, ◌∙◌}
+use Rattle.sc_elab.proofs.Common.{FunctionTree, ap, functions_in, head_in, head_name, head_of, heads_in, map}
+use Rattle.sc_elab.proofs.Common.{signature_by, ◌++◌, ◌∙◌}
 use Rattle.sc_elab.proofs.Gathered.{gather_more, gather_end, made_of_both}
 use Rattle.sc_elab.proofs.calls.calling_heads.Goals as goal
 

@@ -2,7 +2,9 @@ use Rattle.sc_image.specs.Prelude.{is_argument}
 use Rattle.std.proofs.Common.{arith, ◌∙◌}
 use Rattle.sc_gate.proofs.Kept.{next_cleared, next_kept, below_argument, past_argument, at_argument}
 use Rattle.sc_gate.proofs.clear.keep.Goals as goal
-use Rattle.sc_gate.proofs.clear.keep.Goals.{then-number-lt-A0, then-number-lt-A0-via-then-number-lt-A0, then-number-lt-A0-via-else-number-lt-A0+then-count-number, else-number-lt-A0+else-count-number}
+use Rattle.sc_gate.proofs.clear.keep.Goals.{then-number-lt-A0, then-number-lt-A0-via-then-number-lt-A0}
+use Rattle.sc_gate.proofs.clear.keep.Goals.{then-number-lt-A0-via-else-number-lt-A0+then-count-number}
+use Rattle.sc_gate.proofs.clear.keep.Goals.{else-number-lt-A0+else-count-number}
 
 pub loop-number-preserved : goal.loop-number-preserved
 loop-number-preserved c =

@@ -1,5 +1,6 @@
 use Rattle.sc_machine.proofs.Common.{None, Some, arith, export_at, false, may_call, sym, ◌∙◌, ◌≡◌}
-use Rattle.sc_machine.proofs.Crossings.{not_exported, not_imported, exporter_within, exporter_few, export_few, export_takes, takes_few}
+use Rattle.sc_machine.proofs.Crossings.{not_exported, not_imported, exporter_within, exporter_few, export_few}
+use Rattle.sc_machine.proofs.Crossings.{export_takes, takes_few}
 use Rattle.sc_machine.proofs.calling.find_callee.Goals as goal
 
 pub returns-in_default-clause-trap : goal.returns-in_default-clause-trap

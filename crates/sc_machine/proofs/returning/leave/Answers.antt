@@ -1,4 +1,5 @@
-use Rattle.sc_machine.proofs.Common.{All, All-head, All-tail, Crossing, arith, crossing_of, length, length-append, length-set, subst, ◌<◌, ◌∙◌}
+use Rattle.sc_machine.proofs.Common.{All, All-head, All-tail, Crossing, arith, crossing_of, length, length-append}
+use Rattle.sc_machine.proofs.Common.{length-set, subst, ◌<◌, ◌∙◌}
 use Rattle.sc_machine.proofs.returning.leave.Goals as goal
 
 pub returns-clause-stays : goal.returns-clause-stays

@@ -1,4 +1,5 @@
-use Rattle.sc_machine.proofs.Common.{arith, length, map, run_stopped, state_in, suc, sym, word_of, ◌+◌, ◌-◌, ◌<◌, ◌∙◌, ◌≡◌}
+use Rattle.sc_machine.proofs.Common.{arith, length, map, run_stopped, state_in, suc, sym, word_of, ◌+◌, ◌-◌, ◌<◌, ◌∙◌}
+use Rattle.sc_machine.proofs.Common.{◌≡◌}
 use Rattle.sc_machine.proofs.Runs.{room_left, no_steps, trapped, gone}
 use Rattle.sc_machine.proofs.run.run.Goals as goal
 

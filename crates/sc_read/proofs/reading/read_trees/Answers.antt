@@ -1,6 +1,9 @@
-use Rattle.sc_read.proofs.Common.{AllZip, Err, Fails, First, IsCut, IsCutInto, IsCuttable, IsParsable, IsSplit, IsTreeOf, List, Refusal, Refused, RefusesBytes, RefusesTokens, [], ap, drop, err_from_is_err_and, refl, subst, sym, ◌∙◌, ◌∷◌, ◌≡◌}
+use Rattle.sc_read.proofs.Common.{AllZip, Err, Fails, First, IsCut, IsCutInto, IsCuttable, IsParsable, IsSplit}
+use Rattle.sc_read.proofs.Common.{IsTreeOf, List, Refusal, Refused, RefusesBytes, RefusesTokens, [], ap, drop}
+use Rattle.sc_read.proofs.Common.{err_from_is_err_and, refl, subst, sym, ◌∙◌, ◌∷◌, ◌≡◌}
 use Rattle.sc_lex.specs.declared.refusal.Phase.TheVariants.{Syntax}
-use Rattle.sc_read.proofs.Steps.{heading_fails, preamble_uncut, section_uncut, lex_phase, preamble_spells, reads, section_unread, begins_with, is_empty, if_ok_more}
+use Rattle.sc_read.proofs.Steps.{heading_fails, preamble_uncut, section_uncut, lex_phase, preamble_spells, reads}
+use Rattle.sc_read.proofs.Steps.{section_unread, begins_with, is_empty, if_ok_more}
 use Rattle.sc_read.proofs.reading.read_trees.Goals as goal
 
 pub returns-in_err-preamble-clause-refused : goal.returns-in_err-preamble-clause-refused

@@ -1,4 +1,5 @@
-use Rattle.sc_run.proofs.Common.{Again, Body, Caller, First, IfOk-weaker, Rest, arith, exit_of, kept_by, leave, length, refl, rules, ◌≡◌}
+use Rattle.sc_run.proofs.Common.{Again, Body, Caller, First, IfOk-weaker, Rest, arith, exit_of, kept_by, leave, length}
+use Rattle.sc_run.proofs.Common.{refl, rules, ◌≡◌}
 use Rattle.sc_run.proofs.Looping.{nothing_waits, taken, caller_taken}
 use Rattle.sc_run.proofs.leaves.leave.Goals as goal
 

@@ -1,4 +1,5 @@
-use Rattle.sc_run.proofs.Common.{Comes, Next, evaluated, here_of, kept_by, stored, subst, variable_at, way_in, with_exit}
+use Rattle.sc_run.proofs.Common.{Comes, Next, evaluated, here_of, kept_by, stored, subst, variable_at, way_in}
+use Rattle.sc_run.proofs.Common.{with_exit}
 use Rattle.sc_core.specs.declared.expr.VarRef.TheVariants.{Local}
 use Rattle.sc_core.specs.declared.value.Want.TheVariants as want
 use Rattle.sc_run.proofs.Coming.{then_goes}

@@ -1,4 +1,5 @@
-use Rattle.sc_run.proofs.Common.{TypedLocal, TypedParam, [], ap, arith, cells_of, get_or, length, length-map, memory_of, subst, sym, ◌+◌, ◌<◌, ◌∙◌, ◌≡◌}
+use Rattle.sc_run.proofs.Common.{TypedLocal, TypedParam, [], ap, arith, cells_of, get_or, length, length-map, memory_of}
+use Rattle.sc_run.proofs.Common.{subst, sym, ◌+◌, ◌<◌, ◌∙◌, ◌≡◌}
 use Rattle.sc_run.proofs.Making.{one_more, param_sizes}
 use Rattle.sc_run.proofs.machine.make_blocks.Goals as goal
 

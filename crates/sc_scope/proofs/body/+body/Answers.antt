@@ -1,4 +1,5 @@
-use Rattle.sc_scope.proofs.Statements.{more-noted, all-noted, empty-noted, return-noted, if-noted, while-noted, for-noted}
+use Rattle.sc_scope.proofs.Statements.{more-noted, all-noted, empty-noted, return-noted, if-noted, while-noted}
+use Rattle.sc_scope.proofs.Statements.{for-noted}
 use Rattle.sc_scope.proofs.body.+body.Goals as goal
 
 pub all_lines-loop-stmt-preserved : goal.all_lines-loop-stmt-preserved

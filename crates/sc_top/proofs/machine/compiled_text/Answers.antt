@@ -1,4 +1,5 @@
-use Rattle.sc_top.proofs.Common.{All, IfOk, ImageParts, Interfaces, IsKnown, ap, interfaces_of, machine_run, machine_text, subst, sym, ◌∙◌, ◌≡◌}
+use Rattle.sc_top.proofs.Common.{All, IfOk, ImageParts, Interfaces, IsKnown, ap, interfaces_of, machine_run}
+use Rattle.sc_top.proofs.Common.{machine_text, subst, sym, ◌∙◌, ◌≡◌}
 use Rattle.sc_top.proofs.Explained.{thin_names}
 use Rattle.sc_top.proofs.Known.{machine_run_known}
 use Rattle.sc_top.proofs.machine.compiled_text.Goals as goal

@@ -1,4 +1,5 @@
-use Rattle.sc_top.proofs.Common.{Explain, Interfaces, IsTextOutput, None, ProgramTree, Some, ap, codes, machine_text, refl, rules, subst, sym, thin_image, ◌++◌, ◌∙◌}
+use Rattle.sc_top.proofs.Common.{Explain, Interfaces, IsTextOutput, None, ProgramTree, Some, ap, codes, machine_text}
+use Rattle.sc_top.proofs.Common.{refl, rules, subst, sym, thin_image, ◌++◌, ◌∙◌}
 use Rattle.sc_top.proofs.Explained.{thin_cause, thin_output, accounted}
 use Rattle.sc_top.proofs.text.explain.Goals as goal
 

@@ -1,7 +1,8 @@
 use Rattle.sc_top.proofs.Common.{all_ascii_digits, arith, length, slice_index_or, subst, sym, true, ◌<◌, ◌∙◌, ◌≡◌}
 use Rattle.sc_top.proofs.Numbers.{leading_zero, no_text, reads_back, prints_back}
 use Rattle.sc_top.proofs.thin.decimal.Goals as goal
-use Rattle.sc_top.proofs.thin.decimal.Goals.{else-digits-gt1-via-then-digits-gt1+else-digits-eq48, else-digits-gt1-via-else-digits-gt1}
+use Rattle.sc_top.proofs.thin.decimal.Goals.{else-digits-gt1-via-then-digits-gt1+else-digits-eq48}
+use Rattle.sc_top.proofs.thin.decimal.Goals.{else-digits-gt1-via-else-digits-gt1}
 
 pub returns-then-digits-eq48-clause-none : goal.returns-then-digits-eq48-clause-none
 returns-then-digits-eq48-clause-none c = λ _. leading_zero c.args.digits.now c.if-digits-gt1.true c.if-digits-eq48.true

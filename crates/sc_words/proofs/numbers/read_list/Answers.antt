@@ -1,4 +1,5 @@
-use Rattle.sc_words.proofs.Common.{FitsSigned, List, None, Some, [], ap, first_piece, integer, option_map, pieces_behind, rules, subst, sym, w32, ℕ, ℤ, ◌++◌, ◌+◌, ◌∙◌, ◌∷◌, ◌≡◌}
+use Rattle.sc_words.proofs.Common.{FitsSigned, List, None, Some, [], ap, first_piece, integer, option_map}
+use Rattle.sc_words.proofs.Common.{pieces_behind, rules, subst, sym, w32, ℕ, ℤ, ◌++◌, ◌+◌, ◌∙◌, ◌∷◌, ◌≡◌}
 use Rattle.std.proofs.lemmas.Int.{to_z-of_z}
 use Rattle.std.specs.Borrow.{Bor}
 use Rattle.sc_words.proofs.Digits.{IsReadUpTo, ends, goes_on, refused, too_long}

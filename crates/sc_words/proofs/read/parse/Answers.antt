@@ -1,4 +1,5 @@
-use Rattle.sc_words.proofs.Common.{ap, app_of, inl, inr, is_bare, is_simple_and_free, kind_of, list_any-map, map, string_bytes, sym, ◌∙◌, ◌≡◌}
+use Rattle.sc_words.proofs.Common.{ap, app_of, inl, inr, is_bare, is_simple_and_free, kind_of, list_any-map, map}
+use Rattle.sc_words.proofs.Common.{string_bytes, sym, ◌∙◌, ◌≡◌}
 use Rattle.sc_words.specs.declared.fault.WordsFault.TheVariants.{Usage}
 use Rattle.sc_words.proofs.Bare.{bare_words}
 use Rattle.sc_words.proofs.Reading.{reading, refusal}

@@ -1,4 +1,5 @@
-use Rattle.sc_alloc.proofs.Common.{AreFair, AreRegisters, AreSlots, Given, List, heap_items, rules, subst, sym, with_place, ◌≡◌}
+use Rattle.sc_alloc.proofs.Common.{AreFair, AreRegisters, AreSlots, Given, List, heap_items, rules, subst, sym}
+use Rattle.sc_alloc.proofs.Common.{with_place, ◌≡◌}
 use Rattle.sc_alloc.proofs.Choices.{fair_pushed}
 use Rattle.sc_alloc.proofs.scan.Scan.add.Goals as goal
 

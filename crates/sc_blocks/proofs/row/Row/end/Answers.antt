@@ -1,4 +1,5 @@
-use Rattle.sc_blocks.proofs.Common.{None, ap, arith, block_of, cleared, ended_block, length, length-map, map-set, slice_set, suc, sym, ◌+◌, ◌-◌, ◌∙◌, ◌≡◌}
+use Rattle.sc_blocks.proofs.Common.{None, ap, arith, block_of, cleared, ended_block, length, length-map, map-set}
+use Rattle.sc_blocks.proofs.Common.{slice_set, suc, sym, ◌+◌, ◌-◌, ◌∙◌, ◌≡◌}
 use Rattle.sc_blocks.proofs.Ending.{none_cleared, one_cleared, cleared_to}
 use Rattle.sc_blocks.proofs.row.Row.end.Goals as goal
 

@@ -1,6 +1,4 @@
-use Rattle.std.proofs.Common.{◌≡◌, ◌+◌, ◌++◌, drop}
-use Rattle.sc_select.specs.Lines.{plainly}
-use Rattle.sc_select.specs.Selection.{pass}
+use Rattle.sc_select.proofs.Common.{drop, pass, plainly, ◌++◌, ◌+◌, ◌≡◌}
 use Rattle.sc_select.proofs.backward.Backward.pass.Given as goal
 
 -- the arguments from this one on are passed
