@@ -24,7 +24,7 @@ KIT = "/opt/rattle/rattle"
 WIDTH = 120
 FIRST = {"proofs": ["Rattle.std.proofs.Common", "Rattle.std.specs.Prelude"], "specs": ["Rattle.std.specs.Prelude"], "src": ["Rattle.std.specs.Prelude"]}
 ABOUT = {
-    "specs.Prelude": "-- The names of this crate that its contracts, its proofs and the crates above cite, passed on from one place. Declares nothing.",
+    "specs.Prelude": "-- What this crate's contracts, its proofs and the crates above cite, passed on from one place. Declares nothing.",
     "specs.Common": "-- The names from below that several definitions of this crate cite, passed on from one place. Declares nothing.",
     "proofs.Common": "-- The names that several proofs of this crate cite, passed on from one place. Declares nothing.",
 }

@@ -1,4 +1,4 @@
--- The names of this crate that its contracts, its proofs and the crates above cite, passed on from one place. Declares nothing.
+-- What this crate's contracts, its proofs and the crates above cite, passed on from one place. Declares nothing.
 pub use Rattle.rv_code.specs.Decoding.{b_imm_of, funct3_of, funct7_of, i_imm_of, j_imm_of, opcode_of, rd_of, rs1_of}
 pub use Rattle.rv_code.specs.Decoding.{rs2_of, s_imm_of, u_imm_of}
 unfoldable pub use Rattle.rv_code.specs.Decoding.{branch_in, branch_op_of, decoded, fence_in, jalr_in, load_in}

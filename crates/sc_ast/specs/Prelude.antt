@@ -1,4 +1,4 @@
--- The names of this crate that its contracts, its proofs and the crates above cite, passed on from one place. Declares nothing.
+-- What this crate's contracts, its proofs and the crates above cite, passed on from one place. Declares nothing.
 pub use Rattle.sc_ast.specs.ExprWords.{Printed, apart, binary_text, binary_words, call_words, expr_step, expr_words}
 pub use Rattle.sc_ast.specs.ExprWords.{is_doubled, literal_text, place_words, prefix_words, unary_text, words_at}
 pub use Rattle.sc_ast.specs.Heads.{has_nameless, head_of, param_of}

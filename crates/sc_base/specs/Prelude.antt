@@ -1,4 +1,4 @@
--- The names of this crate that its contracts, its proofs and the crates above cite, passed on from one place. Declares nothing.
+-- What this crate's contracts, its proofs and the crates above cite, passed on from one place. Declares nothing.
 pub use Rattle.sc_base.specs.Filled.{IsFilled, filled, zeros_behind}
 pub use Rattle.sc_base.specs.FirstByName.{first_by_name, with_first}
 pub use Rattle.sc_base.specs.Identifier.{is_between, is_digit, is_name_byte, is_nondigit, name_of}

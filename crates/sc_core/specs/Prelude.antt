@@ -1,4 +1,4 @@
--- The names of this crate that its contracts, its proofs and the crates above cite, passed on from one place. Declares nothing.
+-- What this crate's contracts, its proofs and the crates above cite, passed on from one place. Declares nothing.
 pub use Rattle.sc_core.specs.Calls.{Body, Function, Library, Step, back_cross, back_own, begun, blocks_for, call_cross}
 pub use Rattle.sc_core.specs.Calls.{call_own, called, calls, crossed, crossing, done, first_word, found, function}
 pub use Rattle.sc_core.specs.Calls.{functions_of, is_word, leads, may_call, next_input, option_value, read_input}

@@ -1,4 +1,4 @@
--- The names of this crate that its contracts, its proofs and the crates above cite, passed on from one place. Declares nothing.
+-- What this crate's contracts, its proofs and the crates above cite, passed on from one place. Declares nothing.
 pub use Rattle.sc_ast.specs.Prelude.{head_of, limited, param_of}
 pub use Rattle.sc_scope.specs.Prelude.{functions_in, globals_in, heads_in, import_of, interfaces_of, line_of_text}
 pub use Rattle.sc_scope.specs.Prelude.{refused_at, struct_names, structs_in, unless, with_lines}

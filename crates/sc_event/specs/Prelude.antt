@@ -1,4 +1,4 @@
--- The names of this crate that its contracts, its proofs and the crates above cite, passed on from one place. Declares nothing.
+-- What this crate's contracts, its proofs and the crates above cite, passed on from one place. Declares nothing.
 pub use Rattle.sc_event.specs.Legal.{awaits, fits_result, imports, imports_of, is_allowed, is_end, is_function}
 pub use Rattle.sc_event.specs.Legal.{is_input, is_legal_from, is_output, legal, may_perform, may_return, takes}
 pub use Rattle.sc_event.specs.Line.{comp_name, event_line, export_name, line, spaced_names, spaced_words}

@@ -1,4 +1,4 @@
--- The names of this crate that its contracts, its proofs and the crates above cite, passed on from one place. Declares nothing.
+-- What this crate's contracts, its proofs and the crates above cite, passed on from one place. Declares nothing.
 pub use Rattle.sc_base.specs.Prelude.{level_of, loosest_level, name_of, unary_level}
 pub use Rattle.sc_lex.specs.Prelude.{AreSpans, IsSpan}
 unfoldable pub use Rattle.sc_lex.specs.Prelude.{words}

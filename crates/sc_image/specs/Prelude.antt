@@ -1,4 +1,4 @@
--- The names of this crate that its contracts, its proofs and the crates above cite, passed on from one place. Declares nothing.
+-- What this crate's contracts, its proofs and the crates above cite, passed on from one place. Declares nothing.
 pub use Rattle.sc_image.specs.Bytes.{FitsItsFields, bit, bytes_in_version, code_bytes, comp_bytes, export_bytes}
 pub use Rattle.sc_image.specs.Bytes.{exports_bytes, flags, globals_bytes, image_bytes, import_bytes, imports_bytes}
 pub use Rattle.sc_image.specs.Bytes.{name_bytes, version}

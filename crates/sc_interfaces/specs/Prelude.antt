@@ -1,4 +1,4 @@
--- The names of this crate that its contracts, its proofs and the crates above cite, passed on from one place. Declares nothing.
+-- What this crate's contracts, its proofs and the crates above cite, passed on from one place. Declares nothing.
 pub use Rattle.sc_base.specs.Prelude.{first_by_name}
 pub use Rattle.sc_scope.specs.Prelude.{among, environment, function_names, head_in, heads_in, interfaces_of}
 pub use Rattle.sc_scope.specs.Prelude.{line_of_text, main_name, proto_names, refused_at, scalar_of, unless, with_lines}

@@ -1,4 +1,4 @@
--- The names of this crate that its contracts, its proofs and the crates above cite, passed on from one place. Declares nothing.
+-- What this crate's contracts, its proofs and the crates above cite, passed on from one place. Declares nothing.
 pub use Rattle.sc_laws.specs.Agreement.{AgreeingRunAlike, BehavioursAgree, BodiesAgree, CallsAgree, FunctionsAgree}
 pub use Rattle.sc_laws.specs.Agreement.{LibrariesAgree, Meets, OtherLinesAgree, PiecesAgree, RunsAgree}
 pub use Rattle.sc_laws.specs.Agreement.{piece_without_line, without_line}

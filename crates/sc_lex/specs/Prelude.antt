@@ -1,4 +1,4 @@
--- The names of this crate that its contracts, its proofs and the crates above cite, passed on from one place. Declares nothing.
+-- What this crate's contracts, its proofs and the crates above cite, passed on from one place. Declares nothing.
 pub use Rattle.sc_lex.specs.Cutting.{Cuts, IsCut, IsGap, IsStuck, IsToken, RefusesBytes, allows_directive}
 pub use Rattle.sc_lex.specs.Cutting.{begins_block_comment, begins_line_comment, block_comment, ends_comment, gap}
 pub use Rattle.sc_lex.specs.Cutting.{line_comment, nothing, token, token_at, white_space}

@@ -1,4 +1,4 @@
--- The names of this crate that its contracts, its proofs and the crates above cite, passed on from one place. Declares nothing.
+-- What this crate's contracts, its proofs and the crates above cite, passed on from one place. Declares nothing.
 pub use Rattle.sc_core.specs.Prelude.{IsWellTyped, base_cells, call_nodes, cells_of, expr_nodes, init_nodes}
 pub use Rattle.sc_core.specs.Prelude.{is_unsigned, is_unsigned_op, local_nodes, main_name, most_cells, most_exports}
 pub use Rattle.sc_core.specs.Prelude.{most_nodes, most_params, nodes, part_nodes, simple_nodes, starred_cells}

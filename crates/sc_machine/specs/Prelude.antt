@@ -1,4 +1,4 @@
--- The names of this crate that its contracts, its proofs and the crates above cite, passed on from one place. Declares nothing.
+-- What this crate's contracts, its proofs and the crates above cite, passed on from one place. Declares nothing.
 pub use Rattle.sc_word.specs.Prelude.{add_word, word_of}
 pub use Rattle.rv_code.specs.Prelude.{IsReg}
 pub use Rattle.rv_code.specs.declared.instr.Instr.{Instr}

@@ -1,4 +1,4 @@
--- The names of this crate that its contracts, its proofs and the crates above cite, passed on from one place. Declares nothing.
+-- What this crate's contracts, its proofs and the crates above cite, passed on from one place. Declares nothing.
 pub use Rattle.sc_lex.specs.Prelude.{IsCut, IsSpan, line_after}
 pub use Rattle.sc_ast.specs.declared.section.SectionTree.{SectionTree}
 pub use Rattle.sc_expr.specs.Prelude.{Agrees, behind, is_mark, most_open, name_at, name_by, open_after, open_behind}

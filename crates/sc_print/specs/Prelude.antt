@@ -1,4 +1,4 @@
--- The names of this crate that its contracts, its proofs and the crates above cite, passed on from one place. Declares nothing.
+-- What this crate's contracts, its proofs and the crates above cite, passed on from one place. Declares nothing.
 pub use Rattle.sc_ast.specs.Prelude.{SameButLines, head_of, param_of, printed, section_height, section_words}
 pub use Rattle.sc_print.specs.DeclsRead.{DeclsReadAs, DeclsSpell, decls_text}
 pub use Rattle.sc_print.specs.Dense.{SaysAll, dense_decl, dense_text, dense_words}

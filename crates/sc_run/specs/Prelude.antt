@@ -1,4 +1,4 @@
--- The names of this crate that its contracts, its proofs and the crates above cite, passed on from one place. Declares nothing.
+-- What this crate's contracts, its proofs and the crates above cite, passed on from one place. Declares nothing.
 pub use Rattle.sc_core.specs.Prelude.{Next, Return, State, all_do, and_then, assign, base_zeros, c_arith, call, choose}
 pub use Rattle.sc_core.specs.Prelude.{computed, entry_in, evaluated, exit_word, first_word, follow, function}
 pub use Rattle.sc_core.specs.Prelude.{function_of, global_block, globals_of, in_loop, in_order, init_does, inits_do}

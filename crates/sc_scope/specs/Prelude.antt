@@ -1,4 +1,4 @@
--- The names of this crate that its contracts, its proofs and the crates above cite, passed on from one place. Declares nothing.
+-- What this crate's contracts, its proofs and the crates above cite, passed on from one place. Declares nothing.
 pub use Rattle.sc_ast.specs.declared.section.FunctionParam.{FunctionParam}
 pub use Rattle.sc_scope.specs.Broken.{earlier, line_of_text, noted, refused_at, unless, with_lines}
 unfoldable pub use Rattle.sc_scope.specs.Broken.{noted_all}

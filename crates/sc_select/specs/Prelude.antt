@@ -1,4 +1,4 @@
--- The names of this crate that its contracts, its proofs and the crates above cite, passed on from one place. Declares nothing.
+-- What this crate's contracts, its proofs and the crates above cite, passed on from one place. Declares nothing.
 pub use Rattle.rv_code.specs.declared.instr.Instr.TheVariants.{Jal, Load, Op, OpImm, Store, Upper}
 pub use Rattle.rv_code.specs.declared.instr.OpImmOp.TheVariants.{Addi, Sltiu, Xori}
 pub use Rattle.rv_code.specs.declared.instr.OpOp.TheVariants.{Add, Slt, Sltu}

@@ -1,4 +1,4 @@
--- The names of this crate that its contracts, its proofs and the crates above cite, passed on from one place. Declares nothing.
+-- What this crate's contracts, its proofs and the crates above cite, passed on from one place. Declares nothing.
 pub use Rattle.sc_store.specs.Flat.{IsZero, Reads, bytes_of, piece_of, region_of, regions_of, spans, written}
 pub use Rattle.sc_store.specs.Memory.{HasBytes, HoldsBytes, Memory, byte_of, load_of, stored, zeros}
 pub use Rattle.sc_store.specs.Region.{AreApart, AreBelow, IsIn, is_in}

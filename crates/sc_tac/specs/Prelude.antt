@@ -1,4 +1,4 @@
--- The names of this crate that its contracts, its proofs and the crates above cite, passed on from one place. Declares nothing.
+-- What this crate's contracts, its proofs and the crates above cite, passed on from one place. Declares nothing.
 pub use Rattle.sc_tac.specs.Branches.{branch_step, branches, stmt_branches}
 pub use Rattle.sc_tac.specs.Code.{Codes, Temps, call_does, code_depth_by, code_does, code_function, code_functions}
 pub use Rattle.sc_tac.specs.Code.{code_globals, code_library, code_meaning, code_meaning_by, code_run, code_step}

@@ -1,4 +1,4 @@
--- The names of this crate that its contracts, its proofs and the crates above cite, passed on from one place. Declares nothing.
+-- What this crate's contracts, its proofs and the crates above cite, passed on from one place. Declares nothing.
 pub use Rattle.sc_core.specs.declared.thin.ThinProgram.{ThinProgram}
 pub use Rattle.sc_types.specs.Prelude.{Accepts}
 pub use Rattle.sc_words.specs.declared.command.Command.{Command}

@@ -1,4 +1,4 @@
--- The names of this crate that its contracts, its proofs and the crates above cite, passed on from one place. Declares nothing.
+-- What this crate's contracts, its proofs and the crates above cite, passed on from one place. Declares nothing.
 pub use Rattle.sc_scope.specs.Prelude.{functions_in, globals_in, heads_in, line_of_text, names_broken, refused_at}
 pub use Rattle.sc_scope.specs.Prelude.{struct_names, structs_in, with_lines}
 pub use Rattle.sc_core.specs.Prelude.{most_compartments, most_exports, most_nodes, total}

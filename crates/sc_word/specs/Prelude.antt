@@ -1,4 +1,4 @@
--- The names of this crate that its contracts, its proofs and the crates above cite, passed on from one place. Declares nothing.
+-- What this crate's contracts, its proofs and the crates above cite, passed on from one place. Declares nothing.
 pub use Rattle.sc_word.specs.Agreement.{Agrees, MachineComputesC}
 pub use Rattle.sc_word.specs.CArithmetic.{add_signed, checked, div_signed, div_unsigned, mul_signed, neg_signed}
 pub use Rattle.sc_word.specs.CArithmetic.{rem_signed, rem_unsigned, shl_signed, shl_unsigned, shr_signed, shr_unsigned}
