@@ -10,14 +10,13 @@ ghost use Rattle.std.specs.Option.{option_copied};
 ghost use Rattle.sc_event.specs.declared.interface.Proto.{Proto};
 ghost use Rattle.sc_core.specs.declared.section.TypedParam.{TypedParam};
 
-use crate::cells::cells_of;
 use crate::code::{Fragment, Scope, after, alone, ended, nothing};
 use crate::expr::lower_expr;
 use crate::nodes::function_nodes;
 use crate::selection::place_code;
 use crate::stmt::lower_stmts;
 use sc_base::{Name, OutOfMemory};
-use sc_core::{Ty, TypedFunction, TypedLocal, TypedParam, TypedStruct, VarRef, Want};
+use sc_core::{Ty, TypedFunction, TypedLocal, TypedParam, TypedStruct, VarRef, Want, cells_of};
 use sc_event::{CompId, Entry, Interfaces, Proto};
 use sc_tac::{ObjectCells, TacFnTree, TacStmt, TacStmts};
 use std::alloc::Global;

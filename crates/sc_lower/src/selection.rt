@@ -4,10 +4,9 @@ ghost use Rattle.sc_lower.specs.Prelude.{between_op, binary_code, constant_of, i
 ghost use Rattle.sc_lower.specs.Prelude.{place_code, scalar_in, scalar_of, truth_code, unary_op};
 ghost use Rattle.std.specs.Prelude.{◌≡◌, ◌++◌, IfOk};
 
-use crate::cells::{is_unsigned, target_cells};
 use crate::code::Scope;
 use sc_base::{BinaryOp, OutOfMemory, UnaryOp};
-use sc_core::{Ty, TypedStruct, VarRef};
+use sc_core::{Ty, TypedStruct, VarRef, is_unsigned_op, target_cells};
 use sc_event::Scalar;
 use sc_tac::{Constant, TacOp, TacStmt, TacStmts};
 
@@ -24,7 +23,7 @@ fn scalar_in(unsigned: bool) -> Scalar
 fn scalar_of(ty: Ty) -> Scalar
     ensures { result ≡ scalar_of ty }
 {
-    scalar_in(is_unsigned(ty))
+    scalar_in(ty.is_unsigned())
 }
 
 /// A literal of this type.
@@ -105,16 +104,6 @@ pub fn move_op(structs: &[TypedStruct], op: BinaryOp, pointer: Ty, index: Ty) ->
         minus: is_sub(op),
         cells: target_cells(structs, pointer),
         index: scalar_of(index),
-    }
-}
-
-fn is_unsigned_op(op: BinaryOp, left: Ty, right: Ty) -> bool
-    ensures { result ≡ is_unsigned_op op left right }
-{
-    match op {
-        BinaryOp::ShiftLeft => is_unsigned(left),
-        BinaryOp::ShiftRight => is_unsigned(left),
-        _ => is_unsigned(left) || is_unsigned(right),
     }
 }
 
