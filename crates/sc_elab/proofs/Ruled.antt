@@ -4,7 +4,7 @@ use Rattle.sc_elab.proofs.Common.{Some, Ty, TypedExpr, Visible, [], add-one, all
 use Rattle.sc_elab.proofs.Common.{args_fit, assign_fits, drop, drop-cons, false, get_or, goes_in, goes_into, going_to}
 use Rattle.sc_elab.proofs.Common.{going_to_all, is_target, judged, length, map, params_of, refl, suc, sym, true, typed}
 use Rattle.sc_elab.proofs.Common.{ℕ, ◌&&◌, ◌+◌, ◌<◌, ◌∙◌, ◌∷◌, ◌≡◌, ◌≢◌}
-use Rattle.sc_elab.proofs.Parts.{judged_ty}
+use Rattle.sc_core.proofs.Judged.{judged_ty}
 
 module _ (goes : Ty → ExprTree → Bool) where
   pub all_go-lengths : (types : List Ty) (args : List ExprTree) → length types ≢ length args →

@@ -25,9 +25,10 @@ use Rattle.sc_core.specs.declared.stmt.TypedSimpleKind.TheVariants as simple
 use Rattle.sc_core.specs.declared.section.TypedLocal.{TypedLocal}
 use Rattle.sc_core.specs.declared.value.Want.{Want}
 use Rattle.sc_core.specs.declared.value.Want.TheVariants as want
-use Rattle.sc_kinds.proofs.Values.{either, bind_made, same_kind, integer_kind, decayed_kind, value_kind, typed_so}
+use Rattle.sc_kinds.proofs.Values.{either, bind_made, same_kind, integer_kind, decayed_kind, value_kind}
 use Rattle.sc_kinds.proofs.Pieces.{Same, Any, itself, then_same, weaken, computed_same, choose_same, exit_kind, ExitOk}
 use Rattle.sc_kinds.proofs.Pieces.{DoSame, leave_same, in_order_ok, follow_same, EachSame, all_same, loop_same}
+use Rattle.sc_core.proofs.Judged.{judged_ty}
 
 -- a value goes into places of its own kind
 pub goes_kind : (place value : Ty) → type_goes place value ≡ true → is_pointer place ≡ is_pointer value
@@ -83,7 +84,7 @@ module _ (arith : Arith) (structs : List TypedStruct) (here : Here) (params : �
       let j = judged scope e in
       let kind = value_kind arith structs here params scope e (and_first j.fits _ h) blocks v is in
       subst (λ p. is_of p v ≡ true) (sym (goes_kind place (decayed j.ty) (and_rest j.fits _ h) ∙ decayed_kind j.ty ∙
-      ap is_pointer (typed_so arith structs here params scope e))) kind
+      ap is_pointer (judged_ty scope e))) kind
 
   args_kind : (types : List Ty) (es : List TypedExpr) → all_go_into types (map (judged scope) es) ≡ true →
       (blocks : Blocks) (vs : List Value) → values (map way es) blocks ≡ Ok vs → have_kinds types vs ≡ true

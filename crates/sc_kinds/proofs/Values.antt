@@ -24,6 +24,7 @@ use Rattle.sc_core.specs.declared.expr.TypedKind.TheOpen as term
 use Rattle.sc_core.specs.declared.value.Cell.{Cell}
 use Rattle.sc_core.specs.declared.value.Cell.TheVariants as cell
 use Rattle.sc_core.specs.declared.value.Want.TheVariants as want
+use Rattle.sc_core.proofs.Judged.{judged_ty}
 
 -- RESULTS
 
@@ -526,23 +527,8 @@ module _ (arith : Arith) (structs : List TypedStruct) (here : Here) (params : �
       (subst (Sound (judged_at t k)) (sym (expr_at _ _ (term_step arith structs here params) meant_step t k))
       (term_sound t k h)))
 
-  -- the type of what is judged is the expression's own
-  pub typed_so : (e : TypedExpr) → (judged scope e).ty ≡ e.ty
-  typed_so = expr_induction (λ e. (judged scope e).ty ≡ e.ty)
-      (λ t k h. ap (λ j. j.ty) (expr_at _ _ (term_judged scope) (λ e. e.kind e.ty) t k) ∙ own t k) where
-        own : (t : Ty) (k : TypedKind-F TypedKind TypedExpr) → (judged_at t k).ty ≡ t
-        own t (term.Literal word) = refl
-        own t (term.Variable v) = refl
-        own t (term.Unary o a) = refl
-        own t (term.Binary o a b) = refl
-        own t (term.Index a b) = refl
-        own t (term.Member a offset) = refl
-        own t (term.Arrow a offset) = refl
-        own t (term.Deref a) = refl
-        own t (term.Address a) = refl
-
   pub value_kind : (e : TypedExpr) → (judged scope e).fits ≡ true → (blocks : Blocks) →
       HasKind (is_pointer e.ty) (ways arith structs here params e want.Value blocks)
   value_kind e fits blocks =
-      subst (λ t. HasKind (is_pointer t) (ways arith structs here params e want.Value blocks)) (typed_so e)
+      subst (λ t. HasKind (is_pointer t) (ways arith structs here params e want.Value blocks)) (judged_ty scope e)
       ((sound e).value fits blocks)

@@ -22,7 +22,7 @@ pub use Rattle.sc_event.specs.declared.row.Action.{Action}
 pub use Rattle.sc_event.specs.declared.row.Entry.TheVariants.{Export, Main}
 pub use Rattle.sc_event.specs.declared.row.Row.{Row}
 pub use Rattle.sc_core.proofs.Induction.{Each, Inside, Under, everywhere, expr_induction, stmt_induction}
-pub use Rattle.sc_core.proofs.Keeping.{IsHalt, Kept, Property, found_kept, then_kept}
+pub use Rattle.sc_core.proofs.Keeping.{Kept, Property, found_kept, then_kept}
 pub use Rattle.sc_core.proofs.Layers.{expr_at, layer_of, on_line, stmt_at, term_of, typed}
 pub use Rattle.sc_core.specs.Prelude.{Acts, Arith, Blocks, Body, Break, Calls, Closed, Continue, Does, Exit}
 pub use Rattle.sc_core.specs.Prelude.{FrameChange, Front, Function, Here, Left, Library, Meant, Memory, Next, On}
@@ -66,7 +66,7 @@ pub use Rattle.sc_laws.specs.Prelude.{ChainExists, ChainIsLeast, ChainRises, Cha
 pub use Rattle.sc_laws.specs.Prelude.{EmptySetIsMeaning, ExtendedByMore, Extends, FixedPoint, FunctionsAgree}
 pub use Rattle.sc_laws.specs.Prelude.{FunctionsMatch, Gives, GoFrom, Goes, Gone, Grown, Halts, HasChain, HasFixedPoint}
 pub use Rattle.sc_laws.specs.Prelude.{HoldsOfSets, Includes, Interaction, IsArithmetic, IsBlamedOutside, IsChain}
-pub use Rattle.sc_laws.specs.Prelude.{IsFinal, IsFixed, IsRising, IsSpent, IsSteady, IsStop, IsWithin, KeepsBlames}
+pub use Rattle.sc_laws.specs.Prelude.{IsFinal, IsFixed, IsRising, IsSpent, IsSteady, IsWithin, KeepsBlames}
 pub use Rattle.sc_laws.specs.Prelude.{KeepsRooms, Lasts, LeastIsChain, LeavesRooms, LibrariesAgree, LibrariesMatch}
 pub use Rattle.sc_laws.specs.Prelude.{Link, Match, MeaningGoesOn, Meets, MoreGoesOn, MoreMayPerform, Never}
 pub use Rattle.sc_laws.specs.Prelude.{NobodyWhoPerformsIsBlamed, Obedient, OnlyGoesOn, OtherLinesAgree, PassesBlame}

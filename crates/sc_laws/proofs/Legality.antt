@@ -1,6 +1,6 @@
 -- Every trace that a run shows is legal.
 use Rattle.sc_laws.proofs.Common.{Action, BadType, Blamed, Body, Bool, Call, CallTarget, Cross, End, Event, Export}
-use Rattle.sc_laws.proofs.Common.{Here, In, Input, Interfaces, IsHalt, Kept, Library, List, Main, Memory, None}
+use Rattle.sc_laws.proofs.Common.{Here, In, Input, Interfaces, Kept, Library, List, Main, Memory, None}
 use Rattle.sc_laws.proofs.Common.{Obedient, Option, Out, Output, Own, Piece, Property, Proto, Reached, Ret, Roles, Row}
 use Rattle.sc_laws.proofs.Common.{RunEnd, Scalar, Some, Standing, State, Step, Stopped, TurnsOut, Value, Word, [], acts}
 use Rattle.sc_laws.proofs.Common.{and_from, and_parts, and_then, ap, asks, at_start, awaits, back_cross, back_own}
@@ -17,6 +17,7 @@ use Rattle.sc_laws.proofs.Growing.{BodyGoes, StepGoes, calls_go, within_goes}
 use Rattle.sc_laws.proofs.Matching.{run_goes_on, scripted_goes_on}
 use Rattle.sc_laws.proofs.Keeping.{IsKept, function_keeps}
 use Rattle.sc_laws.proofs.Runs.{trace_is}
+use Rattle.sc_core.specs.Words.{IsStop}
 
 module _ (interfaces : Interfaces) where
   behind_more : (at : Option Standing) (t : List Event) (st : Standing) (e : Event) → stands_behind at t ≡ Some st →
@@ -71,7 +72,7 @@ module _ (interfaces : Interfaces) where
 
   -- the run stands here, after a legal trace
   abbrev pub standing : Standing → Property
-  standing st = record { Goes = λ s. IsAt s.trace st; Ends = λ end s. (legal interfaces s.trace ≡ true) × IsHalt end }
+  standing st = record { Goes = λ s. IsAt s.trace st; Ends = λ end s. (legal interfaces s.trace ≡ true) × IsStop end }
 
   turned_at : (st : Standing) (n : ℕ) (s : State) → IsAt s.trace st → Kept (standing st) (turn_of n s)
   turned_at st zero s h = record { after = (h.is_legal, tt) }

@@ -5,7 +5,7 @@ use Rattle.sc_print.proofs.Common.{false≢true, is_mark, is_name_byte, is_reser
 use Rattle.sc_print.proofs.Common.{list_all, mark_one, mark_two, marks, nat_le, prefix_len, refl, slice_index, sym}
 use Rattle.sc_print.proofs.Common.{take, take-append_seam, true, word_found, word_kind, word_run, ℕ, ◌&&◌, ◌++◌, ◌<◌}
 use Rattle.sc_print.proofs.Common.{◌==◌, ◌||◌, ◌∙◌, ◌∷◌, ◌≡◌}
-use Rattle.sc_base.proofs.Bools.{and_false}
+use Rattle.std.proofs.Math.Bool.{and-false}
 use Rattle.sc_lex.specs.declared.token.TokenKind.TheVariants as kind
 use Rattle.sc_base.specs.declared.op.BinaryOp.TheVariants as binary
 use Rattle.sc_print.proofs.Literals.{no_table}
@@ -50,20 +50,20 @@ one_two : (c : ℕ) (rest : List ℕ) → is_mark (c ∷ slice_index rest 0 ∷ 
     (nat_le 2 (length (c ∷ rest)) && is_mark (take 2 (c ∷ rest))) ≡ false
 one_two c [] h = refl
 one_two c (b ∷ rest) h = ap (λ x. nat_le 2 (length (c ∷ b ∷ rest)) && x) h ∙
-    and_false (nat_le 2 (length (c ∷ b ∷ rest)))
+    and-false (nat_le 2 (length (c ∷ b ∷ rest)))
 
 one_three : (c : ℕ) (rest : List ℕ) → ((d : ℕ) → is_mark (c ∷ slice_index rest 0 ∷ d ∷ []) ≡ false) →
     (nat_le 3 (length (c ∷ rest)) && is_mark (take 3 (c ∷ rest))) ≡ false
 one_three c [] h = refl
 one_three c (b ∷ []) h = refl
 one_three c (b ∷ d ∷ rest) h = ap (λ x. nat_le 3 (length (c ∷ b ∷ d ∷ rest)) && x) (h d) ∙
-    and_false (nat_le 3 (length (c ∷ b ∷ d ∷ rest)))
+    and-false (nat_le 3 (length (c ∷ b ∷ d ∷ rest)))
 
 two_three : (c e : ℕ) (rest : List ℕ) → is_mark (c ∷ e ∷ slice_index rest 0 ∷ []) ≡ false →
     (nat_le 3 (length (c ∷ e ∷ rest)) && is_mark (take 3 (c ∷ e ∷ rest))) ≡ false
 two_three c e [] h = refl
 two_three c e (d ∷ rest) h = ap (λ x. nat_le 3 (length (c ∷ e ∷ d ∷ rest)) && x) h ∙
-    and_false (nat_le 3 (length (c ∷ e ∷ d ∷ rest)))
+    and-false (nat_le 3 (length (c ∷ e ∷ d ∷ rest)))
 
 -- a mark of one byte
 pub one_word : (c : ℕ) (rest : List ℕ) → is_mark (c ∷ []) ≡ true → is_name_byte c ≡ false → (c ≡ 35 → ⊥) →

@@ -47,7 +47,7 @@ pub use Rattle.sc_core.specs.declared.value.Pointer.{Pointer}
 pub use Rattle.sc_core.specs.declared.value.Value.TheVariants.{Null, Ptr, Word}
 pub use Rattle.sc_laws.proofs.Growing.{back_goes, calls_go, done_goes, earlier, follow_goes, front_more, stays}
 pub use Rattle.sc_laws.proofs.Growing.{then_goes, then_then, within_goes}
-pub use Rattle.sc_laws.specs.Prelude.{GoFrom, Goes, Gone, IsStop, Never}
+pub use Rattle.sc_laws.specs.Prelude.{GoFrom, Goes, Gone, Never}
 pub use Rattle.sc_run.specs.Common.{Call, Callee, Event, Frame, ProgramTree, Ret, RunEnd, Undef, Value, cleared}
 pub use Rattle.sc_run.specs.Common.{given_back}
 pub use Rattle.sc_run.specs.Prelude.{Begun, CameTo, Comes, EndsAs, EntryAt, FoundAt, Seen, Standing, Stands, Steps}

@@ -14,7 +14,7 @@ use Rattle.clap.specs.declared.error.kind.ErrorKind.TheVariants as kind
 use Rattle.clap.specs.declared.parser.matches.ValueSource.TheVariants.{DefaultValue, CommandLine}
 use Rattle.sc_words.proofs.Basics.{not_empty}
 use Rattle.sc_words.proofs.Lookup.{ready_alone, ready_rules, ready_valued}
-use Rattle.sc_base.proofs.Bools.{and_false}
+use Rattle.std.proofs.Math.Bool.{and-false}
 
 -- ---- the rows of the options that are given
 
@@ -327,7 +327,7 @@ repeated (o ∷ before) name value behind has = go (bytes_eq o.0 name) refl (rep
         or_true (has_option o.0 before)) in
         ap (λ b. not b && each_once (before ++ (name, value) ∷ behind)) there
     go false e later =
-        ap (λ b. not (has_option o.0 (before ++ (name, value) ∷ behind)) && b) (later (rw e at has)) ∙ and_false _
+        ap (λ b. not (has_option o.0 (before ++ (name, value) ∷ behind)) && b) (later (rw e at has)) ∙ and-false _
 
 pub once_more : (before : List Setting) (name value : Text) → each_once before ≡ true → has_option name before ≡ false →
     each_once (before ++ (name, value) ∷ []) ≡ true
