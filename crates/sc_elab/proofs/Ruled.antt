@@ -1,9 +1,9 @@
 -- Arguments and parameters, one after another.
-use Rattle.sc_elab.proofs.Common.{Bool, Err, ExprTree, IfOk, Judged, List, None, Ok, Option, Result, Scope, Signature}
-use Rattle.sc_elab.proofs.Common.{Some, Ty, TypedExpr, Visible, [], add-one, all_go, all_go_into, and-false, ap}
-use Rattle.sc_elab.proofs.Common.{args_fit, assign_fits, drop, drop-cons, false, get_or, goes_in, goes_into, going_to}
-use Rattle.sc_elab.proofs.Common.{going_to_all, is_target, judged, length, map, params_of, refl, suc, sym, true, typed}
-use Rattle.sc_elab.proofs.Common.{ℕ, ◌&&◌, ◌+◌, ◌<◌, ◌∙◌, ◌∷◌, ◌≡◌, ◌≢◌}
+use Rattle.sc_elab.proofs.Common.{Bool, Err, ExprTree, IfOk, Judged, List, Ok, Option, Result, Scope, Signature, Some}
+use Rattle.sc_elab.proofs.Common.{Ty, TypedExpr, Visible, [], add-one, all_go, all_go_into, and-false, ap, args_fit}
+use Rattle.sc_elab.proofs.Common.{assign_fits, drop, drop-cons, false, get_or, goes_in, goes_into, going_to_all}
+use Rattle.sc_elab.proofs.Common.{is_target, judged, length, map, params_of, refl, suc, sym, true, typed, ℕ, ◌&&◌, ◌+◌}
+use Rattle.sc_elab.proofs.Common.{◌<◌, ◌∙◌, ◌∷◌, ◌≡◌, ◌≢◌}
 use Rattle.sc_elab.proofs.Parts.{judged_ty}
 
 module _ (goes : Ty → ExprTree → Bool) where
