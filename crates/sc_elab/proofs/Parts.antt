@@ -1,12 +1,12 @@
 -- What is judged of an expression by its parts is what is judged of the whole.
 use Rattle.sc_elab.proofs.Common.{BaseTy, Bool, Err, Found, Global, IfOk, Judged, List, None, Ok, Option, Result, Scope}
-use Rattle.sc_elab.proofs.Common.{Some, Suits, Ty, TypedExpr, TypedMember, TypedStruct, VarRef, Visible, [], ap}
-use Rattle.sc_elab.proofs.Common.{binary_fits, bytes_eq, decayed, eq-eqb, false, found, has_member, if◌then◌else◌}
-use Rattle.sc_elab.proofs.Common.{is_address, is_int, is_pointer, is_some, is_type, is_zero, judged, list_any}
-use Rattle.sc_elab.proofs.Common.{literal_fits, member_named, member_of, member_offset, member_ty, no_ty}
-use Rattle.sc_elab.proofs.Common.{option_and_then, or-true, pointer_to, position, refl, same_base, same_ty, slice_get}
-use Rattle.sc_elab.proofs.Common.{struct_of, subst, suc, sym, target, term_judged, true, true≢false, unary_fits}
-use Rattle.sc_elab.proofs.Common.{variable_ty, variable_typed, zero, zero_step, ℕ, ◌&&◌, ◌==◌, ◌||◌, ◌∙◌, ◌∷◌, ◌≡◌}
+use Rattle.sc_elab.proofs.Common.{Some, Suits, Ty, TypedExpr, TypedMember, TypedStruct, Visible, [], ap, binary_fits}
+use Rattle.sc_elab.proofs.Common.{bytes_eq, decayed, eq-eqb, false, found, has_member, is_address, is_int, is_pointer}
+use Rattle.sc_elab.proofs.Common.{is_some, is_type, is_zero, judged, judged_ty, list_any, literal_fits, member_named}
+use Rattle.sc_elab.proofs.Common.{member_of, member_offset, member_ty, no_ty, option_and_then, or-true, pointer_to}
+use Rattle.sc_elab.proofs.Common.{position, refl, same_base, same_ty, slice_get, struct_of, subst, suc, sym, target}
+use Rattle.sc_elab.proofs.Common.{term_judged, true, true≢false, unary_fits, variable_typed, zero, zero_step, ℕ, ◌&&◌}
+use Rattle.sc_elab.proofs.Common.{◌==◌, ◌||◌, ◌∙◌, ◌∷◌, ◌≡◌}
 use Rattle.sc_base.specs.declared.op.BinaryOp.{BinaryOp}
 use Rattle.sc_base.specs.declared.op.UnaryOp.{UnaryOp}
 use Rattle.sc_core.specs.declared.ty.Ty.TheVariants as ty
@@ -20,7 +20,6 @@ use Rattle.sc_core.specs.declared.expr.TypedKind.TheVariants.{rolls-Address}
 use Rattle.sc_core.proofs.Layers.{typed as typed_as}
 use Rattle.sc_core.proofs.Layers as layers
 use Rattle.sc_elab.specs.declared.expr.Built.{Built}
-use Rattle.sc_core.proofs.Judged.{judged_ty}
 
 same_base-refl : (b : BaseTy) → same_base b b ≡ true
 same_base-refl base.Int = refl
@@ -223,6 +222,17 @@ pub if_ok : {A E : Type 0} (P Q R : A → Type 0) (r : Result A E) → ((x : A) 
     IfOk r R
 if_ok P Q R (Ok x) both p q = both x p q
 if_ok P Q R (Err e) both p q = tt
+
+-- a variable that is built is judged as one
+pub variable_built : (scope : Scope) (visible : Visible) → Suits visible scope → (name : List ℕ) (f : Option Found)
+    (b : Built) → f ≡ found visible name → b.expr ≡ variable_typed f →
+    b.judged ≡ place (variable_typed f).ty (is_some f) → b.judged ≡ judged scope b.expr
+variable_built scope visible suits name f b is typed told =
+    told
+    ∙ (λ i. place (variable_typed (is i)).ty (is_some (is i)))
+    ∙ variable_judged scope visible suits name
+    ∙ (λ i. judged scope (variable_typed (sym is i)))
+    ∙ (λ i. judged scope (sym typed i))
 
 module _ (scope : Scope) (visible : Visible) (suits : Suits visible scope) (name : List ℕ) (a : TypedExpr) (j : Judged)
     (m : Option TypedMember) {E : Type 0} (r : Result Built E) (is : j ≡ judged scope a) where

@@ -10,6 +10,7 @@ pub use Rattle.sc_base.proofs.Bools.{and_first, and_rest}
 pub use Rattle.sc_event.specs.declared.interface.Interface.{Interface}
 pub use Rattle.sc_event.specs.declared.interface.Interfaces.{Interfaces}
 pub use Rattle.sc_core.proofs.Induction.{Each, Inside, Under, expr_induction, stmt_induction}
+pub use Rattle.sc_core.proofs.Judged.{judged_ty}
 pub use Rattle.sc_core.proofs.Layers.{expr_at, layer_of, on_line, stmt_at, term_of, typed}
 pub use Rattle.sc_core.specs.Prelude.{Acts, Arith, Blocks, Body, Break, Callable, Calls, Continue, Exit, Function, Here}
 pub use Rattle.sc_core.specs.Prelude.{Judged, Left, Library, Meant, Next, On, Out, Piece, Reached, Return, Route, Scope}

@@ -5,16 +5,15 @@ use Rattle.sc_types.proofs.Common.{Proto, SectionTree, Signature, Some, Struct, 
 use Rattle.sc_types.proofs.Common.{TypedSection, [], agree, and_first, and_from, and_rest, ap, append-nil, append_assoc}
 use Rattle.sc_types.proofs.Common.{are_distinct, arith, bytes_eq, callees_of, export_at, export_fits, export_name}
 use Rattle.sc_types.proofs.Common.{export_names, false, false≢true, filter_map-append, function_named, function_names}
-use Rattle.sc_types.proofs.Common.{functions_in, get_behind, globals_in, head_crosses, head_fits, head_of, heads_in}
-use Rattle.sc_types.proofs.Common.{if◌then◌else◌, import_fits, import_name, import_names, import_of, input_name}
-use Rattle.sc_types.proofs.Common.{interface_fits, interface_of, interfaces_of, is_environment, is_numbered, is_offered}
-use Rattle.sc_types.proofs.Common.{is_plain_name, is_some, length, list_all, list_any, main_name, map, map-append}
-use Rattle.sc_types.proofs.Common.{map_twice, most_exports, most_nodes, nat_le, not, number_or_zero, offered, offering}
-use Rattle.sc_types.proofs.Common.{option_map, output_name, promised, proto_of, proto_signature, refl, same_base}
-use Rattle.sc_types.proofs.Common.{same_results, same_signature, same_text, same_ty, same_type, same_types}
-use Rattle.sc_types.proofs.Common.{signature_by, signature_of, slice_get, structs, structs_in, subst, suc, sym, tags}
-use Rattle.sc_types.proofs.Common.{true, typed_function, typed_section, unless, zero, ℕ, ◌&&◌, ◌++◌, ◌==◌, ◌||◌, ◌∙◌}
-use Rattle.sc_types.proofs.Common.{◌∷◌, ◌≡◌, ◌≤◌}
+use Rattle.sc_types.proofs.Common.{functions_in, get_behind, head_crosses, head_fits, head_of, if◌then◌else◌}
+use Rattle.sc_types.proofs.Common.{import_fits, import_name, import_names, import_of, input_name, interface_fits}
+use Rattle.sc_types.proofs.Common.{interface_of, interfaces_of, is_environment, is_numbered, is_plain_name, is_some}
+use Rattle.sc_types.proofs.Common.{length, list_all, list_any, main_name, map, map-append, map_twice, most_exports}
+use Rattle.sc_types.proofs.Common.{most_nodes, nat_le, not, number_or_zero, offered, offering, option_map, output_name}
+use Rattle.sc_types.proofs.Common.{promised, proto_of, proto_signature, refl, same_base, same_results, same_signature}
+use Rattle.sc_types.proofs.Common.{same_text, same_ty, same_type, same_types, signature_of, slice_get, subst, suc, sym}
+use Rattle.sc_types.proofs.Common.{tags, true, typed_function, typed_section, unless, zero, ℕ, ◌&&◌, ◌++◌, ◌==◌, ◌||◌}
+use Rattle.sc_types.proofs.Common.{◌∙◌, ◌∷◌, ◌≡◌, ◌≤◌}
 use Rattle.sc_event.specs.declared.interface.Import.TheVariants as import
 use Rattle.sc_event.specs.declared.interface.Proto as event
 use Rattle.sc_ast.specs.declared.types.BaseTree.TheVariants as tree_base
@@ -22,7 +21,6 @@ use Rattle.sc_core.specs.declared.ty.Ty.TheVariants as ty
 use Rattle.sc_core.specs.declared.ty.BaseTy.TheVariants as base
 use Rattle.sc_scope.specs.Declarations as decls
 use Rattle.sc_scope.specs.Names as names
-use Rattle.sc_elab.specs.Sections as elab
 use Rattle.sc_interfaces.specs.Faces as faces
 use Rattle.sc_types.specs.Counts as counts
 use Rattle.sc_types.proofs.Basics.{not_true, rule_holds, front_empty, back_empty, Each, none_some, some_item}
@@ -79,11 +77,6 @@ result_agrees (Some t) = type_agrees t
 
 agrees : (head : HeadTree) → agree head head ≡ true
 agrees head = and_from _ _ (result_agrees head.result) (params_agree head.params)
-
-types_same : (sections : List SectionTree) (number : ℕ) (section : SectionTree) →
-    elab.section_lines section (callees_of sections 0 section) ≡
-    elab.section_lines section (callees_of sections number section)
-types_same sections number section = refl
 
 within : {A : Type 0} (xs : List A) (n : ℕ) → slice_get xs n ≡ None → length xs ≤ n
 within [] n h = omega arith

@@ -9,10 +9,9 @@ use Rattle.sc_types.proofs.Common.{interfaces_from, interfaces_of, is_main, is_n
 use Rattle.sc_types.proofs.Common.{line_of_text, list_any, main_fits, main_from, main_name, mains_in, map, map-append}
 use Rattle.sc_types.proofs.Common.{most_compartments, most_exports, most_nodes, name_holds, names_broken, nat_le, not}
 use Rattle.sc_types.proofs.Common.{option_map, program_of, refl, same_signature, section_fits, section_height}
-use Rattle.sc_types.proofs.Common.{sections_fit, sections_from, signature_by, signature_of, slice_get, structs}
-use Rattle.sc_types.proofs.Common.{structs_in, subst, suc, sym, tags, true, truth, typed_function, typed_global}
-use Rattle.sc_types.proofs.Common.{typed_section, types_broken, unless, zero, ℕ, ◌&&◌, ◌++◌, ◌+◌, ◌==◌, ◌||◌, ◌∙◌, ◌∷◌}
-use Rattle.sc_types.proofs.Common.{◌≡◌, ◌≤◌}
+use Rattle.sc_types.proofs.Common.{sections_fit, sections_from, signature_of, slice_get, structs, structs_in, subst}
+use Rattle.sc_types.proofs.Common.{suc, sym, tags, true, truth, typed_function, typed_global, typed_section}
+use Rattle.sc_types.proofs.Common.{types_broken, unless, zero, ℕ, ◌&&◌, ◌++◌, ◌+◌, ◌==◌, ◌||◌, ◌∙◌, ◌∷◌, ◌≡◌, ◌≤◌}
 use Rattle.sc_core.specs.declared.ty.Ty.TheVariants as ty
 use Rattle.sc_scope.specs.Names as names
 use Rattle.sc_elab.specs.Sections as elab
@@ -340,10 +339,6 @@ module _ (sections : List SectionTree) where
         (and_from _ _ g.named (ap (λ s. same_signature s (record { params = []; result = Some ty.Int }))
         (own_signature section (callees_of sections k section) g.tree ∙
         input_signature (tags section) (head_of g.tree.head) is)))
-
-    or_false : (a b : Bool) → (a || b) ≡ false → a ≡ false
-    or_false true b h = h
-    or_false false b h = refl
 
     any_append : (before : List SectionTree) (section : SectionTree) →
         list_any defines_main (before ++ section ∷ []) ≡ (list_any defines_main before || defines_main section)
