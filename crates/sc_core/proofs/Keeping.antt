@@ -1,6 +1,6 @@
 -- Properties of states that pieces of a run keep.
-use Rattle.sc_core.proofs.Common.{None, Option, Piece, Reached, Some, State, Stopped}
-use Rattle.sc_core.proofs.Common.{TurnsOut, and_then, found, refl, ◌≡◌}
+use Rattle.sc_core.proofs.Common.{None, Option, Piece, Reached, Some, State, Stopped, TurnsOut, and_then, found, refl}
+use Rattle.sc_core.proofs.Common.{◌≡◌}
 use Rattle.sc_core.specs.declared.run.RunEnd.{RunEnd}
 
 -- what is kept: of the states at which a run goes on, and of those at which it stops

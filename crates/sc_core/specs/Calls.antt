@@ -2,8 +2,8 @@
 -- for trees and for code.
 use Rattle.sc_core.specs.Common.{Call, Entry, Export, In, Interfaces, Out, Proto, Ret, Scalar, all_hold, export_at}
 use Rattle.sc_core.specs.Common.{imports, is_function, is_input, is_output, takes}
-use Rattle.std.specs.Prelude.{ℕ, zero, suc, ◌++◌, Bool, true, false, ◌==◌, if◌then◌else◌, List, [], ◌∷◌, length}
-use Rattle.std.specs.Prelude.{map, replicate, drop, Option, None, Some, is_some, slice_get, slice_index_or}
+use Rattle.std.specs.Prelude.{ℕ, zero, suc, ◌++◌, Bool, true, false, ◌==◌, if◌then◌else◌, List, [], ◌∷◌, length, map}
+use Rattle.std.specs.Prelude.{replicate, drop, Option, None, Some, is_some, slice_get, slice_index_or}
 use Rattle.std.specs.List.{list_all}
 use Rattle.sc_core.specs.declared.cause.Cause.TheVariants.{BadType}
 use Rattle.sc_core.specs.declared.expr.CallTarget.{CallTarget}
