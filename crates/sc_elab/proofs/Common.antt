@@ -23,6 +23,7 @@ pub use Rattle.sc_scope.specs.Prelude.{line_of_text, noted, refused_at, struct_i
 pub use Rattle.sc_scope.specs.Prelude.{with_lines}
 unfoldable pub use Rattle.sc_scope.specs.Prelude.{noted_all}
 pub use Rattle.sc_scope.specs.declared.broken.BrokenLines.{BrokenLines}
+pub use Rattle.sc_core.proofs.Judged.{judged_ty}
 pub use Rattle.sc_core.specs.Prelude.{Judged, Scope, Signature, all_go_into, args_fit, assign_fits, binary_fits}
 pub use Rattle.sc_core.specs.Prelude.{decayed, goes_into, has_member, init_fits, is_address, is_int, is_pointer}
 pub use Rattle.sc_core.specs.Prelude.{is_scalar, is_target, is_type, judged, literal_fits, member_of, pointer_to}

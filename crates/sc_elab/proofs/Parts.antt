@@ -2,8 +2,8 @@
 use Rattle.sc_elab.proofs.Common.{BaseTy, Bool, Err, Found, Global, IfOk, Judged, List, None, Ok, Option, Result, Scope}
 use Rattle.sc_elab.proofs.Common.{Some, Suits, Ty, TypedExpr, TypedMember, TypedStruct, VarRef, Visible, [], ap}
 use Rattle.sc_elab.proofs.Common.{binary_fits, bytes_eq, decayed, eq-eqb, false, found, has_member, if◌then◌else◌}
-use Rattle.sc_elab.proofs.Common.{is_address, is_int, is_pointer, is_some, is_type, is_zero, judged, list_any}
-use Rattle.sc_elab.proofs.Common.{literal_fits, member_named, member_of, member_offset, member_ty, no_ty}
+use Rattle.sc_elab.proofs.Common.{is_address, is_int, is_pointer, is_some, is_type, is_zero, judged, judged_ty}
+use Rattle.sc_elab.proofs.Common.{list_any, literal_fits, member_named, member_of, member_offset, member_ty, no_ty}
 use Rattle.sc_elab.proofs.Common.{option_and_then, or-true, pointer_to, position, refl, same_base, same_ty, slice_get}
 use Rattle.sc_elab.proofs.Common.{struct_of, subst, suc, sym, target, term_judged, true, true≢false, unary_fits}
 use Rattle.sc_elab.proofs.Common.{variable_ty, variable_typed, zero, zero_step, ℕ, ◌&&◌, ◌==◌, ◌||◌, ◌∙◌, ◌∷◌, ◌≡◌}
@@ -20,7 +20,6 @@ use Rattle.sc_core.specs.declared.expr.TypedKind.TheVariants.{rolls-Address}
 use Rattle.sc_core.proofs.Layers.{typed as typed_as}
 use Rattle.sc_core.proofs.Layers as layers
 use Rattle.sc_elab.specs.declared.expr.Built.{Built}
-use Rattle.sc_core.proofs.Judged.{judged_ty}
 
 same_base-refl : (b : BaseTy) → same_base b b ≡ true
 same_base-refl base.Int = refl

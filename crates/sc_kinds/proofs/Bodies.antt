@@ -8,7 +8,7 @@ use Rattle.sc_kinds.proofs.Common.{assign, assign_call, assign_call_fits, at_bra
 use Rattle.sc_kinds.proofs.Common.{body_does, body_fits, call, call_alone, call_fits, choose, closed, computed, decayed}
 use Rattle.sc_kinds.proofs.Common.{evaluated, false, false≢true, goes_into, has_kind, have_kinds, in_order, init_does}
 use Rattle.sc_kinds.proofs.Common.{inits_do, is_integer, is_of, is_pointer, is_scalar, is_some, is_target, judged}
-use Rattle.sc_kinds.proofs.Common.{kind_fits, kind_step, layer_of, leave, list_all, loop, map, not, on_line}
+use Rattle.sc_kinds.proofs.Common.{judged_ty, kind_fits, kind_step, layer_of, leave, list_all, loop, map, not, on_line}
 use Rattle.sc_kinds.proofs.Common.{option_goes, part_does, part_fits, refl, result_goes, returned_call_fits}
 use Rattle.sc_kinds.proofs.Common.{returned_fits, returns_kind, same_ty, simple_does, simple_fits, stmt_at, stmt_does}
 use Rattle.sc_kinds.proofs.Common.{stmt_fits, stmt_induction, stmt_step, store, store_at, store_result, stored, subst}
@@ -28,7 +28,6 @@ use Rattle.sc_core.specs.declared.value.Want.TheVariants as want
 use Rattle.sc_kinds.proofs.Values.{either, bind_made, same_kind, integer_kind, decayed_kind, value_kind}
 use Rattle.sc_kinds.proofs.Pieces.{Same, Any, itself, then_same, weaken, computed_same, choose_same, exit_kind, ExitOk}
 use Rattle.sc_kinds.proofs.Pieces.{DoSame, leave_same, in_order_ok, follow_same, EachSame, all_same, loop_same}
-use Rattle.sc_core.proofs.Judged.{judged_ty}
 
 -- a value goes into places of its own kind
 pub goes_kind : (place value : Ty) → type_goes place value ≡ true → is_pointer place ≡ is_pointer value

@@ -6,9 +6,9 @@ use Rattle.sc_kinds.proofs.Common.{as_word, at_place, at_pointer, between, binar
 use Rattle.sc_kinds.proofs.Common.{cells_at, choose, common, decayed, difference_fits, expr_at, expr_induction, false}
 use Rattle.sc_kinds.proofs.Common.{false≢true, if◌then◌else◌, in_elements, int_div, int_rem, is_address, is_array}
 use Rattle.sc_kinds.proofs.Common.{is_int, is_integer, is_live, is_of, is_pointer, is_scalar, is_true, is_type}
-use Rattle.sc_kinds.proofs.Common.{is_unsigned, is_unsigned_op, is_zero, judged, length, literal, load, loaded, meant}
-use Rattle.sc_kinds.proofs.Common.{meant_step, moved, moved_back, moved_on, nat_le, negsuc, not, of_bool, on_word}
-use Rattle.sc_kinds.proofs.Common.{on_words, ordered, place_at, pointer_to, points, pos, refl, same_place}
+use Rattle.sc_kinds.proofs.Common.{is_unsigned, is_unsigned_op, is_zero, judged, judged_ty, length, literal, load}
+use Rattle.sc_kinds.proofs.Common.{loaded, meant, meant_step, moved, moved_back, moved_on, nat_le, negsuc, not, of_bool}
+use Rattle.sc_kinds.proofs.Common.{on_word, on_words, ordered, place_at, pointer_to, points, pos, refl, same_place}
 use Rattle.sc_kinds.proofs.Common.{same_pointers, same_ty, slice_get, subst, suc, sum_fits, sym, target_cells}
 use Rattle.sc_kinds.proofs.Common.{term_judged, term_of, term_step, true, typed, unary_fits, variable_at, wanted, ways}
 use Rattle.sc_kinds.proofs.Common.{ℕ, ℤ, ◌&&◌, ◌-◌, ◌^◌, ◌||◌, ◌∙◌, ◌≡◌}
@@ -24,7 +24,6 @@ use Rattle.sc_core.specs.declared.expr.TypedKind.TheOpen as term
 use Rattle.sc_core.specs.declared.value.Cell.{Cell}
 use Rattle.sc_core.specs.declared.value.Cell.TheVariants as cell
 use Rattle.sc_core.specs.declared.value.Want.TheVariants as want
-use Rattle.sc_core.proofs.Judged.{judged_ty}
 
 -- RESULTS
 

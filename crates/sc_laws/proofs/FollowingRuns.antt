@@ -1,6 +1,6 @@
 -- Whole runs along one trace, of which the second has more compartments that perform their parts of it; the least set.
 use Rattle.sc_laws.proofs.Common.{Blamed, Bool, Cause, Ended, Event, EventsOut, Front, Function, Includes, IsChain}
-use Rattle.sc_laws.proofs.Common.{IsFixed, IsWithin, KeepsBlames, LeastIsChain, Library, Link, List, Main}
+use Rattle.sc_laws.proofs.Common.{IsFixed, IsStop, IsWithin, KeepsBlames, LeastIsChain, Library, Link, List, Main}
 use Rattle.sc_laws.proofs.Common.{Memory, Never, None, Obedient, Option, PassesBlame, PassesBlames, Piece, Reached}
 use Rattle.sc_laws.proofs.Common.{RunEnd, Set, Some, SourceRun, Standing, State, Step, Stopped, StopsSo, TellsWithMore}
 use Rattle.sc_laws.proofs.Common.{TurnsOut, Value, [], and_then, ap, append-nil, arith, at_start, begun, call_own, done}
@@ -20,7 +20,6 @@ use Rattle.sc_laws.proofs.Following.{Performs, Perform, left_goes, perform_kept,
 use Rattle.sc_laws.proofs.Following.{Agreed, IfBlamed, BeyondIn, KeepsUp as follows, Performs as performing}
 use Rattle.sc_laws.proofs.Following.{MovesOn as passed, MovesOrReturns as passing}
 use Rattle.sc_laws.proofs.FollowingCalls.{at, first_step, second_step, N, Bodies, Telling, performs_next, all_bodies}
-use Rattle.sc_core.specs.Words.{IsStop}
 
 -- what is shown of a piece goes on from where it is
 behaviour_front : (main : ℕ) (o : Piece (Option Value)) → Front (last o).trace (run_to main o).behaviour.trace

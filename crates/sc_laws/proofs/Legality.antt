@@ -1,6 +1,6 @@
 -- Every trace that a run shows is legal.
 use Rattle.sc_laws.proofs.Common.{Action, BadType, Blamed, Body, Bool, Call, CallTarget, Cross, End, Event, Export}
-use Rattle.sc_laws.proofs.Common.{Here, In, Input, Interfaces, Kept, Library, List, Main, Memory, None}
+use Rattle.sc_laws.proofs.Common.{Here, In, Input, Interfaces, IsStop, Kept, Library, List, Main, Memory, None}
 use Rattle.sc_laws.proofs.Common.{Obedient, Option, Out, Output, Own, Piece, Property, Proto, Reached, Ret, Roles, Row}
 use Rattle.sc_laws.proofs.Common.{RunEnd, Scalar, Some, Standing, State, Step, Stopped, TurnsOut, Value, Word, [], acts}
 use Rattle.sc_laws.proofs.Common.{and_from, and_parts, and_then, ap, asks, at_start, awaits, back_cross, back_own}
@@ -17,7 +17,6 @@ use Rattle.sc_laws.proofs.Growing.{BodyGoes, StepGoes, calls_go, within_goes}
 use Rattle.sc_laws.proofs.Matching.{run_goes_on, scripted_goes_on}
 use Rattle.sc_laws.proofs.Keeping.{IsKept, function_keeps}
 use Rattle.sc_laws.proofs.Runs.{trace_is}
-use Rattle.sc_core.specs.Words.{IsStop}
 
 module _ (interfaces : Interfaces) where
   behind_more : (at : Option Standing) (t : List Event) (st : Standing) (e : Event) → stands_behind at t ≡ Some st →

@@ -1,5 +1,5 @@
 -- Whole runs: steps of two libraries, and what they come to when they are stopped at a number of events.
-use Rattle.sc_laws.proofs.Common.{Blamed, Bool, Cause, End, Ended, Event, EventsOut, Front, Gone}
+use Rattle.sc_laws.proofs.Common.{Blamed, Bool, Cause, End, Ended, Event, EventsOut, Front, Gone, IsStop}
 use Rattle.sc_laws.proofs.Common.{LibrariesMatch, Library, List, Main, Memory, None, Option, Piece, Reached, Roles, Run}
 use Rattle.sc_laws.proofs.Common.{RunEnd, Some, SourceRun, State, Step, Stopped, StopsSo, TurnsOut, Value, [], and_then}
 use Rattle.sc_laws.proofs.Common.{ap, arith, call_own, exit_word, false, first_state, found, if◌then◌else◌, last}
@@ -12,7 +12,6 @@ use Rattle.sc_laws.proofs.Matching.{library_twins}
 use Rattle.sc_laws.proofs.Below.{richer, richer_piece, Passes, Below, along, passed, Ahead, below_kept, below_at}
 use Rattle.sc_laws.proofs.BelowCalls.{StepsBelow, LibrariesBelow, run_step_below, scripted_below, own_below}
 use Rattle.sc_laws.proofs.BelowCalls.{within_below}
-use Rattle.sc_core.specs.Words.{IsStop}
 
 -- LISTS
 take_front : {A : Type 0} (n m : ℕ) (xs more : List A) → n ≤ m → Front (take n xs) (take m (xs ++ more))

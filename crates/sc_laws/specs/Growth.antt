@@ -1,7 +1,6 @@
 -- How a run goes on: events are appended, turns are spent, and it stops for a blame or for want of turns alone.
-use Rattle.sc_laws.specs.Common.{Front, Piece, Reached, State, Stopped}
+use Rattle.sc_laws.specs.Common.{Front, IsStop, Piece, Reached, State, Stopped}
 use Rattle.std.specs.Prelude.{◌≤◌}
-use Rattle.sc_core.specs.Words.{IsStop}
 
 -- a state that comes after another: its events and its frames go on from the other's, and it has no more turns
 pub record Grown (s t : State) : Type 0 where

@@ -1,6 +1,6 @@
 -- A run that stands somewhere only adds events, so it may be stopped at a number of events.
 use Rattle.sc_run.proofs.Common.{Again, Body as Body', Caller, End, Ended, Event, EventsOut, First, Frame, Front, Goes}
-use Rattle.sc_run.proofs.Common.{Gone, Leave, Left, List, None, Now, Option, Piece, ProgramTree, Reached, Rest}
+use Rattle.sc_run.proofs.Common.{Gone, IsStop, Leave, Left, List, None, Now, Option, Piece, ProgramTree, Reached, Rest}
 use Rattle.sc_run.proofs.Common.{Run as Run', RunEnd, Seen, Some, SourceRun, Standing, State, Stopped, Value, Work, []}
 use Rattle.sc_run.proofs.Common.{and_then, ap, arith, back_goes, back_own, back_to, closes, does_now, done, done_goes}
 use Rattle.sc_run.proofs.Common.{earlier, exit_of, exit_word, follow_goes, front_more, function_in, if◌then◌else◌}
@@ -8,7 +8,6 @@ use Rattle.sc_run.proofs.Common.{in_loop, in_order, le-leb, length, length-appen
 use Rattle.sc_run.proofs.Common.{returned, reverse, run_to, stays, stopped_at, subst, suc, take, take-append-le}
 use Rattle.sc_run.proofs.Common.{then_goes, ℕ, ◌<◌, ◌∙◌, ◌∷◌, ◌≡◌, ◌≤◌}
 use Rattle.sc_run.proofs.Going.{block_goes, next_goes, loop_goes, closes_goes, result_goes_on}
-use Rattle.sc_core.specs.Words.{IsStop}
 
 -- two traces have the same front, as long as the shorter one goes
 take_front : (n : ℕ) (t u : List Event) → n ≤ length t → Front t u → take n u ≡ take n t
