@@ -1,12 +1,15 @@
 -- What is judged of an expression by its parts is what is judged of the whole.
 use Rattle.sc_elab.proofs.Common.{BaseTy, Bool, Err, Found, Global, IfOk, Judged, List, None, Ok, Option, Result, Scope}
-use Rattle.sc_elab.proofs.Common.{Some, Suits, Ty, TypedExpr, TypedMember, TypedStruct, Visible, [], ap, binary_fits}
-use Rattle.sc_elab.proofs.Common.{bytes_eq, decayed, eq-eqb, false, found, has_member, is_address, is_int, is_pointer}
-use Rattle.sc_elab.proofs.Common.{is_some, is_type, is_zero, judged, judged_ty, list_any, literal_fits, member_named}
-use Rattle.sc_elab.proofs.Common.{member_of, member_offset, member_ty, no_ty, option_and_then, or-true, pointer_to}
-use Rattle.sc_elab.proofs.Common.{position, refl, same_base, same_ty, slice_get, struct_of, subst, suc, sym, target}
-use Rattle.sc_elab.proofs.Common.{term_judged, true, true≢false, unary_fits, variable_typed, zero, zero_step, ℕ, ◌&&◌}
-use Rattle.sc_elab.proofs.Common.{◌==◌, ◌||◌, ◌∙◌, ◌∷◌, ◌≡◌}
+use Rattle.sc_elab.proofs.Common.{Some, Suits, Ty, TypedExpr, TypedMember, TypedStruct, VarRef, Visible, [], ap}
+use Rattle.sc_elab.proofs.Common.{binary_fits, bytes_eq, decayed, eq-eqb, false, found, has_member, if◌then◌else◌}
+use Rattle.sc_elab.proofs.Common.{is_address, is_int, is_pointer, is_some, is_type, is_zero, judged, judged_ty}
+use Rattle.sc_elab.proofs.Common.{list_any, literal_fits, member_named, member_of, member_offset, member_ty, no_ty}
+use Rattle.sc_elab.proofs.Common.{option_and_then, or-true, pointer_to, position, refl, same_base, same_ty, slice_get}
+use Rattle.sc_elab.proofs.Common.{struct_of, subst, suc, sym, target, term_judged, true, true≢false, unary_fits}
+use Rattle.sc_elab.proofs.Common.{variable_ty, variable_typed, zero, zero_step, ℕ, ◌&&◌, ◌==◌, ◌||◌, ◌∙◌, ◌∷◌, ◌≡◌}
+<<<<<<< HEAD
+=======
+>>>>>>> 551d79e4dba38430e7889f307b9d7e762a4091b8
 use Rattle.sc_base.specs.declared.op.BinaryOp.{BinaryOp}
 use Rattle.sc_base.specs.declared.op.UnaryOp.{UnaryOp}
 use Rattle.sc_core.specs.declared.ty.Ty.TheVariants as ty

@@ -3,7 +3,7 @@ pub use Rattle.std.proofs.Common.{Bool, Err, List, None, Ok, Option, Result, Som
 pub use Rattle.std.proofs.Common.{eq-eqb, eqb-true, false, if◌then◌else◌, int_div, int_rem, is_some, length, map}
 pub use Rattle.std.proofs.Common.{nat_le, negsuc, not, pos, position, refl, slice_get, slice_index_or, subst, suc, sym}
 pub use Rattle.std.proofs.Common.{true, zero, ℕ, ℤ, ◌&&◌, ◌++◌, ◌-◌, ◌==◌, ◌^◌, ◌||◌, ◌∙◌, ◌∷◌, ◌≡◌}
-pub use Rattle.std.proofs.lemmas.Bool.{and_from, false≢true}
+pub use Rattle.std.proofs.lemmas.Bool.{and_from, false≢true, or_right}
 pub use Rattle.std.specs.List.{list_all, list_any}
 pub use Rattle.std.specs.Option.{option_and_then, option_map, option_map_or}
 pub use Rattle.sc_base.proofs.Bools.{and_first, and_rest}

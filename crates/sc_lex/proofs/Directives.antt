@@ -1,12 +1,8 @@
 -- What the words of a directive are, one by one.
 use Rattle.sc_lex.proofs.Common.{Bool, List, [], arith, bytes_eq, codes, false, get_or, is_empty, is_export, is_import}
 use Rattle.sc_lex.proofs.Common.{is_name, length, ne_eqb, refl, sym, true, words, ℕ, ◌&&◌, ◌<◌, ◌∷◌, ◌≡◌}
-use Rattle.std.proofs.Math.Bool.{and-false}
+use Rattle.std.proofs.Math.Bool.{and-false, and-true}
 use Rattle.sc_lex.proofs.Wording.{words_full}
-
-and-true : (b : Bool) → (b && true) ≡ b
-and-true true = refl
-and-true false = refl
 
 not_empty : (word : List ℕ) → 0 < length word → is_empty word ≡ false
 not_empty word h = ne_eqb (length word) 0 (λ none. absurd (omega arith))

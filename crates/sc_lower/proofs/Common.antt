@@ -4,7 +4,7 @@ pub use Rattle.std.proofs.Common.{arith, bytes_eq, codes, cond, drop, drop-cons,
 pub use Rattle.std.proofs.Common.{if◌then◌else◌, inl, inr, is_some, le-leb, leb-true, length, length-append, lt-ltb}
 pub use Rattle.std.proofs.Common.{map, nat_le, nat_lt, not, pos, position, refl, slice_get, slice_index_or, subst, suc}
 pub use Rattle.std.proofs.Common.{sym, true, zero, ℕ, ◌&&◌, ◌*◌, ◌++◌, ◌+◌, ◌<◌, ◌==◌, ◌||◌, ◌∙◌, ◌∷◌, ◌≡◌, ◌≤◌, ◌⊎◌}
-pub use Rattle.std.proofs.lemmas.Bool.{and_from, false≢true}
+pub use Rattle.std.proofs.lemmas.Bool.{and_from, false≢true, not-true, or_from, or_left, or_right}
 pub use Rattle.std.proofs.lemmas.List.{length-map}
 pub use Rattle.std.proofs.lemmas.Option.{slice_get-map, slice_get_read}
 pub use Rattle.std.specs.Bool.{beq}

@@ -3,6 +3,7 @@ pub use Rattle.std.proofs.Common.{Bool, IsTrue, List, None, Option, Result, Some
 pub use Rattle.std.proofs.Common.{eqb-true, false, get_or, if◌then◌else◌, ltb-true, map, nat_lt, not, refl, slice_get}
 pub use Rattle.std.proofs.Common.{subst, suc, sym, take, true, zero, ℕ, ⊎_elim, ◌&&◌, ◌*◌, ◌++◌, ◌+◌, ◌-◌, ◌<◌, ◌==◌}
 pub use Rattle.std.proofs.Common.{◌||◌, ◌∙◌, ◌∷◌, ◌≡◌, ◌≤◌}
+pub use Rattle.std.proofs.lemmas.Bool.{or_cases, or_left, or_right}
 pub use Rattle.std.specs.List.{list_all, list_any, range_with_len}
 pub use Rattle.sc_event.specs.declared.interface.Interfaces.{Interfaces}
 pub use Rattle.sc_core.proofs.Induction.{Each}

@@ -3,11 +3,10 @@ use Rattle.sc_tac.proofs.Common.{Ahead, Bool, Each, List, Lives, None, Option, P
 use Rattle.sc_tac.proofs.Common.{Trail, [], ahead_at, all_hold, eqb-true, everywhere, false, fold-TacStmt}
 use Rattle.sc_tac.proofs.Common.{fold-roll-TacStmt, if_calls, in_body, in_head, in_next, is_one, is_used, list_all}
 use Rattle.sc_tac.proofs.Common.{live_across, live_at_start, live_before, loop_points, ltb-true, map, map-TacStmt}
-use Rattle.sc_tac.proofs.Common.{names_own_temps, nat_lt, not, nothing_live, one_or_none, part_ahead, part_lives, plain}
-use Rattle.sc_tac.proofs.Common.{plain_points, point, points, readings, refl, round_first, row_first, row_points, subst}
-use Rattle.sc_tac.proofs.Common.{sym, trail, trail_step, true, with_parts, ℕ, ⊎_elim, ◌&&◌, ◌++◌, ◌<◌, ◌==◌, ◌∙◌, ◌∷◌}
-use Rattle.sc_tac.proofs.Common.{◌≡◌}
-use Rattle.std.proofs.lemmas.Bool.{or_cases}
+use Rattle.sc_tac.proofs.Common.{names_own_temps, nat_lt, not, nothing_live, one_or_none, or_cases, part_ahead}
+use Rattle.sc_tac.proofs.Common.{part_lives, plain, plain_points, point, points, readings, refl, round_first, row_first}
+use Rattle.sc_tac.proofs.Common.{row_points, subst, sym, trail, trail_step, true, with_parts, ℕ, ⊎_elim, ◌&&◌, ◌++◌}
+use Rattle.sc_tac.proofs.Common.{◌<◌, ◌==◌, ◌∙◌, ◌∷◌, ◌≡◌}
 use Rattle.sc_base.proofs.Bools.{and_first, and_rest}
 use Rattle.sc_tac.specs.declared.stmt.TacStmt.TheOpen as tac
 use Rattle.sc_tac.proofs.Induction.{Inside, stmt_induction}

@@ -4,10 +4,6 @@ use Rattle.sc_types.proofs.Common.{false, false≢true, if◌then◌else◌, lis
 use Rattle.sc_types.proofs.Common.{position_from, refl, suc, true, unless, ℕ, ◌++◌, ◌+◌, ◌||◌, ◌∙◌, ◌∷◌, ◌≡◌}
 use Rattle.std.proofs.lemmas.Iterator.Adapters.{position_from-zero}
 
-pub not_true : (a : Bool) → not a ≡ true → a ≡ false
-not_true false h = refl
-not_true true h = absurd (false≢true h)
-
 pub either : {C : Type 0} (a b : Bool) → (a || b) ≡ true → (a ≡ true → C) → (a ≡ false → b ≡ true → C) → C
 either true b h f g = f refl
 either false b h f g = g refl h

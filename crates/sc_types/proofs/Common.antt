@@ -5,7 +5,7 @@ pub use Rattle.std.proofs.Common.{flat_map, get_or, if◌then◌else◌, inl, in
 pub use Rattle.std.proofs.Common.{ltb-true, map, max, nat_eq, nat_le, nat_lt, not, position, refl, replicate, rules}
 pub use Rattle.std.proofs.Common.{slice_get, slice_range, subst, suc, sym, take, true, zero, ℕ, ◌%◌, ◌&&◌, ◌*◌, ◌++◌}
 pub use Rattle.std.proofs.Common.{◌+◌, ◌-◌, ◌<◌, ◌==◌, ◌^◌, ◌||◌, ◌∙◌, ◌∷◌, ◌≡◌, ◌≤◌, ◌⊎◌}
-pub use Rattle.std.proofs.lemmas.Bool.{and_from, false≢true}
+pub use Rattle.std.proofs.lemmas.Bool.{and_from, false≢true, not-true, or_left, or_right}
 pub use Rattle.std.proofs.lemmas.Bool.Decides.{Decides-eqb, nat_tests}
 pub use Rattle.std.proofs.lemmas.List.{drop_all, length-map, map-append, take_more}
 pub use Rattle.std.proofs.lemmas.List.Elements.{filter_map-append}
@@ -57,12 +57,13 @@ pub use Rattle.sc_scope.specs.Prelude.{result_known, scalar_of, simple_known, st
 pub use Rattle.sc_scope.specs.Prelude.{unless, with_lines}
 unfoldable pub use Rattle.sc_scope.specs.Prelude.{noted_all}
 pub use Rattle.sc_scope.specs.declared.broken.BrokenLines.{BrokenLines}
-pub use Rattle.sc_interfaces.specs.Faces.{agrees_as, agrees_there, agrees_with, decls_from, export_holds, exports_from}
-pub use Rattle.sc_interfaces.specs.Faces.{head_fits, head_holds, import_holds, imported_agrees, imports_from, is_input}
-pub use Rattle.sc_interfaces.specs.Faces.{is_offered, is_output, name_holds, section_lines, takes_int}
-pub use Rattle.sc_interfaces.specs.Prelude.{agree, crosses, gives_int, head_crosses, input_name, interface_broken}
-pub use Rattle.sc_interfaces.specs.Prelude.{is_int, is_plain, main_holds, output_name, result_crosses, same_params}
-pub use Rattle.sc_interfaces.specs.Prelude.{same_result, same_type, takes_nothing}
+pub use Rattle.sc_interfaces.specs.Prelude.{HasFewExports, HasFewParams, IsWithinCounts, agree, agrees_as, agrees_there}
+pub use Rattle.sc_interfaces.specs.Prelude.{agrees_with, crosses, decls_from, export_holds, exports_from, gives_int}
+pub use Rattle.sc_interfaces.specs.Prelude.{head_crosses, head_fits, head_holds, import_holds, imported_agrees}
+pub use Rattle.sc_interfaces.specs.Prelude.{imports_from, input_name, interface_broken, is_input, is_int, is_offered}
+pub use Rattle.sc_interfaces.specs.Prelude.{is_output, is_plain, main_holds, name_holds, output_name, result_crosses}
+pub use Rattle.sc_interfaces.specs.Prelude.{same_params, same_result, same_type, section_lines, takes_int}
+pub use Rattle.sc_interfaces.specs.Prelude.{takes_nothing}
 pub use Rattle.sc_core.proofs.Layers.{expr_at, layer_of, on_line, stmt_at, term_of, typed}
 pub use Rattle.sc_core.specs.Prelude.{Callable, IsWellTyped, Judged, Scope, Signature, allowed, are_distinct, args_fit}
 pub use Rattle.sc_core.specs.Prelude.{assign_call_fits, base_cells, base_within, body_fits, call_fits, call_height}
