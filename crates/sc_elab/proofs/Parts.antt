@@ -7,9 +7,6 @@ use Rattle.sc_elab.proofs.Common.{list_any, literal_fits, member_named, member_o
 use Rattle.sc_elab.proofs.Common.{option_and_then, or-true, pointer_to, position, refl, same_base, same_ty, slice_get}
 use Rattle.sc_elab.proofs.Common.{struct_of, subst, suc, sym, target, term_judged, true, true≢false, unary_fits}
 use Rattle.sc_elab.proofs.Common.{variable_ty, variable_typed, zero, zero_step, ℕ, ◌&&◌, ◌==◌, ◌||◌, ◌∙◌, ◌∷◌, ◌≡◌}
-<<<<<<< HEAD
-=======
->>>>>>> 551d79e4dba38430e7889f307b9d7e762a4091b8
 use Rattle.sc_base.specs.declared.op.BinaryOp.{BinaryOp}
 use Rattle.sc_base.specs.declared.op.UnaryOp.{UnaryOp}
 use Rattle.sc_core.specs.declared.ty.Ty.TheVariants as ty

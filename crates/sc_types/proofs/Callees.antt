@@ -36,16 +36,6 @@ or_not true b h q = refl
 or_not false true h q = h
 or_not false false h q = absurd (false≢true q)
 
-<<<<<<< HEAD
-or_right : (a b : Bool) → b ≡ true → (a || b) ≡ true
-or_right true b h = refl
-or_right false b h = h
-=======
-other_of : (a b : Bool) → (a || b) ≡ true → a ≡ false → b ≡ true
-other_of true b h q = absurd (false≢true (sym q))
-other_of false b h q = h
->>>>>>> 551d79e4dba38430e7889f307b9d7e762a4091b8
-
 names_append : (a b : List Text) (name : Text) → is_numbered (a ++ b) name ≡ true → is_numbered a name ≡ false →
     is_numbered b name ≡ true
 names_append [] b name h q = h

@@ -19,9 +19,6 @@ use Rattle.sc_types.proofs.Common.{typed_stmt, unless, variable_fits, visible_in
 use Rattle.sc_types.proofs.Common.{zero, ℕ, ◌%◌, ◌&&◌, ◌++◌, ◌+◌, ◌-◌, ◌<◌, ◌==◌, ◌^◌, ◌∙◌, ◌∷◌, ◌≡◌}
 use Rattle.sc_scope.specs.Prelude.{are_distinct}
 use Rattle.sc_elab.specs.Prelude.{function_lines}
-<<<<<<< HEAD
-=======
->>>>>>> 551d79e4dba38430e7889f307b9d7e762a4091b8
 use Rattle.std.proofs.Math.Nat.{le-max_left, le-max_right}
 use Rattle.sc_ast.specs.declared.types.BaseTree.TheVariants as base_tree
 use Rattle.sc_ast.specs.declared.section.ConstTree.{ConstTree}

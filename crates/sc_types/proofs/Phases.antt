@@ -1,5 +1,4 @@
 -- What the phases give to one another.
-<<<<<<< HEAD
 use Rattle.sc_types.proofs.Common.{All, AreLow, Decl, Err, ExportLine, FailsRules, HasFewExports, HasFewParams}
 use Rattle.sc_types.proofs.Common.{ImportLine, IsWellTyped, IsWithinCounts, List, None, Ok, OnOk, Option, Phase}
 use Rattle.sc_types.proofs.Common.{ProgramTree, Result, SectionTree, Some, [], ap, arith, callees_of, concat}
@@ -7,13 +6,8 @@ use Rattle.sc_types.proofs.Common.{counts_broken, functions_in, globals_in, head
 use Rattle.sc_types.proofs.Common.{line_of_text, map, most_compartments, most_exports, most_nodes, most_params}
 use Rattle.sc_types.proofs.Common.{names_broken, nat_le, param_of, program_of, refused_at, structs_in, subst, suc, sym}
 use Rattle.sc_types.proofs.Common.{types_broken, unless, zero, ℕ, ◌&&◌, ◌++◌, ◌∙◌, ◌∷◌, ◌≡◌}
-=======
->>>>>>> 551d79e4dba38430e7889f307b9d7e762a4091b8
-<<<<<<< HEAD
-=======
 use Rattle.sc_lex.specs.declared.refusal.Phase.TheVariants as phase
 use Rattle.sc_lex.specs.declared.refusal.Refusal.{Refusal}
->>>>>>> 551d79e4dba38430e7889f307b9d7e762a4091b8
 use Rattle.sc_ast.specs.declared.section.Decl.TheVariants as decl
 use Rattle.sc_types.specs.Counts as counts
 use Rattle.sc_types.proofs.Basics.{Each, rule_holds, front_empty, back_empty, map_empty}

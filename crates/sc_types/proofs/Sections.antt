@@ -15,9 +15,6 @@ use Rattle.sc_types.proofs.Common.{refl, same_base, same_results, same_signature
 use Rattle.sc_types.proofs.Common.{same_types, signature_by, signature_of, slice_get, structs, structs_in, subst, suc}
 use Rattle.sc_types.proofs.Common.{sym, tags, true, typed_function, typed_section, unless, zero, ℕ, ◌&&◌, ◌++◌, ◌==◌}
 use Rattle.sc_types.proofs.Common.{◌||◌, ◌∙◌, ◌∷◌, ◌≡◌, ◌≤◌}
-<<<<<<< HEAD
-=======
->>>>>>> 551d79e4dba38430e7889f307b9d7e762a4091b8
 use Rattle.sc_event.specs.declared.interface.Import.TheVariants as import
 use Rattle.sc_event.specs.declared.interface.Proto as event
 use Rattle.sc_ast.specs.declared.types.BaseTree.TheVariants as tree_base

@@ -13,9 +13,6 @@ use Rattle.sc_types.proofs.Common.{sections_fit, sections_from, signature_by, si
 use Rattle.sc_types.proofs.Common.{structs_in, subst, suc, sym, tags, true, truth, typed_function, typed_global}
 use Rattle.sc_types.proofs.Common.{typed_section, types_broken, unless, zero, ℕ, ◌&&◌, ◌++◌, ◌+◌, ◌==◌, ◌||◌, ◌∙◌, ◌∷◌}
 use Rattle.sc_types.proofs.Common.{◌≡◌, ◌≤◌}
-<<<<<<< HEAD
-=======
->>>>>>> 551d79e4dba38430e7889f307b9d7e762a4091b8
 use Rattle.sc_core.specs.declared.ty.Ty.TheVariants as ty
 use Rattle.sc_scope.specs.Names as names
 use Rattle.sc_elab.specs.Sections as elab
