@@ -1,4 +1,6 @@
 pub mod Common
 pub mod Composition
 pub mod Lines
+pub mod Links
 pub mod Sizes
+pub mod Weights
