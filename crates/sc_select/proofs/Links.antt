@@ -5,12 +5,16 @@ use Rattle.sc_select.proofs.Common.{length, map, map-TacStmt, pass, plain, plain
 use Rattle.sc_select.proofs.Common.{select, select_all, select_step, subst, suc, sym, true, ℕ, ◌&&◌, ◌++◌, ◌+◌, ◌<◌}
 use Rattle.sc_select.proofs.Common.{◌∙◌, ◌∷◌, ◌≡◌, ◌≤◌, zero}
 use Rattle.std.specs.Prelude.{All, AllPairs, IsTrue, None, Some, false, slice_get, ◌==◌}
-use Rattle.std.proofs.lemmas.List.{All-cons, All-nil, All-weaker, AllPairs-cons}
+use Rattle.std.proofs.lemmas.List.Elements.{All-cons, All-nil, All-weaker}
+use Rattle.std.proofs.lemmas.List.Kept.{AllPairs-cons}
 use Rattle.std.proofs.lemmas.Bool.{eq-eqb}
+use Rattle.std.proofs.lemmas.List.{append-nil}
 use Rattle.sc_select.specs.Common.{CodeTree, Jal, Jalr, Lui, Store, Sw, Upper}
 use Rattle.sc_select.specs.Lines.{code_of_lines, linked, relocation_of, relocations_from}
 use Rattle.sc_select.specs.Prelude.{call_cross, call_own, keep, place_of_global, receive, result_register}
-use Rattle.sc_select.specs.Selection.{closing, entrance, function_lines, store_arguments}
+use Rattle.sc_select.specs.Selection.{closing, entrance, function_lines, store_arguments, straightly}
+use Rattle.sc_select.specs.Prelude.{brought, copied, environment_call, load_from, loading, object_offset, operation}
+use Rattle.sc_select.specs.Prelude.{return, store_to, word_of_constant}
 use Rattle.sc_select.specs.Prelude.{frame_taken, moved_by}
 use Rattle.sc_select.proofs.Common.{length-append, length-map}
 use Rattle.sc_word.specs.Prelude.{sub_word}
@@ -33,8 +37,10 @@ first_of (line ∷ lines) = Some line.instr
 abbrev completes : Option Target → Instr → Option Instr → Bool
 completes None instr next = true
 completes (Some (Function number)) instr next = is_jal (Some instr)
-completes (Some (Entry comp index)) instr next = is_address (Some instr) next
-completes (Some (Global number)) instr next = is_address (Some instr) next
+completes (Some (Entry comp index)) instr None = false
+completes (Some (Entry comp index)) instr (Some next) = is_address (Some instr) (Some next)
+completes (Some (Global number)) instr None = false
+completes (Some (Global number)) instr (Some next) = is_address (Some instr) (Some next)
 
 abbrev all_complete : List Line → Bool
 all_complete [] = true
@@ -51,8 +57,8 @@ completes_before : (target : Option Target) (instr : Instr) (lines more : List L
 completes_before target instr (line ∷ lines) more h = h
 completes_before None instr [] more h = refl
 completes_before (Some (Function number)) instr [] more h = h
-completes_before (Some (Entry comp index)) instr [] more h = absurd (no_address instr h)
-completes_before (Some (Global number)) instr [] more h = absurd (no_address instr h)
+completes_before (Some (Entry comp index)) instr [] more h = absurd (cc)
+completes_before (Some (Global number)) instr [] more h = absurd (cc)
 
 joined : (xs ys : List Line) → all_complete xs ≡ true → all_complete ys ≡ true → all_complete (xs ++ ys) ≡ true
 joined [] ys h k = k
@@ -114,6 +120,9 @@ module _ (frame : FrameTree) (places : List Place) where
       (linked (Entry comp index) (Upper Lui 5 0) ∷ plainly (Jalr 1 5 (pos 0) ∷ receive frame places dest))
       (plain_complete (pass frame places 10 args)) (plain_complete (receive frame places dest))
 
+  straightly_complete : (instrs : List Instr) → IsComplete (straightly frame places instrs)
+  straightly_complete instrs = record { complete = λ b c. plain_complete instrs }
+
   abbrev Complete : TacStmt → Type 0
   Complete stmt = IsComplete (select frame places stmt)
 
@@ -124,13 +133,19 @@ module _ (frame : FrameTree) (places : List Place) where
 
   layer_complete : (layer : TacStmt-F TacStmt) → Inside Complete layer →
       IsComplete (select_step frame places (map-TacStmt _ _ (select frame places) layer))
-  layer_complete (tac.Const dest value) h = record { complete = λ b c. plain_complete _ }
-  layer_complete (tac.Copy dest from) h = record { complete = λ b c. plain_complete _ }
-  layer_complete (tac.Op dest op left right) h = record { complete = λ b c. plain_complete _ }
-  layer_complete (tac.ObjectPlace dest object) h = record { complete = λ b c. plain_complete _ }
+  layer_complete (tac.Const dest value) h =
+      straightly_complete (loading (result_register frame places dest) (word_of_constant value) ++ keep frame places dest)
+  layer_complete (tac.Copy dest from) h =
+      straightly_complete (copied frame (slice_get places dest) (slice_get places from))
+  layer_complete (tac.Op dest op left right) h =
+      straightly_complete (operation frame places dest op left right)
+  layer_complete (tac.ObjectPlace dest object) h =
+      straightly_complete (moved_by (result_register frame places dest) 2 (object_offset frame object) ++ keep frame places dest)
   layer_complete (tac.GlobalPlace dest global) h = record { complete = λ b c. global_complete dest global }
-  layer_complete (tac.Load dest place pointer) h = record { complete = λ b c. plain_complete _ }
-  layer_complete (tac.Store place value) h = record { complete = λ b c. plain_complete _ }
+  layer_complete (tac.Load dest place pointer) h =
+      straightly_complete (load_from frame places dest place)
+  layer_complete (tac.Store place value) h =
+      straightly_complete (store_to frame places place value)
   layer_complete (tac.If cond first second) h =
       fork_complete cond _ _ (row_complete first h.0) (row_complete second h.1)
   layer_complete (tac.Loop head body next) h =
@@ -140,9 +155,12 @@ module _ (frame : FrameTree) (places : List Place) where
   layer_complete (tac.CallOwn dest function args) h = record { complete = λ b c. own_complete dest function args }
   layer_complete (tac.CallCross dest comp index args) h =
       record { complete = λ b c. cross_complete dest comp index args }
-  layer_complete (tac.Input dest) h = record { complete = λ b c. plain_complete _ }
-  layer_complete (tac.Output value) h = record { complete = λ b c. plain_complete _ }
-  layer_complete (tac.Return value) h = record { complete = λ b c. plain_complete _ }
+  layer_complete (tac.Input dest) h =
+      straightly_complete (environment_call 1 ++ receive frame places dest)
+  layer_complete (tac.Output value) h =
+      straightly_complete (brought frame 10 (slice_get places value) ++ environment_call 2)
+  layer_complete (tac.Return value) h =
+      straightly_complete (return frame places value)
 
   stmt_complete : (stmt : TacStmt) → IsComplete (select frame places stmt)
   stmt_complete = stmt_induction Complete (λ layer h.
@@ -151,11 +169,10 @@ module _ (frame : FrameTree) (places : List Place) where
   function_complete : (f : TacFnTree) → all_complete (function_lines frame places f) ≡ true
   function_complete f =
       let middle : List Line = (select_all frame places f.body).lines 0 0 in
-      joined (plainly (entrance frame places f.params)) (middle ++ plainly (closing frame places f.entry))
-      (plain_complete (entrance frame places f.params))
-      (joined middle (plainly (closing frame places f.entry))
-      ((row_complete f.body (each_holds Complete stmt_complete f.body)).complete 0 0)
-      (plain_complete (closing frame places f.entry)))
+      joined (plainly (entrance frame places f.params) ++ middle) (plainly (closing frame places f.entry))
+      (joined (plainly (entrance frame places f.params)) middle (plain_complete (entrance frame places f.params))
+      ((row_complete f.body (each_holds Complete stmt_complete f.body)).complete 0 0))
+      (plain_complete (closing frame places f.entry))
 
 -- RELOCATIONS
 abbrev instrs_of : List Line → List Instr
@@ -178,75 +195,86 @@ linkable_here : (instrs : List Instr) (at : ℕ) (target : Target) (instr : Inst
     slice_get instrs at ≡ Some instr → slice_get instrs (suc at) ≡ next → completes (Some target) instr next ≡ true →
     is_linkable instrs at target ≡ true
 linkable_here instrs at (Function number) instr next h k is = ap is_jal h ∙ is
-linkable_here instrs at (Entry comp index) instr next h k is =
+linkable_here instrs at (Entry comp index) instr None h k is = absurd (cc)
+linkable_here instrs at (Entry comp index) instr (Some next) h k is =
     ap (λ i. is_address i (slice_get instrs (suc at))) h ∙ ap (λ n. is_address (Some instr) n) k ∙ is
-linkable_here instrs at (Global number) instr next h k is =
+linkable_here instrs at (Global number) instr None h k is = absurd (cc)
+linkable_here instrs at (Global number) instr (Some next) h k is =
     ap (λ i. is_address i (slice_get instrs (suc at))) h ∙ ap (λ n. is_address (Some instr) n) k ∙ is
 
 abbrev Linkable : List Instr → Relocation → Type 0
 Linkable instrs r = IsTrue (is_linkable instrs r.at r.target)
 
+one_linkable : (instrs : List Instr) (at : ℕ) (line : Line) (target : Option Target) (next : Option Instr)
+    (rest : List Relocation) → slice_get instrs at ≡ Some line.instr → slice_get instrs (suc at) ≡ next →
+    completes target line.instr next ≡ true → All (Linkable instrs) rest →
+    All (Linkable instrs) (relocation_of at target ++ rest)
+one_linkable instrs at line None next rest h k is behind = behind
+one_linkable instrs at line (Some target) next rest h k is behind =
+    All-cons (Linkable instrs) (record { at = at; target = target }) rest
+    (linkable_here instrs at target line.instr next h k is) behind
+
 linkable_from : (instrs : List Instr) (at : ℕ) (lines : List Line) → StandAt instrs at lines →
     all_complete lines ≡ true → All (Linkable instrs) (relocations_from at lines)
 linkable_from instrs at [] h is = All-nil (Linkable instrs)
 linkable_from instrs at (line ∷ lines) h is =
-    with_target line.target refl
-  where
-    rest : All (Linkable instrs) (relocations_from (suc at) lines)
-    rest = linkable_from instrs (suc at) lines (rest_stands instrs at line lines h)
-        (and_rest (completes line.target line.instr (first_of lines)) (all_complete lines) is)
+    let here : at ≡ at + 0 = omega arith in
+    let next : suc at ≡ at + 1 = omega arith in
+    one_linkable instrs at line line.target (first_of lines) (relocations_from (suc at) lines)
+    (ap (λ n. slice_get instrs n) here ∙ h 0) (ap (λ n. slice_get instrs n) next ∙ h 1 ∙ first_stands lines)
+    (and_first (completes line.target line.instr (first_of lines)) (all_complete lines) is)
+    (linkable_from instrs (suc at) lines (rest_stands instrs at line lines h)
+    (and_rest (completes line.target line.instr (first_of lines)) (all_complete lines) is))
 
-    here : slice_get instrs at ≡ Some line.instr
-    here = let k : at ≡ at + 0 = omega arith in ap (λ n. slice_get instrs n) k ∙ h 0
+abbrev NotBefore : ℕ → Relocation → Type 0
+NotBefore at r = at ≤ r.at
 
-    next : slice_get instrs (suc at) ≡ first_of lines
-    next = let k : suc at ≡ at + 1 = omega arith in ap (λ n. slice_get instrs n) k ∙ h 1 ∙ first_stands lines
+one_not_before : (at : ℕ) (target : Option Target) (rest : List Relocation) → All (NotBefore (suc at)) rest →
+    All (NotBefore at) (relocation_of at target ++ rest)
+one_not_before at None rest h = All-weaker (NotBefore (suc at)) (NotBefore at) (λ r k. omega (arith, k)) rest h
+one_not_before at (Some target) rest h =
+    All-cons (NotBefore at) (record { at = at; target = target }) rest (omega arith)
+    (All-weaker (NotBefore (suc at)) (NotBefore at) (λ r k. omega (arith, k)) rest h)
 
-    with_target : (target : Option Target) → target ≡ line.target →
-        All (Linkable instrs) (relocation_of at target ++ relocations_from (suc at) lines)
-    with_target None same = rest
-    with_target (Some target) same =
-        All-cons (Linkable instrs) (record { at = at; target = target }) (relocations_from (suc at) lines)
-        (linkable_here instrs at target line.instr (first_of lines) here next
-        (ap (λ t. completes t line.instr (first_of lines)) same ∙
-        and_first (completes line.target line.instr (first_of lines)) (all_complete lines) is))
-        rest
+not_before : (at : ℕ) (lines : List Line) → All (NotBefore at) (relocations_from at lines)
+not_before at [] = All-nil (NotBefore at)
+not_before at (line ∷ lines) =
+    one_not_before at line.target (relocations_from (suc at) lines) (not_before (suc at) lines)
 
-not_before : (at : ℕ) (lines : List Line) → All (λ (r : Relocation). at ≤ r.at) (relocations_from at lines)
-not_before at [] = All-nil (λ (r : Relocation). at ≤ r.at)
-not_before at (line ∷ lines) = with_target line.target
-  where
-    rest : All (λ (r : Relocation). at ≤ r.at) (relocations_from (suc at) lines)
-    rest = All-weaker (λ (r : Relocation). suc at ≤ r.at) (λ (r : Relocation). at ≤ r.at)
-        (λ r h. omega (arith, h)) (relocations_from (suc at) lines) (not_before (suc at) lines)
+abbrev Before : Relocation → Relocation → Type 0
+Before a b = a.at < b.at
 
-    with_target : (target : Option Target) →
-        All (λ (r : Relocation). at ≤ r.at) (relocation_of at target ++ relocations_from (suc at) lines)
-    with_target None = rest
-    with_target (Some target) =
-        All-cons (λ (r : Relocation). at ≤ r.at) (record { at = at; target = target })
-        (relocations_from (suc at) lines) (omega arith) rest
+one_rising : (at : ℕ) (target : Option Target) (rest : List Relocation) → All (NotBefore (suc at)) rest →
+    AllPairs Before rest → AllPairs Before (relocation_of at target ++ rest)
+one_rising at None rest h k = k
+one_rising at (Some target) rest h k =
+    AllPairs-cons Before (record { at = at; target = target }) rest
+    (All-weaker (NotBefore (suc at)) (Before (record { at = at; target = target })) (λ r e. omega (arith, e)) rest h) k
 
-rising : (at : ℕ) (lines : List Line) → AllPairs {X = Relocation} (λ a b. a.at < b.at) (relocations_from at lines)
+rising : (at : ℕ) (lines : List Line) → AllPairs Before (relocations_from at lines)
 rising at [] = λ i j d below within. absurd (omega (arith, within))
-rising at (line ∷ lines) = with_target line.target
-  where
-    with_target : (target : Option Target) →
-        AllPairs {X = Relocation} (λ a b. a.at < b.at) (relocation_of at target ++ relocations_from (suc at) lines)
-    with_target None = rising (suc at) lines
-    with_target (Some target) =
-        AllPairs-cons (λ (a b : Relocation). a.at < b.at) (record { at = at; target = target })
-        (relocations_from (suc at) lines) (not_before (suc at) lines) (rising (suc at) lines)
+rising at (line ∷ lines) =
+    one_rising at line.target (relocations_from (suc at) lines) (not_before (suc at) lines) (rising (suc at) lines)
 
 some_lines : (frame : FrameTree) (places : List Place) (f : TacFnTree) →
     0 < length (instrs_of (function_lines frame places f))
 some_lines frame places f =
-    let rest : List Line = (select_all frame places f.body).lines 0 0 ++ plainly (closing frame places f.entry) in
+    let middle : List Line = (select_all frame places f.body).lines 0 0 in
+    let last : List Line = plainly (closing frame places f.entry) in
     let taken : List Instr = moved_by 2 2 (sub_word 0 frame.bytes) in
+    let parts : length (function_lines frame places f) ≡
+    length (plainly (entrance frame places f.params) ++ middle ++ last) = refl in
+    let entering : length (entrance frame places f.params) ≡
+    length (frame_taken frame.bytes ++ store_arguments frame places f.params 0) = refl in
+    let taking : length (frame_taken frame.bytes) ≡ length (taken ++ Store Sw 2 1 (pos 0) ∷ []) = refl in
     omega (
       arith,
+      parts,
+      entering,
+      taking,
       length-map (function_lines frame places f) (λ (line : Line). line.instr),
-      length-append (plainly (entrance frame places f.params)) rest,
+      length-append (plainly (entrance frame places f.params) ++ middle) last,
+      length-append (plainly (entrance frame places f.params)) middle,
       length-map (entrance frame places f.params) plain,
       length-append (frame_taken frame.bytes) (store_arguments frame places f.params 0),
       length-append taken (Store Sw 2 1 (pos 0) ∷ []),
@@ -259,5 +287,14 @@ function_code frame places f =
     record {
       some = some_lines frame places f;
       in_order = rising 0 lines;
-      linkable = linkable_from (instrs_of lines) 0 lines (λ i. refl) (function_complete frame places f);
+      linkable = linkable_from (instrs_of lines) 0 lines
+          (λ i. let e : 0 + i ≡ i = omega arith in ap (λ n. slice_get (instrs_of lines) n) e)
+          (function_complete frame places f);
     }
+
+-- all that was written before nothing is a function's code
+pub whole_function : (frame : FrameTree) (places : List Place) (f tree : TacFnTree) (lines old : List Line) → tree ≡ f →
+    lines ≡ function_lines frame places tree ++ old → old ≡ [] → lines ≡ function_lines frame places f
+whole_function frame places f tree lines old same h none =
+    h ∙ ap (λ o. function_lines frame places tree ++ o) none ∙ append-nil (function_lines frame places tree) ∙
+    ap (λ t. function_lines frame places t) same

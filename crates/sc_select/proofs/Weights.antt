@@ -4,7 +4,7 @@ use Rattle.sc_select.proofs.Common.{arith, choice, fold-TacStmt, fold-roll-TacSt
 use Rattle.sc_select.proofs.Common.{length-map, map, map-TacStmt, pass, plain, plainly, refl, roll-TacStmt, select}
 use Rattle.sc_select.proofs.Common.{select_all, select_step, subst, suc, sym, true, ℕ, ◌&&◌, ◌++◌, ◌+◌, ◌∙◌, ◌∷◌, ◌≡◌}
 use Rattle.sc_select.proofs.Common.{pos, zero, ◌≤◌}
-use Rattle.std.specs.Prelude.{None, Some, false, if◌then◌else◌, is_some, slice_get, ◌*◌, ◌<◌}
+use Rattle.std.specs.Prelude.{None, Some, false, if◌then◌else◌, is_some, slice_get, ◌*◌, ◌<◌, ◌^◌}
 use Rattle.std.specs.Bool.{beq}
 use Rattle.rv_code.specs.declared.instr.BranchOp.TheVariants.{Bne}
 use Rattle.sc_core.specs.Prelude.{total}
@@ -14,10 +14,11 @@ use Rattle.sc_select.specs.Prelude.{brought, call_cross, call_own, far_from_sp, 
 use Rattle.sc_select.specs.Prelude.{load_from, load_word, loading, moved_by, object_offset, operation, place_of_global, put}
 use Rattle.sc_select.specs.Prelude.{receive, return, second_operand, store_to, store_word, take, take_second, linked}
 use Rattle.sc_select.specs.Prelude.{copied, operand, result_register, is_unsigned, environment_call, at_hand, register_of}
-use Rattle.sc_select.specs.Prelude.{slot_offset}
+use Rattle.sc_select.specs.Prelude.{slot_offset, word_of_constant}
+use Rattle.sc_select.specs.Bounds.{Fits}
 use Rattle.sc_select.specs.Pieces.{is_short}
 use Rattle.sc_select.specs.Operators.{binary_code, bytes_of, op_code, pointer_difference, pointer_move, stepped, unary_code}
-use Rattle.sc_select.specs.Selection.{closing, entrance, function_lines, kept, store_arguments, taken}
+use Rattle.sc_select.specs.Selection.{closing, code_of, entrance, function_lines, kept, store_arguments, taken}
 use Rattle.sc_base.proofs.Bools.{and_first, and_rest}
 use Rattle.sc_base.specs.declared.op.BinaryOp.{BinaryOp}
 use Rattle.sc_base.specs.declared.op.BinaryOp.TheVariants as op
@@ -65,31 +66,31 @@ take_frame bytes =
 leave_frame : (bytes : ℕ) → length (frame_left bytes) ≤ 5
 leave_frame bytes = omega (arith, length-append (moved_by 2 2 bytes) (Jalr 0 1 (pos 0) ∷ []), move_by 2 2 bytes)
 
-unary : (rd rs : ℕ) (o : UnaryOp) → length (unary_code rd rs o) ≡ 1
-unary rd rs unary.Minus = refl
-unary rd rs unary.Plus = refl
-unary rd rs unary.Not = refl
-unary rd rs unary.BitNot = refl
+unary_one : (rd rs : ℕ) (o : UnaryOp) → length (unary_code rd rs o) ≡ 1
+unary_one rd rs unary.Minus = refl
+unary_one rd rs unary.Plus = refl
+unary_one rd rs unary.Not = refl
+unary_one rd rs unary.BitNot = refl
 
-binary : (rd left right : ℕ) (unsigned : Bool) (o : BinaryOp) → length (binary_code rd left right unsigned o) ≤ 3
-binary rd left right unsigned op.OrElse = omega arith
-binary rd left right unsigned op.AndAlso = omega arith
-binary rd left right unsigned op.BitOr = omega arith
-binary rd left right unsigned op.BitXor = omega arith
-binary rd left right unsigned op.BitAnd = omega arith
-binary rd left right unsigned op.Equal = omega arith
-binary rd left right unsigned op.NotEqual = omega arith
-binary rd left right unsigned op.Less = omega arith
-binary rd left right unsigned op.Greater = omega arith
-binary rd left right unsigned op.LessEqual = omega arith
-binary rd left right unsigned op.GreaterEqual = omega arith
-binary rd left right unsigned op.ShiftLeft = omega arith
-binary rd left right unsigned op.ShiftRight = omega arith
-binary rd left right unsigned op.Add = omega arith
-binary rd left right unsigned op.Sub = omega arith
-binary rd left right unsigned op.Mul = omega arith
-binary rd left right unsigned op.Div = omega arith
-binary rd left right unsigned op.Rem = omega arith
+binary_few : (rd left right : ℕ) (unsigned : Bool) (o : BinaryOp) → length (binary_code rd left right unsigned o) ≤ 3
+binary_few rd left right unsigned op.OrElse = omega arith
+binary_few rd left right unsigned op.AndAlso = omega arith
+binary_few rd left right unsigned op.BitOr = omega arith
+binary_few rd left right unsigned op.BitXor = omega arith
+binary_few rd left right unsigned op.BitAnd = omega arith
+binary_few rd left right unsigned op.Equal = omega arith
+binary_few rd left right unsigned op.NotEqual = omega arith
+binary_few rd left right unsigned op.Less = omega arith
+binary_few rd left right unsigned op.Greater = omega arith
+binary_few rd left right unsigned op.LessEqual = omega arith
+binary_few rd left right unsigned op.GreaterEqual = omega arith
+binary_few rd left right unsigned op.ShiftLeft = omega arith
+binary_few rd left right unsigned op.ShiftRight = omega arith
+binary_few rd left right unsigned op.Add = omega arith
+binary_few rd left right unsigned op.Sub = omega arith
+binary_few rd left right unsigned op.Mul = omega arith
+binary_few rd left right unsigned op.Div = omega arith
+binary_few rd left right unsigned op.Rem = omega arith
 
 move_pointer : (rd left right : ℕ) (minus : Bool) (cells : ℕ) → length (pointer_move rd left right minus cells) ≤ 4
 move_pointer rd left right minus cells =
@@ -109,17 +110,18 @@ differ rd left right cells =
 
 -- what operators with one operand and with two weigh, apart from the operand read and the result written
 abbrev Light : Bool → TacOp → ℕ → Type 0
-Light two o n = if two then n + 9 ≤ op_weight o else n + 6 ≤ op_weight o
+Light true o n = n + 9 ≤ op_weight o
+Light false o n = n + 6 ≤ op_weight o
 
 operator_light : (rd left right : ℕ) (o : TacOp) → Light (takes_two o) o (length (op_code rd left right o))
-operator_light rd left right (tacop.Unary o scalar) = omega (arith, unary rd left o)
-operator_light rd left right (tacop.Binary o scalar) = omega (arith, binary rd left right (is_unsigned scalar) o)
+operator_light rd left right (tacop.Unary o scalar) = omega (arith, unary_one rd left o)
+operator_light rd left right (tacop.Binary o scalar) = omega (arith, binary_few rd left right (is_unsigned scalar) o)
 operator_light rd left right tacop.PointerNot = omega arith
 operator_light rd left right (tacop.PointerMove minus cells index) =
     omega (arith, move_pointer rd left right minus cells)
 operator_light rd left right (tacop.PointerMember offset) = omega (arith, move_by rd left (bytes_of offset))
 operator_light rd left right (tacop.PointerDifference cells) = omega (arith, differ rd left right cells)
-operator_light rd left right (tacop.PointerCompare o) = omega (arith, binary rd left right true o)
+operator_light rd left right (tacop.PointerCompare o) = omega (arith, binary_few rd left right true o)
 
 module _ (frame : FrameTree) where
   taken_few : (scratch : ℕ) (place : Option Place) → length (taken frame scratch place) ≤ 3
@@ -175,13 +177,15 @@ module _ (frame : FrameTree) (places : List Place) where
       let rd : ℕ = result_register frame places dest in
       let code : List Instr = op_code rd (operand frame places 5 left) (second_operand frame places right) o in
       let last : List Instr = keep frame places dest in
+      let parts : length (operation frame places dest o left right) ≡ length (first ++ second ++ code ++ last) = refl in
       let whole : length (operation frame places dest o left right) ≡
       length first + (length second + (length code + length last)) =
       omega (
         arith,
-        length-append first (second ++ (code ++ last)),
-        length-append second (code ++ last),
-        length-append code last,
+        parts,
+        length-append (first ++ second ++ code) last,
+        length-append (first ++ second) code,
+        length-append first second,
       ) in
       with_operands (takes_two o) o (length first) (length second) (length code) (length last) _ whole
       (taken_few frame 5 (slice_get places left)) (second_few right (takes_two o) h)
@@ -229,10 +233,13 @@ module _ (frame : FrameTree) (places : List Place) where
   store_few place value =
       let last : List Instr =
       Store Sw (operand frame places 5 place) (operand frame places 6 value) (pos 0) ∷ [] in
+      let parts : length (store_to frame places place value) ≡
+      length (take frame places 5 place ++ take frame places 6 value ++ last) = refl in
       omega (
         arith,
-        length-append (take frame places 5 place) (take frame places 6 value ++ last),
-        length-append (take frame places 6 value) last,
+        parts,
+        length-append (take frame places 5 place ++ take frame places 6 value) last,
+        length-append (take frame places 5 place) (take frame places 6 value),
         taken_few frame 5 (slice_get places place),
         taken_few frame 6 (slice_get places value),
       )
@@ -331,11 +338,13 @@ module _ (frame : FrameTree) (places : List Place) where
       with_parts has_operands (map-TacStmt _ _ has layer) ≡ true →
       (select_step frame places (map-TacStmt _ _ (select frame places) layer)).size ≤
       weight_step (map-TacStmt _ _ stmt_weight layer)
-  layer_small (tac.Const dest value) h is = straightly_few _ 5 (constant_few _ _ dest)
+  layer_small (tac.Const dest value) h is =
+      straightly_few _ 5 (constant_few (result_register frame places dest) (word_of_constant value) dest)
   layer_small (tac.Copy dest from) h is = straightly_few _ 6 (copied_few frame _ _)
   layer_small (tac.Op dest o left right) h is =
       straightly_few _ (op_weight o) (operation_few dest o left right (and_first _ true is))
-  layer_small (tac.ObjectPlace dest object) h is = straightly_few _ 6 (object_few _ _ dest)
+  layer_small (tac.ObjectPlace dest object) h is =
+      straightly_few _ 6 (object_few (result_register frame places dest) (object_offset frame object) dest)
   layer_small (tac.GlobalPlace dest global) h is = global_few dest global
   layer_small (tac.Load dest place pointer) h is = straightly_few _ 7 (load_few dest place)
   layer_small (tac.Store place value) h is = straightly_few _ 7 (store_few place value)
@@ -361,7 +370,8 @@ module _ (frame : FrameTree) (places : List Place) where
   layer_small tac.Continue h is = omega arith
   layer_small (tac.CallOwn dest function args) h is = own_few dest function args
   layer_small (tac.CallCross dest comp index args) h is = cross_few dest comp index args
-  layer_small (tac.Input dest) h is = straightly_few _ 5 (input_few dest)
+  layer_small (tac.Input dest) h is =
+      straightly_few (environment_call 1 ++ receive frame places dest) 5 (input_few dest)
   layer_small (tac.Output value) h is = straightly_few _ 8 (output_few value)
   layer_small (tac.Return value) h is = straightly_few _ 8 (return_few value)
 
@@ -411,8 +421,8 @@ module _ (frame : FrameTree) (places : List Place) where
       let last : List Line = plainly (closing frame places f.entry) in
       omega (
         arith,
-        length-append first (middle ++ last),
-        length-append middle last,
+        length-append (first ++ middle) last,
+        length-append first middle,
         length-map (entrance frame places f.params) plain,
         length-map (closing frame places f.entry) plain,
         (row_is_sized frame places f.body).sized 0 0,
@@ -420,3 +430,22 @@ module _ (frame : FrameTree) (places : List Place) where
         row_is_small f.body h.operands,
         closing_few f.entry,
       )
+
+  -- the jumps of a function that is small enough reach
+  pub function_fits : (f : TacFnTree) → IsFunction f → 96 * f.nodes ≤ 1048576 → Fits frame places f.body 0 0
+  function_fits f h reached = record {
+    few_arguments = h.few_arguments;
+    breaks = omega (arith, row_is_small f.body h.operands, h.light, reached);
+    continues = omega (arith, row_is_small f.body h.operands, h.light, reached);
+  }
+
+  pub function_short : (f : TacFnTree) → IsFunction f → 96 * f.nodes ≤ 1048576 →
+      length (function_lines frame places f) < 2 ^ 32
+  function_short f h reached = omega (arith, function_small f h, h.light, reached)
+
+  pub function_light : (f : TacFnTree) → IsFunction f →
+      length (code_of f places frame).instrs ≤ entry_weight f.params + weight f.body
+  function_light f h =
+      let instrs : length (code_of f places frame).instrs ≡ length (function_lines frame places f) =
+      length-map (function_lines frame places f) (λ (line : Line). line.instr) in
+      omega (arith, instrs, function_small f h)

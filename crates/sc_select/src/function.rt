@@ -98,7 +98,7 @@ pub fn select(
     frame: &Frame,
 ) -> Result<Code, OutOfMemory>
     requires { 96 * f.now.nodes ≤ 1048576 }
-    ensures code { IfOk result (λ code. code ≡ code_of frame.now places.now f.now) }
+    ensures code { IfOk result (λ code. code ≡ code_of f.now places.now frame.now) }
     ensures light { IfOk result (λ code. length code.instrs ≤ entry_weight f.now.params + weight f.now.body) }
     ensures rules { IfOk result IsCode }
 {
