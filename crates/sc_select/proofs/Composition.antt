@@ -132,7 +132,7 @@ module _ (frame : FrameTree) (places : List Place) where
       let whole : (select frame places (emit.If cond first second)).size + 0 + c < 262143 = h.continues in
       omega (arith, whole, fork_size cond first second)
 
-  second_fits : (cond : ℕ) (first second : List TacStmt) (b c : ℕ) →
+  pub second_fits : (cond : ℕ) (first second : List TacStmt) (b c : ℕ) →
       Fits frame places (emit.If cond first second ∷ []) b c → Fits frame places second b c
   second_fits cond first second b c h = record {
     few_arguments = (few_in_fork cond first second h.few_arguments).1;
@@ -176,7 +176,7 @@ module _ (frame : FrameTree) (places : List Place) where
       e5 ∙ ap (λ p. p.lines b c ++ old) (sym (fork_is cond first second))
 
   -- a statement of a known kind
-  as_is : (stmt other : TacStmt) (b c : ℕ) → stmt ≡ other → Fits frame places (stmt ∷ []) b c →
+  pub as_is : (stmt other : TacStmt) (b c : ℕ) → stmt ≡ other → Fits frame places (stmt ∷ []) b c →
       Fits frame places (other ∷ []) b c
   as_is stmt other b c is h = subst (λ s. Fits frame places (s ∷ []) b c) is h
 
@@ -186,50 +186,44 @@ module _ (frame : FrameTree) (places : List Place) where
       let whole : n ≡ size stmts + m = counted stmts b c new old n m hn hm h in
       omega (arith, whole)
 
-  pub second_reaches : (stmt : TacStmt) (cond : ℕ) (first second : List TacStmt) (b c : ℕ) →
-      stmt ≡ emit.If cond first second → Fits frame places (stmt ∷ []) b c → Fits frame places second b c
-  second_reaches stmt cond first second b c is fits =
-      second_fits cond first second b c (as_is stmt (emit.If cond first second) b c is fits)
-
-  pub over_second : (stmt : TacStmt) (cond : ℕ) (first second : List TacStmt) (b c n m : ℕ) (l1 old : List Line) →
-      stmt ≡ emit.If cond first second → Fits frame places (stmt ∷ []) b c → n ≡ length l1 → m ≡ length old →
+  pub over_second : (cond : ℕ) (first second : List TacStmt) (b c n m : ℕ) (l1 old : List Line) →
+      Fits frame places (emit.If cond first second ∷ []) b c → n ≡ length l1 → m ≡ length old →
       l1 ≡ (select_all frame places second).lines b c ++ old → n - m < 262143
-  over_second stmt cond first second b c n m l1 old is fits hn hm h =
+  over_second cond first second b c n m l1 old fits hn hm h =
       let size_is : n - m ≡ size second = written second b c n m l1 old hn hm h in
-      omega (arith, size_is, fork_breaks cond first second b c (as_is stmt (emit.If cond first second) b c is fits))
+      omega (arith, size_is, fork_breaks cond first second b c fits)
 
-  pub first_reaches : (stmt : TacStmt) (cond : ℕ) (first second : List TacStmt) (b c n m : ℕ) (l1 old : List Line) →
-      stmt ≡ emit.If cond first second → Fits frame places (stmt ∷ []) b c → n ≡ length l1 → m ≡ length old →
+  pub first_reaches : (cond : ℕ) (first second : List TacStmt) (b c n m : ℕ) (l1 old : List Line) →
+      Fits frame places (emit.If cond first second ∷ []) b c → n ≡ length l1 → m ≡ length old →
       l1 ≡ (select_all frame places second).lines b c ++ old →
       Fits frame places first (n - m + b + 1) (n - m + c + 1)
-  first_reaches stmt cond first second b c n m l1 old is fits hn hm h =
+  first_reaches cond first second b c n m l1 old fits hn hm h =
       first_fits cond first second b c (n - m) (written second b c n m l1 old hn hm h)
-      (as_is stmt (emit.If cond first second) b c is fits)
+      fits
 
-  pub over_first : (stmt : TacStmt) (cond : ℕ) (first second : List TacStmt) (b c d e n m : ℕ) (l3 l2 : List Line) →
-      stmt ≡ emit.If cond first second → Fits frame places (stmt ∷ []) b c → n ≡ length l3 → m ≡ length l2 →
+  pub over_first : (cond : ℕ) (first second : List TacStmt) (b c d e n m : ℕ) (l3 l2 : List Line) →
+      Fits frame places (emit.If cond first second ∷ []) b c → n ≡ length l3 → m ≡ length l2 →
       l3 ≡ (select_all frame places first).lines d e ++ l2 → n - m + 1 < 262143
-  over_first stmt cond first second b c d e n m l3 l2 is fits hn hm h =
+  over_first cond first second b c d e n m l3 l2 fits hn hm h =
       let size_is : n - m ≡ size first = written first d e n m l3 l2 hn hm h in
-      omega (arith, size_is, fork_breaks cond first second b c (as_is stmt (emit.If cond first second) b c is fits))
+      omega (arith, size_is, fork_breaks cond first second b c fits)
 
-  pub fork_returns : {T E : Type 0} (r : Result T E) (stmt : TacStmt) (cond : ℕ) (first second : List TacStmt)
+  pub fork_returns : {T E : Type 0} (r : Result T E) (cond : ℕ) (first second : List TacStmt)
       (b c n m n' m' : ℕ) (over_second over_first : Instr) (old l1 l2 l3 l4 new : List Line) →
-      stmt ≡ emit.If cond first second → n ≡ length l1 → m ≡ length old → n' ≡ length l3 → m' ≡ length l2 →
+      n ≡ length l1 → m ≡ length old → n' ≡ length l3 → m' ≡ length l2 →
       l1 ≡ (select_all frame places second).lines b c ++ old → l2 ≡ plain over_second ∷ l1 →
       plain over_second ≡ jump_over (n - m) →
       l3 ≡ (select_all frame places first).lines (n - m + b + 1) (n - m + c + 1) ++ l2 →
       l4 ≡ plain over_first ∷ l3 → plain over_first ≡ jump_over (n' - m' + 1) →
       OnOk r (new ≡ plainly (choice frame places cond) ++ l4) →
-      OnOk r (new ≡ (select frame places stmt).lines b c ++ old)
-  fork_returns r stmt cond first second b c n m n' m' over_second over_first old l1 l2 l3 l4 new is n_is m_is n'_is m'_is h1 h2
+      OnOk r (new ≡ (select frame places (emit.If cond first second)).lines b c ++ old)
+  fork_returns r cond first second b c n m n' m' over_second over_first old l1 l2 l3 l4 new n_is m_is n'_is m'_is h1 h2
       j2 h3 h4 j4 h5 =
       on_ok_weaker r (λ h.
           fork_written cond first second b c (n - m) (n' - m') old l1 l2 l3 l4 new
           (written second b c n m l1 old n_is m_is h1)
           (written first (n - m + b + 1) (n - m + c + 1) n' m' l3 l2 n'_is m'_is h3) h1
-          (h2 ∙ ap (λ l. l ∷ l1) j2) h3 (h4 ∙ ap (λ l. l ∷ l3) j4) h ∙
-          ap (λ s. (select frame places s).lines b c ++ old) (sym is)) h5
+          (h2 ∙ ap (λ l. l ∷ l1) j2) h3 (h4 ∙ ap (λ l. l ∷ l3) j4) h) h5
 
   -- A LOOP
   cycle_is : (head body next : List TacStmt) → select frame places (emit.Loop head body next) ≡ cycle frame places
@@ -308,57 +302,55 @@ module _ (frame : FrameTree) (places : List Place) where
       omega (arith, start, after, between, before, whole, end_is)
 
   -- what writing the parts needs: that some lines lie between, and that jumps reach over them
-  pub next_reaches : (stmt : TacStmt) (head body next : List TacStmt) (b c : ℕ) (first : Instr) (old l1 : List Line) (end : ℕ) →
-      stmt ≡ emit.Loop head body next → Fits frame places (stmt ∷ []) b c → l1 ≡ plain first ∷ old → end ≡ length old →
+  pub next_reaches : (head body next : List TacStmt) (b c : ℕ) (first : Instr) (old l1 : List Line) (end : ℕ) →
+      Fits frame places (emit.Loop head body next ∷ []) b c → l1 ≡ plain first ∷ old → end ≡ length old →
       (end ≤ length l1) × Fits frame places next (length l1 - end) 0
-  next_reaches stmt head body next b c first old l1 end is fits h1 end_is =
+  next_reaches head body next b c first old l1 end fits h1 end_is =
       let distance : length l1 - end ≡ 1 = next_distance first old l1 end h1 end_is in
       (omega (arith, distance), next_fits head body next b c (length l1 - end) distance
-      (as_is stmt (emit.Loop head body next) b c is fits))
+      fits)
 
-  pub body_reaches : (stmt : TacStmt) (head body next : List TacStmt) (b c : ℕ) (first : Instr) (old l1 l2 : List Line) (end d : ℕ) →
-      stmt ≡ emit.Loop head body next → Fits frame places (stmt ∷ []) b c → l1 ≡ plain first ∷ old →
+  pub body_reaches : (head body next : List TacStmt) (b c : ℕ) (first : Instr) (old l1 l2 : List Line) (end d : ℕ) →
+      Fits frame places (emit.Loop head body next ∷ []) b c → l1 ≡ plain first ∷ old →
       l2 ≡ (select_all frame places next).lines d 0 ++ l1 → end ≡ length old →
       (end ≤ length l2) × Fits frame places body (length l2 - end) 0
-  body_reaches stmt head body next b c first old l1 l2 end d is fits h1 h2 end_is =
+  body_reaches head body next b c first old l1 l2 end d fits h1 h2 end_is =
       let distance : length l2 - end ≡ suc (size next) = body_distance next first old l1 l2 end d h1 h2 end_is in
       (omega (arith, distance), body_fits head body next b c (length l2 - end) distance
-      (as_is stmt (emit.Loop head body next) b c is fits))
+      fits)
 
-  pub head_reaches : (stmt : TacStmt) (head body next : List TacStmt) (b c : ℕ) (first : Instr) (old l1 l2 l3 : List Line)
-      (end d e : ℕ) → stmt ≡ emit.Loop head body next → Fits frame places (stmt ∷ []) b c → l1 ≡ plain first ∷ old →
+  pub head_reaches : (head body next : List TacStmt) (b c : ℕ) (first : Instr) (old l1 l2 l3 : List Line)
+      (end d e : ℕ) → Fits frame places (emit.Loop head body next ∷ []) b c → l1 ≡ plain first ∷ old →
       l2 ≡ (select_all frame places next).lines d 0 ++ l1 → l3 ≡ (select_all frame places body).lines e 0 ++ l2 →
       end ≡ length old → (end ≤ length l3) × Fits frame places head (length l3 - end) 0
-  head_reaches stmt head body next b c first old l1 l2 l3 end d e is fits h1 h2 h3 end_is =
+  head_reaches head body next b c first old l1 l2 l3 end d e fits h1 h2 h3 end_is =
       let distance : length l3 - end ≡ size body + suc (size next) =
       head_distance body next first old l1 l2 l3 end d e h1 h2 h3 end_is in
       (omega (arith, distance), head_fits head body next b c (length l3 - end) distance
-      (as_is stmt (emit.Loop head body next) b c is fits))
+      fits)
 
-  pub back_reaches : (stmt : TacStmt) (head body next : List TacStmt) (b c : ℕ) (first begin : Instr)
-      (old l1 l2 l3 l4 l5 : List Line) (n end d e g : ℕ) → stmt ≡ emit.Loop head body next →
-      Fits frame places (stmt ∷ []) b c → l1 ≡ plain first ∷ old →
+  pub back_reaches : (head body next : List TacStmt) (b c : ℕ) (first begin : Instr)
+      (old l1 l2 l3 l4 l5 : List Line) (n end d e g : ℕ) → Fits frame places (emit.Loop head body next ∷ []) b c → l1 ≡ plain first ∷ old →
       l2 ≡ (select_all frame places next).lines d 0 ++ l1 → l3 ≡ (select_all frame places body).lines e 0 ++ l2 →
       l4 ≡ (select_all frame places head).lines g 0 ++ l3 → l5 ≡ plain begin ∷ l4 → n ≡ length l5 → end ≡ length old →
       n - end - 1 < 262143
-  back_reaches stmt head body next b c first begin old l1 l2 l3 l4 l5 n end d e g is fits h1 h2 h3 h4 h5 n_is end_is =
+  back_reaches head body next b c first begin old l1 l2 l3 l4 l5 n end d e g fits h1 h2 h3 h4 h5 n_is end_is =
       let whole : length l5 ≡ end + (2 + (size head + (size body + size next))) =
       whole_distance head body next first begin old l1 l2 l3 l4 l5 end d e g h1 h2 h3 h4 h5 end_is in
       let reaches : 2 + (size head + (size body + size next)) < 262143 =
-      cycle_reaches head body next b c (as_is stmt (emit.Loop head body next) b c is fits) in
+      cycle_reaches head body next b c fits in
       omega (arith, whole, n_is, reaches)
 
-  pub cycle_written : (stmt : TacStmt) (head body next : List TacStmt) (b c n end : ℕ)
-      (first begin jump : Instr) (old l1 l2 l3 l4 l5 new : List Line) → stmt ≡ emit.Loop head body next →
-      n ≡ length l5 → end ≡ length old → plain begin ≡ round_begins →
+  pub cycle_written : (head body next : List TacStmt) (b c n end : ℕ)
+      (first begin jump : Instr) (old l1 l2 l3 l4 l5 new : List Line) → n ≡ length l5 → end ≡ length old → plain begin ≡ round_begins →
       l1 ≡ plain first ∷ old → l2 ≡ (select_all frame places next).lines (length l1 - end) 0 ++ l1 →
       l3 ≡ (select_all frame places body).lines (length l2 - end) 0 ++ l2 →
       l4 ≡ (select_all frame places head).lines (length l3 - end) 0 ++ l3 → l5 ≡ plain begin ∷ l4 →
       plain jump ≡ jump_back (n - end - 1) →
       ((front rest : List Line) (line : Line) → l5 ≡ front ++ line ∷ rest → length rest ≡ end →
       new ≡ front ++ record line { instr = jump } ∷ rest) →
-      new ≡ (select frame places stmt).lines b c ++ old
-  cycle_written stmt head body next b c n end first begin jump old l1 l2 l3 l4 l5 new is n_is end_is opens h1 h2 h3 h4 h5 back
+      new ≡ (select frame places (emit.Loop head body next)).lines b c ++ old
+  cycle_written head body next b c n end first begin jump old l1 l2 l3 l4 l5 new n_is end_is opens h1 h2 h3 h4 h5 back
       replaced =
       let xs : List Line = (select_all frame places head).lines (size body + suc (size next)) 0 in
       let ys : List Line = (select_all frame places body).lines (suc (size next)) 0 in
@@ -390,8 +382,19 @@ module _ (frame : FrameTree) (places : List Place) where
       ap (λ t. t ++ old) (three_parts xs ys zs (last ∷ [])) in
       put ∙ ap (λ l. (round_begins ∷ (xs ++ (ys ++ zs))) ++ (l ∷ old)) same ∙
       ap (λ t. round_begins ∷ t) joined ∙
-      ap (λ p. p.lines b c ++ old) (sym (cycle_is head body next)) ∙
-      ap (λ s. (select frame places s).lines b c ++ old) (sym is)
+      ap (λ p. p.lines b c ++ old) (sym (cycle_is head body next))
+
+  -- a loop needs as much wherever it stands
+  pub cycle_fits : (stmt : TacStmt) (head body next : List TacStmt) (b c : ℕ) → stmt ≡ emit.Loop head body next →
+      Fits frame places (stmt ∷ []) b c → Fits frame places (emit.Loop head body next ∷ []) 0 0
+  cycle_fits stmt head body next b c is h =
+      let fits : Fits frame places (emit.Loop head body next ∷ []) b c =
+      as_is stmt (emit.Loop head body next) b c is h in
+      record {
+        few_arguments = fits.few_arguments;
+        breaks = omega (arith, fits.breaks);
+        continues = omega (arith, fits.continues);
+      }
 
   -- STATEMENTS IN ORDER
   size_from : (stmts : List TacStmt) (i : ℕ) → size (drop i stmts) ≤ size stmts

@@ -4,7 +4,8 @@ ghost use Rattle.rv_code.specs.Prelude.{IsJumpOffset};
 ghost use Rattle.sc_select.specs.Prelude.{Jal, Line, OpImm, Addi, plain};
 ghost use Rattle.sc_select.specs.Bounds.{Fits};
 ghost use Rattle.sc_select.specs.Selection.{jump_back, jump_over, round_begins, select, select_all};
-ghost use Rattle.std.specs.Prelude.{◌≡◌, ◌≤◌, ◌<◌, ◌-◌, ◌++◌, ◌∷◌, [], OnOk, length};
+ghost use Rattle.sc_tac.specs.declared.stmt.TacStmt;
+ghost use Rattle.std.specs.Prelude.{◌≡◌, ◌≤◌, ◌<◌, ◌-◌, ◌++◌, ◌∷◌, [], ℕ, OnOk, length};
 
 use crate::backward::Backward;
 use crate::homes::Homes;
@@ -94,7 +95,62 @@ impl Backward {
         self.in_order(homes, distances, part)
     }
 
-    // A loop begins with a line in the place of the jump back, since how far that leads is known last.
+    // The first part where the value is true, else the second.
+    #[cycle(control)]
+    fn fork(
+        &mut self,
+        homes: &Homes,
+        distances: Distances,
+        cond: u32,
+        first: &TacStmts,
+        second: &TacStmts,
+    ) -> Result<(), OutOfMemory>
+        requires fits { Fits homes.now.frame.now homes.now.places.now (TacStmt.If cond first.now second.now ∷ [])
+            distances.to_break distances.to_continue }
+        ensures { OnOk result (self.new ≡ (select homes.now.frame.now homes.now.places.now
+            (TacStmt.If cond first.now second.now)).lines distances.to_break distances.to_continue ++ self.old) }
+    {
+        let end = self.len();
+        self.in_order(homes, distances, second)?;
+        let behind = self.len() - end;
+        self.plain(jump_over(behind))?;
+        let over_second = Distances {
+            to_break: behind + distances.to_break + 1,
+            to_continue: behind + distances.to_continue + 1,
+        };
+        let middle = self.len();
+        self.in_order(homes, over_second, first)?;
+        let before = self.len() - middle;
+        self.plain(jump_over(before + 1))?;
+        self.choice(homes, cond)
+    }
+
+    // A loop. A line stands in the place of the jump back until it is known how far that leads.
+    #[cycle(control)]
+    fn cycle(
+        &mut self,
+        homes: &Homes,
+        head: &TacStmts,
+        body: &TacStmts,
+        next: &TacStmts,
+    ) -> Result<(), OutOfMemory>
+        requires fits { Fits homes.now.frame.now homes.now.places.now (TacStmt.Loop head.now body.now next.now ∷ [])
+            0 0 }
+        ensures { (to_break to_continue : ℕ) → OnOk result (self.new ≡ (select homes.now.frame.now
+            homes.now.places.now (TacStmt.Loop head.now body.now next.now)).lines to_break to_continue ++ self.old) }
+    {
+        let end = self.len();
+        self.plain(round_begins())?;
+        self.part(homes, end, next)?;
+        self.part(homes, end, body)?;
+        self.part(homes, end, head)?;
+        self.plain(round_begins())?;
+        let lines = self.len() - end - 1;
+        self.replace(end, jump_back(lines));
+        Ok(())
+    }
+
+    // A statement.
     #[cycle(control)]
     fn statement(
         &mut self,
@@ -124,32 +180,8 @@ impl Backward {
                 cond,
                 then_part,
                 else_part,
-            } => {
-                let end = self.len();
-                self.in_order(homes, distances, else_part)?;
-                let second = self.len() - end;
-                self.plain(jump_over(second))?;
-                let over_second = Distances {
-                    to_break: second + distances.to_break + 1,
-                    to_continue: second + distances.to_continue + 1,
-                };
-                let end = self.len();
-                self.in_order(homes, over_second, then_part)?;
-                let first = self.len() - end;
-                self.plain(jump_over(first + 1))?;
-                self.choice(homes, *cond)
-            }
-            TacStmt::Loop { head, body, next } => {
-                let end = self.len();
-                self.plain(round_begins())?;
-                self.part(homes, end, next)?;
-                self.part(homes, end, body)?;
-                self.part(homes, end, head)?;
-                self.plain(round_begins())?;
-                let lines = self.len() - end - 1;
-                self.replace(end, jump_back(lines));
-                Ok(())
-            }
+            } => self.fork(homes, distances, *cond, then_part, else_part),
+            TacStmt::Loop { head, body, next } => self.cycle(homes, head, body, next),
             TacStmt::Break => self.plain(jump_over(distances.to_break)),
             TacStmt::Continue => self.plain(jump_over(distances.to_continue)),
             TacStmt::CallOwn {

@@ -1,100 +1,104 @@
 use Rattle.sc_select.specs.Bounds.{Fits}
 use Rattle.sc_tac.specs.Prelude.{stmt_weight, weight}
 use Rattle.sc_select.proofs.Composition.{cycle_heavier, fork_heavier}
-use Rattle.sc_select.proofs.Common.{arith, subst, sym, ◌≡◌, ◌≤◌, ◌<◌, ◌-◌, ◌+◌, length}
+use Rattle.std.proofs.lemmas.Result.{on_ok_weaker}
+use Rattle.sc_select.proofs.Common.{ap, arith, select, subst, sym, ◌++◌, ◌+◌, ◌-◌, ◌<◌, ◌∙◌, ◌≡◌, ◌≤◌}
 use Rattle.sc_select.proofs.Composition.{back_reaches, body_reaches, cycle_written, first_reaches, fork_returns}
-use Rattle.sc_select.proofs.Composition.{head_reaches, next_reaches, over_first, over_second, second_reaches}
-use Rattle.sc_select.proofs.Composition.{step_fits, step_lighter, step_reaches, step_written}
+use Rattle.sc_select.proofs.Composition.{as_is, cycle_fits, head_reaches, next_reaches, over_first, over_second}
+use Rattle.sc_select.proofs.Composition.{second_fits, step_fits, step_lighter, step_reaches, step_written}
 use Rattle.sc_select.proofs.backward.Backward.+control.Goals as goal
 
-pub statement-jump_over-requires : goal.statement-jump_over-requires
-statement-jump_over-requires t c =
-    over_second _ _ _ _ _ _ _ _ _ _ _ _ c.in-If.is c.requires.fits c.len.ensures c.len-end.ensures
-    c.in_ok-in_order-in-If.ensures
-
-pub statement-in_order-requires : goal.statement-in_order-requires
-statement-in_order-requires t c =
-    let fits : Fits c.args.homes.now.frame.now c.args.homes.now.places.now c.in-If.else_part
-    c.args.distances.to_break c.args.distances.to_continue =
-    second_reaches _ _ _ _ _ _ _ _ c.in-If.is c.requires.fits in
+-- A CHOICE
+pub statement-fork-requires : goal.statement-fork-requires
+statement-fork-requires t c =
     let heavier : weight c.in-If.then_part + weight c.in-If.else_part + 6 ≡ stmt_weight c.args.stmt.now =
     fork_heavier _ _ _ _ c.in-If.is in
-    (omega (arith, heavier, c.decreases), fits)
+    (omega (arith, heavier, c.decreases), as_is _ _ _ _ _ _ c.in-If.is c.requires.fits)
 
-pub statement-in_order-requires-in-If : goal.statement-in_order-requires-in-If
-statement-in_order-requires-in-If t c =
-    let fits : Fits c.args.homes.now.frame.now c.args.homes.now.places.now c.in-If.then_part
-    (c.len.result - c.len-end.result + c.args.distances.to_break + 1)
-    (c.len.result - c.len-end.result + c.args.distances.to_continue + 1) =
-    first_reaches _ _ _ _ _ _ _ _ _ _ _ _ c.in-If.is c.requires.fits c.len.ensures c.len-end.ensures
-    c.in_ok-in_order-in-If.ensures in
-    let heavier : weight c.in-If.then_part + weight c.in-If.else_part + 6 ≡ stmt_weight c.args.stmt.now =
-    fork_heavier _ _ _ _ c.in-If.is in
-    (omega (arith, heavier, c.decreases), fits)
+pub fork-in_order-requires : goal.fork-in_order-requires
+fork-in_order-requires t c =
+    (omega (arith, c.decreases), second_fits _ _ c.args.cond c.args.first.now c.args.second.now _ _ c.requires.fits)
 
-pub statement-jump_over-requires-in-If : goal.statement-jump_over-requires-in-If
-statement-jump_over-requires-in-If t c =
-    over_first _ _ _ _ _ _ _ _ _ _ _ _ _ _ c.in-If.is c.requires.fits c.len-in-If.ensures c.len-end-in-If.ensures
-    c.in_ok-in_order-in-If-2.ensures
+pub fork-jump_over-requires : goal.fork-jump_over-requires
+fork-jump_over-requires t c =
+    over_second c.args.homes.now.frame.now c.args.homes.now.places.now c.args.cond c.args.first.now c.args.second.now _ _ _ _ _ _ c.requires.fits c.len.ensures
+    c.len-end.ensures c.in_ok-in_order.ensures
 
-pub statement-returns-in_ok-plain-in-If-2 : goal.statement-returns-in_ok-plain-in-If-2
-statement-returns-in_ok-plain-in-If-2 t c =
-    fork_returns c.args.homes.now.frame.now c.args.homes.now.places.now _ _ _ _ _ c.args.distances.to_break
-    c.args.distances.to_continue c.len.result c.len-end.result c.len-in-If.result c.len-end-in-If.result _ _ _ _ _ _ _ _
-    c.in-If.is c.len.ensures c.len-end.ensures c.len-in-If.ensures c.len-end-in-If.ensures
-    c.in_ok-in_order-in-If.ensures c.in_ok-plain-in-If.ensures c.jump_over.ensures c.in_ok-in_order-in-If-2.ensures
-    c.in_ok-plain-in-If-2.ensures c.jump_over-in-If.ensures c.choice.ensures
+pub fork-in_order-requires-2 : goal.fork-in_order-requires-2
+fork-in_order-requires-2 t c = (
+    omega (arith, c.decreases),
+    first_reaches c.args.homes.now.frame.now c.args.homes.now.places.now c.args.cond c.args.first.now c.args.second.now _ _ _ _ _ _ c.requires.fits c.len.ensures
+    c.len-end.ensures c.in_ok-in_order.ensures,
+)
 
-pub statement-part-requires : goal.statement-part-requires
-statement-part-requires t c =
-    let reaches : (c.len-end-in-Loop.result ≤ length c.plain-in-Loop.new.self) × Fits c.args.homes.now.frame.now
-    c.args.homes.now.places.now c.in-Loop.next (length c.plain-in-Loop.new.self - c.len-end-in-Loop.result) 0 =
-    next_reaches _ _ _ _ _ _ _ _ _ _ _ _ c.in-Loop.is c.requires.fits c.in_ok-plain-in-Loop.ensures
-    c.len-end-in-Loop.ensures in
+pub fork-jump_over-requires-2 : goal.fork-jump_over-requires-2
+fork-jump_over-requires-2 t c =
+    over_first c.args.homes.now.frame.now c.args.homes.now.places.now c.args.cond c.args.first.now c.args.second.now _ _ _ _ _ _ _ _ c.requires.fits c.len-2.ensures
+    c.len-middle.ensures c.in_ok-in_order-2.ensures
+
+pub fork-returns : goal.fork-returns
+fork-returns t c =
+    fork_returns c.args.homes.now.frame.now c.args.homes.now.places.now _ c.args.cond c.args.first.now c.args.second.now c.args.distances.to_break
+    c.args.distances.to_continue c.len.result c.len-end.result c.len-2.result c.len-middle.result _ _ _ _ _ _ _ _
+    c.len.ensures c.len-end.ensures c.len-2.ensures c.len-middle.ensures c.in_ok-in_order.ensures
+    c.in_ok-plain.ensures c.jump_over.ensures c.in_ok-in_order-2.ensures c.in_ok-plain-2.ensures
+    c.jump_over-2.ensures c.choice.ensures
+
+-- A LOOP
+pub statement-cycle-requires : goal.statement-cycle-requires
+statement-cycle-requires t c =
     let heavier : weight c.in-Loop.head + weight c.in-Loop.body + weight c.in-Loop.next + 2 ≡
     stmt_weight c.args.stmt.now = cycle_heavier _ _ _ _ c.in-Loop.is in
-    (omega (arith, heavier, c.decreases), reaches)
+    (omega (arith, heavier, c.decreases), cycle_fits _ _ _ _ _ _ _ _ c.in-Loop.is c.requires.fits)
 
-pub statement-part-requires-in-Loop : goal.statement-part-requires-in-Loop
-statement-part-requires-in-Loop t c =
-    let reaches : (c.len-end-in-Loop.result ≤ length c.part.new.self) × Fits c.args.homes.now.frame.now
-    c.args.homes.now.places.now c.in-Loop.body (length c.part.new.self - c.len-end-in-Loop.result) 0 =
-    body_reaches _ _ _ _ _ _ _ _ _ _ _ _ _ _ c.in-Loop.is c.requires.fits c.in_ok-plain-in-Loop.ensures
-    c.in_ok-part-in-Loop.ensures c.len-end-in-Loop.ensures in
-    let heavier : weight c.in-Loop.head + weight c.in-Loop.body + weight c.in-Loop.next + 2 ≡
-    stmt_weight c.args.stmt.now = cycle_heavier _ _ _ _ c.in-Loop.is in
-    (omega (arith, heavier, c.decreases), reaches)
+pub statement-returns-in-Loop : goal.statement-returns-in-Loop
+statement-returns-in-Loop t c =
+    on_ok_weaker c.cycle.result (λ h.
+        h ∙ ap (λ s. (select c.args.homes.now.frame.now c.args.homes.now.places.now s).lines c.args.distances.to_break
+        c.args.distances.to_continue ++ c.args.self.now) (sym c.in-Loop.is))
+    (c.cycle.ensures c.args.distances.to_break c.args.distances.to_continue)
 
-pub statement-part-requires-in-Loop-2 : goal.statement-part-requires-in-Loop-2
-statement-part-requires-in-Loop-2 t c =
-    let reaches : (c.len-end-in-Loop.result ≤ length c.part-in-Loop.new.self) × Fits c.args.homes.now.frame.now
-    c.args.homes.now.places.now c.in-Loop.head (length c.part-in-Loop.new.self - c.len-end-in-Loop.result) 0 =
-    head_reaches _ _ _ _ _ _ _ _ _ _ _ _ _ _ _ _ c.in-Loop.is c.requires.fits c.in_ok-plain-in-Loop.ensures
-    c.in_ok-part-in-Loop.ensures c.in_ok-part-in-Loop-2.ensures c.len-end-in-Loop.ensures in
-    let heavier : weight c.in-Loop.head + weight c.in-Loop.body + weight c.in-Loop.next + 2 ≡
-    stmt_weight c.args.stmt.now = cycle_heavier _ _ _ _ c.in-Loop.is in
-    (omega (arith, heavier, c.decreases), reaches)
+pub cycle-part-requires : goal.cycle-part-requires
+cycle-part-requires t c = (
+    omega (arith, c.decreases),
+    next_reaches c.args.homes.now.frame.now c.args.homes.now.places.now c.args.head.now c.args.body.now c.args.next.now _ _ _ _ _ _ c.requires.fits
+    c.in_ok-plain.ensures c.len-end.ensures,
+)
+
+pub cycle-part-requires-2 : goal.cycle-part-requires-2
+cycle-part-requires-2 t c = (
+    omega (arith, c.decreases),
+    body_reaches c.args.homes.now.frame.now c.args.homes.now.places.now c.args.head.now c.args.body.now c.args.next.now _ _ _ _ _ _ _ _ c.requires.fits
+    c.in_ok-plain.ensures c.in_ok-part.ensures c.len-end.ensures,
+)
+
+pub cycle-part-requires-3 : goal.cycle-part-requires-3
+cycle-part-requires-3 t c = (
+    omega (arith, c.decreases),
+    head_reaches c.args.homes.now.frame.now c.args.homes.now.places.now c.args.head.now c.args.body.now c.args.next.now _ _ _ _ _ _ _ _ _ _ c.requires.fits
+    c.in_ok-plain.ensures c.in_ok-part.ensures c.in_ok-part-2.ensures
+    c.len-end.ensures,
+)
+
+pub cycle-jump_back-requires : goal.cycle-jump_back-requires
+cycle-jump_back-requires t c =
+    back_reaches c.args.homes.now.frame.now c.args.homes.now.places.now c.args.head.now c.args.body.now c.args.next.now _ _ _ _ _ _ _ _ _ _ c.len.result
+    c.len-end.result _ _ _ c.requires.fits c.in_ok-plain.ensures c.in_ok-part.ensures c.in_ok-part-2.ensures c.in_ok-part-3.ensures
+    c.in_ok-plain-2.ensures c.len.ensures c.len-end.ensures
+
+pub cycle-returns : goal.cycle-returns
+cycle-returns t c to_break to_continue =
+    cycle_written c.args.homes.now.frame.now c.args.homes.now.places.now c.args.head.now c.args.body.now c.args.next.now to_break to_continue c.len.result
+    c.len-end.result _ _ _ _ _ _ _ _ _ _ c.len.ensures c.len-end.ensures c.round_begins-2.ensures
+    c.in_ok-plain.ensures c.in_ok-part.ensures c.in_ok-part-2.ensures c.in_ok-part-3.ensures c.in_ok-plain-2.ensures
+    c.jump_back.ensures c.replace.ensures
 
 pub part-in_order-requires : goal.part-in_order-requires
 part-in_order-requires t c =
     (omega (arith, c.decreases), subst (λ n. Fits c.args.homes.now.frame.now c.args.homes.now.places.now c.args.part.now
     (n - c.args.end) 0) (sym c.len.ensures) c.requires.fits)
 
-pub statement-jump_back-requires : goal.statement-jump_back-requires
-statement-jump_back-requires t c =
-    back_reaches c.args.homes.now.frame.now c.args.homes.now.places.now _ _ _ _ c.args.distances.to_break
-    c.args.distances.to_continue _ _ _ _ _ _ _ _ c.len-in-Loop.result c.len-end-in-Loop.result _ _ _ c.in-Loop.is
-    c.requires.fits c.in_ok-plain-in-Loop.ensures c.in_ok-part-in-Loop.ensures c.in_ok-part-in-Loop-2.ensures
-    c.in_ok-part-in-Loop-3.ensures c.in_ok-plain-in-Loop-2.ensures c.len-in-Loop.ensures c.len-end-in-Loop.ensures
-
-pub statement-returns-in_ok-plain-in-Loop-2 : goal.statement-returns-in_ok-plain-in-Loop-2
-statement-returns-in_ok-plain-in-Loop-2 t c =
-    cycle_written c.args.homes.now.frame.now c.args.homes.now.places.now _ _ _ _ c.args.distances.to_break
-    c.args.distances.to_continue c.len-in-Loop.result c.len-end-in-Loop.result _ _ _ _ _ _ _ _ _ _ c.in-Loop.is
-    c.len-in-Loop.ensures c.len-end-in-Loop.ensures c.round_begins-in-Loop.ensures c.in_ok-plain-in-Loop.ensures
-    c.in_ok-part-in-Loop.ensures c.in_ok-part-in-Loop-2.ensures c.in_ok-part-in-Loop-3.ensures
-    c.in_ok-plain-in-Loop-2.ensures c.jump_back.ensures c.replace.ensures
-
+-- STATEMENTS IN ORDER
 pub in_order-statement-requires : goal.in_order-statement-requires
 in_order-statement-requires t c =
     let lighter : stmt_weight c.index-list-at.result ≤ weight c.args.stmts.now =

@@ -19,3 +19,9 @@ decreases-in_order l = 2 * weight l.stmts.now + 1
 
 abbrev pub decreases-part : goal.decreases-part
 decreases-part l = 2 * weight l.part.now + 2
+
+abbrev pub decreases-fork : goal.decreases-fork
+decreases-fork l = 2 * (weight l.first.now + weight l.second.now) + 2
+
+abbrev pub decreases-cycle : goal.decreases-cycle
+decreases-cycle l = 2 * (weight l.head.now + weight l.body.now + weight l.next.now) + 3
