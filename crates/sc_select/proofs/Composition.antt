@@ -1,18 +1,15 @@
 -- What the code of statements in order, of choices and of loops is made of, and that the jumps of their parts reach.
-use Rattle.sc_select.proofs.Common.{Addi, Bool, FrameTree, Instr, Line, List, OpImm, Piece, Place, TacStmt, [], ap}
-use Rattle.sc_select.proofs.Common.{append_assoc, arith, choice, cycle, drop, drop-cons, fold-TacStmt}
-use Rattle.sc_select.proofs.Common.{fold-roll-TacStmt, fork, get_or, jump_back, jump_over, length, length-append, map}
-use Rattle.sc_select.proofs.Common.{plain, plainly, pos, refl, roll-TacStmt, round_begins, select, select_all}
-use Rattle.sc_select.proofs.Common.{select_step, subst, suc, sym, true, zero, ℕ, ℤ, ◌&&◌, ◌++◌, ◌+◌, ◌-◌, ◌<◌, ◌∙◌, ◌∷◌}
-use Rattle.sc_select.proofs.Common.{◌≡◌, ◌≤◌}
-use Rattle.std.specs.Prelude.{OnOk}
+use Rattle.sc_select.proofs.Common.{Bool, Fits, FrameTree, Instr, Line, List, OnOk, Piece, Place, TacStmt}
+use Rattle.sc_select.proofs.Common.{[], and_first, and_rest, ap, append_assoc, arith, choice, cycle, drop, drop-cons}
+use Rattle.sc_select.proofs.Common.{fold-TacStmt, fold-roll-TacStmt, fork, get_or, jump_back, jump_over, length}
+use Rattle.sc_select.proofs.Common.{length-append, on_ok_weaker, passes_few, plain, plainly, refl}
+use Rattle.sc_select.proofs.Common.{roll-TacStmt, round_begins, select, select_all, select_step, stmt_weight, subst}
+use Rattle.sc_select.proofs.Common.{suc, sym, true, weight, weight_step, with_parts, zero, ℕ, ◌&&◌, ◌++◌, ◌+◌, ◌-◌}
+use Rattle.sc_select.proofs.Common.{◌<◌, ◌∙◌, ◌∷◌, ◌≡◌, ◌≤◌}
+use Rattle.sc_tac.specs.Prelude.{everywhere}
 use Rattle.std.specs.declared.result.Result.{Result}
-use Rattle.std.proofs.lemmas.Result.{on_ok_weaker}
-use Rattle.sc_tac.specs.Prelude.{everywhere, passes_few, stmt_weight, weight, weight_step, with_parts}
-use Rattle.sc_base.proofs.Bools.{and_first, and_rest}
 use Rattle.sc_tac.specs.declared.stmt.TacStmt.TheOpen as tac
 use Rattle.sc_tac.specs.declared.stmt.TacStmt.TheVariants as emit
-use Rattle.sc_select.specs.Bounds.{Fits, most_lines}
 use Rattle.sc_select.proofs.Sizes.{row_is_sized}
 
 -- FEW ARGUMENTS
@@ -220,10 +217,10 @@ module _ (frame : FrameTree) (places : List Place) where
   fork_returns r cond first second b c n m n' m' over_second over_first old l1 l2 l3 l4 new n_is m_is n'_is m'_is h1 h2
       j2 h3 h4 j4 h5 =
       on_ok_weaker r (λ h.
-          fork_written cond first second b c (n - m) (n' - m') old l1 l2 l3 l4 new
-          (written second b c n m l1 old n_is m_is h1)
-          (written first (n - m + b + 1) (n - m + c + 1) n' m' l3 l2 n'_is m'_is h3) h1
-          (h2 ∙ ap (λ l. l ∷ l1) j2) h3 (h4 ∙ ap (λ l. l ∷ l3) j4) h) h5
+      fork_written cond first second b c (n - m) (n' - m') old l1 l2 l3 l4 new
+      (written second b c n m l1 old n_is m_is h1)
+      (written first (n - m + b + 1) (n - m + c + 1) n' m' l3 l2 n'_is m'_is h3) h1
+      (h2 ∙ ap (λ l. l ∷ l1) j2) h3 (h4 ∙ ap (λ l. l ∷ l3) j4) h) h5
 
   -- A LOOP
   cycle_is : (head body next : List TacStmt) → select frame places (emit.Loop head body next) ≡ cycle frame places
@@ -306,18 +303,22 @@ module _ (frame : FrameTree) (places : List Place) where
       Fits frame places (emit.Loop head body next ∷ []) b c → l1 ≡ plain first ∷ old → end ≡ length old →
       (end ≤ length l1) × Fits frame places next (length l1 - end) 0
   next_reaches head body next b c first old l1 end fits h1 end_is =
-      let distance : length l1 - end ≡ 1 = next_distance first old l1 end h1 end_is in
-      (omega (arith, distance), next_fits head body next b c (length l1 - end) distance
-      fits)
+      let distance : length l1 - end ≡ 1 = next_distance first old l1 end h1 end_is in (
+        omega (arith, distance),
+        next_fits head body next b c (length l1 - end) distance
+            fits,
+      )
 
   pub body_reaches : (head body next : List TacStmt) (b c : ℕ) (first : Instr) (old l1 l2 : List Line) (end d : ℕ) →
       Fits frame places (emit.Loop head body next ∷ []) b c → l1 ≡ plain first ∷ old →
       l2 ≡ (select_all frame places next).lines d 0 ++ l1 → end ≡ length old →
       (end ≤ length l2) × Fits frame places body (length l2 - end) 0
   body_reaches head body next b c first old l1 l2 end d fits h1 h2 end_is =
-      let distance : length l2 - end ≡ suc (size next) = body_distance next first old l1 l2 end d h1 h2 end_is in
-      (omega (arith, distance), body_fits head body next b c (length l2 - end) distance
-      fits)
+      let distance : length l2 - end ≡ suc (size next) = body_distance next first old l1 l2 end d h1 h2 end_is in (
+        omega (arith, distance),
+        body_fits head body next b c (length l2 - end) distance
+            fits,
+      )
 
   pub head_reaches : (head body next : List TacStmt) (b c : ℕ) (first : Instr) (old l1 l2 l3 : List Line)
       (end d e : ℕ) → Fits frame places (emit.Loop head body next ∷ []) b c → l1 ≡ plain first ∷ old →
@@ -325,9 +326,11 @@ module _ (frame : FrameTree) (places : List Place) where
       end ≡ length old → (end ≤ length l3) × Fits frame places head (length l3 - end) 0
   head_reaches head body next b c first old l1 l2 l3 end d e fits h1 h2 h3 end_is =
       let distance : length l3 - end ≡ size body + suc (size next) =
-      head_distance body next first old l1 l2 l3 end d e h1 h2 h3 end_is in
-      (omega (arith, distance), head_fits head body next b c (length l3 - end) distance
-      fits)
+      head_distance body next first old l1 l2 l3 end d e h1 h2 h3 end_is in (
+        omega (arith, distance),
+        head_fits head body next b c (length l3 - end) distance
+            fits,
+      )
 
   pub back_reaches : (head body next : List TacStmt) (b c : ℕ) (first begin : Instr)
       (old l1 l2 l3 l4 l5 : List Line) (n end d e g : ℕ) → Fits frame places (emit.Loop head body next ∷ []) b c → l1 ≡ plain first ∷ old →

@@ -1,9 +1,7 @@
 -- Lines that are kept as instructions and targets, the last ones first.
-use Rattle.sc_select.proofs.Common.{Instr, Line, List, Option, [], ap, append_assoc, ap₂, length, length-reverse, pred}
-use Rattle.sc_select.proofs.Common.{refl, reverse, reverse-append, reverse-reverse, slice_set, suc, sym, ℕ, ◌++◌, ◌∙◌}
-use Rattle.sc_select.proofs.Common.{arith, length-append, ◌∷◌, ◌≡◌}
-use Rattle.sc_tac.specs.declared.machine_code.Target.{Target}
-use Rattle.sc_select.specs.Lines.{lines_of}
+use Rattle.sc_select.proofs.Common.{Instr, Line, List, Option, Target, [], ap, append_assoc, ap₂, arith, length}
+use Rattle.sc_select.proofs.Common.{length-append, length-reverse, lines_of, pred, refl, reverse, reverse-append}
+use Rattle.sc_select.proofs.Common.{reverse-reverse, slice_set, suc, sym, ℕ, ◌++◌, ◌∙◌, ◌∷◌, ◌≡◌}
 
 lines_append : (is js : List Instr) (ts us : List (Option Target)) → length is ≡ length ts →
     lines_of (is ++ js) (ts ++ us) ≡ lines_of is ts ++ lines_of js us

@@ -1,32 +1,21 @@
 -- Lines that refer to targets stand where the linker can complete them.
-use Rattle.sc_select.proofs.Common.{Bool, FrameTree, Instr, Line, List, Option, Piece, Place, TacStmt, TacStmt-F, [], ap}
-use Rattle.sc_select.proofs.Common.{arith, choice, cycle, fold-roll-TacStmt, followed, fork, in_order, jump_back, jump_over}
-use Rattle.sc_select.proofs.Common.{length, map, map-TacStmt, pass, plain, plainly, pos, refl, roll-TacStmt, round_begins}
-use Rattle.sc_select.proofs.Common.{select, select_all, select_step, subst, suc, sym, true, ℕ, ◌&&◌, ◌++◌, ◌+◌, ◌<◌}
-use Rattle.sc_select.proofs.Common.{◌∙◌, ◌∷◌, ◌≡◌, ◌≤◌, zero}
-use Rattle.std.specs.Prelude.{All, AllPairs, IsTrue, None, Some, false, slice_get, ◌==◌}
+use Rattle.sc_select.proofs.Common.{All, AllPairs, Bool, Each, Entry, FrameTree, Function, Global, Inside}
+use Rattle.sc_select.proofs.Common.{Instr, IsCode, IsTrue, Jal, Jalr, Line, List, Lui, None, Option, Piece, Place, Some}
+use Rattle.sc_select.proofs.Common.{Store, Sw, TacFnTree, TacStmt, TacStmt-F, Target, Upper, [], and_first, and_rest}
+use Rattle.sc_select.proofs.Common.{ap, append-nil, arith, brought, call_cross, call_own, choice, closing}
+use Rattle.sc_select.proofs.Common.{code_of_lines, copied, cycle, entrance, environment_call, eq-eqb}
+use Rattle.sc_select.proofs.Common.{everywhere as each_holds, false, fold-roll-TacStmt, followed, fork, frame_taken}
+use Rattle.sc_select.proofs.Common.{function_lines, in_order, is_address, is_jal, is_linkable, jump_back, jump_over}
+use Rattle.sc_select.proofs.Common.{keep, length, length-append, length-map, linked, load_from, loading, map}
+use Rattle.sc_select.proofs.Common.{map-TacStmt, moved_by, object_offset, operation, pass, place_of_global, plain}
+use Rattle.sc_select.proofs.Common.{plainly, pos, receive, refl, relocation_of, relocations_from, result_register}
+use Rattle.sc_select.proofs.Common.{return, select, select_all, select_step, slice_get}
+use Rattle.sc_select.proofs.Common.{stmt_induction, store_arguments, store_to, straightly, sub_word, subst, suc, sym}
+use Rattle.sc_select.proofs.Common.{true, word_of_constant, ℕ, ◌&&◌, ◌++◌, ◌+◌, ◌<◌, ◌∙◌, ◌∷◌, ◌≡◌, ◌≤◌}
 use Rattle.std.proofs.lemmas.List.Elements.{All-cons, All-nil, All-weaker}
 use Rattle.std.proofs.lemmas.List.Kept.{AllPairs-cons}
-use Rattle.std.proofs.lemmas.Bool.{eq-eqb}
-use Rattle.std.proofs.lemmas.List.{append-nil}
-use Rattle.sc_select.specs.Common.{CodeTree, Jal, Jalr, Lui, Store, Sw, Upper}
-use Rattle.sc_select.specs.Lines.{code_of_lines, linked, relocation_of, relocations_from}
-use Rattle.sc_select.specs.Prelude.{call_cross, call_own, keep, place_of_global, receive, result_register}
-use Rattle.sc_select.specs.Selection.{closing, entrance, function_lines, store_arguments, straightly}
-use Rattle.sc_select.specs.Prelude.{brought, copied, environment_call, load_from, loading, object_offset, operation}
-use Rattle.sc_select.specs.Prelude.{return, store_to, word_of_constant}
-use Rattle.sc_select.specs.Prelude.{frame_taken, moved_by}
-use Rattle.sc_select.proofs.Common.{length-append, length-map}
-use Rattle.sc_word.specs.Prelude.{sub_word}
-use Rattle.sc_base.proofs.Bools.{and_first, and_rest}
-use Rattle.sc_core.proofs.Induction.{Each, everywhere as each_holds}
-use Rattle.sc_tac.specs.MachineCode.{IsCode, is_address, is_jal, is_linkable}
-use Rattle.sc_tac.specs.declared.function.TacFnTree.{TacFnTree}
 use Rattle.sc_tac.specs.declared.machine_code.Relocation.{Relocation}
-use Rattle.sc_tac.specs.declared.machine_code.Target.{Target}
-use Rattle.sc_tac.specs.declared.machine_code.Target.TheVariants.{Entry, Function, Global}
 use Rattle.sc_tac.specs.declared.stmt.TacStmt.TheOpen as tac
-use Rattle.sc_tac.proofs.Induction.{Inside, stmt_induction}
 
 -- the instruction of the first line
 abbrev first_of : List Line → Option Instr

@@ -1,40 +1,33 @@
 -- Code has no more instructions than its function weighs.
-use Rattle.sc_select.proofs.Common.{Bool, FrameTree, Instr, Line, List, Option, Piece, Place, TacStmt, TacStmt-F, [], ap}
-use Rattle.sc_select.proofs.Common.{arith, choice, fold-TacStmt, fold-roll-TacStmt, in_order, length, length-append}
-use Rattle.sc_select.proofs.Common.{length-map, map, map-TacStmt, pass, plain, plainly, refl, roll-TacStmt, select}
-use Rattle.sc_select.proofs.Common.{select_all, select_step, subst, suc, sym, true, ℕ, ◌&&◌, ◌++◌, ◌+◌, ◌∙◌, ◌∷◌, ◌≡◌}
-use Rattle.sc_select.proofs.Common.{pos, zero, ◌≤◌}
-use Rattle.std.specs.Prelude.{None, Some, false, if◌then◌else◌, is_some, slice_get, ◌*◌, ◌<◌, ◌^◌}
+use Rattle.sc_select.proofs.Common.{Add, Bool, Branch, Div, Each, Entry as EntryOf, Fits, FrameTree, Function, Inside}
+use Rattle.sc_select.proofs.Common.{Instr, IsFunction, Jal, Jalr, Line, List, Load, Lui, Lw, Mul, None, Op, Option}
+use Rattle.sc_select.proofs.Common.{Piece, Place, Some, Store, Sw, TacFnTree, TacOp, TacStmt, TacStmt-F, Upper, []}
+use Rattle.sc_select.proofs.Common.{all_hold, and_first, and_rest, arith, at_hand, binary_code, brought, bytes_of}
+use Rattle.sc_select.proofs.Common.{call_cross, call_own, choice, closing, code_of, copied, entrance, entry_weight}
+use Rattle.sc_select.proofs.Common.{environment_call, everywhere as each_holds, false, fold-TacStmt}
+use Rattle.sc_select.proofs.Common.{fold-roll-TacStmt, frame_left, frame_taken, function_lines, has_operands}
+use Rattle.sc_select.proofs.Common.{if◌then◌else◌, in_order, is_short, is_some, is_unsigned, keep, kept, length}
+use Rattle.sc_select.proofs.Common.{length-append, length-map, linked, load_from, load_word, loading, map, map-TacStmt}
+use Rattle.sc_select.proofs.Common.{moved_by, object_offset, op_code, op_weight, operand, operation, pass}
+use Rattle.sc_select.proofs.Common.{place_of_global, plain, plainly, pointer_difference, pointer_move, pos, put}
+use Rattle.sc_select.proofs.Common.{receive, refl, register_of, result_register, return, roll-TacStmt, second_operand}
+use Rattle.sc_select.proofs.Common.{select, select_all, select_step, slice_get, slot_offset, stepped, stmt_induction}
+use Rattle.sc_select.proofs.Common.{stmt_weight, store_arguments, store_to, store_word, sub_word, subst, suc, sym, take}
+use Rattle.sc_select.proofs.Common.{take_second, taken, takes_two, true, unary_code, weight, weight_step, with_parts}
+use Rattle.sc_select.proofs.Common.{word_of_constant, zero, ℕ, ◌&&◌, ◌*◌, ◌++◌, ◌+◌, ◌<◌, ◌^◌, ◌∙◌, ◌∷◌, ◌≡◌, ◌≤◌}
+use Rattle.sc_core.specs.Prelude.{total}
+use Rattle.sc_tac.specs.Prelude.{everywhere}
 use Rattle.std.specs.Bool.{beq}
 use Rattle.rv_code.specs.declared.instr.BranchOp.TheVariants.{Bne}
-use Rattle.sc_core.specs.Prelude.{total}
-use Rattle.sc_word.specs.Prelude.{sub_word}
-use Rattle.sc_select.specs.Common.{Add, Branch, Div, Jal, Jalr, Load, Lui, Lw, Mul, Op, Store, Sw, TacOp, Upper}
-use Rattle.sc_select.specs.Prelude.{brought, call_cross, call_own, far_from_sp, frame_left, frame_taken, keep}
-use Rattle.sc_select.specs.Prelude.{load_from, load_word, loading, moved_by, object_offset, operation, place_of_global, put}
-use Rattle.sc_select.specs.Prelude.{receive, return, second_operand, store_to, store_word, take, take_second, linked}
-use Rattle.sc_select.specs.Prelude.{copied, operand, result_register, is_unsigned, environment_call, at_hand, register_of}
-use Rattle.sc_select.specs.Prelude.{slot_offset, word_of_constant}
-use Rattle.sc_select.specs.Bounds.{Fits}
-use Rattle.sc_select.specs.Pieces.{is_short}
-use Rattle.sc_select.specs.Operators.{binary_code, bytes_of, op_code, pointer_difference, pointer_move, stepped, unary_code}
-use Rattle.sc_select.specs.Selection.{closing, code_of, entrance, function_lines, kept, store_arguments, taken}
-use Rattle.sc_base.proofs.Bools.{and_first, and_rest}
 use Rattle.sc_base.specs.declared.op.BinaryOp.{BinaryOp}
 use Rattle.sc_base.specs.declared.op.BinaryOp.TheVariants as op
 use Rattle.sc_base.specs.declared.op.UnaryOp.{UnaryOp}
 use Rattle.sc_base.specs.declared.op.UnaryOp.TheVariants as unary
-use Rattle.sc_core.proofs.Induction.{Each, everywhere as each_holds}
 use Rattle.sc_event.specs.declared.row.Entry.{Entry}
 use Rattle.sc_event.specs.declared.row.Entry.TheVariants as entry
-use Rattle.sc_tac.specs.Prelude.{IsFunction, all_hold, entry_weight, everywhere, has_operands, op_weight, stmt_weight}
-use Rattle.sc_tac.specs.Prelude.{weight, weight_step, with_parts, takes_two}
-use Rattle.sc_tac.specs.declared.function.TacFnTree.{TacFnTree}
 use Rattle.sc_tac.specs.declared.place.Place.TheVariants.{Register, Slot}
-use Rattle.sc_tac.specs.declared.machine_code.Target.TheVariants.{Function, Entry as EntryOf}
 use Rattle.sc_tac.specs.declared.stmt.TacOp.TheVariants as tacop
 use Rattle.sc_tac.specs.declared.stmt.TacStmt.TheOpen as tac
-use Rattle.sc_tac.proofs.Induction.{Inside, stmt_induction}
 use Rattle.sc_select.proofs.Sizes.{row_is_sized}
 
 either : (b : Bool) (xs ys : List Instr) (n : ℕ) → length xs ≤ n → length ys ≤ n → length (if b then xs else ys) ≤ n
@@ -354,7 +347,7 @@ module _ (frame : FrameTree) (places : List Place) where
         choice_few cond,
         row_small first h.0 (and_first (all_hold (map has first)) (all_hold (map has second) && true) is),
         row_small second h.1 (and_first (all_hold (map has second)) true
-        (and_rest (all_hold (map has first)) (all_hold (map has second) && true) is)),
+            (and_rest (all_hold (map has first)) (all_hold (map has second) && true) is)),
       )
   layer_small (tac.Loop head body next) h is =
       let b : Bool = all_hold (map has body) in
@@ -394,7 +387,7 @@ module _ (frame : FrameTree) (places : List Place) where
       omega (
         arith,
         length-append (store_word (10 + from) (object_offset frame from))
-        (store_arguments frame places params (suc from)),
+            (store_arguments frame places params (suc from)),
         store_one (10 + from) (object_offset frame from),
         store_few_arguments params (suc from),
       )

@@ -1,9 +1,7 @@
 //! Statements in order, choices and loops.
 
-ghost use Rattle.rv_code.specs.Prelude.{IsJumpOffset};
-ghost use Rattle.sc_select.specs.Prelude.{Jal, Line, OpImm, Addi, plain};
-ghost use Rattle.sc_select.specs.Bounds.{Fits};
-ghost use Rattle.sc_select.specs.Selection.{jump_back, jump_over, round_begins, select, select_all};
+ghost use Rattle.sc_select.specs.Prelude.{Addi, Fits, IsJumpOffset, Jal, Line, OpImm, jump_back, jump_over, plain};
+ghost use Rattle.sc_select.specs.Prelude.{round_begins, select, select_all};
 ghost use Rattle.sc_tac.specs.declared.stmt.TacStmt;
 ghost use Rattle.std.specs.Prelude.{◌≡◌, ◌≤◌, ◌<◌, ◌-◌, ◌++◌, ◌∷◌, [], ℕ, OnOk, length};
 

@@ -1,10 +1,7 @@
 //! The code of a function.
 
-ghost use Rattle.sc_select.specs.Prelude.{Line, plainly};
-ghost use Rattle.sc_select.specs.Lines.{code_of_lines};
-ghost use Rattle.sc_select.specs.Selection.{closing, code_of, entrance, function_lines, store_arguments};
-ghost use Rattle.sc_tac.specs.MachineCode.{IsCode};
-ghost use Rattle.sc_tac.specs.Prelude.{IsFunction, entry_weight, weight};
+ghost use Rattle.sc_select.specs.Prelude.{IsCode, IsFunction, Line, closing, code_of, code_of_lines, entrance};
+ghost use Rattle.sc_select.specs.Prelude.{entry_weight, function_lines, plainly, store_arguments, weight};
 ghost use Rattle.std.specs.Prelude.{◌≡◌, ◌≤◌, ◌<◌, ◌^◌, ◌+◌, ◌*◌, ◌++◌, IfOk, OnOk, length};
 
 use crate::backward::Backward;
@@ -91,12 +88,7 @@ fn read(alloc: Global, lines: Backward) -> Result<CodeTree, OutOfMemory>
 }
 
 /// The code of a function whose temporaries lie in these places, with this frame. A jump reaches over all of it.
-pub fn select(
-    alloc: Global,
-    f: &TacFn,
-    places: &Places,
-    frame: &Frame,
-) -> Result<Code, OutOfMemory>
+pub fn select(alloc: Global, f: &TacFn, places: &Places, frame: &Frame) -> Result<Code, OutOfMemory>
     requires { 96 * f.now.nodes ≤ 1048576 }
     ensures code { IfOk result (λ code. code ≡ code_of f.now places.now frame.now) }
     ensures light { IfOk result (λ code. length code.instrs ≤ entry_weight f.now.params + weight f.now.body) }

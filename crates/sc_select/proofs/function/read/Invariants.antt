@@ -1,5 +1,4 @@
-use Rattle.sc_select.proofs.Common.{Line, length, map, ◌++◌, ◌+◌, ◌≡◌}
-use Rattle.sc_select.specs.Lines.{relocations_from}
+use Rattle.sc_select.proofs.Common.{Line, length, map, relocations_from, ◌++◌, ◌+◌, ◌≡◌}
 use Rattle.sc_select.proofs.function.read.Given as goal
 
 -- so many lines are read

@@ -1,10 +1,5 @@
-use Rattle.std.specs.Prelude.{length, ◌<◌, ◌^◌, ◌+◌, ◌≤◌}
-use Rattle.sc_select.proofs.Common.{Line, List, ap, subst, sym, ◌≡◌, ◌∙◌}
-use Rattle.sc_select.specs.Common.{CodeTree}
-use Rattle.sc_select.specs.Lines.{code_of_lines}
-use Rattle.sc_select.specs.Selection.{code_of, function_lines}
-use Rattle.sc_tac.specs.MachineCode.{IsCode}
-use Rattle.sc_tac.specs.Prelude.{IsFunction, entry_weight, weight}
+use Rattle.sc_select.proofs.Common.{CodeTree, IsCode, IsFunction, Line, List, ap, code_of, code_of_lines, entry_weight}
+use Rattle.sc_select.proofs.Common.{function_lines, length, subst, sym, weight, ◌+◌, ◌<◌, ◌^◌, ◌∙◌, ◌≡◌, ◌≤◌}
 use Rattle.sc_select.proofs.Links.{function_code, whole_function}
 use Rattle.sc_select.proofs.Weights.{function_light, function_short}
 use Rattle.sc_select.proofs.function.select.Goals as goal

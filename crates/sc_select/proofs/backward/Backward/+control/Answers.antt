@@ -1,11 +1,9 @@
-use Rattle.sc_select.specs.Bounds.{Fits}
-use Rattle.sc_tac.specs.Prelude.{stmt_weight, weight}
-use Rattle.sc_select.proofs.Composition.{cycle_heavier, fork_heavier}
-use Rattle.std.proofs.lemmas.Result.{on_ok_weaker}
-use Rattle.sc_select.proofs.Common.{ap, arith, select, subst, sym, ◌++◌, ◌+◌, ◌-◌, ◌<◌, ◌∙◌, ◌≡◌, ◌≤◌}
-use Rattle.sc_select.proofs.Composition.{back_reaches, body_reaches, cycle_written, first_reaches, fork_returns}
-use Rattle.sc_select.proofs.Composition.{as_is, cycle_fits, head_reaches, next_reaches, over_first, over_second}
-use Rattle.sc_select.proofs.Composition.{second_fits, step_fits, step_lighter, step_reaches, step_written}
+use Rattle.sc_select.proofs.Common.{Fits, ap, arith, on_ok_weaker, select, stmt_weight, subst, sym, weight, ◌++◌, ◌+◌}
+use Rattle.sc_select.proofs.Common.{◌-◌, ◌<◌, ◌∙◌, ◌≡◌, ◌≤◌}
+use Rattle.sc_select.proofs.Composition.{cycle_heavier, fork_heavier, back_reaches, body_reaches, cycle_written}
+use Rattle.sc_select.proofs.Composition.{first_reaches, fork_returns, as_is, cycle_fits, head_reaches, next_reaches}
+use Rattle.sc_select.proofs.Composition.{over_first, over_second, second_fits, step_fits, step_lighter, step_reaches}
+use Rattle.sc_select.proofs.Composition.{step_written}
 use Rattle.sc_select.proofs.backward.Backward.+control.Goals as goal
 
 -- A CHOICE
@@ -26,9 +24,9 @@ fork-jump_over-requires t c =
 
 pub fork-in_order-requires-2 : goal.fork-in_order-requires-2
 fork-in_order-requires-2 t c = (
-    omega (arith, c.decreases),
-    first_reaches c.args.homes.now.frame.now c.args.homes.now.places.now c.args.cond c.args.first.now c.args.second.now _ _ _ _ _ _ c.requires.fits c.len.ensures
-    c.len-end.ensures c.in_ok-in_order.ensures,
+  omega (arith, c.decreases),
+  first_reaches c.args.homes.now.frame.now c.args.homes.now.places.now c.args.cond c.args.first.now c.args.second.now _ _ _ _ _ _ c.requires.fits c.len.ensures
+      c.len-end.ensures c.in_ok-in_order.ensures,
 )
 
 pub fork-jump_over-requires-2 : goal.fork-jump_over-requires-2
@@ -54,30 +52,30 @@ statement-cycle-requires t c =
 pub statement-returns-in-Loop : goal.statement-returns-in-Loop
 statement-returns-in-Loop t c =
     on_ok_weaker c.cycle.result (λ h.
-        h ∙ ap (λ s. (select c.args.homes.now.frame.now c.args.homes.now.places.now s).lines c.args.distances.to_break
-        c.args.distances.to_continue ++ c.args.self.now) (sym c.in-Loop.is))
+    h ∙ ap (λ s. (select c.args.homes.now.frame.now c.args.homes.now.places.now s).lines c.args.distances.to_break
+    c.args.distances.to_continue ++ c.args.self.now) (sym c.in-Loop.is))
     (c.cycle.ensures c.args.distances.to_break c.args.distances.to_continue)
 
 pub cycle-part-requires : goal.cycle-part-requires
 cycle-part-requires t c = (
-    omega (arith, c.decreases),
-    next_reaches c.args.homes.now.frame.now c.args.homes.now.places.now c.args.head.now c.args.body.now c.args.next.now _ _ _ _ _ _ c.requires.fits
-    c.in_ok-plain.ensures c.len-end.ensures,
+  omega (arith, c.decreases),
+  next_reaches c.args.homes.now.frame.now c.args.homes.now.places.now c.args.head.now c.args.body.now c.args.next.now _ _ _ _ _ _ c.requires.fits
+      c.in_ok-plain.ensures c.len-end.ensures,
 )
 
 pub cycle-part-requires-2 : goal.cycle-part-requires-2
 cycle-part-requires-2 t c = (
-    omega (arith, c.decreases),
-    body_reaches c.args.homes.now.frame.now c.args.homes.now.places.now c.args.head.now c.args.body.now c.args.next.now _ _ _ _ _ _ _ _ c.requires.fits
-    c.in_ok-plain.ensures c.in_ok-part.ensures c.len-end.ensures,
+  omega (arith, c.decreases),
+  body_reaches c.args.homes.now.frame.now c.args.homes.now.places.now c.args.head.now c.args.body.now c.args.next.now _ _ _ _ _ _ _ _ c.requires.fits
+      c.in_ok-plain.ensures c.in_ok-part.ensures c.len-end.ensures,
 )
 
 pub cycle-part-requires-3 : goal.cycle-part-requires-3
 cycle-part-requires-3 t c = (
-    omega (arith, c.decreases),
-    head_reaches c.args.homes.now.frame.now c.args.homes.now.places.now c.args.head.now c.args.body.now c.args.next.now _ _ _ _ _ _ _ _ _ _ c.requires.fits
-    c.in_ok-plain.ensures c.in_ok-part.ensures c.in_ok-part-2.ensures
-    c.len-end.ensures,
+  omega (arith, c.decreases),
+  head_reaches c.args.homes.now.frame.now c.args.homes.now.places.now c.args.head.now c.args.body.now c.args.next.now _ _ _ _ _ _ _ _ _ _ c.requires.fits
+      c.in_ok-plain.ensures c.in_ok-part.ensures c.in_ok-part-2.ensures
+      c.len-end.ensures,
 )
 
 pub cycle-jump_back-requires : goal.cycle-jump_back-requires
@@ -94,9 +92,11 @@ cycle-returns t c to_break to_continue =
     c.jump_back.ensures c.replace.ensures
 
 pub part-in_order-requires : goal.part-in_order-requires
-part-in_order-requires t c =
-    (omega (arith, c.decreases), subst (λ n. Fits c.args.homes.now.frame.now c.args.homes.now.places.now c.args.part.now
-    (n - c.args.end) 0) (sym c.len.ensures) c.requires.fits)
+part-in_order-requires t c = (
+  omega (arith, c.decreases),
+  subst (λ n. Fits c.args.homes.now.frame.now c.args.homes.now.places.now c.args.part.now
+      (n - c.args.end) 0) (sym c.len.ensures) c.requires.fits,
+)
 
 -- STATEMENTS IN ORDER
 pub in_order-statement-requires : goal.in_order-statement-requires
@@ -105,7 +105,7 @@ in_order-statement-requires t c =
     step_lighter _ _ _ _ c.as_slice-list.ensures c.loop-at-test.true c.loop-at.auto.at c.index-list-at.is in (
       omega (arith, lighter, c.decreases),
       step_fits _ _ _ _ _ _ _ _ _ _ _ _ c.as_slice-list.ensures c.loop-at-test.true c.loop-at.auto.at c.index-list-at.is
-      c.requires.fits c.len.ensures c.len-end.ensures c.loop-at.invariant,
+          c.requires.fits c.len.ensures c.len-end.ensures c.loop-at.invariant,
     )
 
 pub in_order-overflow_add-from_here : goal.in_order-overflow_add-from_here

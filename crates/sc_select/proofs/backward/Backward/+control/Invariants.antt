@@ -1,6 +1,4 @@
-use Rattle.sc_select.proofs.Common.{drop, select_all, ◌++◌, ◌+◌, ◌≡◌}
-use Rattle.std.specs.Prelude.{◌*◌}
-use Rattle.sc_tac.specs.Prelude.{stmt_weight, weight}
+use Rattle.sc_select.proofs.Common.{drop, select_all, stmt_weight, weight, ◌*◌, ◌++◌, ◌+◌, ◌≡◌}
 use Rattle.sc_select.proofs.backward.Backward.+control.Given as goal
 
 -- the statements from this one on are written

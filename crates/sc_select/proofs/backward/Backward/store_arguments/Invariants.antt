@@ -1,5 +1,4 @@
-use Rattle.sc_select.proofs.Common.{plainly, ◌++◌, ◌-◌, ◌≡◌}
-use Rattle.sc_select.specs.Selection.{store_arguments}
+use Rattle.sc_select.proofs.Common.{plainly, store_arguments, ◌++◌, ◌-◌, ◌≡◌}
 use Rattle.sc_select.proofs.backward.Backward.store_arguments.Given as goal
 
 -- the arguments from this one on are stored
