@@ -57,7 +57,8 @@ parted stmts i x h is = drop-cons stmts i x h ∙ ap (λ y. y ∷ drop (suc i) s
 no_heavier : (stmts : List TacStmt) (i : ℕ) (x : TacStmt) → i < length stmts → x ≡ get_or stmts i x →
     stmt_weight x ≤ weight stmts
 no_heavier stmts i x h is =
-    let parts : weight (drop i stmts) ≡ stmt_weight x + weight (drop (suc i) stmts) = ap weight (parted stmts i x h is) in
+    let parts : weight (drop i stmts) ≡ stmt_weight x + weight (drop (suc i) stmts) =
+    ap weight (parted stmts i x h is) in
     omega (arith, parts, weight_from stmts i)
 
 fork_weight : (cond : ℕ) (first second : List TacStmt) →
@@ -333,7 +334,8 @@ module _ (frame : FrameTree) (places : List Place) where
       )
 
   pub back_reaches : (head body next : List TacStmt) (b c : ℕ) (first begin : Instr)
-      (old l1 l2 l3 l4 l5 : List Line) (n end d e g : ℕ) → Fits frame places (emit.Loop head body next ∷ []) b c → l1 ≡ plain first ∷ old →
+      (old l1 l2 l3 l4 l5 : List Line) (n end d e g : ℕ) → Fits frame places (emit.Loop head body next ∷ []) b c →
+      l1 ≡ plain first ∷ old →
       l2 ≡ (select_all frame places next).lines d 0 ++ l1 → l3 ≡ (select_all frame places body).lines e 0 ++ l2 →
       l4 ≡ (select_all frame places head).lines g 0 ++ l3 → l5 ≡ plain begin ∷ l4 → n ≡ length l5 → end ≡ length old →
       n - end - 1 < 262143
@@ -345,7 +347,8 @@ module _ (frame : FrameTree) (places : List Place) where
       omega (arith, whole, n_is, reaches)
 
   pub cycle_written : (head body next : List TacStmt) (b c n end : ℕ)
-      (first begin jump : Instr) (old l1 l2 l3 l4 l5 new : List Line) → n ≡ length l5 → end ≡ length old → plain begin ≡ round_begins →
+      (first begin jump : Instr) (old l1 l2 l3 l4 l5 new : List Line) → n ≡ length l5 → end ≡ length old →
+      plain begin ≡ round_begins →
       l1 ≡ plain first ∷ old → l2 ≡ (select_all frame places next).lines (length l1 - end) 0 ++ l1 →
       l3 ≡ (select_all frame places body).lines (length l2 - end) 0 ++ l2 →
       l4 ≡ (select_all frame places head).lines (length l3 - end) 0 ++ l3 → l5 ≡ plain begin ∷ l4 →

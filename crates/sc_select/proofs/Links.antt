@@ -75,7 +75,8 @@ module _ (frame : FrameTree) (places : List Place) where
   fork_complete cond e f he hf = record {
     complete = λ b c.
         let first : List Line = e.lines (suc (f.size + b)) (suc (f.size + c)) in
-        joined (plainly (choice frame places cond)) (jump_over (suc e.size) ∷ (first ++ (jump_over f.size ∷ f.lines b c)))
+        joined (plainly (choice frame places cond))
+        (jump_over (suc e.size) ∷ (first ++ (jump_over f.size ∷ f.lines b c)))
         (plain_complete (choice frame places cond))
         (joined first (jump_over f.size ∷ f.lines b c) (he.complete (suc (f.size + b)) (suc (f.size + c)))
         (hf.complete b c));
@@ -93,7 +94,8 @@ module _ (frame : FrameTree) (places : List Place) where
 
   global_complete : (dest global : ℕ) → all_complete (place_of_global frame places dest global) ≡ true
   global_complete dest global =
-      both _ _ (eq-eqb (result_register frame places dest) (result_register frame places dest) refl) (plain_complete (keep frame places dest))
+      let rd : ℕ = result_register frame places dest in
+      both _ _ (eq-eqb rd rd refl) (plain_complete (keep frame places dest))
 
   own_complete : (dest : Option ℕ) (function : ℕ) (args : List ℕ) →
       all_complete (call_own frame places dest function args) ≡ true
@@ -123,13 +125,15 @@ module _ (frame : FrameTree) (places : List Place) where
   layer_complete : (layer : TacStmt-F TacStmt) → Inside Complete layer →
       IsComplete (select_step frame places (map-TacStmt _ _ (select frame places) layer))
   layer_complete (tac.Const dest value) h =
-      straightly_complete (loading (result_register frame places dest) (word_of_constant value) ++ keep frame places dest)
+      straightly_complete
+      (loading (result_register frame places dest) (word_of_constant value) ++ keep frame places dest)
   layer_complete (tac.Copy dest from) h =
       straightly_complete (copied frame (slice_get places dest) (slice_get places from))
   layer_complete (tac.Op dest op left right) h =
       straightly_complete (operation frame places dest op left right)
   layer_complete (tac.ObjectPlace dest object) h =
-      straightly_complete (moved_by (result_register frame places dest) 2 (object_offset frame object) ++ keep frame places dest)
+      straightly_complete
+      (moved_by (result_register frame places dest) 2 (object_offset frame object) ++ keep frame places dest)
   layer_complete (tac.GlobalPlace dest global) h = record { complete = λ b c. global_complete dest global }
   layer_complete (tac.Load dest place pointer) h =
       straightly_complete (load_from frame places dest place)

@@ -61,7 +61,8 @@ impl Backward {
         distances: Distances,
         stmts: &TacStmts,
     ) -> Result<(), OutOfMemory>
-        requires fits { Fits homes.now.frame.now homes.now.places.now stmts.now distances.to_break distances.to_continue }
+        requires fits { Fits homes.now.frame.now homes.now.places.now stmts.now distances.to_break
+            distances.to_continue }
         ensures { OnOk result (self.new ≡ (select_all homes.now.frame.now homes.now.places.now stmts.now).lines
             distances.to_break distances.to_continue ++ self.old) }
     {

@@ -32,7 +32,8 @@ returns c =
     c.new.ensures ∙ c.in_ok-read.ensures ∙ ap code_of_lines lines in
     record {
       code = is;
-      light = subst (λ (code : CodeTree). length code.instrs ≤ entry_weight c.args.f.now.params + weight c.args.f.now.body)
+      light = subst
+          (λ (code : CodeTree). length code.instrs ≤ entry_weight c.args.f.now.params + weight c.args.f.now.body)
           (sym is) (function_light c.args.frame.now c.args.places.now c.args.f.now c.tree.ensures.rules);
       rules = subst IsCode (sym is) (function_code c.args.frame.now c.args.places.now c.args.f.now);
     }

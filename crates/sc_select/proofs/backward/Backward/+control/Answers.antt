@@ -19,28 +19,28 @@ fork-in_order-requires t c =
 
 pub fork-jump_over-requires : goal.fork-jump_over-requires
 fork-jump_over-requires t c =
-    over_second c.args.homes.now.frame.now c.args.homes.now.places.now c.args.cond c.args.first.now c.args.second.now _ _ _ _ _ _ c.requires.fits c.len.ensures
+    over_second _ _ c.args.cond c.args.first.now c.args.second.now _ _ _ _ _ _ c.requires.fits c.len.ensures
     c.len-end.ensures c.in_ok-in_order.ensures
 
 pub fork-in_order-requires-2 : goal.fork-in_order-requires-2
 fork-in_order-requires-2 t c = (
   omega (arith, c.decreases),
-  first_reaches c.args.homes.now.frame.now c.args.homes.now.places.now c.args.cond c.args.first.now c.args.second.now _ _ _ _ _ _ c.requires.fits c.len.ensures
+  first_reaches _ _ c.args.cond c.args.first.now c.args.second.now _ _ _ _ _ _ c.requires.fits c.len.ensures
       c.len-end.ensures c.in_ok-in_order.ensures,
 )
 
 pub fork-jump_over-requires-2 : goal.fork-jump_over-requires-2
 fork-jump_over-requires-2 t c =
-    over_first c.args.homes.now.frame.now c.args.homes.now.places.now c.args.cond c.args.first.now c.args.second.now _ _ _ _ _ _ _ _ c.requires.fits c.len-2.ensures
+    over_first _ _ c.args.cond c.args.first.now c.args.second.now _ _ _ _ _ _ _ _ c.requires.fits c.len-2.ensures
     c.len-middle.ensures c.in_ok-in_order-2.ensures
 
 pub fork-returns : goal.fork-returns
 fork-returns t c =
-    fork_returns c.args.homes.now.frame.now c.args.homes.now.places.now _ c.args.cond c.args.first.now c.args.second.now c.args.distances.to_break
-    c.args.distances.to_continue c.len.result c.len-end.result c.len-2.result c.len-middle.result _ _ _ _ _ _ _ _
-    c.len.ensures c.len-end.ensures c.len-2.ensures c.len-middle.ensures c.in_ok-in_order.ensures
-    c.in_ok-plain.ensures c.jump_over.ensures c.in_ok-in_order-2.ensures c.in_ok-plain-2.ensures
-    c.jump_over-2.ensures c.choice.ensures
+    fork_returns c.args.homes.now.frame.now c.args.homes.now.places.now _ c.args.cond c.args.first.now
+    c.args.second.now c.args.distances.to_break c.args.distances.to_continue c.len.result c.len-end.result
+    c.len-2.result c.len-middle.result _ _ _ _ _ _ _ _ c.len.ensures c.len-end.ensures c.len-2.ensures
+    c.len-middle.ensures c.in_ok-in_order.ensures c.in_ok-plain.ensures c.jump_over.ensures
+    c.in_ok-in_order-2.ensures c.in_ok-plain-2.ensures c.jump_over-2.ensures c.choice.ensures
 
 -- A LOOP
 pub statement-cycle-requires : goal.statement-cycle-requires
@@ -59,37 +59,37 @@ statement-returns-in-Loop t c =
 pub cycle-part-requires : goal.cycle-part-requires
 cycle-part-requires t c = (
   omega (arith, c.decreases),
-  next_reaches c.args.homes.now.frame.now c.args.homes.now.places.now c.args.head.now c.args.body.now c.args.next.now _ _ _ _ _ _ c.requires.fits
-      c.in_ok-plain.ensures c.len-end.ensures,
+  next_reaches _ _ c.args.head.now c.args.body.now c.args.next.now _ _ _ _ _ _ c.requires.fits c.in_ok-plain.ensures
+      c.len-end.ensures,
 )
 
 pub cycle-part-requires-2 : goal.cycle-part-requires-2
 cycle-part-requires-2 t c = (
   omega (arith, c.decreases),
-  body_reaches c.args.homes.now.frame.now c.args.homes.now.places.now c.args.head.now c.args.body.now c.args.next.now _ _ _ _ _ _ _ _ c.requires.fits
+  body_reaches _ _ c.args.head.now c.args.body.now c.args.next.now _ _ _ _ _ _ _ _ c.requires.fits
       c.in_ok-plain.ensures c.in_ok-part.ensures c.len-end.ensures,
 )
 
 pub cycle-part-requires-3 : goal.cycle-part-requires-3
 cycle-part-requires-3 t c = (
   omega (arith, c.decreases),
-  head_reaches c.args.homes.now.frame.now c.args.homes.now.places.now c.args.head.now c.args.body.now c.args.next.now _ _ _ _ _ _ _ _ _ _ c.requires.fits
-      c.in_ok-plain.ensures c.in_ok-part.ensures c.in_ok-part-2.ensures
-      c.len-end.ensures,
+  head_reaches _ _ c.args.head.now c.args.body.now c.args.next.now _ _ _ _ _ _ _ _ _ _ c.requires.fits
+      c.in_ok-plain.ensures c.in_ok-part.ensures c.in_ok-part-2.ensures c.len-end.ensures,
 )
 
 pub cycle-jump_back-requires : goal.cycle-jump_back-requires
 cycle-jump_back-requires t c =
-    back_reaches c.args.homes.now.frame.now c.args.homes.now.places.now c.args.head.now c.args.body.now c.args.next.now _ _ _ _ _ _ _ _ _ _ c.len.result
-    c.len-end.result _ _ _ c.requires.fits c.in_ok-plain.ensures c.in_ok-part.ensures c.in_ok-part-2.ensures c.in_ok-part-3.ensures
-    c.in_ok-plain-2.ensures c.len.ensures c.len-end.ensures
+    back_reaches c.args.homes.now.frame.now c.args.homes.now.places.now c.args.head.now c.args.body.now
+    c.args.next.now _ _ _ _ _ _ _ _ _ _ c.len.result c.len-end.result _ _ _ c.requires.fits c.in_ok-plain.ensures
+    c.in_ok-part.ensures c.in_ok-part-2.ensures c.in_ok-part-3.ensures c.in_ok-plain-2.ensures c.len.ensures
+    c.len-end.ensures
 
 pub cycle-returns : goal.cycle-returns
 cycle-returns t c to_break to_continue =
-    cycle_written c.args.homes.now.frame.now c.args.homes.now.places.now c.args.head.now c.args.body.now c.args.next.now to_break to_continue c.len.result
-    c.len-end.result _ _ _ _ _ _ _ _ _ _ c.len.ensures c.len-end.ensures c.round_begins-2.ensures
-    c.in_ok-plain.ensures c.in_ok-part.ensures c.in_ok-part-2.ensures c.in_ok-part-3.ensures c.in_ok-plain-2.ensures
-    c.jump_back.ensures c.replace.ensures
+    cycle_written c.args.homes.now.frame.now c.args.homes.now.places.now c.args.head.now c.args.body.now
+    c.args.next.now to_break to_continue c.len.result c.len-end.result _ _ _ _ _ _ _ _ _ _ c.len.ensures
+    c.len-end.ensures c.round_begins-2.ensures c.in_ok-plain.ensures c.in_ok-part.ensures c.in_ok-part-2.ensures
+    c.in_ok-part-3.ensures c.in_ok-plain-2.ensures c.jump_back.ensures c.replace.ensures
 
 pub part-in_order-requires : goal.part-in_order-requires
 part-in_order-requires t c = (
