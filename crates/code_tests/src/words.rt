@@ -12,8 +12,14 @@ use sc_types::SourceText;
 use std::alloc::Global;
 use std::test::Fail;
 
+// So many nodes a function has at most whose jumps reach over all of its code.
+const MOST_NODES: u32 = 10_922;
+
 // The code of a function, if it is small enough to have some.
 fn code_of(alloc: Global, function: &TacFn) -> Result<Option<Code>, OutOfMemory> {
+    if function.tree().nodes > MOST_NODES {
+        return Ok(None);
+    }
     let intervals = intervals(alloc, function)?;
     let places = assign(alloc, &intervals)?;
     if places.as_slice().len() != function.tree().temps as usize || !fits(function) {
