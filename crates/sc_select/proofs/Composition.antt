@@ -1,11 +1,11 @@
 -- What the code of statements in order, of choices and of loops is made of, and that the jumps of their parts reach.
-use Rattle.sc_select.proofs.Common.{Bool, Fits, FrameTree, Instr, Line, List, OnOk, Piece, Place, TacStmt}
-use Rattle.sc_select.proofs.Common.{[], and_first, and_rest, ap, append_assoc, arith, choice, cycle, drop, drop-cons}
+use Rattle.sc_select.proofs.Common.{Bool, Fits, FrameTree, Instr, Line, List, OnOk, Piece, Place, TacStmt, []}
+use Rattle.sc_select.proofs.Common.{and_first, and_rest, ap, append_assoc, arith, choice, cycle, drop, drop-cons}
 use Rattle.sc_select.proofs.Common.{fold-TacStmt, fold-roll-TacStmt, fork, get_or, jump_back, jump_over, length}
-use Rattle.sc_select.proofs.Common.{length-append, on_ok_weaker, passes_few, plain, plainly, refl}
-use Rattle.sc_select.proofs.Common.{roll-TacStmt, round_begins, select, select_all, select_step, stmt_weight, subst}
-use Rattle.sc_select.proofs.Common.{suc, sym, true, weight, weight_step, with_parts, zero, ℕ, ◌&&◌, ◌++◌, ◌+◌, ◌-◌}
-use Rattle.sc_select.proofs.Common.{◌<◌, ◌∙◌, ◌∷◌, ◌≡◌, ◌≤◌}
+use Rattle.sc_select.proofs.Common.{length-append, on_ok_weaker, passes_few, plain, plainly, refl, roll-TacStmt}
+use Rattle.sc_select.proofs.Common.{round_begins, select, select_all, select_step, stmt_weight, subst, suc, sym, true}
+use Rattle.sc_select.proofs.Common.{weight, weight_step, with_parts, zero, ℕ, ◌&&◌, ◌++◌, ◌+◌, ◌-◌, ◌<◌, ◌∙◌, ◌∷◌, ◌≡◌}
+use Rattle.sc_select.proofs.Common.{◌≤◌}
 use Rattle.sc_tac.specs.Prelude.{everywhere}
 use Rattle.std.specs.declared.result.Result.{Result}
 use Rattle.sc_tac.specs.declared.stmt.TacStmt.TheOpen as tac

@@ -1,21 +1,14 @@
 -- Worked functions: the code of each.
-use Rattle.sc_select.proofs.Common.{Addi, FrameTree, Line, List, OpImm, Piece, Place, [], ap, pos, refl, ◌++◌, ◌∷◌, ◌≡◌}
-use Rattle.sc_select.proofs.Common.{in_order, plainly, select_step, true}
-use Rattle.std.specs.Prelude.{None, Some, false, negsuc, ℕ}
-use Rattle.rv_code.specs.declared.instr.BranchOp.TheVariants.{Bne}
-use Rattle.rv_code.specs.declared.instr.OpOp.TheVariants.{Sub}
+use Rattle.sc_select.proofs.Common.{Addi, Bne, Branch, CodeTree, FrameTree, Function, Jal, Jalr, Line, List, Load, Lw}
+use Rattle.sc_select.proofs.Common.{None, Op, OpImm, Piece, Place, Register, Slot, Some, Store, Sub, Sw, [], ap}
+use Rattle.sc_select.proofs.Common.{closing, code_of, code_of_lines, entrance, false, frame_of, in_order, negsuc}
+use Rattle.sc_select.proofs.Common.{plainly, pos, refl, select_step, true, ℕ, ◌++◌, ◌∷◌, ◌≡◌}
 use Rattle.sc_base.specs.declared.op.BinaryOp.TheVariants as op
 use Rattle.sc_event.specs.declared.row.Entry.TheVariants as entry
-use Rattle.sc_tac.specs.Prelude.{frame_of}
-use Rattle.sc_tac.specs.declared.machine_code.Target.TheVariants.{Function}
-use Rattle.sc_tac.specs.declared.place.Place.TheVariants.{Register, Slot}
 use Rattle.sc_tac.specs.declared.stmt.TacStmt.TheOpen as tac
 use Rattle.sc_tac.proofs.Plans.{Plan, function}
 use Rattle.sc_tac.proofs.Runs.{fetched, give, int_op, put_into, word}
 use Rattle.sc_tac.proofs.Shapes.{Cycle, Done, Fork, Line as Then, rows, rows_are}
-use Rattle.sc_select.specs.Common.{Branch, CodeTree, Jal, Jalr, Load, Lw, Op, Store, Sw}
-use Rattle.sc_select.specs.Lines.{code_of_lines}
-use Rattle.sc_select.specs.Selection.{closing, code_of, entrance}
 
 -- the code of a function by its plan, on which it computes
 abbrev pub planned : FrameTree → List Place → Plan → List Piece → CodeTree

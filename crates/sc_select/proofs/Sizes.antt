@@ -2,8 +2,8 @@
 use Rattle.sc_select.proofs.Common.{Each, FrameTree, Inside, Line, List, Piece, Place, TacStmt, TacStmt-F, [], arith}
 use Rattle.sc_select.proofs.Common.{choice, cycle, everywhere, fold-roll-TacStmt, followed, fork, in_order, jump_back}
 use Rattle.sc_select.proofs.Common.{jump_over, length, length-append, length-map, map, map-TacStmt, plain, plainly}
-use Rattle.sc_select.proofs.Common.{refl, select, select_all, select_step, stmt_induction}
-use Rattle.sc_select.proofs.Common.{subst, suc, sym, ℕ, ◌++◌, ◌+◌, ◌∷◌, ◌≡◌}
+use Rattle.sc_select.proofs.Common.{refl, select, select_all, select_step, stmt_induction, subst, suc, sym, ℕ, ◌++◌}
+use Rattle.sc_select.proofs.Common.{◌+◌, ◌∷◌, ◌≡◌}
 use Rattle.sc_tac.specs.declared.stmt.TacStmt.TheOpen as tac
 
 pub record IsSized (piece : Piece) : Type 0 where

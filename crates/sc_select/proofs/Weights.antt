@@ -1,10 +1,10 @@
 -- Code has no more instructions than its function weighs.
-use Rattle.sc_select.proofs.Common.{Add, Bool, Branch, Div, Each, Entry as EntryOf, Fits, FrameTree, Function, Inside}
-use Rattle.sc_select.proofs.Common.{Instr, IsFunction, Jal, Jalr, Line, List, Load, Lui, Lw, Mul, None, Op, Option}
-use Rattle.sc_select.proofs.Common.{Piece, Place, Some, Store, Sw, TacFnTree, TacOp, TacStmt, TacStmt-F, Upper, []}
-use Rattle.sc_select.proofs.Common.{all_hold, and_first, and_rest, arith, at_hand, binary_code, brought, bytes_of}
-use Rattle.sc_select.proofs.Common.{call_cross, call_own, choice, closing, code_of, copied, entrance, entry_weight}
-use Rattle.sc_select.proofs.Common.{environment_call, everywhere as each_holds, false, fold-TacStmt}
+use Rattle.sc_select.proofs.Common.{Add, Bne, Bool, Branch, Div, Each, Entry as EntryOf, Fits, FrameTree, Function}
+use Rattle.sc_select.proofs.Common.{Inside, Instr, IsFunction, Jal, Jalr, Line, List, Load, Lui, Lw, Mul, None, Op}
+use Rattle.sc_select.proofs.Common.{Option, Piece, Place, Register, Slot, Some, Store, Sw, TacFnTree, TacOp, TacStmt}
+use Rattle.sc_select.proofs.Common.{TacStmt-F, Upper, [], all_hold, and_first, and_rest, arith, at_hand, binary_code}
+use Rattle.sc_select.proofs.Common.{brought, bytes_of, call_cross, call_own, choice, closing, code_of, copied, entrance}
+use Rattle.sc_select.proofs.Common.{entry_weight, environment_call, everywhere as each_holds, false, fold-TacStmt}
 use Rattle.sc_select.proofs.Common.{fold-roll-TacStmt, frame_left, frame_taken, function_lines, has_operands}
 use Rattle.sc_select.proofs.Common.{if◌then◌else◌, in_order, is_short, is_some, is_unsigned, keep, kept, length}
 use Rattle.sc_select.proofs.Common.{length-append, length-map, linked, load_from, load_word, loading, map, map-TacStmt}
@@ -18,14 +18,12 @@ use Rattle.sc_select.proofs.Common.{word_of_constant, zero, ℕ, ◌&&◌, ◌*�
 use Rattle.sc_core.specs.Prelude.{total}
 use Rattle.sc_tac.specs.Prelude.{everywhere}
 use Rattle.std.specs.Bool.{beq}
-use Rattle.rv_code.specs.declared.instr.BranchOp.TheVariants.{Bne}
 use Rattle.sc_base.specs.declared.op.BinaryOp.{BinaryOp}
 use Rattle.sc_base.specs.declared.op.BinaryOp.TheVariants as op
 use Rattle.sc_base.specs.declared.op.UnaryOp.{UnaryOp}
 use Rattle.sc_base.specs.declared.op.UnaryOp.TheVariants as unary
 use Rattle.sc_event.specs.declared.row.Entry.{Entry}
 use Rattle.sc_event.specs.declared.row.Entry.TheVariants as entry
-use Rattle.sc_tac.specs.declared.place.Place.TheVariants.{Register, Slot}
 use Rattle.sc_tac.specs.declared.stmt.TacOp.TheVariants as tacop
 use Rattle.sc_tac.specs.declared.stmt.TacStmt.TheOpen as tac
 use Rattle.sc_select.proofs.Sizes.{row_is_sized}
