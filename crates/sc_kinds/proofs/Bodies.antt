@@ -50,12 +50,12 @@ CallsFit callable comp C D =
     (s : State) → Same (λ v. returns_kind signature.result v ≡ true) (C comp target args s) (D comp target args s)
 
 -- the signature of a call that fits
-record Signed (o : Option Signature) (args : List Judged) : Type 0 where
+pub record Signed (o : Option Signature) (args : List Judged) : Type 0 where
   pub signature : Signature
   pub is : o ≡ Some signature
   pub fit : all_go_into signature.params args ≡ true
 
-signed : (o : Option Signature) (args : List Judged) → args_fit o args ≡ true → Signed o args
+pub signed : (o : Option Signature) (args : List Judged) → args_fit o args ≡ true → Signed o args
 signed None args h = absurd (false≢true h)
 signed (Some signature) args h = record { signature = signature; is = refl; fit = h }
 

@@ -151,7 +151,7 @@ any_along p q on (x ∷ xs) h =
 
 -- NAMES OF FUNCTIONS
 
-abbrev name_of : TypedFunction → List ℕ
+abbrev pub name_of : TypedFunction → List ℕ
 name_of f = f.name
 
 distinct_behind : (names others : List (List ℕ)) → are_distinct (names ++ others) ≡ true → are_distinct others ≡ true

@@ -121,7 +121,7 @@ address_kind a h = points_kind a (and_first (points a) (not a.null) h)
 pub address_fits : (a : Judged) → is_address a ≡ true → a.fits ≡ true
 address_fits a h = and_first a.fits (is_pointer a.ty) (and_first (points a) (not a.null) h)
 
-int_fits : (a : Judged) → is_int a ≡ true → a.fits ≡ true
+pub int_fits : (a : Judged) → is_int a ≡ true → a.fits ≡ true
 int_fits a h = and_first a.fits (is_integer a.ty) h
 
 both_point : (a b : Judged) → points a ≡ true → points b ≡ true → one_of (is_pointer a.ty) (is_pointer b.ty) ≡ false

@@ -9,8 +9,8 @@ use Rattle.sc_lower.proofs.Common.{fork, forms, goes_into, in_turn, init_code, i
 use Rattle.sc_lower.proofs.Common.{is_assigned_first, is_one, is_scalar, is_target, is_type, judged, just, kind_fits}
 use Rattle.sc_lower.proofs.Common.{kind_step, layer_of, length, list_all, many, map, not, nothing_ahead, or_left}
 use Rattle.sc_lower.proofs.Common.{or_right, part_ahead, part_code, part_fits, place_code, refl, result_goes}
-use Rattle.sc_lower.proofs.Common.{return_value, returned_call_fits, simple_code, simple_fits, stmt_at, stmt_code}
-use Rattle.sc_lower.proofs.Common.{stmt_fits, stmt_induction, store_at, subst, suc, sym, target_signature}
+use Rattle.sc_lower.proofs.Common.{return_value, returned_call_fits, signed, simple_code, simple_fits, stmt_at}
+use Rattle.sc_lower.proofs.Common.{stmt_code, stmt_fits, stmt_induction, store_at, subst, suc, sym, target_signature}
 use Rattle.sc_lower.proofs.Common.{test as tests, true, variable_ty, zero, ℕ, ◌&&◌, ◌==◌, ◌||◌, ◌∙◌, ◌∷◌, ◌≡◌, ◌⊎◌}
 use Rattle.sc_core.specs.declared.expr.CallTarget.TheVariants as target
 use Rattle.sc_core.specs.declared.stmt.TypedStmtKind.TheOpen as layer
@@ -19,7 +19,7 @@ use Rattle.sc_core.specs.declared.value.Want.TheVariants as want
 use Rattle.sc_tac.specs.declared.stmt.TacStmt.TheOpen as tac
 use Rattle.sc_tac.specs.declared.stmt.TacStmt.TheVariants as emit
 use Rattle.sc_lower.proofs.Tests.{scalar_fits, all_append}
-use Rattle.sc_lower.proofs.Passing.{returned_value, signed, InitsFit}
+use Rattle.sc_lower.proofs.Passing.{returned_value, InitsFit}
 use Rattle.sc_lower.proofs.Statements.{Shaped, shaped, not_output, goes_promised}
 use Rattle.sc_lower.proofs.Strays.{value_straight, target_straight, is_straight, Straight, local_straight}
 use Rattle.sc_lower.proofs.Assigned.{first, fresh, first_append, fresh_append, first_one, fresh_one, straight_fresh}

@@ -7,8 +7,8 @@ use Rattle.sc_lower.proofs.Common.{eq-eqb, export_at, export_called, export_fits
 use Rattle.sc_lower.proofs.Common.{false≢true, found_passes, if◌then◌else◌, interface_fits, is_entered, is_main}
 use Rattle.sc_lower.proofs.Common.{is_some, is_well_typed, length, length-map, list_all, list_any, lowered_function}
 use Rattle.sc_lower.proofs.Common.{lowered_program, lowered_section, lowered_sections, main_entered, main_fits}
-use Rattle.sc_lower.proofs.Common.{main_name, map, named_so, not, not-true, numbered, option_and_then, option_map}
-use Rattle.sc_lower.proofs.Common.{position, proto_signature, refl, result_ty, same_either_way, same_entry}
+use Rattle.sc_lower.proofs.Common.{main_name, map, name_of, named_so, not, not-true, numbered, option_and_then}
+use Rattle.sc_lower.proofs.Common.{option_map, position, proto_signature, refl, result_ty, same_either_way, same_entry}
 use Rattle.sc_lower.proofs.Common.{same_results, same_signature, same_text, same_types, scalar_ty, section_fits}
 use Rattle.sc_lower.proofs.Common.{sections_fit, signature_of, slice_get, subst, suc, sym, true, truth, ℕ, ◌&&◌, ◌+◌}
 use Rattle.sc_lower.proofs.Common.{◌==◌, ◌||◌, ◌∙◌, ◌∷◌, ◌≡◌}
@@ -31,9 +31,6 @@ count_none p (x ∷ xs) h = by (p x) h (count_none p xs) where
   by false h later = zero_first (count p xs) (later h) where
     zero_first : (n : ℕ) → n ≡ 0 → 0 + n ≡ 0
     zero_first n h = omega (numbers, h)
-
-abbrev name_of : TypedFunction → List ℕ
-name_of f = f.name
 
 named_none : (name : List ℕ) (fs : List TypedFunction) → list_any (bytes_eq name) (map name_of fs) ≡ false →
     list_any {X = TypedFunction} (λ f. bytes_eq f.name name) fs ≡ false

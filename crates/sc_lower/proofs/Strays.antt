@@ -9,10 +9,10 @@ use Rattle.sc_lower.proofs.Common.{false, false≢true, first_of, fold-TacStmt, 
 use Rattle.sc_lower.proofs.Common.{has_none, in_turn, init_code, init_fits, inits_code, is_scalar, is_target, is_type}
 use Rattle.sc_lower.proofs.Common.{judged, just, kind_fits, kind_step, layer_of, length, list_all, many, map}
 use Rattle.sc_lower.proofs.Common.{map-TacStmt, not, or_from, part_code, part_fits, place_code, refl, return_value}
-use Rattle.sc_lower.proofs.Common.{returned_call_fits, roll-TacStmt, simple_code, simple_fits, some_hold, stmt_at}
-use Rattle.sc_lower.proofs.Common.{stmt_code, stmt_fits, stmt_induction, store_at, stray_break, stray_continue, subst}
-use Rattle.sc_lower.proofs.Common.{suc, sym, target_signature, test as tests, true, variable_ty, with_parts, ℕ, ◌++◌}
-use Rattle.sc_lower.proofs.Common.{◌||◌, ◌∙◌, ◌∷◌, ◌≡◌}
+use Rattle.sc_lower.proofs.Common.{returned_call_fits, roll-TacStmt, signed, simple_code, simple_fits, some_hold}
+use Rattle.sc_lower.proofs.Common.{stmt_at, stmt_code, stmt_fits, stmt_induction, store_at, stray_break, stray_continue}
+use Rattle.sc_lower.proofs.Common.{subst, suc, sym, target_signature, test as tests, true, variable_ty, with_parts, ℕ}
+use Rattle.sc_lower.proofs.Common.{◌++◌, ◌||◌, ◌∙◌, ◌∷◌, ◌≡◌}
 use Rattle.sc_core.specs.declared.expr.CallTarget.TheVariants as target
 use Rattle.sc_core.specs.declared.stmt.TypedStmtKind.TheOpen as layer
 use Rattle.sc_core.specs.declared.stmt.TypedSimpleKind.TheVariants as simple
@@ -21,7 +21,7 @@ use Rattle.sc_tac.specs.declared.stmt.TacStmt.TheOpen as tac
 use Rattle.sc_tac.specs.declared.stmt.TacStmt.TheVariants as emit
 use Rattle.sc_tac.proofs.Induction.{Inside as CodeInside, stmt_induction as code_induction}
 use Rattle.sc_lower.proofs.Tests.{scalar_fits, PassedBy, alone_clean, place_clean, place_passes, expr_clean}
-use Rattle.sc_lower.proofs.Passing.{returned_value, signed, InitsFit}
+use Rattle.sc_lower.proofs.Passing.{returned_value, InitsFit}
 
 -- STRAIGHT CODE
 -- it neither loops nor leaves a loop

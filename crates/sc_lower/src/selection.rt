@@ -1,7 +1,7 @@
 //! What operators become, by the types of their operands.
 
 ghost use Rattle.sc_lower.specs.Prelude.{between_op, binary_code, constant_of, is_sub, is_unsigned_op, move_op, not_op};
-ghost use Rattle.sc_lower.specs.Prelude.{place_code, scalar_in, scalar_of, truth_code, unary_op};
+ghost use Rattle.sc_lower.specs.Prelude.{place_code, scalar_in, scalar_of, truth_code, unary_op, variable_beyond};
 ghost use Rattle.std.specs.Prelude.{◌≡◌, ◌++◌, IfOk};
 
 use crate::code::Scope;
@@ -37,16 +37,17 @@ pub fn constant_of(ty: Ty, word: u32) -> Constant
     }
 }
 
-/// The place of a variable into a temporary. There is no memory for more than 4294967295 variables.
-pub fn place_code(params: u32, variable: VarRef, dest: u32) -> Result<TacStmt, OutOfMemory>
-    ensures { IfOk result (λ stmt. stmt ≡ place_code params variable dest) }
+/// The place of a variable into a temporary.
+pub fn place_code(params: u8, variable: VarRef, dest: u32) -> TacStmt
+    requires { variable_beyond variable ≡ 0 }
+    ensures { result ≡ place_code params variable dest }
 {
     match variable {
-        VarRef::Global(global) => Ok(TacStmt::GlobalPlace { dest, global }),
-        VarRef::Param(object) => Ok(TacStmt::ObjectPlace { dest, object }),
-        VarRef::Local(local) => match params.checked_add(local) {
-            Some(object) => Ok(TacStmt::ObjectPlace { dest, object }),
-            None => Err(OutOfMemory),
+        VarRef::Global(global) => TacStmt::GlobalPlace { dest, global },
+        VarRef::Param(object) => TacStmt::ObjectPlace { dest, object },
+        VarRef::Local(local) => TacStmt::ObjectPlace {
+            dest,
+            object: params as u32 + local,
         },
     }
 }
