@@ -17,5 +17,3 @@ mod programs;
 mod sizes;
 #[cfg(test)]
 mod speed;
-#[cfg(test)]
-mod words;
