@@ -20,10 +20,12 @@ use Rattle.sc_print.proofs.Leaves.{name_kind, name_some}
 use Rattle.sc_print.proofs.Literals.{literal_kind, literal_some}
 use Rattle.sc_print.proofs.Apart.{IsWord, Calm, Quiet, quiet, plain_word, star_word, minus_word, open_paren}
 use Rattle.sc_print.proofs.Apart.{close_paren, open_square, close_square, semicolon, comma_word, open_curly}
-use Rattle.sc_print.proofs.Apart.{close_curly, equal_word, int_word, unsigned_word, struct_word, void_word}
+use Rattle.sc_print.proofs.Apart.{close_curly, equal_word}
 use Rattle.sc_print.proofs.Spacing.{Tidy, none, gap, next, at_level, line_end, tidy_append, Sound, word_quiet}
 use Rattle.sc_print.proofs.StmtSpacing.{Free, ended_tidy, expr_tidy, stmts_tidy}
 use Rattle.sc_print.proofs.Decls.{length_fits}
+use Rattle.sc_expr.specs.declared.mark.Keyword.TheVariants as keyword
+use Rattle.sc_print.proofs.Apart.{keyword_word}
 
 name_tidy : (name : List ℕ) → IsTrue (is_ident name) → (rest : List ℕ) → Calm rest → IsWord name rest
 name_tidy name ident rest calm = plain_word name rest kind.Ident (name_some name ident) (name_kind name ident) calm
@@ -34,9 +36,11 @@ literal_tidy number k rest calm = plain_word (literal_text number) rest kind.Int
     (literal_kind number k) calm
 
 base_tidy : (b : BaseTree) → IsTrue (kept_base b) → Sound (base_words b)
-base_tidy base.Int k rest calm = next (int_word _ calm) none
-base_tidy base.Unsigned k rest calm = next (unsigned_word _ refl) (gap (next (int_word _ calm) none))
-base_tidy (base.Struct tag) k rest calm = next (struct_word _ refl) (gap (next (name_tidy tag k _ calm) none))
+base_tidy base.Int k rest calm = next (keyword_word keyword.Int _ calm) none
+base_tidy base.Unsigned k rest calm = next (keyword_word keyword.Unsigned _ refl)
+    (gap (next (keyword_word keyword.Int _ calm) none))
+base_tidy (base.Struct tag) k rest calm = next (keyword_word keyword.Struct _ refl)
+    (gap (next (name_tidy tag k _ calm) none))
 
 stars_quiet : (stars : ℕ) (rest : List ℕ) → Quiet rest → Quiet (text_of (star_words stars) ++ rest)
 stars_quiet zero rest q = q
@@ -97,7 +101,7 @@ joined_tidy words kept t x (y ∷ ys) k all rest calm q =
 struct_tidy : (tree : StructTree) → IsTrue (kept_struct tree) → Free (struct_words tree)
 struct_tidy tree k rest =
     let parts = and_parts (is_ident tree.name) (some_kept kept_member tree.members) k in
-    next (struct_word _ refl) (gap (next (name_tidy tree.name parts.0 _ refl)
+    next (keyword_word keyword.Struct _ refl) (gap (next (name_tidy tree.name parts.0 _ refl)
     (gap (next (open_curly _) (line_end (tidy_append (flat_map member_line tree.members) (word (codes "}") ∷
     word (codes ";") ∷ newline ∷ []) rest (each_tidy member_line kept_member member_tidy tree.members
     (all_of tree.members parts.1) _) (next (close_curly _) (next (semicolon _) (line_end none)))))))))
@@ -159,7 +163,7 @@ local_tidy l k =
 
 -- a result ends before a name
 result_tidy : (r : Option TypeName) → IsTrue (kept_result r) → (rest : List ℕ) → Quiet rest → Tidy (result_words r) rest
-result_tidy None k rest q = next (void_word _ refl) (gap none)
+result_tidy None k rest q = next (keyword_word keyword.Void _ refl) (gap none)
 result_tidy (Some ty) k rest q = tidy_append (base_words ty.base) (blank ∷ star_words ty.stars) rest
     (base_tidy ty.base k _ refl) (gap (stars_tidy ty.stars rest q))
 
@@ -198,7 +202,7 @@ param_tidy p k rest calm q = let parts = and_parts (kept_base p.ty.base) (kept_n
 
 params_tidy : (ps : List ParamTree) → list_all kept_param ps ≡ true → (rest : List ℕ) → Calm rest → Quiet rest →
     Tidy (params_words ps) rest
-params_tidy [] k rest calm q = next (void_word _ calm) none
+params_tidy [] k rest calm q = next (keyword_word keyword.Void _ calm) none
 params_tidy (p ∷ ps) k rest calm q = let parts = and_parts (kept_param p) (list_all kept_param ps) k in
     joined_tidy param_words kept_param param_tidy p ps parts.0 parts.1 rest calm q
 

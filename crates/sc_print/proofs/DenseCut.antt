@@ -5,7 +5,7 @@ use Rattle.sc_print.proofs.Common.{function_words, heading_words, import_words, 
 use Rattle.sc_print.proofs.Common.{newline, refl, section_words, subst, sym, symbols, text_of, true, ℕ, ◌++◌, ◌∙◌, ◌∷◌}
 use Rattle.sc_print.proofs.Common.{◌≡◌}
 use Rattle.sc_ast.specs.declared.section.Decl.TheVariants as decl
-use Rattle.sc_print.proofs.Spelling.{joined_symbols}
+use Rattle.sc_print.proofs.Reading.{joined_symbols}
 use Rattle.sc_print.proofs.Spacing.{Tidy, line_end, tidy_append}
 use Rattle.sc_print.proofs.Spacing as spacing
 use Rattle.sc_print.proofs.StmtSpacing.{Free}
@@ -26,9 +26,7 @@ dense_tidy (decl.Function tree) k rest = without_line (decl_tidy (decl.Function 
 
 decl_symbols : (d : Decl) → symbols (dense_decl d) ≡ symbols (decl_words d)
 decl_symbols (decl.Struct tree) = refl
-decl_symbols (decl.Global tree) = refl
-decl_symbols (decl.Proto tree) = refl
-decl_symbols (decl.Function tree) = refl
+decl_symbols _ = refl
 
 decls_symbols : (ds : List Decl) → symbols (flat_map dense_decl ds) ≡ symbols (flat_map decl_words ds)
 decls_symbols [] = refl
