@@ -1,6 +1,6 @@
 -- Words that stand apart from the text behind them.
-use Rattle.sc_print.proofs.Common.{BinaryOp, Bool, IsToken, List, Some, TokenKind, [], and_from, and_parts, ap, arith}
-use Rattle.sc_print.proofs.Common.{begins_block_comment, begins_line_comment, binary_text, codes, drop, false}
+use Rattle.sc_print.proofs.Common.{BinaryOp, Bool, IsToken, Keyword, List, Some, TokenKind, [], and_from, and_parts, ap}
+use Rattle.sc_print.proofs.Common.{arith, begins_block_comment, begins_line_comment, binary_text, codes, drop, false}
 use Rattle.sc_print.proofs.Common.{false≢true, is_mark, is_name_byte, is_reserved, le-leb, length, length-append}
 use Rattle.sc_print.proofs.Common.{list_all, mark_one, mark_two, marks, nat_le, prefix_len, refl, slice_index, sym}
 use Rattle.sc_print.proofs.Common.{take, take-append_seam, true, word_found, word_kind, word_run, ℕ, ◌&&◌, ◌++◌, ◌<◌}
@@ -9,7 +9,6 @@ use Rattle.std.proofs.Math.Bool.{and-false}
 use Rattle.sc_lex.specs.declared.token.TokenKind.TheVariants as kind
 use Rattle.sc_base.specs.declared.op.BinaryOp.TheVariants as binary
 use Rattle.sc_print.proofs.Literals.{no_table}
-use Rattle.sc_expr.specs.declared.mark.Keyword.{Keyword}
 use Rattle.sc_expr.specs.declared.mark.Keyword.TheVariants as keyword
 use Rattle.sc_print.proofs.Tables.{keyword_text}
 

@@ -1,17 +1,18 @@
 -- The words of declarations stand apart.
 use Rattle.sc_print.proofs.Common.{BaseTree, Bool, Decl, ExprTree, FunctionTree, GlobalTree, HeadTree, InitTree, IsTrue}
-use Rattle.sc_print.proofs.Common.{List, LocalTree, MemberTree, None, Number, Option, ParamTree, Piece, Some}
-use Rattle.sc_print.proofs.Common.{StructTree, TypeName, TypeTree, [], and_parts, append-nil, append_assoc, are_kept}
-use Rattle.sc_print.proofs.Common.{base_words, blank, blank_if, codes, comma, const_words, decl_words, declared_words}
-use Rattle.sc_print.proofs.Common.{ended, false, false≢true, fits, flat_map, function_words, global_words, head_of}
-use Rattle.sc_print.proofs.Common.{head_words, init_words, is_ident, is_kept_decl, is_some, join_by, kept_base}
-use Rattle.sc_print.proofs.Common.{kept_const, kept_function, kept_global, kept_head, kept_init, kept_length}
-use Rattle.sc_print.proofs.Common.{kept_local, kept_member, kept_name, kept_param, kept_result, kept_struct, kept_type}
-use Rattle.sc_print.proofs.Common.{kept_value, layouts, leb-true, length_number, length_words, line_of, lines_at}
-use Rattle.sc_print.proofs.Common.{list_all, literal_text, local_line, member_line, minus_words, name_words, nat_le}
-use Rattle.sc_print.proofs.Common.{nat_lt, newline, param_words, params_words, refl, result_words, some_kept}
-use Rattle.sc_print.proofs.Common.{star_words, struct_words, subst, suc, sym, text_of, true, value_words, word, zero, ℕ}
-use Rattle.sc_print.proofs.Common.{◌&&◌, ◌++◌, ◌||◌, ◌∷◌, ◌≡◌}
+use Rattle.sc_print.proofs.Common.{List, LocalTree, MemberTree, None, Number, Option, ParamTree, Piece, Some, TypeName}
+use Rattle.sc_print.proofs.Common.{TypeTree, [], and_parts, append-nil, append_assoc, are_kept, base_words, blank}
+use Rattle.sc_print.proofs.Common.{blank_if, codes, comma, const_words, decl_words, declared_words, ended, false}
+use Rattle.sc_print.proofs.Common.{false≢true, fits, flat_map, function_words, global_words, head_of, head_words}
+use Rattle.sc_print.proofs.Common.{init_words, is_ident, is_kept_decl, is_some, join_by, kept_base, kept_const}
+use Rattle.sc_print.proofs.Common.{kept_function, kept_global, kept_head, kept_init, kept_length, kept_local}
+use Rattle.sc_print.proofs.Common.{kept_member, kept_name, kept_param, kept_result, kept_struct, kept_type, kept_value}
+use Rattle.sc_print.proofs.Common.{layouts, leb-true, length_number, length_words, line_of, lines_at, list_all}
+use Rattle.sc_print.proofs.Common.{literal_text, local_line, member_line, minus_words, name_words, nat_le, nat_lt}
+use Rattle.sc_print.proofs.Common.{newline, param_words, params_words, refl, result_words, some_kept, star_words}
+use Rattle.sc_print.proofs.Common.{struct_words, subst, suc, sym, text_of, true, value_words, word, zero, ℕ, ◌&&◌, ◌++◌}
+use Rattle.sc_print.proofs.Common.{◌||◌, ◌∷◌, ◌≡◌}
+use Rattle.sc_ast.specs.declared.section.StructTree.{StructTree}
 use Rattle.sc_ast.specs.declared.types.BaseTree.TheVariants as base
 use Rattle.sc_ast.specs.declared.section.InitTree.TheVariants as init
 use Rattle.sc_ast.specs.declared.section.Decl.TheVariants as decl
@@ -20,12 +21,11 @@ use Rattle.sc_print.proofs.Leaves.{name_kind, name_some}
 use Rattle.sc_print.proofs.Literals.{literal_kind, literal_some}
 use Rattle.sc_print.proofs.Apart.{IsWord, Calm, Quiet, quiet, plain_word, star_word, minus_word, open_paren}
 use Rattle.sc_print.proofs.Apart.{close_paren, open_square, close_square, semicolon, comma_word, open_curly}
-use Rattle.sc_print.proofs.Apart.{close_curly, equal_word}
+use Rattle.sc_print.proofs.Apart.{close_curly, equal_word, keyword_word}
 use Rattle.sc_print.proofs.Spacing.{Tidy, none, gap, next, at_level, line_end, tidy_append, Sound, word_quiet}
 use Rattle.sc_print.proofs.StmtSpacing.{Free, ended_tidy, expr_tidy, stmts_tidy}
 use Rattle.sc_print.proofs.Decls.{length_fits}
 use Rattle.sc_expr.specs.declared.mark.Keyword.TheVariants as keyword
-use Rattle.sc_print.proofs.Apart.{keyword_word}
 
 name_tidy : (name : List ℕ) → IsTrue (is_ident name) → (rest : List ℕ) → Calm rest → IsWord name rest
 name_tidy name ident rest calm = plain_word name rest kind.Ident (name_some name ident) (name_kind name ident) calm

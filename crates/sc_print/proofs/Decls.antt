@@ -1,13 +1,12 @@
 -- The words of declarations spell them, lines aside.
-use Rattle.sc_print.proofs.Common.{BaseTree, Bool, InitTree, IsTrue, Lexeme, List, None, Number, Option, Separated}
-use Rattle.sc_print.proofs.Common.{Some, SpellsBase, SpellsConst, SpellsDeclarator, SpellsInit, SpellsStars}
-use Rattle.sc_print.proofs.Common.{SpellsTypeName, TypeTree, [], and_from, and_parts, ap, append-nil, arith}
-use Rattle.sc_print.proofs.Common.{array_length, base_words, blank, cases_lt, codes, comma, const_words, declared_words}
-use Rattle.sc_print.proofs.Common.{false, false≢true, fits, flat_map, init_words, is_ident, join_by, kept_base}
+use Rattle.sc_print.proofs.Common.{BaseTree, Bool, InitTree, IsTrue, List, None, Number, Option, Piece, Some}
+use Rattle.sc_print.proofs.Common.{SpellsBase, SpellsConst, SpellsDeclarator, SpellsInit, SpellsStars, TypeTree, []}
+use Rattle.sc_print.proofs.Common.{and_from, and_parts, arith, array_length, base_words, cases_lt, codes, comma}
+use Rattle.sc_print.proofs.Common.{const_words, false, false≢true, fits, init_words, is_ident, join_by, kept_base}
 use Rattle.sc_print.proofs.Common.{kept_const, kept_init, kept_length, kept_type, le-leb, leb-true, length_number}
-use Rattle.sc_print.proofs.Common.{length_words, list_all, literal_text, lt-ltb, minus_words, more, nat_le, nat_lt, one}
-use Rattle.sc_print.proofs.Common.{or_right, star_words, subst, suc, sym, symbols, true, word, word_symbol, zero, ℕ}
-use Rattle.sc_print.proofs.Common.{⊎_elim, ◌++◌, ◌+◌, ◌||◌, ◌∙◌, ◌∷◌, ◌≡◌, ◌≤◌}
+use Rattle.sc_print.proofs.Common.{length_words, list_all, literal_text, lt-ltb, minus_words, nat_le, nat_lt, or_right}
+use Rattle.sc_print.proofs.Common.{star_words, subst, suc, true, word, zero, ℕ, ⊎_elim, ◌++◌, ◌+◌, ◌||◌, ◌∙◌, ◌∷◌, ◌≡◌}
+use Rattle.sc_print.proofs.Common.{◌≤◌}
 use Rattle.sc_base.specs.declared.op.UnaryOp.TheVariants as unary
 use Rattle.sc_ast.specs.declared.types.BaseTree.TheVariants as base
 use Rattle.sc_ast.specs.declared.section.ConstTree.{ConstTree}
@@ -19,7 +18,6 @@ use Rattle.sc_print.proofs.Tables as tables
 use Rattle.sc_print.proofs.Leaves.{name_says}
 use Rattle.sc_print.proofs.Literals.{literal_says}
 use Rattle.sc_print.proofs.Reading.{Reading, part, written, reads, separated}
-use Rattle.sc_print.specs.Common.{Piece}
 use Rattle.sc_expr.specs.declared.mark.Keyword.TheVariants as keyword
 
 pub base_reads : (b : BaseTree) → IsTrue (kept_base b) → Reading (base_words b) (λ ts. SpellsBase ts b)

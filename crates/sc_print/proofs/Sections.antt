@@ -1,25 +1,22 @@
 -- The words of whole declarations spell them, lines aside.
-use Rattle.sc_print.proofs.Common.{BaseTree, Bool, Decl, Declares, ExprTree, FunctionTree, GlobalTree, Grouped}
-use Rattle.sc_print.proofs.Common.{HeadTree, IsGlobal, IsLocal, IsMark, IsMember, IsTrue, Lexeme, List, LocalTree}
-use Rattle.sc_print.proofs.Common.{MemberTree, None, Option, ParamTree, Piece, Separated, Some, SpellsBase, SpellsDecl}
-use Rattle.sc_print.proofs.Common.{SpellsFunction, SpellsHead, SpellsParam, SpellsParams, SpellsResult, SpellsStruct}
-use Rattle.sc_print.proofs.Common.{SpellsValue, StructTree, TypeName, [], and_parts, ap, append-nil, append_assoc, ap₂}
-use Rattle.sc_print.proofs.Common.{are_kept, base_words, blank, blank_if, codes, comma, decl_words, declared_words}
-use Rattle.sc_print.proofs.Common.{ended, expr_words, false, false≢true, first_line, flat_map, function_words}
-use Rattle.sc_print.proofs.Common.{global_words, head_of, head_words, init_words, is_ident, is_kept_decl, join_by}
-use Rattle.sc_print.proofs.Common.{kept_base, kept_function, kept_global, kept_head, kept_init, kept_local, kept_member}
-use Rattle.sc_print.proofs.Common.{kept_name, kept_param, kept_result, kept_struct, kept_type, kept_value, layouts}
-use Rattle.sc_print.proofs.Common.{lineless_decl, lineless_function_head, lineless_local, lineless_stmts, lines_at}
-use Rattle.sc_print.proofs.Common.{list_all, local_line, map, member_line, more, nat_lt, newline, one, param_words}
-use Rattle.sc_print.proofs.Common.{params_words, refl, result_words, some_kept, star_words, struct_words, subst, sym}
-use Rattle.sc_print.proofs.Common.{symbols, true, type_name, value_words, word, word_symbol, ℕ, ◌&&◌, ◌++◌, ◌||◌, ◌∙◌}
-use Rattle.sc_print.proofs.Common.{◌∷◌, ◌≡◌}
-use Rattle.sc_ast.specs.declared.section.FunctionHead.{FunctionHead}
+use Rattle.sc_print.proofs.Common.{BaseTree, Bool, Decl, Declares, DeclsSpell, ExprTree, FunctionTree, GlobalTree}
+use Rattle.sc_print.proofs.Common.{Grouped, HeadTree, IsGlobal, IsLocal, IsMember, IsTrue, Lexeme, List, LocalTree}
+use Rattle.sc_print.proofs.Common.{MemberTree, None, Option, ParamTree, Piece, Some, SpellsDecl, SpellsDeclarator}
+use Rattle.sc_print.proofs.Common.{SpellsHead, SpellsInit, SpellsParam, SpellsParams, SpellsResult, SpellsTypeName}
+use Rattle.sc_print.proofs.Common.{SpellsValue, TypeName, TypeTree, [], and_parts, ap, append-nil, append_assoc}
+use Rattle.sc_print.proofs.Common.{are_kept, base_words, blank, blank_if, codes, decl_words, declared_words, ended}
+use Rattle.sc_print.proofs.Common.{expr_words, false, false≢true, first_line, flat_map, function_words, global_words}
+use Rattle.sc_print.proofs.Common.{head_of, head_words, init_words, is_ident, is_kept_decl, is_some, kept_base}
+use Rattle.sc_print.proofs.Common.{kept_function, kept_global, kept_head, kept_init, kept_length, kept_local}
+use Rattle.sc_print.proofs.Common.{kept_member, kept_name, kept_param, kept_result, kept_type, kept_value, layouts}
+use Rattle.sc_print.proofs.Common.{line_of, lineless_decl, lineless_function_head, lineless_local, lineless_stmts}
+use Rattle.sc_print.proofs.Common.{lines_at, list_all, local_line, map, member_line, name_words, nat_lt, newline, one}
+use Rattle.sc_print.proofs.Common.{param_words, params_words, refl, result_words, some_kept, star_words, struct_words}
+use Rattle.sc_print.proofs.Common.{subst, symbols, true, type_name, value_words, word, ℕ, ◌&&◌, ◌++◌, ◌||◌, ◌∙◌, ◌∷◌}
+use Rattle.sc_print.proofs.Common.{◌≡◌}
 use Rattle.sc_ast.specs.declared.section.Decl.TheVariants as decl
-use Rattle.sc_expr.specs.declared.mark.Mark.TheVariants as mark
 use Rattle.sc_parse.specs.Lists as lists
 use Rattle.sc_parse.specs.Declarations as decls
-use Rattle.sc_print.specs.DeclsRead.{DeclsSpell}
 use Rattle.sc_print.proofs.Each.{all_at}
 use Rattle.sc_print.proofs.Tables as tables
 use Rattle.sc_print.proofs.Leaves.{name_says}
@@ -28,9 +25,6 @@ use Rattle.sc_print.proofs.Reading.{line_symbols, joined_symbols}
 use Rattle.sc_print.proofs.Simple.{expr_reads}
 use Rattle.sc_print.proofs.Stmts.{lines_read, everywhere}
 use Rattle.sc_print.proofs.Decls.{base_reads, stars_read, declarator_words, declarator_reads, init_reads}
-use Rattle.sc_print.proofs.Common.{SpellsDeclarator, SpellsInit, SpellsTypeName, TypeTree, kept_length, line_of}
-use Rattle.sc_ast.specs.SectionWords.{name_words}
-use Rattle.std.specs.Prelude.{is_some}
 use Rattle.sc_print.proofs.Lists.{Say}
 use Rattle.sc_expr.specs.declared.mark.Keyword.TheVariants as keyword
 

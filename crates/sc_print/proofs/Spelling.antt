@@ -2,11 +2,11 @@
 use Rattle.sc_print.proofs.Common.{BinaryOp, Bool, ExprTree, ExprTree-F, IsTrue, Lexeme, List, Mark, Piece, Printed}
 use Rattle.sc_print.proofs.Common.{Some, Spells, Under, WordsSpell, [], and_parts, ap, apart, append-nil, arith, arrow}
 use Rattle.sc_print.proofs.Common.{binary_text, binary_words, blank, bytes_eq, codes, expr_at, expr_induction}
-use Rattle.sc_print.proofs.Common.{expr_step, false, if◌then◌else◌, in_parens, index, is_doubled}
-use Rattle.sc_print.proofs.Common.{is_ident, is_kept, joined, kept_step, literal, literal_text, ltb-false, map-ExprTree}
-use Rattle.sc_print.proofs.Common.{member, nat_lt, parenthesised, prefix_of, prefix_words, prefixed}
-use Rattle.sc_print.proofs.Common.{refl, roll-ExprTree, subst, sym, symbols, true, unary_text, variable, word}
-use Rattle.sc_print.proofs.Common.{word_symbol, words_at, «prefix», ℕ, ◌&&◌, ◌++◌, ◌-◌, ◌∙◌, ◌∷◌, ◌≡◌, ◌≤◌}
+use Rattle.sc_print.proofs.Common.{expr_step, false, if◌then◌else◌, in_parens, index, is_doubled, is_ident, is_kept}
+use Rattle.sc_print.proofs.Common.{joined, kept_step, literal, literal_text, ltb-false, map-ExprTree, member, nat_lt}
+use Rattle.sc_print.proofs.Common.{parenthesised, prefix_of, prefix_words, prefixed, refl, roll-ExprTree, subst, sym}
+use Rattle.sc_print.proofs.Common.{symbols, true, unary_text, variable, word, word_symbol, words_at, «prefix», ℕ, ◌&&◌}
+use Rattle.sc_print.proofs.Common.{◌++◌, ◌-◌, ◌∙◌, ◌∷◌, ◌≡◌, ◌≤◌}
 use Rattle.sc_base.specs.Levels as levels
 use Rattle.sc_ast.specs.declared.expr.ExprTree.TheOpen as term
 use Rattle.sc_ast.specs.declared.expr.ExprTree.TheVariants as expr

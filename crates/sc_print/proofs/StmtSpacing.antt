@@ -1,14 +1,14 @@
 -- The words of statements stand apart.
 use Rattle.sc_print.proofs.Common.{Bool, CallTree, Each, ExprTree, Inside, IsTrue, Layout, List, None, Option, Piece}
 use Rattle.sc_print.proofs.Common.{SimpleKind, SimpleTree, Some, StmtKind, StmtKind-F, StmtTree, [], all_kept}
-use Rattle.sc_print.proofs.Common.{and_parts, append-nil, are_kept, behind_else, blank, block_words, call_words}
-use Rattle.sc_print.proofs.Common.{chain_words, codes, comma, condition_words, deeper, else_words, ended, equals}
-use Rattle.sc_print.proofs.Common.{expr_words, false, first_words, for_words, if_words, if◌then◌else◌, indent, is_chain}
-use Rattle.sc_print.proofs.Common.{is_ident, is_kept, is_kept_stmt, is_place, join_by, kept_call, kept_kind}
-use Rattle.sc_print.proofs.Common.{kept_option, kept_place, kept_simple, kind_layout, layouts, length, line_of}
-use Rattle.sc_print.proofs.Common.{lines_at, list_all, map, map-StmtKind, newline, next_words, place_words, refl}
-use Rattle.sc_print.proofs.Common.{return_words, roll-StmtKind, simple_words, stmt_at, stmt_induction, stmt_layout}
-use Rattle.sc_print.proofs.Common.{subst, sym, true, word, ℕ, ◌&&◌, ◌++◌, ◌==◌, ◌∷◌, ◌≡◌}
+use Rattle.sc_print.proofs.Common.{and_parts, append-nil, are_kept, blank, block_words, call_words, chain_words, codes}
+use Rattle.sc_print.proofs.Common.{comma, condition_words, deeper, else_words, ended, equals, expr_words, false}
+use Rattle.sc_print.proofs.Common.{first_words, for_words, if◌then◌else◌, indent, is_chain, is_ident, is_kept}
+use Rattle.sc_print.proofs.Common.{is_kept_stmt, is_place, join_by, kept_call, kept_kind, kept_option, kept_place}
+use Rattle.sc_print.proofs.Common.{kept_simple, kind_layout, layouts, length, line_of, lines_at, list_all, map}
+use Rattle.sc_print.proofs.Common.{map-StmtKind, newline, next_words, place_words, refl, return_words, roll-StmtKind}
+use Rattle.sc_print.proofs.Common.{simple_words, stmt_at, stmt_induction, stmt_layout, subst, sym, true, word, ℕ, ◌&&◌}
+use Rattle.sc_print.proofs.Common.{◌++◌, ◌==◌, ◌∷◌, ◌≡◌}
 use Rattle.sc_ast.specs.StmtWords as printing
 use Rattle.sc_ast.specs.declared.stmt.SimpleKind.TheVariants as simple
 use Rattle.sc_ast.specs.declared.stmt.StmtKind.TheOpen as layer
@@ -17,10 +17,9 @@ use Rattle.sc_print.specs.KeptStmts as kept
 use Rattle.sc_print.proofs.Each.{all_at}
 use Rattle.sc_print.proofs.Leaves.{name_kind, name_some}
 use Rattle.sc_print.proofs.Apart.{IsWord, Calm, plain_word, open_paren, close_paren, semicolon, comma_word, open_curly}
-use Rattle.sc_print.proofs.Apart.{close_curly, equal_word}
+use Rattle.sc_print.proofs.Apart.{close_curly, equal_word, keyword_word}
 use Rattle.sc_print.proofs.Spacing.{Tidy, none, gap, next, at_level, line_end, tidy_append, Sound, tidy_at}
 use Rattle.sc_expr.specs.declared.mark.Keyword.TheVariants as keyword
-use Rattle.sc_print.proofs.Apart.{keyword_word}
 
 -- pieces that stand apart whatever is behind them
 abbrev pub Free : List Piece → Type 0

@@ -1,18 +1,17 @@
 -- The words of statements spell them, lines aside.
-use Rattle.sc_print.proofs.Common.{Bool, Each, ExprTree, Inside, IsTrue, Layout, Lexeme, List, None, Option, Piece}
-use Rattle.sc_print.proofs.Common.{SimpleKind, SimpleTree, Some, SpellsBlock, SpellsCondition, SpellsIf, SpellsKind}
-use Rattle.sc_print.proofs.Common.{SpellsPart, SpellsSimple, SpellsStmtKind, SpellsStmts, SpellsTest, StmtKind}
+use Rattle.sc_print.proofs.Common.{Bool, Each, ExprTree, Inside, IsKeyword, IsMark, IsTrue, Keyword, Layout, Lexeme}
+use Rattle.sc_print.proofs.Common.{List, None, Option, Piece, SimpleKind, SimpleTree, Some, SpellsBlock}
+use Rattle.sc_print.proofs.Common.{SpellsCondition, SpellsIf, SpellsPart, SpellsStmtKind, SpellsStmts, StmtKind}
 use Rattle.sc_print.proofs.Common.{StmtKind-F, StmtTree, StmtsSpell, [], all_kept, and_parts, ap, append-nil}
-use Rattle.sc_print.proofs.Common.{append_assoc, ap₂, are_kept, arith, assign_call_words, assign_words, bare_stmt}
-use Rattle.sc_print.proofs.Common.{behind_else, blank, block_words, call_words, chain_words, codes, condition_words}
-use Rattle.sc_print.proofs.Common.{deeper, else_words, ended, eqb-true, expr_words, false, false≢true, first_line}
-use Rattle.sc_print.proofs.Common.{first_words, for_words, if_words, if◌then◌else◌, indent, is_chain, is_kept}
-use Rattle.sc_print.proofs.Common.{is_kept_stmt, kept_call, kept_kind, kept_option, kept_place, kept_simple}
-use Rattle.sc_print.proofs.Common.{kind_layout, layouts, length, line_of, lineless_kind, lineless_option, lineless_stmt}
-use Rattle.sc_print.proofs.Common.{lineless_stmts, lines_at, list_all, map, map-StmtKind, ne_eqb, newline, next_words}
-use Rattle.sc_print.proofs.Common.{refl, return_words, roll-StmtKind, rules, simple_words, stmt_at, stmt_induction}
-use Rattle.sc_print.proofs.Common.{stmt_layout, subst, sym, symbols, true, word, word_symbol, ℕ, ◌&&◌, ◌++◌, ◌==◌, ◌∙◌}
-use Rattle.sc_print.proofs.Common.{◌∷◌, ◌≡◌}
+use Rattle.sc_print.proofs.Common.{append_assoc, ap₂, are_kept, arith, bare_stmt, behind_else, blank, block_words}
+use Rattle.sc_print.proofs.Common.{call_words, chain_words, codes, condition_words, deeper, else_words, ended, eqb-true}
+use Rattle.sc_print.proofs.Common.{expr_words, false, false≢true, first_line, first_words, for_words, if_words}
+use Rattle.sc_print.proofs.Common.{if◌then◌else◌, indent, is_chain, is_kept, is_kept_stmt, kept_kind, kept_option}
+use Rattle.sc_print.proofs.Common.{kept_simple, kind_layout, layouts, length, line_of, lineless_kind, lineless_option}
+use Rattle.sc_print.proofs.Common.{lineless_stmt, lineless_stmts, lines_at, list_all, map, map-StmtKind, ne_eqb}
+use Rattle.sc_print.proofs.Common.{newline, next_words, refl, return_words, roll-StmtKind, rules, simple_words, stmt_at}
+use Rattle.sc_print.proofs.Common.{stmt_induction, stmt_layout, subst, sym, symbols, true, word, word_symbol, ℕ, ◌&&◌}
+use Rattle.sc_print.proofs.Common.{◌++◌, ◌==◌, ◌∙◌, ◌∷◌, ◌≡◌}
 use Rattle.sc_ast.specs.Prelude.{kind_of}
 use Rattle.sc_ast.specs.StmtWords as printing
 use Rattle.sc_ast.specs.declared.stmt.SimpleKind.TheVariants as simple
@@ -24,11 +23,8 @@ use Rattle.sc_parse.specs.Statements as spell
 use Rattle.sc_print.specs.KeptStmts as kept
 use Rattle.sc_print.proofs.Each.{all_at}
 use Rattle.sc_print.proofs.Tables as tables
-use Rattle.sc_expr.specs.declared.mark.Keyword.{Keyword}
 use Rattle.sc_expr.specs.declared.mark.Keyword.TheVariants as keyword
 use Rattle.sc_expr.specs.declared.mark.Mark.TheVariants as mark
-use Rattle.sc_parse.specs.Lists.{IsKeyword}
-use Rattle.sc_print.proofs.Common.{IsMark}
 use Rattle.sc_print.proofs.Lists.{Say}
 use Rattle.sc_print.proofs.Reading.{Reading, fixed, part, written, reads, line_symbols}
 use Rattle.sc_print.proofs.Simple.{expr_reads, call_reads, simple_reads, in_brackets, condition_reads}

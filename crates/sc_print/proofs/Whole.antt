@@ -3,13 +3,12 @@ use Rattle.sc_print.proofs.Common.{Decl, IsTrue, Lexeme, List, Piece, SameButLin
 use Rattle.sc_print.proofs.Common.{SpellsDirectives, SpellsSection, [], and_parts, ap, append_assoc, begins_heading}
 use Rattle.sc_print.proofs.Common.{decl_words, export_words, flat_map, import_words, is_kept_decl, is_name, kept_export}
 use Rattle.sc_print.proofs.Common.{kept_import, kept_section, lineless_decl, lineless_export, lineless_import, list_all}
-use Rattle.sc_print.proofs.Common.{map, printed, refl, section_words, subst, sym, symbols, text_of, true, word_symbol}
-use Rattle.sc_print.proofs.Common.{ℕ, ◌&&◌, ◌++◌, ◌∙◌, ◌∷◌, ◌≡◌}
+use Rattle.sc_print.proofs.Common.{map, printed, refl, section_words, sym, symbols, text_of, true, word, ℕ, ◌&&◌, ◌++◌}
+use Rattle.sc_print.proofs.Common.{◌∙◌, ◌∷◌, ◌≡◌}
 use Rattle.sc_ast.specs.declared.section.ExportLine.{ExportLine}
 use Rattle.sc_ast.specs.declared.section.ImportLine.{ImportLine}
 use Rattle.sc_parse.specs.Sections as spell
 use Rattle.sc_print.proofs.Reading.{Reading, part, written, reads}
-use Rattle.sc_print.proofs.Common.{word}
 use Rattle.sc_print.proofs.DirectiveWords.{export_text, export_says, export_line_is, import_text, import_says}
 use Rattle.sc_print.proofs.DirectiveWords.{import_line_is, heading_text, heading_says, heading_line_is, heading_begins}
 use Rattle.sc_print.proofs.Lined.{Lined, tidy, line, found_lines}
