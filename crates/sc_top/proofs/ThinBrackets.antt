@@ -4,11 +4,12 @@ use Rattle.sc_top.proofs.Common.{is_reserved, layouts, line_of, lines_at, litera
 use Rattle.sc_top.proofs.Common.{section_words, subst, sym, symbols, word, word_symbol, ℕ, ◌++◌, ◌+◌, ◌-◌, ◌∙◌, ◌∷◌}
 use Rattle.sc_top.proofs.Common.{◌≡◌, ◌≤◌}
 use Rattle.sc_expr.specs.declared.lexeme.Symbol.{Symbol}
+use Rattle.sc_expr.specs.declared.mark.Keyword.TheVariants as keyword
 use Rattle.sc_print.proofs.Tables as tables
 use Rattle.sc_print.proofs.Leaves.{name_says}
 use Rattle.sc_print.proofs.Literals.{literal_says}
 use Rattle.sc_print.proofs.DirectiveWords.{heading_says, import_says}
-use Rattle.sc_print.proofs.Spelling.{joined_symbols}
+use Rattle.sc_print.proofs.Reading.{joined_symbols}
 use Rattle.sc_top.proofs.Bodies.{AreSmall}
 use Rattle.sc_top.proofs.ThinTree.{number, output_words, body_of, body_words, lines_are, tree_of, small_fits}
 
@@ -31,13 +32,13 @@ even_semicolon : Even (word_symbol (codes ";"))
 even_semicolon count = ap (λ s. open_after s count) tables.semicolon
 
 even_return : Even (word_symbol (codes "return"))
-even_return count = ap (λ s. open_after s count) tables.return_word
+even_return count = ap (λ s. open_after s count) (tables.keyword_says keyword.Return)
 
 even_void : Even (word_symbol (codes "void"))
-even_void count = ap (λ s. open_after s count) tables.void_word
+even_void count = ap (λ s. open_after s count) (tables.keyword_says keyword.Void)
 
 even_int : Even (word_symbol (codes "int"))
-even_int count = ap (λ s. open_after s count) tables.int_word
+even_int count = ap (λ s. open_after s count) (tables.keyword_says keyword.Int)
 
 opening : (count : ℕ) → open_after (word_symbol (codes "(")) count ≡ count + 1
 opening count = ap (λ s. open_after s count) tables.open_paren
