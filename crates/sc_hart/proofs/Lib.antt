@@ -1,0 +1,4 @@
+pub mod Fetching
+pub mod Registers
+pub mod Steps
+pub mod Words
