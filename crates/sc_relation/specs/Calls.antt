@@ -74,7 +74,7 @@ module _ (T : Setting) where
     pub aligned : P.bound % 4 ≡ 0
     pub high : P.bound ≤ stack_top P.comp
     pub ra : x.regs ra ≡ ra_is
-    pub args : ArePassed (x.inj P.comp) x.regs args
+    pub passed : ArePassed (x.inj P.comp) x.regs args
 
   -- it stands at the jump back: its frame has gone, and a0 has its value
   pub record IsLeft (P : Standpoint) (x : Joint) (budget ra_is : ℕ) (v : Option Value) (meant : Meant) : Type 0 where

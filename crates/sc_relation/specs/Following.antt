@@ -43,7 +43,7 @@ module _ (T : Setting) (R : Running) where
   pub record Ready (live : Set) (temps : Temps) (x : Joint) : Type 0 where
     pub settled : Settled T (seen_from R.activation) x
     pub frame : FrameMatches T.image R.activation x.inj x.meant.memory x.bytes
-    pub temps : AreHeld R.activation R.places x.inj x.regs x.bytes live temps
+    pub held : AreHeld R.activation R.places x.inj x.regs x.bytes live temps
     pub sp : x.regs sp ≡ R.activation.sp
 
   -- the code comes to this place, with these temporaries and this state of the meaning
@@ -90,7 +90,7 @@ module _ (T : Setting) (R : Running) where
       Type 0 where
     pub ready : Ready (live_at trail lives) temps x
     pub clear : All (IsClear R.places) (trail.points lives)
-    pub code : StandsAt x.pc code to_break to_continue
+    pub stands : StandsAt x.pc code to_break to_continue
     pub breaks : x.pc + 4 * (code.size + to_break) ≤ R.last
     pub continues : x.pc + 4 * (code.size + to_continue) ≤ R.last
 
