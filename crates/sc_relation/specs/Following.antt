@@ -38,6 +38,22 @@ pub record Running : Type 0 where
   pub places : List Place
   pub last : ℕ
 
+-- where control may go on, and the budget that is left there
+pub record Ends : Type 0 where
+  pub left : ℕ
+  pub behind : ℕ
+  pub broken : ℕ
+  pub continued : ℕ
+
+-- of a piece at pc whose break and continue lie so far behind it
+abbrev pub ends_of : Code → (pc left to_break to_continue : ℕ) → Ends
+ends_of code pc left to_break to_continue = record {
+  left = left;
+  behind = pc + 4 * code.size;
+  broken = pc + 4 * (code.size + to_break);
+  continued = pc + 4 * (code.size + to_continue);
+}
+
 module _ (T : Setting) (R : Running) where
   -- all that a piece begins with, where these temporaries are live
   pub record Ready (live : Set) (temps : Temps) (x : Joint) : Type 0 where
@@ -66,18 +82,19 @@ module _ (T : Setting) (R : Running) where
     pub settled : Settled T (seen_from R.activation) y
 
   -- what comes of code: behind it, where a break leads, where a continue leads, or at the jump back
-  abbrev pub ExitGives : Lives → Joint → (budget left behind broken continued : ℕ) → Exit → Temps → Meant → Type 0
-  ExitGives lives x budget left behind broken continued Next temps s = Arrives lives.behind x budget left temps s behind
-  ExitGives lives x budget left behind broken continued Break temps s =
-      Arrives lives.broken x budget left temps s broken
-  ExitGives lives x budget left behind broken continued Continue temps s =
-      Arrives lives.continued x budget left temps s continued
-  ExitGives lives x budget left behind broken continued (Return v) temps s = Returns x budget v s
+  abbrev pub ExitGives : Lives → Joint → (budget : ℕ) → Ends → Exit → Temps → Meant → Type 0
+  ExitGives lives x budget ends Next temps s = Arrives lives.behind x budget ends.left temps s ends.behind
+  ExitGives lives x budget ends Break temps s = Arrives lives.broken x budget ends.left temps s ends.broken
+  ExitGives lives x budget ends Continue temps s = Arrives lives.continued x budget ends.left temps s ends.continued
+  ExitGives lives x budget ends (Return v) temps s = Returns x budget v s
 
-  abbrev pub Gives : Lives → Joint → (budget left behind broken continued : ℕ) → Piece (Left Temps) → Type 0
-  Gives lives x budget left behind broken continued (Reached l s) =
-      ExitGives lives x budget left behind broken continued l.exit l.carried s
-  Gives lives x budget left behind broken continued (Stopped end s) = Shows T (seen_from R.activation) x budget s
+  abbrev pub Gives : Lives → Joint → (budget : ℕ) → Ends → Piece (Left Temps) → Type 0
+  Gives lives x budget ends (Reached l s) = ExitGives lives x budget ends l.exit l.carried s
+  Gives lives x budget ends (Stopped end s) = Shows T (seen_from R.activation) x budget s
+
+  abbrev pub Comes : Lives → Joint → (budget : ℕ) → Ends → Piece (Left Temps) → Type 0
+  Comes lives x budget ends piece =
+      Gives lives x budget ends piece ⊎ Overflows T (seen_from R.activation) x budget piece
 
   -- the code of a piece stands at an address
   abbrev pub StandsAt : (pc : ℕ) → Code → (to_break to_continue : ℕ) → Type 0
@@ -102,6 +119,4 @@ module _ (T : Setting) (R : Running) where
     pub goes : (temps : Temps) → Goes (does temps)
     pub runs : (lives : Lives) (temps : Temps) (x : Joint) (left to_break to_continue : ℕ) →
         Starts code trail lives temps x to_break to_continue →
-        Gives lives x (code.size + left) left (x.pc + 4 * code.size) (x.pc + 4 * (code.size + to_break))
-        (x.pc + 4 * (code.size + to_continue)) (does temps x.meant)
-        ⊎ Overflows T (seen_from R.activation) x (code.size + left) (does temps x.meant)
+        Comes lives x (code.size + left) (ends_of code x.pc left to_break to_continue) (does temps x.meant)
