@@ -1,1 +1,4 @@
+pub mod Clear
+pub mod Lines
+pub mod Rows
 pub mod Stretches
