@@ -1,4 +1,5 @@
 pub mod Clear
+pub mod Jumps
 pub mod Lines
 pub mod Rows
 pub mod Stretches

@@ -11,6 +11,7 @@ use Rattle.sc_laws.specs.Growth.{Grown, Gone, Goes, last}
 use Rattle.sc_laws.proofs.Growing.{more, then_from}
 use Rattle.sc_tac.specs.Code.{Temps}
 use Rattle.sc_tac.specs.Points.{Set, Lives}
+use Rattle.sc_hart.specs.Hart.{Registers}
 use Rattle.sc_hart.proofs.Steps.{stay, then_go}
 use Rattle.sc_relation.specs.Blocks.{Injection, LiveAt, Beside, BlocksMatch, Guarded}
 use Rattle.sc_relation.specs.Stretches.{Setting, Joint, Standpoint, machine, Settled, Protected, Effect, Costs, Leads}
@@ -36,13 +37,16 @@ module _ (T : Setting) (P : Standpoint) where
     other = p.other;
   }
 
-  pub effect_none : (x : Joint) → Effect T P x x
-  effect_none x = record {
+  pub effect_still : (x : Joint) (pc : ℕ) (regs : Registers) → Effect T P x (record x { pc = pc; regs = regs })
+  effect_still x pc regs = record {
     grows = λ k b a h. h;
     lived = λ k b cells s live. (cells, live, refl);
     keeps = λ k q p. refl;
     rooms = λ k. refl;
   }
+
+  pub effect_none : (x : Joint) → Effect T P x x
+  effect_none x = effect_still x x.pc x.regs
 
   pub effect_then : (x y z : Joint) → Settled T P x → Effect T P x y → Effect T P y z → Effect T P x z
   effect_then x y z settled e f = record {
