@@ -88,6 +88,11 @@ module _ (T : Setting) (P : Standpoint) where
     effect = effect_then x y z settled l.effect k.effect;
   }
 
+  pub leads_then_steps : (x y z : Joint) (a b c : ℕ) (settled : Settled T P x) (l : Leads T P x y a b)
+      (k : Leads T P y z b c) → (leads_then x y z a b c settled l k).steps ≡ l.steps + k.steps
+  unfolding leads_then
+  leads_then_steps x y z a b c settled l k = refl
+
   pub leads_less : (x y : Joint) (a b c d : ℕ) → a ≤ c → d ≤ b → Leads T P x y a b → Leads T P x y c d
   leads_less x y a b c d h k l = record {
     steps = l.steps;
