@@ -1,0 +1,5 @@
+pub mod Rows
+pub mod Numbers
+pub mod Loading
+pub mod NearSp
+pub mod Frames
