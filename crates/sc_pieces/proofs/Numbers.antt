@@ -1,6 +1,6 @@
 -- Words and the immediates that make them.
-use Rattle.std.proofs.Common.{◌≡◌, ℕ, suc, ◌+◌, ◌-◌, ◌*◌, ◌/◌, ◌%◌, ◌^◌, ◌<◌, ◌≤◌, ℤ, pos, negsuc, Bool, true, false, nat_lt}
-use Rattle.std.proofs.Common.{if◌then◌else◌, refl, sym, ◌∙◌, ap, arith, ltb-true, ltb-false}
+use Rattle.std.proofs.Common.{◌≡◌, ℕ, suc, ◌-◌, ◌*◌, ◌%◌, ◌^◌, ◌<◌, ◌≤◌, pos, negsuc, Bool, true, false, nat_lt}
+use Rattle.std.proofs.Common.{if◌then◌else◌, refl, arith, ltb-true, ltb-false}
 use Rattle.sc_word.specs.Prelude.{word_of, signed_of, add_word}
 use Rattle.sc_select.specs.Pieces.{upper_part, lower_part}
 

@@ -14,8 +14,8 @@ use Rattle.sc_store.specs.Memory.{Memory}
 use Rattle.sc_image.specs.declared.parts.ImageParts.{ImageParts}
 use Rattle.sc_image.specs.Step.{computed, on_registers}
 use Rattle.sc_image.specs.Walks.{Walks}
-use Rattle.sc_hart.specs.Code.{Fetches, CodeAt}
-use Rattle.sc_hart.specs.Hart.{Registers, put, look, set, World, at}
+use Rattle.sc_hart.specs.Code.{Fetches}
+use Rattle.sc_hart.specs.Hart.{Registers, look, set, World, at}
 use Rattle.sc_hart.specs.Words.{word, put_word, Owned}
 use Rattle.sc_hart.proofs.Fetching.{front_at, back_at}
 use Rattle.sc_hart.proofs.Registers.{put_here, put_there}
