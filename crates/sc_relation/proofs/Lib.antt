@@ -1,3 +1,6 @@
 pub mod Access
+pub mod Frames
+pub mod Held
+pub mod Registers
 pub mod Storing
 pub mod Stretches
