@@ -45,6 +45,12 @@ of_cell place w (Word n) h = h
 of_cell place w Null h = h
 of_cell place w (Ptr p) h = h
 
+-- the words of live cells are as they were
+abbrev pub CellsKept : (performs : ℕ → Bool) → Injection → Memory → (bytes after : Bytes) → Type 0
+CellsKept performs inj memory bytes after =
+    (k b a i : ℕ) (cells : List Cell) → performs k ≡ false → LiveAt memory k b cells → inj k b ≡ Some a →
+    i < length cells → word after (a + 4 * i) ≡ word bytes (a + 4 * i)
+
 module _ (image : ImageParts) (formed : IsWellFormed image) (performs : ℕ → Bool) (floor : ℕ → ℕ) (inj : Injection)
     (memory : Memory) (bytes : Bytes) (blocks : BlocksMatch image performs floor inj memory bytes) where
   pub block_owned : (k b a i : ℕ) (cells : List Cell) → performs k ≡ false → LiveAt memory k b cells →
@@ -52,13 +58,7 @@ module _ (image : ImageParts) (formed : IsWellFormed image) (performs : ℕ → 
   block_owned k b a i cells honest live e l =
       cell_owned image (floor k) k a (length cells) i (blocks.placed k b a cells honest live e) l
 
-  -- the words of live cells are as they were
-  abbrev pub CellsKept : Bytes → Type 0
-  CellsKept after =
-      (k b a i : ℕ) (cells : List Cell) → performs k ≡ false → LiveAt memory k b cells → inj k b ≡ Some a →
-      i < length cells → word after (a + 4 * i) ≡ word bytes (a + 4 * i)
-
-  pub blocks_kept : (after : Bytes) → CellsKept after → BlocksMatch image performs floor inj memory after
+  pub blocks_kept : (after : Bytes) → CellsKept performs inj memory bytes after → BlocksMatch image performs floor inj memory after
   blocks_kept after h = record {
     there = blocks.there;
     placed = blocks.placed;
@@ -84,7 +84,7 @@ module _ (image : ImageParts) (formed : IsWellFormed image) (performs : ℕ → 
           apart_from (a + 4 * i) q (λ x y. omega (arith, beside, l))
 
   -- a guarded word is written
-  pub guarded_cells : (c q value : ℕ) → Guarded image inj memory c q → CellsKept (put_word bytes q value)
+  pub guarded_cells : (c q value : ℕ) → Guarded image inj memory c q → CellsKept performs inj memory bytes (put_word bytes q value)
   guarded_cells c q value g k b a i cells honest live e l =
       word_apart bytes q value (a + 4 * i) (guarded_apart c q k b a i cells g honest live e l)
 
