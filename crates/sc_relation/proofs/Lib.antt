@@ -4,4 +4,5 @@ pub mod Held
 pub mod Registers
 pub mod Settling
 pub mod Storing
+pub mod Straight
 pub mod Stretches
