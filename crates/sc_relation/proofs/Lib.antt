@@ -1,6 +1,13 @@
+pub mod Access
 pub mod Clear
+pub mod Frames
+pub mod Held
 pub mod Jumps
 pub mod Lines
 pub mod Loops
+pub mod Registers
 pub mod Rows
+pub mod Settling
+pub mod Storing
+pub mod Straight
 pub mod Stretches
