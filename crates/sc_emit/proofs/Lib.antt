@@ -1,1 +1,3 @@
 pub mod Operands
+pub mod Plain
+pub mod Straight

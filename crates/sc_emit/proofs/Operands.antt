@@ -86,6 +86,24 @@ module _ (T : Setting) (R : Running) (x : Joint) where
     -- its register is the scratch register, or one of temporaries
     pub its : (operand A.frame R.places scratch t ≡ scratch) ⊎ HasNoOtherUse (operand A.frame R.places scratch t)
 
+  -- Results.
+
+  -- code computes the word of a value into the register of a result
+  pub record Gives (code : List Instr) (dest : ℕ) (v : Value) : Type 0 where
+    pub word : ℕ
+    pub stands : StandsFor (x.inj A.here.comp) word v
+    pub after : Registers
+    pub does : Does T.image T.inputs world code x.regs x.bytes after x.bytes
+    pub result : after (result_register A.frame R.places dest) ≡ word
+    pub same : after sp ≡ x.regs sp
+    pub others : (q : ℕ) → HasNoOtherUse q → q ≢ result_register A.frame R.places dest → after q ≡ x.regs q
+
+  -- what walks to the end of code
+  pub walks_to : (code : List Instr) (after : Registers) (later : Bytes) →
+      Does T.image T.inputs world code x.regs x.bytes after later → CodeAt T.image A.here.comp x.pc code →
+      Walks T.image T.inputs (length code) (machine P x) (machine P (moved x (x.pc + 4 * length code) after later))
+  walks_to code after later does at = does.walks x.pc at
+
   module _ (cells : List ℕ) (nodes : ℕ) (is : IsActivation T.performs cells R.places nodes R.activation)
       (placed : ArePlaced R) (frame : FrameMatches T.image R.activation x.inj x.meant.memory x.bytes)
       (sp_is : x.regs sp ≡ R.activation.sp) where
@@ -161,24 +179,6 @@ module _ (T : Setting) (R : Running) (x : Joint) where
         value (Register r) h =
             subst (λ w. StandsFor (x.inj A.here.comp) w v) (sym (others (register_of r) (no_other_use r))) h
         value (Slot k) h = h
-
-    -- Results.
-
-    -- code computes the word of a value into the register of a result
-    pub record Gives (code : List Instr) (dest : ℕ) (v : Value) : Type 0 where
-      pub word : ℕ
-      pub stands : StandsFor (x.inj A.here.comp) word v
-      pub after : Registers
-      pub does : Does T.image T.inputs world code x.regs x.bytes after x.bytes
-      pub result : after (result_register A.frame R.places dest) ≡ word
-      pub same : after sp ≡ x.regs sp
-      pub others : (q : ℕ) → HasNoOtherUse q → q ≢ result_register A.frame R.places dest → after q ≡ x.regs q
-
-    -- what walks to the end of code
-    pub walks_to : (code : List Instr) (after : Registers) (later : Bytes) →
-        Does T.image T.inputs world code x.regs x.bytes after later → CodeAt T.image A.here.comp x.pc code →
-        Walks T.image T.inputs (length code) (machine P x) (machine P (moved x (x.pc + 4 * length code) after later))
-    walks_to code after later does at = does.walks x.pc at
 
     module _ (formed : IsWellFormed T.image) (inputs : All IsWord T.inputs) (lives : Lives) (temps : Temps)
         (reads : List ℕ) (dest left : ℕ) (ready : Ready T R (live_plain reads (Some dest) lives) temps x)
