@@ -88,15 +88,15 @@ module _ (T : Setting) (R : Running) (x : Joint) where
 
   -- Results.
 
-  -- code computes the word of a value into the register of a result
-  pub record Gives (code : List Instr) (dest : ℕ) (v : Value) : Type 0 where
+  -- code computes the word of a value into a register
+  pub record Gives (code : List Instr) (rd : ℕ) (v : Value) : Type 0 where
     pub word : ℕ
     pub stands : StandsFor (x.inj A.here.comp) word v
     pub after : Registers
     pub does : Does T.image T.inputs world code x.regs x.bytes after x.bytes
-    pub result : after (result_register A.frame R.places dest) ≡ word
+    pub result : after rd ≡ word
     pub same : after sp ≡ x.regs sp
-    pub others : (q : ℕ) → HasNoOtherUse q → q ≢ result_register A.frame R.places dest → after q ≡ x.regs q
+    pub others : (q : ℕ) → HasNoOtherUse q → q ≢ rd → after q ≡ x.regs q
 
   -- what walks to the end of code
   pub walks_to : (code : List Instr) (after : Registers) (later : Bytes) →
@@ -187,50 +187,56 @@ module _ (T : Setting) (R : Running) (x : Joint) where
       End code =
           Arrives T R lives.behind x (length code + left) left (with_temp dest v temps) x.meant (x.pc + 4 * length code)
 
-      kept_by : (code : List Instr) (place : Place) → slice_get R.places dest ≡ Some place → IsPlace A place →
-          Gives code dest v → CodeAt T.image A.here.comp x.pc (code ++ keep A.frame R.places dest) →
-          End (code ++ keep A.frame R.places dest)
-      kept_by code (Register r) its small g at =
-          let none : code ++ keep A.frame R.places dest ≡ code =
-              ap (λ o. code ++ kept A.frame o) its ∙ append-nil code in
-          let its_register : result_register A.frame R.places dest ≡ register_of r = ap (at_hand first_scratch) its in
-          let value : StandsFor (x.inj A.here.comp) (g.after (register_of r)) v =
-              subst (λ w. StandsFor (x.inj A.here.comp) w v)
-              (sym (sym (ap g.after its_register) ∙ g.result)) g.stands in
-          subst End (sym none)
-          (assigned T R formed inputs cells nodes is reads lives temps x (length code) left dest
+      -- into the register of a temporary
+      pub keeps_register : (code : List Instr) (r : ℕ) → slice_get R.places dest ≡ Some (Register r) →
+          Gives code (register_of r) v → CodeAt T.image A.here.comp x.pc code → End code
+      keeps_register code r its g at =
+          assigned T R formed inputs cells nodes is reads lives temps x (length code) left dest
           (x.pc + 4 * length code) (Register r) v g.after x.bytes ready clear its
-          (assigns_register T R x r v g.after g.same value
-          (λ q h n. g.others q h (λ e. n (e ∙ its_register))))
-          (walks_to code g.after x.bytes g.does (subst (CodeAt T.image A.here.comp x.pc) none at)))
-      kept_by code (Slot k) its there g at =
-          let offset : ℕ = there.0 in
-          let e : slice_get A.frame.slots k ≡ Some offset = there.1 in
-          let whole : code ++ keep A.frame R.places dest ≡ code ++ store_word first_scratch offset =
-              ap (λ o. code ++ kept A.frame o) its ∙
-              ap (λ o. code ++ store_word first_scratch o) (offset_is k offset e) in
-          let its_register : result_register A.frame R.places dest ≡ first_scratch = ap (at_hand first_scratch) its in
-          let result : look g.after first_scratch ≡ g.word =
-              look_at g.after first_scratch (omega arith) ∙ sym (ap g.after its_register) ∙ g.result in
-          let stores : Stores T.image T.inputs world (store_word first_scratch offset) (7 ∷ []) g.after x.bytes
+          (assigns_register T R x r v g.after g.same
+          (subst (λ w. StandsFor (x.inj A.here.comp) w v) (sym g.result) g.stands) g.others)
+          (walks_to code g.after x.bytes g.does at)
+
+      -- into its slot, from a register that keeps its value or is none of temporaries
+      pub keeps_slot : (code : List Instr) (k offset source : ℕ) → slice_get R.places dest ≡ Some (Slot k) →
+          slice_get A.frame.slots k ≡ Some offset → 0 < source → source < 32 → source ≢ 7 →
+          (g : Gives code source v) → ((q : ℕ) → HasNoOtherUse q → g.after q ≡ x.regs q) →
+          CodeAt T.image A.here.comp x.pc (code ++ store_word source offset) → End (code ++ store_word source offset)
+      keeps_slot code k offset source its e above below other g all at =
+          let result : look g.after source ≡ g.word = look_at g.after source above ∙ g.result in
+          let stores : Stores T.image T.inputs world (store_word source offset) (7 ∷ []) g.after x.bytes
               (A.sp + offset) g.word =
-              stores_word T.image T.inputs world x.bytes g.after first_scratch offset (A.sp + offset) g.word
-              (omega arith) (λ e. omega (arith, e)) result (slot_from_sp g.after k offset e g.same) in
-          let does = in_row T.image T.inputs world g.does stores.does in
-          let code' : List Instr = code ++ store_word first_scratch offset in
-          let same : stores.after sp ≡ x.regs sp =
-              stores.others sp ((λ e. omega (arith, e)), tt) ∙ g.same in
-          subst End (sym whole)
-          (assigned T R formed inputs cells nodes is reads lives temps x (length code') left dest
-          (x.pc + 4 * length code') (Slot k) v stores.after (put_word x.bytes (A.sp + offset) g.word) ready clear its
+              stores_word T.image T.inputs world x.bytes g.after source offset (A.sp + offset) g.word below other result
+              (slot_from_sp g.after k offset e g.same) in
+          let whole : List Instr = code ++ store_word source offset in
+          let same : stores.after sp ≡ x.regs sp = stores.others sp ((λ e. omega (arith, e)), tt) ∙ g.same in
+          assigned T R formed inputs cells nodes is reads lives temps x (length whole) left dest
+          (x.pc + 4 * length whole) (Slot k) v stores.after (put_word x.bytes (A.sp + offset) g.word) ready clear its
           (assigns_slot T R formed inputs cells nodes is (live_plain reads (Some dest) lives) temps x k offset g.word v
-          stores.after ready e same g.stands
-          (λ q h. stores.others q (h.address, tt) ∙ g.others q h (λ e. h.first (e ∙ its_register))))
-          (walks_to code' stores.after (put_word x.bytes (A.sp + offset) g.word) does
-          (subst (CodeAt T.image A.here.comp x.pc) whole at)))
+          stores.after ready e same g.stands (λ q h. stores.others q (h.address, tt) ∙ all q h))
+          (walks_to whole stores.after (put_word x.bytes (A.sp + offset) g.word)
+          (in_row T.image T.inputs world g.does stores.does) at)
+
+      keeps_by : (code : List Instr) (place : Place) → slice_get R.places dest ≡ Some place → IsPlace A place →
+          Gives code (at_hand first_scratch (Some place)) v →
+          CodeAt T.image A.here.comp x.pc (code ++ kept A.frame (Some place)) → End (code ++ kept A.frame (Some place))
+      keeps_by code (Register r) its small g at =
+          subst End (sym (append-nil code))
+          (keeps_register code r its g (subst (CodeAt T.image A.here.comp x.pc) (append-nil code) at))
+      keeps_by code (Slot k) its there g at =
+          let whole : code ++ kept A.frame (Some (Slot k)) ≡ code ++ store_word first_scratch there.0 =
+              ap (λ o. code ++ store_word first_scratch o) (offset_is k there.0 there.1) in
+          subst End (sym whole)
+          (keeps_slot code k there.0 first_scratch its there.1 (omega arith) (omega arith) (λ e. omega (arith, e)) g
+          (λ q h. g.others q h h.first) (subst (CodeAt T.image A.here.comp x.pc) whole at))
 
       -- a value that was computed is kept in the place of its temporary
-      pub keeps : (code : List Instr) (place : Place) → slice_get R.places dest ≡ Some place → Gives code dest v →
+      pub keeps : (code : List Instr) (place : Place) → slice_get R.places dest ≡ Some place →
+          Gives code (result_register A.frame R.places dest) v →
           CodeAt T.image A.here.comp x.pc (code ++ keep A.frame R.places dest) →
           End (code ++ keep A.frame R.places dest)
-      keeps code place its g at = kept_by code place its (placed dest place its) g at
+      keeps code place its g at =
+          subst (λ o. End (code ++ kept A.frame o)) (sym its)
+          (keeps_by code place its (placed dest place its)
+          (subst (λ o. Gives code (at_hand first_scratch o) v) its g)
+          (subst (λ o. CodeAt T.image A.here.comp x.pc (code ++ kept A.frame o)) its at))

@@ -66,21 +66,18 @@ module _ (T : Setting) (R : Running) (formed : IsWellFormed T.image) (inputs : A
     (nodes : ℕ) (is : IsActivation T.performs cells R.places nodes R.activation) (placed : ArePlaced R) (calls : Calls)
     where
   -- computed by a piece that uses x7 besides
-  pub gives_by : (x : Joint) (code : List Instr) (dest w : ℕ) (v : Value) (place : Place) →
-      slice_get R.places dest ≡ Some place → StandsFor (x.inj R.activation.here.comp) w v →
-      Computes T.image T.inputs (world T R x) code (7 ∷ []) x.regs x.bytes
-      (result_register R.activation.frame R.places dest) w → Gives T R x code dest v
-  gives_by x code dest w v place its stands piece =
-      let r : IsResult (result_register R.activation.frame R.places dest) = result_is R placed dest place its in
-      record {
-        word = w;
-        stands = stands;
-        after = piece.after;
-        does = piece.does;
-        result = piece.result;
-        same = piece.others sp (r.not_sp, ((λ e. omega (arith, e)), tt));
-        others = λ q h n. piece.others q (n, (h.address, tt));
-      }
+  pub gives_by : (x : Joint) (code : List Instr) (rd w : ℕ) (v : Value) → sp ≢ rd →
+      StandsFor (x.inj R.activation.here.comp) w v →
+      Computes T.image T.inputs (world T R x) code (7 ∷ []) x.regs x.bytes rd w → Gives T R x code rd v
+  gives_by x code rd w v not_sp stands piece = record {
+    word = w;
+    stands = stands;
+    after = piece.after;
+    does = piece.does;
+    result = piece.result;
+    same = piece.others sp (not_sp, ((λ e. omega (arith, e)), tt));
+    others = λ q h n. piece.others q (n, (h.address, tt));
+  }
 
   -- a constant of a word
   abbrev pub IsWordConstant : Constant → Type 0
@@ -108,7 +105,7 @@ module _ (T : Setting) (R : Running) (formed : IsWellFormed T.image) (inputs : A
       comes_behind T R lives x (code ++ keep frame R.places dest) left (with_temp dest (constant_value value) temps) x.meant
       (keeps T R x cells nodes is placed ready.frame ready.sp formed inputs lives temps [] dest left ready clear
       (constant_value value) code place its
-      (gives_by x code dest (word_of_constant value) (constant_value value) place its
+      (gives_by x code rd (word_of_constant value) (constant_value value) (result_is R placed dest place its).not_sp
       (constant_stands (x.inj R.activation.here.comp) value small)
       (with_scratch x (loads_number T.image T.inputs (world T R x) x.bytes x.regs rd (word_of_constant value)
       (result_is R placed dest place its).writable small))) at))
