@@ -5,3 +5,5 @@ pub mod NearSp
 pub mod Frames
 pub mod Tests
 pub mod Operators
+pub mod Below
+pub mod Addresses

@@ -33,7 +33,7 @@ Grows place more = (b a : ℕ) → place b ≡ Some a → more b ≡ Some a
 means_more : (place more : ℕ → Option ℕ) → Grows place more → (v : Value) (w : ℕ) → Means place v w → Means more v w
 means_more place more grows (Word n) w h = h
 means_more place more grows Null w h = h
-means_more place more grows (Ptr p) w h = (h.0, grows p.block h.0 h.1, h.2)
+means_more place more grows (Ptr p) w h = (h.0, grows p.block h.0 h.1, h.2, h.3)
 
 pub stands_more : (place more : ℕ → Option ℕ) → Grows place more → (w : ℕ) (v : Value) → StandsFor place w v →
     StandsFor more w v

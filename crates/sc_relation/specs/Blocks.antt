@@ -17,11 +17,16 @@ use Rattle.sc_hart.specs.Words.{word, data_end, Owned}
 abbrev pub Injection : Type 0
 Injection = ℕ → ℕ → Option ℕ
 
+-- a word that may be the address of a place: it isn't 0, and signed or unsigned it is one number
+pub record IsAddress (w : ℕ) : Type 0 where
+  pub above : 0 < w
+  pub below : w < 2 ^ 31
+
 -- the word that stands for a value of a compartment
 abbrev pub Means : (ℕ → Option ℕ) → Value → ℕ → Type 0
 Means place (Word n) w = w ≡ n
 Means place Null w = w ≡ 0
-Means place (Ptr p) w = (a : ℕ) × (place p.block ≡ Some a) × (w ≡ a + 4 * p.index)
+Means place (Ptr p) w = (a : ℕ) × (place p.block ≡ Some a) × (w ≡ a + 4 * p.index) × IsAddress w
 
 pub record StandsFor (place : ℕ → Option ℕ) (w : ℕ) (v : Value) : Type 0 where
   pub word : w < 2 ^ 32
