@@ -1,6 +1,7 @@
 pub mod Access
 pub mod Frames
 pub mod Held
+pub mod Opening
 pub mod Registers
 pub mod Settling
 pub mod Storing
