@@ -1,4 +1,5 @@
 pub mod Access
+pub mod Ending
 pub mod Frames
 pub mod Held
 pub mod Opening
