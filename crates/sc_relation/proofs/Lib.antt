@@ -1,4 +1,5 @@
 pub mod Access
+pub mod Calling
 pub mod Ending
 pub mod Frames
 pub mod Held

@@ -95,6 +95,13 @@ injection_opened c low frame memory inj k b =
     if nat_eq k c && nat_le (length (memory c)) b then
     option_map (λ offset. low + offset) (slice_get frame.objects (b - length (memory c))) else inj k b
 
+pub length_opened : (c : ℕ) (cells : List ℕ) (args : List Value) (memory : Memory) (k : ℕ) → k ≡ c →
+    length (memory_opened c cells args memory k) ≡ length (memory c) + length cells
+length_opened c cells args memory k e =
+    let here : memory_opened c cells args memory k ≡ memory c ++ blocks_for cells args = rw (eq-eqb k c e) refl in
+    ap length here ∙ length-append (memory c) (blocks_for cells args) ∙
+    ap (λ n. length (memory c) + n) (length_blocks cells args)
+
 module _ (image : ImageParts) (performs : ℕ → Bool) (floor : ℕ → ℕ) (inj : Injection) (memory : Memory)
     (bytes later : Bytes) (c low : ℕ) (frame : FrameTree) (cells : List ℕ) (args : List Value) where
   abbrev first : ℕ
@@ -324,9 +331,7 @@ module _ (image : ImageParts) (performs : ℕ → Bool) (floor : ℕ → ℕ) (i
 
     known_here : (k b a : ℕ) → more k b ≡ Some a → k ≡ c → b < length (opened k)
     known_here k b a is_at e =
-        let long : length (opened k) ≡ first + length cells =
-            ap length (opened_here k e) ∙ length-append (memory c) (blocks_for cells args) ∙
-            ap (λ n. first + n) (length_blocks cells args) in
+        let long : length (opened k) ≡ first + length cells = length_opened c cells args memory k e in
         ⊎_elim (λ below. omega (arith, long, below))
         (λ past. (let is : more k b ≡ option_map (λ offset. low + offset) (slice_get frame.objects (b - first)) =
             rw (eq-eqb k c e, le-leb first b past) refl in
