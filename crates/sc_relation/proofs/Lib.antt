@@ -1,10 +1,14 @@
 pub mod Access
+pub mod Calling
 pub mod Clear
+pub mod Ending
+pub mod Following
 pub mod Frames
 pub mod Held
 pub mod Jumps
 pub mod Lines
 pub mod Loops
+pub mod Opening
 pub mod Registers
 pub mod Rows
 pub mod Settling

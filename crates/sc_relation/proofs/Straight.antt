@@ -1,5 +1,5 @@
 -- Straight code of the running call: it moves on, it assigns a temporary, it stores through a pointer, it has called.
-use Rattle.std.proofs.Common.{◌≡◌, ◌≢◌, ℕ, zero, suc, ◌+◌, ◌*◌, ◌<◌, ◌≤◌, Bool, true, false, not, List, [], ◌∷◌, All}
+use Rattle.std.proofs.Common.{◌≡◌, ◌≢◌, ℕ, zero, suc, ◌+◌, ◌*◌, ◌^◌, ◌<◌, ◌≤◌, Bool, true, false, not, List, [], ◌∷◌, All}
 use Rattle.std.proofs.Common.{Option, None, Some, Ok, refl, sym, ◌∙◌, ap, subst, arith, ⊎_elim, inl, inr}
 use Rattle.std.specs.Prelude.{◌⊎◌, ◌||◌, ◌&&◌, slice_get}
 use Rattle.std.proofs.lemmas.Bool.{cases_eq, eq-eqb, ne_eqb}
@@ -20,13 +20,13 @@ use Rattle.sc_tac.specs.Places.{IsClear}
 use Rattle.sc_tac.specs.Points.{Set, Point, Lives, ahead_at, plain_points, live_across}
 use Rattle.sc_select.specs.Pieces.{sp, register_of}
 use Rattle.sc_hart.specs.Hart.{Registers}
-use Rattle.sc_hart.specs.Words.{word, put_word}
+use Rattle.sc_hart.specs.Words.{word, put_word, Owned}
 use Rattle.sc_hart.proofs.Words.{word_same}
 use Rattle.sc_relation.specs.Blocks.{StandsFor, Guarded}
 use Rattle.sc_relation.specs.Frames.{Activation, own_words, IsActivation, FrameMatches, InPlace, AreHeld}
 use Rattle.sc_relation.specs.Stretches.{Setting, Joint, Standpoint, machine, Settled, Protected, Effect, Leads}
 use Rattle.sc_relation.specs.Following.{Running, seen_from, Ready, Arrives}
-use Rattle.sc_relation.proofs.Frames.{each_at}
+use Rattle.sc_relation.proofs.Frames.{each_at, own_inside}
 use Rattle.sc_relation.proofs.Held.{PlaceKept, frame_kept, frame_written, kept_but_register, kept_but_slot, kept_all}
 use Rattle.sc_relation.proofs.Held.{ra_kept, held_kept, held_assigned, held_over_call, held_less}
 use Rattle.sc_relation.proofs.Registers.{HasNoOtherUse}
@@ -119,6 +119,24 @@ module _ (T : Setting) (R : Running) where
       keeps = own_keeps T formed cells R.places nodes A is x (suc k) offset w its ready.frame;
     }
 
+    -- where a slot lies
+    pub record HasSlot (offset : ℕ) : Type 0 where
+      pub owned : Owned T.image A.here.comp (A.sp + offset)
+      pub inside : offset + 4 ≤ A.frame.bytes
+      pub near : offset < 65536
+      pub low : A.sp + offset < 2 ^ 32
+
+    pub has_slot : (live : Set) (temps : Temps) (x : Joint) (k offset : ℕ) → Ready T R live temps x →
+        slice_get A.frame.slots k ≡ Some offset → HasSlot offset
+    has_slot live temps x k offset ready its =
+        let inside : offset + 4 ≤ A.frame.bytes = own_inside cells R.places nodes A.frame is.room (suc k) offset its in
+        record {
+          owned = (ready.frame.guard (suc k) offset its).owned;
+          inside = inside;
+          near = omega (arith, inside, is.low, is.high);
+          low = omega (arith, inside, is.known, is.high);
+        }
+
     -- registers with another use change, and control moves on
     pub record MovesOn (live : Set) (temps : Temps) (x : Joint) (n left pc : ℕ) (regs : Registers) : Type 0 where
       pub leads : Leads T P x (moved x pc regs x.bytes) (n + left) left
@@ -175,6 +193,20 @@ module _ (T : Setting) (R : Running) where
         (record { assigned = Some d; calls = false; live = lives.behind }) temps x n left d pc place v regs later ready
         (each_at (IsClear R.places) (plain_points reads false (Some d) lives) 1 _ clear refl) refl its
         (λ t on e. behind_live reads lives t d on e) h walks
+
+    -- it assigns what a call gave
+    pub received_at : (reads : List ℕ) (lives : Lives) (temps : Temps) (x : Joint) (n left d pc : ℕ) (place : Place)
+        (v : Value) (regs : Registers) (later : Bytes) →
+        Ready T R (live_across reads true (Some d) lives) temps x →
+        All (IsClear R.places) (plain_points reads true (Some d) lives) → slice_get R.places d ≡ Some place →
+        Assigns x place v regs later →
+        Walks T.image T.inputs n (machine P x) (machine P (moved x pc regs later)) →
+        Arrives T R lives.behind x (n + left) left (with_temp d v temps) x.meant pc
+    received_at reads lives temps x n left d pc place v regs later ready clear its h walks =
+        assigned_at (live_across reads true (Some d) lives)
+        (record { assigned = Some d; calls = false; live = lives.behind }) temps x n left d pc place v regs later ready
+        (each_at (IsClear R.places) (plain_points reads true (Some d) lives) 2 _ clear refl) refl its
+        (λ t on e. both (not (is_one t (one_or_none (Some d)))) (lives.behind t) (not_one t d e) on) h walks
 
     -- a store through a pointer
     pub stored_through : (reads : List ℕ) (lives : Lives) (temps : Temps) (x : Joint) (n left pc a w : ℕ) (p : Pointer)
