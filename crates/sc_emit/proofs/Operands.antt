@@ -108,7 +108,7 @@ module _ (T : Setting) (R : Running) (x : Joint) where
       (placed : ArePlaced R) (frame : FrameMatches T.image R.activation x.inj x.meant.memory x.bytes)
       (sp_is : x.regs sp ≡ R.activation.sp) where
     -- a slot is near enough
-    slot_from_sp : (regs : Registers) (k offset : ℕ) → slice_get A.frame.slots k ≡ Some offset → regs sp ≡ x.regs sp →
+    pub slot_from_sp : (regs : Registers) (k offset : ℕ) → slice_get A.frame.slots k ≡ Some offset → regs sp ≡ x.regs sp →
         IsFromSp T.image world regs offset (A.sp + offset)
     slot_from_sp regs k offset e same = record {
       sum = ap (λ s. s + offset) (same ∙ sp_is);

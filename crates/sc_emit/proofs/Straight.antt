@@ -20,6 +20,16 @@ use Rattle.sc_relation.specs.Following.{Running, Ends, ends_of, seen_from, live_
 use Rattle.sc_relation.proofs.Lines.{low_plainly, plainly_at}
 use Rattle.sc_relation.proofs.Stretches.{shows_here}
 
+-- what is computed only goes on
+pub computed_goes : {V W : Type 0} (here : Here) (result : Result V Cause) (go : V → Meant → Piece W) →
+    ((v : V) → Goes (go v)) → Goes (λ s. and_then (computed here 0 result s) go)
+computed_goes here (Ok v) go h s = h v s
+computed_goes here (Err cause) go h s = record { grown = same s; stop = tt }
+
+pub read_goes : {W : Type 0} (here : Here) (t : ℕ) (temps : Temps) (go : Value → Meant → Piece W) →
+    ((v : Value) → Goes (go v)) → Goes (λ s. and_then (read here t temps s) go)
+read_goes here t temps go h = computed_goes here (known (temps t)) go h
+
 module _ (T : Setting) (R : Running) where
   -- what straight code comes to, wherever else its ends lead
   abbrev pub ComesStraight : Lives → Joint → (instrs : List Instr) → (left : ℕ) → Piece (Left Temps) → Type 0
@@ -34,26 +44,6 @@ module _ (T : Setting) (R : Running) where
   comes_behind lives x instrs left temps s g ends e f =
       inl (subst (λ pc. Arrives T R lives.behind x (length instrs + left) ends.left temps s pc) (sym f)
       (subst (λ n. Arrives T R lives.behind x (length instrs + left) n temps s (x.pc + 4 * length instrs)) (sym e) g))
-
-  -- the meaning stops for a blame
-  pub comes_blamed : {V : Type 0} (lives : Lives) (x : Joint) (budget : ℕ) (ends : Ends) (result : Result V Cause)
-      (go : V → Meant → Piece (Left Temps)) →
-      ((v : V) → result ≡ Ok v → Comes T R lives x budget ends (go v x.meant)) →
-      Comes T R lives x budget ends (and_then (computed R.activation.here 0 result x.meant) go)
-  comes_blamed lives x budget ends (Ok v) go h = h v refl
-  comes_blamed lives x budget ends (Err cause) go h = inl (shows_here T (seen_from R.activation) x budget)
-
-  known_is : (o : Option Value) (v : Value) → known o ≡ Ok v → o ≡ Some v
-  known_is None v h = cc h
-  known_is (Some w) v h = let e : w ≡ v = cc h in ap Some e
-
-  -- a temporary is read
-  pub comes_read : (lives : Lives) (x : Joint) (budget : ℕ) (ends : Ends) (t : ℕ) (temps : Temps)
-      (go : Value → Meant → Piece (Left Temps)) →
-      ((v : Value) → temps t ≡ Some v → Comes T R lives x budget ends (go v x.meant)) →
-      Comes T R lives x budget ends (and_then (read R.activation.here t temps x.meant) go)
-  comes_read lives x budget ends t temps go h =
-      comes_blamed lives x budget ends (known (temps t)) go (λ v e. h v (known_is (temps t) v e))
 
   -- straight code follows a statement
   pub straight_follows : (does : Codes) (instrs : List Instr) (trail : Trail) → ((temps : Temps) → Goes (does temps)) →
@@ -74,9 +64,3 @@ module _ (T : Setting) (R : Running) where
         (plainly_at (T.addresses R.activation.here.comp) T.image R.activation.here.comp x.pc instrs starts.stands) ends
         refl (ap (λ n. x.pc + 4 * n) long)));
   }
-
-  -- what is computed only goes on
-  pub computed_goes : {V W : Type 0} (here : Here) (result : Result V Cause) (go : V → Meant → Piece W) →
-      ((v : V) → Goes (go v)) → Goes (λ s. and_then (computed here 0 result s) go)
-  computed_goes here (Ok v) go h s = h v s
-  computed_goes here (Err cause) go h s = record { grown = same s; stop = tt }
