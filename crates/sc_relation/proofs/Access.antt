@@ -36,7 +36,7 @@ pub record Loads (blocks : Blocks) (p : Pointer) (v : Value) : Type 0 where
   pub live : LivesIn blocks p.block cells
   pub there : slice_get cells p.index ≡ Some (cell_of v)
 
-alive : (blocks : Blocks) (b : ℕ) (block : Block) → slice_get blocks b ≡ Some block → block.live ≡ true →
+pub alive : (blocks : Blocks) (b : ℕ) (block : Block) → slice_get blocks b ≡ Some block → block.live ≡ true →
     LivesIn blocks b block.cells
 alive blocks b block is e = is ∙ ap (λ live. Some (record { live = live; cells = block.cells })) e
 

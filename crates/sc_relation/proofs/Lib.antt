@@ -15,3 +15,5 @@ pub mod Settling
 pub mod Storing
 pub mod Straight
 pub mod Stretches
+pub mod Pointers
+pub mod Operators

@@ -4,3 +4,4 @@ pub mod Following
 pub mod Frames
 pub mod Linking
 pub mod Stretches
+pub mod Operators
