@@ -9,11 +9,11 @@ pub mod Jumps
 pub mod Lines
 pub mod Loops
 pub mod Opening
+pub mod Operators
+pub mod Pointers
 pub mod Registers
 pub mod Rows
 pub mod Settling
 pub mod Storing
 pub mod Straight
 pub mod Stretches
-pub mod Pointers
-pub mod Operators
