@@ -36,19 +36,19 @@ module _ (T : Setting) (R : Running) where
   P = seen_from R.activation
 
   -- where the meaning ends there is nothing to follow
-  pub comes_stopped : (lives : Lives) (x : Joint) (budget : ℕ) (ends : Ends) (here : Here) (line : ℕ)
-      (result : Result Value Cause) (go : Value → Meant → Piece (Left Temps)) →
-      ((v : Value) → result ≡ Ok v → Comes T R lives x budget ends (go v x.meant)) →
+  pub comes_computed : {V : Type 0} (lives : Lives) (x : Joint) (budget : ℕ) (ends : Ends) (here : Here) (line : ℕ)
+      (result : Result V Cause) (go : V → Meant → Piece (Left Temps)) →
+      ((v : V) → result ≡ Ok v → Comes T R lives x budget ends (go v x.meant)) →
       Comes T R lives x budget ends (and_then (computed here line result x.meant) go)
-  comes_stopped lives x budget ends here line (Ok v) go h = h v refl
-  comes_stopped lives x budget ends here line (Err cause) go h = inl (shows_here T P x budget)
+  comes_computed lives x budget ends here line (Ok v) go h = h v refl
+  comes_computed lives x budget ends here line (Err cause) go h = inl (shows_here T P x budget)
 
   pub comes_read : (lives : Lives) (x : Joint) (budget : ℕ) (ends : Ends) (here : Here) (t : ℕ) (temps : Temps)
       (go : Value → Meant → Piece (Left Temps)) →
       ((v : Value) → temps t ≡ Some v → Comes T R lives x budget ends (go v x.meant)) →
       Comes T R lives x budget ends (and_then (read here t temps x.meant) go)
   comes_read lives x budget ends here t temps go h =
-      comes_stopped lives x budget ends here 0 (known (temps t)) go (λ v e. h v (known_is (temps t) v e))
+      comes_computed lives x budget ends here 0 (known (temps t)) go (λ v e. h v (known_is (temps t) v e))
 
   -- a call has come back: with its value in a0, and all that is live across it in its place
   pub record IsBack (reads : List ℕ) (dest : Option ℕ) (lives : Lives) (temps : Temps) (x : Joint) (left : ℕ)

@@ -5,8 +5,8 @@ use Rattle.std.specs.Prelude.{◌⊎◌, ◌||◌, ◌&&◌, slice_get}
 use Rattle.std.proofs.lemmas.Bool.{cases_eq, eq-eqb, ne_eqb}
 use Rattle.sc_core.specs.declared.value.Pointer.{Pointer}
 use Rattle.sc_core.specs.declared.value.Value.{Value}
-use Rattle.sc_core.specs.declared.value.Value.TheVariants.{Ptr}
-use Rattle.sc_core.specs.Memory.{Blocks, store}
+use Rattle.sc_core.specs.declared.value.Value.TheVariants.{Word, Null, Ptr}
+use Rattle.sc_core.specs.Memory.{Blocks, load, store}
 use Rattle.sc_core.specs.Words.{with_memory}
 use Rattle.sc_store.specs.Memory.{Memory as Bytes}
 use Rattle.sc_image.specs.Walks.{Walks}
@@ -32,7 +32,7 @@ use Rattle.sc_relation.proofs.Held.{ra_kept, held_kept, held_assigned, held_over
 use Rattle.sc_relation.proofs.Registers.{HasNoOtherUse}
 use Rattle.sc_relation.proofs.Settling.{moved, moved_with, settled_moved, leads_moved, stored_at, settled_stored}
 use Rattle.sc_relation.proofs.Settling.{leads_stored, own_cells, own_keeps}
-use Rattle.sc_relation.proofs.Storing.{CellsKept, guarded_after, guarded_kept}
+use Rattle.sc_relation.proofs.Storing.{CellsKept, LoadsWord, loads_word, target_owned, guarded_after, guarded_kept}
 use Rattle.sc_relation.proofs.Stretches.{protected_on}
 
 -- What is live.
@@ -243,6 +243,52 @@ module _ (T : Setting) (R : Running) where
             sp = same ∙ ready.sp;
           };
         }
+
+    -- a load and a store through what stands for a pointer
+
+    pub record IsLoaded (x : Joint) (w : ℕ) (v : Value) : Type 0 where
+      pub owned : Owned T.image A.here.comp w
+      pub stands : StandsFor (x.inj A.here.comp) (word x.bytes w) v
+
+    pub loads : (live : Set) (temps : Temps) (x : Joint) (w : ℕ) (pointer : Bool) (q v : Value) →
+        Ready T R live temps x → StandsFor (x.inj A.here.comp) w q → load (x.meant.memory A.here.comp) pointer q ≡ Ok v →
+        IsLoaded x w v
+    loads live temps x w pointer (Word n) v ready stands h = cc h
+    loads live temps x w pointer Null v ready stands h = cc h
+    loads live temps x w pointer (Ptr p) v ready stands h =
+        let m = stands.means in
+        let r : LoadsWord T.image formed T.performs A.floor x.inj x.meant.memory x.bytes ready.settled.blocks A.here.comp
+            m.0 p v =
+            loads_word T.image formed T.performs A.floor x.inj x.meant.memory x.bytes ready.settled.blocks A.here.comp m.0
+            pointer p v is.honest h m.1 in
+        subst (λ w. IsLoaded x w v) (sym m.2) (record { owned = r.owned; stands = r.stands })
+
+    pub may_store : (live : Set) (temps : Temps) (x : Joint) (w : ℕ) (q v : Value) (after : Blocks) →
+        Ready T R live temps x → StandsFor (x.inj A.here.comp) w q → store (x.meant.memory A.here.comp) q v ≡ Ok after →
+        Owned T.image A.here.comp w
+    may_store live temps x w (Word n) v after ready stands h = cc h
+    may_store live temps x w Null v after ready stands h = cc h
+    may_store live temps x w (Ptr p) v after ready stands h =
+        let m = stands.means in
+        subst (Owned T.image A.here.comp) (sym m.2)
+        (target_owned T.image formed T.performs A.floor x.inj x.meant.memory x.bytes ready.settled.blocks A.here.comp m.0 0
+        p v after is.honest h m.1)
+
+    pub stores : (reads : List ℕ) (lives : Lives) (temps : Temps) (x : Joint) (n left pc to w : ℕ) (q v : Value)
+        (after : Blocks) (regs : Registers) →
+        Ready T R (live_plain reads None lives) temps x → StandsFor (x.inj A.here.comp) to q →
+        store (x.meant.memory A.here.comp) q v ≡ Ok after → StandsFor (x.inj A.here.comp) w v → regs sp ≡ x.regs sp →
+        ((r : ℕ) → HasNoOtherUse r → regs r ≡ x.regs r) →
+        Walks T.image T.inputs n (machine P x)
+        (machine P (moved_with x A.here.comp after pc regs (put_word x.bytes to w))) →
+        Arrives T R lives.behind x (n + left) left temps (with_memory A.here.comp after x.meant) pc
+    stores reads lives temps x n left pc to w (Word k) v after regs ready place h stands same others walks = cc h
+    stores reads lives temps x n left pc to w Null v after regs ready place h stands same others walks = cc h
+    stores reads lives temps x n left pc to w (Ptr p) v after regs ready place h stands same others walks =
+        let m = place.means in
+        stored_through reads lives temps x n left pc m.0 w p v after regs ready h m.1 stands same others
+        (subst (λ to. Walks T.image T.inputs n (machine P x)
+        (machine P (moved_with x A.here.comp after pc regs (put_word x.bytes to w)))) m.2 walks)
 
   -- A call.
 
