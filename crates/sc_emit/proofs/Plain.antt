@@ -11,6 +11,7 @@ use Rattle.sc_core.specs.declared.value.Value.TheVariants.{Word, Null, Ptr}
 use Rattle.sc_core.specs.Value.{wrapping}
 use Rattle.sc_core.specs.Words.{State as Meant, Calls, Next, Reached, leave}
 use Rattle.sc_laws.proofs.Growing.{stays}
+use Rattle.sc_word.specs.Prelude.{add_word}
 use Rattle.sc_image.specs.Walks.{Walks}
 use Rattle.sc_image.specs.WellFormed.{IsWord, IsWellFormed}
 use Rattle.sc_hart.specs.Code.{CodeAt}
@@ -33,7 +34,7 @@ use Rattle.sc_pieces.specs.Pieces.{Besides, IsWritable, Computes}
 use Rattle.sc_pieces.proofs.Loading.{loads_number, moves, moves_on}
 use Rattle.sc_pieces.proofs.NearSp.{loads_word}
 use Rattle.sc_pieces.proofs.Rows.{computes, look_at}
-use Rattle.sc_relation.specs.Blocks.{StandsFor}
+use Rattle.sc_relation.specs.Blocks.{IsAddress, StandsFor}
 use Rattle.sc_relation.specs.Frames.{Activation, IsActivation, InPlace, IsHeld}
 use Rattle.sc_relation.specs.Stretches.{Setting, Joint}
 use Rattle.sc_relation.specs.Following.{Running, Ready, Arrives, Follows, live_at}
@@ -237,3 +238,40 @@ module _ (T : Setting) (R : Running) (formed : IsWellFormed T.image) (inputs : A
       (copied_by lives temps x from dest left v ready clear to held.place its (placed dest to its)
       (placed from held.place held.its) held.value
       (subst (CodeAt T.image R.activation.here.comp x.pc) code at))) ends e f)))
+
+  -- Places of variables.
+
+  -- the first word of a block
+  start_stands : (block address : ℕ) (x : Joint) → x.inj R.activation.here.comp block ≡ Some address →
+      IsAddress address → StandsFor (x.inj R.activation.here.comp) address (start_of block)
+  start_stands block address x e h =
+      let same : address ≡ address + 4 * 0 = omega arith in
+      record { word = omega (arith, h.below); means = (address, e, same, h) }
+
+  pub object_follows : (dest object offset : ℕ) (place : Place) → slice_get R.places dest ≡ Some place →
+      slice_get frame.objects object ≡ Some offset → offset ≤ frame.bytes →
+      Follows T R (code_step wrapping R.activation.here calls (tac.ObjectPlace dest object))
+      (select_step frame R.places (tac.ObjectPlace dest object)) (trail_step (tac.ObjectPlace dest object))
+  object_follows dest object offset place its there inside =
+      let block : ℕ = R.activation.here.first + object in
+      let rd : ℕ = result_register frame R.places dest in
+      let code : List Instr = moved_by rd sp (object_offset frame object) in
+      let is_offset : object_offset frame object ≡ offset = ap (λ o. unwrap_or o 0) there in
+      straight_follows T R (code_step wrapping R.activation.here calls (tac.ObjectPlace dest object))
+      (code ++ keep frame R.places dest) (trail_step (tac.ObjectPlace dest object))
+      (λ temps. stays (record { exit = Next; carried = with_temp dest (start_of block) temps }))
+      (λ lives temps x left ready clear at.
+      comes_behind T R lives x (code ++ keep frame R.places dest) left (with_temp dest (start_of block) temps) x.meant
+      (keeps T R x cells nodes is placed ready.frame ready.sp formed inputs lives temps [] dest left ready clear
+      (start_of block) code place its
+      (let sum : add_word R.activation.sp (object_offset frame object) ≡ R.activation.sp + offset =
+          ap (add_word R.activation.sp) is_offset ∙ omega (arith, is.high, is.known, inside) in
+      let w : IsResult rd = result_is R placed dest place its in
+      gives_by x code rd (R.activation.sp + offset) (start_of block) w.not_sp
+      (start_stands block (R.activation.sp + offset) x (ready.frame.objects object offset there)
+      (record { above = omega (arith, is.low); below = omega (arith, is.high, is.known, inside) }))
+      (computes T.image T.inputs (world T R x) (7 ∷ []) (R.activation.sp + offset)
+      (moves_on T.image T.inputs (world T R x) x.bytes x.regs rd sp (object_offset frame object) R.activation.sp
+      w.writable (omega arith) (λ e. omega (arith, e)) ready.sp
+      (subst (λ o. o < 2 ^ 32) (sym is_offset) (omega (arith, is.high, is.known, inside)))) sum (λ q h. h)))
+      at))
