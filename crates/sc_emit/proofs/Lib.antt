@@ -1,3 +1,4 @@
 pub mod Operands
+pub mod Operations
 pub mod Plain
 pub mod Straight

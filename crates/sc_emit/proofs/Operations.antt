@@ -1,0 +1,177 @@
+-- Operators, loads and stores.
+use Rattle.std.proofs.Common.{◌≡◌, ◌≢◌, ℕ, ◌+◌, ◌*◌, ◌^◌, ◌<◌, ◌≤◌, Bool, false, true, List, [], ◌∷◌, ◌++◌, length, Option}
+use Rattle.std.proofs.Common.{None, Some, Result, Ok, Err, refl, sym, ◌∙◌, ap, ap₂, subst, arith, inl, inr, ⊎_elim, All, pos}
+use Rattle.std.proofs.Common.{append_assoc, append-nil}
+use Rattle.std.specs.Prelude.{slice_get, is_some, ◌||◌, ◌==◌}
+use Rattle.std.proofs.lemmas.Bool.{eq-eqb}
+use Rattle.rv_code.specs.declared.instr.Instr.{Instr}
+use Rattle.rv_code.specs.declared.instr.Instr.TheVariants.{Load, Store}
+use Rattle.rv_code.specs.declared.instr.LoadOp.TheVariants.{Lw}
+use Rattle.rv_code.specs.declared.instr.StoreOp.TheVariants.{Sw}
+use Rattle.sc_word.specs.Prelude.{word_of, add_word}
+use Rattle.sc_core.specs.declared.value.Value.{Value}
+use Rattle.sc_core.specs.Memory.{Blocks, load, store}
+use Rattle.sc_core.specs.Value.{wrapping}
+use Rattle.sc_core.specs.Words.{State as Meant, Calls, Next, Reached, leave, and_then, computed, stored, with_memory}
+use Rattle.sc_laws.proofs.Growing.{stays, reached, same}
+use Rattle.sc_image.specs.WellFormed.{IsWord, IsWellFormed}
+use Rattle.sc_image.specs.Walks.{Walks}
+use Rattle.sc_hart.specs.Code.{CodeAt}
+use Rattle.sc_hart.specs.Hart.{Registers, look, at}
+use Rattle.sc_hart.specs.Words.{word, put_word}
+use Rattle.sc_tac.specs.declared.frame.FrameTree.{FrameTree}
+use Rattle.sc_tac.specs.declared.place.Place.{Place}
+use Rattle.sc_tac.specs.declared.stmt.TacOp.{TacOp}
+use Rattle.sc_tac.specs.declared.stmt.TacStmt.TheOpen as tac
+use Rattle.sc_tac.specs.Code.{Temps, with_temp, code_step, operated, gets, read, second, op_does, store_does}
+use Rattle.sc_tac.specs.Flow.{is_one}
+use Rattle.sc_tac.specs.Functions.{takes_two}
+use Rattle.sc_tac.specs.Parts.{one_or_none}
+use Rattle.sc_tac.specs.Places.{IsClear}
+use Rattle.sc_tac.specs.Points.{Set, Lives, plain_points, trail_step}
+use Rattle.sc_select.specs.Pieces.{sp, first_scratch, second_scratch, address_scratch}
+use Rattle.sc_select.specs.Operators.{op_code}
+use Rattle.sc_select.specs.Selection.{select_step, result_register, keep, take, operand, take_second, second_operand}
+use Rattle.sc_select.specs.Selection.{operation, load_from, store_to}
+use Rattle.sc_pieces.specs.Operators.{AreOperands, op_word}
+use Rattle.sc_pieces.specs.Pieces.{Besides, IsWritable, Does, Computes, Stores}
+use Rattle.sc_pieces.proofs.Rows.{in_row, look_at, looked}
+use Rattle.sc_pieces.proofs.Rows.{loads as loads_from, stores as stores_to}
+use Rattle.sc_relation.specs.Blocks.{StandsFor}
+use Rattle.sc_relation.specs.Frames.{Activation, IsActivation, IsHeld}
+use Rattle.sc_relation.specs.Operators.{IsFor}
+use Rattle.sc_relation.specs.Stretches.{Setting, Joint}
+use Rattle.sc_relation.specs.Following.{Running, Ready, Arrives, Comes, Follows, live_at, seen_from}
+use Rattle.sc_relation.proofs.Following.{comes_read, comes_stopped}
+use Rattle.sc_relation.proofs.Operators.{operator_stands}
+use Rattle.sc_relation.proofs.Registers.{HasNoOtherUse, no_other_use, register_there}
+use Rattle.sc_relation.proofs.Straight.{live_plain, or_left, or_right, IsLoaded, loads, may_store, stores}
+use Rattle.sc_emit.proofs.Operands.{ArePlaced, AtHand, Gives, IsScratch, first_is, second_is, brings, keeps, world, walks_to}
+use Rattle.sc_emit.proofs.Plain.{IsResult, result_is}
+use Rattle.sc_emit.proofs.Straight.{comes_behind, read_goes, computed_goes, straight_follows}
+
+module _ (T : Setting) (R : Running) (formed : IsWellFormed T.image) (inputs : All IsWord T.inputs) (cells : List ℕ)
+    (nodes : ℕ) (is : IsActivation T.performs cells R.places nodes R.activation) (placed : ArePlaced R) (calls : Calls)
+    where
+  abbrev frame : FrameTree
+  frame = R.activation.frame
+
+  only_one : (t : ℕ) (rest : List ℕ) → is_one t (t ∷ rest) ≡ true
+  only_one t rest = rw (eq-eqb t t refl) refl
+
+  second_one : (t u : ℕ) → is_one u (t ∷ u ∷ []) ≡ true
+  second_one t u = or_right (t == u) _ (only_one u [])
+
+  live_read : (reads : List ℕ) (dest : Option ℕ) (lives : Lives) (t : ℕ) → is_one t reads ≡ true →
+      live_plain reads dest lives t ≡ true
+  live_read reads dest lives t h = or_left (is_one t reads) _ h
+
+  module _ (live : Set) (temps : Temps) (x : Joint) (ready : Ready T R live temps x) where
+    -- one operand at hand
+    first_at_hand : (t : ℕ) (v : Value) → live t ≡ true → temps t ≡ Some v → AtHand T R x x.regs first_scratch t v
+    first_at_hand t v on known =
+        brings T R x cells nodes is placed ready.frame ready.sp x.regs first_scratch t v first_is (ready.held t v on known)
+        refl (λ q h. refl)
+
+    -- two operands at hand
+    record Both (left right : ℕ) (v w : Value) : Type 0 where
+      one : ℕ
+      two : ℕ
+      one_stands : StandsFor (x.inj R.activation.here.comp) one v
+      two_stands : StandsFor (x.inj R.activation.here.comp) two w
+      after : Registers
+      does : Does T.image T.inputs (world T R x) (take frame R.places first_scratch left ++
+          take frame R.places second_scratch right) x.regs x.bytes after x.bytes
+      operands : AreOperands after (operand frame R.places first_scratch left)
+          (operand frame R.places second_scratch right) one two
+      same : after sp ≡ x.regs sp
+      others : (q : ℕ) → HasNoOtherUse q → after q ≡ x.regs q
+
+    both_at_hand : (left right : ℕ) (v w : Value) → live left ≡ true → temps left ≡ Some v → live right ≡ true →
+        temps right ≡ Some w → Both left right v w
+    both_at_hand left right v w on known on' known' =
+        let g : AtHand T R x x.regs first_scratch left v = first_at_hand left v on known in
+        let same : g.after sp ≡ x.regs sp = g.others sp ((λ e. omega (arith, e)), ((λ e. omega (arith, e)), tt)) in
+        let h : AtHand T R x g.after second_scratch right w =
+            brings T R x cells nodes is placed ready.frame ready.sp g.after second_scratch right w second_is
+            (ready.held right w on' known') same (λ q k. g.others q (k.first, (k.address, tt))) in
+        record {
+          one = g.word;
+          two = h.word;
+          one_stands = g.stands;
+          two_stands = h.stands;
+          after = h.after;
+          does = in_row T.image T.inputs (world T R x) g.does h.does;
+          operands = record {
+            left_below = g.below;
+            left_second = ⊎_elim (λ e. (λ f. omega (arith, e, f))) (λ k. k.second) g.its;
+            left_address = ⊎_elim (λ e. (λ f. omega (arith, e, f))) (λ k. k.address) g.its;
+            right_below = h.below;
+            right_first = ⊎_elim (λ e. (λ f. omega (arith, e, f))) (λ k. k.first) h.its;
+            right_address = ⊎_elim (λ e. (λ f. omega (arith, e, f))) (λ k. k.address) h.its;
+            left_is = looked h.after g.after (operand frame R.places first_scratch left) g.word
+                (h.others (operand frame R.places first_scratch left)
+                (⊎_elim (λ e. (λ f. omega (arith, e, f))) (λ k. k.second) g.its,
+                (⊎_elim (λ e. (λ f. omega (arith, e, f))) (λ k. k.address) g.its, tt))) g.result;
+            right_is = h.result;
+            left_word = g.stands.word;
+            right_word = h.stands.word;
+          };
+          same = h.others sp ((λ e. omega (arith, e)), ((λ e. omega (arith, e)), tt)) ∙ same;
+          others = λ q k. h.others q (k.second, (k.address, tt)) ∙ g.others q (k.first, (k.address, tt));
+        }
+
+  -- Loads.
+
+  pub load_follows : (dest place : ℕ) (pointer : Bool) (to : Place) → slice_get R.places dest ≡ Some to →
+      Follows T R (code_step wrapping R.activation.here calls (tac.Load dest place pointer))
+      (select_step frame R.places (tac.Load dest place pointer)) (trail_step (tac.Load dest place pointer))
+  load_follows dest place pointer to its =
+      let rd : ℕ = result_register frame R.places dest in
+      let rs : ℕ = operand frame R.places first_scratch place in
+      let before : List Instr = take frame R.places first_scratch place in
+      let code : List Instr = before ++ Load Lw rd rs (pos 0) ∷ [] in
+      let whole : code ++ keep frame R.places dest ≡ load_from frame R.places dest place =
+          append_assoc before (Load Lw rd rs (pos 0) ∷ []) (keep frame R.places dest) in
+      straight_follows T R (code_step wrapping R.activation.here calls (tac.Load dest place pointer))
+      (load_from frame R.places dest place) (trail_step (tac.Load dest place pointer))
+      (λ temps. read_goes R.activation.here place temps
+      (λ q s. gets R.activation.here dest (load (s.memory R.activation.here.comp) pointer q) temps s)
+      (λ q s. computed_goes R.activation.here (load (s.memory R.activation.here.comp) pointer q)
+      (λ v s. leave Next (with_temp dest v temps) s)
+      (λ v. stays (record { exit = Next; carried = with_temp dest v temps })) s))
+      (λ lives temps x left ready clear at ends e f.
+      comes_read T R lives x (length (load_from frame R.places dest place) + left) ends R.activation.here place temps
+      (λ q s. gets R.activation.here dest (load (s.memory R.activation.here.comp) pointer q) temps s)
+      (λ q known.
+      comes_stopped T R lives x (length (load_from frame R.places dest place) + left) ends R.activation.here 0
+      (load (x.meant.memory R.activation.here.comp) pointer q) (λ v s. leave Next (with_temp dest v temps) s)
+      (λ v found.
+      (let live : Set = live_plain (place ∷ []) (Some dest) lives in
+      let h : AtHand T R x x.regs first_scratch place q =
+          first_at_hand live temps x ready place q
+          (live_read (place ∷ []) (Some dest) lives place (only_one place [])) known in
+      let got : IsLoaded T R x h.word v =
+          loads T R formed inputs cells nodes is live temps x h.word pointer q v ready h.stands found in
+      let w : IsResult rd = result_is R placed dest to its in
+      let sum : add_word (look h.after rs) (word_of (pos 0)) ≡ h.word =
+          ap (λ a. add_word a (word_of (pos 0))) h.result ∙ omega (arith, h.stands.word) in
+      let piece : Computes T.image T.inputs (world T R x) (Load Lw rd rs (pos 0) ∷ []) [] h.after x.bytes rd
+          (word x.bytes h.word) =
+          loads_from T.image T.inputs (world T R x) h.after x.bytes rd rs (pos 0) h.word w.writable h.below sum got.owned
+          in
+      let g : Gives T R x code rd v = record {
+        word = word x.bytes h.word;
+        stands = got.stands;
+        after = piece.after;
+        does = in_row T.image T.inputs (world T R x) h.does piece.does;
+        result = piece.result;
+        same = piece.others sp (w.not_sp, tt) ∙
+            h.others sp ((λ e. omega (arith, e)), ((λ e. omega (arith, e)), tt));
+        others = λ q k n. piece.others q (n, tt) ∙ h.others q (k.first, (k.address, tt));
+      } in
+      comes_behind T R lives x (load_from frame R.places dest place) left (with_temp dest v temps) x.meant
+      (subst (λ code. Arrives T R lives.behind x (length code + left) left (with_temp dest v temps) x.meant
+      (x.pc + 4 * length code)) whole
+      (keeps T R x cells nodes is placed ready.frame ready.sp formed inputs lives temps (place ∷ []) dest left ready clear v
+      code to its g (subst (CodeAt T.image R.activation.here.comp x.pc) (sym whole) at))) ends e f))))
