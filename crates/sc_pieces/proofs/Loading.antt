@@ -25,10 +25,12 @@ module _ (image : ImageParts) (inputs : List ℕ) (world : World) (memory : Memo
       with_number image inputs world regs memory Addi rd rs (pos 0) a a h k is (omega arith)
 
   loads_long : (regs : Registers) (rd w : ℕ) → IsWritable rd → w < 2 ^ 32 →
-      Computes image inputs world (Upper Lui rd (upper_part w) ∷ OpImm Addi rd rd (lower_part w) ∷ []) [] regs memory rd w
+      Computes image inputs world (Upper Lui rd (upper_part w) ∷ OpImm Addi rd rd (lower_part w) ∷ []) [] regs memory
+      rd w
   loads_long regs rd w h below =
       let first = upper image inputs world regs memory rd (upper_part w) h in
-      let second = with_number image inputs world first.after memory Addi rd rd (lower_part w) (upper_part w) w h h.below
+      let second = with_number image inputs world first.after memory Addi rd rd (lower_part w) (upper_part w) w h
+      h.below
       (look_at first.after rd h.above ∙ first.result) (two_parts w below) in
       computes image inputs world [] w (followed_by image inputs world first second) refl (λ q k. (k.0, (k.0, tt)))
 
@@ -37,7 +39,8 @@ module _ (image : ImageParts) (inputs : List ℕ) (world : World) (memory : Memo
       else Upper Lui rd (upper_part w) ∷ OpImm Addi rd rd (lower_part w) ∷ []) [] regs memory rd w
   loads_by true regs rd w h below =
       let whole : word_of (signed_of w) ≡ w = word_of-signed_of w below in
-      with_number image inputs world regs memory Addi rd 0 (signed_of w) 0 w h (omega arith) refl (rw whole (omega arith))
+      with_number image inputs world regs memory Addi rd 0 (signed_of w) 0 w h (omega arith) refl
+      (rw whole (omega arith))
   loads_by false regs rd w h below = loads_long regs rd w h below
 
   pub loads_number : (regs : Registers) (rd w : ℕ) → IsWritable rd → w < 2 ^ 32 →

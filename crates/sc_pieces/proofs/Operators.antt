@@ -202,7 +202,8 @@ module _ (image : ImageParts) (inputs : List ℕ) (world : World) (memory : Memo
       (followed_by image inputs world one (followed_by image inputs world two three)) refl
       (λ q k. (k.0, (k.1.0, (k.1.1.1.0, tt))))
 
-  gives_member : (offset : ℕ) → Gives (op_code rd left right (tacop.PointerMember offset)) (add_word a (bytes_of offset))
+  gives_member : (offset : ℕ) →
+      Gives (op_code rd left right (tacop.PointerMember offset)) (add_word a (bytes_of offset))
   gives_member offset =
       computes image inputs world (5 ∷ 6 ∷ 7 ∷ []) (add_word a (bytes_of offset))
       (moves_on image inputs world memory regs rd left (bytes_of offset) a writable operands.left_below

@@ -42,7 +42,8 @@ pub either_test : (a b : ℕ) → sltu_word 0 (bit_or a b) ≡ truth (not (a == 
 either_test a b =
     not_zero_test (bit_or a b) ∙ ap truth (either_zero a b (bit_or a b) (le_or_l a b) (le_or_r a b) (or_le a b))
 
-pub both_test : (a b : ℕ) → a < 2 ^ 32 → b < 2 ^ 32 → bit_and (sltu_word 0 a) (sltu_word 0 b) ≡ truth (not (a == 0) && not (b == 0))
+pub both_test : (a b : ℕ) → a < 2 ^ 32 → b < 2 ^ 32 →
+    bit_and (sltu_word 0 a) (sltu_word 0 b) ≡ truth (not (a == 0) && not (b == 0))
 both_test a b h k = sym (tests_are_words.both a b h k)
 
 pub complement : (a : ℕ) → a < 2 ^ 32 → bit_xor a (2 ^ 32 - 1) ≡ 2 ^ 32 - 1 - a

@@ -1,6 +1,7 @@
 -- The word that an operator's code computes stands for the operator's value.
-use Rattle.std.proofs.Common.{◌≡◌, ◌≢◌, ℕ, ◌+◌, ◌*◌, ◌^◌, ◌<◌, ◌≤◌, ℤ, pos, ◌+ℤ◌, ◌-ℤ◌, ◌*ℤ◌, neg_ℤ, int_lt, int_div, int_rem}
-use Rattle.std.proofs.Common.{◌-◌, Bool, true, false, not, ◌&&◌, ◌==◌, nat_lt, List, length, Option, Some, Result, Ok, Err}
+use Rattle.std.proofs.Common.{◌≡◌, ◌≢◌, ℕ, ◌+◌, ◌*◌, ◌^◌, ◌<◌, ◌≤◌, ℤ, pos, ◌+ℤ◌, ◌-ℤ◌, ◌*ℤ◌, neg_ℤ, int_div, int_rem}
+use Rattle.std.proofs.Common.{◌-◌, Bool, true, false, not, ◌&&◌, ◌==◌, nat_lt, List, length, Option, Some, Result, Ok}
+use Rattle.std.proofs.Common.{Err}
 use Rattle.std.proofs.Common.{if◌then◌else◌, refl, sym, ◌∙◌, ap, ap₂, subst, arith, ⊎_elim, eqb-true, true≢false}
 use Rattle.std.proofs.lemmas.Bool.{eq-eqb, ne_eqb}
 use Rattle.std.proofs.lemmas.Option.{same_Some}
@@ -15,8 +16,9 @@ use Rattle.sc_core.specs.declared.value.Cell.{Cell}
 use Rattle.sc_core.specs.declared.value.Pointer.{Pointer}
 use Rattle.sc_core.specs.declared.value.Value.{Value}
 use Rattle.sc_core.specs.declared.value.Value.TheVariants.{Word, Null, Ptr}
-use Rattle.sc_core.specs.Memory.{Blocks, Memory, bind}
-use Rattle.sc_core.specs.Value.{wrapping, truth, on_all_words, negated_word, number_of, moved, moved_on, moved_back, apart, is_zero, in_elements, ordered}
+use Rattle.sc_core.specs.Memory.{Memory, bind}
+use Rattle.sc_core.specs.Value.{wrapping, truth, on_all_words, negated_word, number_of, moved, moved_on, moved_back}
+use Rattle.sc_core.specs.Value.{apart, is_zero, in_elements, ordered}
 use Rattle.sc_core.specs.Value.{is_inside, same_place, of_bool, applied_one, on_words, between}
 use Rattle.sc_store.specs.Memory.{Memory as Bytes}
 use Rattle.sc_image.specs.declared.parts.ImageParts.{ImageParts}
@@ -32,9 +34,9 @@ use Rattle.sc_pieces.specs.Operators.{unary_word, stepped_word, op_word}
 use Rattle.sc_pieces.proofs.Addresses.{elements_on, elements_back, member_on, elements_between, order_of, order_back}
 use Rattle.sc_pieces.proofs.Addresses.{same_of}
 use Rattle.sc_pieces.proofs.Below.{op_below}
-use Rattle.sc_relation.specs.Blocks.{Injection, IsAddress, Means, StandsFor, LiveAt, Placed, BlocksMatch}
-use Rattle.sc_relation.specs.Operators.{is_pointer, is_comparison, IsComparison, IsElement, IsFor}
-use Rattle.sc_relation.proofs.Pointers.{Moves, moved_found, Between, between_found, Inside, Apart, apart_found, bound}
+use Rattle.sc_relation.specs.Blocks.{Injection, IsAddress, Means, StandsFor, LiveAt, BlocksMatch}
+use Rattle.sc_relation.specs.Operators.{is_pointer, is_comparison, IsElement, IsFor}
+use Rattle.sc_relation.proofs.Pointers.{moved_found, between_found, Apart, apart_found, bound}
 
 -- the data of a compartment end below 2 ^ 31
 pub data_below : (image : ImageParts) (c : ℕ) → IsWellFormed image → c < 32 → data_end image c < 2 ^ 31
@@ -85,7 +87,8 @@ module _ (place : ℕ → Option ℕ) where
       on_words wrapping unsigned o v w ≡ Ok r → Means place r (on_all_words unsigned o a b)
   binary_means unsigned o (Word n) (Word m) r a b is its h =
       let same : Word (on_all_words unsigned o n m) ≡ r = cc h in
-      word_means (on_all_words unsigned o n m) (on_all_words unsigned o a b) r same (ap₂ (on_all_words unsigned o) is its)
+      word_means (on_all_words unsigned o n m) (on_all_words unsigned o a b) r same
+      (ap₂ (on_all_words unsigned o) is its)
   binary_means unsigned o (Word n) Null r a b is its h = cc h
   binary_means unsigned o (Word n) (Ptr q) r a b is its h = cc h
   binary_means unsigned o Null w r a b is its h = cc h
@@ -100,7 +103,7 @@ module _ (image : ImageParts) (formed : IsWellFormed image) (performs : ℕ → 
   Lies p x = inj comp p.block ≡ Some x
 
   -- a place in a block that lives, or just behind its last cell
-  place_address : (b x i : ℕ) (cells : List Cell) → LiveAt memory comp b cells → inj comp b ≡ Some x →
+  pub place_address : (b x i : ℕ) (cells : List Cell) → LiveAt memory comp b cells → inj comp b ≡ Some x →
       i ≤ length cells → IsAddress (x + 4 * i)
   place_address b x i cells live lies inside =
       let placed = matches.placed comp b x cells honest live lies in
@@ -120,8 +123,8 @@ module _ (image : ImageParts) (formed : IsWellFormed image) (performs : ℕ → 
       let x : ℕ = its.0 in
       let address = place_address moves.from.block x moves.index moves.cells moves.live its.1 moves.inside in
       let there : w ≡ x + 4 * moves.index =
-          go x moves.from.index moves.index its.2 (address_small a its.3) (address_small (x + 4 * moves.index) address)
-          moves.sum in
+      go x moves.from.index moves.index its.2 (address_small a its.3) (address_small (x + 4 * moves.index) address)
+      moves.sum in
       subst (λ r. Means (inj comp) r w) moves.result
       (x, its.1, there, subst IsAddress (sym there) address)
 
@@ -166,7 +169,8 @@ module _ (image : ImageParts) (formed : IsWellFormed image) (performs : ℕ → 
     second : IsAddress b
     far : pos i -ℤ pos j ≡ by
 
-  abbrev one_base : (p q : Pointer) (a b : ℕ) → p.block ≡ q.block → Means (inj comp) (Ptr p) a → Means (inj comp) (Ptr q) b →
+  abbrev one_base : (p q : Pointer) (a b : ℕ) → p.block ≡ q.block → Means (inj comp) (Ptr p) a →
+      Means (inj comp) (Ptr q) b →
       OneBlock a b (pos p.index -ℤ pos q.index)
   one_base p q a b same is its =
       let x : ℕ = is.0 in
@@ -216,7 +220,8 @@ module _ (image : ImageParts) (formed : IsWellFormed image) (performs : ℕ → 
 
   -- Comparisons.
 
-  test_means : (t u : Bool) (r : Value) → ◌≡◌ {A = Result Value Cause} (Ok (of_bool t)) (Ok r) → u ≡ t → Means (inj comp) r (truth u)
+  test_means : (t u : Bool) (r : Value) → ◌≡◌ {A = Result Value Cause} (Ok (of_bool t)) (Ok r) → u ≡ t →
+      Means (inj comp) r (truth u)
   test_means t u r h e =
       let same : Word (truth t) ≡ r = cc h in word_means (inj comp) (truth t) (truth u) r same (ap truth e)
 
@@ -238,7 +243,7 @@ module _ (image : ImageParts) (formed : IsWellFormed image) (performs : ℕ → 
       let first = two.first in
       let second = two.second in
       let beside = matches.apart comp p.block q.block is.0 its.0 first.cells second.cells honest first.live second.live
-          is.1 its.1 other in
+      is.1 its.1 other in
       ne_eqb a b (λ e. ⊎_elim
       (λ l. omega (arith, e, is.2, its.2, first.inside, second.inside, l))
       (λ l. omega (arith, e, is.2, its.2, first.inside, second.inside, l)) beside)
@@ -271,11 +276,12 @@ module _ (image : ImageParts) (formed : IsWellFormed image) (performs : ℕ → 
   pointers_same (Ptr p) (Ptr q) a b t f g is its h = places_same p q a b t is its (p.block == q.block) refl h
 
   equal_means : (f : Bool → Bool) (v w r : Value) (a b : ℕ) → is_pointer v ≡ true → is_pointer w ≡ true →
-      Means (inj comp) v a → Means (inj comp) w b → bind (same_place (memory comp) v w) (λ t. Ok (of_bool (f t))) ≡ Ok r →
-      Means (inj comp) r (truth (f (a == b)))
+      Means (inj comp) v a → Means (inj comp) w b →
+      bind (same_place (memory comp) v w) (λ t. Ok (of_bool (f t))) ≡ Ok r → Means (inj comp) r (truth (f (a == b)))
   equal_means f v w r a b x y is its h =
       let found = bound (same_place (memory comp) v w) (λ t. Ok (of_bool (f t))) r h in
-      test_means (f found.value) (f (a == b)) r found.gave (ap f (pointers_same v w a b found.value x y is its found.first))
+      test_means (f found.value) (f (a == b)) r found.gave
+      (ap f (pointers_same v w a b found.value x y is its found.first))
 
   compare_means : (o : BinaryOp) (v w r : Value) (a b : ℕ) → is_comparison o ≡ true → is_pointer v ≡ true →
       is_pointer w ≡ true → Means (inj comp) v a → Means (inj comp) w b → between (memory comp) o 1 v w ≡ Ok r →
@@ -285,9 +291,11 @@ module _ (image : ImageParts) (formed : IsWellFormed image) (performs : ℕ → 
   compare_means op.Greater v w r a b c x y is its h =
       order_means (ordered op.Greater) (λ a b. nat_lt b a) v w r a b order_back is its h
   compare_means op.LessEqual v w r a b c x y is its h =
-      order_means (ordered op.LessEqual) (λ a b. not (nat_lt b a)) v w r a b (λ x i j. ap not (order_back x i j)) is its h
+      order_means (ordered op.LessEqual) (λ a b. not (nat_lt b a)) v w r a b
+      (λ x i j. ap not (order_back x i j)) is its h
   compare_means op.GreaterEqual v w r a b c x y is its h =
-      order_means (ordered op.GreaterEqual) (λ a b. not (nat_lt a b)) v w r a b (λ x i j. ap not (order_of x i j)) is its h
+      order_means (ordered op.GreaterEqual) (λ a b. not (nat_lt a b)) v w r a b
+      (λ x i j. ap not (order_of x i j)) is its h
   compare_means op.Equal v w r a b c x y is its h = equal_means (λ t. t) v w r a b x y is its h
   compare_means op.NotEqual v w r a b c x y is its h = equal_means not v w r a b x y is its h
   compare_means op.OrElse v w r a b c x y is its h = cc c
@@ -321,7 +329,7 @@ module _ (image : ImageParts) (formed : IsWellFormed image) (performs : ℕ → 
   operator_means (tacop.PointerCompare o) v w r a b for h below is its =
       compare_means o v w r a b for.compares for.left for.right is (its refl) h
 
-  -- where an operator gives a value, its code computes a word that stands for that. Of an operator that takes one value,
+  -- where an operator gives a value, its code computes a word that stands for that. Where an operator takes one value,
   -- the second word may be any
   pub operator_stands : (o : TacOp) (v w r : Value) (a b : ℕ) → IsFor o v w →
       operated wrapping (memory comp) o v w ≡ Ok r → b < 2 ^ 32 → StandsFor (inj comp) a v →

@@ -1,7 +1,7 @@
 -- What operators on pointers have found, where they gave a value.
-use Rattle.std.proofs.Common.{◌≡◌, ◌≢◌, ℕ, ◌+◌, ◌<◌, ◌≤◌, ℤ, pos, negsuc, ◌+ℤ◌, ◌-ℤ◌, Bool, true, false, ◌&&◌, ◌==◌, nat_le}
-use Rattle.std.proofs.Common.{nat_lt, List, length, Option, None, Some, Result, Ok, Err, if◌then◌else◌, refl, sym, ◌∙◌, ap}
-use Rattle.std.proofs.Common.{subst, arith, leb-true, ltb-true, eqb-true}
+use Rattle.std.proofs.Common.{◌≡◌, ℕ, ◌<◌, ◌≤◌, ℤ, pos, negsuc, ◌+ℤ◌, ◌-ℤ◌, Bool, true, false, ◌&&◌, ◌==◌, nat_le}
+use Rattle.std.proofs.Common.{nat_lt, List, length, Option, None, Some, Result, Ok, Err, if◌then◌else◌, refl}
+use Rattle.std.proofs.Common.{subst, leb-true, ltb-true, eqb-true}
 use Rattle.std.specs.Prelude.{slice_get}
 use Rattle.sc_core.specs.declared.cause.Cause.{Cause}
 use Rattle.sc_core.specs.declared.cause.Cause.TheVariants.{OutOfBounds, BadPointer, Dangling}
@@ -10,7 +10,7 @@ use Rattle.sc_core.specs.declared.value.Pointer.{Pointer}
 use Rattle.sc_core.specs.declared.value.Value.{Value}
 use Rattle.sc_core.specs.declared.value.Value.TheVariants.{Word, Null, Ptr}
 use Rattle.sc_core.specs.Memory.{Block, Blocks, bind, live_cells, cells_at}
-use Rattle.sc_core.specs.Value.{place_at, moved, apart, is_inside, same_place}
+use Rattle.sc_core.specs.Value.{place_at, moved, apart, is_inside}
 use Rattle.sc_relation.proofs.Access.{LivesIn, alive}
 
 -- what is bound gave a result
@@ -142,6 +142,6 @@ pub apart_found : (blocks : Blocks) (p q : Pointer) (same : Bool) →
     Ok same → Apart blocks p q same
 apart_found blocks p q same h =
     let one = bound (is_inside blocks p)
-        (λ a. bind (is_inside blocks q) (λ b. if a && b then Ok false else Err BadPointer)) same h in
+    (λ a. bind (is_inside blocks q) (λ b. if a && b then Ok false else Err BadPointer)) same h in
     let two = bound (is_inside blocks q) (λ b. if one.value && b then Ok false else Err BadPointer) same one.gave in
     both_by blocks p q same one.value two.value one.first two.first two.gave
