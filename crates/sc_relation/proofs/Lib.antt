@@ -3,6 +3,7 @@ pub mod Calling
 pub mod Ending
 pub mod Following
 pub mod Frames
+pub mod Functions
 pub mod Held
 pub mod Opening
 pub mod Registers

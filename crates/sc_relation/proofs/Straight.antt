@@ -394,3 +394,16 @@ module _ (T : Setting) (R : Running) where
         (record { assigned = None; calls = true; live = live_across reads true dest lives })
         temps ready (each_at (IsClear R.places) (plain_points reads true dest lives) 1 _ clear refl) refl
         (across_live reads dest lives) settled same
+
+    -- behind a call of the environment that leaves registers with no other use as they were, all is as it was
+    pub asked : (live : Set) (temps : Temps) → Ready T R live temps x → Settled T call_from y →
+        y.regs sp ≡ x.regs sp → ((q : ℕ) → HasNoOtherUse q → y.regs q ≡ x.regs q) → Ready T R live temps y
+    asked live temps ready settled same others = record {
+      settled = settled_from y settled;
+      frame = frame_over_call (settled_to x ready.settled) ready.frame;
+      held = held_kept A R.places x.inj y.inj x.regs y.regs x.bytes y.bytes (effect.grows A.here.comp) live live temps
+          (λ t on. on)
+          (λ t place on e. kept_all A x.regs y.regs x.bytes y.bytes others
+          (λ k offset f. own_same (suc k) offset ready.frame f) place) ready.held;
+      sp = same ∙ ready.sp;
+    }
