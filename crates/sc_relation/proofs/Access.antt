@@ -1,6 +1,6 @@
 -- What a load and a store of the meaning say of blocks.
 use Rattle.std.proofs.Common.{◌≡◌, ◌≢◌, ℕ, zero, suc, ◌<◌, Bool, true, false, List, [], ◌∷◌, length, Option, None, Some}
-use Rattle.std.proofs.Common.{Result, Ok, Err, if◌then◌else◌, nat_lt, refl, sym, ◌∙◌, ap, arith}
+use Rattle.std.proofs.Common.{Ok, Err, if◌then◌else◌, nat_lt, refl, sym, ◌∙◌, ap}
 use Rattle.std.specs.Prelude.{slice_get, slice_set}
 use Rattle.std.proofs.lemmas.Bool.{ltb-true}
 use Rattle.sc_core.specs.declared.cause.Cause.TheVariants.{Dangling, OutOfBounds, BadType}
@@ -105,7 +105,8 @@ store_by : (blocks : Blocks) (p : Pointer) (v : Value) (after : Blocks) (block :
     slice_get blocks p.block ≡ Some block → (alive : Bool) → block.live ≡ alive →
     bind (if alive then Ok block.cells else Err Dangling) (with_cell blocks p v) ≡ Ok after → Stores blocks p v after
 store_by blocks p v after block is true e h =
-    inside_by blocks p v after block.cells (alive blocks p.block block is e) (nat_lt p.index (length block.cells)) refl h
+    inside_by blocks p v after block.cells (alive blocks p.block block is e) (nat_lt p.index (length block.cells))
+    refl h
 store_by blocks p v after block is false e h = cc h
 
 store_at : (blocks : Blocks) (p : Pointer) (v : Value) (after : Blocks) (found : Option Block) →

@@ -1,13 +1,12 @@
 -- A call of a function, from its first instruction to its jump back: what its code begins with, and what is left of it.
-use Rattle.std.proofs.Common.{◌≡◌, ◌≢◌, ℕ, zero, suc, ◌+◌, ◌-◌, ◌*◌, ◌%◌, ◌<◌, ◌≤◌, Bool, false, List, All, length}
-use Rattle.std.proofs.Common.{Option, Some, refl, sym, ◌∙◌, ap, subst, arith, ⊎_elim, inl, inr}
+use Rattle.std.proofs.Common.{◌≡◌, ◌≢◌, ℕ, ◌+◌, ◌<◌, ◌≤◌, false, List, All, length}
+use Rattle.std.proofs.Common.{Option, Some, refl, sym, ◌∙◌, ap, subst, arith, ⊎_elim, inr}
 use Rattle.std.specs.Prelude.{◌⊎◌, slice_get}
 use Rattle.std.proofs.lemmas.Bool.{cases_eq, eq-eqb, ne_eqb}
 use Rattle.std.proofs.lemmas.Option.{slice_get_within, same_Some}
 use Rattle.sc_core.specs.declared.value.Cell.{Cell}
 use Rattle.sc_core.specs.declared.value.Value.{Value}
 use Rattle.sc_core.specs.Calls.{Function, begun, done}
-use Rattle.sc_core.specs.Memory.{Memory}
 use Rattle.sc_core.specs.Words.{State as Meant}
 use Rattle.sc_laws.specs.Rooms.{open_room}
 use Rattle.sc_store.specs.Memory.{Memory as Bytes}
@@ -21,17 +20,17 @@ use Rattle.sc_tac.specs.Frames.{IsFrame, HasRoom}
 use Rattle.sc_tac.specs.Points.{Set}
 use Rattle.sc_select.specs.Pieces.{sp, a0}
 use Rattle.sc_hart.specs.Hart.{Registers, put}
-use Rattle.sc_hart.specs.Words.{word, Owned}
+use Rattle.sc_hart.specs.Words.{word}
 use Rattle.sc_hart.proofs.Steps.{then_go}
-use Rattle.sc_relation.specs.Blocks.{Injection, StandsFor, LiveAt, Placed, BlocksMatch, Guarded}
-use Rattle.sc_relation.specs.Frames.{Activation, own_words, IsActivation, FrameMatches}
-use Rattle.sc_relation.specs.Stretches.{Setting, Joint, Standpoint, machine, Settled, Protected, Effect, Costs, Leads}
-use Rattle.sc_relation.specs.Following.{Running, seen_from, Ready, Returns}
+use Rattle.sc_relation.specs.Blocks.{StandsFor, LiveAt, Placed, BlocksMatch}
+use Rattle.sc_relation.specs.Frames.{Activation, IsActivation, FrameMatches}
+use Rattle.sc_relation.specs.Stretches.{Setting, Joint, Standpoint, machine, Settled, Protected, Effect, Leads}
+use Rattle.sc_relation.specs.Following.{seen_from, Ready, Returns}
 use Rattle.sc_relation.specs.Calls.{Begins, IsLeft}
 use Rattle.sc_relation.proofs.Ending.{lives_on, length_closed, LivesOn, room_begun, room_begun_else, room_done}
 use Rattle.sc_relation.proofs.Ending.{room_done_else}
 use Rattle.sc_relation.proofs.Held.{held_at_entry}
-use Rattle.sc_relation.proofs.Opening.{Prepared, injection_opened, memory_opened, length_blocks, other_range, lived_before}
+use Rattle.sc_relation.proofs.Opening.{Prepared, injection_opened, other_range, lived_before}
 use Rattle.sc_relation.proofs.Opening.{blocks_opened, injection_grows, own_guarded, above_guarded, objects_placed}
 use Rattle.sc_relation.proofs.Opening.{length_opened}
 use Rattle.sc_relation.proofs.Settling.{walks_steady}
@@ -67,8 +66,14 @@ module _ (T : Setting) (formed : IsWellFormed T.image) (inputs : All IsWord T.in
   pub too_deep : (frame : FrameTree) → frame.bytes ≤ f.room → P.bound < data_start P.comp + frame.bytes →
       stack_size < open_room P.comp (begun P.comp f args x.meant)
   too_deep frame roomy low =
-      omega (arith, roomy, low, begins.settled.room P.comp begins.honest, begins.floor,
-      room_begun P.comp P.comp f x.meant args refl)
+      omega (
+        arith,
+        roomy,
+        low,
+        begins.settled.room P.comp begins.honest,
+        begins.floor,
+        room_begun P.comp P.comp f x.meant args refl,
+      )
 
   module _ (frame : FrameTree) (places : List Place) (nodes low : ℕ) (whole : IsFrame frame)
       (room : HasRoom f.cells places nodes frame) (roomy : frame.bytes ≤ f.room)
@@ -116,8 +121,8 @@ module _ (T : Setting) (formed : IsWellFormed T.image) (inputs : All IsWord T.in
       }
 
       grows : (k b a : ℕ) → x.inj k b ≡ Some a → y.inj k b ≡ Some a
-      grows = injection_grows T.image T.performs P.floor x.inj x.meant.memory x.bytes bytes P.comp low frame f.cells args
-          formed places nodes whole room begins.settled.blocks prepared
+      grows = injection_grows T.image T.performs P.floor x.inj x.meant.memory x.bytes bytes P.comp low frame f.cells
+          args formed places nodes whole room begins.settled.blocks prepared
 
       floor_there : (k : ℕ) → k ≢ P.comp → put P.floor P.comp low k ≡ P.floor k
       floor_there k d = rw (ne_eqb k P.comp d) refl
@@ -128,15 +133,27 @@ module _ (T : Setting) (formed : IsWellFormed T.image) (inputs : All IsWord T.in
       room_opened : (k : ℕ) → T.performs k ≡ false → stack_top k ≤ put P.floor P.comp low k + open_room k y.meant
       room_opened k honest = ⊎_elim
           (λ e. (let same : P.floor k ≡ P.floor P.comp = ap P.floor e in
-          omega (arith, begins.settled.room k honest, floor_here k e, same, begins.floor, bound_is, roomy,
-          room_begun k P.comp f x.meant args e)))
-          (λ d. omega (arith, begins.settled.room k honest, floor_there k d,
-          room_begun_else k P.comp f x.meant args d)) (cases_eq k P.comp)
+          omega (
+            arith,
+            begins.settled.room k honest,
+            floor_here k e,
+            same,
+            begins.floor,
+            bound_is,
+            roomy,
+            room_begun k P.comp f x.meant args e,
+          )))
+          (λ d. omega (
+            arith,
+            begins.settled.room k honest,
+            floor_there k d,
+            room_begun_else k P.comp f x.meant args d,
+          )) (cases_eq k P.comp)
 
       pub settled_entered : Settled T (seen_from A) y
       settled_entered = record {
-        blocks = blocks_opened T.image T.performs P.floor x.inj x.meant.memory x.bytes bytes P.comp low frame f.cells args
-            formed places nodes whole room begins.settled.blocks prepared;
+        blocks = blocks_opened T.image T.performs P.floor x.inj x.meant.memory x.bytes bytes P.comp low frame f.cells
+            args formed places nodes whole room begins.settled.blocks prepared;
         globals = λ k number honest l. grows k number _ (begins.settled.globals k number honest l);
         saved = λ k d honest. begins.settled.saved k d honest ∙ sym (floor_there k d);
         inputs = begins.settled.inputs;
@@ -169,8 +186,8 @@ module _ (T : Setting) (formed : IsWellFormed T.image) (inputs : All IsWord T.in
           Protected T (seen_from A) y.inj y.meant.memory k q
       protected_entered k q p = record {
         honest = p.honest;
-        guard = above_guarded T.image T.performs P.floor x.inj x.meant.memory x.bytes bytes P.comp low frame f.cells args
-            formed places nodes whole room begins.settled.blocks prepared k q p.guard
+        guard = above_guarded T.image T.performs P.floor x.inj x.meant.memory x.bytes bytes P.comp low frame f.cells
+            args formed places nodes whole room begins.settled.blocks prepared k q p.guard
             (λ e. omega (arith, p.own e, bound_is));
         own = λ e. omega (arith, p.own e, bound_is);
         other = λ d. omega (arith, p.other d, floor_there k d);
@@ -201,7 +218,7 @@ module _ (T : Setting) (formed : IsWellFormed T.image) (inputs : All IsWord T.in
             LivedLong k b xs
         lived_long k b xs honest h =
             let on : LivesOn P.comp first (length f.cells) z.meant.memory k b xs =
-                lives_on P.comp first (length f.cells) z.meant.memory k b xs h in
+            lives_on P.comp first (length f.cells) z.meant.memory k b xs h in
             let middle = leads.effect.lived k b xs honest on.live in
             let below : b < length (y.meant.memory k) = slice_get_within (y.meant.memory k) b _ middle.1 in
             record {
@@ -219,10 +236,18 @@ module _ (T : Setting) (formed : IsWellFormed T.image) (inputs : All IsWord T.in
 
         rooms_same : (k : ℕ) → open_room k end.meant ≡ open_room k x.meant
         rooms_same k = ⊎_elim
-            (λ e. omega (arith, room_done k P.comp f z.meant first e, room_begun k P.comp f x.meant args e,
-            leads.effect.rooms k))
-            (λ d. omega (arith, room_done_else k P.comp f z.meant first d, room_begun_else k P.comp f x.meant args d,
-            leads.effect.rooms k)) (cases_eq k P.comp)
+            (λ e. omega (
+              arith,
+              room_done k P.comp f z.meant first e,
+              room_begun k P.comp f x.meant args e,
+              leads.effect.rooms k,
+            ))
+            (λ d. omega (
+              arith,
+              room_done_else k P.comp f z.meant first d,
+              room_begun_else k P.comp f x.meant args d,
+              leads.effect.rooms k,
+            )) (cases_eq k P.comp)
 
         pub effect_closed : Effect T P x end
         effect_closed = record {
@@ -251,7 +276,7 @@ module _ (T : Setting) (formed : IsWellFormed T.image) (inputs : All IsWord T.in
             let place = begins.settled.blocks.there k b l.old honest l.was in
             let same : place.0 ≡ a = same_Some place.0 a (sym (all_grows k b place.0 place.1) ∙ e) in
             let was : Placed T.image (P.floor k) k place.0 (length l.old) =
-                begins.settled.blocks.placed k b place.0 l.old honest l.was place.1 in
+            begins.settled.blocks.placed k b place.0 l.old honest l.was place.1 in
             subst (λ m. Placed T.image (P.floor k) k a m) (sym l.long)
             (subst (λ a. Placed T.image (P.floor k) k a (length l.old)) same was)
 

@@ -1,6 +1,7 @@
 -- A call ends: its blocks no longer live, and the room of its frame is free again.
-use Rattle.std.proofs.Common.{◌≡◌, ◌≢◌, ℕ, zero, suc, ◌+◌, ◌-◌, ◌<◌, ◌≤◌, Bool, true, false, List, [], ◌∷◌, ◌++◌, length}
-use Rattle.std.proofs.Common.{Option, Some, if◌then◌else◌, refl, sym, ◌∙◌, ap, subst, arith, ⊎_elim, inl, inr}
+use Rattle.std.proofs.Common.{◌≡◌, ◌≢◌, ℕ, zero, suc, ◌+◌, ◌-◌, ◌<◌, ◌≤◌, Bool, true, false, List, [], ◌∷◌, ◌++◌}
+use Rattle.std.proofs.Common.{length}
+use Rattle.std.proofs.Common.{Option, Some, if◌then◌else◌, refl, sym, ◌∙◌, ap, arith, ⊎_elim, inl, inr}
 use Rattle.std.specs.Prelude.{◌⊎◌, ◌==◌, slice_get}
 use Rattle.std.proofs.lemmas.Bool.{cases_eq, eq-eqb, ne_eqb}
 use Rattle.std.proofs.lemmas.Option.{same_Some}
@@ -64,9 +65,9 @@ module _ (c first count : ℕ) (memory : Memory) where
       LivesOn k b cells
   lives_on k b cells h = ⊎_elim
       (λ e. (let r : StillLives (memory c) first count b cells =
-          still_lives first count (memory c) b cells (sym (ap (λ bs. slice_get bs b) (closed_here k e)) ∙ h) in
+      still_lives first count (memory c) b cells (sym (ap (λ bs. slice_get bs b) (closed_here k e)) ∙ h) in
       let back : LivesOn k b cells =
-          record { live = ap (λ k. slice_get (memory k) b) e ∙ r.live; other = λ same. r.other } in back))
+      record { live = ap (λ k. slice_get (memory k) b) e ∙ r.live; other = λ same. r.other } in back))
       (λ n. (let back : LivesOn k b cells = record {
         live = sym (ap (λ bs. slice_get bs b) (closed_there k n)) ∙ h;
         other = λ same. absurd (n same);

@@ -1,6 +1,7 @@
 -- The words that a frame keeps for itself, and its objects: they lie inside it, and no two meet.
-use Rattle.std.proofs.Common.{◌≡◌, ◌≢◌, ℕ, zero, suc, ◌+◌, ◌*◌, ◌<◌, ◌≤◌, List, [], ◌∷◌, ◌++◌, map, length, All, AllPairs, Some}
-use Rattle.std.proofs.Common.{zip, refl, sym, ◌∙◌, ap, ap₂, subst, subst₂, arith, ⊎_elim, inl, inr}
+use Rattle.std.proofs.Common.{◌≡◌, ◌≢◌, ℕ, zero, suc, ◌+◌, ◌*◌, ◌<◌, ◌≤◌, List, [], ◌∷◌, ◌++◌, map, length, All}
+use Rattle.std.proofs.Common.{AllPairs, Some}
+use Rattle.std.proofs.Common.{zip, refl, ◌∙◌, ap, ap₂, subst, subst₂, arith, ⊎_elim, inl, inr}
 use Rattle.std.specs.Prelude.{◌⊎◌, slice_get}
 use Rattle.std.proofs.lemmas.Bool.{cases_order}
 use Rattle.std.proofs.lemmas.List.{length-map}
@@ -107,11 +108,11 @@ module _ (cells : List ℕ) (places : List Place) (nodes : ℕ) (frame : FrameTr
       (λ l. ⊎_elim (λ x. inr x) (λ x. inl x) (objects_in_order p o b a k n l g h e f)) w) (cases_order o p)
 
   -- an own word meets no object
-  pub own_beside : (i u o offset n : ℕ) → slice_get (own_words frame) i ≡ Some u → slice_get frame.objects o ≡ Some offset →
-      slice_get cells o ≡ Some n → (u + 4 ≤ offset) ⊎ (offset + 4 * n ≤ u)
+  pub own_beside : (i u o offset n : ℕ) → slice_get (own_words frame) i ≡ Some u →
+      slice_get frame.objects o ≡ Some offset → slice_get cells o ≡ Some n → (u + 4 ≤ offset) ⊎ (offset + 4 * n ≤ u)
   own_beside i u o offset n e f g =
       let within : i < length (own_words frame) = slice_get_within (own_words frame) i u e in
       let long : length (map word_at (own_words frame)) ≡ length (own_words frame) =
-          length-map (own_words frame) word_at in
+      length-map (own_words frame) word_at in
       pair_at RangesApart (ranges_of cells frame) i (behind + o) (word_at u) _ room.apart (omega arith) (own_at i u e)
       (object_at o offset n f g)

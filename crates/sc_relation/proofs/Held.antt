@@ -1,7 +1,7 @@
 -- The frame of the running call and the values in its places, across what code does.
-use Rattle.std.proofs.Common.{◌≡◌, ◌≢◌, ℕ, zero, suc, ◌+◌, ◌<◌, ◌≤◌, Bool, true, false, List, Option, None, Some}
-use Rattle.std.proofs.Common.{refl, sym, ◌∙◌, ap, subst, arith, ⊎_elim, inl, inr}
-use Rattle.std.specs.Prelude.{◌⊎◌, slice_get}
+use Rattle.std.proofs.Common.{◌≡◌, ◌≢◌, ℕ, suc, ◌+◌, true, List, Option, Some}
+use Rattle.std.proofs.Common.{refl, sym, ◌∙◌, ap, subst, arith, ⊎_elim}
+use Rattle.std.specs.Prelude.{slice_get}
 use Rattle.std.proofs.lemmas.Bool.{cases_eq, eq-eqb, ne_eqb}
 use Rattle.std.proofs.lemmas.Option.{same_Some}
 use Rattle.sc_core.specs.declared.value.Value.{Value}
@@ -9,7 +9,6 @@ use Rattle.sc_core.specs.declared.value.Value.TheVariants.{Word, Null, Ptr}
 use Rattle.sc_core.specs.Memory.{Memory}
 use Rattle.sc_store.specs.Memory.{Memory as Bytes}
 use Rattle.sc_image.specs.declared.parts.ImageParts.{ImageParts}
-use Rattle.sc_tac.specs.declared.frame.FrameTree.{FrameTree}
 use Rattle.sc_tac.specs.declared.place.Place.{Place}
 use Rattle.sc_tac.specs.declared.place.Place.TheVariants.{Register, Slot}
 use Rattle.sc_tac.specs.Code.{Temps, no_temps, with_temp}
@@ -19,7 +18,7 @@ use Rattle.sc_tac.specs.Points.{Set, Point}
 use Rattle.sc_select.specs.Pieces.{register_of}
 use Rattle.sc_hart.specs.Hart.{Registers}
 use Rattle.sc_hart.specs.Words.{word, put_word, Apart}
-use Rattle.sc_hart.proofs.Words.{word_same, word_apart, apart_from}
+use Rattle.sc_hart.proofs.Words.{word_apart, apart_from}
 use Rattle.sc_relation.specs.Blocks.{Injection, Means, StandsFor, Guarded}
 use Rattle.sc_relation.specs.Frames.{Activation, own_words, FrameMatches, InPlace, IsHeld, AreHeld}
 use Rattle.sc_relation.proofs.Frames.{own_apart}
@@ -63,9 +62,12 @@ module _ (A : Activation) where
   in_place inj more regs after bytes later (Register r) v grows same h =
       subst (λ w. StandsFor (more A.here.comp) w v) (sym same)
       (stands_more (inj A.here.comp) (more A.here.comp) grows (regs (register_of r)) v h)
-  in_place inj more regs after bytes later (Slot k) v grows same h =
-      (h.0, h.1, subst (λ w. StandsFor (more A.here.comp) w v) (sym (same h.0 h.1))
-      (stands_more (inj A.here.comp) (more A.here.comp) grows (word bytes (A.sp + h.0)) v h.2))
+  in_place inj more regs after bytes later (Slot k) v grows same h = (
+    h.0,
+    h.1,
+    subst (λ w. StandsFor (more A.here.comp) w v) (sym (same h.0 h.1))
+        (stands_more (inj A.here.comp) (more A.here.comp) grows (word bytes (A.sp + h.0)) v h.2),
+  )
 
   -- registers and slots of places, but for one, where registers with no other use change only there
   pub kept_but_register : (regs after : Registers) (bytes : Bytes) (r : ℕ) →
@@ -157,6 +159,7 @@ module _ (A : Activation) where
               its = ap (λ t. slice_get places t) same ∙ its;
               value = subst (InPlace A more after later place) is value;
             }
+
         there : t ≢ d → IsHeld A places more after later t u
         there other =
             let old : temps t ≡ with_temp d v temps t = rw (ne_eqb t d other) refl in

@@ -4,6 +4,7 @@ pub mod Clear
 pub mod Ending
 pub mod Following
 pub mod Frames
+pub mod Functions
 pub mod Held
 pub mod Jumps
 pub mod Lines

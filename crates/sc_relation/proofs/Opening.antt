@@ -1,16 +1,16 @@
 -- A call begins: its blocks, their places in its frame, and how the bytes stand for all blocks then.
-use Rattle.std.proofs.Common.{◌≡◌, ◌≢◌, ℕ, zero, suc, ◌+◌, ◌-◌, ◌*◌, ◌%◌, ◌<◌, ◌≤◌, Bool, true, false, List, [], ◌∷◌, ◌++◌}
+use Rattle.std.proofs.Common.{◌≡◌, ◌≢◌, ℕ, zero, suc, ◌+◌, ◌-◌, ◌*◌, ◌%◌, ◌<◌, ◌≤◌, Bool, true, false, List, []}
+use Rattle.std.proofs.Common.{◌∷◌, ◌++◌}
 use Rattle.std.proofs.Common.{length, replicate, Option, None, Some, nat_eq, nat_le, if◌then◌else◌, refl, sym, ◌∙◌, ap}
 use Rattle.std.proofs.Common.{subst, arith, ⊎_elim, inl, inr, length-append}
 use Rattle.std.specs.Prelude.{◌⊎◌, ◌&&◌, slice_get}
 use Rattle.std.specs.Option.{option_map}
 use Rattle.std.proofs.lemmas.Bool.{cases_eq, cases_lt, cases_order, eq-eqb, ne_eqb, le-leb, lt-leb}
 use Rattle.std.proofs.lemmas.Option.{slice_get_within, same_Some}
-use Rattle.std.proofs.lemmas.List.{length-replicate}
 use Rattle.sc_core.specs.declared.value.Cell.{Cell}
 use Rattle.sc_core.specs.declared.value.Cell.TheVariants as cell
 use Rattle.sc_core.specs.declared.value.Value.{Value}
-use Rattle.sc_core.specs.Memory.{Block, Blocks, Memory, with_blocks, cell_of}
+use Rattle.sc_core.specs.Memory.{Block, Memory, with_blocks, cell_of}
 use Rattle.sc_core.specs.Calls.{blocks_for}
 use Rattle.sc_store.specs.Memory.{Memory as Bytes}
 use Rattle.sc_image.specs.declared.parts.ImageParts.{ImageParts}
@@ -24,7 +24,8 @@ use Rattle.sc_hart.specs.Hart.{put}
 use Rattle.sc_hart.specs.Words.{word, Owned}
 use Rattle.sc_relation.specs.Blocks.{Injection, StandsFor, InCell, LiveAt, Placed, BlocksMatch, Guarded}
 use Rattle.sc_relation.specs.Frames.{own_words}
-use Rattle.sc_relation.proofs.Frames.{each_at, get_front, get_back, own_inside, object_there, object_inside, objects_apart}
+use Rattle.sc_relation.proofs.Frames.{each_at, get_front, get_back, own_inside, object_there, object_inside}
+use Rattle.sc_relation.proofs.Frames.{objects_apart}
 use Rattle.sc_relation.proofs.Frames.{own_beside}
 use Rattle.sc_relation.proofs.Held.{Grows, stands_more}
 use Rattle.sc_relation.proofs.Storing.{in_cell, block_owned}
@@ -150,14 +151,14 @@ module _ (image : ImageParts) (performs : ℕ → Bool) (floor : ℕ → ℕ) (i
   origin_here k b xs h e =
       let block : Block = record { live = true; cells = xs } in
       let now : slice_get (memory c ++ blocks_for cells args) b ≡ Some block =
-          sym (ap (λ bs. slice_get bs b) (opened_here k e)) ∙ h in
+      sym (ap (λ bs. slice_get bs b) (opened_here k e)) ∙ h in
       ⊎_elim
       (λ l. Old (ap (λ k. slice_get (memory k) b) e ∙ sym (get_front (memory c) (blocks_for cells args) b l) ∙ now)
       (injection_old k b (λ e. l)))
       (λ past. (let place : first + (b - first) ≡ b = omega (arith, past) in
       let got : slice_get (blocks_for cells args) (b - first) ≡ Some block =
-          sym (get_back (memory c) (blocks_for cells args) (b - first)) ∙
-          ap (slice_get (memory c ++ blocks_for cells args)) place ∙ now in
+      sym (get_back (memory c) (blocks_for cells args) (b - first)) ∙
+      ap (slice_get (memory c ++ blocks_for cells args)) place ∙ now in
       Fresh (b - first) block e (sym place) (new_block cells args (b - first) block got) refl))
       (cases_lt b first)
 
@@ -246,7 +247,8 @@ module _ (image : ImageParts) (performs : ℕ → Bool) (floor : ℕ → ℕ) (i
 
     fresh_at : (k b a o offset : ℕ) → k ≡ c → b ≡ first + o → slice_get frame.objects o ≡ Some offset →
         more k b ≡ Some a → low + offset ≡ a
-    fresh_at k b a o offset ek eb h is_at = same_Some (low + offset) a (sym (injection_new k b o offset ek eb h) ∙ is_at)
+    fresh_at k b a o offset ek eb h is_at =
+        same_Some (low + offset) a (sym (injection_new k b o offset ek eb h) ∙ is_at)
 
     there_by : (k b : ℕ) (xs : List Cell) → performs k ≡ false → Origin k b xs → (a : ℕ) × (more k b ≡ Some a)
     there_by k b xs s (Old live e) = let was = blocks.there k b xs s live in (was.0, e ∙ was.1)
@@ -334,9 +336,13 @@ module _ (image : ImageParts) (performs : ℕ → Bool) (floor : ℕ → ℕ) (i
         let long : length (opened k) ≡ first + length cells = length_opened c cells args memory k e in
         ⊎_elim (λ below. omega (arith, long, below))
         (λ past. (let is : more k b ≡ option_map (λ offset. low + offset) (slice_get frame.objects (b - first)) =
-            rw (eq-eqb k c e, le-leb first b past) refl in
-        omega (arith, long, room.objects,
-        object_below b a (slice_get frame.objects (b - first)) refl (sym is ∙ is_at)))) (cases_lt b first)
+        rw (eq-eqb k c e, le-leb first b past) refl in
+        omega (
+          arith,
+          long,
+          room.objects,
+          object_below b a (slice_get frame.objects (b - first)) refl (sym is ∙ is_at),
+        ))) (cases_lt b first)
 
     known_by : (k b a : ℕ) → more k b ≡ Some a → b < length (opened k)
     known_by k b a is_at = ⊎_elim (known_here k b a is_at)
@@ -357,8 +363,11 @@ module _ (image : ImageParts) (performs : ℕ → Bool) (floor : ℕ → ℕ) (i
     own_free : (i u b a : ℕ) (xs : List Cell) → performs c ≡ false → slice_get (own_words frame) i ≡ Some u →
         Origin c b xs → more c b ≡ Some a → (low + u + 4 ≤ a) ⊎ (a + 4 * length xs ≤ low + u)
     own_free i u b a xs s e (Old live f) is_at =
-        inl (omega (arith, old_above c b a xs s refl live (sym f ∙ is_at),
-        own_inside cells places nodes frame room i u e))
+        inl (omega (
+          arith,
+          old_above c b a xs s refl live (sym f ∙ is_at),
+          own_inside cells places nodes frame room i u e,
+        ))
     own_free i u b a xs s e (Fresh o block ek eb new ex) is_at =
         let x : HasObject o xs = object_of o block xs new ex in
         let place : low + x.offset ≡ a = fresh_at c b a o x.offset ek eb x.object is_at in

@@ -1,14 +1,14 @@
 -- Both sides stay settled while code of the running call changes registers and words of its frame, and across a store
 -- through a pointer; and what such a stretch leaves alone.
-use Rattle.std.proofs.Common.{◌≡◌, ◌≢◌, ℕ, zero, suc, ◌+◌, ◌*◌, ◌<◌, ◌≤◌, Bool, true, false, List, All, Option, Some, Ok}
-use Rattle.std.proofs.Common.{refl, sym, ◌∙◌, ap, subst, arith, ⊎_elim, inl, inr}
-use Rattle.std.specs.Prelude.{◌⊎◌, slice_get}
+use Rattle.std.proofs.Common.{◌≡◌, ℕ, zero, suc, ◌+◌, ◌*◌, ◌≤◌, false, List, All, Some, Ok}
+use Rattle.std.proofs.Common.{refl, subst, arith, ⊎_elim, inr}
+use Rattle.std.specs.Prelude.{slice_get}
 use Rattle.std.proofs.lemmas.Bool.{cases_eq}
 use Rattle.sc_core.specs.declared.value.Pointer.{Pointer}
 use Rattle.sc_core.specs.declared.value.Value.{Value}
 use Rattle.sc_core.specs.declared.value.Value.TheVariants.{Ptr}
 use Rattle.sc_core.specs.Memory.{Blocks, store}
-use Rattle.sc_core.specs.Words.{State as Meant, with_memory}
+use Rattle.sc_core.specs.Words.{with_memory}
 use Rattle.sc_store.specs.Memory.{Memory as Bytes}
 use Rattle.sc_image.specs.declared.parts.ImageParts.{ImageParts}
 use Rattle.sc_image.specs.State.{State}
@@ -20,13 +20,14 @@ use Rattle.sc_image.proofs.Reached.{SteadyAfter, steady_step}
 use Rattle.sc_tac.specs.declared.place.Place.{Place}
 use Rattle.sc_hart.specs.Hart.{Registers}
 use Rattle.sc_hart.specs.Words.{word, put_word, Apart}
-use Rattle.sc_hart.proofs.Words.{word_apart, apart_from}
-use Rattle.sc_relation.specs.Blocks.{StandsFor, Guarded}
+use Rattle.sc_hart.proofs.Words.{word_apart}
+use Rattle.sc_relation.specs.Blocks.{StandsFor}
 use Rattle.sc_relation.specs.Frames.{Activation, own_words, IsActivation, FrameMatches}
-use Rattle.sc_relation.specs.Stretches.{Setting, Joint, Standpoint, machine, Settled, Protected, Effect, Leads}
+use Rattle.sc_relation.specs.Stretches.{Setting, Joint, Standpoint, machine, Settled, Protected, Leads}
 use Rattle.sc_relation.specs.Following.{seen_from}
 use Rattle.sc_relation.proofs.Frames.{own_inside}
-use Rattle.sc_relation.proofs.Storing.{CellsKept, other_data, blocks_kept, guarded_cells, was, guarded_kept, blocks_after}
+use Rattle.sc_relation.proofs.Storing.{CellsKept, other_data, blocks_kept, guarded_cells, was, guarded_kept}
+use Rattle.sc_relation.proofs.Storing.{blocks_after}
 
 -- a walk from a steady state ends in one
 module _ (image : ImageParts) (inputs : List ℕ) (formed : IsWellFormed image) (all : All IsWord inputs) where
@@ -40,7 +41,8 @@ module _ (image : ImageParts) (inputs : List ℕ) (formed : IsWellFormed image) 
   steady_by : (n : ℕ) (from to : State) → walk image inputs n from ≡ Goes to → IsSteady image from → IsSteady image to
   steady_by zero from to e h = let same : from ≡ to = cc e in subst (IsSteady image) same h
   steady_by (suc n) from to e h =
-      steady_on n to (step image inputs from) (steady_step image inputs formed all from h) e (λ next. steady_by n next to)
+      steady_on n to (step image inputs from) (steady_step image inputs formed all from h) e
+      (λ next. steady_by n next to)
 
   pub walks_steady : (n : ℕ) (from to : State) → Walks image inputs n from to → IsSteady image from → IsSteady image to
   walks_steady n from to w h = steady_by n from to w.by h
@@ -116,7 +118,7 @@ module _ (T : Setting) (formed : IsWellFormed T.image) (inputs : All IsWord T.in
         grows = λ k b a e. e;
         lived = λ k b cells h live.
             (let old = was T.image formed T.performs P.floor x.inj x.meant.memory x.bytes s.blocks P.comp a w p v after
-                honest stores is_at k b cells live in
+            honest stores is_at k b cells live in
             (old.old, old.live, old.long));
         keeps = λ k q g. guarded_kept T.image formed T.performs P.floor x.inj x.meant.memory x.bytes s.blocks P.comp a w
             p v after honest stores is_at k q g.guard;
@@ -134,8 +136,8 @@ module _ (T : Setting) (formed : IsWellFormed T.image) (cells : List ℕ) (place
   pub own_cells : Settled T P x → FrameMatches T.image A x.inj x.meant.memory x.bytes →
       CellsKept T.performs x.inj x.meant.memory x.bytes (put_word x.bytes (A.sp + offset) w)
   own_cells s frame =
-      guarded_cells T.image formed T.performs A.floor x.inj x.meant.memory x.bytes s.blocks A.here.comp (A.sp + offset) w
-      (frame.guard i offset its)
+      guarded_cells T.image formed T.performs A.floor x.inj x.meant.memory x.bytes s.blocks A.here.comp (A.sp + offset)
+      w (frame.guard i offset its)
 
   -- what belongs to what lies above the frame is none of its words
   pub own_keeps : FrameMatches T.image A x.inj x.meant.memory x.bytes → (k q : ℕ) →
@@ -143,7 +145,7 @@ module _ (T : Setting) (formed : IsWellFormed T.image) (cells : List ℕ) (place
   own_keeps frame k q p =
       let inside : offset + 4 ≤ A.frame.bytes = own_inside cells places nodes A.frame is.room i offset its in
       let apart : Apart q (A.sp + offset) =
-          ⊎_elim (λ e. inr (omega (arith, p.own e, inside)))
-          (λ n. other_data T.image k A.here.comp q (A.sp + offset) formed n p.guard.owned
-          (frame.guard i offset its).owned) (cases_eq k A.here.comp) in
+      ⊎_elim (λ e. inr (omega (arith, p.own e, inside)))
+      (λ n. other_data T.image k A.here.comp q (A.sp + offset) formed n p.guard.owned
+      (frame.guard i offset its).owned) (cases_eq k A.here.comp) in
       word_apart x.bytes (A.sp + offset) w q apart

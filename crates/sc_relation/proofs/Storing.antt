@@ -58,7 +58,8 @@ module _ (image : ImageParts) (formed : IsWellFormed image) (performs : ℕ → 
   block_owned k b a i cells honest live e l =
       cell_owned image (floor k) k a (length cells) i (blocks.placed k b a cells honest live e) l
 
-  pub blocks_kept : (after : Bytes) → CellsKept performs inj memory bytes after → BlocksMatch image performs floor inj memory after
+  pub blocks_kept : (after : Bytes) → CellsKept performs inj memory bytes after →
+      BlocksMatch image performs floor inj memory after
   blocks_kept after h = record {
     there = blocks.there;
     placed = blocks.placed;
@@ -80,11 +81,12 @@ module _ (image : ImageParts) (formed : IsWellFormed image) (performs : ℕ → 
       here : k ≡ c → Apart (a + 4 * i) q
       here same =
           let beside : Beside a (length cells) q =
-              g.free b a cells (subst (λ k. LiveAt memory k b cells) same live) (sym (ap (λ k. inj k b) same) ∙ e) in
+          g.free b a cells (subst (λ k. LiveAt memory k b cells) same live) (sym (ap (λ k. inj k b) same) ∙ e) in
           apart_from (a + 4 * i) q (λ x y. omega (arith, beside, l))
 
   -- a guarded word is written
-  pub guarded_cells : (c q value : ℕ) → Guarded image inj memory c q → CellsKept performs inj memory bytes (put_word bytes q value)
+  pub guarded_cells : (c q value : ℕ) → Guarded image inj memory c q →
+      CellsKept performs inj memory bytes (put_word bytes q value)
   guarded_cells c q value g k b a i cells honest live e l =
       word_apart bytes q value (a + 4 * i) (guarded_apart c q k b a i cells g honest live e l)
 
@@ -146,10 +148,12 @@ module _ (image : ImageParts) (formed : IsWellFormed image) (performs : ℕ → 
     cell_was : (old : List Cell) (k b i : ℕ) (x : Cell) → k ≡ c → b ≡ p.block → p.index < length old →
         slice_get (slice_set old p.index (cell_of v)) i ≡ Some x → CellWas old k b i x
     cell_was old k b i x ek eb within h = ⊎_elim
-        (λ e. inl (record { comp = ek; block = eb; index = e },
-        sym (same_Some (cell_of v) x (sym (get_set_same old p.index (cell_of v) _
-        (slice_get-get_or old p.index (cell_of v) within)) ∙
-        ap (λ j. slice_get (slice_set old p.index (cell_of v)) j) (sym e) ∙ h))))
+        (λ e. inl (
+          record { comp = ek; block = eb; index = e },
+          sym (same_Some (cell_of v) x (sym (get_set_same old p.index (cell_of v) _
+              (slice_get-get_or old p.index (cell_of v) within)) ∙
+              ap (λ j. slice_get (slice_set old p.index (cell_of v)) j) (sym e) ∙ h)),
+        ))
         (λ n. inr (sym (get_set_other old p.index i (cell_of v) n) ∙ h, λ (t : IsTarget k b i). n t.index))
         (cases_eq i p.index)
 
@@ -163,10 +167,10 @@ module _ (image : ImageParts) (formed : IsWellFormed image) (performs : ℕ → 
     was_here k b cells ek eb h =
         let block : Block = record { live = true; cells = cells } in
         let now : slice_get (with_value (memory c) p did.cells v) p.block ≡ Some block =
-            sym (ap (λ bs. slice_get bs p.block) (memory_here k ek)) ∙
-            ap (λ j. slice_get (after_memory k) j) (sym eb) ∙ h in
+        sym (ap (λ bs. slice_get bs p.block) (memory_here k ek)) ∙
+        ap (λ j. slice_get (after_memory k) j) (sym eb) ∙ h in
         let same : written ≡ block =
-            same_Some written block (sym (get_set_same (memory c) p.block written _ did.live) ∙ now) in
+        same_Some written block (sym (get_set_same (memory c) p.block written _ did.live) ∙ now) in
         let those : cells ≡ slice_set did.cells p.index (cell_of v) = sym (ap (λ b. b.cells) same) in
         record {
           old = did.cells;
@@ -207,17 +211,18 @@ module _ (image : ImageParts) (formed : IsWellFormed image) (performs : ℕ → 
     -- a guarded word is kept
     pub guarded_kept : (k q : ℕ) → Guarded image inj memory k q → word (put_word bytes target w) q ≡ word bytes q
     guarded_kept k q g =
-        let apart : Apart target q = guarded_apart k q c p.block a p.index did.cells g honest did.live is_at did.below in
+        let apart : Apart target q =
+        guarded_apart k q c p.block a p.index did.cells g honest did.live is_at did.below in
         word_apart bytes target w q (apart_from q target (λ x y. omega (arith, apart)))
 
     new_in_cell : (k b d i : ℕ) (x : Cell) → inj k b ≡ Some d → IsTarget k b i → x ≡ cell_of v →
         StandsFor (inj c) w v → InCell (inj k) (word (put_word bytes target w) (d + 4 * i)) x
     new_in_cell k b d i x e t ex stands =
         let place : d ≡ a =
-            same_Some d a (sym e ∙ ap (inj k) t.block ∙ ap (λ k. inj k p.block) t.comp ∙ is_at) in
+        same_Some d a (sym e ∙ ap (inj k) t.block ∙ ap (λ k. inj k p.block) t.comp ∙ is_at) in
         let there : d + 4 * i ≡ target = omega (arith, place, t.index) in
         let now : word (put_word bytes target w) (d + 4 * i) ≡ w =
-            ap (word (put_word bytes target w)) there ∙ word_same bytes target w stands.word in
+        ap (word (put_word bytes target w)) there ∙ word_same bytes target w stands.word in
         subst (λ z. InCell (inj k) z x) (sym now) (subst (InCell (inj k) w) (sym ex)
         (subst (λ k. InCell (inj k) w (cell_of v)) (sym t.comp) (in_cell (inj c) w v stands)))
 
@@ -231,9 +236,9 @@ module _ (image : ImageParts) (formed : IsWellFormed image) (performs : ℕ → 
         i < length old → k ≡ c → b ≢ p.block → Apart (d + 4 * i) target
     other_block k b d i old s live e l ek nb =
         let beside : (d + 4 * length old ≤ a) ⊎ (a + 4 * length did.cells ≤ d) =
-            blocks.apart k b p.block d a old did.cells s live
-            (subst (λ k. LiveAt memory k p.block did.cells) (sym ek) did.live) e
-            (ap (λ k. inj k p.block) ek ∙ is_at) nb in
+        blocks.apart k b p.block d a old did.cells s live
+        (subst (λ k. LiveAt memory k p.block did.cells) (sym ek) did.live) e
+        (ap (λ k. inj k p.block) ek ∙ is_at) nb in
         apart_from (d + 4 * i) target (λ x y. omega (arith, beside, did.below))
 
     cells_apart : (k b d i : ℕ) (old : List Cell) → performs k ≡ false → LiveAt memory k b old → inj k b ≡ Some d →
@@ -259,7 +264,8 @@ module _ (image : ImageParts) (formed : IsWellFormed image) (performs : ℕ → 
         (cells_apart k b d i was.old s was.live e (slice_get_within was.old i x old.0) old.1)))
         (blocks.holds k b d i was.old x s was.live e old.0)) (was.each i x f)
 
-    pub blocks_after : StandsFor (inj c) w v → BlocksMatch image performs floor inj after_memory (put_word bytes target w)
+    pub blocks_after : StandsFor (inj c) w v →
+        BlocksMatch image performs floor inj after_memory (put_word bytes target w)
     blocks_after stands = record {
       there = λ k b cells s live. blocks.there k b (was k b cells live).old s (was k b cells live).live;
       placed = λ k b d cells s live e. subst (Placed image (floor k) k d) (sym (was k b cells live).long)
@@ -268,6 +274,7 @@ module _ (image : ImageParts) (formed : IsWellFormed image) (performs : ℕ → 
       apart = λ k b o d e xs ys s l m f g n.
           subst (λ x. (d + 4 * x ≤ e) ⊎ (e + 4 * length ys ≤ d)) (sym (was k b xs l).long)
           (subst (λ y. (d + 4 * length (was k b xs l).old ≤ e) ⊎ (e + 4 * y ≤ d)) (sym (was k o ys m).long)
-          (blocks.apart k b o d e (was k b xs l).old (was k o ys m).old s (was k b xs l).live (was k o ys m).live f g n));
+          (blocks.apart k b o d e (was k b xs l).old (was k o ys m).old s (was k b xs l).live (was k o ys m).live f
+          g n));
       known = λ k b d e. subst (λ n. b < n) (sym (same_length k)) (blocks.known k b d e);
     }

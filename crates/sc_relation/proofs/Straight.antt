@@ -1,8 +1,8 @@
 -- Straight code of the running call: it moves on, it assigns a temporary, it stores through a pointer, it has called.
-use Rattle.std.proofs.Common.{◌≡◌, ◌≢◌, ℕ, zero, suc, ◌+◌, ◌*◌, ◌^◌, ◌<◌, ◌≤◌, Bool, true, false, not, List, [], ◌∷◌, All}
-use Rattle.std.proofs.Common.{Option, None, Some, Ok, refl, sym, ◌∙◌, ap, subst, arith, ⊎_elim, inl, inr}
-use Rattle.std.specs.Prelude.{◌⊎◌, ◌||◌, ◌&&◌, slice_get}
-use Rattle.std.proofs.lemmas.Bool.{cases_eq, eq-eqb, ne_eqb}
+use Rattle.std.proofs.Common.{◌≡◌, ◌≢◌, ℕ, suc, ◌+◌, ◌*◌, ◌^◌, ◌<◌, ◌≤◌, Bool, true, false, not, List, All}
+use Rattle.std.proofs.Common.{Option, None, Some, Ok, refl, sym, ◌∙◌, subst, arith}
+use Rattle.std.specs.Prelude.{◌||◌, ◌&&◌, slice_get}
+use Rattle.std.proofs.lemmas.Bool.{ne_eqb}
 use Rattle.sc_core.specs.declared.value.Pointer.{Pointer}
 use Rattle.sc_core.specs.declared.value.Value.{Value}
 use Rattle.sc_core.specs.declared.value.Value.TheVariants.{Word, Null, Ptr}
@@ -23,14 +23,14 @@ use Rattle.sc_hart.specs.Hart.{Registers}
 use Rattle.sc_hart.specs.Words.{word, put_word, Owned}
 use Rattle.sc_hart.proofs.Words.{word_same}
 use Rattle.sc_relation.specs.Blocks.{StandsFor, Guarded}
-use Rattle.sc_relation.specs.Frames.{Activation, own_words, IsActivation, FrameMatches, InPlace, AreHeld}
+use Rattle.sc_relation.specs.Frames.{Activation, own_words, IsActivation, FrameMatches, InPlace}
 use Rattle.sc_relation.specs.Stretches.{Setting, Joint, Standpoint, machine, Settled, Protected, Effect, Leads}
 use Rattle.sc_relation.specs.Following.{Running, seen_from, Ready, Arrives}
 use Rattle.sc_relation.proofs.Frames.{each_at, own_inside}
-use Rattle.sc_relation.proofs.Held.{PlaceKept, frame_kept, frame_written, kept_but_register, kept_but_slot, kept_all}
-use Rattle.sc_relation.proofs.Held.{ra_kept, held_kept, held_assigned, held_over_call, held_less}
+use Rattle.sc_relation.proofs.Held.{PlaceKept, frame_kept, kept_but_register, kept_but_slot, kept_all}
+use Rattle.sc_relation.proofs.Held.{ra_kept, held_kept, held_assigned, held_over_call}
 use Rattle.sc_relation.proofs.Registers.{HasNoOtherUse}
-use Rattle.sc_relation.proofs.Settling.{moved, moved_with, settled_moved, leads_moved, stored_at, settled_stored}
+use Rattle.sc_relation.proofs.Settling.{moved, moved_with, settled_moved, leads_moved, settled_stored}
 use Rattle.sc_relation.proofs.Settling.{leads_stored, own_cells, own_keeps}
 use Rattle.sc_relation.proofs.Storing.{CellsKept, LoadsWord, loads_word, target_owned, guarded_after, guarded_kept}
 use Rattle.sc_relation.proofs.Stretches.{protected_on}
@@ -111,8 +111,12 @@ module _ (T : Setting) (R : Running) where
         Assigns x (Slot k) v regs (put_word x.bytes (A.sp + offset) w)
     assigns_slot live temps x k offset w v regs ready its same stands others = record {
       sp = same;
-      value = (offset, its, subst (λ z. StandsFor (x.inj A.here.comp) z v)
-          (sym (word_same x.bytes (A.sp + offset) w stands.word)) stands);
+      value = (
+        offset,
+        its,
+        subst (λ z. StandsFor (x.inj A.here.comp) z v)
+            (sym (word_same x.bytes (A.sp + offset) w stands.word)) stands,
+      );
       others = kept_but_slot A cells R.places nodes is.room k offset w its x.regs regs x.bytes others;
       ra = ra_kept A cells R.places nodes is.room k offset w its x.bytes;
       cells = own_cells T formed cells R.places nodes A is x (suc k) offset w its ready.settled ready.frame;
@@ -159,8 +163,8 @@ module _ (T : Setting) (R : Running) where
     }
 
     -- a temporary is assigned at a clear point
-    pub assigned_at : (live : Set) (point : Point) (temps : Temps) (x : Joint) (n left d pc : ℕ) (place : Place) (v : Value)
-        (regs : Registers) (later : Bytes) →
+    pub assigned_at : (live : Set) (point : Point) (temps : Temps) (x : Joint) (n left d pc : ℕ) (place : Place)
+        (v : Value) (regs : Registers) (later : Bytes) →
         Ready T R live temps x → IsClear R.places point → point.assigned ≡ Some d → slice_get R.places d ≡ Some place →
         ((t : ℕ) → point.live t ≡ true → t ≢ d → live t ≡ true) → Assigns x place v regs later →
         Walks T.image T.inputs n (machine P x) (machine P (moved x pc regs later)) →
@@ -172,9 +176,11 @@ module _ (T : Setting) (R : Running) where
       leads = leads_moved T formed inputs P x n left pc regs later h.keeps walks;
       ready = record {
         settled = settled_moved T formed inputs P x n pc regs later ready.settled h.cells walks;
-        frame = frame_kept A T.image x.inj x.inj x.meant.memory x.meant.memory x.bytes later (λ b a e. e) (λ q g. g) h.ra
+        frame = frame_kept A T.image x.inj x.inj x.meant.memory x.meant.memory x.bytes later (λ b a e. e) (λ q g. g)
+            h.ra
             ready.frame;
-        held = held_assigned A R.places x.inj x.inj x.regs regs x.bytes later (λ b a e. e) live point d place v temps clear
+        held = held_assigned A R.places x.inj x.inj x.regs regs x.bytes later (λ b a e. e) live point d place v temps
+            clear
             assigned its fewer h.others h.value ready.held;
         sp = h.sp ∙ ready.sp;
       };
@@ -221,10 +227,10 @@ module _ (T : Setting) (R : Running) where
         let s = ready.settled in
         let later : Bytes = put_word x.bytes (a + 4 * p.index) w in
         let kept : (q : ℕ) → Guarded T.image x.inj x.meant.memory A.here.comp q → word later q ≡ word x.bytes q =
-            guarded_kept T.image formed T.performs A.floor x.inj x.meant.memory x.bytes s.blocks A.here.comp a w p v after
-            is.honest stores is_at A.here.comp in
+        guarded_kept T.image formed T.performs A.floor x.inj x.meant.memory x.bytes s.blocks A.here.comp a w p v after
+        is.honest stores is_at A.here.comp in
         let own : (i o : ℕ) → slice_get (own_words A.frame) i ≡ Some o →
-            word later (A.sp + o) ≡ word x.bytes (A.sp + o) = λ i o e. kept (A.sp + o) (ready.frame.guard i o e) in
+        word later (A.sp + o) ≡ word x.bytes (A.sp + o) = λ i o e. kept (A.sp + o) (ready.frame.guard i o e) in
         let here : A.sp + 0 ≡ A.sp = omega arith in
         record {
           y = moved_with x A.here.comp after pc regs later;
@@ -234,12 +240,13 @@ module _ (T : Setting) (R : Running) where
           ready = record {
             settled = settled_stored T formed inputs P x n pc a w regs p v after s is.honest stores is_at stands walks;
             frame = frame_kept A T.image x.inj x.inj x.meant.memory _ x.bytes later (λ b a e. e)
-                (guarded_after T.image formed T.performs A.floor x.inj x.meant.memory x.bytes s.blocks A.here.comp a w p v
-                after is.honest stores is_at A.here.comp)
+                (guarded_after T.image formed T.performs A.floor x.inj x.meant.memory x.bytes s.blocks A.here.comp a w p
+                v after is.honest stores is_at A.here.comp)
                 (subst (λ q. word later q ≡ word x.bytes q) here (own 0 0 refl)) ready.frame;
             held = held_kept A R.places x.inj x.inj x.regs regs x.bytes later (λ b a e. e)
                 (live_plain reads None lives) lives.behind temps (behind_unassigned reads lives)
-                (λ t place on e. kept_all A x.regs regs x.bytes later others (λ k o f. own (suc k) o f) place) ready.held;
+                (λ t place on e. kept_all A x.regs regs x.bytes later others (λ k o f. own (suc k) o f) place)
+                ready.held;
             sp = same ∙ ready.sp;
           };
         }
@@ -251,16 +258,17 @@ module _ (T : Setting) (R : Running) where
       pub stands : StandsFor (x.inj A.here.comp) (word x.bytes w) v
 
     pub loads : (live : Set) (temps : Temps) (x : Joint) (w : ℕ) (pointer : Bool) (q v : Value) →
-        Ready T R live temps x → StandsFor (x.inj A.here.comp) w q → load (x.meant.memory A.here.comp) pointer q ≡ Ok v →
+        Ready T R live temps x → StandsFor (x.inj A.here.comp) w q →
+        load (x.meant.memory A.here.comp) pointer q ≡ Ok v →
         IsLoaded x w v
     loads live temps x w pointer (Word n) v ready stands h = cc h
     loads live temps x w pointer Null v ready stands h = cc h
     loads live temps x w pointer (Ptr p) v ready stands h =
         let m = stands.means in
-        let r : LoadsWord T.image formed T.performs A.floor x.inj x.meant.memory x.bytes ready.settled.blocks A.here.comp
-            m.0 p v =
-            loads_word T.image formed T.performs A.floor x.inj x.meant.memory x.bytes ready.settled.blocks A.here.comp m.0
-            pointer p v is.honest h m.1 in
+        let r : LoadsWord T.image formed T.performs A.floor x.inj x.meant.memory x.bytes ready.settled.blocks
+        A.here.comp m.0 p v =
+        loads_word T.image formed T.performs A.floor x.inj x.meant.memory x.bytes ready.settled.blocks A.here.comp m.0
+        pointer p v is.honest h m.1 in
         subst (λ w. IsLoaded x w v) (sym m.2) (record { owned = r.owned; stands = r.stands })
 
     pub may_store : (live : Set) (temps : Temps) (x : Joint) (w : ℕ) (q v : Value) (after : Blocks) →
@@ -271,8 +279,8 @@ module _ (T : Setting) (R : Running) where
     may_store live temps x w (Ptr p) v after ready stands h =
         let m = stands.means in
         subst (Owned T.image A.here.comp) (sym m.2)
-        (target_owned T.image formed T.performs A.floor x.inj x.meant.memory x.bytes ready.settled.blocks A.here.comp m.0 0
-        p v after is.honest h m.1)
+        (target_owned T.image formed T.performs A.floor x.inj x.meant.memory x.bytes ready.settled.blocks A.here.comp
+        m.0 0 p v after is.honest h m.1)
 
     pub stores : (reads : List ℕ) (lives : Lives) (temps : Temps) (x : Joint) (n left pc to w : ℕ) (q v : Value)
         (after : Blocks) (regs : Registers) →
@@ -371,8 +379,8 @@ module _ (T : Setting) (R : Running) where
     over_call live point temps ready clear calls fewer settled same = record {
       settled = settled_from y settled;
       frame = frame_over_call (settled_to x ready.settled) ready.frame;
-      held = held_over_call A R.places x.inj y.inj x.regs y.regs x.bytes y.bytes (effect.grows A.here.comp) live point temps
-          clear calls fewer (λ k offset e. own_same (suc k) offset ready.frame e) ready.held;
+      held = held_over_call A R.places x.inj y.inj x.regs y.regs x.bytes y.bytes (effect.grows A.here.comp) live point
+          temps clear calls fewer (λ k offset e. own_same (suc k) offset ready.frame e) ready.held;
       sp = same ∙ ready.sp;
     }
 
@@ -382,6 +390,20 @@ module _ (T : Setting) (R : Running) where
         All (IsClear R.places) (plain_points reads true dest lives) → Settled T call_from y →
         y.regs sp ≡ x.regs sp → Ready T R (live_across reads true dest lives) temps y
     called reads dest lives temps ready clear settled same =
-        over_call (live_plain reads dest lives) (record { assigned = None; calls = true; live = live_across reads true dest lives })
+        over_call (live_plain reads dest lives)
+        (record { assigned = None; calls = true; live = live_across reads true dest lives })
         temps ready (each_at (IsClear R.places) (plain_points reads true dest lives) 1 _ clear refl) refl
         (across_live reads dest lives) settled same
+
+    -- behind a call of the environment that leaves registers with no other use as they were, all is as it was
+    pub asked : (live : Set) (temps : Temps) → Ready T R live temps x → Settled T call_from y →
+        y.regs sp ≡ x.regs sp → ((q : ℕ) → HasNoOtherUse q → y.regs q ≡ x.regs q) → Ready T R live temps y
+    asked live temps ready settled same others = record {
+      settled = settled_from y settled;
+      frame = frame_over_call (settled_to x ready.settled) ready.frame;
+      held = held_kept A R.places x.inj y.inj x.regs y.regs x.bytes y.bytes (effect.grows A.here.comp) live live temps
+          (λ t on. on)
+          (λ t place on e. kept_all A x.regs y.regs x.bytes y.bytes others
+          (λ k offset f. own_same (suc k) offset ready.frame f) place) ready.held;
+      sp = same ∙ ready.sp;
+    }
