@@ -42,7 +42,7 @@ use Rattle.sc_relation.specs.Frames.{Activation, IsActivation, IsHeld}
 use Rattle.sc_relation.specs.Operators.{IsFor}
 use Rattle.sc_relation.specs.Stretches.{Setting, Joint}
 use Rattle.sc_relation.specs.Following.{Running, Ready, Arrives, Comes, Follows, live_at, seen_from}
-use Rattle.sc_relation.proofs.Following.{comes_read, comes_stopped}
+use Rattle.sc_relation.proofs.Following.{comes_read, comes_computed}
 use Rattle.sc_relation.proofs.Operators.{operator_stands}
 use Rattle.sc_relation.proofs.Registers.{HasNoOtherUse, no_other_use, register_there}
 use Rattle.sc_relation.proofs.Straight.{live_plain, or_left, or_right, IsLoaded, loads, may_store, stores}
@@ -144,7 +144,7 @@ module _ (T : Setting) (R : Running) (formed : IsWellFormed T.image) (inputs : A
       comes_read T R lives x (length (load_from frame R.places dest place) + left) ends R.activation.here place temps
       (λ q s. gets R.activation.here dest (load (s.memory R.activation.here.comp) pointer q) temps s)
       (λ q known.
-      comes_stopped T R lives x (length (load_from frame R.places dest place) + left) ends R.activation.here 0
+      comes_computed T R lives x (length (load_from frame R.places dest place) + left) ends R.activation.here 0
       (load (x.meant.memory R.activation.here.comp) pointer q) (λ v s. leave Next (with_temp dest v temps) s)
       (λ v found.
       (let live : Set = live_plain (place ∷ []) (Some dest) lives in

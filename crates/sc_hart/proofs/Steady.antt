@@ -26,5 +26,5 @@ module _ (image : ImageParts) (inputs : List ℕ) (formed : IsWellFormed image) 
   walk_steady (suc n) s t steady h =
       steady_by n s t steady (step image inputs s) refl (λ u. walk_steady n u t) h
 
-  pub walks_steady : (n : ℕ) (s t : State) → IsSteady image s → Walks image inputs n s t → IsSteady image t
-  walks_steady n s t steady walks = walk_steady n s t steady walks.by
+  pub walks_steady : (n : ℕ) (s t : State) → Walks image inputs n s t → IsSteady image s → IsSteady image t
+  walks_steady n s t walks steady = walk_steady n s t steady walks.by

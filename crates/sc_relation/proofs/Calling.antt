@@ -33,7 +33,7 @@ use Rattle.sc_relation.proofs.Held.{held_at_entry}
 use Rattle.sc_relation.proofs.Opening.{Prepared, injection_opened, other_range, lived_before}
 use Rattle.sc_relation.proofs.Opening.{blocks_opened, injection_grows, own_guarded, above_guarded, objects_placed}
 use Rattle.sc_relation.proofs.Opening.{length_opened}
-use Rattle.sc_relation.proofs.Settling.{walks_steady}
+use Rattle.sc_hart.proofs.Steady.{walks_steady}
 
 -- a call of a function that begins here, with its frame from this address on
 abbrev pub activated : Standpoint → Joint → FrameTree → (low ra_is : ℕ) → Activation

@@ -3,6 +3,7 @@
 use Rattle.std.proofs.Common.{◌≡◌, ℕ, ◌+◌, true, false, List, All, Option, None, Some}
 use Rattle.std.proofs.Common.{Result, Ok, Err, refl, ap, subst, arith, inl}
 use Rattle.sc_core.specs.declared.cause.Cause.{Cause}
+use Rattle.sc_core.specs.declared.expr.CallTarget.{CallTarget}
 use Rattle.sc_core.specs.declared.value.Value.{Value}
 use Rattle.sc_core.specs.Words.{State as Meant, Here, Piece, Left, and_then, computed}
 use Rattle.sc_tac.specs.Code.{Temps, known, read}
@@ -59,12 +60,12 @@ module _ (T : Setting) (R : Running) where
     pub leads : Leads T P x y (1 + left) left
     pub ready : Ready T R (live_across reads true dest lives) temps y
 
-  pub is_back : (reads : List ℕ) (dest : Option ℕ) (lives : Lives) (temps : Temps) (x : Joint) (left : ℕ)
-      (v : Option Value) (meant : Meant) → T.performs R.activation.here.comp ≡ false →
+  pub is_back : (reads : List ℕ) (dest : Option ℕ) (lives : Lives) (temps : Temps) (x : Joint) (target : CallTarget)
+      (left : ℕ) (v : Option Value) (meant : Meant) → T.performs R.activation.here.comp ≡ false →
       Ready T R (live_plain reads dest lives) temps x →
-      All (IsClear R.places) (plain_points reads true dest lives) → ComesBack T (call_from T R) x v meant →
+      All (IsClear R.places) (plain_points reads true dest lives) → ComesBack T (call_from T R) x target v meant →
       IsBack reads dest lives temps x left v meant
-  is_back reads dest lives temps x left v meant honest ready clear b =
+  is_back reads dest lives temps x target left v meant honest ready clear b =
       let none : 0 + left ≡ left = omega arith in
       record {
         y = b.y;

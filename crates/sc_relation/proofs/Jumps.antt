@@ -73,7 +73,7 @@ module _ (T : Setting) (R : Running) (formed : IsWellFormed T.image) (words : Al
       inputs = ready.settled.inputs;
       steady =
           walks_steady T.image T.inputs formed words leads.steps (machine P x) (machine P (record x { pc = pc }))
-          ready.settled.steady leads.run;
+          leads.run ready.settled.steady;
       room = ready.settled.room;
     };
     frame = ready.frame;

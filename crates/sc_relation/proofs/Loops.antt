@@ -218,8 +218,8 @@ module _ (T : Setting) (R : Running) (formed : IsWellFormed T.image) (words : Al
         inputs = ready.settled.inputs;
         steady =
             subst (λ y. IsSteady T.image (machine P y)) same
-            (walks_steady T.image T.inputs formed words leads.steps (machine P x) (machine P y) ready.settled.steady
-            leads.run);
+            (walks_steady T.image T.inputs formed words leads.steps (machine P x) (machine P y) leads.run
+            ready.settled.steady);
         room = ready.settled.room;
       };
       frame = ready.frame;

@@ -18,6 +18,7 @@ use Rattle.sc_image.specs.Walks.{Walks, walk, then_on}
 use Rattle.sc_image.specs.WellFormed.{IsWord, IsWellFormed}
 use Rattle.sc_image.proofs.Reached.{SteadyAfter, steady_step}
 use Rattle.sc_tac.specs.declared.place.Place.{Place}
+use Rattle.sc_hart.proofs.Steady.{walks_steady}
 use Rattle.sc_hart.specs.Hart.{Registers}
 use Rattle.sc_hart.specs.Words.{word, put_word, Apart}
 use Rattle.sc_hart.proofs.Words.{word_apart}
@@ -28,24 +29,6 @@ use Rattle.sc_relation.specs.Following.{seen_from}
 use Rattle.sc_relation.proofs.Frames.{own_inside}
 use Rattle.sc_relation.proofs.Storing.{CellsKept, other_data, blocks_kept, guarded_cells, was, guarded_kept}
 use Rattle.sc_relation.proofs.Storing.{blocks_after}
-
--- a walk from a steady state ends in one
-module _ (image : ImageParts) (inputs : List ℕ) (formed : IsWellFormed image) (all : All IsWord inputs) where
-  steady_on : (n : ℕ) (to : State) (outcome : Outcome) → SteadyAfter image outcome →
-      then_on outcome (walk image inputs n) ≡ Goes to →
-      ((next : State) → walk image inputs n next ≡ Goes to → IsSteady image next → IsSteady image to) →
-      IsSteady image to
-  steady_on n to (Goes next) h e go = go next e h
-  steady_on n to (Traps reason) h e go = cc e
-
-  steady_by : (n : ℕ) (from to : State) → walk image inputs n from ≡ Goes to → IsSteady image from → IsSteady image to
-  steady_by zero from to e h = let same : from ≡ to = cc e in subst (IsSteady image) same h
-  steady_by (suc n) from to e h =
-      steady_on n to (step image inputs from) (steady_step image inputs formed all from h) e
-      (λ next. steady_by n next to)
-
-  pub walks_steady : (n : ℕ) (from to : State) → Walks image inputs n from to → IsSteady image from → IsSteady image to
-  walks_steady n from to w h = steady_by n from to w.by h
 
 -- both sides, where the code has come to a pc, with these registers and bytes
 abbrev pub moved : Joint → (pc : ℕ) → Registers → Bytes → Joint

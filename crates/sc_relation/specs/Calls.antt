@@ -1,5 +1,5 @@
 -- What the code of a function follows, where the calls in it are followed.
-use Rattle.std.specs.Prelude.{◌≡◌, ℕ, ◌+◌, ◌*◌, ◌%◌, ◌<◌, ◌≤◌, ◌⊎◌, ℤ, pos, Bool, false, List, [], ◌∷◌, length, Option, Some}
+use Rattle.std.specs.Prelude.{◌≡◌, ◌≢◌, ℕ, ◌+◌, ◌*◌, ◌%◌, ◌<◌, ◌≤◌, ◌⊎◌, ℤ, pos, Bool, true, false, List, [], ◌∷◌, length, Option, Some}
 use Rattle.std.specs.Prelude.{slice_get}
 use Rattle.rv_code.specs.declared.instr.Instr.{Instr}
 use Rattle.rv_code.specs.declared.instr.Instr.TheVariants.{Jal, Jalr, Ecall}
@@ -21,6 +21,13 @@ use Rattle.sc_relation.specs.Frames.{Activation, FrameMatches}
 use Rattle.sc_relation.specs.Linking.{Addresses}
 use Rattle.sc_relation.specs.Stretches.{Setting, Joint, Standpoint, machine, Settled, Leads, Shows, Overflows, GivenBack}
 
+-- a call of the environment
+abbrev pub of_environment : CallTarget → Bool
+of_environment (Own number) = false
+of_environment (Cross to index) = false
+of_environment Input = true
+of_environment Output = true
+
 -- arguments, the first in a0
 abbrev pub ArePassed : (ℕ → Option ℕ) → (ℕ → ℕ) → List Value → Type 0
 ArePassed place regs args = (i : ℕ) (v : Value) → slice_get args i ≡ Some v → StandsFor place (regs (a0 + i)) v
@@ -28,19 +35,21 @@ ArePassed place regs args = (i : ℕ) (v : Value) → slice_get args i ≡ Some 
 module _ (T : Setting) where
   -- Calls, as the code sees them that makes them.
 
-  -- a call came back: with a value in a0, and the rest as it was
-  pub record ComesBack (P : Standpoint) (x : Joint) (v : Option Value) (meant : Meant) : Type 0 where
+  -- a call came back: with a value in a0, and the rest as it was. The environment leaves all registers but that one
+  pub record ComesBack (P : Standpoint) (x : Joint) (target : CallTarget) (v : Option Value) (meant : Meant) :
+      Type 0 where
     pub y : Joint
     pub meant_is : y.meant ≡ meant
     pub pc : y.pc ≡ x.pc + 4
     pub sp : y.regs sp ≡ x.regs sp
     pub value : GivenBack T (y.inj P.comp) (y.regs a0) v
+    pub registers : of_environment target ≡ true → (q : ℕ) → q ≢ a0 → y.regs q ≡ x.regs q
     pub leads : Leads T P x y 1 0
     pub settled : Settled T P y
 
-  abbrev pub CallGives : Standpoint → Joint → Piece (Option Value) → Type 0
-  CallGives P x (Reached v s) = ComesBack P x v s
-  CallGives P x (Stopped end s) = Shows T P x 1 s
+  abbrev pub CallGives : Standpoint → Joint → CallTarget → Piece (Option Value) → Type 0
+  CallGives P x target (Reached v s) = ComesBack P x target v s
+  CallGives P x target (Stopped end s) = Shows T P x 1 s
 
   -- the instruction of a call of each kind, at the pc
   abbrev pub CallStands : Standpoint → Joint → CallTarget → Type 0
@@ -59,7 +68,7 @@ module _ (T : Setting) where
     pub follow : (P : Standpoint) (x : Joint) (target : CallTarget) (args : List Value) →
         T.performs P.comp ≡ false → Settled T P x → x.regs sp ≡ P.bound → P.floor P.comp ≡ P.bound →
         ArePassed (x.inj P.comp) x.regs args → CallStands P x target →
-        CallGives P x (calls P.comp target args x.meant) ⊎ Overflows T P x 1 (calls P.comp target args x.meant)
+        CallGives P x target (calls P.comp target args x.meant) ⊎ Overflows T P x 1 (calls P.comp target args x.meant)
 
   -- Functions.
 
