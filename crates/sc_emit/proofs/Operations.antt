@@ -283,3 +283,135 @@ module _ (T : Setting) (R : Running) (formed : IsWellFormed T.image) (inputs : A
           same = piece.others sp (d.not_sp, ((λ e. omega (arith, e)), ((λ e. omega (arith, e)), ((λ e. omega (arith, e)), tt)))) ∙ same;
           others = λ q k n. piece.others q (n, (k.first, (k.second, (k.address, tt)))) ∙ others q k;
         }
+
+    -- what it is to be followed, where the operator gives a value
+    abbrev Whole : Option ℕ → List Instr
+    Whole right = operation frame R.places dest o left_one right
+
+    abbrev reads : Option ℕ → List ℕ
+    reads right = left_one ∷ one_or_none right
+
+    module _ (right : Option ℕ) (for : (blocks : Blocks) (v w r : Value) → operated wrapping blocks o v w ≡ Ok r → IsFor o v w)
+        (lives : Lives) (temps : Temps) (x : Joint) (left : ℕ)
+        (ready : Ready T R (live_plain (reads right) (Some dest) lives) temps x)
+        (clear : All (IsClear R.places) (plain_points (reads right) false (Some dest) lives))
+        (at_pc : CodeAt T.image comp x.pc (Whole right)) (ends : Ends) (e : ends.left ≡ left)
+        (f : ends.behind ≡ x.pc + 4 * length (Whole right)) where
+
+      abbrev Result_comes : Value → Value → Type 0
+      Result_comes v w =
+          Comes T R lives x (length (Whole right) + left) ends
+          (gets R.activation.here dest (operated wrapping (x.meant.memory comp) o v w) temps x.meant)
+
+      -- from operands at hand
+      from_operands : (before : List Instr) → Whole right ≡
+          before ++ op_code rd (operand frame R.places first_scratch left_one) (second_operand frame R.places right) o ++
+          keep frame R.places dest → (after : Registers) (a b : ℕ) (v w : Value) →
+          Does T.image T.inputs (world T R x) before x.regs x.bytes after x.bytes →
+          AreOperands after (operand frame R.places first_scratch left_one) (second_operand frame R.places right) a b →
+          StandsFor (x.inj comp) a v → (takes_two o ≡ true → StandsFor (x.inj comp) b w) → after sp ≡ x.regs sp →
+          ((q : ℕ) → HasNoOtherUse q → after q ≡ x.regs q) → Result_comes v w
+      from_operands before whole after a b v w does operands one two same others =
+          comes_computed T R lives x (length (Whole right) + left) ends R.activation.here 0
+          (operated wrapping (x.meant.memory comp) o v w) (λ r s. leave Next (with_temp dest r temps) s)
+          (λ r gave.
+          (let l : ℕ = operand frame R.places first_scratch left_one in
+          let code : List Instr = before ++ op_code rd l (second_operand frame R.places right) o in
+          let g : Gives T R x code rd r =
+              operated_gives x before after l (second_operand frame R.places right) a b v w r ready.settled does operands one
+              two (for (x.meant.memory comp) v w r gave) gave same others in
+          comes_behind T R lives x (Whole right) left (with_temp dest r temps) x.meant
+          (subst (λ code. Arrives T R lives.behind x (length code + left) left (with_temp dest r temps) x.meant
+          (x.pc + 4 * length code)) (sym whole)
+          (keeps T R x cells nodes is placed ready.frame ready.sp formed inputs lives temps (reads right) dest left ready
+          clear r code to its g (subst (CodeAt T.image comp x.pc) whole at_pc))) ends e f))
+
+    -- an operator that takes one value
+    one_operand : takes_two o ≡ false →
+        ((blocks : Blocks) (v w r : Value) → operated wrapping blocks o v w ≡ Ok r → IsFor o v w) →
+        Follows T R (code_step wrapping R.activation.here calls (tac.Op dest o left_one None))
+        (select_step frame R.places (tac.Op dest o left_one None)) (trail_step (tac.Op dest o left_one None))
+    one_operand one for =
+        straight_follows T R (code_step wrapping R.activation.here calls (tac.Op dest o left_one None)) (Whole None)
+        (trail_step (tac.Op dest o left_one None))
+        (λ temps. read_goes R.activation.here left_one temps
+        (λ v s. gets R.activation.here dest (operated wrapping (s.memory comp) o v v) temps s)
+        (λ v s. gets_goes (operated wrapping (s.memory comp) o v v) temps s))
+        (λ lives temps x left ready clear at ends e f.
+        comes_read T R lives x (length (Whole None) + left) ends R.activation.here left_one temps
+        (λ v s. gets R.activation.here dest (operated wrapping (s.memory comp) o v v) temps s)
+        (λ v known.
+        (let live : Set = live_plain (left_one ∷ []) (Some dest) lives in
+        let h : AtHand T R x x.regs first_scratch left_one v =
+            first_at_hand live temps x ready left_one v
+            (live_read (left_one ∷ []) (Some dest) lives left_one (only_one left_one [])) known in
+        let none : take frame R.places first_scratch left_one ++ [] ≡ take frame R.places first_scratch left_one =
+            append-nil (take frame R.places first_scratch left_one) in
+        from_operands None for lives temps x left ready clear at ends e f (take frame R.places first_scratch left_one)
+        (ap (λ code. code ++ op_code rd (operand frame R.places first_scratch left_one) 0 o ++ keep frame R.places dest)
+        none) h.after h.word 0 v v h.does
+        (record {
+          left_below = h.below;
+          left_second = ⊎_elim (λ e. (λ f. omega (arith, e, f))) (λ k. k.second) h.its;
+          left_address = ⊎_elim (λ e. (λ f. omega (arith, e, f))) (λ k. k.address) h.its;
+          right_below = omega arith;
+          right_first = λ e. omega (arith, e);
+          right_address = λ e. omega (arith, e);
+          left_is = h.result;
+          right_is = refl;
+          left_word = h.stands.word;
+          right_word = omega arith;
+        }) h.stands (λ two. (let never : false ≡ true = sym one ∙ two in cc never))
+        (h.others sp ((λ e. omega (arith, e)), ((λ e. omega (arith, e)), tt)))
+        (λ q k. h.others q (k.first, (k.address, tt))))))
+      where
+        gets_goes : (result : Result Value Cause) (temps : Temps) (s : Meant) →
+            Gone s (gets R.activation.here dest result temps s)
+        gets_goes (Ok v) temps s = stays (record { exit = Next; carried = with_temp dest v temps }) s
+        gets_goes (Err cause) temps s = record { grown = same s; stop = tt }
+
+    -- one that takes two
+    two_operands : (right_one : ℕ) →
+        ((blocks : Blocks) (v w r : Value) → operated wrapping blocks o v w ≡ Ok r → IsFor o v w) →
+        Follows T R (code_step wrapping R.activation.here calls (tac.Op dest o left_one (Some right_one)))
+        (select_step frame R.places (tac.Op dest o left_one (Some right_one)))
+        (trail_step (tac.Op dest o left_one (Some right_one)))
+    two_operands right_one for =
+        straight_follows T R (code_step wrapping R.activation.here calls (tac.Op dest o left_one (Some right_one)))
+        (Whole (Some right_one)) (trail_step (tac.Op dest o left_one (Some right_one)))
+        (λ temps. read_goes R.activation.here left_one temps
+        (λ v s. and_then (read R.activation.here right_one temps s)
+        (λ w s. gets R.activation.here dest (operated wrapping (s.memory comp) o v w) temps s))
+        (λ v. read_goes R.activation.here right_one temps
+        (λ w s. gets R.activation.here dest (operated wrapping (s.memory comp) o v w) temps s)
+        (λ w s. gets_goes (operated wrapping (s.memory comp) o v w) temps s)))
+        (λ lives temps x left ready clear at ends e f.
+        comes_read T R lives x (length (Whole (Some right_one)) + left) ends R.activation.here left_one temps
+        (λ v s. and_then (read R.activation.here right_one temps s)
+        (λ w s. gets R.activation.here dest (operated wrapping (s.memory comp) o v w) temps s))
+        (λ v known.
+        comes_read T R lives x (length (Whole (Some right_one)) + left) ends R.activation.here right_one temps
+        (λ w s. gets R.activation.here dest (operated wrapping (s.memory comp) o v w) temps s)
+        (λ w known'.
+        (let pair : List ℕ = left_one ∷ right_one ∷ [] in
+        let live : Set = live_plain pair (Some dest) lives in
+        let h : Both live temps x ready left_one right_one v w =
+            both_at_hand live temps x ready left_one right_one v w
+            (live_read pair (Some dest) lives left_one (only_one left_one (right_one ∷ []))) known
+            (live_read pair (Some dest) lives right_one (second_one left_one right_one)) known' in
+        from_operands (Some right_one) for lives temps x left ready clear at ends e f
+        (take frame R.places first_scratch left_one ++ take frame R.places second_scratch right_one) refl h.after h.one
+        h.two v w h.does h.operands h.one_stands (λ two. h.two_stands) h.same h.others))))
+      where
+        gets_goes : (result : Result Value Cause) (temps : Temps) (s : Meant) →
+            Gone s (gets R.activation.here dest result temps s)
+        gets_goes (Ok v) temps s = stays (record { exit = Next; carried = with_temp dest v temps }) s
+        gets_goes (Err cause) temps s = record { grown = same s; stop = tt }
+
+    -- with as many operands as it takes
+    pub op_follows : (right : Option ℕ) → is_some right ≡ takes_two o →
+        ((blocks : Blocks) (v w r : Value) → operated wrapping blocks o v w ≡ Ok r → IsFor o v w) →
+        Follows T R (code_step wrapping R.activation.here calls (tac.Op dest o left_one right))
+        (select_step frame R.places (tac.Op dest o left_one right)) (trail_step (tac.Op dest o left_one right))
+    op_follows None count for = one_operand (sym count) for
+    op_follows (Some right_one) count for = two_operands right_one for
