@@ -1,3 +1,4 @@
+pub mod Entering
 pub mod Operands
 pub mod Operations
 pub mod Plain
