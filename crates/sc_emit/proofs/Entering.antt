@@ -1,7 +1,8 @@
 -- The code of the way into a function: the frame is taken and arguments go into their variables, or the machine stands
 -- trapped where the frame goes below the data.
-use Rattle.std.proofs.Common.{◌≡◌, ◌≢◌, ℕ, zero, suc, ◌+◌, ◌-◌, ◌*◌, ◌%◌, ◌^◌, ◌<◌, ◌≤◌, pos, false, true, nat_le, nat_lt}
-use Rattle.std.proofs.Common.{List, [], ◌∷◌, ◌++◌, length, Some, refl, sym, ◌∙◌, ap, subst, arith, inl, inr, ⊎_elim, All}
+use Rattle.std.proofs.Common.{◌≡◌, ◌≢◌, ℕ, zero, suc, ◌+◌, ◌-◌, ◌*◌, ◌%◌, ◌^◌, ◌<◌, ◌≤◌, pos, false, true, nat_le}
+use Rattle.std.proofs.Common.{nat_lt, List, [], ◌∷◌, ◌++◌, length, Option, Some, refl, sym, ◌∙◌, ap, subst, arith, inl}
+use Rattle.std.proofs.Common.{inr, ⊎_elim, All}
 use Rattle.std.specs.Prelude.{◌⊎◌, slice_get}
 use Rattle.std.specs.Option.{unwrap_or}
 use Rattle.std.proofs.lemmas.Bool.{eq-eqb, cases_eq, cases_lt, le-leb, le-ltb}
@@ -145,20 +146,21 @@ module _ (image : ImageParts) (inputs : List ℕ) (world : World) (cells : List 
       others = λ q h.
           rest.others q (λ o offset above below. h o offset (omega (arith, above)) (omega (arith, below))) ∙
           word_apart bytes (low + v.offset) (regs (a0 + from)) q (h from v.offset (omega arith) (omega arith) v.object);
-      stored = λ o offset above below e. ⊎_elim (λ same. here o offset same e) (λ other. behind o offset other above below e)
-          (cases_eq o from);
+      stored = λ o offset above below e.
+          ⊎_elim (λ same. here o offset same e) (λ other. behind o offset other above below e) (cases_eq o from);
     }
       where
         here : (o offset : ℕ) → o ≡ from → slice_get frame.objects o ≡ Some offset →
             word rest.later (low + offset) ≡ regs (a0 + o)
         here o offset same e =
             let its : v.offset ≡ offset =
-                same_Some v.offset offset (sym v.object ∙ ap (slice_get frame.objects) (sym same) ∙ e) in
+            same_Some v.offset offset (sym v.object ∙ ap (slice_get frame.objects) (sym same) ∙ e) in
             subst (λ d. word rest.later (low + d) ≡ regs (a0 + o)) its
             (rest.others (low + v.offset) (λ p d above below f.
             variables_apart from p v.offset d (λ e. omega (arith, e, above)) (omega (arith, within))
             (omega (arith, below, within)) v.object f) ∙
             word_same bytes (low + v.offset) (regs (a0 + from)) small ∙ ap (λ o. regs (a0 + o)) (sym same))
+
         behind : (o offset : ℕ) → o ≢ from → from ≤ o → o < from + suc count → slice_get frame.objects o ≡ Some offset →
             word rest.later (low + offset) ≡ regs (a0 + o)
         behind o offset other above below e =
@@ -178,7 +180,7 @@ module _ (image : ImageParts) (inputs : List ℕ) (world : World) (cells : List 
     stores_arguments (suc count) from regs bytes within at_low words =
         let v : IsVariable from = variable from (omega (arith, within)) in
         let first : Stores image inputs world (store_word (a0 + from) v.offset) (7 ∷ []) regs bytes (low + v.offset)
-            (regs (a0 + from)) = store_first from regs bytes (omega (arith, within)) at_low v in
+        (regs (a0 + from)) = store_first from regs bytes (omega (arith, within)) at_low v in
         then_rest count from regs bytes within at_low (words from (omega (arith, within))) v first
         (stores_arguments count (suc from) first.after (put_word bytes (low + v.offset) (regs (a0 + from)))
         (omega (arith, within)) (first.others sp ((λ e. omega (arith, e)), tt) ∙ at_low)
@@ -193,14 +195,14 @@ module _ (image : ImageParts) (formed : IsWellFormed image) (inputs : List ℕ) 
   beyond_data a high =
       let few = few_globals image world.active formed in
       let stack : nat_lt (a + 0) (data_start world.active + stack_size) ≡ false =
-          le-ltb (a + 0) (data_start world.active + stack_size) (omega (arith, high, known)) in
+      le-ltb (a + 0) (data_start world.active + stack_size) (omega (arith, high, known)) in
       let globals : nat_lt (a + 0) (stack_top world.active + length (globals_of image world.active)) ≡ false =
-          le-ltb (a + 0) (stack_top world.active + length (globals_of image world.active))
-          (omega (arith, high, known, few)) in
+      le-ltb (a + 0) (stack_top world.active + length (globals_of image world.active))
+      (omega (arith, high, known, few)) in
       let above_stack : nat_le (data_start world.active) (a + 0) ≡ true =
-          le-leb (data_start world.active) (a + 0) (omega (arith, high, known)) in
+      le-leb (data_start world.active) (a + 0) (omega (arith, high, known)) in
       let above_globals : nat_le (stack_top world.active) (a + 0) ≡ true =
-          le-leb (stack_top world.active) (a + 0) (omega (arith, high, known)) in
+      le-leb (stack_top world.active) (a + 0) (omega (arith, high, known)) in
       rw (above_stack, stack, above_globals, globals) refl
 
   beyond_refused : (a : ℕ) → a % 4 ≡ 0 → 2 ^ 31 ≤ a → refused image world.active 4 a ≡ Some Owner
@@ -229,10 +231,10 @@ module _ (image : ImageParts) (formed : IsWellFormed image) (inputs : List ℕ) 
         let bottom : ℕ = regs sp + 2 ^ 32 - bytes in
         let down : List Instr = moved_by sp sp (sub_word 0 bytes) in
         let first : Computes image inputs world down (7 ∷ []) regs memory sp bottom =
-            computes image inputs world (7 ∷ []) bottom
-            (moves_on image inputs world memory regs sp sp (sub_word 0 bytes) (regs sp)
-            (record { above = omega arith; below = omega arith }) (omega arith) (λ e. omega (arith, e)) refl
-            (word_of-lt _)) (wrapped (regs sp) bytes less few) (λ q k. k) in
+        computes image inputs world (7 ∷ []) bottom
+        (moves_on image inputs world memory regs sp sp (sub_word 0 bytes) (regs sp)
+        (record { above = omega arith; below = omega arith }) (omega arith) (λ e. omega (arith, e)) refl
+        (word_of-lt _)) (wrapped (regs sp) bytes less few) (λ q k. k) in
         let all : length (frame_taken bytes) ≡ length down + 1 = length-append down (Store Sw sp ra (pos 0) ∷ []) in
         record {
           steps = length down;
@@ -243,8 +245,8 @@ module _ (image : ImageParts) (formed : IsWellFormed image) (inputs : List ℕ) 
           traps =
               beyond_traps (pc + 4 * length down) first.after memory bottom
               (back_at image world.active pc down (Store Sw sp ra (pos 0) ∷ []) code).0
-              (ap (λ s. add_word s 0) first.result ∙ omega (arith, less, few)) (omega (arith, less, few, aligned, place))
-              (omega (arith, less, few));
+              (ap (λ s. add_word s 0) first.result ∙ omega (arith, less, few))
+              (omega (arith, less, few, aligned, place)) (omega (arith, less, few));
         }
 
     -- the frame goes below the data
@@ -254,3 +256,114 @@ module _ (image : ImageParts) (formed : IsWellFormed image) (inputs : List ℕ) 
         (λ more. overflows image inputs world memory regs bytes pc (regs sp - bytes) (omega (arith, more))
         (omega (arith, low, few, known)) (omega (arith, aligned, place, more)) (omega (arith, low, more)) code)
         (cases_lt (regs sp) bytes)
+
+module _ (T : Setting) (formed : IsWellFormed T.image) (inputs : All IsWord T.inputs) (P : Standpoint) (f : Function)
+    (args : List Value) (address ra_is : ℕ) (x : Joint) (begins : Begins T P f args address ra_is x)
+    (frame : FrameTree) (places : List Place) (nodes params : ℕ) (whole : IsFrame frame)
+    (room : HasRoom f.cells places nodes frame) (roomy : frame.bytes ≤ f.room)
+    (code : CodeAt T.image P.comp x.pc (entrance frame places params)) where
+  abbrev world : World
+  world = record { active = P.comp; saved = x.saved; cross = P.cross; input = x.input; trace = x.meant.trace }
+
+  known : P.comp < 32
+  known = omega (arith, begins.settled.steady.active, formed.few_comps)
+
+  -- There is no room for the frame: the machine stands trapped at the store of ra.
+  pub overflows_below : (budget : ℕ) (piece : Piece (Option Value)) → frame.bytes ≤ 2 ^ 31 →
+      P.bound < data_start P.comp + frame.bytes → length (frame_taken frame.bytes) ≤ budget →
+      Grown (begun P.comp f args x.meant) (last piece) → Overflows T P x budget piece
+  overflows_below budget piece few low enough grown =
+      let o : FrameOverflows T.image T.inputs world frame.bytes x.regs x.bytes x.pc =
+      goes_below T.image formed T.inputs world known x.regs x.bytes frame.bytes few whole.bytes
+      (omega (arith, begins.sp, begins.aligned)) x.pc
+      (front_at T.image P.comp x.pc (frame_taken frame.bytes) (store_arguments frame places params 0) code)
+      (omega (arith, begins.sp, low)) in
+      overflows_entering T formed inputs P f args address ra_is x begins frame o.steps budget
+      (at o.behind o.after x.bytes world) piece roomy low o.walks o.traps refl refl (omega (arith, o.few, enough)) grown
+
+  module _ (low : ℕ) (bound_is : P.bound ≡ low + frame.bytes) (start : data_start P.comp ≤ low)
+      (long : length args ≡ params) (few : params ≤ 8) (there : params ≤ length f.cells)
+      (some : (o n : ℕ) → o < params → slice_get f.cells o ≡ Some n → 1 ≤ n) where
+    abbrev pub steps : ℕ
+    steps = length (entrance frame places params)
+
+    -- the way in has come to its end
+    pub record HasEntered : Type 0 where
+      pub regs : Registers
+      pub bytes : Bytes
+      pub enters : Enters T formed inputs P f args address ra_is x begins frame places nodes low whole room roomy
+          bound_is start steps (x.pc + 4 * steps) regs bytes
+
+    aligned : low % 4 ≡ 0
+    aligned = omega (arith, bound_is, whole.bytes, begins.aligned)
+
+    four : 0 + 4 ≤ frame.bytes
+    four = own_inside f.cells places nodes frame room 0 0 refl
+
+    takes : TakesFrame T.image T.inputs world frame.bytes x.regs x.bytes low
+    takes =
+        takes_frame T.image T.inputs world x.bytes x.regs frame.bytes low (sym (begins.sp ∙ bound_is))
+        (omega (arith, begins.sp, begins.high, known))
+        (record { aligned = aligned; low = start; high = omega (arith, four, bound_is, begins.high) })
+
+    argument_kept : (o : ℕ) → takes.after (a0 + o) ≡ x.regs (a0 + o)
+    argument_kept o = takes.others (a0 + o) ((λ e. omega (arith, e)), ((λ e. omega (arith, e)), tt))
+
+    argument_word : (o : ℕ) → o < params → takes.after (a0 + o) < 2 ^ 32
+    argument_word o less =
+        let v = is_there args o (omega (arith, less, long)) in
+        subst (λ w. w < 2 ^ 32) (sym (argument_kept o)) (begins.passed o v.0 v.1).word
+
+    ra_word : x.regs ra < 2 ^ 32
+    ra_word = begins.settled.steady.words ra
+
+    abbrev between : Bytes
+    between = put_word x.bytes low (x.regs ra)
+
+    stores : StoresArguments T.image T.inputs world f.cells places nodes low frame whole room aligned start
+        (omega (arith, bound_is, begins.high)) known params 0 takes.after between
+    stores =
+        stores_arguments T.image T.inputs world f.cells places nodes low frame whole room aligned start
+        (omega (arith, bound_is, begins.high)) known params few there some params 0 takes.after between (omega arith)
+        takes.lowered argument_word
+
+    object_of : (o offset : ℕ) → o < params → slice_get frame.objects o ≡ Some offset →
+        (n : ℕ) × (slice_get f.cells o ≡ Some n) × (1 ≤ n)
+    object_of o offset less e =
+        let n = is_there f.cells o (omega (arith, less, there)) in (n.0, n.1, some o n.0 less n.1)
+
+    -- the return address lies beside all variables
+    ra_beside : MeetsNone T.image T.inputs world f.cells places nodes low frame whole room aligned start
+        (omega (arith, bound_is, begins.high)) known params 0 low
+    ra_beside o offset above below e =
+        let n = object_of o offset (omega (arith, below)) e in
+        ⊎_elim (λ h. inl (omega (arith, h))) (λ h. inl (omega (arith, h, n.2)))
+        (own_beside f.cells places nodes frame room 0 0 o offset n.0 refl e n.1)
+
+    -- and variables lie inside the frame
+    outside_beside : (q : ℕ) → (q + 4 ≤ low) ⊎ (low + frame.bytes ≤ q) →
+        MeetsNone T.image T.inputs world f.cells places nodes low frame whole room aligned start
+        (omega (arith, bound_is, begins.high)) known params 0 q
+    outside_beside q h o offset above below e =
+        let n = object_of o offset (omega (arith, below)) e in
+        let inside : offset + 4 * n.0 ≤ frame.bytes =
+        object_inside f.cells places nodes frame room o offset n.0 e n.1 in
+        ⊎_elim (λ k. inl (omega (arith, k))) (λ k. inr (omega (arith, k, inside, n.2))) h
+
+    outside_low : (q : ℕ) → (q + 4 ≤ low) ⊎ (low + frame.bytes ≤ q) → Apart q low
+    outside_low q h = ⊎_elim (λ k. inl k) (λ k. inr (omega (arith, k, four))) h
+
+    pub has_entered : HasEntered
+    has_entered = record {
+      regs = stores.after;
+      bytes = stores.later;
+      enters = record {
+        walks = (in_row T.image T.inputs world takes.does stores.does).walks x.pc code;
+        sp = stores.sp;
+        ra = stores.others low ra_beside ∙ word_same x.bytes low (x.regs ra) ra_word ∙ begins.ra;
+        outside = λ q h.
+            stores.others q (outside_beside q h) ∙ word_apart x.bytes low (x.regs ra) q (outside_low q h);
+        stored = λ o offset less e.
+            stores.stored o offset (omega arith) (omega (arith, less, long)) e ∙ argument_kept o;
+      };
+    }
