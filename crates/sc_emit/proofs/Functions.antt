@@ -2,17 +2,34 @@
 use Rattle.std.proofs.Common.{◌≡◌, ℕ, zero, suc, ◌+◌, ◌-◌, ◌*◌, ◌^◌, ◌<◌, ◌≤◌, Bool, true, false, List, [], ◌∷◌, ◌++◌}
 use Rattle.std.proofs.Common.{length, map, take, Option, None, Some, refl, sym, ◌∙◌, ap, subst, arith, inl, inr, ⊎_elim, All}
 use Rattle.std.specs.Prelude.{◌⊎◌, ◌==◌, slice_get, IsTrue}
+use Rattle.std.specs.List.{list_all}
+use Rattle.std.proofs.lemmas.Bool.{and_parts, eqb-true}
+use Rattle.std.proofs.lemmas.Option.{same_Some}
 use Rattle.sc_core.specs.declared.value.Value.{Value}
 use Rattle.sc_core.specs.declared.value.Value.TheVariants.{Word}
+use Rattle.sc_core.specs.Value.{wrapping}
 use Rattle.sc_core.specs.Meaning.{at_brace, closed}
 use Rattle.sc_core.specs.Words.{State as Meant, Here, Piece, Reached, Stopped, Calls, Left, and_then}
 use Rattle.sc_core.specs.Words.{Exit, Next, Break, Continue, Return}
 use Rattle.sc_laws.specs.Growth.{Goes}
-use Rattle.sc_laws.proofs.Growing.{stays, same}
-use Rattle.sc_tac.specs.Points.{nothing, nothing_live}
-use Rattle.sc_tac.specs.Code.{Temps}
+use Rattle.sc_laws.proofs.Growing.{FunctionGoes, stays, same}
+use Rattle.sc_tac.specs.Points.{nothing, nothing_live, trail}
+use Rattle.sc_tac.specs.Code.{Temps, code_does, code_function, code_library}
+use Rattle.sc_laws.proofs.Matching.{library_goes}
+use Rattle.sc_tac.specs.declared.frame.FrameTree.{FrameTree}
+use Rattle.sc_tac.specs.declared.function.TacFnTree.{TacFnTree}
+use Rattle.sc_tac.specs.declared.place.Place.{Place}
+use Rattle.sc_tac.specs.declared.program.TacTree.{TacTree}
+use Rattle.sc_event.specs.declared.row.Entry.TheVariants.{Main}
+use Rattle.sc_tac.specs.Programs.{same_entry}
+use Rattle.sc_tac.proofs.Matching.{code_obeys}
+use Rattle.sc_select.specs.Selection.{select_all, closing}
+use Rattle.sc_hart.specs.Code.{CodeAt}
+use Rattle.sc_relation.specs.Calls.{CallsFollow}
+use Rattle.sc_relation.specs.Frames.{Activation, IsActivation}
+use Rattle.sc_relation.proofs.Jumps.{HasNoGap}
 use Rattle.sc_relation.specs.Stretches.{Setting, Joint, Standpoint, Settled, Shows}
-use Rattle.sc_relation.specs.Following.{Running, Ends, ends_of, seen_from, Ready, Arrives, Returns, ExitGives, Gives}
+use Rattle.sc_relation.specs.Following.{Running, Ends, ends_of, Follows, row, seen_from, Ready, Arrives, Returns, ExitGives, Gives}
 use Rattle.sc_relation.proofs.Stretches.{leads_then, shows_after, shows_here, arrives_with}
 
 -- what the closing brace of a function gives, if it is reached in `main` or in another
@@ -21,9 +38,9 @@ given_at_brace true = Some (Word 0)
 given_at_brace false = None
 
 at_brace_goes : (has_result is_main : Bool) (here : Here) → Goes (at_brace has_result is_main 0 here)
-at_brace_goes true true here = stays (Some (Word 0))
+at_brace_goes true true here s = stays (Some (Word 0)) s
 at_brace_goes true false here s = record { grown = same s; stop = tt }
-at_brace_goes false is_main here = stays None
+at_brace_goes false is_main here s = stays None s
 
 closed_goes : (exit : Exit) (has_result is_main : Bool) (here : Here) → Goes (closed exit has_result is_main 0 here)
 closed_goes (Return v) has_result is_main here = stays v
@@ -108,3 +125,50 @@ module _ (T : Setting) (R : Running) (y : Joint) (budget : ℕ) where
         Closes (and_then piece (λ l s. closed l.exit has_result is_main 0 here s))
     body_closes (Reached l s) g = exit_closes l.exit l.carried s g
     body_closes (Stopped end s) g = g
+
+-- A parameter's variable is of one cell.
+
+params_stored : (params o n : ℕ) (cells : List ℕ) → list_all (λ n. n == 1) (take params cells) ≡ true → o < params →
+    slice_get cells o ≡ Some n → 1 ≤ n
+params_stored zero o n cells h less e = absurd (omega (arith, less))
+params_stored (suc params) o n [] h less e = cc e
+params_stored (suc params) zero n (m ∷ cells) h less e =
+    let one : m ≡ 1 = eqb-true m 1 (and_parts (m == 1) (list_all (λ n. n == 1) (take params cells)) h).0 in
+    let same : m ≡ n = same_Some m n e in omega (arith, one, same)
+params_stored (suc params) (suc o) n (m ∷ cells) h less e =
+    params_stored params o n cells (and_parts (m == 1) (list_all (λ n. n == 1) (take params cells)) h).1
+    (omega (arith, less)) e
+
+-- What a function does only goes on where its calls do.
+function_goes : (f : TacFnTree) → FunctionGoes (code_function wrapping f)
+function_goes f =
+    let alone : TacTree = record {
+      interfaces = record { comps = []; main = 0 };
+      sections = record { structs = []; globals = []; functions = f ∷ [] } ∷ [];
+    } in
+    library_goes (code_library wrapping alone) (code_obeys.itself wrapping alone) 0 0 (code_function wrapping f) refl
+
+module _ (T : Setting) (f : TacFnTree) (frame : FrameTree) (places : List Place) where
+  abbrev pub in_call : Activation → (last : ℕ) → Running
+  in_call A last = record { activation = A; places = places; last = last }
+
+  -- a call of the function runs in a compartment
+  pub record IsRun (comp : ℕ) (A : Activation) : Type 0 where
+    pub is : IsActivation T.performs f.objects places f.nodes A
+    pub frame_is : A.frame ≡ frame
+    pub comp_is : A.here.comp ≡ comp
+
+  -- the code of the body follows what its statements do, in each call
+  abbrev pub BodyFollows : ℕ → Type 0
+  BodyFollows comp =
+      (calls : Calls) → CallsFollow T calls → (A : Activation) (last : ℕ) → IsRun comp A → HasNoGap T (in_call A last) →
+      Follows T (in_call A last) (code_does wrapping A.here calls f.body) (select_all frame places f.body)
+      (row (map trail f.body))
+
+  -- the code of the closing brace comes to the jump back
+  abbrev pub BraceReturns : ℕ → Type 0
+  BraceReturns comp =
+      (A : Activation) (last : ℕ) → IsRun comp A → (x : Joint) (temps : Temps) →
+      Ready T (in_call A last) nothing temps x → CodeAt T.image A.here.comp x.pc (closing frame places f.entry) →
+      Returns T (in_call A last) x (length (closing frame places f.entry)) (given_at_brace (same_entry Main f.entry))
+      x.meant
