@@ -1,36 +1,57 @@
 -- The code of a function follows the function, where the code of its body follows what its statements do.
 use Rattle.std.proofs.Common.{◌≡◌, ℕ, zero, suc, ◌+◌, ◌-◌, ◌*◌, ◌^◌, ◌<◌, ◌≤◌, Bool, true, false, List, [], ◌∷◌, ◌++◌}
-use Rattle.std.proofs.Common.{length, map, take, Option, None, Some, refl, sym, ◌∙◌, ap, subst, arith, inl, inr, ⊎_elim, All}
+use Rattle.std.proofs.Common.{length, map, take, append_assoc, Option, None, Some, refl, sym, ◌∙◌, ap, subst, arith, inl, inr, ⊎_elim, All}
 use Rattle.std.specs.Prelude.{◌⊎◌, ◌==◌, slice_get, IsTrue}
 use Rattle.std.specs.List.{list_all}
-use Rattle.std.proofs.lemmas.Bool.{and_parts, eqb-true}
+use Rattle.std.proofs.lemmas.Bool.{and_parts, eqb-true, cases_lt}
+use Rattle.std.proofs.lemmas.List.{length-append, length-map}
 use Rattle.std.proofs.lemmas.Option.{same_Some}
 use Rattle.sc_core.specs.declared.value.Value.{Value}
 use Rattle.sc_core.specs.declared.value.Value.TheVariants.{Word}
 use Rattle.sc_core.specs.Value.{wrapping}
+use Rattle.sc_core.specs.Calls.{Function, begun, done}
 use Rattle.sc_core.specs.Meaning.{at_brace, closed}
 use Rattle.sc_core.specs.Words.{State as Meant, Here, Piece, Reached, Stopped, Calls, Left, and_then}
 use Rattle.sc_core.specs.Words.{Exit, Next, Break, Continue, Return}
-use Rattle.sc_laws.specs.Growth.{Goes}
-use Rattle.sc_laws.proofs.Growing.{FunctionGoes, stays, same}
+use Rattle.sc_laws.specs.Growth.{Goes, Grown, last as final}
+use Rattle.sc_laws.proofs.Growing.{FunctionGoes, stays, same, reached, then_goes, done_goes}
 use Rattle.sc_tac.specs.Points.{nothing, nothing_live, trail}
-use Rattle.sc_tac.specs.Code.{Temps, code_does, code_function, code_library}
+use Rattle.sc_tac.specs.Code.{Temps, no_temps, code_does, code_function, code_library}
 use Rattle.sc_laws.proofs.Matching.{library_goes}
 use Rattle.sc_tac.specs.declared.frame.FrameTree.{FrameTree}
 use Rattle.sc_tac.specs.declared.function.TacFnTree.{TacFnTree}
 use Rattle.sc_tac.specs.declared.place.Place.{Place}
 use Rattle.sc_tac.specs.declared.program.TacTree.{TacTree}
-use Rattle.sc_event.specs.declared.row.Entry.TheVariants.{Main}
+use Rattle.sc_tac.specs.Common.{frame_bound}
+use Rattle.sc_tac.specs.Frames.{IsFrame, HasRoom}
+use Rattle.sc_tac.specs.Functions.{IsFunction, passes_words}
+use Rattle.sc_tac.specs.Intervals.{intervals_of}
+use Rattle.sc_tac.specs.Places.{IsAssignment}
+use Rattle.sc_event.specs.declared.row.Entry.{Entry}
+use Rattle.sc_event.specs.declared.row.Entry.TheVariants.{Main, Export}
+use Rattle.rv_code.specs.declared.instr.Instr.{Instr}
+use Rattle.sc_image.specs.Layout.{data_start, word_at}
+use Rattle.sc_image.specs.WellFormed.{IsWord, IsWellFormed}
+use Rattle.sc_select.specs.Lines.{Line, plain, plainly}
+use Rattle.sc_select.specs.Pieces.{frame_taken}
 use Rattle.sc_tac.specs.Programs.{same_entry}
+use Rattle.sc_tac.proofs.Clear.{places_are_clear}
 use Rattle.sc_tac.proofs.Matching.{code_obeys}
-use Rattle.sc_select.specs.Selection.{select_all, closing}
+use Rattle.sc_select.specs.Selection.{Piece as Code, store_arguments, entrance, select_all, closing, function_lines}
 use Rattle.sc_hart.specs.Code.{CodeAt}
-use Rattle.sc_relation.specs.Calls.{CallsFollow}
+use Rattle.sc_relation.specs.Calls.{CallsFollow, Begins, FunctionGives, runs_with, FunctionFollows}
+use Rattle.sc_relation.specs.Linking.{completed}
 use Rattle.sc_relation.specs.Frames.{Activation, IsActivation}
 use Rattle.sc_relation.proofs.Jumps.{HasNoGap}
-use Rattle.sc_relation.specs.Stretches.{Setting, Joint, Standpoint, Settled, Shows}
+use Rattle.sc_relation.proofs.Lines.{InParts, in_parts, low_plainly, plainly_at, completed_length}
+use Rattle.sc_emit.proofs.Gaps.{word_in, no_gap}
+use Rattle.sc_emit.proofs.Entering.{HasEntered, has_entered, overflows_below}
+use Rattle.sc_relation.specs.Stretches.{Setting, Joint, Standpoint, Settled, Shows, Overflows}
 use Rattle.sc_relation.specs.Following.{Running, Ends, ends_of, Follows, row, seen_from, Ready, Arrives, Returns, ExitGives, Gives}
-use Rattle.sc_relation.proofs.Stretches.{leads_then, shows_after, shows_here, arrives_with}
+use Rattle.sc_relation.specs.Following.{live_at, Comes, Starts}
+use Rattle.sc_relation.proofs.Calling.{activated, entered, is_activation, ready_entered}
+use Rattle.sc_relation.proofs.Functions.{function_follows}
+use Rattle.sc_relation.proofs.Stretches.{leads_then, shows_after, shows_here, arrives_with, returns_with, overflows_then}
 
 -- what the closing brace of a function gives, if it is reached in `main` or in another
 abbrev pub given_at_brace : (is_main : Bool) → Option Value
@@ -172,3 +193,215 @@ module _ (T : Setting) (f : TacFnTree) (frame : FrameTree) (places : List Place)
       Ready T (in_call A last) nothing temps x → CodeAt T.image A.here.comp x.pc (closing frame places f.entry) →
       Returns T (in_call A last) x (length (closing frame places f.entry)) (given_at_brace (same_entry Main f.entry))
       x.meant
+
+  closing_some : (entry : Option Entry) → 1 ≤ length (closing frame places entry)
+  closing_some None = omega arith
+  closing_some (Some Main) = omega arith
+  closing_some (Some (Export index)) = omega arith
+
+  module _ (formed : IsWellFormed T.image) (inputs : All IsWord T.inputs) (rules : IsFunction f) (whole : IsFrame frame)
+      (room : HasRoom f.objects places f.nodes frame) (fits : frame_bound f.objects f.nodes ≤ 32768)
+      (assigned : IsAssignment (intervals_of f) places) (words : IsTrue (passes_words f.params f.objects)) where
+    abbrev function : Function
+    function = code_function wrapping f
+
+    abbrev body : Code
+    body = select_all frame places f.body
+
+    abbrev way_in : List Instr
+    way_in = entrance frame places f.params
+
+    abbrev way_out : List Instr
+    way_out = closing frame places f.entry
+
+    abbrev lines : List Line
+    lines = function_lines frame places f
+
+    abbrev steps : ℕ
+    steps = length way_in
+
+    in_order : lines ≡ plainly way_in ++ (body.lines 0 0 ++ plainly way_out)
+    in_order = append_assoc (plainly way_in) (body.lines 0 0) (plainly way_out)
+
+    all_lines : length lines ≡ steps + (length (body.lines 0 0) + length way_out)
+    all_lines = omega (
+      arith,
+      ap length in_order,
+      length-append (plainly way_in) (body.lines 0 0 ++ plainly way_out),
+      length-append (body.lines 0 0) (plainly way_out),
+      length-map way_in plain,
+      length-map way_out plain,
+    )
+
+    variables_some : (params o n : ℕ) → params ≡ f.params → o < params → slice_get f.objects o ≡ Some n → 1 ≤ n
+    variables_some params o n same less e = params_stored f.params o n f.objects words (omega (arith, same, less)) e
+
+    -- A call, in the compartment whose code it is.
+    module _ (calls : Calls) (follow : CallsFollow T calls) (P : Standpoint) (x : Joint) (args : List Value)
+        (address ra_is budget : ℕ) (begins : Begins T P function args address ra_is x) (long : length args ≡ f.params)
+        (code : CodeAt T.image P.comp x.pc (completed (T.addresses P.comp) x.pc None lines)) (enough : length lines ≤ budget)
+        where
+      abbrev start_state : Meant
+      start_state = begun P.comp function args x.meant
+
+      abbrev first : ℕ
+      first = length (x.meant.memory P.comp)
+
+      abbrev here : Here
+      here = record { comp = P.comp; first = first }
+
+      abbrev told : Piece (Option Value)
+      told = runs_with T calls P.comp function args x.meant
+
+      in_front : InParts (T.addresses P.comp) T.image P.comp x.pc (plainly way_in) (body.lines 0 0 ++ plainly way_out)
+      in_front =
+          in_parts (T.addresses P.comp) T.image P.comp x.pc (plainly way_in) (body.lines 0 0 ++ plainly way_out)
+          (low_plainly (T.addresses P.comp) way_in)
+          (subst (λ ls. CodeAt T.image P.comp x.pc (completed (T.addresses P.comp) x.pc None ls)) in_order code)
+
+      entrance_at : CodeAt T.image P.comp x.pc way_in
+      entrance_at = plainly_at (T.addresses P.comp) T.image P.comp x.pc way_in in_front.front
+
+      behind_at : CodeAt T.image P.comp (x.pc + 4 * steps) (completed (T.addresses P.comp) (x.pc + 4 * steps) None
+          (body.lines 0 0 ++ plainly way_out))
+      behind_at =
+          subst (λ n. CodeAt T.image P.comp (x.pc + 4 * n) (completed (T.addresses P.comp) (x.pc + 4 * n) None
+          (body.lines 0 0 ++ plainly way_out))) (length-map way_in plain) in_front.back
+
+      -- the address of the last word
+      abbrev end : ℕ
+      end = x.pc + 4 * (length lines - 1)
+
+      end_word : (w : ℕ) × (word_at T.image P.comp end ≡ Some w)
+      end_word =
+          word_in T.image P.comp (completed (T.addresses P.comp) x.pc None lines) x.pc (length lines - 1)
+          (omega (arith, completed_length (T.addresses P.comp) x.pc None lines, all_lines, closing_some f.entry)) code
+
+      told_grown : Grown start_state (final told)
+      told_grown =
+          (then_goes start_state (function.does calls here start_state)
+          (λ v t. Reached v (done P.comp function first t)) (function_goes f calls follow.goes here start_state)
+          (λ v t. reached v t (done P.comp function first t) (done_goes P.comp function first t))).grown
+
+      abbrev Goal : Type 0
+      Goal = FunctionGives T P x budget ra_is told ⊎ Overflows T P x budget told
+
+      too_low : P.bound < data_start P.comp + frame.bytes → Goal
+      too_low low =
+          let parts : length way_in ≡ length (frame_taken frame.bytes) + length (store_arguments frame places f.params 0) =
+          length-append (frame_taken frame.bytes) (store_arguments frame places f.params 0) in
+          inr (overflows_below T formed inputs P function args address ra_is x begins frame places f.nodes f.params whole
+          room room.bounded entrance_at budget told (omega (arith, room.bounded, fits)) low
+          (omega (arith, parts, all_lines, enough)) told_grown)
+
+      -- There is room for the frame.
+      module _ (runs : BodyFollows P.comp) (way : BraceReturns P.comp) (low : ℕ) (bound_is : P.bound ≡ low + frame.bytes)
+          (start : data_start P.comp ≤ low) where
+        entering : HasEntered T formed inputs P function args address ra_is x begins frame places f.nodes f.params whole
+            room room.bounded entrance_at low bound_is start long (omega (arith, rules.few_params)) rules.params_stored
+            (λ o n less e. variables_some f.params o n refl less e)
+        entering =
+            has_entered T formed inputs P function args address ra_is x begins frame places f.nodes f.params whole
+            room room.bounded entrance_at low bound_is start long (omega (arith, rules.few_params)) rules.params_stored
+            (λ o n less e. variables_some f.params o n refl less e)
+
+        abbrev A : Activation
+        A = activated P x frame low ra_is
+
+        abbrev R : Running
+        R = in_call A end
+
+        abbrev Q : Standpoint
+        Q = seen_from A
+
+        abbrev y : Joint
+        y = entered P x function args frame low (x.pc + 4 * steps) entering.regs entering.bytes
+
+        run : IsRun P.comp A
+        run = record {
+          is = is_activation T formed inputs P function args address ra_is x begins frame places f.nodes low whole room
+              room.bounded bound_is start;
+          frame_is = refl;
+          comp_is = refl;
+        }
+
+        F : Follows T R (code_does wrapping here calls f.body) body (row (map trail f.body))
+        F = runs calls follow A end run (no_gap T R end_word.0 end_word.1)
+
+        in_back : InParts (T.addresses P.comp) T.image P.comp (x.pc + 4 * steps) (body.lines 0 0) (plainly way_out)
+        in_back =
+            in_parts (T.addresses P.comp) T.image P.comp (x.pc + 4 * steps) (body.lines 0 0) (plainly way_out)
+            (F.closed 0 0) behind_at
+
+        closing_at : CodeAt T.image P.comp (x.pc + 4 * steps + 4 * body.size) way_out
+        closing_at =
+            plainly_at (T.addresses P.comp) T.image P.comp (x.pc + 4 * steps + 4 * body.size) way_out
+            (subst (λ n. CodeAt T.image P.comp (x.pc + 4 * steps + 4 * n) (completed (T.addresses P.comp)
+            (x.pc + 4 * steps + 4 * n) None (plainly way_out))) (F.sized 0 0) in_back.back)
+
+        abbrev left : ℕ
+        left = budget - (steps + body.size)
+
+        starts : Starts T R body (row (map trail f.body)) nothing_live no_temps y 0 0
+        starts = record {
+          ready = ready_entered T formed inputs P function args address ra_is x begins frame places f.nodes low whole room
+              room.bounded bound_is start steps (x.pc + 4 * steps) entering.regs entering.bytes entering.enters
+              (λ o n less e. variables_some (length args) o n long less e) end
+              (live_at (row (map trail f.body)) nothing_live);
+          clear = places_are_clear f places rules assigned;
+          stands = in_back.front;
+          breaks = omega (arith, all_lines, F.sized 0 0, closing_some f.entry);
+          continues = omega (arith, all_lines, F.sized 0 0, closing_some f.entry);
+        }
+
+        brace_returns : (z : Joint) (temps : Temps) → z.pc ≡ y.pc + 4 * body.size → Ready T R nothing temps z →
+            Returns T R z left (given_at_brace (same_entry Main f.entry)) z.meant
+        brace_returns z temps here ready =
+            returns_with T R z (length way_out) left (given_at_brace (same_entry Main f.entry)) z.meant
+            (omega (arith, all_lines, F.sized 0 0, enough))
+            (way A end run z temps ready (subst (λ pc. CodeAt T.image P.comp pc way_out) (sym here) closing_at))
+
+        abbrev stated : Piece (Left Temps)
+        stated = code_does wrapping here calls f.body no_temps start_state
+
+        abbrev value : Piece (Option Value)
+        value = and_then stated (λ l s. closed l.exit f.result (same_entry Main f.entry) 0 here s)
+
+        comes : Comes T R nothing_live y (body.size + left) (ends_of body y.pc left 0 0) stated
+        comes = F.runs nothing_live no_temps y left 0 0 starts
+
+        closes : Closes T R y (body.size + left) value ⊎ Overflows T Q y (body.size + left) value
+        closes =
+            ⊎_elim
+            (λ g. inl (body_closes T R y (body.size + left) body.size left starts.ready.settled f.result
+            (same_entry Main f.entry) here brace_returns stated g))
+            (λ o. inr (overflows_then T Q y (body.size + left) stated
+            (λ l s. closed l.exit f.result (same_entry Main f.entry) 0 here s)
+            (λ l. closed_goes l.exit f.result (same_entry Main f.entry) here) o)) comes
+
+        high_enough : Goal
+        high_enough =
+            let all : steps + (body.size + left) ≡ budget = omega (arith, all_lines, F.sized 0 0, enough) in
+            subst (λ n. FunctionGives T P x n ra_is told ⊎ Overflows T P x n told) all
+            (function_follows T formed inputs P function args address ra_is x begins frame places f.nodes low whole room
+            room.bounded bound_is start steps (x.pc + 4 * steps) entering.regs entering.bytes entering.enters
+            (λ o n less e. variables_some (length args) o n long less e) end (body.size + left) value closes)
+
+      call_follows : BodyFollows P.comp → BraceReturns P.comp → Goal
+      call_follows runs way =
+          ⊎_elim too_low
+          (λ high. high_enough runs way (P.bound - frame.bytes) (omega (arith, high)) (omega (arith, high)))
+          (cases_lt P.bound (data_start P.comp + frame.bytes))
+
+    -- The code of a function follows the function.
+    pub code_follows : (comp address budget : ℕ) →
+        CodeAt T.image comp address (completed (T.addresses comp) address None lines) → length lines ≤ budget →
+        BodyFollows comp → BraceReturns comp →
+        FunctionFollows T comp address budget f.params (code_function wrapping f)
+    code_follows comp address budget code enough runs way calls follow P x args ra_is same long begins =
+        subst (λ c. FunctionGives T P x budget ra_is (runs_with T calls c function args x.meant) ⊎
+        Overflows T P x budget (runs_with T calls c function args x.meant)) same
+        (call_follows calls follow P x args address ra_is budget begins long
+        (subst (λ pc. CodeAt T.image P.comp pc (completed (T.addresses P.comp) pc None lines)) (sym begins.pc)
+        (subst (λ c. CodeAt T.image c address (completed (T.addresses c) address None lines)) (sym same) code)) enough
+        (subst BodyFollows (sym same) runs) (subst BraceReturns (sym same) way))
