@@ -7,12 +7,12 @@ use Rattle.std.specs.Prelude.{◌⊎◌, slice_get}
 use Rattle.std.specs.Option.{unwrap_or}
 use Rattle.std.proofs.lemmas.Bool.{eq-eqb, cases_eq, cases_lt, le-leb, le-ltb}
 use Rattle.std.proofs.lemmas.List.{length-append}
-use Rattle.std.proofs.lemmas.Option.{slice_get_within, same_Some}
+use Rattle.std.proofs.lemmas.Option.{same_Some}
+use Rattle.sc_base.specs.declared.stop.TrapReason.TheVariants.{Owner}
 use Rattle.rv_code.specs.declared.instr.Instr.{Instr}
 use Rattle.rv_code.specs.declared.instr.Instr.TheVariants.{Store}
 use Rattle.rv_code.specs.declared.instr.StoreOp.TheVariants.{Sw}
-use Rattle.sc_base.specs.declared.stop.TrapReason.TheVariants.{Owner}
-use Rattle.sc_word.specs.Prelude.{word_of, add_word, sub_word}
+use Rattle.sc_word.specs.Prelude.{add_word, sub_word}
 use Rattle.sc_word.proofs.Words.{word_of-lt, word_of-unsigned_sub}
 use Rattle.sc_core.specs.declared.value.Value.{Value}
 use Rattle.sc_core.specs.Calls.{Function, begun}
@@ -21,8 +21,7 @@ use Rattle.sc_laws.specs.Growth.{Grown, last}
 use Rattle.sc_store.specs.Memory.{Memory as Bytes, stored}
 use Rattle.sc_image.specs.declared.parts.ImageParts.{ImageParts}
 use Rattle.sc_image.specs.Layout.{data_start, stack_size, stack_top, globals_of, are_data}
-use Rattle.sc_image.specs.State.{State}
-use Rattle.sc_image.specs.Step.{Goes, Traps, store, step, unless, refused}
+use Rattle.sc_image.specs.Step.{Goes, Traps, step, unless, refused}
 use Rattle.sc_image.specs.Walks.{Walks}
 use Rattle.sc_image.specs.WellFormed.{IsWord, IsWellFormed}
 use Rattle.sc_image.proofs.Bytes.{few_globals}
@@ -30,13 +29,12 @@ use Rattle.sc_image.proofs.Walking.{steps_by_instruction}
 use Rattle.sc_tac.specs.declared.frame.FrameTree.{FrameTree}
 use Rattle.sc_tac.specs.declared.place.Place.{Place}
 use Rattle.sc_tac.specs.Frames.{IsFrame, HasRoom}
-use Rattle.sc_select.specs.Pieces.{ra, sp, a0, address_scratch, moved_by, store_word, frame_taken}
-use Rattle.sc_select.specs.Selection.{object_offset, store_arguments, entrance}
+use Rattle.sc_select.specs.Pieces.{ra, sp, a0, moved_by, store_word, frame_taken}
+use Rattle.sc_select.specs.Selection.{store_arguments, entrance}
 use Rattle.sc_hart.specs.Code.{CodeAt, Fetches}
-use Rattle.sc_hart.specs.Hart.{Registers, World, look, at}
-use Rattle.sc_hart.specs.Words.{word, put_word, Apart, Owned}
+use Rattle.sc_hart.specs.Hart.{Registers, World, at}
+use Rattle.sc_hart.specs.Words.{word, put_word, Apart}
 use Rattle.sc_hart.proofs.Fetching.{front_at, back_at}
-use Rattle.sc_hart.proofs.Registers.{read_listed}
 use Rattle.sc_hart.proofs.Words.{word_same, word_apart}
 use Rattle.sc_pieces.specs.Frames.{TakesFrame, FrameOverflows}
 use Rattle.sc_pieces.specs.Pieces.{IsFromSp, Does, Computes, Stores}
@@ -45,7 +43,7 @@ use Rattle.sc_pieces.proofs.Loading.{moves_on}
 use Rattle.sc_pieces.proofs.NearSp.{stores_word}
 use Rattle.sc_pieces.proofs.Rows.{in_row, computes, look_at}
 use Rattle.sc_relation.specs.Calls.{Begins}
-use Rattle.sc_relation.specs.Stretches.{Setting, Joint, Standpoint, machine, Overflows}
+use Rattle.sc_relation.specs.Stretches.{Setting, Joint, Standpoint, Overflows}
 use Rattle.sc_relation.proofs.Calling.{Enters}
 use Rattle.sc_relation.proofs.Frames.{each_at, own_inside, own_beside, object_there, object_inside, objects_apart}
 use Rattle.sc_relation.proofs.Frames.{is_there}

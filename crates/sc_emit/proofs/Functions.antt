@@ -1,23 +1,29 @@
 -- The code of a function follows the function, where the code of its body follows what its statements do.
-use Rattle.std.proofs.Common.{◌≡◌, ℕ, zero, suc, ◌+◌, ◌-◌, ◌*◌, ◌^◌, ◌<◌, ◌≤◌, Bool, true, false, List, [], ◌∷◌, ◌++◌}
-use Rattle.std.proofs.Common.{length, map, take, append_assoc, Option, None, Some, refl, sym, ◌∙◌, ap, subst, arith, inl, inr, ⊎_elim, All}
+use Rattle.std.proofs.Common.{◌≡◌, ℕ, zero, suc, ◌+◌, ◌-◌, ◌*◌, ◌<◌, ◌≤◌, Bool, true, false, List, [], ◌∷◌, ◌++◌}
+use Rattle.std.proofs.Common.{length, map, take, append_assoc, Option, None, Some, refl, sym, ◌∙◌, ap, subst, arith}
+use Rattle.std.proofs.Common.{inl, inr, ⊎_elim, All}
 use Rattle.std.specs.Prelude.{◌⊎◌, ◌==◌, slice_get, IsTrue}
 use Rattle.std.specs.List.{list_all}
 use Rattle.std.proofs.lemmas.Bool.{and_parts, eqb-true, cases_lt}
 use Rattle.std.proofs.lemmas.List.{length-append, length-map}
 use Rattle.std.proofs.lemmas.Option.{same_Some}
+use Rattle.rv_code.specs.declared.instr.Instr.{Instr}
+use Rattle.sc_event.specs.declared.row.Entry.{Entry}
+use Rattle.sc_event.specs.declared.row.Entry.TheVariants.{Main, Export}
 use Rattle.sc_core.specs.declared.value.Value.{Value}
 use Rattle.sc_core.specs.declared.value.Value.TheVariants.{Word}
 use Rattle.sc_core.specs.Value.{wrapping}
 use Rattle.sc_core.specs.Calls.{Function, begun, done}
 use Rattle.sc_core.specs.Meaning.{at_brace, closed}
-use Rattle.sc_core.specs.Words.{State as Meant, Here, Piece, Reached, Stopped, Calls, Left, and_then}
-use Rattle.sc_core.specs.Words.{Exit, Next, Break, Continue, Return}
+use Rattle.sc_core.specs.Words.{State as Meant, Here, Piece, Reached, Stopped, Calls, Left, and_then, Exit, Next, Break}
+use Rattle.sc_core.specs.Words.{Continue, Return}
 use Rattle.sc_laws.specs.Growth.{Goes, Grown, last as final}
 use Rattle.sc_laws.proofs.Growing.{FunctionGoes, stays, same, reached, then_goes, done_goes}
+use Rattle.sc_laws.proofs.Matching.{library_goes}
+use Rattle.sc_image.specs.Layout.{data_start, word_at}
+use Rattle.sc_image.specs.WellFormed.{IsWord, IsWellFormed}
 use Rattle.sc_tac.specs.Points.{nothing, nothing_live, trail}
 use Rattle.sc_tac.specs.Code.{Temps, no_temps, code_does, code_function, code_library}
-use Rattle.sc_laws.proofs.Matching.{library_goes}
 use Rattle.sc_tac.specs.declared.frame.FrameTree.{FrameTree}
 use Rattle.sc_tac.specs.declared.function.TacFnTree.{TacFnTree}
 use Rattle.sc_tac.specs.declared.place.Place.{Place}
@@ -27,31 +33,27 @@ use Rattle.sc_tac.specs.Frames.{IsFrame, HasRoom}
 use Rattle.sc_tac.specs.Functions.{IsFunction, passes_words}
 use Rattle.sc_tac.specs.Intervals.{intervals_of}
 use Rattle.sc_tac.specs.Places.{IsAssignment}
-use Rattle.sc_event.specs.declared.row.Entry.{Entry}
-use Rattle.sc_event.specs.declared.row.Entry.TheVariants.{Main, Export}
-use Rattle.rv_code.specs.declared.instr.Instr.{Instr}
-use Rattle.sc_image.specs.Layout.{data_start, word_at}
-use Rattle.sc_image.specs.WellFormed.{IsWord, IsWellFormed}
-use Rattle.sc_select.specs.Lines.{Line, plain, plainly}
-use Rattle.sc_select.specs.Pieces.{frame_taken}
 use Rattle.sc_tac.specs.Programs.{same_entry}
 use Rattle.sc_tac.proofs.Clear.{places_are_clear}
 use Rattle.sc_tac.proofs.Matching.{code_obeys}
+use Rattle.sc_select.specs.Lines.{Line, plain, plainly}
+use Rattle.sc_select.specs.Pieces.{frame_taken}
 use Rattle.sc_select.specs.Selection.{Piece as Code, store_arguments, entrance, select_all, closing, function_lines}
 use Rattle.sc_hart.specs.Code.{CodeAt}
 use Rattle.sc_relation.specs.Calls.{CallsFollow, Begins, FunctionGives, runs_with, FunctionFollows}
 use Rattle.sc_relation.specs.Linking.{completed}
 use Rattle.sc_relation.specs.Frames.{Activation, IsActivation}
+use Rattle.sc_relation.specs.Stretches.{Setting, Joint, Standpoint, Settled, Shows, Overflows}
+use Rattle.sc_relation.specs.Following.{Running, Ends, ends_of, Follows, row, seen_from, Ready, Arrives, Returns}
+use Rattle.sc_relation.specs.Following.{ExitGives, Gives, live_at, Comes, Starts}
 use Rattle.sc_relation.proofs.Jumps.{HasNoGap}
 use Rattle.sc_relation.proofs.Lines.{InParts, in_parts, low_plainly, plainly_at, completed_length}
-use Rattle.sc_emit.proofs.Gaps.{word_in, no_gap}
-use Rattle.sc_emit.proofs.Entering.{HasEntered, has_entered, overflows_below}
-use Rattle.sc_relation.specs.Stretches.{Setting, Joint, Standpoint, Settled, Shows, Overflows}
-use Rattle.sc_relation.specs.Following.{Running, Ends, ends_of, Follows, row, seen_from, Ready, Arrives, Returns, ExitGives, Gives}
-use Rattle.sc_relation.specs.Following.{live_at, Comes, Starts}
 use Rattle.sc_relation.proofs.Calling.{activated, entered, is_activation, ready_entered}
 use Rattle.sc_relation.proofs.Functions.{function_follows}
-use Rattle.sc_relation.proofs.Stretches.{leads_then, shows_after, shows_here, arrives_with, returns_with, overflows_then}
+use Rattle.sc_relation.proofs.Stretches.{leads_then, shows_after, shows_here, arrives_with, returns_with}
+use Rattle.sc_relation.proofs.Stretches.{overflows_then}
+use Rattle.sc_emit.proofs.Gaps.{word_in, no_gap}
+use Rattle.sc_emit.proofs.Entering.{HasEntered, has_entered, overflows_below}
 
 -- what the closing brace of a function gives, if it is reached in `main` or in another
 abbrev pub given_at_brace : (is_main : Bool) → Option Value
@@ -239,8 +241,8 @@ module _ (T : Setting) (f : TacFnTree) (frame : FrameTree) (places : List Place)
     -- A call, in the compartment whose code it is.
     module _ (calls : Calls) (follow : CallsFollow T calls) (P : Standpoint) (x : Joint) (args : List Value)
         (address ra_is budget : ℕ) (begins : Begins T P function args address ra_is x) (long : length args ≡ f.params)
-        (code : CodeAt T.image P.comp x.pc (completed (T.addresses P.comp) x.pc None lines)) (enough : length lines ≤ budget)
-        where
+        (code : CodeAt T.image P.comp x.pc (completed (T.addresses P.comp) x.pc None lines))
+        (enough : length lines ≤ budget) where
       abbrev start_state : Meant
       start_state = begun P.comp function args x.meant
 
@@ -288,15 +290,14 @@ module _ (T : Setting) (f : TacFnTree) (frame : FrameTree) (places : List Place)
 
       too_low : P.bound < data_start P.comp + frame.bytes → Goal
       too_low low =
-          let parts : length way_in ≡ length (frame_taken frame.bytes) + length (store_arguments frame places f.params 0) =
-          length-append (frame_taken frame.bytes) (store_arguments frame places f.params 0) in
-          inr (overflows_below T formed inputs P function args address ra_is x begins frame places f.nodes f.params whole
-          room room.bounded entrance_at budget told (omega (arith, room.bounded, fits)) low
-          (omega (arith, parts, all_lines, enough)) told_grown)
+          let both = length-append (frame_taken frame.bytes) (store_arguments frame places f.params 0) in
+          inr (overflows_below T formed inputs P function args address ra_is x begins frame places f.nodes f.params
+          whole room room.bounded entrance_at budget told (omega (arith, room.bounded, fits)) low
+          (omega (arith, both, all_lines, enough)) told_grown)
 
       -- There is room for the frame.
-      module _ (runs : BodyFollows P.comp) (way : BraceReturns P.comp) (low : ℕ) (bound_is : P.bound ≡ low + frame.bytes)
-          (start : data_start P.comp ≤ low) where
+      module _ (runs : BodyFollows P.comp) (way : BraceReturns P.comp) (low : ℕ)
+          (bound_is : P.bound ≡ low + frame.bytes) (start : data_start P.comp ≤ low) where
         entering : HasEntered T formed inputs P function args address ra_is x begins frame places f.nodes f.params whole
             room room.bounded entrance_at low bound_is start long (omega (arith, rules.few_params)) rules.params_stored
             (λ o n less e. variables_some f.params o n refl less e)
@@ -344,8 +345,8 @@ module _ (T : Setting) (f : TacFnTree) (frame : FrameTree) (places : List Place)
 
         starts : Starts T R body (row (map trail f.body)) nothing_live no_temps y 0 0
         starts = record {
-          ready = ready_entered T formed inputs P function args address ra_is x begins frame places f.nodes low whole room
-              room.bounded bound_is start steps (x.pc + 4 * steps) entering.regs entering.bytes entering.enters
+          ready = ready_entered T formed inputs P function args address ra_is x begins frame places f.nodes low whole
+              room room.bounded bound_is start steps (x.pc + 4 * steps) entering.regs entering.bytes entering.enters
               (λ o n less e. variables_some (length args) o n long less e) end
               (live_at (row (map trail f.body)) nothing_live);
           clear = places_are_clear f places rules assigned;

@@ -1,8 +1,8 @@
 -- The code of a compartment has no gaps.
-use Rattle.std.proofs.Common.{◌≡◌, ℕ, zero, suc, ◌+◌, ◌-◌, ◌*◌, ◌/◌, ◌%◌, ◌<◌, ◌≤◌, Bool, true, false, ◌&&◌, nat_eq, nat_le}
-use Rattle.std.proofs.Common.{List, [], ◌∷◌, length, Option, None, Some, if◌then◌else◌, refl, sym, ◌∙◌, subst, arith}
+use Rattle.std.proofs.Common.{◌≡◌, ℕ, zero, suc, ◌+◌, ◌-◌, ◌*◌, ◌/◌, ◌%◌, ◌<◌, ◌≤◌, Bool, true, false, ◌&&◌, nat_eq}
+use Rattle.std.proofs.Common.{nat_le, List, [], ◌∷◌, length, Option, None, Some, if◌then◌else◌, refl, ◌∙◌, subst, arith}
 use Rattle.std.specs.Prelude.{slice_get, IsSome}
-use Rattle.std.proofs.lemmas.Bool.{and_parts, eqb-true, leb-true, eq-eqb, le-leb}
+use Rattle.std.proofs.lemmas.Bool.{and_parts, leb-true, eq-eqb, le-leb}
 use Rattle.std.proofs.lemmas.Option.{slice_get_within}
 use Rattle.rv_code.specs.declared.instr.Instr.{Instr}
 use Rattle.sc_image.specs.declared.parts.ImageParts.{ImageParts}
