@@ -1,4 +1,7 @@
 pub mod Choices
+pub mod Entering
+pub mod Functions
+pub mod Gaps
 pub mod Operands
 pub mod Operations
 pub mod Passing
