@@ -1,3 +1,4 @@
+pub mod Arguments
 pub mod Operands
 pub mod Operations
 pub mod Plain
