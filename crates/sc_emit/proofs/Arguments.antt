@@ -148,18 +148,51 @@ module _ (T : Setting) (R : Running) (cells : List ℕ) (nodes : ℕ)
       subst (λ p. Walks T.image T.inputs 0 (at pc regs x.bytes (world T R x)) (at p regs x.bytes (world T R x))) e
       (record { by = refl })
 
-  each : (first : Registers) (rd : ℕ) (ts : List ℕ) (v : Value) (vs : List Value) (w : ℕ) → 10 ≤ rd →
-      StandsFor (x.inj R.activation.here.comp) w v → first rd ≡ w → (rest : Passes first (suc rd) ts vs) → (i : ℕ)
-      (u : Value) → slice_get (v ∷ vs) i ≡ Some u → StandsFor (x.inj R.activation.here.comp) (rest.after (rd + i)) u
-  each first rd ts v vs w low stands is rest zero u e =
-      let here : rd ≡ rd + 0 = omega arith in
-      let kept : rest.after rd ≡ w = rest.below rd (omega arith) (λ e. omega (arith, e, low)) ∙ is in
-      subst (λ q. StandsFor (x.inj R.activation.here.comp) (rest.after q) u) here
-      (subst (λ w. StandsFor (x.inj R.activation.here.comp) w u) (sym kept)
-      (subst (StandsFor (x.inj R.activation.here.comp) w) (same_Some v u e) stands))
-  each first rd ts v vs w low stands is rest (suc i) u e =
-      let there : suc rd + i ≡ rd + suc i = omega arith in
-      subst (λ q. StandsFor (x.inj R.activation.here.comp) (rest.after q) u) there (rest.passed i u e)
+  -- behind a value that was brought to the register of an argument
+  module _ (regs : Registers) (code : List Instr) (rd : ℕ) (v : Value) (low : 10 ≤ rd) (high : rd < 18)
+      (b : Brings regs code rd v) where
+    kept : (q : ℕ) → HasNoOtherUse q → b.piece.after q ≡ regs q
+    kept q h = b.piece.others q ((λ e. omega (arith, h.argument, e, low, high)), (h.address, tt))
+
+    kept_all : ((q : ℕ) → HasNoOtherUse q → regs q ≡ x.regs q) → (q : ℕ) → HasNoOtherUse q →
+        b.piece.after q ≡ x.regs q
+    kept_all others q h = kept q h ∙ others q h
+
+    kept_sp : regs sp ≡ x.regs sp → b.piece.after sp ≡ x.regs sp
+    kept_sp same = b.piece.others sp ((λ e. omega (arith, e, low)), ((λ e. omega (arith, e)), tt)) ∙ same
+
+    -- those behind it are passed, too
+    module _ (ts : List ℕ) (vs : List Value) (rest : Passes b.piece.after (suc rd) ts vs) where
+      passed_first : rest.after rd ≡ b.word
+      passed_first = rest.below rd (omega arith) (λ e. omega (arith, e, low)) ∙ b.piece.result
+
+      all_passed : (i : ℕ) (u : Value) → slice_get (v ∷ vs) i ≡ Some u →
+          StandsFor (x.inj R.activation.here.comp) (rest.after (rd + i)) u
+      all_passed zero u e =
+          let here : rd ≡ rd + 0 = omega arith in
+          subst (λ q. StandsFor (x.inj R.activation.here.comp) (rest.after q) u) here
+          (subst (λ w. StandsFor (x.inj R.activation.here.comp) w u) (sym passed_first)
+          (subst (StandsFor (x.inj R.activation.here.comp) b.word) (same_Some v u e) b.stands))
+      all_passed (suc i) u e =
+          let there : suc rd + i ≡ rd + suc i = omega arith in
+          subst (λ q. StandsFor (x.inj R.activation.here.comp) (rest.after q) u) there (rest.passed i u e)
+
+      kept_below : (q : ℕ) → q < rd → q ≢ 7 → rest.after q ≡ regs q
+      kept_below q l n =
+          rest.below q (omega (arith, l)) n ∙ b.piece.others q ((λ e. omega (arith, e, l)), (n, tt))
+
+  joined : (regs : Registers) (rd t : ℕ) (ts : List ℕ) (v : Value) (vs : List Value) → 10 ≤ rd → rd < 18 →
+      (b : Brings regs (brought its_frame rd (place_of its_frame R.places t)) rd v) →
+      Passes b.piece.after (suc rd) ts vs → Passes regs rd (t ∷ ts) (v ∷ vs)
+  joined regs rd t ts v vs low high b rest =
+      let code : List Instr = brought its_frame rd (place_of its_frame R.places t) in
+      record {
+        after = rest.after;
+        does = in_row T.image T.inputs (world T R x) b.piece.does rest.does;
+        passed = all_passed regs code rd v low high b ts vs rest;
+        below = kept_below regs code rd v low high b ts vs rest;
+        others = λ q h. rest.others q h ∙ kept regs code rd v low high b q h;
+      }
 
   module _ (live : Set) (temps : Temps) (held : AreHeld R.activation R.places x.inj x.regs x.bytes live temps) where
     pub passes : (regs : Registers) (rd : ℕ) (ts : List ℕ) (vs : List Value) → 10 ≤ rd → rd + length ts ≤ 18 →
@@ -175,20 +208,12 @@ module _ (T : Setting) (R : Running) (cells : List ℕ) (nodes : ℕ)
     passes regs rd [] (v ∷ vs) low high on all same others = absurd all
     passes regs rd (t ∷ ts) [] low high on all same others = absurd all
     passes regs rd (t ∷ ts) (v ∷ vs) low high on all same others =
-        let w : IsWritable rd = record { above = omega (arith, low); below = omega (arith, high) } in
-        let b : Brings regs (brought its_frame rd (place_of its_frame R.places t)) rd v =
-            brings regs rd t v w (held t v (on t (only_one t ts)) all.0) same others in
-        let kept : (q : ℕ) → HasNoOtherUse q → b.piece.after q ≡ regs q =
-            λ q h. b.piece.others q ((λ e. omega (arith, h.argument, e, low, high)), (h.address, tt)) in
-        let rest : Passes b.piece.after (suc rd) ts vs =
-            passes b.piece.after (suc rd) ts vs (omega (arith, low)) (omega (arith, high))
-            (λ u e. on u (or_right (t == u) _ e)) all.1
-            (b.piece.others sp ((λ e. omega (arith, e, low)), ((λ e. omega (arith, e)), tt)) ∙ same)
-            (λ q h. kept q h ∙ others q h) in
-        record {
-          after = rest.after;
-          does = in_row T.image T.inputs (world T R x) b.piece.does rest.does;
-          passed = each b.piece.after rd ts v vs b.word low b.stands b.piece.result rest;
-          below = λ q l n. rest.below q (omega (arith, l)) n ∙ b.piece.others q ((λ e. omega (arith, e, l)), (n, tt));
-          others = λ q h. rest.others q h ∙ kept q h;
-        }
+        let code : List Instr = brought its_frame rd (place_of its_frame R.places t) in
+        let room : rd < 18 = omega (arith, high) in
+        let b : Brings regs code rd v =
+            brings regs rd t v (record { above = omega (arith, low); below = omega (arith, room) })
+            (held t v (on t (only_one t ts)) all.0) same others in
+        joined regs rd t ts v vs low room b
+        (passes b.piece.after (suc rd) ts vs (omega (arith, low)) (omega (arith, high))
+        (λ u e. on u (or_right (t == u) _ e)) all.1 (kept_sp regs code rd v low room b same)
+        (kept_all regs code rd v low room b others))

@@ -1,4 +1,5 @@
 pub mod Arguments
+pub mod Calls
 pub mod Operands
 pub mod Operations
 pub mod Plain
