@@ -45,6 +45,12 @@ AreRead temps [] (v ∷ vs) = ⊥
 AreRead temps (t ∷ ts) [] = ⊥
 AreRead temps (t ∷ ts) (v ∷ vs) = (temps t ≡ Some v) × AreRead temps ts vs
 
+pub read_length : (temps : Temps) (ts : List ℕ) (vs : List Value) → AreRead temps ts vs → length vs ≡ length ts
+read_length temps [] [] read = refl
+read_length temps [] (v ∷ vs) read = absurd read
+read_length temps (t ∷ ts) [] read = absurd read
+read_length temps (t ∷ ts) (v ∷ vs) read = ap suc (read_length temps ts vs read.1)
+
 -- those behind a first value
 abbrev rest_read : (here : Here) (ts : List ℕ) (temps : Temps) → Value → Meant → Piece (List Value)
 rest_read here ts temps v s = and_then (read_all here ts temps s) (λ vs s. Reached (v ∷ vs) s)

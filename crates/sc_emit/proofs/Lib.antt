@@ -1,5 +1,6 @@
 pub mod Arguments
 pub mod Calls
+pub mod Environment
 pub mod Operands
 pub mod Operations
 pub mod Plain
