@@ -4,4 +4,5 @@ pub mod Environment
 pub mod Operands
 pub mod Operations
 pub mod Plain
+pub mod Returns
 pub mod Straight
