@@ -1,14 +1,14 @@
 -- Values brought into registers that temporaries don't have: the arguments of a call, and what a function returns.
-use Rattle.std.proofs.Common.{◌≡◌, ◌≢◌, ℕ, zero, suc, ◌+◌, ◌*◌, ◌^◌, ◌<◌, ◌≤◌, Bool, true, false, List, [], ◌∷◌, ◌++◌, length}
-use Rattle.std.proofs.Common.{Option, None, Some, refl, sym, ◌∙◌, ap, subst, arith, inl, ⊎_elim}
-use Rattle.std.specs.Prelude.{slice_get, ◌||◌, ◌==◌}
+use Rattle.std.proofs.Common.{◌≡◌, ◌≢◌, ℕ, zero, suc, ◌+◌, ◌*◌, ◌<◌, ◌≤◌, true, List, [], ◌∷◌, length}
+use Rattle.std.proofs.Common.{Some, refl, sym, ◌∙◌, ap, subst, arith}
+use Rattle.std.specs.Prelude.{slice_get, ◌==◌}
 use Rattle.std.specs.Option.{unwrap_or}
 use Rattle.std.proofs.lemmas.Bool.{eq-eqb}
 use Rattle.std.proofs.lemmas.Option.{same_Some}
 use Rattle.rv_code.specs.declared.instr.Instr.{Instr}
 use Rattle.sc_core.specs.declared.value.Value.{Value}
-use Rattle.sc_core.specs.Words.{State as Meant, Here, Piece, Reached, Stopped, Left, and_then}
-use Rattle.sc_laws.specs.Growth.{Goes, Gone}
+use Rattle.sc_core.specs.Words.{State as Meant, Here, Piece, Reached, Left, and_then}
+use Rattle.sc_laws.specs.Growth.{Goes}
 use Rattle.sc_laws.proofs.Growing.{stays, then_goes, then_then}
 use Rattle.sc_image.specs.Walks.{Walks}
 use Rattle.sc_hart.specs.Hart.{Registers, at}
@@ -16,10 +16,10 @@ use Rattle.sc_hart.specs.Words.{word}
 use Rattle.sc_tac.specs.declared.frame.FrameTree.{FrameTree}
 use Rattle.sc_tac.specs.declared.place.Place.{Place}
 use Rattle.sc_tac.specs.declared.place.Place.TheVariants.{Register, Slot}
-use Rattle.sc_tac.specs.Code.{Temps, known, read, read_all}
+use Rattle.sc_tac.specs.Code.{Temps, read, read_all}
 use Rattle.sc_tac.specs.Flow.{is_one}
 use Rattle.sc_tac.specs.Points.{Set, Lives}
-use Rattle.sc_select.specs.Pieces.{sp, register_of, move, load_word}
+use Rattle.sc_select.specs.Pieces.{sp, register_of, load_word}
 use Rattle.sc_select.specs.Selection.{brought, pass, place_of, slot_offset}
 use Rattle.sc_pieces.specs.Pieces.{IsWritable, Does, Computes}
 use Rattle.sc_pieces.proofs.Loading.{moves}
@@ -28,7 +28,6 @@ use Rattle.sc_pieces.proofs.Rows.{computes, in_row, look_at}
 use Rattle.sc_relation.specs.Blocks.{StandsFor}
 use Rattle.sc_relation.specs.Frames.{IsActivation, FrameMatches, InPlace, IsHeld, AreHeld}
 use Rattle.sc_relation.specs.Stretches.{Setting, Joint}
-use Rattle.sc_relation.specs.Calls.{ArePassed}
 use Rattle.sc_relation.specs.Following.{Running, Ends, Comes}
 use Rattle.sc_relation.proofs.Following.{comes_read}
 use Rattle.sc_relation.proofs.Registers.{HasNoOtherUse, no_other_use, register_there}
@@ -112,7 +111,7 @@ module _ (T : Setting) (R : Running) (cells : List ℕ) (nodes : ℕ)
   brings_by regs rd (Slot k) v w there value same =
       let offset : ℕ = there.0 in
       let code : load_word rd (slot_offset its_frame k) ≡ load_word rd offset =
-          ap (λ o. load_word rd (unwrap_or o 0)) there.1 in
+      ap (λ o. load_word rd (unwrap_or o 0)) there.1 in
       let same_offset : value.0 ≡ offset = same_Some value.0 offset (sym value.1 ∙ there.1) in
       subst (λ code. Brings regs code rd v) (sym code) (record {
         word = word x.bytes (R.activation.sp + offset);
@@ -217,8 +216,8 @@ module _ (T : Setting) (R : Running) (cells : List ℕ) (nodes : ℕ)
         let code : List Instr = brought its_frame rd (place_of its_frame R.places t) in
         let room : rd < 18 = omega (arith, high) in
         let b : Brings regs code rd v =
-            brings regs rd t v (record { above = omega (arith, low); below = omega (arith, room) })
-            (held t v (on t (only_one t ts)) all.0) same others in
+        brings regs rd t v (record { above = omega (arith, low); below = omega (arith, room) })
+        (held t v (on t (only_one t ts)) all.0) same others in
         joined regs rd t ts v vs low room b
         (passes b.piece.after (suc rd) ts vs (omega (arith, low)) (omega (arith, high))
         (λ u e. on u (or_right (t == u) _ e)) all.1 (kept_sp regs code rd v low room b same)

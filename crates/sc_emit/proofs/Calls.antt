@@ -1,31 +1,28 @@
 -- Calls of functions, of the own compartment and of others.
-use Rattle.std.proofs.Common.{◌≡◌, ◌≢◌, ℕ, suc, ◌+◌, ◌-ℤ◌, ◌*◌, ◌/◌, ◌%◌, ◌^◌, ◌<◌, ◌≤◌, Bool, true, false, List, [], ◌∷◌, ◌++◌, length}
-use Rattle.std.proofs.Common.{Option, None, Some, refl, sym, ◌∙◌, ap, ap₂, subst, arith, inl, inr, ⊎_elim, All, pos}
-use Rattle.std.proofs.Common.{append_assoc, append-nil}
-use Rattle.std.specs.Prelude.{◌⊎◌, slice_get, ◌||◌}
+use Rattle.std.proofs.Common.{◌≡◌, ◌≢◌, ℕ, suc, ◌+◌, ◌-ℤ◌, ◌*◌, ◌/◌, ◌%◌, ◌^◌, ◌<◌, ◌≤◌, true, false, List, [], ◌∷◌, ◌++◌, length}
+use Rattle.std.proofs.Common.{Option, None, Some, refl, sym, ◌∙◌, ap, subst, arith, inl, inr, ⊎_elim, All, pos}
+use Rattle.std.proofs.Common.{append_assoc}
+use Rattle.std.specs.Prelude.{◌⊎◌, slice_get}
 use Rattle.std.specs.Option.{unwrap_or}
 use Rattle.std.proofs.lemmas.Bool.{ne_eqb}
 use Rattle.std.proofs.lemmas.List.{length-append}
 use Rattle.std.proofs.lemmas.Option.{slice_get_within}
 use Rattle.rv_code.specs.declared.instr.Instr.{Instr}
-use Rattle.rv_code.specs.declared.instr.Instr.TheVariants.{Ecall, Jal, Jalr, OpImm, Upper}
-use Rattle.rv_code.specs.declared.instr.OpImmOp.TheVariants.{Addi}
+use Rattle.rv_code.specs.declared.instr.Instr.TheVariants.{Jal, Jalr, Upper}
 use Rattle.rv_code.specs.declared.instr.UpperOp.TheVariants.{Lui}
 use Rattle.sc_word.specs.Prelude.{word_of, add_word}
 use Rattle.sc_word.proofs.Words.{word_of-unsigned_sub}
 use Rattle.sc_core.specs.declared.expr.CallTarget.{CallTarget}
-use Rattle.sc_core.specs.declared.expr.CallTarget.TheVariants.{Own, Cross, Input, Output}
+use Rattle.sc_core.specs.declared.expr.CallTarget.TheVariants.{Own, Cross}
 use Rattle.sc_core.specs.declared.value.Value.{Value}
 use Rattle.sc_core.specs.Value.{wrapping}
 use Rattle.sc_core.specs.Words.{State as Meant, Calls, Piece, Reached, Stopped, Left, Next, and_then, leave}
 use Rattle.sc_laws.specs.Growth.{Goes}
 use Rattle.sc_laws.proofs.Growing.{stays, then_goes, then_from}
-use Rattle.sc_store.specs.Memory.{Memory as Bytes}
 use Rattle.sc_image.specs.Step.{jalr_target}
-use Rattle.sc_image.specs.Walks.{Walks}
 use Rattle.sc_image.specs.WellFormed.{IsWord, IsWellFormed}
-use Rattle.sc_hart.specs.Code.{Fetches, CodeAt}
-use Rattle.sc_hart.specs.Hart.{Registers, look}
+use Rattle.sc_hart.specs.Code.{CodeAt}
+use Rattle.sc_hart.specs.Hart.{Registers}
 use Rattle.sc_hart.specs.Words.{put_word}
 use Rattle.sc_hart.proofs.Fetching.{front_at, back_at}
 use Rattle.sc_tac.specs.declared.frame.FrameTree.{FrameTree}
@@ -36,34 +33,32 @@ use Rattle.sc_tac.specs.declared.stmt.TacStmt.TheOpen as tac
 use Rattle.sc_tac.specs.Code.{Temps, Codes, with_temp, received, call_does, read_all, code_step}
 use Rattle.sc_tac.specs.Places.{IsClear}
 use Rattle.sc_tac.specs.Flow.{is_one}
-use Rattle.sc_tac.specs.Points.{Set, Point, Lives, Trail, plain_points, live_across, trail_step}
+use Rattle.sc_tac.specs.Points.{Point, Lives, Trail, plain_points, live_across, trail_step}
 use Rattle.sc_select.specs.Lines.{Line, linked, plainly}
-use Rattle.sc_select.specs.Pieces.{ra, sp, first_scratch, a0, a7, register_of, move, store_word, upper_part, lower_part}
-use Rattle.sc_select.specs.Selection.{Piece as Code, straight, put, pass, receive, place_of, slot_offset, brought}
-use Rattle.sc_select.specs.Selection.{environment_call, call_own, call_cross, select_step}
-use Rattle.sc_pieces.specs.Pieces.{Besides, IsWritable, Does, Computes, Stores}
+use Rattle.sc_select.specs.Pieces.{ra, sp, first_scratch, a0, register_of, move, store_word, upper_part, lower_part}
+use Rattle.sc_select.specs.Selection.{straight, put, pass, receive}
+use Rattle.sc_select.specs.Selection.{call_own, call_cross, select_step}
+use Rattle.sc_pieces.specs.Pieces.{Does, Computes, Stores}
 use Rattle.sc_pieces.proofs.Loading.{moves}
 use Rattle.sc_pieces.proofs.NearSp.{stores_word}
 use Rattle.sc_pieces.proofs.Numbers.{two_parts}
-use Rattle.sc_pieces.proofs.Rows.{in_row, look_at, upper, with_number}
+use Rattle.sc_pieces.proofs.Rows.{in_row, look_at, upper}
 use Rattle.sc_relation.specs.Blocks.{StandsFor}
-use Rattle.sc_relation.specs.Calls.{of_environment, ArePassed, ComesBack, CallGives, CallStands, CallsFollow}
+use Rattle.sc_relation.specs.Calls.{ArePassed, ComesBack, CallGives, CallStands, CallsFollow}
 use Rattle.sc_relation.specs.Frames.{Activation, IsActivation, FrameMatches}
 use Rattle.sc_relation.specs.Linking.{Addresses, completed, low_after}
-use Rattle.sc_relation.specs.Stretches.{Setting, Joint, Standpoint, machine, Settled, Leads, Shows, Overflows, GivenBack}
+use Rattle.sc_relation.specs.Stretches.{Setting, Joint, Standpoint, Overflows, GivenBack}
 use Rattle.sc_relation.specs.Following.{Running, Ends, ends_of, seen_from, Ready, Arrives, Comes, Follows, live_at}
-use Rattle.sc_relation.specs.Following.{StandsAt}
-use Rattle.sc_relation.proofs.Following.{IsBack, is_back, leads_more}
+use Rattle.sc_relation.proofs.Following.{IsBack, is_back}
 use Rattle.sc_relation.proofs.Frames.{each_at}
-use Rattle.sc_relation.proofs.Held.{held_less}
 use Rattle.sc_relation.proofs.Lines.{completed_plainly, completed_length, low_append, low_plainly}
 use Rattle.sc_relation.proofs.Registers.{HasNoOtherUse, no_other_use, register_there}
 use Rattle.sc_relation.proofs.Settling.{moved}
-use Rattle.sc_relation.proofs.Straight.{Assigns, assigns_register, assigns_slot, assigned_at, MovesOn, moves_on}
-use Rattle.sc_relation.proofs.Straight.{live_plain, or_left, across_live, call_from, settled_to, asked, leads_from}
+use Rattle.sc_relation.proofs.Straight.{assigns_register, assigns_slot, assigned_at, MovesOn, moves_on}
+use Rattle.sc_relation.proofs.Straight.{live_plain, or_left, call_from, settled_to}
 use Rattle.sc_relation.proofs.Stretches.{leads_none, comes_after, shows_less, overflows_with, arrives_with}
-use Rattle.sc_emit.proofs.Arguments.{AreRead, read_all_goes, comes_read_all, Passes, passes, Brings, brings}
-use Rattle.sc_emit.proofs.Straight.{ComesStraight, straight_follows}
+use Rattle.sc_emit.proofs.Arguments.{AreRead, read_all_goes, comes_read_all, Passes, passes}
+use Rattle.sc_emit.proofs.Straight.{ComesStraight}
 use Rattle.sc_emit.proofs.Operands.{IsPlace, ArePlaced, slot_from_sp, world, walks_to}
 
 -- Lines of which some are linked.
@@ -101,7 +96,7 @@ module _ (T : Setting) (R : Running) where
     goes = goes;
     runs = λ lives temps x left to_break to_continue starts.
         (let long : length (instrs x.pc) ≡ length lines =
-            ap length (sym (whole x.pc)) ∙ completed_length (T.addresses R.activation.here.comp) x.pc None lines in
+        ap length (sym (whole x.pc)) ∙ completed_length (T.addresses R.activation.here.comp) x.pc None lines in
         let ends : Ends = ends_of (straight lines) x.pc left to_break to_continue in
         subst (λ n. Comes T R lives x (n + left) ends (does temps x.meant)) long
         (runs lives temps x left starts.ready starts.clear
@@ -168,10 +163,10 @@ module _ (T : Setting) (R : Running) (formed : IsWellFormed T.image) (inputs : A
         Behind (put frame a0 (Some place)) (with_temp dest v temps)
     receives_by dest (Register r) v ready clear stands its small code =
         let piece : Computes T.image T.inputs (world T R y) (move (register_of r) a0 ∷ []) [] y.regs y.bytes
-            (register_of r) (y.regs a0) =
-            moves T.image T.inputs (world T R y) y.bytes y.regs (register_of r) a0 (y.regs a0)
-            (record { above = positive (register_of r) (no_other_use r).zero; below = register_there r small })
-            (omega arith) (look_at y.regs a0 (omega arith)) stands.word in
+        (register_of r) (y.regs a0) =
+        moves T.image T.inputs (world T R y) y.bytes y.regs (register_of r) a0 (y.regs a0)
+        (record { above = positive (register_of r) (no_other_use r).zero; below = register_there r small })
+        (omega arith) (look_at y.regs a0 (omega arith)) stands.word in
         assigned_at T R formed inputs cells nodes is (live_across reads true (Some dest) lives)
         (last_point (Some dest) lives) temps y 1 left dest (y.pc + 4 * 1) (Register r) v piece.after y.bytes ready clear
         refl its (across_behind reads lives dest)
@@ -182,12 +177,12 @@ module _ (T : Setting) (R : Running) (formed : IsWellFormed T.image) (inputs : A
     receives_by dest (Slot k) v ready clear stands its there code =
         let offset : ℕ = there.0 in
         let same_code : put frame a0 (Some (Slot k)) ≡ store_word a0 offset =
-            ap (λ o. store_word a0 (unwrap_or o 0)) there.1 in
+        ap (λ o. store_word a0 (unwrap_or o 0)) there.1 in
         let stores : Stores T.image T.inputs (world T R y) (store_word a0 offset) (7 ∷ []) y.regs y.bytes (A.sp + offset)
-            (y.regs a0) =
-            stores_word T.image T.inputs (world T R y) y.bytes y.regs a0 offset (A.sp + offset) (y.regs a0) (omega arith)
-            (λ e. omega (arith, e)) (look_at y.regs a0 (omega arith))
-            (slot_from_sp T R y cells nodes is placed ready.frame ready.sp y.regs k offset there.1 refl) in
+        (y.regs a0) =
+        stores_word T.image T.inputs (world T R y) y.bytes y.regs a0 offset (A.sp + offset) (y.regs a0) (omega arith)
+        (λ e. omega (arith, e)) (look_at y.regs a0 (omega arith))
+        (slot_from_sp T R y cells nodes is placed ready.frame ready.sp y.regs k offset there.1 refl) in
         subst (λ code. Behind code (with_temp dest v temps)) (sym same_code)
         (assigned_at T R formed inputs cells nodes is (live_across reads true (Some dest) lives)
         (last_point (Some dest) lives) temps y (length (store_word a0 offset)) left dest
@@ -268,9 +263,9 @@ module _ (T : Setting) (R : Running) (formed : IsWellFormed T.image) (inputs : A
             Comes T R lives y budget ends (and_then piece onwards)
         came_back (Reached v s) given g =
             let k : IsBack T R args dest lives temps y (length to_place + left) v s =
-                back y (length to_place + left) v s ready g in
+            back y (length to_place + left) v s ready g in
             let at : CodeAt T.image A.here.comp k.y.pc to_place =
-                subst (λ pc. CodeAt T.image A.here.comp pc to_place) (sym k.pc) code in
+            subst (λ pc. CodeAt T.image A.here.comp pc to_place) (sym k.pc) code in
             comes_after T R lives y k.y budget (length to_place + left) ends (onwards v s) ready.settled k.leads
             (inl (subst (λ s. Arrives T R lives.behind k.y (length to_place + left) ends.left (received dest v temps) s
             ends.behind) k.meant_is
@@ -327,14 +322,14 @@ module _ (T : Setting) (R : Running) (formed : IsWellFormed T.image) (inputs : A
           (let p : Prepares target x before vs = prepares vs read in
           let n : ℕ = length before in
           let long : length (before ++ call ∷ to_place) ≡ n + suc (length to_place) =
-              length-append before (call ∷ to_place) in
+          length-append before (call ∷ to_place) in
           let rest : ℕ = 1 + (length to_place + left) in
           let whole : n + rest ≡ length (before ++ call ∷ to_place) + left = omega (arith, long) in
           let m : MovesOn T R formed inputs cells nodes is (live_plain args dest lives) temps x n rest (x.pc + 4 * n) p.after =
-              moves_on T R formed inputs cells nodes is (live_plain args dest lives) temps x n rest (x.pc + 4 * n) p.after
-              ready p.same p.others
-              (walks_to T R x before p.after x.bytes p.does
-              (front_at T.image A.here.comp x.pc before (call ∷ to_place) code)) in
+          moves_on T R formed inputs cells nodes is (live_plain args dest lives) temps x n rest (x.pc + 4 * n) p.after
+          ready p.same p.others
+          (walks_to T R x before p.after x.bytes p.does
+          (front_at T.image A.here.comp x.pc before (call ∷ to_place) code)) in
           let y : Joint = moved x (x.pc + 4 * n) p.after x.bytes in
           subst (λ b. Comes T R lives x b ends (and_then (calls A.here.comp target vs x.meant) onwards)) whole
           (comes_after T R lives x y (n + rest) rest ends (and_then (calls A.here.comp target vs x.meant) onwards)
@@ -414,7 +409,7 @@ module _ (T : Setting) (R : Running) (formed : IsWellFormed T.image) (inputs : A
         (own_call function args x.pc) left ends left_is behind_is code ready
         (λ vs read.
         (let p : Passes T R cells nodes is placed x ready.frame ready.sp x.regs a0 args vs =
-            passes_args args dest lives temps x vs few ready read in
+        passes_args args dest lives temps x vs few ready read in
         record {
           after = p.after;
           does = p.does;
@@ -445,8 +440,8 @@ module _ (T : Setting) (R : Running) (formed : IsWellFormed T.image) (inputs : A
         let high : List Instr = Upper Lui first_scratch (upper_part address) ∷ [] in
         let before : List Instr = arguments ++ high in
         let lines : List Line =
-            linked (Entry comp index) (Upper Lui first_scratch 0) ∷
-            plainly (Jalr ra first_scratch (pos 0) ∷ receive frame R.places dest) in
+        linked (Entry comp index) (Upper Lui first_scratch 0) ∷
+        plainly (Jalr ra first_scratch (pos 0) ∷ receive frame R.places dest) in
         linked_follows T R (code_step wrapping A.here calls (tac.CallCross dest comp index args))
         (call_cross frame R.places dest comp index args) (λ pc. before ++ entry_call address)
         (trail_step (tac.CallCross dest comp index args))
@@ -463,7 +458,7 @@ module _ (T : Setting) (R : Running) (formed : IsWellFormed T.image) (inputs : A
         before (Jalr ra first_scratch (lower_part address)) left ends left_is behind_is code ready
         (λ vs read.
         (let p : Passes T R cells nodes is placed x ready.frame ready.sp x.regs a0 args vs =
-            passes_args args dest lives temps x vs few ready read in
+        passes_args args dest lives temps x vs few ready read in
         prepared args x vs ready.frame ready.sp p (Cross comp index) high first_scratch (upper_part address)
         (upper T.image T.inputs (world T R x) p.after x.bytes first_scratch (upper_part address)
         (record { above = omega arith; below = omega arith })) (λ e. omega (arith, e)) (λ q h. h.first)

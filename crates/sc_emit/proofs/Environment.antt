@@ -1,6 +1,6 @@
 -- Calls of the environment.
-use Rattle.std.proofs.Common.{◌≡◌, ◌≢◌, ℕ, ◌+◌, ◌*◌, ◌^◌, ◌<◌, ◌≤◌, true, false, List, [], ◌∷◌, ◌++◌, length, Option, None}
-use Rattle.std.proofs.Common.{refl, sym, ◌∙◌, ap, subst, arith, ⊎_elim, All, pos, append_assoc, append-nil}
+use Rattle.std.proofs.Common.{◌≡◌, ℕ, ◌+◌, ◌*◌, ◌^◌, ◌<◌, ◌≤◌, true, false, List, [], ◌∷◌, ◌++◌, length, Option, None}
+use Rattle.std.proofs.Common.{refl, sym, ◌∙◌, ap, subst, arith, All, pos, append_assoc, append-nil}
 use Rattle.rv_code.specs.declared.instr.Instr.{Instr}
 use Rattle.rv_code.specs.declared.instr.Instr.TheVariants.{Ecall, OpImm}
 use Rattle.rv_code.specs.declared.instr.OpImmOp.TheVariants.{Addi}
@@ -27,7 +27,6 @@ use Rattle.sc_relation.specs.Stretches.{Setting, Joint, Standpoint, Leads}
 use Rattle.sc_relation.specs.Following.{Running, seen_from, Ready, Follows}
 use Rattle.sc_relation.proofs.Following.{IsBack, leads_more}
 use Rattle.sc_relation.proofs.Frames.{each_at}
-use Rattle.sc_relation.proofs.Registers.{HasNoOtherUse}
 use Rattle.sc_relation.proofs.Settling.{moved}
 use Rattle.sc_relation.proofs.Straight.{live_plain, across_live, call_from, asked, leads_from}
 use Rattle.sc_emit.proofs.Arguments.{AreRead, read_length, Passes}
@@ -54,8 +53,8 @@ module _ (T : Setting) (R : Running) (formed : IsWellFormed T.image) (inputs : A
   asked_back reads dest lives temps x target left v meant environment ready b =
       let none : 0 + left ≡ left = omega arith in
       let r : Ready T R (live_plain reads dest lives) temps b.y =
-          asked T R is.honest x b.y b.leads.effect (live_plain reads dest lives) temps ready b.settled b.sp
-          (λ q h. b.registers environment q (λ e. omega (arith, h.argument, e))) in
+      asked T R is.honest x b.y b.leads.effect (live_plain reads dest lives) temps ready b.settled b.sp
+      (λ q h. b.registers environment q (λ e. omega (arith, h.argument, e))) in
       record {
         y = b.y;
         meant_is = b.meant_is;
@@ -88,10 +87,10 @@ module _ (T : Setting) (R : Running) (formed : IsWellFormed T.image) (inputs : A
     asks_prepared target number dest args few small stands lives temps x ready code vs read =
         let before : List Instr = pass frame R.places a0 args ++ ask number in
         let p : Passes T R cells nodes is placed x ready.frame ready.sp x.regs a0 args vs =
-            passes_args T R formed inputs cells nodes is placed args dest lives temps x vs (omega (arith, few)) ready read in
+        passes_args T R formed inputs cells nodes is placed args dest lives temps x vs (omega (arith, few)) ready read in
         let u : Computes T.image T.inputs (world T R x) (ask number) [] p.after x.bytes a7 number =
-            with_number T.image T.inputs (world T R x) p.after x.bytes Addi a7 0 (pos number) 0 number
-            (record { above = omega arith; below = omega arith }) (omega arith) refl (omega (arith, small)) in
+        with_number T.image T.inputs (world T R x) p.after x.bytes Addi a7 0 (pos number) 0 number
+        (record { above = omega arith; below = omega arith }) (omega arith) refl (omega (arith, small)) in
         prepared T R formed inputs cells nodes is placed args x vs ready.frame ready.sp p target (ask number) a7 number u
         (λ e. omega (arith, e)) (λ q h e. omega (arith, h.argument, e))
         (λ i l e. omega (arith, l, e, few, read_length temps args vs read))
@@ -130,7 +129,7 @@ module _ (T : Setting) (R : Running) (formed : IsWellFormed T.image) (inputs : A
     output_follows value =
         let first : List Instr = brought frame a0 (place_of frame R.places value) in
         let whole : asking 2 None (value ∷ []) ≡ first ++ environment_call 2 =
-            ap (λ code. (code ++ ask 2) ++ Ecall ∷ []) (append-nil first) ∙ append_assoc first (ask 2) (Ecall ∷ []) in
+        ap (λ code. (code ++ ask 2) ++ Ecall ∷ []) (append-nil first) ∙ append_assoc first (ask 2) (Ecall ∷ []) in
         straight_follows T R (code_step wrapping A.here calls (tac.Output value)) (first ++ environment_call 2)
         (trail_step (tac.Output value))
         (goes T R formed inputs cells nodes is placed calls follow Output None (value ∷ []))

@@ -1,5 +1,5 @@
 -- The way out of a function: a return, and the closing brace.
-use Rattle.std.proofs.Common.{◌≡◌, ◌≢◌, ℕ, ◌+◌, ◌*◌, ◌^◌, ◌<◌, ◌≤◌, true, List, [], ◌∷◌, ◌++◌, length, Option, None, Some}
+use Rattle.std.proofs.Common.{◌≡◌, ℕ, ◌+◌, ◌*◌, ◌≤◌, true, List, [], ◌∷◌, ◌++◌, length, Option, None, Some}
 use Rattle.std.proofs.Common.{refl, sym, ◌∙◌, ap, subst, arith, inl, All, pos, append_assoc}
 use Rattle.std.proofs.lemmas.Bool.{eq-eqb}
 use Rattle.std.proofs.lemmas.List.{length-append}
@@ -11,18 +11,18 @@ use Rattle.sc_event.specs.declared.row.Entry.TheVariants.{Main, Export}
 use Rattle.sc_core.specs.declared.value.Value.{Value}
 use Rattle.sc_core.specs.declared.value.Value.TheVariants.{Word}
 use Rattle.sc_core.specs.Value.{wrapping}
-use Rattle.sc_core.specs.Words.{State as Meant, Calls, Return, leave}
+use Rattle.sc_core.specs.Words.{Calls, Return, leave}
 use Rattle.sc_laws.specs.Growth.{Goes}
 use Rattle.sc_laws.proofs.Growing.{stays}
 use Rattle.sc_image.specs.Walks.{Walks}
 use Rattle.sc_image.specs.WellFormed.{IsWord, IsWellFormed}
-use Rattle.sc_hart.specs.Code.{Fetches, CodeAt}
+use Rattle.sc_hart.specs.Code.{CodeAt}
 use Rattle.sc_hart.specs.Hart.{Registers, at}
 use Rattle.sc_hart.specs.Words.{word, Owned}
 use Rattle.sc_hart.proofs.Fetching.{front_at, back_at}
 use Rattle.sc_tac.specs.declared.frame.FrameTree.{FrameTree}
 use Rattle.sc_tac.specs.declared.stmt.TacStmt.TheOpen as tac
-use Rattle.sc_tac.specs.Code.{Temps, Codes, code_step, return_does}
+use Rattle.sc_tac.specs.Code.{Temps, code_step, return_does}
 use Rattle.sc_tac.specs.Flow.{is_one}
 use Rattle.sc_tac.specs.Parts.{one_or_none}
 use Rattle.sc_tac.specs.Points.{Set, Lives, trail_step}
@@ -30,14 +30,13 @@ use Rattle.sc_select.specs.Pieces.{ra, sp, a0, frame_left}
 use Rattle.sc_select.specs.Selection.{brought, place_of, return, closing, select_step}
 use Rattle.sc_pieces.specs.Frames.{frame_raised, LeavesFrame}
 use Rattle.sc_pieces.specs.Pieces.{Does, Computes}
-use Rattle.sc_pieces.proofs.Frames.{leaves_frame, jump_back_at, raised_at}
+use Rattle.sc_pieces.proofs.Frames.{leaves_frame}
 use Rattle.sc_pieces.proofs.Rows.{in_row, with_number}
 use Rattle.sc_relation.specs.Blocks.{StandsFor}
 use Rattle.sc_relation.specs.Frames.{Activation, IsActivation}
 use Rattle.sc_relation.specs.Stretches.{Setting, Joint, Standpoint, machine, GivenBack}
-use Rattle.sc_relation.specs.Following.{Running, seen_from, Ready, Returns, Follows, live_at}
+use Rattle.sc_relation.specs.Following.{Running, seen_from, Ready, Returns, Follows}
 use Rattle.sc_relation.proofs.Following.{comes_read}
-use Rattle.sc_relation.proofs.Frames.{own_inside}
 use Rattle.sc_relation.proofs.Settling.{moved, settled_moved, leads_moved}
 use Rattle.sc_relation.proofs.Stretches.{leads_less}
 use Rattle.sc_emit.proofs.Arguments.{Brings, brings}
@@ -83,16 +82,16 @@ module _ (T : Setting) (R : Running) (formed : IsWellFormed T.image) (inputs : A
         let jump : List Instr = Jalr 0 ra (pos 0) ∷ [] in
         let whole : code ++ frame_left frame.bytes ≡ (code ++ raised) ++ jump = sym (append_assoc code raised jump) in
         let at : CodeAt T.image A.here.comp x.pc ((code ++ raised) ++ jump) =
-            subst (CodeAt T.image A.here.comp x.pc) whole stands in
+        subst (CodeAt T.image A.here.comp x.pc) whole stands in
         let long : length (code ++ frame_left frame.bytes) ≡ n + 1 =
-            ap length whole ∙ length-append (code ++ raised) jump in
+        ap length whole ∙ length-append (code ++ raised) jump in
         let walks : Walks T.image T.inputs n (machine P x) (machine P (moved x (x.pc + 4 * n) l.after x.bytes)) =
-            walks_to T R x (code ++ raised) l.after x.bytes (in_row T.image T.inputs (world T R x) p.does l.does)
-            (front_at T.image A.here.comp x.pc (code ++ raised) jump at) in
+        walks_to T R x (code ++ raised) l.after x.bytes (in_row T.image T.inputs (world T R x) p.does l.does)
+        (front_at T.image A.here.comp x.pc (code ++ raised) jump at) in
         let ra_is : l.after ra ≡ A.ra =
-            l.loaded ∙ ap (word x.bytes) (p.same ∙ ready.sp) ∙ ready.frame.ra in
+        l.loaded ∙ ap (word x.bytes) (p.same ∙ ready.sp) ∙ ready.frame.ra in
         let a0_is : l.after a0 ≡ p.after a0 =
-            l.others a0 ((λ e. omega (arith, e)), ((λ e. omega (arith, e)), ((λ e. omega (arith, e)), tt))) in
+        l.others a0 ((λ e. omega (arith, e)), ((λ e. omega (arith, e)), ((λ e. omega (arith, e)), tt))) in
         record {
           y = moved x (x.pc + 4 * n) l.after x.bytes;
           meant_is = refl;
@@ -142,8 +141,8 @@ module _ (T : Setting) (R : Running) (formed : IsWellFormed T.image) (inputs : A
     zero_put : Puts (OpImm Addi a0 0 (pos 0) ∷ []) (Some (Word 0))
     zero_put =
         let u : Computes T.image T.inputs (world T R x) (OpImm Addi a0 0 (pos 0) ∷ []) [] x.regs x.bytes a0 0 =
-            with_number T.image T.inputs (world T R x) x.regs x.bytes Addi a0 0 (pos 0) 0 0
-            (record { above = omega arith; below = omega arith }) (omega arith) refl (omega arith) in
+        with_number T.image T.inputs (world T R x) x.regs x.bytes Addi a0 0 (pos 0) 0 0
+        (record { above = omega arith; below = omega arith }) (omega arith) refl (omega arith) in
         record {
           after = u.after;
           does = u.does;
@@ -172,9 +171,9 @@ module _ (T : Setting) (R : Running) (formed : IsWellFormed T.image) (inputs : A
         temps t ≡ Some v → Puts live temps x ready (brought frame a0 (place_of frame R.places t)) (Some v)
     puts t v live temps x ready on known =
         let b : Brings T R cells nodes is placed x ready.frame ready.sp x.regs
-            (brought frame a0 (place_of frame R.places t)) a0 v =
-            brings T R cells nodes is placed x ready.frame ready.sp x.regs a0 t v
-            (record { above = omega arith; below = omega arith }) (ready.held t v on known) refl (λ q h. refl) in
+        (brought frame a0 (place_of frame R.places t)) a0 v =
+        brings T R cells nodes is placed x ready.frame ready.sp x.regs a0 t v
+        (record { above = omega arith; below = omega arith }) (ready.held t v on known) refl (λ q h. refl) in
         record {
           after = b.piece.after;
           does = b.piece.does;
