@@ -17,3 +17,5 @@ mod programs;
 mod sizes;
 #[cfg(test)]
 mod speed;
+#[cfg(test)]
+mod words;

@@ -52,10 +52,6 @@ has-number names name =
 
 pub ruleset numbers = (has-number)
 
-is-none : (o : Option ℕ) → is_some o ≡ false → o ≡ None
-is-none None h = refl
-is-none (Some i) h = absurd (true≢false h)
-
 -- Where the test says that they are the same, two names have the same number.
 numbers-alike : (names : List (List ℕ)) (name other : List ℕ) → pointwise nat_eq other name ≡ true →
     number_of names other ≡ number_of names name

@@ -1,6 +1,6 @@
 -- Properties of states that pieces of a run keep.
-use Rattle.sc_core.proofs.Common.{Blamed, Ended, EventsOut, None, Option, Piece, Reached, Some, State, Stopped}
-use Rattle.sc_core.proofs.Common.{TurnsOut, and_then, found, refl, ◌≡◌}
+use Rattle.sc_core.proofs.Common.{None, Option, Piece, Reached, Some, State, Stopped, TurnsOut, and_then, found, refl}
+use Rattle.sc_core.proofs.Common.{◌≡◌}
 use Rattle.sc_core.specs.declared.run.RunEnd.{RunEnd}
 
 -- what is kept: of the states at which a run goes on, and of those at which it stops
@@ -27,10 +27,3 @@ pub found_kept : (K : Property) {V W : Type 0} (option : Option V) (s : State) (
     K.Ends TurnsOut s → ((v : V) → option ≡ Some v → Kept K (go v s)) → Kept K (and_then (found option s) go)
 found_kept K None s go h k = record { after = h }
 found_kept K (Some v) s go h k = k v refl
-
--- how a piece of a run can stop: `Ended` is told of a whole run alone, and `EventsOut` of one that is stopped
-abbrev pub IsHalt : RunEnd → Type 0
-IsHalt Ended = ⊥
-IsHalt (Blamed comp cause line) = Unit {0}
-IsHalt TurnsOut = Unit {0}
-IsHalt EventsOut = ⊥

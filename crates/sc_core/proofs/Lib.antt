@@ -2,6 +2,7 @@ pub mod Common
 pub mod Accounts
 pub mod Causes
 pub mod Induction
+pub mod Judged
 pub mod Keeping
 pub mod Layers
 pub mod Measures

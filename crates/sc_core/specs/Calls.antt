@@ -1,9 +1,9 @@
 -- Calls: the variables and the frame of a function begin, its body runs, and they end (C11 6.2.4, 6.5.2.2). The same
 -- for trees and for code.
-use Rattle.sc_core.specs.Common.{Call, Entry, Export, In, Interfaces, Out, Proto, Ret, Scalar, export_at, imports}
-use Rattle.sc_core.specs.Common.{is_function, is_input, is_output, takes}
-use Rattle.std.specs.Prelude.{ℕ, zero, suc, ◌++◌, Bool, true, false, ◌&&◌, ◌==◌, if◌then◌else◌, List, [], ◌∷◌, length}
-use Rattle.std.specs.Prelude.{map, replicate, drop, Option, None, Some, is_some, slice_get, slice_index_or}
+use Rattle.sc_core.specs.Common.{Call, Entry, Export, In, Interfaces, Out, Proto, Ret, Scalar, all_hold, export_at}
+use Rattle.sc_core.specs.Common.{imports, is_function, is_input, is_output, takes}
+use Rattle.std.specs.Prelude.{ℕ, zero, suc, ◌++◌, Bool, true, false, ◌==◌, if◌then◌else◌, List, [], ◌∷◌, length, map}
+use Rattle.std.specs.Prelude.{replicate, drop, Option, None, Some, is_some, slice_get, slice_index_or}
 use Rattle.std.specs.List.{list_all}
 use Rattle.sc_core.specs.declared.cause.Cause.TheVariants.{BadType}
 use Rattle.sc_core.specs.declared.expr.CallTarget.{CallTarget}
@@ -117,12 +117,19 @@ is_word (Ptr p) = false
 abbrev pub may_call : Library → ℕ → CallTarget → List Value → Bool
 may_call library from (Own number) args = is_some (function library from number)
 may_call library from (Cross to index) args =
-    imports library.interfaces from (is_function to index)
-    && (takes library.interfaces to index (length args)
-    && (list_all is_word args && leads library to (library.entered to (Export index))))
+    all_hold (
+    imports library.interfaces from (is_function to index) ∷
+    takes library.interfaces to index (length args) ∷
+    list_all is_word args ∷
+    leads library to (library.entered to (Export index)) ∷ []
+    )
 may_call library from Input args = imports library.interfaces from is_input
 may_call library from Output args =
-    imports library.interfaces from is_output && (length args == 1 && list_all is_word args)
+    all_hold (
+    imports library.interfaces from is_output ∷
+    (length args == 1) ∷
+    list_all is_word args ∷ []
+    )
 
 -- a return inside a compartment
 abbrev pub back_own : Option Value → State → Piece (Option Value)

@@ -47,7 +47,7 @@ pub use Rattle.sc_core.specs.WellTyped.{main_fits, mains_in, members_fit, most_c
 pub use Rattle.sc_core.specs.WellTyped.{most_height, most_nodes, most_params, params_fit, passed_fits, result_fits}
 pub use Rattle.sc_core.specs.WellTyped.{same_results, same_signature, same_types, scope_of, section_fits, sections_fit}
 pub use Rattle.sc_core.specs.WellTyped.{starred_within, struct_fits, structs_fit, type_within, variable_fits, words_fit}
-pub use Rattle.sc_core.specs.Words.{Break, Calls, Closed, Continue, Does, Exit, FrameChange, Here, Left, Next, On}
-pub use Rattle.sc_core.specs.Words.{Opened, Out, Piece, Reached, Return, Route, State, Stopped, all_do, and_then}
+pub use Rattle.sc_core.specs.Words.{Break, Calls, Closed, Continue, Does, Exit, FrameChange, Here, IsStop, Left, Next}
+pub use Rattle.sc_core.specs.Words.{On, Opened, Out, Piece, Reached, Return, Route, State, Stopped, all_do, and_then}
 pub use Rattle.sc_core.specs.Words.{choose, computed, follow, in_loop, in_order, leave, loop, rounds, stored, take}
 pub use Rattle.sc_core.specs.Words.{tell, turn, turn_of, with_memory}

@@ -12,8 +12,6 @@ use Rattle.sc_core.specs.declared.stmt.TypedSimpleKind.{TypedSimpleKind}
 use Rattle.sc_core.specs.declared.stmt.TypedSimpleKind.TheVariants as simple
 use Rattle.sc_core.specs.declared.section.TypedLocal.{TypedLocal}
 use Rattle.sc_core.specs.declared.section.TypedFunction.{TypedFunction}
-use Rattle.sc_core.specs.declared.section.TypedSection.{TypedSection}
-use Rattle.sc_core.specs.declared.program.ProgramTree.{ProgramTree}
 
 abbrev pub total : List ℕ → ℕ
 total [] = 0
@@ -83,10 +81,3 @@ frame_bound cells nodes = 64 + 4 * (total cells + nodes)
 -- the bytes that the code of functions takes at most, by the nodes of each
 abbrev pub code_bound : List ℕ → ℕ
 code_bound nodes = 96 * total nodes
-
-abbrev pub section_nodes : TypedSection → ℕ
-section_nodes section = total (map nodes section.functions)
-
--- the nodes of all functions of a program
-abbrev pub program_nodes : ProgramTree → ℕ
-program_nodes program = total (map section_nodes program.sections)

@@ -6,7 +6,7 @@ use Rattle.std.specs.Prelude.{ℕ, zero, suc, ◌++◌, List, [], ◌∷◌, Opt
 use Rattle.sc_core.specs.declared.cause.Cause.{Cause}
 use Rattle.sc_core.specs.declared.expr.CallTarget.{CallTarget}
 use Rattle.sc_core.specs.declared.run.RunEnd.{RunEnd}
-use Rattle.sc_core.specs.declared.run.RunEnd.TheVariants.{Blamed, TurnsOut}
+use Rattle.sc_core.specs.declared.run.RunEnd.TheVariants.{Blamed, Ended, EventsOut, TurnsOut}
 use Rattle.sc_core.specs.declared.value.Value.{Value}
 use Rattle.sc_core.specs.Memory.{Blocks, Memory, with_blocks, store}
 use Rattle.sc_core.specs.Value.{is_true}
@@ -34,6 +34,13 @@ pub record Here : Type 0 where
 pub data Piece (V : Type 0) : Type 0 where
   Reached : V → State → Piece V
   Stopped : RunEnd → State → Piece V
+
+-- an end that a piece of a run may come to: `Ended` is told of a whole run alone, and `EventsOut` of one that is stopped
+abbrev pub IsStop : RunEnd → Type 0
+IsStop Ended = ⊥
+IsStop (Blamed comp cause line) = Unit {0}
+IsStop TurnsOut = Unit {0}
+IsStop EventsOut = ⊥
 
 -- one piece after another: nothing follows the end of the run
 abbrev pub and_then : {V W : Type 0} → Piece V → (V → State → Piece W) → Piece W

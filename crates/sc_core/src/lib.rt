@@ -7,6 +7,7 @@ mod place;
 mod program;
 mod run;
 mod section;
+mod sizes;
 mod stmt;
 mod thin;
 mod ty;
@@ -22,7 +23,8 @@ pub use section::{
     TypedFunction, TypedFunctions, TypedGlobal, TypedGlobals, TypedLocal, TypedLocals, TypedMember,
     TypedMembers, TypedParam, TypedParams, TypedSection, TypedSections, TypedStruct, TypedStructs,
 };
+pub use sizes::{cells_of, target_cells};
 pub use stmt::{TypedSimple, TypedSimpleKind, TypedStmt, TypedStmtKind, TypedStmts};
 pub use thin::{ThinProgram, run_thin};
-pub use ty::{BaseTy, Ty};
+pub use ty::{BaseTy, Ty, is_unsigned_op};
 pub use value::{Cell, Pointer, Value, Want};

@@ -1,8 +1,8 @@
-ghost use Rattle.sc_core.specs.Prelude.{common, decayed, is_array, is_integer, is_pointer, pointer_to, same_base};
-ghost use Rattle.sc_core.specs.Prelude.{same_ty, starred, target, type_goes};
+ghost use Rattle.sc_core.specs.Prelude.{common, decayed, is_array, is_integer, is_pointer, is_unsigned, is_unsigned_op};
+ghost use Rattle.sc_core.specs.Prelude.{pointer_to, same_base, same_ty, starred, target, type_goes};
 ghost use Rattle.std.specs.Prelude.{◌≡◌, suc, IfOk};
 
-use sc_base::OutOfMemory;
+use sc_base::{BinaryOp, OutOfMemory};
 
 /// A type that has no `*` and is no array. A struct is a place in its section's list of structs.
 #[derive(Clone, Copy, Debug, PartialEq, Eq)]
@@ -72,6 +72,16 @@ impl Ty {
     {
         match self {
             Ty::Int => true,
+            Ty::Unsigned => true,
+            _ => false,
+        }
+    }
+
+    /// Whether the type is `unsigned int`.
+    pub fn is_unsigned(self) -> bool
+        ensures { result ≡ is_unsigned self }
+    {
+        match self {
             Ty::Unsigned => true,
             _ => false,
         }
@@ -194,5 +204,16 @@ fn one_more(stars: u64) -> Result<u64, OutOfMemory>
     match stars.checked_add(1) {
         Some(more) => Ok(more),
         None => Err(OutOfMemory),
+    }
+}
+
+/// Whether an operator between operands of these types works on `unsigned int` (C11 6.3.1.8p1, 6.5.7p3).
+pub fn is_unsigned_op(op: BinaryOp, left: Ty, right: Ty) -> bool
+    ensures { result ≡ is_unsigned_op op left right }
+{
+    match op {
+        BinaryOp::ShiftLeft => left.is_unsigned(),
+        BinaryOp::ShiftRight => left.is_unsigned(),
+        _ => left.is_unsigned() || right.is_unsigned(),
     }
 }

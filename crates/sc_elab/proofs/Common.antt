@@ -15,7 +15,6 @@ pub use Rattle.sc_base.specs.Prelude.{number_of}
 pub use Rattle.sc_ast.specs.Prelude.{head_of, param_of}
 pub use Rattle.sc_ast.specs.declared.expr.ExprTree.{out-ExprTree, roll-ExprTree, roll-out-ExprTree, the_lemmas}
 pub use Rattle.sc_ast.specs.declared.section.GlobalTree.{GlobalTree}
-pub use Rattle.sc_ast.specs.declared.section.MemberTree.{MemberTree}
 pub use Rattle.sc_scope.proofs.Noting.{noted_all-append, with_lines-append, with_lines-nil}
 pub use Rattle.sc_scope.specs.Prelude.{function_in, function_named, function_names, functions_in, global_in, globals_in}
 pub use Rattle.sc_scope.specs.Prelude.{head_in, heads_in, import_of, interface_of, interfaces_from, interfaces_of}
@@ -23,13 +22,13 @@ pub use Rattle.sc_scope.specs.Prelude.{line_of_text, noted, refused_at, struct_i
 pub use Rattle.sc_scope.specs.Prelude.{with_lines}
 unfoldable pub use Rattle.sc_scope.specs.Prelude.{noted_all}
 pub use Rattle.sc_scope.specs.declared.broken.BrokenLines.{BrokenLines}
+pub use Rattle.sc_core.proofs.Judged.{judged_ty}
 pub use Rattle.sc_core.specs.Prelude.{Judged, Scope, Signature, all_go_into, args_fit, assign_fits, binary_fits}
 pub use Rattle.sc_core.specs.Prelude.{decayed, goes_into, has_member, init_fits, is_address, is_int, is_pointer}
 pub use Rattle.sc_core.specs.Prelude.{is_scalar, is_target, is_type, judged, literal_fits, member_of, pointer_to}
 pub use Rattle.sc_core.specs.Prelude.{result_goes, same_base, same_ty, starred, target, term_judged, unary_fits}
 pub use Rattle.sc_core.specs.Prelude.{variable_ty}
 pub use Rattle.sc_core.specs.declared.expr.VarRef.{VarRef}
-pub use Rattle.sc_core.specs.declared.section.TypedSection.{TypedSection}
 pub use Rattle.sc_core.specs.declared.ty.BaseTy.{BaseTy}
 pub use Rattle.sc_elab.specs.Common.{CallTree, Decl, ExprTree, ExprTree-F, FunctionTree, Global, HeadTree, Import}
 pub use Rattle.sc_elab.specs.Common.{ImportLine, Local, LocalTree, Param, SectionTree, SimpleTree, StmtKind, StmtTree}

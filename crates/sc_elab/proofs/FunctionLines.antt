@@ -1,11 +1,11 @@
 -- The lines of a function: those of its locals, and those of its body.
 use Rattle.sc_elab.proofs.Common.{BrokenLines, ExprTree, FunctionScope, FunctionTree, GlobalTree, List, LocalTree, None}
 use Rattle.sc_elab.proofs.Common.{OnOk, Option, Result, SectionScope, SectionTree, Some, Stands, StandsIn, Suits, Ty}
-use Rattle.sc_elab.proofs.Common.{[], ap, called, concat, drop, drop-step, drop_all, function_lines, get_or}
-use Rattle.sc_elab.proofs.Common.{global_lines, init_fits, init_goes, init_holds, is_sized, length, local_holds}
-use Rattle.sc_elab.proofs.Common.{locals_from, map, refl, result_of, scope_in, stmt_lines, subst, suc, sym, tags}
-use Rattle.sc_elab.proofs.Common.{type_of, typed_init, unless, visible, visible_in, with_lines, with_lines-append}
-use Rattle.sc_elab.proofs.Common.{with_lines-nil, ℕ, ◌&&◌, ◌++◌, ◌+◌, ◌<◌, ◌∙◌, ◌∷◌, ◌≡◌, ◌≤◌}
+use Rattle.sc_elab.proofs.Common.{ap, concat, drop, drop-step, drop_all, function_lines, get_or, global_lines}
+use Rattle.sc_elab.proofs.Common.{init_fits, init_goes, init_holds, is_sized, length, local_holds, locals_from, map}
+use Rattle.sc_elab.proofs.Common.{refl, result_of, scope_in, stmt_lines, subst, suc, sym, tags, type_of, typed_init}
+use Rattle.sc_elab.proofs.Common.{unless, visible, visible_in, with_lines, with_lines-append, with_lines-nil, ℕ, ◌&&◌}
+use Rattle.sc_elab.proofs.Common.{◌++◌, ◌+◌, ◌<◌, ◌∙◌, ◌≡◌, ◌≤◌}
 use Rattle.sc_elab.specs.Statements as statements
 use Rattle.sc_elab.proofs.Functions.{next_place, seen}
 use Rattle.sc_elab.proofs.Noted.{two, on_ok}

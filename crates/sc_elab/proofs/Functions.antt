@@ -1,13 +1,11 @@
 -- What stands for a function while it is built gives its typed form.
 use Rattle.sc_elab.proofs.Common.{ExprTree, FunctionScope, FunctionTree, List, LocalTree, None, Option, SectionScope}
-use Rattle.sc_elab.proofs.Common.{SectionTree, Some, Stands, StandsIn, Ty, TypedLocal, TypedSection, [], ap, arith}
-use Rattle.sc_elab.proofs.Common.{called, drop, drop-step, functions_in, get_or, globals_in, going_to, length, local_in}
-use Rattle.sc_elab.proofs.Common.{local_variable, map, option_map, refl, stmt_in, suc, sym, tags, take, take-suc}
-use Rattle.sc_elab.proofs.Common.{type_of, type_of_name, typed, typed_function, typed_global, typed_init, typed_local}
-use Rattle.sc_elab.proofs.Common.{typed_locals, typed_param, typed_section, typed_stmt, value_in, visible, visible_in}
-use Rattle.sc_elab.proofs.Common.{ℕ, ◌++◌, ◌+◌, ◌<◌, ◌∙◌, ◌∷◌, ◌≡◌}
+use Rattle.sc_elab.proofs.Common.{SectionTree, Some, Stands, StandsIn, Ty, TypedLocal, [], ap, arith, called, drop}
+use Rattle.sc_elab.proofs.Common.{drop-step, get_or, going_to, length, local_in, local_variable, map, option_map, refl}
+use Rattle.sc_elab.proofs.Common.{stmt_in, suc, sym, tags, take, take-suc, type_of, type_of_name, typed, typed_function}
+use Rattle.sc_elab.proofs.Common.{typed_init, typed_local, typed_locals, typed_param, typed_stmt, value_in, visible}
+use Rattle.sc_elab.proofs.Common.{visible_in, ℕ, ◌++◌, ◌+◌, ◌<◌, ◌∙◌, ◌∷◌, ◌≡◌}
 use Rattle.sc_core.specs.declared.section.TypedFunction.{TypedFunction}
-use Rattle.sc_elab.specs.Statements as statements
 use Rattle.sc_elab.proofs.Loops.{one_more, all_done}
 
 pub next_place : (i : ℕ) → suc i ≡ i + 1
@@ -153,20 +151,3 @@ module _ (scope : SectionScope) (section : SectionTree) (stands : Stands scope s
             (within.result j)) tree.body;
         close_line = tree.close_line;
       })
-
--- the section over its functions
-pub section_kept : (scope : SectionScope) (section : SectionTree) → Stands scope section →
-    (callees : statements.Callees) (built : TypedSection) →
-    built ≡ record {
-      structs = scope.structs;
-      globals = map (typed_global scope.tags) (globals_in section.decls);
-      functions = map (typed_function section callees) (functions_in section.decls);
-    } →
-    built ≡ typed_section section callees
-section_kept scope section stands callees built e =
-    e
-    ∙ (λ j. record {
-      structs = stands.structs j;
-      globals = map (typed_global (stands.tags j)) (globals_in section.decls);
-      functions = map (typed_function section callees) (functions_in section.decls);
-    })

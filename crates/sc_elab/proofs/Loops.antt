@@ -1,6 +1,5 @@
 -- Loops that push what is made of each item of a list.
-use Rattle.sc_elab.proofs.Common.{List, [], ap, append-nil, append_assoc, arith, drop, drop-cons, get_or, length, suc}
-use Rattle.sc_elab.proofs.Common.{sym, ℕ, ◌++◌, ◌+◌, ◌<◌, ◌∙◌, ◌∷◌, ◌≡◌}
+use Rattle.sc_elab.proofs.Common.{List, [], ap, append-nil, append_assoc, sym, ◌++◌, ◌+◌, ◌∙◌, ◌∷◌, ◌≡◌}
 
 -- one more item is done
 pub one_more : {B : Type 0} (done more left rest whole : List B) (x : B) → more ≡ done ++ x ∷ [] → left ≡ x ∷ rest →

@@ -1,10 +1,10 @@
 -- What the lines of a statement's parts are.
-use Rattle.sc_elab.proofs.Common.{Bool, BrokenLines, CallTree, Err, ExprTree, List, None, Ok, OnOk, Option, Result}
-use Rattle.sc_elab.proofs.Common.{Scope, SimpleTree, Some, StmtKind, StmtTree, Ty, Visible, [], add-one, ap}
-use Rattle.sc_elab.proofs.Common.{assign_call_holds, assign_holds, call_holds, concat, cond_holds, drop, drop-cons}
-use Rattle.sc_elab.proofs.Common.{drop_all, get_or, length, lines_at, map, part_lines, refl, return_call_holds}
-use Rattle.sc_elab.proofs.Common.{return_value_holds, rules, stmt_lines, suc, sym, unless, with_lines}
-use Rattle.sc_elab.proofs.Common.{with_lines-append, with_lines-nil, ℕ, ◌++◌, ◌+◌, ◌<◌, ◌∙◌, ◌∷◌, ◌≡◌, ◌≤◌}
+use Rattle.sc_elab.proofs.Common.{Bool, BrokenLines, CallTree, Err, ExprTree, List, Ok, OnOk, Option, Result, Scope}
+use Rattle.sc_elab.proofs.Common.{SimpleTree, StmtKind, StmtTree, Ty, Visible, [], add-one, ap, assign_call_holds}
+use Rattle.sc_elab.proofs.Common.{assign_holds, call_holds, concat, cond_holds, drop, drop-cons, drop_all, get_or}
+use Rattle.sc_elab.proofs.Common.{length, lines_at, map, part_lines, return_call_holds, return_value_holds, rules}
+use Rattle.sc_elab.proofs.Common.{stmt_lines, sym, unless, with_lines, with_lines-append, with_lines-nil, ℕ, ◌++◌, ◌+◌}
+use Rattle.sc_elab.proofs.Common.{◌<◌, ◌∙◌, ◌≡◌, ◌≤◌}
 use Rattle.sc_elab.specs.Prelude.{Callees}
 use Rattle.sc_ast.specs.declared.stmt.StmtTree as trees
 use Rattle.sc_ast.specs.declared.stmt.StmtKind as tree

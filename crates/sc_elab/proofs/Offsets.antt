@@ -1,27 +1,7 @@
 -- Structs and their members, one after another.
-use Rattle.sc_elab.proofs.Common.{Decl, List, MemberTree, None, Option, Some, StructTree, TypedMember, TypedStruct, []}
-use Rattle.sc_elab.proofs.Common.{ap, cells_from, cons_option, drop, drop-step, drop_all, end_of_member, get_or, length}
-use Rattle.sc_elab.proofs.Common.{members_from, refl, struct_in, structs_in, sym, type_of, typed_struct, typed_structs}
-use Rattle.sc_elab.proofs.Common.{ℕ, ◌++◌, ◌+◌, ◌<◌, ◌∙◌, ◌∷◌, ◌≡◌, ◌≤◌}
-
-module _ (tags : List (List ℕ)) (structs : List TypedStruct) where
-  -- a member at its offset
-  abbrev pub member_at : ℕ → MemberTree → TypedMember
-  member_at offset member = record { name = member.name; ty = type_of tags member.ty; offset = offset }
-
-  -- the offset behind a member
-  abbrev pub end_of : ℕ → MemberTree → ℕ
-  end_of offset member = end_of_member tags structs offset member
-
-  pub members_next : (members : List MemberTree) (i : ℕ) (member : MemberTree) (offset : ℕ) → i < length members →
-      member ≡ get_or members i member → members_from tags structs offset (drop i members) ≡ member_at offset member ∷
-      members_from tags structs (end_of offset member) (drop (i + 1) members)
-  members_next members i member offset h e = ap (members_from tags structs offset) (drop-step members i member h e)
-
-  pub cells_next : (members : List MemberTree) (i : ℕ) (member : MemberTree) (offset : ℕ) → i < length members →
-      member ≡ get_or members i member → cells_from tags structs offset (drop i members) ≡
-      cells_from tags structs (end_of offset member) (drop (i + 1) members)
-  cells_next members i member offset h e = ap (cells_from tags structs offset) (drop-step members i member h e)
+use Rattle.sc_elab.proofs.Common.{Decl, List, None, Option, Some, StructTree, TypedStruct, [], ap, cons_option, drop}
+use Rattle.sc_elab.proofs.Common.{drop-step, drop_all, get_or, length, refl, struct_in, structs_in, sym, typed_struct}
+use Rattle.sc_elab.proofs.Common.{typed_structs, ℕ, ◌++◌, ◌+◌, ◌<◌, ◌∙◌, ◌∷◌, ◌≡◌, ◌≤◌}
 
 module _ (tags : List (List ℕ)) where
   pub no_structs : (structs : List TypedStruct) → typed_structs tags structs [] ≡ structs

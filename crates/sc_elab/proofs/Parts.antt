@@ -2,8 +2,8 @@
 use Rattle.sc_elab.proofs.Common.{BaseTy, Bool, Err, Found, Global, IfOk, Judged, List, None, Ok, Option, Result, Scope}
 use Rattle.sc_elab.proofs.Common.{Some, Suits, Ty, TypedExpr, TypedMember, TypedStruct, VarRef, Visible, [], ap}
 use Rattle.sc_elab.proofs.Common.{binary_fits, bytes_eq, decayed, eq-eqb, false, found, has_member, if◌then◌else◌}
-use Rattle.sc_elab.proofs.Common.{is_address, is_int, is_pointer, is_some, is_type, is_zero, judged, list_any}
-use Rattle.sc_elab.proofs.Common.{literal_fits, member_named, member_of, member_offset, member_ty, no_ty}
+use Rattle.sc_elab.proofs.Common.{is_address, is_int, is_pointer, is_some, is_type, is_zero, judged, judged_ty}
+use Rattle.sc_elab.proofs.Common.{list_any, literal_fits, member_named, member_of, member_offset, member_ty, no_ty}
 use Rattle.sc_elab.proofs.Common.{option_and_then, or-true, pointer_to, position, refl, same_base, same_ty, slice_get}
 use Rattle.sc_elab.proofs.Common.{struct_of, subst, suc, sym, target, term_judged, true, true≢false, unary_fits}
 use Rattle.sc_elab.proofs.Common.{variable_ty, variable_typed, zero, zero_step, ℕ, ◌&&◌, ◌==◌, ◌||◌, ◌∙◌, ◌∷◌, ◌≡◌}
@@ -82,25 +82,6 @@ module _ (scope : Scope) where
       layers.term_of (Ty → Judged) Judged (term_judged scope) (λ e. e.kind e.ty) k t
   as_kind t kind k is = ap (λ x. judged scope (record { ty = t; kind = x })) (sym is) ∙ at t k
 
-  -- the type that is judged is the expression's
-  layer_ty : (t : Ty) (k : TypedKind-F TypedKind.TypedKind TypedExpr) →
-      (layers.term_of (Ty → Judged) Judged (term_judged scope) (λ e. e.kind e.ty) k t).ty ≡ t
-  layer_ty t (term.Literal n) = refl
-  layer_ty t (term.Variable v) = refl
-  layer_ty t (term.Unary o a) = refl
-  layer_ty t (term.Binary o a b) = refl
-  layer_ty t (term.Index a b) = refl
-  layer_ty t (term.Member a n) = refl
-  layer_ty t (term.Arrow a n) = refl
-  layer_ty t (term.Deref a) = refl
-  layer_ty t (term.Address a) = refl
-
-  pub judged_ty : (e : TypedExpr) → (judged scope e).ty ≡ e.ty
-  judged_ty e =
-      ap (λ k. (judged scope (record { ty = e.ty; kind = k })).ty) (sym (roll-out-TypedKind e.kind))
-      ∙ ap (λ j. j.ty) (at e.ty (out-TypedKind e.kind))
-      ∙ layer_ty e.ty (out-TypedKind e.kind)
-
   pub literal_judged : (t : Ty) (n : ℕ) → record {
     ty = t;
     fits = literal_fits n t;
@@ -124,21 +105,21 @@ module _ (scope : Scope) where
       place t (is_address j && (is_int k && is_type (target (decayed a.ty)) t)) ≡
       judged scope (record { ty = t; kind = TypedKind.Index a b })
   index_judged a b j k t first second =
-      (λ i. place t (is_address (first i) && (is_int (second i) && is_type (target (decayed (sym (judged_ty a) i))) t)))
+      (λ i. place t (is_address (first i) && (is_int (second i) && is_type (target (decayed (sym (judged_ty scope a) i))) t)))
       ∙ sym (as_kind t _ (term.Index a b) (rolls-Index _ _))
 
   pub deref_judged : (a : TypedExpr) (j : Judged) (t : Ty) → j ≡ judged scope a →
       place t (is_address j && is_type (target (decayed a.ty)) t) ≡
       judged scope (record { ty = t; kind = TypedKind.Deref a })
   deref_judged a j t is =
-      (λ i. place t (is_address (is i) && is_type (target (decayed (sym (judged_ty a) i))) t))
+      (λ i. place t (is_address (is i) && is_type (target (decayed (sym (judged_ty scope a) i))) t))
       ∙ sym (as_kind t _ (term.Deref a) (rolls-Deref _))
 
   pub address_judged : (a : TypedExpr) (j : Judged) (t : Ty) → j ≡ judged scope a →
       value t (j.fits && (j.place && is_type (pointer_to a.ty) t)) ≡
       judged scope (record { ty = t; kind = TypedKind.Address a })
   address_judged a j t is =
-      (λ i. value t ((is i).fits && ((is i).place && is_type (pointer_to (sym (judged_ty a) i)) t)))
+      (λ i. value t ((is i).fits && ((is i).place && is_type (pointer_to (sym (judged_ty scope a) i)) t)))
       ∙ sym (as_kind t _ (term.Address a) (rolls-Address _))
 
   -- Null pointers.
@@ -217,7 +198,7 @@ module _ (scope : Scope) where
         ((is i).fits && ((is i).place && member_is name (Some a.ty) i)))
         ∙ (λ i. place (member_ty (named name (Some a.ty)))
         ((judged scope a).fits && ((judged scope a).place &&
-        member_of scope (Some (sym (judged_ty a) i)) (member_offset (named name (Some a.ty)))
+        member_of scope (Some (sym (judged_ty scope a) i)) (member_offset (named name (Some a.ty)))
         (member_ty (named name (Some a.ty))))))
         ∙ sym (as_kind _ _ (term.Member a (member_offset (named name (Some a.ty)))) (rolls-Member _ _))
 
@@ -232,7 +213,7 @@ module _ (scope : Scope) where
         (λ i. place (member_ty (named name (target (decayed a.ty))))
         (is_address (is i) && member_is name (target (decayed a.ty)) i))
         ∙ (λ i. place (member_ty (named name (target (decayed a.ty))))
-        (is_address (judged scope a) && member_of scope (target (decayed (sym (judged_ty a) i)))
+        (is_address (judged scope a) && member_of scope (target (decayed (sym (judged_ty scope a) i)))
         (member_offset (named name (target (decayed a.ty)))) (member_ty (named name (target (decayed a.ty))))))
         ∙ sym (as_kind _ _ (term.Arrow a (member_offset (named name (target (decayed a.ty))))) (rolls-Arrow _ _))
 
@@ -241,6 +222,17 @@ pub if_ok : {A E : Type 0} (P Q R : A → Type 0) (r : Result A E) → ((x : A) 
     IfOk r R
 if_ok P Q R (Ok x) both p q = both x p q
 if_ok P Q R (Err e) both p q = tt
+
+-- a variable that is built is judged as one
+pub variable_built : (scope : Scope) (visible : Visible) → Suits visible scope → (name : List ℕ) (f : Option Found)
+    (b : Built) → f ≡ found visible name → b.expr ≡ variable_typed f →
+    b.judged ≡ place (variable_typed f).ty (is_some f) → b.judged ≡ judged scope b.expr
+variable_built scope visible suits name f b is typed told =
+    told
+    ∙ (λ i. place (variable_typed (is i)).ty (is_some (is i)))
+    ∙ variable_judged scope visible suits name
+    ∙ (λ i. judged scope (variable_typed (sym is i)))
+    ∙ (λ i. judged scope (sym typed i))
 
 module _ (scope : Scope) (visible : Visible) (suits : Suits visible scope) (name : List ℕ) (a : TypedExpr) (j : Judged)
     (m : Option TypedMember) {E : Type 0} (r : Result Built E) (is : j ≡ judged scope a) where

@@ -2,7 +2,7 @@
 use Rattle.sc_elab.proofs.Common.{BrokenLines, Callees, CallsIn, Decl, Import, List, Option, SectionTree, [], add-one}
 use Rattle.sc_elab.proofs.Common.{ap, called, callees_of, concat, decl_lines, drop, drop-cons, drop_all, get_or, length}
 use Rattle.sc_elab.proofs.Common.{line_of_text, map, noted, noted_all, noted_all-append, refl, section_lines}
-use Rattle.sc_elab.proofs.Common.{struct_names, sym, with_lines, ℕ, ◌++◌, ◌+◌, ◌<◌, ◌∙◌, ◌∷◌, ◌≡◌, ◌≤◌}
+use Rattle.sc_elab.proofs.Common.{struct_names, sym, with_lines, ℕ, ◌++◌, ◌+◌, ◌<◌, ◌∙◌, ◌≡◌, ◌≤◌}
 use Rattle.sc_elab.proofs.Calling.{signatures_kept}
 
 noted-nil : (least : Option ℕ) → noted_all least [] ≡ least

@@ -1,15 +1,10 @@
 -- Sections and their interfaces, one after another.
-use Rattle.sc_elab.proofs.Common.{List, None, SectionTree, Some, TypedSection, [], ap, arith, callees_of, drop}
-use Rattle.sc_elab.proofs.Common.{drop-step, get_or, import_of, interface_of, interfaces_from, interfaces_of, length}
-use Rattle.sc_elab.proofs.Common.{map, refl, sections_from, slice_get, suc, sym, typed_section, zero, ℕ, ◌++◌, ◌+◌, ◌<◌}
-use Rattle.sc_elab.proofs.Common.{◌∙◌, ◌∷◌, ◌≡◌}
+use Rattle.sc_elab.proofs.Common.{List, None, SectionTree, Some, [], ap, arith, import_of, interface_of}
+use Rattle.sc_elab.proofs.Common.{interfaces_from, interfaces_of, map, refl, slice_get, suc, sym, zero, ℕ, ◌+◌, ◌∙◌}
+use Rattle.sc_elab.proofs.Common.{◌∷◌, ◌≡◌}
 use Rattle.std.proofs.Common.{option_map}
 use Rattle.sc_event.specs.declared.interface.Interface.{Interface}
 use Rattle.sc_event.specs.declared.interface.Interfaces.{Interfaces}
-use Rattle.sc_elab.proofs.Loops.{one_more}
-
-next_place : (i : ℕ) → suc i ≡ i + 1
-next_place i = omega arith
 
 from_zero : (i : ℕ) → 0 + i ≡ i
 from_zero i = omega arith
@@ -51,19 +46,3 @@ module _ (sections : List SectionTree) where
         interface.imports ≡ map (import_of sections i) section.imports
     imports_at interface at =
         ap (λ (x : Interface). x.imports) (same_some interface (interface_of sections i section) (sym at ∙ stands_at))
-
-  -- one more section is built
-  pub more_sections : (i : ℕ) (section : SectionTree) (done more whole : List TypedSection) (built : TypedSection) →
-      i < length sections → section ≡ get_or sections i section →
-      built ≡ typed_section section (callees_of sections i section) → more ≡ done ++ built ∷ [] →
-      done ++ sections_from sections i (drop i sections) ≡ whole →
-      more ++ sections_from sections (i + 1) (drop (i + 1) sections) ≡ whole
-  more_sections i section done more whole built h e b m k =
-      one_more done more (sections_from sections i (drop i sections))
-      (sections_from sections (i + 1) (drop (i + 1) sections)) whole built m step k
-    where
-      step : sections_from sections i (drop i sections) ≡ built ∷ sections_from sections (i + 1) (drop (i + 1) sections)
-      step =
-          ap (sections_from sections i) (drop-step sections i section h e)
-          ∙ ap (λ x. x ∷ sections_from sections (suc i) (drop (i + 1) sections)) (sym b)
-          ∙ ap (λ n. built ∷ sections_from sections n (drop (i + 1) sections)) (next_place i)

@@ -2,9 +2,8 @@
 use Rattle.sc_elab.proofs.Common.{Bool, Err, ExprTree, IfOk, Judged, List, None, Ok, Option, Result, Scope, Signature}
 use Rattle.sc_elab.proofs.Common.{Some, Ty, TypedExpr, Visible, [], add-one, all_go, all_go_into, and-false, ap}
 use Rattle.sc_elab.proofs.Common.{args_fit, assign_fits, drop, drop-cons, false, get_or, goes_in, goes_into, going_to}
-use Rattle.sc_elab.proofs.Common.{going_to_all, is_target, judged, length, map, params_of, refl, suc, sym, true, typed}
-use Rattle.sc_elab.proofs.Common.{ℕ, ◌&&◌, ◌+◌, ◌<◌, ◌∙◌, ◌∷◌, ◌≡◌, ◌≢◌}
-use Rattle.sc_elab.proofs.Parts.{judged_ty}
+use Rattle.sc_elab.proofs.Common.{going_to_all, is_target, judged, judged_ty, length, map, params_of, refl, suc, sym}
+use Rattle.sc_elab.proofs.Common.{true, typed, ℕ, ◌&&◌, ◌+◌, ◌<◌, ◌∙◌, ◌∷◌, ◌≡◌, ◌≢◌}
 
 module _ (goes : Ty → ExprTree → Bool) where
   pub all_go-lengths : (types : List Ty) (args : List ExprTree) → length types ≢ length args →

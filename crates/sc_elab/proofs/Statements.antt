@@ -1,7 +1,7 @@
 -- What statements are in a function's body, form by form.
 use Rattle.sc_elab.proofs.Common.{CallTree, ExprTree, FunctionScope, List, None, Option, SectionScope, SimpleTree, Some}
-use Rattle.sc_elab.proofs.Common.{StmtKind, StmtTree, args_in, call_in, called, expr_in, going_to_some, kind_in, map}
-use Rattle.sc_elab.proofs.Common.{params_of, part_in, refl, returned_in, rules, simple_in, stmt_in, value_in, ◌≡◌}
+use Rattle.sc_elab.proofs.Common.{StmtTree, args_in, call_in, called, expr_in, going_to_some, kind_in, map, params_of}
+use Rattle.sc_elab.proofs.Common.{part_in, refl, returned_in, rules, simple_in, stmt_in, value_in, ◌≡◌}
 use Rattle.sc_ast.specs.declared.stmt.SimpleKind.TheVariants as simple_tree
 use Rattle.sc_ast.specs.declared.stmt.StmtTree as trees
 use Rattle.sc_ast.specs.declared.stmt.StmtKind as tree

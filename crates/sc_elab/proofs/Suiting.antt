@@ -1,13 +1,14 @@
 -- What a function sees suits the scope that its statements are judged in.
-use Rattle.sc_elab.proofs.Common.{BaseTy, Bool, Found, FunctionTree, GlobalTree, List, MemberTree, None, Option, Scope}
-use Rattle.sc_elab.proofs.Common.{SectionTree, Some, StructTree, Suits, Ty, TypedMember, TypedParam, TypedStruct}
-use Rattle.sc_elab.proofs.Common.{VarRef, Visible, [], and-false, ap, arith, base_of, bytes_eq, end_of_member, false}
-use Rattle.sc_elab.proofs.Common.{found, found_in, global_variable, globals_in, has_member, is_some, is_type, list_any}
-use Rattle.sc_elab.proofs.Common.{local_variable, map, map_twice, members_from, ne_eqb, no_ty, option_and_then}
-use Rattle.sc_elab.proofs.Common.{option_map, or_else, position, refl, same_base, same_ty, scope_in, slice_get}
-use Rattle.sc_elab.proofs.Common.{slice_get-map, starred, structs_in, suc, sym, take, true, true≢false, type_of}
-use Rattle.sc_elab.proofs.Common.{type_of_name, type_with, typed_param, typed_struct, typed_structs, variable_ty}
-use Rattle.sc_elab.proofs.Common.{visible_in, zero, ℕ, ◌&&◌, ◌++◌, ◌+◌, ◌==◌, ◌||◌, ◌∙◌, ◌∷◌, ◌≡◌}
+use Rattle.sc_elab.proofs.Common.{BaseTy, Bool, Found, FunctionTree, GlobalTree, List, None, Option, Scope, SectionTree}
+use Rattle.sc_elab.proofs.Common.{Some, StructTree, Suits, Ty, TypedMember, TypedParam, TypedStruct, VarRef, Visible}
+use Rattle.sc_elab.proofs.Common.{[], and-false, ap, arith, base_of, bytes_eq, end_of_member, false, found_in}
+use Rattle.sc_elab.proofs.Common.{global_variable, globals_in, has_member, is_some, is_type, list_any, local_variable}
+use Rattle.sc_elab.proofs.Common.{map, map_twice, members_from, ne_eqb, no_ty, option_and_then, option_map, or_else}
+use Rattle.sc_elab.proofs.Common.{position, refl, same_base, same_ty, scope_in, slice_get, slice_get-map, starred}
+use Rattle.sc_elab.proofs.Common.{structs_in, suc, sym, take, true, true≢false, type_of, type_with, typed_param}
+use Rattle.sc_elab.proofs.Common.{typed_struct, typed_structs, variable_ty, visible_in, zero, ℕ, ◌&&◌, ◌++◌, ◌+◌, ◌==◌}
+use Rattle.sc_elab.proofs.Common.{◌||◌, ◌∙◌, ◌∷◌, ◌≡◌}
+use Rattle.sc_ast.specs.declared.section.MemberTree.{MemberTree}
 use Rattle.sc_ast.specs.declared.types.TypeTree.{TypeTree}
 use Rattle.sc_core.specs.declared.ty.BaseTy.TheVariants as base
 use Rattle.sc_core.specs.declared.expr.VarRef.TheVariants as var

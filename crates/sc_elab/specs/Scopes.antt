@@ -1,6 +1,6 @@
 -- The variables and the functions that names stand for in a function's body (C11 6.2.1).
 use Rattle.sc_elab.specs.Common.{Global, Local, Param, Ty, TypedMember, TypedParam, TypedStruct}
-use Rattle.std.specs.Prelude.{ℕ, List, map, position, slice_get, Option, Some, None, bytes_eq}
+use Rattle.std.specs.Prelude.{ℕ, List, position, slice_get, Option, Some, None, bytes_eq}
 use Rattle.std.specs.Option.{option_map, option_and_then}
 use Rattle.sc_core.specs.declared.ty.Ty.TheVariants as ty
 use Rattle.sc_core.specs.declared.expr.VarRef.{VarRef}
@@ -16,9 +16,6 @@ pub record Visible : Type 0 where
 pub record Found : Type 0 where
   pub variable : VarRef
   pub ty : Ty
-
-abbrev pub types_of : List TypedParam → List Ty
-types_of variables = map (λ variable. variable.ty) variables
 
 -- the variable of a name in a list, as the kind of reference that the list's places are
 abbrev pub found_in : (ℕ → VarRef) → List TypedParam → List ℕ → Option Found

@@ -1,8 +1,10 @@
 pub mod Arguments
 pub mod Calls
+pub mod Choices
 pub mod Environment
 pub mod Operands
 pub mod Operations
+pub mod Passing
 pub mod Plain
 pub mod Returns
 pub mod Straight

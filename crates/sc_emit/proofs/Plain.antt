@@ -4,8 +4,12 @@ use Rattle.std.proofs.Common.{refl, sym, ◌∙◌, ap, ap₂, subst, arith, inl
 use Rattle.std.specs.Prelude.{slice_get}
 use Rattle.std.specs.Option.{unwrap_or}
 use Rattle.std.proofs.lemmas.Bool.{eq-eqb}
+use Rattle.std.proofs.lemmas.List.{length-map}
 use Rattle.std.proofs.lemmas.Option.{same_Some}
 use Rattle.rv_code.specs.declared.instr.Instr.{Instr}
+use Rattle.rv_code.specs.declared.instr.Instr.TheVariants.{Upper, OpImm}
+use Rattle.rv_code.specs.declared.instr.OpImmOp.TheVariants.{Addi}
+use Rattle.rv_code.specs.declared.instr.UpperOp.TheVariants.{Lui}
 use Rattle.sc_core.specs.declared.value.Value.{Value}
 use Rattle.sc_core.specs.declared.value.Value.TheVariants.{Word, Null, Ptr}
 use Rattle.sc_core.specs.Value.{wrapping}
@@ -27,22 +31,25 @@ use Rattle.sc_tac.specs.Code.{Temps, Codes, constant_value, with_temp, code_step
 use Rattle.sc_tac.specs.Flow.{is_one}
 use Rattle.sc_tac.specs.Places.{IsClear}
 use Rattle.sc_tac.specs.Points.{Lives, plain_points, trail_step}
+use Rattle.sc_select.specs.Lines.{Line, plain, plainly}
+use Rattle.sc_select.specs.Pieces.{upper_part, lower_part}
 use Rattle.sc_select.specs.Pieces.{sp, first_scratch, register_of, move, loading, moved_by, load_word, store_word}
 use Rattle.sc_select.specs.Selection.{word_of_constant, select_step, result_register, keep, at_hand, object_offset}
-use Rattle.sc_select.specs.Selection.{place_of, brought, copied, slot_offset}
+use Rattle.sc_select.specs.Selection.{place_of, brought, copied, slot_offset, place_of_global}
 use Rattle.sc_pieces.specs.Pieces.{Besides, IsWritable, Computes}
-use Rattle.sc_pieces.proofs.Loading.{loads_number, moves, moves_on}
+use Rattle.sc_pieces.proofs.Loading.{loads_long, loads_number, moves, moves_on}
 use Rattle.sc_pieces.proofs.NearSp.{loads_word}
 use Rattle.sc_pieces.proofs.Rows.{computes, look_at}
 use Rattle.sc_relation.specs.Blocks.{IsAddress, StandsFor}
 use Rattle.sc_relation.specs.Frames.{Activation, IsActivation, InPlace, IsHeld}
 use Rattle.sc_relation.specs.Stretches.{Setting, Joint}
-use Rattle.sc_relation.specs.Following.{Running, Ready, Arrives, Follows, live_at}
+use Rattle.sc_relation.specs.Following.{Running, Ready, Arrives, Comes, Follows, live_at}
+use Rattle.sc_relation.proofs.Lines.{low_plainly, completed_plainly}
 use Rattle.sc_relation.proofs.Registers.{HasNoOtherUse, no_other_use, register_there}
 use Rattle.sc_emit.proofs.Operands.{IsPlace, ArePlaced, Gives, keeps, keeps_register, keeps_slot, slot_from_sp, world}
 use Rattle.sc_relation.proofs.Following.{comes_read}
 use Rattle.sc_relation.proofs.Straight.{live_plain, or_left}
-use Rattle.sc_emit.proofs.Straight.{ComesStraight, comes_behind, read_goes, straight_follows}
+use Rattle.sc_emit.proofs.Straight.{ComesStraight, comes_behind, read_goes, lines_follow, straight_follows}
 
 -- a register that may be written, and isn't sp
 pub record IsResult (q : ℕ) : Type 0 where
@@ -275,3 +282,36 @@ module _ (T : Setting) (R : Running) (formed : IsWellFormed T.image) (inputs : A
       w.writable (omega arith) (λ e. omega (arith, e)) ready.sp
       (subst (λ o. o < 2 ^ 32) (sym is_offset) (omega (arith, is.high, is.known, inside)))) sum (λ q h. h)))
       at))
+
+  pub global_follows : (dest global : ℕ) (place : Place) → slice_get R.places dest ≡ Some place →
+      global < T.globals R.activation.here.comp → IsAddress ((T.addresses R.activation.here.comp).global global) →
+      Follows T R (code_step wrapping R.activation.here calls (tac.GlobalPlace dest global))
+      (select_step frame R.places (tac.GlobalPlace dest global)) (trail_step (tac.GlobalPlace dest global))
+  global_follows dest global place its there address =
+      let comp : ℕ = R.activation.here.comp in
+      let w : ℕ = (T.addresses comp).global global in
+      let rd : ℕ = result_register frame R.places dest in
+      let code : List Instr = Upper Lui rd (upper_part w) ∷ OpImm Addi rd rd (lower_part w) ∷ [] in
+      let lines : List Line = place_of_global frame R.places dest global in
+      let long : length (code ++ keep frame R.places dest) ≡ length lines =
+          (let n : length (plainly (keep frame R.places dest)) ≡ length (keep frame R.places dest) =
+          length-map (keep frame R.places dest) plain in omega (arith, n)) in
+      let d : IsResult rd = result_is R placed dest place its in
+      lines_follow T R (code_step wrapping R.activation.here calls (tac.GlobalPlace dest global)) lines
+      (trail_step (tac.GlobalPlace dest global)) (low_plainly (T.addresses comp) (keep frame R.places dest))
+      (λ temps. stays (record { exit = Next; carried = with_temp dest (start_of global) temps }))
+      (λ lives temps x left ready clear at ends e f.
+      (let pc : ℕ = x.pc + 4 + 4 in
+      let stands : CodeAt T.image comp x.pc (code ++ keep frame R.places dest) =
+          (at.0, (at.1.0, subst (CodeAt T.image comp pc) (completed_plainly (T.addresses comp) pc
+          (keep frame R.places dest)) at.1.1)) in
+      let g : Gives T R x code rd (start_of global) =
+          gives_by x code rd w (start_of global) d.not_sp
+          (start_stands global w x (ready.settled.globals comp global is.honest there) address)
+          (computes T.image T.inputs (world T R x) (7 ∷ []) w
+          (loads_long T.image T.inputs (world T R x) x.bytes x.regs rd w d.writable (omega (arith, address.below))) refl
+          (λ q h. (h.0, tt))) in
+      subst (λ n. Comes T R lives x (n + left) ends (code_step wrapping R.activation.here calls (tac.GlobalPlace dest global) temps x.meant)) long
+      (comes_behind T R lives x (code ++ keep frame R.places dest) left (with_temp dest (start_of global) temps) x.meant
+      (keeps T R x cells nodes is placed ready.frame ready.sp formed inputs lives temps [] dest left ready clear
+      (start_of global) code place its g stands) ends e (f ∙ ap (λ n. x.pc + 4 * n) (sym long)))))

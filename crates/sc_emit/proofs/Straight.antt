@@ -13,8 +13,9 @@ use Rattle.sc_hart.specs.Code.{CodeAt}
 use Rattle.sc_tac.specs.Code.{Temps, Codes, known, read}
 use Rattle.sc_tac.specs.Places.{IsClear}
 use Rattle.sc_tac.specs.Points.{Lives, Trail}
-use Rattle.sc_select.specs.Lines.{plain, plainly}
-use Rattle.sc_select.specs.Selection.{Piece as Code, straightly}
+use Rattle.sc_select.specs.Lines.{Line, plain, plainly}
+use Rattle.sc_select.specs.Selection.{Piece as Code, straight, straightly}
+use Rattle.sc_relation.specs.Linking.{completed, low_after}
 use Rattle.sc_relation.specs.Stretches.{Setting, Joint, Standpoint}
 use Rattle.sc_relation.specs.Following.{Running, Ends, ends_of, seen_from, live_at, Ready, Arrives, Comes, Starts, Follows}
 use Rattle.sc_relation.proofs.Lines.{low_plainly, plainly_at}
@@ -44,6 +45,24 @@ module _ (T : Setting) (R : Running) where
   comes_behind lives x instrs left temps s g ends e f =
       inl (subst (λ pc. Arrives T R lives.behind x (length instrs + left) ends.left temps s pc) (sym f)
       (subst (λ n. Arrives T R lives.behind x (length instrs + left) n temps s (x.pc + 4 * length instrs)) (sym e) g))
+
+  -- lines, some of which the linker completes, follow a statement
+  pub lines_follow : (does : Codes) (lines : List Line) (trail : Trail) →
+      low_after (T.addresses R.activation.here.comp) None lines ≡ None → ((temps : Temps) → Goes (does temps)) →
+      ((lives : Lives) (temps : Temps) (x : Joint) (left : ℕ) → Ready T R (live_at trail lives) temps x →
+      All (IsClear R.places) (trail.points lives) →
+      CodeAt T.image R.activation.here.comp x.pc
+      (completed (T.addresses R.activation.here.comp) x.pc None lines) → (ends : Ends) → ends.left ≡ left →
+      ends.behind ≡ x.pc + 4 * length lines →
+      Comes T R lives x (length lines + left) ends (does temps x.meant)) → Follows T R does (straight lines) trail
+  lines_follow does lines trail closed goes runs = record {
+    sized = λ to_break to_continue. refl;
+    closed = λ to_break to_continue. closed;
+    goes = goes;
+    runs = λ lives temps x left to_break to_continue starts.
+        runs lives temps x left starts.ready starts.clear starts.stands
+        (ends_of (straight lines) x.pc left to_break to_continue) refl refl;
+  }
 
   -- straight code follows a statement
   pub straight_follows : (does : Codes) (instrs : List Instr) (trail : Trail) → ((temps : Temps) → Goes (does temps)) →

@@ -93,14 +93,3 @@ module _ (interfaces : Interfaces) (trace : List Event) (pending : Option ℕ) (
           by = after_by interfaces.main trace pending place event is.at next.0 earlier there is.come is.by next.1;
           left = passed granted ∙ ap (λ s. is_legal_from interfaces s (drop (place + 1) trace)) next.1;
         }
-
--- no event is left
-pub all_allowed : (interfaces : Interfaces) (trace : List Event) (pending : Option ℕ) →
-    IsOpenAt interfaces trace pending (length trace) → true ≡ legal interfaces trace
-all_allowed interfaces trace pending is = sym (is.left ∙
-    nothing (drop (length trace) trace) (length-drop (length trace) trace))
-  where
-    nothing : (later : List Event) → length later ≡ length trace - length trace →
-        is_legal_from interfaces (Some is.at) later ≡ true
-    nothing [] e = refl
-    nothing (event ∷ later) e = absurd (omega (arith, e))

@@ -5,7 +5,8 @@ pub use Rattle.std.proofs.Common.{refl, slice_get, subst, suc, sym, take, true, 
 pub use Rattle.std.proofs.Common.{◌==◌, ◌∙◌, ◌∷◌, ◌≡◌, ◌≤◌}
 pub use Rattle.std.proofs.lemmas.Bool.{and_parts, false≢true}
 pub use Rattle.std.proofs.lemmas.List.{drop_more, take_more}
-pub use Rattle.std.proofs.lemmas.Option.{get_or_from_slice_get, none-some, slice_get-get_or, slice_get_within}
+pub use Rattle.std.proofs.lemmas.Option.{get_or_from_slice_get, none-some, same_Some, slice_get-get_or}
+pub use Rattle.std.proofs.lemmas.Option.{slice_get_within}
 pub use Rattle.std.specs.Option.{option_and_then, option_map_or}
 pub use Rattle.sc_event.specs.Prelude.{Activation, HasEntered, IsKnown, Standing, StandsBy, action_of, at_start, awaits}
 pub use Rattle.sc_event.specs.Prelude.{comp_at, count_of, event_line, export_at, here_or, imports, is_allowed, is_end}

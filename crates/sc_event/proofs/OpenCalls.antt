@@ -2,12 +2,9 @@
 use Rattle.sc_event.proofs.Common.{Call, End, Event, HasEntered, IfSome, In, List, None, Option, Out, Ret, Some}
 use Rattle.sc_event.proofs.Common.{Standing, StandsBy, [], ap, arith, at_start, awaits, get_or, get_or_from_slice_get}
 use Rattle.sc_event.proofs.Common.{here_or, length, none-some, open_after, open_call, option_and_then, option_map_or}
-use Rattle.sc_event.proofs.Common.{refl, resumed, returned_before, slice_get, slice_get-get_or, slice_get_within}
-use Rattle.sc_event.proofs.Common.{stands_after, stands_behind, subst, suc, sym, take, take_more, zero, ℕ, ◌++◌, ◌+◌}
-use Rattle.sc_event.proofs.Common.{◌<◌, ◌==◌, ◌∙◌, ◌∷◌, ◌≡◌, ◌≤◌}
-
-same_count : (a b : ℕ) → ◌≡◌ {A = Option ℕ} (Some a) (Some b) → a ≡ b
-same_count a b e = ap (λ o. option_map_or (λ n. n) o a) e
+use Rattle.sc_event.proofs.Common.{refl, resumed, returned_before, same_Some, slice_get, slice_get-get_or}
+use Rattle.sc_event.proofs.Common.{slice_get_within, stands_after, stands_behind, subst, suc, sym, take, take_more}
+use Rattle.sc_event.proofs.Common.{zero, ℕ, ◌++◌, ◌+◌, ◌<◌, ◌==◌, ◌∙◌, ◌∷◌, ◌≡◌, ◌≤◌}
 
 one_more : (trace : List Event) (n : ℕ) (event : Event) → slice_get trace n ≡ Some event →
     take (suc n) trace ≡ take n trace ++ event ∷ []
@@ -15,9 +12,6 @@ one_more trace n event is =
     let count : suc n ≡ n + 1 = omega arith in
     ap (λ m. take m trace) count ∙ take_more trace n event (slice_get_within trace n event is) ∙
     ap (λ x. take n trace ++ x ∷ []) (get_or_from_slice_get trace n event event is)
-
-same_standing : (a b : Standing) → ◌≡◌ {A = Option Standing} (Some a) (Some b) → a ≡ b
-same_standing a b e = ap (λ o. option_map_or (λ s. s) o a) e
 
 behind_last : (from : Option Standing) (earlier : List Event) (event : Event) →
     stands_behind from (earlier ++ event ∷ []) ≡ option_and_then (λ at. stands_after at event)
@@ -41,11 +35,11 @@ goes_on trace left place returned before event e within is found =
 
 pub few : (event : Event) (returned before : ℕ) → returned_before event returned ≡ Some before → before ≤ suc returned
 few (Call from to index args) zero before is = absurd (none-some before is)
-few (Call from to index args) (suc returned) before is = omega (arith, same_count returned before is)
-few (Ret from to value) returned before is = omega (arith, same_count (suc returned) before is)
-few (Out comp value) returned before is = omega (arith, same_count returned before is)
-few (In comp value) returned before is = omega (arith, same_count returned before is)
-few (End comp value) returned before is = omega (arith, same_count returned before is)
+few (Call from to index args) (suc returned) before is = omega (arith, same_Some returned before is)
+few (Ret from to value) returned before is = omega (arith, same_Some (suc returned) before is)
+few (Out comp value) returned before is = omega (arith, same_Some returned before is)
+few (In comp value) returned before is = omega (arith, same_Some returned before is)
+few (End comp value) returned before is = omega (arith, same_Some returned before is)
 
 -- where the run stands once so many more calls have returned
 abbrev back : (returned : ℕ) → Standing → Option Standing
@@ -71,16 +65,16 @@ module _ (main : ℕ) (trace : List Event) where
       (returned : ℕ) (at then_at : Standing) → stands_after earlier event ≡ Some at → back returned at ≡ Some then_at →
       StandsBy main trace (here_or count (open_call trace count) (returned_before event returned)) then_at
   found_by count (Call from to index args) is again earlier was zero at then_at next up =
-      (earlier, was, subst (λ o. HasEntered o earlier then_at) (sym is) (sym (same_standing _ _ (next ∙ up))))
+      (earlier, was, subst (λ o. HasEntered o earlier then_at) (sym is) (sym (same_Some _ _ (next ∙ up))))
   found_by count (Call from to index args) is again earlier was (suc returned) at then_at next up =
       again returned earlier then_at was (subst (λ s. back (suc returned) s ≡ Some then_at)
-      (sym (same_standing _ _ next)) up)
+      (sym (same_Some _ _ next)) up)
   found_by count (Ret from to value) is again earlier was returned at then_at next up =
       again (suc returned) earlier then_at was (ap (option_and_then (back returned)) next ∙ up)
   found_by count (Out comp value) is again earlier was returned at then_at next up =
-      again returned earlier then_at was (subst (λ s. back returned s ≡ Some then_at) (sym (same_standing _ _ next)) up)
+      again returned earlier then_at was (subst (λ s. back returned s ≡ Some then_at) (sym (same_Some _ _ next)) up)
   found_by count (In comp value) is again earlier was returned at then_at next up =
-      again returned earlier then_at was (subst (λ s. back returned s ≡ Some then_at) (sym (same_standing _ _ next)) up)
+      again returned earlier then_at was (subst (λ s. back returned s ≡ Some then_at) (sym (same_Some _ _ next)) up)
   found_by count (End comp value) is again earlier was returned at then_at next up = absurd (none-some at next)
 
   found_next : (count : ℕ) (event : Event) → slice_get trace count ≡ Some event → Finds count →
@@ -96,7 +90,7 @@ module _ (main : ℕ) (trace : List Event) where
       StandsBy main trace None then_at
   found_first zero at then_at is up = sym up ∙ sym is
   found_first (suc returned) at then_at is up =
-      absurd (none-some then_at (subst (λ s. back (suc returned) s ≡ Some then_at) (sym (same_standing _ _ is)) up))
+      absurd (none-some then_at (subst (λ s. back (suc returned) s ≡ Some then_at) (sym (same_Some _ _ is)) up))
 
   pub found : (count : ℕ) → count ≤ length trace → Finds count
   found zero within = λ returned at then_at is up. found_first returned at then_at is up
@@ -133,7 +127,7 @@ module _ (main : ℕ) (trace : List Event) where
         StandsBy main trace (open_call trace call 0) next
     outer_by next by e =
         let same : Some by.0 ≡ Some next = sym (ap resumed (waits_by (slice_get trace call) by.0 by.2)) ∙ e in
-        subst (StandsBy main trace (open_call trace call 0)) (same_standing _ _ same) (caller by.0 by.1)
+        subst (StandsBy main trace (open_call trace call 0)) (same_Some _ _ same) (caller by.0 by.1)
 
   -- the run stands by the open call after each event
   pub after_by : (pending : Option ℕ) (place : ℕ) (event : Event) (at next : Standing) →
@@ -142,12 +136,12 @@ module _ (main : ℕ) (trace : List Event) where
       stands_after at event ≡ Some next →
       StandsBy main trace (open_after trace pending place event) next
   after_by pending place (Call from to index args) at next within is come by e =
-      (at, come, subst (λ o. HasEntered o at next) (sym is) (sym (same_standing _ _ e)))
+      (at, come, subst (λ o. HasEntered o at next) (sym is) (sym (same_Some _ _ e)))
   after_by None place (Ret from to value) at next within is come by e =
-      absurd (none-some next (subst (λ s. resumed s.waiting ≡ Some next) (same_standing _ _ by) e))
+      absurd (none-some next (subst (λ s. resumed s.waiting ≡ Some next) (same_Some _ _ by) e))
   after_by (Some call) place (Ret from to value) at next within is come by e = outer_by call at within next by e
   after_by pending place (Out comp value) at next within is come by e =
-      subst (StandsBy main trace pending) (same_standing _ _ e) by
+      subst (StandsBy main trace pending) (same_Some _ _ e) by
   after_by pending place (In comp value) at next within is come by e =
-      subst (StandsBy main trace pending) (same_standing _ _ e) by
+      subst (StandsBy main trace pending) (same_Some _ _ e) by
   after_by pending place (End comp value) at next within is come by e = absurd (none-some next e)

@@ -7,9 +7,9 @@ use Rattle.sc_expr.specs.declared.mark.Mark.TheVariants as mark
 use Rattle.sc_expr.specs.declared.lexeme.Symbol.TheVariants as symbol
 
 -- how many brackets are open behind lexemes
-abbrev pub count_after : ℕ → List Lexeme → ℕ
-count_after n [] = n
-count_after n (t ∷ ts) = count_after (open_after t.symbol n) ts
+abbrev pub open_along : ℕ → List Lexeme → ℕ
+open_along n [] = n
+open_along n (t ∷ ts) = open_along (open_after t.symbol n) ts
 
 -- the lexeme is no bracket
 abbrev pub IsPlain : Lexeme → Type 0
@@ -49,22 +49,22 @@ plain_binary t m op is of n = says t (symbol.Mark m) is n ∙ no_binary_bracket 
 pub plain_prefix : (t : Lexeme) (m : Mark) (p : Prefix) → t.symbol ≡ symbol.Mark m → prefix_of m ≡ Some p → IsPlain t
 plain_prefix t m p is of n = says t (symbol.Mark m) is n ∙ no_prefix_bracket m p n of
 
-after_append : (n : ℕ) (ts us : List Lexeme) → count_after n (ts ++ us) ≡ count_after (count_after n ts) us
+after_append : (n : ℕ) (ts us : List Lexeme) → open_along n (ts ++ us) ≡ open_along (open_along n ts) us
 after_append n [] us = refl
 after_append n (t ∷ ts) us = after_append (open_after t.symbol n) ts us
 
-after_bracketed : (n : ℕ) (t u : Lexeme) (us : List Lexeme) → Opens t → Closes u → ((k : ℕ) → count_after k us ≡ k) →
-    count_after n (t ∷ (us ++ u ∷ [])) ≡ n
+after_bracketed : (n : ℕ) (t u : Lexeme) (us : List Lexeme) → Opens t → Closes u → ((k : ℕ) → open_along k us ≡ k) →
+    open_along n (t ∷ (us ++ u ∷ [])) ≡ n
 after_bracketed n t u us opens closes even =
     let one_less : n + 1 - 1 ≡ n = omega arith in
-    ap (λ k. count_after k (us ++ u ∷ [])) (opens n) ∙ after_append (n + 1) us (u ∷ []) ∙
+    ap (λ k. open_along k (us ++ u ∷ [])) (opens n) ∙ after_append (n + 1) us (u ∷ []) ∙
     ap (λ k. open_after u.symbol k) (even (n + 1)) ∙ closes (n + 1) ∙ one_less
 
-after_behind : (n : ℕ) (ts us : List Lexeme) → count_after n ts ≡ n → count_after n us ≡ n →
-    count_after n (ts ++ us) ≡ n
-after_behind n ts us even too = after_append n ts us ∙ ap (λ k. count_after k us) even ∙ too
+after_behind : (n : ℕ) (ts us : List Lexeme) → open_along n ts ≡ n → open_along n us ≡ n →
+    open_along n (ts ++ us) ≡ n
+after_behind n ts us even too = after_append n ts us ∙ ap (λ k. open_along k us) even ∙ too
 
-pub balanced : {level : ℕ} {ts : List Lexeme} {e : ExprTree} → Spells level ts e → (n : ℕ) → count_after n ts ≡ n
+pub balanced : {level : ℕ} {ts : List Lexeme} {e : ExprTree} → Spells level ts e → (n : ℕ) → open_along n ts ≡ n
 balanced (literal t number is) n = says t (symbol.Integer number) is n
 balanced (variable t name is) n = says t (symbol.Ident name) is n
 balanced (parenthesised {ts = ts} t u o q d) n = after_bracketed n t u ts (says t (symbol.Mark mark.OpenParen) o)
@@ -76,9 +76,9 @@ balanced (member {ts = ts} t u name o is d) n = after_behind n ts (t ∷ u ∷ [
     (ap (λ k. open_after u.symbol k) (says t (symbol.Mark mark.Dot) o n) ∙ says u (symbol.Ident name) is n)
 balanced (arrow {ts = ts} t u name o is d) n = after_behind n ts (t ∷ u ∷ []) (balanced d n)
     (ap (λ k. open_after u.symbol k) (says t (symbol.Mark mark.Arrow) o n) ∙ says u (symbol.Ident name) is n)
-balanced («prefix» {ts = ts} t m p is of d) n = ap (λ k. count_after k ts) (plain_prefix t m p is of n) ∙ balanced d n
+balanced («prefix» {ts = ts} t m p is of d) n = ap (λ k. open_along k ts) (plain_prefix t m p is of n) ∙ balanced d n
 balanced (joined {ts = ts} {us = us} t m op is of at d g) n =
-    after_behind n ts (t ∷ us) (balanced d n) (ap (λ k. count_after k us) (plain_binary t m op is of n) ∙ balanced g n)
+    after_behind n ts (t ∷ us) (balanced d n) (ap (λ k. open_along k us) (plain_binary t m op is of n) ∙ balanced g n)
 balanced (looser d) n = balanced d n
 
 pub open_low : (n : ℕ) (ts : List Lexeme) → n ≤ most_open n ts
@@ -86,7 +86,7 @@ open_low n [] = omega arith
 open_low n (t ∷ ts) = omega arith
 
 most_append : (n : ℕ) (ts us : List Lexeme) → most_open n (ts ++ us) ≡
-    max (most_open n ts) (most_open (count_after n ts) us)
+    max (most_open n ts) (most_open (open_along n ts) us)
 most_append n [] us = let low = open_low n us in omega arith
 most_append n (t ∷ ts) us = let rest = most_append (open_after t.symbol n) ts us in omega arith
 

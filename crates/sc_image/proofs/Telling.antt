@@ -4,10 +4,10 @@ use Rattle.sc_image.proofs.Common.{List, None, Option, Outcome, Some, State, Ste
 use Rattle.sc_image.proofs.Common.{Traps, Walks, [], a0, ap, append-nil, append_assoc, arith, called, calls, code_of}
 use Rattle.sc_image.proofs.Common.{code_start, comp_of_code, ended, eq-eqb, eqb-true, false, gate, if◌then◌else◌}
 use Rattle.sc_image.proofs.Common.{is_end, is_ended, is_some, jump, leaves, leb-true, length, length-append, list_any}
-use Rattle.sc_image.proofs.Common.{lt-leb, nat_eq, nat_le, option_map_or, params_of, ra, refl, reg, returned, run}
-use Rattle.sc_image.proofs.Common.{slice_get, slice_get_within, step, stopped, subst, suc, suc-add, sym, then_on, true}
-use Rattle.sc_image.proofs.Common.{walk, word_at, zero, zero-add, ℕ, ◌%◌, ◌&&◌, ◌++◌, ◌+◌, ◌-◌, ◌/◌, ◌<◌, ◌||◌, ◌∙◌}
-use Rattle.sc_image.proofs.Common.{◌∷◌, ◌≡◌, ◌≢◌, ◌≤◌}
+use Rattle.sc_image.proofs.Common.{lt-leb, nat_eq, nat_le, option_map_or, or_from, or_parts, params_of, ra, refl, reg}
+use Rattle.sc_image.proofs.Common.{returned, run, slice_get, slice_get_within, step, stopped, subst, suc, suc-add, sym}
+use Rattle.sc_image.proofs.Common.{then_on, true, walk, word_at, zero, zero-add, ℕ, ◌%◌, ◌&&◌, ◌++◌, ◌+◌, ◌-◌, ◌/◌, ◌<◌}
+use Rattle.sc_image.proofs.Common.{◌||◌, ◌∙◌, ◌∷◌, ◌≡◌, ◌≢◌, ◌≤◌}
 use Rattle.sc_image.proofs.Words.{entry_code}
 use Rattle.sc_image.proofs.Reached.{called_other}
 use Rattle.sc_image.proofs.Traces.{ended_by}
@@ -17,37 +17,30 @@ use Rattle.sc_image.proofs.Stretches.{IsFront, goes_adds, walk_adds, goes_on, no
 
 -- No end among some events, and so none among the first and the last of them.
 
-neither : (x y : Bool) → (x || y) ≡ false → (x ≡ false) × (y ≡ false)
-neither true y none = let never : true ≡ false = none in cc never
-neither false y none = (refl, none)
-
-none_of : (x y : Bool) → x ≡ false → y ≡ false → (x || y) ≡ false
-none_of x y first second = rw first second
-
 none_in_both : (first second : List Event) → list_any is_end first ≡ false → list_any is_end second ≡ false →
     list_any is_end (first ++ second) ≡ false
 none_in_both [] second none later = later
 none_in_both (event ∷ first) second none later =
-    let parts = neither (is_end event) (list_any is_end first) none in
-    none_of (is_end event) _ parts.0 (none_in_both first second parts.1 later)
+    let parts = or_parts (is_end event) (list_any is_end first) none in
+    or_from (is_end event) _ parts.0 (none_in_both first second parts.1 later)
 
 none_behind : (first second : List Event) → list_any is_end (first ++ second) ≡ false → list_any is_end second ≡ false
 none_behind [] second none = none
 none_behind (event ∷ first) second none =
-    none_behind first second (neither (is_end event) (list_any is_end (first ++ second)) none).1
+    none_behind first second (or_parts (is_end event) (list_any is_end (first ++ second)) none).1
 
 none_in_front : (first second : List Event) → list_any is_end (first ++ second) ≡ false → list_any is_end first ≡ false
 none_in_front [] second none = refl
 none_in_front (event ∷ first) second none =
-    let parts = neither (is_end event) (list_any is_end (first ++ second)) none in
-    none_of (is_end event) _ parts.0 (none_in_front first second parts.1)
+    let parts = or_parts (is_end event) (list_any is_end (first ++ second)) none in
+    or_from (is_end event) _ parts.0 (none_in_front first second parts.1)
 
 -- so a trace that hadn't ended hasn't with them
 still_open : (trace told : List Event) → is_ended trace ≡ false → list_any is_end told ≡ false →
     is_ended (trace ++ told) ≡ false
 still_open trace [] going none = subst (λ (t : List Event). is_ended t ≡ false) (sym (append-nil trace)) going
 still_open trace (event ∷ told) going none =
-    let parts = neither (is_end event) (list_any is_end told) none in
+    let parts = or_parts (is_end event) (list_any is_end told) none in
     subst (λ (t : List Event). is_ended t ≡ false) (append_assoc trace (event ∷ []) told)
     (still_open (trace ++ event ∷ []) told (ended_by trace event ∙ parts.0) parts.1)
 

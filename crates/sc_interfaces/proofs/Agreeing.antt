@@ -1,8 +1,7 @@
 -- Agreement of heads is symmetric, and heads that agree agree with the same heads.
-use Rattle.sc_interfaces.proofs.Common.{HeadTree, List, None, Option, ParamTree, Some, TypeName, [], agree, ap, ap₂}
-use Rattle.sc_interfaces.proofs.Common.{eqb-true, nat_eq, nat_eq_equiv, nat_list_eq_equiv, refl, same_base, same_params}
-use Rattle.sc_interfaces.proofs.Common.{same_result, same_type, true, ℕ, ◌&&◌, ◌∷◌, ◌≡◌}
-use Rattle.std.proofs.lemmas.Bool.{and_parts}
+use Rattle.sc_interfaces.proofs.Common.{HeadTree, List, None, Option, ParamTree, Some, TypeName, [], agree, and_parts}
+use Rattle.sc_interfaces.proofs.Common.{ap, ap₂, eqb-true, nat_eq, nat_eq_equiv, nat_list_eq_equiv, refl, same_base}
+use Rattle.sc_interfaces.proofs.Common.{same_params, same_result, same_type, true, ℕ, ◌&&◌, ◌∷◌, ◌≡◌}
 use Rattle.sc_ast.specs.declared.types.BaseTree.{BaseTree}
 use Rattle.sc_ast.specs.declared.types.BaseTree.TheVariants as base
 

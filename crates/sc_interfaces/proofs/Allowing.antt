@@ -1,10 +1,10 @@
 -- A head agrees with the first of its name and its name has no conflict, exactly where it agrees with all of its name.
 use Rattle.sc_interfaces.proofs.Common.{Agreements, Bool, HeadTree, List, None, Option, Some, Text, [], added}
 use Rattle.sc_interfaces.proofs.Common.{added_beside, agree, agrees_first, agrees_with, all_added, all_numbered}
-use Rattle.sc_interfaces.proofs.Common.{allowed, among, and-true, and_assoc, ap, bytes_eq, cond, false, first_by_name}
-use Rattle.sc_interfaces.proofs.Common.{forbidden, if◌then◌else◌, is_numbered, is_some, list_any-append}
-use Rattle.sc_interfaces.proofs.Common.{nat_list_eq_equiv, no_heads, not, numbered, pointwise, refl, sym, true}
-use Rattle.sc_interfaces.proofs.Common.{with_first, ◌&&◌, ◌++◌, ◌==◌, ◌||◌, ◌∙◌, ◌∷◌, ◌≡◌}
+use Rattle.sc_interfaces.proofs.Common.{allowed, among, and-false, and-true, and_assoc, ap, bytes_eq, cond, false}
+use Rattle.sc_interfaces.proofs.Common.{first_by_name, forbidden, if◌then◌else◌, is_numbered, is_some, list_any-append}
+use Rattle.sc_interfaces.proofs.Common.{nat_list_eq_equiv, no_heads, not, numbered, or_assoc, pointwise, refl, sym}
+use Rattle.sc_interfaces.proofs.Common.{true, with_first, ◌&&◌, ◌++◌, ◌==◌, ◌||◌, ◌∙◌, ◌∷◌, ◌≡◌}
 use Rattle.std.proofs.lemmas.Slice.Eq.{bytes_eq-Decides}
 use Rattle.sc_interfaces.proofs.Agreeing.{agree_symm, agree_left}
 
@@ -41,11 +41,7 @@ all_numbered_from [] known k = sym (or-false (is_numbered known k))
 all_numbered_from (name ∷ names) known k =
     all_numbered_from names (numbered known name) k ∙
     (ap (λ first. first || is_numbered names k) (is_numbered-numbered known name k) ∙
-    or-assoc (is_numbered known k) (bytes_eq k name) (is_numbered names k))
-  where
-    or-assoc : (a b c : Bool) → ((a || b) || c) ≡ (a || (b || c))
-    or-assoc true b c = refl
-    or-assoc false b c = refl
+    or_assoc (is_numbered known k) (bytes_eq k name) (is_numbered names k))
 
 pub all_numbered_same : (names : List Text) (k : Text) → among (all_numbered [] names) k ≡ among names k
 all_numbered_same names k = all_numbered_from names [] k
@@ -56,10 +52,6 @@ forbidden_bools : (there same other agrees : Bool) → other ≡ same →
     (not (there || same) && agrees) ≡ ((not there && agrees) && not other)
 forbidden_bools true same other agrees h = refl
 forbidden_bools false true true agrees h = cc (and-false agrees)
-  where
-    and-false : (b : Bool) → (b && false) ≡ false
-    and-false true = refl
-    and-false false = refl
 forbidden_bools false true false agrees h = cc
 forbidden_bools false false true agrees h = cc
 forbidden_bools false false false agrees h = sym (and-true agrees)

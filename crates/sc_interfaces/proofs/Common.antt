@@ -3,7 +3,8 @@ pub use Rattle.std.proofs.Common.{All, Bool, IfNone, List, None, Option, Some, [
 pub use Rattle.std.proofs.Common.{cond, drop, drop-cons, eqb-true, false, get_or, if◌then◌else◌, inl, inr, is_some}
 pub use Rattle.std.proofs.Common.{length, length-take-le, map, min, nat_eq, nat_lt, not, refl, slice_get, subst, suc}
 pub use Rattle.std.proofs.Common.{sym, take, true, zero, ℕ, ◌&&◌, ◌++◌, ◌+◌, ◌<◌, ◌==◌, ◌||◌, ◌∙◌, ◌∷◌, ◌≡◌, ◌≤◌, ◌⊎◌}
-pub use Rattle.std.proofs.Math.Bool.{and-true, and_assoc, or_assoc}
+pub use Rattle.std.proofs.Math.Bool.{and-false, and-true, and_assoc, or_assoc}
+pub use Rattle.std.proofs.lemmas.Bool.{and_parts, and_right}
 pub use Rattle.std.proofs.lemmas.Cmp.{nat_eq_equiv, nat_list_eq_equiv}
 pub use Rattle.std.proofs.lemmas.List.{length-map, take-map}
 pub use Rattle.std.proofs.lemmas.List.Elements.{All-cons, All-get_or, All-head, All-nil, All-tail}
@@ -27,17 +28,16 @@ pub use Rattle.sc_scope.specs.Prelude.{with_lines}
 unfoldable pub use Rattle.sc_scope.specs.Prelude.{noted_all}
 pub use Rattle.sc_interfaces.specs.Common.{Decl, ExportLine, Function, HeadTree, ImportLine, Proto, SectionTable}
 pub use Rattle.sc_interfaces.specs.Common.{SectionTree}
-pub use Rattle.sc_interfaces.specs.Faces.{agrees_with, is_input, is_output, takes_int}
-pub use Rattle.sc_interfaces.specs.Offering.{HasFewExports, HasFewParams, IsWithinCounts, Placed, all_placed, export_by}
-pub use Rattle.sc_interfaces.specs.Offering.{export_name, export_places, function_at, function_name, function_places}
-pub use Rattle.sc_interfaces.specs.Offering.{import_by, interface_by, interfaces_by, main_by, offered_by, promised_by}
-pub use Rattle.sc_interfaces.specs.Prelude.{added, agree, agrees_first, all_added, all_numbered, allowed, decl_told}
-pub use Rattle.sc_interfaces.specs.Prelude.{decls_told, environment_added, export_fits, exports_told, first_added}
-pub use Rattle.sc_interfaces.specs.Prelude.{forbidden, gives_int, head_added, head_crosses, head_fits_by, import_added}
-pub use Rattle.sc_interfaces.specs.Prelude.{import_fits, imported_by, imports_added, imports_told, input_head}
-pub use Rattle.sc_interfaces.specs.Prelude.{input_name, int_type, interface_broken, is_offered_by, is_plain, main_holds}
-pub use Rattle.sc_interfaces.specs.Prelude.{no_heads, offering_number, offering_table, others_added, output_head}
-pub use Rattle.sc_interfaces.specs.Prelude.{output_name, same_base, same_params, same_result, same_type, section_told}
-pub use Rattle.sc_interfaces.specs.Prelude.{table_of, takes_nothing}
-pub use Rattle.sc_interfaces.specs.Tables.{added_beside, lines_told}
+pub use Rattle.sc_interfaces.specs.Prelude.{HasFewExports, HasFewParams, IsWithinCounts, Placed, added, added_beside}
+pub use Rattle.sc_interfaces.specs.Prelude.{agree, agrees_first, agrees_with, all_added, all_numbered, all_placed}
+pub use Rattle.sc_interfaces.specs.Prelude.{allowed, decl_told, decls_told, environment_added, export_by, export_fits}
+pub use Rattle.sc_interfaces.specs.Prelude.{export_name, export_places, exports_told, first_added, forbidden}
+pub use Rattle.sc_interfaces.specs.Prelude.{function_at, function_name, function_places, gives_int, head_added}
+pub use Rattle.sc_interfaces.specs.Prelude.{head_crosses, head_fits_by, import_added, import_by, import_fits}
+pub use Rattle.sc_interfaces.specs.Prelude.{imported_by, imports_added, imports_told, input_head, input_name, int_type}
+pub use Rattle.sc_interfaces.specs.Prelude.{interface_broken, interface_by, interfaces_by, is_input, is_offered_by}
+pub use Rattle.sc_interfaces.specs.Prelude.{is_output, is_plain, lines_told, main_by, main_holds, no_heads, offered_by}
+pub use Rattle.sc_interfaces.specs.Prelude.{offering_number, offering_table, others_added, output_head, output_name}
+pub use Rattle.sc_interfaces.specs.Prelude.{promised_by, same_base, same_params, same_result, same_type, section_told}
+pub use Rattle.sc_interfaces.specs.Prelude.{table_of, takes_int, takes_nothing}
 pub use Rattle.sc_interfaces.specs.declared.agreements.Agreements.{Agreements}

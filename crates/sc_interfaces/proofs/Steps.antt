@@ -1,10 +1,10 @@
 -- One turn of a loop.
 use Rattle.sc_interfaces.proofs.Common.{Agreements, Bool, Decl, ExportLine, Function, Global, ImportLine, List}
-use Rattle.sc_interfaces.proofs.Common.{ParamTree, Proto, SectionTable, Struct, Text, [], all_added, ap, arith}
-use Rattle.sc_interfaces.proofs.Common.{decl_told, decls_told, drop, drop-cons, export_fits, exports_told, false}
-use Rattle.sc_interfaces.proofs.Common.{get_or, head_added, head_in, heads_in, import_fits, imports_told, length}
-use Rattle.sc_interfaces.proofs.Common.{numbered, refl, same_params, same_type, suc, sym, true, unless, with_lines, ℕ}
-use Rattle.sc_interfaces.proofs.Common.{◌&&◌, ◌++◌, ◌+◌, ◌<◌, ◌∙◌, ◌∷◌, ◌≡◌, ◌≤◌}
+use Rattle.sc_interfaces.proofs.Common.{ParamTree, Proto, SectionTable, Struct, Text, [], all_added, and_right, ap}
+use Rattle.sc_interfaces.proofs.Common.{arith, decl_told, decls_told, drop, drop-cons, export_fits, exports_told, false}
+use Rattle.sc_interfaces.proofs.Common.{get_or, head_added, head_in, heads_in, import_fits, imports_told, is_offered_by}
+use Rattle.sc_interfaces.proofs.Common.{length, numbered, refl, same_params, same_type, suc, sym, true, unless}
+use Rattle.sc_interfaces.proofs.Common.{with_lines, ℕ, ◌&&◌, ◌++◌, ◌+◌, ◌<◌, ◌∙◌, ◌∷◌, ◌≡◌, ◌≤◌}
 use Rattle.std.proofs.Math.ListN.{drop_of_length-le}
 use Rattle.sc_scope.specs.declared.broken.BrokenLines.{BrokenLines}
 use Rattle.sc_scope.proofs.Noting.{with_lines-append, with_lines-nil}
@@ -45,14 +45,14 @@ exports_turn functions before after xs i x holds lines now total within is fits 
 
 pub imports_turn : (tables : List SectionTable) (importer : ℕ) (functions protos before after : List Text)
     (xs : List ImportLine) (i : ℕ) (x : ImportLine) (holds : Bool) (lines now total : BrokenLines) →
-    i < length xs → x ≡ get_or xs i x → holds ≡ import_fits tables importer functions protos before x →
+    i < length xs → x ≡ get_or xs i x → holds ≡ import_fits (is_offered_by tables importer x) functions protos before x →
     now ≡ with_lines lines (unless holds x.line) → after ≡ numbered before x.name →
     with_lines lines (imports_told tables importer functions protos before (drop i xs)) ≡ total →
     with_lines now (imports_told tables importer functions protos after (drop (i + 1) xs)) ≡ total
 imports_turn tables importer functions protos before after xs i x holds lines now total within is fits told added
     earlier =
     ap (λ names. with_lines now (imports_told tables importer functions protos names (drop (i + 1) xs))) added ∙
-    told_turn lines now total (unless (import_fits tables importer functions protos before x) x.line)
+    told_turn lines now total (unless (import_fits (is_offered_by tables importer x) functions protos before x) x.line)
     (imports_told tables importer functions protos (numbered before x.name) (drop (i + 1) xs))
     (imports_told tables importer functions protos before (drop i xs))
     (told ∙ ap (λ b. with_lines lines (unless b x.line)) fits)
@@ -93,12 +93,8 @@ same_params_lengths [] [] differ = absurd (differ refl)
 same_params_lengths [] (b ∷ others) differ = refl
 same_params_lengths (a ∷ params) [] differ = refl
 same_params_lengths (a ∷ params) (b ∷ others) differ =
-    and_false (same_type a.ty b.ty) (same_params params others)
+    and_right (same_type a.ty b.ty) (same_params params others)
     (same_params_lengths params others (λ same. differ (ap (λ n. suc n) same)))
-  where
-    and_false : (x y : Bool) → y ≡ false → (x && y) ≡ false
-    and_false true y h = h
-    and_false false y h = refl
 
 pub told_none : (broken : BrokenLines) → with_lines broken [] ≡ broken
 told_none broken = with_lines-nil broken

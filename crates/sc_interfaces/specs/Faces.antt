@@ -1,8 +1,8 @@
 -- The rules of interfaces, and the lines of the sections that break them.
 use Rattle.sc_interfaces.specs.Common.{Decl, ExportLine, Function, HeadTree, ImportLine, Proto, SectionTree, Text}
-use Rattle.sc_interfaces.specs.Common.{among, defines_main, environment, export_names, function_names, head_of}
-use Rattle.sc_interfaces.specs.Common.{heads_in, import_names, is_environment, line_of_text, main_name, offering}
-use Rattle.sc_interfaces.specs.Common.{proto_names, unless}
+use Rattle.sc_interfaces.specs.Common.{all_hold, among, defines_main, environment, export_names, function_names}
+use Rattle.sc_interfaces.specs.Common.{head_of, heads_in, import_names, is_environment, is_new, line_of_text, main_name}
+use Rattle.sc_interfaces.specs.Common.{offering, proto_names, unless}
 use Rattle.std.specs.Prelude.{ℕ, suc, Bool, true, false, not, ◌&&◌, ◌||◌, nat_eq, bytes_eq, codes, take, List, [], ◌∷◌}
 use Rattle.std.specs.Prelude.{◌++◌, map, Option, Some, None, is_some, if◌then◌else◌}
 use Rattle.std.specs.List.{list_all, list_any}
@@ -98,12 +98,39 @@ output_name = codes "output"
 abbrev pub main_holds : (mains : Bool) → HeadTree → Bool
 main_holds mains head = not (bytes_eq head.name main_name) || not mains && is_main head
 
+-- The rules of a section's lines, by the names of the functions that it defines and declares, and of the lines before.
+
+-- an export is a function that the section defines, exported once, and not `main`
+abbrev pub export_fits : (functions before : List Text) → ExportLine → Bool
+export_fits functions before line =
+    all_hold (
+    among functions line.name ∷
+    is_new before line.name ∷
+    not (bytes_eq line.name main_name) ∷
+    is_plain line.name ∷ []
+    )
+
+-- an import is offered; its name is imported once and not defined here; and it has a prototype
+abbrev pub import_fits : (offered : Bool) → (functions protos before : List Text) → ImportLine → Bool
+import_fits offered functions protos before line =
+    all_hold (
+    offered ∷
+    is_new before line.name ∷
+    is_new functions line.name ∷
+    among protos line.name ∷
+    is_plain line.name ∷ []
+    )
+
+abbrev pub environment_offers : Text → Bool
+environment_offers name = bytes_eq name input_name || bytes_eq name output_name
+
+-- names of sections are distinct, and none is the environment's
+abbrev pub name_fits : (before : List Text) → Text → Bool
+name_fits before name = is_new before name && not (bytes_eq name environment)
+
 module _ (sections : List SectionTree) (number : ℕ) (section : SectionTree) where
-  -- an export is a function that the section defines, exported once, and not `main`
   abbrev pub export_holds : (before : List Text) → ExportLine → Bool
-  export_holds before line =
-      among (function_names section.decls) line.name &&
-      (not (among before line.name) && (not (bytes_eq line.name main_name) && is_plain line.name))
+  export_holds before line = export_fits (function_names section.decls) before line
 
   abbrev pub exports_from : (before : List Text) → List ExportLine → List ℕ
   exports_from before [] = []
@@ -113,15 +140,11 @@ module _ (sections : List SectionTree) (number : ℕ) (section : SectionTree) wh
   -- another section, or the environment, offers what is imported
   abbrev pub is_offered : ImportLine → Bool
   is_offered line =
-      if is_environment line then bytes_eq line.name input_name || bytes_eq line.name output_name
-      else is_some (offering number line 0 sections)
+      if is_environment line then environment_offers line.name else is_some (offering number line 0 sections)
 
-  -- an import is offered; its name is imported once and not defined here; and it has a prototype
   abbrev pub import_holds : (before : List Text) → ImportLine → Bool
   import_holds before line =
-      is_offered line && (not (among before line.name) &&
-      (not (among (function_names section.decls) line.name) &&
-      (among (proto_names section.decls) line.name && is_plain line.name)))
+      import_fits (is_offered line) (function_names section.decls) (proto_names section.decls) before line
 
   abbrev pub imports_from : (before : List Text) → List ImportLine → List ℕ
   imports_from before [] = []
@@ -164,13 +187,11 @@ module _ (sections : List SectionTree) (number : ℕ) (section : SectionTree) wh
     decls_from before [] = []
     decls_from before (decl ∷ decls) = decl_lines before decl ++ decls_from (before ++ decl ∷ []) decls
 
-    -- names of sections are distinct, and none is the environment's; the compartment line is the section's line 1
     abbrev pub name_holds : (before : List SectionTree) → Bool
-    name_holds before =
-        not (among (map {A = SectionTree} (λ other. other.name) before) section.name) &&
-        not (bytes_eq section.name environment)
+    name_holds before = name_fits (map {A = SectionTree} (λ other. other.name) before) section.name
 
-    -- the lines, counted in the section, at which rules of interfaces are broken, where these sections stand before it
+    -- the lines, counted in the section, at which rules of interfaces are broken, where these sections stand before it;
+    -- the compartment line is the section's line 1
     abbrev pub section_lines : (before : List SectionTree) → List ℕ
     section_lines before =
         unless (name_holds before) 1 ++ (exports_from [] section.exports ++

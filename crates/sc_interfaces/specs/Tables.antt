@@ -1,14 +1,15 @@
 -- Helping: the rules of interfaces by tables of the names that sections declare, in which a name is found at once.
 use Rattle.sc_interfaces.specs.Common.{Decl, ExportLine, Function, HeadTree, ImportLine, Proto, SectionTable}
-use Rattle.sc_interfaces.specs.Common.{SectionTree, Text, among, environment, export_names, first_by_name}
-use Rattle.sc_interfaces.specs.Common.{function_names, head_in, head_of, heads_in, import_names, is_environment}
-use Rattle.sc_interfaces.specs.Common.{line_of_text, main_name, numbered, proto_names, unless, with_first}
+use Rattle.sc_interfaces.specs.Common.{SectionTree, Text, all_hold, among, export_names, first_by_name, function_names}
+use Rattle.sc_interfaces.specs.Common.{head_in, head_of, heads_in, import_names, is_environment, line_of_text}
+use Rattle.sc_interfaces.specs.Common.{main_name, numbered, proto_names, unless, with_first}
 use Rattle.std.specs.Prelude.{ℕ, suc, Bool, true, not, ◌&&◌, ◌||◌, ◌==◌, bytes_eq, List, [], ◌∷◌, ◌++◌, map, slice_get}
 use Rattle.std.specs.Prelude.{Option, Some, None, is_some, if◌then◌else◌}
 use Rattle.std.specs.Option.{option_and_then}
 use Rattle.sc_interfaces.specs.declared.agreements.Agreements.{Agreements}
 use Rattle.sc_interfaces.specs.declared.imports.Imported.{Imported}
-use Rattle.sc_interfaces.specs.Faces.{agree, head_crosses, is_plain, int_type, input_name, output_name, main_holds}
+use Rattle.sc_interfaces.specs.Faces.{agree, head_crosses, int_type, input_name, output_name, main_holds, export_fits}
+use Rattle.sc_interfaces.specs.Faces.{import_fits, environment_offers, name_fits}
 
 -- names that are known, after these came too
 abbrev pub all_numbered : List Text → List Text → List Text
@@ -56,22 +57,25 @@ table_of section =
       heads = all_added no_heads (heads_in section.decls);
     }
 
+-- the section of number k, by its table, offers what another one imports with this line
+abbrev pub offers_by : (importer : ℕ) → ImportLine → ℕ → SectionTable → Bool
+offers_by importer line k table =
+    all_hold (
+    bytes_eq table.name line.comp ∷
+    not (k == importer) ∷
+    among table.exports line.name ∷ []
+    )
+
 -- the number of the first section that offers an import, among those from number k on
 abbrev pub offering_number : (importer : ℕ) → ImportLine → ℕ → List SectionTable → Option ℕ
 offering_number importer line k [] = None
 offering_number importer line k (table ∷ tables) =
-    if bytes_eq table.name line.comp && (not (k == importer) && among table.exports line.name) then Some k
-    else offering_number importer line (suc k) tables
+    if offers_by importer line k table then Some k else offering_number importer line (suc k) tables
 
 abbrev pub offering_table : List SectionTable → (importer : ℕ) → ImportLine → Option SectionTable
 offering_table tables importer line = option_and_then (slice_get tables) (offering_number importer line 0 tables)
 
 -- Exports.
-
-abbrev pub export_fits : (functions before : List Text) → ExportLine → Bool
-export_fits functions before line =
-    among functions line.name && (not (among before line.name) &&
-    (not (bytes_eq line.name main_name) && is_plain line.name))
 
 abbrev pub exports_told : (functions before : List Text) → List ExportLine → List ℕ
 exports_told functions before [] = []
@@ -94,19 +98,13 @@ output_head = record {
 
 abbrev pub is_offered_by : List SectionTable → (importer : ℕ) → ImportLine → Bool
 is_offered_by tables importer line =
-    if is_environment line then bytes_eq line.name input_name || bytes_eq line.name output_name
-    else is_some (offering_number importer line 0 tables)
-
-abbrev pub import_fits : List SectionTable → (importer : ℕ) → (functions protos before : List Text) → ImportLine → Bool
-import_fits tables importer functions protos before line =
-    is_offered_by tables importer line && (not (among before line.name) &&
-    (not (among functions line.name) && (among protos line.name && is_plain line.name)))
+    if is_environment line then environment_offers line.name else is_some (offering_number importer line 0 tables)
 
 abbrev pub imports_told : List SectionTable → (importer : ℕ) → (functions protos before : List Text) → List ImportLine →
     List ℕ
 imports_told tables importer functions protos before [] = []
 imports_told tables importer functions protos before (line ∷ lines) =
-    unless (import_fits tables importer functions protos before line) line.line ++
+    unless (import_fits (is_offered_by tables importer line) functions protos before line) line.line ++
     imports_told tables importer functions protos (numbered before line.name) lines
 
 -- what the environment promises of a name
@@ -168,9 +166,6 @@ decls_told table imported mains known (decl ∷ decls) =
     decl_told table imported mains known decl ++ decls_told table imported mains (head_added known (head_in decl)) decls
 
 -- Sections.
-
-abbrev pub name_fits : (before : List Text) → Text → Bool
-name_fits before name = not (among before name) && not (bytes_eq name environment)
 
 abbrev pub section_told : List SectionTable → (number : ℕ) → SectionTable → (mains : Bool) → (before : List Text) →
     SectionTree → List ℕ

@@ -1,11 +1,11 @@
 //! The interfaces of a text whose sections keep the rules of interfaces and counts.
 
-ghost use Rattle.sc_interfaces.specs.Prelude.{first_by_name, interfaces_of, scalar_of};
+ghost use Rattle.sc_interfaces.specs.Prelude.{IsWithinCounts, all_placed, export_by, export_name, export_places};
+ghost use Rattle.sc_interfaces.specs.Prelude.{first_by_name, function_at, function_name, function_places, import_by};
+ghost use Rattle.sc_interfaces.specs.Prelude.{interface_by, interfaces_by, interfaces_of, main_by, offered_by};
+ghost use Rattle.sc_interfaces.specs.Prelude.{option_placed, promised_by, scalar_of};
 ghost use Rattle.std.specs.Prelude.{◌≡◌, [], IfOk, OnOk, map, min, slice_get, take};
 ghost use Rattle.std.specs.Option.{option_and_then, option_copied, option_map};
-ghost use Rattle.sc_interfaces.specs.Offering.{IsWithinCounts, option_placed, all_placed, export_name, function_name};
-ghost use Rattle.sc_interfaces.specs.Offering.{export_places, function_places, function_at, promised_by, export_by};
-ghost use Rattle.sc_interfaces.specs.Offering.{offered_by, import_by, interface_by, interfaces_by, main_by};
 
 use crate::names::{is_environment_name, is_input_name, main_name};
 use crate::tables::{SectionTable, offering_number, section_tables};

@@ -51,7 +51,8 @@ fn import_fits(
     before: &NameTable,
     line: &ImportLine,
 ) -> bool
-    ensures { result ≡ import_fits tables.now importer table.now.functions table.now.protos before.now line.now }
+    ensures { result ≡ import_fits (is_offered_by tables.now importer line.now) table.now.functions table.now.protos
+        before.now line.now }
 {
     is_offered(tables, importer, line)
         && !before.contains(&line.name)

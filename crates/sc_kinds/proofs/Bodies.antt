@@ -8,7 +8,7 @@ use Rattle.sc_kinds.proofs.Common.{assign, assign_call, assign_call_fits, at_bra
 use Rattle.sc_kinds.proofs.Common.{body_does, body_fits, call, call_alone, call_fits, choose, closed, computed, decayed}
 use Rattle.sc_kinds.proofs.Common.{evaluated, false, false≢true, goes_into, has_kind, have_kinds, in_order, init_does}
 use Rattle.sc_kinds.proofs.Common.{inits_do, is_integer, is_of, is_pointer, is_scalar, is_some, is_target, judged}
-use Rattle.sc_kinds.proofs.Common.{kind_fits, kind_step, layer_of, leave, list_all, loop, map, not, on_line}
+use Rattle.sc_kinds.proofs.Common.{judged_ty, kind_fits, kind_step, layer_of, leave, list_all, loop, map, not, on_line}
 use Rattle.sc_kinds.proofs.Common.{option_goes, part_does, part_fits, refl, result_goes, returned_call_fits}
 use Rattle.sc_kinds.proofs.Common.{returned_fits, returns_kind, same_ty, simple_does, simple_fits, stmt_at, stmt_does}
 use Rattle.sc_kinds.proofs.Common.{stmt_fits, stmt_induction, stmt_step, store, store_at, store_result, stored, subst}
@@ -25,7 +25,7 @@ use Rattle.sc_core.specs.declared.stmt.TypedSimpleKind.TheVariants as simple
 use Rattle.sc_core.specs.declared.section.TypedLocal.{TypedLocal}
 use Rattle.sc_core.specs.declared.value.Want.{Want}
 use Rattle.sc_core.specs.declared.value.Want.TheVariants as want
-use Rattle.sc_kinds.proofs.Values.{either, bind_made, same_kind, integer_kind, decayed_kind, value_kind, typed_so}
+use Rattle.sc_kinds.proofs.Values.{either, bind_made, same_kind, integer_kind, decayed_kind, value_kind}
 use Rattle.sc_kinds.proofs.Pieces.{Same, Any, itself, then_same, weaken, computed_same, choose_same, exit_kind, ExitOk}
 use Rattle.sc_kinds.proofs.Pieces.{DoSame, leave_same, in_order_ok, follow_same, EachSame, all_same, loop_same}
 
@@ -50,12 +50,12 @@ CallsFit callable comp C D =
     (s : State) → Same (λ v. returns_kind signature.result v ≡ true) (C comp target args s) (D comp target args s)
 
 -- the signature of a call that fits
-record Signed (o : Option Signature) (args : List Judged) : Type 0 where
+pub record Signed (o : Option Signature) (args : List Judged) : Type 0 where
   pub signature : Signature
   pub is : o ≡ Some signature
   pub fit : all_go_into signature.params args ≡ true
 
-signed : (o : Option Signature) (args : List Judged) → args_fit o args ≡ true → Signed o args
+pub signed : (o : Option Signature) (args : List Judged) → args_fit o args ≡ true → Signed o args
 signed None args h = absurd (false≢true h)
 signed (Some signature) args h = record { signature = signature; is = refl; fit = h }
 
@@ -83,7 +83,7 @@ module _ (arith : Arith) (structs : List TypedStruct) (here : Here) (params : �
       let j = judged scope e in
       let kind = value_kind arith structs here params scope e (and_first j.fits _ h) blocks v is in
       subst (λ p. is_of p v ≡ true) (sym (goes_kind place (decayed j.ty) (and_rest j.fits _ h) ∙ decayed_kind j.ty ∙
-      ap is_pointer (typed_so arith structs here params scope e))) kind
+      ap is_pointer (judged_ty scope e))) kind
 
   args_kind : (types : List Ty) (es : List TypedExpr) → all_go_into types (map (judged scope) es) ≡ true →
       (blocks : Blocks) (vs : List Value) → values (map way es) blocks ≡ Ok vs → have_kinds types vs ≡ true

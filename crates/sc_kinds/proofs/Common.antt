@@ -3,13 +3,14 @@ pub use Rattle.std.proofs.Common.{Bool, Err, List, None, Ok, Option, Result, Som
 pub use Rattle.std.proofs.Common.{eq-eqb, eqb-true, false, if◌then◌else◌, int_div, int_rem, is_some, length, map}
 pub use Rattle.std.proofs.Common.{nat_le, negsuc, not, pos, position, refl, slice_get, slice_index_or, subst, suc, sym}
 pub use Rattle.std.proofs.Common.{true, zero, ℕ, ℤ, ◌&&◌, ◌++◌, ◌-◌, ◌==◌, ◌^◌, ◌||◌, ◌∙◌, ◌∷◌, ◌≡◌}
-pub use Rattle.std.proofs.lemmas.Bool.{and_from, false≢true}
+pub use Rattle.std.proofs.lemmas.Bool.{and_from, false≢true, or_right}
 pub use Rattle.std.specs.List.{list_all, list_any}
 pub use Rattle.std.specs.Option.{option_and_then, option_map, option_map_or}
 pub use Rattle.sc_base.proofs.Bools.{and_first, and_rest}
 pub use Rattle.sc_event.specs.declared.interface.Interface.{Interface}
 pub use Rattle.sc_event.specs.declared.interface.Interfaces.{Interfaces}
 pub use Rattle.sc_core.proofs.Induction.{Each, Inside, Under, expr_induction, stmt_induction}
+pub use Rattle.sc_core.proofs.Judged.{judged_ty}
 pub use Rattle.sc_core.proofs.Layers.{expr_at, layer_of, on_line, stmt_at, term_of, typed}
 pub use Rattle.sc_core.specs.Prelude.{Acts, Arith, Blocks, Body, Break, Callable, Calls, Continue, Exit, Function, Here}
 pub use Rattle.sc_core.specs.Prelude.{Judged, Left, Library, Meant, Next, On, Out, Piece, Reached, Return, Route, Scope}

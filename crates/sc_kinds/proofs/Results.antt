@@ -58,12 +58,12 @@ allowed_so : (b : Bool) (o : Option Signature) (y : Signature) → allowed b o �
 allowed_so true o y h = record { test = refl; is = h }
 allowed_so false o y h = absurd (cc)
 
-record Behind {A B : Type 0} (f : A → Option B) (o : Option A) (y : B) : Type 0 where
+pub record Behind {A B : Type 0} (f : A → Option B) (o : Option A) (y : B) : Type 0 where
   pub item : A
   pub is : o ≡ Some item
   pub gives : f item ≡ Some y
 
-behind : {A B : Type 0} (f : A → Option B) (o : Option A) (y : B) → option_and_then f o ≡ Some y → Behind f o y
+pub behind : {A B : Type 0} (f : A → Option B) (o : Option A) (y : B) → option_and_then f o ≡ Some y → Behind f o y
 behind f None y h = absurd (cc)
 behind f (Some x) y h = record { item = x; is = refl; gives = h }
 

@@ -1,7 +1,7 @@
 -- What the sections of a well-typed program keep, by their numbers.
 use Rattle.sc_kinds.proofs.Common.{Bool, Interface, Interfaces, List, None, Option, Some, TypedFunction, TypedSection}
 use Rattle.sc_kinds.proofs.Common.{[], and_first, and_rest, ap, are_distinct, bytes_eq, cond, false, false≢true}
-use Rattle.sc_kinds.proofs.Common.{interface_fits, list_all, list_any, map, not, option_map, position, refl}
+use Rattle.sc_kinds.proofs.Common.{interface_fits, list_all, list_any, map, not, option_map, or_right, position, refl}
 use Rattle.sc_kinds.proofs.Common.{section_fits, sections_fit, slice_get, slice_index_or, subst, suc, sym, true, zero}
 use Rattle.sc_kinds.proofs.Common.{ℕ, ◌&&◌, ◌++◌, ◌||◌, ◌∙◌, ◌∷◌, ◌≡◌}
 use Rattle.sc_base.proofs.Lists.{position-cons}
@@ -147,14 +147,11 @@ pub any_along : {A : Type 0} (p q : A → Bool) → ((x : A) → p x ≡ true �
 any_along p q on [] h = h
 any_along p q on (x ∷ xs) h =
     either (p x) (list_any p xs) h (λ k. ap (λ b. b || list_any q xs) (on x k))
-    (λ k. or_second (q x) (list_any q xs) (any_along p q on xs k)) where
-      or_second : (a b : Bool) → b ≡ true → (a || b) ≡ true
-      or_second true b h = refl
-      or_second false b h = h
+    (λ k. or_right (q x) (list_any q xs) (any_along p q on xs k))
 
 -- NAMES OF FUNCTIONS
 
-abbrev name_of : TypedFunction → List ℕ
+abbrev pub name_of : TypedFunction → List ℕ
 name_of f = f.name
 
 distinct_behind : (names others : List (List ℕ)) → are_distinct (names ++ others) ≡ true → are_distinct others ≡ true
@@ -169,10 +166,7 @@ named_in name (g ∷ fs) zero f is same =
     let own : g ≡ f = cc in
     ap (λ b. b || list_any (bytes_eq name) (map name_of fs))
     (subst (λ x. bytes_eq name x ≡ true) (sym (ap name_of own ∙ same)) (bytes_eq_self name))
-named_in name (g ∷ fs) (suc n) f is same = or_second (bytes_eq name g.name) _ (named_in name fs n f is same) where
-  or_second : (a b : Bool) → b ≡ true → (a || b) ≡ true
-  or_second true b h = refl
-  or_second false b h = h
+named_in name (g ∷ fs) (suc n) f is same = or_right (bytes_eq name g.name) _ (named_in name fs n f is same)
 
 any_named : (name : List ℕ) (p : TypedFunction → Bool) (fs : List TypedFunction) →
     list_any (λ f. bytes_eq f.name name && p f) fs ≡ true → list_any (bytes_eq name) (map name_of fs) ≡ true
@@ -182,10 +176,7 @@ any_named name p (f ∷ fs) h =
     (λ k. let own = same_text f.name name (and_first (bytes_eq f.name name) _ k) in
     ap (λ b. b || list_any (bytes_eq name) (map name_of fs))
     (subst (λ x. bytes_eq name x ≡ true) (sym own) (bytes_eq_self name)))
-    (λ k. or_second (bytes_eq name f.name) _ (any_named name p fs k)) where
-      or_second : (a b : Bool) → b ≡ true → (a || b) ≡ true
-      or_second true b h = refl
-      or_second false b h = h
+    (λ k. or_right (bytes_eq name f.name) _ (any_named name p fs k))
 
 twice : (name : List ℕ) (names : List (List ℕ)) → are_distinct (name ∷ names) ≡ true →
     list_any (bytes_eq name) names ≡ true → ⊥

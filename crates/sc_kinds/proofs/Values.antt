@@ -6,9 +6,9 @@ use Rattle.sc_kinds.proofs.Common.{as_word, at_place, at_pointer, between, binar
 use Rattle.sc_kinds.proofs.Common.{cells_at, choose, common, decayed, difference_fits, expr_at, expr_induction, false}
 use Rattle.sc_kinds.proofs.Common.{false≢true, if◌then◌else◌, in_elements, int_div, int_rem, is_address, is_array}
 use Rattle.sc_kinds.proofs.Common.{is_int, is_integer, is_live, is_of, is_pointer, is_scalar, is_true, is_type}
-use Rattle.sc_kinds.proofs.Common.{is_unsigned, is_unsigned_op, is_zero, judged, length, literal, load, loaded, meant}
-use Rattle.sc_kinds.proofs.Common.{meant_step, moved, moved_back, moved_on, nat_le, negsuc, not, of_bool, on_word}
-use Rattle.sc_kinds.proofs.Common.{on_words, ordered, place_at, pointer_to, points, pos, refl, same_place}
+use Rattle.sc_kinds.proofs.Common.{is_unsigned, is_unsigned_op, is_zero, judged, judged_ty, length, literal, load}
+use Rattle.sc_kinds.proofs.Common.{loaded, meant, meant_step, moved, moved_back, moved_on, nat_le, negsuc, not, of_bool}
+use Rattle.sc_kinds.proofs.Common.{on_word, on_words, ordered, place_at, pointer_to, points, pos, refl, same_place}
 use Rattle.sc_kinds.proofs.Common.{same_pointers, same_ty, slice_get, subst, suc, sum_fits, sym, target_cells}
 use Rattle.sc_kinds.proofs.Common.{term_judged, term_of, term_step, true, typed, unary_fits, variable_at, wanted, ways}
 use Rattle.sc_kinds.proofs.Common.{ℕ, ℤ, ◌&&◌, ◌-◌, ◌^◌, ◌||◌, ◌∙◌, ◌≡◌}
@@ -121,7 +121,7 @@ address_kind a h = points_kind a (and_first (points a) (not a.null) h)
 pub address_fits : (a : Judged) → is_address a ≡ true → a.fits ≡ true
 address_fits a h = and_first a.fits (is_pointer a.ty) (and_first (points a) (not a.null) h)
 
-int_fits : (a : Judged) → is_int a ≡ true → a.fits ≡ true
+pub int_fits : (a : Judged) → is_int a ≡ true → a.fits ≡ true
 int_fits a h = and_first a.fits (is_integer a.ty) h
 
 both_point : (a b : Judged) → points a ≡ true → points b ≡ true → one_of (is_pointer a.ty) (is_pointer b.ty) ≡ false
@@ -526,23 +526,8 @@ module _ (arith : Arith) (structs : List TypedStruct) (here : Here) (params : �
       (subst (Sound (judged_at t k)) (sym (expr_at _ _ (term_step arith structs here params) meant_step t k))
       (term_sound t k h)))
 
-  -- the type of what is judged is the expression's own
-  pub typed_so : (e : TypedExpr) → (judged scope e).ty ≡ e.ty
-  typed_so = expr_induction (λ e. (judged scope e).ty ≡ e.ty)
-      (λ t k h. ap (λ j. j.ty) (expr_at _ _ (term_judged scope) (λ e. e.kind e.ty) t k) ∙ own t k) where
-        own : (t : Ty) (k : TypedKind-F TypedKind TypedExpr) → (judged_at t k).ty ≡ t
-        own t (term.Literal word) = refl
-        own t (term.Variable v) = refl
-        own t (term.Unary o a) = refl
-        own t (term.Binary o a b) = refl
-        own t (term.Index a b) = refl
-        own t (term.Member a offset) = refl
-        own t (term.Arrow a offset) = refl
-        own t (term.Deref a) = refl
-        own t (term.Address a) = refl
-
   pub value_kind : (e : TypedExpr) → (judged scope e).fits ≡ true → (blocks : Blocks) →
       HasKind (is_pointer e.ty) (ways arith structs here params e want.Value blocks)
   value_kind e fits blocks =
-      subst (λ t. HasKind (is_pointer t) (ways arith structs here params e want.Value blocks)) (typed_so e)
+      subst (λ t. HasKind (is_pointer t) (ways arith structs here params e want.Value blocks)) (judged_ty scope e)
       ((sound e).value fits blocks)

@@ -22,11 +22,11 @@ pub use Rattle.sc_event.specs.declared.row.Action.{Action}
 pub use Rattle.sc_event.specs.declared.row.Entry.TheVariants.{Export, Main}
 pub use Rattle.sc_event.specs.declared.row.Row.{Row}
 pub use Rattle.sc_core.proofs.Induction.{Each, Inside, Under, everywhere, expr_induction, stmt_induction}
-pub use Rattle.sc_core.proofs.Keeping.{IsHalt, Kept, Property, found_kept, then_kept}
+pub use Rattle.sc_core.proofs.Keeping.{Kept, Property, found_kept, then_kept}
 pub use Rattle.sc_core.proofs.Layers.{expr_at, layer_of, on_line, stmt_at, term_of, typed}
 pub use Rattle.sc_core.specs.Prelude.{Acts, Arith, Blocks, Body, Break, Calls, Closed, Continue, Does, Exit}
-pub use Rattle.sc_core.specs.Prelude.{FrameChange, Front, Function, Here, Left, Library, Meant, Memory, Next, On}
-pub use Rattle.sc_core.specs.Prelude.{Opened, Piece, Reached, Return, Roles, Route, Run, State, Step, Stopped, Ways}
+pub use Rattle.sc_core.specs.Prelude.{FrameChange, Front, Function, Here, IsStop, Left, Library, Meant, Memory, Next}
+pub use Rattle.sc_core.specs.Prelude.{On, Opened, Piece, Reached, Return, Roles, Route, Run, State, Step, Stopped, Ways}
 pub use Rattle.sc_core.specs.Prelude.{acts, all_do, and_then, applied, applied_one, as_word, asks, assign, assign_call}
 pub use Rattle.sc_core.specs.Prelude.{at_brace, at_place, at_pointer, back_cross, back_own, begun, binary, bind}
 pub use Rattle.sc_core.specs.Prelude.{block_does, blocks_for, body_does, c_arith, c_binary, c_negated, call, call_alone}
@@ -66,9 +66,9 @@ pub use Rattle.sc_laws.specs.Prelude.{ChainExists, ChainIsLeast, ChainRises, Cha
 pub use Rattle.sc_laws.specs.Prelude.{EmptySetIsMeaning, ExtendedByMore, Extends, FixedPoint, FunctionsAgree}
 pub use Rattle.sc_laws.specs.Prelude.{FunctionsMatch, Gives, GoFrom, Goes, Gone, Grown, Halts, HasChain, HasFixedPoint}
 pub use Rattle.sc_laws.specs.Prelude.{HoldsOfSets, Includes, Interaction, IsArithmetic, IsBlamedOutside, IsChain}
-pub use Rattle.sc_laws.specs.Prelude.{IsFinal, IsFixed, IsRising, IsSpent, IsSteady, IsStop, IsWithin, KeepsBlames}
-pub use Rattle.sc_laws.specs.Prelude.{KeepsRooms, Lasts, LeastIsChain, LeavesRooms, LibrariesAgree, LibrariesMatch}
-pub use Rattle.sc_laws.specs.Prelude.{Link, Match, MeaningGoesOn, Meets, MoreGoesOn, MoreMayPerform, Never}
+pub use Rattle.sc_laws.specs.Prelude.{IsFinal, IsFixed, IsRising, IsSpent, IsSteady, IsWithin, KeepsBlames, KeepsRooms}
+pub use Rattle.sc_laws.specs.Prelude.{Lasts, LeastIsChain, LeavesRooms, LibrariesAgree, LibrariesMatch, Link, Match}
+pub use Rattle.sc_laws.specs.Prelude.{MeaningGoesOn, Meets, MoreGoesOn, MoreMayPerform, Never}
 pub use Rattle.sc_laws.specs.Prelude.{NobodyWhoPerformsIsBlamed, Obedient, OnlyGoesOn, OtherLinesAgree, PassesBlame}
 pub use Rattle.sc_laws.specs.Prelude.{PassesBlames, PiecesAgree, Plays, ProgramsObey, Reads, RoomsAreKept, RunsAgree}
 pub use Rattle.sc_laws.specs.Prelude.{RunsUntilBlame, Set, Spends, SpendsTurns, StopsSo, StopsSpent, Stores}

@@ -1,6 +1,6 @@
 -- Every trace that a run shows is legal.
 use Rattle.sc_laws.proofs.Common.{Action, BadType, Blamed, Body, Bool, Call, CallTarget, Cross, End, Event, Export}
-use Rattle.sc_laws.proofs.Common.{Here, In, Input, Interfaces, IsHalt, Kept, Library, List, Main, Memory, None}
+use Rattle.sc_laws.proofs.Common.{Here, In, Input, Interfaces, IsStop, Kept, Library, List, Main, Memory, None}
 use Rattle.sc_laws.proofs.Common.{Obedient, Option, Out, Output, Own, Piece, Property, Proto, Reached, Ret, Roles, Row}
 use Rattle.sc_laws.proofs.Common.{RunEnd, Scalar, Some, Standing, State, Step, Stopped, TurnsOut, Value, Word, [], acts}
 use Rattle.sc_laws.proofs.Common.{and_from, and_parts, and_then, ap, asks, at_start, awaits, back_cross, back_own}
@@ -71,7 +71,7 @@ module _ (interfaces : Interfaces) where
 
   -- the run stands here, after a legal trace
   abbrev pub standing : Standing → Property
-  standing st = record { Goes = λ s. IsAt s.trace st; Ends = λ end s. (legal interfaces s.trace ≡ true) × IsHalt end }
+  standing st = record { Goes = λ s. IsAt s.trace st; Ends = λ end s. (legal interfaces s.trace ≡ true) × IsStop end }
 
   turned_at : (st : Standing) (n : ℕ) (s : State) → IsAt s.trace st → Kept (standing st) (turn_of n s)
   turned_at st zero s h = record { after = (h.is_legal, tt) }

@@ -1,12 +1,12 @@
 -- The names from below that several definitions of this crate cite, passed on from one place. Declares nothing.
 pub use Rattle.sc_event.specs.declared.event.Event.{Event}
 pub use Rattle.sc_event.specs.declared.row.Entry.{Entry}
-pub use Rattle.sc_core.specs.Prelude.{Arith, Blocks, Body, Calls, Closed, FrameChange, Front, Function, Here, Library}
-pub use Rattle.sc_core.specs.Prelude.{Memory, Opened, Piece, Reached, Roles, Run, State, Step, Stopped, and_then}
-pub use Rattle.sc_core.specs.Prelude.{c_arith, call_own, deepest, depth_in, first_state, found, function, leads}
-pub use Rattle.sc_core.specs.Prelude.{library_of, meaning, meaning_by, roles_in, run_by, run_of, run_step, scripted_by}
-pub use Rattle.sc_core.specs.Prelude.{scripted_meaning, scripted_run_of, scripted_step, scripted_wrapped, stopped_at}
-pub use Rattle.sc_core.specs.Prelude.{turn, with_memory, within, wrapped, wrapping}
+pub use Rattle.sc_core.specs.Prelude.{Arith, Blocks, Body, Calls, Closed, FrameChange, Front, Function, Here, IsStop}
+pub use Rattle.sc_core.specs.Prelude.{Library, Memory, Opened, Piece, Reached, Roles, Run, State, Step, Stopped}
+pub use Rattle.sc_core.specs.Prelude.{and_then, c_arith, call_own, deepest, depth_in, first_state, found, function}
+pub use Rattle.sc_core.specs.Prelude.{leads, library_of, meaning, meaning_by, roles_in, run_by, run_of, run_step}
+pub use Rattle.sc_core.specs.Prelude.{scripted_by, scripted_meaning, scripted_run_of, scripted_step, scripted_wrapped}
+pub use Rattle.sc_core.specs.Prelude.{stopped_at, turn, with_memory, within, wrapped, wrapping}
 pub use Rattle.sc_core.specs.declared.cause.Cause.{Cause}
 pub use Rattle.sc_core.specs.declared.expr.CallTarget.{CallTarget}
 pub use Rattle.sc_core.specs.declared.program.ProgramTree.{ProgramTree}

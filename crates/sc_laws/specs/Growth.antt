@@ -1,5 +1,5 @@
 -- How a run goes on: events are appended, turns are spent, and it stops for a blame or for want of turns alone.
-use Rattle.sc_laws.specs.Common.{Blamed, Ended, EventsOut, Front, Piece, Reached, RunEnd, State, Stopped, TurnsOut}
+use Rattle.sc_laws.specs.Common.{Front, IsStop, Piece, Reached, State, Stopped}
 use Rattle.std.specs.Prelude.{◌≤◌}
 
 -- a state that comes after another: its events and its frames go on from the other's, and it has no more turns
@@ -12,13 +12,6 @@ pub record Grown (s t : State) : Type 0 where
 abbrev pub last : {V : Type 0} → Piece V → State
 last (Reached v s) = s
 last (Stopped end s) = s
-
--- an end that comes in the middle of a run
-abbrev pub IsStop : RunEnd → Type 0
-IsStop Ended = ⊥
-IsStop (Blamed comp cause line) = Unit {0}
-IsStop TurnsOut = Unit {0}
-IsStop EventsOut = ⊥
 
 -- a piece that ends the run, if it does, with such an end
 abbrev pub StopsSo : {V : Type 0} → Piece V → Type 0

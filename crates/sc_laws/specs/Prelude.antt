@@ -5,7 +5,7 @@ pub use Rattle.sc_laws.specs.Agreement.{piece_without_line, without_line}
 pub use Rattle.sc_laws.specs.Chains.{AreFresh, Includes, IsBlamedOutside, IsChain, IsRising, IsWithin, Link}
 pub use Rattle.sc_laws.specs.Chains.{PassesBlame, Set, longer, nobody, performed, turnless, with}
 pub use Rattle.sc_laws.specs.Ends.{IsArithmetic, IsFinal}
-pub use Rattle.sc_laws.specs.Growth.{Goes, Gone, Grown, IsStop, StopsSo, last}
+pub use Rattle.sc_laws.specs.Growth.{Goes, Gone, Grown, StopsSo, last}
 pub use Rattle.sc_laws.specs.Interactions.{Alike, Asks, Blames, Doing, FunctionsMatch, Gives, GoFrom, Halts}
 pub use Rattle.sc_laws.specs.Interactions.{Interaction, Lasts, LibrariesMatch, Match, Never, Obedient, Plays, Reads}
 pub use Rattle.sc_laws.specs.Interactions.{Spends, Stores, played}

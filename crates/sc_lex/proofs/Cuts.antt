@@ -12,7 +12,7 @@ use Rattle.sc_lex.proofs.Fronts.{white_none}
 use Rattle.sc_lex.proofs.Splits.{line_at_end}
 
 -- a gap begins no token
-gap_and_token : {directives : Bool} {text : List ℕ} {kind : TokenKind} {n m : ℕ} → IsGap text n →
+pub gap_and_token : {directives : Bool} {text : List ℕ} {kind : TokenKind} {n m : ℕ} → IsGap text n →
     IsToken directives text kind m → ⊥
 gap_and_token {directives} {text} {kind} {m = m} (white_space h) t = white_none text h directives kind m t
 gap_and_token (block_comment at h low ends first) t = t.no_block_comment h

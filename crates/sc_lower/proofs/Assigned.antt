@@ -6,7 +6,7 @@ use Rattle.sc_lower.proofs.Common.{and_from, and_rest, ap, at_place, between_op,
 use Rattle.sc_lower.proofs.Common.{either, eq-eqb, eqb-true, everywhere, expr_at, expr_induction, false, false≢true}
 use Rattle.sc_lower.proofs.Common.{fold-TacStmt, fold-roll-TacStmt, from_first, from_one, from_two, if◌then◌else◌, inl}
 use Rattle.sc_lower.proofs.Common.{inr, is_array, is_pointer, is_unsigned_op, loaded, lowered, lowered_step, map}
-use Rattle.sc_lower.proofs.Common.{map-TacStmt, member, move_op, not, not_op, or_code, place_code, reading}
+use Rattle.sc_lower.proofs.Common.{map-TacStmt, member, move_op, not, not_op, or_code, or_right, place_code, reading}
 use Rattle.sc_lower.proofs.Common.{reading_step, refl, roll-TacStmt, row_first, row_fresh, scalar_in, subst, sym}
 use Rattle.sc_lower.proofs.Common.{target_cells, term_of, term_step, true, truth_code, unary_op, with_parts, ℕ, ◌&&◌}
 use Rattle.sc_lower.proofs.Common.{◌++◌, ◌+◌, ◌==◌, ◌||◌, ◌∙◌, ◌∷◌, ◌≡◌, ◌⊎◌}
@@ -168,13 +168,9 @@ further : {A B C : Type 0} → A ⊎ B → (B → C) → A ⊎ C
 further (inl a) f = inl a
 further (inr b) f = inr (f b)
 
-pub or_second : (c b : Bool) → b ≡ true → (c || b) ≡ true
-or_second true b h = refl
-or_second false b h = h
-
 pub into : (x t : ℕ) (b : Bool) → (t ≡ x) ⊎ (b ≡ true) → (x == t || b) ≡ true
 into x t b (inl e) = ap (λ c. c || b) (eq-eqb x t (sym e))
-into x t b (inr h) = or_second (x == t) b h
+into x t b (inr h) = or_right (x == t) b h
 
 pub out_of : (x t : ℕ) (b : Bool) → (x == t || b) ≡ true → (t ≡ x) ⊎ (b ≡ true)
 out_of x t b h = either (x == t) b h (λ k. inl (is_it x t k)) (λ k. inr k)

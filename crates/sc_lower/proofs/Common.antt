@@ -4,7 +4,7 @@ pub use Rattle.std.proofs.Common.{arith, bytes_eq, codes, cond, drop, drop-cons,
 pub use Rattle.std.proofs.Common.{if◌then◌else◌, inl, inr, is_some, le-leb, leb-true, length, length-append, lt-ltb}
 pub use Rattle.std.proofs.Common.{map, nat_le, nat_lt, not, pos, position, refl, slice_get, slice_index_or, subst, suc}
 pub use Rattle.std.proofs.Common.{sym, true, zero, ℕ, ◌&&◌, ◌*◌, ◌++◌, ◌+◌, ◌<◌, ◌==◌, ◌||◌, ◌∙◌, ◌∷◌, ◌≡◌, ◌≤◌, ◌⊎◌}
-pub use Rattle.std.proofs.lemmas.Bool.{and_from, false≢true}
+pub use Rattle.std.proofs.lemmas.Bool.{and_from, false≢true, not-true, or_from, or_left, or_right}
 pub use Rattle.std.proofs.lemmas.List.{length-map}
 pub use Rattle.std.proofs.lemmas.Option.{slice_get-map, slice_get_read}
 pub use Rattle.std.specs.Bool.{beq}
@@ -14,7 +14,7 @@ pub use Rattle.sc_base.proofs.Bools.{and_first, and_rest}
 pub use Rattle.sc_base.proofs.Texts.{bytes_eq_self, same_either_way, same_text}
 pub use Rattle.sc_base.specs.declared.op.UnaryOp.{UnaryOp}
 pub use Rattle.sc_event.specs.Prelude.{comp_at, export_at, imports, is_function, is_input, is_output, takes}
-pub use Rattle.sc_event.specs.declared.event.Event.TheVariants.{Call, End, In, Ret}
+pub use Rattle.sc_event.specs.declared.event.Event.TheVariants.{Call, End, In, Out, Ret}
 pub use Rattle.sc_event.specs.declared.interface.Interface.{Interface}
 pub use Rattle.sc_event.specs.declared.interface.Proto.{Proto}
 pub use Rattle.sc_event.specs.declared.interface.Scalar.{Scalar}
@@ -23,14 +23,17 @@ pub use Rattle.sc_event.specs.declared.row.Entry.{Entry}
 pub use Rattle.sc_event.specs.declared.row.Entry.TheVariants.{Export, Main}
 pub use Rattle.sc_core.proofs.Induction.{Each, Inside, Under, expr_induction, stmt_induction}
 pub use Rattle.sc_core.proofs.Layers.{expr_at, layer_of, on_line, stmt_at, term_of, typed}
-pub use Rattle.sc_core.proofs.Plans.{Plan, Sheet, Slot, init_of, local, plan_nodes, plan_nodes_is, program, section}
+pub use Rattle.sc_core.proofs.Plans.{Plan, Sheet, Slot, init_of, plan_nodes, plan_nodes_is, program, section}
+pub use Rattle.sc_core.proofs.Programs.{global, global_of, int_pointer, ints, lit, local, main_with, param, plan, plus}
+pub use Rattle.sc_core.proofs.Programs.{slot}
+pub use Rattle.sc_core.proofs.Rows.{by_plan}
 pub use Rattle.sc_core.proofs.Shapes.{Amp, Arrow, AssignCallLine, AssignLine, At, BreakLine, CallLine, ContinueLine}
 pub use Rattle.sc_core.proofs.Shapes.{Dot, EmptyLine, ForLine, IfLine, Lines, Lit, NoLine, One, ReturnCallLine}
 pub use Rattle.sc_core.proofs.Shapes.{ReturnLine, ReturnValueLine, Shape, Star, Two, Var, WhileLine, call_of, expr}
 pub use Rattle.sc_core.proofs.Shapes.{part, stmts}
 pub use Rattle.sc_core.specs.Prelude.{Acts, Arith, Blocks, Body, Break, Callable, Calls, Continue, Does, Exit, Function}
-pub use Rattle.sc_core.specs.Prelude.{Here, IsWellTyped, Judged, Left, Library, Meant, Next, On, Out, Piece, Reached}
-pub use Rattle.sc_core.specs.Prelude.{Return, Roles, Route, Scope, Signature, State, Step, Stopped, Ways, acts, all_do}
+pub use Rattle.sc_core.specs.Prelude.{Here, IsWellTyped, Judged, Left, Library, Meant, Next, On, Piece, Reached, Return}
+pub use Rattle.sc_core.specs.Prelude.{Roles, Route, Scope, Signature, State, Step, Stopped, Ways, acts, all_do}
 pub use Rattle.sc_core.specs.Prelude.{all_go_into, allowed, and_then, applied, applied_one, are_distinct, are_equatable}
 pub use Rattle.sc_core.specs.Prelude.{are_ordered, args_fit, asks, assign_call, assign_call_fits, assign_fits, at_brace}
 pub use Rattle.sc_core.specs.Prelude.{at_pointer, back_cross, back_own, begun, between, binary_fits, bind, block_does}
@@ -63,7 +66,6 @@ pub use Rattle.sc_core.specs.declared.cause.Cause.TheVariants.{BadType, NoReturn
 pub use Rattle.sc_core.specs.declared.expr.CallTarget.{CallTarget}
 pub use Rattle.sc_core.specs.declared.expr.CallTarget.TheVariants.{Cross, Input, Output, Own}
 pub use Rattle.sc_core.specs.declared.expr.TypedKind.{TypedKind}
-pub use Rattle.sc_core.specs.declared.expr.VarRef.{VarRef}
 pub use Rattle.sc_core.specs.declared.run.RunEnd.TheVariants.{Blamed, Ended, TurnsOut}
 pub use Rattle.sc_core.specs.declared.run.SourceRun.{SourceRun}
 pub use Rattle.sc_core.specs.declared.section.TypedParam.{TypedParam}
@@ -74,10 +76,13 @@ pub use Rattle.sc_core.specs.declared.value.Want.{Want}
 pub use Rattle.sc_laws.proofs.Agreement.{calls_agree, itself, own_agree, performs_agree, run_agree, then_agree}
 pub use Rattle.sc_laws.specs.Prelude.{BodiesAgree, CallsAgree, FunctionsAgree, LibrariesAgree, Meets, PiecesAgree}
 pub use Rattle.sc_laws.specs.Prelude.{RunsAgree, piece_without_line, without_line}
-pub use Rattle.sc_kinds.proofs.Results.{function_imported, input_imported, output_imported, reached_good}
+pub use Rattle.sc_kinds.proofs.Bodies.{Signed, signed}
+pub use Rattle.sc_kinds.proofs.Results.{Behind, behind, function_imported, input_imported, output_imported}
+pub use Rattle.sc_kinds.proofs.Results.{reached_good}
 pub use Rattle.sc_kinds.proofs.Sections.{ForSection, Placed, all_at, any_along, for_interface, for_section}
-pub use Rattle.sc_kinds.proofs.Sections.{found_passes, index_map, named_so, own_names_differ}
-pub use Rattle.sc_kinds.proofs.Values.{address_fits, either}
+pub use Rattle.sc_kinds.proofs.Sections.{found_passes, index_map, name_of, named_so, own_names_differ}
+pub use Rattle.sc_kinds.proofs.Values.{address_fits, either, int_fits}
+pub use Rattle.sc_tac.proofs.Runs.{across_interfaces, fetched, give, int_op, output, word}
 pub use Rattle.sc_tac.proofs.Shapes.{Cycle, Done, Fork, Line, rows, rows_are}
 pub use Rattle.sc_tac.specs.Prelude.{Ahead, Codes, IsFunction, IsProgram, Reading, Temps, all_assigned_first}
 pub use Rattle.sc_tac.specs.Prelude.{are_entered, call_does, calls_exports, calls_imports, calls_own, code_does}
@@ -101,16 +106,18 @@ unfoldable pub use Rattle.sc_tac.specs.declared.stmt.TacStmt.{roll-TacStmt}
 pub use Rattle.sc_lower.specs.Common.{BinaryOp, Const, Global, GlobalPlace, If, Interfaces, Load, Local, ObjectPlace}
 pub use Rattle.sc_lower.specs.Common.{Op, Param, ProgramTree, TacStmt, TacStmt-F, Ty, TypedCall, TypedExpr}
 pub use Rattle.sc_lower.specs.Common.{TypedFunction, TypedKind-F, TypedLocal, TypedSection, TypedSimple}
-pub use Rattle.sc_lower.specs.Common.{TypedSimpleKind, TypedStmt, TypedStmtKind-F, TypedStruct, fold-TacStmt}
+pub use Rattle.sc_lower.specs.Common.{TypedSimpleKind, TypedStmt, TypedStmtKind-F, TypedStruct, VarRef, fold-TacStmt}
 pub use Rattle.sc_lower.specs.Prelude.{AreFunctions, Forms, IsLowerable, IsOperands, KeepsBranches, KeepsMeaning}
 pub use Rattle.sc_lower.specs.Prelude.{KeepsRules, Low, Lowered, Lows, Many, Part, Parts, after, alone, and_code}
-pub use Rattle.sc_lower.specs.Prelude.{assign, at_place, between_op, binary, binary_code, block_code, body_code, both}
-pub use Rattle.sc_lower.specs.Prelude.{call_alone, call_branches, call_code, call_for, code_of, constant_of, cycle}
-pub use Rattle.sc_lower.specs.Prelude.{entry_of, export_called, exports_of, expr_branches, first_of, fork, forms}
-pub use Rattle.sc_lower.specs.Prelude.{fragment_of, from_first, from_one, from_two, ifs, ifs_step, in_turn}
-pub use Rattle.sc_lower.specs.Prelude.{init_branches, init_code, inits_code, just, kind_branches, kind_step, loaded}
+pub use Rattle.sc_lower.specs.Prelude.{assign, at_place, between_op, beyond, binary, binary_code, block_code, body_code}
+pub use Rattle.sc_lower.specs.Prelude.{both, call_alone, call_beyond, call_branches, call_code, call_for, code_of}
+pub use Rattle.sc_lower.specs.Prelude.{constant_of, cycle, entry_of, export_called, exports_of, expr_beyond}
+pub use Rattle.sc_lower.specs.Prelude.{expr_branches, first_of, fork, forms, fragment_of, from_first, from_one}
+pub use Rattle.sc_lower.specs.Prelude.{from_two, ifs, ifs_step, in_turn, init_beyond, init_branches, init_code}
+pub use Rattle.sc_lower.specs.Prelude.{inits_code, just, kind_beyond, kind_branches, kind_step, loaded, local_beyond}
 pub use Rattle.sc_lower.specs.Prelude.{local_branches, lowered, lowered_function, lowered_program, lowered_section}
 pub use Rattle.sc_lower.specs.Prelude.{lowered_sections, lowered_step, many, member, move_op, not_op, op_branches}
-pub use Rattle.sc_lower.specs.Prelude.{or_code, part_branches, part_code, place_code, return_value, scalar_in}
-pub use Rattle.sc_lower.specs.Prelude.{scalar_of, simple_branches, simple_code, stmt_branches, stmt_code, stmt_ifs}
-pub use Rattle.sc_lower.specs.Prelude.{store_at, term_branches, term_step, test, truth_code, unary_op, values_of}
+pub use Rattle.sc_lower.specs.Prelude.{or_code, part_beyond, part_branches, part_code, place_code, return_value}
+pub use Rattle.sc_lower.specs.Prelude.{scalar_in, scalar_of, simple_beyond, simple_branches, simple_code, stmt_beyond}
+pub use Rattle.sc_lower.specs.Prelude.{stmt_branches, stmt_code, stmt_ifs, store_at, term_beyond, term_branches}
+pub use Rattle.sc_lower.specs.Prelude.{term_step, test, truth_code, unary_op, values_of, variable_beyond}

@@ -6,10 +6,10 @@ use Rattle.sc_lower.proofs.Common.{bytes_eq_self, codes, comp_at, cond, entry_in
 use Rattle.sc_lower.proofs.Common.{export_called, export_fits, exports_of, false, false≢true, for_section}
 use Rattle.sc_lower.proofs.Common.{function_entered, if◌then◌else◌, import_name, is_main, is_plain_name, is_well_typed}
 use Rattle.sc_lower.proofs.Common.{length, list_all, list_any, lowered_function, lowered_section, lowered_sections}
-use Rattle.sc_lower.proofs.Common.{main_fits, main_name, mains_in, map, most_compartments, nat_le, not, option_and_then}
-use Rattle.sc_lower.proofs.Common.{option_map, place_named, place_of_export, position, refl, same_entry, same_text}
-use Rattle.sc_lower.proofs.Common.{sections_fit, slice_get, subst, suc, sym, true, truth, zero, ℕ, ◌&&◌, ◌++◌, ◌+◌}
-use Rattle.sc_lower.proofs.Common.{◌==◌, ◌||◌, ◌∙◌, ◌∷◌, ◌≡◌, ◌≤◌}
+use Rattle.sc_lower.proofs.Common.{main_fits, main_name, mains_in, map, most_compartments, nat_le, not, not-true}
+use Rattle.sc_lower.proofs.Common.{option_and_then, option_map, place_named, place_of_export, position, refl}
+use Rattle.sc_lower.proofs.Common.{same_entry, same_text, sections_fit, slice_get, subst, suc, sym, true, truth, zero}
+use Rattle.sc_lower.proofs.Common.{ℕ, ◌&&◌, ◌++◌, ◌+◌, ◌==◌, ◌||◌, ◌∙◌, ◌∷◌, ◌≡◌, ◌≤◌}
 use Rattle.std.proofs.Math.Dec.{eqb-suc-zero, eqb-zero-suc, eqb-suc-suc}
 use Rattle.sc_base.proofs.Lists.{position-cons}
 
@@ -133,10 +133,6 @@ one_further : (i : ℕ) (o : Option ℕ) → same_entry (Export (suc i)) (option
 one_further i None = refl
 one_further i (Some j) = eqb-suc-suc i j
 
-pub not_true : (b : Bool) → not b ≡ true → b ≡ false
-not_true true h = absurd (false≢true h)
-not_true false h = refl
-
 -- where names differ, the first export of a name is the one
 export_is : (name : List ℕ) (ps : List Proto) (index : ℕ) → are_distinct (map name_of ps) ≡ true →
     same_entry (Export index) (option_map Export (position (λ p. bytes_eq name p.name) ps))
@@ -169,7 +165,7 @@ export_is name (p ∷ ps) index h =
           (option_map Export (cond b (Some 0) (option_map suc (position (λ p. bytes_eq name p.name) ps))))) is
           ∙ eqb-suc-zero i
           ∙ sym (none_called name ps i (subst (λ n. list_any (bytes_eq n) (map name_of ps) ≡ false)
-          (sym (same_text name p.name is)) (not_true (list_any (bytes_eq p.name) (map name_of ps))
+          (sym (same_text name p.name is)) (not-true (list_any (bytes_eq p.name) (map name_of ps))
           (and_first (not (list_any (bytes_eq p.name) (map name_of ps))) _ h))))
       by later false is zero =
           along 0 ∙ ap

@@ -7,11 +7,11 @@ use Rattle.sc_lower.proofs.Common.{and_rest, ap, assign, assign_call_fits, assig
 use Rattle.sc_lower.proofs.Common.{both, call_alone, call_code, call_fits, call_for, cycle, false, false≢true, first_of}
 use Rattle.sc_lower.proofs.Common.{fork, forms, goes_into, in_turn, init_code, init_fits, inits_code, inl, inr}
 use Rattle.sc_lower.proofs.Common.{is_assigned_first, is_one, is_scalar, is_target, is_type, judged, just, kind_fits}
-use Rattle.sc_lower.proofs.Common.{kind_step, layer_of, length, list_all, many, map, not, nothing_ahead, part_ahead}
-use Rattle.sc_lower.proofs.Common.{part_code, part_fits, place_code, refl, result_goes, return_value}
-use Rattle.sc_lower.proofs.Common.{returned_call_fits, simple_code, simple_fits, stmt_at, stmt_code, stmt_fits}
-use Rattle.sc_lower.proofs.Common.{stmt_induction, store_at, subst, suc, sym, target_signature, test as tests, true}
-use Rattle.sc_lower.proofs.Common.{variable_ty, zero, ℕ, ◌&&◌, ◌==◌, ◌||◌, ◌∙◌, ◌∷◌, ◌≡◌, ◌⊎◌}
+use Rattle.sc_lower.proofs.Common.{kind_step, layer_of, length, list_all, many, map, not, nothing_ahead, or_left}
+use Rattle.sc_lower.proofs.Common.{or_right, part_ahead, part_code, part_fits, place_code, refl, result_goes}
+use Rattle.sc_lower.proofs.Common.{return_value, returned_call_fits, signed, simple_code, simple_fits, stmt_at}
+use Rattle.sc_lower.proofs.Common.{stmt_code, stmt_fits, stmt_induction, store_at, subst, suc, sym, target_signature}
+use Rattle.sc_lower.proofs.Common.{test as tests, true, variable_ty, zero, ℕ, ◌&&◌, ◌==◌, ◌||◌, ◌∙◌, ◌∷◌, ◌≡◌, ◌⊎◌}
 use Rattle.sc_core.specs.declared.expr.CallTarget.TheVariants as target
 use Rattle.sc_core.specs.declared.stmt.TypedStmtKind.TheOpen as layer
 use Rattle.sc_core.specs.declared.stmt.TypedSimpleKind.TheVariants as simple
@@ -19,23 +19,19 @@ use Rattle.sc_core.specs.declared.value.Want.TheVariants as want
 use Rattle.sc_tac.specs.declared.stmt.TacStmt.TheOpen as tac
 use Rattle.sc_tac.specs.declared.stmt.TacStmt.TheVariants as emit
 use Rattle.sc_lower.proofs.Tests.{scalar_fits, all_append}
-use Rattle.sc_lower.proofs.Passing.{returned_value, signed, InitsFit}
+use Rattle.sc_lower.proofs.Passing.{returned_value, InitsFit}
 use Rattle.sc_lower.proofs.Statements.{Shaped, shaped, not_output, goes_promised}
 use Rattle.sc_lower.proofs.Strays.{value_straight, target_straight, is_straight, Straight, local_straight}
-use Rattle.sc_lower.proofs.Assigned.{or_second, first, fresh, first_append, fresh_append, first_one, fresh_one}
-use Rattle.sc_lower.proofs.Assigned.{straight_fresh, plain_reads, only_reads, no_reads, one_read, two_read, Settled}
-use Rattle.sc_lower.proofs.Assigned.{into, out_of, if_reads, expr_settled, local_settled}
+use Rattle.sc_lower.proofs.Assigned.{first, fresh, first_append, fresh_append, first_one, fresh_one, straight_fresh}
+use Rattle.sc_lower.proofs.Assigned.{plain_reads, only_reads, no_reads, one_read, two_read, Settled, into, out_of}
+use Rattle.sc_lower.proofs.Assigned.{if_reads, expr_settled, local_settled}
 
 never : (c : Bool) → (c ≡ true → false ≡ true) → c ≡ false
 never true h = sym (h refl)
 never false h = refl
 
-or_first : (c b : Bool) → c ≡ true → (c || b) ≡ true
-or_first true b h = refl
-or_first false b h = absurd (false≢true h)
-
 or_turn : (p q r : Bool) → (p || q || r) ≡ true → (q || (p || r)) ≡ true
-or_turn true q r h = or_second q true refl
+or_turn true q r h = or_right q true refl
 or_turn false q r h = h
 
 -- what stands behind reads first nothing but what b allows, by every way out
@@ -108,7 +104,7 @@ store_reads t q v b ahead allows g =
     only_reads (q == t || (v == t || false)) ahead.behind
     (sym (first_one t (tac.Store q v) (emit.Store q v) ahead (emit.rolls-Store q v)) ∙ g)
     (λ k. two_read q v t k (λ e. inl e) (λ e. inr (into v t b (inl e))))
-    (λ k. inr (or_second (v == t) b (allows.behind k)))
+    (λ k. inr (or_right (v == t) b (allows.behind k)))
 
 store_steady : (f : Forms) → Settled (f want.Place) → ((n : ℕ) → Straight (f want.Place n).code) →
     SteadyWith (store_at f)
@@ -322,7 +318,7 @@ module _ (scope : Scope) (callable : Callable) (result : Option Ty) (structs : L
         let last : List TacStmt = call_code c.target None x.at ∷ [] in
         (args_steady c n h).keeps t b (record ahead { behind = first t last ahead })
         (λ f. call_reads t c.target None x.at ahead (shaped scope callable form c.target c.args n None h (λ o. refl)) f
-        (λ k. or_first (is_one t x.at) b k) (λ k. or_second (is_one t x.at) b (allows.behind k)))
+        (λ k. or_left (is_one t x.at) b k) (λ k. or_right (is_one t x.at) b (allows.behind k)))
         (sym (first_append t x.code last ahead) ∙ g);
     fresh = λ n t ahead none.
         let x : Many = many (map form c.args) n in
@@ -344,7 +340,7 @@ module _ (scope : Scope) (callable : Callable) (result : Option Ty) (structs : L
         (shaped scope callable form c.target c.args n (Some x.next) h (not_output scope callable form c.target
         (goes_promised (target_signature callable c.target) place goes) (Some x.next)))
         (sym (first_append t (call ∷ []) y ahead) ∙ f)
-        (λ k. or_first (is_one t x.at) b k) (λ k. made t b x.next x.at (hm.keeps x.next (suc x.next) t b ahead allows
+        (λ k. or_left (is_one t x.at) b k) (λ k. made t b x.next x.at (hm.keeps x.next (suc x.next) t b ahead allows
         k))) (sym (first_append t x.code (call ∷ y) ahead) ∙ g);
     fresh = λ n t ahead none.
         let x : Many = many (map form c.args) n in
@@ -356,7 +352,7 @@ module _ (scope : Scope) (callable : Callable) (result : Option Ty) (structs : L
   } where
     made : (t : ℕ) (b : Bool) (d : ℕ) (at : List ℕ) → (t ≡ d) ⊎ (b ≡ true) → (t ≡ d) ⊎ ((is_one t at || b) ≡ true)
     made t b d at (inl e) = inl e
-    made t b d at (inr k) = inr (or_second (is_one t at) b k)
+    made t b d at (inr k) = inr (or_right (is_one t at) b k)
 
   assigned_steady : (place e : TypedExpr) → assign_fits (judged scope place) (judged scope e) ≡ true →
       Steady (assign (form place) (form e))

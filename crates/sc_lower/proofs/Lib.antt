@@ -1,5 +1,6 @@
 pub mod Common
 pub mod Assigned
+pub mod Beyond
 pub mod Bounds
 pub mod Branches
 pub mod Entries
@@ -10,8 +11,10 @@ pub mod Hollow
 pub mod Lowered
 pub mod Lowering
 pub mod Matching
+pub mod OperatorRows
 pub mod Operators
 pub mod Passing
+pub mod PlaceRows
 pub mod Plans
 pub mod Programs
 pub mod Rows

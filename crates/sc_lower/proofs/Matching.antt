@@ -1,13 +1,14 @@
 -- One lemma for each word that both meanings are written with. What a tree comes to, code comes to as well, up to
 -- lines.
 use Rattle.sc_lower.proofs.Common.{Acts, Arith, Blamed, Bool, Break, Calls, Cause, Codes, Continue, Err, Exit, Here}
-use Rattle.sc_lower.proofs.Common.{Left, List, Next, NoReturn, None, Ok, On, Option, Out, Piece, PiecesAgree, Reached}
+use Rattle.sc_lower.proofs.Common.{Left, List, Next, NoReturn, None, Ok, On, Option, Piece, PiecesAgree, Reached}
 use Rattle.sc_lower.proofs.Common.{Result, Return, Route, Some, State, Stopped, TacStmt, TacStmt-F, Temps, Value, []}
 use Rattle.sc_lower.proofs.Common.{and_then, ap, arith as numbers, at_brace, bind, closed, code_step, computed, false}
 use Rattle.sc_lower.proofs.Common.{false≢true, follow, if◌then◌else◌, in_loop, in_order, is_some, leave, map-TacStmt}
 use Rattle.sc_lower.proofs.Common.{not, piece_without_line, read, read_all, refl, roll-TacStmt, rounds, stmt_does}
 use Rattle.sc_lower.proofs.Common.{subst, suc, sym, take, true, turn_of, without_line, zero, ℕ, ◌++◌, ◌<◌, ◌∙◌, ◌∷◌}
 use Rattle.sc_lower.proofs.Common.{◌≡◌, ◌≤◌}
+use Rattle.sc_core.specs.Prelude.{Out}
 use Rattle.sc_core.specs.declared.run.RunEnd.{RunEnd}
 use Rattle.sc_lower.proofs.Gives.{Keeps, run, Gives, run_append, run_one, read_then}
 

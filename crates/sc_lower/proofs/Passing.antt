@@ -1,7 +1,7 @@
 -- The statements of a function's code pass each test that the statements which are emitted pass.
 use Rattle.sc_lower.proofs.Common.{Bool, CallTarget, Callable, Each, Forms, Inside, Judged, List, Local, Low, Lows}
-use Rattle.sc_lower.proofs.Common.{Many, None, Option, Part, Parts, Scope, Signature, Some, TacStmt, TacStmt-F, Ty}
-use Rattle.sc_lower.proofs.Common.{TypedCall, TypedExpr, TypedLocal, TypedSimple, TypedSimpleKind, TypedStmt}
+use Rattle.sc_lower.proofs.Common.{Many, None, Option, Part, Parts, Scope, Signature, Signed, Some, TacStmt, TacStmt-F}
+use Rattle.sc_lower.proofs.Common.{Ty, TypedCall, TypedExpr, TypedLocal, TypedSimple, TypedSimpleKind, TypedStmt}
 use Rattle.sc_lower.proofs.Common.{TypedStmtKind, TypedStmtKind-F, TypedStruct, [], after, all_go_into, alone}
 use Rattle.sc_lower.proofs.Common.{and_first, and_from, and_rest, ap, args_fit, arith as numbers, assign}
 use Rattle.sc_lower.proofs.Common.{assign_call_fits, assign_fits, at_place, block_code, body_fits, both, call_alone}
@@ -9,9 +9,9 @@ use Rattle.sc_lower.proofs.Common.{call_code, call_fits, call_for, cycle, everyw
 use Rattle.sc_lower.proofs.Common.{forms, goes_into, in_turn, init_code, init_fits, inits_code, is_scalar, is_some}
 use Rattle.sc_lower.proofs.Common.{is_target, is_type, judged, just, kind_fits, kind_step, layer_of, length, list_all}
 use Rattle.sc_lower.proofs.Common.{many, map, not, option_goes, part_code, part_fits, place_code, refl, result_goes}
-use Rattle.sc_lower.proofs.Common.{return_value, returned_call_fits, returned_fits, simple_code, simple_fits, stmt_at}
-use Rattle.sc_lower.proofs.Common.{stmt_code, stmt_fits, stmt_induction, store_at, subst, suc, sym, target_signature}
-use Rattle.sc_lower.proofs.Common.{test as tests, true, variable_ty, ℕ, ◌<◌, ◌∙◌, ◌∷◌, ◌≡◌, ◌≤◌}
+use Rattle.sc_lower.proofs.Common.{return_value, returned_call_fits, returned_fits, signed, simple_code, simple_fits}
+use Rattle.sc_lower.proofs.Common.{stmt_at, stmt_code, stmt_fits, stmt_induction, store_at, subst, suc, sym}
+use Rattle.sc_lower.proofs.Common.{target_signature, test as tests, true, variable_ty, ℕ, ◌<◌, ◌∙◌, ◌∷◌, ◌≡◌, ◌≤◌}
 use Rattle.sc_core.specs.declared.expr.CallTarget.TheVariants as target
 use Rattle.sc_core.specs.declared.stmt.TypedStmtKind.TheOpen as layer
 use Rattle.sc_core.specs.declared.stmt.TypedSimpleKind.TheVariants as simple
@@ -20,16 +20,6 @@ use Rattle.sc_tac.specs.declared.stmt.TacStmt.TheOpen as tac
 use Rattle.sc_tac.specs.declared.stmt.TacStmt.TheVariants as emit
 use Rattle.sc_lower.proofs.Tests.{call_layer, scalar_fits, all_append, all_one, all_behind, Below, AllBelow, PassedBy}
 use Rattle.sc_lower.proofs.Tests.{Clean, alone_clean, place_clean, place_passes, fork_passes, expr_clean}
-
--- the signature of a call that fits
-pub record Signed (o : Option Signature) (args : List Judged) : Type 0 where
-  pub signature : Signature
-  pub is : o ≡ Some signature
-  pub fit : all_go_into signature.params args ≡ true
-
-pub signed : (o : Option Signature) (args : List Judged) → args_fit o args ≡ true → Signed o args
-signed None args h = absurd (false≢true h)
-signed (Some signature) args h = record { signature = signature; is = refl; fit = h }
 
 -- a value that is returned fits
 pub returned_value : (r : Option Ty) (e : Judged) → returned_fits r e ≡ true → e.fits ≡ true

@@ -3,11 +3,11 @@ use Rattle.sc_lower.proofs.Common.{Arith, Codes, Function, Interfaces, Library, 
 use Rattle.sc_lower.proofs.Common.{Plan, Shape, Sheet, Slot, Some, SourceRun, TacStmt, TypedStruct, [], all_do, alone}
 use Rattle.sc_lower.proofs.Common.{and_then, ap, assign, at_place, body_code, both, closed, code_function}
 use Rattle.sc_lower.proofs.Common.{code_functions, code_globals, code_library, code_meaning_by, code_step, entry_of}
-use Rattle.sc_lower.proofs.Common.{frame_bound, in_turn, init_code, init_of, inits_code, is_some, just, length, local}
+use Rattle.sc_lower.proofs.Common.{frame_bound, in_turn, init_code, init_of, inits_code, is_some, just, length}
 use Rattle.sc_lower.proofs.Common.{lowered_function, lowered_program, lowered_sections, map, no_temps, place_code}
 use Rattle.sc_lower.proofs.Common.{plan_nodes, plan_nodes_is, program, refl, rows, rows_are, run_by, run_step}
 use Rattle.sc_lower.proofs.Common.{same_entry, section, stmt_does, stopped_at, suc, variables, ℕ, ◌∙◌, ◌∷◌, ◌≡◌}
-use Rattle.sc_core.proofs.Plans.{function}
+use Rattle.sc_core.proofs.Plans.{local, function}
 use Rattle.sc_tac.proofs.Shapes.{stmts as tac_stmts, Shape as TacShape}
 use Rattle.sc_lower.proofs.Shapes.{form, form_is, lines_code, lines_are}
 

@@ -7,13 +7,13 @@ use Rattle.sc_lower.proofs.Common.{eq-eqb, export_at, export_called, export_fits
 use Rattle.sc_lower.proofs.Common.{false≢true, found_passes, if◌then◌else◌, interface_fits, is_entered, is_main}
 use Rattle.sc_lower.proofs.Common.{is_some, is_well_typed, length, length-map, list_all, list_any, lowered_function}
 use Rattle.sc_lower.proofs.Common.{lowered_program, lowered_section, lowered_sections, main_entered, main_fits}
-use Rattle.sc_lower.proofs.Common.{main_name, map, named_so, not, numbered, option_and_then, option_map, position}
-use Rattle.sc_lower.proofs.Common.{proto_signature, refl, result_ty, same_either_way, same_entry, same_results}
-use Rattle.sc_lower.proofs.Common.{same_signature, same_text, same_types, scalar_ty, section_fits, sections_fit}
-use Rattle.sc_lower.proofs.Common.{signature_of, slice_get, subst, suc, sym, true, truth, ℕ, ◌&&◌, ◌+◌, ◌==◌, ◌||◌, ◌∙◌}
-use Rattle.sc_lower.proofs.Common.{◌∷◌, ◌≡◌}
+use Rattle.sc_lower.proofs.Common.{main_name, map, name_of, named_so, not, not-true, numbered, option_and_then}
+use Rattle.sc_lower.proofs.Common.{option_map, position, proto_signature, refl, result_ty, same_either_way, same_entry}
+use Rattle.sc_lower.proofs.Common.{same_results, same_signature, same_text, same_types, scalar_ty, section_fits}
+use Rattle.sc_lower.proofs.Common.{sections_fit, signature_of, slice_get, subst, suc, sym, true, truth, ℕ, ◌&&◌, ◌+◌}
+use Rattle.sc_lower.proofs.Common.{◌==◌, ◌||◌, ◌∙◌, ◌∷◌, ◌≡◌}
 use Rattle.sc_core.specs.declared.ty.Ty.TheVariants as ty
-use Rattle.sc_lower.proofs.Entries.{not_true, first_at, main_is, called_so, export_of, sections_so, mains_so}
+use Rattle.sc_lower.proofs.Entries.{first_at, main_is, called_so, export_of, sections_so, mains_so}
 use Rattle.sc_lower.proofs.Rules.{place as place_of, types_length, any_headed, exports_fit, distinct_names, beq_same}
 use Rattle.sc_lower.proofs.Rules.{function_kept}
 use Rattle.sc_lower.proofs.Sections.{all_made, result_same, globals_named, own_called, exports_called, imports_called}
@@ -31,9 +31,6 @@ count_none p (x ∷ xs) h = by (p x) h (count_none p xs) where
   by false h later = zero_first (count p xs) (later h) where
     zero_first : (n : ℕ) → n ≡ 0 → 0 + n ≡ 0
     zero_first n h = omega (numbers, h)
-
-abbrev name_of : TypedFunction → List ℕ
-name_of f = f.name
 
 named_none : (name : List ℕ) (fs : List TypedFunction) → list_any (bytes_eq name) (map name_of fs) ≡ false →
     list_any {X = TypedFunction} (λ f. bytes_eq f.name name) fs ≡ false
@@ -70,7 +67,7 @@ named_once name (f ∷ fs) distinct h =
           one_first (count {X = TypedFunction} (λ f. bytes_eq f.name name) fs)
           (count_none {A = TypedFunction} (λ f. bytes_eq f.name name) fs
           (named_none name fs (subst (λ n. list_any (bytes_eq n) (map name_of fs) ≡ false) (same_text f.name name is)
-          (not_true (list_any (bytes_eq f.name) (map name_of fs))
+          (not-true (list_any (bytes_eq f.name) (map name_of fs))
           (and_first (not (list_any (bytes_eq f.name) (map name_of fs))) _ distinct)))))
       by false is h later = zero_first (count {X = TypedFunction} (λ f. bytes_eq f.name name) fs) (later h)
 

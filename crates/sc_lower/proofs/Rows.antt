@@ -2,24 +2,22 @@
 use Rattle.sc_lower.proofs.Common.{Amp, Arrow, AssignCallLine, AssignLine, At, BinaryOp, Blamed, Bool, BreakLine, Call}
 use Rattle.sc_lower.proofs.Common.{CallLine, ContinueLine, Cross, Cycle, Done, Dot, EmptyLine, End, Ended, ForLine}
 use Rattle.sc_lower.proofs.Common.{Fork, IfLine, In, Input, Interfaces, Line, Lines, List, Lit, Local, NoLine, None}
-use Rattle.sc_lower.proofs.Common.{One, Output, Overflow, Own, Plan, Ret, ReturnCallLine, ReturnLine, ReturnValueLine}
-use Rattle.sc_lower.proofs.Common.{Shape, Sheet, Some, SourceRun, Star, TacOp, Two, TypedStruct, Var, WhileLine, []}
-use Rattle.sc_lower.proofs.Common.{c_arith, code_meaning, code_wrapped, codes, false, lowered_program, meaning, program}
-use Rattle.sc_lower.proofs.Common.{refl, roll-TacStmt, true, wrapping, ℕ, ◌∷◌, ◌≡◌}
+use Rattle.sc_lower.proofs.Common.{One, Out, Output, Overflow, Own, Plan, Ret, ReturnCallLine, ReturnLine}
+use Rattle.sc_lower.proofs.Common.{ReturnValueLine, Shape, Sheet, Some, SourceRun, Star, TacOp, Two, TypedStruct, Var}
+use Rattle.sc_lower.proofs.Common.{WhileLine, [], across_interfaces, by_plan, c_arith, code_meaning, code_wrapped}
+use Rattle.sc_lower.proofs.Common.{codes, false, fetched, give, global, global_of, int_op, int_pointer, ints, lit}
+use Rattle.sc_lower.proofs.Common.{local, lowered_program, main_with, meaning, output, param, plan, plus, program, refl}
+use Rattle.sc_lower.proofs.Common.{roll-TacStmt, slot, true, word, wrapping, ℕ, ◌∷◌, ◌≡◌}
 use Rattle.sc_base.specs.declared.op.BinaryOp.TheVariants as op
 use Rattle.sc_base.specs.declared.op.UnaryOp.TheVariants as unary
-use Rattle.sc_event.specs.declared.event.Event.TheVariants.{Out}
 use Rattle.sc_event.specs.declared.interface.Scalar.TheVariants as scalar
 use Rattle.sc_core.specs.declared.section.TypedGlobal.{TypedGlobal}
 use Rattle.sc_core.specs.declared.ty.BaseTy.TheVariants as base
 use Rattle.sc_core.specs.declared.ty.Ty.TheVariants as ty
-use Rattle.sc_core.proofs.Programs.{lit, global, param, local, plus, ints, int_pointer, slot, global_of, main_with}
-use Rattle.sc_core.proofs.Programs.{plan}
-use Rattle.sc_core.proofs.Rows.{by_plan}
 use Rattle.sc_tac.specs.declared.stmt.Constant.TheVariants as constant
 use Rattle.sc_tac.specs.declared.stmt.TacOp.TheVariants as tacop
 use Rattle.sc_tac.specs.declared.stmt.TacStmt.TheOpen as tac
-use Rattle.sc_tac.proofs.Runs.{word, int_op, output, give, fetched, alone, across_interfaces}
+use Rattle.sc_tac.proofs.Runs.{alone}
 use Rattle.sc_tac.proofs.Shapes.{Shape as TacShape}
 use Rattle.sc_lower.proofs.Plans.{AllEmit, lowered_is}
 

@@ -1,24 +1,25 @@
 -- The code of a function of a well-typed program keeps the rules of functions.
-use Rattle.sc_lower.proofs.Common.{All, Bool, CallTarget, Callable, Export, ForSection, Interface, Interfaces}
+use Rattle.sc_lower.proofs.Common.{All, Behind, Bool, CallTarget, Callable, Export, ForSection, Interface, Interfaces}
 use Rattle.sc_lower.proofs.Common.{IsFunction, IsLowerable, List, Main, None, Option, Part, Placed, ProgramTree, Proto}
 use Rattle.sc_lower.proofs.Common.{Scalar, Scope, Signature, Some, TacStmt-F, Ty, TypedFunction, TypedLocal, TypedParam}
 use Rattle.sc_lower.proofs.Common.{TypedSection, TypedStruct, [], all_assigned_first, all_at, allowed, and_first}
-use Rattle.sc_lower.proofs.Common.{and_from, and_rest, ap, are_distinct, arith as numbers, beq, block_code, body_code}
-use Rattle.sc_lower.proofs.Common.{body_fits, both, bytes_eq, callable_in, cells_of, comp_at, enters_by_words, entry_of}
-use Rattle.sc_lower.proofs.Common.{eq-eqb, eqb-true, everywhere, export_at, export_called, export_fits, exports_of}
-use Rattle.sc_lower.proofs.Common.{false, false≢true, first_of as first_temp, for_interface, for_section, found_passes}
-use Rattle.sc_lower.proofs.Common.{function_fits, global_fits, has_none, has_operands, if◌then◌else◌, import_fits}
-use Rattle.sc_lower.proofs.Common.{import_name, in_turn, init_fits, inits_code, is_array, is_plain_name, is_some}
-use Rattle.sc_lower.proofs.Common.{is_type, is_well_typed, le-leb, leb-true, length, length-append, length-map}
-use Rattle.sc_lower.proofs.Common.{list_all, list_any, local_fits, lowered_function, lt-ltb, main_fits, main_name, map}
-use Rattle.sc_lower.proofs.Common.{most_cells, most_exports, most_nodes, most_params, named_so, names_own_object}
-use Rattle.sc_lower.proofs.Common.{names_own_temps, nat_le, nat_lt, nodes, not, one_or_none, option_and_then}
-use Rattle.sc_lower.proofs.Common.{option_map, option_signature, own_names_differ, passed_fits, passes_few}
-use Rattle.sc_lower.proofs.Common.{passes_words, position, proto_signature, refl, result_fits, returns_result}
-use Rattle.sc_lower.proofs.Common.{same_base, same_import, same_signature, same_ty, same_types, scalar_ty, scope_of}
-use Rattle.sc_lower.proofs.Common.{signature_of, slice_get, slice_get-map, slice_index_or, stray_break, stray_continue}
-use Rattle.sc_lower.proofs.Common.{structs_fit, subst, suc, sym, takes_two, target_signature, total, true, type_within}
-use Rattle.sc_lower.proofs.Common.{variable_fits, variables, zero, ℕ, ◌&&◌, ◌++◌, ◌+◌, ◌<◌, ◌==◌, ◌∙◌, ◌∷◌, ◌≡◌, ◌≤◌}
+use Rattle.sc_lower.proofs.Common.{and_from, and_rest, ap, are_distinct, arith as numbers, behind, beq, block_code}
+use Rattle.sc_lower.proofs.Common.{body_code, body_fits, both, bytes_eq, callable_in, cells_of, comp_at}
+use Rattle.sc_lower.proofs.Common.{enters_by_words, entry_of, eq-eqb, eqb-true, everywhere, export_at, export_called}
+use Rattle.sc_lower.proofs.Common.{export_fits, exports_of, false, false≢true, first_of as first_temp, for_interface}
+use Rattle.sc_lower.proofs.Common.{for_section, found_passes, function_fits, global_fits, has_none, has_operands}
+use Rattle.sc_lower.proofs.Common.{if◌then◌else◌, import_fits, import_name, in_turn, init_fits, inits_code, is_array}
+use Rattle.sc_lower.proofs.Common.{is_plain_name, is_some, is_type, is_well_typed, le-leb, leb-true, length}
+use Rattle.sc_lower.proofs.Common.{length-append, length-map, list_all, list_any, local_fits, lowered_function, lt-ltb}
+use Rattle.sc_lower.proofs.Common.{main_fits, main_name, map, most_cells, most_exports, most_nodes, most_params}
+use Rattle.sc_lower.proofs.Common.{named_so, names_own_object, names_own_temps, nat_le, nat_lt, nodes, not, one_or_none}
+use Rattle.sc_lower.proofs.Common.{option_and_then, option_map, option_signature, own_names_differ, passed_fits}
+use Rattle.sc_lower.proofs.Common.{passes_few, passes_words, position, proto_signature, refl, result_fits}
+use Rattle.sc_lower.proofs.Common.{returns_result, same_base, same_import, same_signature, same_ty, same_types}
+use Rattle.sc_lower.proofs.Common.{scalar_ty, scope_of, signature_of, slice_get, slice_get-map, slice_index_or}
+use Rattle.sc_lower.proofs.Common.{stray_break, stray_continue, structs_fit, subst, suc, sym, takes_two}
+use Rattle.sc_lower.proofs.Common.{target_signature, total, true, type_within, variable_fits, variables, zero, ℕ, ◌&&◌}
+use Rattle.sc_lower.proofs.Common.{◌++◌, ◌+◌, ◌<◌, ◌==◌, ◌∙◌, ◌∷◌, ◌≡◌, ◌≤◌}
 use Rattle.std.proofs.lemmas.List.Sums.{AllPass-from_list_all}
 use Rattle.sc_event.specs.declared.interface.Import.TheVariants as import
 use Rattle.sc_event.specs.declared.interface.Scalar.TheVariants as scalar
@@ -27,6 +28,7 @@ use Rattle.sc_core.specs.declared.ty.BaseTy.{BaseTy}
 use Rattle.sc_core.specs.declared.ty.BaseTy.TheVariants as base
 use Rattle.sc_core.specs.declared.ty.Ty.TheVariants as ty
 use Rattle.sc_kinds.proofs.Sections.{first_of}
+use Rattle.sc_lower.proofs.Beyond.{function_near, locals_few}
 use Rattle.sc_lower.proofs.Entries.{sections_so, mains_so}
 use Rattle.sc_lower.proofs.Flowing.{all_assigned}
 use Rattle.sc_lower.proofs.Passing.{InitsFit, PassedByAll, body_passes}
@@ -310,15 +312,6 @@ module _ (program : ProgramTree) (typed : is_well_typed program ≡ true) where
       subst (λ m. m ≤ most_params) (sym count) (function_at interface section placed one.number passing.item
       passing.is).few
 
-  record Behind {A B : Type 0} (f : A → Option B) (o : Option A) (y : B) : Type 0 where
-    pub item : A
-    pub is : o ≡ Some item
-    pub gives : f item ≡ Some y
-
-  behind : {A B : Type 0} (f : A → Option B) (o : Option A) (y : B) → option_and_then f o ≡ Some y → Behind f o y
-  behind f None y h = absurd (cc)
-  behind f (Some x) y h = record { item = x; is = refl; gives = h }
-
   export_few : (to index : ℕ) (proto : Proto) → export_at faces to index ≡ Some proto →
       length proto.params ≤ most_params
   export_few to index proto h =
@@ -573,6 +566,11 @@ module _ (program : ProgramTree) (typed : is_well_typed program ≡ true) where
             by : (a b : ℕ) → a ≤ b → b ≤ most_nodes → a ≤ most_nodes
             by a b h k = omega (numbers, h, k)
 
+      few_locals : length scope.locals ≤ most_nodes
+      few_locals = by _ _ _ _ _ (length-map f.locals (λ l. l.ty)) (locals_few f.locals) few_nodes where
+        by : (n a b c p : ℕ) → n ≡ a → a ≤ b → suc p + b + c ≤ most_nodes → n ≤ most_nodes
+        by n a b c p same h k = omega (numbers, same, h, k)
+
       params_stored : length f.params ≤ length (variables section.structs f)
       params_stored =
           subst (λ m. length f.params ≤ m) (sym objects_same) (by (length f.params) (length scope.params)
@@ -612,6 +610,7 @@ module _ (program : ProgramTree) (typed : is_well_typed program ≡ true) where
         kept = function_kept;
         few_params = fits.few;
         few_nodes = few_nodes;
+        near = function_near scope few_locals callable f.result f inits fits.body;
         few_exports = few_exports;
         param_cells = small_params section.structs f.params fits.passed;
         local_cells = small_locals (scope_of section f) f.locals fits.locals;

@@ -7,15 +7,15 @@ use Rattle.sc_lower.proofs.Common.{calls_own, cells_of, cross_call_fits, decayed
 use Rattle.sc_lower.proofs.Common.{function_imported, goes_into, imports, in_section, input_imported, is_array}
 use Rattle.sc_lower.proofs.Common.{is_function, is_input, is_output, is_some, is_well_typed, judged, length, length-map}
 use Rattle.sc_lower.proofs.Common.{list_all, list_any, lowered_function, lowered_section, lt-ltb, map, names_own_global}
-use Rattle.sc_lower.proofs.Common.{not, option_map, option_map_or, option_signature, output_imported, own_call_fits}
-use Rattle.sc_lower.proofs.Common.{passed_fits, passes_words, proto_signature, refl, result_ty, same_import, scalar_ty}
-use Rattle.sc_lower.proofs.Common.{scope_of, signature_of, slice_get, slice_get-map, subst, suc, sym, takes_result}
-use Rattle.sc_lower.proofs.Common.{target_signature, true, type_goes, ℕ, ◌++◌, ◌<◌, ◌==◌, ◌∙◌, ◌∷◌, ◌≡◌}
+use Rattle.sc_lower.proofs.Common.{not, not-true, option_map, option_map_or, option_signature, output_imported}
+use Rattle.sc_lower.proofs.Common.{own_call_fits, passed_fits, passes_words, proto_signature, refl, result_ty}
+use Rattle.sc_lower.proofs.Common.{same_import, scalar_ty, scope_of, signature_of, slice_get, slice_get-map, subst, suc}
+use Rattle.sc_lower.proofs.Common.{sym, takes_result, target_signature, true, type_goes, ℕ, ◌++◌, ◌<◌, ◌==◌, ◌∙◌, ◌∷◌}
+use Rattle.sc_lower.proofs.Common.{◌≡◌}
 use Rattle.sc_event.specs.declared.interface.Import.{Import}
 use Rattle.sc_event.specs.declared.interface.Import.TheVariants as import
 use Rattle.sc_core.specs.declared.expr.CallTarget.TheVariants as target
 use Rattle.sc_core.specs.declared.ty.Ty.TheVariants as ty
-use Rattle.sc_lower.proofs.Entries.{not_true}
 use Rattle.sc_lower.proofs.Rules.{found_allowed, function_at, place as place_of, callable, all}
 use Rattle.sc_lower.proofs.Tests.{call_layer, PassedBy}
 
@@ -44,7 +44,7 @@ words_go structs (p ∷ params) (e ∷ es) rest h k =
     let goes = and_rest e.fits _ (and_first (goes_into p.ty e) _ h) in
     let passed = and_first (passed_fits structs p.ty) _ k in
     and_from _ _ (one_cell structs p.ty (decayed e.ty) goes
-    (not_true (is_array p.ty) (and_first (not (is_array p.ty)) _ passed)))
+    (not-true (is_array p.ty) (and_first (not (is_array p.ty)) _ passed)))
     (words_go structs params es rest (and_rest (goes_into p.ty e) _ h) (and_rest (passed_fits structs p.ty) _ k))
 
 takes : (dest : Option ℕ) (result : Bool) → (is_some dest ≡ true → result ≡ true) → takes_result dest result ≡ true

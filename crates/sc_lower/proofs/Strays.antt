@@ -8,11 +8,11 @@ use Rattle.sc_lower.proofs.Common.{body_fits, both, call_alone, call_code, call_
 use Rattle.sc_lower.proofs.Common.{false, false≢true, first_of, fold-TacStmt, fold-roll-TacStmt, fork, forms, goes_into}
 use Rattle.sc_lower.proofs.Common.{has_none, in_turn, init_code, init_fits, inits_code, is_scalar, is_target, is_type}
 use Rattle.sc_lower.proofs.Common.{judged, just, kind_fits, kind_step, layer_of, length, list_all, many, map}
-use Rattle.sc_lower.proofs.Common.{map-TacStmt, not, part_code, part_fits, place_code, refl, return_value}
-use Rattle.sc_lower.proofs.Common.{returned_call_fits, roll-TacStmt, simple_code, simple_fits, some_hold, stmt_at}
-use Rattle.sc_lower.proofs.Common.{stmt_code, stmt_fits, stmt_induction, store_at, stray_break, stray_continue, subst}
-use Rattle.sc_lower.proofs.Common.{suc, sym, target_signature, test as tests, true, variable_ty, with_parts, ℕ, ◌++◌}
-use Rattle.sc_lower.proofs.Common.{◌||◌, ◌∙◌, ◌∷◌, ◌≡◌}
+use Rattle.sc_lower.proofs.Common.{map-TacStmt, not, or_from, part_code, part_fits, place_code, refl, return_value}
+use Rattle.sc_lower.proofs.Common.{returned_call_fits, roll-TacStmt, signed, simple_code, simple_fits, some_hold}
+use Rattle.sc_lower.proofs.Common.{stmt_at, stmt_code, stmt_fits, stmt_induction, store_at, stray_break, stray_continue}
+use Rattle.sc_lower.proofs.Common.{subst, suc, sym, target_signature, test as tests, true, variable_ty, with_parts, ℕ}
+use Rattle.sc_lower.proofs.Common.{◌++◌, ◌||◌, ◌∙◌, ◌∷◌, ◌≡◌}
 use Rattle.sc_core.specs.declared.expr.CallTarget.TheVariants as target
 use Rattle.sc_core.specs.declared.stmt.TypedStmtKind.TheOpen as layer
 use Rattle.sc_core.specs.declared.stmt.TypedSimpleKind.TheVariants as simple
@@ -21,7 +21,7 @@ use Rattle.sc_tac.specs.declared.stmt.TacStmt.TheOpen as tac
 use Rattle.sc_tac.specs.declared.stmt.TacStmt.TheVariants as emit
 use Rattle.sc_tac.proofs.Induction.{Inside as CodeInside, stmt_induction as code_induction}
 use Rattle.sc_lower.proofs.Tests.{scalar_fits, PassedBy, alone_clean, place_clean, place_passes, expr_clean}
-use Rattle.sc_lower.proofs.Passing.{returned_value, signed, InitsFit}
+use Rattle.sc_lower.proofs.Passing.{returned_value, InitsFit}
 
 -- STRAIGHT CODE
 -- it neither loops nor leaves a loop
@@ -70,10 +70,6 @@ module _ (scope : Scope) (structs : List TypedStruct) where
       t h))).passes n (omega numbers)
 
 -- STRAYS
-or_false : (a b : Bool) → a ≡ false → b ≡ false → (a || b) ≡ false
-or_false true b h k = absurd (false≢true (sym h))
-or_false false b h k = k
-
 -- a statement without others inside, which goes on or ends the call
 abbrev is_plain : TacStmt-F Bool → Bool
 is_plain (tac.If cond a b) = false
@@ -129,15 +125,15 @@ continue_plain tac.Continue h = absurd (false≢true h)
 break_strays : Strays stray_break
 break_strays = record {
   plain = break_plain;
-  fork = λ c a b ha hb. or_false (some_hold a) _ ha (or_false (some_hold b) false hb refl);
+  fork = λ c a b ha hb. or_from (some_hold a) _ ha (or_from (some_hold b) false hb refl);
   cycle = λ head body next h k. refl;
 }
 
 continue_strays : Strays stray_continue
 continue_strays = record {
   plain = continue_plain;
-  fork = λ c a b ha hb. or_false (some_hold a) _ ha (or_false (some_hold b) false hb refl);
-  cycle = λ head body next h k. or_false (some_hold head) (some_hold next) (h refl) k;
+  fork = λ c a b ha hb. or_from (some_hold a) _ ha (or_from (some_hold b) false hb refl);
+  cycle = λ head body next h k. or_from (some_hold head) (some_hold next) (h refl) k;
 }
 
 module _ (stray : TacStmt-F Bool → Bool) (strays : Strays stray) where
@@ -154,7 +150,7 @@ module _ (stray : TacStmt-F Bool → Bool) (strays : Strays stray) where
 
   none_one : (k : TacStmt-F TacStmt) (c : TacStmt) → roll-TacStmt k ≡ c →
       stray (map-TacStmt _ _ (fold-TacStmt Bool stray) k) ≡ false → Free (c ∷ [])
-  none_one k c is h = or_false _ false (ap (fold-TacStmt Bool stray) (sym is) ∙ fold-roll-TacStmt Bool stray k ∙ h) refl
+  none_one k c is h = or_from _ false (ap (fold-TacStmt Bool stray) (sym is) ∙ fold-roll-TacStmt Bool stray k ∙ h) refl
 
   none_behind : (c : TacStmt) (ys : List TacStmt) → Free (c ∷ []) → Free ys → Free (c ∷ ys)
   none_behind c ys h k = none_append (c ∷ []) ys h k
@@ -166,7 +162,7 @@ module _ (stray : TacStmt-F Bool → Bool) (strays : Strays stray) where
   rows_none : (xs : List TacStmt) → Each S xs → Straight xs → Free xs
   rows_none [] h all = refl
   rows_none (x ∷ xs) h all =
-      or_false _ _ (h.0 (and_first (fold-TacStmt Bool (with_parts is_straight) x) _ all))
+      or_from _ _ (h.0 (and_first (fold-TacStmt Bool (with_parts is_straight) x) _ all))
       (rows_none xs h.1 (and_rest (fold-TacStmt Bool (with_parts is_straight) x) _ all))
 
   straight_level : (k : TacStmt-F TacStmt) → CodeInside S k →
@@ -199,7 +195,7 @@ module _ (stray : TacStmt-F Bool → Bool) (strays : Strays stray) where
   straight_none : (xs : List TacStmt) → Straight xs → Free xs
   straight_none [] all = refl
   straight_none (x ∷ xs) all =
-      or_false _ _ (straight_stmt x (and_first (fold-TacStmt Bool (with_parts is_straight) x) _ all))
+      or_from _ _ (straight_stmt x (and_first (fold-TacStmt Bool (with_parts is_straight) x) _ all))
       (straight_none xs (and_rest (fold-TacStmt Bool (with_parts is_straight) x) _ all))
 
   -- STATEMENTS

@@ -6,13 +6,13 @@ use Rattle.sc_lower.proofs.Common.{alone, and_code, and_first, and_from, and_res
 use Rattle.sc_lower.proofs.Common.{arith as numbers, at_place, between_op, binary, binary_code, binary_fits, both_ints}
 use Rattle.sc_lower.proofs.Common.{common, constant_of, decayed, difference_fits, either, everywhere, expr_at}
 use Rattle.sc_lower.proofs.Common.{expr_induction, false, false≢true, first_of, fold-TacStmt, fold-roll-TacStmt}
-use Rattle.sc_lower.proofs.Common.{from_first, from_one, from_two, if◌then◌else◌, is_address, is_array, is_int}
-use Rattle.sc_lower.proofs.Common.{is_pointer, is_scalar, is_type, is_unsigned_op, judged, length, loaded, lowered}
-use Rattle.sc_lower.proofs.Common.{lowered_step, map-TacStmt, member, move_op, not_op, or_code, place_code, points}
-use Rattle.sc_lower.proofs.Common.{refl, roll-TacStmt, same_pointers, same_ty, scalar_in, scalar_of, slice_get, subst}
-use Rattle.sc_lower.proofs.Common.{suc, sum_fits, sym, takes_two, target_cells, term_judged, term_of, term_step, true}
-use Rattle.sc_lower.proofs.Common.{truth_code, unary_fits, unary_op, variable_ty, with_parts, zero, ℕ, ◌&&◌, ◌++◌, ◌+◌}
-use Rattle.sc_lower.proofs.Common.{◌<◌, ◌||◌, ◌∙◌, ◌∷◌, ◌≡◌, ◌≤◌}
+use Rattle.sc_lower.proofs.Common.{from_first, from_one, from_two, if◌then◌else◌, int_fits, is_address, is_array}
+use Rattle.sc_lower.proofs.Common.{is_int, is_pointer, is_scalar, is_type, is_unsigned_op, judged, length, loaded}
+use Rattle.sc_lower.proofs.Common.{lowered, lowered_step, map-TacStmt, member, move_op, not_op, or_code, place_code}
+use Rattle.sc_lower.proofs.Common.{points, refl, roll-TacStmt, same_pointers, same_ty, scalar_in, scalar_of, slice_get}
+use Rattle.sc_lower.proofs.Common.{subst, suc, sum_fits, sym, takes_two, target_cells, term_judged, term_of, term_step}
+use Rattle.sc_lower.proofs.Common.{true, truth_code, unary_fits, unary_op, variable_ty, with_parts, zero, ℕ, ◌&&◌, ◌++◌}
+use Rattle.sc_lower.proofs.Common.{◌+◌, ◌<◌, ◌||◌, ◌∙◌, ◌∷◌, ◌≡◌, ◌≤◌}
 use Rattle.sc_base.specs.declared.op.BinaryOp.TheVariants as op
 use Rattle.sc_base.specs.declared.op.UnaryOp.TheVariants as unary
 use Rattle.sc_core.specs.declared.expr.CallTarget.TheVariants as target
@@ -31,9 +31,6 @@ call_layer target.Input dest at = tac.Input dest
 call_layer target.Output dest at = tac.Output (first_of at)
 
 -- WHAT FITS
-int_fits : (a : Judged) → is_int a ≡ true → a.fits ≡ true
-int_fits a h = and_first a.fits _ h
-
 points_fits : (a : Judged) → points a ≡ true → a.fits ≡ true
 points_fits a h = and_first a.fits _ h
 
@@ -96,7 +93,7 @@ difference_fit a b t h =
     either (A || B) (is_address a && (is_address b && (same_pointers a b && same_ty t ty.Int))) h
     (λ k. either A B k (λ k. ints_fit a b (and_first (both_ints a b) _ k)) (moved_fit a b _)) (apart_fit a b _)
 
-both_fit : (o : BinaryOp) (a b : Judged) (t : Ty) → binary_fits o a b t ≡ true → Fit a b
+pub both_fit : (o : BinaryOp) (a b : Judged) (t : Ty) → binary_fits o a b t ≡ true → Fit a b
 both_fit op.OrElse a b t h = scalars_fit a b _ h
 both_fit op.AndAlso a b t h = scalars_fit a b _ h
 both_fit op.BitOr a b t h = ints_fit a b (and_first (both_ints a b) _ h)
@@ -116,13 +113,13 @@ both_fit op.Mul a b t h = ints_fit a b (and_first (both_ints a b) _ h)
 both_fit op.Div a b t h = ints_fit a b (and_first (both_ints a b) _ h)
 both_fit op.Rem a b t h = ints_fit a b (and_first (both_ints a b) _ h)
 
-unary_fit : (o : UnaryOp) (a : Judged) (t : Ty) → unary_fits o a t ≡ true → a.fits ≡ true
+pub unary_fit : (o : UnaryOp) (a : Judged) (t : Ty) → unary_fits o a t ≡ true → a.fits ≡ true
 unary_fit unary.Not a t h = scalar_fits a (and_first (is_scalar a) _ h)
 unary_fit unary.Minus a t h = int_fits a (and_first (is_int a) _ h)
 unary_fit unary.Plus a t h = int_fits a (and_first (is_int a) _ h)
 unary_fit unary.BitNot a t h = int_fits a (and_first (is_int a) _ h)
 
-typed_at : (types : List Ty) (i : ℕ) (t : Ty) → is_type (slice_get types i) t ≡ true → i < length types
+pub typed_at : (types : List Ty) (i : ℕ) (t : Ty) → is_type (slice_get types i) t ≡ true → i < length types
 typed_at [] i t h = absurd (false≢true h)
 typed_at (x ∷ xs) zero t h = omega numbers
 typed_at (x ∷ xs) (suc i) t h = omega (numbers, typed_at xs i t h)

@@ -8,6 +8,7 @@ pub use Rattle.sc_core.specs.Prelude.{nodes, run_of, scripted_depth_by, scripted
 pub use Rattle.sc_core.specs.declared.expr.TypedCall.{TypedCall}
 pub use Rattle.sc_core.specs.declared.expr.TypedExpr.{TypedExpr, TypedExpr-F, fold-TypedExpr}
 pub use Rattle.sc_core.specs.declared.expr.TypedKind.{TypedKind-F}
+pub use Rattle.sc_core.specs.declared.expr.VarRef.{VarRef}
 pub use Rattle.sc_core.specs.declared.expr.VarRef.TheVariants.{Global, Local, Param}
 pub use Rattle.sc_core.specs.declared.program.ProgramTree.{ProgramTree}
 pub use Rattle.sc_core.specs.declared.section.TypedFunction.{TypedFunction}

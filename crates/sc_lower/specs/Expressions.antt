@@ -1,6 +1,6 @@
 -- The code of expressions: one temporary for each node at most, numbered upward.
 use Rattle.sc_lower.specs.Common.{BinaryOp, Const, Global, GlobalPlace, If, Load, Local, ObjectPlace, Op, Param}
-use Rattle.sc_lower.specs.Common.{TacStmt, Ty, TypedExpr, TypedExpr-F, TypedKind-F, TypedStruct, fold-TypedExpr}
+use Rattle.sc_lower.specs.Common.{TacStmt, Ty, TypedExpr, TypedExpr-F, TypedKind-F, TypedStruct, VarRef, fold-TypedExpr}
 use Rattle.sc_lower.specs.Common.{is_array, is_pointer, is_unsigned, is_unsigned_op, target_cells}
 use Rattle.std.specs.Prelude.{ℕ, suc, ◌+◌, Bool, true, false, List, [], ◌∷◌, ◌++◌, None, Some, if◌then◌else◌}
 use Rattle.sc_base.specs.declared.op.UnaryOp.{UnaryOp}
@@ -9,7 +9,6 @@ use Rattle.sc_base.specs.declared.op.BinaryOp.TheVariants as op
 use Rattle.sc_event.specs.declared.interface.Scalar.{Scalar}
 use Rattle.sc_event.specs.declared.interface.Scalar.TheVariants.{Int, Unsigned}
 use Rattle.sc_core.specs.declared.expr.TypedKind.TheOpen as term
-use Rattle.sc_core.specs.declared.expr.VarRef.{VarRef}
 use Rattle.sc_core.specs.declared.value.Want.{Want}
 use Rattle.sc_core.specs.declared.value.Want.TheVariants as want
 use Rattle.sc_tac.specs.declared.stmt.Constant.{Constant}

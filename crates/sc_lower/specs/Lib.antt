@@ -1,5 +1,6 @@
 pub mod Common
 pub mod Prelude
+pub mod Beyond
 pub mod Branches
 pub mod Expressions
 pub mod Lowering

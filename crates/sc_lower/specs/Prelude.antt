@@ -1,8 +1,9 @@
 -- What this crate's contracts, its proofs and the crates above cite, passed on from one place. Declares nothing.
-pub use Rattle.sc_core.specs.Prelude.{IsWellTyped, base_cells, call_nodes, cells_of, expr_nodes, init_nodes}
-pub use Rattle.sc_core.specs.Prelude.{is_unsigned, is_unsigned_op, local_nodes, main_name, most_cells, most_exports}
-pub use Rattle.sc_core.specs.Prelude.{most_nodes, most_params, nodes, part_nodes, simple_nodes, starred_cells}
-pub use Rattle.sc_core.specs.Prelude.{stmt_nodes, struct_cells, target_cells, total, variables}
+pub use Rattle.sc_core.specs.Prelude.{IsWellTyped, call_nodes, cells_of, expr_nodes, init_nodes, is_unsigned_op}
+pub use Rattle.sc_core.specs.Prelude.{local_nodes, main_name, most_cells, most_exports, most_nodes, most_params, nodes}
+pub use Rattle.sc_core.specs.Prelude.{part_nodes, simple_nodes, stmt_nodes, total, variables}
+pub use Rattle.sc_lower.specs.Beyond.{beyond, call_beyond, expr_beyond, init_beyond, kind_beyond, local_beyond}
+pub use Rattle.sc_lower.specs.Beyond.{part_beyond, simple_beyond, stmt_beyond, term_beyond, variable_beyond}
 pub use Rattle.sc_lower.specs.Branches.{KeepsBranches, call_branches, expr_branches, ifs, ifs_step, init_branches}
 pub use Rattle.sc_lower.specs.Branches.{kind_branches, local_branches, op_branches, part_branches, simple_branches}
 pub use Rattle.sc_lower.specs.Branches.{stmt_branches, stmt_ifs, term_branches}

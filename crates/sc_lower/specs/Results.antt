@@ -8,6 +8,7 @@ use Rattle.sc_core.specs.declared.value.Want.TheVariants as want
 use Rattle.sc_lower.specs.declared.calls.Values.{Values}
 use Rattle.sc_lower.specs.declared.code.Code.{Code}
 use Rattle.sc_lower.specs.declared.code.Fragment.{Fragment}
+use Rattle.sc_lower.specs.Beyond.{beyond}
 use Rattle.sc_lower.specs.Expressions.{Low, Lowered}
 use Rattle.sc_lower.specs.Statements.{Part, Many}
 use Rattle.sc_lower.specs.Programs.{exports_of, lowered_function}
@@ -34,6 +35,7 @@ pub record IsLowerable (interfaces : Interfaces) (comp : ℕ) (structs : List Ty
   pub kept : IsFunction (lowered_function interfaces comp structs f)
   pub few_params : length f.params ≤ most_params
   pub few_nodes : nodes f ≤ most_nodes
+  pub near : beyond f ≡ 0
   pub few_exports : length (exports_of (comp_at interfaces comp)) ≤ most_exports
   pub param_cells : All {X = TypedParam} (λ param. cells_of structs param.ty ≤ most_cells) f.params
   pub local_cells : All {X = TypedLocal} (λ local. cells_of structs local.ty ≤ most_cells) f.locals

@@ -1,8 +1,8 @@
 //! Calls (C11 6.5.2.2): arguments from left to right, then the call.
 
-ghost use Rattle.sc_lower.specs.Prelude.{args, call_alone, call_code, call_for, call_nodes, expr_nodes, first_of};
-ghost use Rattle.sc_lower.specs.Prelude.{forms, fragment_of, many, most_nodes, return_value, store_at, total};
-ghost use Rattle.sc_lower.specs.Prelude.{values_of};
+ghost use Rattle.sc_lower.specs.Prelude.{args, call_alone, call_beyond, call_code, call_for, call_nodes, expr_beyond};
+ghost use Rattle.sc_lower.specs.Prelude.{expr_nodes, first_of, forms, fragment_of, many, most_nodes, return_value};
+ghost use Rattle.sc_lower.specs.Prelude.{store_at, total, values_of};
 ghost use Rattle.std.specs.Prelude.{◌≡◌, ◌≤◌, ◌+◌, ◌++◌, ◌∷◌, [], suc, map, None, Some, IfOk};
 
 use crate::code::{Fragment, Scope, single};
@@ -26,7 +26,8 @@ fn lower_args(
     args: &[TypedExpr],
     free: u32,
 ) -> Result<Values, OutOfMemory>
-    requires { free + total (map expr_nodes args.now) ≤ most_nodes }
+    requires fits { free + total (map expr_nodes args.now) ≤ most_nodes }
+    requires near { total (map expr_beyond args.now) ≡ 0 }
     ensures made { IfOk result (λ values. values ≡
         values_of (many (map (forms scope.now.structs.now scope.now.params) args.now) free)) }
     ensures few { IfOk result (λ values. values.next ≤ free + total (map expr_nodes args.now)) }
@@ -98,7 +99,8 @@ pub fn lower_call(
     call: &TypedCall,
     free: u32,
 ) -> Result<Fragment, OutOfMemory>
-    requires { free + call_nodes call.now ≤ most_nodes }
+    requires fits { free + call_nodes call.now ≤ most_nodes }
+    requires near { call_beyond call.now ≡ 0 }
     ensures made { IfOk result (λ fragment. fragment ≡
         fragment_of (call_alone call.now.target (args scope.now.structs.now scope.now.params call.now) free)) }
     ensures few { IfOk result (λ fragment. fragment.next ≤ free + call_nodes call.now) }
@@ -120,7 +122,8 @@ pub fn store_call(
     call: &TypedCall,
     free: u32,
 ) -> Result<Fragment, OutOfMemory>
-    requires { free + suc (expr_nodes place.now + call_nodes call.now) ≤ most_nodes }
+    requires fits { free + suc (expr_nodes place.now + call_nodes call.now) ≤ most_nodes }
+    requires near { expr_beyond place.now + call_beyond call.now ≡ 0 }
     ensures made { IfOk result (λ fragment. fragment ≡
         fragment_of (call_for call.now.target (args scope.now.structs.now scope.now.params call.now)
         (store_at (forms scope.now.structs.now scope.now.params place.now)) free)) }
@@ -138,7 +141,8 @@ pub fn lower_return_call(
     call: &TypedCall,
     free: u32,
 ) -> Result<Fragment, OutOfMemory>
-    requires { free + suc (call_nodes call.now) ≤ most_nodes }
+    requires fits { free + suc (call_nodes call.now) ≤ most_nodes }
+    requires near { call_beyond call.now ≡ 0 }
     ensures made { IfOk result (λ fragment. fragment ≡
         fragment_of
         (call_for call.now.target (args scope.now.structs.now scope.now.params call.now) return_value free)) }

@@ -13,7 +13,7 @@ use std::alloc::Global;
 #[derive(Clone, Copy)]
 pub struct Scope<'a> {
     pub structs: &'a [TypedStruct],
-    pub params: u32,
+    pub params: u8,
 }
 
 /// Code, the temporary in which it leaves what it computes, and the next free one.

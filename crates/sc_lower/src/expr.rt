@@ -1,8 +1,8 @@
 //! Expressions (C11 6.5), by recursion on the tree, whose height is at most 256.
 
 ghost use Rattle.sc_lower.specs.Prelude.{IsOperands, Lowered, and_code, binary, binary_code, code_of, constant_of};
-ghost use Rattle.sc_lower.specs.Prelude.{expr_nodes, forms, fragment_of, most_nodes, move_op, or_code, place_code};
-ghost use Rattle.sc_lower.specs.Prelude.{store_at, truth_code};
+ghost use Rattle.sc_lower.specs.Prelude.{expr_beyond, expr_nodes, forms, fragment_of, most_nodes, move_op, or_code};
+ghost use Rattle.sc_lower.specs.Prelude.{place_code, store_at, truth_code};
 ghost use Rattle.std.specs.Prelude.{◌≡◌, ◌≤◌, ◌<◌, ◌+◌, ℕ, ◌++◌, ◌∷◌, [], suc, None, Some, IfOk};
 ghost use Rattle.sc_base.specs.declared.op.BinaryOp.TheVariants as op;
 ghost use Rattle.sc_tac.specs.declared.stmt.TacStmt;
@@ -176,14 +176,15 @@ pub fn lower_expr(
     expr: &TypedExpr,
     free: u32,
 ) -> Result<Code, OutOfMemory>
-    requires { free + expr_nodes expr.now ≤ most_nodes }
+    requires fits { free + expr_nodes expr.now ≤ most_nodes }
+    requires near { expr_beyond expr.now ≡ 0 }
     ensures made { IfOk result (λ code. code ≡ code_of (forms scope.now.structs.now scope.now.params expr.now want free)) }
     ensures few { IfOk result (λ code. code.next ≤ free + expr_nodes expr.now) }
 {
     match &expr.kind {
         TypedKind::Literal { value } => literal(alloc, expr.ty, *value, free),
         TypedKind::Variable(variable) => {
-            let place = alone(alloc, place_code(scope.params, *variable, free)?, free)?;
+            let place = alone(alloc, place_code(scope.params, *variable, free), free)?;
             loaded(place, expr.ty, want)
         }
         TypedKind::Unary { op, of } => {
@@ -229,7 +230,8 @@ pub fn lower_store(
     value: u32,
     free: u32,
 ) -> Result<Fragment, OutOfMemory>
-    requires { free + expr_nodes place.now ≤ most_nodes }
+    requires fits { free + expr_nodes place.now ≤ most_nodes }
+    requires near { expr_beyond place.now ≡ 0 }
     ensures made { IfOk result (λ fragment. fragment ≡
         fragment_of (store_at (forms scope.now.structs.now scope.now.params place.now) value free)) }
     ensures few { IfOk result (λ fragment. fragment.next ≤ free + expr_nodes place.now) }

@@ -1,8 +1,9 @@
 //! Functions: how they are entered, their variables, and their code.
 
-ghost use Rattle.sc_lower.specs.Prelude.{body_code, cells_of, entry_of, export_called, exports_of, fragment_of};
-ghost use Rattle.sc_lower.specs.Prelude.{in_turn, init_code, inits_code, local_nodes, lowered_function, main_name};
-ghost use Rattle.sc_lower.specs.Prelude.{most_cells, most_exports, most_nodes, most_params, nodes, total, variables};
+ghost use Rattle.sc_lower.specs.Prelude.{beyond, body_code, cells_of, entry_of, export_called, exports_of, fragment_of};
+ghost use Rattle.sc_lower.specs.Prelude.{in_turn, init_code, inits_code, local_beyond, local_nodes, lowered_function};
+ghost use Rattle.sc_lower.specs.Prelude.{main_name, most_cells, most_exports, most_nodes, most_params, nodes, total};
+ghost use Rattle.sc_lower.specs.Prelude.{variables};
 ghost use Rattle.sc_event.specs.Prelude.{comp_at};
 ghost use Rattle.std.specs.Prelude.{◌≡◌, ◌≤◌, ◌<◌, ◌+◌, ◌++◌, ◌==◌, ◌&&◌, bytes_eq, map, length, IfOk, IfSome};
 ghost use Rattle.std.specs.List.{position, All};
@@ -10,14 +11,13 @@ ghost use Rattle.std.specs.Option.{option_copied};
 ghost use Rattle.sc_event.specs.declared.interface.Proto.{Proto};
 ghost use Rattle.sc_core.specs.declared.section.TypedParam.{TypedParam};
 
-use crate::cells::cells_of;
 use crate::code::{Fragment, Scope, after, alone, ended, nothing};
 use crate::expr::lower_expr;
 use crate::nodes::function_nodes;
 use crate::selection::place_code;
 use crate::stmt::lower_stmts;
 use sc_base::{Name, OutOfMemory};
-use sc_core::{Ty, TypedFunction, TypedLocal, TypedParam, TypedStruct, VarRef, Want};
+use sc_core::{Ty, TypedFunction, TypedLocal, TypedParam, TypedStruct, VarRef, Want, cells_of};
 use sc_event::{CompId, Entry, Interfaces, Proto};
 use sc_tac::{ObjectCells, TacFnTree, TacStmt, TacStmts};
 use std::alloc::Global;
@@ -30,7 +30,9 @@ fn lower_init(
     local: &TypedLocal,
     free: u32,
 ) -> Result<Fragment, OutOfMemory>
-    requires { free + local_nodes local.now ≤ most_nodes }
+    requires fits { free + local_nodes local.now ≤ most_nodes }
+    requires near { local_beyond local.now ≡ 0 }
+    requires number { number < most_nodes }
     ensures made { IfOk result (λ fragment. fragment ≡
         fragment_of (init_code scope.now.structs.now scope.now.params number local.now local.now.init free)) }
     ensures few { IfOk result (λ fragment. fragment.next ≤ free + local_nodes local.now) }
@@ -39,7 +41,7 @@ fn lower_init(
         None => Ok(nothing(alloc, free)),
         Some(value) => {
             let code = lower_expr(alloc, scope, Want::Value, value, free)?;
-            let variable = place_code(scope.params, VarRef::Local(number), code.next)?;
+            let variable = place_code(scope.params, VarRef::Local(number), code.next);
             let place = alone(alloc, variable, code.next)?;
             let last = TacStmt::Store {
                 place: place.at,
@@ -52,7 +54,8 @@ fn lower_init(
 
 // The initialisers in order.
 fn lower_inits(alloc: Global, scope: &Scope, locals: &[TypedLocal]) -> Result<Fragment, OutOfMemory>
-    requires { total (map local_nodes locals.now) ≤ most_nodes }
+    requires fits { total (map local_nodes locals.now) ≤ most_nodes }
+    requires near { total (map local_beyond locals.now) ≡ 0 }
     ensures made { IfOk result (λ fragment. fragment ≡
         fragment_of (in_turn (inits_code scope.now.structs.now scope.now.params 0 locals.now) 0)) }
     ensures few { IfOk result (λ fragment. fragment.next ≤ total (map local_nodes locals.now)) }
@@ -74,10 +77,11 @@ fn lower_body(
     alloc: Global,
     structs: &[TypedStruct],
     function: &TypedFunction,
-    params: u32,
+    params: u8,
 ) -> Result<Fragment, OutOfMemory>
     requires counted { params ≡ length function.now.params }
     requires few { nodes function.now ≤ most_nodes }
+    requires near { beyond function.now ≡ 0 }
     ensures { IfOk result (λ fragment. fragment ≡ fragment_of (body_code structs.now function.now 0)) }
 {
     let scope = Scope { structs, params };
@@ -187,13 +191,14 @@ pub fn lower_function(
 ) -> Result<TacFnTree, OutOfMemory>
     requires few_params { length function.now.params ≤ most_params }
     requires few_nodes { nodes function.now ≤ most_nodes }
+    requires near { beyond function.now ≡ 0 }
     requires few_exports { length (exports_of (comp_at interfaces.now comp)) ≤ most_exports }
     requires param_cells { All (λ param. cells_of structs.now param.ty ≤ most_cells) function.now.params }
     requires local_cells { All (λ local. cells_of structs.now local.ty ≤ most_cells) function.now.locals }
     ensures { IfOk result (λ tree. tree ≡ lowered_function interfaces.now comp structs.now function.now) }
 {
     let params = param_count(function);
-    let body = lower_body(alloc, structs, function, params as u32)?;
+    let body = lower_body(alloc, structs, function, params)?;
     Ok(TacFnTree {
         comp,
         name: function.name,

@@ -2,7 +2,6 @@
 #![tactic(auto)]
 
 mod calls;
-mod cells;
 mod code;
 mod copies;
 mod expr;

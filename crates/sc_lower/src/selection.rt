@@ -1,13 +1,12 @@
 //! What operators become, by the types of their operands.
 
 ghost use Rattle.sc_lower.specs.Prelude.{between_op, binary_code, constant_of, is_sub, is_unsigned_op, move_op, not_op};
-ghost use Rattle.sc_lower.specs.Prelude.{place_code, scalar_in, scalar_of, truth_code, unary_op};
+ghost use Rattle.sc_lower.specs.Prelude.{place_code, scalar_in, scalar_of, truth_code, unary_op, variable_beyond};
 ghost use Rattle.std.specs.Prelude.{◌≡◌, ◌++◌, IfOk};
 
-use crate::cells::{is_unsigned, target_cells};
 use crate::code::Scope;
 use sc_base::{BinaryOp, OutOfMemory, UnaryOp};
-use sc_core::{Ty, TypedStruct, VarRef};
+use sc_core::{Ty, TypedStruct, VarRef, is_unsigned_op, target_cells};
 use sc_event::Scalar;
 use sc_tac::{Constant, TacOp, TacStmt, TacStmts};
 
@@ -24,7 +23,7 @@ fn scalar_in(unsigned: bool) -> Scalar
 fn scalar_of(ty: Ty) -> Scalar
     ensures { result ≡ scalar_of ty }
 {
-    scalar_in(is_unsigned(ty))
+    scalar_in(ty.is_unsigned())
 }
 
 /// A literal of this type.
@@ -38,16 +37,17 @@ pub fn constant_of(ty: Ty, word: u32) -> Constant
     }
 }
 
-/// The place of a variable into a temporary. There is no memory for more than 4294967295 variables.
-pub fn place_code(params: u32, variable: VarRef, dest: u32) -> Result<TacStmt, OutOfMemory>
-    ensures { IfOk result (λ stmt. stmt ≡ place_code params variable dest) }
+/// The place of a variable into a temporary.
+pub fn place_code(params: u8, variable: VarRef, dest: u32) -> TacStmt
+    requires { variable_beyond variable ≡ 0 }
+    ensures { result ≡ place_code params variable dest }
 {
     match variable {
-        VarRef::Global(global) => Ok(TacStmt::GlobalPlace { dest, global }),
-        VarRef::Param(object) => Ok(TacStmt::ObjectPlace { dest, object }),
-        VarRef::Local(local) => match params.checked_add(local) {
-            Some(object) => Ok(TacStmt::ObjectPlace { dest, object }),
-            None => Err(OutOfMemory),
+        VarRef::Global(global) => TacStmt::GlobalPlace { dest, global },
+        VarRef::Param(object) => TacStmt::ObjectPlace { dest, object },
+        VarRef::Local(local) => TacStmt::ObjectPlace {
+            dest,
+            object: params as u32 + local,
         },
     }
 }
@@ -105,16 +105,6 @@ pub fn move_op(structs: &[TypedStruct], op: BinaryOp, pointer: Ty, index: Ty) ->
         minus: is_sub(op),
         cells: target_cells(structs, pointer),
         index: scalar_of(index),
-    }
-}
-
-fn is_unsigned_op(op: BinaryOp, left: Ty, right: Ty) -> bool
-    ensures { result ≡ is_unsigned_op op left right }
-{
-    match op {
-        BinaryOp::ShiftLeft => is_unsigned(left),
-        BinaryOp::ShiftRight => is_unsigned(left),
-        _ => is_unsigned(left) || is_unsigned(right),
     }
 }
 

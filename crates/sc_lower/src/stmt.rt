@@ -1,8 +1,8 @@
 //! Statements (C11 6.8), by recursion on the tree.
 
-ghost use Rattle.sc_lower.specs.Prelude.{after, assign, block_code, expr_nodes, forms, fragment_of, most_nodes};
-ghost use Rattle.sc_lower.specs.Prelude.{part_code, part_nodes, return_value, simple_code, simple_nodes, stmt_code};
-ghost use Rattle.sc_lower.specs.Prelude.{stmt_nodes, test, total};
+ghost use Rattle.sc_lower.specs.Prelude.{after, assign, block_code, expr_beyond, expr_nodes, forms, fragment_of};
+ghost use Rattle.sc_lower.specs.Prelude.{most_nodes, part_beyond, part_code, part_nodes, return_value, simple_beyond};
+ghost use Rattle.sc_lower.specs.Prelude.{simple_code, simple_nodes, stmt_beyond, stmt_code, stmt_nodes, test, total};
 ghost use Rattle.std.specs.Prelude.{◌≡◌, ◌≤◌, ◌+◌, ◌++◌, ◌∷◌, [], suc, map, Some, IfOk};
 ghost use Rattle.sc_core.specs.declared.value.Want.TheVariants as want;
 ghost use Rattle.sc_tac.specs.declared.stmt.TacStmt;
@@ -25,7 +25,8 @@ fn lower_assign(
     value: &TypedExpr,
     free: u32,
 ) -> Result<Fragment, OutOfMemory>
-    requires { free + (expr_nodes place.now + expr_nodes value.now) ≤ most_nodes }
+    requires fits { free + (expr_nodes place.now + expr_nodes value.now) ≤ most_nodes }
+    requires near { expr_beyond place.now + expr_beyond value.now ≡ 0 }
     ensures made { IfOk result (λ fragment. fragment ≡
         fragment_of (assign (forms scope.now.structs.now scope.now.params place.now)
         (forms scope.now.structs.now scope.now.params value.now) free)) }
@@ -42,7 +43,8 @@ fn lower_return(
     value: &TypedExpr,
     free: u32,
 ) -> Result<Fragment, OutOfMemory>
-    requires { free + expr_nodes value.now ≤ most_nodes }
+    requires fits { free + expr_nodes value.now ≤ most_nodes }
+    requires near { expr_beyond value.now ≡ 0 }
     ensures made { IfOk result (λ fragment. fragment ≡
         fragment_of (after (forms scope.now.structs.now scope.now.params value.now want.Value) return_value free)) }
     ensures few { IfOk result (λ fragment. fragment.next ≤ free + expr_nodes value.now) }
@@ -61,7 +63,8 @@ fn lower_test(
     cond: &TypedExpr,
     free: u32,
 ) -> Result<Fragment, OutOfMemory>
-    requires { free + expr_nodes cond.now ≤ most_nodes }
+    requires fits { free + expr_nodes cond.now ≤ most_nodes }
+    requires near { expr_beyond cond.now ≡ 0 }
     ensures made { IfOk result (λ fragment. fragment ≡
         fragment_of (test (forms scope.now.structs.now scope.now.params cond.now) free)) }
     ensures few { IfOk result (λ fragment. fragment.next ≤ free + expr_nodes cond.now) }
@@ -83,7 +86,8 @@ fn lower_simple(
     kind: &TypedSimpleKind,
     free: u32,
 ) -> Result<Fragment, OutOfMemory>
-    requires { free + simple_nodes kind.now ≤ most_nodes }
+    requires fits { free + simple_nodes kind.now ≤ most_nodes }
+    requires near { simple_beyond kind.now ≡ 0 }
     ensures made { IfOk result (λ fragment. fragment ≡
         fragment_of (simple_code scope.now.structs.now scope.now.params kind.now free)) }
     ensures few { IfOk result (λ fragment. fragment.next ≤ free + simple_nodes kind.now) }
@@ -102,7 +106,8 @@ fn lower_part(
     part: &Option<TypedSimple>,
     free: u32,
 ) -> Result<Fragment, OutOfMemory>
-    requires { free + part_nodes part.now ≤ most_nodes }
+    requires fits { free + part_nodes part.now ≤ most_nodes }
+    requires near { part_beyond part.now ≡ 0 }
     ensures made { IfOk result (λ fragment. fragment ≡
         fragment_of (part_code scope.now.structs.now scope.now.params part.now free)) }
     ensures few { IfOk result (λ fragment. fragment.next ≤ free + part_nodes part.now) }
@@ -164,7 +169,8 @@ pub fn lower_stmts(
     block: &TypedStmts,
     free: u32,
 ) -> Result<Fragment, OutOfMemory>
-    requires { free + total (map stmt_nodes block.now) ≤ most_nodes }
+    requires fits { free + total (map stmt_nodes block.now) ≤ most_nodes }
+    requires near { total (map stmt_beyond block.now) ≡ 0 }
     ensures made { IfOk result (λ fragment. fragment ≡
         fragment_of (block_code scope.now.structs.now scope.now.params block.now free)) }
     ensures few { IfOk result (λ fragment. fragment.next ≤ free + total (map stmt_nodes block.now)) }
@@ -186,7 +192,8 @@ fn lower_stmt(
     stmt: &TypedStmt,
     free: u32,
 ) -> Result<Fragment, OutOfMemory>
-    requires { free + stmt_nodes stmt.now ≤ most_nodes }
+    requires fits { free + stmt_nodes stmt.now ≤ most_nodes }
+    requires near { stmt_beyond stmt.now ≡ 0 }
     ensures made { IfOk result (λ fragment. fragment ≡
         fragment_of (stmt_code scope.now.structs.now scope.now.params stmt.now free)) }
     ensures few { IfOk result (λ fragment. fragment.next ≤ free + stmt_nodes stmt.now) }

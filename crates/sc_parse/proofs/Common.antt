@@ -24,6 +24,7 @@ pub use Rattle.sc_ast.specs.declared.expr.ExprTree.{the_lemmas}
 pub use Rattle.sc_ast.specs.declared.section.FunctionParam.{FunctionParam}
 pub use Rattle.sc_ast.specs.declared.section.GlobalTree.{GlobalTree}
 pub use Rattle.sc_expr.proofs.Ahead.{behind_mark, name_ahead}
+pub use Rattle.sc_expr.proofs.Balance.{open_along, open_low}
 pub use Rattle.sc_expr.proofs.Options.{bound, cond_is, same_some}
 pub use Rattle.sc_expr.proofs.Sound.{read_sound}
 pub use Rattle.sc_expr.specs.Prelude.{Found, IsIdent, IsMark, Spells, arrow, behind, binary_of, extension_at, found}

@@ -1,11 +1,6 @@
 -- Brackets along a section.
 use Rattle.sc_parse.proofs.Common.{IsExcess, Lexeme, List, [], ap, arith, get_or, length, max, most_open, open_after}
-use Rattle.sc_parse.proofs.Common.{refl, sym, take, take_more, ℕ, ◌++◌, ◌+◌, ◌<◌, ◌∙◌, ◌∷◌, ◌≡◌, ◌≤◌}
-
--- how many brackets are open behind lexemes
-abbrev open_along : ℕ → List Lexeme → ℕ
-open_along n [] = n
-open_along n (t ∷ ts) = open_along (open_after t.symbol n) ts
+use Rattle.sc_parse.proofs.Common.{open_along, refl, sym, take, take_more, ℕ, ◌++◌, ◌+◌, ◌<◌, ◌∙◌, ◌∷◌, ◌≡◌, ◌≤◌}
 
 along_snoc : (n : ℕ) (ts : List Lexeme) (t : Lexeme) →
     open_along n (ts ++ t ∷ []) ≡ open_after t.symbol (open_along n ts)

@@ -6,12 +6,11 @@ use Rattle.sc_parse.proofs.Common.{begins_with, behind, behind_mark, binary_of, 
 use Rattle.sc_parse.proofs.Common.{call_tree, cond, expr_at, expr_height, exprs_height, extension_at, false, found}
 use Rattle.sc_parse.proofs.Common.{index, is_mark, is_some, joined, lead_by, literal, looser, loosest_level, member}
 use Rattle.sc_parse.proofs.Common.{more, most_open, name_ahead, name_at, no_args, none-some, one, open_after}
-use Rattle.sc_parse.proofs.Common.{open_behind, parenthesised, prefix, prefix_of, read, read_sound, refl, same_some}
-use Rattle.sc_parse.proofs.Common.{some_args, subst, sym, true, unary_level, variable, ℕ, ◌++◌, ◌>>=◌, ◌∙◌, ◌∷◌, ◌≡◌}
-use Rattle.sc_parse.proofs.Common.{◌≤◌}
+use Rattle.sc_parse.proofs.Common.{open_behind, open_low, parenthesised, prefix, prefix_of, read, read_sound, refl}
+use Rattle.sc_parse.proofs.Common.{same_some, some_args, subst, sym, true, unary_level, variable, ℕ, ◌++◌, ◌>>=◌, ◌∙◌}
+use Rattle.sc_parse.proofs.Common.{◌∷◌, ◌≡◌, ◌≤◌}
 use Rattle.sc_expr.specs.declared.mark.Mark.TheVariants as mark
 use Rattle.sc_expr.specs.declared.lexeme.Symbol.TheVariants as symbol
-use Rattle.sc_expr.proofs.Balance.{open_low}
 use Rattle.sc_expr.proofs.Complete.{reads_all}
 use Rattle.sc_parse.proofs.Exact.{Taken, Exact, ExactAdder, took, separated_exact}
 use Rattle.sc_parse.proofs.Bases.{mark_is}

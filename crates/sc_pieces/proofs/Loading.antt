@@ -24,7 +24,7 @@ module _ (image : ImageParts) (inputs : List ℕ) (world : World) (memory : Memo
   moves regs rd rs a h k is below =
       with_number image inputs world regs memory Addi rd rs (pos 0) a a h k is (omega arith)
 
-  loads_long : (regs : Registers) (rd w : ℕ) → IsWritable rd → w < 2 ^ 32 →
+  pub loads_long : (regs : Registers) (rd w : ℕ) → IsWritable rd → w < 2 ^ 32 →
       Computes image inputs world (Upper Lui rd (upper_part w) ∷ OpImm Addi rd rd (lower_part w) ∷ []) [] regs memory
       rd w
   loads_long regs rd w h below =

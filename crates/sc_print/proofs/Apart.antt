@@ -1,14 +1,16 @@
 -- Words that stand apart from the text behind them.
-use Rattle.sc_print.proofs.Common.{BinaryOp, Bool, IsToken, List, Some, TokenKind, [], and_from, and_parts, ap, arith}
-use Rattle.sc_print.proofs.Common.{begins_block_comment, begins_line_comment, binary_text, codes, drop, false}
+use Rattle.sc_print.proofs.Common.{BinaryOp, Bool, IsToken, Keyword, List, Some, TokenKind, [], and_from, and_parts, ap}
+use Rattle.sc_print.proofs.Common.{arith, begins_block_comment, begins_line_comment, binary_text, codes, drop, false}
 use Rattle.sc_print.proofs.Common.{false≢true, is_mark, is_name_byte, is_reserved, le-leb, length, length-append}
 use Rattle.sc_print.proofs.Common.{list_all, mark_one, mark_two, marks, nat_le, prefix_len, refl, slice_index, sym}
 use Rattle.sc_print.proofs.Common.{take, take-append_seam, true, word_found, word_kind, word_run, ℕ, ◌&&◌, ◌++◌, ◌<◌}
 use Rattle.sc_print.proofs.Common.{◌==◌, ◌||◌, ◌∙◌, ◌∷◌, ◌≡◌}
-use Rattle.sc_base.proofs.Bools.{and_false}
+use Rattle.std.proofs.Math.Bool.{and-false}
 use Rattle.sc_lex.specs.declared.token.TokenKind.TheVariants as kind
 use Rattle.sc_base.specs.declared.op.BinaryOp.TheVariants as binary
 use Rattle.sc_print.proofs.Literals.{no_table}
+use Rattle.sc_expr.specs.declared.mark.Keyword.TheVariants as keyword
+use Rattle.sc_print.proofs.Tables.{keyword_text}
 
 -- The text is the token at the front, where this stands behind it.
 pub record IsWord (text rest : List ℕ) : Type 0 where
@@ -50,20 +52,20 @@ one_two : (c : ℕ) (rest : List ℕ) → is_mark (c ∷ slice_index rest 0 ∷ 
     (nat_le 2 (length (c ∷ rest)) && is_mark (take 2 (c ∷ rest))) ≡ false
 one_two c [] h = refl
 one_two c (b ∷ rest) h = ap (λ x. nat_le 2 (length (c ∷ b ∷ rest)) && x) h ∙
-    and_false (nat_le 2 (length (c ∷ b ∷ rest)))
+    and-false (nat_le 2 (length (c ∷ b ∷ rest)))
 
 one_three : (c : ℕ) (rest : List ℕ) → ((d : ℕ) → is_mark (c ∷ slice_index rest 0 ∷ d ∷ []) ≡ false) →
     (nat_le 3 (length (c ∷ rest)) && is_mark (take 3 (c ∷ rest))) ≡ false
 one_three c [] h = refl
 one_three c (b ∷ []) h = refl
 one_three c (b ∷ d ∷ rest) h = ap (λ x. nat_le 3 (length (c ∷ b ∷ d ∷ rest)) && x) (h d) ∙
-    and_false (nat_le 3 (length (c ∷ b ∷ d ∷ rest)))
+    and-false (nat_le 3 (length (c ∷ b ∷ d ∷ rest)))
 
 two_three : (c e : ℕ) (rest : List ℕ) → is_mark (c ∷ e ∷ slice_index rest 0 ∷ []) ≡ false →
     (nat_le 3 (length (c ∷ e ∷ rest)) && is_mark (take 3 (c ∷ e ∷ rest))) ≡ false
 two_three c e [] h = refl
 two_three c e (d ∷ rest) h = ap (λ x. nat_le 3 (length (c ∷ e ∷ d ∷ rest)) && x) h ∙
-    and_false (nat_le 3 (length (c ∷ e ∷ d ∷ rest)))
+    and-false (nat_le 3 (length (c ∷ e ∷ d ∷ rest)))
 
 -- a mark of one byte
 pub one_word : (c : ℕ) (rest : List ℕ) → is_mark (c ∷ []) ≡ true → is_name_byte c ≡ false → (c ≡ 35 → ⊥) →
@@ -200,8 +202,7 @@ plus_word rest o = sign_word 43 rest refl refl (λ e. omega (arith, e)) refl ref
 pairs_not : Pairs 33
 unfolding is_mark
 pairs_not b plus h = (refl, λ d. refl)
-pairs_not b minus h = (refl, λ d. refl)
-pairs_not b ampersand h = (refl, λ d. refl)
+pairs_not b _ h = (refl, λ d. refl)
 
 pub not_word : (rest : List ℕ) → Opens (33 ∷ []) rest → IsWord (33 ∷ []) rest
 unfolding is_mark
@@ -210,8 +211,7 @@ not_word rest o = sign_word 33 rest refl refl (λ e. omega (arith, e)) refl refl
 pairs_tilde : Pairs 126
 unfolding is_mark
 pairs_tilde b plus h = (refl, λ d. refl)
-pairs_tilde b minus h = (refl, λ d. refl)
-pairs_tilde b ampersand h = (refl, λ d. refl)
+pairs_tilde b _ h = (refl, λ d. refl)
 
 pub tilde_word : (rest : List ℕ) → Opens (126 ∷ []) rest → IsWord (126 ∷ []) rest
 unfolding is_mark
@@ -220,8 +220,7 @@ tilde_word rest o = sign_word 126 rest refl refl (λ e. omega (arith, e)) refl r
 pairs_star : Pairs 42
 unfolding is_mark
 pairs_star b plus h = (refl, λ d. refl)
-pairs_star b minus h = (refl, λ d. refl)
-pairs_star b ampersand h = (refl, λ d. refl)
+pairs_star b _ h = (refl, λ d. refl)
 
 pub star_word : (rest : List ℕ) → Opens (42 ∷ []) rest → IsWord (42 ∷ []) rest
 unfolding is_mark
@@ -257,46 +256,14 @@ pub equal_word : (rest : List ℕ) → IsWord (codes "=") (32 ∷ rest)
 unfolding is_mark
 equal_word rest = one_word 61 (32 ∷ rest) refl refl (λ e. omega (arith, e)) refl refl refl (λ d. refl)
 
-pub break_word : (rest : List ℕ) → Calm rest → IsWord (codes "break") rest
-unfolding word_kind is_reserved
-break_word rest calm = plain_word (codes "break") rest kind.Reserved (omega arith) refl calm
+keyword_some : (w : Keyword) → 0 < length (keyword_text w)
+keyword_some keyword.Break = omega arith
+keyword_some _ = omega arith
 
-pub continue_word : (rest : List ℕ) → Calm rest → IsWord (codes "continue") rest
+keyword_kind : (w : Keyword) → word_kind (keyword_text w) ≡ Some kind.Reserved
 unfolding word_kind is_reserved
-continue_word rest calm = plain_word (codes "continue") rest kind.Reserved (omega arith) refl calm
+keyword_kind keyword.Break = refl
+keyword_kind _ = refl
 
-pub else_word : (rest : List ℕ) → Calm rest → IsWord (codes "else") rest
-unfolding word_kind is_reserved
-else_word rest calm = plain_word (codes "else") rest kind.Reserved (omega arith) refl calm
-
-pub for_word : (rest : List ℕ) → Calm rest → IsWord (codes "for") rest
-unfolding word_kind is_reserved
-for_word rest calm = plain_word (codes "for") rest kind.Reserved (omega arith) refl calm
-
-pub if_word : (rest : List ℕ) → Calm rest → IsWord (codes "if") rest
-unfolding word_kind is_reserved
-if_word rest calm = plain_word (codes "if") rest kind.Reserved (omega arith) refl calm
-
-pub int_word : (rest : List ℕ) → Calm rest → IsWord (codes "int") rest
-unfolding word_kind is_reserved
-int_word rest calm = plain_word (codes "int") rest kind.Reserved (omega arith) refl calm
-
-pub return_word : (rest : List ℕ) → Calm rest → IsWord (codes "return") rest
-unfolding word_kind is_reserved
-return_word rest calm = plain_word (codes "return") rest kind.Reserved (omega arith) refl calm
-
-pub struct_word : (rest : List ℕ) → Calm rest → IsWord (codes "struct") rest
-unfolding word_kind is_reserved
-struct_word rest calm = plain_word (codes "struct") rest kind.Reserved (omega arith) refl calm
-
-pub unsigned_word : (rest : List ℕ) → Calm rest → IsWord (codes "unsigned") rest
-unfolding word_kind is_reserved
-unsigned_word rest calm = plain_word (codes "unsigned") rest kind.Reserved (omega arith) refl calm
-
-pub void_word : (rest : List ℕ) → Calm rest → IsWord (codes "void") rest
-unfolding word_kind is_reserved
-void_word rest calm = plain_word (codes "void") rest kind.Reserved (omega arith) refl calm
-
-pub while_word : (rest : List ℕ) → Calm rest → IsWord (codes "while") rest
-unfolding word_kind is_reserved
-while_word rest calm = plain_word (codes "while") rest kind.Reserved (omega arith) refl calm
+pub keyword_word : (w : Keyword) (rest : List ℕ) → Calm rest → IsWord (keyword_text w) rest
+keyword_word w rest calm = plain_word (keyword_text w) rest kind.Reserved (keyword_some w) (keyword_kind w) calm

@@ -31,23 +31,21 @@ pub use Rattle.sc_lex.specs.declared.token.TokenKind.{TokenKind}
 pub use Rattle.sc_ast.proofs.Induction.{Each, Inside, Under, everywhere, expr_induction, stmt_induction}
 pub use Rattle.sc_ast.proofs.Layers.{expr_at, stmt_at}
 pub use Rattle.sc_ast.proofs.Statements.{bare_stmt, for_height, if_height, tree_height, while_height}
-pub use Rattle.sc_ast.specs.Prelude.{Layout, Number, Piece, Printed, SameButLines, apart, array_length}
-pub use Rattle.sc_ast.specs.Prelude.{assign_call_words, assign_words, base_words, behind_else, binary_text}
-pub use Rattle.sc_ast.specs.Prelude.{binary_words, blank, blank_if, block_words, call_height, call_words, chain_words}
-pub use Rattle.sc_ast.specs.Prelude.{comma, condition_words, const_words, decl_height, decl_words, declared_words}
-pub use Rattle.sc_ast.specs.Prelude.{decls_height, deeper, else_words, ended, equals, expr_height, expr_step}
-pub use Rattle.sc_ast.specs.Prelude.{expr_words, first_words, fits, for_words, function_height, function_words}
-pub use Rattle.sc_ast.specs.Prelude.{global_words, head_of, head_words, heading_words, highest, if_words, in_parens}
-pub use Rattle.sc_ast.specs.Prelude.{indent, init_words, is_chain, is_doubled, is_ident, is_place, kind_height}
-pub use Rattle.sc_ast.specs.Prelude.{kind_layout, layouts, length_number, length_words, line_of, lineless_decl}
-pub use Rattle.sc_ast.specs.Prelude.{lineless_export, lineless_function, lineless_function_head, lineless_import}
-pub use Rattle.sc_ast.specs.Prelude.{lineless_kind, lineless_local, lineless_option, lineless_stmt, lineless_stmts}
-pub use Rattle.sc_ast.specs.Prelude.{lines_at, literal_text, local_height, local_line, locals_height, member_line}
-pub use Rattle.sc_ast.specs.Prelude.{minus_words, name_words, newline, next_words, number_of, option_height, param_of}
-pub use Rattle.sc_ast.specs.Prelude.{param_words, params_words, piece_text, place_words, prefix_words, printed}
-pub use Rattle.sc_ast.specs.Prelude.{result_words, return_words, section_height, section_words, simple_words}
-pub use Rattle.sc_ast.specs.Prelude.{star_words, stmt_height, stmt_layout, stmts_height, struct_words, text_of}
-pub use Rattle.sc_ast.specs.Prelude.{unary_text, value_words, word, words_at}
+pub use Rattle.sc_ast.specs.Prelude.{Layout, Number, Piece, Printed, SameButLines, apart, array_length, base_words}
+pub use Rattle.sc_ast.specs.Prelude.{behind_else, binary_text, binary_words, blank, blank_if, block_words, call_words}
+pub use Rattle.sc_ast.specs.Prelude.{chain_words, comma, condition_words, const_words, decl_height, decl_words}
+pub use Rattle.sc_ast.specs.Prelude.{declared_words, decls_height, deeper, else_words, ended, equals, expr_height}
+pub use Rattle.sc_ast.specs.Prelude.{expr_step, expr_words, first_words, fits, for_words, function_words, global_words}
+pub use Rattle.sc_ast.specs.Prelude.{head_of, head_words, heading_words, if_words, in_parens, indent, init_words}
+pub use Rattle.sc_ast.specs.Prelude.{is_chain, is_doubled, is_ident, is_place, kind_height, kind_layout, layouts}
+pub use Rattle.sc_ast.specs.Prelude.{length_number, length_words, line_of, lineless_decl, lineless_export}
+pub use Rattle.sc_ast.specs.Prelude.{lineless_function_head, lineless_import, lineless_kind, lineless_local}
+pub use Rattle.sc_ast.specs.Prelude.{lineless_option, lineless_stmt, lineless_stmts, lines_at, literal_text}
+pub use Rattle.sc_ast.specs.Prelude.{local_height, local_line, locals_height, member_line, minus_words, name_words}
+pub use Rattle.sc_ast.specs.Prelude.{newline, next_words, number_of, option_height, param_of, param_words, params_words}
+pub use Rattle.sc_ast.specs.Prelude.{piece_text, place_words, prefix_words, printed, result_words, return_words}
+pub use Rattle.sc_ast.specs.Prelude.{section_height, section_words, simple_words, star_words, stmt_height, stmt_layout}
+pub use Rattle.sc_ast.specs.Prelude.{stmts_height, struct_words, text_of, unary_text, value_words, word, words_at}
 unfoldable pub use Rattle.sc_ast.specs.Prelude.{export_words, import_words}
 pub use Rattle.sc_ast.specs.declared.expr.CallTree.{CallTree}
 pub use Rattle.sc_ast.specs.declared.expr.ExprTree.{map-ExprTree}
@@ -59,7 +57,6 @@ pub use Rattle.sc_ast.specs.declared.section.InitTree.{InitTree}
 pub use Rattle.sc_ast.specs.declared.section.LocalTree.{LocalTree}
 pub use Rattle.sc_ast.specs.declared.section.MemberTree.{MemberTree}
 pub use Rattle.sc_ast.specs.declared.section.ParamTree.{ParamTree}
-pub use Rattle.sc_ast.specs.declared.section.StructTree.{StructTree}
 pub use Rattle.sc_ast.specs.declared.stmt.SimpleKind.{SimpleKind}
 pub use Rattle.sc_ast.specs.declared.stmt.SimpleTree.{SimpleTree}
 pub use Rattle.sc_ast.specs.declared.stmt.StmtKind.{StmtKind, StmtKind-F, map-StmtKind}
@@ -71,21 +68,21 @@ pub use Rattle.sc_expr.specs.Prelude.{IsMark, Spells, arrow, binary_of, import_o
 pub use Rattle.sc_expr.specs.Prelude.{looser, member, or_unused, parenthesised, prefix_of, prefixed, symbol_of}
 pub use Rattle.sc_expr.specs.Prelude.{variable, «prefix»}
 unfoldable pub use Rattle.sc_expr.specs.Prelude.{keyword_of, mark_of, says}
+pub use Rattle.sc_expr.specs.declared.mark.Keyword.{Keyword}
 pub use Rattle.sc_expr.specs.declared.mark.Mark.{Mark}
-pub use Rattle.sc_parse.specs.Prelude.{Declares, Grouped, IsGlobal, IsLocal, IsMember, Separated, SpellsArgs}
+pub use Rattle.sc_parse.specs.Prelude.{Declares, Grouped, IsGlobal, IsKeyword, IsLocal, IsMember, Separated, SpellsArgs}
 pub use Rattle.sc_parse.specs.Prelude.{SpellsBase, SpellsBlock, SpellsCall, SpellsCondition, SpellsConst, SpellsDecl}
-pub use Rattle.sc_parse.specs.Prelude.{SpellsDeclarator, SpellsDirectives, SpellsFunction, SpellsHead, SpellsIf}
-pub use Rattle.sc_parse.specs.Prelude.{SpellsInit, SpellsKind, SpellsParam, SpellsParams, SpellsPart, SpellsPlace}
-pub use Rattle.sc_parse.specs.Prelude.{SpellsResult, SpellsSection, SpellsSimple, SpellsStars, SpellsStmtKind}
-pub use Rattle.sc_parse.specs.Prelude.{SpellsStmts, SpellsStruct, SpellsTest, SpellsTypeName, SpellsValue, first_line}
-pub use Rattle.sc_parse.specs.Prelude.{more, no_args, one, some_args, type_name}
+pub use Rattle.sc_parse.specs.Prelude.{SpellsDeclarator, SpellsDirectives, SpellsHead, SpellsIf, SpellsInit, SpellsKind}
+pub use Rattle.sc_parse.specs.Prelude.{SpellsParam, SpellsParams, SpellsPart, SpellsPlace, SpellsResult, SpellsSection}
+pub use Rattle.sc_parse.specs.Prelude.{SpellsStars, SpellsStmtKind, SpellsStmts, SpellsTypeName, SpellsValue}
+pub use Rattle.sc_parse.specs.Prelude.{first_line, more, no_args, one, some_args, type_name}
 pub use Rattle.sc_print.specs.Common.{Decl, ExprTree, ExprTree-F, Lexeme, SectionTree, StmtTree, Symbol, Token}
-pub use Rattle.sc_print.specs.Prelude.{DeclsReadAs, ReadsAs, SaysAll, SectionReadsAs, SectionSpells, StmtsReadAs}
-pub use Rattle.sc_print.specs.Prelude.{StmtsSpell, WordsSpell, all_kept, are_kept, decls_text, dense_decl, dense_text}
-pub use Rattle.sc_print.specs.Prelude.{dense_words, expr_text, is_kept, is_kept_decl, is_kept_stmt, kept_base}
-pub use Rattle.sc_print.specs.Prelude.{kept_call, kept_const, kept_export, kept_function, kept_global, kept_head}
-pub use Rattle.sc_print.specs.Prelude.{kept_import, kept_init, kept_kind, kept_length, kept_local, kept_member}
-pub use Rattle.sc_print.specs.Prelude.{kept_name, kept_option, kept_param, kept_place, kept_result, kept_section}
-pub use Rattle.sc_print.specs.Prelude.{kept_simple, kept_step, kept_struct, kept_type, kept_value, piece_symbols}
-pub use Rattle.sc_print.specs.Prelude.{some_kept, stmts_text, symbols}
+pub use Rattle.sc_print.specs.Prelude.{DeclsReadAs, DeclsSpell, ReadsAs, SaysAll, SectionReadsAs, SectionSpells}
+pub use Rattle.sc_print.specs.Prelude.{StmtsReadAs, StmtsSpell, WordsSpell, all_kept, are_kept, decls_text, dense_decl}
+pub use Rattle.sc_print.specs.Prelude.{dense_text, dense_words, expr_text, is_kept, is_kept_decl, is_kept_stmt}
+pub use Rattle.sc_print.specs.Prelude.{kept_base, kept_call, kept_const, kept_export, kept_function, kept_global}
+pub use Rattle.sc_print.specs.Prelude.{kept_head, kept_import, kept_init, kept_kind, kept_length, kept_local}
+pub use Rattle.sc_print.specs.Prelude.{kept_member, kept_name, kept_option, kept_param, kept_place, kept_result}
+pub use Rattle.sc_print.specs.Prelude.{kept_section, kept_simple, kept_step, kept_struct, kept_type, kept_value}
+pub use Rattle.sc_print.specs.Prelude.{piece_symbols, some_kept, stmts_text, symbols}
 unfoldable pub use Rattle.sc_print.specs.Prelude.{word_symbol}

@@ -1,17 +1,18 @@
 -- The words of declarations stand apart.
 use Rattle.sc_print.proofs.Common.{BaseTree, Bool, Decl, ExprTree, FunctionTree, GlobalTree, HeadTree, InitTree, IsTrue}
-use Rattle.sc_print.proofs.Common.{List, LocalTree, MemberTree, None, Number, Option, ParamTree, Piece, Some}
-use Rattle.sc_print.proofs.Common.{StructTree, TypeName, TypeTree, [], and_parts, append-nil, append_assoc, are_kept}
-use Rattle.sc_print.proofs.Common.{base_words, blank, blank_if, codes, comma, const_words, decl_words, declared_words}
-use Rattle.sc_print.proofs.Common.{ended, false, false≢true, fits, flat_map, function_words, global_words, head_of}
-use Rattle.sc_print.proofs.Common.{head_words, init_words, is_ident, is_kept_decl, is_some, join_by, kept_base}
-use Rattle.sc_print.proofs.Common.{kept_const, kept_function, kept_global, kept_head, kept_init, kept_length}
-use Rattle.sc_print.proofs.Common.{kept_local, kept_member, kept_name, kept_param, kept_result, kept_struct, kept_type}
-use Rattle.sc_print.proofs.Common.{kept_value, layouts, leb-true, length_number, length_words, line_of, lines_at}
-use Rattle.sc_print.proofs.Common.{list_all, literal_text, local_line, member_line, minus_words, name_words, nat_le}
-use Rattle.sc_print.proofs.Common.{nat_lt, newline, param_words, params_words, refl, result_words, some_kept}
-use Rattle.sc_print.proofs.Common.{star_words, struct_words, subst, suc, sym, text_of, true, value_words, word, zero, ℕ}
-use Rattle.sc_print.proofs.Common.{◌&&◌, ◌++◌, ◌||◌, ◌∷◌, ◌≡◌}
+use Rattle.sc_print.proofs.Common.{List, LocalTree, MemberTree, None, Number, Option, ParamTree, Piece, Some, TypeName}
+use Rattle.sc_print.proofs.Common.{TypeTree, [], and_parts, append-nil, append_assoc, are_kept, base_words, blank}
+use Rattle.sc_print.proofs.Common.{blank_if, codes, comma, const_words, decl_words, declared_words, ended, false}
+use Rattle.sc_print.proofs.Common.{false≢true, fits, flat_map, function_words, global_words, head_of, head_words}
+use Rattle.sc_print.proofs.Common.{init_words, is_ident, is_kept_decl, is_some, join_by, kept_base, kept_const}
+use Rattle.sc_print.proofs.Common.{kept_function, kept_global, kept_head, kept_init, kept_length, kept_local}
+use Rattle.sc_print.proofs.Common.{kept_member, kept_name, kept_param, kept_result, kept_struct, kept_type, kept_value}
+use Rattle.sc_print.proofs.Common.{layouts, leb-true, length_number, length_words, line_of, lines_at, list_all}
+use Rattle.sc_print.proofs.Common.{literal_text, local_line, member_line, minus_words, name_words, nat_le, nat_lt}
+use Rattle.sc_print.proofs.Common.{newline, param_words, params_words, refl, result_words, some_kept, star_words}
+use Rattle.sc_print.proofs.Common.{struct_words, subst, suc, sym, text_of, true, value_words, word, zero, ℕ, ◌&&◌, ◌++◌}
+use Rattle.sc_print.proofs.Common.{◌||◌, ◌∷◌, ◌≡◌}
+use Rattle.sc_ast.specs.declared.section.StructTree.{StructTree}
 use Rattle.sc_ast.specs.declared.types.BaseTree.TheVariants as base
 use Rattle.sc_ast.specs.declared.section.InitTree.TheVariants as init
 use Rattle.sc_ast.specs.declared.section.Decl.TheVariants as decl
@@ -20,10 +21,11 @@ use Rattle.sc_print.proofs.Leaves.{name_kind, name_some}
 use Rattle.sc_print.proofs.Literals.{literal_kind, literal_some}
 use Rattle.sc_print.proofs.Apart.{IsWord, Calm, Quiet, quiet, plain_word, star_word, minus_word, open_paren}
 use Rattle.sc_print.proofs.Apart.{close_paren, open_square, close_square, semicolon, comma_word, open_curly}
-use Rattle.sc_print.proofs.Apart.{close_curly, equal_word, int_word, unsigned_word, struct_word, void_word}
+use Rattle.sc_print.proofs.Apart.{close_curly, equal_word, keyword_word}
 use Rattle.sc_print.proofs.Spacing.{Tidy, none, gap, next, at_level, line_end, tidy_append, Sound, word_quiet}
 use Rattle.sc_print.proofs.StmtSpacing.{Free, ended_tidy, expr_tidy, stmts_tidy}
 use Rattle.sc_print.proofs.Decls.{length_fits}
+use Rattle.sc_expr.specs.declared.mark.Keyword.TheVariants as keyword
 
 name_tidy : (name : List ℕ) → IsTrue (is_ident name) → (rest : List ℕ) → Calm rest → IsWord name rest
 name_tidy name ident rest calm = plain_word name rest kind.Ident (name_some name ident) (name_kind name ident) calm
@@ -34,9 +36,11 @@ literal_tidy number k rest calm = plain_word (literal_text number) rest kind.Int
     (literal_kind number k) calm
 
 base_tidy : (b : BaseTree) → IsTrue (kept_base b) → Sound (base_words b)
-base_tidy base.Int k rest calm = next (int_word _ calm) none
-base_tidy base.Unsigned k rest calm = next (unsigned_word _ refl) (gap (next (int_word _ calm) none))
-base_tidy (base.Struct tag) k rest calm = next (struct_word _ refl) (gap (next (name_tidy tag k _ calm) none))
+base_tidy base.Int k rest calm = next (keyword_word keyword.Int _ calm) none
+base_tidy base.Unsigned k rest calm = next (keyword_word keyword.Unsigned _ refl)
+    (gap (next (keyword_word keyword.Int _ calm) none))
+base_tidy (base.Struct tag) k rest calm = next (keyword_word keyword.Struct _ refl)
+    (gap (next (name_tidy tag k _ calm) none))
 
 stars_quiet : (stars : ℕ) (rest : List ℕ) → Quiet rest → Quiet (text_of (star_words stars) ++ rest)
 stars_quiet zero rest q = q
@@ -97,7 +101,7 @@ joined_tidy words kept t x (y ∷ ys) k all rest calm q =
 struct_tidy : (tree : StructTree) → IsTrue (kept_struct tree) → Free (struct_words tree)
 struct_tidy tree k rest =
     let parts = and_parts (is_ident tree.name) (some_kept kept_member tree.members) k in
-    next (struct_word _ refl) (gap (next (name_tidy tree.name parts.0 _ refl)
+    next (keyword_word keyword.Struct _ refl) (gap (next (name_tidy tree.name parts.0 _ refl)
     (gap (next (open_curly _) (line_end (tidy_append (flat_map member_line tree.members) (word (codes "}") ∷
     word (codes ";") ∷ newline ∷ []) rest (each_tidy member_line kept_member member_tidy tree.members
     (all_of tree.members parts.1) _) (next (close_curly _) (next (semicolon _) (line_end none)))))))))
@@ -159,7 +163,7 @@ local_tidy l k =
 
 -- a result ends before a name
 result_tidy : (r : Option TypeName) → IsTrue (kept_result r) → (rest : List ℕ) → Quiet rest → Tidy (result_words r) rest
-result_tidy None k rest q = next (void_word _ refl) (gap none)
+result_tidy None k rest q = next (keyword_word keyword.Void _ refl) (gap none)
 result_tidy (Some ty) k rest q = tidy_append (base_words ty.base) (blank ∷ star_words ty.stars) rest
     (base_tidy ty.base k _ refl) (gap (stars_tidy ty.stars rest q))
 
@@ -198,7 +202,7 @@ param_tidy p k rest calm q = let parts = and_parts (kept_base p.ty.base) (kept_n
 
 params_tidy : (ps : List ParamTree) → list_all kept_param ps ≡ true → (rest : List ℕ) → Calm rest → Quiet rest →
     Tidy (params_words ps) rest
-params_tidy [] k rest calm q = next (void_word _ calm) none
+params_tidy [] k rest calm q = next (keyword_word keyword.Void _ calm) none
 params_tidy (p ∷ ps) k rest calm q = let parts = and_parts (kept_param p) (list_all kept_param ps) k in
     joined_tidy param_words kept_param param_tidy p ps parts.0 parts.1 rest calm q
 

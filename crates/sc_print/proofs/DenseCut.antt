@@ -1,13 +1,11 @@
 -- Sections without empty lines are cut into the words of the section.
-use Rattle.sc_print.proofs.Common.{Decl, FunctionTree, IsTrue, List, Piece, SaysAll, SectionTree, [], and_parts, ap}
-use Rattle.sc_print.proofs.Common.{ap₂, decl_words, dense_decl, dense_text, dense_words, export_words, flat_map}
-use Rattle.sc_print.proofs.Common.{function_words, heading_words, import_words, is_kept_decl, kept_section, list_all}
-use Rattle.sc_print.proofs.Common.{newline, refl, section_words, subst, sym, symbols, text_of, true, ℕ, ◌++◌, ◌∙◌, ◌∷◌}
-use Rattle.sc_print.proofs.Common.{◌≡◌}
+use Rattle.sc_print.proofs.Common.{Decl, IsTrue, List, Piece, SaysAll, SectionTree, [], ap, ap₂, decl_words, dense_decl}
+use Rattle.sc_print.proofs.Common.{dense_text, dense_words, export_words, flat_map, heading_words, import_words}
+use Rattle.sc_print.proofs.Common.{is_kept_decl, kept_section, newline, refl, section_words, sym, symbols, text_of, ℕ}
+use Rattle.sc_print.proofs.Common.{◌++◌, ◌∙◌, ◌∷◌, ◌≡◌}
 use Rattle.sc_ast.specs.declared.section.Decl.TheVariants as decl
-use Rattle.sc_print.proofs.Spelling.{joined_symbols}
-use Rattle.sc_print.proofs.Spacing.{Tidy, line_end, tidy_append}
-use Rattle.sc_print.proofs.Spacing as spacing
+use Rattle.sc_print.proofs.Reading.{joined_symbols}
+use Rattle.sc_print.proofs.Spacing.{Tidy, line_end}
 use Rattle.sc_print.proofs.StmtSpacing.{Free}
 use Rattle.sc_print.proofs.DeclSpacing.{decl_tidy, each_tidy}
 use Rattle.sc_print.proofs.DirectiveWords.{heading_line_is}
@@ -26,9 +24,7 @@ dense_tidy (decl.Function tree) k rest = without_line (decl_tidy (decl.Function 
 
 decl_symbols : (d : Decl) → symbols (dense_decl d) ≡ symbols (decl_words d)
 decl_symbols (decl.Struct tree) = refl
-decl_symbols (decl.Global tree) = refl
-decl_symbols (decl.Proto tree) = refl
-decl_symbols (decl.Function tree) = refl
+decl_symbols _ = refl
 
 decls_symbols : (ds : List Decl) → symbols (flat_map dense_decl ds) ≡ symbols (flat_map decl_words ds)
 decls_symbols [] = refl

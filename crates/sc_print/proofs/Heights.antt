@@ -1,12 +1,11 @@
 -- The height of a tree doesn't depend on its lines.
-use Rattle.sc_print.proofs.Common.{CallTree, Decl, Each, ExprTree, FunctionTree, Inside, List, LocalTree, None, Option}
-use Rattle.sc_print.proofs.Common.{SameButLines, SectionTree, SimpleTree, Some, StmtKind, StmtKind-F, StmtTree, [], ap}
-use Rattle.sc_print.proofs.Common.{ap₂, arith, bare_stmt, call_height, decl_height, decls_height, everywhere}
-use Rattle.sc_print.proofs.Common.{expr_height, for_height, function_height, highest, if_height, kind_height}
-use Rattle.sc_print.proofs.Common.{lineless_decl, lineless_function, lineless_kind, lineless_local, lineless_option}
+use Rattle.sc_print.proofs.Common.{Decl, Each, ExprTree, Inside, List, LocalTree, None, Option, SameButLines}
+use Rattle.sc_print.proofs.Common.{SectionTree, SimpleTree, Some, StmtKind, StmtKind-F, StmtTree, [], ap, ap₂}
+use Rattle.sc_print.proofs.Common.{bare_stmt, decl_height, decls_height, everywhere, expr_height, for_height, if_height}
+use Rattle.sc_print.proofs.Common.{kind_height, lineless_decl, lineless_kind, lineless_local, lineless_option}
 use Rattle.sc_print.proofs.Common.{lineless_stmt, lineless_stmts, local_height, locals_height, map, max, option_height}
 use Rattle.sc_print.proofs.Common.{refl, roll-StmtKind, rules, section_height, stmt_height, stmt_induction}
-use Rattle.sc_print.proofs.Common.{stmts_height, suc, sym, tree_height, while_height, zero, ℕ, ◌+◌, ◌∙◌, ◌∷◌, ◌≡◌}
+use Rattle.sc_print.proofs.Common.{stmts_height, sym, tree_height, while_height, ◌+◌, ◌∙◌, ◌∷◌, ◌≡◌}
 use Rattle.sc_ast.specs.declared.stmt.StmtTree as trees
 use Rattle.sc_ast.specs.declared.stmt.StmtKind as kinds
 use Rattle.sc_ast.specs.declared.stmt.StmtKind.TheOpen as layer

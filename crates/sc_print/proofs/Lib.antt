@@ -11,6 +11,7 @@ pub mod Heights
 pub mod Lined
 pub mod Lists
 pub mod Literals
+pub mod Reading
 pub mod Sections
 pub mod Simple
 pub mod Some

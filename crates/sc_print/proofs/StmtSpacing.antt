@@ -1,14 +1,14 @@
 -- The words of statements stand apart.
 use Rattle.sc_print.proofs.Common.{Bool, CallTree, Each, ExprTree, Inside, IsTrue, Layout, List, None, Option, Piece}
 use Rattle.sc_print.proofs.Common.{SimpleKind, SimpleTree, Some, StmtKind, StmtKind-F, StmtTree, [], all_kept}
-use Rattle.sc_print.proofs.Common.{and_parts, append-nil, are_kept, behind_else, blank, block_words, call_words}
-use Rattle.sc_print.proofs.Common.{chain_words, codes, comma, condition_words, deeper, else_words, ended, equals}
-use Rattle.sc_print.proofs.Common.{expr_words, false, first_words, for_words, if_words, if◌then◌else◌, indent, is_chain}
-use Rattle.sc_print.proofs.Common.{is_ident, is_kept, is_kept_stmt, is_place, join_by, kept_call, kept_kind}
-use Rattle.sc_print.proofs.Common.{kept_option, kept_place, kept_simple, kind_layout, layouts, length, line_of}
-use Rattle.sc_print.proofs.Common.{lines_at, list_all, map, map-StmtKind, newline, next_words, place_words, refl}
-use Rattle.sc_print.proofs.Common.{return_words, roll-StmtKind, simple_words, stmt_at, stmt_induction, stmt_layout}
-use Rattle.sc_print.proofs.Common.{subst, sym, true, word, ℕ, ◌&&◌, ◌++◌, ◌==◌, ◌∷◌, ◌≡◌}
+use Rattle.sc_print.proofs.Common.{and_parts, append-nil, are_kept, blank, block_words, call_words, chain_words, codes}
+use Rattle.sc_print.proofs.Common.{comma, condition_words, deeper, else_words, ended, equals, expr_words, false}
+use Rattle.sc_print.proofs.Common.{first_words, for_words, if◌then◌else◌, indent, is_chain, is_ident, is_kept}
+use Rattle.sc_print.proofs.Common.{is_kept_stmt, is_place, join_by, kept_call, kept_kind, kept_option, kept_place}
+use Rattle.sc_print.proofs.Common.{kept_simple, kind_layout, layouts, length, line_of, lines_at, list_all, map}
+use Rattle.sc_print.proofs.Common.{map-StmtKind, newline, next_words, place_words, refl, return_words, roll-StmtKind}
+use Rattle.sc_print.proofs.Common.{simple_words, stmt_at, stmt_induction, stmt_layout, subst, sym, true, word, ℕ, ◌&&◌}
+use Rattle.sc_print.proofs.Common.{◌++◌, ◌==◌, ◌∷◌, ◌≡◌}
 use Rattle.sc_ast.specs.StmtWords as printing
 use Rattle.sc_ast.specs.declared.stmt.SimpleKind.TheVariants as simple
 use Rattle.sc_ast.specs.declared.stmt.StmtKind.TheOpen as layer
@@ -17,9 +17,9 @@ use Rattle.sc_print.specs.KeptStmts as kept
 use Rattle.sc_print.proofs.Each.{all_at}
 use Rattle.sc_print.proofs.Leaves.{name_kind, name_some}
 use Rattle.sc_print.proofs.Apart.{IsWord, Calm, plain_word, open_paren, close_paren, semicolon, comma_word, open_curly}
-use Rattle.sc_print.proofs.Apart.{close_curly, equal_word, break_word, continue_word, else_word, for_word, if_word}
-use Rattle.sc_print.proofs.Apart.{return_word, while_word}
+use Rattle.sc_print.proofs.Apart.{close_curly, equal_word, keyword_word}
 use Rattle.sc_print.proofs.Spacing.{Tidy, none, gap, next, at_level, line_end, tidy_append, Sound, tidy_at}
+use Rattle.sc_expr.specs.declared.mark.Keyword.TheVariants as keyword
 
 -- pieces that stand apart whatever is behind them
 abbrev pub Free : List Piece → Type 0
@@ -79,7 +79,7 @@ condition_tidy keyword cond w k rest = next (w _ refl)
     (expr_tidy cond k _ refl) (next (close_paren _) (gap none)))))
 
 pub return_tidy : (value : List Piece) → Sound value → Free (return_words value)
-return_tidy value t rest = next (return_word _ refl) (gap (ended_tidy value t rest))
+return_tidy value t rest = next (keyword_word keyword.Return _ refl) (gap (ended_tidy value t rest))
 
 first_tidy : (o : Option SimpleTree) → IsTrue (kept_option o) → Sound (first_words o)
 first_tidy None k rest calm = none
@@ -95,7 +95,8 @@ for_tidy f c n kf kc kn rest =
     let turn = tidy_append (next_words n) (word (codes ")") ∷ blank ∷ []) rest (next_tidy n kn _ refl)
     (next (close_paren _) (gap none)) in
     let test = tidy_append (expr_words c) _ rest (expr_tidy c kc _ refl) (next (semicolon _) turn) in
-    next (for_word _ refl) (gap (next (open_paren _) (tidy_append (first_words f) _ rest (first_tidy f kf _ refl)
+    next (keyword_word keyword.For _ refl) (gap (next (open_paren _) (tidy_append (first_words f) _ rest
+    (first_tidy f kf _ refl)
     (next (semicolon _) (gap test)))))
 
 abbrev Holds : StmtTree → Type 0
@@ -133,7 +134,7 @@ else_tidy : (depth : ℕ) (stmts : List StmtTree) → Each Holds stmts → list_
     Free (else_words depth (layouts stmts))
 else_tidy depth stmts each k =
     choice_tidy (length (layouts stmts) == 0) [] _ (λ rest. none)
-    (λ rest. gap (next (else_word _ refl) (gap (choice_tidy (is_chain (layouts stmts))
+    (λ rest. gap (next (keyword_word keyword.Else _ refl) (gap (choice_tidy (is_chain (layouts stmts))
     (chain_words depth (layouts stmts)) (block_words depth (layouts stmts)) (chain_tidy depth stmts each k)
     (block_tidy depth stmts each k) rest))))
 
@@ -149,13 +150,15 @@ form (layer.If cond then_part else_part) inside k depth rest =
     let parts = and_parts (is_kept cond) (all_kept (map is_kept_stmt then_part) &&
     all_kept (map is_kept_stmt else_part)) k in
     let both = and_parts (all_kept (map is_kept_stmt then_part)) (all_kept (map is_kept_stmt else_part)) parts.1 in
-    tidy_append (condition_words (codes "if") cond) _ rest (condition_tidy (codes "if") cond if_word parts.0 _)
+    tidy_append (condition_words (codes "if") cond) _ rest
+    (condition_tidy (codes "if") cond (keyword_word keyword.If) parts.0 _)
     (tidy_append (block_words depth (layouts then_part)) (else_words depth (layouts else_part)) rest
     (block_tidy depth then_part inside.0 (all_at then_part both.0) _)
     (else_tidy depth else_part inside.1 (all_at else_part both.1) rest))
 form (layer.While cond body) inside k depth rest =
     let parts = and_parts (is_kept cond) (all_kept (map is_kept_stmt body)) k in
-    tidy_append (condition_words (codes "while") cond) _ rest (condition_tidy (codes "while") cond while_word parts.0 _)
+    tidy_append (condition_words (codes "while") cond) _ rest
+    (condition_tidy (codes "while") cond (keyword_word keyword.While) parts.0 _)
     (block_tidy depth body inside (all_at body parts.1) rest)
 form (layer.For first cond after body) inside k depth rest =
     let parts = and_parts (kept_option first) (is_kept cond &&
@@ -164,9 +167,9 @@ form (layer.For first cond after body) inside k depth rest =
     let last = and_parts (kept_option after) (all_kept (map is_kept_stmt body)) more.1 in
     tidy_append (for_words first cond after) _ rest (for_tidy first cond after parts.0 more.0 last.0 _)
     (block_tidy depth body inside (all_at body last.1) rest)
-form layer.Break inside k depth rest = next (break_word _ refl) (next (semicolon _) none)
-form layer.Continue inside k depth rest = next (continue_word _ refl) (next (semicolon _) none)
-form layer.Return inside k depth rest = next (return_word _ refl) (next (semicolon _) none)
+form layer.Break inside k depth rest = next (keyword_word keyword.Break _ refl) (next (semicolon _) none)
+form layer.Continue inside k depth rest = next (keyword_word keyword.Continue _ refl) (next (semicolon _) none)
+form layer.Return inside k depth rest = next (keyword_word keyword.Return _ refl) (next (semicolon _) none)
 form (layer.ReturnValue value) inside k depth rest = return_tidy (expr_words value) (expr_tidy value k) rest
 form (layer.ReturnCall call) inside k depth rest = return_tidy (call_words call) (λ r calm. call_tidy call k r) rest
 

@@ -1,12 +1,11 @@
 -- What each fixed word says.
-use Rattle.sc_print.proofs.Common.{BinaryOp, List, Mark, Some, UnaryOp, arith, binary_of, binary_text, codes}
+use Rattle.sc_print.proofs.Common.{BinaryOp, Keyword, List, Mark, Some, UnaryOp, arith, binary_of, binary_text, codes}
 use Rattle.sc_print.proofs.Common.{is_integer, is_mark, is_name, is_number, is_reserved, keyword_of, kind_of, level_of}
 use Rattle.sc_print.proofs.Common.{mark_of, prefix_of, refl, says, suc, unary_text, word_kind, word_symbol, ℕ, ◌-◌, ◌≡◌}
 use Rattle.sc_print.proofs.Common.{◌≤◌}
 use Rattle.sc_base.specs.Levels as levels
 use Rattle.sc_base.specs.declared.op.UnaryOp.TheVariants as unary
 use Rattle.sc_base.specs.declared.op.BinaryOp.TheVariants as binary
-use Rattle.sc_expr.specs.declared.mark.Keyword.{Keyword}
 use Rattle.sc_expr.specs.declared.mark.Keyword.TheVariants as keyword
 use Rattle.sc_expr.specs.declared.mark.Mark.TheVariants as mark
 use Rattle.sc_expr.specs.declared.operator.Prefix.TheVariants as prefix
@@ -57,15 +56,11 @@ unary_mark unary.BitNot = mark.Tilde
 pub unary_says : (op : UnaryOp) → SaysMark (unary_text op) (unary_mark op)
 unfolding word_symbol kind_of word_kind is_reserved is_name is_integer is_number is_mark says mark_of
 unary_says unary.Minus = refl
-unary_says unary.Plus = refl
-unary_says unary.Not = refl
-unary_says unary.BitNot = refl
+unary_says _ = refl
 
 pub unary_prefix : (op : UnaryOp) → prefix_of (unary_mark op) ≡ Some (prefix.Operator op)
 unary_prefix unary.Minus = refl
-unary_prefix unary.Plus = refl
-unary_prefix unary.Not = refl
-unary_prefix unary.BitNot = refl
+unary_prefix _ = refl
 
 abbrev pub binary_mark : BinaryOp → Mark
 binary_mark binary.OrElse = mark.OrOr
@@ -90,124 +85,28 @@ binary_mark binary.Rem = mark.Percent
 pub binary_says : (op : BinaryOp) → SaysMark (binary_text op) (binary_mark op)
 unfolding word_symbol kind_of word_kind is_reserved is_name is_integer is_number is_mark says mark_of
 binary_says binary.OrElse = refl
-binary_says binary.AndAlso = refl
-binary_says binary.BitOr = refl
-binary_says binary.BitXor = refl
-binary_says binary.BitAnd = refl
-binary_says binary.Equal = refl
-binary_says binary.NotEqual = refl
-binary_says binary.Less = refl
-binary_says binary.Greater = refl
-binary_says binary.LessEqual = refl
-binary_says binary.GreaterEqual = refl
-binary_says binary.ShiftLeft = refl
-binary_says binary.ShiftRight = refl
-binary_says binary.Add = refl
-binary_says binary.Sub = refl
-binary_says binary.Mul = refl
-binary_says binary.Div = refl
-binary_says binary.Rem = refl
+binary_says _ = refl
 
 pub binary_operator : (op : BinaryOp) → binary_of (binary_mark op) ≡ Some op
 binary_operator binary.OrElse = refl
-binary_operator binary.AndAlso = refl
-binary_operator binary.BitOr = refl
-binary_operator binary.BitXor = refl
-binary_operator binary.BitAnd = refl
-binary_operator binary.Equal = refl
-binary_operator binary.NotEqual = refl
-binary_operator binary.Less = refl
-binary_operator binary.Greater = refl
-binary_operator binary.LessEqual = refl
-binary_operator binary.GreaterEqual = refl
-binary_operator binary.ShiftLeft = refl
-binary_operator binary.ShiftRight = refl
-binary_operator binary.Add = refl
-binary_operator binary.Sub = refl
-binary_operator binary.Mul = refl
-binary_operator binary.Div = refl
-binary_operator binary.Rem = refl
+binary_operator _ = refl
 
 -- an operator's level, and the next tighter one
 pub above : (op : BinaryOp) → level_of op ≡ suc (levels.level_of op - 1)
 above binary.OrElse = refl
-above binary.AndAlso = refl
-above binary.BitOr = refl
-above binary.BitXor = refl
-above binary.BitAnd = refl
-above binary.Equal = refl
-above binary.NotEqual = refl
-above binary.Less = refl
-above binary.Greater = refl
-above binary.LessEqual = refl
-above binary.GreaterEqual = refl
-above binary.ShiftLeft = refl
-above binary.ShiftRight = refl
-above binary.Add = refl
-above binary.Sub = refl
-above binary.Mul = refl
-above binary.Div = refl
-above binary.Rem = refl
+above _ = refl
 
 pub own_level : (op : BinaryOp) → suc (levels.level_of op - 1) ≡ levels.level_of op
 own_level binary.OrElse = refl
-own_level binary.AndAlso = refl
-own_level binary.BitOr = refl
-own_level binary.BitXor = refl
-own_level binary.BitAnd = refl
-own_level binary.Equal = refl
-own_level binary.NotEqual = refl
-own_level binary.Less = refl
-own_level binary.Greater = refl
-own_level binary.LessEqual = refl
-own_level binary.GreaterEqual = refl
-own_level binary.ShiftLeft = refl
-own_level binary.ShiftRight = refl
-own_level binary.Add = refl
-own_level binary.Sub = refl
-own_level binary.Mul = refl
-own_level binary.Div = refl
-own_level binary.Rem = refl
+own_level _ = refl
 
 pub at_most_loosest : (op : BinaryOp) → levels.level_of op ≤ 11
 at_most_loosest binary.OrElse = omega arith
-at_most_loosest binary.AndAlso = omega arith
-at_most_loosest binary.BitOr = omega arith
-at_most_loosest binary.BitXor = omega arith
-at_most_loosest binary.BitAnd = omega arith
-at_most_loosest binary.Equal = omega arith
-at_most_loosest binary.NotEqual = omega arith
-at_most_loosest binary.Less = omega arith
-at_most_loosest binary.Greater = omega arith
-at_most_loosest binary.LessEqual = omega arith
-at_most_loosest binary.GreaterEqual = omega arith
-at_most_loosest binary.ShiftLeft = omega arith
-at_most_loosest binary.ShiftRight = omega arith
-at_most_loosest binary.Add = omega arith
-at_most_loosest binary.Sub = omega arith
-at_most_loosest binary.Mul = omega arith
-at_most_loosest binary.Div = omega arith
-at_most_loosest binary.Rem = omega arith
+at_most_loosest _ = omega arith
 
 pub at_least_2 : (op : BinaryOp) → 2 ≤ levels.level_of op
 at_least_2 binary.OrElse = omega arith
-at_least_2 binary.AndAlso = omega arith
-at_least_2 binary.BitOr = omega arith
-at_least_2 binary.BitXor = omega arith
-at_least_2 binary.BitAnd = omega arith
-at_least_2 binary.Equal = omega arith
-at_least_2 binary.NotEqual = omega arith
-at_least_2 binary.Less = omega arith
-at_least_2 binary.Greater = omega arith
-at_least_2 binary.LessEqual = omega arith
-at_least_2 binary.GreaterEqual = omega arith
-at_least_2 binary.ShiftLeft = omega arith
-at_least_2 binary.ShiftRight = omega arith
-at_least_2 binary.Add = omega arith
-at_least_2 binary.Sub = omega arith
-at_least_2 binary.Mul = omega arith
-at_least_2 binary.Div = omega arith
-at_least_2 binary.Rem = omega arith
+at_least_2 _ = omega arith
 
 pub equal : SaysMark (codes "=") mark.Equal
 unfolding word_symbol kind_of word_kind is_reserved is_name is_integer is_number is_mark says mark_of
@@ -233,46 +132,23 @@ close_curly = refl
 abbrev pub SaysKeyword : List ℕ → Keyword → Type 0
 SaysKeyword text w = word_symbol text ≡ symbol.Keyword w
 
-pub break_word : SaysKeyword (codes "break") keyword.Break
-unfolding word_symbol kind_of word_kind is_reserved is_name is_integer is_number is_mark says keyword_of
-break_word = refl
+-- how each is written; `auto` is one that nothing is spelled with
+abbrev pub keyword_text : Keyword → List ℕ
+keyword_text keyword.Break = codes "break"
+keyword_text keyword.Continue = codes "continue"
+keyword_text keyword.Else = codes "else"
+keyword_text keyword.For = codes "for"
+keyword_text keyword.If = codes "if"
+keyword_text keyword.Int = codes "int"
+keyword_text keyword.Return = codes "return"
+keyword_text keyword.Signed = codes "signed"
+keyword_text keyword.Struct = codes "struct"
+keyword_text keyword.Unsigned = codes "unsigned"
+keyword_text keyword.Void = codes "void"
+keyword_text keyword.While = codes "while"
+keyword_text keyword.Unused = codes "auto"
 
-pub continue_word : SaysKeyword (codes "continue") keyword.Continue
+pub keyword_says : (w : Keyword) → SaysKeyword (keyword_text w) w
 unfolding word_symbol kind_of word_kind is_reserved is_name is_integer is_number is_mark says keyword_of
-continue_word = refl
-
-pub else_word : SaysKeyword (codes "else") keyword.Else
-unfolding word_symbol kind_of word_kind is_reserved is_name is_integer is_number is_mark says keyword_of
-else_word = refl
-
-pub for_word : SaysKeyword (codes "for") keyword.For
-unfolding word_symbol kind_of word_kind is_reserved is_name is_integer is_number is_mark says keyword_of
-for_word = refl
-
-pub if_word : SaysKeyword (codes "if") keyword.If
-unfolding word_symbol kind_of word_kind is_reserved is_name is_integer is_number is_mark says keyword_of
-if_word = refl
-
-pub int_word : SaysKeyword (codes "int") keyword.Int
-unfolding word_symbol kind_of word_kind is_reserved is_name is_integer is_number is_mark says keyword_of
-int_word = refl
-
-pub return_word : SaysKeyword (codes "return") keyword.Return
-unfolding word_symbol kind_of word_kind is_reserved is_name is_integer is_number is_mark says keyword_of
-return_word = refl
-
-pub struct_word : SaysKeyword (codes "struct") keyword.Struct
-unfolding word_symbol kind_of word_kind is_reserved is_name is_integer is_number is_mark says keyword_of
-struct_word = refl
-
-pub unsigned_word : SaysKeyword (codes "unsigned") keyword.Unsigned
-unfolding word_symbol kind_of word_kind is_reserved is_name is_integer is_number is_mark says keyword_of
-unsigned_word = refl
-
-pub void_word : SaysKeyword (codes "void") keyword.Void
-unfolding word_symbol kind_of word_kind is_reserved is_name is_integer is_number is_mark says keyword_of
-void_word = refl
-
-pub while_word : SaysKeyword (codes "while") keyword.While
-unfolding word_symbol kind_of word_kind is_reserved is_name is_integer is_number is_mark says keyword_of
-while_word = refl
+keyword_says keyword.Break = refl
+keyword_says _ = refl

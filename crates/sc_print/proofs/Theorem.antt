@@ -36,8 +36,8 @@ stmts_read_back stmts kept depth =
 pub decls_read_back : (ds : List Decl) → IsTrue (list_all is_kept_decl ds) → DeclsReadAs (decls_text ds) ds
 decls_read_back ds kept =
     let found = cut_of (flat_map decl_words ds) (decls_tidy ds kept []) in
-    let spelled = decls_read ds kept _ (said (decls_text ds) found.tokens ∙ found.says) in
-    record { tokens = found.tokens; cut = found.cuts; others = spelled.0; spelled = spelled.1; same = spelled.2 }
+    let read = decls_read ds kept _ (said (decls_text ds) found.tokens ∙ found.says) in
+    record { tokens = found.tokens; cut = found.cuts; others = read.others; spelled = read.spelled; same = read.same }
 
 pub section_reads_back : (tree : SectionTree) → IsTrue (kept_section tree) → SectionReadsAs (printed tree) tree
 section_reads_back tree kept =

@@ -3,13 +3,12 @@ use Rattle.sc_print.proofs.Common.{Decl, IsTrue, Lexeme, List, Piece, SameButLin
 use Rattle.sc_print.proofs.Common.{SpellsDirectives, SpellsSection, [], and_parts, ap, append_assoc, begins_heading}
 use Rattle.sc_print.proofs.Common.{decl_words, export_words, flat_map, import_words, is_kept_decl, is_name, kept_export}
 use Rattle.sc_print.proofs.Common.{kept_import, kept_section, lineless_decl, lineless_export, lineless_import, list_all}
-use Rattle.sc_print.proofs.Common.{map, printed, refl, section_words, subst, sym, symbols, text_of, true, word_symbol}
-use Rattle.sc_print.proofs.Common.{ℕ, ◌&&◌, ◌++◌, ◌∙◌, ◌∷◌, ◌≡◌}
+use Rattle.sc_print.proofs.Common.{map, printed, refl, section_words, sym, symbols, text_of, true, word, ℕ, ◌&&◌, ◌++◌}
+use Rattle.sc_print.proofs.Common.{◌∙◌, ◌∷◌, ◌≡◌}
 use Rattle.sc_ast.specs.declared.section.ExportLine.{ExportLine}
 use Rattle.sc_ast.specs.declared.section.ImportLine.{ImportLine}
 use Rattle.sc_parse.specs.Sections as spell
-use Rattle.sc_print.proofs.Lists.{Say, first_of, none_of, parts_of}
-use Rattle.sc_print.proofs.Spelling.{joined_symbols}
+use Rattle.sc_print.proofs.Reading.{Reading, part, written, reads}
 use Rattle.sc_print.proofs.DirectiveWords.{export_text, export_says, export_line_is, import_text, import_says}
 use Rattle.sc_print.proofs.DirectiveWords.{import_line_is, heading_text, heading_says, heading_line_is, heading_begins}
 use Rattle.sc_print.proofs.Lined.{Lined, tidy, line, found_lines}
@@ -25,51 +24,47 @@ record Directed (ts : List Lexeme) (exports : List ExportLine) (imports : List I
   same_exports : map lineless_export other_exports ≡ map lineless_export exports
   same_imports : map lineless_import other_imports ≡ map lineless_import imports
 
-imports_read : (imports : List ImportLine) → list_all kept_import imports ≡ true → (ts : List Lexeme) →
-    Say (symbols (flat_map import_words imports)) ts → Directed ts [] imports
+imports_read : (imports : List ImportLine) → list_all kept_import imports ≡ true →
+    Reading (flat_map import_words imports) (λ ts. Directed ts [] imports)
 unfolding import_words
-imports_read [] k ts h = record {
+imports_read [] k = reads [] (λ ts. Directed ts [] []) (record {
   other_exports = [];
   other_imports = [];
-  spelled = subst (λ us. SpellsDirectives us [] []) (sym (none_of ts h)) spell.none;
+  spelled = spell.none;
   same_exports = refl;
   same_imports = refl;
-}
-imports_read (l ∷ imports) k ts h =
+})
+imports_read (l ∷ imports) k =
     let parts = and_parts (kept_import l) (list_all kept_import imports) k in
     let names = and_parts (is_name l.comp) (is_name l.name) parts.0 in
-    let f = first_of (word_symbol (import_text l.comp l.name)) (symbols (flat_map import_words imports)) ts h in
-    let rest = imports_read imports parts.1 f.rest f.others in
-    let other : ImportLine = record { comp = l.comp; name = l.name; line = f.first.line } in
+    reads (written (import_text l.comp l.name) ∷ part (flat_map import_words imports) ∷ [])
+    (λ ts. Directed ts [] (l ∷ imports)) (λ t is us said.
+    let rest = imports_read imports parts.1 us said in
     record {
       other_exports = rest.other_exports;
-      other_imports = other ∷ rest.other_imports;
-      spelled = subst (λ us. SpellsDirectives us rest.other_exports (other ∷ rest.other_imports)) (sym f.whole)
-          (spell.«import» f.first l.comp l.name (f.is ∙ import_says l.comp l.name names.0 names.1) rest.spelled);
+      other_imports = record l { line = t.line } ∷ rest.other_imports;
+      spelled = spell.«import» t l.comp l.name (is ∙ import_says l.comp l.name names.0 names.1) rest.spelled;
       same_exports = rest.same_exports;
       same_imports = ap (λ xs. lineless_import l ∷ xs) rest.same_imports;
-    }
+    })
 
 exports_read : (exports : List ExportLine) (imports : List ImportLine) → list_all kept_export exports ≡ true →
-    list_all kept_import imports ≡ true → (ts : List Lexeme) →
-    Say (symbols (flat_map export_words exports) ++ symbols (flat_map import_words imports)) ts →
-    Directed ts exports imports
+    list_all kept_import imports ≡ true →
+    Reading (flat_map export_words exports ++ flat_map import_words imports) (λ ts. Directed ts exports imports)
 unfolding export_words
-exports_read [] imports k j ts h = imports_read imports j ts h
-exports_read (l ∷ exports) imports k j ts h =
+exports_read [] imports k j = imports_read imports j
+exports_read (l ∷ exports) imports k j =
     let parts = and_parts (kept_export l) (list_all kept_export exports) k in
-    let f = first_of (word_symbol (export_text l.name))
-    (symbols (flat_map export_words exports) ++ symbols (flat_map import_words imports)) ts h in
-    let rest = exports_read exports imports parts.1 j f.rest f.others in
-    let other : ExportLine = record { name = l.name; line = f.first.line } in
+    reads (written (export_text l.name) ∷ part (flat_map export_words exports ++ flat_map import_words imports) ∷ [])
+    (λ ts. Directed ts (l ∷ exports) imports) (λ t is us said.
+    let rest = exports_read exports imports parts.1 j us said in
     record {
-      other_exports = other ∷ rest.other_exports;
+      other_exports = record l { line = t.line } ∷ rest.other_exports;
       other_imports = rest.other_imports;
-      spelled = subst (λ us. SpellsDirectives us (other ∷ rest.other_exports) rest.other_imports) (sym f.whole)
-          (spell.export f.first l.name (f.is ∙ export_says l.name parts.0) rest.spelled);
+      spelled = spell.export t l.name (is ∙ export_says l.name parts.0) rest.spelled;
       same_exports = ap (λ xs. lineless_export l ∷ xs) rest.same_exports;
       same_imports = rest.same_imports;
-    }
+    })
 
 same_section : (tree : SectionTree) (exports : List ExportLine) (imports : List ImportLine) (decls : List Decl) →
     map lineless_export exports ≡ map lineless_export tree.exports →
@@ -106,26 +101,23 @@ section_reads tree k ts h =
     let exports : List Piece = flat_map export_words tree.exports in
     let imports : List Piece = flat_map import_words tree.imports in
     let decls : List Piece = flat_map decl_words tree.decls in
-    let f = first_of (word_symbol (heading_text tree.name)) (symbols (exports ++ (imports ++ decls))) ts h in
-    let seam = joined_symbols exports (imports ++ decls) ∙
-    ap (λ ss. symbols exports ++ ss) (joined_symbols imports decls) ∙
-    sym (append_assoc (symbols exports) (symbols imports) (symbols decls)) in
-    let p = parts_of (symbols exports ++ symbols imports) (symbols decls) f.rest (f.others ∙ seam) in
-    let d = exports_read tree.exports tree.imports kept.exports kept.imports p.front p.first in
-    let ds = decls_read tree.decls kept.decls p.back p.second in
+    reads (written (heading_text tree.name) ∷ part (exports ++ imports) ∷ part decls ∷ [])
+    (λ us. (other : SectionTree) × SpellsSection tree.line us other × SameButLines other tree)
+    (λ t is front directed back declared.
+    let d = exports_read tree.exports tree.imports kept.exports kept.imports front directed in
+    let ds = decls_read tree.decls kept.decls back declared in
     let other : SectionTree = record {
       name = tree.name;
       line = tree.line;
       exports = d.other_exports;
       imports = d.other_imports;
-      decls = ds.0;
-    } in
-    let whole : ts ≡ f.first ∷ (p.front ++ p.back) = f.whole ∙ ap (λ us. f.first ∷ us) p.whole in (
+      decls = ds.others;
+    } in (
       other,
-      subst (λ us. SpellsSection tree.line us other) (sym whole)
-          (spell.section f.first tree.name (f.is ∙ heading_says tree.name kept.name) d.spelled ds.1),
-      same_section tree d.other_exports d.other_imports ds.0 d.same_exports d.same_imports ds.2,
-    )
+      spell.section t tree.name (is ∙ heading_says tree.name kept.name) d.spelled ds.spelled,
+      same_section tree d.other_exports d.other_imports ds.others d.same_exports d.same_imports ds.same,
+    )) ts
+    (h ∙ ap (λ pieces. symbols (word (heading_text tree.name) ∷ pieces)) (sym (append_assoc exports imports decls)))
 
 pub exports_lined : (exports : List ExportLine) → list_all kept_export exports ≡ true → (more : List Piece) →
     Lined more → Lined (flat_map export_words exports ++ more)

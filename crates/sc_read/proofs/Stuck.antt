@@ -1,17 +1,9 @@
 -- Bytes that are cut aren't refused.
 use Rattle.sc_read.proofs.Common.{Bool, Cuts, IsCut, IsGap, IsStuck, IsToken, List, Refusal, RefusesBytes, Some, Token}
-use Rattle.sc_read.proofs.Common.{TokenKind, [], allows_directive, arith, block_comment, cases_lt, drop, gap, gap_fits}
-use Rattle.sc_read.proofs.Common.{length, length-drop, line_comment, none-some, nothing, one_gap, refl, subst, sym}
-use Rattle.sc_read.proofs.Common.{take, token, token_positive, white_space, ℕ, ⊎_elim, ◌+◌, ◌<◌, ◌∙◌, ◌∷◌, ◌≡◌, ◌≤◌}
-use Rattle.sc_lex.proofs.Fronts.{white_none}
-use Rattle.sc_lex.proofs.Cuts.{token_le}
-
--- a gap begins no token
-gap_and_token : {directives : Bool} {text : List ℕ} {kind : TokenKind} {n m : ℕ} → IsGap text n →
-    IsToken directives text kind m → ⊥
-gap_and_token {directives} {text} {kind} {m = m} (white_space h) t = white_none text h directives kind m t
-gap_and_token (block_comment at h low ends first) t = t.no_block_comment h
-gap_and_token (line_comment h) t = t.no_line_comment h
+use Rattle.sc_read.proofs.Common.{TokenKind, [], allows_directive, arith, cases_lt, drop, gap, gap_fits, length}
+use Rattle.sc_read.proofs.Common.{length-drop, none-some, nothing, one_gap, refl, subst, sym, take, token}
+use Rattle.sc_read.proofs.Common.{token_positive, ℕ, ⊎_elim, ◌+◌, ◌<◌, ◌∙◌, ◌∷◌, ◌≡◌, ◌≤◌}
+use Rattle.sc_lex.proofs.Cuts.{gap_and_token, token_le}
 
 module _ (bytes : List ℕ) where
   no_gap_behind : {n : ℕ} (at : ℕ) → length bytes ≤ at → IsGap (drop at bytes) n → ⊥

@@ -8,6 +8,7 @@ pub mod Functions
 pub mod Held
 pub mod Jumps
 pub mod Lines
+pub mod Linking
 pub mod Loops
 pub mod Opening
 pub mod Operators

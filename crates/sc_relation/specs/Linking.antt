@@ -1,7 +1,9 @@
 -- Lines of code as the linker completes them: with the addresses of what they refer to.
-use Rattle.std.specs.Prelude.{ℕ, ℤ, pos, ◌+◌, ◌-ℤ◌, List, [], ◌∷◌, Option, None, Some}
+use Rattle.std.specs.Prelude.{ℕ, ℤ, suc, pos, ◌+◌, ◌-ℤ◌, ◌==◌, if◌then◌else◌, List, [], ◌∷◌, Option, None, Some}
 use Rattle.rv_code.specs.declared.instr.Instr.{Instr}
 use Rattle.rv_code.specs.declared.instr.Instr.TheVariants.{Upper, Jal, Jalr, OpImm}
+use Rattle.sc_tac.specs.declared.machine_code.CodeTree.{CodeTree}
+use Rattle.sc_tac.specs.declared.machine_code.Relocation.{Relocation}
 use Rattle.sc_tac.specs.declared.machine_code.Target.{Target}
 use Rattle.sc_tac.specs.declared.machine_code.Target.TheVariants.{Function, Entry, Global}
 use Rattle.sc_select.specs.Lines.{Line}
@@ -43,3 +45,25 @@ module _ (addresses : Addresses) where
   abbrev pub low_after : Option ℕ → List Line → Option ℕ
   low_after low [] = low
   low_after low (line ∷ lines) = low_after (low_behind line.target) lines
+
+  -- The same by the relocations of code, whose instructions are counted from a number on.
+
+  -- what the instruction at a number refers to, where it is the next to refer to something; and the relocations behind it
+  abbrev pub target_at : ℕ → List Relocation → Option Target
+  target_at at [] = None
+  target_at at (relocation ∷ relocations) = if relocation.at == at then Some relocation.target else None
+
+  abbrev pub relocations_behind : ℕ → List Relocation → List Relocation
+  relocations_behind at [] = []
+  relocations_behind at (relocation ∷ relocations) =
+      if relocation.at == at then relocations else relocation ∷ relocations
+
+  abbrev pub linked_from : (pc at : ℕ) → Option ℕ → List Instr → List Relocation → List Instr
+  linked_from pc at low [] relocations = []
+  linked_from pc at low (instr ∷ instrs) relocations =
+      with_low low (with_target pc (target_at at relocations) instr) ∷
+      linked_from (pc + 4) (suc at) (low_behind (target_at at relocations)) instrs (relocations_behind at relocations)
+
+  -- the code of a function as it stands at an address
+  abbrev pub linked : (address : ℕ) → CodeTree → List Instr
+  linked address code = linked_from address 0 None code.instrs code.relocations

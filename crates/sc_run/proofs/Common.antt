@@ -13,22 +13,22 @@ pub use denote.Bor.{Bor}
 pub use Rattle.sc_event.specs.declared.event.Event.TheVariants.{End, In, Out}
 pub use Rattle.sc_event.specs.declared.row.Entry.TheVariants.{Export, Main}
 pub use Rattle.sc_core.proofs.Layers.{expr_at, layer_of, stmt_at, term_of, typed}
-pub use Rattle.sc_core.specs.Prelude.{Acts, Blocks, Break, Calls, Exit, Front, Function, Here, Left, Meant, Memory}
-pub use Rattle.sc_core.specs.Prelude.{Next, Piece, Reached, Return, Route, State, Stopped, Ways, all_do, and_then}
-pub use Rattle.sc_core.specs.Prelude.{applied, applied_one, assign, assign_call, at_place, at_pointer, back_cross}
-pub use Rattle.sc_core.specs.Prelude.{back_own, begun, between, binary, bind, block_does, blocks_for, c_arith, call}
-pub use Rattle.sc_core.specs.Prelude.{call_own, called, cell_of, cells_at, cells_of, choose, computed, crossed, done}
-pub use Rattle.sc_core.specs.Prelude.{ended, entry_in, evaluated, exit_word, first_blocks, first_state, first_word}
-pub use Rattle.sc_core.specs.Prelude.{follow, found, function, function_of, functions_in, global_block, globals_of}
-pub use Rattle.sc_core.specs.Prelude.{in_loop, in_order, init_does, inits_do, is_array, is_inside, is_live, is_pointer}
-pub use Rattle.sc_core.specs.Prelude.{is_true, is_unsigned, is_unsigned_op, is_word, kind_step, leads, leave}
-pub use Rattle.sc_core.specs.Prelude.{live_cells, load, loaded, loop, main_name, may_call, meaning, meant, meant_step}
-pub use Rattle.sc_core.specs.Prelude.{member_zeros, moved, moved_back, moved_on, next_input, of_bool, on_words}
-pub use Rattle.sc_core.specs.Prelude.{part_does, place_at, read_input, repeated, run_in, run_of, run_step, run_to}
-pub use Rattle.sc_core.specs.Prelude.{same_place, simple_does, stmt_step, stopped_at, store, store_at, store_result}
-pub use Rattle.sc_core.specs.Prelude.{stored, struct_zeros, target_cells, tell, term_step, test, turn, turn_of, values}
-pub use Rattle.sc_core.specs.Prelude.{variable_at, variables, wanted, ways, with_blocks, with_cell, with_words, within}
-pub use Rattle.sc_core.specs.Prelude.{word_in, zeros_of}
+pub use Rattle.sc_core.specs.Prelude.{Acts, Blocks, Break, Calls, Exit, Front, Function, Here, IsStop, Left, Meant}
+pub use Rattle.sc_core.specs.Prelude.{Memory, Next, Piece, Reached, Return, Route, State, Stopped, Ways, all_do}
+pub use Rattle.sc_core.specs.Prelude.{and_then, applied, applied_one, assign, assign_call, at_place, at_pointer}
+pub use Rattle.sc_core.specs.Prelude.{back_cross, back_own, begun, between, binary, bind, block_does, blocks_for}
+pub use Rattle.sc_core.specs.Prelude.{c_arith, call, call_own, called, cell_of, cells_at, cells_of, choose, computed}
+pub use Rattle.sc_core.specs.Prelude.{crossed, done, ended, entry_in, evaluated, exit_word, first_blocks, first_state}
+pub use Rattle.sc_core.specs.Prelude.{first_word, follow, found, function, function_of, functions_in, global_block}
+pub use Rattle.sc_core.specs.Prelude.{globals_of, in_loop, in_order, init_does, inits_do, is_array, is_inside, is_live}
+pub use Rattle.sc_core.specs.Prelude.{is_pointer, is_true, is_unsigned, is_unsigned_op, is_word, kind_step, leads}
+pub use Rattle.sc_core.specs.Prelude.{leave, live_cells, load, loaded, loop, main_name, may_call, meaning, meant}
+pub use Rattle.sc_core.specs.Prelude.{meant_step, member_zeros, moved, moved_back, moved_on, next_input, of_bool}
+pub use Rattle.sc_core.specs.Prelude.{on_words, part_does, place_at, read_input, repeated, run_in, run_of, run_step}
+pub use Rattle.sc_core.specs.Prelude.{run_to, same_place, simple_does, stmt_step, stopped_at, store, store_at}
+pub use Rattle.sc_core.specs.Prelude.{store_result, stored, struct_zeros, target_cells, tell, term_step, test, turn}
+pub use Rattle.sc_core.specs.Prelude.{turn_of, values, variable_at, variables, wanted, ways, with_blocks, with_cell}
+pub use Rattle.sc_core.specs.Prelude.{with_words, within, word_in, zeros_of}
 pub use Rattle.sc_core.specs.declared.cause.Cause.{Cause}
 pub use Rattle.sc_core.specs.declared.cause.Cause.TheVariants.{BadPointer, BadType, Dangling, OutOfBounds}
 pub use Rattle.sc_core.specs.declared.expr.CallTarget.TheVariants.{Cross, Input, Output, Own}
@@ -47,7 +47,7 @@ pub use Rattle.sc_core.specs.declared.value.Pointer.{Pointer}
 pub use Rattle.sc_core.specs.declared.value.Value.TheVariants.{Null, Ptr, Word}
 pub use Rattle.sc_laws.proofs.Growing.{back_goes, calls_go, done_goes, earlier, follow_goes, front_more, stays}
 pub use Rattle.sc_laws.proofs.Growing.{then_goes, then_then, within_goes}
-pub use Rattle.sc_laws.specs.Prelude.{GoFrom, Goes, Gone, IsStop, Never}
+pub use Rattle.sc_laws.specs.Prelude.{GoFrom, Goes, Gone, Never}
 pub use Rattle.sc_run.specs.Common.{Call, Callee, Event, Frame, ProgramTree, Ret, RunEnd, Undef, Value, cleared}
 pub use Rattle.sc_run.specs.Common.{given_back}
 pub use Rattle.sc_run.specs.Prelude.{Begun, CameTo, Comes, EndsAs, EntryAt, FoundAt, Seen, Standing, Stands, Steps}

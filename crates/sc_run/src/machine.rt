@@ -9,7 +9,7 @@ ghost use Rattle.sc_core.specs.declared.value.Want.TheVariants as want;
 use crate::work::{Callee, Frame};
 use sc_base::OutOfMemory;
 use sc_blocks::Blocks;
-use sc_core::{Cause, RunEnd, TypedExpr, TypedLocal, Value, VarRef, Want};
+use sc_core::{Cause, RunEnd, TypedExpr, TypedLocal, Value, VarRef, Want, cells_of};
 use sc_event::{CompId, Event, Trace};
 use std::alloc::{AllocError, Global};
 
@@ -158,11 +158,11 @@ pub fn make_blocks(blocks: &mut Blocks, callee: &Callee, args: &[Value]) -> Resu
     let params = callee.function.params.as_slice();
     let locals = callee.function.locals.as_slice();
     for at in 0..params.len() {
-        let count = sc_value::cells_of(callee.structs, params[at].ty);
+        let count = cells_of(callee.structs, params[at].ty);
         make_block(blocks, *callee.comp, count, value_at(args, at))?;
     }
     for at in 0..locals.len() {
-        let count = sc_value::cells_of(callee.structs, locals[at].ty);
+        let count = cells_of(callee.structs, locals[at].ty);
         let arg = value_at(args, params.len() + at);
         make_block(blocks, *callee.comp, count, arg)?;
     }

@@ -12,10 +12,13 @@ Text = List ℕ
 abbrev pub among : List Text → Text → Bool
 among = is_numbered
 
+abbrev pub is_new : List Text → Text → Bool
+is_new names name = not (among names name)
+
 -- no name stands twice
 abbrev pub are_distinct : List Text → Bool
 are_distinct [] = true
-are_distinct (name ∷ names) = not (among names name) && are_distinct names
+are_distinct (name ∷ names) = is_new names name && are_distinct names
 
 abbrev pub struct_in : Decl → Option StructTree
 struct_in (Struct tree) = Some tree

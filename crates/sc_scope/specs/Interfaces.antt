@@ -1,8 +1,8 @@
 -- What the sections of a text offer and use, as the interfaces of its program.
 use Rattle.sc_scope.specs.Common.{BaseTree, ExportLine, FunctionTree, HeadTree, ImportLine, ParamTree, SectionTree}
-use Rattle.sc_scope.specs.Common.{TypeName, head_of, number_of}
-use Rattle.std.specs.Prelude.{ℕ, zero, suc, Bool, not, ◌&&◌, ◌==◌, bytes_eq, codes, List, [], ◌∷◌, map, Option, Some}
-use Rattle.std.specs.Prelude.{None, if◌then◌else◌}
+use Rattle.sc_scope.specs.Common.{TypeName, all_hold, head_of, number_of}
+use Rattle.std.specs.Prelude.{ℕ, zero, suc, Bool, not, ◌==◌, bytes_eq, codes, List, [], ◌∷◌, map, Option, Some, None}
+use Rattle.std.specs.Prelude.{if◌then◌else◌}
 use Rattle.std.specs.Option.{option_map, option_map_or}
 use Rattle.sc_event.specs.declared.interface.Scalar.{Scalar}
 use Rattle.sc_event.specs.declared.interface.Scalar.TheVariants as scalar
@@ -28,7 +28,11 @@ is_environment line = bytes_eq line.comp environment
 -- whether a section, of number k, offers what the section of number `importer` imports with this line
 abbrev pub offers : (importer : ℕ) → ImportLine → ℕ → SectionTree → Bool
 offers importer line k section =
-    bytes_eq section.name line.comp && (not (k == importer) && among (export_names section) line.name)
+    all_hold (
+    bytes_eq section.name line.comp ∷
+    not (k == importer) ∷
+    among (export_names section) line.name ∷ []
+    )
 
 -- the first section that does, among those from number k on
 abbrev pub offering : (importer : ℕ) → ImportLine → ℕ → List SectionTree → Option (ℕ × SectionTree)

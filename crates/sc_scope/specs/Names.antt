@@ -1,6 +1,6 @@
 -- The rules of names, and the lines of a section that break them (C11 6.2.1, 6.2.3).
 use Rattle.sc_scope.specs.Common.{BaseTree, Decl, Function, FunctionTree, Global, GlobalTree, HeadTree, ParamTree}
-use Rattle.sc_scope.specs.Common.{Proto, SectionTree, Struct, StructTree, TypeName, head_of}
+use Rattle.sc_scope.specs.Common.{Proto, SectionTree, Struct, StructTree, TypeName, all_hold, head_of}
 use Rattle.std.specs.Prelude.{ℕ, Bool, true, false, not, ◌&&◌, ◌||◌, nat_eq, bytes_eq, List, [], ◌∷◌, ◌++◌, map, Option}
 use Rattle.std.specs.Prelude.{Some, None}
 use Rattle.std.specs.List.{concat, list_all}
@@ -19,7 +19,7 @@ use Rattle.sc_ast.specs.declared.section.FunctionParam.{FunctionParam}
 use Rattle.sc_ast.specs.declared.section.LocalTree.{LocalTree}
 use Rattle.sc_scope.specs.Broken.{unless, line_of_text}
 use Rattle.sc_scope.specs.declared.section_names.SectionNames.{SectionNames}
-use Rattle.sc_scope.specs.Declarations.{Text, among, are_distinct, struct_names, global_names, proto_names}
+use Rattle.sc_scope.specs.Declarations.{Text, among, is_new, are_distinct, struct_names, global_names, proto_names}
 use Rattle.sc_scope.specs.Declarations.{function_names, import_names}
 
 -- Bodies.
@@ -51,7 +51,7 @@ module _ (known : Known) where
 
   -- a called name is a function that no parameter or local hides
   abbrev pub is_callable : Text → Bool
-  is_callable name = among known.functions name && not (among known.hiding name)
+  is_callable name = among known.functions name && is_new known.hiding name
 
   abbrev pub call_known : CallTree → Bool
   call_known call = is_callable call.name && list_all expr_known call.args
@@ -128,8 +128,11 @@ init_known variables (Some init) = knows variables init
 -- a local's name is new in its function; its initialiser sees it (C11 6.2.1p7)
 abbrev pub local_known : (tags globals own : List Text) → LocalTree → Bool
 local_known tags globals own local =
-    not (among own local.name) && (base_known tags local.ty.base &&
-    init_known (globals ++ (own ++ local.name ∷ [])) local.init)
+    all_hold (
+    is_new own local.name ∷
+    base_known tags local.ty.base ∷
+    init_known (globals ++ (own ++ local.name ∷ [])) local.init ∷ []
+    )
 
 abbrev pub locals_from : (tags globals own : List Text) → List LocalTree → List ℕ
 locals_from tags globals own [] = []
@@ -171,24 +174,35 @@ module _ (names : SectionNames) where
   -- tags are distinct, and so are the members of one struct
   abbrev pub struct_known : StructTree → Bool
   struct_known tree =
-      not (among names.structs tree.name) && (are_distinct (member_names tree.members) &&
-      list_all (member_known names.structs tree.name) tree.members)
+      all_hold (
+      is_new names.structs tree.name ∷
+      are_distinct (member_names tree.members) ∷
+      list_all (member_known names.structs tree.name) tree.members ∷ []
+      )
 
   -- a global shares its name with no other global, function, prototype or import
   abbrev pub global_known : GlobalTree → Bool
   global_known tree =
-      not (among names.globals tree.name) && (not (among names.functions tree.name) &&
-      (not (among names.protos tree.name) && (not (among names.imports tree.name) &&
-      base_known names.structs tree.ty.base)))
+      all_hold (
+      is_new names.globals tree.name ∷
+      is_new names.functions tree.name ∷
+      is_new names.protos tree.name ∷
+      is_new names.imports tree.name ∷
+      base_known names.structs tree.ty.base ∷ []
+      )
 
   abbrev pub proto_known : HeadTree → Bool
-  proto_known head = not (among names.globals head.name) && head_known names.structs head
+  proto_known head = is_new names.globals head.name && head_known names.structs head
 
   -- a name has one definition at most
   abbrev pub head_of_known : FunctionTree → Bool
   head_of_known tree =
-      not (among names.globals tree.head.name) && (not (among names.functions tree.head.name) &&
-      (head_known names.structs (head_of tree.head) && are_distinct (param_names tree)))
+      all_hold (
+      is_new names.globals tree.head.name ∷
+      is_new names.functions tree.head.name ∷
+      head_known names.structs (head_of tree.head) ∷
+      are_distinct (param_names tree) ∷ []
+      )
 
   abbrev pub function_lines : FunctionTree → List ℕ
   function_lines tree =

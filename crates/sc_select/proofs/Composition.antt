@@ -1,15 +1,15 @@
 -- What the code of statements in order, of choices and of loops is made of, and that the jumps of their parts reach.
-use Rattle.sc_select.proofs.Common.{Addi, Bool, FrameTree, Instr, Line, List, OpImm, Piece, Place, TacStmt, [], ap}
-use Rattle.sc_select.proofs.Common.{append_assoc, arith, choice, cycle, drop, drop-cons, fold-TacStmt}
-use Rattle.sc_select.proofs.Common.{fold-roll-TacStmt, fork, get_or, jump_back, jump_over, length, length-append, map}
-use Rattle.sc_select.proofs.Common.{plain, plainly, pos, refl, roll-TacStmt, round_begins, select, select_all}
-use Rattle.sc_select.proofs.Common.{select_step, subst, suc, sym, true, zero, ℕ, ℤ, ◌&&◌, ◌++◌, ◌+◌, ◌-◌, ◌<◌, ◌∙◌, ◌∷◌}
-use Rattle.sc_select.proofs.Common.{◌≡◌, ◌≤◌}
-use Rattle.sc_tac.specs.Prelude.{everywhere, passes_few, stmt_weight, weight, with_parts}
-use Rattle.sc_base.proofs.Bools.{and_first, and_rest}
+use Rattle.sc_select.proofs.Common.{Bool, Fits, FrameTree, Instr, Line, List, OnOk, Piece, Place, TacStmt, []}
+use Rattle.sc_select.proofs.Common.{and_first, and_rest, ap, append_assoc, arith, choice, cycle, drop, drop-cons}
+use Rattle.sc_select.proofs.Common.{fold-TacStmt, fold-roll-TacStmt, fork, get_or, jump_back, jump_over, length}
+use Rattle.sc_select.proofs.Common.{length-append, on_ok_weaker, passes_few, plain, plainly, refl, roll-TacStmt}
+use Rattle.sc_select.proofs.Common.{round_begins, select, select_all, select_step, stmt_weight, subst, suc, sym, true}
+use Rattle.sc_select.proofs.Common.{weight, weight_step, with_parts, zero, ℕ, ◌&&◌, ◌++◌, ◌+◌, ◌-◌, ◌<◌, ◌∙◌, ◌∷◌, ◌≡◌}
+use Rattle.sc_select.proofs.Common.{◌≤◌}
+use Rattle.sc_tac.specs.Prelude.{everywhere}
+use Rattle.std.specs.declared.result.Result.{Result}
 use Rattle.sc_tac.specs.declared.stmt.TacStmt.TheOpen as tac
 use Rattle.sc_tac.specs.declared.stmt.TacStmt.TheVariants as emit
-use Rattle.sc_select.specs.Bounds.{Fits, most_lines}
 use Rattle.sc_select.proofs.Sizes.{row_is_sized}
 
 -- FEW ARGUMENTS
@@ -54,11 +54,43 @@ parted : (stmts : List TacStmt) (i : ℕ) (x : TacStmt) → i < length stmts →
 parted stmts i x h is = drop-cons stmts i x h ∙ ap (λ y. y ∷ drop (suc i) stmts) (sym is)
 
 -- a statement among others weighs no more than they
-pub no_heavier : (stmts : List TacStmt) (i : ℕ) (x : TacStmt) → i < length stmts → x ≡ get_or stmts i x →
+no_heavier : (stmts : List TacStmt) (i : ℕ) (x : TacStmt) → i < length stmts → x ≡ get_or stmts i x →
     stmt_weight x ≤ weight stmts
 no_heavier stmts i x h is =
-    let parts : weight (drop i stmts) ≡ stmt_weight x + weight (drop (suc i) stmts) = ap weight (parted stmts i x h is) in
+    let parts : weight (drop i stmts) ≡ stmt_weight x + weight (drop (suc i) stmts) =
+    ap weight (parted stmts i x h is) in
     omega (arith, parts, weight_from stmts i)
+
+fork_weight : (cond : ℕ) (first second : List TacStmt) →
+    stmt_weight (emit.If cond first second) ≡ 6 + weight first + weight second
+unfolding roll-TacStmt denote.Hole.Carrier.roll
+fork_weight cond first second = fold-roll-TacStmt ℕ weight_step (tac.If cond first second)
+
+cycle_weight : (head body next : List TacStmt) →
+    stmt_weight (emit.Loop head body next) ≡ 2 + weight head + weight body + weight next
+unfolding roll-TacStmt denote.Hole.Carrier.roll
+cycle_weight head body next = fold-roll-TacStmt ℕ weight_step (tac.Loop head body next)
+
+-- a choice is heavier than its parts, and so is a loop
+pub fork_heavier : (stmt : TacStmt) (cond : ℕ) (first second : List TacStmt) → stmt ≡ emit.If cond first second →
+    weight first + weight second + 6 ≡ stmt_weight stmt
+fork_heavier stmt cond first second is =
+    let whole : stmt_weight stmt ≡ 6 + weight first + weight second =
+    ap stmt_weight is ∙ fork_weight cond first second in
+    omega (arith, whole)
+
+pub cycle_heavier : (stmt : TacStmt) (head body next : List TacStmt) → stmt ≡ emit.Loop head body next →
+    weight head + weight body + weight next + 2 ≡ stmt_weight stmt
+cycle_heavier stmt head body next is =
+    let whole : stmt_weight stmt ≡ 2 + weight head + weight body + weight next =
+    ap stmt_weight is ∙ cycle_weight head body next in
+    omega (arith, whole)
+
+pub step_lighter : (stmts list : List TacStmt) (at : ℕ) (stmt : TacStmt) → list ≡ stmts → 0 < at → at ≤ length list →
+    stmt ≡ get_or list (at - 1) stmt → stmt_weight stmt ≤ weight stmts
+step_lighter stmts list at stmt same some within is =
+    subst (λ l. stmt_weight stmt ≤ weight l) same
+    (no_heavier list (at - 1) stmt (omega (arith, some, within)) is)
 
 -- LINES
 three_parts : (xs ys zs rest : List Line) → (xs ++ (ys ++ zs)) ++ rest ≡ xs ++ (ys ++ (zs ++ rest))
@@ -69,7 +101,7 @@ module _ (frame : FrameTree) (places : List Place) where
   size stmts = (select_all frame places stmts).size
 
   -- how many lines statements have put in front
-  pub counted : (stmts : List TacStmt) (b c : ℕ) (new old : List Line) (n m : ℕ) → n ≡ length new → m ≡ length old →
+  counted : (stmts : List TacStmt) (b c : ℕ) (new old : List Line) (n m : ℕ) → n ≡ length new → m ≡ length old →
       new ≡ (select_all frame places stmts).lines b c ++ old → n ≡ size stmts + m
   counted stmts b c new old n m hn hm h =
       let lines : List Line = (select_all frame places stmts).lines b c in
@@ -98,13 +130,6 @@ module _ (frame : FrameTree) (places : List Place) where
       let whole : (select frame places (emit.If cond first second)).size + 0 + c < 262143 = h.continues in
       omega (arith, whole, fork_size cond first second)
 
-  -- all that a choice's jumps need
-  pub fork_reaches : (cond : ℕ) (first second : List TacStmt) (b c : ℕ) →
-      Fits frame places (emit.If cond first second ∷ []) b c →
-      (size first + size second + 2 + b < 262143) × (size first + size second + 2 + c < 262143)
-  fork_reaches cond first second b c h =
-      (fork_breaks cond first second b c h, fork_continues cond first second b c h)
-
   pub second_fits : (cond : ℕ) (first second : List TacStmt) (b c : ℕ) →
       Fits frame places (emit.If cond first second ∷ []) b c → Fits frame places second b c
   second_fits cond first second b c h = record {
@@ -113,7 +138,7 @@ module _ (frame : FrameTree) (places : List Place) where
     continues = omega (arith, fork_continues cond first second b c h);
   }
 
-  pub first_fits : (cond : ℕ) (first second : List TacStmt) (b c n : ℕ) → n ≡ size second →
+  first_fits : (cond : ℕ) (first second : List TacStmt) (b c n : ℕ) → n ≡ size second →
       Fits frame places (emit.If cond first second ∷ []) b c → Fits frame places first (n + b + 1) (n + c + 1)
   first_fits cond first second b c n is h = record {
     few_arguments = (few_in_fork cond first second h.few_arguments).0;
@@ -121,7 +146,7 @@ module _ (frame : FrameTree) (places : List Place) where
     continues = omega (arith, is, fork_continues cond first second b c h);
   }
 
-  pub fork_written : (cond : ℕ) (first second : List TacStmt) (b c n m : ℕ) (old l1 l2 l3 l4 new : List Line) →
+  fork_written : (cond : ℕ) (first second : List TacStmt) (b c n m : ℕ) (old l1 l2 l3 l4 new : List Line) →
       n ≡ size second → m ≡ size first → l1 ≡ (select_all frame places second).lines b c ++ old →
       l2 ≡ jump_over n ∷ l1 → l3 ≡ (select_all frame places first).lines (n + b + 1) (n + c + 1) ++ l2 →
       l4 ≡ jump_over (m + 1) ∷ l3 → new ≡ plainly (choice frame places cond) ++ l4 →
@@ -148,13 +173,63 @@ module _ (frame : FrameTree) (places : List Place) where
       sym (append_assoc branch (jump_over (suc (size first)) ∷ (lines3 ++ (jump_over k ∷ lines1))) old) in
       e5 ∙ ap (λ p. p.lines b c ++ old) (sym (fork_is cond first second))
 
+  -- a statement of a known kind
+  pub as_is : (stmt other : TacStmt) (b c : ℕ) → stmt ≡ other → Fits frame places (stmt ∷ []) b c →
+      Fits frame places (other ∷ []) b c
+  as_is stmt other b c is h = subst (λ s. Fits frame places (s ∷ []) b c) is h
+
+  written : (stmts : List TacStmt) (b c n m : ℕ) (new old : List Line) → n ≡ length new → m ≡ length old →
+      new ≡ (select_all frame places stmts).lines b c ++ old → n - m ≡ size stmts
+  written stmts b c n m new old hn hm h =
+      let whole : n ≡ size stmts + m = counted stmts b c new old n m hn hm h in
+      omega (arith, whole)
+
+  pub over_second : (cond : ℕ) (first second : List TacStmt) (b c n m : ℕ) (l1 old : List Line) →
+      Fits frame places (emit.If cond first second ∷ []) b c → n ≡ length l1 → m ≡ length old →
+      l1 ≡ (select_all frame places second).lines b c ++ old → n - m < 262143
+  over_second cond first second b c n m l1 old fits hn hm h =
+      let size_is : n - m ≡ size second = written second b c n m l1 old hn hm h in
+      omega (arith, size_is, fork_breaks cond first second b c fits)
+
+  pub first_reaches : (cond : ℕ) (first second : List TacStmt) (b c n m : ℕ) (l1 old : List Line) →
+      Fits frame places (emit.If cond first second ∷ []) b c → n ≡ length l1 → m ≡ length old →
+      l1 ≡ (select_all frame places second).lines b c ++ old →
+      Fits frame places first (n - m + b + 1) (n - m + c + 1)
+  first_reaches cond first second b c n m l1 old fits hn hm h =
+      first_fits cond first second b c (n - m) (written second b c n m l1 old hn hm h)
+      fits
+
+  pub over_first : (cond : ℕ) (first second : List TacStmt) (b c d e n m : ℕ) (l3 l2 : List Line) →
+      Fits frame places (emit.If cond first second ∷ []) b c → n ≡ length l3 → m ≡ length l2 →
+      l3 ≡ (select_all frame places first).lines d e ++ l2 → n - m + 1 < 262143
+  over_first cond first second b c d e n m l3 l2 fits hn hm h =
+      let size_is : n - m ≡ size first = written first d e n m l3 l2 hn hm h in
+      omega (arith, size_is, fork_breaks cond first second b c fits)
+
+  pub fork_returns : {T E : Type 0} (r : Result T E) (cond : ℕ) (first second : List TacStmt)
+      (b c n m n' m' : ℕ) (over_second over_first : Instr) (old l1 l2 l3 l4 new : List Line) →
+      n ≡ length l1 → m ≡ length old → n' ≡ length l3 → m' ≡ length l2 →
+      l1 ≡ (select_all frame places second).lines b c ++ old → l2 ≡ plain over_second ∷ l1 →
+      plain over_second ≡ jump_over (n - m) →
+      l3 ≡ (select_all frame places first).lines (n - m + b + 1) (n - m + c + 1) ++ l2 →
+      l4 ≡ plain over_first ∷ l3 → plain over_first ≡ jump_over (n' - m' + 1) →
+      OnOk r (new ≡ plainly (choice frame places cond) ++ l4) →
+      OnOk r (new ≡ (select frame places (emit.If cond first second)).lines b c ++ old)
+  fork_returns r cond first second b c n m n' m' over_second over_first old l1 l2 l3 l4 new n_is m_is n'_is m'_is h1 h2
+      j2 h3 h4 j4 h5 =
+      on_ok_weaker r (λ h.
+      fork_written cond first second b c (n - m) (n' - m') old l1 l2 l3 l4 new
+      (written second b c n m l1 old n_is m_is h1)
+      (written first (n - m + b + 1) (n - m + c + 1) n' m' l3 l2 n'_is m'_is h3) h1
+      (h2 ∙ ap (λ l. l ∷ l1) j2) h3 (h4 ∙ ap (λ l. l ∷ l3) j4) h) h5
+
   -- A LOOP
   cycle_is : (head body next : List TacStmt) → select frame places (emit.Loop head body next) ≡ cycle frame places
       (select_all frame places head) (select_all frame places body) (select_all frame places next)
   unfolding roll-TacStmt denote.Hole.Carrier.roll
   cycle_is head body next = fold-roll-TacStmt Piece (select_step frame places) (tac.Loop head body next)
 
-  pub cycle_reaches : (head body next : List TacStmt) (b c : ℕ) →
+  cycle_reaches : (head body next : List TacStmt) (b c : ℕ) →
       Fits frame places (emit.Loop head body next ∷ []) b c → 2 + (size head + (size body + size next)) < 262143
   cycle_reaches head body next b c h =
       let whole : (select frame places (emit.Loop head body next)).size + 0 + b < 262143 = h.breaks in
@@ -162,15 +237,15 @@ module _ (frame : FrameTree) (places : List Place) where
       ap (λ p. p.size) (cycle_is head body next) in
       omega (arith, whole, parts)
 
-  pub next_fits : (head body next : List TacStmt) (b c : ℕ) → Fits frame places (emit.Loop head body next ∷ []) b c →
-      Fits frame places next 1 0
-  next_fits head body next b c h = record {
+  next_fits : (head body next : List TacStmt) (b c n : ℕ) → n ≡ 1 →
+      Fits frame places (emit.Loop head body next ∷ []) b c → Fits frame places next n 0
+  next_fits head body next b c n is h = record {
     few_arguments = (few_in_cycle head body next h.few_arguments).2;
-    breaks = omega (arith, cycle_reaches head body next b c h);
+    breaks = omega (arith, is, cycle_reaches head body next b c h);
     continues = omega (arith, cycle_reaches head body next b c h);
   }
 
-  pub body_fits : (head body next : List TacStmt) (b c n : ℕ) → n ≡ suc (size next) →
+  body_fits : (head body next : List TacStmt) (b c n : ℕ) → n ≡ suc (size next) →
       Fits frame places (emit.Loop head body next ∷ []) b c → Fits frame places body n 0
   body_fits head body next b c n is h = record {
     few_arguments = (few_in_cycle head body next h.few_arguments).1;
@@ -178,7 +253,7 @@ module _ (frame : FrameTree) (places : List Place) where
     continues = omega (arith, cycle_reaches head body next b c h);
   }
 
-  pub head_fits : (head body next : List TacStmt) (b c n : ℕ) → n ≡ size body + suc (size next) →
+  head_fits : (head body next : List TacStmt) (b c n : ℕ) → n ≡ size body + suc (size next) →
       Fits frame places (emit.Loop head body next ∷ []) b c → Fits frame places head n 0
   head_fits head body next b c n is h = record {
     few_arguments = (few_in_cycle head body next h.few_arguments).0;
@@ -186,74 +261,146 @@ module _ (frame : FrameTree) (places : List Place) where
     continues = omega (arith, cycle_reaches head body next b c h);
   }
 
-  -- how far it is from the end of the loop to where its parts end
-  pub first_distance : (next : List TacStmt) (first : Instr) (old l1 l2 : List Line) (end n : ℕ) →
-      l1 ≡ plain first ∷ old → l2 ≡ (select_all frame places next).lines 1 0 ++ l1 → end ≡ length old →
-      n ≡ length l2 → n - end ≡ suc (size next)
-  first_distance next first old l1 l2 end n h1 h2 end_is n_is =
+  -- how far it is to the end of the loop, before each of its parts is written and behind the last
+  next_distance : (first : Instr) (old l1 : List Line) (end : ℕ) → l1 ≡ plain first ∷ old → end ≡ length old →
+      length l1 - end ≡ 1
+  next_distance first old l1 end h1 end_is =
       let start : length l1 ≡ suc (length old) = ap length h1 in
-      omega (arith, start, counted next 1 0 l2 l1 n (length l1) n_is refl h2, end_is)
+      omega (arith, start, end_is)
 
-  pub second_distance : (body next : List TacStmt) (first : Instr) (old l1 l2 l3 : List Line) (end d n : ℕ) →
-      l1 ≡ plain first ∷ old → l2 ≡ (select_all frame places next).lines 1 0 ++ l1 →
-      l3 ≡ (select_all frame places body).lines d 0 ++ l2 → end ≡ length old → n ≡ length l3 →
-      n - end ≡ size body + suc (size next)
-  second_distance body next first old l1 l2 l3 end d n h1 h2 h3 end_is n_is =
+  body_distance : (next : List TacStmt) (first : Instr) (old l1 l2 : List Line) (end d : ℕ) →
+      l1 ≡ plain first ∷ old → l2 ≡ (select_all frame places next).lines d 0 ++ l1 → end ≡ length old →
+      length l2 - end ≡ suc (size next)
+  body_distance next first old l1 l2 end d h1 h2 end_is =
       let start : length l1 ≡ suc (length old) = ap length h1 in
-      let after : length l2 ≡ size next + length l1 = counted next 1 0 l2 l1 (length l2) (length l1) refl refl h2 in
-      omega (arith, start, after, counted body d 0 l3 l2 n (length l2) n_is refl h3, end_is)
+      omega (arith, start, counted next d 0 l2 l1 (length l2) (length l1) refl refl h2, end_is)
 
-  pub third_distance : (head body next : List TacStmt) (first begin : Instr) (old l1 l2 l3 l4 l5 : List Line)
-      (end d e n : ℕ) → l1 ≡ plain first ∷ old → l2 ≡ (select_all frame places next).lines 1 0 ++ l1 →
-      l3 ≡ (select_all frame places body).lines d 0 ++ l2 → l4 ≡ (select_all frame places head).lines e 0 ++ l3 →
-      l5 ≡ plain begin ∷ l4 → end ≡ length old → n ≡ length l5 →
-      n - end - 1 ≡ suc (size head + (size body + size next))
-  third_distance head body next first begin old l1 l2 l3 l4 l5 end d e n h1 h2 h3 h4 h5 end_is n_is =
+  head_distance : (body next : List TacStmt) (first : Instr) (old l1 l2 l3 : List Line) (end d e : ℕ) →
+      l1 ≡ plain first ∷ old → l2 ≡ (select_all frame places next).lines d 0 ++ l1 →
+      l3 ≡ (select_all frame places body).lines e 0 ++ l2 → end ≡ length old →
+      length l3 - end ≡ size body + suc (size next)
+  head_distance body next first old l1 l2 l3 end d e h1 h2 h3 end_is =
       let start : length l1 ≡ suc (length old) = ap length h1 in
-      let after : length l2 ≡ size next + length l1 = counted next 1 0 l2 l1 (length l2) (length l1) refl refl h2 in
+      let after : length l2 ≡ size next + length l1 = counted next d 0 l2 l1 (length l2) (length l1) refl refl h2 in
+      omega (arith, start, after, counted body e 0 l3 l2 (length l3) (length l2) refl refl h3, end_is)
+
+  whole_distance : (head body next : List TacStmt) (first begin : Instr) (old l1 l2 l3 l4 l5 : List Line)
+      (end d e g : ℕ) → l1 ≡ plain first ∷ old → l2 ≡ (select_all frame places next).lines d 0 ++ l1 →
+      l3 ≡ (select_all frame places body).lines e 0 ++ l2 → l4 ≡ (select_all frame places head).lines g 0 ++ l3 →
+      l5 ≡ plain begin ∷ l4 → end ≡ length old →
+      length l5 ≡ end + (2 + (size head + (size body + size next)))
+  whole_distance head body next first begin old l1 l2 l3 l4 l5 end d e g h1 h2 h3 h4 h5 end_is =
+      let start : length l1 ≡ suc (length old) = ap length h1 in
+      let after : length l2 ≡ size next + length l1 = counted next d 0 l2 l1 (length l2) (length l1) refl refl h2 in
       let between : length l3 ≡ size body + length l2 =
-      counted body d 0 l3 l2 (length l3) (length l2) refl refl h3 in
+      counted body e 0 l3 l2 (length l3) (length l2) refl refl h3 in
       let before : length l4 ≡ size head + length l3 =
-      counted head e 0 l4 l3 (length l4) (length l3) refl refl h4 in
+      counted head g 0 l4 l3 (length l4) (length l3) refl refl h4 in
       let whole : length l5 ≡ suc (length l4) = ap length h5 in
-      omega (arith, start, after, between, before, whole, end_is, n_is)
+      omega (arith, start, after, between, before, whole, end_is)
 
-  pub cycle_written : (head body next : List TacStmt) (d e lines end source : ℕ) (offset : ℤ) (first begin jump : Instr)
-      (old l1 l2 l3 l4 l5 new : List Line) → d ≡ suc (size next) → e ≡ size body + suc (size next) →
-      lines ≡ suc (size head + (size body + size next)) → end ≡ length old → source ≡ 0 → offset ≡ pos 0 →
-      begin ≡ OpImm Addi source source offset → l1 ≡ plain first ∷ old →
-      l2 ≡ (select_all frame places next).lines 1 0 ++ l1 → l3 ≡ (select_all frame places body).lines d 0 ++ l2 →
-      l4 ≡ (select_all frame places head).lines e 0 ++ l3 → l5 ≡ plain begin ∷ l4 →
-      plain jump ≡ jump_back lines →
+  -- what writing the parts needs: that some lines lie between, and that jumps reach over them
+  pub next_reaches : (head body next : List TacStmt) (b c : ℕ) (first : Instr) (old l1 : List Line) (end : ℕ) →
+      Fits frame places (emit.Loop head body next ∷ []) b c → l1 ≡ plain first ∷ old → end ≡ length old →
+      (end ≤ length l1) × Fits frame places next (length l1 - end) 0
+  next_reaches head body next b c first old l1 end fits h1 end_is =
+      let distance : length l1 - end ≡ 1 = next_distance first old l1 end h1 end_is in (
+        omega (arith, distance),
+        next_fits head body next b c (length l1 - end) distance
+            fits,
+      )
+
+  pub body_reaches : (head body next : List TacStmt) (b c : ℕ) (first : Instr) (old l1 l2 : List Line) (end d : ℕ) →
+      Fits frame places (emit.Loop head body next ∷ []) b c → l1 ≡ plain first ∷ old →
+      l2 ≡ (select_all frame places next).lines d 0 ++ l1 → end ≡ length old →
+      (end ≤ length l2) × Fits frame places body (length l2 - end) 0
+  body_reaches head body next b c first old l1 l2 end d fits h1 h2 end_is =
+      let distance : length l2 - end ≡ suc (size next) = body_distance next first old l1 l2 end d h1 h2 end_is in (
+        omega (arith, distance),
+        body_fits head body next b c (length l2 - end) distance
+            fits,
+      )
+
+  pub head_reaches : (head body next : List TacStmt) (b c : ℕ) (first : Instr) (old l1 l2 l3 : List Line)
+      (end d e : ℕ) → Fits frame places (emit.Loop head body next ∷ []) b c → l1 ≡ plain first ∷ old →
+      l2 ≡ (select_all frame places next).lines d 0 ++ l1 → l3 ≡ (select_all frame places body).lines e 0 ++ l2 →
+      end ≡ length old → (end ≤ length l3) × Fits frame places head (length l3 - end) 0
+  head_reaches head body next b c first old l1 l2 l3 end d e fits h1 h2 h3 end_is =
+      let distance : length l3 - end ≡ size body + suc (size next) =
+      head_distance body next first old l1 l2 l3 end d e h1 h2 h3 end_is in (
+        omega (arith, distance),
+        head_fits head body next b c (length l3 - end) distance
+            fits,
+      )
+
+  pub back_reaches : (head body next : List TacStmt) (b c : ℕ) (first begin : Instr)
+      (old l1 l2 l3 l4 l5 : List Line) (n end d e g : ℕ) → Fits frame places (emit.Loop head body next ∷ []) b c →
+      l1 ≡ plain first ∷ old →
+      l2 ≡ (select_all frame places next).lines d 0 ++ l1 → l3 ≡ (select_all frame places body).lines e 0 ++ l2 →
+      l4 ≡ (select_all frame places head).lines g 0 ++ l3 → l5 ≡ plain begin ∷ l4 → n ≡ length l5 → end ≡ length old →
+      n - end - 1 < 262143
+  back_reaches head body next b c first begin old l1 l2 l3 l4 l5 n end d e g fits h1 h2 h3 h4 h5 n_is end_is =
+      let whole : length l5 ≡ end + (2 + (size head + (size body + size next))) =
+      whole_distance head body next first begin old l1 l2 l3 l4 l5 end d e g h1 h2 h3 h4 h5 end_is in
+      let reaches : 2 + (size head + (size body + size next)) < 262143 =
+      cycle_reaches head body next b c fits in
+      omega (arith, whole, n_is, reaches)
+
+  pub cycle_written : (head body next : List TacStmt) (b c n end : ℕ)
+      (first begin jump : Instr) (old l1 l2 l3 l4 l5 new : List Line) → n ≡ length l5 → end ≡ length old →
+      plain begin ≡ round_begins →
+      l1 ≡ plain first ∷ old → l2 ≡ (select_all frame places next).lines (length l1 - end) 0 ++ l1 →
+      l3 ≡ (select_all frame places body).lines (length l2 - end) 0 ++ l2 →
+      l4 ≡ (select_all frame places head).lines (length l3 - end) 0 ++ l3 → l5 ≡ plain begin ∷ l4 →
+      plain jump ≡ jump_back (n - end - 1) →
       ((front rest : List Line) (line : Line) → l5 ≡ front ++ line ∷ rest → length rest ≡ end →
       new ≡ front ++ record line { instr = jump } ∷ rest) →
-      new ≡ (select frame places (emit.Loop head body next)).lines 0 0 ++ old
-  cycle_written head body next d e lines end source offset first begin jump old l1 l2 l3 l4 l5 new d_is e_is lines_is end_is
-      source_is offset_is begin_is h1 h2 h3 h4 h5 back replaced =
+      new ≡ (select frame places (emit.Loop head body next)).lines b c ++ old
+  cycle_written head body next b c n end first begin jump old l1 l2 l3 l4 l5 new n_is end_is opens h1 h2 h3 h4 h5 back
+      replaced =
       let xs : List Line = (select_all frame places head).lines (size body + suc (size next)) 0 in
       let ys : List Line = (select_all frame places body).lines (suc (size next)) 0 in
       let zs : List Line = (select_all frame places next).lines 1 0 in
       let last : Line = jump_back (suc (size head + (size body + size next))) in
+      let e2 : l2 ≡ zs ++ (plain first ∷ old) =
+      h2 ∙ ap (λ n. (select_all frame places next).lines n 0 ++ l1) (next_distance first old l1 end h1 end_is) ∙
+      ap (λ t. zs ++ t) h1 in
       let e3 : l3 ≡ ys ++ (zs ++ (plain first ∷ old)) =
-      h3 ∙ ap (λ n. (select_all frame places body).lines n 0 ++ l2) d_is ∙
-      ap (λ t. ys ++ t) (h2 ∙ ap (λ t. zs ++ t) h1) in
+      h3 ∙ ap (λ n. (select_all frame places body).lines n 0 ++ l2)
+      (body_distance next first old l1 l2 end (length l1 - end) h1 h2 end_is) ∙ ap (λ t. ys ++ t) e2 in
       let e4 : l4 ≡ xs ++ (ys ++ (zs ++ (plain first ∷ old))) =
-      h4 ∙ ap (λ n. (select_all frame places head).lines n 0 ++ l3) e_is ∙ ap (λ t. xs ++ t) e3 in
-      let opens : plain begin ≡ round_begins =
-      ap plain (begin_is ∙ ap (λ r. OpImm Addi r r offset) source_is ∙ ap (λ o. OpImm Addi 0 0 o) offset_is) in
+      h4 ∙ ap (λ n. (select_all frame places head).lines n 0 ++ l3)
+      (head_distance body next first old l1 l2 l3 end (length l1 - end) (length l2 - end) h1 h2 h3 end_is) ∙
+      ap (λ t. xs ++ t) e3 in
       let e5 : l5 ≡ round_begins ∷ (xs ++ (ys ++ (zs ++ (plain first ∷ old)))) =
       h5 ∙ ap (λ l. l ∷ l4) opens ∙ ap (λ t. round_begins ∷ t) e4 in
       let split : l5 ≡ (round_begins ∷ (xs ++ (ys ++ zs))) ++ (plain first ∷ old) =
       e5 ∙ ap (λ t. round_begins ∷ t) (sym (three_parts xs ys zs (plain first ∷ old))) in
       let put : new ≡ (round_begins ∷ (xs ++ (ys ++ zs))) ++ (plain jump ∷ old) =
       replaced (round_begins ∷ (xs ++ (ys ++ zs))) old (plain first) split (sym end_is) in
-      let same : plain jump ≡ last = back ∙ ap jump_back lines_is in
+      let whole : length l5 ≡ end + (2 + (size head + (size body + size next))) =
+      whole_distance head body next first begin old l1 l2 l3 l4 l5 end (length l1 - end) (length l2 - end)
+      (length l3 - end) h1 h2 h3 h4 h5 end_is in
+      let lines : n - end - 1 ≡ suc (size head + (size body + size next)) = omega (arith, whole, n_is) in
+      let same : plain jump ≡ last = back ∙ ap jump_back lines in
       let joined : (xs ++ (ys ++ zs)) ++ (last ∷ old) ≡ (xs ++ (ys ++ (zs ++ (last ∷ [])))) ++ old =
       sym (append_assoc (xs ++ (ys ++ zs)) (last ∷ []) old) ∙
       ap (λ t. t ++ old) (three_parts xs ys zs (last ∷ [])) in
       put ∙ ap (λ l. (round_begins ∷ (xs ++ (ys ++ zs))) ++ (l ∷ old)) same ∙
       ap (λ t. round_begins ∷ t) joined ∙
-      ap (λ p. p.lines 0 0 ++ old) (sym (cycle_is head body next))
+      ap (λ p. p.lines b c ++ old) (sym (cycle_is head body next))
+
+  -- a loop needs as much wherever it stands
+  pub cycle_fits : (stmt : TacStmt) (head body next : List TacStmt) (b c : ℕ) → stmt ≡ emit.Loop head body next →
+      Fits frame places (stmt ∷ []) b c → Fits frame places (emit.Loop head body next ∷ []) 0 0
+  cycle_fits stmt head body next b c is h =
+      let fits : Fits frame places (emit.Loop head body next ∷ []) b c =
+      as_is stmt (emit.Loop head body next) b c is h in
+      record {
+        few_arguments = fits.few_arguments;
+        breaks = omega (arith, fits.breaks);
+        continues = omega (arith, fits.continues);
+      }
 
   -- STATEMENTS IN ORDER
   size_from : (stmts : List TacStmt) (i : ℕ) → size (drop i stmts) ≤ size stmts
@@ -262,12 +409,12 @@ module _ (frame : FrameTree) (places : List Place) where
   size_from (x ∷ rest) (suc i) = omega (arith, size_from rest i)
 
   -- what the statements from one on need is no more than what all need
-  pub rest_reaches : (stmts : List TacStmt) (i b c : ℕ) → Fits frame places stmts b c →
+  rest_reaches : (stmts : List TacStmt) (i b c : ℕ) → Fits frame places stmts b c →
       (size (drop i stmts) + b < 262143) × (size (drop i stmts) + c < 262143)
   rest_reaches stmts i b c h =
       (omega (arith, size_from stmts i, h.breaks), omega (arith, size_from stmts i, h.continues))
 
-  pub one_fits : (stmts : List TacStmt) (i : ℕ) (x : TacStmt) (b c n : ℕ) → i < length stmts →
+  one_fits : (stmts : List TacStmt) (i : ℕ) (x : TacStmt) (b c n : ℕ) → i < length stmts →
       x ≡ get_or stmts i x → n ≡ size (drop (suc i) stmts) → Fits frame places stmts b c →
       Fits frame places (x ∷ []) (n + b) (n + c)
   one_fits stmts i x b c n h is n_is fits =
@@ -281,7 +428,7 @@ module _ (frame : FrameTree) (places : List Place) where
         continues = omega (arith, n_is, parts, size_from stmts i, fits.continues);
       }
 
-  pub one_written : (stmts : List TacStmt) (i : ℕ) (x : TacStmt) (b c n : ℕ) (old l1 l2 : List Line) →
+  one_written : (stmts : List TacStmt) (i : ℕ) (x : TacStmt) (b c n : ℕ) (old l1 l2 : List Line) →
       i < length stmts → x ≡ get_or stmts i x → n ≡ size (drop (suc i) stmts) →
       l1 ≡ (select_all frame places (drop (suc i) stmts)).lines b c ++ old →
       l2 ≡ (select frame places x).lines (n + b) (n + c) ++ l1 →
@@ -292,3 +439,40 @@ module _ (frame : FrameTree) (places : List Place) where
       let e2 : l2 ≡ first ++ ((select_all frame places rest).lines b c ++ old) = cc in
       e2 ∙ sym (append_assoc first ((select_all frame places rest).lines b c) old) ∙
       ap (λ l. (select_all frame places l).lines b c ++ old) (sym (parted stmts i x h is))
+
+  -- the same where the statements from a number on are written, and the one before them is next
+  pub step_reaches : (stmts list : List TacStmt) (at b c n m : ℕ) (now old : List Line) → list ≡ stmts →
+      Fits frame places stmts b c → n ≡ length now → m ≡ length old →
+      now ≡ (select_all frame places (drop at list)).lines b c ++ old →
+      (n - m + b < 262143) × (n - m + c < 262143)
+  step_reaches stmts list at b c n m now old same fits hn hm h =
+      let size_is : n - m ≡ size (drop at list) = written (drop at list) b c n m now old hn hm h in
+      let within : Fits frame places list b c = subst (λ l. Fits frame places l b c) (sym same) fits in
+      let reaches : (size (drop at list) + b < 262143) × (size (drop at list) + c < 262143) =
+      rest_reaches list at b c within in
+      (omega (arith, size_is, reaches.0), omega (arith, size_is, reaches.1))
+
+  from_next : (list : List TacStmt) (at n m b c : ℕ) (now old : List Line) → 0 < at → n ≡ length now → m ≡ length old →
+      now ≡ (select_all frame places (drop at list)).lines b c ++ old → n - m ≡ size (drop (suc (at - 1)) list)
+  from_next list at n m b c now old some hn hm h =
+      let next : at ≡ suc (at - 1) = omega (arith, some) in
+      written (drop at list) b c n m now old hn hm h ∙ ap (λ i. size (drop i list)) next
+
+  pub step_fits : (stmts list : List TacStmt) (at b c n m : ℕ) (stmt : TacStmt) (now old : List Line) → list ≡ stmts →
+      0 < at → at ≤ length list → stmt ≡ get_or list (at - 1) stmt → Fits frame places stmts b c → n ≡ length now →
+      m ≡ length old → now ≡ (select_all frame places (drop at list)).lines b c ++ old →
+      Fits frame places (stmt ∷ []) (n - m + b) (n - m + c)
+  step_fits stmts list at b c n m stmt now old same some within is fits hn hm h =
+      one_fits list (at - 1) stmt b c (n - m) (omega (arith, some, within)) is
+      (from_next list at n m b c now old some hn hm h) (subst (λ l. Fits frame places l b c) (sym same) fits)
+
+  pub step_written : (list : List TacStmt) (at b c n m : ℕ) (stmt : TacStmt) (now old new : List Line) → 0 < at →
+      at ≤ length list → stmt ≡ get_or list (at - 1) stmt → n ≡ length now → m ≡ length old →
+      now ≡ (select_all frame places (drop at list)).lines b c ++ old →
+      new ≡ (select frame places stmt).lines (n - m + b) (n - m + c) ++ now →
+      new ≡ (select_all frame places (drop (at - 1) list)).lines b c ++ old
+  step_written list at b c n m stmt now old new some within is hn hm h k =
+      let next : at ≡ suc (at - 1) = omega (arith, some) in
+      one_written list (at - 1) stmt b c (n - m) old now new (omega (arith, some, within)) is
+      (from_next list at n m b c now old some hn hm h)
+      (h ∙ ap (λ i. (select_all frame places (drop i list)).lines b c ++ old) next) k

@@ -1,9 +1,7 @@
 -- Lines that are kept as instructions and targets, the last ones first.
-use Rattle.sc_select.proofs.Common.{Instr, Line, List, Option, [], ap, append_assoc, ap₂, length, length-reverse, pred}
-use Rattle.sc_select.proofs.Common.{refl, reverse, reverse-append, reverse-reverse, slice_set, suc, sym, ℕ, ◌++◌, ◌∙◌}
-use Rattle.sc_select.proofs.Common.{◌∷◌, ◌≡◌}
-use Rattle.sc_tac.specs.declared.machine_code.Target.{Target}
-use Rattle.sc_select.specs.Lines.{lines_of}
+use Rattle.sc_select.proofs.Common.{Instr, Line, List, Option, Target, [], ap, append_assoc, ap₂, arith, length}
+use Rattle.sc_select.proofs.Common.{length-append, length-reverse, lines_of, pred, refl, reverse, reverse-append}
+use Rattle.sc_select.proofs.Common.{reverse-reverse, slice_set, suc, sym, ℕ, ◌++◌, ◌∙◌, ◌∷◌, ◌≡◌}
 
 lines_append : (is js : List Instr) (ts us : List (Option Target)) → length is ≡ length ts →
     lines_of (is ++ js) (ts ++ us) ≡ lines_of is ts ++ lines_of js us
@@ -69,3 +67,24 @@ replaced is ts front rest line x b h k =
     (sym (reverse-reverse (lines_of is ts)) ∙ ap reverse h ∙ seam front line rest)) ∙
     seam (reverse rest) (record line { instr = x }) (reverse front) ∙
     ap₂ {A = List Line} {B = List Line} (λ f r. f ++ record line { instr = x } ∷ r) (reverse-reverse front) (reverse-reverse rest)
+
+left : (is js : List Instr) (ts us : List (Option Target)) (i : Instr) (t : Option Target) → length is ≡ length ts →
+    is ≡ js ++ i ∷ [] → ts ≡ us ++ t ∷ [] → length js ≡ length us
+left is js ts us i t h hi ht =
+    let whole : length is ≡ length (js ++ i ∷ []) = ap length hi in
+    let other : length ts ≡ length (us ++ t ∷ []) = ap length ht in
+    omega (arith, h, whole, other, length-append js (i ∷ []), length-append us (t ∷ []))
+
+-- the line in front is the last of what is kept
+pub first_taken : (is js : List Instr) (ts us : List (Option Target)) (i : Instr) (t : Option Target) →
+    length is ≡ length ts → is ≡ js ++ i ∷ [] → ts ≡ us ++ t ∷ [] →
+    reverse (lines_of is ts) ≡ record { instr = i; target = t } ∷ reverse (lines_of js us)
+first_taken is js ts us i t h hi ht =
+    ap₂ (λ x y. reverse (lines_of x y)) hi ht ∙ pushed js us i t (left is js ts us i t h hi ht)
+
+pub none_left : (is : List Instr) (ts : List (Option Target)) → is ≡ [] → reverse (lines_of is ts) ≡ []
+none_left is ts h = ap (λ x. reverse (lines_of x ts)) h
+
+-- what is read so far and what is left are all instructions
+pub instr_read : (read rest all : List Instr) (i : Instr) → read ++ i ∷ rest ≡ all → (read ++ i ∷ []) ++ rest ≡ all
+instr_read read rest all i h = append_assoc read (i ∷ []) rest ∙ h

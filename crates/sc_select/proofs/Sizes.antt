@@ -1,12 +1,10 @@
 -- Pieces have as many lines as they say.
-use Rattle.sc_select.proofs.Common.{FrameTree, Line, List, Piece, Place, TacStmt, TacStmt-F, [], arith, choice, cycle}
-use Rattle.sc_select.proofs.Common.{fold-roll-TacStmt, followed, fork, in_order, jump_back, jump_over, length}
-use Rattle.sc_select.proofs.Common.{length-append, length-map, map, map-TacStmt, plain, plainly, refl, roll-TacStmt}
-use Rattle.sc_select.proofs.Common.{round_begins, select, select_all, select_step, subst, suc, sym, ℕ, ◌++◌, ◌+◌, ◌∷◌}
-use Rattle.sc_select.proofs.Common.{◌≡◌}
-use Rattle.sc_core.proofs.Induction.{Each, everywhere}
+use Rattle.sc_select.proofs.Common.{Each, FrameTree, Inside, Line, List, Piece, Place, TacStmt, TacStmt-F, [], arith}
+use Rattle.sc_select.proofs.Common.{choice, cycle, everywhere, fold-roll-TacStmt, followed, fork, in_order, jump_back}
+use Rattle.sc_select.proofs.Common.{jump_over, length, length-append, length-map, map, map-TacStmt, plain, plainly}
+use Rattle.sc_select.proofs.Common.{refl, select, select_all, select_step, stmt_induction, subst, suc, sym, ℕ, ◌++◌}
+use Rattle.sc_select.proofs.Common.{◌+◌, ◌∷◌, ◌≡◌}
 use Rattle.sc_tac.specs.declared.stmt.TacStmt.TheOpen as tac
-use Rattle.sc_tac.proofs.Induction.{Inside, stmt_induction}
 
 pub record IsSized (piece : Piece) : Type 0 where
   pub sized : (to_break to_continue : ℕ) → length (piece.lines to_break to_continue) ≡ piece.size

@@ -2,8 +2,7 @@
 -- may lie where an operand lies.
 use Rattle.sc_select.specs.Common.{Add, And, Div, Divu, Instr, Mul, Op, OpImm, Or, Rem, Remu, Sll, Slt, Sltiu, Sltu}
 use Rattle.sc_select.specs.Common.{Sra, Srl, Sub, TacOp, Xor, Xori, is_unsigned}
-use Rattle.std.specs.Prelude.{ℕ, ℤ, pos, negsuc, ◌+◌, ◌*◌, ◌%◌, ◌^◌, Bool, true, false, List, [], ◌∷◌, ◌++◌}
-use Rattle.std.specs.Prelude.{if◌then◌else◌}
+use Rattle.std.specs.Prelude.{ℕ, pos, negsuc, ◌*◌, ◌%◌, ◌^◌, Bool, true, false, List, [], ◌∷◌, ◌++◌}
 use Rattle.rv_code.specs.declared.instr.OpOp.{OpOp}
 use Rattle.sc_base.specs.declared.op.BinaryOp.{BinaryOp}
 use Rattle.sc_base.specs.declared.op.BinaryOp.TheVariants as op

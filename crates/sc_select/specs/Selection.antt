@@ -1,7 +1,7 @@
 -- Instruction selection: the instructions of each statement of three-address code, where each temporary has its place.
 use Rattle.sc_select.specs.Common.{Addi, Branch, CodeTree, Ecall, FrameTree, Instr, Jal, Jalr, Load, Lui, Lw, OpImm}
 use Rattle.sc_select.specs.Common.{Place, Store, Sw, TacOp, TacStmt, TacStmt-F, Upper, fold-TacStmt}
-use Rattle.std.specs.Prelude.{ℕ, zero, suc, ℤ, pos, ◌+◌, ◌*◌, List, [], ◌∷◌, ◌++◌, map, length, Option, None, Some}
+use Rattle.std.specs.Prelude.{ℕ, zero, suc, pos, ◌+◌, ◌*◌, List, [], ◌∷◌, ◌++◌, map, length, Option, None, Some}
 use Rattle.std.specs.Prelude.{slice_get, neg_ℤ}
 use Rattle.std.specs.Option.{unwrap_or}
 use Rattle.sc_event.specs.declared.row.Entry.{Entry}

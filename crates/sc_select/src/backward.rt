@@ -1,4 +1,4 @@
-ghost use Rattle.std.specs.Prelude.{◌≡◌, ◌<◌, ◌++◌, [], ◌∷◌, List, length, OnOk};
+ghost use Rattle.std.specs.Prelude.{◌≡◌, ◌<◌, ◌++◌, [], ◌∷◌, List, length, MatchOption, OnOk};
 ghost use Rattle.sc_select.specs.Lines.{Line, plain, linked};
 
 use rv_code::Instr;
@@ -69,6 +69,17 @@ impl Backward {
         ensures { OnOk result (self.new ≡ linked target instr ∷ self.old) }
     {
         self.prepend(instr, Some(target))
+    }
+
+    /// Takes the line in front away.
+    #[tactic(auto, using(crate::proofs::Lines::first_taken, crate::proofs::Lines::none_left))]
+    pub fn first(&mut self) -> Option<(Instr, Option<Target>)>
+        ensures { MatchOption result ((self.old ≡ []) × (self.new ≡ [])) (λ line. self.old ≡
+            record { instr = line.0; target = line.1 } ∷ self.new) }
+    {
+        let instr = self.instrs.pop()?;
+        let target = self.targets.pop()?;
+        Some((instr, target))
     }
 
     /// Puts another instruction in the place of the one that has so many lines behind it.

@@ -1,14 +1,17 @@
-//! Instruction selection: the machine code of statements of three-address code. That of choices and loops is defined, and
-//! not written yet.
+//! Instruction selection: the machine code of three-address code.
 #![tactic(auto)]
 
 mod backward;
 mod calls;
+mod control;
+mod function;
 mod homes;
 mod operators;
 mod pieces;
 mod statements;
 
 pub use backward::Backward;
+pub use control::Distances;
+pub use function::select;
 pub use homes::Homes;
 pub use operators::Operands;

@@ -1,10 +1,10 @@
 //! The instructions of operators.
 
-ghost use Rattle.sc_select.specs.Prelude.{Op, OpImm, Slt, Sltiu, Sltu, Xori, is_unsigned, plainly};
+ghost use Rattle.sc_select.specs.Prelude.{Op, OpImm, Slt, Sltiu, Sltu, Xori, binary_code, by_sign, bytes_of, inverted};
+ghost use Rattle.sc_select.specs.Prelude.{is_not_zero, is_unsigned, is_zero, op_code, plainly, pointer_difference};
+ghost use Rattle.sc_select.specs.Prelude.{pointer_move, stepped, unary_code};
 ghost use Rattle.std.specs.Prelude.{◌≡◌, ◌++◌, ◌∷◌, [], false, OnOk};
 ghost use Rattle.sc_base.specs.declared.op.BinaryOp.TheVariants as op;
-ghost use Rattle.sc_select.specs.Operators.{binary_code, by_sign, bytes_of, inverted, is_not_zero, is_zero, op_code};
-ghost use Rattle.sc_select.specs.Operators.{pointer_difference, pointer_move, stepped, unary_code};
 
 use crate::backward::Backward;
 use crate::pieces::{

@@ -1,9 +1,8 @@
 //! Pieces of code: constants, words of the frame, the way into a function and out of it.
 
-ghost use Rattle.sc_select.specs.Prelude.{Add, Addi, Load, Op, OpImm, Store, Upper, far_from_sp, frame_left};
-ghost use Rattle.sc_select.specs.Prelude.{frame_taken, load_word, loading, lower_part, move, moved_by, plainly};
-ghost use Rattle.sc_select.specs.Prelude.{store_word, upper_part};
-ghost use Rattle.rv_code.specs.Prelude.{IsImmediate, IsReg};
+ghost use Rattle.sc_select.specs.Prelude.{Add, Addi, IsImmediate, IsReg, Load, Op, OpImm, Store, Upper, far_from_sp};
+ghost use Rattle.sc_select.specs.Prelude.{frame_left, frame_taken, load_word, loading, lower_part, move, moved_by};
+ghost use Rattle.sc_select.specs.Prelude.{plainly, store_word, upper_part};
 ghost use Rattle.std.specs.Prelude.{◌≡◌, ◌++◌, ◌∷◌, ◌<◌, OnOk};
 ghost use Rattle.rv_code.specs.declared.instr.UpperOp.TheVariants.{Lui};
 ghost use Rattle.rv_code.specs.declared.instr.LoadOp.TheVariants.{Lw};

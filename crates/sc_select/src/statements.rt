@@ -29,7 +29,8 @@ fn word_of_constant(value: Constant) -> u32
 impl Backward {
     // The value of a temporary is at hand.
     fn take(&mut self, homes: &Homes, scratch: Reg, temp: u32) -> Result<(), OutOfMemory>
-        ensures { OnOk result (self.new ≡ plainly (take homes.now.frame.now homes.now.places.now scratch temp) ++ self.old) }
+        ensures { OnOk result (self.new ≡
+            plainly (take homes.now.frame.now homes.now.places.now scratch temp) ++ self.old) }
     {
         match homes.place_of(temp) {
             Some(Place::Slot(slot)) => self.load_word(scratch, homes.slot_offset(slot)),
@@ -143,7 +144,8 @@ impl Backward {
     pub fn object_place(&mut self, homes: &Homes, dest: u32, object: u32) -> Result<(), OutOfMemory>
         ensures { OnOk result (self.new ≡
             plainly (moved_by (result_register homes.now.frame.now homes.now.places.now dest) 2
-            (object_offset homes.now.frame.now object) ++ keep homes.now.frame.now homes.now.places.now dest) ++ self.old) }
+            (object_offset homes.now.frame.now object) ++ keep homes.now.frame.now homes.now.places.now dest) ++
+            self.old) }
     {
         self.keep(homes, dest)?;
         let rd = homes.operand(register(FIRST_SCRATCH), dest);
@@ -249,7 +251,8 @@ impl Backward {
     /// A call of `output`.
     pub fn output(&mut self, homes: &Homes, value: u32) -> Result<(), OutOfMemory>
         ensures { OnOk result (self.new ≡
-            plainly (brought homes.now.frame.now 10 (slice_get homes.now.places.now value) ++ environment_call 2) ++ self.old) }
+            plainly (brought homes.now.frame.now 10 (slice_get homes.now.places.now value) ++ environment_call 2) ++
+            self.old) }
     {
         self.environment_call(2)?;
         self.bring(homes, register(A0), value)

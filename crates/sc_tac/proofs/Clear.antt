@@ -2,19 +2,12 @@
 use Rattle.sc_tac.proofs.Common.{Bool, Each, IsAssignment, IsClear, IsFunction, List, None, Option, PlacesAreClear}
 use Rattle.sc_tac.proofs.Common.{Point, Share, Some, Span, TacFnTree, Within, [], ap, arith, drop, eq-eqb, false}
 use Rattle.sc_tac.proofs.Common.{from_here, function_points, get_or, has_call, if◌then◌else◌, interval_of, intervals_of}
-use Rattle.sc_tac.proofs.Common.{is_one, is_used, list_any, map, one_or_none, or_first, range_with_len, refl, slice_get}
-use Rattle.sc_tac.proofs.Common.{span_from, subst, suc, take, true, zero, ℕ, ◌+◌, ◌-◌, ◌<◌, ◌==◌, ◌||◌, ◌∙◌, ◌∷◌, ◌≡◌}
-use Rattle.sc_tac.proofs.Common.{◌≤◌}
+use Rattle.sc_tac.proofs.Common.{is_one, is_used, list_any, map, one_or_none, or_first, or_left, or_right}
+use Rattle.sc_tac.proofs.Common.{range_with_len, refl, slice_get, span_from, subst, suc, take, true, zero, ℕ, ◌+◌, ◌-◌}
+use Rattle.sc_tac.proofs.Common.{◌<◌, ◌==◌, ◌||◌, ◌∙◌, ◌∷◌, ◌≡◌, ◌≤◌}
 use Rattle.std.proofs.lemmas.Option.{same_Some, slice_get-get_or}
 use Rattle.sc_tac.specs.declared.place.Place.{Place}
 use Rattle.sc_tac.proofs.Owned.{OwnPoint, points_own}
-
-or_left : (a b : Bool) → a ≡ true → (a || b) ≡ true
-or_left a b is = rw is refl
-
-or_right : (a b : Bool) → b ≡ true → (a || b) ≡ true
-or_right true b is = refl
-or_right false b is = is
 
 -- a span that is found lasts to the number from which points are counted, or longer
 behind_by : (b : Bool) (from : ℕ) (later : Option Span) (span : Span) →

@@ -3,6 +3,7 @@ pub use Rattle.std.proofs.Common.{Bool, IsTrue, List, None, Option, Result, Some
 pub use Rattle.std.proofs.Common.{eqb-true, false, get_or, if◌then◌else◌, ltb-true, map, nat_lt, not, refl, slice_get}
 pub use Rattle.std.proofs.Common.{subst, suc, sym, take, true, zero, ℕ, ⊎_elim, ◌&&◌, ◌*◌, ◌++◌, ◌+◌, ◌-◌, ◌<◌, ◌==◌}
 pub use Rattle.std.proofs.Common.{◌||◌, ◌∙◌, ◌∷◌, ◌≡◌, ◌≤◌}
+pub use Rattle.std.proofs.lemmas.Bool.{or_cases, or_left, or_right}
 pub use Rattle.std.specs.List.{list_all, list_any, range_with_len}
 pub use Rattle.sc_event.specs.declared.interface.Interfaces.{Interfaces}
 pub use Rattle.sc_core.proofs.Induction.{Each}
@@ -14,21 +15,21 @@ pub use Rattle.sc_core.specs.declared.section.TypedGlobal.{TypedGlobal}
 pub use Rattle.sc_tac.specs.Common.{Entry, Event, Export, Main}
 pub use Rattle.sc_tac.specs.Prelude.{Ahead, CodeObeys, Codes, IsAssignment, IsClear, IsFunction, IsProgram, Lives}
 pub use Rattle.sc_tac.specs.Prelude.{PlacesAreClear, Point, Reading, Set, Share, Span, Temps, Trail, Within}
-pub use Rattle.sc_tac.specs.Prelude.{WrappedCodeAgrees, ahead_at, all_assigned_first, all_hold, branch_step, branches}
-pub use Rattle.sc_tac.specs.Prelude.{call_does, calls_exports, calls_imports, calls_own, code_does, code_function}
-pub use Rattle.sc_tac.specs.Prelude.{code_functions, code_globals, code_library, code_meaning, code_meaning_by}
-pub use Rattle.sc_tac.specs.Prelude.{code_step, code_wrapped, constant_value, enters_by_words, entry_known}
-pub use Rattle.sc_tac.specs.Prelude.{entry_weight, everywhere, from_here, function_points, gets, has_call, has_none}
-pub use Rattle.sc_tac.specs.Prelude.{has_operands, if_calls, in_body, in_head, in_next, interval_of, intervals_of}
-pub use Rattle.sc_tac.specs.Prelude.{is_assigned_first, is_entered, is_one, is_unsigned, is_used, known, live_across}
-pub use Rattle.sc_tac.specs.Prelude.{live_at_start, live_before, loop_points, names_own_global, names_own_object}
-pub use Rattle.sc_tac.specs.Prelude.{names_own_temps, no_temps, nothing_ahead, nothing_live, one_or_none, op_does}
-pub use Rattle.sc_tac.specs.Prelude.{operated, or_first, part_ahead, part_lives, passes_few, plain, plain_points, point}
-pub use Rattle.sc_tac.specs.Prelude.{points, read, read_all, reading_step, readings, received, return_does}
-pub use Rattle.sc_tac.specs.Prelude.{returns_result, round_first, row_first, row_fresh, row_points, same_entry}
-pub use Rattle.sc_tac.specs.Prelude.{scripted_code_by, scripted_code_meaning, second, some_hold, span_from, start_of}
-pub use Rattle.sc_tac.specs.Prelude.{stmt_branches, stmt_does, stmt_weight, store_does, stray_break, stray_continue}
-pub use Rattle.sc_tac.specs.Prelude.{trail, trail_step, weight, weight_step, with_parts, with_temp}
+pub use Rattle.sc_tac.specs.Prelude.{WrappedCodeAgrees, ahead_at, all_assigned_first, branch_step, branches, call_does}
+pub use Rattle.sc_tac.specs.Prelude.{calls_exports, calls_imports, calls_own, code_does, code_function, code_functions}
+pub use Rattle.sc_tac.specs.Prelude.{code_globals, code_library, code_meaning, code_meaning_by, code_step, code_wrapped}
+pub use Rattle.sc_tac.specs.Prelude.{constant_value, enters_by_words, entry_known, entry_weight, everywhere, from_here}
+pub use Rattle.sc_tac.specs.Prelude.{function_points, gets, has_call, has_none, has_operands, if_calls, in_body}
+pub use Rattle.sc_tac.specs.Prelude.{in_head, in_next, interval_of, intervals_of, is_assigned_first, is_entered, is_one}
+pub use Rattle.sc_tac.specs.Prelude.{is_unsigned, is_used, known, live_across, live_at_start, live_before, loop_points}
+pub use Rattle.sc_tac.specs.Prelude.{names_own_global, names_own_object, names_own_temps, no_temps, nothing_ahead}
+pub use Rattle.sc_tac.specs.Prelude.{nothing_live, one_or_none, op_does, operated, or_first, part_ahead, part_lives}
+pub use Rattle.sc_tac.specs.Prelude.{passes_few, plain, plain_points, point, points, read, read_all, reading_step}
+pub use Rattle.sc_tac.specs.Prelude.{readings, received, return_does, returns_result, round_first, row_first, row_fresh}
+pub use Rattle.sc_tac.specs.Prelude.{row_points, same_entry, scripted_code_by, scripted_code_meaning, second, some_hold}
+pub use Rattle.sc_tac.specs.Prelude.{span_from, start_of, stmt_branches, stmt_does, stmt_weight, store_does}
+pub use Rattle.sc_tac.specs.Prelude.{stray_break, stray_continue, trail, trail_step, weight, weight_step, with_parts}
+pub use Rattle.sc_tac.specs.Prelude.{with_temp}
 pub use Rattle.sc_tac.specs.declared.function.TacFnTree.{TacFnTree}
 pub use Rattle.sc_tac.specs.declared.program.TacSection.{TacSection}
 pub use Rattle.sc_tac.specs.declared.program.TacTree.{TacTree}

@@ -1,13 +1,12 @@
 -- What is live or assigned at a point of a function's code is a temporary of the function.
 use Rattle.sc_tac.proofs.Common.{Ahead, Bool, Each, List, Lives, None, Option, Point, Set, Some, TacStmt, TacStmt-F}
-use Rattle.sc_tac.proofs.Common.{Trail, [], ahead_at, all_hold, eqb-true, everywhere, false, fold-TacStmt}
-use Rattle.sc_tac.proofs.Common.{fold-roll-TacStmt, if_calls, in_body, in_head, in_next, is_one, is_used, list_all}
-use Rattle.sc_tac.proofs.Common.{live_across, live_at_start, live_before, loop_points, ltb-true, map, map-TacStmt}
-use Rattle.sc_tac.proofs.Common.{names_own_temps, nat_lt, not, nothing_live, one_or_none, part_ahead, part_lives, plain}
+use Rattle.sc_tac.proofs.Common.{Trail, [], ahead_at, eqb-true, everywhere, false, fold-TacStmt, fold-roll-TacStmt}
+use Rattle.sc_tac.proofs.Common.{if_calls, in_body, in_head, in_next, is_one, is_used, list_all, live_across}
+use Rattle.sc_tac.proofs.Common.{live_at_start, live_before, loop_points, ltb-true, map, map-TacStmt, names_own_temps}
+use Rattle.sc_tac.proofs.Common.{nat_lt, not, nothing_live, one_or_none, or_cases, part_ahead, part_lives, plain}
 use Rattle.sc_tac.proofs.Common.{plain_points, point, points, readings, refl, round_first, row_first, row_points, subst}
 use Rattle.sc_tac.proofs.Common.{sym, trail, trail_step, true, with_parts, ℕ, ⊎_elim, ◌&&◌, ◌++◌, ◌<◌, ◌==◌, ◌∙◌, ◌∷◌}
-use Rattle.sc_tac.proofs.Common.{◌≡◌}
-use Rattle.std.proofs.lemmas.Bool.{or_cases}
+use Rattle.sc_tac.proofs.Common.{◌≡◌, all_hold}
 use Rattle.sc_base.proofs.Bools.{and_first, and_rest}
 use Rattle.sc_tac.specs.declared.stmt.TacStmt.TheOpen as tac
 use Rattle.sc_tac.proofs.Induction.{Inside, stmt_induction}
@@ -164,7 +163,7 @@ module _ (temps : ℕ) where
   abbrev OwnStmt : TacStmt → Type 0
   OwnStmt s = test s ≡ true → OwnTrail (trail s)
 
-  rows : (stmts : List TacStmt) → Each OwnStmt stmts → all_hold (map test stmts) ≡ true →
+  rows : (stmts : List TacStmt) → Each OwnStmt stmts → list_all (λ holds. holds) (map test stmts) ≡ true →
       Each OwnTrail (map trail stmts)
   rows [] each all = tt
   rows (s ∷ stmts) each all =
@@ -184,7 +183,7 @@ module _ (temps : ℕ) where
       (let own : list_all (λ t. nat_lt t temps) (cond ∷ []) ≡ true = and_first _ _ h in
       let parts = and_rest (list_all (λ t. nat_lt t temps) (cond ∷ [])) _ h in
       let first = rows a i.0 (and_first _ _ parts) in
-      let second = rows b i.1 (and_first _ _ (and_rest (all_hold (map test a)) _ parts)) in
+      let second = rows b i.1 (and_first _ _ (and_rest (list_all (λ holds. holds) (map test a)) _ parts)) in
       let is_cond = λ (t : ℕ) (is : (cond == t) ≡ true). among t (cond ∷ []) own (rw is refl) in
       record {
         reads = λ t ahead from is. ⊎_elim
@@ -208,10 +207,10 @@ module _ (temps : ℕ) where
       })
   layer_own (tac.Loop head body next) i h =
       (let parts = and_rest true _ h in
-      let rest = and_rest (all_hold (map test head)) _ parts in
+      let rest = and_rest (list_all (λ holds. holds) (map test head)) _ parts in
       let a = rows head i.0 (and_first _ _ parts) in
       let b = rows body i.1 (and_first _ _ rest) in
-      let c = rows next i.2 (and_first _ _ (and_rest (all_hold (map test body)) _ rest)) in
+      let c = rows next i.2 (and_first _ _ (and_rest (list_all (λ holds. holds) (map test body)) _ rest)) in
       record {
         reads = round_own (map trail head) (map trail body) (map trail next) a b c;
         points = loop_own (map trail head) (map trail body) (map trail next) a b c;

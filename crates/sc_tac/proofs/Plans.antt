@@ -1,9 +1,9 @@
 -- Functions and programs by plans, on which rules and meanings compute.
 use Rattle.sc_tac.proofs.Common.{Arith, Bool, Codes, Entry, Event, Function, Interfaces, Library, List, Main, Option}
 use Rattle.sc_tac.proofs.Common.{Reading, TacFnTree, TacSection, TacStmt-F, TacTree, TypedGlobal, []}
-use Rattle.sc_tac.proofs.Common.{all_assigned_first, all_do, all_hold, and_then, ap, branch_step, branches, closed}
-use Rattle.sc_tac.proofs.Common.{code_function, code_functions, code_globals, code_library, code_meaning_by, code_step}
-use Rattle.sc_tac.proofs.Common.{codes, everywhere, frame_bound, has_none, is_assigned_first, map, no_temps, not}
+use Rattle.sc_tac.proofs.Common.{all_assigned_first, all_do, and_then, ap, branch_step, branches, closed, code_function}
+use Rattle.sc_tac.proofs.Common.{code_functions, code_globals, code_library, code_meaning_by, code_step, codes}
+use Rattle.sc_tac.proofs.Common.{everywhere, frame_bound, has_none, is_assigned_first, list_all, map, no_temps, not}
 use Rattle.sc_tac.proofs.Common.{nothing_ahead, reading_step, refl, roles_in, row_first, row_fresh, run_by, run_step}
 use Rattle.sc_tac.proofs.Common.{same_entry, scripted_code_by, scripted_step, some_hold, stopped_at, suc, total, true}
 use Rattle.sc_tac.proofs.Common.{weight, weight_step, with_parts, zero, ℕ, ◌&&◌, ◌∷◌, ◌≡◌}
@@ -57,10 +57,10 @@ pub branches_are : (x : Shape) → branches (stmts x) ≡ shape_branches x
 branches_are x = ap total (rows_are ℕ branch_step x)
 
 abbrev pub shape_passes : (TacStmt-F Bool → Bool) → Shape → Bool
-shape_passes test x = all_hold (rows Bool (with_parts test) x)
+shape_passes test x = list_all (λ holds. holds) (rows Bool (with_parts test) x)
 
 pub everywhere_is : (test : TacStmt-F Bool → Bool) (x : Shape) → everywhere test (stmts x) ≡ shape_passes test x
-everywhere_is test x = ap all_hold (rows_are Bool (with_parts test) x)
+everywhere_is test x = ap (list_all (λ holds. holds)) (rows_are Bool (with_parts test) x)
 
 abbrev pub shape_has_none : (TacStmt-F Bool → Bool) → Shape → Bool
 shape_has_none stray x = not (some_hold (rows Bool stray x))

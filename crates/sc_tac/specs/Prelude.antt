@@ -16,6 +16,7 @@ pub use Rattle.sc_tac.specs.Functions.{stray_break, stray_continue, takes_two}
 pub use Rattle.sc_tac.specs.Intervals.{AreIntervals, Span, Within, from_here, has_call, interval_of, intervals_of}
 pub use Rattle.sc_tac.specs.Intervals.{is_used, or_first, span_from}
 pub use Rattle.sc_tac.specs.Laws.{CodeObeys, WrappedCodeAgrees}
+pub use Rattle.sc_tac.specs.MachineCode.{IsCode, is_address, is_jal, is_linkable}
 pub use Rattle.sc_tac.specs.Parts.{all_hold, everywhere, one_or_none, with_parts}
 pub use Rattle.sc_tac.specs.Places.{ArePlaces, IsAssignment, IsClear, IsSparing, PlacesAreClear, Share, is_place}
 pub use Rattle.sc_tac.specs.Places.{register_count}

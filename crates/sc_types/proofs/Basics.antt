@@ -1,12 +1,8 @@
 -- Tests that hold, lists that are empty, and the places of names.
-use Rattle.sc_types.proofs.Common.{Bool, List, None, Option, Some, [], and_first, and_from, and_rest, ap, arith, concat}
-use Rattle.sc_types.proofs.Common.{cond, false, false≢true, if◌then◌else◌, list_all, map, not, option_map, position}
-use Rattle.sc_types.proofs.Common.{position_from, refl, suc, true, unless, ℕ, ◌&&◌, ◌++◌, ◌+◌, ◌||◌, ◌∙◌, ◌∷◌, ◌≡◌}
+use Rattle.sc_types.proofs.Common.{Bool, List, None, Option, Some, [], and_first, and_rest, ap, arith, concat, cond}
+use Rattle.sc_types.proofs.Common.{false, false≢true, if◌then◌else◌, list_all, map, not, option_map, position}
+use Rattle.sc_types.proofs.Common.{position_from, refl, suc, true, unless, ℕ, ◌++◌, ◌+◌, ◌||◌, ◌∙◌, ◌∷◌, ◌≡◌}
 use Rattle.std.proofs.lemmas.Iterator.Adapters.{position_from-zero}
-
-pub not_true : (a : Bool) → not a ≡ true → a ≡ false
-not_true false h = refl
-not_true true h = absurd (false≢true h)
 
 pub either : {C : Type 0} (a b : Bool) → (a || b) ≡ true → (a ≡ true → C) → (a ≡ false → b ≡ true → C) → C
 either true b h f g = f refl
@@ -51,23 +47,6 @@ each_empty f (x ∷ xs) h = (
 pub each_passes : {A : Type 0} (p : A → Bool) (xs : List A) → list_all p xs ≡ true → Each (λ x. p x ≡ true) xs
 each_passes p [] h = tt
 each_passes p (x ∷ xs) h = (and_first (p x) (list_all p xs) h, each_passes p xs (and_rest (p x) (list_all p xs) h))
-
-pub all_pass : {A : Type 0} (p : A → Bool) (xs : List A) → Each (λ x. p x ≡ true) xs → list_all p xs ≡ true
-all_pass p [] h = refl
-all_pass p (x ∷ xs) h = and_from (p x) (list_all p xs) h.0 (all_pass p xs h.1)
-
-pub each_with : {A : Type 0} (P Q R : A → Type 0) → ((x : A) → P x → Q x → R x) → (xs : List A) → Each P xs →
-    Each Q xs → Each R xs
-each_with P Q R f [] h k = tt
-each_with P Q R f (x ∷ xs) h k = (f x h.0 k.0, each_with P Q R f xs h.1 k.1)
-
-pub each_from : {A : Type 0} (P Q : A → Type 0) → ((x : A) → P x → Q x) → (xs : List A) → Each P xs → Each Q xs
-each_from P Q f [] h = tt
-each_from P Q f (x ∷ xs) h = (f x h.0, each_from P Q f xs h.1)
-
-pub each_map : {A B : Type 0} (P : B → Type 0) (f : A → B) (xs : List A) → Each (λ x. P (f x)) xs → Each P (map f xs)
-each_map P f [] h = tt
-each_map P f (x ∷ xs) h = (h.0, each_map P f xs h.1)
 
 -- what is in an option
 abbrev pub or_present : {A : Type 0} → A → Option A → A

@@ -7,9 +7,9 @@ use Rattle.sc_types.proofs.Common.{heads_in, if◌then◌else◌, import_named, 
 use Rattle.sc_types.proofs.Common.{imported_target, input_name, interface_of, interfaces_of, is_callable}
 use Rattle.sc_types.proofs.Common.{is_environment, is_input, is_numbered, is_offered, is_output, is_some, known_in}
 use Rattle.sc_types.proofs.Common.{list_any, map, not, number_or_zero, offered, offering, option_map, option_signature}
-use Rattle.sc_types.proofs.Common.{or_first, output_name, promised, proto_names, proto_signature, refl, same_import}
-use Rattle.sc_types.proofs.Common.{same_text, signature_by, slice_get, subst, sym, tags, target_or, target_signature}
-use Rattle.sc_types.proofs.Common.{true, typed_section, ℕ, ◌&&◌, ◌++◌, ◌==◌, ◌||◌, ◌∙◌, ◌∷◌, ◌≡◌}
+use Rattle.sc_types.proofs.Common.{or_first, or_right, output_name, promised, proto_names, proto_signature, refl}
+use Rattle.sc_types.proofs.Common.{same_import, same_text, signature_by, slice_get, subst, sym, tags, target_or}
+use Rattle.sc_types.proofs.Common.{target_signature, true, typed_section, ℕ, ◌&&◌, ◌++◌, ◌==◌, ◌||◌, ◌∙◌, ◌∷◌, ◌≡◌}
 use Rattle.sc_event.specs.declared.interface.Import.{Import}
 use Rattle.sc_event.specs.declared.interface.Import.TheVariants as import
 use Rattle.sc_core.specs.declared.ty.Ty.TheVariants as ty
@@ -35,14 +35,6 @@ or_not : (a b : Bool) → (a || not b) ≡ true → b ≡ true → a ≡ true
 or_not true b h q = refl
 or_not false true h q = h
 or_not false false h q = absurd (false≢true q)
-
-or_right : (a b : Bool) → b ≡ true → (a || b) ≡ true
-or_right true b h = refl
-or_right false b h = h
-
-other_of : (a b : Bool) → (a || b) ≡ true → a ≡ false → b ≡ true
-other_of true b h q = absurd (false≢true (sym q))
-other_of false b h q = h
 
 names_append : (a b : List Text) (name : Text) → is_numbered (a ++ b) name ≡ true → is_numbered a name ≡ false →
     is_numbered b name ≡ true

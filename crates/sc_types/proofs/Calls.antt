@@ -6,11 +6,11 @@ use Rattle.sc_types.proofs.Common.{base_scalar, bytes_eq, comp_at, crosses, expo
 use Rattle.sc_types.proofs.Common.{get_behind, gives_int, head_crosses, head_of, if◌then◌else◌, import_named}
 use Rattle.sc_types.proofs.Common.{interface_of, interfaces_from, interfaces_of, is_input, is_int, is_numbered}
 use Rattle.sc_types.proofs.Common.{is_output, is_some, length, list_all, list_any, map, nat_eq, not, number_of}
-use Rattle.sc_types.proofs.Common.{offering, offers, option_and_then, option_map, param_of, param_ty, promised}
-use Rattle.sc_types.proofs.Common.{proto_of, proto_signature, refl, result_crosses, result_of, result_ty, same_params}
-use Rattle.sc_types.proofs.Common.{same_result, same_type, scalar_of, scalar_ty, signature_by, signature_of, slice_get}
-use Rattle.sc_types.proofs.Common.{starred, suc, sym, tags, takes_int, takes_nothing, true, type_of_name}
-use Rattle.sc_types.proofs.Common.{typed_function, typed_param, zero, ℕ, ◌++◌, ◌+◌, ◌||◌, ◌∙◌, ◌∷◌, ◌≡◌}
+use Rattle.sc_types.proofs.Common.{offering, offers, option_and_then, option_map, or_right, param_of, param_ty}
+use Rattle.sc_types.proofs.Common.{promised, proto_of, proto_signature, refl, result_crosses, result_of, result_ty}
+use Rattle.sc_types.proofs.Common.{same_params, same_result, same_type, scalar_of, scalar_ty, signature_by}
+use Rattle.sc_types.proofs.Common.{signature_of, slice_get, starred, suc, sym, tags, takes_int, takes_nothing, true}
+use Rattle.sc_types.proofs.Common.{type_of_name, typed_function, typed_param, zero, ℕ, ◌++◌, ◌+◌, ◌||◌, ◌∙◌, ◌∷◌, ◌≡◌}
 use Rattle.sc_interfaces.specs.Prelude.{same_base}
 use Rattle.sc_ast.specs.declared.types.BaseTree.TheVariants as base_tree
 use Rattle.sc_core.specs.declared.ty.Ty.TheVariants as ty
@@ -192,15 +192,11 @@ get_map f [] i = refl
 get_map f (x ∷ xs) zero = refl
 get_map f (x ∷ xs) (suc i) = get_map f xs i
 
-or_true : (a b : Bool) → b ≡ true → (a || b) ≡ true
-or_true true b k = refl
-or_true false b k = k
-
 pub any_at : {A : Type 0} (p : A → Bool) (xs : List A) (i : ℕ) (x : A) → slice_get xs i ≡ Some x → p x ≡ true →
     list_any p xs ≡ true
 any_at p [] i x got h = none_some x got
 any_at p (y ∷ xs) zero x got h = ap (λ b. b || list_any p xs) (ap p (some_is y x got) ∙ h)
-any_at p (y ∷ xs) (suc i) x got h = or_true (p y) (list_any p xs) (any_at p xs i x got h)
+any_at p (y ∷ xs) (suc i) x got h = or_right (p y) (list_any p xs) (any_at p xs i x got h)
 
 -- Own functions.
 

@@ -1,11 +1,11 @@
 -- The names that several proofs of this crate cite, passed on from one place. Declares nothing.
 pub use Rattle.std.proofs.Common.{Bool, Err, IfOk, List, None, Ok, OnOk, Option, Result, Some, [], add-one, ap}
 pub use Rattle.std.proofs.Common.{append-nil, append_assoc, ap₂, arith, bytes_eq, codes, cond, drop, drop-cons, false}
-pub use Rattle.std.proofs.Common.{flat_map, get_or, if◌then◌else◌, inl, inr, is_some, le-leb, leb-true, length}
-pub use Rattle.std.proofs.Common.{length-take, lt-ltb, ltb-true, map, max, nat_eq, nat_le, nat_lt, not, position, refl}
-pub use Rattle.std.proofs.Common.{replicate, rules, slice_get, slice_range, subst, suc, sym, take, true, zero, ℕ, ◌%◌}
-pub use Rattle.std.proofs.Common.{◌&&◌, ◌*◌, ◌++◌, ◌+◌, ◌-◌, ◌<◌, ◌==◌, ◌^◌, ◌||◌, ◌∙◌, ◌∷◌, ◌≡◌, ◌≤◌, ◌⊎◌}
-pub use Rattle.std.proofs.lemmas.Bool.{and_from, false≢true}
+pub use Rattle.std.proofs.Common.{flat_map, get_or, if◌then◌else◌, inl, inr, is_some, le-leb, leb-true, length, lt-ltb}
+pub use Rattle.std.proofs.Common.{ltb-true, map, max, nat_eq, nat_le, nat_lt, not, position, refl, replicate, rules}
+pub use Rattle.std.proofs.Common.{slice_get, slice_range, subst, suc, sym, take, true, zero, ℕ, ◌%◌, ◌&&◌, ◌*◌, ◌++◌}
+pub use Rattle.std.proofs.Common.{◌+◌, ◌-◌, ◌<◌, ◌==◌, ◌^◌, ◌||◌, ◌∙◌, ◌∷◌, ◌≡◌, ◌≤◌, ◌⊎◌}
+pub use Rattle.std.proofs.lemmas.Bool.{and_from, false≢true, not-true, or_left, or_right}
 pub use Rattle.std.proofs.lemmas.Bool.Decides.{Decides-eqb, nat_tests}
 pub use Rattle.std.proofs.lemmas.List.{drop_all, length-map, map-append, take_more}
 pub use Rattle.std.proofs.lemmas.List.Elements.{filter_map-append}
@@ -20,7 +20,6 @@ pub use Rattle.sc_base.specs.Prelude.{is_numbered, number_of}
 pub use Rattle.sc_base.specs.declared.op.BinaryOp.{BinaryOp}
 pub use Rattle.sc_event.specs.Prelude.{comp_at, export_at}
 pub use Rattle.sc_event.specs.declared.interface.Interface.{Interface}
-pub use Rattle.sc_lex.specs.Prelude.{AreSections, Cuts, IsSplit, gap, line_at, none, nothing, section, token}
 pub use Rattle.sc_lex.specs.declared.fault.TextFault.TheVariants.{Refused}
 pub use Rattle.sc_lex.specs.declared.refusal.Phase.{Phase}
 pub use Rattle.sc_ast.proofs.Induction.{Each, Inside, Under, expr_induction, stmt_induction}
@@ -46,25 +45,25 @@ pub use Rattle.sc_ast.specs.declared.types.TypeName.{TypeName}
 pub use Rattle.sc_ast.specs.declared.types.TypeTree.{TypeTree}
 pub use Rattle.sc_read.proofs.Steps.{as_many, heading_fails}
 pub use Rattle.sc_read.specs.Reading.{IsRead, Part, Reads, part_of}
-pub use Rattle.sc_scope.proofs.Lines.{done, then}
-pub use Rattle.sc_scope.proofs.Noting.{noted_all-append, with_lines-append, with_lines-nil}
+pub use Rattle.sc_scope.proofs.Lines.{done, nothing, then}
 pub use Rattle.sc_scope.specs.Prelude.{Known, Text, among, base_known, base_scalar, call_known, declared, defines_main}
 pub use Rattle.sc_scope.specs.Prelude.{earlier, environment, export_names, expr_known, function_in, function_named}
 pub use Rattle.sc_scope.specs.Prelude.{function_names, functions_in, global_in, global_names, globals_in, head_in}
 pub use Rattle.sc_scope.specs.Prelude.{head_known, heads_in, import_names, import_of, interface_of, interfaces_from}
 pub use Rattle.sc_scope.specs.Prelude.{interfaces_of, is_callable, is_environment, known_in, line_of_text, main_from}
-pub use Rattle.sc_scope.specs.Prelude.{main_name, member_known, names_broken, noted, number_or_zero, offered, offering}
-pub use Rattle.sc_scope.specs.Prelude.{offers, param_names, pointed_known, promised, proto_names, proto_of, refused_at}
+pub use Rattle.sc_scope.specs.Prelude.{main_name, member_known, names_broken, number_or_zero, offered, offering, offers}
+pub use Rattle.sc_scope.specs.Prelude.{param_names, pointed_known, promised, proto_names, proto_of, refused_at}
 pub use Rattle.sc_scope.specs.Prelude.{result_known, scalar_of, simple_known, struct_in, struct_names, structs_in}
 pub use Rattle.sc_scope.specs.Prelude.{unless, with_lines}
 unfoldable pub use Rattle.sc_scope.specs.Prelude.{noted_all}
 pub use Rattle.sc_scope.specs.declared.broken.BrokenLines.{BrokenLines}
-pub use Rattle.sc_interfaces.specs.Faces.{agrees_as, agrees_there, agrees_with, decls_from, export_holds, exports_from}
-pub use Rattle.sc_interfaces.specs.Faces.{head_fits, head_holds, import_holds, imported_agrees, imports_from, is_input}
-pub use Rattle.sc_interfaces.specs.Faces.{is_offered, is_output, name_holds, section_lines, takes_int}
-pub use Rattle.sc_interfaces.specs.Prelude.{agree, crosses, gives_int, head_crosses, input_name, interface_broken}
-pub use Rattle.sc_interfaces.specs.Prelude.{is_int, is_plain, main_holds, output_name, result_crosses, same_params}
-pub use Rattle.sc_interfaces.specs.Prelude.{same_result, same_type, takes_nothing}
+pub use Rattle.sc_interfaces.specs.Prelude.{HasFewExports, HasFewParams, IsWithinCounts, agree, agrees_as, agrees_there}
+pub use Rattle.sc_interfaces.specs.Prelude.{agrees_with, crosses, decls_from, export_holds, exports_from, gives_int}
+pub use Rattle.sc_interfaces.specs.Prelude.{head_crosses, head_fits, head_holds, import_holds, imported_agrees}
+pub use Rattle.sc_interfaces.specs.Prelude.{imports_from, input_name, interface_broken, is_input, is_int, is_offered}
+pub use Rattle.sc_interfaces.specs.Prelude.{is_output, is_plain, main_holds, name_holds, output_name, result_crosses}
+pub use Rattle.sc_interfaces.specs.Prelude.{same_params, same_result, same_type, section_lines, takes_int}
+pub use Rattle.sc_interfaces.specs.Prelude.{takes_nothing}
 pub use Rattle.sc_core.proofs.Layers.{expr_at, layer_of, on_line, stmt_at, term_of, typed}
 pub use Rattle.sc_core.specs.Prelude.{Callable, IsWellTyped, Judged, Scope, Signature, allowed, are_distinct, args_fit}
 pub use Rattle.sc_core.specs.Prelude.{assign_call_fits, base_cells, base_within, body_fits, call_fits, call_height}

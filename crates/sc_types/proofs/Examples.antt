@@ -1,8 +1,7 @@
 -- Known values of the definitions, in small sections.
-use Rattle.sc_types.proofs.Common.{Decl, FunctionTree, List, None, Option, ParamTree, Proto, SectionTree, Some, Struct}
-use Rattle.sc_types.proofs.Common.{Text, TypeName, TypeTree, [], arith, codes, concat, function_nodes, head_lines}
-use Rattle.sc_types.proofs.Common.{heads_in, map, refl, replicate, rules, structs, structs_from, structs_in}
-use Rattle.sc_types.proofs.Common.{typed_structs, ℕ, ◌∷◌, ◌≡◌}
+use Rattle.sc_types.proofs.Common.{Decl, FunctionTree, List, None, ParamTree, Proto, SectionTree, Some, Struct, Text}
+use Rattle.sc_types.proofs.Common.{TypeName, [], arith, codes, concat, function_nodes, head_lines, heads_in, map, refl}
+use Rattle.sc_types.proofs.Common.{replicate, rules, structs, structs_from, structs_in, typed_structs, ℕ, ◌∷◌, ◌≡◌}
 use Rattle.sc_ast.specs.declared.types.BaseTree.TheVariants as base
 use Rattle.sc_base.specs.declared.op.BinaryOp.TheVariants as binary
 use Rattle.sc_ast.specs.declared.expr.ExprTree as terms

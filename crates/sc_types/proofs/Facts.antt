@@ -4,10 +4,10 @@ use Rattle.sc_types.proofs.Common.{Struct, [], agrees_with, among, and_first, an
 use Rattle.sc_types.proofs.Common.{decls_from, export_holds, export_names, exports_from, false, false≢true}
 use Rattle.sc_types.proofs.Common.{function_names, head_fits, head_holds, head_of, import_holds, import_names}
 use Rattle.sc_types.proofs.Common.{imported_agrees, imports_from, is_numbered, is_offered, is_plain, main_holds}
-use Rattle.sc_types.proofs.Common.{main_name, map, name_holds, not, proto_names, refl, same_text, section_lines, sym}
-use Rattle.sc_types.proofs.Common.{true, unless, ℕ, ◌&&◌, ◌++◌, ◌||◌, ◌∙◌, ◌∷◌, ◌≡◌}
+use Rattle.sc_types.proofs.Common.{main_name, map, name_holds, not, not-true, proto_names, refl, same_text}
+use Rattle.sc_types.proofs.Common.{section_lines, sym, true, unless, ℕ, ◌&&◌, ◌++◌, ◌||◌, ◌∙◌, ◌∷◌, ◌≡◌}
 use Rattle.sc_scope.specs.Prelude.{are_distinct}
-use Rattle.sc_types.proofs.Basics.{not_true, rule_holds, front_empty, back_empty, Each}
+use Rattle.sc_types.proofs.Basics.{rule_holds, front_empty, back_empty, Each}
 use Rattle.sc_types.proofs.Places.{Text, same_refl, numbered_front}
 
 -- Names that are new one after another are distinct.
@@ -85,12 +85,12 @@ module _ (sections : List SectionTree) (number : ℕ) (section : SectionTree) wh
         (
           record {
             defined = and_first _ _ holds;
-            no_main = not_true _ (and_first _ _ other);
+            no_main = not-true _ (and_first _ _ other);
             plain = and_rest (not (bytes_eq line.name main_name)) _ other;
           },
           rest.0,
         ),
-        (not_true _ (and_first _ _ new), rest.1),
+        (not-true _ (and_first _ _ new), rest.1),
       )
 
   imports_each : (before : List Text) (lines : List ImportLine) →
@@ -115,13 +115,13 @@ module _ (sections : List SectionTree) (number : ℕ) (section : SectionTree) wh
         (
           record {
             offered = and_first _ _ holds;
-            not_defined = not_true _ (and_first _ _ other);
+            not_defined = not-true _ (and_first _ _ other);
             declared = and_first _ _ last;
             plain = and_rest (among (proto_names section.decls) line.name) _ last;
           },
           rest.0,
         ),
-        (not_true _ (and_first _ _ new), rest.1),
+        (not-true _ (and_first _ _ new), rest.1),
       )
 
   decls_each : (mains : Bool) (before decls : List Decl) → decls_from sections number section mains before decls ≡ [] →

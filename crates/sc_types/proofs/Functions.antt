@@ -9,10 +9,10 @@ use Rattle.sc_types.proofs.Common.{global_fits, global_names, globals_in, head_k
 use Rattle.sc_types.proofs.Common.{import_names, init_height, init_holds, init_words, is_array, is_callable, is_null}
 use Rattle.sc_types.proofs.Common.{is_numbered, is_sized, is_small, known_in, length, list_all, local_fits, local_holds}
 use Rattle.sc_types.proofs.Common.{locals_from, map, map-append, map_twice, max, member_known, most_cells, most_height}
-use Rattle.sc_types.proofs.Common.{most_params, nat_eq, nat_le, not, option_map, param_names, param_of, passed_fits}
-use Rattle.sc_types.proofs.Common.{proto_names, refl, result_fits, result_known, result_of, scope_in, scope_of}
-use Rattle.sc_types.proofs.Common.{slice_get, starred, stmt_height, stmt_lines, struct_cells, struct_in, struct_lines}
-use Rattle.sc_types.proofs.Common.{struct_names, structs, structs_from, structs_in, subst, suc, sym, tags}
+use Rattle.sc_types.proofs.Common.{most_params, nat_eq, nat_le, not, not-true, option_map, param_names, param_of}
+use Rattle.sc_types.proofs.Common.{passed_fits, proto_names, refl, result_fits, result_known, result_of, scope_in}
+use Rattle.sc_types.proofs.Common.{scope_of, slice_get, starred, stmt_height, stmt_lines, struct_cells, struct_in}
+use Rattle.sc_types.proofs.Common.{struct_lines, struct_names, structs, structs_from, structs_in, subst, suc, sym, tags}
 use Rattle.sc_types.proofs.Common.{target_signature, true, type_in, type_of, type_of_name, type_within, typed_function}
 use Rattle.sc_types.proofs.Common.{typed_global, typed_init, typed_local, typed_locals, typed_param, typed_section}
 use Rattle.sc_types.proofs.Common.{typed_stmt, unless, variable_fits, visible_in, visible_of, word_of_const, words_fit}
@@ -31,7 +31,7 @@ use Rattle.sc_core.specs.declared.section.TypedGlobal.{TypedGlobal}
 use Rattle.sc_core.specs.declared.section.TypedLocal.{TypedLocal}
 use Rattle.sc_scope.specs.Names as names
 use Rattle.sc_types.specs.Counts as counts
-use Rattle.sc_types.proofs.Basics.{not_true, rule_holds, front_empty, back_empty}
+use Rattle.sc_types.proofs.Basics.{rule_holds, front_empty, back_empty}
 use Rattle.sc_types.proofs.Places.{Text, is_at_most, at_most, numbered_front}
 use Rattle.sc_types.proofs.Structs.{Known, AllKnown, AllSmall, structs_length, type_is_within, name_is_within, is_less}
 use Rattle.sc_types.proofs.Bodies.{fits}
@@ -420,7 +420,7 @@ module _ (section : SectionTree) where
         list_all {X = MemberTree} (λ member. is_sized member.ty) tree.members) ≡ true =
         rule_holds _ tree.line holds in
         record {
-          new = not_true _ (and_first _ _ known);
+          new = not-true _ (and_first _ _ known);
           members = and_rest (are_distinct (map {A = MemberTree} (λ member. member.name) tree.members)) _
               (and_rest (not (is_numbered (struct_names before) tree.name)) _ known);
           sized = and_rest (nat_le 1 (length tree.members)) _ shape;

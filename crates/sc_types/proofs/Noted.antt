@@ -4,12 +4,12 @@ use Rattle.sc_types.proofs.Common.{HeadTree, List, LocalTree, None, Option, Prot
 use Rattle.sc_types.proofs.Common.{StructTree, [], ap, append_assoc, arith, concat, done, drop, drop-step, drop_all}
 use Rattle.sc_types.proofs.Common.{filter_map, filter_map-append, function_in, function_lines, functions_in, get_or}
 use Rattle.sc_types.proofs.Common.{global_in, global_lines, globals_in, head_in, head_lines, heads_in, is_small, length}
-use Rattle.sc_types.proofs.Common.{line_beyond, line_of_some, list_all, local_lines, map, map-append, param_small, refl}
-use Rattle.sc_types.proofs.Common.{slice_get, struct_in, structs_from, structs_in, suc, sym, then, type_in, unless}
-use Rattle.sc_types.proofs.Common.{with_lines, with_lines-append, with_lines-nil, ℕ, ◌++◌, ◌+◌, ◌<◌, ◌∙◌, ◌∷◌, ◌≡◌, ◌≤◌}
+use Rattle.sc_types.proofs.Common.{line_beyond, line_of_some, list_all, local_lines, map, map-append, nothing}
+use Rattle.sc_types.proofs.Common.{param_small, refl, slice_get, struct_in, structs_from, structs_in, suc, sym, then}
+use Rattle.sc_types.proofs.Common.{type_in, unless, with_lines, ℕ, ◌++◌, ◌+◌, ◌<◌, ◌∙◌, ◌∷◌, ◌≡◌, ◌≤◌}
 use Rattle.sc_core.specs.declared.ty.Ty.TheVariants as ty
 use Rattle.sc_types.proofs.Measures.{no-struct}
-use Rattle.sc_scope.proofs.Lines.{nothing, step}
+use Rattle.sc_scope.proofs.Lines.{step}
 
 concat-append : (xs ys : List (List ℕ)) → concat (xs ++ ys) ≡ concat xs ++ concat ys
 concat-append [] ys = refl

@@ -3,10 +3,11 @@ use Rattle.sc_types.proofs.Common.{Bool, BrokenLines, Callees, ExportLine, Impor
 use Rattle.sc_types.proofs.Common.{Some, [], add-one, ap, callees_of, concat, counts_broken, decls_nodes, drop}
 use Rattle.sc_types.proofs.Common.{drop-cons, drop_all, function_lines, functions_in, get_or, global_lines, globals_in}
 use Rattle.sc_types.proofs.Common.{head_lines, heads_in, length, line_beyond, line_of_some, line_of_text, lines_from}
-use Rattle.sc_types.proofs.Common.{map, most_compartments, most_exports, most_nodes, nat_le, noted, noted_all}
-use Rattle.sc_types.proofs.Common.{noted_all-append, refl, refused_at, slice_get, structs_from, structs_in, suc, sym}
-use Rattle.sc_types.proofs.Common.{then, unless, with_lines, ℕ, ◌&&◌, ◌++◌, ◌+◌, ◌<◌, ◌∙◌, ◌∷◌, ◌≡◌, ◌≤◌}
+use Rattle.sc_types.proofs.Common.{map, most_compartments, most_exports, most_nodes, nat_le, noted_all, refl}
+use Rattle.sc_types.proofs.Common.{refused_at, slice_get, structs_from, structs_in, suc, sym, then, unless, with_lines}
+use Rattle.sc_types.proofs.Common.{ℕ, ◌&&◌, ◌+◌, ◌<◌, ◌∙◌, ◌∷◌, ◌≡◌, ◌≤◌}
 use Rattle.sc_types.specs.Prelude.{section_lines}
+use Rattle.sc_scope.proofs.Noting.{noted_all-append}
 use Rattle.sc_types.proofs.TypedNodes.{section-nodes}
 
 pub section-noted : (section : SectionTree) (callees : Callees) (sizes : SectionTree) (short : Bool)

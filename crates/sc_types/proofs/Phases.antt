@@ -1,15 +1,14 @@
 -- What the phases give to one another.
-use Rattle.sc_types.proofs.Common.{All, AreLow, Decl, Err, ExportLine, FailsRules, ImportLine, IsWellTyped, List, None}
-use Rattle.sc_types.proofs.Common.{Ok, OnOk, Option, Phase, ProgramTree, Result, SectionTree, Some, [], ap, arith}
-use Rattle.sc_types.proofs.Common.{callees_of, concat, counts_broken, functions_in, globals_in, head_of, heads_in}
-use Rattle.sc_types.proofs.Common.{interface_broken, length, line_of_text, map, most_compartments, most_exports}
-use Rattle.sc_types.proofs.Common.{most_nodes, most_params, names_broken, nat_le, param_of, program_of, refused_at}
-use Rattle.sc_types.proofs.Common.{structs_in, subst, suc, sym, types_broken, unless, zero, ℕ, ◌&&◌, ◌++◌, ◌∙◌, ◌∷◌}
-use Rattle.sc_types.proofs.Common.{◌≡◌}
+use Rattle.sc_types.proofs.Common.{All, AreLow, Decl, Err, ExportLine, FailsRules, HasFewExports, HasFewParams}
+use Rattle.sc_types.proofs.Common.{ImportLine, IsWellTyped, IsWithinCounts, List, None, Ok, OnOk, Option, Phase}
+use Rattle.sc_types.proofs.Common.{ProgramTree, Result, SectionTree, Some, [], ap, arith, callees_of, concat}
+use Rattle.sc_types.proofs.Common.{counts_broken, functions_in, globals_in, head_of, heads_in, interface_broken, length}
+use Rattle.sc_types.proofs.Common.{line_of_text, map, most_compartments, most_exports, most_nodes, most_params}
+use Rattle.sc_types.proofs.Common.{names_broken, nat_le, param_of, program_of, refused_at, structs_in, subst, suc, sym}
+use Rattle.sc_types.proofs.Common.{types_broken, unless, zero, ℕ, ◌&&◌, ◌++◌, ◌∙◌, ◌∷◌, ◌≡◌}
 use Rattle.sc_lex.specs.declared.refusal.Phase.TheVariants as phase
 use Rattle.sc_lex.specs.declared.refusal.Refusal.{Refusal}
 use Rattle.sc_ast.specs.declared.section.Decl.TheVariants as decl
-use Rattle.sc_interfaces.specs.Offering.{IsWithinCounts, HasFewExports, HasFewParams}
 use Rattle.sc_types.specs.Counts as counts
 use Rattle.sc_types.proofs.Basics.{Each, rule_holds, front_empty, back_empty, map_empty}
 use Rattle.sc_types.proofs.Places.{is_at_most}
@@ -17,33 +16,6 @@ use Rattle.sc_types.proofs.Functions.{map_length}
 use Rattle.sc_types.proofs.Sections.{none_beyond}
 use Rattle.sc_types.proofs.Refusals.{no_line}
 use Rattle.sc_types.proofs.Whole.{well_typed}
-
--- sections that are refused at a line fail that phase
-pub names_fail : (sections : List SectionTree) (refusal : Refusal) (in_phase : Phase) (line : Option ℕ) →
-    in_phase ≡ phase.Names → line ≡ refused_at (names_broken sections) →
-    (in_phase ≡ refusal.phase) × (line ≡ Some refusal.line) → FailsRules sections refusal.phase refusal.line
-names_fail sections refusal in_phase line p is h = subst (λ q. FailsRules sections q refusal.line) (sym p ∙ h.0)
-    (sym is ∙ h.1)
-
-pub types_fail : (sections : List SectionTree) (refusal : Refusal) (in_phase : Phase) (line : Option ℕ) →
-    names_broken sections ≡ [] → in_phase ≡ phase.Types → line ≡ refused_at (types_broken sections) →
-    (in_phase ≡ refusal.phase) × (line ≡ Some refusal.line) → FailsRules sections refusal.phase refusal.line
-types_fail sections refusal in_phase line names p is h =
-    subst (λ q. FailsRules sections q refusal.line) (sym p ∙ h.0) (names, sym is ∙ h.1)
-
-pub interfaces_fail : (sections : List SectionTree) (refusal : Refusal) (in_phase : Phase) (line : Option ℕ) →
-    names_broken sections ≡ [] → types_broken sections ≡ [] → in_phase ≡ phase.Interface →
-    line ≡ refused_at (interface_broken sections) → (in_phase ≡ refusal.phase) × (line ≡ Some refusal.line) →
-    FailsRules sections refusal.phase refusal.line
-interfaces_fail sections refusal in_phase line names types p is h =
-    subst (λ q. FailsRules sections q refusal.line) (sym p ∙ h.0) (names, types, sym is ∙ h.1)
-
-pub counts_fail : (sections : List SectionTree) (refusal : Refusal) (in_phase : Phase) (line : Option ℕ) →
-    names_broken sections ≡ [] → types_broken sections ≡ [] → interface_broken sections ≡ [] → in_phase ≡ phase.Count →
-    line ≡ refused_at (counts_broken sections) → (in_phase ≡ refusal.phase) × (line ≡ Some refusal.line) →
-    FailsRules sections refusal.phase refusal.line
-counts_fail sections refusal in_phase line names types interfaces p is h =
-    subst (λ q. FailsRules sections q refusal.line) (sym p ∙ h.0) (names, types, interfaces, sym is ∙ h.1)
 
 -- where there is no line, the rules hold
 pub holds : (lines : List ℕ) (line : Option ℕ) → line ≡ refused_at lines → line ≡ None → lines ≡ []

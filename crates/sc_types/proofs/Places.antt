@@ -14,9 +14,6 @@ same_refl name = (bytes_eq-Decides name name).1 refl
 pub eq_refl : (n : ℕ) → (n == n) ≡ true
 eq_refl n = (Decides-eqb n n).1 refl
 
-pub eq_is : (a b : ℕ) → (a == b) ≡ true → a ≡ b
-eq_is a b h = (Decides-eqb a b).0 h
-
 pub less : (a b : ℕ) → a < b → nat_lt a b ≡ true
 less a b h = lt-ltb a b h
 

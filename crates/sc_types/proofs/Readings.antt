@@ -1,18 +1,10 @@
 -- What is read of a text is low and has few stars, and what it fails is failed by the text.
-use Rattle.sc_types.proofs.Common.{Accepts, AllZip, AreLow, AreSections, Cuts, Err, Fails, FailsRules, IfOk, IsRead}
-use Rattle.sc_types.proofs.Common.{IsTyped, List, None, Ok, Option, Part, Phase, ProgramTree, Reads, Result, Section}
-use Rattle.sc_types.proofs.Common.{SectionTree, Some, [], and_from, arith, counts_broken, drop, gap, inl, inr}
-use Rattle.sc_types.proofs.Common.{interface_broken, length, length-take, list_all, map, names_broken, nat_le, none}
-use Rattle.sc_types.proofs.Common.{nothing, part_of, program_of, refl, refused_at, section, section_height, slice_range}
-use Rattle.sc_types.proofs.Common.{subst, sym, token, true, types_broken, ℕ, ◌+◌, ◌-◌, ◌<◌, ◌∷◌, ◌≡◌, ◌≤◌, ◌⊎◌}
-use Rattle.sc_expr.specs.Prelude.{lexeme_of}
-use Rattle.sc_parse.specs.Prelude.{lexemes_of}
-use Rattle.sc_lex.specs.declared.token.Token.{Token}
+use Rattle.sc_types.proofs.Common.{Accepts, AllZip, AreLow, Err, Fails, FailsRules, IfOk, IsRead, IsTyped, List, None}
+use Rattle.sc_types.proofs.Common.{Ok, Option, Part, Phase, ProgramTree, Reads, Result, SectionTree, Some, [], and_from}
+use Rattle.sc_types.proofs.Common.{counts_broken, inl, inr, interface_broken, list_all, names_broken, nat_le}
+use Rattle.sc_types.proofs.Common.{program_of, refl, refused_at, section_height, true, types_broken, ℕ, ◌∷◌, ◌≡◌, ◌⊎◌}
 use Rattle.sc_lex.specs.declared.refusal.Phase.TheVariants as phase
-use Rattle.sc_lex.proofs.Runs.{token_positive}
 use Rattle.sc_read.specs.Reading as reading
-use Rattle.sc_types.proofs.Basics.{Each}
-use Rattle.sc_types.proofs.Functions.{map_length}
 use Rattle.sc_types.proofs.Places.{at_most}
 use Rattle.sc_types.proofs.Refusals.{no_line}
 
@@ -28,18 +20,6 @@ low_from text (part ∷ parts) (tree ∷ trees) h =
 -- no tree of a text is high
 pub reads_low : (text : List ℕ) (trees : List SectionTree) → Reads text trees → AreLow trees
 reads_low text trees r = low_from text r.sections trees r.each
-
--- Bytes are no fewer than the tokens that they are cut into.
-tokens_within : {bytes : List ℕ} {at to : ℕ} {tokens : List Token} → Cuts bytes at to tokens → at + length tokens ≤ to
-tokens_within nothing = omega arith
-tokens_within (gap len h c) = omega (arith, tokens_within c)
-tokens_within (token kind len h c) = omega (arith, token_positive len h, tokens_within c)
-
-abbrev IsWithin : List ℕ → Part → Type 0
-IsWithin text part = length part.bytes ≤ length text
-
-range_within : (text : List ℕ) (a b : ℕ) → b ≤ length text → length (slice_range text a b) ≤ length text
-range_within text a b h = omega (arith, h, length-take (b - a) (drop a text))
 
 -- a text that isn't read fails
 pub unread_fails : (text : List ℕ) (in_phase : Phase) (line : ℕ) → reading.Fails text in_phase line →

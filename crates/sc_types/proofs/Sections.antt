@@ -9,12 +9,12 @@ use Rattle.sc_types.proofs.Common.{functions_in, get_behind, globals_in, head_cr
 use Rattle.sc_types.proofs.Common.{if◌then◌else◌, import_fits, import_name, import_names, import_of, input_name}
 use Rattle.sc_types.proofs.Common.{interface_fits, interface_of, interfaces_of, is_environment, is_numbered, is_offered}
 use Rattle.sc_types.proofs.Common.{is_plain_name, is_some, length, list_all, list_any, main_name, map, map-append}
-use Rattle.sc_types.proofs.Common.{map_twice, most_exports, most_nodes, nat_le, not, number_or_zero, offered, offering}
-use Rattle.sc_types.proofs.Common.{option_map, output_name, promised, proto_of, proto_signature, refl, same_base}
-use Rattle.sc_types.proofs.Common.{same_results, same_signature, same_text, same_ty, same_type, same_types}
-use Rattle.sc_types.proofs.Common.{signature_by, signature_of, slice_get, structs, structs_in, subst, suc, sym, tags}
-use Rattle.sc_types.proofs.Common.{true, typed_function, typed_section, unless, zero, ℕ, ◌&&◌, ◌++◌, ◌==◌, ◌||◌, ◌∙◌}
-use Rattle.sc_types.proofs.Common.{◌∷◌, ◌≡◌, ◌≤◌}
+use Rattle.sc_types.proofs.Common.{map_twice, most_exports, most_nodes, nat_le, not, not-true, number_or_zero, offered}
+use Rattle.sc_types.proofs.Common.{offering, option_map, or_left, output_name, promised, proto_of, proto_signature}
+use Rattle.sc_types.proofs.Common.{refl, same_base, same_results, same_signature, same_text, same_ty, same_type}
+use Rattle.sc_types.proofs.Common.{same_types, signature_by, signature_of, slice_get, structs, structs_in, subst, suc}
+use Rattle.sc_types.proofs.Common.{sym, tags, true, typed_function, typed_section, unless, zero, ℕ, ◌&&◌, ◌++◌, ◌==◌}
+use Rattle.sc_types.proofs.Common.{◌||◌, ◌∙◌, ◌∷◌, ◌≡◌, ◌≤◌}
 use Rattle.sc_event.specs.declared.interface.Import.TheVariants as import
 use Rattle.sc_event.specs.declared.interface.Proto as event
 use Rattle.sc_ast.specs.declared.types.BaseTree.TheVariants as tree_base
@@ -22,10 +22,9 @@ use Rattle.sc_core.specs.declared.ty.Ty.TheVariants as ty
 use Rattle.sc_core.specs.declared.ty.BaseTy.TheVariants as base
 use Rattle.sc_scope.specs.Declarations as decls
 use Rattle.sc_scope.specs.Names as names
-use Rattle.sc_elab.specs.Sections as elab
 use Rattle.sc_interfaces.specs.Faces as faces
 use Rattle.sc_types.specs.Counts as counts
-use Rattle.sc_types.proofs.Basics.{not_true, rule_holds, front_empty, back_empty, Each, none_some, some_item}
+use Rattle.sc_types.proofs.Basics.{rule_holds, front_empty, back_empty, Each, none_some, some_item}
 use Rattle.sc_types.proofs.Places.{Text, same_refl, eq_refl, at_most}
 use Rattle.sc_types.proofs.Lookups.{each_at, each_function, FoundFunction, find_function}
 use Rattle.sc_types.proofs.Facts.{Fresh, fresh_distinct, ExportFacts, ImportFacts, DeclFacts, FaceFacts}
@@ -80,11 +79,6 @@ result_agrees (Some t) = type_agrees t
 agrees : (head : HeadTree) → agree head head ≡ true
 agrees head = and_from _ _ (result_agrees head.result) (params_agree head.params)
 
-types_same : (sections : List SectionTree) (number : ℕ) (section : SectionTree) →
-    elab.section_lines section (callees_of sections 0 section) ≡
-    elab.section_lines section (callees_of sections number section)
-types_same sections number section = refl
-
 within : {A : Type 0} (xs : List A) (n : ℕ) → slice_get xs n ≡ None → length xs ≤ n
 within [] n h = omega arith
 within (x ∷ xs) zero h = none_some x (sym h)
@@ -117,7 +111,7 @@ both_distinct : (xs ys : List Text) → decls.are_distinct xs ≡ true → Each 
     decls.are_distinct ys ≡ true → decls.are_distinct (xs ++ ys) ≡ true
 both_distinct [] ys h none k = k
 both_distinct (x ∷ xs) ys h none k =
-    and_from _ _ (ap not (not_in_append x xs ys (not_true _ (and_first _ _ h)) none.0))
+    and_from _ _ (ap not (not_in_append x xs ys (not-true _ (and_first _ _ h)) none.0))
     (both_distinct xs ys (and_rest (not (is_numbered xs x)) _ h) none.1 k)
 
 -- Functions are distinct.
@@ -151,7 +145,7 @@ functions_fresh section before (Proto head ∷ rest) h =
 functions_fresh section before (Function tree ∷ rest) h =
     let known : names.head_of_known (names.declared section before) tree ≡ true =
     rule_holds _ tree.head.line (front_empty _ _ (front_empty _ _ h)) in (
-      not_true _ (and_first _ _ (and_rest (not (is_numbered (decls.global_names before) tree.head.name)) _ known)),
+      not-true _ (and_first _ _ (and_rest (not (is_numbered (decls.global_names before) tree.head.name)) _ known)),
       subst (λ all. Fresh all (function_names rest)) (names_append before (Function tree ∷ []))
           (functions_fresh section (before ++ Function tree ∷ []) rest
           (back_empty (names.decl_lines (names.declared section before) (Function tree)) _ h)),
@@ -248,10 +242,6 @@ module _ (sections : List SectionTree) (hold : (j : ℕ) (s : SectionTree) → s
   or_not true b h q = refl
   or_not false true h q = h
   or_not false false h q = absurd (false≢true q)
-
-  or_left : (a b : Bool) → a ≡ true → (a || b) ≡ true
-  or_left true b h = refl
-  or_left false b h = absurd (false≢true h)
 
   -- an export line at its place
   module _ (at : ℕ) (line : ExportLine) (got : slice_get section.exports at ≡ Some line)

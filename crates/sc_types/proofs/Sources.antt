@@ -1,10 +1,10 @@
 -- The parts of a text, by the places at which its sections begin.
-use Rattle.sc_types.proofs.Common.{Accepts, AreSections, AreStarts, IsKept, IsRead, IsSource, IsSplit, List, None}
-use Rattle.sc_types.proofs.Common.{ProgramTree, Reads, Section, SectionTree, Some, [], add-one, ap, ap₂, arith, as_many}
-use Rattle.sc_types.proofs.Common.{concat, drop, first_start, flat_map, get_or, interfaces_from, length, line_at, map}
-use Rattle.sc_types.proofs.Common.{map-append, none, part_of, parts_from, refl, section, slice_get, slice_range}
-use Rattle.sc_types.proofs.Common.{source_of, start_of, subst, suc, sym, take, take_more, zero, ℕ, ◌++◌, ◌+◌, ◌-◌, ◌<◌}
-use Rattle.sc_types.proofs.Common.{◌∙◌, ◌∷◌, ◌≡◌, ◌≤◌}
+use Rattle.sc_types.proofs.Common.{Accepts, AreStarts, IsKept, IsRead, IsSource, List, ProgramTree, Reads, Section}
+use Rattle.sc_types.proofs.Common.{SectionTree, Some, [], add-one, ap, ap₂, arith, as_many, concat, drop, first_start}
+use Rattle.sc_types.proofs.Common.{flat_map, get_or, interfaces_from, length, map, map-append, part_of, parts_from}
+use Rattle.sc_types.proofs.Common.{refl, slice_get, slice_range, source_of, start_of, subst, suc, sym, take, take_more}
+use Rattle.sc_types.proofs.Common.{zero, ℕ, ◌++◌, ◌+◌, ◌-◌, ◌<◌, ◌∙◌, ◌∷◌, ◌≡◌, ◌≤◌}
+use Rattle.sc_lex.specs.Prelude.{AreSections, IsSplit, line_at, none, section}
 use Rattle.sc_lex.proofs.Splits.{progress_joined, sections_rise}
 use Rattle.sc_read.proofs.Splits.{split_good, same_parts}
 use Rattle.sc_types.proofs.Functions.{map_length}
@@ -88,20 +88,6 @@ module _ (text starts : List ℕ) (program : ProgramTree) (k : IsKept text start
   starts_long =
       ap length k.starts_are.places ∙ map_length start_of k.starts_are.found ∙
       each_has_one program k.starts_are.split k.accepted
-
--- What stands at a place of the starts.
-pub start_some : (text starts : List ℕ) (at start : ℕ) → slice_get starts at ≡ Some start →
-    first_start text (drop at starts) ≡ start
-start_some text [] at start h = absurd (cc)
-start_some text (x ∷ starts) zero start h = cc
-start_some text (x ∷ starts) (suc at) start h = start_some text starts at start h
-
-pub start_none : (text starts : List ℕ) (at : ℕ) → slice_get starts at ≡ None →
-    first_start text (drop at starts) ≡ length text
-start_none text [] zero h = refl
-start_none text [] (suc at) h = refl
-start_none text (x ∷ starts) zero h = absurd (cc)
-start_none text (x ∷ starts) (suc at) h = start_none text starts at h
 
 part_here : (text starts : List ℕ) (at : ℕ) → at < length starts →
     slice_get (parts_from text starts) at ≡ Some (slice_range text (first_start text (drop at starts))

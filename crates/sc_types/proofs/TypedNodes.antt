@@ -18,49 +18,26 @@ use Rattle.sc_ast.specs.declared.expr.ExprTree.TheOpen as tree
 use Rattle.sc_ast.specs.declared.stmt.SimpleKind.TheVariants as simple_tree
 use Rattle.sc_ast.specs.declared.stmt.StmtKind.TheOpen as layer
 use Rattle.sc_ast.proofs.Layers as layers
-use Rattle.sc_base.specs.declared.op.UnaryOp.{UnaryOp}
-use Rattle.sc_base.specs.declared.op.BinaryOp as core_op
-use Rattle.sc_core.specs.declared.expr.VarRef.{VarRef}
 use Rattle.sc_core.specs.declared.expr.TypedKind as term
-use Rattle.sc_core.specs.declared.expr.TypedCall.{TypedCall}
 use Rattle.sc_core.specs.declared.stmt.TypedStmtKind as kind
-use Rattle.sc_core.specs.declared.stmt.TypedSimple.{TypedSimple}
 use Rattle.sc_core.specs.Sizes as core
+use Rattle.sc_core.specs.declared.expr.TypedKind.TheOpen as open_term
+use Rattle.sc_core.specs.declared.expr.TypedKind.TheVariants.{rolls-Address, rolls-Arrow, rolls-Binary, rolls-Deref}
+use Rattle.sc_core.specs.declared.expr.TypedKind.TheVariants.{rolls-Index, rolls-Literal, rolls-Member, rolls-Unary}
+use Rattle.sc_core.specs.declared.expr.TypedKind.TheVariants.{rolls-Variable}
+use Rattle.sc_core.specs.declared.stmt.TypedStmtKind.TheOpen as open_kind
+use Rattle.sc_core.specs.declared.stmt.TypedStmtKind.TheVariants.{rolls-Assign, rolls-AssignCall, rolls-Break}
+use Rattle.sc_core.specs.declared.stmt.TypedStmtKind.TheVariants.{rolls-Call, rolls-Continue, rolls-Empty, rolls-For}
+use Rattle.sc_core.specs.declared.stmt.TypedStmtKind.TheVariants.{rolls-If, rolls-Return, rolls-ReturnCall}
+use Rattle.sc_core.specs.declared.stmt.TypedStmtKind.TheVariants.{rolls-ReturnValue, rolls-While}
+use Rattle.sc_core.proofs.Layers as core_layers
 
--- The nodes of a typed expression, by what it is.
+-- The nodes of a typed expression, by the layer of its kind.
 
-module _ (t : Ty) where
-  literal-at : (w : ℕ) → core.expr_nodes (record { ty = t; kind = term.Literal w }) ≡ 1
-  literal-at w = search (rules, the_lemmas)
-
-  variable-at : (v : VarRef) → core.expr_nodes (record { ty = t; kind = term.Variable v }) ≡ 1
-  variable-at v = search (rules, the_lemmas)
-
-  unary-at : (o : UnaryOp) (a : TypedExpr) → core.expr_nodes (record { ty = t; kind = term.Unary o a }) ≡
-      suc (core.expr_nodes a)
-  unary-at o a = search (rules, the_lemmas)
-
-  binary-at : (o : core_op.BinaryOp) (a b : TypedExpr) →
-      core.expr_nodes (record { ty = t; kind = term.Binary o a b }) ≡ suc (core.expr_nodes a + core.expr_nodes b)
-  binary-at o a b = search (rules, the_lemmas)
-
-  index-at : (a b : TypedExpr) → core.expr_nodes (record { ty = t; kind = term.Index a b }) ≡
-      suc (core.expr_nodes a + core.expr_nodes b)
-  index-at a b = search (rules, the_lemmas)
-
-  member-at : (a : TypedExpr) (offset : ℕ) → core.expr_nodes (record { ty = t; kind = term.Member a offset }) ≡
-      suc (core.expr_nodes a)
-  member-at a offset = search (rules, the_lemmas)
-
-  arrow-at : (a : TypedExpr) (offset : ℕ) → core.expr_nodes (record { ty = t; kind = term.Arrow a offset }) ≡
-      suc (core.expr_nodes a)
-  arrow-at a offset = search (rules, the_lemmas)
-
-  deref-at : (a : TypedExpr) → core.expr_nodes (record { ty = t; kind = term.Deref a }) ≡ suc (core.expr_nodes a)
-  deref-at a = search (rules, the_lemmas)
-
-  address-at : (a : TypedExpr) → core.expr_nodes (record { ty = t; kind = term.Address a }) ≡ suc (core.expr_nodes a)
-  address-at a = search (rules, the_lemmas)
+node-at : (t : Ty) (x : TypedKind) (k : term.TypedKind-F TypedKind TypedExpr) → term.roll-TypedKind k ≡ x →
+    core.expr_nodes (record { ty = t; kind = x }) ≡ core_layers.term_of ℕ ℕ core.term_nodes (λ e. e.kind) k
+node-at t x k is = ap (λ x. core.expr_nodes (record { ty = t; kind = x })) (sym is) ∙
+    core_layers.expr_at ℕ ℕ core.term_nodes (λ e. e.kind) t k
 
 -- its type doesn't count
 kind-alone : (t u : Ty) (k : TypedKind) → core.expr_nodes (record { ty = t; kind = k }) ≡
@@ -91,8 +68,8 @@ beside-nodes tree_op.NotEqual other e = going other e
 beside-nodes o other e = refl
 
 variable-nodes : (f : Option Found) → core.expr_nodes (variable_typed f) ≡ 1
-variable-nodes None = variable-at _ _
-variable-nodes (Some f) = variable-at _ _
+variable-nodes None = node-at _ _ (open_term.Variable _) (rolls-Variable _)
+variable-nodes (Some f) = node-at _ _ (open_term.Variable _) (rolls-Variable _)
 
 module _ (visible : Visible) where
   abbrev AsTree : ExprTree → Type 0
@@ -100,18 +77,20 @@ module _ (visible : Visible) where
 
   step-nodes : (t : ExprTree-F ExprTree) → Under AsTree t →
       core.expr_nodes (step visible (map-ExprTree _ _ (typed visible) t)) ≡ expr_step (map-ExprTree _ _ expr_nodes t)
-  step-nodes (tree.Literal number) h = literal-at _ number.value
+  step-nodes (tree.Literal number) h = node-at _ _ (open_term.Literal number.value) (rolls-Literal _)
   step-nodes (tree.Variable name) h = variable-nodes (found visible name)
-  step-nodes (tree.Unary o a) h = unary-at _ _ (typed visible a) ∙ ap suc h
+  step-nodes (tree.Unary o a) h = node-at _ _ (open_term.Unary o (typed visible a)) (rolls-Unary _ _) ∙ ap suc h
   step-nodes (tree.Binary o a b) h =
-      binary-at _ _ (beside o (typed visible b).ty (typed visible a)) (beside o (typed visible a).ty (typed visible b))
+      node-at _ _ (open_term.Binary o (beside o (typed visible b).ty (typed visible a))
+      (beside o (typed visible a).ty (typed visible b))) (rolls-Binary _ _ _)
       ∙ ap₂ (λ m n. suc (m + n)) (beside-nodes o (typed visible b).ty (typed visible a) ∙ h.0)
       (beside-nodes o (typed visible a).ty (typed visible b) ∙ h.1)
-  step-nodes (tree.Index a b) h = index-at _ (typed visible a) (typed visible b) ∙ ap₂ (λ m n. suc (m + n)) h.0 h.1
-  step-nodes (tree.Member a name) h = member-at _ (typed visible a) _ ∙ ap suc h
-  step-nodes (tree.Arrow a name) h = arrow-at _ (typed visible a) _ ∙ ap suc h
-  step-nodes (tree.Deref a) h = deref-at _ (typed visible a) ∙ ap suc h
-  step-nodes (tree.Address a) h = address-at _ (typed visible a) ∙ ap suc h
+  step-nodes (tree.Index a b) h =
+      node-at _ _ (open_term.Index (typed visible a) (typed visible b)) (rolls-Index _ _) ∙ ap₂ (λ m n. suc (m + n)) h.0 h.1
+  step-nodes (tree.Member a name) h = node-at _ _ (open_term.Member (typed visible a) _) (rolls-Member _ _) ∙ ap suc h
+  step-nodes (tree.Arrow a name) h = node-at _ _ (open_term.Arrow (typed visible a) _) (rolls-Arrow _ _) ∙ ap suc h
+  step-nodes (tree.Deref a) h = node-at _ _ (open_term.Deref (typed visible a)) (rolls-Deref _) ∙ ap suc h
+  step-nodes (tree.Address a) h = node-at _ _ (open_term.Address (typed visible a)) (rolls-Address _) ∙ ap suc h
 
   pub typed-nodes : (e : ExprTree) → core.expr_nodes (typed visible e) ≡ expr_nodes e
   typed-nodes =
@@ -143,56 +122,13 @@ module _ (visible : Visible) where
     part-nodes None = refl
     part-nodes (Some s) = simple-nodes s.kind
 
--- The nodes of a typed statement, by what it does.
+-- The nodes of a typed statement, by the layer of its kind.
 
-module _ (line : ℕ) where
-  empty-at : core.stmt_nodes (record { line = line; kind = kind.Empty }) ≡ 1
-  empty-at = search (rules, kind.the_lemmas)
-
-  assign-at : (place value : TypedExpr) → core.stmt_nodes (record { line = line; kind = kind.Assign place value }) ≡
-      suc (core.expr_nodes place + core.expr_nodes value)
-  assign-at place value = search (rules, kind.the_lemmas)
-
-  assign-call-at : (place : TypedExpr) (call : TypedCall) →
-      core.stmt_nodes (record { line = line; kind = kind.AssignCall place call }) ≡
-      suc (core.expr_nodes place + core.call_nodes call)
-  assign-call-at place call = search (rules, kind.the_lemmas)
-
-  call-at : (call : TypedCall) → core.stmt_nodes (record { line = line; kind = kind.Call call }) ≡
-      suc (core.call_nodes call)
-  call-at call = search (rules, kind.the_lemmas)
-
-  if-at : (c : TypedExpr) (first second : List TypedStmt) →
-      core.stmt_nodes (record { line = line; kind = kind.If c first second }) ≡
-      suc (core.expr_nodes c + total (map core.stmt_nodes first) + total (map core.stmt_nodes second))
-  if-at c first second = search (rules, kind.the_lemmas)
-
-  while-at : (c : TypedExpr) (body : List TypedStmt) →
-      core.stmt_nodes (record { line = line; kind = kind.While c body }) ≡
-      suc (core.expr_nodes c + total (map core.stmt_nodes body))
-  while-at c body = search (rules, kind.the_lemmas)
-
-  for-at : (first : Option TypedSimple) (c : TypedExpr) (next : Option TypedSimple) (body : List TypedStmt) →
-      core.stmt_nodes (record { line = line; kind = kind.For first c next body }) ≡
-      suc (core.part_nodes first + core.expr_nodes c + core.part_nodes next + total (map core.stmt_nodes body))
-  for-at first c next body = search (rules, kind.the_lemmas)
-
-  break-at : core.stmt_nodes (record { line = line; kind = kind.Break }) ≡ 1
-  break-at = search (rules, kind.the_lemmas)
-
-  continue-at : core.stmt_nodes (record { line = line; kind = kind.Continue }) ≡ 1
-  continue-at = search (rules, kind.the_lemmas)
-
-  return-at : core.stmt_nodes (record { line = line; kind = kind.Return }) ≡ 1
-  return-at = search (rules, kind.the_lemmas)
-
-  return-value-at : (value : TypedExpr) → core.stmt_nodes (record { line = line; kind = kind.ReturnValue value }) ≡
-      suc (core.expr_nodes value)
-  return-value-at value = search (rules, kind.the_lemmas)
-
-  return-call-at : (call : TypedCall) → core.stmt_nodes (record { line = line; kind = kind.ReturnCall call }) ≡
-      suc (core.call_nodes call)
-  return-call-at call = search (rules, kind.the_lemmas)
+stmt-node-at : (line : ℕ) (x : TypedStmtKind) (k : kind.TypedStmtKind-F TypedStmtKind TypedStmt) →
+    kind.roll-TypedStmtKind k ≡ x → core.stmt_nodes (record { line = line; kind = x }) ≡
+    core_layers.layer_of ℕ ℕ core.kind_nodes (λ s. s.kind) k
+stmt-node-at line x k is = ap (λ x. core.stmt_nodes (record { line = line; kind = x })) (sym is) ∙
+    core_layers.stmt_at ℕ ℕ core.kind_nodes (λ s. s.kind) line k
 
 four : (a b c d a' b' c' d' : ℕ) → a ≡ a' → b ≡ b' → c ≡ c' → d ≡ d' → suc (a + b + c + d) ≡ suc (a' + b' + c' + d')
 four a b c d a' b' c' d' p q r s = ap₂ (λ x y. suc (x + y)) (ap₂ (λ x y. x + y) (ap₂ (λ x y. x + y) p q) r) s
@@ -212,27 +148,34 @@ module _ (visible : Visible) (callees : Callees) (result : Option Ty) where
 
   layer-nodes : (line : ℕ) (k : StmtKind-F StmtKind StmtTree) → Inside StmtAsTree k →
       core.stmt_nodes (record { line = line; kind = typed_layer k }) ≡ layers.layer_of ℕ ℕ kind_step stmt_step k
-  layer-nodes line layer.Empty h = empty-at line
+  layer-nodes line layer.Empty h = stmt-node-at line _ open_kind.Empty rolls-Empty
   layer-nodes line (layer.Assign place value) h =
-      assign-at line _ _ ∙ ap₂ (λ a b. suc (a + b)) (typed-nodes visible place)
+      stmt-node-at line _ (open_kind.Assign _ _) (rolls-Assign _ _) ∙ ap₂ (λ a b. suc (a + b)) (typed-nodes visible place)
       (value-nodes visible callees place value)
   layer-nodes line (layer.AssignCall place call) h =
-      assign-call-at line _ _ ∙ ap₂ (λ a b. suc (a + b)) (typed-nodes visible place) (call-nodes visible callees call)
-  layer-nodes line (layer.Call call) h = call-at line _ ∙ ap suc (call-nodes visible callees call)
+      stmt-node-at line _ (open_kind.AssignCall _ _) (rolls-AssignCall _ _) ∙
+      ap₂ (λ a b. suc (a + b)) (typed-nodes visible place) (call-nodes visible callees call)
+  layer-nodes line (layer.Call call) h =
+      stmt-node-at line _ (open_kind.Call _) (rolls-Call _) ∙ ap suc (call-nodes visible callees call)
   layer-nodes line (layer.If c first second) h =
-      if-at line _ _ _ ∙ ap₂ (λ a b. suc (a + b)) (ap₂ (λ a b. a + b) (typed-nodes visible c) (each-nodes first h.0))
+      stmt-node-at line _ (open_kind.If _ _ _) (rolls-If _ _ _) ∙
+      ap₂ (λ a b. suc (a + b)) (ap₂ (λ a b. a + b) (typed-nodes visible c) (each-nodes first h.0))
       (each-nodes second h.1)
   layer-nodes line (layer.While c body) h =
-      while-at line _ _ ∙ ap₂ (λ a b. suc (a + b)) (typed-nodes visible c) (each-nodes body h)
+      stmt-node-at line _ (open_kind.While _ _) (rolls-While _ _) ∙
+      ap₂ (λ a b. suc (a + b)) (typed-nodes visible c) (each-nodes body h)
   layer-nodes line (layer.For first c next body) h =
-      for-at line _ _ _ _ ∙ four _ _ _ _ _ _ _ _ (part-nodes visible callees first) (typed-nodes visible c)
+      stmt-node-at line _ (open_kind.For _ _ _ _) (rolls-For _ _ _ _) ∙
+      four _ _ _ _ _ _ _ _ (part-nodes visible callees first) (typed-nodes visible c)
       (part-nodes visible callees next) (each-nodes body h)
-  layer-nodes line layer.Break h = break-at line
-  layer-nodes line layer.Continue h = continue-at line
-  layer-nodes line layer.Return h = return-at line
+  layer-nodes line layer.Break h = stmt-node-at line _ open_kind.Break rolls-Break
+  layer-nodes line layer.Continue h = stmt-node-at line _ open_kind.Continue rolls-Continue
+  layer-nodes line layer.Return h = stmt-node-at line _ open_kind.Return rolls-Return
   layer-nodes line (layer.ReturnValue value) h =
-      return-value-at line _ ∙ ap suc (going-some result (typed visible value) ∙ typed-nodes visible value)
-  layer-nodes line (layer.ReturnCall call) h = return-call-at line _ ∙ ap suc (call-nodes visible callees call)
+      stmt-node-at line _ (open_kind.ReturnValue _) (rolls-ReturnValue _) ∙
+      ap suc (going-some result (typed visible value) ∙ typed-nodes visible value)
+  layer-nodes line (layer.ReturnCall call) h =
+      stmt-node-at line _ (open_kind.ReturnCall _) (rolls-ReturnCall _) ∙ ap suc (call-nodes visible callees call)
 
   pub stmt-nodes : (s : StmtTree) → core.stmt_nodes (typed_stmt visible callees result s) ≡ stmt_nodes s
   stmt-nodes =

@@ -8,7 +8,7 @@ use Rattle.sc_types.proofs.Common.{head_of, heads_in, if◌then◌else◌, inter
 use Rattle.sc_types.proofs.Common.{interfaces_from, interfaces_of, is_main, is_numbered, is_well_typed, length}
 use Rattle.sc_types.proofs.Common.{line_of_text, list_any, main_fits, main_from, main_name, mains_in, map, map-append}
 use Rattle.sc_types.proofs.Common.{most_compartments, most_exports, most_nodes, name_holds, names_broken, nat_le, not}
-use Rattle.sc_types.proofs.Common.{option_map, program_of, refl, same_signature, section_fits, section_height}
+use Rattle.sc_types.proofs.Common.{not-true, option_map, program_of, refl, same_signature, section_fits, section_height}
 use Rattle.sc_types.proofs.Common.{sections_fit, sections_from, signature_by, signature_of, slice_get, structs}
 use Rattle.sc_types.proofs.Common.{structs_in, subst, suc, sym, tags, true, truth, typed_function, typed_global}
 use Rattle.sc_types.proofs.Common.{typed_section, types_broken, unless, zero, ℕ, ◌&&◌, ◌++◌, ◌+◌, ◌==◌, ◌||◌, ◌∙◌, ◌∷◌}
@@ -18,8 +18,8 @@ use Rattle.sc_scope.specs.Names as names
 use Rattle.sc_elab.specs.Sections as elab
 use Rattle.sc_interfaces.specs.Faces as faces
 use Rattle.sc_types.specs.Counts as counts
-use Rattle.sc_types.proofs.Basics.{not_true, rule_holds, front_empty, back_empty, map_empty, Each, each_empty}
-use Rattle.sc_types.proofs.Basics.{each_passes, some_is, none_some}
+use Rattle.sc_types.proofs.Basics.{rule_holds, front_empty, back_empty, map_empty, Each, each_empty, each_passes}
+use Rattle.sc_types.proofs.Basics.{some_is, none_some}
 use Rattle.sc_types.proofs.Places.{Text, at_most, is_at_most}
 use Rattle.sc_types.proofs.Structs.{AllSmall, structs_all_fit, structs_length}
 use Rattle.sc_types.proofs.Lookups.{each_at, each_function, same_sym, FoundFunction, find_function}
@@ -28,6 +28,7 @@ use Rattle.sc_types.proofs.Calls.{input_signature, get_map, any_at, own_signatur
 use Rattle.sc_types.proofs.Callees as called
 use Rattle.sc_types.proofs.Functions.{map_length, small_from, functions_are, globals_are, structs_known}
 use Rattle.sc_types.proofs.Sections.{none_beyond, interface_is}
+use Rattle.std.proofs.Math.Bool.{or-false, or_assoc}
 
 length_snoc : {A : Type 0} (xs : List A) (y : A) → length (xs ++ y ∷ []) ≡ suc (length xs)
 length_snoc [] y = refl
@@ -264,11 +265,11 @@ module _ (sections : List SectionTree) where
         (back_empty (map (line_of_text section.line)
         (faces.section_lines sections k section (list_any defines_main before) before)) _ h) in (
           (
-            not_true _ (and_first _ _ holds),
+            not-true _ (and_first _ _ holds),
             subst (λ all. Fresh all (map name_of rest))
                 (map-append name_of before (section ∷ [])) next.0,
           ),
-          (not_true _ (and_rest (not (is_numbered (map name_of before) section.name)) _ holds), next.1),
+          (not-true _ (and_rest (not (is_numbered (map name_of before) section.name)) _ holds), next.1),
         )
 
     no_environment : (all : List Text) → Each (λ name. bytes_eq name environment ≡ false) all →
@@ -341,22 +342,12 @@ module _ (sections : List SectionTree) where
         (own_signature section (callees_of sections k section) g.tree ∙
         input_signature (tags section) (head_of g.tree.head) is)))
 
-    or_false : (a b : Bool) → (a || b) ≡ false → a ≡ false
-    or_false true b h = h
-    or_false false b h = refl
-
     any_append : (before : List SectionTree) (section : SectionTree) →
         list_any defines_main (before ++ section ∷ []) ≡ (list_any defines_main before || defines_main section)
-    any_append [] section = or_none (defines_main section) where
-      or_none : (b : Bool) → (b || false) ≡ b
-      or_none true = refl
-      or_none false = refl
+    any_append [] section = or-false (defines_main section)
     any_append (s ∷ before) section =
         ap (λ b. defines_main s || b) (any_append before section) ∙
-        sym (or_assoc (defines_main s) (list_any defines_main before) (defines_main section)) where
-          or_assoc : (a b c : Bool) → ((a || b) || c) ≡ (a || (b || c))
-          or_assoc true b c = refl
-          or_assoc false b c = refl
+        sym (or_assoc (defines_main s) (list_any defines_main before) (defines_main section))
 
     count_by : (b d more : Bool) (n : ℕ) → (d ≡ true → not b ≡ true) → n ≡ (if b || d then 0 else truth more) →
         truth d + n ≡ (if b then 0 else truth (d || more))

@@ -12,18 +12,19 @@ use crate::Scope;
 use crate::access::load;
 use crate::moves::{moved_back, moved_on, offset_by};
 use crate::pointers::between;
-use crate::sizes::{is_array, is_pointer, is_unsigned, target_cells};
 use crate::words::{applied_one, is_true, of_bool, on_words};
 use sc_base::BinaryOp;
 use sc_blocks::Blocks;
-use sc_core::{Cause, Pointer, Ty, TypedExpr, TypedKind, Value, VarRef, Want};
+use sc_core::{
+    Cause, Pointer, Ty, TypedExpr, TypedKind, Value, VarRef, Want, is_unsigned_op, target_cells,
+};
 use sqlite_items::Items;
 use std::alloc::{AllocError, Global};
 
 fn literal(ty: Ty, word: u32) -> Value
     ensures { result ≡ literal ty word }
 {
-    if is_pointer(ty) {
+    if ty.is_pointer() {
         Value::Null
     } else {
         Value::Word(word)
@@ -49,22 +50,12 @@ fn wanted(blocks: &Blocks, scope: &Scope, ty: Ty, place: Value, want: Want) -> R
     match want {
         Want::Place => Ok(place),
         Want::Value => {
-            if is_array(ty) {
+            if ty.is_array() {
                 Ok(place)
             } else {
-                load(blocks, *scope.comp, is_pointer(ty), place)
+                load(blocks, *scope.comp, ty.is_pointer(), place)
             }
         }
-    }
-}
-
-fn is_unsigned_op(op: BinaryOp, left: Ty, right: Ty) -> bool
-    ensures { result ≡ is_unsigned_op op left right }
-{
-    match op {
-        BinaryOp::ShiftLeft => is_unsigned(left),
-        BinaryOp::ShiftRight => is_unsigned(left),
-        _ => is_unsigned(left) || is_unsigned(right),
     }
 }
 
@@ -83,8 +74,8 @@ fn at_pointer(
     let (pointer, index) = types;
     let cells = target_cells(scope.structs, pointer);
     match op {
-        BinaryOp::Sub => moved_back(blocks, *scope.comp, cells, is_unsigned(index), place, by),
-        _ => moved_on(blocks, *scope.comp, cells, is_unsigned(index), place, by),
+        BinaryOp::Sub => moved_back(blocks, *scope.comp, cells, index.is_unsigned(), place, by),
+        _ => moved_on(blocks, *scope.comp, cells, index.is_unsigned(), place, by),
     }
 }
 
@@ -100,8 +91,8 @@ fn applied(
     ensures { result ≡ applied c_arith scope.now.structs.now
         (memory_of blocks.now scope.now.comp.now) op types.0 types.1 left right }
 {
-    if is_pointer(types.0) {
-        if is_pointer(types.1) {
+    if types.0.is_pointer() {
+        if types.1.is_pointer() {
             between(
                 blocks,
                 *scope.comp,
@@ -113,7 +104,7 @@ fn applied(
         } else {
             at_pointer(blocks, scope, op, types, left, right)
         }
-    } else if is_pointer(types.1) {
+    } else if types.1.is_pointer() {
         at_pointer(blocks, scope, op, (types.1, types.0), right, left)
     } else {
         on_words(is_unsigned_op(op, types.0, types.1), op, left, right)
@@ -178,7 +169,7 @@ pub fn evaluate(
         }
         TypedKind::Unary { op, of } => {
             let operand = evaluate(blocks, scope, Want::Value, of.get())?;
-            applied_one(is_unsigned(of.get().ty), *op, operand)
+            applied_one(of.get().ty.is_unsigned(), *op, operand)
         }
         TypedKind::Binary { op, left, right } => {
             let first = evaluate(blocks, scope, Want::Value, left.get())?;

@@ -5,12 +5,10 @@ mod access;
 mod expressions;
 mod moves;
 mod pointers;
-mod sizes;
 mod standing;
 mod words;
 
 pub use access::{cell_of, load, store};
 pub use expressions::{evaluate, evaluate_all, variable_at};
-pub use sizes::cells_of;
 pub use standing::Scope;
 pub use words::is_true;

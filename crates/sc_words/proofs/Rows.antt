@@ -1,12 +1,12 @@
 -- The rows of the options that are given: what a use adds, what is found at the end, and what is checked there.
-use Rattle.sc_words.proofs.Common.{Bool, Form, Kinds, List, None, Option, Row, Rule, Setting, Some, Tells, Text, [], ap}
-use Rattle.sc_words.proofs.Common.{append-nil, ap₂, at_row, bytes_eq, codes, cond, defaults_fault, each_once, false}
-use Rattle.sc_words.proofs.Common.{find, find-append, find-map, find_passes, flag_text, fold, has_option, has_row}
-use Rattle.sc_words.proofs.Common.{has_value, if◌then◌else◌, is_among, is_some, list_all, list_any, list_any-append}
-use Rattle.sc_words.proofs.Common.{map, more, more_values, not, option_and_then, option_map, option_map_or, option_or}
-use Rattle.sc_words.proofs.Common.{or_else, refl, row_text, same_either_way, same_text, slice_get, sym, true}
-use Rattle.sc_words.proofs.Common.{true≢false, use_fault, used, with_default, with_values, ◌&&◌, ◌++◌, ◌||◌, ◌∙◌, ◌∷◌}
-use Rattle.sc_words.proofs.Common.{◌≡◌}
+use Rattle.sc_words.proofs.Common.{Bool, Form, Kinds, List, None, Option, Row, Rule, Setting, Some, Tells, Text, []}
+use Rattle.sc_words.proofs.Common.{and-false, ap, append-nil, ap₂, at_row, bytes_eq, codes, cond, defaults_fault}
+use Rattle.sc_words.proofs.Common.{each_once, false, find, find-append, find-map, find_passes, flag_text, fold}
+use Rattle.sc_words.proofs.Common.{has_option, has_row, has_value, if◌then◌else◌, is_among, is_some, list_all, list_any}
+use Rattle.sc_words.proofs.Common.{list_any-append, map, more, more_values, not, option_and_then, option_map}
+use Rattle.sc_words.proofs.Common.{option_map_or, option_or, or_else, refl, row_text, same_either_way, same_text}
+use Rattle.sc_words.proofs.Common.{slice_get, sym, true, true≢false, use_fault, used, with_default, with_values, ◌&&◌}
+use Rattle.sc_words.proofs.Common.{◌++◌, ◌||◌, ◌∙◌, ◌∷◌, ◌≡◌}
 use Rattle.clap.specs.Facts.{explicit_source}
 use Rattle.clap.specs.Takes.{is_given}
 use Rattle.clap.specs.declared.builder.value_parser.Reading.TheVariants.{AsWritten}
@@ -14,7 +14,6 @@ use Rattle.clap.specs.declared.error.kind.ErrorKind.TheVariants as kind
 use Rattle.clap.specs.declared.parser.matches.ValueSource.TheVariants.{DefaultValue, CommandLine}
 use Rattle.sc_words.proofs.Basics.{not_empty}
 use Rattle.sc_words.proofs.Lookup.{ready_alone, ready_rules, ready_valued}
-use Rattle.sc_base.proofs.Bools.{and_false}
 
 -- ---- the rows of the options that are given
 
@@ -327,7 +326,7 @@ repeated (o ∷ before) name value behind has = go (bytes_eq o.0 name) refl (rep
         or_true (has_option o.0 before)) in
         ap (λ b. not b && each_once (before ++ (name, value) ∷ behind)) there
     go false e later =
-        ap (λ b. not (has_option o.0 (before ++ (name, value) ∷ behind)) && b) (later (rw e at has)) ∙ and_false _
+        ap (λ b. not (has_option o.0 (before ++ (name, value) ∷ behind)) && b) (later (rw e at has)) ∙ and-false _
 
 pub once_more : (before : List Setting) (name value : Text) → each_once before ≡ true → has_option name before ≡ false →
     each_once (before ++ (name, value) ∷ []) ≡ true

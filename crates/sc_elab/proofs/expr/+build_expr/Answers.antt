@@ -1,9 +1,14 @@
 use Rattle.sc_elab.proofs.Common.{visible}
-use Rattle.sc_elab.proofs.Parts.{member_built, arrow_built}
+use Rattle.sc_elab.proofs.Parts.{variable_built, member_built, arrow_built}
 use Rattle.sc_elab.proofs.expr.+build_expr.Goals as goal
 
 pub returns-in-Literal-clause-judged : goal.returns-in-Literal-clause-judged
 returns-in-Literal-clause-judged t c scope suits = c.literal_built.ensures.judged scope
+
+pub returns-in-Variable-clause-judged : goal.returns-in-Variable-clause-judged
+returns-in-Variable-clause-judged t c scope suits =
+    variable_built scope (visible c.args.section.now c.args.function.now) suits c.name.result c.found.result
+    c.variable_built.result c.found.ensures c.variable_built.ensures.expr c.variable_built.ensures.judged
 
 pub returns-in_ok-base-in-Member-clause-judged : goal.returns-in_ok-base-in-Member-clause-judged
 returns-in_ok-base-in-Member-clause-judged t c scope suits =

@@ -1,4 +1,4 @@
-use Rattle.sc_elab.proofs.Common.{false, judged, sym, true, ◌∙◌, ◌≡◌}
+use Rattle.sc_elab.proofs.Common.{judged, sym, ◌∙◌}
 use Rattle.sc_core.specs.declared.expr.TypedKind
 use Rattle.sc_elab.proofs.Parts.{value, binary_judged}
 use Rattle.sc_elab.proofs.expr.binary_built.Goals as goal

@@ -1,4 +1,4 @@
-use Rattle.sc_elab.proofs.Common.{ap, false, is_address, is_type, judged, sym, true, ◌&&◌, ◌∙◌, ◌≡◌}
+use Rattle.sc_elab.proofs.Common.{ap, is_address, is_type, judged, sym, ◌&&◌, ◌∙◌}
 use Rattle.sc_core.specs.declared.expr.TypedKind
 use Rattle.sc_elab.proofs.Parts.{place, deref_judged}
 use Rattle.sc_elab.proofs.expr.deref_built.Goals as goal

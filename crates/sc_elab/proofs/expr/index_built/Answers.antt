@@ -1,4 +1,4 @@
-use Rattle.sc_elab.proofs.Common.{ap, false, is_address, is_int, is_type, judged, sym, true, ◌&&◌, ◌∙◌, ◌≡◌}
+use Rattle.sc_elab.proofs.Common.{ap, is_address, is_int, is_type, judged, sym, ◌&&◌, ◌∙◌}
 use Rattle.sc_core.specs.declared.expr.TypedKind
 use Rattle.sc_elab.proofs.Parts.{place, index_judged}
 use Rattle.sc_elab.proofs.expr.index_built.Goals as goal

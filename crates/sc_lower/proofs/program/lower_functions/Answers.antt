@@ -9,6 +9,7 @@ lower_function-requires c =
     record {
       few_params = able.few_params;
       few_nodes = able.few_nodes;
+      near = able.near;
       few_exports = able.few_exports;
       param_cells = able.param_cells;
       local_cells = able.local_cells;

@@ -1,4 +1,4 @@
-use Rattle.sc_elab.proofs.Common.{all_go, ap, args_fit, call_holds, called, goes_in, judged, sym, visible, ◌∙◌}
+use Rattle.sc_elab.proofs.Common.{all_go, ap, called, goes_in, sym, visible, ◌∙◌}
 use Rattle.std.specs.Option.{option_copied}
 use Rattle.sc_elab.proofs.Ruled.{ok_map, args_go}
 use Rattle.sc_elab.proofs.rules.Place.call_holds.Goals as goal

@@ -1,38 +1,10 @@
-//! Types as the meaning reads them, and how many cells they take (C11 6.2.5, 6.7.2.1).
+//! How many cells types take (C11 6.2.5, 6.7.2.1).
 
-ghost use Rattle.sc_core.specs.Prelude.{base_cells, cells_of, is_array, is_pointer, is_unsigned, starred_cells};
-ghost use Rattle.sc_core.specs.Prelude.{struct_cells, target_cells};
+ghost use Rattle.sc_core.specs.Prelude.{base_cells, cells_of, starred_cells, struct_cells, target_cells};
 ghost use Rattle.std.specs.Prelude.{◌≡◌, slice_get};
 
-use sc_core::{BaseTy, Ty, TypedStruct};
-
-pub fn is_unsigned(ty: Ty) -> bool
-    ensures { result ≡ is_unsigned ty }
-{
-    match ty {
-        Ty::Unsigned => true,
-        _ => false,
-    }
-}
-
-pub fn is_array(ty: Ty) -> bool
-    ensures { result ≡ is_array ty }
-{
-    match ty {
-        Ty::Array { .. } => true,
-        _ => false,
-    }
-}
-
-pub fn is_pointer(ty: Ty) -> bool
-    ensures { result ≡ is_pointer ty }
-{
-    match ty {
-        Ty::Pointer { .. } => true,
-        Ty::Array { .. } => true,
-        _ => false,
-    }
-}
+use crate::section::TypedStruct;
+use crate::ty::{BaseTy, Ty};
 
 fn struct_cells(structs: &[TypedStruct], number: u32) -> u32
     ensures { result ≡ struct_cells (slice_get structs.now number) }

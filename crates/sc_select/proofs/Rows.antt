@@ -1,0 +1,82 @@
+-- Worked functions: the code of each.
+use Rattle.sc_select.proofs.Common.{Addi, Bne, Branch, CodeTree, FrameTree, Function, Jal, Jalr, List, Load, Lw, Op}
+use Rattle.sc_select.proofs.Common.{OpImm, Piece, Place, Register, Slot, Some, Store, Sub, Sw, [], ap, closing, code_of}
+use Rattle.sc_select.proofs.Common.{code_of_lines, entrance, frame_of, in_order, negsuc, plainly, pos, select_step}
+use Rattle.sc_select.proofs.Common.{true, ◌++◌, ◌∷◌, ◌≡◌}
+use Rattle.sc_base.specs.declared.op.BinaryOp.TheVariants as op
+use Rattle.sc_event.specs.declared.row.Entry.TheVariants as entry
+use Rattle.sc_tac.specs.declared.stmt.TacStmt.TheOpen as tac
+use Rattle.sc_tac.proofs.Plans.{Plan, function}
+use Rattle.sc_tac.proofs.Runs.{fetched, give, int_op, put_into, word}
+use Rattle.sc_tac.proofs.Shapes.{Cycle, Done, Fork, Line as Then, rows, rows_are}
+
+-- the code of a function by its plan, on which it computes
+abbrev pub planned : FrameTree → List Place → Plan → List Piece → CodeTree
+planned frame places plan pieces = code_of_lines (plainly (entrance frame places plan.params) ++
+    (in_order pieces).lines 0 0 ++ plainly (closing frame places plan.entry))
+
+abbrev pub framed : Plan → List Place → FrameTree
+framed plan places = frame_of plan.objects places
+
+abbrev pub pieces_of : Plan → List Place → List Piece
+pieces_of plan places = rows Piece (select_step (framed plan places) places) plan.body
+
+pub code_is : (plan : Plan) (places : List Place) → code_of (function plan) places (framed plan places) ≡
+    planned (framed plan places) places plan (pieces_of plan places)
+code_is plan places =
+    ap (planned (framed plan places) places plan) (rows_are Piece (select_step (framed plan places) places) plan.body)
+
+-- `int down(int n) { while (n) n = n - 1; return n; }`
+abbrev pub down : Plan
+down = record {
+  comp = 1;
+  entry = Some (entry.Export 0);
+  params = 1;
+  result = true;
+  temps = 6;
+  objects = 1 ∷ [];
+  nodes = 12;
+  body = Cycle (fetched 0 0 (Fork 0 Done (Then tac.Break Done) Done))
+      (fetched 1 0 (word 2 1 (int_op op.Sub 3 1 2 (put_into 0 4 3 Done)))) Done (fetched 5 0 (give 5));
+}
+
+abbrev pub down_places : List Place
+down_places =
+    Register 0 ∷ Register 0 ∷ Register 1 ∷ Register 0 ∷ Register 1 ∷ Register 0 ∷ []
+
+pub down_code : code_of (function down) down_places (framed down down_places) ≡ record {
+  instrs =
+      OpImm Addi 2 2 (negsuc 7) ∷ Store Sw 2 1 (pos 0) ∷ Store Sw 2 10 (pos 4) ∷ OpImm Addi 0 0 (pos 0) ∷
+      OpImm Addi 3 2 (pos 4) ∷ Load Lw 3 3 (pos 0) ∷ Branch Bne 3 0 (pos 8) ∷ Jal 0 (pos 8) ∷ Jal 0 (pos 8) ∷
+      Jal 0 (pos 32) ∷ OpImm Addi 3 2 (pos 4) ∷ Load Lw 3 3 (pos 0) ∷ OpImm Addi 4 0 (pos 1) ∷ Op Sub 3 3 4 ∷
+      OpImm Addi 4 2 (pos 4) ∷ Store Sw 4 3 (pos 0) ∷ Jal 0 (negsuc 51) ∷ OpImm Addi 3 2 (pos 4) ∷
+      Load Lw 3 3 (pos 0) ∷ OpImm Addi 10 3 (pos 0) ∷ Load Lw 1 2 (pos 0) ∷ OpImm Addi 2 2 (pos 8) ∷
+      Jalr 0 1 (pos 0) ∷ Load Lw 1 2 (pos 0) ∷ OpImm Addi 2 2 (pos 8) ∷ Jalr 0 1 (pos 0) ∷ [];
+  relocations = [];
+}
+down_code = code_is down down_places
+
+-- `int main(void) { return down(7); }`, in the same section, where the result goes by way of a slot
+abbrev pub calls : Plan
+calls = record {
+  comp = 0;
+  entry = Some entry.Main;
+  params = 0;
+  result = true;
+  temps = 2;
+  objects = [];
+  nodes = 4;
+  body = word 0 7 (Then (tac.CallOwn (Some 1) 1 (0 ∷ [])) (give 1));
+}
+
+abbrev pub calls_places : List Place
+calls_places = Register 0 ∷ Slot 0 ∷ []
+
+pub calls_code : code_of (function calls) calls_places (framed calls calls_places) ≡ record {
+  instrs =
+      OpImm Addi 2 2 (negsuc 7) ∷ Store Sw 2 1 (pos 0) ∷ OpImm Addi 3 0 (pos 7) ∷ OpImm Addi 10 3 (pos 0) ∷
+      Jal 1 (pos 0) ∷ Store Sw 2 10 (pos 4) ∷ Load Lw 10 2 (pos 4) ∷ Load Lw 1 2 (pos 0) ∷ OpImm Addi 2 2 (pos 8) ∷
+      Jalr 0 1 (pos 0) ∷ OpImm Addi 10 0 (pos 0) ∷ Load Lw 1 2 (pos 0) ∷ OpImm Addi 2 2 (pos 8) ∷ Jalr 0 1 (pos 0) ∷ [];
+  relocations = record { at = 4; target = Function 1 } ∷ [];
+}
+calls_code = code_is calls calls_places

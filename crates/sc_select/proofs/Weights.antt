@@ -1,0 +1,442 @@
+-- Code has no more instructions than its function weighs.
+use Rattle.sc_select.proofs.Common.{Add, Bne, Bool, Branch, Div, Each, Entry as EntryOf, Fits, FrameTree, Function}
+use Rattle.sc_select.proofs.Common.{Inside, Instr, IsFunction, Jal, Jalr, Line, List, Load, Lui, Lw, Mul, None, Op}
+use Rattle.sc_select.proofs.Common.{Option, Piece, Place, Register, Slot, Some, Store, Sw, TacFnTree, TacOp, TacStmt}
+use Rattle.sc_select.proofs.Common.{TacStmt-F, Upper, [], all_hold, and_first, and_rest, arith, at_hand, binary_code}
+use Rattle.sc_select.proofs.Common.{brought, bytes_of, call_cross, call_own, choice, closing, code_of, copied, entrance}
+use Rattle.sc_select.proofs.Common.{entry_weight, environment_call, everywhere as each_holds, false, fold-TacStmt}
+use Rattle.sc_select.proofs.Common.{fold-roll-TacStmt, frame_left, frame_taken, function_lines, has_operands}
+use Rattle.sc_select.proofs.Common.{if◌then◌else◌, in_order, is_short, is_some, is_unsigned, keep, kept, length}
+use Rattle.sc_select.proofs.Common.{length-append, length-map, linked, load_from, load_word, loading, map, map-TacStmt}
+use Rattle.sc_select.proofs.Common.{moved_by, object_offset, op_code, op_weight, operand, operation, pass}
+use Rattle.sc_select.proofs.Common.{place_of_global, plain, plainly, pointer_difference, pointer_move, pos, put}
+use Rattle.sc_select.proofs.Common.{receive, refl, register_of, result_register, return, roll-TacStmt, second_operand}
+use Rattle.sc_select.proofs.Common.{select, select_all, select_step, slice_get, slot_offset, stepped, stmt_induction}
+use Rattle.sc_select.proofs.Common.{stmt_weight, store_arguments, store_to, store_word, sub_word, subst, suc, sym, take}
+use Rattle.sc_select.proofs.Common.{take_second, taken, takes_two, true, unary_code, weight, weight_step, with_parts}
+use Rattle.sc_select.proofs.Common.{word_of_constant, zero, ℕ, ◌&&◌, ◌*◌, ◌++◌, ◌+◌, ◌<◌, ◌^◌, ◌∙◌, ◌∷◌, ◌≡◌, ◌≤◌}
+use Rattle.sc_core.specs.Prelude.{total}
+use Rattle.sc_tac.specs.Prelude.{everywhere}
+use Rattle.std.specs.Bool.{beq}
+use Rattle.sc_base.specs.declared.op.BinaryOp.{BinaryOp}
+use Rattle.sc_base.specs.declared.op.BinaryOp.TheVariants as op
+use Rattle.sc_base.specs.declared.op.UnaryOp.{UnaryOp}
+use Rattle.sc_base.specs.declared.op.UnaryOp.TheVariants as unary
+use Rattle.sc_event.specs.declared.row.Entry.{Entry}
+use Rattle.sc_event.specs.declared.row.Entry.TheVariants as entry
+use Rattle.sc_tac.specs.declared.stmt.TacOp.TheVariants as tacop
+use Rattle.sc_tac.specs.declared.stmt.TacStmt.TheOpen as tac
+use Rattle.sc_select.proofs.Sizes.{row_is_sized}
+
+either : (b : Bool) (xs ys : List Instr) (n : ℕ) → length xs ≤ n → length ys ≤ n → length (if b then xs else ys) ≤ n
+either true xs ys n h k = h
+either false xs ys n h k = k
+
+load_constant : (rd word : ℕ) → length (loading rd word) ≤ 2
+load_constant rd word = either (is_short word) _ _ 2 (omega arith) (omega arith)
+
+move_by : (rd rs bytes : ℕ) → length (moved_by rd rs bytes) ≤ 3
+move_by rd rs bytes =
+    either (is_short bytes) _ _ 3 (omega arith)
+    (omega (arith, length-append (loading 7 bytes) (Op Add rd rs 7 ∷ []), load_constant 7 bytes))
+
+load_one : (rd offset : ℕ) → length (load_word rd offset) ≤ 3
+load_one rd offset = either (is_short offset) _ _ 3 (omega arith) (omega arith)
+
+store_one : (rs offset : ℕ) → length (store_word rs offset) ≤ 3
+store_one rs offset = either (is_short offset) _ _ 3 (omega arith) (omega arith)
+
+take_frame : (bytes : ℕ) → length (frame_taken bytes) ≤ 4
+take_frame bytes =
+    omega (
+      arith,
+      length-append (moved_by 2 2 (sub_word 0 bytes)) (Store Sw 2 1 (pos 0) ∷ []),
+      move_by 2 2 (sub_word 0 bytes),
+    )
+
+leave_frame : (bytes : ℕ) → length (frame_left bytes) ≤ 5
+leave_frame bytes = omega (arith, length-append (moved_by 2 2 bytes) (Jalr 0 1 (pos 0) ∷ []), move_by 2 2 bytes)
+
+unary_one : (rd rs : ℕ) (o : UnaryOp) → length (unary_code rd rs o) ≡ 1
+unary_one rd rs unary.Minus = refl
+unary_one rd rs unary.Plus = refl
+unary_one rd rs unary.Not = refl
+unary_one rd rs unary.BitNot = refl
+
+binary_few : (rd left right : ℕ) (unsigned : Bool) (o : BinaryOp) → length (binary_code rd left right unsigned o) ≤ 3
+binary_few rd left right unsigned op.OrElse = omega arith
+binary_few rd left right unsigned op.AndAlso = omega arith
+binary_few rd left right unsigned op.BitOr = omega arith
+binary_few rd left right unsigned op.BitXor = omega arith
+binary_few rd left right unsigned op.BitAnd = omega arith
+binary_few rd left right unsigned op.Equal = omega arith
+binary_few rd left right unsigned op.NotEqual = omega arith
+binary_few rd left right unsigned op.Less = omega arith
+binary_few rd left right unsigned op.Greater = omega arith
+binary_few rd left right unsigned op.LessEqual = omega arith
+binary_few rd left right unsigned op.GreaterEqual = omega arith
+binary_few rd left right unsigned op.ShiftLeft = omega arith
+binary_few rd left right unsigned op.ShiftRight = omega arith
+binary_few rd left right unsigned op.Add = omega arith
+binary_few rd left right unsigned op.Sub = omega arith
+binary_few rd left right unsigned op.Mul = omega arith
+binary_few rd left right unsigned op.Div = omega arith
+binary_few rd left right unsigned op.Rem = omega arith
+
+move_pointer : (rd left right : ℕ) (minus : Bool) (cells : ℕ) → length (pointer_move rd left right minus cells) ≤ 4
+move_pointer rd left right minus cells =
+    omega (
+      arith,
+      length-append (loading 7 (bytes_of cells)) (Op Mul 6 right 7 ∷ Op (stepped minus) rd left 6 ∷ []),
+      load_constant 7 (bytes_of cells),
+    )
+
+differ : (rd left right cells : ℕ) → length (pointer_difference rd left right cells) ≤ 4
+differ rd left right cells =
+    omega (
+      arith,
+      length-append (loading 7 (bytes_of cells)) (Op Div rd 5 7 ∷ []),
+      load_constant 7 (bytes_of cells),
+    )
+
+-- what operators with one operand and with two weigh, apart from the operand read and the result written
+abbrev Light : Bool → TacOp → ℕ → Type 0
+Light true o n = n + 9 ≤ op_weight o
+Light false o n = n + 6 ≤ op_weight o
+
+operator_light : (rd left right : ℕ) (o : TacOp) → Light (takes_two o) o (length (op_code rd left right o))
+operator_light rd left right (tacop.Unary o scalar) = omega (arith, unary_one rd left o)
+operator_light rd left right (tacop.Binary o scalar) = omega (arith, binary_few rd left right (is_unsigned scalar) o)
+operator_light rd left right tacop.PointerNot = omega arith
+operator_light rd left right (tacop.PointerMove minus cells index) =
+    omega (arith, move_pointer rd left right minus cells)
+operator_light rd left right (tacop.PointerMember offset) = omega (arith, move_by rd left (bytes_of offset))
+operator_light rd left right (tacop.PointerDifference cells) = omega (arith, differ rd left right cells)
+operator_light rd left right (tacop.PointerCompare o) = omega (arith, binary_few rd left right true o)
+
+module _ (frame : FrameTree) where
+  taken_few : (scratch : ℕ) (place : Option Place) → length (taken frame scratch place) ≤ 3
+  taken_few scratch (Some (Slot slot)) = load_one scratch (slot_offset frame slot)
+  taken_few scratch (Some (Register r)) = omega arith
+  taken_few scratch None = omega arith
+
+  kept_few : (place : Option Place) → length (kept frame place) ≤ 3
+  kept_few (Some (Slot slot)) = store_one 5 (slot_offset frame slot)
+  kept_few (Some (Register r)) = omega arith
+  kept_few None = omega arith
+
+  brought_few : (rd : ℕ) (place : Option Place) → length (brought frame rd place) ≤ 3
+  brought_few rd (Some (Slot slot)) = load_one rd (slot_offset frame slot)
+  brought_few rd (Some (Register r)) = omega arith
+  brought_few rd None = omega arith
+
+  put_few : (rs : ℕ) (place : Option Place) → length (put frame rs place) ≤ 3
+  put_few rs (Some (Slot slot)) = store_one rs (slot_offset frame slot)
+  put_few rs (Some (Register r)) = omega arith
+  put_few rs None = omega arith
+
+  copied_few : (dest from : Option Place) → length (copied frame dest from) ≤ 6
+  copied_few (Some (Register r)) from = omega (arith, brought_few (register_of r) from)
+  copied_few (Some (Slot slot)) from =
+      let stored : List Instr = store_word (at_hand 5 from) (slot_offset frame slot) in
+      omega (
+        arith,
+        length-append (taken frame 5 from) stored,
+        taken_few 5 from,
+        store_one (at_hand 5 from) (slot_offset frame slot),
+      )
+  copied_few None from = omega arith
+
+module _ (frame : FrameTree) (places : List Place) where
+  second_few : (right : Option ℕ) (two : Bool) → beq (is_some right) two ≡ true →
+      length (take_second frame places right) ≤ (if two then 3 else 0)
+  second_few None true h = omega arith
+  second_few None false h = omega arith
+  second_few (Some t) true h = taken_few frame 6 (slice_get places t)
+  second_few (Some t) false h = absurd (cc)
+
+  with_operands : (two : Bool) (o : TacOp) (a b n c whole : ℕ) → whole ≡ a + (b + (n + c)) → a ≤ 3 →
+      b ≤ (if two then 3 else 0) → Light two o n → c ≤ 3 → whole ≤ op_weight o
+  with_operands true o a b n c whole is ha hb hn hc = omega arith
+  with_operands false o a b n c whole is ha hb hn hc = omega arith
+
+  operation_few : (dest : ℕ) (o : TacOp) (left : ℕ) (right : Option ℕ) → beq (is_some right) (takes_two o) ≡ true →
+      length (operation frame places dest o left right) ≤ op_weight o
+  operation_few dest o left right h =
+      let first : List Instr = take frame places 5 left in
+      let second : List Instr = take_second frame places right in
+      let rd : ℕ = result_register frame places dest in
+      let code : List Instr = op_code rd (operand frame places 5 left) (second_operand frame places right) o in
+      let last : List Instr = keep frame places dest in
+      let parts : length (operation frame places dest o left right) ≡ length (first ++ second ++ code ++ last) = refl in
+      let whole : length (operation frame places dest o left right) ≡
+      length first + (length second + (length code + length last)) =
+      omega (
+        arith,
+        parts,
+        length-append (first ++ second ++ code) last,
+        length-append (first ++ second) code,
+        length-append first second,
+      ) in
+      with_operands (takes_two o) o (length first) (length second) (length code) (length last) _ whole
+      (taken_few frame 5 (slice_get places left)) (second_few right (takes_two o) h)
+      (operator_light rd (operand frame places 5 left) (second_operand frame places right) o)
+      (kept_few frame (slice_get places dest))
+
+  constant_few : (rd word dest : ℕ) → length (loading rd word ++ keep frame places dest) ≤ 5
+  constant_few rd word dest =
+      omega (
+        arith,
+        length-append (loading rd word) (keep frame places dest),
+        load_constant rd word,
+        kept_few frame (slice_get places dest),
+      )
+
+  object_few : (rd bytes dest : ℕ) → length (moved_by rd 2 bytes ++ keep frame places dest) ≤ 6
+  object_few rd bytes dest =
+      omega (
+        arith,
+        length-append (moved_by rd 2 bytes) (keep frame places dest),
+        move_by rd 2 bytes,
+        kept_few frame (slice_get places dest),
+      )
+
+  global_few : (dest global : ℕ) → length (place_of_global frame places dest global) ≤ 6
+  global_few dest global =
+      omega (
+        arith,
+        length-map (keep frame places dest) plain,
+        kept_few frame (slice_get places dest),
+      )
+
+  load_few : (dest place : ℕ) → length (load_from frame places dest place) ≤ 7
+  load_few dest place =
+      let rest : List Instr = Load Lw (result_register frame places dest) (operand frame places 5 place) (pos 0) ∷
+      keep frame places dest in
+      omega (
+        arith,
+        length-append (take frame places 5 place) rest,
+        taken_few frame 5 (slice_get places place),
+        kept_few frame (slice_get places dest),
+      )
+
+  store_few : (place value : ℕ) → length (store_to frame places place value) ≤ 7
+  store_few place value =
+      let last : List Instr =
+      Store Sw (operand frame places 5 place) (operand frame places 6 value) (pos 0) ∷ [] in
+      let parts : length (store_to frame places place value) ≡
+      length (take frame places 5 place ++ take frame places 6 value ++ last) = refl in
+      omega (
+        arith,
+        parts,
+        length-append (take frame places 5 place ++ take frame places 6 value) last,
+        length-append (take frame places 5 place) (take frame places 6 value),
+        taken_few frame 5 (slice_get places place),
+        taken_few frame 6 (slice_get places value),
+      )
+
+  choice_few : (cond : ℕ) → length (choice frame places cond) ≤ 4
+  choice_few cond =
+      omega (
+        arith,
+        length-append (take frame places 5 cond) (Branch Bne (operand frame places 5 cond) 0 (pos 8) ∷ []),
+        taken_few frame 5 (slice_get places cond),
+      )
+
+  pass_few : (rd : ℕ) (args : List ℕ) → length (pass frame places rd args) ≤ 3 * length args
+  pass_few rd [] = omega arith
+  pass_few rd (t ∷ ts) =
+      omega (
+        arith,
+        length-append (brought frame rd (slice_get places t)) (pass frame places (suc rd) ts),
+        brought_few frame rd (slice_get places t),
+        pass_few (suc rd) ts,
+      )
+
+  receive_few : (dest : Option ℕ) → length (receive frame places dest) ≤ 3
+  receive_few None = omega arith
+  receive_few (Some dest) = put_few frame 10 (slice_get places dest)
+
+  own_few : (dest : Option ℕ) (function : ℕ) (args : List ℕ) →
+      length (call_own frame places dest function args) ≤ 3 * length args + 5
+  own_few dest function args =
+      let rest : List Line = linked (Function function) (Jal 1 (pos 0)) ∷ plainly (receive frame places dest) in
+      omega (
+        arith,
+        length-append (plainly (pass frame places 10 args)) rest,
+        length-map (pass frame places 10 args) plain,
+        length-map (receive frame places dest) plain,
+        pass_few 10 args,
+        receive_few dest,
+      )
+
+  cross_few : (dest : Option ℕ) (comp index : ℕ) (args : List ℕ) →
+      length (call_cross frame places dest comp index args) ≤ 3 * length args + 5
+  cross_few dest comp index args =
+      let rest : List Line = linked (EntryOf comp index) (Upper Lui 5 0) ∷
+      plainly (Jalr 1 5 (pos 0) ∷ receive frame places dest) in
+      omega (
+        arith,
+        length-append (plainly (pass frame places 10 args)) rest,
+        length-map (pass frame places 10 args) plain,
+        length-map (receive frame places dest) plain,
+        pass_few 10 args,
+        receive_few dest,
+      )
+
+  input_few : (dest : Option ℕ) → length (environment_call 1 ++ receive frame places dest) ≤ 5
+  input_few dest = omega (arith, receive_few dest)
+
+  output_few : (value : ℕ) → length (brought frame 10 (slice_get places value) ++ environment_call 2) ≤ 8
+  output_few value =
+      omega (
+        arith,
+        length-append (brought frame 10 (slice_get places value)) (environment_call 2),
+        brought_few frame 10 (slice_get places value),
+      )
+
+  return_few : (value : Option ℕ) → length (return frame places value) ≤ 8
+  return_few None = omega (arith, leave_frame frame.bytes)
+  return_few (Some t) =
+      omega (
+        arith,
+        length-append (brought frame 10 (slice_get places t)) (frame_left frame.bytes),
+        brought_few frame 10 (slice_get places t),
+        leave_frame frame.bytes,
+      )
+
+  straightly_few : (instrs : List Instr) (n : ℕ) → length instrs ≤ n → length (plainly instrs) ≤ n
+  straightly_few instrs n h = omega (arith, h, length-map instrs plain)
+
+  -- STATEMENTS
+  abbrev has : TacStmt → Bool
+  has = fold-TacStmt Bool (with_parts has_operands)
+
+  abbrev Small : TacStmt → Type 0
+  Small stmt = has stmt ≡ true → (select frame places stmt).size ≤ stmt_weight stmt
+
+  row_small : (stmts : List TacStmt) → Each Small stmts → all_hold (map has stmts) ≡ true →
+      (in_order (map (select frame places) stmts)).size ≤ total (map stmt_weight stmts)
+  row_small [] h is = omega arith
+  row_small (stmt ∷ rest) h is =
+      omega (
+        arith,
+        h.0 (and_first (has stmt) (all_hold (map has rest)) is),
+        row_small rest h.1 (and_rest (has stmt) (all_hold (map has rest)) is),
+      )
+
+  layer_small : (layer : TacStmt-F TacStmt) → Inside Small layer →
+      with_parts has_operands (map-TacStmt _ _ has layer) ≡ true →
+      (select_step frame places (map-TacStmt _ _ (select frame places) layer)).size ≤
+      weight_step (map-TacStmt _ _ stmt_weight layer)
+  layer_small (tac.Const dest value) h is =
+      straightly_few _ 5 (constant_few (result_register frame places dest) (word_of_constant value) dest)
+  layer_small (tac.Copy dest from) h is = straightly_few _ 6 (copied_few frame _ _)
+  layer_small (tac.Op dest o left right) h is =
+      straightly_few _ (op_weight o) (operation_few dest o left right (and_first _ true is))
+  layer_small (tac.ObjectPlace dest object) h is =
+      straightly_few _ 6 (object_few (result_register frame places dest) (object_offset frame object) dest)
+  layer_small (tac.GlobalPlace dest global) h is = global_few dest global
+  layer_small (tac.Load dest place pointer) h is = straightly_few _ 7 (load_few dest place)
+  layer_small (tac.Store place value) h is = straightly_few _ 7 (store_few place value)
+  layer_small (tac.If cond first second) h is =
+      omega (
+        arith,
+        choice_few cond,
+        row_small first h.0 (and_first (all_hold (map has first)) (all_hold (map has second) && true) is),
+        row_small second h.1 (and_first (all_hold (map has second)) true
+            (and_rest (all_hold (map has first)) (all_hold (map has second) && true) is)),
+      )
+  layer_small (tac.Loop head body next) h is =
+      let b : Bool = all_hold (map has body) in
+      let n : Bool = all_hold (map has next) in
+      let rest : (b && (n && true)) ≡ true = and_rest (all_hold (map has head)) (b && (n && true)) is in
+      omega (
+        arith,
+        row_small head h.0 (and_first (all_hold (map has head)) (b && (n && true)) is),
+        row_small body h.1 (and_first b (n && true) rest),
+        row_small next h.2 (and_first n true (and_rest b (n && true) rest)),
+      )
+  layer_small tac.Break h is = omega arith
+  layer_small tac.Continue h is = omega arith
+  layer_small (tac.CallOwn dest function args) h is = own_few dest function args
+  layer_small (tac.CallCross dest comp index args) h is = cross_few dest comp index args
+  layer_small (tac.Input dest) h is =
+      straightly_few (environment_call 1 ++ receive frame places dest) 5 (input_few dest)
+  layer_small (tac.Output value) h is = straightly_few _ 8 (output_few value)
+  layer_small (tac.Return value) h is = straightly_few _ 8 (return_few value)
+
+  stmt_small : (stmt : TacStmt) → Small stmt
+  stmt_small = stmt_induction Small (λ layer h is.
+      subst (λ p. p.size ≤ stmt_weight (roll-TacStmt layer))
+      (sym (fold-roll-TacStmt Piece (select_step frame places) layer))
+      (subst (λ n. (select_step frame places (map-TacStmt _ _ (select frame places) layer)).size ≤ n)
+      (sym (fold-roll-TacStmt ℕ weight_step layer))
+      (layer_small layer h (sym (fold-roll-TacStmt Bool (with_parts has_operands) layer) ∙ is))))
+
+  pub row_is_small : (stmts : List TacStmt) → everywhere has_operands stmts ≡ true →
+      (select_all frame places stmts).size ≤ weight stmts
+  row_is_small stmts is = row_small stmts (each_holds Small stmt_small stmts) is
+
+  -- FUNCTIONS
+  store_few_arguments : (params from : ℕ) → length (store_arguments frame places params from) ≤ 3 * params
+  store_few_arguments zero from = omega arith
+  store_few_arguments (suc params) from =
+      omega (
+        arith,
+        length-append (store_word (10 + from) (object_offset frame from))
+            (store_arguments frame places params (suc from)),
+        store_one (10 + from) (object_offset frame from),
+        store_few_arguments params (suc from),
+      )
+
+  entrance_few : (params : ℕ) → length (entrance frame places params) ≤ 4 + 3 * params
+  entrance_few params =
+      omega (
+        arith,
+        length-append (frame_taken frame.bytes) (store_arguments frame places params 0),
+        take_frame frame.bytes,
+        store_few_arguments params 0,
+      )
+
+  closing_few : (e : Option Entry) → length (closing frame places e) ≤ 6
+  closing_few None = omega (arith, leave_frame frame.bytes)
+  closing_few (Some entry.Main) = omega (arith, leave_frame frame.bytes)
+  closing_few (Some (entry.Export index)) = omega (arith, leave_frame frame.bytes)
+
+  pub function_small : (f : TacFnTree) → IsFunction f →
+      length (function_lines frame places f) ≤ entry_weight f.params + weight f.body
+  function_small f h =
+      let first : List Line = plainly (entrance frame places f.params) in
+      let middle : List Line = (select_all frame places f.body).lines 0 0 in
+      let last : List Line = plainly (closing frame places f.entry) in
+      omega (
+        arith,
+        length-append (first ++ middle) last,
+        length-append first middle,
+        length-map (entrance frame places f.params) plain,
+        length-map (closing frame places f.entry) plain,
+        (row_is_sized frame places f.body).sized 0 0,
+        entrance_few f.params,
+        row_is_small f.body h.operands,
+        closing_few f.entry,
+      )
+
+  -- the jumps of a function that is small enough reach
+  pub function_fits : (f : TacFnTree) → IsFunction f → 96 * f.nodes ≤ 1048576 → Fits frame places f.body 0 0
+  function_fits f h reached = record {
+    few_arguments = h.few_arguments;
+    breaks = omega (arith, row_is_small f.body h.operands, h.light, reached);
+    continues = omega (arith, row_is_small f.body h.operands, h.light, reached);
+  }
+
+  pub function_short : (f : TacFnTree) → IsFunction f → 96 * f.nodes ≤ 1048576 →
+      length (function_lines frame places f) < 2 ^ 32
+  function_short f h reached = omega (arith, function_small f h, h.light, reached)
+
+  pub function_light : (f : TacFnTree) → IsFunction f →
+      length (code_of f places frame).instrs ≤ entry_weight f.params + weight f.body
+  function_light f h =
+      let instrs : length (code_of f places frame).instrs ≡ length (function_lines frame places f) =
+      length-map (function_lines frame places f) (λ (line : Line). line.instr) in
+      omega (arith, instrs, function_small f h)

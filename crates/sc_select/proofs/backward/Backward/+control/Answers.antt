@@ -1,0 +1,131 @@
+use Rattle.sc_select.proofs.Common.{Fits, ap, arith, on_ok_weaker, select, stmt_weight, subst, sym, weight, ◌++◌, ◌+◌}
+use Rattle.sc_select.proofs.Common.{◌-◌, ◌<◌, ◌∙◌, ◌≡◌, ◌≤◌}
+use Rattle.sc_select.proofs.Composition.{cycle_heavier, fork_heavier, back_reaches, body_reaches, cycle_written}
+use Rattle.sc_select.proofs.Composition.{first_reaches, fork_returns, as_is, cycle_fits, head_reaches, next_reaches}
+use Rattle.sc_select.proofs.Composition.{over_first, over_second, second_fits, step_fits, step_lighter, step_reaches}
+use Rattle.sc_select.proofs.Composition.{step_written}
+use Rattle.sc_select.proofs.backward.Backward.+control.Goals as goal
+
+-- A CHOICE
+pub statement-fork-requires : goal.statement-fork-requires
+statement-fork-requires t c =
+    let heavier : weight c.in-If.then_part + weight c.in-If.else_part + 6 ≡ stmt_weight c.args.stmt.now =
+    fork_heavier _ _ _ _ c.in-If.is in
+    (omega (arith, heavier, c.decreases), as_is _ _ _ _ _ _ c.in-If.is c.requires.fits)
+
+pub fork-in_order-requires : goal.fork-in_order-requires
+fork-in_order-requires t c =
+    (omega (arith, c.decreases), second_fits _ _ c.args.cond c.args.first.now c.args.second.now _ _ c.requires.fits)
+
+pub fork-jump_over-requires : goal.fork-jump_over-requires
+fork-jump_over-requires t c =
+    over_second _ _ c.args.cond c.args.first.now c.args.second.now _ _ _ _ _ _ c.requires.fits c.len.ensures
+    c.len-end.ensures c.in_ok-in_order.ensures
+
+pub fork-in_order-requires-2 : goal.fork-in_order-requires-2
+fork-in_order-requires-2 t c = (
+  omega (arith, c.decreases),
+  first_reaches _ _ c.args.cond c.args.first.now c.args.second.now _ _ _ _ _ _ c.requires.fits c.len.ensures
+      c.len-end.ensures c.in_ok-in_order.ensures,
+)
+
+pub fork-jump_over-requires-2 : goal.fork-jump_over-requires-2
+fork-jump_over-requires-2 t c =
+    over_first _ _ c.args.cond c.args.first.now c.args.second.now _ _ _ _ _ _ _ _ c.requires.fits c.len-2.ensures
+    c.len-middle.ensures c.in_ok-in_order-2.ensures
+
+pub fork-returns : goal.fork-returns
+fork-returns t c =
+    fork_returns c.args.homes.now.frame.now c.args.homes.now.places.now _ c.args.cond c.args.first.now
+    c.args.second.now c.args.distances.to_break c.args.distances.to_continue c.len.result c.len-end.result
+    c.len-2.result c.len-middle.result _ _ _ _ _ _ _ _ c.len.ensures c.len-end.ensures c.len-2.ensures
+    c.len-middle.ensures c.in_ok-in_order.ensures c.in_ok-plain.ensures c.jump_over.ensures
+    c.in_ok-in_order-2.ensures c.in_ok-plain-2.ensures c.jump_over-2.ensures c.choice.ensures
+
+-- A LOOP
+pub statement-cycle-requires : goal.statement-cycle-requires
+statement-cycle-requires t c =
+    let heavier : weight c.in-Loop.head + weight c.in-Loop.body + weight c.in-Loop.next + 2 ≡
+    stmt_weight c.args.stmt.now = cycle_heavier _ _ _ _ c.in-Loop.is in
+    (omega (arith, heavier, c.decreases), cycle_fits _ _ _ _ _ _ _ _ c.in-Loop.is c.requires.fits)
+
+pub statement-returns-in-Loop : goal.statement-returns-in-Loop
+statement-returns-in-Loop t c =
+    on_ok_weaker c.cycle.result (λ h.
+    h ∙ ap (λ s. (select c.args.homes.now.frame.now c.args.homes.now.places.now s).lines c.args.distances.to_break
+    c.args.distances.to_continue ++ c.args.self.now) (sym c.in-Loop.is))
+    (c.cycle.ensures c.args.distances.to_break c.args.distances.to_continue)
+
+pub cycle-part-requires : goal.cycle-part-requires
+cycle-part-requires t c = (
+  omega (arith, c.decreases),
+  next_reaches _ _ c.args.head.now c.args.body.now c.args.next.now _ _ _ _ _ _ c.requires.fits c.in_ok-plain.ensures
+      c.len-end.ensures,
+)
+
+pub cycle-part-requires-2 : goal.cycle-part-requires-2
+cycle-part-requires-2 t c = (
+  omega (arith, c.decreases),
+  body_reaches _ _ c.args.head.now c.args.body.now c.args.next.now _ _ _ _ _ _ _ _ c.requires.fits
+      c.in_ok-plain.ensures c.in_ok-part.ensures c.len-end.ensures,
+)
+
+pub cycle-part-requires-3 : goal.cycle-part-requires-3
+cycle-part-requires-3 t c = (
+  omega (arith, c.decreases),
+  head_reaches _ _ c.args.head.now c.args.body.now c.args.next.now _ _ _ _ _ _ _ _ _ _ c.requires.fits
+      c.in_ok-plain.ensures c.in_ok-part.ensures c.in_ok-part-2.ensures c.len-end.ensures,
+)
+
+pub cycle-jump_back-requires : goal.cycle-jump_back-requires
+cycle-jump_back-requires t c =
+    back_reaches c.args.homes.now.frame.now c.args.homes.now.places.now c.args.head.now c.args.body.now
+    c.args.next.now _ _ _ _ _ _ _ _ _ _ c.len.result c.len-end.result _ _ _ c.requires.fits c.in_ok-plain.ensures
+    c.in_ok-part.ensures c.in_ok-part-2.ensures c.in_ok-part-3.ensures c.in_ok-plain-2.ensures c.len.ensures
+    c.len-end.ensures
+
+pub cycle-returns : goal.cycle-returns
+cycle-returns t c to_break to_continue =
+    cycle_written c.args.homes.now.frame.now c.args.homes.now.places.now c.args.head.now c.args.body.now
+    c.args.next.now to_break to_continue c.len.result c.len-end.result _ _ _ _ _ _ _ _ _ _ c.len.ensures
+    c.len-end.ensures c.round_begins-2.ensures c.in_ok-plain.ensures c.in_ok-part.ensures c.in_ok-part-2.ensures
+    c.in_ok-part-3.ensures c.in_ok-plain-2.ensures c.jump_back.ensures c.replace.ensures
+
+pub part-in_order-requires : goal.part-in_order-requires
+part-in_order-requires t c = (
+  omega (arith, c.decreases),
+  subst (λ n. Fits c.args.homes.now.frame.now c.args.homes.now.places.now c.args.part.now
+      (n - c.args.end) 0) (sym c.len.ensures) c.requires.fits,
+)
+
+-- STATEMENTS IN ORDER
+pub in_order-statement-requires : goal.in_order-statement-requires
+in_order-statement-requires t c =
+    let lighter : stmt_weight c.index-list-at.result ≤ weight c.args.stmts.now =
+    step_lighter _ _ _ _ c.as_slice-list.ensures c.loop-at-test.true c.loop-at.auto.at c.index-list-at.is in (
+      omega (arith, lighter, c.decreases),
+      step_fits _ _ _ _ _ _ _ _ _ _ _ _ c.as_slice-list.ensures c.loop-at-test.true c.loop-at.auto.at c.index-list-at.is
+          c.requires.fits c.len.ensures c.len-end.ensures c.loop-at.invariant,
+    )
+
+pub in_order-overflow_add-from_here : goal.in_order-overflow_add-from_here
+in_order-overflow_add-from_here t c =
+    let reaches : (c.len.result - c.len-end.result + c.args.distances.to_break < 262143) ×
+    (c.len.result - c.len-end.result + c.args.distances.to_continue < 262143) =
+    step_reaches c.args.homes.now.frame.now c.args.homes.now.places.now _ _ _ _ _ _ _ _ _ c.as_slice-list.ensures
+    c.requires.fits c.len.ensures c.len-end.ensures c.loop-at.invariant in
+    omega (arith, reaches.0)
+
+pub in_order-overflow_add-from_here-in-loop-at : goal.in_order-overflow_add-from_here-in-loop-at
+in_order-overflow_add-from_here-in-loop-at t c =
+    let reaches : (c.len.result - c.len-end.result + c.args.distances.to_break < 262143) ×
+    (c.len.result - c.len-end.result + c.args.distances.to_continue < 262143) =
+    step_reaches c.args.homes.now.frame.now c.args.homes.now.places.now _ _ _ _ _ _ _ _ _ c.as_slice-list.ensures
+    c.requires.fits c.len.ensures c.len-end.ensures c.loop-at.invariant in
+    omega (arith, reaches.1)
+
+pub in_order-loop-at-preserved : goal.in_order-loop-at-preserved
+in_order-loop-at-preserved t c =
+    step_written c.args.homes.now.frame.now c.args.homes.now.places.now _ _ _ _ c.len.result c.len-end.result _ _ _ _
+    c.loop-at-test.true c.loop-at.auto.at c.index-list-at.is c.len.ensures c.len-end.ensures c.loop-at.invariant
+    c.in_ok-statement.ensures

@@ -1,0 +1,101 @@
+//! The code of a function.
+
+ghost use Rattle.sc_select.specs.Prelude.{IsCode, IsFunction, Line, closing, code_of, code_of_lines, entrance};
+ghost use Rattle.sc_select.specs.Prelude.{entry_weight, function_lines, plainly, store_arguments, weight};
+ghost use Rattle.std.specs.Prelude.{◌≡◌, ◌≤◌, ◌<◌, ◌^◌, ◌+◌, ◌*◌, ◌++◌, IfOk, OnOk, length};
+
+use crate::backward::Backward;
+use crate::control::Distances;
+use crate::homes::Homes;
+use crate::pieces::{A0, ZERO, addi, immediate, register};
+use sc_base::OutOfMemory;
+use sc_event::Entry;
+use sc_tac::{Code, CodeTree, Frame, Instrs, Places, Relocation, Relocations, TacFn, TacFnTree};
+use std::alloc::Global;
+
+impl Backward {
+    // The arguments into their variables.
+    fn store_arguments(&mut self, homes: &Homes, params: u8) -> Result<(), OutOfMemory>
+        requires { params ≤ 8 }
+        ensures { OnOk result (self.new ≡
+            plainly (store_arguments homes.now.frame.now homes.now.places.now params 0) ++ self.old) }
+    {
+        for at in (0..params).rev() {
+            self.store_word(register(A0 + at), homes.object_offset(u32::from(at)))?;
+        }
+        Ok(())
+    }
+
+    // The way into a function.
+    fn entrance(&mut self, homes: &Homes, params: u8) -> Result<(), OutOfMemory>
+        requires { params ≤ 8 }
+        ensures { OnOk result (self.new ≡
+            plainly (entrance homes.now.frame.now homes.now.places.now params) ++ self.old) }
+    {
+        self.store_arguments(homes, params)?;
+        self.frame_taken(homes.frame.tree().bytes)
+    }
+
+    // Its closing brace.
+    fn closing(&mut self, homes: &Homes, entry: Option<Entry>) -> Result<(), OutOfMemory>
+        ensures { OnOk result (self.new ≡
+            plainly (closing homes.now.frame.now homes.now.places.now entry) ++ self.old) }
+    {
+        self.frame_left(homes.frame.tree().bytes)?;
+        match entry {
+            Some(Entry::Main) => self.plain(addi(register(A0), register(ZERO), immediate(0))),
+            _ => Ok(()),
+        }
+    }
+
+    // All lines of a function.
+    fn function(&mut self, homes: &Homes, f: &TacFnTree) -> Result<(), OutOfMemory>
+        requires function { IsFunction f.now }
+        requires reached { 96 * f.now.nodes ≤ 1048576 }
+        ensures { OnOk result (self.new ≡
+            function_lines homes.now.frame.now homes.now.places.now f.now ++ self.old) }
+    {
+        let at_end = Distances {
+            to_break: 0,
+            to_continue: 0,
+        };
+        self.closing(homes, f.entry)?;
+        self.in_order(homes, at_end, &f.body)?;
+        self.entrance(homes, f.params)
+    }
+}
+
+// Lines in the order in which they are read.
+fn read(alloc: Global, lines: Backward) -> Result<CodeTree, OutOfMemory>
+    requires { length lines < 2 ^ 32 }
+    ensures { IfOk result (λ code. code ≡ code_of_lines lines) }
+{
+    let mut lines = lines;
+    let mut instrs = Instrs::new(alloc);
+    let mut relocations = Relocations::new(alloc);
+    for at in 0..lines.len() as u32 {
+        if let Some((instr, target)) = lines.first() {
+            instrs.push(instr)?;
+            if let Some(target) = target {
+                relocations.push(Relocation { at, target })?;
+            }
+        }
+    }
+    Ok(CodeTree {
+        instrs,
+        relocations,
+    })
+}
+
+/// The code of a function whose temporaries lie in these places, with this frame. A jump reaches over all of it.
+pub fn select(alloc: Global, f: &TacFn, places: &Places, frame: &Frame) -> Result<Code, OutOfMemory>
+    requires { 96 * f.now.nodes ≤ 1048576 }
+    ensures code { IfOk result (λ code. code ≡ code_of f.now places.now frame.now) }
+    ensures light { IfOk result (λ code. length code.instrs ≤ entry_weight f.now.params + weight f.now.body) }
+    ensures rules { IfOk result IsCode }
+{
+    let mut lines = Backward::new(alloc);
+    let homes = Homes { frame, places };
+    lines.function(&homes, f.tree())?;
+    Ok(Code::new(read(alloc, lines)?))
+}
