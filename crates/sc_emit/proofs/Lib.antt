@@ -1,9 +1,13 @@
+pub mod Arguments
+pub mod Calls
 pub mod Choices
 pub mod Entering
+pub mod Environment
 pub mod Functions
 pub mod Gaps
 pub mod Operands
 pub mod Operations
 pub mod Passing
 pub mod Plain
+pub mod Returns
 pub mod Straight
