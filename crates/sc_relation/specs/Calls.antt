@@ -1,6 +1,6 @@
 -- What the code of a function follows, where the calls in it are followed.
 use Rattle.std.specs.Prelude.{◌≡◌, ◌≢◌, ℕ, ◌+◌, ◌*◌, ◌%◌, ◌<◌, ◌≤◌, ◌⊎◌, ℤ, pos, Bool, true, false, List, [], ◌∷◌, length, Option, Some}
-use Rattle.std.specs.Prelude.{slice_get}
+use Rattle.std.specs.Prelude.{slice_get, IsSome}
 use Rattle.rv_code.specs.declared.instr.Instr.{Instr}
 use Rattle.rv_code.specs.declared.instr.Instr.TheVariants.{Jal, Jalr, Ecall}
 use Rattle.sc_base.specs.declared.stop.TrapReason.TheVariants.{Owner}
@@ -27,6 +27,11 @@ of_environment (Own number) = false
 of_environment (Cross to index) = false
 of_environment Input = true
 of_environment Output = true
+
+-- it comes back with a value, or the meaning ends
+abbrev pub GivesValue : Piece (Option Value) → Type 0
+GivesValue (Reached v s) = IsSome v
+GivesValue (Stopped end s) = Unit {0}
 
 -- arguments, the first in a0
 abbrev pub ArePassed : (ℕ → Option ℕ) → (ℕ → ℕ) → List Value → Type 0
@@ -62,8 +67,10 @@ module _ (T : Setting) where
   CallStands P x Input = Fetches T.image P.comp x.pc Ecall × (x.regs a7 ≡ 1)
   CallStands P x Output = Fetches T.image P.comp x.pc Ecall × (x.regs a7 ≡ 2)
 
-  -- the calls of a compartment are followed, wherever its code makes them
+  -- the calls of compartments are followed, wherever their code makes them
   pub record CallsFollow (calls : Calls) : Type 0 where
+    pub answers : (comp : ℕ) (target : CallTarget) (args : List Value) (s : Meant) → T.gives comp target ≡ true →
+        GivesValue (calls comp target args s)
     pub goes : (comp : ℕ) (target : CallTarget) (args : List Value) → Goes (calls comp target args)
     pub follow : (P : Standpoint) (x : Joint) (target : CallTarget) (args : List Value) →
         T.performs P.comp ≡ false → Settled T P x → x.regs sp ≡ P.bound → P.floor P.comp ≡ P.bound →

@@ -2,6 +2,7 @@
 use Rattle.std.specs.Prelude.{◌≡◌, ◌≢◌, ℕ, ◌+◌, ◌*◌, ◌<◌, ◌≤◌, Bool, false, List, length, drop, Option, None, Some}
 use Rattle.std.specs.Prelude.{slice_index}
 use Rattle.sc_base.specs.declared.stop.TrapReason.TheVariants.{Owner}
+use Rattle.sc_core.specs.declared.expr.CallTarget.{CallTarget}
 use Rattle.sc_core.specs.declared.value.Cell.{Cell}
 use Rattle.sc_core.specs.declared.value.Value.{Value}
 use Rattle.sc_core.specs.Memory.{Memory}
@@ -21,7 +22,8 @@ use Rattle.sc_relation.specs.Linking.{Addresses}
 use Rattle.sc_relation.specs.Blocks.{Injection, StandsFor, LiveAt, BlocksMatch, Guarded}
 
 -- what stays for a whole run: the image and the inputs, the compartments that perform in place of running their code, how
--- many steps a turn pays for, where what code refers to lies, and how many globals each compartment has
+-- many steps a turn pays for, where what code refers to lies, how many globals each compartment has, and which of its
+-- calls come back with a value
 pub record Setting : Type 0 where
   pub image : ImageParts
   pub inputs : List ℕ
@@ -29,6 +31,7 @@ pub record Setting : Type 0 where
   pub turn_pays : ℕ
   pub addresses : ℕ → Addresses
   pub globals : ℕ → ℕ
+  pub gives : (comp : ℕ) → CallTarget → Bool
 
 -- both sides at once; what the machine has besides is computed from it
 pub record Joint : Type 0 where
