@@ -10,4 +10,5 @@ pub mod Operations
 pub mod Passing
 pub mod Plain
 pub mod Returns
+pub mod Statements
 pub mod Straight

@@ -42,7 +42,7 @@ use Rattle.sc_pieces.proofs.Rows.{in_row, look_at, looked}
 use Rattle.sc_pieces.proofs.Rows.{loads as loads_from, stores as stores_to}
 use Rattle.sc_relation.specs.Blocks.{StandsFor}
 use Rattle.sc_relation.specs.Frames.{Activation, IsActivation, IsHeld}
-use Rattle.sc_relation.specs.Operators.{IsFor}
+use Rattle.sc_relation.specs.Operators.{IsSound}
 use Rattle.sc_relation.specs.Stretches.{Setting, Joint, Settled}
 use Rattle.sc_relation.specs.Following.{Running, Ends, Ready, Arrives, Comes, Follows, live_at, seen_from}
 use Rattle.sc_relation.proofs.Following.{comes_read, comes_computed}
@@ -265,7 +265,7 @@ module _ (T : Setting) (R : Running) (formed : IsWellFormed T.image) (inputs : A
     operated_gives : (x : Joint) (before : List Instr) (after : Registers) (left right a b : ℕ) (v w r : Value) →
         Settled T (seen_from R.activation) x →
         Does T.image T.inputs (world T R x) before x.regs x.bytes after x.bytes → AreOperands after left right a b →
-        StandsFor (x.inj comp) a v → (takes_two o ≡ true → StandsFor (x.inj comp) b w) → IsFor o v w →
+        StandsFor (x.inj comp) a v → (takes_two o ≡ true → StandsFor (x.inj comp) b w) → IsSound o →
         operated wrapping (x.meant.memory comp) o v w ≡ Ok r → after sp ≡ x.regs sp →
         ((q : ℕ) → HasNoOtherUse q → after q ≡ x.regs q) → Gives T R x (before ++ op_code rd left right o) rd r
     operated_gives x before after left right a b v w r settled does operands one two for gave same others =
@@ -291,7 +291,7 @@ module _ (T : Setting) (R : Running) (formed : IsWellFormed T.image) (inputs : A
     abbrev reads : Option ℕ → List ℕ
     reads right = left_one ∷ one_or_none right
 
-    module _ (right : Option ℕ) (for : (blocks : Blocks) (v w r : Value) → operated wrapping blocks o v w ≡ Ok r → IsFor o v w)
+    module _ (right : Option ℕ) (for : IsSound o)
         (lives : Lives) (temps : Temps) (x : Joint) (left : ℕ)
         (ready : Ready T R (live_plain (reads right) (Some dest) lives) temps x)
         (clear : All (IsClear R.places) (plain_points (reads right) false (Some dest) lives))
@@ -319,7 +319,7 @@ module _ (T : Setting) (R : Running) (formed : IsWellFormed T.image) (inputs : A
           let code : List Instr = before ++ op_code rd l (second_operand frame R.places right) o in
           let g : Gives T R x code rd r =
               operated_gives x before after l (second_operand frame R.places right) a b v w r ready.settled does operands one
-              two (for (x.meant.memory comp) v w r gave) gave same others in
+              two for gave same others in
           comes_behind T R lives x (Whole right) left (with_temp dest r temps) x.meant
           (subst (λ code. Arrives T R lives.behind x (length code + left) left (with_temp dest r temps) x.meant
           (x.pc + 4 * length code)) (sym whole)
@@ -328,7 +328,7 @@ module _ (T : Setting) (R : Running) (formed : IsWellFormed T.image) (inputs : A
 
     -- an operator that takes one value
     one_operand : takes_two o ≡ false →
-        ((blocks : Blocks) (v w r : Value) → operated wrapping blocks o v w ≡ Ok r → IsFor o v w) →
+        IsSound o →
         Follows T R (code_step wrapping R.activation.here calls (tac.Op dest o left_one None))
         (select_step frame R.places (tac.Op dest o left_one None)) (trail_step (tac.Op dest o left_one None))
     one_operand one for =
@@ -372,7 +372,7 @@ module _ (T : Setting) (R : Running) (formed : IsWellFormed T.image) (inputs : A
 
     -- one that takes two
     two_operands : (right_one : ℕ) →
-        ((blocks : Blocks) (v w r : Value) → operated wrapping blocks o v w ≡ Ok r → IsFor o v w) →
+        IsSound o →
         Follows T R (code_step wrapping R.activation.here calls (tac.Op dest o left_one (Some right_one)))
         (select_step frame R.places (tac.Op dest o left_one (Some right_one)))
         (trail_step (tac.Op dest o left_one (Some right_one)))
@@ -410,7 +410,7 @@ module _ (T : Setting) (R : Running) (formed : IsWellFormed T.image) (inputs : A
 
     -- with as many operands as it takes
     pub op_follows : (right : Option ℕ) → is_some right ≡ takes_two o →
-        ((blocks : Blocks) (v w r : Value) → operated wrapping blocks o v w ≡ Ok r → IsFor o v w) →
+        IsSound o →
         Follows T R (code_step wrapping R.activation.here calls (tac.Op dest o left_one right))
         (select_step frame R.places (tac.Op dest o left_one right)) (trail_step (tac.Op dest o left_one right))
     op_follows None count for = one_operand (sym count) for

@@ -30,7 +30,7 @@ use Rattle.sc_tac.proofs.Induction.{Inside, stmt_induction}
 use Rattle.sc_select.specs.Selection.{Piece as Code, in_order, select, select_all, select_step, word_of_constant, choice}
 use Rattle.sc_relation.specs.Calls.{CallsFollow, GivesValue}
 use Rattle.sc_relation.specs.Frames.{IsActivation}
-use Rattle.sc_relation.specs.Operators.{IsFor}
+use Rattle.sc_relation.specs.Operators.{IsElement, IsSound}
 use Rattle.sc_relation.specs.Stretches.{Setting}
 use Rattle.sc_relation.specs.Following.{Running, row, Follows}
 use Rattle.sc_relation.proofs.Frames.{object_there, object_inside}
@@ -48,7 +48,7 @@ use Rattle.sc_emit.proofs.Passing.{Test, PassesAll, AllPass, PassesHere, first_p
 use Rattle.sc_emit.proofs.Passing.{loop_passes}
 use Rattle.sc_emit.proofs.Plain.{const_follows, copy_follows, object_follows, global_follows}
 use Rattle.sc_emit.proofs.Returns.{return_follows}
-use Rattle.sc_tac.proofs.Matching.{Each}
+use Rattle.sc_core.proofs.Induction.{Each}
 
 module _ (T : Setting) (R : Running) (formed : IsWellFormed T.image) (inputs : All IsWord T.inputs) (cells : List ℕ)
     (nodes : ℕ) (is : IsActivation T.performs cells R.places nodes R.activation) (placed : ArePlaced R)

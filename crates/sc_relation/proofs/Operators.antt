@@ -11,7 +11,7 @@ use Rattle.sc_base.specs.declared.op.BinaryOp.{BinaryOp}
 use Rattle.sc_base.specs.declared.op.BinaryOp.TheVariants as op
 use Rattle.sc_word.specs.Prelude.{word_of, add_word, sub_word, div_word}
 use Rattle.sc_core.specs.declared.cause.Cause.{Cause}
-use Rattle.sc_core.specs.declared.cause.Cause.TheVariants.{BadPointer}
+use Rattle.sc_core.specs.declared.cause.Cause.TheVariants.{BadPointer, BadType}
 use Rattle.sc_core.specs.declared.value.Cell.{Cell}
 use Rattle.sc_core.specs.declared.value.Pointer.{Pointer}
 use Rattle.sc_core.specs.declared.value.Value.{Value}
@@ -25,7 +25,7 @@ use Rattle.sc_image.specs.declared.parts.ImageParts.{ImageParts}
 use Rattle.sc_image.specs.WellFormed.{IsWellFormed}
 use Rattle.sc_image.proofs.Bytes.{few_globals}
 use Rattle.sc_hart.specs.Words.{data_end}
-use Rattle.sc_tac.specs.Code.{is_unsigned, operated}
+use Rattle.sc_tac.specs.Code.{is_unsigned, is_pointer, is_comparison, compared, operated}
 use Rattle.sc_tac.specs.Functions.{takes_two}
 use Rattle.sc_tac.specs.declared.stmt.TacOp.{TacOp}
 use Rattle.sc_tac.specs.declared.stmt.TacOp.TheVariants as tacop
@@ -35,7 +35,7 @@ use Rattle.sc_pieces.proofs.Addresses.{elements_on, elements_back, member_on, el
 use Rattle.sc_pieces.proofs.Addresses.{same_of}
 use Rattle.sc_pieces.proofs.Below.{op_below}
 use Rattle.sc_relation.specs.Blocks.{Injection, IsAddress, Means, StandsFor, LiveAt, BlocksMatch}
-use Rattle.sc_relation.specs.Operators.{is_pointer, is_comparison, IsElement, IsFor}
+use Rattle.sc_relation.specs.Operators.{IsElement, IsSound}
 use Rattle.sc_relation.proofs.Pointers.{moved_found, between_found, Apart, apart_found, bound}
 
 -- the data of a compartment end below 2 ^ 31
@@ -311,7 +311,7 @@ module _ (image : ImageParts) (formed : IsWellFormed image) (performs : ℕ → 
   compare_means op.Div v w r a b c x y is its h = cc c
   compare_means op.Rem v w r a b c x y is its h = cc c
 
-  operator_means : (o : TacOp) (v w r : Value) (a b : ℕ) → IsFor o v w → operated wrapping (memory comp) o v w ≡ Ok r →
+  operator_means : (o : TacOp) (v w r : Value) (a b : ℕ) → IsSound o → operated wrapping (memory comp) o v w ≡ Ok r →
       b < 2 ^ 32 → Means (inj comp) v a → (takes_two o ≡ true → Means (inj comp) w b) →
       Means (inj comp) r (op_word o a b)
   operator_means (tacop.Unary o scalar) v w r a b for h below is its =
@@ -327,11 +327,19 @@ module _ (image : ImageParts) (formed : IsWellFormed image) (performs : ℕ → 
   operator_means (tacop.PointerDifference cells) v w r a b for h below is its =
       difference_means cells v w r a b for is (its refl) h
   operator_means (tacop.PointerCompare o) v w r a b for h below is its =
-      compare_means o v w r a b for.compares for.left for.right is (its refl) h
+      by (is_comparison o) (is_pointer v) (is_pointer w) refl refl refl h
+    where
+      by : (c x y : Bool) → is_comparison o ≡ c → is_pointer v ≡ x → is_pointer w ≡ y →
+          (if c && (x && y) then between (memory comp) o 1 v w else Err BadType) ≡ Ok r →
+          Means (inj comp) r (on_all_words true o a b)
+      by true true true c x y h = compare_means o v w r a b c x y is (its refl) h
+      by true true false c x y h = cc h
+      by true false y c x z h = cc h
+      by false x y c z w h = cc h
 
   -- where an operator gives a value, its code computes a word that stands for that. Where an operator takes one value,
   -- the second word may be any
-  pub operator_stands : (o : TacOp) (v w r : Value) (a b : ℕ) → IsFor o v w →
+  pub operator_stands : (o : TacOp) (v w r : Value) (a b : ℕ) → IsSound o →
       operated wrapping (memory comp) o v w ≡ Ok r → b < 2 ^ 32 → StandsFor (inj comp) a v →
       (takes_two o ≡ true → StandsFor (inj comp) b w) → StandsFor (inj comp) (op_word o a b) r
   operator_stands o v w r a b for h below is its = record {
