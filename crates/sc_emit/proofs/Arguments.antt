@@ -63,8 +63,8 @@ read_all_goes here (t ∷ ts) temps s =
 
 module _ (T : Setting) (R : Running) where
   -- where one wasn't given a value the meaning ends
-  pub comes_read_all : (lives : Lives) (x : Joint) (budget : ℕ) (ends : Ends) (here : Here) (ts : List ℕ) (temps : Temps)
-      (go : List Value → Meant → Piece (Left Temps)) →
+  pub comes_read_all : (lives : Lives) (x : Joint) (budget : ℕ) (ends : Ends) (here : Here) (ts : List ℕ)
+      (temps : Temps) (go : List Value → Meant → Piece (Left Temps)) →
       ((vs : List Value) → AreRead temps ts vs → Comes T R lives x budget ends (go vs x.meant)) →
       Comes T R lives x budget ends (and_then (read_all here ts temps x.meant) go)
   comes_read_all lives x budget ends here [] temps go h = h [] tt
@@ -115,8 +115,8 @@ module _ (T : Setting) (R : Running) (cells : List ℕ) (nodes : ℕ)
       let same_offset : value.0 ≡ offset = same_Some value.0 offset (sym value.1 ∙ there.1) in
       subst (λ code. Brings regs code rd v) (sym code) (record {
         word = word x.bytes (R.activation.sp + offset);
-        stands = subst (λ o. StandsFor (x.inj R.activation.here.comp) (word x.bytes (R.activation.sp + o)) v) same_offset
-            value.2;
+        stands = subst (λ o. StandsFor (x.inj R.activation.here.comp) (word x.bytes (R.activation.sp + o)) v)
+            same_offset value.2;
         piece =
             loads_word T.image T.inputs (world T R x) x.bytes regs rd offset (R.activation.sp + offset) w
             (slot_from_sp T R x cells nodes is placed frame sp_is regs k offset there.1 same);
@@ -125,7 +125,8 @@ module _ (T : Setting) (R : Running) (cells : List ℕ) (nodes : ℕ)
   -- a temporary that has its value, also where registers with another use changed
   pub brings : (regs : Registers) (rd t : ℕ) (v : Value) → IsWritable rd →
       IsHeld R.activation R.places x.inj x.regs x.bytes t v → regs sp ≡ x.regs sp →
-      ((q : ℕ) → HasNoOtherUse q → regs q ≡ x.regs q) → Brings regs (brought its_frame rd (place_of its_frame R.places t)) rd v
+      ((q : ℕ) → HasNoOtherUse q → regs q ≡ x.regs q) →
+      Brings regs (brought its_frame rd (place_of its_frame R.places t)) rd v
   brings regs rd t v w held same others =
       subst (λ o. Brings regs (brought its_frame rd o) rd v) (sym held.its)
       (brings_by regs rd held.place v w (placed t held.place held.its) (value held.place held.value) same)

@@ -1,5 +1,6 @@
 -- Calls of functions, of the own compartment and of others.
-use Rattle.std.proofs.Common.{◌≡◌, ◌≢◌, ℕ, suc, ◌+◌, ◌-ℤ◌, ◌*◌, ◌/◌, ◌%◌, ◌^◌, ◌<◌, ◌≤◌, true, false, List, [], ◌∷◌, ◌++◌, length}
+use Rattle.std.proofs.Common.{◌≡◌, ◌≢◌, ℕ, suc, ◌+◌, ◌-ℤ◌, ◌*◌, ◌/◌, ◌%◌, ◌^◌, ◌<◌, ◌≤◌, true, false, List, []}
+use Rattle.std.proofs.Common.{◌∷◌, ◌++◌, length}
 use Rattle.std.proofs.Common.{Option, None, Some, refl, sym, ◌∙◌, ap, subst, arith, inl, inr, ⊎_elim, All, pos}
 use Rattle.std.proofs.Common.{append_assoc}
 use Rattle.std.specs.Prelude.{◌⊎◌, slice_get}
@@ -48,7 +49,7 @@ use Rattle.sc_relation.specs.Calls.{ArePassed, ComesBack, CallGives, CallStands,
 use Rattle.sc_relation.specs.Frames.{Activation, IsActivation, FrameMatches}
 use Rattle.sc_relation.specs.Linking.{Addresses, completed, low_after}
 use Rattle.sc_relation.specs.Stretches.{Setting, Joint, Standpoint, Overflows, GivenBack}
-use Rattle.sc_relation.specs.Following.{Running, Ends, ends_of, seen_from, Ready, Arrives, Comes, Follows, live_at}
+use Rattle.sc_relation.specs.Following.{Running, Ends, seen_from, Ready, Arrives, Comes, Follows, live_at}
 use Rattle.sc_relation.proofs.Following.{IsBack, is_back}
 use Rattle.sc_relation.proofs.Frames.{each_at}
 use Rattle.sc_relation.proofs.Lines.{completed_plainly, completed_length, low_append, low_plainly}
@@ -58,7 +59,7 @@ use Rattle.sc_relation.proofs.Straight.{assigns_register, assigns_slot, assigned
 use Rattle.sc_relation.proofs.Straight.{live_plain, or_left, call_from, settled_to}
 use Rattle.sc_relation.proofs.Stretches.{leads_none, comes_after, shows_less, overflows_with, arrives_with}
 use Rattle.sc_emit.proofs.Arguments.{AreRead, read_all_goes, comes_read_all, Passes, passes}
-use Rattle.sc_emit.proofs.Straight.{ComesStraight}
+use Rattle.sc_emit.proofs.Straight.{ComesStraight, lines_follow}
 use Rattle.sc_emit.proofs.Operands.{IsPlace, ArePlaced, slot_from_sp, world, walks_to}
 
 -- Lines of which some are linked.
@@ -90,19 +91,14 @@ module _ (T : Setting) (R : Running) where
       All (IsClear R.places) (trail.points lives) → CodeAt T.image R.activation.here.comp x.pc (instrs x.pc) →
       ComesStraight T R lives x (instrs x.pc) left (does temps x.meant)) →
       Follows T R does (straight lines) trail
-  linked_follows does lines instrs trail whole closed goes runs = record {
-    sized = λ to_break to_continue. refl;
-    closed = λ to_break to_continue. closed;
-    goes = goes;
-    runs = λ lives temps x left to_break to_continue starts.
-        (let long : length (instrs x.pc) ≡ length lines =
-        ap length (sym (whole x.pc)) ∙ completed_length (T.addresses R.activation.here.comp) x.pc None lines in
-        let ends : Ends = ends_of (straight lines) x.pc left to_break to_continue in
-        subst (λ n. Comes T R lives x (n + left) ends (does temps x.meant)) long
-        (runs lives temps x left starts.ready starts.clear
-        (subst (CodeAt T.image R.activation.here.comp x.pc) (whole x.pc) starts.stands) ends refl
-        (ap (λ n. x.pc + 4 * n) (sym long))));
-  }
+  linked_follows does lines instrs trail whole closed goes runs =
+      lines_follow T R does lines trail closed goes
+      (λ lives temps x left ready clear at ends e f.
+      (let long : length (instrs x.pc) ≡ length lines =
+      ap length (sym (whole x.pc)) ∙ completed_length (T.addresses R.activation.here.comp) x.pc None lines in
+      subst (λ n. Comes T R lives x (n + left) ends (does temps x.meant)) long
+      (runs lives temps x left ready clear (subst (CodeAt T.image R.activation.here.comp x.pc) (whole x.pc) at) ends e
+      (f ∙ ap (λ n. x.pc + 4 * n) (sym long)))))
 
 -- Where a call's value goes.
 
@@ -178,8 +174,8 @@ module _ (T : Setting) (R : Running) (formed : IsWellFormed T.image) (inputs : A
         let offset : ℕ = there.0 in
         let same_code : put frame a0 (Some (Slot k)) ≡ store_word a0 offset =
         ap (λ o. store_word a0 (unwrap_or o 0)) there.1 in
-        let stores : Stores T.image T.inputs (world T R y) (store_word a0 offset) (7 ∷ []) y.regs y.bytes (A.sp + offset)
-        (y.regs a0) =
+        let stores : Stores T.image T.inputs (world T R y) (store_word a0 offset) (7 ∷ []) y.regs y.bytes
+        (A.sp + offset) (y.regs a0) =
         stores_word T.image T.inputs (world T R y) y.bytes y.regs a0 offset (A.sp + offset) (y.regs a0) (omega arith)
         (λ e. omega (arith, e)) (look_at y.regs a0 (omega arith))
         (slot_from_sp T R y cells nodes is placed ready.frame ready.sp y.regs k offset there.1 refl) in
@@ -305,8 +301,8 @@ module _ (T : Setting) (R : Running) (formed : IsWellFormed T.image) (inputs : A
         call_comes vs passed stands =
             ⊎_elim (came_back (calls A.here.comp target vs y.meant) (answers vs y.meant))
             (λ o. inr (overflowed (calls A.here.comp target vs y.meant) o))
-            (follow.follow (call_from T R) y target vs is.honest (settled_to T R y ready.settled) ready.sp is.floor passed
-            stands)
+            (follow.follow (call_from T R) y target vs is.honest (settled_to T R y ready.settled) ready.sp is.floor
+            passed stands)
 
       -- the registers are prepared, the call is made, and its value goes to where it is wanted
       pub call_runs : (x : Joint) (before : List Instr) (call : Instr) (left : ℕ) (ends : Ends) → ends.left ≡ left →
@@ -325,7 +321,8 @@ module _ (T : Setting) (R : Running) (formed : IsWellFormed T.image) (inputs : A
           length-append before (call ∷ to_place) in
           let rest : ℕ = 1 + (length to_place + left) in
           let whole : n + rest ≡ length (before ++ call ∷ to_place) + left = omega (arith, long) in
-          let m : MovesOn T R formed inputs cells nodes is (live_plain args dest lives) temps x n rest (x.pc + 4 * n) p.after =
+          let m : MovesOn T R formed inputs cells nodes is (live_plain args dest lives) temps x n rest (x.pc + 4 * n)
+          p.after =
           moves_on T R formed inputs cells nodes is (live_plain args dest lives) temps x n rest (x.pc + 4 * n) p.after
           ready p.same p.others
           (walks_to T R x before p.after x.bytes p.does
@@ -344,12 +341,13 @@ module _ (T : Setting) (R : Running) (formed : IsWellFormed T.image) (inputs : A
       length args ≤ 8 → (ready : Ready T R (live_plain args dest lives) temps x) → AreRead temps args vs →
       Passes T R cells nodes is placed x ready.frame ready.sp x.regs a0 args vs
   passes_args args dest lives temps x vs few ready read =
-      passes T R cells nodes is placed x ready.frame ready.sp (live_plain args dest lives) temps ready.held x.regs a0 args
-      vs (omega arith) (omega (arith, few)) (λ t e. or_left (is_one t args) _ e) read refl (λ q h. refl)
+      passes T R cells nodes is placed x ready.frame ready.sp (live_plain args dest lives) temps ready.held x.regs a0
+      args vs (omega arith) (omega (arith, few)) (λ t e. or_left (is_one t args) _ e) read refl (λ q h. refl)
 
   -- the arguments, and then another register that no temporary has and no argument
-  pub prepared : (args : List ℕ) (x : Joint) (vs : List Value) (frame_is : FrameMatches T.image A x.inj x.meant.memory x.bytes)
-      (sp_is : x.regs sp ≡ A.sp) (p : Passes T R cells nodes is placed x frame_is sp_is x.regs a0 args vs)
+  pub prepared : (args : List ℕ) (x : Joint) (vs : List Value)
+      (frame_is : FrameMatches T.image A x.inj x.meant.memory x.bytes) (sp_is : x.regs sp ≡ A.sp)
+      (p : Passes T R cells nodes is placed x frame_is sp_is x.regs a0 args vs)
       (target : CallTarget) (one : List Instr) (r w : ℕ) →
       (u : Computes T.image T.inputs (world T R x) one [] p.after x.bytes r w) → sp ≢ r →
       ((q : ℕ) → HasNoOtherUse q → q ≢ r) → ((i : ℕ) → i < length vs → a0 + i ≢ r) →
@@ -405,7 +403,8 @@ module _ (T : Setting) (R : Running) (formed : IsWellFormed T.image) (inputs : A
         (λ lives temps x left ready clear code ends left_is behind_is.
         call_runs calls follow (Own function) dest args there answers lives temps
         (each_at (IsClear R.places) (plain_points args true dest lives) 2 _ clear refl)
-        (λ y left v s ready b. is_back T R args dest lives temps y (Own function) left v s is.honest ready clear b) x before
+        (λ y left v s ready b. is_back T R args dest lives temps y (Own function) left v s is.honest ready clear b) x
+        before
         (own_call function args x.pc) left ends left_is behind_is code ready
         (λ vs read.
         (let p : Passes T R cells nodes is placed x ready.frame ready.sp x.regs a0 args vs =
@@ -454,7 +453,8 @@ module _ (T : Setting) (R : Running) (formed : IsWellFormed T.image) (inputs : A
         (λ lives temps x left ready clear code ends left_is behind_is.
         call_runs calls follow (Cross comp index) dest args there answers lives temps
         (each_at (IsClear R.places) (plain_points args true dest lives) 2 _ clear refl)
-        (λ y left v s ready b. is_back T R args dest lives temps y (Cross comp index) left v s is.honest ready clear b) x
+        (λ y left v s ready b.
+        is_back T R args dest lives temps y (Cross comp index) left v s is.honest ready clear b) x
         before (Jalr ra first_scratch (lower_part address)) left ends left_is behind_is code ready
         (λ vs read.
         (let p : Passes T R cells nodes is placed x ready.frame ready.sp x.regs a0 args vs =

@@ -30,7 +30,8 @@ use Rattle.sc_relation.proofs.Frames.{each_at}
 use Rattle.sc_relation.proofs.Settling.{moved}
 use Rattle.sc_relation.proofs.Straight.{live_plain, across_live, call_from, asked, leads_from}
 use Rattle.sc_emit.proofs.Arguments.{AreRead, read_length, Passes}
-use Rattle.sc_emit.proofs.Calls.{Answers, none_wanted, HasPlace, last_point, Prepares, goes, call_runs, passes_args, prepared}
+use Rattle.sc_emit.proofs.Calls.{Answers, none_wanted, HasPlace, last_point, Prepares, goes, call_runs, passes_args}
+use Rattle.sc_emit.proofs.Calls.{prepared}
 use Rattle.sc_emit.proofs.Operands.{ArePlaced, world}
 use Rattle.sc_emit.proofs.Straight.{ComesStraight, straight_follows}
 
@@ -78,34 +79,39 @@ module _ (T : Setting) (R : Running) (formed : IsWellFormed T.image) (inputs : A
     abbrev asking : (number : ℕ) → (dest : Option ℕ) → (args : List ℕ) → List Instr
     asking number dest args = (pass frame R.places a0 args ++ ask number) ++ Ecall ∷ receive frame R.places dest
 
+    -- the number in a7 is that of the call
+    abbrev IsAsked : CallTarget → ℕ → Type 0
+    IsAsked target number =
+        (y : Joint) → Fetches T.image A.here.comp y.pc Ecall → y.regs a7 ≡ number →
+        CallStands T (call_from T R) y target
+
     asks_prepared : (target : CallTarget) (number : ℕ) (dest : Option ℕ) (args : List ℕ) → length args ≤ 1 →
-        number < 2 ^ 32 →
-        ((y : Joint) → Fetches T.image A.here.comp y.pc Ecall → y.regs a7 ≡ number → CallStands T (call_from T R) y target) →
-        (lives : Lives) (temps : Temps) (x : Joint) → Ready T R (live_plain args dest lives) temps x →
+        number < 2 ^ 32 → IsAsked target number → (lives : Lives) (temps : Temps) (x : Joint) →
+        Ready T R (live_plain args dest lives) temps x →
         CodeAt T.image A.here.comp x.pc (asking number dest args) → (vs : List Value) → AreRead temps args vs →
         Prepares T R formed inputs cells nodes is placed target x (pass frame R.places a0 args ++ ask number) vs
     asks_prepared target number dest args few small stands lives temps x ready code vs read =
         let before : List Instr = pass frame R.places a0 args ++ ask number in
         let p : Passes T R cells nodes is placed x ready.frame ready.sp x.regs a0 args vs =
-        passes_args T R formed inputs cells nodes is placed args dest lives temps x vs (omega (arith, few)) ready read in
+        passes_args T R formed inputs cells nodes is placed args dest lives temps x vs (omega (arith, few)) ready
+        read in
         let u : Computes T.image T.inputs (world T R x) (ask number) [] p.after x.bytes a7 number =
         with_number T.image T.inputs (world T R x) p.after x.bytes Addi a7 0 (pos number) 0 number
         (record { above = omega arith; below = omega arith }) (omega arith) refl (omega (arith, small)) in
-        prepared T R formed inputs cells nodes is placed args x vs ready.frame ready.sp p target (ask number) a7 number u
-        (λ e. omega (arith, e)) (λ q h e. omega (arith, h.argument, e))
+        prepared T R formed inputs cells nodes is placed args x vs ready.frame ready.sp p target (ask number) a7 number
+        u (λ e. omega (arith, e)) (λ q h e. omega (arith, h.argument, e))
         (λ i l e. omega (arith, l, e, few, read_length temps args vs read))
         (λ low is_number. stands (moved x (x.pc + 4 * length before) u.after x.bytes)
         (back_at T.image A.here.comp x.pc before (Ecall ∷ receive frame R.places dest) code).0 is_number)
 
     asks : (target : CallTarget) (number : ℕ) (dest : Option ℕ) (args : List ℕ) → of_environment target ≡ true →
-        length args ≤ 1 → number < 2 ^ 32 →
-        ((y : Joint) → Fetches T.image A.here.comp y.pc Ecall → y.regs a7 ≡ number → CallStands T (call_from T R) y target) →
+        length args ≤ 1 → number < 2 ^ 32 → IsAsked target number →
         HasPlace R.places dest → ((vs : List Value) (s : Meant) → Answers dest (calls A.here.comp target vs s)) →
         (lives : Lives) (temps : Temps) (x : Joint) (left : ℕ) → Ready T R (live_plain args dest lives) temps x →
         IsClear R.places (last_point dest lives) → CodeAt T.image A.here.comp x.pc (asking number dest args) →
         ComesStraight T R lives x (asking number dest args) left (call_does A.here calls dest target args temps x.meant)
-    asks target number dest args environment few small stands there answers lives temps x left ready clear code ends left_is
-        behind_is =
+    asks target number dest args environment few small stands there answers lives temps x left ready clear code ends
+        left_is behind_is =
         call_runs T R formed inputs cells nodes is placed calls follow target dest args there answers lives temps clear
         (λ y left v s ready b. asked_back args dest lives temps y target left v s environment ready b) x
         (pass frame R.places a0 args ++ ask number) Ecall left ends left_is behind_is code ready
@@ -134,8 +140,8 @@ module _ (T : Setting) (R : Running) (formed : IsWellFormed T.image) (inputs : A
         (trail_step (tac.Output value))
         (goes T R formed inputs cells nodes is placed calls follow Output None (value ∷ []))
         (λ lives temps x left ready clear code.
-        subst (λ code. ComesStraight T R lives x code left (call_does A.here calls None Output (value ∷ []) temps x.meant))
-        whole
+        subst (λ code. ComesStraight T R lives x code left
+        (call_does A.here calls None Output (value ∷ []) temps x.meant)) whole
         (asks Output 2 None (value ∷ []) refl (omega arith) (omega arith) (λ y f e. (f, e)) tt
         (λ vs s. none_wanted (calls A.here.comp Output vs s)) lives temps x left ready
         (each_at (IsClear R.places) (plain_points (value ∷ []) false None lives) 1 _ clear refl)

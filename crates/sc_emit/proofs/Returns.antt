@@ -21,11 +21,14 @@ use Rattle.sc_hart.specs.Hart.{Registers, at}
 use Rattle.sc_hart.specs.Words.{word, Owned}
 use Rattle.sc_hart.proofs.Fetching.{front_at, back_at}
 use Rattle.sc_tac.specs.declared.frame.FrameTree.{FrameTree}
+use Rattle.sc_tac.specs.declared.function.TacFnTree.{TacFnTree}
+use Rattle.sc_tac.specs.declared.place.Place.{Place}
 use Rattle.sc_tac.specs.declared.stmt.TacStmt.TheOpen as tac
 use Rattle.sc_tac.specs.Code.{Temps, code_step, return_does}
 use Rattle.sc_tac.specs.Flow.{is_one}
 use Rattle.sc_tac.specs.Parts.{one_or_none}
-use Rattle.sc_tac.specs.Points.{Set, Lives, trail_step}
+use Rattle.sc_tac.specs.Programs.{same_entry}
+use Rattle.sc_tac.specs.Points.{Set, nothing, Lives, trail_step}
 use Rattle.sc_select.specs.Pieces.{ra, sp, a0, frame_left}
 use Rattle.sc_select.specs.Selection.{brought, place_of, return, closing, select_step}
 use Rattle.sc_pieces.specs.Frames.{frame_raised, LeavesFrame}
@@ -40,6 +43,7 @@ use Rattle.sc_relation.proofs.Following.{comes_read}
 use Rattle.sc_relation.proofs.Settling.{moved, settled_moved, leads_moved}
 use Rattle.sc_relation.proofs.Stretches.{leads_less}
 use Rattle.sc_emit.proofs.Arguments.{Brings, brings}
+use Rattle.sc_emit.proofs.Functions.{given_at_brace, in_call, BraceReturns}
 use Rattle.sc_emit.proofs.Operands.{ArePlaced, world, walks_to}
 use Rattle.sc_emit.proofs.Straight.{ComesStraight, read_goes, straight_follows}
 
@@ -99,7 +103,8 @@ module _ (T : Setting) (R : Running) (formed : IsWellFormed T.image) (inputs : A
           ra = ra_is;
           sp = l.raised ∙ ap (λ s. s + frame.bytes) (p.same ∙ ready.sp);
           value = given_in v (l.after a0) (p.after a0) a0_is p.value;
-          leads = leads_less T P x (moved x (x.pc + 4 * n) l.after x.bytes) (n + 1) 1 budget 1 (omega (arith, long, enough))
+          leads = leads_less T P x (moved x (x.pc + 4 * n) l.after x.bytes) (n + 1) 1 budget 1
+              (omega (arith, long, enough))
               (omega arith)
               (leads_moved T formed inputs P x n 1 (x.pc + 4 * n) l.after x.bytes (λ k q g. refl) walks);
           settled = settled_moved T formed inputs P x n (x.pc + 4 * n) l.after x.bytes ready.settled
@@ -150,15 +155,10 @@ module _ (T : Setting) (R : Running) (formed : IsWellFormed T.image) (inputs : A
           value = record { word = omega (arith, u.result); means = u.result };
         }
 
-    -- what a function gives whose closing brace is reached: `main` 0, any other nothing
-    abbrev pub given_at_brace : Option Entry → Option Value
-    given_at_brace (Some Main) = Some (Word 0)
-    given_at_brace entry = None
-
     -- at the closing brace
     pub leaves_at_brace : (entry : Option Entry) (budget : ℕ) → length (closing frame R.places entry) ≤ budget →
         CodeAt T.image A.here.comp x.pc (closing frame R.places entry) →
-        Returns T R x budget (given_at_brace entry) x.meant
+        Returns T R x budget (given_at_brace (same_entry Main entry)) x.meant
     leaves_at_brace None budget enough stands = leaves_alone budget enough stands
     leaves_at_brace (Some Main) budget enough stands =
         leaves_with (OpImm Addi a0 0 (pos 0) ∷ []) (Some (Word 0)) budget zero_put enough stands
@@ -167,8 +167,9 @@ module _ (T : Setting) (R : Running) (formed : IsWellFormed T.image) (inputs : A
   -- Returns.
 
   module _ (placed : ArePlaced R) (calls : Calls) where
-    puts : (t : ℕ) (v : Value) (live : Set) (temps : Temps) (x : Joint) (ready : Ready T R live temps x) → live t ≡ true →
-        temps t ≡ Some v → Puts live temps x ready (brought frame a0 (place_of frame R.places t)) (Some v)
+    puts : (t : ℕ) (v : Value) (live : Set) (temps : Temps) (x : Joint) (ready : Ready T R live temps x) →
+        live t ≡ true → temps t ≡ Some v →
+        Puts live temps x ready (brought frame a0 (place_of frame R.places t)) (Some v)
     puts t v live temps x ready on known =
         let b : Brings T R cells nodes is placed x ready.frame ready.sp x.regs
         (brought frame a0 (place_of frame R.places t)) a0 v =
@@ -209,3 +210,15 @@ module _ (T : Setting) (R : Running) (formed : IsWellFormed T.image) (inputs : A
         straight_follows T R (code_step wrapping A.here calls (tac.Return value)) (return frame R.places value)
         (trail_step (tac.Return value)) (return_goes value)
         (λ lives temps x left ready clear code. returns value lives temps x left ready code)
+
+-- the code of a closing brace comes to the jump back, in each call of its function
+pub brace_returns : (T : Setting) (f : TacFnTree) (frame : FrameTree) (places : List Place) → IsWellFormed T.image →
+    All IsWord T.inputs → (comp : ℕ) → BraceReturns T f frame places comp
+brace_returns T f frame places formed inputs comp A last run x temps ready code =
+    let R : Running = in_call T f frame places A last in
+    let same : closing A.frame places f.entry ≡ closing frame places f.entry =
+    ap (λ frame. closing frame places f.entry) run.frame_is in
+    leaves_at_brace T R formed inputs f.objects f.nodes run.is nothing temps x ready f.entry
+    (length (closing frame places f.entry)) (let e : length (closing A.frame places f.entry) ≡
+    length (closing frame places f.entry) = ap length same in omega (arith, e))
+    (subst (CodeAt T.image A.here.comp x.pc) (sym same) code)
