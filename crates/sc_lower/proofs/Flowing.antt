@@ -21,6 +21,7 @@ use Rattle.sc_tac.specs.declared.stmt.TacStmt.TheVariants as emit
 use Rattle.sc_lower.proofs.Tests.{scalar_fits, all_append}
 use Rattle.sc_lower.proofs.Passing.{returned_value, InitsFit}
 use Rattle.sc_lower.proofs.Statements.{Shaped, shaped, not_output, goes_promised}
+use Rattle.sc_lower.proofs.Tests.{PointsToElements}
 use Rattle.sc_lower.proofs.Strays.{value_straight, target_straight, is_straight, Straight, local_straight}
 use Rattle.sc_lower.proofs.Assigned.{first, fresh, first_append, fresh_append, first_one, fresh_one, straight_fresh}
 use Rattle.sc_lower.proofs.Assigned.{plain_reads, only_reads, no_reads, one_read, two_read, Settled, into, out_of}
@@ -271,7 +272,8 @@ cycle_steady p q r hp hq hr = record {
       (part_begins r hr y.next t ahead none.behind)));
 }
 
-module _ (scope : Scope) (callable : Callable) (result : Option Ty) (structs : List TypedStruct) where
+module _ (scope : Scope) (callable : Callable) (result : Option Ty) (structs : List TypedStruct)
+    (elements : PointsToElements scope structs) where
   abbrev params : ℕ
   params = length scope.params
 
@@ -300,7 +302,7 @@ module _ (scope : Scope) (callable : Callable) (result : Option Ty) (structs : L
             (behind k)) f)) (sym (first_append t x.code rest.code ahead) ∙ g);
         straight =
             all_append is_straight x.code rest.code
-            (value_straight scope structs e
+            (value_straight scope structs elements e
             (and_first (judged scope e).fits _ (and_first (goes_into ty (judged scope e)) _ h)) n)
             hr.straight;
       }
@@ -358,9 +360,9 @@ module _ (scope : Scope) (callable : Callable) (result : Option Ty) (structs : L
       Steady (assign (form place) (form e))
   assigned_steady place e h =
       assign_steady (form place) (form e) (expr_settled structs params place want.Place)
-      (target_straight scope structs place (and_first (is_target (judged scope place)) _ h))
+      (target_straight scope structs elements place (and_first (is_target (judged scope place)) _ h))
       (expr_settled structs params e want.Value)
-      (value_straight scope structs e (and_first (judged scope e).fits _ (and_rest (is_target (judged scope place))
+      (value_straight scope structs elements e (and_first (judged scope e).fits _ (and_rest (is_target (judged scope place))
       _ h)))
 
   assign_call_steady : (place : TypedExpr) (c : TypedCall) →
@@ -372,7 +374,7 @@ module _ (scope : Scope) (callable : Callable) (result : Option Ty) (structs : L
       (and_first (call_fits callable c.target (map (judged scope) c.args)) _ inner)
       (and_rest (call_fits callable c.target (map (judged scope) c.args)) _ inner)
       (store_steady (form place) (expr_settled structs params place want.Place)
-      (target_straight scope structs place (and_first (is_target (judged scope place)) _ h)))
+      (target_straight scope structs elements place (and_first (is_target (judged scope place)) _ h)))
 
   simple_steady : (k : TypedSimpleKind) → simple_fits scope callable result k ≡ true →
       Steady (simple_code structs params k)
@@ -387,7 +389,7 @@ module _ (scope : Scope) (callable : Callable) (result : Option Ty) (structs : L
 
   test_steady : (cond : TypedExpr) → (judged scope cond).fits ≡ true → Steady (tests (form cond))
   test_steady cond h = after_steady (form cond want.Value) (λ at. just (emit.If at [] (emit.Break ∷ []) ∷ []))
-      (expr_settled structs params cond want.Value) (value_straight scope structs cond h) test_with
+      (expr_settled structs params cond want.Value) (value_straight scope structs elements cond h) test_with
 
   return_call_steady : (r : Option Ty) (c : TypedCall) →
       returned_call_fits callable r c.target (map (judged scope) c.args) ≡ true →
@@ -421,7 +423,7 @@ module _ (scope : Scope) (callable : Callable) (result : Option Ty) (structs : L
       let inner = and_rest (is_scalar (judged scope cond)) _ fits in
       after_steady (form cond want.Value) (fork (block_code structs params x) (block_code structs params y))
       (expr_settled structs params cond want.Value)
-      (value_straight scope structs cond (scalar_fits (judged scope cond) (and_first (is_scalar (judged scope cond))
+      (value_straight scope structs elements cond (scalar_fits (judged scope cond) (and_first (is_scalar (judged scope cond))
       _ fits)))
       (fork_steady (block_code structs params x) (block_code structs params y)
       (block_steady x looping
@@ -446,7 +448,7 @@ module _ (scope : Scope) (callable : Callable) (result : Option Ty) (structs : L
   level line layer.Return h looping fits = nothing_returned
   level line (layer.ReturnValue e) h looping fits =
       after_steady (form e want.Value) return_value (expr_settled structs params e want.Value)
-      (value_straight scope structs e (returned_value result (judged scope e) fits)) return_steady
+      (value_straight scope structs elements e (returned_value result (judged scope e) fits)) return_steady
   level line (layer.ReturnCall c) h looping fits = return_call_steady result c fits
 
   stmt_steady : (stmt : TypedStmt) → Q stmt
@@ -468,8 +470,8 @@ module _ (scope : Scope) (callable : Callable) (result : Option Ty) (structs : L
   init_steady k local None own h = empty_steady
   init_steady k local (Some e) own h =
       assign_steady (at_place local.ty (alone (place_code params (Local k)))) (form e) (local_settled params k local.ty)
-      (local_straight scope structs k local.ty own want.Place) (expr_settled structs params e want.Value)
-      (value_straight scope structs e (and_first (judged scope e).fits _ h))
+      (local_straight scope structs elements k local.ty own want.Place) (expr_settled structs params e want.Value)
+      (value_straight scope structs elements e (and_first (judged scope e).fits _ h))
 
   inits_steady : (k : ℕ) (locals : List TypedLocal) → InitsFit scope k locals →
       Steady (in_turn (inits_code structs params k locals))

@@ -86,16 +86,16 @@ module _ (arith : Arith) (here : Here) (calls : Calls) where
   -- what follows code that gives a value
   pub gives_then : (n at at' : ℕ) (t : Temps) (s : State) (r : Result Value Cause) (f : Value → Result Value Cause)
       (o : Piece (Left Temps)) (k : Codes) → Gives n at t s r o →
-      ((v : Value) (u : Temps) → u at ≡ Some v → Keeps n t u → Gives n at' t s (f v) (k u s)) →
+      ((v : Value) (u : Temps) → r ≡ Ok v → u at ≡ Some v → Keeps n t u → Gives n at' t s (f v) (k u s)) →
       Gives n at' t s (bind r f) (follow in_order o k)
   gives_then n at at' t s (Err cause) f o k g h = ap (λ x. follow in_order x k) g
   gives_then n at at' t s (Ok v) f o k g h =
       gives_along n at' t s (f v) (k g.temps s) (follow in_order o k) (ap (λ x. follow in_order x k) g.comes)
-      (h v g.temps g.holds g.keeps)
+      (h v g.temps refl g.holds g.keeps)
 
   pub seq : (n at at' : ℕ) (t : Temps) (s : State) (r : Result Value Cause) (f : Value → Result Value Cause)
       (xs ys : List TacStmt) → Gives n at t s r (run xs t s) →
-      ((v : Value) (u : Temps) → u at ≡ Some v → Keeps n t u → Gives n at' t s (f v) (run ys u s)) →
+      ((v : Value) (u : Temps) → r ≡ Ok v → u at ≡ Some v → Keeps n t u → Gives n at' t s (f v) (run ys u s)) →
       Gives n at' t s (bind r f) (run (xs ++ ys) t s)
   seq n at at' t s r f xs ys g h =
       gives_along n at' t s (bind r f) _ _ (run_append xs ys t s) (gives_then n at at' t s r f (run xs t s) (run ys) g

@@ -3,6 +3,7 @@ pub mod Assigned
 pub mod Beyond
 pub mod Bounds
 pub mod Branches
+pub mod Elements
 pub mod Entries
 pub mod Expressions
 pub mod Flowing

@@ -19,8 +19,8 @@ abbrev pub fragment_behind : List TacStmt → Part → Fragment
 fragment_behind stmts rest = record { stmts = stmts ++ rest.code; next = rest.next }
 
 module _ (structs : List TypedStruct) (params : ℕ) where
-  ty_at : (e : TypedExpr) → (lowered structs params e).ty ≡ e.ty
-  ty_at e =
+  pub lowered_ty : (e : TypedExpr) → (lowered structs params e).ty ≡ e.ty
+  lowered_ty e =
       ap (λ x. x.ty)
       (fold-roll-TypedExpr _ _ (term_step structs params) lowered_step (record { ty = e.ty; kind = e.kind }))
 
@@ -41,8 +41,8 @@ module _ (structs : List TypedStruct) (params : ℕ) where
   binary_lowered e l r l' r' o w n x y result h left right before behind f =
       subst (λ low. IfOk result (λ code. code ≡ code_of low)) (sym (binary_at e l r o w n h))
       (f (lowered structs params l) (lowered structs params r) n (record {
-        first = ap (λ z. z.ty) left ∙ sym (ty_at l);
-        second = ap (λ z. z.ty) right ∙ sym (ty_at r);
+        first = ap (λ z. z.ty) left ∙ sym (lowered_ty l);
+        second = ap (λ z. z.ty) right ∙ sym (lowered_ty r);
         before = before ∙ ap (λ z. code_of (forms structs params z want.Value n)) left;
         behind = behind ∙ ap (λ z. code_of (forms structs params z want.Value x.next)) right;
       }))

@@ -3,7 +3,13 @@ use Rattle.sc_lower.proofs.Common.{Arith, BinaryOp, Blocks, Bool, List, Ok, Ty, 
 use Rattle.sc_lower.proofs.Common.{applied_one, at_pointer, between, between_op, false, if◌then◌else◌, is_pointer}
 use Rattle.sc_lower.proofs.Common.{is_true, is_unsigned, move_op, moved_back, moved_on, not, not_op, of_bool, on_words}
 use Rattle.sc_lower.proofs.Common.{operated, refl, scalar_in, scalar_of, target_cells, true, unary_op, ℕ, ◌≡◌}
-use Rattle.sc_tac.specs.Prelude.{is_unsigned as is_unsigned_scalar}
+use Rattle.sc_core.specs.declared.value.Value.TheVariants.{Ptr}
+use Rattle.sc_kinds.specs.Kinds.{is_of}
+use Rattle.sc_tac.specs.Prelude.{compared, is_comparison, is_unsigned as is_unsigned_scalar}
+use Rattle.sc_kinds.proofs.Values.{integer_kind}
+use Rattle.sc_lower.proofs.Common.{BadType, Cause, Err, Judged, Null, Result, Word, and_first, and_rest, binary_fits}
+use Rattle.sc_lower.proofs.Common.{both_ints, common, decayed, either, false≢true, is_address, is_int, same_ty, sym, ◌&&◌}
+use Rattle.sc_lower.proofs.Common.{◌||◌, ◌∙◌}
 use Rattle.sc_base.specs.declared.op.UnaryOp.TheVariants as unary
 use Rattle.sc_base.specs.declared.op.BinaryOp.TheVariants as op
 use Rattle.sc_tac.specs.declared.stmt.TacOp.TheVariants as tacop
@@ -15,6 +21,54 @@ unsigned_in false = refl
 pub not_twice : (b : Bool) → of_bool (not (is_true (of_bool (not b)))) ≡ of_bool b
 not_twice true = refl
 not_twice false = refl
+
+-- the operators between two pointers
+abbrev pub is_between : BinaryOp → Bool
+is_between op.Sub = true
+is_between o = is_comparison o
+
+-- those that go by the truth of their operands
+abbrev pub is_logical : BinaryOp → Bool
+is_logical op.OrElse = true
+is_logical op.AndAlso = true
+is_logical o = false
+
+no_int : {C : Type 0} (a : Judged) → is_int a ≡ true → is_pointer a.ty ≡ true → C
+no_int a h p = absurd (false≢true (sym (integer_kind a.ty (and_rest a.fits _ h)) ∙ p))
+
+no_ints : {C : Type 0} (a b : Judged) → both_ints a b ≡ true → is_pointer a.ty ≡ true → C
+no_ints a b h p = no_int a (and_first (is_int a) _ h) p
+
+-- which operators take two pointers
+pub pointers_between : (o : BinaryOp) (a b : Judged) (t : Ty) → binary_fits o a b t ≡ true → is_pointer a.ty ≡ true →
+    is_pointer b.ty ≡ true → (is_logical o || is_between o) ≡ true
+pointers_between op.OrElse a b t h p q = refl
+pointers_between op.AndAlso a b t h p q = refl
+pointers_between op.BitOr a b t h p q = no_ints a b (and_first (both_ints a b) _ h) p
+pointers_between op.BitXor a b t h p q = no_ints a b (and_first (both_ints a b) _ h) p
+pointers_between op.BitAnd a b t h p q = no_ints a b (and_first (both_ints a b) _ h) p
+pointers_between op.Equal a b t h p q = refl
+pointers_between op.NotEqual a b t h p q = refl
+pointers_between op.Less a b t h p q = refl
+pointers_between op.Greater a b t h p q = refl
+pointers_between op.LessEqual a b t h p q = refl
+pointers_between op.GreaterEqual a b t h p q = refl
+pointers_between op.ShiftLeft a b t h p q = no_ints a b (and_first (both_ints a b) _ h) p
+pointers_between op.ShiftRight a b t h p q = no_ints a b (and_first (both_ints a b) _ h) p
+pointers_between op.Add a b t h p q =
+    let A : Bool = both_ints a b && same_ty t (common a.ty b.ty) in
+    let B : Bool = is_address a && (is_int b && same_ty t (decayed a.ty)) in
+    either (A || B) (is_int a && (is_address b && same_ty t (decayed b.ty))) h
+    (λ k. either A B k (λ k. no_ints a b (and_first (both_ints a b) _ k) p)
+    (λ k. no_int b (and_first (is_int b) _ (and_rest (is_address a) _ k)) q))
+    (λ k. no_int a (and_first (is_int a) _ k) p)
+pointers_between op.Sub a b t h p q = refl
+pointers_between op.Mul a b t h p q = no_ints a b (and_first (both_ints a b) _ h) p
+pointers_between op.Div a b t h p q = no_ints a b (and_first (both_ints a b) _ h) p
+pointers_between op.Rem a b t h p q = no_ints a b (and_first (both_ints a b) _ h) p
+
+chosen : (b : Bool) (r : Result Value Cause) → b ≡ true → (if b && (true && true) then r else Err BadType) ≡ r
+chosen b r h = ap (λ b. if b && (true && true) then r else Err BadType) h
 
 module _ (arith : Arith) where
   pub not_is : (ty : Ty) (blocks : Blocks) (v w : Value) →
@@ -36,26 +90,38 @@ module _ (arith : Arith) where
       operated arith blocks (tacop.Binary o (scalar_in b)) v w ≡ on_words arith b o v w
   words_is o b blocks v w = ap (λ u. on_words arith u o v w) (unsigned_in b)
 
-  pub between_is : (o : BinaryOp) (cells : ℕ) (blocks : Blocks) (v w : Value) →
+  -- a comparison of pointers
+  compared_is : (o : BinaryOp) (blocks : Blocks) (v w : Value) → is_comparison o ≡ true → is_of true v ≡ true →
+      is_of true w ≡ true → compared blocks o v w ≡ between blocks o 1 v w
+  compared_is o blocks (Word a) w h left right = absurd (false≢true left)
+  compared_is o blocks Null (Word b) h left right = absurd (false≢true right)
+  compared_is o blocks (Ptr p) (Word b) h left right = absurd (false≢true right)
+  compared_is o blocks Null Null h left right = chosen (is_comparison o) _ h
+  compared_is o blocks Null (Ptr q) h left right = chosen (is_comparison o) _ h
+  compared_is o blocks (Ptr p) Null h left right = chosen (is_comparison o) _ h
+  compared_is o blocks (Ptr p) (Ptr q) h left right = chosen (is_comparison o) _ h
+
+  pub between_is : (o : BinaryOp) (cells : ℕ) (blocks : Blocks) (v w : Value) → is_between o ≡ true →
+      is_of true v ≡ true → is_of true w ≡ true →
       operated arith blocks (between_op o cells) v w ≡ between blocks o cells v w
-  between_is op.OrElse cells blocks v w = refl
-  between_is op.AndAlso cells blocks v w = refl
-  between_is op.BitOr cells blocks v w = refl
-  between_is op.BitXor cells blocks v w = refl
-  between_is op.BitAnd cells blocks v w = refl
-  between_is op.Equal cells blocks v w = refl
-  between_is op.NotEqual cells blocks v w = refl
-  between_is op.Less cells blocks v w = refl
-  between_is op.Greater cells blocks v w = refl
-  between_is op.LessEqual cells blocks v w = refl
-  between_is op.GreaterEqual cells blocks v w = refl
-  between_is op.ShiftLeft cells blocks v w = refl
-  between_is op.ShiftRight cells blocks v w = refl
-  between_is op.Add cells blocks v w = refl
-  between_is op.Sub cells blocks v w = refl
-  between_is op.Mul cells blocks v w = refl
-  between_is op.Div cells blocks v w = refl
-  between_is op.Rem cells blocks v w = refl
+  between_is op.OrElse cells blocks v w h left right = absurd (false≢true h)
+  between_is op.AndAlso cells blocks v w h left right = absurd (false≢true h)
+  between_is op.BitOr cells blocks v w h left right = absurd (false≢true h)
+  between_is op.BitXor cells blocks v w h left right = absurd (false≢true h)
+  between_is op.BitAnd cells blocks v w h left right = absurd (false≢true h)
+  between_is op.Equal cells blocks v w h left right = compared_is op.Equal blocks v w refl left right
+  between_is op.NotEqual cells blocks v w h left right = compared_is op.NotEqual blocks v w refl left right
+  between_is op.Less cells blocks v w h left right = compared_is op.Less blocks v w refl left right
+  between_is op.Greater cells blocks v w h left right = compared_is op.Greater blocks v w refl left right
+  between_is op.LessEqual cells blocks v w h left right = compared_is op.LessEqual blocks v w refl left right
+  between_is op.GreaterEqual cells blocks v w h left right = compared_is op.GreaterEqual blocks v w refl left right
+  between_is op.ShiftLeft cells blocks v w h left right = absurd (false≢true h)
+  between_is op.ShiftRight cells blocks v w h left right = absurd (false≢true h)
+  between_is op.Add cells blocks v w h left right = absurd (false≢true h)
+  between_is op.Sub cells blocks v w h left right = refl
+  between_is op.Mul cells blocks v w h left right = absurd (false≢true h)
+  between_is op.Div cells blocks v w h left right = absurd (false≢true h)
+  between_is op.Rem cells blocks v w h left right = absurd (false≢true h)
 
   module _ (structs : List TypedStruct) where
     on : (o : BinaryOp) (pointer index : Ty) (blocks : Blocks) (v w : Value) →

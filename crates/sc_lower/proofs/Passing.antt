@@ -19,6 +19,7 @@ use Rattle.sc_core.specs.declared.value.Want.TheVariants as want
 use Rattle.sc_tac.specs.declared.stmt.TacStmt.TheOpen as tac
 use Rattle.sc_tac.specs.declared.stmt.TacStmt.TheVariants as emit
 use Rattle.sc_lower.proofs.Tests.{call_layer, scalar_fits, all_append, all_one, all_behind, Below, AllBelow, PassedBy}
+use Rattle.sc_lower.proofs.Tests.{PointsToElements}
 use Rattle.sc_lower.proofs.Tests.{Clean, alone_clean, place_clean, place_passes, fork_passes, expr_clean}
 
 -- a value that is returned fits
@@ -58,7 +59,8 @@ pub record PassedByAll (temps : ℕ) (scope : Scope) (callable : Callable) (resu
   pub returned : (v : Option ℕ) → is_some v ≡ is_some result → Below temps v → test (tac.Return v) ≡ true
 
 module _ (temps : ℕ) (scope : Scope) (callable : Callable) (result : Option Ty) (test : TacStmt-F Bool → Bool)
-    (passed : PassedByAll temps scope callable result test) (structs : List TypedStruct) where
+    (passed : PassedByAll temps scope callable result test) (structs : List TypedStruct)
+    (elements : PointsToElements scope structs) where
   abbrev params : ℕ
   params = length scope.params
 
@@ -72,10 +74,10 @@ module _ (temps : ℕ) (scope : Scope) (callable : Callable) (result : Option Ty
   Cleans = Clean temps scope test passed.exprs
 
   clean : (e : TypedExpr) → (judged scope e).fits ≡ true → Cleans (form e want.Value)
-  clean e h = expr_clean temps scope test passed.exprs structs e h want.Value
+  clean e h = expr_clean temps scope test passed.exprs structs elements e h want.Value
 
   clean_place : (e : TypedExpr) → (judged scope e).fits ≡ true → Cleans (form e want.Place)
-  clean_place e h = expr_clean temps scope test passed.exprs structs e h want.Place
+  clean_place e h = expr_clean temps scope test passed.exprs structs elements e h want.Place
 
   pub record CleanPart (p : Parts) : Type 0 where
     pub up : (n : ℕ) → n ≤ (p n).next

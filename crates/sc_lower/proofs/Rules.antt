@@ -21,6 +21,9 @@ use Rattle.sc_lower.proofs.Common.{stray_break, stray_continue, structs_fit, sub
 use Rattle.sc_lower.proofs.Common.{target_signature, total, true, type_within, variable_fits, variables, zero, ℕ, ◌&&◌}
 use Rattle.sc_lower.proofs.Common.{◌++◌, ◌+◌, ◌<◌, ◌==◌, ◌∙◌, ◌∷◌, ◌≡◌, ◌≤◌}
 use Rattle.std.proofs.lemmas.List.Sums.{AllPass-from_list_all}
+use Rattle.sc_lower.proofs.Common.{TacOp}
+use Rattle.sc_tac.specs.Prelude.{counts_elements, has_elements, has_words}
+use Rattle.sc_tac.specs.declared.stmt.TacOp.TheVariants as tacop
 use Rattle.sc_event.specs.declared.interface.Import.TheVariants as import
 use Rattle.sc_event.specs.declared.interface.Scalar.TheVariants as scalar
 use Rattle.sc_core.specs.declared.expr.CallTarget.TheVariants as target
@@ -29,12 +32,13 @@ use Rattle.sc_core.specs.declared.ty.BaseTy.TheVariants as base
 use Rattle.sc_core.specs.declared.ty.Ty.TheVariants as ty
 use Rattle.sc_kinds.proofs.Sections.{first_of}
 use Rattle.sc_lower.proofs.Beyond.{function_near, locals_few}
+use Rattle.sc_lower.proofs.Elements.{points_to_elements}
 use Rattle.sc_lower.proofs.Entries.{sections_so, mains_so}
 use Rattle.sc_lower.proofs.Flowing.{all_assigned}
 use Rattle.sc_lower.proofs.Passing.{InitsFit, PassedByAll, body_passes}
 use Rattle.sc_lower.proofs.Sizes.{few_temps, light}
 use Rattle.sc_lower.proofs.Strays.{breaks_in_loops, continues_in_bodies}
-use Rattle.sc_lower.proofs.Tests.{call_layer, Below, AllBelow, PassedBy}
+use Rattle.sc_lower.proofs.Tests.{call_layer, Below, AllBelow, PassedBy, PointsToElements}
 
 -- TESTS
 pub beq_same : (a b : Bool) → a ≡ b → beq a b ≡ true
@@ -46,9 +50,41 @@ beq_same false false h = refl
 -- a statement without operators of its own has as many operands as these take
 operands_passed : (temps : ℕ) (scope : Scope) → PassedBy temps scope has_operands
 operands_passed temps scope = record {
-  constant = λ d c lt. refl;
+  constant = λ d c word lt. refl;
   one = λ d o x two ld lx. beq_same false (takes_two o) (sym two);
-  two = λ d o x y two ld lx ly. beq_same true (takes_two o) (sym two);
+  two = λ d o x y two cells ld lx ly. beq_same true (takes_two o) (sym two);
+  object = λ d i lt li. refl;
+  global = λ d g lt lg. refl;
+  load = λ d x b ld lx. refl;
+  fork = λ c a b lt. refl;
+}
+
+words_passed : (temps : ℕ) (scope : Scope) → PassedBy temps scope has_words
+words_passed temps scope = record {
+  constant = λ d c word lt. word;
+  one = λ d o x two ld lx. refl;
+  two = λ d o x y two cells ld lx ly. refl;
+  object = λ d i lt li. refl;
+  global = λ d g lt lg. refl;
+  load = λ d x b ld lx. refl;
+  fork = λ c a b lt. refl;
+}
+
+-- what takes one value counts no elements
+one_counted : (o : TacOp) → takes_two o ≡ false → counts_elements o ≡ true
+one_counted (tacop.Unary op scalar) h = refl
+one_counted (tacop.Binary op scalar) h = refl
+one_counted tacop.PointerNot h = refl
+one_counted (tacop.PointerMove minus cells index) h = refl
+one_counted (tacop.PointerMember offset) h = refl
+one_counted (tacop.PointerDifference cells) h = absurd (false≢true (sym h))
+one_counted (tacop.PointerCompare op) h = refl
+
+elements_passed : (temps : ℕ) (scope : Scope) → PassedBy temps scope has_elements
+elements_passed temps scope = record {
+  constant = λ d c word lt. refl;
+  one = λ d o x two ld lx. one_counted o two;
+  two = λ d o x y two cells ld lx ly. cells;
   object = λ d i lt li. refl;
   global = λ d g lt lg. refl;
   load = λ d x b ld lx. refl;
@@ -57,9 +93,9 @@ operands_passed temps scope = record {
 
 few_passed : (temps : ℕ) (scope : Scope) → PassedBy temps scope passes_few
 few_passed temps scope = record {
-  constant = λ d c lt. refl;
+  constant = λ d c word lt. refl;
   one = λ d o x two ld lx. refl;
-  two = λ d o x y two ld lx ly. refl;
+  two = λ d o x y two cells ld lx ly. refl;
   object = λ d i lt li. refl;
   global = λ d g lt lg. refl;
   load = λ d x b ld lx. refl;
@@ -68,9 +104,9 @@ few_passed temps scope = record {
 
 returns_passed : (temps : ℕ) (scope : Scope) (result : Bool) → PassedBy temps scope (returns_result result)
 returns_passed temps scope result = record {
-  constant = λ d c lt. refl;
+  constant = λ d c word lt. refl;
   one = λ d o x two ld lx. refl;
-  two = λ d o x y two ld lx ly. refl;
+  two = λ d o x y two cells ld lx ly. refl;
   object = λ d i lt li. refl;
   global = λ d g lt lg. refl;
   load = λ d x b ld lx. refl;
@@ -80,9 +116,9 @@ returns_passed temps scope result = record {
 objects_passed : (temps : ℕ) (scope : Scope) (objects : ℕ) → objects ≡ length scope.params + length scope.locals →
     PassedBy temps scope (names_own_object objects)
 objects_passed temps scope objects same = record {
-  constant = λ d c lt. refl;
+  constant = λ d c word lt. refl;
   one = λ d o x two ld lx. refl;
-  two = λ d o x y two ld lx ly. refl;
+  two = λ d o x y two cells ld lx ly. refl;
   object = λ d i lt li. lt-ltb i objects (subst (λ m. i < m) (sym same) li);
   global = λ d g lt lg. refl;
   load = λ d x b ld lx. refl;
@@ -118,9 +154,9 @@ module _ (temps : ℕ) where
 
   temps_passed : (scope : Scope) → PassedBy temps scope (names_own_temps temps)
   temps_passed scope = record {
-    constant = λ d c lt. own_one d lt;
+    constant = λ d c word lt. own_one d lt;
     one = λ d o x two ld lx. own_two d x ld lx;
-    two = λ d o x y two ld lx ly. and_from (own d) _ (lt-ltb d temps ld) (own_two x y lx ly);
+    two = λ d o x y two cells ld lx ly. and_from (own d) _ (lt-ltb d temps ld) (own_two x y lx ly);
     object = λ d i lt li. own_one d lt;
     global = λ d g lt lg. own_one d lt;
     load = λ d x b ld lx. own_two d x ld lx;
@@ -379,6 +415,18 @@ module _ (program : ProgramTree) (typed : is_well_typed program ≡ true) where
         own_first temps at (count ∙ output_takes_one (list_any (same_import import.Output) place.interface.imports)
         signature h) all
 
+    call_words : (to : CallTarget) (dest : Option ℕ) (at : List ℕ) → has_words (call_layer to dest at) ≡ true
+    call_words (target.Own n) dest at = refl
+    call_words (target.Cross to index) dest at = refl
+    call_words target.Input dest at = refl
+    call_words target.Output dest at = refl
+
+    call_elements : (to : CallTarget) (dest : Option ℕ) (at : List ℕ) → has_elements (call_layer to dest at) ≡ true
+    call_elements (target.Own n) dest at = refl
+    call_elements (target.Cross to index) dest at = refl
+    call_elements target.Input dest at = refl
+    call_elements target.Output dest at = refl
+
     call_operands : (to : CallTarget) (dest : Option ℕ) (at : List ℕ) → has_operands (call_layer to dest at) ≡ true
     call_operands (target.Own n) dest at = refl
     call_operands (target.Cross to index) dest at = refl
@@ -415,6 +463,13 @@ module _ (program : ProgramTree) (typed : is_well_typed program ≡ true) where
             ap (slice_get (map {A = TypedLocal} (λ l. l.ty) f.locals)) same ∙ slice_get-map (λ l. l.ty) f.locals i
             ∙ ap (option_map (λ l. l.ty)) at
 
+      -- addresses point to elements
+      elements : PointsToElements scope section.structs
+      elements =
+          let behind = and_rest (structs_fit section.structs 0 section.structs) _ place.placed.fits in
+          points_to_elements section f (and_first (structs_fit section.structs 0 section.structs) _ place.placed.fits)
+          (and_first (list_all (global_fits section.structs) section.globals) _ behind) fits.passed fits.locals
+
       params_same : length scope.params ≡ length f.params
       params_same = length-map f.params (λ p. p.ty)
 
@@ -435,7 +490,7 @@ module _ (program : ProgramTree) (typed : is_well_typed program ≡ true) where
           everywhere test (body_code section.structs f 0).code ≡ true
       all test passed =
           subst (λ p. everywhere test (code_with p).code ≡ true) params_same
-          ((body_passes temps scope callable f.result test passed section.structs f.locals f.body inits
+          ((body_passes temps scope callable f.result test passed section.structs elements f.locals f.body inits
           fits.body).passes 0 within)
 
       objects_same : length (variables section.structs f) ≡ length scope.params + length scope.locals
@@ -470,6 +525,28 @@ module _ (program : ProgramTree) (typed : is_well_typed program ≡ true) where
             λ to signature dest at is es goes count results below every. call_objects
             (length (variables section.structs f)) to
             dest at;
+        returned = λ v there below. refl;
+      })
+
+      words : everywhere has_words (body_code section.structs f 0).code ≡ true
+      words = all has_words (record {
+        exprs = words_passed temps scope;
+        store = λ q v lq lv. refl;
+        cycle = λ a b c. refl;
+        breaks = refl;
+        continues = refl;
+        called = λ to signature dest at is es goes count results below every. call_words to dest at;
+        returned = λ v there below. refl;
+      })
+
+      elements_counted : everywhere has_elements (body_code section.structs f 0).code ≡ true
+      elements_counted = all has_elements (record {
+        exprs = elements_passed temps scope;
+        store = λ q v lq lv. refl;
+        cycle = λ a b c. refl;
+        breaks = refl;
+        continues = refl;
+        called = λ to signature dest at is es goes count results below every. call_elements to dest at;
         returned = λ v there below. refl;
       })
 
@@ -593,16 +670,18 @@ module _ (program : ProgramTree) (typed : is_well_typed program ≡ true) where
         words_enter = words_enter;
         own_temps = own_temps;
         own_objects = own_objects;
+        words = words;
+        elements = elements_counted;
         operands = operands;
         few_arguments = few_arguments;
         results_returned = results_returned;
         breaks_in_loops =
             subst (λ p. has_none stray_break (code_with p).code ≡ true) params_same
-            (breaks_in_loops scope callable f.result section.structs f.locals f.body inits fits.body);
+            (breaks_in_loops scope callable f.result section.structs elements f.locals f.body inits fits.body);
         continues_in_bodies = subst (λ p. has_none stray_continue (code_with p).code ≡ true) params_same
-            (continues_in_bodies scope callable f.result section.structs f.locals f.body inits fits.body);
+            (continues_in_bodies scope callable f.result section.structs elements f.locals f.body inits fits.body);
         assigned_first = subst (λ p. all_assigned_first temps (code_with p).code ≡ true) params_same
-            (all_assigned scope callable f.result section.structs f.locals f.body inits fits.body temps);
+            (all_assigned scope callable f.result section.structs elements f.locals f.body inits fits.body temps);
       }
 
       pub lowerable : IsLowerable faces comp section.structs f

@@ -78,9 +78,9 @@ module _ (program : ProgramTree) (typed : is_well_typed program ≡ true) (comp 
   globals_passed : (temps : ℕ) (f : TypedFunction) →
       PassedBy temps (scope_of section f) (names_own_global faces comp lowered)
   globals_passed temps f = record {
-    constant = λ d c lt. refl;
+    constant = λ d c word lt. refl;
     one = λ d o x two ld lx. refl;
-    two = λ d o x y two ld lx ly. refl;
+    two = λ d o x y two cells ld lx ly. refl;
     object = λ d i lt li. refl;
     global =
         λ d g lt lg. lt-ltb g (length section.globals) (subst (λ m. g < m) (length-map section.globals (λ g. g.ty)) lg);
@@ -90,9 +90,9 @@ module _ (program : ProgramTree) (typed : is_well_typed program ≡ true) (comp 
 
   own_passed : (temps : ℕ) (f : TypedFunction) → PassedBy temps (scope_of section f) (calls_own faces comp lowered)
   own_passed temps f = record {
-    constant = λ d c lt. refl;
+    constant = λ d c word lt. refl;
     one = λ d o x two ld lx. refl;
-    two = λ d o x y two ld lx ly. refl;
+    two = λ d o x y two cells ld lx ly. refl;
     object = λ d i lt li. refl;
     global = λ d g lt lg. refl;
     load = λ d x b ld lx. refl;
@@ -102,9 +102,9 @@ module _ (program : ProgramTree) (typed : is_well_typed program ≡ true) (comp 
   exports_passed : (temps : ℕ) (f : TypedFunction) →
       PassedBy temps (scope_of section f) (calls_exports faces comp lowered)
   exports_passed temps f = record {
-    constant = λ d c lt. refl;
+    constant = λ d c word lt. refl;
     one = λ d o x two ld lx. refl;
-    two = λ d o x y two ld lx ly. refl;
+    two = λ d o x y two cells ld lx ly. refl;
     object = λ d i lt li. refl;
     global = λ d g lt lg. refl;
     load = λ d x b ld lx. refl;
@@ -114,9 +114,9 @@ module _ (program : ProgramTree) (typed : is_well_typed program ≡ true) (comp 
   imports_passed : (temps : ℕ) (f : TypedFunction) →
       PassedBy temps (scope_of section f) (calls_imports faces comp lowered)
   imports_passed temps f = record {
-    constant = λ d c lt. refl;
+    constant = λ d c word lt. refl;
     one = λ d o x two ld lx. refl;
-    two = λ d o x y two ld lx ly. refl;
+    two = λ d o x y two cells ld lx ly. refl;
     object = λ d i lt li. refl;
     global = λ d g lt lg. refl;
     load = λ d x b ld lx. refl;

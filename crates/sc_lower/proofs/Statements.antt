@@ -18,6 +18,10 @@ use Rattle.sc_lower.proofs.Common.{store_result, stored, subst, suc, sym, target
 use Rattle.sc_lower.proofs.Common.{variable_at, ways, with_memory, with_temp, ℕ, ◌++◌, ◌<◌, ◌∙◌, ◌∷◌, ◌≡◌, ◌≤◌}
 use Rattle.sc_core.specs.Prelude.{assign as assigns, at_place as place_way, call_alone as calls_alone}
 use Rattle.sc_core.specs.Prelude.{kind_step as kind_acts, stmt_does as stmt_acts, store_at as stores_at, test as tests}
+use Rattle.sc_lower.proofs.Common.{init_fits, local_fits, signed, variable_fits}
+use Rattle.sc_lower.proofs.Common.{assign_fits}
+use Rattle.sc_lower.proofs.Passing.{returned_value}
+use Rattle.sc_lower.proofs.Tests.{scalar_fits}
 use Rattle.sc_event.specs.declared.interface.Import.TheVariants as import
 use Rattle.sc_core.specs.declared.ty.Ty.TheVariants as ty
 use Rattle.sc_core.specs.declared.expr.CallTarget.TheVariants as target
@@ -109,24 +113,36 @@ module _ (arith : Arith) (structs : List TypedStruct) (here : Here) (params : �
   abbrev form : TypedExpr → Forms
   form = forms structs params
 
-  fits_value : (e : TypedExpr) → Computes arith here D (form e want.Value) (way e want.Value)
-  fits_value e = (expr_fits arith here D structs params e).form want.Value
+  abbrev Fit : TypedExpr → Type 0
+  Fit e = (judged scope e).fits ≡ true
 
-  fits_place : (e : TypedExpr) → Computes arith here D (form e want.Place) (way e want.Place)
-  fits_place e = (expr_fits arith here D structs params e).form want.Place
+  fits_value : (e : TypedExpr) → Fit e → Computes arith here D (form e want.Value) (way e want.Value)
+  fits_value e h = (expr_fits arith here D structs params scope e h).form want.Value
 
-  up : (e : TypedExpr) (n : ℕ) → n ≤ (form e want.Value n).next
-  up e n = omega (numbers, (fits_value e).above n, (fits_value e).below n)
+  fits_place : (e : TypedExpr) → Fit e → Computes arith here D (form e want.Place) (way e want.Place)
+  fits_place e h = (expr_fits arith here D structs params scope e h).form want.Place
 
-  all_given : (es : List TypedExpr) (n : ℕ) (t : Temps) (s : State) →
+  up : (e : TypedExpr) → Fit e → (n : ℕ) → n ≤ (form e want.Value n).next
+  up e h n = omega (numbers, (fits_value e h).above n, (fits_value e h).below n)
+
+  place_fit : (place : TypedExpr) → is_target (judged scope place) ≡ true → Fit place
+  place_fit place h = and_first (judged scope place).fits _ h
+
+  cond_fit : (cond : TypedExpr) → is_scalar (judged scope cond) ≡ true → Fit cond
+  cond_fit cond h = scalar_fits (judged scope cond) h
+
+  all_given : (types : List Ty) (es : List TypedExpr) → all_go_into types (map (judged scope) es) ≡ true →
+      (n : ℕ) (t : Temps) (s : State) →
       GivesAll false arith here D n (many (map form es) n).at t s (values (map way es) (s.memory here.comp))
       (run arith here D (many (map form es) n).code t s)
-  all_given [] n t s = record { temps = t; comes = refl; holds = λ s. refl; keeps = λ i lt. refl }
-  all_given (e ∷ es) n t s =
+  all_given types [] h n t s = record { temps = t; comes = refl; holds = λ s. refl; keeps = λ i lt. refl }
+  all_given [] (e ∷ es) h n t s = absurd (false≢true h)
+  all_given (ty ∷ types) (e ∷ es) h n t s =
+      let fit = and_first (judged scope e).fits _ (and_first (goes_into ty (judged scope e)) _ h) in
       let x : Low = form e want.Value n in
       codes_then false arith here D n x.next x.at (many (map form es) x.next).at t s _ _ x.code
-      (many (map form es) x.next).code (up e n) ((fits_value e).below n) ((fits_value e).gives n t s)
-      (λ u. all_given es x.next u s)
+      (many (map form es) x.next).code (up e fit n) ((fits_value e fit).below n) ((fits_value e fit).gives n t s)
+      (λ u. all_given types es (and_rest (goes_into ty (judged scope e)) _ h) x.next u s)
 
   call_is : (to : CallTarget) (dest : Option ℕ) (at : List ℕ) (t : Temps) (s : State) → Shaped to dest at →
       stmt_does arith here D (call_code to dest at) t s ≡ call_does here D dest to at t s
@@ -195,20 +211,21 @@ module _ (arith : Arith) (structs : List TypedStruct) (here : Here) (params : �
         (run arith here D ((many (map form c.args) n).code ++ call_code c.target dest
         (many (map form c.args) n).at ∷ ys) t s)
     call_first c dest n line t s ys go fits o h =
+        let found = signed (target_signature callable c.target) (map (judged scope) c.args) fits in
         call_by c.target dest n line (many (map form c.args) n).at t s (values (map way c.args) (s.memory here.comp))
         (many (map form c.args) n).code ys go
-        (shaped scope callable form c.target c.args n dest fits o) (all_given c.args n t s) h
+        (shaped scope callable form c.target c.args n dest fits o) (all_given found.signature.params c.args found.fit n t s) h
 
     -- a value, and what follows
-    value_first : (e : TypedExpr) (n line : ℕ) (t : Temps) (s : State) (ys : List TacStmt) (f : Value → State →
+    value_first : (e : TypedExpr) → Fit e → (n line : ℕ) (t : Temps) (s : State) (ys : List TacStmt) (f : Value → State →
         Piece (Left (Unit {0}))) →
         ((v : Value) (u : Temps) → u (form e want.Value n).at ≡ Some v → Keeps n t u →
         Matches has (f v s) (run arith here D ys u s)) →
         Matches has (and_then (computed here line (way e want.Value (s.memory here.comp)) s) f)
         (run arith here D ((form e want.Value n).code ++ ys) t s)
-    value_first e n line t s ys f h =
+    value_first e fit n line t s ys f h =
         code_then has arith here D n (form e want.Value n).at line t s _ (form e want.Value n).code ys f
-        ((fits_value e).gives n t s) h
+        ((fits_value e fit).gives n t s) h
 
     -- a store through a place
     store_matches : (line p v : ℕ) (a : Unit {0}) (t : Temps) (s : State) (q w : Value) → t p ≡ Some q → t v ≡ Some w →
@@ -230,12 +247,12 @@ module _ (arith : Arith) (structs : List TypedStruct) (here : Here) (params : �
         store_matches line (f want.Place n).at i a u s q v is (k i lt ∙ e))
 
     assign_matches : (f : Forms) (w : Ways) → Computes arith here D (f want.Place) (w want.Place) →
-        (e : TypedExpr) (n line : ℕ) →
+        (e : TypedExpr) → Fit e → (n line : ℕ) →
         Does (assigns here w (way e) line) (run arith here D (assign f (form e) n).code)
-    assign_matches f w h e n line a t s =
-        value_first e n line t s (store_at f (form e want.Value n).at (form e want.Value n).next).code
+    assign_matches f w h e fit n line a t s =
+        value_first e fit n line t s (store_at f (form e want.Value n).at (form e want.Value n).next).code
         (λ v s. stores_at here w v line a s) (λ v u is k.
-        store_at_matches f w h (form e want.Value n).next line (form e want.Value n).at a u s v ((fits_value e).below n)
+        store_at_matches f w h (form e want.Value n).next line (form e want.Value n).at a u s v ((fits_value e fit).below n)
         is)
 
     call_alone_matches : (c : TypedCall) (n line : ℕ) → call_fits callable c.target (map (judged scope) c.args) ≡ true →
@@ -263,13 +280,20 @@ module _ (arith : Arith) (structs : List TypedStruct) (here : Here) (params : �
               (run arith here D (store_at (form place) d (suc d)).code (received (Some d) v u) s)
           by d None u s a good = absurd (false≢true good)
           by d (Some v) u s a good =
-              store_at_matches (form place) (way place) (fits_place place) (suc d) line d a (with_temp d v u) s v
+              store_at_matches (form place) (way place) (fits_place place
+              (place_fit place (and_first (is_target (judged scope place)) _ h))) (suc d) line d a (with_temp d v u) s v
               (omega numbers) (with_temp_same d v u)
+
+    assigned_matches : (place e : TypedExpr) (n line : ℕ) → assign_fits (judged scope place) (judged scope e) ≡ true →
+        Does (assigns here (way place) (way e) line) (run arith here D (assign (form place) (form e) n).code)
+    assigned_matches place e n line h =
+        assign_matches (form place) (way place)
+        (fits_place place (place_fit place (and_first (is_target (judged scope place)) _ h))) e
+        (and_first (judged scope e).fits _ (and_rest (is_target (judged scope place)) _ h)) n line
 
     simple_matches : (k : TypedSimpleKind) (n line : ℕ) → simple_fits scope callable result k ≡ true →
         Does (simple_does arith structs here params C k line) (run arith here D (simple_code structs params k n).code)
-    simple_matches (simple.Assign place e) n line h =
-        assign_matches (form place) (way place) (fits_place place) e n line
+    simple_matches (simple.Assign place e) n line h = assigned_matches place e n line h
     simple_matches (simple.AssignCall place c) n line h = assign_call_matches place c n line h
     simple_matches (simple.Call c) n line h = call_alone_matches c n line h
 
@@ -295,11 +319,11 @@ module _ (arith : Arith) (structs : List TypedStruct) (here : Here) (params : �
         (every.0 looping (and_first (stmt_fits scope callable result stmt looping) _ h) n a t s)
         (block_matches rest looping (and_rest (stmt_fits scope callable result stmt looping) _ h) every.1 x.next))
 
-    test_matches : (cond : TypedExpr) (n line : ℕ) →
+    test_matches : (cond : TypedExpr) → Fit cond → (n line : ℕ) →
         Does (tests here (way cond) line) (run arith here D (test (form cond) n).code)
-    test_matches cond n line a t s =
+    test_matches cond fit n line a t s =
         let at : ℕ = (form cond want.Value n).at in
-        value_first cond n line t s (emit.If at [] (emit.Break ∷ []) ∷ []) (λ v s. choose v (leave Next a s)
+        value_first cond fit n line t s (emit.If at [] (emit.Break ∷ []) ∷ []) (λ v s. choose v (leave Next a s)
         (leave Break a s)) (λ v u is k.
         one_matches has arith here D _ (tac.If at [] (emit.Break ∷ [])) (emit.If at [] (emit.Break ∷ [])) u s
         (emit.rolls-If at [] (emit.Break ∷ []))
@@ -309,12 +333,12 @@ module _ (arith : Arith) (structs : List TypedStruct) (here : Here) (params : �
         (one_matches has arith here D (leave Break a s) tac.Break emit.Break u s emit.rolls-Break
         (leave_matches has Break refl a u s)))))
 
-    cycle_matches : (cond : TypedExpr) (n line : ℕ) (block : List TypedStmt) (last : Parts) (next : Acts) →
+    cycle_matches : (cond : TypedExpr) → Fit cond → (n line : ℕ) (block : List TypedStmt) (last : Parts) (next : Acts) →
         list_all {X = Bool → Bool} (λ s. s true) (map (stmt_fits scope callable result) block) ≡ true → Each Q block →
         ((n : ℕ) → Does next (run arith here D (last n).code)) →
         Does (loop (tests here (way cond) line) (block_does arith structs here params C block) next)
         (run arith here D (cycle (test (form cond)) (block_code structs params block) last n).code)
-    cycle_matches cond n line block last next h every behind a t s =
+    cycle_matches cond fit n line block last next h every behind a t s =
         let x : Part = test (form cond) n in
         let y : Part = block_code structs params block x.next in
         let z : Part = last y.next in
@@ -322,15 +346,15 @@ module _ (arith : Arith) (structs : List TypedStruct) (here : Here) (params : �
         (emit.rolls-Loop x.code y.code z.code)
         (rounds_match has (tests here (way cond) line) (block_does arith structs here params C block) next
         (run arith here D x.code) (run arith here D y.code) (run arith here D z.code)
-        (test_matches cond n line) (block_matches block true h every x.next) (behind y.next) (suc s.turns) a t s)
+        (test_matches cond fit n line) (block_matches block true h every x.next) (behind y.next) (suc s.turns) a t s)
 
-    return_matches : (e : TypedExpr) (n line : ℕ) →
+    return_matches : (e : TypedExpr) → Fit e → (n line : ℕ) →
         Does (λ a s. and_then (computed here line (way e want.Value (s.memory here.comp)) s)
         (λ v s. leave (Return (Some v)) a s))
         (run arith here D ((form e want.Value n).code ++ emit.Return (Some (form e want.Value n).at) ∷ []))
-    return_matches e n line a t s =
+    return_matches e fit n line a t s =
         let at : ℕ = (form e want.Value n).at in
-        value_first e n line t s (emit.Return (Some at) ∷ []) (λ v s. leave (Return (Some v)) a s) (λ v u is k.
+        value_first e fit n line t s (emit.Return (Some at) ∷ []) (λ v s. leave (Return (Some v)) a s) (λ v u is k.
         one_matches has arith here D (leave (Return (Some v)) a s) (tac.Return (Some at)) (emit.Return (Some at)) u s
         (emit.rolls-Return (Some at))
         (read_matches has arith here D at v u s (leave (Return (Some v)) a s) _ is (leave_matches has (Return (Some v))
@@ -374,8 +398,7 @@ module _ (arith : Arith) (structs : List TypedStruct) (here : Here) (params : �
         layer_fits k looping ≡ true → (n : ℕ) →
         Does (layer_acts k line) (run arith here D (layer_code k n).code)
     level line layer.Empty h looping fits n = leave_matches has Next refl
-    level line (layer.Assign place e) h looping fits n =
-        assign_matches (form place) (way place) (fits_place place) e n line
+    level line (layer.Assign place e) h looping fits n = assigned_matches place e n line fits
     level line (layer.AssignCall place c) h looping fits n = assign_call_matches place c n line fits
     level line (layer.Call c) h looping fits n = call_alone_matches c n line fits
     level line (layer.If cond x y) h looping fits n = λ a t s.
@@ -383,7 +406,7 @@ module _ (arith : Arith) (structs : List TypedStruct) (here : Here) (params : �
         let c : Low = form cond want.Value n in
         let p : Part = block_code structs params x c.next in
         let q : Part = block_code structs params y p.next in
-        value_first cond n line t s (emit.If c.at p.code q.code ∷ [])
+        value_first cond (cond_fit cond (and_first (is_scalar (judged scope cond)) _ fits)) n line t s (emit.If c.at p.code q.code ∷ [])
         (λ v s. choose v (block_does arith structs here params C x a s) (block_does arith structs here params C y a s))
         (λ v u is k.
         one_matches has arith here D _ (tac.If c.at p.code q.code) (emit.If c.at p.code q.code) u s
@@ -398,7 +421,8 @@ module _ (arith : Arith) (structs : List TypedStruct) (here : Here) (params : �
         (and_rest (list_all {X = Bool → Bool} (λ s. s looping) (map (stmt_fits scope callable result) x)) _ inner) h.1
         p.next a u s))))
     level line (layer.While cond x) h looping fits n =
-        cycle_matches cond n line x (just []) (leave Next) (and_rest (is_scalar (judged scope cond)) _ fits) h
+        cycle_matches cond (cond_fit cond (and_first (is_scalar (judged scope cond)) _ fits)) n line x (just [])
+        (leave Next) (and_rest (is_scalar (judged scope cond)) _ fits) h
         (λ n. leave_matches has Next refl)
     level line (layer.For first cond next x) h looping fits n = λ a t s.
         let behind = and_rest (part_fits scope callable result first) _ fits in
@@ -410,7 +434,7 @@ module _ (arith : Arith) (structs : List TypedStruct) (here : Here) (params : �
         (loop (tests here (way cond) line) (block_does arith structs here params C x)
         (part_does arith structs here params C next)) (run arith here D q.code)
         (part_matches first n (and_first (part_fits scope callable result first) _ fits) a t s)
-        (cycle_matches cond p.next line x (part_code structs params next) (part_does arith structs here params C next)
+        (cycle_matches cond (cond_fit cond (and_first (is_scalar (judged scope cond)) _ behind)) p.next line x (part_code structs params next) (part_does arith structs here params C next)
         (and_rest (part_fits scope callable result next) _ last) h
         (λ n. part_matches next n (and_first (part_fits scope callable result next) _ last))))
     level line layer.Break h looping fits n =
@@ -422,7 +446,8 @@ module _ (arith : Arith) (structs : List TypedStruct) (here : Here) (params : �
     level line layer.Return h looping fits n = λ a t s.
         one_matches has arith here D (leave (Return None) a s) (tac.Return None) (emit.Return None) t s
         (emit.rolls-Return None) (leave_matches has (Return None) (none_answers has fits) a t s)
-    level line (layer.ReturnValue e) h looping fits n = return_matches e n line
+    level line (layer.ReturnValue e) h looping fits n =
+        return_matches e (returned_value result (judged scope e) fits) n line
     level line (layer.ReturnCall c) h looping fits n = return_call_matches result c n line fits
 
     stmt_matches : (stmt : TypedStmt) → Q stmt
@@ -446,43 +471,47 @@ module _ (arith : Arith) (structs : List TypedStruct) (here : Here) (params : �
         (stmt_matches stmt false (and_first (stmt_fits scope callable result stmt false) _ h) n a t s)
         (body_block rest (and_rest (stmt_fits scope callable result stmt false) _ h) x.next))
 
-    init_matches : (k : ℕ) (local : TypedLocal) (init : Option TypedExpr) (n : ℕ) →
+    init_matches : (k : ℕ) (local : TypedLocal) (init : Option TypedExpr) → init_fits scope local.ty init ≡ true →
+        (n : ℕ) →
         Does (init_does arith structs here params k local init)
         (run arith here D (init_code structs params k local init n).code)
-    init_matches k local None n = leave_matches has Next refl
-    init_matches k local (Some e) n =
+    init_matches k local None h n = leave_matches has Next refl
+    init_matches k local (Some e) h n =
         assign_matches (at_place local.ty (alone (place_code params (Local k))))
         (place_way local.ty (λ blocks. Ok (variable_at here params (Local k))))
         (place_computes arith here D local.ty want.Place (alone (place_code params (Local k)))
         (λ blocks. Ok (variable_at here params (Local k))) (alone_computes arith here D (place_code params (Local k))
         (λ blocks. Ok (variable_at here params (Local k))) (place_gives arith here D params (Local k))))
-        e n local.line
+        e (and_first (judged scope e).fits _ h) n local.line
 
-    inits_match : (k : ℕ) (locals : List TypedLocal) (n : ℕ) →
+    inits_match : (k : ℕ) (locals : List TypedLocal) → list_all (local_fits scope) locals ≡ true → (n : ℕ) →
         Does (all_do (inits_do arith structs here params k locals))
         (run arith here D (in_turn (inits_code structs params k locals) n).code)
-    inits_match k [] n = leave_matches has Next refl
-    inits_match k (local ∷ locals) n = λ a t s.
+    inits_match k [] h n = leave_matches has Next refl
+    inits_match k (local ∷ locals) h n = λ a t s.
+        let first = and_first (local_fits scope local) _ h in
         let x : Part = init_code structs params k local local.init n in
         let y : Part = in_turn (inits_code structs params (suc k) locals) x.next in
         matches_along has _ _ _ (run_append arith here D x.code y.code t s)
         (follow_matches has (init_does arith structs here params k local local.init a s) (run arith here D x.code t s)
         (all_do (inits_do arith structs here params (suc k) locals)) (run arith here D y.code)
-        (init_matches k local local.init n a t s) (inits_match (suc k) locals x.next))
+        (init_matches k local local.init (and_first (init_fits scope local.ty local.init)
+        _ (and_rest (variable_fits scope.structs local.ty) _ first)) n a t s)
+        (inits_match (suc k) locals (and_rest (local_fits scope local) _ h) x.next))
 
 -- the code of a body does what the body does
 pub body_matches : (arith : Arith) (structs : List TypedStruct) (here : Here) (scope : Scope) (callable : Callable)
     (C D : Calls) (f : TypedFunction) →
     CallsMatch arith structs here (length f.params) scope callable C D →
-    body_fits scope callable f.result f.body ≡ true →
+    list_all (local_fits scope) f.locals ≡ true → body_fits scope callable f.result f.body ≡ true →
     ActsMatch (is_some f.result) (body_does arith structs here (length f.params) C f)
     (run arith here D (body_code structs f 0).code)
-body_matches arith structs here scope callable C D f meets fits a t s =
+body_matches arith structs here scope callable C D f meets locals fits a t s =
     let params : ℕ = length f.params in
     let x : Part = in_turn (inits_code structs params 0 f.locals) 0 in
     let y : Part = block_code structs params f.body x.next in
     matches_along (is_some f.result) _ _ _ (run_append arith here D x.code y.code t s)
     (follow_matches (is_some f.result) (all_do (inits_do arith structs here params 0 f.locals) a s)
     (run arith here D x.code t s) (block_does arith structs here params C f.body) (run arith here D y.code)
-    (inits_match arith structs here params scope callable C D f.result meets 0 f.locals 0 a t s)
+    (inits_match arith structs here params scope callable C D f.result meets 0 f.locals locals 0 a t s)
     (body_block arith structs here params scope callable C D f.result meets f.body fits x.next))

@@ -20,7 +20,7 @@ use Rattle.sc_core.specs.declared.value.Want.TheVariants as want
 use Rattle.sc_tac.specs.declared.stmt.TacStmt.TheOpen as tac
 use Rattle.sc_tac.specs.declared.stmt.TacStmt.TheVariants as emit
 use Rattle.sc_tac.proofs.Induction.{Inside as CodeInside, stmt_induction as code_induction}
-use Rattle.sc_lower.proofs.Tests.{scalar_fits, PassedBy, alone_clean, place_clean, place_passes, expr_clean}
+use Rattle.sc_lower.proofs.Tests.{scalar_fits, PassedBy, PointsToElements, alone_clean, place_clean, place_passes, expr_clean}
 use Rattle.sc_lower.proofs.Passing.{returned_value, InitsFit}
 
 -- STRAIGHT CODE
@@ -33,9 +33,9 @@ is_straight _ = true
 
 pub straight_passed : (temps : ℕ) (scope : Scope) → PassedBy temps scope is_straight
 straight_passed temps scope = record {
-  constant = λ d c lt. refl;
+  constant = λ d c word lt. refl;
   one = λ d o x two ld lx. refl;
-  two = λ d o x y two ld lx ly. refl;
+  two = λ d o x y two cells ld lx ly. refl;
   object = λ d i lt li. refl;
   global = λ d g lt lg. refl;
   load = λ d x b ld lx. refl;
@@ -45,12 +45,12 @@ straight_passed temps scope = record {
 abbrev pub Straight : List TacStmt → Type 0
 Straight xs = everywhere is_straight xs ≡ true
 
-module _ (scope : Scope) (structs : List TypedStruct) where
+module _ (scope : Scope) (structs : List TypedStruct) (elements : PointsToElements scope structs) where
   pub expr_straight : (e : TypedExpr) → (judged scope e).fits ≡ true → (w : Want) (n : ℕ) →
       Straight (forms structs (length scope.params) e w n).code
   expr_straight e h w n =
       let t : ℕ = (forms structs (length scope.params) e w n).next in
-      (expr_clean t scope is_straight (straight_passed t scope) structs e h w).passes n (omega numbers)
+      (expr_clean t scope is_straight (straight_passed t scope) structs elements e h w).passes n (omega numbers)
 
   pub value_straight : (e : TypedExpr) → (judged scope e).fits ≡ true → (n : ℕ) →
       Straight (forms structs (length scope.params) e want.Value n).code
@@ -232,7 +232,8 @@ module _ (stray : TacStmt-F Bool → Bool) (strays : Strays stray) where
   return_none : (v : Option ℕ) → Free (emit.Return v ∷ [])
   return_none v = none_one (tac.Return v) (emit.Return v) (emit.rolls-Return v) (strays.plain (tac.Return v) refl)
 
-  module _ (scope : Scope) (callable : Callable) (result : Option Ty) (structs : List TypedStruct) where
+  module _ (scope : Scope) (callable : Callable) (result : Option Ty) (structs : List TypedStruct)
+      (elements : PointsToElements scope structs) where
     abbrev params : ℕ
     params = length scope.params
 
@@ -246,7 +247,7 @@ module _ (stray : TacStmt-F Bool → Bool) (strays : Strays stray) where
     many_none (t ∷ types) (e ∷ es) n h =
         none_append (form e want.Value n).code (many (map form es) (form e want.Value n).next).code
         (straight_none (form e want.Value n).code
-        (expr_straight scope structs e (and_first (judged scope e).fits _ (and_first (goes_into t (judged scope e))
+        (expr_straight scope structs elements e (and_first (judged scope e).fits _ (and_first (goes_into t (judged scope e))
         _ h)) want.Value n))
         (many_none types es (form e want.Value n).next (and_rest (goes_into t (judged scope e)) _ h))
 
@@ -273,9 +274,9 @@ module _ (stray : TacStmt-F Bool → Bool) (strays : Strays stray) where
     assigned_none : (place e : TypedExpr) → assign_fits (judged scope place) (judged scope e) ≡ true →
         NonePart (assign (form place) (form e))
     assigned_none place e h =
-        assign_none (form place) (form e) (target_straight scope structs place
+        assign_none (form place) (form e) (target_straight scope structs elements place
         (and_first (is_target (judged scope place)) _ h))
-        (value_straight scope structs e (and_first (judged scope e).fits _ (and_rest (is_target (judged scope place))
+        (value_straight scope structs elements e (and_first (judged scope e).fits _ (and_rest (is_target (judged scope place))
         _ h)))
 
     assign_call_none : (place : TypedExpr) (c : TypedCall) →
@@ -284,7 +285,7 @@ module _ (stray : TacStmt-F Bool → Bool) (strays : Strays stray) where
     assign_call_none place c h =
         call_for_none c (store_at (form place)) (and_first (call_fits callable c.target (map (judged scope) c.args))
         _ (and_rest (is_target (judged scope place)) _ h))
-        (store_none (form place) (target_straight scope structs place (and_first (is_target (judged scope place)) _ h)))
+        (store_none (form place) (target_straight scope structs elements place (and_first (is_target (judged scope place)) _ h)))
 
     simple_none : (k : TypedSimpleKind) → simple_fits scope callable result k ≡ true →
         NonePart (simple_code structs params k)
@@ -302,7 +303,7 @@ module _ (stray : TacStmt-F Bool → Bool) (strays : Strays stray) where
         NonePart (tests (form cond))
     test_none cond h b =
         after_none (form cond want.Value) (λ at. just (emit.If at [] (emit.Break ∷ []) ∷ []))
-        (value_straight scope structs cond h)
+        (value_straight scope structs elements cond h)
         (λ at n.
         none_one (tac.If at [] (emit.Break ∷ [])) (emit.If at [] (emit.Break ∷ []))
         (emit.rolls-If at [] (emit.Break ∷ []))
@@ -343,7 +344,7 @@ module _ (stray : TacStmt-F Bool → Bool) (strays : Strays stray) where
     level line (layer.If cond x y) h fits m =
         let inner = and_rest (is_scalar (judged scope cond)) _ fits in
         after_none (form cond want.Value) (fork (block_code structs params x) (block_code structs params y))
-        (value_straight scope structs cond (scalar_fits (judged scope cond) (and_first (is_scalar (judged scope cond))
+        (value_straight scope structs elements cond (scalar_fits (judged scope cond) (and_first (is_scalar (judged scope cond))
         _ fits)))
         (λ at n.
         let p : Part = block_code structs params x n in
@@ -371,7 +372,7 @@ module _ (stray : TacStmt-F Bool → Bool) (strays : Strays stray) where
     level line layer.Return h fits n = return_none None
     level line (layer.ReturnValue e) h fits n =
         after_none (form e want.Value) return_value
-        (value_straight scope structs e (returned_value result (judged scope e) fits))
+        (value_straight scope structs elements e (returned_value result (judged scope e) fits))
         (λ at n. return_none (Some at)) n
     level line (layer.ReturnCall c) h fits n =
         call_for_none c return_value (returned_call result c.target (map (judged scope) c.args) fits)
@@ -397,8 +398,8 @@ module _ (stray : TacStmt-F Bool → Bool) (strays : Strays stray) where
     init_none k local None own h n = refl
     init_none k local (Some e) own h n =
         assign_none (at_place local.ty (alone (place_code params (Local k)))) (form e)
-        (local_straight scope structs k local.ty own want.Place)
-        (value_straight scope structs e (and_first (judged scope e).fits _ h)) n
+        (local_straight scope structs elements k local.ty own want.Place)
+        (value_straight scope structs elements e (and_first (judged scope e).fits _ h)) n
 
     inits_none : (k : ℕ) (locals : List TypedLocal) → InitsFit scope k locals →
         NonePart (in_turn (inits_code structs params k locals))
@@ -418,7 +419,7 @@ module _ (stray : TacStmt-F Bool → Bool) (strays : Strays stray) where
         (body_block body fits x.next))
 
 module _ (scope : Scope) (callable : Callable) (result : Option Ty) (structs : List TypedStruct)
-    (locals : List TypedLocal) (body : List TypedStmt) where
+    (elements : PointsToElements scope structs) (locals : List TypedLocal) (body : List TypedStmt) where
   abbrev code : List TacStmt
   code =
       (both (in_turn (inits_code structs (length scope.params) 0 locals)) (block_code structs (length scope.params)
@@ -426,8 +427,8 @@ module _ (scope : Scope) (callable : Callable) (result : Option Ty) (structs : L
 
   pub breaks_in_loops : InitsFit scope 0 locals → body_fits scope callable result body ≡ true →
       has_none stray_break code ≡ true
-  breaks_in_loops = body_none stray_break break_strays scope callable result structs locals body
+  breaks_in_loops = body_none stray_break break_strays scope callable result structs elements locals body
 
   pub continues_in_bodies : InitsFit scope 0 locals → body_fits scope callable result body ≡ true →
       has_none stray_continue code ≡ true
-  continues_in_bodies = body_none stray_continue continue_strays scope callable result structs locals body
+  continues_in_bodies = body_none stray_continue continue_strays scope callable result structs elements locals body

@@ -13,6 +13,13 @@ use Rattle.sc_lower.proofs.Common.{points, refl, roll-TacStmt, same_pointers, sa
 use Rattle.sc_lower.proofs.Common.{subst, suc, sum_fits, sym, takes_two, target_cells, term_judged, term_of, term_step}
 use Rattle.sc_lower.proofs.Common.{true, truth_code, unary_fits, unary_op, variable_ty, with_parts, zero, ℕ, ◌&&◌, ◌++◌}
 use Rattle.sc_lower.proofs.Common.{◌+◌, ◌<◌, ◌||◌, ◌∙◌, ◌∷◌, ◌≡◌, ◌≤◌}
+use Rattle.std.specs.Prelude.{◌^◌}
+use Rattle.sc_core.proofs.Judged.{judged_ty}
+use Rattle.sc_core.specs.Prelude.{literal_fits}
+use Rattle.sc_kinds.proofs.Values.{integer_kind}
+use Rattle.sc_tac.specs.Prelude.{counts_elements, is_machine_word}
+use Rattle.sc_lower.proofs.Common.{leb-true, lt-ltb}
+use Rattle.sc_lower.proofs.Lowered.{lowered_ty}
 use Rattle.sc_base.specs.declared.op.BinaryOp.TheVariants as op
 use Rattle.sc_base.specs.declared.op.UnaryOp.TheVariants as unary
 use Rattle.sc_core.specs.declared.expr.CallTarget.TheVariants as target
@@ -124,6 +131,58 @@ typed_at [] i t h = absurd (false≢true h)
 typed_at (x ∷ xs) zero t h = omega numbers
 typed_at (x ∷ xs) (suc i) t h = omega (numbers, typed_at xs i t h)
 
+-- CONSTANTS AND ELEMENTS
+-- a literal that fits is a word
+literal_word : (t : Ty) (word : ℕ) → literal_fits word t ≡ true → is_machine_word (constant_of t word) ≡ true
+literal_word ty.Int word h = lt-ltb word (2 ^ 32) (by word (leb-true word 2147483647 h)) where
+  by : (w : ℕ) → w ≤ 2147483647 → w < 4294967296
+  by w h = omega (numbers, h)
+literal_word ty.Unsigned word h = h
+literal_word (ty.Struct n) word h = absurd (false≢true h)
+literal_word (ty.Pointer stars base) word h = refl
+literal_word (ty.Array stars base length) word h = absurd (false≢true h)
+
+-- what each address points to has as many cells as an element may have
+abbrev pub PointsToElements : Scope → List TypedStruct → Type 0
+PointsToElements scope structs = (e : TypedExpr) → is_address (judged scope e) ≡ true →
+    counts_elements (tacop.PointerDifference (target_cells structs e.ty)) ≡ true
+
+-- a difference of a pointer is one of an address
+differing_address : (a b : Judged) (t : Ty) → difference_fits a b t ≡ true → is_pointer a.ty ≡ true →
+    is_address a ≡ true
+differing_address a b t h pointer =
+    let A : Bool = both_ints a b && same_ty t (common a.ty b.ty) in
+    let B : Bool = is_address a && (is_int b && same_ty t (decayed a.ty)) in
+    either (A || B) (is_address a && (is_address b && (same_pointers a b && same_ty t ty.Int))) h
+    (λ k. either A B k (λ k. absurd (false≢true (sym (integer_kind a.ty
+    (and_rest a.fits _ (and_first (is_int a) _ (and_first (both_ints a b) _ k)))) ∙ pointer)))
+    (and_first (is_address a) _)) (and_first (is_address a) _)
+
+module _ (scope : Scope) (structs : List TypedStruct) (elements : PointsToElements scope structs) where
+  -- an operator of a pointer that fits
+  between_elements : (o : BinaryOp) (a b : TypedExpr) (t : Ty) → binary_fits o (judged scope a) (judged scope b) t
+      ≡ true → is_pointer a.ty ≡ true → counts_elements (between_op o (target_cells structs a.ty)) ≡ true
+  between_elements op.Sub a b t h pointer =
+      elements a (differing_address (judged scope a) (judged scope b) t h
+      (ap is_pointer (judged_ty scope a) ∙ pointer))
+  between_elements op.OrElse a b t h pointer = refl
+  between_elements op.AndAlso a b t h pointer = refl
+  between_elements op.BitOr a b t h pointer = refl
+  between_elements op.BitXor a b t h pointer = refl
+  between_elements op.BitAnd a b t h pointer = refl
+  between_elements op.Equal a b t h pointer = refl
+  between_elements op.NotEqual a b t h pointer = refl
+  between_elements op.Less a b t h pointer = refl
+  between_elements op.Greater a b t h pointer = refl
+  between_elements op.LessEqual a b t h pointer = refl
+  between_elements op.GreaterEqual a b t h pointer = refl
+  between_elements op.ShiftLeft a b t h pointer = refl
+  between_elements op.ShiftRight a b t h pointer = refl
+  between_elements op.Add a b t h pointer = refl
+  between_elements op.Mul a b t h pointer = refl
+  between_elements op.Div a b t h pointer = refl
+  between_elements op.Rem a b t h pointer = refl
+
 -- EVERYWHERE
 module _ (test : TacStmt-F Bool → Bool) where
   pub all_append : (xs ys : List TacStmt) → everywhere test xs ≡ true → everywhere test ys ≡ true →
@@ -155,10 +214,10 @@ AllBelow temps (t ∷ ts) = (t < temps) × AllBelow temps ts
 
 -- a test that is passed by what expressions emit, where they name the variables of a scope and so many temporaries
 pub record PassedBy (temps : ℕ) (scope : Scope) (test : TacStmt-F Bool → Bool) : Type 0 where
-  pub constant : (d : ℕ) (c : Constant) → d < temps → test (tac.Const d c) ≡ true
+  pub constant : (d : ℕ) (c : Constant) → is_machine_word c ≡ true → d < temps → test (tac.Const d c) ≡ true
   pub one : (d : ℕ) (o : TacOp) (x : ℕ) → takes_two o ≡ false → d < temps → x < temps → test (tac.Op d o x None) ≡ true
-  pub two : (d : ℕ) (o : TacOp) (x y : ℕ) → takes_two o ≡ true → d < temps → x < temps → y < temps →
-      test (tac.Op d o x (Some y)) ≡ true
+  pub two : (d : ℕ) (o : TacOp) (x y : ℕ) → takes_two o ≡ true → counts_elements o ≡ true → d < temps → x < temps →
+      y < temps → test (tac.Op d o x (Some y)) ≡ true
   pub object : (d i : ℕ) → d < temps → i < length scope.params + length scope.locals → test (tac.ObjectPlace d i) ≡ true
   pub global : (d g : ℕ) → d < temps → g < length scope.globals → test (tac.GlobalPlace d g) ≡ true
   pub load : (d x : ℕ) (b : Bool) → d < temps → x < temps → test (tac.Load d x b) ≡ true
@@ -170,21 +229,22 @@ module _ (temps : ℕ) (scope : Scope) (test : TacStmt-F Bool → Bool) (passed 
     pub below : (n : ℕ) → (l n).at < (l n).next
     pub passes : (n : ℕ) → (l n).next ≤ temps → everywhere test (l n).code ≡ true
 
-  const_passes : (d : ℕ) (c : Constant) → d < temps → everywhere test (emit.Const d c ∷ []) ≡ true
-  const_passes d c lt =
-      all_one test (tac.Const d c) (emit.Const d c) (emit.rolls-Const d c) (and_from _ true (passed.constant d c lt)
-      refl)
+  const_passes : (d : ℕ) (c : Constant) → is_machine_word c ≡ true → d < temps →
+      everywhere test (emit.Const d c ∷ []) ≡ true
+  const_passes d c word lt =
+      all_one test (tac.Const d c) (emit.Const d c) (emit.rolls-Const d c) (and_from _ true (passed.constant d c word
+      lt) refl)
 
   pub one_passes : (d : ℕ) (o : TacOp) (x : ℕ) → takes_two o ≡ false → d < temps → x < temps →
       everywhere test (emit.Op d o x None ∷ []) ≡ true
   one_passes d o x two ld lx = all_one test (tac.Op d o x None) (emit.Op d o x None) (emit.rolls-Op d o x None)
       (and_from _ true (passed.one d o x two ld lx) refl)
 
-  two_passes : (d : ℕ) (o : TacOp) (x y : ℕ) → takes_two o ≡ true → d < temps → x < temps → y < temps →
-      everywhere test (emit.Op d o x (Some y) ∷ []) ≡ true
-  two_passes d o x y two ld lx ly =
+  two_passes : (d : ℕ) (o : TacOp) (x y : ℕ) → takes_two o ≡ true → counts_elements o ≡ true → d < temps →
+      x < temps → y < temps → everywhere test (emit.Op d o x (Some y) ∷ []) ≡ true
+  two_passes d o x y two cells ld lx ly =
       all_one test (tac.Op d o x (Some y)) (emit.Op d o x (Some y)) (emit.rolls-Op d o x (Some y))
-      (and_from _ true (passed.two d o x y two ld lx ly) refl)
+      (and_from _ true (passed.two d o x y two cells ld lx ly) refl)
 
   pub fork_passes : (c : ℕ) (x y : List TacStmt) → c < temps → everywhere test x ≡ true → everywhere test y ≡ true →
       everywhere test (emit.If c x y ∷ []) ≡ true
@@ -295,11 +355,11 @@ module _ (temps : ℕ) (scope : Scope) (test : TacStmt-F Bool → Bool) (passed 
 
   and_passes : (d x : ℕ) (code : List TacStmt) → d < temps → x < temps → everywhere test code ≡ true →
       everywhere test (and_code d x code ∷ []) ≡ true
-  and_passes d x code ld lx h = fork_passes x code _ lx h (const_passes d _ ld)
+  and_passes d x code ld lx h = fork_passes x code _ lx h (const_passes d _ refl ld)
 
   or_passes : (d x : ℕ) (code : List TacStmt) → d < temps → x < temps → everywhere test code ≡ true →
       everywhere test (or_code d x code ∷ []) ≡ true
-  or_passes d x code ld lx h = fork_passes x _ code lx (const_passes d _ ld) h
+  or_passes d x code ld lx h = fork_passes x _ code lx (const_passes d _ refl ld) h
 
   pub place_passes : (v : VarRef) (t : Ty) → is_type (variable_ty scope v) t ≡ true → (d : ℕ) → d < temps →
       everywhere test (place_code (length scope.params) v d ∷ []) ≡ true
@@ -318,48 +378,54 @@ module _ (temps : ℕ) (scope : Scope) (test : TacStmt-F Bool → Bool) (passed 
         by : l < length scope.locals → length scope.params + l < length scope.params + length scope.locals
         by h = omega (numbers, h)
 
-  module _ (structs : List TypedStruct) where
-    binary_passes : (o : BinaryOp) (left right : Ty) (d x y : ℕ) → d < temps → x < temps → y < temps →
-        everywhere test (binary_code structs o left right d x y ∷ []) ≡ true
-    binary_passes o left right d x y ld lx ly = by (is_pointer left) (is_pointer right) where
-      by : (b c : Bool) →
+  module _ (structs : List TypedStruct) (elements : PointsToElements scope structs) where
+    binary_passes : (o : BinaryOp) (left right : Ty) → (is_pointer left ≡ true →
+        counts_elements (between_op o (target_cells structs left)) ≡ true) → (d x y : ℕ) → d < temps → x < temps →
+        y < temps → everywhere test (binary_code structs o left right d x y ∷ []) ≡ true
+    binary_passes o left right cells d x y ld lx ly = by (is_pointer left) (is_pointer right) cells where
+      by : (b c : Bool) → (b ≡ true → counts_elements (between_op o (target_cells structs left)) ≡ true) →
           everywhere test
           ((if b then (if c then emit.Op d (between_op o (target_cells structs left)) x (Some y) else emit.Op d
           (move_op structs o left right) x (Some y)) else (if c then emit.Op d (move_op structs o right left) y
           (Some x) else emit.Op d (tacop.Binary o (scalar_in (is_unsigned_op o left right))) x (Some y))) ∷ []) ≡ true
-      by true true =
+      by true true few =
           two_passes d (between_op o (target_cells structs left)) x y (between_takes_two o (target_cells structs left))
-          ld lx ly
-      by true false = two_passes d (move_op structs o left right) x y refl ld lx ly
-      by false true = two_passes d (move_op structs o right left) y x refl ld ly lx
-      by false false = two_passes d (tacop.Binary o (scalar_in (is_unsigned_op o left right))) x y refl ld lx ly
+          (few refl) ld lx ly
+      by true false few = two_passes d (move_op structs o left right) x y refl refl ld lx ly
+      by false true few = two_passes d (move_op structs o right left) y x refl refl ld ly lx
+      by false false few =
+          two_passes d (tacop.Binary o (scalar_in (is_unsigned_op o left right))) x y refl refl ld lx ly
 
-    plain_clean : (o : BinaryOp) (a b : Lowered) → Clean (a.form want.Value) → Clean (b.form want.Value) →
+    -- between two pointers it counts elements, if it subtracts
+    abbrev Counts : BinaryOp → Lowered → Type 0
+    Counts o a = is_pointer a.ty ≡ true → counts_elements (between_op o (target_cells structs a.ty)) ≡ true
+
+    plain_clean : (o : BinaryOp) (a b : Lowered) → Counts o a → Clean (a.form want.Value) → Clean (b.form want.Value) →
         Clean (from_two (a.form want.Value) (b.form want.Value) (binary_code structs o a.ty b.ty))
-    plain_clean o a b ha hb = from_two_clean _ _ _ (binary_passes o a.ty b.ty) ha hb
+    plain_clean o a b cells ha hb = from_two_clean _ _ _ (binary_passes o a.ty b.ty cells) ha hb
 
-    binary_clean : (o : BinaryOp) (a b : Lowered) → Clean (a.form want.Value) → Clean (b.form want.Value) →
-        Clean (binary structs o a b)
-    binary_clean op.OrElse a b ha hb =
+    binary_clean : (o : BinaryOp) (a b : Lowered) → Counts o a → Clean (a.form want.Value) →
+        Clean (b.form want.Value) → Clean (binary structs o a b)
+    binary_clean op.OrElse a b cells ha hb =
         from_first_clean _ _ (truth_code b.ty) or_code (truth_passes b.ty) or_passes ha hb
-    binary_clean op.AndAlso a b ha hb =
+    binary_clean op.AndAlso a b cells ha hb =
         from_first_clean _ _ (truth_code b.ty) and_code (truth_passes b.ty) and_passes ha hb
-    binary_clean op.BitOr a b ha hb = plain_clean op.BitOr a b ha hb
-    binary_clean op.BitXor a b ha hb = plain_clean op.BitXor a b ha hb
-    binary_clean op.BitAnd a b ha hb = plain_clean op.BitAnd a b ha hb
-    binary_clean op.Equal a b ha hb = plain_clean op.Equal a b ha hb
-    binary_clean op.NotEqual a b ha hb = plain_clean op.NotEqual a b ha hb
-    binary_clean op.Less a b ha hb = plain_clean op.Less a b ha hb
-    binary_clean op.Greater a b ha hb = plain_clean op.Greater a b ha hb
-    binary_clean op.LessEqual a b ha hb = plain_clean op.LessEqual a b ha hb
-    binary_clean op.GreaterEqual a b ha hb = plain_clean op.GreaterEqual a b ha hb
-    binary_clean op.ShiftLeft a b ha hb = plain_clean op.ShiftLeft a b ha hb
-    binary_clean op.ShiftRight a b ha hb = plain_clean op.ShiftRight a b ha hb
-    binary_clean op.Add a b ha hb = plain_clean op.Add a b ha hb
-    binary_clean op.Sub a b ha hb = plain_clean op.Sub a b ha hb
-    binary_clean op.Mul a b ha hb = plain_clean op.Mul a b ha hb
-    binary_clean op.Div a b ha hb = plain_clean op.Div a b ha hb
-    binary_clean op.Rem a b ha hb = plain_clean op.Rem a b ha hb
+    binary_clean op.BitOr a b cells ha hb = plain_clean op.BitOr a b cells ha hb
+    binary_clean op.BitXor a b cells ha hb = plain_clean op.BitXor a b cells ha hb
+    binary_clean op.BitAnd a b cells ha hb = plain_clean op.BitAnd a b cells ha hb
+    binary_clean op.Equal a b cells ha hb = plain_clean op.Equal a b cells ha hb
+    binary_clean op.NotEqual a b cells ha hb = plain_clean op.NotEqual a b cells ha hb
+    binary_clean op.Less a b cells ha hb = plain_clean op.Less a b cells ha hb
+    binary_clean op.Greater a b cells ha hb = plain_clean op.Greater a b cells ha hb
+    binary_clean op.LessEqual a b cells ha hb = plain_clean op.LessEqual a b cells ha hb
+    binary_clean op.GreaterEqual a b cells ha hb = plain_clean op.GreaterEqual a b cells ha hb
+    binary_clean op.ShiftLeft a b cells ha hb = plain_clean op.ShiftLeft a b cells ha hb
+    binary_clean op.ShiftRight a b cells ha hb = plain_clean op.ShiftRight a b cells ha hb
+    binary_clean op.Add a b cells ha hb = plain_clean op.Add a b cells ha hb
+    binary_clean op.Sub a b cells ha hb = plain_clean op.Sub a b cells ha hb
+    binary_clean op.Mul a b cells ha hb = plain_clean op.Mul a b cells ha hb
+    binary_clean op.Div a b cells ha hb = plain_clean op.Div a b cells ha hb
+    binary_clean op.Rem a b cells ha hb = plain_clean op.Rem a b cells ha hb
 
     member_clean : (offset : ℕ) (l : Lows) → Clean l → Clean (member structs offset l)
     member_clean offset l h = from_one_clean l _ (λ d x ld lx. one_passes d (tacop.PointerMember offset) x refl ld lx) h
@@ -370,7 +436,8 @@ module _ (temps : ℕ) (scope : Scope) (test : TacStmt-F Bool → Bool) (passed 
     level : (t : Ty) (k : TypedKind-F TypedKind TypedExpr) → Under P k →
         (term_of _ _ (term_judged scope) (λ e. e.kind e.ty) k t).fits ≡ true → (w : Want) →
         Clean (term_of _ _ (term_step structs (length scope.params)) lowered_step k t w)
-    level t (term.Literal word) h fits w = alone_clean _ (λ d lt. const_passes d (constant_of t word) lt)
+    level t (term.Literal word) h fits w =
+        alone_clean _ (λ d lt. const_passes d (constant_of t word) (literal_word t word fits) lt)
     level t (term.Variable v) h fits w =
         place_clean t w _ (alone_clean (place_code (length scope.params) v) (place_passes v t fits))
     level t (term.Unary o a) h fits w =
@@ -379,12 +446,14 @@ module _ (temps : ℕ) (scope : Scope) (test : TacStmt-F Bool → Bool) (passed 
         want.Value)
     level t (term.Binary o a b) h fits w =
         let both = both_fit o (judged scope a) (judged scope b) t fits in
-        binary_clean o _ _ (h.0 both.0 want.Value) (h.1 both.1 want.Value)
+        binary_clean o _ _ (subst (λ t. is_pointer t ≡ true → counts_elements (between_op o (target_cells structs t))
+        ≡ true) (sym (lowered_ty structs (length scope.params) a)) (between_elements scope structs elements o a b t fits))
+        (h.0 both.0 want.Value) (h.1 both.1 want.Value)
     level t (term.Index a b) h fits w =
         place_clean t w
         _ (from_two_clean _ _ _ (λ d x y ld lx ly. two_passes d
         (move_op structs op.Add (lowered structs (length scope.params) a).ty (lowered structs (length scope.params)
-        b).ty) x y refl ld lx ly)
+        b).ty) x y refl refl ld lx ly)
         (h.0 (address_fits (judged scope a) (and_first (is_address (judged scope a)) _ fits)) want.Value)
         (h.1 (int_fits (judged scope b) (and_first (is_int (judged scope b)) _ (and_rest (is_address (judged scope a))
         _ fits))) want.Value))

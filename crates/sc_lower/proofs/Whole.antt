@@ -237,14 +237,26 @@ module _ (arith : Arith) (program : ProgramTree) (typed : is_well_typed program 
           (lasting_if G (may_call L comp to vs)
           (called L body comp to vs s) (Stopped (Blamed comp BadType 0) s) (called_answers to vs s) tt))
 
-      function_body : (n : ℕ) (f : TypedFunction) → slice_get section.functions n ≡ Some f →
-          body_fits (scope_of section f) callable f.result f.body ≡ true
-      function_body n f item =
+      function_so : (n : ℕ) (f : TypedFunction) → slice_get section.functions n ≡ Some f →
+          function_fits callable section f ≡ true
+      function_so n f item =
           let functions = list_all (function_fits callable section) section.functions in
           let each =
           and_first functions _ (and_rest (list_all (global_fits section.structs) section.globals)
           _ (and_rest (structs_fit section.structs 0 section.structs) _ place.placed.fits)) in
-          let fits = all_at (function_fits callable section) section.functions each n f item in
+          all_at (function_fits callable section) section.functions each n f item
+
+      function_locals : (f : TypedFunction) → function_fits callable section f ≡ true →
+          list_all (local_fits (scope_of section f)) f.locals ≡ true
+      function_locals f fits =
+          and_first (list_all (local_fits (scope_of section f)) f.locals)
+          _ (and_rest (result_fits section.structs f.result)
+          _ (and_rest (list_all {X = TypedParam} (λ p. passed_fits section.structs p.ty) f.params)
+          _ (and_rest (nat_le (length f.params) most_params) _ fits)))
+
+      function_body : (f : TypedFunction) → function_fits callable section f ≡ true →
+          body_fits (scope_of section f) callable f.result f.body ≡ true
+      function_body f fits =
           and_first (body_fits (scope_of section f) callable f.result f.body)
           _ (and_rest (list_all (local_fits (scope_of section f)) f.locals)
           _ (and_rest (result_fits section.structs f.result)
@@ -265,7 +277,8 @@ module _ (arith : Arith) (program : ProgramTree) (typed : is_well_typed program 
           (close_matches (is_some f.result) (comp == faces.main && bytes_eq f.name main_name) f.close_line here
           (body_does arith section.structs here (length f.params) (calls L body) f tt s) code
           (body_matches arith section.structs here (scope_of section f) callable (calls L body) (calls M other) f
-          (calls_match first section.structs f) (function_body n f item) tt no_temps s))
+          (calls_match first section.structs f) (function_locals f (function_so n f item))
+          (function_body f (function_so n f item)) tt no_temps s))
 
   -- STEPS
   module _ (roles : Roles) where

@@ -6,7 +6,7 @@ use Rattle.sc_tac.proofs.Common.{live_at_start, live_before, loop_points, ltb-tr
 use Rattle.sc_tac.proofs.Common.{nat_lt, not, nothing_live, one_or_none, or_cases, part_ahead, part_lives, plain}
 use Rattle.sc_tac.proofs.Common.{plain_points, point, points, readings, refl, round_first, row_first, row_points, subst}
 use Rattle.sc_tac.proofs.Common.{sym, trail, trail_step, true, with_parts, ℕ, ⊎_elim, ◌&&◌, ◌++◌, ◌<◌, ◌==◌, ◌∙◌, ◌∷◌}
-use Rattle.sc_tac.proofs.Common.{◌≡◌, all_hold}
+use Rattle.sc_tac.proofs.Common.{◌≡◌}
 use Rattle.sc_base.proofs.Bools.{and_first, and_rest}
 use Rattle.sc_tac.specs.declared.stmt.TacStmt.TheOpen as tac
 use Rattle.sc_tac.proofs.Induction.{Inside, stmt_induction}

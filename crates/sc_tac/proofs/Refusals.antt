@@ -1,15 +1,19 @@
 -- Worked code that the rules allow, and code that each of them refuses.
+use Rattle.std.proofs.Common.{Err}
+use Rattle.sc_core.specs.declared.cause.Cause.TheVariants.{BadType}
+use Rattle.sc_core.specs.declared.value.Value.TheVariants.{Null, Word}
+use Rattle.sc_tac.specs.Prelude.{has_elements, has_words}
 use Rattle.sc_tac.proofs.Common.{Bool, Export, IsFunction, IsProgram, IsTrue, List, Main, None, Some, TacStmt-F, []}
-use Rattle.sc_tac.proofs.Common.{arith, calls_exports, calls_imports, calls_own, enters_by_words, entry_known}
+use Rattle.sc_tac.proofs.Common.{arith, c_arith, calls_exports, calls_imports, calls_own, enters_by_words, entry_known}
 use Rattle.sc_tac.proofs.Common.{entry_weight, everywhere, false, has_none, has_operands, is_assigned_first, is_entered}
-use Rattle.sc_tac.proofs.Common.{names_own_global, names_own_object, names_own_temps, passes_few, refl, returns_result}
+use Rattle.sc_tac.proofs.Common.{names_own_global, names_own_object, names_own_temps, operated, passes_few, refl, returns_result}
 use Rattle.sc_tac.proofs.Common.{stray_break, stray_continue, subst, sym, true, weight, ℕ, ◌&&◌, ◌*◌, ◌+◌, ◌<◌, ◌∙◌}
 use Rattle.sc_tac.proofs.Common.{◌∷◌, ◌≡◌, ◌≤◌}
 use Rattle.sc_base.specs.declared.op.BinaryOp.TheVariants as op
 use Rattle.sc_event.specs.declared.interface.Scalar.TheVariants as scalar
 use Rattle.sc_tac.specs.declared.stmt.TacOp.TheVariants as tacop
 use Rattle.sc_tac.specs.declared.stmt.TacStmt.TheOpen as tac
-use Rattle.sc_tac.proofs.Shapes.{Done, Line, Fork, Cycle, stmts}
+use Rattle.sc_tac.proofs.Shapes.{Shape, Done, Line, Fork, Cycle, stmts}
 use Rattle.sc_tac.proofs.Plans.{Plan, Sheet, function, section, program, weight_is, shape_passes, everywhere_is}
 use Rattle.sc_tac.proofs.Plans.{has_none_is, assigned_first_is, all_assigned_is}
 use Rattle.sc_tac.proofs.Runs.{word, output, give, alone, main_with, skips_two, int_global, across_interfaces, asking}
@@ -26,6 +30,8 @@ the_loop_is_allowed = record {
   words_enter = refl;
   own_temps = everywhere_is (names_own_temps 14) skips_two;
   own_objects = everywhere_is (names_own_object 1) skips_two;
+  words = everywhere_is has_words skips_two;
+  elements = everywhere_is has_elements skips_two;
   operands = everywhere_is has_operands skips_two;
   few_arguments = everywhere_is passes_few skips_two;
   results_returned = everywhere_is (returns_result true) skips_two;
@@ -40,6 +46,26 @@ a_foreign_temporary = everywhere_is (names_own_temps 1) (word 1 0 Done)
 pub a_foreign_object : everywhere (names_own_object 1) (stmts (Fork 0 Done (Line (tac.ObjectPlace 1 1) Done) Done)) ≡
     false
 a_foreign_object = everywhere_is (names_own_object 1) (Fork 0 Done (Line (tac.ObjectPlace 1 1) Done) Done)
+
+pub no_word : everywhere has_words (stmts (word 0 4294967296 Done)) ≡ false
+no_word = everywhere_is has_words (word 0 4294967296 Done)
+
+-- how many elements of so many cells two places are apart
+abbrev counted : ℕ → Shape
+counted cells = Line (tac.Op 2 (tacop.PointerDifference cells) 0 (Some 1)) Done
+
+pub an_element_without_cells : everywhere has_elements (stmts (counted 0)) ≡ false
+an_element_without_cells = everywhere_is has_elements (counted 0)
+
+pub an_element_too_large : everywhere has_elements (stmts (counted 536870912)) ≡ false
+an_element_too_large = everywhere_is has_elements (counted 536870912)
+
+-- words aren't compared as pointers, and other operators don't compare
+pub a_compared_word : operated c_arith [] (tacop.PointerCompare op.Equal) (Word 0) Null ≡ Err BadType
+a_compared_word = refl
+
+pub no_comparison : operated c_arith [] (tacop.PointerCompare op.Sub) Null Null ≡ Err BadType
+no_comparison = refl
 
 pub one_operand_for_a_sum : everywhere has_operands
     (stmts (Line (tac.Op 1 (tacop.Binary op.Add scalar.Int) 0 None) Done)) ≡ false

@@ -4,15 +4,16 @@ use Rattle.sc_tac.specs.Common.{Main, Memory, Next, Piece, Reached, Return, Run,
 use Rattle.sc_tac.specs.Common.{applied_one, between, c_arith, choose, closed, computed, depth_in, frame_bound}
 use Rattle.sc_tac.specs.Common.{global_block, leave, load, loop, moved, moved_back, moved_on, on_words, roles_in}
 use Rattle.sc_tac.specs.Common.{run_by, run_step, scripted_step, stopped_at, stored, struct_zeros, wrapping}
-use Rattle.std.specs.Prelude.{ℕ, pos, ◌+◌, Bool, true, false, ◌==◌, if◌then◌else◌, List, [], ◌∷◌, map, Option, None}
+use Rattle.std.specs.Prelude.{ℕ, pos, ◌+◌, Bool, true, false, ◌&&◌, ◌==◌, if◌then◌else◌, List, [], ◌∷◌, map, Option, None}
 use Rattle.std.specs.Prelude.{Some, Result, Ok, Err, slice_get}
 use Rattle.std.specs.List.{position}
+use Rattle.sc_base.specs.declared.op.BinaryOp.{BinaryOp}
 use Rattle.sc_base.specs.declared.op.BinaryOp.TheVariants as op
 use Rattle.sc_base.specs.declared.op.UnaryOp.TheVariants as unary
 use Rattle.sc_event.specs.declared.interface.Scalar.{Scalar}
 use Rattle.sc_event.specs.declared.interface.Scalar.TheVariants.{Int, Unsigned}
 use Rattle.sc_core.specs.declared.cause.Cause.{Cause}
-use Rattle.sc_core.specs.declared.cause.Cause.TheVariants.{Indeterminate}
+use Rattle.sc_core.specs.declared.cause.Cause.TheVariants.{BadType, Indeterminate}
 use Rattle.sc_core.specs.declared.expr.CallTarget.{CallTarget}
 use Rattle.sc_core.specs.declared.expr.CallTarget.TheVariants.{Own, Cross, Input, Output}
 use Rattle.sc_core.specs.declared.run.SourceRun.{SourceRun}
@@ -51,6 +52,26 @@ abbrev pub constant_value : Constant → Value
 constant_value (constant.Word w) = Word w
 constant_value constant.Null = Null
 
+-- a pointer or null
+abbrev pub is_pointer : Value → Bool
+is_pointer (Word w) = false
+is_pointer Null = true
+is_pointer (Ptr p) = true
+
+abbrev pub is_comparison : BinaryOp → Bool
+is_comparison op.Equal = true
+is_comparison op.NotEqual = true
+is_comparison op.Less = true
+is_comparison op.Greater = true
+is_comparison op.LessEqual = true
+is_comparison op.GreaterEqual = true
+is_comparison _ = false
+
+-- a comparison of two pointers
+abbrev pub compared : Blocks → BinaryOp → Value → Value → Result Value Cause
+compared blocks o v w =
+    if is_comparison o && (is_pointer v && is_pointer w) then between blocks o 1 v w else Err BadType
+
 -- an operator, which takes its second value where it has use for one
 abbrev pub operated : Arith → Blocks → TacOp → Value → Value → Result Value Cause
 operated arith blocks (tacop.Unary o scalar) v w = applied_one arith (is_unsigned scalar) o v
@@ -60,7 +81,7 @@ operated arith blocks (tacop.PointerMove true cells index) v w = moved_back bloc
 operated arith blocks (tacop.PointerMove false cells index) v w = moved_on blocks cells (is_unsigned index) v w
 operated arith blocks (tacop.PointerMember offset) v w = moved blocks (pos offset) v
 operated arith blocks (tacop.PointerDifference cells) v w = between blocks op.Sub cells v w
-operated arith blocks (tacop.PointerCompare o) v w = between blocks o 1 v w
+operated arith blocks (tacop.PointerCompare o) v w = compared blocks o v w
 
 -- the first cell of a block
 abbrev pub start_of : ℕ → Value

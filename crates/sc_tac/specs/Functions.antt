@@ -1,10 +1,12 @@
 -- What a function of three-address code keeps.
 use Rattle.sc_tac.specs.Common.{Entry, most_nodes, most_params}
-use Rattle.std.specs.Prelude.{◌≤◌, ◌<◌, ℕ, ◌+◌, ◌*◌, Bool, true, false, not, ◌||◌, ◌==◌, nat_lt, nat_le, List, map}
-use Rattle.std.specs.Prelude.{length, take, Option, None, Some, is_some, IsTrue}
+use Rattle.std.specs.Prelude.{◌≤◌, ◌<◌, ℕ, ◌+◌, ◌*◌, ◌^◌, Bool, true, false, not, ◌&&◌, ◌||◌, ◌==◌, nat_lt, nat_le}
+use Rattle.std.specs.Prelude.{List, map, length, take, Option, None, Some, is_some, IsTrue}
 use Rattle.std.specs.Bool.{beq}
 use Rattle.std.specs.List.{list_any, list_all}
 use Rattle.sc_tac.specs.declared.function.TacFnTree.{TacFnTree}
+use Rattle.sc_tac.specs.declared.stmt.Constant.{Constant}
+use Rattle.sc_tac.specs.declared.stmt.Constant.TheVariants as constant
 use Rattle.sc_tac.specs.declared.stmt.TacOp.{TacOp}
 use Rattle.sc_tac.specs.declared.stmt.TacOp.TheVariants as tacop
 use Rattle.sc_tac.specs.declared.stmt.TacStmt.{TacStmt, TacStmt-F, fold-TacStmt}
@@ -21,6 +23,26 @@ names_own_temps temps stmt = list_all (λ t. nat_lt t temps) (temps_named stmt)
 abbrev pub names_own_object : ℕ → TacStmt-F Bool → Bool
 names_own_object objects (tac.ObjectPlace dest object) = nat_lt object objects
 names_own_object objects _ = true
+
+-- a constant is a word or null
+abbrev pub is_machine_word : Constant → Bool
+is_machine_word (constant.Word w) = nat_lt w (2 ^ 32)
+is_machine_word constant.Null = true
+
+-- a constant of a statement is one
+abbrev pub has_words : TacStmt-F Bool → Bool
+has_words (tac.Const dest value) = is_machine_word value
+has_words _ = true
+
+-- an element has a cell at least, and few
+abbrev pub counts_elements : TacOp → Bool
+counts_elements (tacop.PointerDifference cells) = nat_lt 0 cells && nat_lt cells (2 ^ 29)
+counts_elements _ = true
+
+-- a difference of pointers counts such elements
+abbrev pub has_elements : TacStmt-F Bool → Bool
+has_elements (tac.Op dest op left right) = counts_elements op
+has_elements _ = true
 
 abbrev pub takes_two : TacOp → Bool
 takes_two (tacop.Unary op scalar) = false
@@ -84,6 +106,8 @@ pub record IsFunction (f : TacFnTree) : Type 0 where
   pub words_enter : IsTrue (enters_by_words f.entry f.params f.objects)
   pub own_temps : IsTrue (everywhere (names_own_temps f.temps) f.body)
   pub own_objects : IsTrue (everywhere (names_own_object (length f.objects)) f.body)
+  pub words : IsTrue (everywhere has_words f.body)
+  pub elements : IsTrue (everywhere has_elements f.body)
   pub operands : IsTrue (everywhere has_operands f.body)
   pub few_arguments : IsTrue (everywhere passes_few f.body)
   pub results_returned : IsTrue (everywhere (returns_result f.result) f.body)
