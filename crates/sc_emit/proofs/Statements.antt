@@ -1,7 +1,8 @@
 -- The code of statements follows what they do: by induction over their layers.
 use Rattle.std.proofs.Common.{◌≡◌, ℕ, ◌+◌, ◌*◌, ◌^◌, ◌<◌, ◌≤◌, Bool, true, false, ◌&&◌, List, [], ◌∷◌, map, length, Option}
-use Rattle.std.proofs.Common.{None, Some, Ok, refl, sym, ◌∙◌, ap, subst, arith, All}
+use Rattle.std.proofs.Common.{◌++◌, None, Some, Ok, refl, sym, ◌∙◌, ap, subst, arith, All}
 use Rattle.std.specs.Prelude.{slice_get, nat_lt, nat_le, is_some, not, ◌||◌}
+use Rattle.std.specs.Bool.{beq}
 use Rattle.std.specs.List.{list_all}
 use Rattle.std.proofs.lemmas.Bool.{and_parts, ltb-true, leb-true}
 use Rattle.std.proofs.lemmas.Option.{slice_get-get_or, slice_get_within}
@@ -23,7 +24,7 @@ use Rattle.sc_tac.specs.declared.stmt.TacStmt.{TacStmt, TacStmt-F, fold-TacStmt,
 use Rattle.sc_tac.specs.declared.stmt.TacStmt.TheOpen as tac
 use Rattle.sc_tac.specs.Code.{Codes, code_step, stmt_does, code_does, operated}
 use Rattle.sc_tac.specs.Functions.{names_own_temps, names_own_object, has_operands, passes_few, has_words, has_elements}
-use Rattle.sc_tac.specs.Functions.{takes_two}
+use Rattle.sc_tac.specs.Functions.{takes_two, counts_elements}
 use Rattle.sc_tac.specs.Parts.{one_or_none}
 use Rattle.sc_tac.specs.Points.{Trail, trail, trail_step}
 use Rattle.sc_tac.proofs.Induction.{Inside, stmt_induction}
@@ -48,7 +49,13 @@ use Rattle.sc_emit.proofs.Passing.{Test, PassesAll, AllPass, PassesHere, first_p
 use Rattle.sc_emit.proofs.Passing.{loop_passes}
 use Rattle.sc_emit.proofs.Plain.{const_follows, copy_follows, object_follows, global_follows}
 use Rattle.sc_emit.proofs.Returns.{return_follows}
-use Rattle.sc_core.proofs.Induction.{Each}
+use Rattle.sc_core.proofs.Induction.{Each, everywhere}
+
+beq_same : (a b : Bool) → beq a b ≡ true → a ≡ b
+beq_same true true h = refl
+beq_same true false h = cc h
+beq_same false true h = cc h
+beq_same false false h = refl
 
 module _ (T : Setting) (R : Running) (formed : IsWellFormed T.image) (inputs : All IsWord T.inputs) (cells : List ℕ)
     (nodes : ℕ) (is : IsActivation T.performs cells R.places nodes R.activation) (placed : ArePlaced R)
@@ -198,3 +205,68 @@ module _ (T : Setting) (R : Running) (formed : IsWellFormed T.image) (inputs : A
       (in_order (map code head)) (in_order (map code body)) (in_order (map code next)) (map trail head) (map trail body)
       (map trail next) (row_of head each pass.0 (omega (arith, few))) (row_of body each' pass.1 (omega (arith, few)))
       (row_of next each'' pass.2 (omega (arith, few))) few
+
+  -- the operator counts elements of few cells, if it counts any
+  is_sound : (o : TacOp) → counts_elements o ≡ true → IsSound o
+  is_sound (tacop.Unary o scalar) h = tt
+  is_sound (tacop.Binary o scalar) h = tt
+  is_sound tacop.PointerNot h = tt
+  is_sound (tacop.PointerMove minus cells index) h = tt
+  is_sound (tacop.PointerMember offset) h = tt
+  is_sound (tacop.PointerDifference cells) h =
+      let both = and_parts (nat_lt 0 cells) (nat_lt cells (2 ^ 29)) h in
+      record { some = ltb-true 0 cells both.0; few = ltb-true cells (2 ^ 29) both.1 }
+  is_sound (tacop.PointerCompare o) h = tt
+
+  op_level : (dest : ℕ) (o : TacOp) (left : ℕ) (right : Option ℕ) → Shape (tac.Op dest o left right)
+  op_level dest o left right h all few =
+      let place = place_there dest (left ∷ one_or_none right) h.0 in
+      op_follows T R formed inputs cells nodes is placed calls dest o left place.0 place.1 right
+      (beq_same (is_some right) (takes_two o) h.1.1.0) (is_sound o h.1.1.1.1.1.0)
+
+  level : (layer : TacStmt-F TacStmt) → Inside Followed layer → Level layer
+  level (tac.Const dest value) inner = record { holds = const_level dest value }
+  level (tac.Copy dest from) inner = record { holds = copy_level dest from }
+  level (tac.Op dest o left right) inner = record { holds = op_level dest o left right }
+  level (tac.ObjectPlace dest object) inner = record { holds = object_level dest object }
+  level (tac.GlobalPlace dest number) inner = record { holds = global_level dest number }
+  level (tac.Load dest place pointer) inner = record { holds = load_level dest place pointer }
+  level (tac.Store place value) inner =
+      record { holds = λ h all few. store_follows T R formed inputs cells nodes is placed calls place value }
+  level (tac.If cond first second) inner = record { holds = if_level cond first second inner.0 inner.1 }
+  level (tac.Loop head body next) inner = record { holds = loop_level head body next inner.0 inner.1 inner.2 }
+  level tac.Break inner = record { holds = λ h all few. break_follows T R formed inputs gapless }
+  level tac.Continue inner = record { holds = λ h all few. continue_follows T R formed inputs gapless }
+  level (tac.CallOwn dest number args) inner = record { holds = own_level dest number args }
+  level (tac.CallCross dest comp index args) inner = record { holds = cross_level dest comp index args }
+  level (tac.Input dest) inner = record { holds = input_level dest }
+  level (tac.Output value) inner =
+      record { holds = λ h all few. output_follows T R formed inputs cells nodes is placed calls follow value }
+  level (tac.Return value) inner =
+      record { holds = λ h all few. return_follows T R formed inputs cells nodes is placed calls value }
+
+  from_level : (layer : TacStmt-F TacStmt) → Level layer → Followed (roll-TacStmt layer)
+  from_level layer l pass few =
+      let c : code (roll-TacStmt layer) ≡ select_step frame R.places (map-TacStmt _ _ code layer) =
+          fold-roll-TacStmt Code (select_step frame R.places) layer in
+      let d : does (roll-TacStmt layer) ≡ code_step wrapping here calls (map-TacStmt _ _ does layer) =
+          fold-roll-TacStmt Codes (code_step wrapping here calls) layer in
+      let t : trail (roll-TacStmt layer) ≡ trail_step (map-TacStmt _ _ trail layer) =
+          fold-roll-TacStmt Trail trail_step layer in
+      subst (λ d. Follows T R d (code (roll-TacStmt layer)) (trail (roll-TacStmt layer))) (sym d)
+      (subst (λ c. Follows T R (code_step wrapping here calls (map-TacStmt _ _ does layer)) c (trail (roll-TacStmt layer)))
+      (sym c)
+      (subst (λ t. Follows T R (code_step wrapping here calls (map-TacStmt _ _ does layer))
+      (select_step frame R.places (map-TacStmt _ _ code layer)) t) (sym t)
+      (l.holds (passes_here tests layer pass) pass (subst (λ c. c.size ≤ T.turn_pays) c few))))
+
+  pub stmt_follows : (stmt : TacStmt) → Followed stmt
+  stmt_follows = stmt_induction Followed (λ layer inner. from_level layer (level layer inner))
+
+  -- statements in order
+  pub body_follows : (stmts : List TacStmt) → AllPass tests stmts → (select_all frame R.places stmts).size ≤ T.turn_pays →
+      Follows T R (code_does wrapping here calls stmts) (select_all frame R.places stmts) (row (map trail stmts))
+  body_follows stmts pass few = row_of stmts (every stmts) pass few
+    where
+      every : (stmts : List TacStmt) → Each Followed stmts
+      every stmts = everywhere Followed stmt_follows stmts
