@@ -2,8 +2,9 @@
 pub use Rattle.std.proofs.Common.{Bool, Err, IfOk, List, None, Ok, Option, Result, Some, [], add-one, ap, append_assoc}
 pub use Rattle.std.proofs.Common.{arith, bytes_eq, codes, cond, drop, drop-cons, eq-eqb, eqb-true, false, get_or}
 pub use Rattle.std.proofs.Common.{if◌then◌else◌, inl, inr, is_some, le-leb, leb-true, length, length-append, lt-ltb}
-pub use Rattle.std.proofs.Common.{map, nat_le, nat_lt, not, pos, position, refl, slice_get, slice_index_or, subst, suc}
-pub use Rattle.std.proofs.Common.{sym, true, zero, ℕ, ◌&&◌, ◌*◌, ◌++◌, ◌+◌, ◌<◌, ◌==◌, ◌||◌, ◌∙◌, ◌∷◌, ◌≡◌, ◌≤◌, ◌⊎◌}
+pub use Rattle.std.proofs.Common.{ltb-false, ltb-true, map, nat_le, nat_lt, not, pos, position, refl, slice_get}
+pub use Rattle.std.proofs.Common.{slice_index_or, subst, suc, sym, true, zero, ℕ, ◌&&◌, ◌*◌, ◌++◌, ◌+◌, ◌-◌, ◌<◌, ◌==◌}
+pub use Rattle.std.proofs.Common.{◌^◌, ◌||◌, ◌∙◌, ◌∷◌, ◌≡◌, ◌≤◌, ◌⊎◌}
 pub use Rattle.std.proofs.lemmas.Bool.{and_from, false≢true, not-true, or_from, or_left, or_right}
 pub use Rattle.std.proofs.lemmas.List.{length-map}
 pub use Rattle.std.proofs.lemmas.Option.{slice_get-map, slice_get_read}
@@ -22,6 +23,7 @@ pub use Rattle.sc_event.specs.declared.interface.Scalar.TheVariants.{Int}
 pub use Rattle.sc_event.specs.declared.row.Entry.{Entry}
 pub use Rattle.sc_event.specs.declared.row.Entry.TheVariants.{Export, Main}
 pub use Rattle.sc_core.proofs.Induction.{Each, Inside, Under, expr_induction, stmt_induction}
+pub use Rattle.sc_core.proofs.Judged.{judged_ty}
 pub use Rattle.sc_core.proofs.Layers.{expr_at, layer_of, on_line, stmt_at, term_of, typed}
 pub use Rattle.sc_core.proofs.Plans.{Plan, Sheet, Slot, init_of, plan_nodes, plan_nodes_is, program, section}
 pub use Rattle.sc_core.proofs.Programs.{global, global_of, int_pointer, ints, lit, local, main_with, param, plan, plus}
@@ -36,31 +38,34 @@ pub use Rattle.sc_core.specs.Prelude.{Here, IsWellTyped, Judged, Left, Library, 
 pub use Rattle.sc_core.specs.Prelude.{Roles, Route, Scope, Signature, State, Step, Stopped, Ways, acts, all_do}
 pub use Rattle.sc_core.specs.Prelude.{all_go_into, allowed, and_then, applied, applied_one, are_distinct, are_equatable}
 pub use Rattle.sc_core.specs.Prelude.{are_ordered, args_fit, asks, assign_call, assign_call_fits, assign_fits, at_brace}
-pub use Rattle.sc_core.specs.Prelude.{at_pointer, back_cross, back_own, begun, between, binary_fits, bind, block_does}
-pub use Rattle.sc_core.specs.Prelude.{body_does, body_fits, both_ints, c_arith, call, call_cross, call_fits, call_nodes}
-pub use Rattle.sc_core.specs.Prelude.{call_own, callable_in, called, calls, cells_of, choose, closed, common, computed}
-pub use Rattle.sc_core.specs.Prelude.{crossed, crossing, decayed, deepest, difference_fits, done, entry_in, export_fits}
-pub use Rattle.sc_core.specs.Prelude.{expr_nodes, first_blocks, first_state, follow, found, frame_bound, function}
-pub use Rattle.sc_core.specs.Prelude.{function_fits, function_of, functions_in, global_fits, globals_of, goes_into}
-pub use Rattle.sc_core.specs.Prelude.{import_fits, import_name, in_loop, in_order, init_does, init_fits, init_nodes}
-pub use Rattle.sc_core.specs.Prelude.{inits_do, interface_fits, is_address, is_array, is_int, is_main, is_number}
+pub use Rattle.sc_core.specs.Prelude.{at_pointer, back_cross, back_own, base_cells, base_within, begun, between}
+pub use Rattle.sc_core.specs.Prelude.{binary_fits, bind, block_does, body_does, body_fits, both_ints, c_arith, call}
+pub use Rattle.sc_core.specs.Prelude.{call_cross, call_fits, call_nodes, call_own, callable_in, called, calls, cells_of}
+pub use Rattle.sc_core.specs.Prelude.{choose, closed, common, computed, crossed, crossing, decayed, deepest}
+pub use Rattle.sc_core.specs.Prelude.{difference_fits, done, entry_in, export_fits, expr_nodes, first_blocks}
+pub use Rattle.sc_core.specs.Prelude.{first_state, follow, found, frame_bound, function, function_fits, function_of}
+pub use Rattle.sc_core.specs.Prelude.{functions_in, global_fits, globals_of, goes_into, has_member, import_fits}
+pub use Rattle.sc_core.specs.Prelude.{import_name, in_loop, in_order, init_does, init_fits, init_nodes, inits_do}
+pub use Rattle.sc_core.specs.Prelude.{interface_fits, is_address, is_array, is_int, is_integer, is_main, is_number}
 pub use Rattle.sc_core.specs.Prelude.{is_plain_name, is_pointer, is_scalar, is_target, is_true, is_type, is_unsigned}
 pub use Rattle.sc_core.specs.Prelude.{is_unsigned_op, is_well_typed, is_word, judged, kind_fits, kind_nodes, leads}
-pub use Rattle.sc_core.specs.Prelude.{leave, library_of, literal, load, local_fits, local_nodes, loop, main_fits}
-pub use Rattle.sc_core.specs.Prelude.{main_name, mains_in, may_call, meaning, meant, meant_step, most_cells}
-pub use Rattle.sc_core.specs.Prelude.{most_compartments, most_exports, most_nodes, most_params, moved, moved_back}
-pub use Rattle.sc_core.specs.Prelude.{moved_on, nodes, of_bool, on_words, option_goes, option_signature, option_value}
-pub use Rattle.sc_core.specs.Prelude.{part_does, part_fits, part_nodes, passed_fits, performs, place_named}
-pub use Rattle.sc_core.specs.Prelude.{place_of_export, points, proto_signature, result_fits, result_goes, result_ty}
-pub use Rattle.sc_core.specs.Prelude.{returned_call_fits, returned_fits, roles_in, rounds, rows_left, run_by, run_in}
-pub use Rattle.sc_core.specs.Prelude.{run_of, run_step, same_base, same_import, same_pointers, same_results}
-pub use Rattle.sc_core.specs.Prelude.{same_signature, same_ty, same_types, scalar_ty, scope_of, scripted_run_of}
-pub use Rattle.sc_core.specs.Prelude.{scripted_step, section_fits, sections_fit, signature_of, simple_does, simple_fits}
-pub use Rattle.sc_core.specs.Prelude.{simple_nodes, stmt_fits, stmt_nodes, stmt_step, stopped_at, store, store_result}
-pub use Rattle.sc_core.specs.Prelude.{stored, structs_fit, sum_fits, take, target_cells, target_signature, tell}
-pub use Rattle.sc_core.specs.Prelude.{term_judged, term_nodes, total, truth, turn, turn_of, type_goes, type_within}
-pub use Rattle.sc_core.specs.Prelude.{unary_fits, values, variable_at, variable_fits, variable_ty, variables, wanted}
-pub use Rattle.sc_core.specs.Prelude.{ways, with_memory, within, word_back, word_in, wrapping}
+pub use Rattle.sc_core.specs.Prelude.{leave, library_of, literal, literal_fits, load, local_fits, local_nodes, loop}
+pub use Rattle.sc_core.specs.Prelude.{main_fits, main_name, mains_in, may_call, meaning, meant, meant_step, member_of}
+pub use Rattle.sc_core.specs.Prelude.{members_fit, most_cells, most_compartments, most_exports, most_nodes, most_params}
+pub use Rattle.sc_core.specs.Prelude.{moved, moved_back, moved_on, nodes, of_bool, on_words, option_goes}
+pub use Rattle.sc_core.specs.Prelude.{option_signature, option_value, part_does, part_fits, part_nodes, passed_fits}
+pub use Rattle.sc_core.specs.Prelude.{performs, place_named, place_of_export, pointer_to, points, proto_signature}
+pub use Rattle.sc_core.specs.Prelude.{result_fits, result_goes, result_ty, returned_call_fits, returned_fits, roles_in}
+pub use Rattle.sc_core.specs.Prelude.{rounds, rows_left, run_by, run_in, run_of, run_step, same_base, same_import}
+pub use Rattle.sc_core.specs.Prelude.{same_pointers, same_results, same_signature, same_ty, same_types, scalar_ty}
+pub use Rattle.sc_core.specs.Prelude.{scope_of, scripted_run_of, scripted_step, section_fits, sections_fit}
+pub use Rattle.sc_core.specs.Prelude.{signature_of, simple_does, simple_fits, simple_nodes, starred, starred_cells}
+pub use Rattle.sc_core.specs.Prelude.{starred_within, stmt_fits, stmt_nodes, stmt_step, stopped_at, store, store_result}
+pub use Rattle.sc_core.specs.Prelude.{stored, struct_cells, struct_fits, structs_fit, sum_fits, take, target}
+pub use Rattle.sc_core.specs.Prelude.{target_cells, target_signature, tell, term_judged, term_nodes, total, truth, turn}
+pub use Rattle.sc_core.specs.Prelude.{turn_of, type_goes, type_within, unary_fits, values, variable_at, variable_fits}
+pub use Rattle.sc_core.specs.Prelude.{variable_ty, variables, wanted, ways, with_memory, within, word_back, word_in}
+pub use Rattle.sc_core.specs.Prelude.{wrapping}
 pub use Rattle.sc_core.specs.declared.cause.Cause.{Cause}
 pub use Rattle.sc_core.specs.declared.cause.Cause.TheVariants.{BadType, NoReturn, Overflow}
 pub use Rattle.sc_core.specs.declared.expr.CallTarget.{CallTarget}
@@ -68,10 +73,12 @@ pub use Rattle.sc_core.specs.declared.expr.CallTarget.TheVariants.{Cross, Input,
 pub use Rattle.sc_core.specs.declared.expr.TypedKind.{TypedKind}
 pub use Rattle.sc_core.specs.declared.run.RunEnd.TheVariants.{Blamed, Ended, TurnsOut}
 pub use Rattle.sc_core.specs.declared.run.SourceRun.{SourceRun}
+pub use Rattle.sc_core.specs.declared.section.TypedGlobal.{TypedGlobal}
 pub use Rattle.sc_core.specs.declared.section.TypedParam.{TypedParam}
 pub use Rattle.sc_core.specs.declared.stmt.TypedStmtKind.{TypedStmtKind}
+pub use Rattle.sc_core.specs.declared.ty.BaseTy.{BaseTy}
 pub use Rattle.sc_core.specs.declared.value.Value.{Value}
-pub use Rattle.sc_core.specs.declared.value.Value.TheVariants.{Null, Word}
+pub use Rattle.sc_core.specs.declared.value.Value.TheVariants.{Null, Ptr, Word}
 pub use Rattle.sc_core.specs.declared.value.Want.{Want}
 pub use Rattle.sc_laws.proofs.Agreement.{calls_agree, itself, own_agree, performs_agree, run_agree, then_agree}
 pub use Rattle.sc_laws.specs.Prelude.{BodiesAgree, CallsAgree, FunctionsAgree, LibrariesAgree, Meets, PiecesAgree}
@@ -81,16 +88,18 @@ pub use Rattle.sc_kinds.proofs.Results.{Behind, behind, function_imported, input
 pub use Rattle.sc_kinds.proofs.Results.{reached_good}
 pub use Rattle.sc_kinds.proofs.Sections.{ForSection, Placed, all_at, any_along, for_interface, for_section}
 pub use Rattle.sc_kinds.proofs.Sections.{found_passes, index_map, name_of, named_so, own_names_differ}
-pub use Rattle.sc_kinds.proofs.Values.{address_fits, either, int_fits}
+pub use Rattle.sc_kinds.proofs.Values.{address_fits, either, int_fits, integer_kind, sound}
+pub use Rattle.sc_kinds.specs.Kinds.{is_of}
 pub use Rattle.sc_tac.proofs.Runs.{across_interfaces, fetched, give, int_op, output, word}
 pub use Rattle.sc_tac.proofs.Shapes.{Cycle, Done, Fork, Line, rows, rows_are}
 pub use Rattle.sc_tac.specs.Prelude.{Ahead, Codes, IsFunction, IsProgram, Reading, Temps, all_assigned_first}
 pub use Rattle.sc_tac.specs.Prelude.{are_entered, call_does, calls_exports, calls_imports, calls_own, code_does}
 pub use Rattle.sc_tac.specs.Prelude.{code_function, code_functions, code_globals, code_library, code_meaning}
-pub use Rattle.sc_tac.specs.Prelude.{code_meaning_by, code_run, code_step, code_wrapped, constant_value, count}
-pub use Rattle.sc_tac.specs.Prelude.{cross_call_fits, enters_by_words, entry_known, entry_weight, everywhere}
-pub use Rattle.sc_tac.specs.Prelude.{exports_entered, function_entered, gets, has_none, has_operands, in_section}
-pub use Rattle.sc_tac.specs.Prelude.{is_assigned_first, is_entered, is_one, known, main_entered, names_own_global}
+pub use Rattle.sc_tac.specs.Prelude.{code_meaning_by, code_run, code_step, code_wrapped, compared, constant_value}
+pub use Rattle.sc_tac.specs.Prelude.{count, counts_elements, cross_call_fits, enters_by_words, entry_known}
+pub use Rattle.sc_tac.specs.Prelude.{entry_weight, everywhere, exports_entered, function_entered, gets, has_elements}
+pub use Rattle.sc_tac.specs.Prelude.{has_none, has_operands, has_words, in_section, is_assigned_first, is_comparison}
+pub use Rattle.sc_tac.specs.Prelude.{is_entered, is_machine_word, is_one, known, main_entered, names_own_global}
 pub use Rattle.sc_tac.specs.Prelude.{names_own_object, names_own_temps, no_temps, nothing_ahead, numbered, one_or_none}
 pub use Rattle.sc_tac.specs.Prelude.{op_does, op_weight, operated, own_call_fits, part_ahead, passes_few, passes_words}
 pub use Rattle.sc_tac.specs.Prelude.{read, read_all, reading, reading_step, received, returns_result, row_first}

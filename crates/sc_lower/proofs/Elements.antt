@@ -1,33 +1,26 @@
 -- What an address of a well-typed program points to has a cell at least, and few.
-use Rattle.sc_lower.proofs.Common.{BinaryOp, Bool, Judged, List, None, Option, Scope, Some, Ty, TypedExpr, TypedFunction}
-use Rattle.sc_lower.proofs.Common.{TypedKind, TypedKind-F, TypedLocal, TypedParam, TypedSection, TypedStruct, UnaryOp}
-use Rattle.sc_lower.proofs.Common.{Global, Local, Param, Under, VarRef, [], address_fits, and_first, and_from, and_rest, ap}
-use Rattle.sc_lower.proofs.Common.{are_equatable, are_ordered, arith as numbers, both_ints, binary_fits, cells_of, common}
-use Rattle.sc_lower.proofs.Common.{decayed, difference_fits, either, eqb-true, expr_at, expr_induction, false, false≢true}
-use Rattle.sc_lower.proofs.Common.{global_fits, is_address, is_array, is_int, is_pointer, is_scalar, is_type, judged}
-use Rattle.sc_lower.proofs.Common.{leb-true, length, list_all, list_any, local_fits, lt-ltb, map, most_cells, nat_le, nat_lt}
-use Rattle.sc_lower.proofs.Common.{not, not-true, passed_fits, points, refl, same_base, same_pointers, same_ty, scope_of}
-use Rattle.sc_lower.proofs.Common.{slice_get, structs_fit, subst, suc, sum_fits, sym, target_cells, term_judged, term_of, true}
-use Rattle.sc_lower.proofs.Common.{type_within, typed, unary_fits, variable_fits, variable_ty, zero, ℕ, ◌&&◌, ◌*◌, ◌+◌, ◌<◌}
-use Rattle.sc_lower.proofs.Common.{◌==◌, ◌||◌, ◌∙◌, ◌∷◌, ◌≡◌, ◌≤◌}
-use Rattle.std.proofs.Common.{ltb-true}
+use Rattle.sc_lower.proofs.Common.{BaseTy, BinaryOp, Bool, Global, Judged, List, Local, None, Option, Param, Scope}
+use Rattle.sc_lower.proofs.Common.{Some, Ty, TypedExpr, TypedFunction, TypedGlobal, TypedKind, TypedKind-F, TypedLocal}
+use Rattle.sc_lower.proofs.Common.{TypedParam, TypedSection, TypedStruct, UnaryOp, Under, VarRef, [], address_fits}
+use Rattle.sc_lower.proofs.Common.{and_first, and_from, and_rest, ap, are_equatable, are_ordered, arith as numbers}
+use Rattle.sc_lower.proofs.Common.{base_cells, base_within, binary_fits, both_ints, cells_of, common, counts_elements}
+use Rattle.sc_lower.proofs.Common.{decayed, difference_fits, either, eqb-true, expr_at, expr_induction, false}
+use Rattle.sc_lower.proofs.Common.{false≢true, global_fits, has_member, is_address, is_array, is_int, is_integer}
+use Rattle.sc_lower.proofs.Common.{is_pointer, is_scalar, is_type, judged, judged_ty, leb-true, length, list_all}
+use Rattle.sc_lower.proofs.Common.{list_any, literal_fits, local_fits, lt-ltb, ltb-false, ltb-true, map, member_of}
+use Rattle.sc_lower.proofs.Common.{members_fit, most_cells, nat_le, nat_lt, not, not-true, passed_fits, pointer_to}
+use Rattle.sc_lower.proofs.Common.{points, refl, same_base, same_pointers, same_ty, scope_of, slice_get, starred}
+use Rattle.sc_lower.proofs.Common.{starred_cells, starred_within, struct_cells, struct_fits, structs_fit, subst, suc}
+use Rattle.sc_lower.proofs.Common.{sum_fits, sym, target, target_cells, term_judged, term_of, true, type_within, typed}
+use Rattle.sc_lower.proofs.Common.{unary_fits, variable_fits, variable_ty, zero, ℕ, ◌&&◌, ◌*◌, ◌+◌, ◌-◌, ◌<◌, ◌==◌, ◌^◌}
+use Rattle.sc_lower.proofs.Common.{◌||◌, ◌∙◌, ◌∷◌, ◌≡◌, ◌≤◌}
 use Rattle.std.proofs.Math.Nat.{mul-pos}
-use Rattle.std.proofs.lemmas.Bool.{ltb-false}
-use Rattle.std.specs.Prelude.{◌-◌, ◌^◌}
 use Rattle.sc_base.specs.declared.op.BinaryOp.TheVariants as op
 use Rattle.sc_base.specs.declared.op.UnaryOp.TheVariants as unary
-use Rattle.sc_core.proofs.Judged.{judged_ty}
-use Rattle.sc_core.specs.Prelude.{base_cells, base_within, has_member, is_integer, literal_fits, member_of, members_fit}
-use Rattle.sc_core.specs.Typing.{place_judged, value_judged}
-use Rattle.sc_core.specs.Prelude.{pointer_to, starred, starred_cells, starred_within, struct_cells}
-use Rattle.sc_core.specs.Prelude.{struct_fits, target}
 use Rattle.sc_core.specs.declared.expr.TypedKind.TheOpen as term
-use Rattle.sc_core.specs.declared.section.TypedGlobal.{TypedGlobal}
 use Rattle.sc_core.specs.declared.section.TypedMember.{TypedMember}
-use Rattle.sc_core.specs.declared.ty.BaseTy.{BaseTy}
 use Rattle.sc_core.specs.declared.ty.BaseTy.TheVariants as base
 use Rattle.sc_core.specs.declared.ty.Ty.TheVariants as ty
-use Rattle.sc_tac.specs.Prelude.{counts_elements}
 use Rattle.sc_tac.specs.declared.stmt.TacOp.TheVariants as tacop
 use Rattle.sc_lower.proofs.Tests.{PointsToElements}
 
@@ -156,10 +149,12 @@ module _ (count : ℕ) where
     pub typed : j.fits ≡ true → j.null ≡ false → known count j.ty ≡ true
     pub no_null : j.place ≡ true → j.null ≡ false
 
-  value_known : (t : Ty) (fits : Bool) → (fits ≡ true → known count t ≡ true) → Known (value_judged t fits)
+  value_known : (t : Ty) (fits : Bool) → (fits ≡ true → known count t ≡ true) →
+      Known (record { ty = t; fits = fits; place = false; null = false })
   value_known t fits h = record { typed = λ fit none. h fit; no_null = λ place. absurd (false≢true place) }
 
-  place_known : (t : Ty) (fits : Bool) → (fits ≡ true → known count t ≡ true) → Known (place_judged t fits)
+  place_known : (t : Ty) (fits : Bool) → (fits ≡ true → known count t ≡ true) →
+      Known (record { ty = t; fits = fits; place = true; null = false })
   place_known t fits h = record { typed = λ fit none. h fit; no_null = λ place. refl }
 
   address_known : (j : Judged) → Known j → is_address j ≡ true → known count j.ty ≡ true
@@ -283,9 +278,10 @@ below (x ∷ xs) zero s is = omega numbers
 below (x ∷ xs) (suc n) s is = omega (numbers, below xs n s is)
 
 counted : (cells : ℕ) → 1 ≤ cells → cells ≤ most_cells → counts_elements (tacop.PointerDifference cells) ≡ true
-counted cells some few = and_from _ _ (lt-ltb 0 cells (omega (numbers, some))) (lt-ltb cells (2 ^ 29) (by cells few)) where
-  by : (c : ℕ) → c ≤ most_cells → c < 536870912
-  by c h = omega (numbers, h)
+counted cells some few =
+    and_from _ _ (lt-ltb 0 cells (omega (numbers, some))) (lt-ltb cells (2 ^ 29) (by cells few)) where
+      by : (c : ℕ) → c ≤ most_cells → c < 536870912
+      by c h = omega (numbers, h)
 
 module _ (structs : List TypedStruct) where
   -- the first structs have a cell at least
@@ -389,7 +385,8 @@ module _ (structs : List TypedStruct) where
         let lt : n < count = ltb-true n count h in
         let found = item_at structs n lt in
         counted (struct_cells (slice_get structs n)) (filled count (itself count) n lt)
-        (subst (λ o. struct_cells o ≤ most_cells) (sym found.is) (struct_few n found.item (fits_at n found.item found.is)))
+        (subst (λ o. struct_cells o ≤ most_cells) (sym found.is)
+        (struct_few n found.item (fits_at n found.item found.is)))
       where
         itself : (m : ℕ) → m ≤ m
         itself m = omega numbers

@@ -1,21 +1,18 @@
 -- The code of expressions gives their places and values.
 use Rattle.sc_lower.proofs.Common.{Arith, BinaryOp, Blocks, Bool, Calls, Cause, Const, Constant, Global, GlobalPlace}
 use Rattle.sc_lower.proofs.Common.{Here, If, Int, List, Load, Local, Low, Lowered, Lows, Meant, None, Null, ObjectPlace}
-use Rattle.sc_lower.proofs.Common.{Ok, Op, Param, Result, Some, State, TacOp, TacStmt, Temps, Ty, TypedExpr, TypedKind}
-use Rattle.sc_lower.proofs.Common.{TypedKind-F, TypedStruct, UnaryOp, Under, Value, VarRef, Want, Word, [], alone}
-use Rattle.sc_lower.proofs.Common.{and_code, ap, applied, applied_one, arith as numbers, at_place, at_pointer, between}
-use Rattle.sc_lower.proofs.Common.{between_op, binary, binary_code, bind, choose, constant_of, constant_value, expr_at}
-use Rattle.sc_lower.proofs.Common.{expr_induction, false, from_first, from_one, from_two, gets, if◌then◌else◌, is_array}
-use Rattle.sc_lower.proofs.Common.{is_pointer, is_true, is_unsigned, is_unsigned_op, literal, load, loaded, lowered}
-use Rattle.sc_lower.proofs.Common.{lowered_step, meant, meant_step, member, move_op, moved, not, not_op, of_bool}
-use Rattle.sc_lower.proofs.Common.{on_words, operated, or_code, place_code, pos, refl, scalar_in, start_of, subst, sym}
-use Rattle.sc_lower.proofs.Common.{target_cells, term_of, term_step, true, truth_code, typed, unary_op, variable_at}
-use Rattle.sc_lower.proofs.Common.{wanted, ℕ, ◌+◌, ◌<◌, ◌∙◌, ◌∷◌, ◌≡◌, ◌≤◌}
-use Rattle.sc_core.proofs.Judged.{judged_ty}
-use Rattle.sc_kinds.proofs.Values.{sound}
-use Rattle.sc_kinds.specs.Kinds.{is_of}
-use Rattle.sc_lower.proofs.Common.{Scope, address_fits, and_first, and_rest, int_fits, is_address, is_int, judged}
-use Rattle.sc_lower.proofs.Common.{term_judged, ◌||◌}
+use Rattle.sc_lower.proofs.Common.{Ok, Op, Param, Result, Scope, Some, State, TacOp, TacStmt, Temps, Ty, TypedExpr}
+use Rattle.sc_lower.proofs.Common.{TypedKind, TypedKind-F, TypedStruct, UnaryOp, Under, Value, VarRef, Want, Word, []}
+use Rattle.sc_lower.proofs.Common.{address_fits, alone, and_code, and_first, and_rest, ap, applied, applied_one}
+use Rattle.sc_lower.proofs.Common.{arith as numbers, at_place, at_pointer, between, between_op, binary, binary_code}
+use Rattle.sc_lower.proofs.Common.{bind, choose, constant_of, constant_value, expr_at, expr_induction, false}
+use Rattle.sc_lower.proofs.Common.{from_first, from_one, from_two, gets, if◌then◌else◌, int_fits, is_address, is_array}
+use Rattle.sc_lower.proofs.Common.{is_int, is_of, is_pointer, is_true, is_unsigned, is_unsigned_op, judged, judged_ty}
+use Rattle.sc_lower.proofs.Common.{literal, load, loaded, lowered, lowered_step, meant, meant_step, member, move_op}
+use Rattle.sc_lower.proofs.Common.{moved, not, not_op, of_bool, on_words, operated, or_code, place_code, pos, refl}
+use Rattle.sc_lower.proofs.Common.{scalar_in, sound, start_of, subst, sym, target_cells, term_judged, term_of}
+use Rattle.sc_lower.proofs.Common.{term_step, true, truth_code, typed, unary_op, variable_at, wanted, ℕ, ◌+◌, ◌<◌, ◌||◌}
+use Rattle.sc_lower.proofs.Common.{◌∙◌, ◌∷◌, ◌≡◌, ◌≤◌}
 use Rattle.sc_core.specs.Prelude.{at_place as place_way, binary as binary_way, term_step as term_way}
 use Rattle.sc_base.specs.declared.op.BinaryOp.TheVariants as op
 use Rattle.sc_base.specs.declared.op.UnaryOp.TheVariants as unary
@@ -264,7 +261,8 @@ module _ (arith : Arith) (here : Here) (calls : Calls) where
         (λ blocks. applied arith structs blocks o left right)
     binary_gives o left right = by (is_pointer left) (is_pointer right) where
       by : (b c : Bool) → (b ≡ true → c ≡ true → is_between o ≡ true) →
-          FromTwo b c (λ d x y. if b then (if c then Op d (between_op o (target_cells structs left)) x (Some y) else Op d
+          FromTwo b c
+          (λ d x y. if b then (if c then Op d (between_op o (target_cells structs left)) x (Some y) else Op d
           (move_op structs o left right) x (Some y)) else (if c then Op d (move_op structs o right left) y
           (Some x) else Op d (tacop.Binary o (scalar_in (is_unsigned_op o left right))) x (Some y)))
           (λ blocks v w. if b then (if c then between blocks o (target_cells structs left) v w else at_pointer structs
@@ -355,7 +353,8 @@ module _ (arith : Arith) (here : Here) (calls : Calls) where
         two_compute (is_pointer ma.ty) (is_pointer mb.ty) (la.form want.Value) (lb.form want.Value)
         (λ d x y. Op d (move_op structs op.Add la.ty lb.ty) x (Some y)) (ma.way want.Value) (mb.way want.Value)
         (λ blocks. at_pointer structs blocks op.Add ma.ty mb.ty)
-        (subst (λ ty. FromTwo (is_pointer ma.ty) (is_pointer mb.ty) (λ d x y. Op d (move_op structs op.Add la.ty lb.ty) x (Some y))
+        (subst (λ ty. FromTwo (is_pointer ma.ty) (is_pointer mb.ty)
+        (λ d x y. Op d (move_op structs op.Add la.ty lb.ty) x (Some y))
         (λ blocks. at_pointer structs blocks op.Add ty mb.ty)) ha.ty
         (subst (λ ty. FromTwo (is_pointer ma.ty) (is_pointer mb.ty)
         (λ d x y. Op d (move_op structs op.Add la.ty lb.ty) x (Some y))

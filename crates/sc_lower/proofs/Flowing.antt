@@ -18,10 +18,9 @@ use Rattle.sc_core.specs.declared.stmt.TypedSimpleKind.TheVariants as simple
 use Rattle.sc_core.specs.declared.value.Want.TheVariants as want
 use Rattle.sc_tac.specs.declared.stmt.TacStmt.TheOpen as tac
 use Rattle.sc_tac.specs.declared.stmt.TacStmt.TheVariants as emit
-use Rattle.sc_lower.proofs.Tests.{scalar_fits, all_append}
+use Rattle.sc_lower.proofs.Tests.{scalar_fits, all_append, PointsToElements}
 use Rattle.sc_lower.proofs.Passing.{returned_value, InitsFit}
 use Rattle.sc_lower.proofs.Statements.{Shaped, shaped, not_output, goes_promised}
-use Rattle.sc_lower.proofs.Tests.{PointsToElements}
 use Rattle.sc_lower.proofs.Strays.{value_straight, target_straight, is_straight, Straight, local_straight}
 use Rattle.sc_lower.proofs.Assigned.{first, fresh, first_append, fresh_append, first_one, fresh_one, straight_fresh}
 use Rattle.sc_lower.proofs.Assigned.{plain_reads, only_reads, no_reads, one_read, two_read, Settled, into, out_of}
@@ -362,7 +361,8 @@ module _ (scope : Scope) (callable : Callable) (result : Option Ty) (structs : L
       assign_steady (form place) (form e) (expr_settled structs params place want.Place)
       (target_straight scope structs elements place (and_first (is_target (judged scope place)) _ h))
       (expr_settled structs params e want.Value)
-      (value_straight scope structs elements e (and_first (judged scope e).fits _ (and_rest (is_target (judged scope place))
+      (value_straight scope structs elements e (and_first (judged scope e).fits _ (and_rest (is_target
+      (judged scope place))
       _ h)))
 
   assign_call_steady : (place : TypedExpr) (c : TypedCall) →
@@ -423,7 +423,8 @@ module _ (scope : Scope) (callable : Callable) (result : Option Ty) (structs : L
       let inner = and_rest (is_scalar (judged scope cond)) _ fits in
       after_steady (form cond want.Value) (fork (block_code structs params x) (block_code structs params y))
       (expr_settled structs params cond want.Value)
-      (value_straight scope structs elements cond (scalar_fits (judged scope cond) (and_first (is_scalar (judged scope cond))
+      (value_straight scope structs elements cond (scalar_fits (judged scope cond) (and_first (is_scalar
+      (judged scope cond))
       _ fits)))
       (fork_steady (block_code structs params x) (block_code structs params y)
       (block_steady x looping

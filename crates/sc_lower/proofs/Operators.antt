@@ -1,15 +1,12 @@
 -- Operators of code compute what those of trees do.
-use Rattle.sc_lower.proofs.Common.{Arith, BinaryOp, Blocks, Bool, List, Ok, Ty, TypedStruct, UnaryOp, Value, ap}
-use Rattle.sc_lower.proofs.Common.{applied_one, at_pointer, between, between_op, false, if◌then◌else◌, is_pointer}
-use Rattle.sc_lower.proofs.Common.{is_true, is_unsigned, move_op, moved_back, moved_on, not, not_op, of_bool, on_words}
-use Rattle.sc_lower.proofs.Common.{operated, refl, scalar_in, scalar_of, target_cells, true, unary_op, ℕ, ◌≡◌}
-use Rattle.sc_core.specs.declared.value.Value.TheVariants.{Ptr}
-use Rattle.sc_kinds.specs.Kinds.{is_of}
-use Rattle.sc_tac.specs.Prelude.{compared, is_comparison, is_unsigned as is_unsigned_scalar}
-use Rattle.sc_kinds.proofs.Values.{integer_kind}
-use Rattle.sc_lower.proofs.Common.{BadType, Cause, Err, Judged, Null, Result, Word, and_first, and_rest, binary_fits}
-use Rattle.sc_lower.proofs.Common.{both_ints, common, decayed, either, false≢true, is_address, is_int, same_ty, sym, ◌&&◌}
-use Rattle.sc_lower.proofs.Common.{◌||◌, ◌∙◌}
+use Rattle.sc_lower.proofs.Common.{Arith, BadType, BinaryOp, Blocks, Bool, Cause, Err, Judged, List, Null, Ok, Ptr}
+use Rattle.sc_lower.proofs.Common.{Result, Ty, TypedStruct, UnaryOp, Value, Word, and_first, and_rest, ap, applied_one}
+use Rattle.sc_lower.proofs.Common.{at_pointer, between, between_op, binary_fits, both_ints, common, compared, decayed}
+use Rattle.sc_lower.proofs.Common.{either, false, false≢true, if◌then◌else◌, integer_kind, is_address, is_comparison}
+use Rattle.sc_lower.proofs.Common.{is_int, is_of, is_pointer, is_true, is_unsigned, move_op, moved_back, moved_on, not}
+use Rattle.sc_lower.proofs.Common.{not_op, of_bool, on_words, operated, refl, same_ty, scalar_in, scalar_of, sym}
+use Rattle.sc_lower.proofs.Common.{target_cells, true, unary_op, ℕ, ◌&&◌, ◌||◌, ◌∙◌, ◌≡◌}
+use Rattle.sc_tac.specs.Prelude.{is_unsigned as is_unsigned_scalar}
 use Rattle.sc_base.specs.declared.op.UnaryOp.TheVariants as unary
 use Rattle.sc_base.specs.declared.op.BinaryOp.TheVariants as op
 use Rattle.sc_tac.specs.declared.stmt.TacOp.TheVariants as tacop

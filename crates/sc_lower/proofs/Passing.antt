@@ -19,8 +19,8 @@ use Rattle.sc_core.specs.declared.value.Want.TheVariants as want
 use Rattle.sc_tac.specs.declared.stmt.TacStmt.TheOpen as tac
 use Rattle.sc_tac.specs.declared.stmt.TacStmt.TheVariants as emit
 use Rattle.sc_lower.proofs.Tests.{call_layer, scalar_fits, all_append, all_one, all_behind, Below, AllBelow, PassedBy}
-use Rattle.sc_lower.proofs.Tests.{PointsToElements}
-use Rattle.sc_lower.proofs.Tests.{Clean, alone_clean, place_clean, place_passes, fork_passes, expr_clean}
+use Rattle.sc_lower.proofs.Tests.{PointsToElements, Clean, alone_clean, place_clean, place_passes, fork_passes}
+use Rattle.sc_lower.proofs.Tests.{expr_clean}
 
 -- a value that is returned fits
 pub returned_value : (r : Option Ty) (e : Judged) → returned_fits r e ≡ true → e.fits ≡ true

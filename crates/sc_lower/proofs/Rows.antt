@@ -3,15 +3,14 @@ use Rattle.sc_lower.proofs.Common.{Amp, Arrow, AssignCallLine, AssignLine, At, B
 use Rattle.sc_lower.proofs.Common.{CallLine, ContinueLine, Cross, Cycle, Done, Dot, EmptyLine, End, Ended, ForLine}
 use Rattle.sc_lower.proofs.Common.{Fork, IfLine, In, Input, Interfaces, Line, Lines, List, Lit, Local, NoLine, None}
 use Rattle.sc_lower.proofs.Common.{One, Out, Output, Overflow, Own, Plan, Ret, ReturnCallLine, ReturnLine}
-use Rattle.sc_lower.proofs.Common.{ReturnValueLine, Shape, Sheet, Some, SourceRun, Star, TacOp, Two, TypedStruct, Var}
-use Rattle.sc_lower.proofs.Common.{WhileLine, [], across_interfaces, by_plan, c_arith, code_meaning, code_wrapped}
-use Rattle.sc_lower.proofs.Common.{codes, false, fetched, give, global, global_of, int_op, int_pointer, ints, lit}
-use Rattle.sc_lower.proofs.Common.{local, lowered_program, main_with, meaning, output, param, plan, plus, program, refl}
-use Rattle.sc_lower.proofs.Common.{roll-TacStmt, slot, true, word, wrapping, ℕ, ◌∷◌, ◌≡◌}
+use Rattle.sc_lower.proofs.Common.{ReturnValueLine, Shape, Sheet, Some, SourceRun, Star, TacOp, Two, TypedGlobal}
+use Rattle.sc_lower.proofs.Common.{TypedStruct, Var, WhileLine, [], across_interfaces, by_plan, c_arith, code_meaning}
+use Rattle.sc_lower.proofs.Common.{code_wrapped, codes, false, fetched, give, global, global_of, int_op, int_pointer}
+use Rattle.sc_lower.proofs.Common.{ints, lit, local, lowered_program, main_with, meaning, output, param, plan, plus}
+use Rattle.sc_lower.proofs.Common.{program, refl, roll-TacStmt, slot, true, word, wrapping, ℕ, ◌∷◌, ◌≡◌}
 use Rattle.sc_base.specs.declared.op.BinaryOp.TheVariants as op
 use Rattle.sc_base.specs.declared.op.UnaryOp.TheVariants as unary
 use Rattle.sc_event.specs.declared.interface.Scalar.TheVariants as scalar
-use Rattle.sc_core.specs.declared.section.TypedGlobal.{TypedGlobal}
 use Rattle.sc_core.specs.declared.ty.BaseTy.TheVariants as base
 use Rattle.sc_core.specs.declared.ty.Ty.TheVariants as ty
 use Rattle.sc_tac.specs.declared.stmt.Constant.TheVariants as constant

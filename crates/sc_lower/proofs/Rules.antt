@@ -1,13 +1,14 @@
 -- The code of a function of a well-typed program keeps the rules of functions.
-use Rattle.sc_lower.proofs.Common.{All, Behind, Bool, CallTarget, Callable, Export, ForSection, Interface, Interfaces}
-use Rattle.sc_lower.proofs.Common.{IsFunction, IsLowerable, List, Main, None, Option, Part, Placed, ProgramTree, Proto}
-use Rattle.sc_lower.proofs.Common.{Scalar, Scope, Signature, Some, TacStmt-F, Ty, TypedFunction, TypedLocal, TypedParam}
-use Rattle.sc_lower.proofs.Common.{TypedSection, TypedStruct, [], all_assigned_first, all_at, allowed, and_first}
-use Rattle.sc_lower.proofs.Common.{and_from, and_rest, ap, are_distinct, arith as numbers, behind, beq, block_code}
-use Rattle.sc_lower.proofs.Common.{body_code, body_fits, both, bytes_eq, callable_in, cells_of, comp_at}
-use Rattle.sc_lower.proofs.Common.{enters_by_words, entry_of, eq-eqb, eqb-true, everywhere, export_at, export_called}
-use Rattle.sc_lower.proofs.Common.{export_fits, exports_of, false, false≢true, first_of as first_temp, for_interface}
-use Rattle.sc_lower.proofs.Common.{for_section, found_passes, function_fits, global_fits, has_none, has_operands}
+use Rattle.sc_lower.proofs.Common.{All, BaseTy, Behind, Bool, CallTarget, Callable, Export, ForSection, Interface}
+use Rattle.sc_lower.proofs.Common.{Interfaces, IsFunction, IsLowerable, List, Main, None, Option, Part, Placed}
+use Rattle.sc_lower.proofs.Common.{ProgramTree, Proto, Scalar, Scope, Signature, Some, TacOp, TacStmt-F, Ty}
+use Rattle.sc_lower.proofs.Common.{TypedFunction, TypedLocal, TypedParam, TypedSection, TypedStruct, []}
+use Rattle.sc_lower.proofs.Common.{all_assigned_first, all_at, allowed, and_first, and_from, and_rest, ap, are_distinct}
+use Rattle.sc_lower.proofs.Common.{arith as numbers, behind, beq, block_code, body_code, body_fits, both, bytes_eq}
+use Rattle.sc_lower.proofs.Common.{callable_in, cells_of, comp_at, counts_elements, enters_by_words, entry_of, eq-eqb}
+use Rattle.sc_lower.proofs.Common.{eqb-true, everywhere, export_at, export_called, export_fits, exports_of, false}
+use Rattle.sc_lower.proofs.Common.{false≢true, first_of as first_temp, for_interface, for_section, found_passes}
+use Rattle.sc_lower.proofs.Common.{function_fits, global_fits, has_elements, has_none, has_operands, has_words}
 use Rattle.sc_lower.proofs.Common.{if◌then◌else◌, import_fits, import_name, in_turn, init_fits, inits_code, is_array}
 use Rattle.sc_lower.proofs.Common.{is_plain_name, is_some, is_type, is_well_typed, le-leb, leb-true, length}
 use Rattle.sc_lower.proofs.Common.{length-append, length-map, list_all, list_any, local_fits, lowered_function, lt-ltb}
@@ -21,13 +22,10 @@ use Rattle.sc_lower.proofs.Common.{stray_break, stray_continue, structs_fit, sub
 use Rattle.sc_lower.proofs.Common.{target_signature, total, true, type_within, variable_fits, variables, zero, ℕ, ◌&&◌}
 use Rattle.sc_lower.proofs.Common.{◌++◌, ◌+◌, ◌<◌, ◌==◌, ◌∙◌, ◌∷◌, ◌≡◌, ◌≤◌}
 use Rattle.std.proofs.lemmas.List.Sums.{AllPass-from_list_all}
-use Rattle.sc_lower.proofs.Common.{TacOp}
-use Rattle.sc_tac.specs.Prelude.{counts_elements, has_elements, has_words}
 use Rattle.sc_tac.specs.declared.stmt.TacOp.TheVariants as tacop
 use Rattle.sc_event.specs.declared.interface.Import.TheVariants as import
 use Rattle.sc_event.specs.declared.interface.Scalar.TheVariants as scalar
 use Rattle.sc_core.specs.declared.expr.CallTarget.TheVariants as target
-use Rattle.sc_core.specs.declared.ty.BaseTy.{BaseTy}
 use Rattle.sc_core.specs.declared.ty.BaseTy.TheVariants as base
 use Rattle.sc_core.specs.declared.ty.Ty.TheVariants as ty
 use Rattle.sc_kinds.proofs.Sections.{first_of}

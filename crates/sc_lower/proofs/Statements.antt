@@ -5,21 +5,20 @@ use Rattle.sc_lower.proofs.Common.{Part, Parts, Piece, Reached, Result, Return, 
 use Rattle.sc_lower.proofs.Common.{TacStmt, Temps, Ty, TypedCall, TypedExpr, TypedFunction, TypedLocal, TypedSimple}
 use Rattle.sc_lower.proofs.Common.{TypedSimpleKind, TypedStmt, TypedStmtKind, TypedStmtKind-F, TypedStruct, Value, Ways}
 use Rattle.sc_lower.proofs.Common.{[], all_do, all_go_into, allowed, alone, and_first, and_rest, and_then, ap, args_fit}
-use Rattle.sc_lower.proofs.Common.{arith as numbers, assign, assign_call, assign_call_fits, at_place, block_code}
-use Rattle.sc_lower.proofs.Common.{block_does, body_code, body_does, body_fits, call as calls_of, call_alone, call_code}
-use Rattle.sc_lower.proofs.Common.{call_does, call_fits, call_for, choose, computed, cycle, false, false≢true, first_of}
-use Rattle.sc_lower.proofs.Common.{follow, forms, goes_into, in_order, in_turn, init_code, init_does, inits_code}
-use Rattle.sc_lower.proofs.Common.{inits_do, is_scalar, is_some, is_target, is_true, judged, just, kind_fits, kind_step}
-use Rattle.sc_lower.proofs.Common.{layer_of, leave, length, list_all, list_any, loop, many, map, on_line, option_goes}
-use Rattle.sc_lower.proofs.Common.{part_code, part_does, part_fits, place_code, received, refl, result_goes}
-use Rattle.sc_lower.proofs.Common.{return_value, returned_call_fits, same_import, simple_code, simple_does, simple_fits}
-use Rattle.sc_lower.proofs.Common.{stmt_at, stmt_code, stmt_does, stmt_fits, stmt_induction, stmt_step, store, store_at}
-use Rattle.sc_lower.proofs.Common.{store_result, stored, subst, suc, sym, target_signature, test, true, values}
-use Rattle.sc_lower.proofs.Common.{variable_at, ways, with_memory, with_temp, ℕ, ◌++◌, ◌<◌, ◌∙◌, ◌∷◌, ◌≡◌, ◌≤◌}
+use Rattle.sc_lower.proofs.Common.{arith as numbers, assign, assign_call, assign_call_fits, assign_fits, at_place}
+use Rattle.sc_lower.proofs.Common.{block_code, block_does, body_code, body_does, body_fits, call as calls_of}
+use Rattle.sc_lower.proofs.Common.{call_alone, call_code, call_does, call_fits, call_for, choose, computed, cycle}
+use Rattle.sc_lower.proofs.Common.{false, false≢true, first_of, follow, forms, goes_into, in_order, in_turn, init_code}
+use Rattle.sc_lower.proofs.Common.{init_does, init_fits, inits_code, inits_do, is_scalar, is_some, is_target, is_true}
+use Rattle.sc_lower.proofs.Common.{judged, just, kind_fits, kind_step, layer_of, leave, length, list_all, list_any}
+use Rattle.sc_lower.proofs.Common.{local_fits, loop, many, map, on_line, option_goes, part_code, part_does, part_fits}
+use Rattle.sc_lower.proofs.Common.{place_code, received, refl, result_goes, return_value, returned_call_fits}
+use Rattle.sc_lower.proofs.Common.{same_import, signed, simple_code, simple_does, simple_fits, stmt_at, stmt_code}
+use Rattle.sc_lower.proofs.Common.{stmt_does, stmt_fits, stmt_induction, stmt_step, store, store_at, store_result}
+use Rattle.sc_lower.proofs.Common.{stored, subst, suc, sym, target_signature, test, true, values, variable_at}
+use Rattle.sc_lower.proofs.Common.{variable_fits, ways, with_memory, with_temp, ℕ, ◌++◌, ◌<◌, ◌∙◌, ◌∷◌, ◌≡◌, ◌≤◌}
 use Rattle.sc_core.specs.Prelude.{assign as assigns, at_place as place_way, call_alone as calls_alone}
 use Rattle.sc_core.specs.Prelude.{kind_step as kind_acts, stmt_does as stmt_acts, store_at as stores_at, test as tests}
-use Rattle.sc_lower.proofs.Common.{init_fits, local_fits, signed, variable_fits}
-use Rattle.sc_lower.proofs.Common.{assign_fits}
 use Rattle.sc_lower.proofs.Passing.{returned_value}
 use Rattle.sc_lower.proofs.Tests.{scalar_fits}
 use Rattle.sc_event.specs.declared.interface.Import.TheVariants as import
@@ -214,11 +213,12 @@ module _ (arith : Arith) (structs : List TypedStruct) (here : Here) (params : �
         let found = signed (target_signature callable c.target) (map (judged scope) c.args) fits in
         call_by c.target dest n line (many (map form c.args) n).at t s (values (map way c.args) (s.memory here.comp))
         (many (map form c.args) n).code ys go
-        (shaped scope callable form c.target c.args n dest fits o) (all_given found.signature.params c.args found.fit n t s) h
+        (shaped scope callable form c.target c.args n dest fits o)
+        (all_given found.signature.params c.args found.fit n t s) h
 
     -- a value, and what follows
-    value_first : (e : TypedExpr) → Fit e → (n line : ℕ) (t : Temps) (s : State) (ys : List TacStmt) (f : Value → State →
-        Piece (Left (Unit {0}))) →
+    value_first : (e : TypedExpr) → Fit e → (n line : ℕ) (t : Temps) (s : State) (ys : List TacStmt)
+        (f : Value → State → Piece (Left (Unit {0}))) →
         ((v : Value) (u : Temps) → u (form e want.Value n).at ≡ Some v → Keeps n t u →
         Matches has (f v s) (run arith here D ys u s)) →
         Matches has (and_then (computed here line (way e want.Value (s.memory here.comp)) s) f)
@@ -252,8 +252,8 @@ module _ (arith : Arith) (structs : List TypedStruct) (here : Here) (params : �
     assign_matches f w h e fit n line a t s =
         value_first e fit n line t s (store_at f (form e want.Value n).at (form e want.Value n).next).code
         (λ v s. stores_at here w v line a s) (λ v u is k.
-        store_at_matches f w h (form e want.Value n).next line (form e want.Value n).at a u s v ((fits_value e fit).below n)
-        is)
+        store_at_matches f w h (form e want.Value n).next line (form e want.Value n).at a u s v
+        ((fits_value e fit).below n) is)
 
     call_alone_matches : (c : TypedCall) (n line : ℕ) → call_fits callable c.target (map (judged scope) c.args) ≡ true →
         Does (calls_alone here C c.target (map way c.args) line)
@@ -406,7 +406,8 @@ module _ (arith : Arith) (structs : List TypedStruct) (here : Here) (params : �
         let c : Low = form cond want.Value n in
         let p : Part = block_code structs params x c.next in
         let q : Part = block_code structs params y p.next in
-        value_first cond (cond_fit cond (and_first (is_scalar (judged scope cond)) _ fits)) n line t s (emit.If c.at p.code q.code ∷ [])
+        value_first cond (cond_fit cond (and_first (is_scalar (judged scope cond)) _ fits)) n line t s
+        (emit.If c.at p.code q.code ∷ [])
         (λ v s. choose v (block_does arith structs here params C x a s) (block_does arith structs here params C y a s))
         (λ v u is k.
         one_matches has arith here D _ (tac.If c.at p.code q.code) (emit.If c.at p.code q.code) u s
@@ -434,7 +435,8 @@ module _ (arith : Arith) (structs : List TypedStruct) (here : Here) (params : �
         (loop (tests here (way cond) line) (block_does arith structs here params C x)
         (part_does arith structs here params C next)) (run arith here D q.code)
         (part_matches first n (and_first (part_fits scope callable result first) _ fits) a t s)
-        (cycle_matches cond (cond_fit cond (and_first (is_scalar (judged scope cond)) _ behind)) p.next line x (part_code structs params next) (part_does arith structs here params C next)
+        (cycle_matches cond (cond_fit cond (and_first (is_scalar (judged scope cond)) _ behind)) p.next line x
+        (part_code structs params next) (part_does arith structs here params C next)
         (and_rest (part_fits scope callable result next) _ last) h
         (λ n. part_matches next n (and_first (part_fits scope callable result next) _ last))))
     level line layer.Break h looping fits n =

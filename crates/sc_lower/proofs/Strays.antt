@@ -20,7 +20,8 @@ use Rattle.sc_core.specs.declared.value.Want.TheVariants as want
 use Rattle.sc_tac.specs.declared.stmt.TacStmt.TheOpen as tac
 use Rattle.sc_tac.specs.declared.stmt.TacStmt.TheVariants as emit
 use Rattle.sc_tac.proofs.Induction.{Inside as CodeInside, stmt_induction as code_induction}
-use Rattle.sc_lower.proofs.Tests.{scalar_fits, PassedBy, PointsToElements, alone_clean, place_clean, place_passes, expr_clean}
+use Rattle.sc_lower.proofs.Tests.{scalar_fits, PassedBy, PointsToElements, alone_clean, place_clean, place_passes}
+use Rattle.sc_lower.proofs.Tests.{expr_clean}
 use Rattle.sc_lower.proofs.Passing.{returned_value, InitsFit}
 
 -- STRAIGHT CODE
@@ -247,7 +248,8 @@ module _ (stray : TacStmt-F Bool → Bool) (strays : Strays stray) where
     many_none (t ∷ types) (e ∷ es) n h =
         none_append (form e want.Value n).code (many (map form es) (form e want.Value n).next).code
         (straight_none (form e want.Value n).code
-        (expr_straight scope structs elements e (and_first (judged scope e).fits _ (and_first (goes_into t (judged scope e))
+        (expr_straight scope structs elements e (and_first (judged scope e).fits _ (and_first (goes_into t
+        (judged scope e))
         _ h)) want.Value n))
         (many_none types es (form e want.Value n).next (and_rest (goes_into t (judged scope e)) _ h))
 
@@ -276,7 +278,8 @@ module _ (stray : TacStmt-F Bool → Bool) (strays : Strays stray) where
     assigned_none place e h =
         assign_none (form place) (form e) (target_straight scope structs elements place
         (and_first (is_target (judged scope place)) _ h))
-        (value_straight scope structs elements e (and_first (judged scope e).fits _ (and_rest (is_target (judged scope place))
+        (value_straight scope structs elements e (and_first (judged scope e).fits _ (and_rest (is_target
+        (judged scope place))
         _ h)))
 
     assign_call_none : (place : TypedExpr) (c : TypedCall) →
@@ -285,7 +288,8 @@ module _ (stray : TacStmt-F Bool → Bool) (strays : Strays stray) where
     assign_call_none place c h =
         call_for_none c (store_at (form place)) (and_first (call_fits callable c.target (map (judged scope) c.args))
         _ (and_rest (is_target (judged scope place)) _ h))
-        (store_none (form place) (target_straight scope structs elements place (and_first (is_target (judged scope place)) _ h)))
+        (store_none (form place) (target_straight scope structs elements place (and_first (is_target
+        (judged scope place)) _ h)))
 
     simple_none : (k : TypedSimpleKind) → simple_fits scope callable result k ≡ true →
         NonePart (simple_code structs params k)
@@ -344,7 +348,8 @@ module _ (stray : TacStmt-F Bool → Bool) (strays : Strays stray) where
     level line (layer.If cond x y) h fits m =
         let inner = and_rest (is_scalar (judged scope cond)) _ fits in
         after_none (form cond want.Value) (fork (block_code structs params x) (block_code structs params y))
-        (value_straight scope structs elements cond (scalar_fits (judged scope cond) (and_first (is_scalar (judged scope cond))
+        (value_straight scope structs elements cond (scalar_fits (judged scope cond) (and_first (is_scalar
+        (judged scope cond))
         _ fits)))
         (λ at n.
         let p : Part = block_code structs params x n in

@@ -4,21 +4,16 @@ use Rattle.sc_lower.proofs.Common.{Lows, None, Option, Param, Scope, Some, TacOp
 use Rattle.sc_lower.proofs.Common.{TypedKind, TypedKind-F, TypedStruct, UnaryOp, Under, VarRef, Want, [], address_fits}
 use Rattle.sc_lower.proofs.Common.{alone, and_code, and_first, and_from, and_rest, ap, are_equatable, are_ordered}
 use Rattle.sc_lower.proofs.Common.{arith as numbers, at_place, between_op, binary, binary_code, binary_fits, both_ints}
-use Rattle.sc_lower.proofs.Common.{common, constant_of, decayed, difference_fits, either, everywhere, expr_at}
-use Rattle.sc_lower.proofs.Common.{expr_induction, false, false≢true, first_of, fold-TacStmt, fold-roll-TacStmt}
-use Rattle.sc_lower.proofs.Common.{from_first, from_one, from_two, if◌then◌else◌, int_fits, is_address, is_array}
-use Rattle.sc_lower.proofs.Common.{is_int, is_pointer, is_scalar, is_type, is_unsigned_op, judged, length, loaded}
-use Rattle.sc_lower.proofs.Common.{lowered, lowered_step, map-TacStmt, member, move_op, not_op, or_code, place_code}
-use Rattle.sc_lower.proofs.Common.{points, refl, roll-TacStmt, same_pointers, same_ty, scalar_in, scalar_of, slice_get}
-use Rattle.sc_lower.proofs.Common.{subst, suc, sum_fits, sym, takes_two, target_cells, term_judged, term_of, term_step}
-use Rattle.sc_lower.proofs.Common.{true, truth_code, unary_fits, unary_op, variable_ty, with_parts, zero, ℕ, ◌&&◌, ◌++◌}
-use Rattle.sc_lower.proofs.Common.{◌+◌, ◌<◌, ◌||◌, ◌∙◌, ◌∷◌, ◌≡◌, ◌≤◌}
-use Rattle.std.specs.Prelude.{◌^◌}
-use Rattle.sc_core.proofs.Judged.{judged_ty}
-use Rattle.sc_core.specs.Prelude.{literal_fits}
-use Rattle.sc_kinds.proofs.Values.{integer_kind}
-use Rattle.sc_tac.specs.Prelude.{counts_elements, is_machine_word}
-use Rattle.sc_lower.proofs.Common.{leb-true, lt-ltb}
+use Rattle.sc_lower.proofs.Common.{common, constant_of, counts_elements, decayed, difference_fits, either, everywhere}
+use Rattle.sc_lower.proofs.Common.{expr_at, expr_induction, false, false≢true, first_of, fold-TacStmt}
+use Rattle.sc_lower.proofs.Common.{fold-roll-TacStmt, from_first, from_one, from_two, if◌then◌else◌, int_fits}
+use Rattle.sc_lower.proofs.Common.{integer_kind, is_address, is_array, is_int, is_machine_word, is_pointer, is_scalar}
+use Rattle.sc_lower.proofs.Common.{is_type, is_unsigned_op, judged, judged_ty, leb-true, length, literal_fits, loaded}
+use Rattle.sc_lower.proofs.Common.{lowered, lowered_step, lt-ltb, map-TacStmt, member, move_op, not_op, or_code}
+use Rattle.sc_lower.proofs.Common.{place_code, points, refl, roll-TacStmt, same_pointers, same_ty, scalar_in, scalar_of}
+use Rattle.sc_lower.proofs.Common.{slice_get, subst, suc, sum_fits, sym, takes_two, target_cells, term_judged, term_of}
+use Rattle.sc_lower.proofs.Common.{term_step, true, truth_code, unary_fits, unary_op, variable_ty, with_parts, zero, ℕ}
+use Rattle.sc_lower.proofs.Common.{◌&&◌, ◌++◌, ◌+◌, ◌<◌, ◌^◌, ◌||◌, ◌∙◌, ◌∷◌, ◌≡◌, ◌≤◌}
 use Rattle.sc_lower.proofs.Lowered.{lowered_ty}
 use Rattle.sc_base.specs.declared.op.BinaryOp.TheVariants as op
 use Rattle.sc_base.specs.declared.op.UnaryOp.TheVariants as unary
@@ -447,7 +442,8 @@ module _ (temps : ℕ) (scope : Scope) (test : TacStmt-F Bool → Bool) (passed 
     level t (term.Binary o a b) h fits w =
         let both = both_fit o (judged scope a) (judged scope b) t fits in
         binary_clean o _ _ (subst (λ t. is_pointer t ≡ true → counts_elements (between_op o (target_cells structs t))
-        ≡ true) (sym (lowered_ty structs (length scope.params) a)) (between_elements scope structs elements o a b t fits))
+        ≡ true) (sym (lowered_ty structs (length scope.params) a))
+        (between_elements scope structs elements o a b t fits))
         (h.0 both.0 want.Value) (h.1 both.1 want.Value)
     level t (term.Index a b) h fits w =
         place_clean t w

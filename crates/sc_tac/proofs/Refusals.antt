@@ -1,14 +1,12 @@
 -- Worked code that the rules allow, and code that each of them refuses.
-use Rattle.std.proofs.Common.{Err}
-use Rattle.sc_core.specs.declared.cause.Cause.TheVariants.{BadType}
-use Rattle.sc_core.specs.declared.value.Value.TheVariants.{Null, Word}
-use Rattle.sc_tac.specs.Prelude.{has_elements, has_words}
-use Rattle.sc_tac.proofs.Common.{Bool, Export, IsFunction, IsProgram, IsTrue, List, Main, None, Some, TacStmt-F, []}
-use Rattle.sc_tac.proofs.Common.{arith, c_arith, calls_exports, calls_imports, calls_own, enters_by_words, entry_known}
-use Rattle.sc_tac.proofs.Common.{entry_weight, everywhere, false, has_none, has_operands, is_assigned_first, is_entered}
-use Rattle.sc_tac.proofs.Common.{names_own_global, names_own_object, names_own_temps, operated, passes_few, refl, returns_result}
+use Rattle.sc_tac.proofs.Common.{BadType, Bool, Err, Export, IsFunction, IsProgram, IsTrue, List, Main, None, Some}
+use Rattle.sc_tac.proofs.Common.{TacStmt-F, [], arith, c_arith, calls_exports, calls_imports, calls_own}
+use Rattle.sc_tac.proofs.Common.{enters_by_words, entry_known, entry_weight, everywhere, false, has_elements, has_none}
+use Rattle.sc_tac.proofs.Common.{has_operands, has_words, is_assigned_first, is_entered, names_own_global}
+use Rattle.sc_tac.proofs.Common.{names_own_object, names_own_temps, operated, passes_few, refl, returns_result}
 use Rattle.sc_tac.proofs.Common.{stray_break, stray_continue, subst, sym, true, weight, ℕ, ◌&&◌, ◌*◌, ◌+◌, ◌<◌, ◌∙◌}
 use Rattle.sc_tac.proofs.Common.{◌∷◌, ◌≡◌, ◌≤◌}
+use Rattle.sc_core.specs.declared.value.Value.TheVariants.{Null, Word}
 use Rattle.sc_base.specs.declared.op.BinaryOp.TheVariants as op
 use Rattle.sc_event.specs.declared.interface.Scalar.TheVariants as scalar
 use Rattle.sc_tac.specs.declared.stmt.TacOp.TheVariants as tacop

@@ -1,13 +1,12 @@
 -- The meanings of worked code, computed.
-use Rattle.sc_tac.proofs.Common.{Event, Export, Interfaces, List, Main, None, Some, TypedGlobal, [], branches, c_arith}
-use Rattle.sc_tac.proofs.Common.{code_meaning, code_wrapped, codes, false, scripted_code_meaning, true, weight}
-use Rattle.sc_tac.proofs.Common.{wrapping, ℕ, ◌==◌, ◌∷◌, ◌≡◌}
+use Rattle.sc_tac.proofs.Common.{Event, Export, Indeterminate, Interfaces, List, Main, NoReturn, None, OutOfBounds}
+use Rattle.sc_tac.proofs.Common.{Overflow, Some, TypedGlobal, [], branches, c_arith, code_meaning, code_wrapped, codes}
+use Rattle.sc_tac.proofs.Common.{false, scripted_code_meaning, true, weight, wrapping, ℕ, ◌==◌, ◌∷◌, ◌≡◌}
 use Rattle.sc_base.specs.declared.op.BinaryOp.{BinaryOp}
 use Rattle.sc_base.specs.declared.op.BinaryOp.TheVariants as op
 use Rattle.sc_event.specs.declared.event.Event.TheVariants.{Call, Ret, Out, In, End}
 use Rattle.sc_event.specs.declared.interface.Import.TheVariants as import
 use Rattle.sc_event.specs.declared.interface.Scalar.TheVariants as scalar
-use Rattle.sc_core.specs.declared.cause.Cause.TheVariants.{Overflow, OutOfBounds, Indeterminate, NoReturn}
 use Rattle.sc_core.specs.declared.run.RunEnd.TheVariants.{Ended, Blamed, TurnsOut, EventsOut}
 use Rattle.sc_core.specs.declared.ty.Ty.TheVariants as ty
 use Rattle.sc_tac.specs.declared.stmt.Constant.TheVariants as constant

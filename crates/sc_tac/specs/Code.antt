@@ -4,8 +4,8 @@ use Rattle.sc_tac.specs.Common.{Main, Memory, Next, Piece, Reached, Return, Run,
 use Rattle.sc_tac.specs.Common.{applied_one, between, c_arith, choose, closed, computed, depth_in, frame_bound}
 use Rattle.sc_tac.specs.Common.{global_block, leave, load, loop, moved, moved_back, moved_on, on_words, roles_in}
 use Rattle.sc_tac.specs.Common.{run_by, run_step, scripted_step, stopped_at, stored, struct_zeros, wrapping}
-use Rattle.std.specs.Prelude.{ℕ, pos, ◌+◌, Bool, true, false, ◌&&◌, ◌==◌, if◌then◌else◌, List, [], ◌∷◌, map, Option, None}
-use Rattle.std.specs.Prelude.{Some, Result, Ok, Err, slice_get}
+use Rattle.std.specs.Prelude.{ℕ, pos, ◌+◌, Bool, true, false, ◌&&◌, ◌==◌, if◌then◌else◌, List, [], ◌∷◌, map, Option}
+use Rattle.std.specs.Prelude.{None, Some, Result, Ok, Err, slice_get}
 use Rattle.std.specs.List.{position}
 use Rattle.sc_base.specs.declared.op.BinaryOp.{BinaryOp}
 use Rattle.sc_base.specs.declared.op.BinaryOp.TheVariants as op
