@@ -1,3 +1,4 @@
+pub mod Branches
 pub mod Choices
 pub mod Operands
 pub mod Operations
