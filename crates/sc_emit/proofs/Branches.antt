@@ -33,8 +33,8 @@ use Rattle.sc_tac.specs.Branches.{branch_step, branches, stmt_branches}
 use Rattle.sc_tac.proofs.Induction.{Inside, stmt_induction}
 use Rattle.sc_select.specs.Lines.{Line, plain, plainly}
 use Rattle.sc_select.specs.Operators.{unary_code, binary_code, op_code, bytes_of}
-use Rattle.sc_select.specs.Pieces.{first_scratch, second_scratch, address_scratch, register_of, is_short, loading, moved_by}
-use Rattle.sc_select.specs.Pieces.{load_word, store_word, frame_taken, frame_left, ra, sp, a0}
+use Rattle.sc_select.specs.Pieces.{first_scratch, second_scratch, address_scratch, register_of, is_short, loading}
+use Rattle.sc_select.specs.Pieces.{moved_by, load_word, store_word, frame_taken, frame_left, ra, sp, a0}
 use Rattle.sc_select.specs.Selection.{Piece, straight, followed, in_order, jump_over, jump_back, round_begins}
 use Rattle.sc_select.specs.Selection.{taken, kept, brought, put, copied, slot_offset, object_offset, place_of, take}
 use Rattle.sc_select.specs.Selection.{at_hand, operand, result_register, keep, take_second, second_operand, operation}
@@ -88,7 +88,8 @@ store_straight rs offset = either (is_short offset) _ _ refl refl
 
 taken_frame_straight : (bytes : ℕ) → Straight (frame_taken bytes)
 taken_frame_straight bytes =
-    both (moved_by sp sp (sub_word 0 bytes)) (Store Sw sp ra (pos 0) ∷ []) (moved_straight sp sp (sub_word 0 bytes)) refl
+    let size = sub_word 0 bytes in
+    both (moved_by sp sp size) (Store Sw sp ra (pos 0) ∷ []) (moved_straight sp sp size) refl
 
 left_frame_straight : (bytes : ℕ) → Straight (frame_left bytes)
 left_frame_straight bytes = both (moved_by sp sp bytes) _ (moved_straight sp sp bytes) refl
@@ -238,16 +239,18 @@ module _ (frame : FrameTree) (places : List Place) where
       both (brought frame a0 (place_of frame places t)) _ (brought_straight frame a0 (place_of frame places t))
       (left_frame_straight frame.bytes)
 
-  loaded_straight : (dest word : ℕ) → Straight (loading (result_register frame places dest) word ++ keep frame places dest)
+  loaded_straight : (dest word : ℕ) →
+      Straight (loading (result_register frame places dest) word ++ keep frame places dest)
   loaded_straight dest word =
-      both (loading (result_register frame places dest) word) _ (loading_straight (result_register frame places dest) word)
-      (keep_straight dest)
+      let rd = result_register frame places dest in
+      both (loading rd word) (keep frame places dest) (loading_straight rd word) (keep_straight dest)
 
   object_straight : (dest object : ℕ) → Straight
       (moved_by (result_register frame places dest) sp (object_offset frame object) ++ keep frame places dest)
   object_straight dest object =
-      both (moved_by (result_register frame places dest) sp (object_offset frame object)) _
-      (moved_straight (result_register frame places dest) sp (object_offset frame object)) (keep_straight dest)
+      let rd = result_register frame places dest in
+      let offset = object_offset frame object in
+      both (moved_by rd sp offset) (keep frame places dest) (moved_straight rd sp offset) (keep_straight dest)
 
   global_straight : (dest global : ℕ) → StraightLines (place_of_global frame places dest global)
   global_straight dest global = plainly_straight (keep frame places dest) (keep_straight dest)
@@ -357,7 +360,8 @@ module _ (test : Line → Bool) (mild : IsMild test) (frame : FrameTree) (places
       let branch : Instr = Branch Bne (operand frame places first_scratch cond) 0 (pos 8) in
       list_all-map test plain (instrs ++ branch ∷ []) ∙
       all_append (λ i. test (plain i)) instrs (branch ∷ [])
-      (all_weaker is_straight (λ i. test (plain i)) straight_mild instrs (take_straight frame places first_scratch cond))
+      (all_weaker is_straight (λ i. test (plain i)) straight_mild instrs
+      (take_straight frame places first_scratch cond))
       (and_from (test (plain branch)) true (mild.mild branch refl) refl)
 
   pub fork_passes : (cond : ℕ) (e f : Piece) → PassesAll test e → PassesAll test f →
@@ -528,15 +532,17 @@ module _ (frame : FrameTree) (places : List Place) where
 
   function_count : (f : TacFnTree) → count (function_lines frame places f) ≤ branches f.body
   function_count f =
-      let front : List Line = plainly (entrance frame places f.params) in
+      let entered : List Instr = entrance frame places f.params in
+      let left : List Instr = closing frame places f.entry in
+      let front : List Line = plainly entered in
       let body : List Line = (select_all frame places f.body).lines 0 0 in
-      let back : List Line = plainly (closing frame places f.entry) in
+      let back : List Line = plainly left in
       omega (
         arith,
         count_append (front ++ body) back,
         count_append front body,
-        straight_count front (plainly_straight (entrance frame places f.params) (entrance_straight frame places f.params)),
-        straight_count back (plainly_straight (closing frame places f.entry) (closing_straight frame places f.entry)),
+        straight_count front (plainly_straight entered (entrance_straight frame places f.params)),
+        straight_count back (plainly_straight left (closing_straight frame places f.entry)),
         (body_shaped f.body).few 0 0,
       )
 

@@ -4,3 +4,4 @@ pub mod Operands
 pub mod Operations
 pub mod Plain
 pub mod Straight
+pub mod Targets
