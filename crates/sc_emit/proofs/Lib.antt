@@ -1,4 +1,5 @@
 pub mod Arguments
+pub mod Branches
 pub mod Calls
 pub mod Choices
 pub mod Entering
@@ -12,3 +13,4 @@ pub mod Plain
 pub mod Returns
 pub mod Statements
 pub mod Straight
+pub mod Targets
