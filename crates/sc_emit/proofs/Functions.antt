@@ -202,7 +202,7 @@ module _ (T : Setting) (f : TacFnTree) (frame : FrameTree) (places : List Place)
   closing_some (Some (Export index)) = omega arith
 
   module _ (formed : IsWellFormed T.image) (inputs : All IsWord T.inputs) (rules : IsFunction f) (whole : IsFrame frame)
-      (room : HasRoom f.objects places f.nodes frame) (fits : frame_bound f.objects f.nodes ≤ 32768)
+      (room : HasRoom f.objects places f.nodes frame) (fits : frame.bytes ≤ 32768)
       (assigned : IsAssignment (intervals_of f) places) (words : IsTrue (passes_words f.params f.objects)) where
     abbrev function : Function
     function = code_function wrapping f

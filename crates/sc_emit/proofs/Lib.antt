@@ -2,6 +2,7 @@ pub mod Arguments
 pub mod Branches
 pub mod Calls
 pub mod Choices
+pub mod Emission
 pub mod Entering
 pub mod Environment
 pub mod Functions
