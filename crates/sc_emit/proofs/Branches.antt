@@ -1,23 +1,31 @@
--- The code of a function has at most one branch for each `If`, and no EBREAK.
+-- The code of a function has at most one branch for each `If` and no EBREAK,
+-- and each field of its instructions is in the range of its form.
 use Rattle.std.proofs.Common.{◌≡◌, ℕ, zero, suc, ◌+◌, ◌≤◌, Bool, false, true, List, [], ◌∷◌, ◌++◌, Option, None, Some}
-use Rattle.std.proofs.Common.{refl, sym, ◌∙◌, ap, subst, arith, pos, map, cond}
-use Rattle.std.specs.Prelude.{not, if◌then◌else◌}
+use Rattle.std.proofs.Common.{refl, sym, ◌∙◌, ap, subst, arith, pos, map, cond, ◌*◌, ◌%◌, ◌^◌, ◌<◌, ℤ, negsuc, rules}
+use Rattle.std.proofs.Common.{length, All, ltb-true, leb-true, nat_lt}
+use Rattle.std.specs.Prelude.{not, if◌then◌else◌, ◌&&◌, int_le, neg_ℤ, ◌≤ℤ◌, nat_le, slice_get}
 use Rattle.std.specs.List.{count_by, list_all}
 use Rattle.std.proofs.lemmas.Bool.{and_from}
 use Rattle.std.proofs.lemmas.List.Folds.{list_all-append, list_all-map}
 use Rattle.std.proofs.lemmas.List.Sums.{sum_by-append}
+use Rattle.std.proofs.lemmas.Int.{ints}
+use Rattle.std.proofs.lemmas.List.Elements.{All-nil, All-cons}
 use Rattle.rv_code.specs.declared.instr.Instr.{Instr}
-use Rattle.rv_code.specs.declared.instr.Instr.TheVariants.{Branch, Ebreak, Store}
+use Rattle.rv_code.specs.declared.instr.Instr.TheVariants.{Branch, Ebreak, Store, Load, OpImm}
 use Rattle.rv_code.specs.declared.instr.BranchOp.TheVariants.{Bne}
 use Rattle.rv_code.specs.declared.instr.StoreOp.TheVariants.{Sw}
-use Rattle.sc_word.specs.Prelude.{sub_word}
+use Rattle.rv_code.specs.declared.instr.LoadOp.TheVariants.{Lw}
+use Rattle.rv_code.specs.declared.instr.OpImmOp.TheVariants.{Addi}
+use Rattle.rv_code.specs.Prelude.{IsReg, IsImmediate, IsUpper, IsJumpOffset, IsBranchOffset, IsInstr}
+use Rattle.rv_code.proofs.Numbers.{IsImmediate-signed}
+use Rattle.sc_word.specs.Prelude.{sub_word, signed_of}
 use Rattle.sc_base.proofs.Bools.{and_first, and_rest}
 use Rattle.sc_base.specs.declared.op.BinaryOp.{BinaryOp}
 use Rattle.sc_base.specs.declared.op.BinaryOp.TheVariants as op
 use Rattle.sc_base.specs.declared.op.UnaryOp.{UnaryOp}
 use Rattle.sc_base.specs.declared.op.UnaryOp.TheVariants as unary
 use Rattle.sc_core.proofs.Induction.{Each, everywhere}
-use Rattle.sc_core.specs.Prelude.{total}
+use Rattle.sc_core.specs.Prelude.{total, most_params}
 use Rattle.sc_event.specs.declared.row.Entry.{Entry}
 use Rattle.sc_event.specs.declared.row.Entry.TheVariants.{Main, Export}
 use Rattle.sc_tac.specs.declared.frame.FrameTree.{FrameTree}
@@ -26,21 +34,27 @@ use Rattle.sc_tac.specs.declared.place.Place.{Place}
 use Rattle.sc_tac.specs.declared.place.Place.TheVariants.{Register, Slot}
 use Rattle.sc_tac.specs.declared.stmt.TacOp.{TacOp}
 use Rattle.sc_tac.specs.declared.stmt.TacOp.TheVariants as tacop
-use Rattle.sc_tac.specs.declared.stmt.TacStmt.{TacStmt, TacStmt-F, map-TacStmt, fold-roll-TacStmt}
+use Rattle.sc_tac.specs.declared.stmt.TacStmt.{TacStmt, TacStmt-F, map-TacStmt, fold-roll-TacStmt, fold-TacStmt}
 unfoldable use Rattle.sc_tac.specs.declared.stmt.TacStmt.{roll-TacStmt}
 use Rattle.sc_tac.specs.declared.stmt.TacStmt.TheOpen as tac
 use Rattle.sc_tac.specs.Branches.{branch_step, branches, stmt_branches}
 use Rattle.sc_tac.proofs.Induction.{Inside, stmt_induction}
+use Rattle.sc_tac.specs.Functions.{passes_few}
+use Rattle.sc_tac.specs.Parts.{all_hold, with_parts}
+use Rattle.sc_tac.specs.Places.{ArePlaces, is_place, register_count}
 use Rattle.sc_select.specs.Lines.{Line, plain, plainly}
 use Rattle.sc_select.specs.Operators.{unary_code, binary_code, op_code, bytes_of}
 use Rattle.sc_select.specs.Pieces.{first_scratch, second_scratch, address_scratch, register_of, is_short, loading}
-use Rattle.sc_select.specs.Pieces.{moved_by, load_word, store_word, frame_taken, frame_left, ra, sp, a0}
-use Rattle.sc_select.specs.Selection.{Piece, straight, followed, in_order, jump_over, jump_back, round_begins}
-use Rattle.sc_select.specs.Selection.{taken, kept, brought, put, copied, slot_offset, object_offset, place_of, take}
-use Rattle.sc_select.specs.Selection.{at_hand, operand, result_register, keep, take_second, second_operand, operation}
-use Rattle.sc_select.specs.Selection.{load_from, store_to, place_of_global, pass, receive, call_own, call_cross, return}
-use Rattle.sc_select.specs.Selection.{choice, fork, cycle, environment_call, word_of_constant, select_step, select}
-use Rattle.sc_select.specs.Selection.{select_all, store_arguments, entrance, closing, function_lines, code_of}
+use Rattle.sc_select.specs.Pieces.{moved_by, load_word, store_word, frame_taken, frame_left, ra, sp, a0, a7, upper_part}
+use Rattle.sc_select.specs.Pieces.{lower_part}
+use Rattle.sc_select.specs.Selection.{Piece, straight, followed, in_order, jump_over, jump_back, round_begins, taken}
+use Rattle.sc_select.specs.Selection.{kept, brought, put, copied, slot_offset, object_offset, place_of, take, at_hand}
+use Rattle.sc_select.specs.Selection.{operand, result_register, keep, take_second, second_operand, operation, load_from}
+use Rattle.sc_select.specs.Selection.{store_to, place_of_global, pass, receive, call_own, call_cross, return, choice}
+use Rattle.sc_select.specs.Selection.{fork, cycle, environment_call, word_of_constant, select_step, select, select_all}
+use Rattle.sc_select.specs.Selection.{store_arguments, entrance, closing, function_lines, code_of}
+use Rattle.sc_select.specs.Bounds.{Fits, most_lines}
+use Rattle.sc_relation.proofs.Registers.{register_there}
 use Rattle.sc_emit.specs.Shapes.{is_branch, is_ebreak, code_branches, has_no_ebreak}
 
 -- TESTS
@@ -556,3 +570,525 @@ pub no_ebreak : (f : TacFnTree) (places : List Place) (frame : FrameTree) →
 no_ebreak f places frame =
     list_all-map (λ i. not (is_ebreak i)) (λ line. line.instr) (function_lines frame places f) ∙
     function_passes frame places is_no_ebreak no_ebreak_mild f (body_shaped frame places f.body).no_ebreak
+
+-- FIELDS
+-- each field is in the range of its form
+abbrev AreInstrs : List Instr → Type 0
+AreInstrs instrs = Each IsInstr instrs
+
+both_instrs : (xs ys : List Instr) → AreInstrs xs → AreInstrs ys → AreInstrs (xs ++ ys)
+both_instrs [] ys hx hy = hy
+both_instrs (x ∷ xs) ys hx hy = (hx.0, both_instrs xs ys hx.1 hy)
+
+if_instrs : (b : Bool) (xs ys : List Instr) → (b ≡ true → AreInstrs xs) → AreInstrs ys →
+    AreInstrs (if b then xs else ys)
+if_instrs true xs ys hx hy = hx refl
+if_instrs false xs ys hx hy = hy
+
+x0_there : IsReg 0
+x0_there = omega arith
+
+ra_there : IsReg ra
+ra_there = omega arith
+
+sp_there : IsReg sp
+sp_there = omega arith
+
+first_there : IsReg first_scratch
+first_there = omega arith
+
+second_there : IsReg second_scratch
+second_there = omega arith
+
+address_there : IsReg address_scratch
+address_there = omega arith
+
+a0_there : IsReg a0
+a0_there = omega arith
+
+a7_there : IsReg a7
+a7_there = omega arith
+
+small_immediate : (n : ℕ) → n ≤ 2047 → IsImmediate (pos n)
+small_immediate n l = record { least = search rules; greatest = omega (arith, ints) }
+
+no_immediate : IsImmediate (pos 0)
+no_immediate = small_immediate 0 (omega arith)
+
+one_immediate : IsImmediate (pos 1)
+one_immediate = small_immediate 1 (omega arith)
+
+minus_one : IsImmediate (negsuc 0)
+minus_one = record { least = omega (arith, ints); greatest = search rules }
+
+int_le_true : (x y : ℤ) → int_le x y ≡ true → x ≤ℤ y
+int_le_true x y h = record { le = rw h tt }
+
+short_immediate : (z : ℤ) → (int_le (negsuc 2047) z && int_le z (pos 2047)) ≡ true → IsImmediate z
+short_immediate z h = record {
+  least = int_le_true (negsuc 2047) z (and_first (int_le (negsuc 2047) z) (int_le z (pos 2047)) h);
+  greatest = int_le_true z (pos 2047) (and_rest (int_le (negsuc 2047) z) (int_le z (pos 2047)) h);
+}
+
+short_fits : (word : ℕ) → is_short word ≡ true → IsImmediate (signed_of word)
+short_fits word h = short_immediate (signed_of word) h
+
+upper_fits : (word : ℕ) → IsUpper (upper_part word)
+upper_fits word = record { word = omega arith; low = omega arith }
+
+lower_fits : (word : ℕ) → IsImmediate (lower_part word)
+lower_fits word = IsImmediate-signed (word % 2 ^ 12) (omega arith)
+
+over_fits : (lines : ℕ) → lines < 262143 → IsJumpOffset (pos (4 * suc lines))
+over_fits lines h = record { least = search rules; greatest = omega (arith, ints); even = omega arith }
+
+back_by : (bytes : ℕ) → bytes ≤ 1048576 → bytes % 2 ≡ 0 → IsJumpOffset (neg_ℤ (pos bytes))
+back_by zero h e = record { least = search rules; greatest = search rules; even = refl }
+back_by (suc bytes) h e = record { least = omega (arith, ints); greatest = search rules; even = omega arith }
+
+back_fits : (lines : ℕ) → lines ≤ 262144 → IsJumpOffset (neg_ℤ (pos (4 * lines)))
+back_fits lines h = back_by (4 * lines) (omega arith) (omega arith)
+
+branch_fits : IsBranchOffset (pos 8)
+branch_fits = record { least = search rules; greatest = omega (arith, ints); even = refl }
+
+no_jump : IsJumpOffset (pos 0)
+no_jump = record { least = search rules; greatest = search rules; even = refl }
+
+no_upper : IsUpper 0
+no_upper = record { word = omega arith; low = refl }
+
+-- pieces
+loading_instrs : (rd word : ℕ) → IsReg rd → AreInstrs (loading rd word)
+loading_instrs rd word h =
+    if_instrs (is_short word) (OpImm Addi rd 0 (signed_of word) ∷ []) _ (λ s. ((h, x0_there, short_fits word s), tt))
+    ((h, upper_fits word), ((h, h, lower_fits word), tt))
+
+moved_instrs : (rd rs bytes : ℕ) → IsReg rd → IsReg rs → AreInstrs (moved_by rd rs bytes)
+moved_instrs rd rs bytes h k =
+    if_instrs (is_short bytes) (OpImm Addi rd rs (signed_of bytes) ∷ []) _ (λ s. ((h, k, short_fits bytes s), tt))
+    (both_instrs (loading address_scratch bytes) _ (loading_instrs address_scratch bytes address_there)
+    ((h, k, address_there), tt))
+
+load_instrs : (rd offset : ℕ) → IsReg rd → AreInstrs (load_word rd offset)
+load_instrs rd offset h =
+    if_instrs (is_short offset) (Load Lw rd sp (signed_of offset) ∷ []) _
+    (λ s. ((h, sp_there, short_fits offset s), tt)) (
+      (address_there, upper_fits offset),
+      (
+        (address_there, address_there, sp_there),
+        ((h, address_there, lower_fits offset), tt),
+      ),
+    )
+
+store_instrs : (rs offset : ℕ) → IsReg rs → AreInstrs (store_word rs offset)
+store_instrs rs offset h =
+    if_instrs (is_short offset) (Store Sw sp rs (signed_of offset) ∷ []) _
+    (λ s. ((sp_there, h, short_fits offset s), tt)) (
+      (address_there, upper_fits offset),
+      (
+        (address_there, address_there, sp_there),
+        ((address_there, h, lower_fits offset), tt),
+      ),
+    )
+
+taken_frame_instrs : (bytes : ℕ) → AreInstrs (frame_taken bytes)
+taken_frame_instrs bytes =
+    let size = sub_word 0 bytes in
+    both_instrs (moved_by sp sp size) (Store Sw sp ra (pos 0) ∷ []) (moved_instrs sp sp size sp_there sp_there)
+    ((sp_there, ra_there, no_immediate), tt)
+
+left_frame_instrs : (bytes : ℕ) → AreInstrs (frame_left bytes)
+left_frame_instrs bytes = (
+  (ra_there, sp_there, no_immediate),
+  both_instrs (moved_by sp sp bytes) _ (moved_instrs sp sp bytes sp_there sp_there)
+      ((x0_there, ra_there, no_immediate), tt),
+)
+
+-- operators
+unary_instrs : (rd rs : ℕ) (o : UnaryOp) → IsReg rd → IsReg rs → AreInstrs (unary_code rd rs o)
+unary_instrs rd rs unary.Minus h k = ((h, x0_there, k), tt)
+unary_instrs rd rs unary.Plus h k = ((h, k, no_immediate), tt)
+unary_instrs rd rs unary.Not h k = ((h, k, one_immediate), tt)
+unary_instrs rd rs unary.BitNot h k = ((h, k, minus_one), tt)
+
+module _ (rd left right : ℕ) (h : IsReg rd) (l : IsReg left) (r : IsReg right) where
+  binary_instrs : (unsigned : Bool) (o : BinaryOp) → AreInstrs (binary_code rd left right unsigned o)
+  binary_instrs unsigned op.OrElse = ((first_there, l, r), ((h, x0_there, first_there), tt))
+  binary_instrs unsigned op.AndAlso =
+      ((first_there, x0_there, l), ((second_there, x0_there, r), ((h, first_there, second_there), tt)))
+  binary_instrs unsigned op.BitOr = ((h, l, r), tt)
+  binary_instrs unsigned op.BitXor = ((h, l, r), tt)
+  binary_instrs unsigned op.BitAnd = ((h, l, r), tt)
+  binary_instrs unsigned op.Equal = ((first_there, l, r), ((h, first_there, one_immediate), tt))
+  binary_instrs unsigned op.NotEqual = ((first_there, l, r), ((h, x0_there, first_there), tt))
+  binary_instrs unsigned op.Less = ((h, l, r), tt)
+  binary_instrs unsigned op.Greater = ((h, r, l), tt)
+  binary_instrs unsigned op.LessEqual = ((first_there, r, l), ((h, first_there, one_immediate), tt))
+  binary_instrs unsigned op.GreaterEqual = ((first_there, l, r), ((h, first_there, one_immediate), tt))
+  binary_instrs unsigned op.ShiftLeft = ((h, l, r), tt)
+  binary_instrs unsigned op.ShiftRight = ((h, l, r), tt)
+  binary_instrs unsigned op.Add = ((h, l, r), tt)
+  binary_instrs unsigned op.Sub = ((h, l, r), tt)
+  binary_instrs unsigned op.Mul = ((h, l, r), tt)
+  binary_instrs unsigned op.Div = ((h, l, r), tt)
+  binary_instrs unsigned op.Rem = ((h, l, r), tt)
+
+  scaled : (cells : ℕ) → AreInstrs (loading address_scratch (bytes_of cells))
+  scaled cells = loading_instrs address_scratch (bytes_of cells) address_there
+
+  op_instrs : (o : TacOp) → AreInstrs (op_code rd left right o)
+  op_instrs (tacop.Unary o scalar) = unary_instrs rd left o h l
+  op_instrs (tacop.Binary o scalar) = binary_instrs _ o
+  op_instrs tacop.PointerNot = ((h, l, one_immediate), tt)
+  op_instrs (tacop.PointerMove minus cells index) =
+      both_instrs (loading address_scratch (bytes_of cells)) _ (scaled cells)
+      ((second_there, r, address_there), ((h, l, second_there), tt))
+  op_instrs (tacop.PointerMember offset) = moved_instrs rd left (bytes_of offset) h l
+  op_instrs (tacop.PointerDifference cells) = (
+    (first_there, l, r),
+    both_instrs (loading address_scratch (bytes_of cells)) _ (scaled cells)
+        ((h, first_there, address_there), tt),
+  )
+  op_instrs (tacop.PointerCompare o) = binary_instrs true o
+
+-- places: a register is one of those for temporaries
+abbrev IsThere : Option Place → Type 0
+IsThere (Some (Register r)) = r < register_count
+IsThere (Some (Slot slot)) = Unit {0}
+IsThere None = Unit {0}
+
+place_there : (temps : ℕ) (places : List Place) (t : ℕ) → list_all (is_place temps) places ≡ true →
+    IsThere (slice_get places t)
+place_there temps [] t h = tt
+place_there temps (Register r ∷ places) zero h =
+    ltb-true r register_count (and_first (nat_lt r register_count) (list_all (is_place temps) places) h)
+place_there temps (Slot slot ∷ places) zero h = tt
+place_there temps (place ∷ places) (suc t) h =
+    place_there temps places t (and_rest (is_place temps place) (list_all (is_place temps) places) h)
+
+at_hand_there : (scratch : ℕ) (place : Option Place) → IsReg scratch → IsThere place → IsReg (at_hand scratch place)
+at_hand_there scratch (Some (Register r)) h there = register_there r there
+at_hand_there scratch (Some (Slot slot)) h there = h
+at_hand_there scratch None h there = h
+
+module _ (frame : FrameTree) where
+  taken_instrs : (scratch : ℕ) (place : Option Place) → IsReg scratch → AreInstrs (taken frame scratch place)
+  taken_instrs scratch (Some (Slot slot)) h = load_instrs scratch (slot_offset frame slot) h
+  taken_instrs scratch (Some (Register r)) h = tt
+  taken_instrs scratch None h = tt
+
+  kept_instrs : (place : Option Place) → AreInstrs (kept frame place)
+  kept_instrs (Some (Slot slot)) = store_instrs first_scratch (slot_offset frame slot) first_there
+  kept_instrs (Some (Register r)) = tt
+  kept_instrs None = tt
+
+  brought_instrs : (rd : ℕ) (place : Option Place) → IsReg rd → IsThere place → AreInstrs (brought frame rd place)
+  brought_instrs rd (Some (Slot slot)) h there = load_instrs rd (slot_offset frame slot) h
+  brought_instrs rd (Some (Register r)) h there = ((h, register_there r there, no_immediate), tt)
+  brought_instrs rd None h there = tt
+
+  put_instrs : (rs : ℕ) (place : Option Place) → IsReg rs → IsThere place → AreInstrs (put frame rs place)
+  put_instrs rs (Some (Slot slot)) h there = store_instrs rs (slot_offset frame slot) h
+  put_instrs rs (Some (Register r)) h there = ((register_there r there, h, no_immediate), tt)
+  put_instrs rs None h there = tt
+
+  copied_instrs : (dest from : Option Place) → IsThere dest → IsThere from → AreInstrs (copied frame dest from)
+  copied_instrs (Some (Register r)) from h there = brought_instrs (register_of r) from (register_there r h) there
+  copied_instrs (Some (Slot slot)) from h there =
+      both_instrs (taken frame first_scratch from) _ (taken_instrs first_scratch from first_there)
+      (store_instrs (at_hand first_scratch from) (slot_offset frame slot)
+      (at_hand_there first_scratch from first_there there))
+  copied_instrs None from h there = tt
+
+-- lines
+abbrev AreInstrLines : List Line → Type 0
+AreInstrLines lines = Each {A = Line} (λ line. IsInstr line.instr) lines
+
+both_instr_lines : (xs ys : List Line) → AreInstrLines xs → AreInstrLines ys → AreInstrLines (xs ++ ys)
+both_instr_lines [] ys hx hy = hy
+both_instr_lines (x ∷ xs) ys hx hy = (hx.0, both_instr_lines xs ys hx.1 hy)
+
+plainly_instrs : (instrs : List Instr) → AreInstrs instrs → AreInstrLines (plainly instrs)
+plainly_instrs [] h = tt
+plainly_instrs (i ∷ is) h = (h.0, plainly_instrs is h.1)
+
+all_instrs : (lines : List Line) → AreInstrLines lines → All IsInstr (map (λ line. line.instr) lines)
+all_instrs [] h = All-nil IsInstr
+all_instrs (x ∷ xs) h = All-cons IsInstr x.instr (map (λ line. line.instr) xs) h.0 (all_instrs xs h.1)
+
+-- where its jumps reach, a piece is made of instructions
+record IsEncodable (piece : Piece) : Type 0 where
+  encodable : (to_break to_continue : ℕ) → piece.size + to_break < most_lines →
+      piece.size + to_continue < most_lines → AreInstrLines (piece.lines to_break to_continue)
+
+straight_encodable : (lines : List Line) → AreInstrLines lines → IsEncodable (straight lines)
+straight_encodable lines h = record { encodable = λ b c hb hc. h }
+
+plainly_encodable : (instrs : List Instr) → AreInstrs instrs → IsEncodable (straight (plainly instrs))
+plainly_encodable instrs h = straight_encodable (plainly instrs) (plainly_instrs instrs h)
+
+followed_encodable : (e f : Piece) → IsEncodable e → IsEncodable f → IsEncodable (followed e f)
+followed_encodable e f he hf = record {
+  encodable = λ b c hb hc.
+      both_instr_lines (e.lines (f.size + b) (f.size + c)) (f.lines b c)
+      (he.encodable (f.size + b) (f.size + c) (omega (arith, hb)) (omega (arith, hc)))
+      (hf.encodable b c (omega (arith, hb)) (omega (arith, hc)));
+}
+
+module _ (frame : FrameTree) (places : List Place) (there : (t : ℕ) → IsThere (slice_get places t)) where
+  operand_there : (scratch t : ℕ) → IsReg scratch → IsReg (operand frame places scratch t)
+  operand_there scratch t h = at_hand_there scratch (slice_get places t) h (there t)
+
+  take_instrs : (scratch t : ℕ) → IsReg scratch → AreInstrs (take frame places scratch t)
+  take_instrs scratch t h = taken_instrs frame scratch (slice_get places t) h
+
+  first_taken : (t : ℕ) → AreInstrs (take frame places first_scratch t)
+  first_taken t = take_instrs first_scratch t first_there
+
+  first_at : (t : ℕ) → IsReg (operand frame places first_scratch t)
+  first_at t = operand_there first_scratch t first_there
+
+  keep_instrs : (dest : ℕ) → AreInstrs (keep frame places dest)
+  keep_instrs dest = kept_instrs frame (slice_get places dest)
+
+  second_taken : (t : Option ℕ) → AreInstrs (take_second frame places t)
+  second_taken None = tt
+  second_taken (Some t) = take_instrs second_scratch t second_there
+
+  second_at : (t : Option ℕ) → IsReg (second_operand frame places t)
+  second_at None = x0_there
+  second_at (Some t) = operand_there second_scratch t second_there
+
+  operation_instrs : (dest : ℕ) (o : TacOp) (left : ℕ) (right : Option ℕ) →
+      AreInstrs (operation frame places dest o left right)
+  operation_instrs dest o left right =
+      let rd = result_register frame places dest in
+      let a = operand frame places first_scratch left in
+      let b = second_operand frame places right in
+      let front : List Instr = take frame places first_scratch left ++ take_second frame places right in
+      both_instrs (front ++ op_code rd a b o) (keep frame places dest)
+      (both_instrs front (op_code rd a b o)
+      (both_instrs (take frame places first_scratch left) (take_second frame places right) (first_taken left)
+      (second_taken right)) (op_instrs rd a b (first_at dest) (first_at left) (second_at right) o))
+      (keep_instrs dest)
+
+  load_from_instrs : (dest place : ℕ) → AreInstrs (load_from frame places dest place)
+  load_from_instrs dest place =
+      both_instrs (take frame places first_scratch place) _ (first_taken place)
+      ((first_at dest, first_at place, no_immediate), keep_instrs dest)
+
+  store_to_instrs : (place value : ℕ) → AreInstrs (store_to frame places place value)
+  store_to_instrs place value =
+      both_instrs (take frame places first_scratch place ++ take frame places second_scratch value) _
+      (both_instrs (take frame places first_scratch place) (take frame places second_scratch value) (first_taken place)
+      (take_instrs second_scratch value second_there))
+      ((first_at place, operand_there second_scratch value second_there, no_immediate), tt)
+
+  loaded_instrs : (dest word : ℕ) →
+      AreInstrs (loading (result_register frame places dest) word ++ keep frame places dest)
+  loaded_instrs dest word =
+      let rd = result_register frame places dest in
+      both_instrs (loading rd word) (keep frame places dest) (loading_instrs rd word (first_at dest)) (keep_instrs dest)
+
+  object_instrs : (dest object : ℕ) → AreInstrs
+      (moved_by (result_register frame places dest) sp (object_offset frame object) ++ keep frame places dest)
+  object_instrs dest object =
+      let rd = result_register frame places dest in
+      let offset = object_offset frame object in
+      both_instrs (moved_by rd sp offset) (keep frame places dest)
+      (moved_instrs rd sp offset (first_at dest) sp_there) (keep_instrs dest)
+
+  pass_instrs : (rd : ℕ) (args : List ℕ) → rd + length args ≤ 32 → AreInstrs (pass frame places rd args)
+  pass_instrs rd [] h = tt
+  pass_instrs rd (t ∷ ts) h =
+      both_instrs (brought frame rd (slice_get places t)) (pass frame places (suc rd) ts)
+      (brought_instrs frame rd (slice_get places t) (omega (arith, h)) (there t))
+      (pass_instrs (suc rd) ts (omega (arith, h)))
+
+  receive_instrs : (dest : Option ℕ) → AreInstrs (receive frame places dest)
+  receive_instrs None = tt
+  receive_instrs (Some dest) = put_instrs frame a0 (slice_get places dest) a0_there (there dest)
+
+  passed_instrs : (args : List ℕ) → nat_le (length args) 8 ≡ true →
+      AreInstrLines (plainly (pass frame places a0 args))
+  passed_instrs args few =
+      let short : length args ≤ 8 = leb-true (length args) 8 few in
+      plainly_instrs (pass frame places a0 args) (pass_instrs a0 args (omega (arith, short)))
+
+  received_instrs : (dest : Option ℕ) → AreInstrLines (plainly (receive frame places dest))
+  received_instrs dest = plainly_instrs (receive frame places dest) (receive_instrs dest)
+
+  own_instrs : (dest : Option ℕ) (function : ℕ) (args : List ℕ) → nat_le (length args) 8 ≡ true →
+      AreInstrLines (call_own frame places dest function args)
+  own_instrs dest function args few =
+      both_instr_lines (plainly (pass frame places a0 args)) _ (passed_instrs args few)
+      ((ra_there, no_jump), received_instrs dest)
+
+  cross_instrs : (dest : Option ℕ) (comp index : ℕ) (args : List ℕ) → nat_le (length args) 8 ≡ true →
+      AreInstrLines (call_cross frame places dest comp index args)
+  cross_instrs dest comp index args few =
+      both_instr_lines (plainly (pass frame places a0 args)) _ (passed_instrs args few)
+      ((first_there, no_upper), ((ra_there, first_there, no_immediate), received_instrs dest))
+
+  global_instrs : (dest global : ℕ) → AreInstrLines (place_of_global frame places dest global)
+  global_instrs dest global = (
+    (first_at dest, no_upper),
+    ((first_at dest, first_at dest, no_immediate), plainly_instrs (keep frame places dest) (keep_instrs dest)),
+  )
+
+  input_instrs : (dest : Option ℕ) → AreInstrs (environment_call 1 ++ receive frame places dest)
+  input_instrs dest = ((a7_there, x0_there, one_immediate), (tt, receive_instrs dest))
+
+  output_instrs : (value : ℕ) → AreInstrs (brought frame a0 (slice_get places value) ++ environment_call 2)
+  output_instrs value =
+      both_instrs (brought frame a0 (slice_get places value)) (environment_call 2)
+      (brought_instrs frame a0 (slice_get places value) a0_there (there value))
+      ((a7_there, x0_there, small_immediate 2 (omega arith)), (tt, tt))
+
+  return_instrs : (value : Option ℕ) → AreInstrs (return frame places value)
+  return_instrs None = left_frame_instrs frame.bytes
+  return_instrs (Some t) =
+      both_instrs (brought frame a0 (slice_get places t)) _
+      (brought_instrs frame a0 (slice_get places t) a0_there (there t)) (left_frame_instrs frame.bytes)
+
+  store_arguments_instrs : (params from : ℕ) → a0 + from + params ≤ 32 →
+      AreInstrs (store_arguments frame places params from)
+  store_arguments_instrs zero from h = tt
+  store_arguments_instrs (suc params) from h =
+      both_instrs (store_word (a0 + from) (object_offset frame from)) _
+      (store_instrs (a0 + from) (object_offset frame from) (omega (arith, h)))
+      (store_arguments_instrs params (suc from) (omega (arith, h)))
+
+  entrance_instrs : (params : ℕ) → params ≤ 8 → AreInstrs (entrance frame places params)
+  entrance_instrs params h =
+      both_instrs (frame_taken frame.bytes) _ (taken_frame_instrs frame.bytes)
+      (store_arguments_instrs params 0 (omega (arith, h)))
+
+  closing_instrs : (entry : Option Entry) → AreInstrs (closing frame places entry)
+  closing_instrs (Some Main) = ((a0_there, x0_there, no_immediate), left_frame_instrs frame.bytes)
+  closing_instrs (Some (Export index)) = left_frame_instrs frame.bytes
+  closing_instrs None = left_frame_instrs frame.bytes
+
+  choice_instrs : (cond : ℕ) → AreInstrLines (plainly (choice frame places cond))
+  choice_instrs cond =
+      plainly_instrs (choice frame places cond) (both_instrs (take frame places first_scratch cond) _
+      (first_taken cond) ((first_at cond, x0_there, branch_fits), tt))
+
+  fork_encodable : (cond : ℕ) (e f : Piece) → IsEncodable e → IsEncodable f →
+      IsEncodable (fork frame places cond e f)
+  fork_encodable cond e f he hf = record {
+    encodable = λ b c hb hc.
+        let first : List Line = e.lines (suc (f.size + b)) (suc (f.size + c)) in
+        let second : List Line = jump_over f.size ∷ f.lines b c in
+        both_instr_lines (plainly (choice frame places cond)) (jump_over (suc e.size) ∷ (first ++ second))
+        (choice_instrs cond) (
+          (x0_there, over_fits (suc e.size) (omega (arith, hb))),
+          both_instr_lines first second
+              (he.encodable (suc (f.size + b)) (suc (f.size + c)) (omega (arith, hb)) (omega (arith, hc))) (
+                (x0_there, over_fits f.size (omega (arith, hb))),
+                hf.encodable b c (omega (arith, hb)) (omega (arith, hc)),
+              ),
+        );
+  }
+
+  cycle_encodable : (h b n : Piece) → IsEncodable h → IsEncodable b → IsEncodable n →
+      IsEncodable (cycle frame places h b n)
+  cycle_encodable h b n eh eb en = record {
+    encodable = λ to_break to_continue hb hc.
+        let back : List Line = jump_back (suc (h.size + (b.size + n.size))) ∷ [] in
+        let last : List Line = n.lines 1 0 ++ back in
+        let middle : List Line = b.lines (suc n.size) 0 ++ last in
+        let head : List Line = h.lines (b.size + suc n.size) 0 in (
+          (x0_there, x0_there, no_immediate),
+          both_instr_lines head middle
+              (eh.encodable (b.size + suc n.size) 0 (omega (arith, hb)) (omega (arith, hb)))
+              (both_instr_lines (b.lines (suc n.size) 0) last
+              (eb.encodable (suc n.size) 0 (omega (arith, hb)) (omega (arith, hb)))
+              (both_instr_lines (n.lines 1 0) back (en.encodable 1 0 (omega (arith, hb)) (omega (arith, hb)))
+              ((x0_there, back_fits (suc (h.size + (b.size + n.size))) (omega (arith, hb))), tt))),
+        );
+  }
+
+  abbrev few_inside : TacStmt → Bool
+  few_inside = fold-TacStmt Bool (with_parts passes_few)
+
+  abbrev Encodable : TacStmt → Type 0
+  Encodable stmt = few_inside stmt ≡ true → IsEncodable (select frame places stmt)
+
+  row_encodable : (stmts : List TacStmt) → Each Encodable stmts → all_hold (map few_inside stmts) ≡ true →
+      IsEncodable (in_order (map (select frame places) stmts))
+  row_encodable [] h all = straight_encodable [] tt
+  row_encodable (stmt ∷ rest) h all =
+      followed_encodable (select frame places stmt) (in_order (map (select frame places) rest))
+      (h.0 (and_first (few_inside stmt) (all_hold (map few_inside rest)) all))
+      (row_encodable rest h.1 (and_rest (few_inside stmt) (all_hold (map few_inside rest)) all))
+
+  layer_encodable : (layer : TacStmt-F TacStmt) → Inside Encodable layer →
+      with_parts passes_few (map-TacStmt _ _ few_inside layer) ≡ true →
+      IsEncodable (select_step frame places (map-TacStmt _ _ (select frame places) layer))
+  layer_encodable (tac.Const dest value) h all = plainly_encodable _ (loaded_instrs dest (word_of_constant value))
+  layer_encodable (tac.Copy dest from) h all =
+      plainly_encodable _
+      (copied_instrs frame (slice_get places dest) (slice_get places from) (there dest) (there from))
+  layer_encodable (tac.Op dest o left right) h all = plainly_encodable _ (operation_instrs dest o left right)
+  layer_encodable (tac.ObjectPlace dest object) h all = plainly_encodable _ (object_instrs dest object)
+  layer_encodable (tac.GlobalPlace dest global) h all =
+      straight_encodable (place_of_global frame places dest global) (global_instrs dest global)
+  layer_encodable (tac.Load dest place pointer) h all = plainly_encodable _ (load_from_instrs dest place)
+  layer_encodable (tac.Store place value) h all = plainly_encodable _ (store_to_instrs place value)
+  layer_encodable (tac.If cond first second) h all =
+      let a = all_hold (map few_inside first) in
+      let b = all_hold (map few_inside second) in
+      fork_encodable cond (select_all frame places first) (select_all frame places second)
+      (row_encodable first h.0 (and_first a (b && true) all))
+      (row_encodable second h.1 (and_first b true (and_rest a (b && true) all)))
+  layer_encodable (tac.Loop head body next) h all =
+      let a = all_hold (map few_inside head) in
+      let b = all_hold (map few_inside body) in
+      let c = all_hold (map few_inside next) in
+      let rest = and_rest a (b && (c && true)) all in
+      cycle_encodable (select_all frame places head) (select_all frame places body) (select_all frame places next)
+      (row_encodable head h.0 (and_first a (b && (c && true)) all))
+      (row_encodable body h.1 (and_first b (c && true) rest))
+      (row_encodable next h.2 (and_first c true (and_rest b (c && true) rest)))
+  layer_encodable tac.Break h all = record {
+    encodable = λ b c hb hc. ((x0_there, over_fits b (omega (arith, hb))), tt);
+  }
+  layer_encodable tac.Continue h all = record {
+    encodable = λ b c hb hc. ((x0_there, over_fits c (omega (arith, hc))), tt);
+  }
+  layer_encodable (tac.CallOwn dest function args) h all =
+      straight_encodable (call_own frame places dest function args)
+      (own_instrs dest function args (and_first (nat_le (length args) 8) true all))
+  layer_encodable (tac.CallCross dest comp index args) h all =
+      straight_encodable (call_cross frame places dest comp index args)
+      (cross_instrs dest comp index args (and_first (nat_le (length args) 8) true all))
+  layer_encodable (tac.Input dest) h all =
+      plainly_encodable (environment_call 1 ++ receive frame places dest) (input_instrs dest)
+  layer_encodable (tac.Output value) h all = plainly_encodable _ (output_instrs value)
+  layer_encodable (tac.Return value) h all = plainly_encodable _ (return_instrs value)
+
+  stmt_encodable : (stmt : TacStmt) → Encodable stmt
+  stmt_encodable = stmt_induction Encodable (λ layer h all.
+      subst IsEncodable (sym (fold-roll-TacStmt Piece (select_step frame places) layer))
+      (layer_encodable layer h (sym (fold-roll-TacStmt Bool (with_parts passes_few) layer) ∙ all)))
+
+  function_instrs : (f : TacFnTree) → f.params ≤ 8 → Fits frame places f.body 0 0 →
+      AreInstrLines (function_lines frame places f)
+  function_instrs f few fits =
+      let entered : List Instr = entrance frame places f.params in
+      let left : List Instr = closing frame places f.entry in
+      let body : List Line = (select_all frame places f.body).lines 0 0 in
+      let whole = row_encodable f.body (everywhere Encodable stmt_encodable f.body) fits.few_arguments in
+      both_instr_lines (plainly entered ++ body) (plainly left)
+      (both_instr_lines (plainly entered) body (plainly_instrs entered (entrance_instrs f.params few))
+      (whole.encodable 0 0 fits.breaks fits.continues)) (plainly_instrs left (closing_instrs f.entry))
+
+-- each is an instruction, where temporaries lie in registers that there are, and jumps reach
+pub are_instrs : (f : TacFnTree) (places : List Place) (frame : FrameTree) → ArePlaces places → f.params ≤ most_params →
+    Fits frame places f.body 0 0 → All IsInstr (code_of f places frame).instrs
+are_instrs f places frame known few fits =
+    let there : (t : ℕ) → IsThere (slice_get places t) =
+    λ t. place_there (length places) places t known.known in
+    all_instrs (function_lines frame places f) (function_instrs frame places there f few fits)
