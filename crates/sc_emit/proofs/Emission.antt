@@ -1,6 +1,6 @@
 -- The code that is selected keeps what code keeps.
 use Rattle.std.proofs.Common.{◌≡◌, ℕ, zero, suc, ◌+◌, ◌*◌, ◌<◌, ◌≤◌, Bool, true, List, [], ◌∷◌, ◌++◌, map, length, Option, None, Some}
-use Rattle.std.proofs.Common.{refl, sym, ◌∙◌, ap, subst, arith, All, IsTrue}
+use Rattle.std.proofs.Common.{Result, Ok, Err, IfOk, refl, sym, ◌∙◌, ap, subst, arith, All, IsTrue}
 use Rattle.std.specs.Prelude.{slice_get, max}
 use Rattle.std.specs.List.{list_all, range_with_len}
 use Rattle.std.proofs.lemmas.Bool.{and_parts, ltb-true}
@@ -155,3 +155,16 @@ module _ (f : TacFnTree) (places : List Place) (frame : FrameTree) (rules : IsFu
     no_ebreak = no_ebreak f places frame;
     names = λ function entry global h. targets_named function entry global f places frame h;
   }
+
+-- and so does what comes of selecting it
+pub result_emitted : {F : Type 0} (f : TacFnTree) (places : List Place) (frame : FrameTree) → IsFunction f →
+    IsFrame frame → ArePlaces places → HasRoom f.objects places f.nodes frame → frame.bytes ≤ 32768 →
+    IsAssignment (intervals_of f) places → (result : Result CodeTree F) →
+    IfOk result (λ code. code ≡ code_of f places frame) →
+    IfOk result (λ code. length code.instrs ≤ entry_weight f.params + weight f.body) →
+    IfOk result (IsEmitted f frame)
+result_emitted f places frame rules whole kept room small assigned (Ok code) is light =
+    subst (IsEmitted f frame) (sym is)
+    (is_emitted f places frame rules whole kept room small assigned
+    (subst (λ (code : CodeTree). length code.instrs ≤ entry_weight f.params + weight f.body) is light))
+result_emitted f places frame rules whole kept room small assigned (Err e) is light = tt

@@ -21,5 +21,9 @@ pub fn emit(alloc: Global, f: &TacFn, places: &Places, frame: &Frame) -> Result<
     ensures code { IfOk result (λ code. code ≡ code_of f.now places.now frame.now) }
     ensures emitted { IfOk result (IsEmitted f.now frame.now) }
 {
+    // That these keep their rules is told by reading them.
+    let _function = f.tree();
+    let _places = places.as_slice();
+    let _frame = frame.tree();
     sc_select::select(alloc, f, places, frame)
 }
