@@ -3,7 +3,7 @@ use Rattle.std.proofs.Common.{◌≡◌, ◌≢◌, ℕ, suc, ◌+◌, ◌-ℤ�
 use Rattle.std.proofs.Common.{◌∷◌, ◌++◌, length}
 use Rattle.std.proofs.Common.{Option, None, Some, refl, sym, ◌∙◌, ap, subst, arith, inl, inr, ⊎_elim, All, pos}
 use Rattle.std.proofs.Common.{append_assoc}
-use Rattle.std.specs.Prelude.{◌⊎◌, slice_get}
+use Rattle.std.specs.Prelude.{slice_get}
 use Rattle.std.specs.Option.{unwrap_or}
 use Rattle.std.proofs.lemmas.Bool.{ne_eqb}
 use Rattle.std.proofs.lemmas.List.{length-append}
@@ -58,7 +58,7 @@ use Rattle.sc_relation.proofs.Settling.{moved}
 use Rattle.sc_relation.proofs.Straight.{assigns_register, assigns_slot, assigned_at, MovesOn, moves_on}
 use Rattle.sc_relation.proofs.Straight.{live_plain, or_left, call_from, settled_to}
 use Rattle.sc_relation.proofs.Stretches.{leads_none, comes_after, shows_less, overflows_with, arrives_with}
-use Rattle.sc_emit.proofs.Arguments.{AreRead, read_all_goes, comes_read_all, Passes, passes}
+use Rattle.sc_emit.proofs.Arguments.{AreRead, read_all_goes, comes_read_all, Passes, passes, read_length}
 use Rattle.sc_emit.proofs.Straight.{ComesStraight, lines_follow}
 use Rattle.sc_emit.proofs.Operands.{IsPlace, ArePlaced, slot_from_sp, world, walks_to}
 
@@ -237,7 +237,7 @@ module _ (T : Setting) (R : Running) (formed : IsWellFormed T.image) (inputs : A
         (λ vs s. then_goes s (calls A.here.comp target vs s) (λ result s. leave Next (received dest result temps) s)
         (follow.goes A.here.comp target vs s) (goes_on temps))
 
-    module _ (there : HasPlace R.places dest)
+    module _ (there : HasPlace R.places dest) (made : T.makes A.here.comp target (length args) ≡ true)
         (answers : (vs : List Value) (s : Meant) → Answers dest (calls A.here.comp target vs s)) (lives : Lives)
         (temps : Temps) (clear : IsClear R.places (last_point dest lives))
         (back : (y : Joint) (left : ℕ) (v : Option Value) (s : Meant) → Ready T R (live_plain args dest lives) temps y →
@@ -295,14 +295,15 @@ module _ (T : Setting) (R : Running) (formed : IsWellFormed T.image) (inputs : A
               costs = o.costs;
             })
 
-        pub call_comes : (vs : List Value) → ArePassed (y.inj A.here.comp) y.regs vs →
+        pub call_comes : (vs : List Value) → length vs ≡ length args → ArePassed (y.inj A.here.comp) y.regs vs →
             CallStands T (call_from T R) y target →
             Comes T R lives y budget ends (and_then (calls A.here.comp target vs y.meant) onwards)
-        call_comes vs passed stands =
+        call_comes vs count passed stands =
             ⊎_elim (came_back (calls A.here.comp target vs y.meant) (answers vs y.meant))
             (λ o. inr (overflowed (calls A.here.comp target vs y.meant) o))
-            (follow.follow (call_from T R) y target vs is.honest (settled_to T R y ready.settled) ready.sp is.floor
-            passed stands)
+            (follow.follow (call_from T R) y target vs is.honest
+            (subst (λ n. T.makes A.here.comp target n ≡ true) (sym count) made) (settled_to T R y ready.settled)
+            (record { floor = is.floor; aligned = is.aligned; high = omega (arith, is.high) }) ready.sp passed stands)
 
       -- the registers are prepared, the call is made, and its value goes to where it is wanted
       pub call_runs : (x : Joint) (before : List Instr) (call : Instr) (left : ℕ) (ends : Ends) → ends.left ≡ left →
@@ -332,7 +333,8 @@ module _ (T : Setting) (R : Running) (formed : IsWellFormed T.image) (inputs : A
           (comes_after T R lives x y (n + rest) rest ends (and_then (calls A.here.comp target vs x.meant) onwards)
           ready.settled m.leads
           (call_comes y left ends left_is (behind_is ∙ omega (arith, long))
-          (back_at T.image A.here.comp x.pc before (call ∷ to_place) code).1 m.ready vs p.passed
+          (back_at T.image A.here.comp x.pc before (call ∷ to_place) code).1 m.ready vs (read_length temps args vs read)
+          p.passed
           (p.stands m.ready.settled.steady.pc)))))
 
   -- The arguments, and what else is prepared.
@@ -383,10 +385,11 @@ module _ (T : Setting) (R : Running) (formed : IsWellFormed T.image) (inputs : A
         Jal ra (pos (addresses.function function) -ℤ pos (pc + 4 * length (pass frame R.places a0 args)))
 
     pub call_own_follows : (function : ℕ) (args : List ℕ) → length args ≤ 8 → addresses.function function < 2 ^ 32 →
+        T.makes A.here.comp (Own function) (length args) ≡ true →
         ((vs : List Value) (s : Meant) → Answers dest (calls A.here.comp (Own function) vs s)) →
         Follows T R (code_step wrapping A.here calls (tac.CallOwn dest function args))
         (select_step frame R.places (tac.CallOwn dest function args)) (trail_step (tac.CallOwn dest function args))
-    call_own_follows function args few below answers =
+    call_own_follows function args few below made answers =
         let before : List Instr = pass frame R.places a0 args in
         linked_follows T R (code_step wrapping A.here calls (tac.CallOwn dest function args))
         (call_own frame R.places dest function args)
@@ -401,7 +404,7 @@ module _ (T : Setting) (R : Running) (formed : IsWellFormed T.image) (inputs : A
         low_plainly addresses (receive frame R.places dest))
         (goes calls follow (Own function) dest args)
         (λ lives temps x left ready clear code ends left_is behind_is.
-        call_runs calls follow (Own function) dest args there answers lives temps
+        call_runs calls follow (Own function) dest args there made answers lives temps
         (each_at (IsClear R.places) (plain_points args true dest lives) 2 _ clear refl)
         (λ y left v s ready b. is_back T R args dest lives temps y (Own function) left v s is.honest ready clear b) x
         before
@@ -429,11 +432,12 @@ module _ (T : Setting) (R : Running) (formed : IsWellFormed T.image) (inputs : A
 
     pub call_cross_follows : (comp index : ℕ) (args : List ℕ) → length args ≤ 8 → addresses.entry comp index < 2 ^ 32 →
         addresses.entry comp index % 2 ≡ 0 →
+        T.makes A.here.comp (Cross comp index) (length args) ≡ true →
         ((vs : List Value) (s : Meant) → Answers dest (calls A.here.comp (Cross comp index) vs s)) →
         Follows T R (code_step wrapping A.here calls (tac.CallCross dest comp index args))
         (select_step frame R.places (tac.CallCross dest comp index args))
         (trail_step (tac.CallCross dest comp index args))
-    call_cross_follows comp index args few below even answers =
+    call_cross_follows comp index args few below even made answers =
         let arguments : List Instr = pass frame R.places a0 args in
         let address : ℕ = addresses.entry comp index in
         let high : List Instr = Upper Lui first_scratch (upper_part address) ∷ [] in
@@ -451,7 +455,7 @@ module _ (T : Setting) (R : Running) (formed : IsWellFormed T.image) (inputs : A
         (low_behind_plain addresses arguments lines ∙ low_plainly addresses (receive frame R.places dest))
         (goes calls follow (Cross comp index) dest args)
         (λ lives temps x left ready clear code ends left_is behind_is.
-        call_runs calls follow (Cross comp index) dest args there answers lives temps
+        call_runs calls follow (Cross comp index) dest args there made answers lives temps
         (each_at (IsClear R.places) (plain_points args true dest lives) 2 _ clear refl)
         (λ y left v s ready b.
         is_back T R args dest lives temps y (Cross comp index) left v s is.honest ready clear b) x

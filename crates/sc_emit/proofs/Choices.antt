@@ -1,7 +1,7 @@
 -- Choices: one branch, over the jump to the second part.
-use Rattle.std.proofs.Common.{◌≡◌, ◌≢◌, ℕ, suc, ◌+◌, ◌*◌, ◌%◌, ◌^◌, ◌<◌, ◌≤◌, Bool, false, true, List, [], ◌∷◌, ◌++◌, length}
-use Rattle.std.proofs.Common.{Option, None, Some, refl, sym, ◌∙◌, ap, ap₂, subst, arith, inl, inr, ⊎_elim, All, pos, IsSome}
-use Rattle.std.specs.Prelude.{slice_get, is_some, not, ◌||◌, ◌==◌, if◌then◌else◌}
+use Rattle.std.proofs.Common.{◌≡◌, ℕ, suc, ◌+◌, ◌*◌, ◌%◌, ◌≤◌, Bool, false, true, List, [], ◌∷◌, ◌++◌, length}
+use Rattle.std.proofs.Common.{Option, None, Some, refl, sym, ◌∙◌, ap, subst, arith, inl, inr, ⊎_elim, All, pos}
+use Rattle.std.specs.Prelude.{is_some, not, ◌==◌, if◌then◌else◌}
 use Rattle.std.proofs.lemmas.Bool.{eq-eqb, ne_eqb}
 use Rattle.std.proofs.lemmas.List.{length-append, length-map}
 use Rattle.std.proofs.lemmas.List.Elements.{All-tail}
@@ -14,12 +14,11 @@ use Rattle.sc_core.specs.declared.value.Value.TheVariants.{Word, Null, Ptr}
 use Rattle.sc_core.specs.Value.{is_true}
 use Rattle.sc_core.specs.Words.{State as Meant, Piece, Reached, Stopped, Exit, Next, Break, Continue, Return, Left, choose}
 use Rattle.sc_core.specs.Words.{and_then}
-use Rattle.sc_laws.specs.Growth.{Goes, Gone}
-use Rattle.sc_image.specs.Layout.{word_at}
+use Rattle.sc_laws.specs.Growth.{Gone}
 use Rattle.sc_image.specs.WellFormed.{IsWord, IsWellFormed}
 use Rattle.sc_image.specs.Walks.{Walks}
 use Rattle.sc_hart.specs.Code.{Fetches, CodeAt}
-use Rattle.sc_hart.specs.Hart.{Registers, look, at}
+use Rattle.sc_hart.specs.Hart.{look, at}
 use Rattle.sc_hart.proofs.Fetching.{front_at, back_at}
 use Rattle.sc_hart.proofs.Inside.{IsInside, code_inside}
 use Rattle.sc_hart.proofs.Steps.{then_go, branch_taken, branch_not_taken}
@@ -27,24 +26,23 @@ use Rattle.sc_tac.specs.declared.frame.FrameTree.{FrameTree}
 use Rattle.sc_tac.specs.declared.stmt.TacStmt.TheOpen as tac
 use Rattle.sc_tac.specs.Code.{Temps, Codes, read}
 use Rattle.sc_tac.specs.Places.{IsClear}
-use Rattle.sc_tac.specs.Points.{Point, Set, Lives, Trail, live_before, row_points, point, trail_step}
+use Rattle.sc_tac.specs.Points.{Set, Lives, Trail, live_before, row_points, point, trail_step}
 use Rattle.sc_select.specs.Lines.{Line, plainly, plain}
 use Rattle.sc_select.specs.Pieces.{sp, first_scratch}
 use Rattle.sc_select.specs.Selection.{Piece as Code, choice, fork, jump_over, take, operand}
 use Rattle.sc_relation.specs.Blocks.{StandsFor}
-use Rattle.sc_relation.specs.Frames.{Activation, IsActivation, AreHeld}
+use Rattle.sc_relation.specs.Frames.{IsActivation}
 use Rattle.sc_relation.specs.Linking.{completed, low_after}
-use Rattle.sc_relation.specs.Stretches.{Setting, Joint, Standpoint, machine, Settled, Leads, Overflows}
-use Rattle.sc_relation.specs.Following.{Running, Ends, ends_of, seen_from, row, live_at, Ready, Arrives, Comes, Gives}
+use Rattle.sc_relation.specs.Stretches.{Setting, Joint, Standpoint, Settled}
+use Rattle.sc_relation.specs.Following.{Running, Ends, ends_of, seen_from, row, live_at, Ready, Arrives, Comes}
 use Rattle.sc_relation.specs.Following.{ExitGives, StandsAt, Starts, Follows}
 use Rattle.sc_relation.proofs.Clear.{all_front, all_back}
 use Rattle.sc_relation.proofs.Following.{comes_read}
 use Rattle.sc_relation.proofs.Jumps.{HasNoGap, over}
 use Rattle.sc_relation.proofs.Lines.{InParts, in_parts, low_append, low_plainly, plainly_at}
-use Rattle.sc_relation.proofs.Registers.{HasNoOtherUse}
 use Rattle.sc_relation.proofs.Settling.{moved}
 use Rattle.sc_relation.proofs.Straight.{MovesOn, moves_on, or_left, or_right}
-use Rattle.sc_relation.proofs.Stretches.{comes_after, arrives_with, returns_with, shows_less, overflows_with, leads_less}
+use Rattle.sc_relation.proofs.Stretches.{comes_after, arrives_with, leads_less}
 use Rattle.sc_emit.proofs.Operands.{ArePlaced, AtHand, first_is, brings, world}
 use Rattle.sc_emit.proofs.Straight.{read_goes}
 
@@ -119,17 +117,17 @@ module _ (T : Setting) (R : Running) (formed : IsWellFormed T.image) (inputs : A
         let sl : List Line = jump_over second.size ∷ second.lines to_break to_continue in
         let n : length cl ≡ count = length-map (choice frame R.places cond) plain in
         let ahead : InParts addresses T.image comp L cl (jump_over (suc first.size) ∷ (fl ++ sl)) =
-            in_parts addresses T.image comp L cl (jump_over (suc first.size) ∷ (fl ++ sl))
-            (low_plainly addresses (choice frame R.places cond)) code in
+        in_parts addresses T.image comp L cl (jump_over (suc first.size) ∷ (fl ++ sl))
+        (low_plainly addresses (choice frame R.places cond)) code in
         let choosing : CodeAt T.image comp L (choice frame R.places cond) =
-            plainly_at addresses T.image comp L (choice frame R.places cond) ahead.front in
+        plainly_at addresses T.image comp L (choice frame R.places cond) ahead.front in
         let behind = subst (λ k. CodeAt T.image comp (L + 4 * k) (completed addresses (L + 4 * k) None
-            (jump_over (suc first.size) ∷ (fl ++ sl)))) n ahead.back in
+        (jump_over (suc first.size) ∷ (fl ++ sl)))) n ahead.back in
         let later : InParts addresses T.image comp (first_pc L) fl sl =
-            in_parts addresses T.image comp (first_pc L) fl sl
-            (F.closed (suc (second.size + to_break)) (suc (second.size + to_continue))) behind.1 in
+        in_parts addresses T.image comp (first_pc L) fl sl
+        (F.closed (suc (second.size + to_break)) (suc (second.size + to_continue))) behind.1 in
         let end = subst (λ k. CodeAt T.image comp (first_pc L + 4 * k) (completed addresses (first_pc L + 4 * k) None sl))
-            (F.sized (suc (second.size + to_break)) (suc (second.size + to_continue))) later.back in
+        (F.sized (suc (second.size + to_break)) (suc (second.size + to_continue))) later.back in
         record {
           takes = front_at T.image comp L before (branch ∷ []) choosing;
           chooses = (back_at T.image comp L before (branch ∷ []) choosing).0;
@@ -211,9 +209,9 @@ module _ (T : Setting) (R : Running) (formed : IsWellFormed T.image) (inputs : A
             let z : Joint = g.y in
             let at_jump : z.pc ≡ over_pc L = g.pc_is ∙ omega (arith, place) in
             let a : Arrives T R lives.behind z (suc left) left temps' z.meant (z.pc + 4 * suc second.size) =
-                over T R formed inputs gapless lives.behind temps' z second.size left g.ready
-                (subst (λ pc. Fetches T.image comp pc (Jal 0 (pos (4 * suc second.size)))) (sym at_jump) code.over_second)
-                (omega (arith, at_jump, starts.breaks)) in
+            over T R formed inputs gapless lives.behind temps' z second.size left g.ready
+            (subst (λ pc. Fetches T.image comp pc (Jal 0 (pos (4 * suc second.size)))) (sym at_jump) code.over_second)
+            (omega (arith, at_jump, starts.breaks)) in
             subst (λ s. Comes T R lives y (first.size + first_left) ends
             (Reached (record { exit = Next; carried = temps' }) s)) g.meant_is
             (comes_after T R lives y z (first.size + first_left) (suc left) ends
@@ -244,18 +242,18 @@ module _ (T : Setting) (R : Running) (formed : IsWellFormed T.image) (inputs : A
         first_comes true_is =
             let aligned : first_pc L % 4 ≡ 0 = omega (arith, here.aligned, count_is) in
             let there = gapless (L + 4 * length before) (first_pc L) (ap is_some code.chooses.fetched)
-                (omega (arith, count_is)) (omega (arith, starts.breaks)) aligned in
+            (omega (arith, count_is)) (omega (arith, starts.breaks)) aligned in
             let low : IsInside (first_pc L) = code_inside T.image formed comp (first_pc L) there.0 there.1 in
             let target : add_word (L + 4 * length before) (word_of (pos 8)) ≡ first_pc L =
-                omega (arith, low.low, count_is) in
+            omega (arith, low.low, count_is) in
             let m = moved_to (first_pc L)
-                (branch_taken T.image T.inputs (L + 4 * length before) held.after x.bytes (world T R x) Bne
-                (operand frame R.places first_scratch cond) 0 (pos 8) (first_pc L) there.0 held.below (omega arith)
-                code.chooses (compared ∙ true_is) target aligned there.1) (first.size + first_left) in
+            (branch_taken T.image T.inputs (L + 4 * length before) held.after x.bytes (world T R x) Bne
+            (operand frame R.places first_scratch cond) 0 (pos 8) (first_pc L) there.0 held.below (omega arith)
+            code.chooses (compared ∙ true_is) target aligned there.1) (first.size + first_left) in
             let y : Joint = moved x (first_pc L) held.after x.bytes in
             let all : length before + 1 + (first.size + first_left) ≡ budget = omega (arith, count_is) in
             let begins : Starts T R first (row fs) lives temps y (suc (second.size + to_break))
-                (suc (second.size + to_continue)) = record {
+            (suc (second.size + to_continue)) = record {
               ready = ready_less live (live_before fs lives) temps y first_live m.ready;
               clear = all_front (IsClear R.places) (row_points fs lives) (row_points ss lives) clear_parts;
               stands = code.of_first;
@@ -274,16 +272,16 @@ module _ (T : Setting) (R : Running) (formed : IsWellFormed T.image) (inputs : A
             let behind : L + 4 * length before + 4 ≡ L + 4 * count = omega (arith, count_is) in
             let rest : ℕ = suc (second.size + left) in
             let m = moved_to (L + 4 * count)
-                (subst (λ pc. Walks T.image T.inputs 1 (at (L + 4 * length before) held.after x.bytes (world T R x))
-                (at pc held.after x.bytes (world T R x))) behind
-                (branch_not_taken T.image T.inputs (L + 4 * length before) held.after x.bytes (world T R x) Bne
-                (operand frame R.places first_scratch cond) 0 (pos 8) held.below (omega arith) code.chooses
-                (compared ∙ false_is))) rest in
+            (subst (λ pc. Walks T.image T.inputs 1 (at (L + 4 * length before) held.after x.bytes (world T R x))
+            (at pc held.after x.bytes (world T R x))) behind
+            (branch_not_taken T.image T.inputs (L + 4 * length before) held.after x.bytes (world T R x) Bne
+            (operand frame R.places first_scratch cond) 0 (pos 8) held.below (omega arith) code.chooses
+            (compared ∙ false_is))) rest in
             let y : Joint = moved x (L + 4 * count) held.after x.bytes in
             let a : Arrives T R live y (suc (second.size + left)) (second.size + left) temps y.meant
-                (L + 4 * count + 4 * suc (suc first.size)) =
-                over T R formed inputs gapless live temps y (suc first.size) (second.size + left) m.ready code.to_second
-                (omega (arith, starts.breaks)) in
+            (L + 4 * count + 4 * suc (suc first.size)) =
+            over T R formed inputs gapless live temps y (suc first.size) (second.size + left) m.ready code.to_second
+            (omega (arith, starts.breaks)) in
             let z : Joint = a.y in
             let place : z.pc ≡ second_pc L = a.pc_is ∙ omega arith in
             let e1 : z.pc + 4 * second.size ≡ ends.behind = omega (arith, place) in

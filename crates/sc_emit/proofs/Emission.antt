@@ -1,6 +1,6 @@
 -- The code that is selected keeps what code keeps.
-use Rattle.std.proofs.Common.{◌≡◌, ℕ, zero, suc, ◌+◌, ◌*◌, ◌<◌, ◌≤◌, Bool, true, List, [], ◌∷◌, ◌++◌, map, length, Option, None, Some}
-use Rattle.std.proofs.Common.{Result, Ok, Err, IfOk, refl, sym, ◌∙◌, ap, subst, arith, All, IsTrue}
+use Rattle.std.proofs.Common.{◌≡◌, ℕ, zero, suc, ◌+◌, ◌<◌, ◌≤◌, true, List, [], ◌∷◌, ◌++◌, map, length, Some}
+use Rattle.std.proofs.Common.{Result, Ok, Err, IfOk, refl, sym, ◌∙◌, ap, subst, arith}
 use Rattle.std.specs.Prelude.{slice_get, max}
 use Rattle.std.specs.List.{list_all, range_with_len}
 use Rattle.std.proofs.lemmas.Bool.{and_parts, ltb-true}
@@ -10,8 +10,6 @@ use Rattle.std.proofs.lemmas.List.{length-map, length-append, map-append, append
 use Rattle.rv_code.specs.declared.instr.Instr.{Instr}
 use Rattle.sc_core.specs.Growth.{Front}
 use Rattle.sc_core.specs.Value.{wrapping}
-use Rattle.sc_core.specs.Words.{Calls}
-use Rattle.sc_image.specs.WellFormed.{IsWord, IsWellFormed}
 use Rattle.sc_tac.specs.declared.frame.FrameTree.{FrameTree}
 use Rattle.sc_tac.specs.declared.function.TacFnTree.{TacFnTree}
 use Rattle.sc_tac.specs.declared.machine_code.CodeTree.{CodeTree}
@@ -25,24 +23,21 @@ use Rattle.sc_tac.specs.Parts.{everywhere}
 use Rattle.sc_tac.specs.Places.{ArePlaces, IsAssignment, is_place, register_count}
 use Rattle.sc_tac.specs.Points.{function_points, trail}
 use Rattle.sc_tac.specs.Weights.{entry_weight, weight}
-use Rattle.sc_select.specs.Lines.{Line, plainly, code_of_lines}
+use Rattle.sc_select.specs.Lines.{Line, plainly}
 use Rattle.sc_select.specs.Pieces.{frame_taken}
 use Rattle.sc_select.specs.Selection.{code_of, function_lines, entrance, closing, select_all, store_arguments}
 use Rattle.sc_select.proofs.Sizes.{row_is_sized}
 use Rattle.sc_hart.specs.Code.{CodeAt}
-use Rattle.sc_relation.specs.Calls.{CallsFollow, FunctionFollows}
+use Rattle.sc_relation.specs.Calls.{FunctionFollows}
 use Rattle.sc_relation.specs.Following.{Running, row, Follows}
-use Rattle.sc_relation.specs.Frames.{Activation, IsActivation}
-use Rattle.sc_relation.specs.Linking.{linked, completed}
+use Rattle.sc_relation.specs.Frames.{Activation}
 use Rattle.sc_relation.specs.Stretches.{Setting}
 use Rattle.sc_relation.proofs.Linking.{linked_is}
-use Rattle.sc_emit.specs.Emission.{IsPlaced, CodeFollows, IsEmitted}
-use Rattle.sc_emit.specs.Naming.{takes_given, AreReached}
-use Rattle.sc_emit.specs.Shapes.{names_only}
+use Rattle.sc_emit.specs.Emission.{IsPlaced, IsEmitted}
+use Rattle.sc_emit.specs.Naming.{calls_only, AreReached}
 use Rattle.sc_emit.proofs.Branches.{few_branches, no_ebreak}
-use Rattle.sc_emit.proofs.Functions.{in_call, IsRun, BodyFollows, code_follows}
-use Rattle.sc_emit.proofs.Operands.{IsPlace, ArePlaced}
-use Rattle.sc_emit.proofs.Passing.{AllPass}
+use Rattle.sc_emit.proofs.Functions.{in_call, BodyFollows, code_follows}
+use Rattle.sc_emit.proofs.Operands.{ArePlaced}
 use Rattle.sc_emit.proofs.Returns.{brace_returns}
 use Rattle.sc_emit.proofs.Statements.{body_follows}
 use Rattle.sc_emit.proofs.Targets.{targets_named}
@@ -82,7 +77,7 @@ module _ (f : TacFnTree) (places : List Place) (frame : FrameTree) (rules : IsFu
   body_within = omega (
     arith,
     length-append (plainly (entrance frame places f.params) ++ (select_all frame places f.body).lines 0 0)
-    (plainly (closing frame places f.entry)),
+        (plainly (closing frame places f.entry)),
     length-append (plainly (entrance frame places f.params)) ((select_all frame places f.body).lines 0 0),
     (row_is_sized frame places f.body).sized 0 0,
   )
@@ -103,20 +98,36 @@ module _ (f : TacFnTree) (places : List Place) (frame : FrameTree) (rules : IsFu
     body calls follow A last run gapless =
         let R : Running = in_call T f frame places A last in
         let size : (select_all A.frame places f.body).size ≤ T.turn_pays =
-            subst (λ (frame : FrameTree). (select_all frame places f.body).size ≤ T.turn_pays) (sym run.frame_is)
-            (omega (arith, body_within, all_instrs, is.paid)) in
+        subst (λ (frame : FrameTree). (select_all frame places f.body).size ≤ T.turn_pays) (sym run.frame_is)
+        (omega (arith, body_within, all_instrs, is.paid)) in
         let reached : AreReached T A.here.comp is.function is.entry is.global =
-            subst (λ c. AreReached T c is.function is.entry is.global) (sym run.comp_is) is.reached in
-        let given : everywhere (takes_given (T.gives A.here.comp)) f.body ≡ true =
-            subst (λ c. everywhere (takes_given (T.gives c)) f.body ≡ true) (sym run.comp_is) is.given in
+        subst (λ c. AreReached T c is.function is.entry is.global) (sym run.comp_is) is.reached in
+        let made : everywhere (calls_only (T.makes A.here.comp) (T.gives A.here.comp)) f.body ≡ true =
+        subst (λ c. everywhere (calls_only (T.makes c) (T.gives c)) f.body ≡ true) (sym run.comp_is) is.calls in
         let temps : everywhere (names_own_temps (length places)) f.body ≡ true =
-            subst (λ n. everywhere (names_own_temps n) f.body ≡ true) temps_are rules.own_temps in
+        subst (λ n. everywhere (names_own_temps n) f.body ≡ true) temps_are rules.own_temps in
         subst (λ frame. Follows T R (code_does wrapping A.here calls f.body) (select_all frame places f.body)
         (row (map trail f.body))) run.frame_is
         (body_follows T R is.image is.inputs f.objects f.nodes run.is (all_placed A last run.frame_is) gapless calls follow
-        is.function is.entry is.global reached f.body
-        (temps, (rules.own_objects, (rules.operands, (rules.few_arguments, (rules.words, (rules.elements,
-        (is.names, (given, tt)))))))) size)
+        is.function is.entry is.global reached f.body (
+          temps,
+          (
+            rules.own_objects,
+            (
+              rules.operands,
+              (
+                rules.few_arguments,
+                (
+                  rules.words,
+                  (
+                    rules.elements,
+                    (is.names, (made, tt)),
+                  ),
+                ),
+              ),
+            ),
+          ),
+        ) size)
 
     follows : FunctionFollows T comp address (length code.instrs) f.params (code_function wrapping f)
     follows =
@@ -163,7 +174,7 @@ pub result_emitted : {F : Type 0} (f : TacFnTree) (places : List Place) (frame :
     IfOk result (λ code. code ≡ code_of f places frame) →
     IfOk result (λ code. length code.instrs ≤ entry_weight f.params + weight f.body) →
     IfOk result (IsEmitted f frame)
-result_emitted f places frame rules whole kept room small assigned (Ok code) is light =
+result_emitted f places frame rules whole kept room small assigned (Ok found) is light =
     subst (IsEmitted f frame) (sym is)
     (is_emitted f places frame rules whole kept room small assigned
     (subst (λ (code : CodeTree). length code.instrs ≤ entry_weight f.params + weight f.body) is light))

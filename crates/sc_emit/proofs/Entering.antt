@@ -273,7 +273,7 @@ module _ (T : Setting) (formed : IsWellFormed T.image) (inputs : All IsWord T.in
   overflows_below budget piece few low enough grown =
       let o : FrameOverflows T.image T.inputs world frame.bytes x.regs x.bytes x.pc =
       goes_below T.image formed T.inputs world known x.regs x.bytes frame.bytes few whole.bytes
-      (omega (arith, begins.sp, begins.aligned)) x.pc
+      (omega (arith, begins.sp, begins.base.aligned)) x.pc
       (front_at T.image P.comp x.pc (frame_taken frame.bytes) (store_arguments frame places params 0) code)
       (omega (arith, begins.sp, low)) in
       overflows_entering T formed inputs P f args address ra_is x begins frame o.steps budget
@@ -293,7 +293,7 @@ module _ (T : Setting) (formed : IsWellFormed T.image) (inputs : All IsWord T.in
           bound_is start steps (x.pc + 4 * steps) regs bytes
 
     aligned : low % 4 ≡ 0
-    aligned = omega (arith, bound_is, whole.bytes, begins.aligned)
+    aligned = omega (arith, bound_is, whole.bytes, begins.base.aligned)
 
     four : 0 + 4 ≤ frame.bytes
     four = own_inside f.cells places nodes frame room 0 0 refl
@@ -301,8 +301,8 @@ module _ (T : Setting) (formed : IsWellFormed T.image) (inputs : All IsWord T.in
     takes : TakesFrame T.image T.inputs world frame.bytes x.regs x.bytes low
     takes =
         takes_frame T.image T.inputs world x.bytes x.regs frame.bytes low (sym (begins.sp ∙ bound_is))
-        (omega (arith, begins.sp, begins.high, known))
-        (record { aligned = aligned; low = start; high = omega (arith, four, bound_is, begins.high) })
+        (omega (arith, begins.sp, begins.base.high, known))
+        (record { aligned = aligned; low = start; high = omega (arith, four, bound_is, begins.base.high) })
 
     argument_kept : (o : ℕ) → takes.after (a0 + o) ≡ x.regs (a0 + o)
     argument_kept o = takes.others (a0 + o) ((λ e. omega (arith, e)), ((λ e. omega (arith, e)), tt))
@@ -319,10 +319,10 @@ module _ (T : Setting) (formed : IsWellFormed T.image) (inputs : All IsWord T.in
     between = put_word x.bytes low (x.regs ra)
 
     stores : StoresArguments T.image T.inputs world f.cells places nodes low frame whole room aligned start
-        (omega (arith, bound_is, begins.high)) known params 0 takes.after between
+        (omega (arith, bound_is, begins.base.high)) known params 0 takes.after between
     stores =
         stores_arguments T.image T.inputs world f.cells places nodes low frame whole room aligned start
-        (omega (arith, bound_is, begins.high)) known params few there some params 0 takes.after between (omega arith)
+        (omega (arith, bound_is, begins.base.high)) known params few there some params 0 takes.after between (omega arith)
         takes.lowered argument_word
 
     object_of : (o offset : ℕ) → o < params → slice_get frame.objects o ≡ Some offset →
@@ -332,7 +332,7 @@ module _ (T : Setting) (formed : IsWellFormed T.image) (inputs : All IsWord T.in
 
     -- the return address lies beside all variables
     ra_beside : MeetsNone T.image T.inputs world f.cells places nodes low frame whole room aligned start
-        (omega (arith, bound_is, begins.high)) known params 0 low
+        (omega (arith, bound_is, begins.base.high)) known params 0 low
     ra_beside o offset above below e =
         let n = object_of o offset (omega (arith, below)) e in
         ⊎_elim (λ h. inl (omega (arith, h))) (λ h. inl (omega (arith, h, n.2)))
@@ -341,7 +341,7 @@ module _ (T : Setting) (formed : IsWellFormed T.image) (inputs : All IsWord T.in
     -- and variables lie inside the frame
     outside_beside : (q : ℕ) → (q + 4 ≤ low) ⊎ (low + frame.bytes ≤ q) →
         MeetsNone T.image T.inputs world f.cells places nodes low frame whole room aligned start
-        (omega (arith, bound_is, begins.high)) known params 0 q
+        (omega (arith, bound_is, begins.base.high)) known params 0 q
     outside_beside q h o offset above below e =
         let n = object_of o offset (omega (arith, below)) e in
         let inside : offset + 4 * n.0 ≤ frame.bytes =

@@ -106,33 +106,34 @@ module _ (T : Setting) (R : Running) (formed : IsWellFormed T.image) (inputs : A
 
     asks : (target : CallTarget) (number : ℕ) (dest : Option ℕ) (args : List ℕ) → of_environment target ≡ true →
         length args ≤ 1 → number < 2 ^ 32 → IsAsked target number →
-        HasPlace R.places dest → ((vs : List Value) (s : Meant) → Answers dest (calls A.here.comp target vs s)) →
+        HasPlace R.places dest → T.makes A.here.comp target (length args) ≡ true →
+        ((vs : List Value) (s : Meant) → Answers dest (calls A.here.comp target vs s)) →
         (lives : Lives) (temps : Temps) (x : Joint) (left : ℕ) → Ready T R (live_plain args dest lives) temps x →
         IsClear R.places (last_point dest lives) → CodeAt T.image A.here.comp x.pc (asking number dest args) →
         ComesStraight T R lives x (asking number dest args) left (call_does A.here calls dest target args temps x.meant)
-    asks target number dest args environment few small stands there answers lives temps x left ready clear code ends
+    asks target number dest args environment few small stands there made answers lives temps x left ready clear code ends
         left_is behind_is =
-        call_runs T R formed inputs cells nodes is placed calls follow target dest args there answers lives temps clear
+        call_runs T R formed inputs cells nodes is placed calls follow target dest args there made answers lives temps clear
         (λ y left v s ready b. asked_back args dest lives temps y target left v s environment ready b) x
         (pass frame R.places a0 args ++ ask number) Ecall left ends left_is behind_is code ready
         (asks_prepared target number dest args few small stands lives temps x ready code)
 
-    pub input_follows : (dest : Option ℕ) → HasPlace R.places dest →
+    pub input_follows : (dest : Option ℕ) → HasPlace R.places dest → T.makes A.here.comp Input 0 ≡ true →
         ((vs : List Value) (s : Meant) → Answers dest (calls A.here.comp Input vs s)) →
         Follows T R (code_step wrapping A.here calls (tac.Input dest)) (select_step frame R.places (tac.Input dest))
         (trail_step (tac.Input dest))
-    input_follows dest there answers =
+    input_follows dest there made answers =
         straight_follows T R (code_step wrapping A.here calls (tac.Input dest))
         (environment_call 1 ++ receive frame R.places dest) (trail_step (tac.Input dest))
         (goes T R formed inputs cells nodes is placed calls follow Input dest [])
         (λ lives temps x left ready clear code.
-        asks Input 1 dest [] refl (omega arith) (omega arith) (λ y f e. (f, e)) there answers lives temps x left ready
+        asks Input 1 dest [] refl (omega arith) (omega arith) (λ y f e. (f, e)) there made answers lives temps x left ready
         (each_at (IsClear R.places) (plain_points [] false dest lives) 1 _ clear refl) code)
 
-    pub output_follows : (value : ℕ) →
+    pub output_follows : (value : ℕ) → T.makes A.here.comp Output 1 ≡ true →
         Follows T R (code_step wrapping A.here calls (tac.Output value)) (select_step frame R.places (tac.Output value))
         (trail_step (tac.Output value))
-    output_follows value =
+    output_follows value made =
         let first : List Instr = brought frame a0 (place_of frame R.places value) in
         let whole : asking 2 None (value ∷ []) ≡ first ++ environment_call 2 =
         ap (λ code. (code ++ ask 2) ++ Ecall ∷ []) (append-nil first) ∙ append_assoc first (ask 2) (Ecall ∷ []) in
@@ -142,7 +143,7 @@ module _ (T : Setting) (R : Running) (formed : IsWellFormed T.image) (inputs : A
         (λ lives temps x left ready clear code.
         subst (λ code. ComesStraight T R lives x code left
         (call_does A.here calls None Output (value ∷ []) temps x.meant)) whole
-        (asks Output 2 None (value ∷ []) refl (omega arith) (omega arith) (λ y f e. (f, e)) tt
+        (asks Output 2 None (value ∷ []) refl (omega arith) (omega arith) (λ y f e. (f, e)) tt made
         (λ vs s. none_wanted (calls A.here.comp Output vs s)) lives temps x left ready
         (each_at (IsClear R.places) (plain_points (value ∷ []) false None lives) 1 _ clear refl)
         (subst (CodeAt T.image A.here.comp x.pc) (sym whole) code)))

@@ -28,7 +28,6 @@ use Rattle.sc_tac.specs.declared.frame.FrameTree.{FrameTree}
 use Rattle.sc_tac.specs.declared.function.TacFnTree.{TacFnTree}
 use Rattle.sc_tac.specs.declared.place.Place.{Place}
 use Rattle.sc_tac.specs.declared.program.TacTree.{TacTree}
-use Rattle.sc_tac.specs.Common.{frame_bound}
 use Rattle.sc_tac.specs.Frames.{IsFrame, HasRoom}
 use Rattle.sc_tac.specs.Functions.{IsFunction, passes_words}
 use Rattle.sc_tac.specs.Intervals.{intervals_of}

@@ -1,28 +1,24 @@
 -- Operands at hand, and results in their places.
-use Rattle.std.proofs.Common.{◌≡◌, ◌≢◌, ℕ, zero, suc, ◌+◌, ◌*◌, ◌^◌, ◌<◌, ◌≤◌, List, [], ◌∷◌, ◌++◌, length, Option, None, Some}
-use Rattle.std.proofs.Common.{false, refl, sym, ◌∙◌, ap, ap₂, subst, arith, inl, inr, ⊎_elim, All, append-nil}
+use Rattle.std.proofs.Common.{◌≡◌, ◌≢◌, ℕ, zero, suc, ◌+◌, ◌*◌, ◌<◌, List, [], ◌∷◌, ◌++◌, length, Some}
+use Rattle.std.proofs.Common.{false, refl, sym, ◌∙◌, ap, subst, arith, inl, inr, All, append-nil}
 use Rattle.std.specs.Prelude.{◌⊎◌, slice_get}
 use Rattle.std.specs.Option.{unwrap_or}
-use Rattle.std.proofs.lemmas.List.{length-append}
 use Rattle.std.proofs.lemmas.Option.{same_Some}
 use Rattle.rv_code.specs.declared.instr.Instr.{Instr}
 use Rattle.sc_core.specs.declared.value.Value.{Value}
-use Rattle.sc_core.specs.Words.{State as Meant}
 use Rattle.sc_store.specs.Memory.{Memory as Bytes}
-use Rattle.sc_image.specs.declared.parts.ImageParts.{ImageParts}
 use Rattle.sc_image.specs.WellFormed.{IsWord, IsWellFormed}
 use Rattle.sc_image.specs.Walks.{Walks}
 use Rattle.sc_hart.specs.Code.{CodeAt}
 use Rattle.sc_hart.specs.Hart.{Registers, look, World, at}
-use Rattle.sc_hart.specs.Words.{word, put_word, Owned}
-use Rattle.sc_hart.proofs.Words.{word_same}
+use Rattle.sc_hart.specs.Words.{word, put_word}
 use Rattle.sc_tac.specs.declared.place.Place.{Place}
 use Rattle.sc_tac.specs.declared.place.Place.TheVariants.{Register, Slot}
 use Rattle.sc_tac.specs.Code.{Temps, with_temp}
 use Rattle.sc_tac.specs.Places.{IsClear, register_count}
-use Rattle.sc_tac.specs.Points.{Set, Lives, plain_points}
+use Rattle.sc_tac.specs.Points.{Lives, plain_points}
 use Rattle.sc_select.specs.Pieces.{sp, first_scratch, second_scratch, address_scratch, register_of, load_word, store_word}
-use Rattle.sc_select.specs.Selection.{place_of, slot_offset, taken, kept, take, operand, result_register, keep, at_hand}
+use Rattle.sc_select.specs.Selection.{slot_offset, taken, kept, take, operand, result_register, keep, at_hand}
 use Rattle.sc_pieces.specs.Pieces.{Besides, IsWritable, IsFromSp, Does, Computes, Stores}
 use Rattle.sc_pieces.proofs.NearSp.{loads_word, stores_word}
 use Rattle.sc_pieces.proofs.Rows.{in_row, look_at}
@@ -33,7 +29,7 @@ use Rattle.sc_relation.specs.Following.{Running, seen_from, Ready, Arrives}
 use Rattle.sc_relation.proofs.Frames.{own_inside}
 use Rattle.sc_relation.proofs.Registers.{HasNoOtherUse, no_other_use, register_there}
 use Rattle.sc_relation.proofs.Settling.{moved}
-use Rattle.sc_relation.proofs.Straight.{Assigns, assigns_register, assigns_slot, assigned, live_plain}
+use Rattle.sc_relation.proofs.Straight.{assigns_register, assigns_slot, assigned, live_plain}
 
 -- what a place is that temporaries have: a register that there is, or a slot of the frame
 abbrev pub IsPlace : Activation → Place → Type 0
@@ -130,8 +126,10 @@ module _ (T : Setting) (R : Running) (x : Joint) where
           word = regs (register_of r);
           stands = value;
           after = regs;
-          does = record { walks = λ pc code. subst (λ is. Walks T.image T.inputs (length is) (at pc regs x.bytes world)
-              (at (pc + 4 * length is) regs x.bytes world)) (sym none) (nothing pc) };
+          does = record {
+            walks = λ pc code. subst (λ is. Walks T.image T.inputs (length is) (at pc regs x.bytes world)
+                (at (pc + 4 * length is) regs x.bytes world)) (sym none) (nothing pc);
+          };
           result = ap (look regs) its_register ∙ look_at regs (register_of r) (above (register_of r) other.zero);
           others = λ q h. refl;
           below = subst (λ q. q < 32) (sym its_register) (register_there r small);
@@ -143,6 +141,7 @@ module _ (T : Setting) (R : Running) (x : Joint) where
             let e : pc ≡ pc + 4 * 0 = omega arith in
             subst (λ p. Walks T.image T.inputs 0 (at pc regs x.bytes world) (at p regs x.bytes world)) e
             (record { by = refl })
+
         above : (q : ℕ) → q ≢ 0 → 0 < q
         above zero h = absurd (h refl)
         above (suc q) h = omega arith
@@ -150,12 +149,12 @@ module _ (T : Setting) (R : Running) (x : Joint) where
         let offset : ℕ = there.0 in
         let e : slice_get A.frame.slots k ≡ Some offset = there.1 in
         let code : take A.frame R.places scratch t ≡ load_word scratch offset =
-            ap (taken A.frame scratch) its ∙ ap (load_word scratch) (offset_is k offset e) in
+        ap (taken A.frame scratch) its ∙ ap (load_word scratch) (offset_is k offset e) in
         let its_register : operand A.frame R.places scratch t ≡ scratch = ap (at_hand scratch) its in
         let loads : Computes T.image T.inputs world (load_word scratch offset) (7 ∷ []) regs x.bytes scratch
-            (word x.bytes (A.sp + offset)) =
-            loads_word T.image T.inputs world x.bytes regs scratch offset (A.sp + offset) s.writable
-            (slot_from_sp regs k offset e same) in
+        (word x.bytes (A.sp + offset)) =
+        loads_word T.image T.inputs world x.bytes regs scratch offset (A.sp + offset) s.writable
+        (slot_from_sp regs k offset e same) in
         let same_offset : value.0 ≡ offset = same_Some value.0 offset (sym value.1 ∙ e) in
         record {
           word = word x.bytes (A.sp + offset);
@@ -205,9 +204,9 @@ module _ (T : Setting) (R : Running) (x : Joint) where
       keeps_slot code k offset source its e above below other g all at =
           let result : look g.after source ≡ g.word = look_at g.after source above ∙ g.result in
           let stores : Stores T.image T.inputs world (store_word source offset) (7 ∷ []) g.after x.bytes
-              (A.sp + offset) g.word =
-              stores_word T.image T.inputs world x.bytes g.after source offset (A.sp + offset) g.word below other result
-              (slot_from_sp g.after k offset e g.same) in
+          (A.sp + offset) g.word =
+          stores_word T.image T.inputs world x.bytes g.after source offset (A.sp + offset) g.word below other result
+          (slot_from_sp g.after k offset e g.same) in
           let whole : List Instr = code ++ store_word source offset in
           let same : stores.after sp ≡ x.regs sp = stores.others sp ((λ e. omega (arith, e)), tt) ∙ g.same in
           assigned T R formed inputs cells nodes is reads lives temps x (length whole) left dest
@@ -225,7 +224,7 @@ module _ (T : Setting) (R : Running) (x : Joint) where
           (keeps_register code r its g (subst (CodeAt T.image A.here.comp x.pc) (append-nil code) at))
       keeps_by code (Slot k) its there g at =
           let whole : code ++ kept A.frame (Some (Slot k)) ≡ code ++ store_word first_scratch there.0 =
-              ap (λ o. code ++ store_word first_scratch o) (offset_is k there.0 there.1) in
+          ap (λ o. code ++ store_word first_scratch o) (offset_is k there.0 there.1) in
           subst End (sym whole)
           (keeps_slot code k there.0 first_scratch its there.1 (omega arith) (omega arith) (λ e. omega (arith, e)) g
           (λ q h. g.others q h h.first) (subst (CodeAt T.image A.here.comp x.pc) whole at))

@@ -1,11 +1,11 @@
 -- Statements that pass several tests, and so do those inside.
-use Rattle.std.proofs.Common.{◌≡◌, ℕ, Bool, true, ◌&&◌, List, [], ◌∷◌, map, refl, sym, ◌∙◌, ap}
+use Rattle.std.proofs.Common.{◌≡◌, ℕ, Bool, true, List, [], ◌∷◌, map, sym, ◌∙◌}
 use Rattle.std.proofs.lemmas.Bool.{and_parts}
 use Rattle.std.specs.List.{list_all}
 use Rattle.sc_tac.specs.Parts.{all_hold}
 use Rattle.sc_tac.specs.declared.stmt.TacStmt.{TacStmt, TacStmt-F, fold-TacStmt, fold-roll-TacStmt, roll-TacStmt, map-TacStmt}
 use Rattle.sc_tac.specs.declared.stmt.TacStmt.TheOpen as tac
-use Rattle.sc_tac.specs.Parts.{parts, with_parts, everywhere}
+use Rattle.sc_tac.specs.Parts.{parts, with_parts}
 
 -- a test of a statement by itself
 abbrev pub Test : Type 0
@@ -49,10 +49,11 @@ layer_is test layer h = sym (fold-roll-TacStmt Bool (with_parts test) layer) ∙
 pub passes_here : (tests : List Test) (layer : TacStmt-F TacStmt) → PassesAll tests (roll-TacStmt layer) →
     PassesHere tests layer
 passes_here [] layer h = tt
-passes_here (test ∷ tests) layer h =
-    ((and_parts (test (map-TacStmt _ _ (passes test) layer))
-    (list_all all_hold (parts (map-TacStmt _ _ (passes test) layer))) (layer_is test layer h.0)).0,
-    passes_here tests layer h.1)
+passes_here (test ∷ tests) layer h = (
+  (and_parts (test (map-TacStmt _ _ (passes test) layer))
+      (list_all all_hold (parts (map-TacStmt _ _ (passes test) layer))) (layer_is test layer h.0)).0,
+  passes_here tests layer h.1,
+)
 
 -- the parts of a choice and of a loop
 parts_hold : (test : Test) (layer : TacStmt-F TacStmt) → passes test (roll-TacStmt layer) ≡ true →

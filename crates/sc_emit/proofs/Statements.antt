@@ -1,44 +1,42 @@
 -- The code of statements follows what they do: by induction over their layers.
-use Rattle.std.proofs.Common.{◌≡◌, ℕ, ◌+◌, ◌*◌, ◌^◌, ◌<◌, ◌≤◌, Bool, true, false, ◌&&◌, List, [], ◌∷◌, map, length, Option}
-use Rattle.std.proofs.Common.{◌++◌, None, Some, Ok, refl, sym, ◌∙◌, ap, subst, arith, All}
-use Rattle.std.specs.Prelude.{slice_get, nat_lt, nat_le, is_some, not, ◌||◌}
+use Rattle.std.proofs.Common.{◌≡◌, ℕ, ◌^◌, ◌<◌, ◌≤◌, Bool, true, false, List, [], ◌∷◌, map, length, Option}
+use Rattle.std.proofs.Common.{◌++◌, None, Some, refl, sym, subst, arith, All}
+use Rattle.std.specs.Prelude.{nat_lt, is_some, not, ◌||◌}
 use Rattle.std.specs.Bool.{beq}
 use Rattle.std.specs.List.{list_all}
 use Rattle.std.proofs.lemmas.Bool.{and_parts, ltb-true, leb-true}
-use Rattle.std.proofs.lemmas.Option.{slice_get-get_or, slice_get_within}
+use Rattle.std.proofs.lemmas.Option.{slice_get-get_or}
 use Rattle.sc_core.specs.declared.expr.CallTarget.{CallTarget}
-use Rattle.sc_core.specs.declared.expr.CallTarget.TheVariants.{Own, Cross, Input}
+use Rattle.sc_core.specs.declared.expr.CallTarget.TheVariants.{Own, Cross, Input, Output}
 use Rattle.sc_core.specs.declared.value.Value.{Value}
-use Rattle.sc_core.specs.Memory.{Blocks}
 use Rattle.sc_core.specs.Value.{wrapping}
-use Rattle.sc_core.specs.Words.{State as Meant, Here, Piece, Reached, Stopped, Calls, all_do, loop}
+use Rattle.sc_core.specs.Words.{State as Meant, Here, Piece, Reached, Stopped, Calls, all_do}
 use Rattle.sc_image.specs.WellFormed.{IsWord, IsWellFormed}
 use Rattle.sc_tac.specs.declared.frame.FrameTree.{FrameTree}
-use Rattle.sc_tac.specs.declared.place.Place.{Place}
 use Rattle.sc_tac.specs.declared.place.Place.TheVariants.{Register}
 use Rattle.sc_tac.specs.declared.stmt.Constant.{Constant}
 use Rattle.sc_tac.specs.declared.stmt.Constant.TheVariants as constant
 use Rattle.sc_tac.specs.declared.stmt.TacOp.{TacOp}
 use Rattle.sc_tac.specs.declared.stmt.TacOp.TheVariants as tacop
-use Rattle.sc_tac.specs.declared.stmt.TacStmt.{TacStmt, TacStmt-F, fold-TacStmt, fold-roll-TacStmt, roll-TacStmt, map-TacStmt}
+use Rattle.sc_tac.specs.declared.stmt.TacStmt.{TacStmt, TacStmt-F, fold-roll-TacStmt, roll-TacStmt, map-TacStmt}
 use Rattle.sc_tac.specs.declared.stmt.TacStmt.TheOpen as tac
-use Rattle.sc_tac.specs.Code.{Codes, code_step, stmt_does, code_does, operated}
+use Rattle.sc_tac.specs.Code.{Codes, code_step, stmt_does, code_does}
 use Rattle.sc_tac.specs.Functions.{names_own_temps, names_own_object, has_operands, passes_few, has_words, has_elements}
 use Rattle.sc_tac.specs.Functions.{takes_two, counts_elements}
 use Rattle.sc_tac.specs.Parts.{one_or_none}
 use Rattle.sc_tac.specs.Points.{Trail, trail, trail_step}
 use Rattle.sc_tac.proofs.Induction.{Inside, stmt_induction}
-use Rattle.sc_select.specs.Selection.{Piece as Code, in_order, select, select_all, select_step, word_of_constant, choice}
+use Rattle.sc_select.specs.Selection.{Piece as Code, in_order, select, select_all, select_step, word_of_constant}
 use Rattle.sc_relation.specs.Calls.{CallsFollow, GivesValue}
 use Rattle.sc_relation.specs.Frames.{IsActivation}
-use Rattle.sc_relation.specs.Operators.{IsElement, IsSound}
+use Rattle.sc_relation.specs.Operators.{IsSound}
 use Rattle.sc_relation.specs.Stretches.{Setting}
 use Rattle.sc_relation.specs.Following.{Running, row, Follows}
 use Rattle.sc_relation.proofs.Frames.{object_there, object_inside}
 use Rattle.sc_relation.proofs.Jumps.{HasNoGap, break_follows, continue_follows}
 use Rattle.sc_relation.proofs.Loops.{loop_follows}
 use Rattle.sc_relation.proofs.Rows.{nothing_follows, row_follows}
-use Rattle.sc_emit.specs.Naming.{is_given, takes_given, AreReached}
+use Rattle.sc_emit.specs.Naming.{is_call, calls_only, AreReached}
 use Rattle.sc_emit.specs.Shapes.{names_only}
 use Rattle.sc_emit.proofs.Calls.{Answers, HasPlace, call_own_follows, call_cross_follows}
 use Rattle.sc_emit.proofs.Choices.{fork_follows}
@@ -72,7 +70,7 @@ module _ (T : Setting) (R : Running) (formed : IsWellFormed T.image) (inputs : A
   abbrev tests : List Test
   tests =
       names_own_temps (length R.places) ∷ names_own_object (length cells) ∷ has_operands ∷ passes_few ∷ has_words ∷
-      has_elements ∷ names_only function entry global ∷ takes_given (T.gives here.comp) ∷ []
+      has_elements ∷ names_only function entry global ∷ calls_only (T.makes here.comp) (T.gives here.comp) ∷ []
 
   abbrev does : TacStmt → Codes
   does = stmt_does wrapping here calls
@@ -111,7 +109,7 @@ module _ (T : Setting) (R : Running) (formed : IsWellFormed T.image) (inputs : A
       HasPlace R.places (Some t)
   place_there t rest h =
       let below : t < length R.places =
-          ltb-true t (length R.places) (and_parts (nat_lt t (length R.places)) _ h).0 in
+      ltb-true t (length R.places) (and_parts (nat_lt t (length R.places)) _ h).0 in
       (_, slice_get-get_or R.places t (Register 0) below)
 
   place_wanted : (dest : Option ℕ) (rest : List ℕ) →
@@ -124,9 +122,13 @@ module _ (T : Setting) (R : Running) (formed : IsWellFormed T.image) (inputs : A
   is_word dest (constant.Word w) h = ltb-true w (2 ^ 32) h
   is_word dest constant.Null h = omega arith
 
-  -- a call gives a value where one is wanted
+  -- a call may be made, and gives a value where one is wanted
+  made : (dest : Option ℕ) (target : CallTarget) (args : ℕ) →
+      is_call (T.makes here.comp) (T.gives here.comp) target args dest ≡ true → T.makes here.comp target args ≡ true
+  made dest target args h = (and_parts (T.makes here.comp target args) _ h).0
+
   answers_by : (dest : Option ℕ) (target : CallTarget) (piece : Piece (Option Value)) →
-      is_given (T.gives here.comp) dest target ≡ true → (T.gives here.comp target ≡ true → GivesValue piece) →
+      (not (is_some dest) || T.gives here.comp target) ≡ true → (T.gives here.comp target ≡ true → GivesValue piece) →
       Answers dest piece
   answers_by None target (Reached v s) h g = tt
   answers_by None target (Stopped end s) h g = tt
@@ -134,10 +136,12 @@ module _ (T : Setting) (R : Running) (formed : IsWellFormed T.image) (inputs : A
   answers_by (Some dest) target (Reached (Some v) s) h g = tt
   answers_by (Some dest) target (Stopped end s) h g = tt
 
-  answers : (dest : Option ℕ) (target : CallTarget) → is_given (T.gives here.comp) dest target ≡ true →
-      (vs : List Value) (s : Meant) → Answers dest (calls here.comp target vs s)
-  answers dest target h vs s =
-      answers_by dest target (calls here.comp target vs s) h (follow.answers here.comp target vs s)
+  answers : (dest : Option ℕ) (target : CallTarget) (args : ℕ) →
+      is_call (T.makes here.comp) (T.gives here.comp) target args dest ≡ true → (vs : List Value) (s : Meant) →
+      Answers dest (calls here.comp target vs s)
+  answers dest target args h vs s =
+      answers_by dest target (calls here.comp target vs s) (and_parts (T.makes here.comp target args) _ h).1
+      (follow.answers here.comp target vs s)
 
   const_level : (dest : ℕ) (value : Constant) → Shape (tac.Const dest value)
   const_level dest value h all few =
@@ -175,19 +179,21 @@ module _ (T : Setting) (R : Running) (formed : IsWellFormed T.image) (inputs : A
       let address = reached.functions number h.1.1.1.1.1.1.0 in
       call_own_follows T R formed inputs cells nodes is placed calls follow dest (place_wanted dest args h.0) number args
       (leb-true (length args) 8 h.1.1.1.0) (omega (arith, address.low))
-      (answers dest (Own number) h.1.1.1.1.1.1.1.0)
+      (made dest (Own number) (length args) h.1.1.1.1.1.1.1.0)
+      (answers dest (Own number) (length args) h.1.1.1.1.1.1.1.0)
 
   cross_level : (dest : Option ℕ) (comp index : ℕ) (args : List ℕ) → Shape (tac.CallCross dest comp index args)
   cross_level dest comp index args h all few =
       let address = reached.entries comp index h.1.1.1.1.1.1.0 in
       call_cross_follows T R formed inputs cells nodes is placed calls follow dest (place_wanted dest args h.0) comp index
       args (leb-true (length args) 8 h.1.1.1.0) (omega (arith, address.low)) (omega (arith, address.aligned))
-      (answers dest (Cross comp index) h.1.1.1.1.1.1.1.0)
+      (made dest (Cross comp index) (length args) h.1.1.1.1.1.1.1.0)
+      (answers dest (Cross comp index) (length args) h.1.1.1.1.1.1.1.0)
 
   input_level : (dest : Option ℕ) → Shape (tac.Input dest)
   input_level dest h all few =
       input_follows T R formed inputs cells nodes is placed calls follow dest (place_wanted dest [] h.0)
-      (answers dest Input h.1.1.1.1.1.1.1.0)
+      (made dest Input 0 h.1.1.1.1.1.1.1.0) (answers dest Input 0 h.1.1.1.1.1.1.1.0)
 
   if_level : (cond : ℕ) (first second : List TacStmt) → Each Followed first → Each Followed second →
       Shape (tac.If cond first second)
@@ -241,18 +247,18 @@ module _ (T : Setting) (R : Running) (formed : IsWellFormed T.image) (inputs : A
   level (tac.CallCross dest comp index args) inner = record { holds = cross_level dest comp index args }
   level (tac.Input dest) inner = record { holds = input_level dest }
   level (tac.Output value) inner =
-      record { holds = λ h all few. output_follows T R formed inputs cells nodes is placed calls follow value }
+      record { holds = λ h all few. output_follows T R formed inputs cells nodes is placed calls follow value (made None Output 1 h.1.1.1.1.1.1.1.0) }
   level (tac.Return value) inner =
       record { holds = λ h all few. return_follows T R formed inputs cells nodes is placed calls value }
 
   from_level : (layer : TacStmt-F TacStmt) → Level layer → Followed (roll-TacStmt layer)
   from_level layer l pass few =
       let c : code (roll-TacStmt layer) ≡ select_step frame R.places (map-TacStmt _ _ code layer) =
-          fold-roll-TacStmt Code (select_step frame R.places) layer in
+      fold-roll-TacStmt Code (select_step frame R.places) layer in
       let d : does (roll-TacStmt layer) ≡ code_step wrapping here calls (map-TacStmt _ _ does layer) =
-          fold-roll-TacStmt Codes (code_step wrapping here calls) layer in
+      fold-roll-TacStmt Codes (code_step wrapping here calls) layer in
       let t : trail (roll-TacStmt layer) ≡ trail_step (map-TacStmt _ _ trail layer) =
-          fold-roll-TacStmt Trail trail_step layer in
+      fold-roll-TacStmt Trail trail_step layer in
       subst (λ d. Follows T R d (code (roll-TacStmt layer)) (trail (roll-TacStmt layer))) (sym d)
       (subst (λ c. Follows T R (code_step wrapping here calls (map-TacStmt _ _ does layer)) c (trail (roll-TacStmt layer)))
       (sym c)

@@ -1,25 +1,23 @@
 -- Statements without others inside, as straight code.
-use Rattle.std.proofs.Common.{◌≡◌, ◌≢◌, ℕ, ◌+◌, ◌*◌, ◌^◌, ◌<◌, ◌≤◌, false, List, [], ◌∷◌, ◌++◌, length, Option, None, Some}
-use Rattle.std.proofs.Common.{Result, Ok, Err, refl, sym, ◌∙◌, ap, subst, arith, inl, inr, ⊎_elim, All}
-use Rattle.std.specs.Prelude.{◌⊎◌, slice_get}
+use Rattle.std.proofs.Common.{◌≡◌, ℕ, ◌+◌, ◌*◌, List, length, None}
+use Rattle.std.proofs.Common.{Result, Ok, Err, refl, sym, ap, subst, inl, All}
 use Rattle.std.proofs.lemmas.List.{length-map}
 use Rattle.rv_code.specs.declared.instr.Instr.{Instr}
 use Rattle.sc_core.specs.declared.cause.Cause.{Cause}
 use Rattle.sc_core.specs.declared.value.Value.{Value}
-use Rattle.sc_core.specs.Words.{State as Meant, Here, Piece, Reached, Stopped, Left, Next, and_then, computed, leave}
-use Rattle.sc_laws.specs.Growth.{Goes, Gone}
+use Rattle.sc_core.specs.Words.{State as Meant, Here, Piece, Reached, Left, Next, and_then, computed}
+use Rattle.sc_laws.specs.Growth.{Goes}
 use Rattle.sc_laws.proofs.Growing.{same}
 use Rattle.sc_hart.specs.Code.{CodeAt}
 use Rattle.sc_tac.specs.Code.{Temps, Codes, known, read}
 use Rattle.sc_tac.specs.Places.{IsClear}
 use Rattle.sc_tac.specs.Points.{Lives, Trail}
 use Rattle.sc_select.specs.Lines.{Line, plain, plainly}
-use Rattle.sc_select.specs.Selection.{Piece as Code, straight, straightly}
+use Rattle.sc_select.specs.Selection.{straight, straightly}
 use Rattle.sc_relation.specs.Linking.{completed, low_after}
-use Rattle.sc_relation.specs.Stretches.{Setting, Joint, Standpoint}
-use Rattle.sc_relation.specs.Following.{Running, Ends, ends_of, seen_from, live_at, Ready, Arrives, Comes, Starts, Follows}
+use Rattle.sc_relation.specs.Stretches.{Setting, Joint}
+use Rattle.sc_relation.specs.Following.{Running, Ends, ends_of, live_at, Ready, Arrives, Comes, Follows}
 use Rattle.sc_relation.proofs.Lines.{low_plainly, plainly_at}
-use Rattle.sc_relation.proofs.Stretches.{shows_here}
 
 -- what is computed only goes on
 pub computed_goes : {V W : Type 0} (here : Here) (result : Result V Cause) (go : V → Meant → Piece W) →
@@ -77,7 +75,7 @@ module _ (T : Setting) (R : Running) where
     runs = λ lives temps x left to_break to_continue starts.
         (let long : length (plainly instrs) ≡ length instrs = length-map instrs plain in
         let ends : Ends =
-            ends_of (straightly R.activation.frame R.places instrs) x.pc left to_break to_continue in
+        ends_of (straightly R.activation.frame R.places instrs) x.pc left to_break to_continue in
         subst (λ n. Comes T R lives x (n + left) ends (does temps x.meant)) (sym long)
         (runs lives temps x left starts.ready starts.clear
         (plainly_at (T.addresses R.activation.here.comp) T.image R.activation.here.comp x.pc instrs starts.stands) ends

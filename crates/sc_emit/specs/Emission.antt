@@ -1,5 +1,5 @@
 -- What the code of a function keeps.
-use Rattle.std.specs.Prelude.{◌≡◌, ℕ, ◌+◌, ◌*◌, ◌<◌, ◌≤◌, Bool, List, length, All, IsTrue}
+use Rattle.std.specs.Prelude.{ℕ, ◌+◌, ◌*◌, ◌<◌, ◌≤◌, Bool, length, All, IsTrue}
 use Rattle.sc_core.specs.Growth.{Front}
 use Rattle.sc_core.specs.Value.{wrapping}
 use Rattle.sc_image.specs.WellFormed.{IsWord, IsWellFormed}
@@ -16,11 +16,11 @@ use Rattle.sc_hart.specs.Code.{CodeAt}
 use Rattle.sc_relation.specs.Calls.{FunctionFollows}
 use Rattle.sc_relation.specs.Linking.{linked}
 use Rattle.sc_relation.specs.Stretches.{Setting}
-use Rattle.sc_emit.specs.Naming.{takes_given, AreReached}
+use Rattle.sc_emit.specs.Naming.{calls_only, AreReached}
 use Rattle.sc_emit.specs.Shapes.{code_branches, has_no_ebreak, names_only, refers_only}
 
--- the linked code of a function stands at an address of a compartment, all that it names is where it can be reached, its
--- parameters are words, and a turn pays for it
+-- the linked code of a function stands at an address of a compartment, all that it names is where it can be reached, it
+-- makes the calls that may be made, its parameters are words, and a turn pays for it
 pub record IsPlaced (T : Setting) (comp address : ℕ) (f : TacFnTree) (code : CodeTree) : Type 0 where
   pub image : IsWellFormed T.image
   pub inputs : All IsWord T.inputs
@@ -28,7 +28,7 @@ pub record IsPlaced (T : Setting) (comp address : ℕ) (f : TacFnTree) (code : C
   pub entry : (comp index : ℕ) → Bool
   pub global : ℕ → Bool
   pub names : IsTrue (everywhere (names_only function entry global) f.body)
-  pub given : IsTrue (everywhere (takes_given (T.gives comp)) f.body)
+  pub calls : IsTrue (everywhere (calls_only (T.makes comp) (T.gives comp)) f.body)
   pub reached : AreReached T comp function entry global
   pub words : IsTrue (passes_words f.params f.objects)
   pub paid : length code.instrs ≤ T.turn_pays

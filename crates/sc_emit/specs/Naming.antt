@@ -1,23 +1,23 @@
 -- What the code of a function counts on outside of it.
-use Rattle.std.specs.Prelude.{◌≡◌, ℕ, ◌%◌, ◌^◌, ◌<◌, Bool, true, not, ◌||◌, Option, is_some}
+use Rattle.std.specs.Prelude.{◌≡◌, ℕ, ◌%◌, ◌^◌, ◌<◌, Bool, true, not, ◌&&◌, ◌||◌, length, Option, None, is_some}
 use Rattle.sc_core.specs.declared.expr.CallTarget.{CallTarget}
-use Rattle.sc_core.specs.declared.expr.CallTarget.TheVariants.{Own, Cross, Input}
+use Rattle.sc_core.specs.declared.expr.CallTarget.TheVariants.{Own, Cross, Input, Output}
 use Rattle.sc_tac.specs.declared.stmt.TacStmt.{TacStmt-F}
 use Rattle.sc_tac.specs.declared.stmt.TacStmt.TheOpen as tac
 use Rattle.sc_relation.specs.Blocks.{IsAddress}
-use Rattle.sc_relation.specs.Linking.{Addresses}
 use Rattle.sc_relation.specs.Stretches.{Setting}
 
--- a statement takes a value of calls that give one
-module _ (gives : CallTarget → Bool) where
-  abbrev pub is_given : Option ℕ → CallTarget → Bool
-  is_given dest target = not (is_some dest) || gives target
+-- calls are made as these tests say, and a value is taken of one that gives one
+module _ (makes : CallTarget → (args : ℕ) → Bool) (gives : CallTarget → Bool) where
+  abbrev pub is_call : CallTarget → (args : ℕ) → Option ℕ → Bool
+  is_call target args dest = makes target args && (not (is_some dest) || gives target)
 
-  abbrev pub takes_given : TacStmt-F Bool → Bool
-  takes_given (tac.CallOwn dest function args) = is_given dest (Own function)
-  takes_given (tac.CallCross dest comp index args) = is_given dest (Cross comp index)
-  takes_given (tac.Input dest) = is_given dest Input
-  takes_given _ = true
+  abbrev pub calls_only : TacStmt-F Bool → Bool
+  calls_only (tac.CallOwn dest function args) = is_call (Own function) (length args) dest
+  calls_only (tac.CallCross dest comp index args) = is_call (Cross comp index) (length args) dest
+  calls_only (tac.Input dest) = is_call Input 0 dest
+  calls_only (tac.Output value) = is_call Output 1 None
+  calls_only _ = true
 
 -- where code lies
 pub record IsCodeAddress (a : ℕ) : Type 0 where

@@ -1,5 +1,5 @@
 -- Code, found at its place.
-use Rattle.std.proofs.Common.{◌≡◌, ℕ, suc, ◌+◌, ◌*◌, ◌<◌, ◌≤◌, List, [], ◌∷◌, ◌++◌, length, map, All, refl, sym, ◌∙◌, ap}
+use Rattle.std.proofs.Common.{◌≡◌, ℕ, suc, ◌+◌, ◌*◌, List, [], ◌∷◌, ◌++◌, length, map, sym, ◌∙◌}
 use Rattle.std.proofs.Common.{subst, arith, append_assoc}
 use Rattle.std.proofs.lemmas.List.{length_push}
 use Rattle.std.proofs.lemmas.List.Elements.{All-head, All-tail}
@@ -7,9 +7,9 @@ use Rattle.rv_code.specs.declared.instr.Instr.{Instr}
 use Rattle.rv_code.specs.Prelude.{word_of, IsInstr}
 use Rattle.rv_code.proofs.OneEach.{decoded-word_of}
 use Rattle.sc_image.specs.declared.parts.ImageParts.{ImageParts}
-use Rattle.sc_image.specs.Layout.{code_start, code_of, word_at}
+use Rattle.sc_image.specs.Layout.{code_start}
 use Rattle.sc_image.proofs.Walking.{image_in_memory}
-use Rattle.sc_hart.specs.Code.{Fetches, CodeAt}
+use Rattle.sc_hart.specs.Code.{CodeAt}
 use Rattle.sc_hart.specs.Laws.{CodeIsFetched}
 
 -- what is at an address is at one that is equal
@@ -22,15 +22,16 @@ code_is_fetched image c [] before after all h = tt
 code_is_fetched image c (instr ∷ instrs) before after all h =
     let word : ℕ = word_of instr in
     let later : length (before ++ word ∷ []) ≡ length before + 1 = length_push before word in
-    let whole = h ∙ sym (append_assoc before (word ∷ []) (map word_of instrs ++ after)) in
-    (record {
-      word = word;
-      fetched = image_in_memory.code image c word before (map word_of instrs ++ after) h;
-      decodes = decoded-word_of instr (All-head IsInstr instr instrs all);
-    },
-    moved_to image c (code_start c + 4 * length (before ++ word ∷ [])) (code_start c + 4 * length before + 4) instrs
-    (omega (arith, later))
-    (code_is_fetched image c instrs (before ++ word ∷ []) after (All-tail IsInstr instr instrs all) whole))
+    let whole = h ∙ sym (append_assoc before (word ∷ []) (map word_of instrs ++ after)) in (
+      record {
+        word = word;
+        fetched = image_in_memory.code image c word before (map word_of instrs ++ after) h;
+        decodes = decoded-word_of instr (All-head IsInstr instr instrs all);
+      },
+      moved_to image c (code_start c + 4 * length (before ++ word ∷ [])) (code_start c + 4 * length before + 4) instrs
+          (omega (arith, later))
+          (code_is_fetched image c instrs (before ++ word ∷ []) after (All-tail IsInstr instr instrs all) whole),
+    )
 
 -- code in two parts
 pub front_at : (image : ImageParts) (c pc : ℕ) (xs ys : List Instr) → CodeAt image c pc (xs ++ ys) → CodeAt image c pc xs

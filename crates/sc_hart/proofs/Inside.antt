@@ -1,5 +1,5 @@
 -- Code lies low, at multiples of 4.
-use Rattle.std.proofs.Common.{◌≡◌, ℕ, ◌+◌, ◌-◌, ◌*◌, ◌/◌, ◌%◌, ◌^◌, ◌<◌, ◌≤◌, Bool, true, false, ◌&&◌, nat_eq, nat_le, length}
+use Rattle.std.proofs.Common.{◌≡◌, ℕ, ◌-◌, ◌*◌, ◌/◌, ◌%◌, ◌^◌, ◌<◌, ◌≤◌, Bool, true, false, ◌&&◌, nat_eq, nat_le}
 use Rattle.std.proofs.Common.{Option, None, Some, if◌then◌else◌, refl, arith}
 use Rattle.std.specs.Prelude.{slice_get, []}
 use Rattle.std.specs.Option.{option_map_or}

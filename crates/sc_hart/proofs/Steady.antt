@@ -1,5 +1,5 @@
 -- A stretch leads from a steady state to a steady state.
-use Rattle.std.proofs.Common.{◌≡◌, ℕ, zero, suc, List, All, refl, sym, ◌∙◌, ap, subst}
+use Rattle.std.proofs.Common.{◌≡◌, ℕ, zero, suc, List, All, refl, subst}
 use Rattle.sc_image.specs.declared.parts.ImageParts.{ImageParts}
 use Rattle.sc_image.specs.Isolation.{after_outcome}
 use Rattle.sc_image.specs.State.{State}

@@ -1,6 +1,6 @@
 -- One instruction, as a stretch of one step; and stretches in a row.
-use Rattle.std.proofs.Common.{◌≡◌, ℕ, zero, suc, ◌+◌, ◌*◌, ◌/◌, ◌%◌, ◌^◌, ◌<◌, ◌≤◌, ℤ, pos, List, true, false, Some}
-use Rattle.std.proofs.Common.{refl, sym, ◌∙◌, ap, ap₂, subst, arith}
+use Rattle.std.proofs.Common.{◌≡◌, ℕ, suc, ◌+◌, ◌%◌, ◌<◌, ℤ, List, true, false, Some}
+use Rattle.std.proofs.Common.{refl, ◌∙◌, ap, ap₂, subst, arith}
 use Rattle.std.proofs.lemmas.Bool.{eq-eqb}
 use Rattle.sc_base.specs.declared.stop.TrapReason.TheVariants.{Owner, BadJump}
 use Rattle.sc_word.specs.Prelude.{word_of, add_word}
@@ -15,14 +15,14 @@ use Rattle.rv_code.specs.declared.instr.OpOp.{OpOp}
 use Rattle.sc_store.specs.Memory.{Memory, load_of, stored}
 use Rattle.sc_image.specs.declared.parts.ImageParts.{ImageParts}
 use Rattle.sc_image.specs.Layout.{data_start, word_at}
-use Rattle.sc_image.specs.State.{State, reg}
-use Rattle.sc_image.specs.Step.{Outcome, Goes, Traps, step, gives, next, load, store, unless, computed, on_registers}
+use Rattle.sc_image.specs.State.{State}
+use Rattle.sc_image.specs.Step.{Outcome, Goes, Traps, step, gives, store, unless, computed, on_registers}
 use Rattle.sc_image.specs.Step.{jump, calls, leaves, jalr_target, compares}
 use Rattle.sc_image.specs.Walks.{Walks, IsAt}
 use Rattle.sc_image.proofs.Walking.{steps_by_instruction}
 use Rattle.sc_image.proofs.Stretches.{stretches_compose}
 use Rattle.sc_hart.specs.Code.{Fetches}
-use Rattle.sc_hart.specs.Hart.{Registers, put, look, set, listed, World, at}
+use Rattle.sc_hart.specs.Hart.{Registers, look, set, World, at}
 use Rattle.sc_hart.specs.Words.{word, put_word, Owned}
 use Rattle.sc_hart.proofs.Registers.{read_listed, write_listed}
 use Rattle.sc_hart.proofs.Words.{owned_allowed, below_refused}

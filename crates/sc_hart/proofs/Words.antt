@@ -1,17 +1,15 @@
 -- Words in memory, and which of them are owned.
-use Rattle.std.proofs.Common.{◌≡◌, ℕ, ◌+◌, ◌%◌, ◌^◌, ◌<◌, ◌≤◌, Bool, true, false, nat_le, nat_lt, refl, sym, ◌∙◌, ap}
+use Rattle.std.proofs.Common.{◌≡◌, ℕ, ◌+◌, ◌%◌, ◌^◌, ◌<◌, true, false, nat_le, refl, ◌∙◌}
 use Rattle.std.proofs.Common.{arith, ⊎_elim, inl, inr, Some, None}
-use Rattle.std.specs.Prelude.{◌⊎◌, length, ◌==◌}
-use Rattle.std.proofs.lemmas.Bool.{eq-eqb, le-leb, le-ltb, lt-leb, cases_lt}
-use Rattle.std.proofs.lemmas.Bool.Decides.{nat_tests}
+use Rattle.std.proofs.lemmas.Bool.{eq-eqb, lt-leb, cases_lt}
 use Rattle.sc_base.specs.declared.stop.TrapReason.TheVariants.{Owner}
 use Rattle.sc_store.specs.Memory.{Memory}
 use Rattle.sc_store.proofs.Words.{load_of-stored, load_of-apart}
 use Rattle.sc_image.specs.declared.parts.ImageParts.{ImageParts}
-use Rattle.sc_image.specs.Layout.{data_start, stack_top, stack_size, globals_of, are_data}
-use Rattle.sc_image.specs.Step.{refused, refused_by}
+use Rattle.sc_image.specs.Layout.{data_start, stack_top, are_data}
+use Rattle.sc_image.specs.Step.{refused}
 use Rattle.sc_image.proofs.Walking.{image_in_memory}
-use Rattle.sc_hart.specs.Words.{word, put_word, Apart, Owned, data_end}
+use Rattle.sc_hart.specs.Words.{word, put_word, Apart, Owned}
 use Rattle.sc_hart.specs.Laws.{WordsAreKept}
 
 pub word_same : (memory : Memory) (a value : ℕ) → value < 2 ^ 32 → word (put_word memory a value) a ≡ value

@@ -71,7 +71,7 @@ module _ (T : Setting) (formed : IsWellFormed T.image) (inputs : All IsWord T.in
         roomy,
         low,
         begins.settled.room P.comp begins.honest,
-        begins.floor,
+        begins.base.floor,
         room_begun P.comp P.comp f x.meant args refl,
       )
 
@@ -87,9 +87,9 @@ module _ (T : Setting) (formed : IsWellFormed T.image) (inputs : All IsWord T.in
       known = omega (arith, begins.settled.steady.active, formed.few_comps);
       frame = whole;
       room = room;
-      aligned = omega (arith, begins.aligned, bound_is, whole.bytes);
+      aligned = omega (arith, begins.base.aligned, bound_is, whole.bytes);
       low = start;
-      high = omega (arith, begins.high, bound_is);
+      high = omega (arith, begins.base.high, bound_is);
       floor = rw (eq-eqb P.comp P.comp refl) refl;
     }
 
@@ -110,9 +110,9 @@ module _ (T : Setting) (formed : IsWellFormed T.image) (inputs : All IsWord T.in
 
       prepared : Prepared T.image T.performs P.floor x.inj x.meant.memory x.bytes bytes P.comp low frame f.cells args
       prepared = record {
-        floor_is = begins.floor ∙ bound_is;
+        floor_is = begins.base.floor ∙ bound_is;
         start = start;
-        high = omega (arith, begins.floor, begins.high);
+        high = omega (arith, begins.base.floor, begins.base.high);
         aligned = is_activation.aligned;
         params = params;
         outside = enters.outside;
@@ -138,7 +138,7 @@ module _ (T : Setting) (formed : IsWellFormed T.image) (inputs : All IsWord T.in
             begins.settled.room k honest,
             floor_here k e,
             same,
-            begins.floor,
+            begins.base.floor,
             bound_is,
             roomy,
             room_begun k P.comp f x.meant args e,
@@ -197,7 +197,7 @@ module _ (T : Setting) (formed : IsWellFormed T.image) (inputs : All IsWord T.in
       kept_entered k q p = enters.outside q (⊎_elim
           (λ e. inr (omega (arith, p.own e, bound_is)))
           (λ d. other_range T.image k P.comp q low frame.bytes formed d p.guard.owned start
-          (omega (arith, begins.high, bound_is))) (cases_eq k P.comp))
+          (omega (arith, begins.base.high, bound_is))) (cases_eq k P.comp))
 
       module _ (z : Joint) (budget left : ℕ) (leads : Leads T (seen_from A) y z budget left)
           (settled : Settled T (seen_from A) z) where

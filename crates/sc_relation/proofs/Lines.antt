@@ -1,11 +1,11 @@
 -- Lines that the linker completed, in parts.
-use Rattle.std.proofs.Common.{◌≡◌, ℕ, zero, suc, ◌+◌, ◌*◌, List, [], ◌∷◌, ◌++◌, length, map, Option, None, refl, sym, ◌∙◌, ap}
-use Rattle.std.proofs.Common.{ap₂, subst, arith}
+use Rattle.std.proofs.Common.{◌≡◌, ℕ, suc, ◌+◌, ◌*◌, List, [], ◌∷◌, ◌++◌, length, Option, None, refl, ◌∙◌, ap}
+use Rattle.std.proofs.Common.{subst, arith}
 use Rattle.rv_code.specs.declared.instr.Instr.{Instr}
 use Rattle.sc_image.specs.declared.parts.ImageParts.{ImageParts}
-use Rattle.sc_select.specs.Lines.{Line, plain, plainly}
+use Rattle.sc_select.specs.Lines.{Line, plainly}
 use Rattle.sc_hart.specs.Code.{CodeAt}
-use Rattle.sc_hart.proofs.Fetching.{front_at, back_at, moved_to}
+use Rattle.sc_hart.proofs.Fetching.{front_at, back_at}
 use Rattle.sc_relation.specs.Linking.{Addresses, with_low, with_target, low_behind, completed, low_after}
 
 module _ (addresses : Addresses) where

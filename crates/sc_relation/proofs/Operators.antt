@@ -25,7 +25,7 @@ use Rattle.sc_image.specs.declared.parts.ImageParts.{ImageParts}
 use Rattle.sc_image.specs.WellFormed.{IsWellFormed}
 use Rattle.sc_image.proofs.Bytes.{few_globals}
 use Rattle.sc_hart.specs.Words.{data_end}
-use Rattle.sc_tac.specs.Code.{is_unsigned, is_pointer, is_comparison, compared, operated}
+use Rattle.sc_tac.specs.Code.{is_unsigned, is_pointer, is_comparison, operated}
 use Rattle.sc_tac.specs.Functions.{takes_two}
 use Rattle.sc_tac.specs.declared.stmt.TacOp.{TacOp}
 use Rattle.sc_tac.specs.declared.stmt.TacOp.TheVariants as tacop

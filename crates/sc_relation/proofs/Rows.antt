@@ -1,23 +1,22 @@
 -- Statements in order.
-use Rattle.std.proofs.Common.{◌≡◌, ℕ, ◌+◌, ◌*◌, ◌≤◌, List, [], ◌∷◌, ◌++◌, length, Option, None, Some, refl, sym, ◌∙◌, ap}
-use Rattle.std.proofs.Common.{ap₂, subst, arith, inl, inr, ⊎_elim, All}
+use Rattle.std.proofs.Common.{◌≡◌, ℕ, ◌+◌, ◌*◌, List, [], ◌∷◌, length, None, refl, sym, ◌∙◌, ap}
+use Rattle.std.proofs.Common.{ap₂, subst, arith, inl, inr, ⊎_elim}
 use Rattle.std.proofs.lemmas.List.{length-append}
-use Rattle.sc_core.specs.Words.{State as Meant, Piece, Reached, Stopped, Exit, Next, Break, Continue, Return, Left, Does}
-use Rattle.sc_core.specs.Words.{all_do, follow, in_order as in_turn, take, leave}
+use Rattle.sc_core.specs.Words.{State as Meant, Piece, Reached, Stopped, Exit, Next, Break, Continue, Return, Left}
+use Rattle.sc_core.specs.Words.{all_do, follow, in_order as in_turn, take}
 use Rattle.sc_laws.specs.Growth.{Goes}
 use Rattle.sc_laws.proofs.Growing.{stays, follow_goes, then_from}
 use Rattle.sc_tac.specs.Code.{Temps, Codes}
 use Rattle.sc_tac.specs.Places.{IsClear}
-use Rattle.sc_tac.specs.Points.{Set, Lives, Trail, live_before, row_points}
-use Rattle.sc_select.specs.Lines.{Line}
-use Rattle.sc_select.specs.Selection.{Piece as Code, nothing, followed, in_order}
+use Rattle.sc_tac.specs.Points.{Lives, Trail, live_before, row_points}
+use Rattle.sc_select.specs.Selection.{Piece as Code, nothing, followed}
 use Rattle.sc_relation.specs.Linking.{low_after}
-use Rattle.sc_relation.specs.Stretches.{Setting, Joint, Settled, Leads, Shows, Overflows}
-use Rattle.sc_relation.specs.Following.{Running, Ends, ends_of, seen_from, row, live_at, Ready, Arrives, Returns}
+use Rattle.sc_relation.specs.Stretches.{Setting, Joint, Overflows}
+use Rattle.sc_relation.specs.Following.{Running, Ends, ends_of, seen_from, row, Ready}
 use Rattle.sc_relation.specs.Following.{ExitGives, Gives, Comes, StandsAt, Starts, Follows}
 use Rattle.sc_relation.proofs.Clear.{all_front, all_back}
 use Rattle.sc_relation.proofs.Lines.{InParts, in_parts, low_append}
-use Rattle.sc_relation.proofs.Stretches.{leads_none, leads_less, shows_less, overflows_with, comes_after, arrives_with}
+use Rattle.sc_relation.proofs.Stretches.{leads_none, shows_less, overflows_with, comes_after, arrives_with}
 use Rattle.sc_relation.proofs.Stretches.{returns_with}
 
 module _ (T : Setting) (R : Running) where
@@ -44,7 +43,6 @@ module _ (T : Setting) (R : Running) where
 
     abbrev inner : Lives → Lives
     inner lives = record lives { behind = live_before trails lives }
-
 
     -- the parts of the code
     parts : (pc b c : ℕ) → StandsAt T R pc whole b c →

@@ -1,7 +1,7 @@
 -- Both sides stay settled while code of the running call changes registers and words of its frame, and across a store
 -- through a pointer; and what such a stretch leaves alone.
-use Rattle.std.proofs.Common.{◌≡◌, ℕ, zero, suc, ◌+◌, ◌*◌, ◌≤◌, false, List, All, Some, Ok}
-use Rattle.std.proofs.Common.{refl, subst, arith, ⊎_elim, inr}
+use Rattle.std.proofs.Common.{◌≡◌, ℕ, ◌+◌, ◌*◌, ◌≤◌, false, List, All, Some, Ok}
+use Rattle.std.proofs.Common.{refl, arith, ⊎_elim, inr}
 use Rattle.std.specs.Prelude.{slice_get}
 use Rattle.std.proofs.lemmas.Bool.{cases_eq}
 use Rattle.sc_core.specs.declared.value.Pointer.{Pointer}
@@ -10,13 +10,8 @@ use Rattle.sc_core.specs.declared.value.Value.TheVariants.{Ptr}
 use Rattle.sc_core.specs.Memory.{Blocks, store}
 use Rattle.sc_core.specs.Words.{with_memory}
 use Rattle.sc_store.specs.Memory.{Memory as Bytes}
-use Rattle.sc_image.specs.declared.parts.ImageParts.{ImageParts}
-use Rattle.sc_image.specs.State.{State}
-use Rattle.sc_image.specs.Steady.{IsSteady}
-use Rattle.sc_image.specs.Step.{Outcome, Goes, Traps, step}
-use Rattle.sc_image.specs.Walks.{Walks, walk, then_on}
+use Rattle.sc_image.specs.Walks.{Walks}
 use Rattle.sc_image.specs.WellFormed.{IsWord, IsWellFormed}
-use Rattle.sc_image.proofs.Reached.{SteadyAfter, steady_step}
 use Rattle.sc_tac.specs.declared.place.Place.{Place}
 use Rattle.sc_hart.proofs.Steady.{walks_steady}
 use Rattle.sc_hart.specs.Hart.{Registers}

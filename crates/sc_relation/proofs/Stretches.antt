@@ -1,19 +1,16 @@
 -- Stretches in a row.
-use Rattle.std.proofs.Common.{◌≡◌, ◌≢◌, ℕ, ◌+◌, ◌*◌, ◌<◌, ◌≤◌, List, length, Option, None, Some, refl, sym, ◌∙◌, ap, subst}
+use Rattle.std.proofs.Common.{◌≡◌, ℕ, ◌+◌, ◌≤◌, length, Option, refl, sym, ◌∙◌, subst}
 use Rattle.std.proofs.Common.{arith, inl, inr, ⊎_elim}
-use Rattle.std.specs.Prelude.{◌⊎◌}
 use Rattle.std.proofs.lemmas.Option.{same_Some}
-use Rattle.sc_core.specs.declared.value.Cell.{Cell}
 use Rattle.sc_core.specs.declared.value.Value.{Value}
-use Rattle.sc_core.specs.Memory.{Memory}
 use Rattle.sc_core.specs.Words.{State as Meant, Piece, Reached, Stopped, Exit, Next, Break, Continue, Return, Left, and_then}
-use Rattle.sc_laws.specs.Growth.{Grown, Gone, Goes, last}
+use Rattle.sc_laws.specs.Growth.{Grown, Goes, last}
 use Rattle.sc_laws.proofs.Growing.{more, then_from}
 use Rattle.sc_tac.specs.Code.{Temps}
 use Rattle.sc_tac.specs.Points.{Set, Lives}
 use Rattle.sc_hart.specs.Hart.{Registers}
 use Rattle.sc_hart.proofs.Steps.{stay, then_go}
-use Rattle.sc_relation.specs.Blocks.{Injection, LiveAt, Beside, BlocksMatch, Guarded}
+use Rattle.sc_relation.specs.Blocks.{Beside}
 use Rattle.sc_relation.specs.Stretches.{Setting, Joint, Standpoint, machine, Settled, Protected, Effect, Costs, Leads}
 use Rattle.sc_relation.specs.Stretches.{Shows, Overflows}
 use Rattle.sc_relation.specs.Following.{Ends, Running, seen_from, Arrives, Returns, ExitGives, Gives, Comes}

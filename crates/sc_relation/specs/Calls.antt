@@ -1,25 +1,20 @@
 -- What the code of a function follows, where the calls in it are followed.
-use Rattle.std.specs.Prelude.{◌≡◌, ◌≢◌, ℕ, ◌+◌, ◌*◌, ◌%◌, ◌<◌, ◌≤◌, ◌⊎◌, ℤ, pos, Bool, true, false, List, [], ◌∷◌, length, Option, Some}
+use Rattle.std.specs.Prelude.{◌≡◌, ◌≢◌, ℕ, ◌+◌, ◌%◌, ◌<◌, ◌≤◌, ◌⊎◌, ℤ, pos, Bool, true, false, List, length, Option, Some}
 use Rattle.std.specs.Prelude.{slice_get, IsSome}
-use Rattle.rv_code.specs.declared.instr.Instr.{Instr}
 use Rattle.rv_code.specs.declared.instr.Instr.TheVariants.{Jal, Jalr, Ecall}
-use Rattle.sc_base.specs.declared.stop.TrapReason.TheVariants.{Owner}
 use Rattle.sc_word.specs.Prelude.{word_of, add_word}
 use Rattle.sc_core.specs.declared.expr.CallTarget.{CallTarget}
 use Rattle.sc_core.specs.declared.expr.CallTarget.TheVariants.{Own, Cross, Input, Output}
 use Rattle.sc_core.specs.declared.value.Value.{Value}
 use Rattle.sc_core.specs.Calls.{Function, begun, done}
-use Rattle.sc_core.specs.Words.{State as Meant, Here, Piece, Reached, Stopped, Calls, and_then}
+use Rattle.sc_core.specs.Words.{State as Meant, Piece, Reached, Stopped, Calls, and_then}
 use Rattle.sc_laws.specs.Growth.{Goes}
-use Rattle.sc_image.specs.Layout.{data_start, stack_top}
-use Rattle.sc_image.specs.State.{Crossing}
+use Rattle.sc_image.specs.Layout.{stack_top}
 use Rattle.sc_image.specs.Step.{jalr_target}
 use Rattle.sc_select.specs.Pieces.{ra, sp, a0, a7}
-use Rattle.sc_hart.specs.Code.{Fetches, CodeAt}
-use Rattle.sc_relation.specs.Blocks.{Injection, StandsFor}
-use Rattle.sc_relation.specs.Frames.{Activation, FrameMatches}
-use Rattle.sc_relation.specs.Linking.{Addresses}
-use Rattle.sc_relation.specs.Stretches.{Setting, Joint, Standpoint, machine, Settled, Leads, Shows, Overflows, GivenBack}
+use Rattle.sc_hart.specs.Code.{Fetches}
+use Rattle.sc_relation.specs.Blocks.{StandsFor}
+use Rattle.sc_relation.specs.Stretches.{Setting, Joint, Standpoint, Settled, Leads, Shows, Overflows, GivenBack}
 
 -- a call of the environment
 abbrev pub of_environment : CallTarget → Bool
@@ -27,6 +22,12 @@ of_environment (Own number) = false
 of_environment (Cross to index) = false
 of_environment Input = true
 of_environment Output = true
+
+-- calls of a compartment whose latest frame, or the top of whose stack, this is
+pub record IsBase (P : Standpoint) : Type 0 where
+  pub floor : P.floor P.comp ≡ P.bound
+  pub aligned : P.bound % 4 ≡ 0
+  pub high : P.bound ≤ stack_top P.comp
 
 -- it comes back with a value, or the meaning ends
 abbrev pub GivesValue : Piece (Option Value) → Type 0
@@ -73,7 +74,8 @@ module _ (T : Setting) where
         GivesValue (calls comp target args s)
     pub goes : (comp : ℕ) (target : CallTarget) (args : List Value) → Goes (calls comp target args)
     pub follow : (P : Standpoint) (x : Joint) (target : CallTarget) (args : List Value) →
-        T.performs P.comp ≡ false → Settled T P x → x.regs sp ≡ P.bound → P.floor P.comp ≡ P.bound →
+        T.performs P.comp ≡ false → T.makes P.comp target (length args) ≡ true → Settled T P x → IsBase P →
+        x.regs sp ≡ P.bound →
         ArePassed (x.inj P.comp) x.regs args → CallStands P x target →
         CallGives P x target (calls P.comp target args x.meant) ⊎ Overflows T P x 1 (calls P.comp target args x.meant)
 
@@ -84,11 +86,9 @@ module _ (T : Setting) where
   pub record Begins (P : Standpoint) (f : Function) (args : List Value) (address ra_is : ℕ) (x : Joint) : Type 0 where
     pub honest : T.performs P.comp ≡ false
     pub settled : Settled T P x
+    pub base : IsBase P
     pub pc : x.pc ≡ address
     pub sp : x.regs sp ≡ P.bound
-    pub floor : P.floor P.comp ≡ P.bound
-    pub aligned : P.bound % 4 ≡ 0
-    pub high : P.bound ≤ stack_top P.comp
     pub ra : x.regs ra ≡ ra_is
     pub passed : ArePassed (x.inj P.comp) x.regs args
 

@@ -1,8 +1,8 @@
 -- A piece of code follows what statements do: what it is to stand at its start, and what it gives.
-use Rattle.std.specs.Prelude.{◌≡◌, ℕ, ◌+◌, ◌*◌, ◌≤◌, ◌⊎◌, ℤ, pos, List, [], ◌∷◌, map, length, All, Option, None, Some}
+use Rattle.std.specs.Prelude.{◌≡◌, ℕ, ◌+◌, ◌*◌, ◌≤◌, ◌⊎◌, pos, List, length, All, Option, None}
 use Rattle.rv_code.specs.declared.instr.Instr.TheVariants.{Jalr}
 use Rattle.sc_core.specs.declared.value.Value.{Value}
-use Rattle.sc_core.specs.Words.{State as Meant, Piece, Reached, Stopped, Exit, Next, Break, Continue, Return, Left, Does}
+use Rattle.sc_core.specs.Words.{State as Meant, Piece, Reached, Stopped, Exit, Next, Break, Continue, Return, Left}
 use Rattle.sc_laws.specs.Growth.{Goes}
 use Rattle.sc_tac.specs.declared.place.Place.{Place}
 use Rattle.sc_tac.specs.Code.{Temps, Codes}
@@ -14,7 +14,7 @@ use Rattle.sc_select.specs.Selection.{Piece as Code}
 use Rattle.sc_hart.specs.Code.{Fetches, CodeAt}
 use Rattle.sc_relation.specs.Frames.{Activation, FrameMatches, AreHeld}
 use Rattle.sc_relation.specs.Linking.{completed, low_after}
-use Rattle.sc_relation.specs.Stretches.{Setting, Joint, Standpoint, machine, Settled, Leads, Shows, Overflows, GivenBack}
+use Rattle.sc_relation.specs.Stretches.{Setting, Joint, Standpoint, Settled, Leads, Shows, Overflows, GivenBack}
 
 -- statements in order as one
 abbrev pub row : List Trail → Trail

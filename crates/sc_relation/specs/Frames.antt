@@ -1,5 +1,5 @@
 -- The running call: its frame, and the places of its temporaries.
-use Rattle.std.specs.Prelude.{◌≡◌, ℕ, ◌+◌, ◌%◌, ◌<◌, ◌≤◌, Bool, true, false, List, ◌∷◌, Option, Some, slice_get}
+use Rattle.std.specs.Prelude.{◌≡◌, ℕ, ◌+◌, ◌%◌, ◌<◌, ◌≤◌, Bool, true, false, List, ◌∷◌, Some, slice_get}
 use Rattle.sc_core.specs.declared.value.Value.{Value}
 use Rattle.sc_core.specs.Memory.{Memory}
 use Rattle.sc_core.specs.Words.{Here}
@@ -16,7 +16,7 @@ use Rattle.sc_tac.specs.Points.{Set}
 use Rattle.sc_select.specs.Pieces.{register_of}
 use Rattle.sc_hart.specs.Hart.{Registers}
 use Rattle.sc_hart.specs.Words.{word}
-use Rattle.sc_relation.specs.Blocks.{Injection, StandsFor, BlocksMatch, Guarded}
+use Rattle.sc_relation.specs.Blocks.{Injection, StandsFor, Guarded}
 
 -- what stays while a call runs: where it runs, its frame and the address of that, where it returns to, the open cross
 -- calls, and the floors of all compartments

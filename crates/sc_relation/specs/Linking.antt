@@ -1,5 +1,5 @@
 -- Lines of code as the linker completes them: with the addresses of what they refer to.
-use Rattle.std.specs.Prelude.{ℕ, ℤ, suc, pos, ◌+◌, ◌-ℤ◌, ◌==◌, if◌then◌else◌, List, [], ◌∷◌, Option, None, Some}
+use Rattle.std.specs.Prelude.{ℕ, suc, pos, ◌+◌, ◌-ℤ◌, ◌==◌, if◌then◌else◌, List, [], ◌∷◌, Option, None, Some}
 use Rattle.rv_code.specs.declared.instr.Instr.{Instr}
 use Rattle.rv_code.specs.declared.instr.Instr.TheVariants.{Upper, Jal, Jalr, OpImm}
 use Rattle.sc_tac.specs.declared.machine_code.CodeTree.{CodeTree}

@@ -22,8 +22,8 @@ use Rattle.sc_relation.specs.Linking.{Addresses}
 use Rattle.sc_relation.specs.Blocks.{Injection, StandsFor, LiveAt, BlocksMatch, Guarded}
 
 -- what stays for a whole run: the image and the inputs, the compartments that perform in place of running their code, how
--- many steps a turn pays for, where what code refers to lies, how many globals each compartment has, and which of its
--- calls come back with a value
+-- many steps a turn pays for, where what code refers to lies, how many globals each compartment has, which calls
+-- its code makes with so many arguments, and which of them come back with a value
 pub record Setting : Type 0 where
   pub image : ImageParts
   pub inputs : List ℕ
@@ -31,6 +31,7 @@ pub record Setting : Type 0 where
   pub turn_pays : ℕ
   pub addresses : ℕ → Addresses
   pub globals : ℕ → ℕ
+  pub makes : (comp : ℕ) → CallTarget → (args : ℕ) → Bool
   pub gives : (comp : ℕ) → CallTarget → Bool
 
 -- both sides at once; what the machine has besides is computed from it
