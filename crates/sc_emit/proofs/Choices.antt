@@ -12,7 +12,8 @@ use Rattle.sc_word.specs.Prelude.{word_of, add_word}
 use Rattle.sc_core.specs.declared.value.Value.{Value}
 use Rattle.sc_core.specs.declared.value.Value.TheVariants.{Word, Null, Ptr}
 use Rattle.sc_core.specs.Value.{is_true}
-use Rattle.sc_core.specs.Words.{State as Meant, Piece, Reached, Stopped, Exit, Next, Break, Continue, Return, Left, choose}
+use Rattle.sc_core.specs.Words.{State as Meant, Piece, Reached, Stopped, Exit, Next, Break, Continue, Return, Left}
+use Rattle.sc_core.specs.Words.{choose}
 use Rattle.sc_core.specs.Words.{and_then}
 use Rattle.sc_laws.specs.Growth.{Gone}
 use Rattle.sc_image.specs.WellFormed.{IsWord, IsWellFormed}
@@ -126,7 +127,8 @@ module _ (T : Setting) (R : Running) (formed : IsWellFormed T.image) (inputs : A
         let later : InParts addresses T.image comp (first_pc L) fl sl =
         in_parts addresses T.image comp (first_pc L) fl sl
         (F.closed (suc (second.size + to_break)) (suc (second.size + to_continue))) behind.1 in
-        let end = subst (λ k. CodeAt T.image comp (first_pc L + 4 * k) (completed addresses (first_pc L + 4 * k) None sl))
+        let end = subst (λ k. CodeAt T.image comp (first_pc L + 4 * k) (completed addresses (first_pc L + 4 * k) None
+        sl))
         (F.sized (suc (second.size + to_break)) (suc (second.size + to_continue))) later.back in
         record {
           takes = front_at T.image comp L before (branch ∷ []) choosing;
@@ -171,7 +173,8 @@ module _ (T : Setting) (R : Running) (formed : IsWellFormed T.image) (inputs : A
       cond_live = or_left (cond == cond) _ (eq-eqb cond cond refl)
 
       clear_parts : All (IsClear R.places) (row_points fs lives ++ row_points ss lives)
-      clear_parts = All-tail (IsClear R.places) (point false live) (row_points fs lives ++ row_points ss lives) starts.clear
+      clear_parts = All-tail (IsClear R.places) (point false live) (row_points fs lives ++ row_points ss
+          lives) starts.clear
 
       -- the operand, and the branch behind it
       module _ (v : Value) (known : temps cond ≡ Some v) where
@@ -203,7 +206,8 @@ module _ (T : Setting) (R : Running) (formed : IsWellFormed T.image) (inputs : A
         behind_first : (y : Joint) → y.pc ≡ first_pc L → (exit : Exit) (temps' : Temps) (s : Meant) →
             Settled T P y →
             ExitGives T R lives y (first.size + first_left)
-            (ends_of first y.pc first_left (suc (second.size + to_break)) (suc (second.size + to_continue))) exit temps' s →
+            (ends_of first y.pc first_left (suc (second.size + to_break)) (suc (second.size +
+            to_continue))) exit temps' s →
             Comes T R lives y (first.size + first_left) ends (Reached (record { exit = exit; carried = temps' }) s)
         behind_first y place Next temps' s settled g =
             let z : Joint = g.y in
@@ -221,12 +225,14 @@ module _ (T : Setting) (R : Running) (formed : IsWellFormed T.image) (inputs : A
             (inl (arrives_with T R lives.behind z (suc left) (suc left) left left temps' z.meant
             (z.pc + 4 * suc second.size) ends.behind (omega arith) (omega arith) (omega (arith, at_jump)) a)))
         behind_first y place Break temps' s settled g =
-            inl (arrives_with T R lives.broken y (first.size + first_left) (first.size + first_left) first_left left temps' s
+            inl (arrives_with T R lives.broken y (first.size + first_left) (first.size + first_left) first_left left
+            temps' s
             (y.pc + 4 * (first.size + suc (second.size + to_break))) ends.broken (omega arith) (omega arith)
             (omega (arith, place)) g)
         behind_first y place Continue temps' s settled g =
             inl (arrives_with T R lives.continued y (first.size + first_left) (first.size + first_left) first_left left
-            temps' s (y.pc + 4 * (first.size + suc (second.size + to_continue))) ends.continued (omega arith) (omega arith)
+            temps' s (y.pc + 4 * (first.size + suc (second.size + to_continue))) ends.continued (omega arith) (omega
+            arith)
             (omega (arith, place)) g)
         behind_first y place (Return w) temps' s settled g = inl g
 
@@ -315,7 +321,8 @@ module _ (T : Setting) (R : Running) (formed : IsWellFormed T.image) (inputs : A
           (λ v known. chosen v known (is_true v) refl)
 
     pub fork_follows : Follows T R
-        (λ temps s. and_then (read R.activation.here cond temps s) (λ v s. choose v (one temps s) (two temps s))) whole trail
+        (λ temps s. and_then (read R.activation.here cond temps s) (λ v s. choose v (one temps s) (two temps
+        s))) whole trail
     fork_follows = record {
       sized = λ to_break to_continue.
           (let fl : List Line = first.lines (suc (second.size + to_break)) (suc (second.size + to_continue)) in

@@ -108,7 +108,8 @@ module _ (f : TacFnTree) (places : List Place) (frame : FrameTree) (rules : IsFu
         subst (λ n. everywhere (names_own_temps n) f.body ≡ true) temps_are rules.own_temps in
         subst (λ frame. Follows T R (code_does wrapping A.here calls f.body) (select_all frame places f.body)
         (row (map trail f.body))) run.frame_is
-        (body_follows T R is.image is.inputs f.objects f.nodes run.is (all_placed A last run.frame_is) gapless calls follow
+        (body_follows T R is.image is.inputs f.objects f.nodes run.is (all_placed A last run.frame_is) gapless calls
+        follow
         is.function is.entry is.global reached f.body (
           temps,
           (
@@ -133,7 +134,10 @@ module _ (f : TacFnTree) (places : List Place) (frame : FrameTree) (rules : IsFu
     follows =
         code_follows T f frame places is.image is.inputs rules whole room small assigned is.words comp address
         (length code.instrs)
-        (subst (CodeAt T.image comp address) (linked_is (T.addresses comp) address lines) is.stands) (omega (arith, all_instrs))
+        (subst (CodeAt T.image comp address) (linked_is (T.addresses comp) address lines) is.stands) (omega (
+          arith,
+          all_instrs,
+        ))
         body (brace_returns T f frame places is.image is.inputs comp)
 
   -- the way in stands in front

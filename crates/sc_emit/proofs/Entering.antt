@@ -322,7 +322,8 @@ module _ (T : Setting) (formed : IsWellFormed T.image) (inputs : All IsWord T.in
         (omega (arith, bound_is, begins.base.high)) known params 0 takes.after between
     stores =
         stores_arguments T.image T.inputs world f.cells places nodes low frame whole room aligned start
-        (omega (arith, bound_is, begins.base.high)) known params few there some params 0 takes.after between (omega arith)
+        (omega (arith, bound_is, begins.base.high)) known params few there some params 0 takes.after between (omega
+        arith)
         takes.lowered argument_word
 
     object_of : (o offset : ℕ) → o < params → slice_get frame.objects o ≡ Some offset →

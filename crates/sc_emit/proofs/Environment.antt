@@ -127,7 +127,10 @@ module _ (T : Setting) (R : Running) (formed : IsWellFormed T.image) (inputs : A
         (environment_call 1 ++ receive frame R.places dest) (trail_step (tac.Input dest))
         (goes T R formed inputs cells nodes is placed calls follow Input dest [])
         (λ lives temps x left ready clear code.
-        asks Input 1 dest [] refl (omega arith) (omega arith) (λ y f e. (f, e)) there made answers lives temps x left ready
+        asks Input 1 dest [] refl (omega arith) (omega arith) (λ y f e. (
+          f,
+          e,
+        )) there made answers lives temps x left ready
         (each_at (IsClear R.places) (plain_points [] false dest lives) 1 _ clear refl) code)
 
     pub output_follows : (value : ℕ) → T.makes A.here.comp Output 1 ≡ true →

@@ -17,7 +17,8 @@ use Rattle.sc_tac.specs.declared.place.Place.TheVariants.{Register, Slot}
 use Rattle.sc_tac.specs.Code.{Temps, with_temp}
 use Rattle.sc_tac.specs.Places.{IsClear, register_count}
 use Rattle.sc_tac.specs.Points.{Lives, plain_points}
-use Rattle.sc_select.specs.Pieces.{sp, first_scratch, second_scratch, address_scratch, register_of, load_word, store_word}
+use Rattle.sc_select.specs.Pieces.{sp, first_scratch, second_scratch, address_scratch, register_of, load_word}
+use Rattle.sc_select.specs.Pieces.{store_word}
 use Rattle.sc_select.specs.Selection.{slot_offset, taken, kept, take, operand, result_register, keep, at_hand}
 use Rattle.sc_pieces.specs.Pieces.{Besides, IsWritable, IsFromSp, Does, Computes, Stores}
 use Rattle.sc_pieces.proofs.NearSp.{loads_word, stores_word}
@@ -104,7 +105,8 @@ module _ (T : Setting) (R : Running) (x : Joint) where
       (placed : ArePlaced R) (frame : FrameMatches T.image R.activation x.inj x.meant.memory x.bytes)
       (sp_is : x.regs sp ≡ R.activation.sp) where
     -- a slot is near enough
-    pub slot_from_sp : (regs : Registers) (k offset : ℕ) → slice_get A.frame.slots k ≡ Some offset → regs sp ≡ x.regs sp →
+    pub slot_from_sp : (regs : Registers) (k offset : ℕ) → slice_get A.frame.slots k ≡ Some offset →
+        regs sp ≡ x.regs sp →
         IsFromSp T.image world regs offset (A.sp + offset)
     slot_from_sp regs k offset e same = record {
       sum = ap (λ s. s + offset) (same ∙ sp_is);
@@ -172,7 +174,8 @@ module _ (T : Setting) (R : Running) (x : Joint) where
         IsHeld A R.places x.inj x.regs x.bytes t v → regs sp ≡ x.regs sp →
         ((q : ℕ) → HasNoOtherUse q → regs q ≡ x.regs q) → AtHand regs scratch t v
     brings regs scratch t v s held same others =
-        at_hand_by regs scratch t v held.place s held.its (placed t held.place held.its) (value held.place held.value) same
+        at_hand_by regs scratch t v held.place s held.its (placed t held.place held.its) (value held.place
+        held.value) same
       where
         value : (place : Place) → InPlace A x.inj x.regs x.bytes place v → InPlace A x.inj regs x.bytes place v
         value (Register r) h =

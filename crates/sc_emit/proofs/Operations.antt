@@ -73,7 +73,8 @@ module _ (T : Setting) (R : Running) (formed : IsWellFormed T.image) (inputs : A
       -- one operand at hand
       first_at_hand : (t : ℕ) (v : Value) → live t ≡ true → temps t ≡ Some v → AtHand T R x x.regs first_scratch t v
       first_at_hand t v on known =
-          brings T R x cells nodes is placed ready.frame ready.sp x.regs first_scratch t v first_is (ready.held t v on known)
+          brings T R x cells nodes is placed ready.frame ready.sp x.regs first_scratch t v first_is (ready.held t v on
+          known)
           refl (λ q h. refl)
 
       -- two operands at hand
@@ -177,7 +178,8 @@ module _ (T : Setting) (R : Running) (formed : IsWellFormed T.image) (inputs : A
         comes_behind T R lives x (load_from frame R.places dest place) left (with_temp dest v temps) x.meant
         (subst (λ code. Arrives T R lives.behind x (length code + left) left (with_temp dest v temps) x.meant
         (x.pc + 4 * length code)) whole
-        (keeps T R x cells nodes is placed ready.frame ready.sp formed inputs lives temps (place ∷ []) dest left ready clear v
+        (keeps T R x cells nodes is placed ready.frame ready.sp formed inputs lives temps (place ∷ []) dest left ready
+        clear v
         code to its g (subst (CodeAt T.image R.activation.here.comp x.pc) (sym whole) at))) ends e f))))
 
     -- Stores.
@@ -221,7 +223,8 @@ module _ (T : Setting) (R : Running) (formed : IsWellFormed T.image) (inputs : A
         let does = in_row T.image T.inputs (world T R x) h.does piece.does in
         let code : List Instr = store_to frame R.places place value in
         comes_behind T R lives x code left temps (with_memory comp after x.meant)
-        (stores T R formed inputs cells nodes is reads lives temps x (length code) left (x.pc + 4 * length code) h.one h.two
+        (stores T R formed inputs cells nodes is reads lives temps x (length code) left (x.pc + 4 * length code) h.one
+        h.two
         q v after piece.after ready h.one_stands found h.two_stands (piece.others sp tt ∙ h.same)
         (λ r k. piece.others r tt ∙ h.others r k)
         (does.walks x.pc at)) ends e f)))))
@@ -247,7 +250,8 @@ module _ (T : Setting) (R : Running) (formed : IsWellFormed T.image) (inputs : A
           where
             by : (result : Result Blocks Cause) →
                 ((after : Blocks) → result ≡ Ok after → Comes T R lives x budget ends
-                (Reached (record { exit = Next; carried = temps }) (with_memory R.activation.here.comp after x.meant))) →
+                (Reached (record { exit = Next; carried = temps }) (with_memory R.activation.here.comp after
+                x.meant))) →
                 Comes T R lives x budget ends (and_then (computed R.activation.here 0 result x.meant)
                 (λ blocks s. leave Next temps (with_memory R.activation.here.comp blocks s)))
             by (Ok after) h = h after refl
@@ -271,7 +275,8 @@ module _ (T : Setting) (R : Running) (formed : IsWellFormed T.image) (inputs : A
           ((q : ℕ) → HasNoOtherUse q → after q ≡ x.regs q) → Gives T R x (before ++ op_code rd left right o) rd r
       operated_gives x before after left right a b v w r settled does operands one two for gave same others =
           let d : IsResult rd = result_is R placed dest to its in
-          let piece : Computes T.image T.inputs (world T R x) (op_code rd left right o) (5 ∷ 6 ∷ 7 ∷ []) after x.bytes rd
+          let piece : Computes T.image T.inputs (world T R x) (op_code rd left right o) (5 ∷ 6 ∷ 7 ∷
+          []) after x.bytes rd
           (op_word o a b) =
           gives_word T.image T.inputs (world T R x) x.bytes after rd left right a b d.writable operands o in
           record {
@@ -281,7 +286,22 @@ module _ (T : Setting) (R : Running) (formed : IsWellFormed T.image) (inputs : A
             after = piece.after;
             does = in_row T.image T.inputs (world T R x) does piece.does;
             result = piece.result;
-            same = piece.others sp (d.not_sp, ((λ e. omega (arith, e)), ((λ e. omega (arith, e)), ((λ e. omega (arith, e)), tt)))) ∙ same;
+            same = piece.others sp (
+              d.not_sp,
+              (
+                (λ e. omega (arith, e)),
+                (
+                  (λ e. omega (arith, e)),
+                  (
+                    (λ e. omega (
+                      arith,
+                      e,
+                    )),
+                    tt,
+                  ),
+                ),
+              ),
+            ) ∙ same;
             others = λ q k n. piece.others q (n, (k.first, (k.second, (k.address, tt)))) ∙ others q k;
           }
 
@@ -305,10 +325,12 @@ module _ (T : Setting) (R : Running) (formed : IsWellFormed T.image) (inputs : A
 
         -- from operands at hand
         from_operands : (before : List Instr) → Whole right ≡
-            before ++ op_code rd (operand frame R.places first_scratch left_one) (second_operand frame R.places right) o ++
+            before ++ op_code rd (operand frame R.places first_scratch left_one) (second_operand frame R.places
+            right) o ++
             keep frame R.places dest → (after : Registers) (a b : ℕ) (v w : Value) →
             Does T.image T.inputs (world T R x) before x.regs x.bytes after x.bytes →
-            AreOperands after (operand frame R.places first_scratch left_one) (second_operand frame R.places right) a b →
+            AreOperands after (operand frame R.places first_scratch left_one) (second_operand frame R.places
+            right) a b →
             StandsFor (x.inj comp) a v → (takes_two o ≡ true → StandsFor (x.inj comp) b w) → after sp ≡ x.regs sp →
             ((q : ℕ) → HasNoOtherUse q → after q ≡ x.regs q) → Result_comes v w
         from_operands before whole after a b v w does operands one two same others =
@@ -318,12 +340,14 @@ module _ (T : Setting) (R : Running) (formed : IsWellFormed T.image) (inputs : A
             (let l : ℕ = operand frame R.places first_scratch left_one in
             let code : List Instr = before ++ op_code rd l (second_operand frame R.places right) o in
             let g : Gives T R x code rd r =
-            operated_gives x before after l (second_operand frame R.places right) a b v w r ready.settled does operands one
+            operated_gives x before after l (second_operand frame R.places
+            right) a b v w r ready.settled does operands one
             two for gave same others in
             comes_behind T R lives x (Whole right) left (with_temp dest r temps) x.meant
             (subst (λ code. Arrives T R lives.behind x (length code + left) left (with_temp dest r temps) x.meant
             (x.pc + 4 * length code)) (sym whole)
-            (keeps T R x cells nodes is placed ready.frame ready.sp formed inputs lives temps (reads right) dest left ready
+            (keeps T R x cells nodes is placed ready.frame ready.sp formed inputs lives temps (reads right) dest left
+            ready
             clear r code to its g (subst (CodeAt T.image comp x.pc) whole at_pc))) ends e f))
 
       -- an operator that takes one value
@@ -348,7 +372,8 @@ module _ (T : Setting) (R : Running) (formed : IsWellFormed T.image) (inputs : A
           let none : take frame R.places first_scratch left_one ++ [] ≡ take frame R.places first_scratch left_one =
           append-nil (take frame R.places first_scratch left_one) in
           from_operands None for lives temps x left ready clear at ends e f (take frame R.places first_scratch left_one)
-          (ap (λ code. code ++ op_code rd (operand frame R.places first_scratch left_one) 0 o ++ keep frame R.places dest)
+          (ap (λ code. code ++ op_code rd (operand frame R.places first_scratch left_one) 0 o ++ keep frame R.places
+          dest)
           none) h.after h.word 0 v v h.does
           (record {
             left_below = h.below;
@@ -400,7 +425,8 @@ module _ (T : Setting) (R : Running) (formed : IsWellFormed T.image) (inputs : A
           (live_read pair (Some dest) lives left_one (only_one left_one (right_one ∷ []))) known
           (live_read pair (Some dest) lives right_one (second_one left_one right_one)) known' in
           from_operands (Some right_one) for lives temps x left ready clear at ends e f
-          (take frame R.places first_scratch left_one ++ take frame R.places second_scratch right_one) refl h.after h.one
+          (take frame R.places first_scratch left_one ++ take frame R.places second_scratch
+          right_one) refl h.after h.one
           h.two v w h.does h.operands h.one_stands (λ two. h.two_stands) h.same h.others))))
         where
           gets_goes : (result : Result Value Cause) (temps : Temps) (s : Meant) →

@@ -1,5 +1,6 @@
 -- Statements that assign what no store decides: constants, copies, places.
-use Rattle.std.proofs.Common.{◌≡◌, ◌≢◌, ℕ, ◌+◌, ◌*◌, ◌^◌, ◌<◌, ◌≤◌, false, true, List, [], ◌∷◌, ◌++◌, length, Option, Some}
+use Rattle.std.proofs.Common.{◌≡◌, ◌≢◌, ℕ, ◌+◌, ◌*◌, ◌^◌, ◌<◌, ◌≤◌, false, true, List, [], ◌∷◌, ◌++◌, length, Option}
+use Rattle.std.proofs.Common.{Some}
 use Rattle.std.proofs.Common.{refl, sym, ◌∙◌, ap, ap₂, subst, arith, All}
 use Rattle.std.specs.Prelude.{slice_get}
 use Rattle.std.specs.Option.{unwrap_or}
@@ -118,7 +119,8 @@ module _ (T : Setting) (R : Running) (formed : IsWellFormed T.image) (inputs : A
         (code ++ keep frame R.places dest) (trail_step (tac.Const dest value))
         (λ temps. stays (record { exit = Next; carried = with_temp dest (constant_value value) temps }))
         (λ lives temps x left ready clear at.
-        comes_behind T R lives x (code ++ keep frame R.places dest) left (with_temp dest (constant_value value) temps) x.meant
+        comes_behind T R lives x (code ++ keep frame R.places dest) left (with_temp dest (constant_value value)
+        temps) x.meant
         (keeps T R x cells nodes is placed ready.frame ready.sp formed inputs lives temps [] dest left ready clear
         (constant_value value) code place its
         (gives_by x code rd (word_of_constant value) (constant_value value) (result_is R placed dest place its).not_sp
@@ -182,7 +184,8 @@ module _ (T : Setting) (R : Running) (formed : IsWellFormed T.image) (inputs : A
           CodeAt T.image R.activation.here.comp x.pc (copied frame (Some to) (Some place)) →
           End (copied frame (Some to) (Some place))
       copied_by (Register r) place its small known value code =
-          keeps_register T R x cells nodes is placed ready.frame ready.sp formed inputs lives temps (from ∷ []) dest left ready
+          keeps_register T R x cells nodes is placed ready.frame ready.sp formed inputs lives temps (from ∷
+          []) dest left ready
           clear v (brought frame (register_of r) (Some place)) r its
           (brought_gives (register_of r) place (record { above = above r; below = register_there r small }) (not_sp r)
           (no_other_use r).address known value) code
@@ -190,7 +193,8 @@ module _ (T : Setting) (R : Running) (formed : IsWellFormed T.image) (inputs : A
           let to_slot : [] ++ store_word (register_of q) (slot_offset frame k) ≡ store_word (register_of q) there.0 =
           ap (λ o. store_word (register_of q) (unwrap_or o 0)) there.1 in
           subst End (sym to_slot)
-          (keeps_slot T R x cells nodes is placed ready.frame ready.sp formed inputs lives temps (from ∷ []) dest left ready
+          (keeps_slot T R x cells nodes is placed ready.frame ready.sp formed inputs lives temps (from ∷ []) dest left
+          ready
           clear v [] k there.0 (register_of q) its there.1 (above q) (register_there q known) (no_other_use q).address
           (record {
             word = x.regs (register_of q);
@@ -209,7 +213,8 @@ module _ (T : Setting) (R : Running) (formed : IsWellFormed T.image) (inputs : A
           brought frame first_scratch (Some (Slot j)) ++ store_word first_scratch there.0 =
           ap (λ o. brought frame first_scratch (Some (Slot j)) ++ store_word first_scratch (unwrap_or o 0)) there.1 in
           subst End (sym to_slot)
-          (keeps_slot T R x cells nodes is placed ready.frame ready.sp formed inputs lives temps (from ∷ []) dest left ready
+          (keeps_slot T R x cells nodes is placed ready.frame ready.sp formed inputs lives temps (from ∷ []) dest left
+          ready
           clear v (brought frame first_scratch (Some (Slot j))) k there.0 first_scratch its there.1 (omega arith)
           (omega arith) (λ e. omega (arith, e)) g (λ q h. g.others q h h.first)
           (subst (CodeAt T.image R.activation.here.comp x.pc) to_slot code))
@@ -231,7 +236,8 @@ module _ (T : Setting) (R : Running) (formed : IsWellFormed T.image) (inputs : A
         (λ temps. read_goes R.activation.here from temps (λ v s. leave Next (with_temp dest v temps) s)
         (λ v. stays (record { exit = Next; carried = with_temp dest v temps })))
         (λ lives temps x left ready clear at ends e f.
-        comes_read T R lives x (length (copied frame (place_of frame R.places dest) (place_of frame R.places from)) + left)
+        comes_read T R lives x (length (copied frame (place_of frame R.places dest) (place_of frame R.places from)) +
+        left)
         ends R.activation.here from temps (λ v s. leave Next (with_temp dest v temps) s)
         (λ v known.
         (let held : IsHeld R.activation R.places x.inj x.regs x.bytes from v =
@@ -315,7 +321,9 @@ module _ (T : Setting) (R : Running) (formed : IsWellFormed T.image) (inputs : A
         (computes T.image T.inputs (world T R x) (7 ∷ []) w
         (loads_long T.image T.inputs (world T R x) x.bytes x.regs rd w d.writable (omega (arith, address.below))) refl
         (λ q h. (h.0, tt))) in
-        subst (λ n. Comes T R lives x (n + left) ends (code_step wrapping R.activation.here calls (tac.GlobalPlace dest global) temps x.meant)) long
-        (comes_behind T R lives x (code ++ keep frame R.places dest) left (with_temp dest (start_of global) temps) x.meant
+        subst (λ n. Comes T R lives x (n + left) ends (code_step wrapping R.activation.here calls (tac.GlobalPlace
+        dest global) temps x.meant)) long
+        (comes_behind T R lives x (code ++ keep frame R.places dest) left (with_temp dest (start_of global) temps)
+        x.meant
         (keeps T R x cells nodes is placed ready.frame ready.sp formed inputs lives temps [] dest left ready clear
         (start_of global) code place its g stands) ends e (f ∙ ap (λ n. x.pc + 4 * n) (sym long)))))

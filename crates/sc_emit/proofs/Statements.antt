@@ -43,7 +43,8 @@ use Rattle.sc_emit.proofs.Choices.{fork_follows}
 use Rattle.sc_emit.proofs.Environment.{input_follows, output_follows}
 use Rattle.sc_emit.proofs.Operands.{ArePlaced}
 use Rattle.sc_emit.proofs.Operations.{op_follows, load_follows, store_follows}
-use Rattle.sc_emit.proofs.Passing.{Test, PassesAll, AllPass, PassesHere, first_passes, rest_pass, passes_here, choice_passes}
+use Rattle.sc_emit.proofs.Passing.{Test, PassesAll, AllPass, PassesHere, first_passes, rest_pass, passes_here}
+use Rattle.sc_emit.proofs.Passing.{choice_passes}
 use Rattle.sc_emit.proofs.Passing.{loop_passes}
 use Rattle.sc_emit.proofs.Plain.{const_follows, copy_follows, object_follows, global_follows}
 use Rattle.sc_emit.proofs.Returns.{return_follows}
@@ -177,7 +178,8 @@ module _ (T : Setting) (R : Running) (formed : IsWellFormed T.image) (inputs : A
   own_level : (dest : Option ℕ) (number : ℕ) (args : List ℕ) → Shape (tac.CallOwn dest number args)
   own_level dest number args h all few =
       let address = reached.functions number h.1.1.1.1.1.1.0 in
-      call_own_follows T R formed inputs cells nodes is placed calls follow dest (place_wanted dest args h.0) number args
+      call_own_follows T R formed inputs cells nodes is placed calls follow dest (place_wanted dest args
+      h.0) number args
       (leb-true (length args) 8 h.1.1.1.0) (omega (arith, address.low))
       (made dest (Own number) (length args) h.1.1.1.1.1.1.1.0)
       (answers dest (Own number) (length args) h.1.1.1.1.1.1.1.0)
@@ -185,7 +187,8 @@ module _ (T : Setting) (R : Running) (formed : IsWellFormed T.image) (inputs : A
   cross_level : (dest : Option ℕ) (comp index : ℕ) (args : List ℕ) → Shape (tac.CallCross dest comp index args)
   cross_level dest comp index args h all few =
       let address = reached.entries comp index h.1.1.1.1.1.1.0 in
-      call_cross_follows T R formed inputs cells nodes is placed calls follow dest (place_wanted dest args h.0) comp index
+      call_cross_follows T R formed inputs cells nodes is placed calls follow dest (place_wanted dest args
+      h.0) comp index
       args (leb-true (length args) 8 h.1.1.1.0) (omega (arith, address.low)) (omega (arith, address.aligned))
       (made dest (Cross comp index) (length args) h.1.1.1.1.1.1.1.0)
       (answers dest (Cross comp index) (length args) h.1.1.1.1.1.1.1.0)
@@ -199,7 +202,8 @@ module _ (T : Setting) (R : Running) (formed : IsWellFormed T.image) (inputs : A
       Shape (tac.If cond first second)
   if_level cond first second each each' h all few =
       let pass = choice_passes tests cond first second all in
-      fork_follows T R formed inputs cells nodes is placed gapless cond (all_do (map does first)) (all_do (map does second))
+      fork_follows T R formed inputs cells nodes is placed gapless cond (all_do (map does first)) (all_do (map does
+      second))
       (in_order (map code first)) (in_order (map code second)) (map trail first) (map trail second)
       (row_of first each pass.0 (omega (arith, few))) (row_of second each' pass.1 (omega (arith, few)))
 
@@ -247,7 +251,10 @@ module _ (T : Setting) (R : Running) (formed : IsWellFormed T.image) (inputs : A
   level (tac.CallCross dest comp index args) inner = record { holds = cross_level dest comp index args }
   level (tac.Input dest) inner = record { holds = input_level dest }
   level (tac.Output value) inner =
-      record { holds = λ h all few. output_follows T R formed inputs cells nodes is placed calls follow value (made None Output 1 h.1.1.1.1.1.1.1.0) }
+      record {
+        holds = λ h all few. output_follows T R formed inputs cells nodes is placed calls follow value (made
+            None Output 1 h.1.1.1.1.1.1.1.0);
+      }
   level (tac.Return value) inner =
       record { holds = λ h all few. return_follows T R formed inputs cells nodes is placed calls value }
 
@@ -260,7 +267,8 @@ module _ (T : Setting) (R : Running) (formed : IsWellFormed T.image) (inputs : A
       let t : trail (roll-TacStmt layer) ≡ trail_step (map-TacStmt _ _ trail layer) =
       fold-roll-TacStmt Trail trail_step layer in
       subst (λ d. Follows T R d (code (roll-TacStmt layer)) (trail (roll-TacStmt layer))) (sym d)
-      (subst (λ c. Follows T R (code_step wrapping here calls (map-TacStmt _ _ does layer)) c (trail (roll-TacStmt layer)))
+      (subst (λ c. Follows T R (code_step wrapping here calls (map-TacStmt _ _ does layer)) c (trail (roll-TacStmt
+      layer)))
       (sym c)
       (subst (λ t. Follows T R (code_step wrapping here calls (map-TacStmt _ _ does layer))
       (select_step frame R.places (map-TacStmt _ _ code layer)) t) (sym t)
@@ -270,7 +278,8 @@ module _ (T : Setting) (R : Running) (formed : IsWellFormed T.image) (inputs : A
   stmt_follows = stmt_induction Followed (λ layer inner. from_level layer (level layer inner))
 
   -- statements in order
-  pub body_follows : (stmts : List TacStmt) → AllPass tests stmts → (select_all frame R.places stmts).size ≤ T.turn_pays →
+  pub body_follows : (stmts : List TacStmt) → AllPass tests stmts → (select_all frame R.places
+      stmts).size ≤ T.turn_pays →
       Follows T R (code_does wrapping here calls stmts) (select_all frame R.places stmts) (row (map trail stmts))
   body_follows stmts pass few = row_of stmts (every stmts) pass few
     where

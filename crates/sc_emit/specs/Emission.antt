@@ -41,7 +41,8 @@ CodeFollows f code =
     FunctionFollows T comp address (length code.instrs) f.params (code_function wrapping f)
 
 pub record IsEmitted (f : TacFnTree) (frame : FrameTree) (code : CodeTree) : Type 0 where
-  -- steps are at least as many as turns, since each round of a loop begins with one; and, turns apart, at most as many as
+  -- steps are at least as many as turns, since each round of a loop begins with one; and, turns apart, at most as many
+  -- as
   -- instructions, since none is executed twice without a turn between
   pub follows : CodeFollows f code
   -- the frame is taken, and ra stored at its bottom, before anything else

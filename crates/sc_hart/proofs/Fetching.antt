@@ -34,7 +34,8 @@ code_is_fetched image c (instr ∷ instrs) before after all h =
     )
 
 -- code in two parts
-pub front_at : (image : ImageParts) (c pc : ℕ) (xs ys : List Instr) → CodeAt image c pc (xs ++ ys) → CodeAt image c pc xs
+pub front_at : (image : ImageParts) (c pc : ℕ) (xs ys : List Instr) → CodeAt image c pc (xs ++ ys) →
+    CodeAt image c pc xs
 front_at image c pc [] ys h = tt
 front_at image c pc (x ∷ xs) ys h = (h.0, front_at image c (pc + 4) xs ys h.1)
 

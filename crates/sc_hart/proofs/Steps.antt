@@ -61,7 +61,8 @@ module _ (image : ImageParts) (inputs : List ℕ) where
     lui rd imm h f = one (steps_by_instruction.lui image inputs here rd imm (is_at _ f) ∙ gives_at rd imm h)
 
     pub op_imm : (op : OpImmOp) (rd rs : ℕ) (imm : ℤ) (x : ℕ) → rd < 32 → rs < 32 →
-        Fetches image world.active pc (OpImm op rd rs imm) → computed (on_registers op) (look regs rs) (word_of imm) ≡ x →
+        Fetches image world.active pc (OpImm op rd rs imm) → computed (on_registers op) (look regs rs) (word_of
+        imm) ≡ x →
         Walks image inputs 1 here (at (pc + 4) (set regs rd x) memory world)
     op_imm op rd rs imm x h k f e =
         one (steps_by_instruction.op_imm image inputs here op rd rs imm (is_at _ f) ∙

@@ -52,7 +52,8 @@ HasNoGap T R =
     (p a : ℕ) → IsSome (word_at T.image R.activation.here.comp p) → p ≤ a → a ≤ R.last → a % 4 ≡ 0 →
     (word : ℕ) × (word_at T.image R.activation.here.comp a ≡ Some word)
 
-module _ (T : Setting) (R : Running) (formed : IsWellFormed T.image) (words : All IsWord T.inputs) (gapless : HasNoGap T R)
+module _ (T : Setting) (R : Running) (formed : IsWellFormed T.image) (words : All IsWord T.inputs) (gapless : HasNoGap
+    T R)
   where
     abbrev P : Standpoint
     P = seen_from R.activation
@@ -62,7 +63,10 @@ module _ (T : Setting) (R : Running) (formed : IsWellFormed T.image) (words : Al
 
     -- where a state is that differs in its pc and in registers that nothing looks at
     pub ready_at : (live : Set) (temps : Temps) (x : Joint) (pc budget left : ℕ) →
-        Leads T P x (record x { pc = pc }) budget left → Ready T R live temps x → Ready T R live temps (record x { pc = pc })
+        Leads T P x (record x { pc = pc }) budget left → Ready T R live temps x → Ready T R live temps (record x {
+          pc
+              = pc;
+        })
     ready_at live temps x pc budget left leads ready = record {
       settled = record {
         blocks = ready.settled.blocks;
@@ -87,7 +91,8 @@ module _ (T : Setting) (R : Running) (formed : IsWellFormed T.image) (words : Al
         let here : IsInside x.pc = code_inside T.image formed comp x.pc code.word code.fetched in
         let there = gapless x.pc (x.pc + 4 * suc lines) (ap is_some code.fetched) (omega arith) fits
         (omega (arith, here.aligned)) in
-        let low : IsInside (x.pc + 4 * suc lines) = code_inside T.image formed comp (x.pc + 4 * suc lines) there.0 there.1 in
+        let low : IsInside (x.pc + 4 * suc lines) = code_inside T.image formed comp (x.pc + 4 * suc
+        lines) there.0 there.1 in
         let leads : Leads T P x (record x { pc = x.pc + 4 * suc lines }) (suc left) left =
         jumps T formed P x (pos (4 * suc lines)) (x.pc + 4 * suc lines) there.0 (suc left) left code
         (over_to x.pc lines (omega (arith, low.low))) there.1 (omega arith) in
@@ -99,7 +104,11 @@ module _ (T : Setting) (R : Running) (formed : IsWellFormed T.image) (words : Al
           ready = ready_at live temps x (x.pc + 4 * suc lines) (suc left) left leads ready;
         }
 
-    pub break_follows : Follows T R (leave Break) (record { size = 1; lines = λ to_break to_continue. jump_over to_break ∷ [] })
+    pub break_follows : Follows T R (leave Break) (record {
+      size = 1;
+      lines = λ to_break to_continue. jump_over
+          to_break ∷ [];
+    })
         (trail_step tac.Break)
     break_follows = record {
       sized = λ to_break to_continue. refl;

@@ -53,8 +53,10 @@ module _ (addresses : Addresses) where
       subst (CodeAt image c pc) (completed_append pc None xs ys) code in
       record {
         front = front_at image c pc front back whole;
-        back = subst (λ low. CodeAt image c (pc + 4 * length xs) (completed addresses (pc + 4 * length xs) low ys)) closed
-            (subst (λ n. CodeAt image c (pc + 4 * n) back) (completed_length pc None xs) (back_at image c pc front back whole));
+        back = subst (λ low. CodeAt image c (pc + 4 * length xs) (completed addresses (pc + 4 * length xs) low
+            ys)) closed
+            (subst (λ n. CodeAt image c (pc + 4 * n) back) (completed_length pc None xs) (back_at image c pc front
+            back whole));
       }
 
   pub plainly_at : (image : ImageParts) (c pc : ℕ) (instrs : List Instr) →

@@ -38,7 +38,8 @@ module _ (A : Addresses) where
   target_here at (Some target) lines = rw (eq-eqb at at refl) refl
 
   behind_here : (at : ℕ) (target : Option Target) (lines : List Line) →
-      relocations_behind A at (relocation_of at target ++ relocations_from (suc at) lines) ≡ relocations_from (suc at) lines
+      relocations_behind A at (relocation_of at target ++ relocations_from (suc at) lines) ≡ relocations_from (suc
+      at) lines
   behind_here at None lines = all_behind at (suc at) lines (omega arith)
   behind_here at (Some target) lines = rw (eq-eqb at at refl) refl
 
@@ -54,5 +55,6 @@ module _ (A : Addresses) where
       ap (λ is. with_low low (with_target A pc line.target line.instr) ∷ is)
       (linked_lines (pc + 4) (suc at) (low_behind A line.target) lines)
 
-  pub linked_is : (address : ℕ) (lines : List Line) → linked A address (code_of_lines lines) ≡ completed A address None lines
+  pub linked_is : (address : ℕ) (lines : List Line) → linked A address (code_of_lines
+      lines) ≡ completed A address None lines
   linked_is address lines = linked_lines address 0 None lines

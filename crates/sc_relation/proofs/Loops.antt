@@ -33,7 +33,8 @@ use Rattle.sc_relation.specs.Following.{ExitGives, Gives, Comes, StandsAt, Start
 use Rattle.sc_relation.proofs.Clear.{all_front, all_back}
 use Rattle.sc_relation.proofs.Jumps.{back_to, jumps}
 use Rattle.sc_relation.proofs.Lines.{InParts, in_parts, low_append}
-use Rattle.sc_relation.proofs.Stretches.{effect_still, leads_then, leads_then_steps, shows_here, shows_after, overflows_with}
+use Rattle.sc_relation.proofs.Stretches.{effect_still, leads_then, leads_then_steps, shows_here, shows_after}
+use Rattle.sc_relation.proofs.Stretches.{overflows_with}
 use Rattle.sc_relation.proofs.Stretches.{comes_after, arrives_with}
 
 -- a second round adds nothing, whatever the round is
@@ -177,7 +178,8 @@ module _ (T : Setting) (R : Running) (formed : IsWellFormed T.image) (words : Al
       round_goes = rounds_goes head body next H.goes B.goes N.goes
 
       rest_goes : (k : ℕ) (temps : Temps) → Goes (rest k temps)
-      rest_goes k temps s = follow_goes in_loop s (next temps s) (rounds k head body next) (N.goes temps s) (round_goes k)
+      rest_goes k temps s = follow_goes in_loop s (next temps s) (rounds k head body next) (N.goes temps
+          s) (round_goes k)
 
       in_body_goes : (k : ℕ) (temps : Temps) → Goes (λ s. follow in_loop (body temps s) (rest k))
       in_body_goes k temps s = follow_goes in_loop s (body temps s) (rest k) (B.goes temps s) (rest_goes k)
@@ -188,7 +190,8 @@ module _ (T : Setting) (R : Running) (formed : IsWellFormed T.image) (words : Al
           (λ u. in_body_goes k temps)
 
       -- an overflow in a part is one of the whole
-      overflow_in : (x : Joint) (budget : ℕ) (piece : Piece (Left Temps)) (go : Codes) → ((temps : Temps) → Goes (go temps)) →
+      overflow_in : (x : Joint) (budget : ℕ) (piece : Piece (Left Temps)) (go : Codes) → ((temps : Temps) → Goes (go
+          temps)) →
           Overflows T P x budget piece → Goal x budget (follow in_loop piece go)
       overflow_in x budget piece go goes o =
           inr (overflows_with T P x budget budget piece (follow in_loop piece go) (omega arith)
@@ -206,7 +209,8 @@ module _ (T : Setting) (R : Running) (formed : IsWellFormed T.image) (words : Al
           Goal x (whole.size + left) (rounds k head body next temps x.meant)
 
       -- the state at another pc, where a stretch of silent steps led
-      ready_at : (live : Set) (temps : Temps) (x y : Joint) (budget rest_budget : ℕ) → Leads T P x y budget rest_budget →
+      ready_at : (live : Set) (temps : Temps) (x y : Joint) (budget rest_budget : ℕ) →
+          Leads T P x y budget rest_budget →
           y ≡ record x { pc = y.pc } → ((t : ℕ) → live t ≡ true → begin t ≡ true) → Ready T R begin temps x →
           Ready T R live temps (record x { pc = y.pc })
       ready_at live temps x y budget rest_budget leads same less ready = record {
@@ -242,7 +246,8 @@ module _ (T : Setting) (R : Running) (formed : IsWellFormed T.image) (words : Al
           (omega (arith, pays)) in
           comes_after T R lives u v (1 + (left + W)) (whole.size + left) ends (rounds k head body next temps u.meant)
           ready.settled leads
-          (more temps v (ready_at begin temps u v (1 + (left + W)) (whole.size + left) leads refl (λ t on. on) ready) refl)
+          (more temps v (ready_at begin temps u v (1 + (left + W)) (whole.size + left) leads refl (λ t on. on) ready)
+          refl)
 
       abbrev next_ends : Ends
       next_ends = record { left = 1 + (left + W); behind = back_pc L; broken = ends.behind; continued = back_pc L }
@@ -271,7 +276,8 @@ module _ (T : Setting) (R : Running) (formed : IsWellFormed T.image) (words : Al
               (1 + (left + W)) left l.carried s ends.behind ends.behind (omega arith) (omega arith) refl g)
           by (Return v) g = inl g
 
-      nexts : (k : ℕ) → Rounds k → (temps : Temps) (z : Joint) → Ready T R (live_before ns (in_next hs bs ns lives)) temps z →
+      nexts : (k : ℕ) → Rounds k → (temps : Temps) (z : Joint) → Ready T R (live_before ns (in_next hs bs ns
+          lives)) temps z →
           z.pc ≡ next_pc L → Goal z (n.size + (1 + (left + W))) (rest k temps z.meant)
       nexts k more temps z ready place =
           let e : ends_of n z.pc (1 + (left + W)) 1 0 ≡ next_ends =
@@ -287,8 +293,10 @@ module _ (T : Setting) (R : Running) (formed : IsWellFormed T.image) (words : Al
           } in
           ⊎_elim
           (λ g. after_next k more z ready.settled (next temps z.meant)
-          (subst (λ ends. Gives T R (in_next hs bs ns lives) z (n.size + (1 + (left + W))) ends (next temps z.meant)) e g))
-          (λ o. overflow_in z (n.size + (1 + (left + W))) (next temps z.meant) (rounds k head body next) (round_goes k) o)
+          (subst (λ ends. Gives T R (in_next hs bs ns lives) z (n.size + (1 + (left + W))) ends (next temps z.meant))
+          e g))
+          (λ o. overflow_in z (n.size + (1 + (left + W))) (next temps z.meant) (rounds k head body next) (round_goes
+          k) o)
           (N.runs (in_next hs bs ns lives) temps z (1 + (left + W)) 1 0 starts)
 
       abbrev body_left : ℕ
@@ -310,7 +318,8 @@ module _ (T : Setting) (R : Running) (formed : IsWellFormed T.image) (words : Al
               (comes_after T R lives z g.y (b.size + body_left) body_left ends (rest k l.carried g.y.meant) settled
               g.leads (nexts k more l.carried g.y g.ready g.pc_is))
 
-          by : (exit : Exit) → ExitGives T R (in_body hs bs ns lives) z (b.size + body_left) body_ends exit l.carried s →
+          by : (exit : Exit) → ExitGives T R (in_body hs bs ns lives) z (b.size +
+              body_left) body_ends exit l.carried s →
               Goal z (b.size + body_left) (take (in_loop exit) (rest k) l.carried s)
           by Next g = on g
           by Continue g = on g
@@ -406,9 +415,11 @@ module _ (T : Setting) (R : Running) (formed : IsWellFormed T.image) (words : Al
               (leads_then T P x (inside x) g.y (whole.size + left) (h.size + head_left) head_left settled first
               g.leads).steps ≡ first.steps + g.leads.steps
           steps g =
-              leads_then_steps T P x (inside x) g.y (whole.size + left) (h.size + head_left) head_left settled first g.leads
+              leads_then_steps T P x (inside x) g.y (whole.size + left) (h.size +
+              head_left) head_left settled first g.leads
 
-          on : Arrives T R (live_before bs (in_body hs bs ns lives)) (inside x) (h.size + head_left) head_left l.carried s
+          on : Arrives T R (live_before bs (in_body hs bs ns lives)) (inside x) (h.size +
+              head_left) head_left l.carried s
               (body_pc L) → Goal x (whole.size + left) (behind_head k l.carried s)
           on g =
               subst (λ s. Goal x (whole.size + left) (behind_head k l.carried s)) g.meant_is

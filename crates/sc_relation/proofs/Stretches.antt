@@ -3,7 +3,8 @@ use Rattle.std.proofs.Common.{◌≡◌, ℕ, ◌+◌, ◌≤◌, length, Option
 use Rattle.std.proofs.Common.{arith, inl, inr, ⊎_elim}
 use Rattle.std.proofs.lemmas.Option.{same_Some}
 use Rattle.sc_core.specs.declared.value.Value.{Value}
-use Rattle.sc_core.specs.Words.{State as Meant, Piece, Reached, Stopped, Exit, Next, Break, Continue, Return, Left, and_then}
+use Rattle.sc_core.specs.Words.{State as Meant, Piece, Reached, Stopped, Exit, Next, Break, Continue, Return, Left}
+use Rattle.sc_core.specs.Words.{and_then}
 use Rattle.sc_laws.specs.Growth.{Grown, Goes, last}
 use Rattle.sc_laws.proofs.Growing.{more, then_from}
 use Rattle.sc_tac.specs.Code.{Temps}

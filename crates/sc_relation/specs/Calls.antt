@@ -1,5 +1,6 @@
 -- What the code of a function follows, where the calls in it are followed.
-use Rattle.std.specs.Prelude.{◌≡◌, ◌≢◌, ℕ, ◌+◌, ◌%◌, ◌<◌, ◌≤◌, ◌⊎◌, ℤ, pos, Bool, true, false, List, length, Option, Some}
+use Rattle.std.specs.Prelude.{◌≡◌, ◌≢◌, ℕ, ◌+◌, ◌%◌, ◌<◌, ◌≤◌, ◌⊎◌, ℤ, pos, Bool, true, false, List, length, Option}
+use Rattle.std.specs.Prelude.{Some}
 use Rattle.std.specs.Prelude.{slice_get, IsSome}
 use Rattle.rv_code.specs.declared.instr.Instr.TheVariants.{Jal, Jalr, Ecall}
 use Rattle.sc_word.specs.Prelude.{word_of, add_word}
@@ -81,7 +82,8 @@ module _ (T : Setting) where
 
   -- Functions.
 
-  -- what a call of a function begins with: sp is the frame of its compartment's call before, or the top of its stack, and
+  -- what a call of a function begins with: sp is the frame of its compartment's call before, or the top of its stack,
+  -- and
   -- ra is where it returns to
   pub record Begins (P : Standpoint) (f : Function) (args : List Value) (address ra_is : ℕ) (x : Joint) : Type 0 where
     pub honest : T.performs P.comp ≡ false

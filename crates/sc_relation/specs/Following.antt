@@ -103,7 +103,8 @@ module _ (T : Setting) (R : Running) where
       CodeAt T.image comp pc (completed (T.addresses comp) pc None (code.lines to_break to_continue))
 
   -- what is the case where a piece starts whose break and continue lie so far behind it
-  pub record Starts (code : Code) (trail : Trail) (lives : Lives) (temps : Temps) (x : Joint) (to_break to_continue : ℕ) :
+  pub record Starts (code : Code) (trail : Trail) (lives : Lives) (temps : Temps) (x : Joint) (to_break to_continue :
+      ℕ) :
       Type 0 where
     pub ready : Ready (live_at trail lives) temps x
     pub clear : All (IsClear R.places) (trail.points lives)

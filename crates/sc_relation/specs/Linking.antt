@@ -48,7 +48,8 @@ module _ (addresses : Addresses) where
 
   -- The same by the relocations of code, whose instructions are counted from a number on.
 
-  -- what the instruction at a number refers to, where it is the next to refer to something; and the relocations behind it
+  -- what the instruction at a number refers to, where it is the next to refer to something; and the relocations behind
+  -- it
   abbrev pub target_at : ℕ → List Relocation → Option Target
   target_at at [] = None
   target_at at (relocation ∷ relocations) = if relocation.at == at then Some relocation.target else None
